@@ -1,0 +1,28 @@
+-- What a folder holds after a file was put or a log was sealed.
+use Rattle.std.proofs.Common.{◌≡◌, ◌≢◌, ℕ, List, Option, Some, refl, sym, ⊎_elim, true, false}
+use Rattle.std.proofs.lemmas.Bool.{false_from_ne_true}
+use Rattle.std.proofs.lemmas.Slice.Eq.{bytes_eq-Decides}
+use Rattle.std.specs.Str.{bytes_eq}
+use Rattle.sw_base.specs.Environment.{Content, Files, LeavesFront, with_file, with_put}
+
+-- the name holds the bytes
+pub with_file-here : (name bytes : List ℕ) (files : Files) → with_file name bytes files name ≡ Some bytes
+with_file-here name bytes files = let same : bytes_eq name name ≡ true = (bytes_eq-Decides name name).1 refl in rw same refl
+
+-- another name is as before
+pub with_file-elsewhere : (name bytes : List ℕ) (files : Files) (other : List ℕ) → other ≢ name → with_file name bytes files other ≡ files other
+with_file-elsewhere name bytes files other apart =
+    let differs : bytes_eq name other ≡ false = false_from_ne_true (bytes_eq name other) (λ same. apart (sym ((bytes_eq-Decides name other).0 same))) in
+    rw differs refl
+
+-- after a call that was refused: the logs that were sealed and each other name are as before
+pub record KeepsOthers (name : List ℕ) (old new : Content) : Type 0 where
+  pub sealed : new.sealed ≡ old.sealed
+  pub others : (other : List ℕ) → other ≢ name → new.held other ≡ old.held other
+
+pub leaves_front_others : (old : Content) (new : Option Content) (name bytes : List ℕ) → LeavesFront (Some old) new name bytes → (after : Content) × (new ≡ Some after) × KeepsOthers name old after
+leaves_front_others old new name bytes left =
+    ⊎_elim
+    (λ same. (old, same, record { sealed = refl; others = λ _ _. refl }))
+    (λ put. (with_put name left.front old, put, record { sealed = refl; others = with_file-elsewhere name left.front old.held }))
+    left.leaves

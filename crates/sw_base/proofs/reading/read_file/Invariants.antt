@@ -1,0 +1,14 @@
+use Rattle.std.proofs.Common.{◌≡◌, ◌-◌, ◌≤◌, length}
+use Rattle.sw_base.proofs.ReadFronts.{ToldFront}
+use Rattle.sw_base.proofs.reading.read_file.Given as goal
+
+abbrev pub invariant-windows : goal.invariant-windows
+invariant-windows g l = record {
+  same : g.F.Folder.content l.place ≡ g.F.Folder.content l.fn.place;
+  later : g.F.Folder.read_faults l.fn.place ≤ g.F.Folder.read_faults l.place;
+  same_writes : g.F.Folder.write_faults l.place ≡ g.F.Folder.write_faults l.fn.place;
+  front : ToldFront (g.F.Folder.content l.fn.place) l.name l.bytes.items;
+}
+
+abbrev pub decreases-windows : goal.decreases-windows
+decreases-windows g l = l.size - length l.bytes.items

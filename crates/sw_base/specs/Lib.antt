@@ -1,0 +1,7 @@
+pub mod Environment
+pub mod InMemory
+pub mod MemFolder
+pub mod MemLog
+pub mod MemOut
+pub mod Names
+pub mod PathOrder

@@ -1,0 +1,50 @@
+-- What is seen of a folder in memory.
+use Rattle.std.specs.Prelude.{ℕ, List, map, Option, Some, Contains, Vec, string_bytes}
+use Rattle.std.specs.declared.alloc.Global.{Global}
+use Rattle.std.specs.declared.string.String.{String}
+use Rattle.std.specs.BTreeMap.{BTreeMap, get_by_text}
+use Rattle.std.specs.Option.{option_map}
+use Rattle.sw_base.specs.Environment.{Content, Files, Sealed}
+use Rattle.sw_base.specs.InMemory.{next_count}
+use Rattle.sw_base.specs.declared.in_memory.folder.MemFolder.{MemFolder}
+use Rattle.sw_base.specs.declared.in_memory.folder.SealedLog.{SealedLog}
+
+-- the bytes under each name of a map
+unfoldable pub held_by : BTreeMap (String Global) (Vec ℕ Global) → Files
+held_by files name = option_map (λ bytes. bytes.items) (get_by_text files name)
+
+-- a name, and the lengths of the pieces
+abbrev pub sealed_by : SealedLog → Sealed
+sealed_by log = record { name = string_bytes log.name; lengths = log.lengths.items }
+
+-- the files
+abbrev pub held_of : MemFolder → Files
+held_of folder = held_by folder.files
+
+-- the logs that were sealed, in order
+abbrev pub sealed_of : MemFolder → List Sealed
+sealed_of folder = map sealed_by folder.sealed.items
+
+-- both, which it tells
+abbrev pub content_of : MemFolder → Option Content
+content_of folder = Some (record { held = held_of folder; sealed = sealed_of folder })
+
+-- how often `size` or `read` failed
+abbrev pub read_faults_of : MemFolder → ℕ
+read_faults_of folder = folder.read_faults
+
+-- how often another call failed, or a log with faults came back
+abbrev pub write_faults_of : MemFolder → ℕ
+write_faults_of folder = folder.write_faults
+
+-- how many calls there were, those of `discard` left out
+abbrev pub calls_of : MemFolder → ℕ
+calls_of folder = folder.calls.made
+
+-- the numbers of the calls that are to fail
+abbrev pub failing_of : MemFolder → List ℕ
+failing_of folder = folder.calls.failing.items
+
+-- the next call is to fail
+abbrev pub IsNextToFail : MemFolder → Type 0
+IsNextToFail folder = Contains (failing_of folder) (next_count (calls_of folder))

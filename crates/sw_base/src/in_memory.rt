@@ -1,0 +1,12 @@
+//! The environment in memory, for tests and for folders that are made without a disk. Each object keeps what it was given,
+//! and a list of the numbers of the calls that are to fail.
+
+mod calls;
+mod files;
+mod folder;
+mod log;
+mod out;
+
+pub use folder::MemFolder;
+pub use log::MemLog;
+pub use out::MemOut;

@@ -1,0 +1,55 @@
+//! Which calls of an object in memory are to fail, and what a call that fails leaves of a piece.
+ghost use Rattle.std.specs.Prelude.{◌≡◌, ◌+◌, ◌-◌, ◌^◌, ◌↔◌, [], min, OnOk, OnErr, IsTrue, Contains};
+ghost use Rattle.sw_base.specs.InMemory.{next_count, TornEnd};
+
+use crate::trouble::Memory;
+use std::alloc::Global;
+
+/// How many calls there were, and the numbers of those that are to fail, from 1.
+#[derive(Drop)]
+pub struct Calls {
+    made: u64,
+    failing: Vec<u64>,
+}
+
+impl Calls {
+    /// No call yet, and none is to fail.
+    pub fn new(alloc: Global) -> Calls
+        ensures made { result.made ≡ 0 }
+        ensures failing { result.failing.items ≡ [] }
+    {
+        Calls {
+            made: 0,
+            failing: Vec::new(alloc),
+        }
+    }
+
+    /// Counts one more call, and tells whether it is to fail.
+    pub fn next(&mut self) -> bool
+        ensures made { self.new.made ≡ next_count self.old.made }
+        ensures fails { IsTrue result ↔ Contains self.old.failing.items (next_count self.old.made) }
+        ensures failing { self.new.failing.items ≡ self.old.failing.items }
+    {
+        self.made = self.made.saturating_add(1);
+        self.failing.contains(&self.made)
+    }
+
+    /// Sets the numbers of the calls that are to fail.
+    pub fn fail(&mut self, calls: &[u64]) -> Result<(), Memory>
+        ensures ok { OnOk result (self.new.failing.items ≡ calls.now) }
+        ensures err { OnErr result (self.new.failing.items ≡ self.old.failing.items) }
+        ensures made { self.new.made ≡ self.old.made }
+    {
+        self.failing = calls.to_vec(*self.failing.allocator())?;
+        Ok(())
+    }
+}
+
+/// Appends the first half of a piece, or nothing where there is no memory: what is left of a write that failed.
+#[tactic(auto, using(crate::proofs::Fronts::torn_end_half))]
+pub fn tear(bytes: &mut Vec<u8>, piece: &[u8])
+    ensures { TornEnd bytes.old.items bytes.new.items piece.now }
+{
+    let half = piece.len() / 2;
+    let _ = bytes.extend_from_slice(&piece[..half]);
+}

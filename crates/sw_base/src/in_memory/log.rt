@@ -1,0 +1,193 @@
+//! A task's log, kept in memory.
+ghost use Rattle.std.specs.Prelude.{◌≡◌, ◌<◌, ◌↔◌, [], ◌∷◌, ◌++◌, length, map, string_bytes, IfOk, OnOk, OnErr, IsErrOf};
+ghost use Rattle.std.specs.Option.{option_map};
+ghost use Rattle.sw_base.specs.Environment.{HasCause, TearsPiece, empty_text, with_piece};
+ghost use Rattle.sw_base.specs.InMemory.{next_count};
+ghost use Rattle.sw_base.specs.Names.{log_name};
+
+use crate::in_memory::calls::{Calls, tear};
+use crate::outside::Log;
+use crate::path::Path;
+use crate::trouble::{Memory, Trouble};
+use std::alloc::Global;
+
+/// A log that keeps its bytes, and its pieces. After an append that failed the bytes are more than the pieces.
+#[derive(Drop)]
+pub struct MemLog {
+    dir: String,
+    path: Path,
+    bytes: Vec<u8>,
+    pieces: Vec<Vec<u8>>,
+    lengths: Vec<usize>,
+    faults: u64,
+    calls: Calls,
+    ghost lengths_of_pieces: { lengths.items ≡ map length (map (λ piece. piece.items) pieces.items) },
+}
+
+impl MemLog {
+    ghost use Rattle.sw_base.specs.MemLog.{dir_of, path_of, bytes_of, pieces_of, text_of, faults_of, calls_of, failing_of};
+
+    /// An empty log of the root task, in the folder `dir`.
+    pub fn new(alloc: Global, dir: &str) -> Result<MemLog, Memory>
+        ensures dir { IfOk result (λ log. dir_of log ≡ dir.now) }
+        ensures path { IfOk result (λ log. path_of log ≡ []) }
+        ensures bytes { IfOk result (λ log. bytes_of log ≡ []) }
+        ensures pieces { IfOk result (λ log. pieces_of log ≡ []) }
+        ensures faults { IfOk result (λ log. faults_of log ≡ 0) }
+        ensures calls { IfOk result (λ log. calls_of log ≡ 0) }
+        ensures failing { IfOk result (λ log. failing_of log ≡ []) }
+    {
+        let dir = String::from_str(alloc, dir)?;
+        Ok(MemLog::empty(alloc, dir, Path::root()))
+    }
+
+    // An empty log of this task.
+    fn empty(alloc: Global, dir: String, path: Path) -> MemLog
+        ensures dir { dir_of result ≡ string_bytes dir }
+        ensures path { path_of result ≡ path }
+        ensures bytes { bytes_of result ≡ [] }
+        ensures pieces { pieces_of result ≡ [] }
+        ensures faults { faults_of result ≡ 0 }
+        ensures calls { calls_of result ≡ 0 }
+        ensures failing { failing_of result ≡ [] }
+    {
+        MemLog {
+            dir,
+            path,
+            bytes: Vec::new(alloc),
+            pieces: Vec::new(alloc),
+            lengths: Vec::new(alloc),
+            faults: 0,
+            calls: Calls::new(alloc),
+        }
+    }
+
+    /// Sets the numbers of the calls of `append` and `child` that are to fail, counted together from 1. Where there is no
+    /// memory nothing changes.
+    pub fn fail(&mut self, calls: &[u64]) -> Result<(), Memory>
+        ensures ok { OnOk result (failing_of self.new ≡ calls.now) }
+        ensures err { OnErr result (failing_of self.new ≡ failing_of self.old) }
+        ensures same_dir { dir_of self.new ≡ dir_of self.old }
+        ensures same_path { path_of self.new ≡ path_of self.old }
+        ensures same_text { text_of self.new ≡ text_of self.old }
+        ensures same_faults { faults_of self.new ≡ faults_of self.old }
+        ensures same_calls { calls_of self.new ≡ calls_of self.old }
+    {
+        self.calls.fail(calls)
+    }
+
+    /// The bytes.
+    pub fn bytes(&self) -> &[u8]
+        ensures { result.now ≡ bytes_of self.now }
+    {
+        &self.bytes
+    }
+
+    /// The lengths of the pieces that were appended with success.
+    pub fn lengths(&self) -> &[usize]
+        ensures { result.now ≡ map length (pieces_of self.now) }
+    {
+        &self.lengths
+    }
+
+    // The name under which a folder seals this log.
+    pub(crate) fn name(&self, alloc: Global) -> Result<String, Memory>
+        ensures { IfOk result (λ name. string_bytes name ≡ log_name (dir_of self.now) (path_of self.now)) }
+    {
+        self.path.name(alloc, self.dir.as_str())
+    }
+
+    // How often a call on this log failed.
+    pub(crate) fn faults(&self) -> u64
+        ensures { result ≡ faults_of self.now }
+    {
+        self.faults
+    }
+
+    // Adds a piece.
+    fn add(&mut self, alloc: Global, piece: &[u8]) -> Result<(), Memory>
+        ensures ok_bytes { OnOk result (bytes_of self.new ≡ bytes_of self.old ++ piece.now) }
+        ensures ok_pieces { OnOk result (pieces_of self.new ≡ pieces_of self.old ++ piece.now ∷ []) }
+        ensures err { OnErr result (text_of self.new ≡ text_of self.old) }
+        ensures same_dir { dir_of self.new ≡ dir_of self.old }
+        ensures same_path { path_of self.new ≡ path_of self.old }
+        ensures same_faults { faults_of self.new ≡ faults_of self.old }
+        ensures same_calls { calls_of self.new ≡ calls_of self.old }
+        ensures same_failing { failing_of self.new ≡ failing_of self.old }
+    {
+        let kept = piece.to_vec(alloc)?;
+        self.pieces.try_reserve(1)?;
+        self.lengths.try_reserve(1)?;
+        self.bytes.extend_from_slice(piece)?;
+        self.pieces.push(kept).unwrap();
+        self.lengths.push(piece.len()).unwrap();
+        Ok(())
+    }
+}
+
+impl Log for MemLog {
+    ghost use Rattle.sw_base.specs.MemLog.{dir_of, path_of, text_of, faults_of, calls_of, failing_of, IsNextToFail};
+
+    ghost dir = { dir_of };
+
+    ghost path = { path_of };
+
+    ghost text = { text_of };
+
+    ghost faults = { faults_of };
+
+    fn child(&mut self, alloc: Global, region: u32, lane: u16, span: u16) -> Result<Self, Trouble>
+        requires { length (path_of self.old) < 4 }
+
+        ensures child_dir { IfOk result (λ log. dir_of log ≡ dir_of self.old) }
+        ensures child_path { IfOk result (λ log. path_of log ≡ path_of self.old ++ record { region = region; lane = lane; span = span } ∷ []) }
+        ensures child_text { IfOk result (λ log. text_of log ≡ option_map (λ _. empty_text) (text_of self.old)) }
+        ensures child_faults { IfOk result (λ log. faults_of log ≡ 0) }
+        ensures child_calls { IfOk result (λ log. calls_of log ≡ 0) }
+        ensures child_failing { IfOk result (λ log. failing_of log ≡ []) }
+
+        ensures same_dir { dir_of self.new ≡ dir_of self.old }
+        ensures same_path { path_of self.new ≡ path_of self.old }
+        ensures same_text { text_of self.new ≡ text_of self.old }
+        ensures cause { HasCause (faults_of self.old) (faults_of self.new) result }
+
+        ensures fails { IsErrOf result Trouble.Failed ↔ IsNextToFail self.old }
+        ensures counts_call { calls_of self.new ≡ next_count (calls_of self.old) }
+        ensures counts_fault { IsErrOf result Trouble.Failed → faults_of self.new ≡ next_count (faults_of self.old) }
+        ensures none_to_fail { failing_of self.old ≡ [] → faults_of self.new ≡ faults_of self.old }
+        ensures same_failing { failing_of self.new ≡ failing_of self.old }
+    {
+        if self.calls.next() {
+            self.faults = self.faults.saturating_add(1);
+            return Err(Trouble::Failed);
+        }
+        let dir = String::from_str(alloc, self.dir.as_str())?;
+        let path = self.path.child(region, lane, span);
+        Ok(MemLog::empty(alloc, dir, path))
+    }
+
+    #[tactic(auto, using(crate::proofs::Fronts::tears_piece_same))]
+    fn append(&mut self, alloc: Global, piece: &[u8]) -> Result<(), Trouble>
+        ensures done { OnOk result (text_of self.new ≡ option_map (with_piece piece.now) (text_of self.old)) }
+        ensures refused { OnErr result (TearsPiece (text_of self.old) (text_of self.new) piece.now) }
+        ensures memory { IsErrOf result Trouble.Memory → text_of self.new ≡ text_of self.old }
+
+        ensures same_dir { dir_of self.new ≡ dir_of self.old }
+        ensures same_path { path_of self.new ≡ path_of self.old }
+        ensures cause { HasCause (faults_of self.old) (faults_of self.new) result }
+
+        ensures fails { IsErrOf result Trouble.Failed ↔ IsNextToFail self.old }
+        ensures counts_call { calls_of self.new ≡ next_count (calls_of self.old) }
+        ensures counts_fault { IsErrOf result Trouble.Failed → faults_of self.new ≡ next_count (faults_of self.old) }
+        ensures none_to_fail { failing_of self.old ≡ [] → faults_of self.new ≡ faults_of self.old }
+        ensures same_failing { failing_of self.new ≡ failing_of self.old }
+    {
+        if self.calls.next() {
+            self.faults = self.faults.saturating_add(1);
+            tear(&mut self.bytes, piece);
+            return Err(Trouble::Failed);
+        }
+        self.add(alloc, piece)?;
+        Ok(())
+    }
+}

@@ -1,0 +1,22 @@
+//! What the crates of `sword` share: a task's path with the name of its log, and the environment.
+//!
+//! The environment is four traits. A `Folder` holds files, a `Log` takes the pieces of one task's records,
+//! an `Out` takes what is printed, and a `Gate` sees each lane and worker start. Their contracts say what each
+//! call does to the content, what stands after an error, and that a call fails only where a count of faults rose.
+//! The versions in memory meet them, and can be told which of their calls are to fail.
+#![tactic(auto)]
+
+mod in_memory;
+mod outside;
+mod path;
+mod reading;
+mod trouble;
+
+pub use in_memory::{MemFolder, MemLog, MemOut};
+pub use outside::{Folder, Gate, Log, NoGate, Out};
+pub use path::{INDEX_HEADER, LOG_HEADER, Path, Step, index_name};
+pub use reading::read_file;
+pub use trouble::{Memory, Trouble};
+
+#[cfg(test)]
+mod tests;

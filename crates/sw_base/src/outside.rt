@@ -1,0 +1,157 @@
+//! The environment as the rest of the program sees it: a folder with its logs, what is printed, and a gate.
+//!
+//! What an object holds is optional: a real file tells nothing, and the versions in memory tell all. A clause on content
+//! says what holds where the object tells it. Counts of faults are always there, and never fall.
+ghost use Rattle.std.specs.Prelude.{◌≡◌, ◌+◌, ◌<◌, ◌≤◌, ◌↔◌, ℕ, List, [], ◌∷◌, ◌++◌, length, Option, unwrap_or, is_some, IfOk, IfErr, OnOk, OnErr, IsErrOf};
+ghost use Rattle.std.specs.Option.{option_map};
+ghost use Rattle.sw_base.specs.Environment.{Content, Text, WhereTold, Rose, HasCause, TakesFaults, Reads, LeavesFront, TearsPiece, GainsFront, with_put, with_log, with_piece, empty_text, gained};
+ghost use Rattle.sw_base.specs.Names.{log_name};
+ghost use Rattle.sw_base.specs.declared.path.Step.{Step};
+
+use crate::trouble::Trouble;
+use std::alloc::Global;
+
+/// Sees each lane of a region start a phase, and each worker of a comparison start. In the program it does nothing.
+pub trait Gate: Sync {
+    /// The lane or worker of this number is here.
+    fn enter(&self, place: usize);
+}
+
+/// A gate that does nothing.
+pub struct NoGate;
+
+impl Gate for NoGate {
+    fn enter(&self, _place: usize) {}
+}
+
+/// What is printed.
+pub trait Out {
+    /// The bytes that were written, where the object tells them.
+    ghost written: { Self → Option (List ℕ) };
+
+    /// How often a write failed.
+    ghost faults: { Self → ℕ };
+
+    /// Writes the piece after what was written.
+    fn append(&mut self, alloc: Global, piece: &[u8]) -> Result<(), Trouble>
+        ensures done { OnOk result (written self.new ≡ gained (written self.old) piece.now) }
+        ensures refused { OnErr result (GainsFront (written self.old) (written self.new) piece.now) }
+        ensures memory { IsErrOf result Trouble.Memory → written self.new ≡ written self.old }
+        ensures cause { HasCause (faults self.old) (faults self.new) result };
+}
+
+/// The log of one task: the pieces of its bytes, as they are appended.
+pub trait Log: Drop + Send + Sized + 'static {
+    /// The folder's name.
+    ghost dir: { Self → List ℕ };
+
+    /// The task's path.
+    ghost path: { Self → List Step };
+
+    /// The bytes, and the pieces that were appended with success, where the log tells them.
+    ghost text: { Self → Option Text };
+
+    /// How often a call on this log failed, from 0 on.
+    ghost faults: { Self → ℕ };
+
+    /// A new empty log of the same folder, for a lane of one of this task's regions.
+    fn child(&mut self, alloc: Global, region: u32, lane: u16, span: u16) -> Result<Self, Trouble>
+        requires { length (path self.old) < 4 }
+
+        ensures child_dir { IfOk result (λ log. dir log ≡ dir self.old) }
+        ensures child_path { IfOk result (λ log. path log ≡ path self.old ++ record { region = region; lane = lane; span = span } ∷ []) }
+        ensures child_text { IfOk result (λ log. text log ≡ option_map (λ _. empty_text) (text self.old)) }
+        ensures child_faults { IfOk result (λ log. faults log ≡ 0) }
+
+        ensures same_dir { dir self.new ≡ dir self.old }
+        ensures same_path { path self.new ≡ path self.old }
+        ensures same_text { text self.new ≡ text self.old }
+        ensures cause { HasCause (faults self.old) (faults self.new) result };
+
+    /// Adds the piece to the log's end.
+    fn append(&mut self, alloc: Global, piece: &[u8]) -> Result<(), Trouble>
+        ensures done { OnOk result (text self.new ≡ option_map (with_piece piece.now) (text self.old)) }
+        ensures refused { OnErr result (TearsPiece (text self.old) (text self.new) piece.now) }
+        ensures memory { IsErrOf result Trouble.Memory → text self.new ≡ text self.old }
+
+        ensures same_dir { dir self.new ≡ dir self.old }
+        ensures same_path { path self.new ≡ path self.old }
+        ensures cause { HasCause (faults self.old) (faults self.new) result };
+}
+
+/// A map from names to files, in which logs are made and sealed. `size` and `read` count their faults by themselves.
+pub trait Folder {
+    type Log: Log;
+
+    /// The files that the folder holds and the logs that it sealed, where the folder tells them.
+    ghost content: { Self → Option Content };
+
+    /// How often `size` or `read` failed.
+    ghost read_faults: { Self → ℕ };
+
+    /// How often another call failed, or a log with faults came back.
+    ghost write_faults: { Self → ℕ };
+
+    /// How many bytes the named file has. `None` where there is none.
+    fn size(&mut self, alloc: Global, name: &str) -> Result<Option<u64>, Trouble>
+        ensures size { IfOk result (λ size. WhereTold (content self.old) (λ c. size ≡ option_map length (c.held name.now))) }
+
+        ensures same { content self.new ≡ content self.old }
+        ensures cause { HasCause (read_faults self.old) (read_faults self.new) result }
+        ensures same_writes { write_faults self.new ≡ write_faults self.old };
+
+    /// Reads bytes of the named file, from the place `at` on, into the front of `into`, and answers how many. A file that
+    /// isn't there is read as one without a byte. Fewer may come than `into` has room for, but none only at the end.
+    fn read(
+        &mut self,
+        alloc: Global,
+        name: &str,
+        at: u64,
+        into: &mut [u8],
+    ) -> Result<usize, Trouble>
+        ensures fits { IfOk result (λ count. count ≤ length into.old) }
+        ensures bytes { IfOk result (λ count. WhereTold (content self.old) (λ c. Reads (unwrap_or (c.held name.now) []) at count into.new)) }
+
+        ensures same { content self.new ≡ content self.old }
+        ensures cause { HasCause (read_faults self.old) (read_faults self.new) result }
+        ensures same_writes { write_faults self.new ≡ write_faults self.old };
+
+    /// Makes the named file hold these bytes.
+    fn put(&mut self, alloc: Global, name: &str, bytes: &[u8]) -> Result<(), Trouble>
+        ensures done { OnOk result (content self.new ≡ option_map (with_put name.now bytes.now) (content self.old)) }
+        ensures refused { OnErr result (LeavesFront (content self.old) (content self.new) name.now bytes.now) }
+
+        ensures cause { HasCause (write_faults self.old) (write_faults self.new) result }
+        ensures same_reads { read_faults self.new ≡ read_faults self.old };
+
+    /// A new empty log for the root task, in the folder `dir`.
+    fn root(&mut self, alloc: Global, dir: &str) -> Result<Self::Log, Trouble>
+        ensures log_dir { IfOk result (λ log. Self.Log.dir log ≡ dir.now) }
+        ensures log_path { IfOk result (λ log. Self.Log.path log ≡ []) }
+        ensures log_text { IfOk result (λ log. Self.Log.text log ≡ option_map (λ _. empty_text) (content self.old)) }
+        ensures log_faults { IfOk result (λ log. Self.Log.faults log ≡ 0) }
+
+        ensures same { content self.new ≡ content self.old }
+        ensures cause { HasCause (write_faults self.old) (write_faults self.new) result }
+        ensures same_reads { read_faults self.new ≡ read_faults self.old };
+
+    /// Makes the log's name hold its bytes, and notes the lengths of its pieces. An error hands the log back.
+    fn seal(&mut self, alloc: Global, log: Self::Log) -> Result<(), (Trouble, Self::Log)>
+        ensures done { OnOk result (WhereTold (Self.Log.text log) (λ text.
+            content self.new ≡ option_map (with_log (log_name (Self.Log.dir log) (Self.Log.path log)) text) (content self.old))) }
+        ensures refused { OnErr result (WhereTold (Self.Log.text log) (λ text.
+            LeavesFront (content self.old) (content self.new) (log_name (Self.Log.dir log) (Self.Log.path log)) text.bytes)) }
+        ensures tells { is_some (content self.new) ≡ is_some (content self.old) }
+        ensures given_back { IfErr result (λ error. error.1 ≡ log) }
+
+        ensures log_faults { TakesFaults (Self.Log.faults log) (write_faults self.old) (write_faults self.new) }
+        ensures cause { IfErr result (λ error. error.0 ≡ Trouble.Failed → Rose (write_faults self.old) (write_faults self.new)) }
+        ensures same_reads { read_faults self.new ≡ read_faults self.old };
+
+    /// Gives up a log.
+    fn discard(&mut self, log: Self::Log)
+        ensures same { content self.new ≡ content self.old }
+        ensures log_faults { TakesFaults (Self.Log.faults log) (write_faults self.old) (write_faults self.new) }
+        ensures no_faults { Self.Log.faults log ≡ 0 → write_faults self.new ≡ write_faults self.old }
+        ensures same_reads { read_faults self.new ≡ read_faults self.old };
+}
