@@ -1,0 +1,5 @@
+use Rattle.log_format.proofs.Logs.{log_bytes-injective}
+use Rattle.log_format.proofs.laws.logged_once.Goals as goal
+
+pub returns : goal.returns
+returns c = log_bytes-injective

@@ -1,0 +1,95 @@
+-- The table of records: which values each kind allows, as one test for each fault.
+use Rattle.std.specs.Prelude.{◌≡◌, ◌≢◌, ◌⊎◌, ℕ, ◌+◌, ◌^◌, ◌<◌, ◌≤◌, List, slice_index}
+use Rattle.log_format.specs.declared.record.Kind.{Kind}
+use Rattle.log_format.specs.declared.record.Kind.TheVariants.{Read, Write, Lock, Unlock, Barrier, Region, Chunk, End}
+use Rattle.log_format.specs.declared.record.Record.{Record}
+use Rattle.log_format.specs.declared.record.Why.{Why}
+use Rattle.log_format.specs.declared.record.Why.TheVariants as why
+use Rattle.log_format.specs.Spelling.{kind_code, spelling}
+
+-- each field is below its width, as every field of a program's record is
+pub record Fits (r : Record) : Type 0 where
+  pub size : r.size < 2 ^ 8
+  pub site : r.site < 2 ^ 16
+  pub line : r.line < 2 ^ 32
+  pub addr : r.addr < 2 ^ 64
+  pub value : r.value < 2 ^ 64
+
+-- how many bytes an access has
+abbrev pub IsAccessSize : ℕ → Type 0
+IsAccessSize n = (n ≡ 1) ⊎ (n ≡ 2) ⊎ (n ≡ 4) ⊎ (n ≡ 8)
+
+-- an access has 1, 2, 4 or 8 bytes, and nothing else has any
+abbrev pub HasSize : Kind → ℕ → Type 0
+HasSize Read n = IsAccessSize n
+HasSize Write n = IsAccessSize n
+HasSize _ n = n ≡ 0
+
+-- an access ends at 2^48 or before; a mutex's number is below 2^16
+abbrev pub HasAddress : Kind → Record → Type 0
+HasAddress Read r = r.addr + r.size ≤ 2 ^ 48
+HasAddress Write r = r.addr + r.size ≤ 2 ^ 48
+HasAddress Lock r = r.addr < 2 ^ 16
+HasAddress Unlock r = r.addr < 2 ^ 16
+HasAddress _ r = Unit {0}
+
+-- a region has 1 to 64 lanes
+abbrev pub HasSpan : Kind → Record → Type 0
+HasSpan Region r = (1 ≤ r.value) × (r.value ≤ 64)
+HasSpan _ r = Unit {0}
+
+-- what a kind doesn't use is 0, and a chunk's number is at most how many there are
+abbrev pub HasNothingElse : Kind → Record → Type 0
+HasNothingElse Read r = Unit {0}
+HasNothingElse Write r = Unit {0}
+HasNothingElse Lock r = (r.site ≡ 0) × (r.value ≡ 0)
+HasNothingElse Unlock r = (r.site ≡ 0) × (r.value ≡ 0)
+HasNothingElse Barrier r = (r.site ≡ 0) × (r.addr ≡ 0) × (r.value ≡ 0)
+HasNothingElse Region r = (r.site ≡ 0) × (r.addr ≡ 0)
+HasNothingElse Chunk r = (r.site ≡ 0) × (r.addr ≤ r.value)
+HasNothingElse End r = (r.site ≡ 0) × (r.addr ≡ 0) × (r.value ≡ 0)
+
+-- a record passes the test that the fault names
+abbrev pub Passes : Record → Why → Type 0
+Passes r why.Kind = Unit {0}
+Passes r why.Size = HasSize r.kind r.size
+Passes r why.LineZero = 1 ≤ r.line
+Passes r why.Address = HasAddress r.kind r
+Passes r why.Span = HasSpan r.kind r
+Passes r why.Reserved = HasNothingElse r.kind r
+
+-- a record of the table
+pub record IsTabled (r : Record) : Type 0 where
+  pub fits : Fits r
+  pub passes : (w : Why) → Passes r w
+
+-- the place of a test among the tests
+abbrev pub rank : Why → ℕ
+rank why.Kind = 0
+rank why.Size = 1
+rank why.LineZero = 2
+rank why.Address = 3
+rank why.Span = 4
+rank why.Reserved = 5
+
+-- the first test that a record fails
+pub record IsFirstFailed (r : Record) (w : Why) : Type 0 where
+  pub fails : Passes r w → ⊥
+  pub before : (v : Why) → rank v < rank w → Passes r v
+
+-- bytes that spell a record of the table
+pub record Spells (bytes : List ℕ) (r : Record) : Type 0 where
+  pub tabled : IsTabled r
+  pub spelled : bytes ≡ spelling r
+
+-- bytes whose fields make a record that fails this test first
+pub record FailsFirst (bytes : List ℕ) (w : Why) : Type 0 where
+  pub fields : Record
+  pub fits : Fits fields
+  pub spelled : bytes ≡ spelling fields
+  pub failed : IsFirstFailed fields w
+
+-- the first fault of bytes: they name no kind, or their fields fail a test
+abbrev pub IsFirstFault : List ℕ → Why → Type 0
+IsFirstFault bytes why.Kind = (k : Kind) → slice_index bytes 0 ≢ kind_code k
+IsFirstFault bytes w = FailsFirst bytes w

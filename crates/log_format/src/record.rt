@@ -1,0 +1,53 @@
+/// What a task did.
+#[derive(Clone, Copy, Debug, PartialEq, Eq, Hash)]
+pub enum Kind {
+    /// An access that reads.
+    Read,
+    /// An access that writes.
+    Write,
+    /// A mutex was taken.
+    Lock,
+    /// A mutex was given back.
+    Unlock,
+    /// A barrier of the team.
+    Barrier,
+    /// A parallel region was forked.
+    Region,
+    /// A chunk of a dynamic worksharing loop was drawn.
+    Chunk,
+    /// The task ended.
+    End,
+}
+
+/// One step of a task, as its log tells it.
+#[derive(Clone, Copy, Debug, PartialEq, Eq, Hash)]
+pub struct Record {
+    pub kind: Kind,
+    /// The bytes of an access, 1, 2, 4 or 8; else 0.
+    pub size: u8,
+    /// The place in the kernel's text that made the access.
+    pub site: u16,
+    /// The line in the kernel's text, from 1.
+    pub line: u32,
+    /// The address of an access, the number of a mutex or of a chunk.
+    pub addr: u64,
+    /// What an access read or wrote, in two's complement; the span of a region; how many chunks there are.
+    pub value: u64,
+}
+
+/// Why bytes spell no record: the first test that they fail, in this order.
+#[derive(Clone, Copy, Debug, PartialEq, Eq, Hash)]
+pub enum Why {
+    /// The first byte names no kind.
+    Kind,
+    /// The size isn't one that the kind allows.
+    Size,
+    /// The line is 0.
+    LineZero,
+    /// An access ends past 2^48, or a mutex's number is 65,536 or more.
+    Address,
+    /// A region's span isn't 1 to 64.
+    Span,
+    /// A field that must be 0 isn't, or a chunk's number is above how many there are.
+    Reserved,
+}

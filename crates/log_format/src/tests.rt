@@ -1,0 +1,66 @@
+use crate::{Kind, Record, Why, decode, encode};
+
+/// The bytes of three groups of eight.
+fn joined(groups: [u64; 3]) -> [u8; 24] {
+    let mut bytes = [0; 24];
+    bytes[0..8].copy_from_slice(&groups[0].to_be_bytes());
+    bytes[8..16].copy_from_slice(&groups[1].to_be_bytes());
+    bytes[16..24].copy_from_slice(&groups[2].to_be_bytes());
+    bytes
+}
+
+fn access(kind: Kind, size: u8, site: u16, line: u32, addr: u64, value: u64) -> Record {
+    Record {
+        kind,
+        size,
+        site,
+        line,
+        addr,
+        value,
+    }
+}
+
+/// The bytes of the format's vectors, and what they are.
+fn vectors() -> [([u64; 3], Result<Record, Why>); 10] {
+    [
+        (
+            [0x0108_0001_0000_0005, 0x1000, 0],
+            Ok(access(Kind::Read, 8, 1, 5, 4096, 0)),
+        ),
+        (
+            [0x0201_0000_0000_0001, 0x1000, 0xffff_ffff_ffff_ffc8],
+            Ok(access(Kind::Write, 1, 0, 1, 4096, u64::MAX - 55)),
+        ),
+        (
+            [0x0108_0000_0000_0001, 0xffff_ffff_fff8, 0],
+            Ok(access(Kind::Read, 8, 0, 1, (1 << 48) - 8, 0)),
+        ),
+        (
+            [0x0108_0000_0000_0001, 0xffff_ffff_fff9, 0],
+            Err(Why::Address),
+        ),
+        ([0x0908_0000_0000_0001, 0, 0], Err(Why::Kind)),
+        ([0x0103_0000_0000_0001, 0, 0], Err(Why::Size)),
+        ([0x0800_0000_0000_0000, 0, 0], Err(Why::LineZero)),
+        ([0x0600_0000_0000_0001, 0, 0x41], Err(Why::Span)),
+        ([0x0500_0000_0000_0001, 0, 1], Err(Why::Reserved)),
+        ([0x0700_0000_0000_0001, 3, 2], Err(Why::Reserved)),
+    ]
+}
+
+#[test]
+fn decodes_the_vectors(rt: HostRuntime) {
+    for (groups, want) in vectors() {
+        assert_eq!(rt; decode(&joined(groups)), want);
+    }
+}
+
+#[test]
+fn encodes_what_the_vectors_spell(rt: HostRuntime) {
+    for (groups, _) in vectors() {
+        let bytes = joined(groups);
+        if let Ok(record) = decode(&bytes) {
+            assert_eq!(rt; encode(&record), bytes);
+        }
+    }
+}
