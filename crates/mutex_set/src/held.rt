@@ -1,0 +1,113 @@
+ghost use Rattle.std.specs.Prelude.{◌≡◌, ◌≢◌, ◌↔◌, ◌≤◌, ◌==◌, [], ◌∷◌, ◌++◌, length, filter, not, nat_eq, Contains, IsTrue, IsOk, OnOk, OnErr};
+ghost use Rattle.std.specs.List.{IsDistinct};
+ghost use Rattle.mutex_set.specs.Held.{IsInnermost, AreDisjoint};
+
+use arrayvec::ArrayVec;
+use std::marker::Model;
+
+/// How many mutexes a task holds at most.
+const MOST: usize = 8;
+
+/// Why a mutex can't be taken.
+#[derive(Clone, Copy, Debug, PartialEq, Eq)]
+pub enum HeldFault {
+    /// The task holds it already.
+    HeldAlready,
+    /// The task holds eight others.
+    Deep,
+}
+
+/// A mutex can't be given back, since it isn't the one that was taken last.
+#[derive(Clone, Copy, Debug, PartialEq, Eq)]
+pub struct NotInnermost;
+
+/// The numbers of the mutexes that a task holds, the innermost last. Contracts see the list of them.
+#[derive(Drop)]
+pub struct Held {
+    ids: ArrayVec<u16, MOST>,
+}
+
+impl Model for Held {
+    ghost use Rattle.std.specs.Prelude.{ℕ, ◌≤◌, List, length, nat_eq};
+    ghost use Rattle.std.specs.List.{IsDistinct};
+
+    ghost Value = { List ℕ };
+
+    ghost view = { λ held. held.ids.items };
+
+    ghost invariant = { λ held. (length held.ids.items ≤ 8) × IsDistinct nat_eq held.ids.items };
+}
+
+impl Held {
+    /// No mutexes.
+    pub fn none() -> Held
+        ensures { result ≡ [] }
+    {
+        Held {
+            ids: ArrayVec::new(),
+        }
+    }
+
+    /// The numbers of the mutexes, the innermost last.
+    pub fn ids(&self) -> &[u16]
+        ensures ids { result.now ≡ self.now }
+        ensures depth { length self.now ≤ 8 }
+        ensures distinct { IsDistinct nat_eq self.now }
+    {
+        self.ids.as_slice()
+    }
+
+    /// The same mutexes.
+    pub fn copy(&self) -> Held
+        ensures { result ≡ self.now }
+    {
+        let mut ids = ArrayVec::new();
+        ids.try_extend_from_slice(self.ids.as_slice()).unwrap();
+        Held { ids }
+    }
+
+    /// Takes a mutex, which is then the innermost.
+    pub fn enter(&mut self, id: u16) -> Result<(), HeldFault>
+        ensures entered { OnOk result (self.new ≡ self.old ++ id ∷ []) }
+        ensures already { (result ≡ Err HeldFault.HeldAlready) ↔ Contains self.old id }
+        ensures deep { (result ≡ Err HeldFault.Deep) ↔ ((Contains self.old id → ⊥) × (length self.old ≡ 8)) }
+        ensures unchanged { OnErr result (self.new ≡ self.old) }
+    {
+        if self.ids.contains(&id) {
+            return Err(HeldFault::HeldAlready);
+        }
+        if self.ids.is_full() {
+            return Err(HeldFault::Deep);
+        }
+        self.ids.push(id);
+        Ok(())
+    }
+
+    /// Gives back the mutex that was taken last.
+    pub fn leave(&mut self, id: u16) -> Result<(), NotInnermost>
+        ensures variant { IsOk result ↔ IsInnermost self.old id }
+        ensures left { OnOk result (self.old ≡ self.new ++ id ∷ []) }
+        // No other place of the list has that mutex.
+        ensures others { OnOk result (self.new ≡ filter (λ other. not (other == id)) self.old) }
+        ensures unchanged { OnErr result (self.new ≡ self.old) }
+    {
+        if self.ids.last() != Some(&id) {
+            return Err(NotInnermost);
+        }
+        self.ids.pop();
+        Ok(())
+    }
+
+    /// Whether no mutex is in both.
+    pub fn disjoint(&self, other: &Held) -> bool
+        ensures { IsTrue result ↔ AreDisjoint self.now other.now }
+    {
+        let others = other.ids();
+        for id in self.ids() {
+            if others.contains(id) {
+                return false;
+            }
+        }
+        true
+    }
+}

@@ -1,0 +1,30 @@
+use crate::{Held, HeldFault, NotInnermost};
+use std::test::Fail;
+
+#[test]
+fn holds_eight_at_most(rt: HostRuntime) -> Result<(), Fail> {
+    let mut held = Held::none();
+    for id in 1..9 {
+        held.enter(id)?;
+    }
+    assert_eq!(rt; held.enter(9), Err(HeldFault::Deep));
+    assert_eq!(rt; held.enter(3), Err(HeldFault::HeldAlready));
+    assert_eq!(rt; held.ids(), [1, 2, 3, 4, 5, 6, 7, 8].as_slice());
+    Ok(())
+}
+
+#[test]
+fn gives_back_the_innermost_alone(rt: HostRuntime) -> Result<(), Fail> {
+    let mut held = Held::none();
+    held.enter(7)?;
+    held.enter(65535)?;
+    let before = held.copy();
+    assert_eq!(rt; held.leave(7), Err(NotInnermost));
+    assert_eq!(rt; held.ids(), before.ids());
+    held.leave(65535)?;
+    assert_eq!(rt; held.ids(), [7].as_slice());
+    assert!(rt; !held.disjoint(&before));
+    held.leave(7)?;
+    assert!(rt; held.disjoint(&before));
+    Ok(())
+}
