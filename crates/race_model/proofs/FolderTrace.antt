@@ -1,0 +1,46 @@
+-- A folder holds at most one trace.
+use Rattle.std.proofs.Common.{◌≡◌, ℕ, List, [], ◌∷◌, Some, refl, sym, ap, subst, ◌∙◌}
+use Rattle.std.specs.Prelude.{All}
+use Rattle.std.proofs.lemmas.List.Elements.{All-head, All-tail}
+use Rattle.std.proofs.lemmas.Option.{same_Some}
+use Rattle.sw_base.specs.declared.path.Step.{Step}
+use Rattle.sw_base.specs.declared.path.TheConstants.{LOG_HEADER}
+use Rattle.sw_base.specs.Environment.{Files}
+use Rattle.sw_base.specs.Names.{log_name}
+use Rattle.log_format.specs.declared.record.Record.{Record}
+use Rattle.log_format.specs.Spelling.{log_bytes}
+use Rattle.log_format.proofs.Logs.{log_bytes-injective}
+use Rattle.race_model.specs.Row.{Row}
+use Rattle.race_model.specs.Trace.{TaskLog, Trace}
+use Rattle.race_model.specs.LogFault.{IsWholeLog}
+use Rattle.race_model.specs.FirstBad.{HoldsLogs, HoldsTrace, row_of, rows_of}
+use Rattle.race_model.proofs.IndexRows.{index_once}
+
+abbrev Whole : Files → List ℕ → TaskLog → Type 0
+Whole files dir task = IsWholeLog files dir task.path task.records
+
+-- a task's records are those of its log
+same_records : (files : Files) (dir : List ℕ) (t u : TaskLog) → t.path ≡ u.path → Whole files dir t → Whole files dir u → t.records ≡ u.records
+same_records files dir t u path a b =
+    log_bytes-injective LOG_HEADER t.records u.records a.tabled b.tabled
+    (same_Some (log_bytes LOG_HEADER t.records) (log_bytes LOG_HEADER u.records) (sym a.there ∙ (ap (λ (p : List Step). files (log_name dir p)) path ∙ b.there)))
+
+same_task : (files : Files) (dir : List ℕ) (t u : TaskLog) → row_of t ≡ row_of u → Whole files dir t → Whole files dir u → t ≡ u
+same_task files dir t u row a b =
+    let path : t.path ≡ u.path = ap (λ (r : Row). r.path) row in
+    let records = same_records files dir t u path a b in
+    λ i. record { path = path i; records = records i }
+
+same_tasks : (files : Files) (dir : List ℕ) (t u : Trace) → rows_of t ≡ rows_of u → HoldsLogs files dir t → HoldsLogs files dir u → t ≡ u
+same_tasks files dir [] [] rows a b = refl
+same_tasks files dir [] (y ∷ u) rows a b = cc
+same_tasks files dir (x ∷ t) [] rows a b = cc
+same_tasks files dir (x ∷ t) (y ∷ u) rows a b =
+    let first : row_of x ≡ row_of y = cc in
+    let others : rows_of t ≡ rows_of u = cc in
+    let head = same_task files dir x y first (All-head (Whole files dir) x t a) (All-head (Whole files dir) y u b) in
+    let tail = same_tasks files dir t u others (All-tail (Whole files dir) x t a) (All-tail (Whole files dir) y u b) in
+    λ i. head i ∷ tail i
+
+pub trace_once : (files : Files) (dir : List ℕ) (t u : Trace) → HoldsTrace files dir t → HoldsTrace files dir u → t ≡ u
+trace_once files dir t u a b = same_tasks files dir t u (index_once files dir (rows_of t) (rows_of u) a.index b.index) a.logs b.logs

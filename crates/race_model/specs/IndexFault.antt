@@ -1,0 +1,128 @@
+-- Well-formed indexes, and the places at which an index is bad.
+use Rattle.std.specs.Prelude.{◌≡◌, ◌≢◌, ◌⊎◌, ℕ, ◌+◌, ◌^◌, ◌<◌, ◌≤◌, List, [], ◌∷◌, ◌++◌, length, take, map, All, Some, None}
+use Rattle.std.specs.List.{flat_map}
+use Rattle.sw_base.specs.declared.path.Step.{Step}
+use Rattle.sw_base.specs.declared.path.TheConstants.{INDEX_HEADER}
+use Rattle.sw_base.specs.Environment.{Files}
+use Rattle.sw_base.specs.Names.{index_name}
+use Rattle.race_model.specs.declared.why.IndexWhy.{IndexWhy}
+use Rattle.race_model.specs.declared.why.IndexWhy.TheVariants.{Header, TooMany, Cut, Depth, Span, Lane, Order, Records}
+use Rattle.race_model.specs.Place.{Place, no_index, bad_row, missing_log, bad_record, too_many_segments, index_rank, IsEarlier}
+use Rattle.race_model.specs.Row.{Row, RawRow, Fits, row_spelling, used, unused, no_step, index_bytes}
+use Rattle.race_model.specs.Listing.{IsListing, BeginsListing}
+
+-- a region has 1 to 64 lanes
+pub record HasSpan (step : Step) : Type 0 where
+  pub some : 1 ≤ step.span
+  pub limit : step.span ≤ 64
+
+-- the lanes of a region are numbered from 0
+abbrev pub HasLane : Step → Type 0
+HasLane step = step.lane < step.span
+
+-- a path has at most four steps, and the fields past its end are zero
+pub record HasDepth (row : RawRow) : Type 0 where
+  pub limit : row.depth ≤ 4
+  pub reserved : row.reserved ≡ 0
+  pub unused : All (λ step. step ≡ no_step) (unused row)
+
+-- a log has 1 to 4,194,304 records
+pub record HasRecords (records : ℕ) : Type 0 where
+  pub some : 1 ≤ records
+  pub limit : records ≤ 4194304
+
+-- a row after others passes the test that the fault names
+abbrev pub Passes : List RawRow → RawRow → IndexWhy → Type 0
+Passes before row Depth = HasDepth row
+Passes before row Span = All HasSpan (used row)
+Passes before row Lane = All HasLane (used row)
+Passes before row Order = BeginsListing (map used (before ++ row ∷ []))
+Passes before row Records = HasRecords row.records
+Passes before row _ = Unit {0}
+
+-- a whole row is next, and it fails the test
+pub record FailsTest (before : List RawRow) (rest : List ℕ) (why : IndexWhy) : Type 0 where
+  pub row : RawRow
+  pub more : List ℕ
+  pub fits : Fits row
+  pub spelled : rest ≡ row_spelling row ++ more
+  pub fails : Passes before row why → ⊥
+
+-- after these rows, the bytes that are left have this fault
+abbrev pub Fails : List RawRow → List ℕ → IndexWhy → Type 0
+Fails before rest Header = ⊥
+Fails before rest TooMany = (length before ≡ 65536) × (rest ≢ [])
+Fails before rest Cut = ((rest ≢ []) × (length rest < 48)) ⊎ ((before ≡ []) × (rest ≡ []))
+Fails before rest Order = FailsTest before rest Order ⊎ ((rest ≡ []) × (IsListing (map used before) → ⊥))
+Fails before rest why = FailsTest before rest why
+
+-- and none of the faults that are tried before
+pub record FailsFirst (before : List RawRow) (rest : List ℕ) (why : IndexWhy) : Type 0 where
+  pub fails : Fails before rest why
+  pub least : (other : IndexWhy) → index_rank other < index_rank why → Fails before rest other → ⊥
+
+-- the bytes are the header, the rows before the n-th, which are as many as there must be, and the rest
+pub record IsAtRow (bytes : List ℕ) (n : ℕ) (before : List RawRow) (rest : List ℕ) : Type 0 where
+  pub number : n ≡ length before + 1
+  pub fit : All Fits before
+  pub parts : bytes ≡ INDEX_HEADER ++ flat_map row_spelling before ++ rest
+
+-- the n-th row has this fault
+pub record HasFault (bytes : List ℕ) (n : ℕ) (why : IndexWhy) : Type 0 where
+  pub before : List RawRow
+  pub rest : List ℕ
+  pub at_row : IsAtRow bytes n before rest
+  pub fails : Fails before rest why
+
+-- row n of these bytes is bad, rows numbered from 1; row 0 is the header
+abbrev pub IsBadRow : List ℕ → ℕ → IndexWhy → Type 0
+IsBadRow bytes n Header = (n ≡ 0) × (take 8 bytes ≢ INDEX_HEADER)
+IsBadRow bytes n why = HasFault bytes n why
+
+-- the folder's index has this bad row
+pub record HoldsBadRow (files : Files) (dir : List ℕ) (n : ℕ) (why : IndexWhy) : Type 0 where
+  pub bytes : List ℕ
+  pub held : files (index_name dir) ≡ Some bytes
+  pub bad : IsBadRow bytes n why
+
+-- a place of the index at which the folder is bad
+abbrev pub IsBadIndexPlace : Files → List ℕ → Place → Type 0
+IsBadIndexPlace files dir no_index = files (index_name dir) ≡ None
+IsBadIndexPlace files dir (bad_row n why) = HoldsBadRow files dir n why
+IsBadIndexPlace files dir (missing_log row) = ⊥
+IsBadIndexPlace files dir (bad_record row n why) = ⊥
+IsBadIndexPlace files dir (too_many_segments row n) = ⊥
+
+-- the first of them
+pub record IsFirstBadIndexPlace (files : Files) (dir : List ℕ) (place : Place) : Type 0 where
+  pub bad : IsBadIndexPlace files dir place
+  pub least : (q : Place) → IsEarlier q place → IsBadIndexPlace files dir q → ⊥
+
+-- a step of a path
+pub record IsStep (step : Step) : Type 0 where
+  pub region : step.region < 2 ^ 32
+  pub span : HasSpan step
+  pub lane : HasLane step
+
+-- a row of an index
+pub record IsRow (row : Row) : Type 0 where
+  pub depth : length row.path ≤ 4
+  pub steps : All IsStep row.path
+  pub records : HasRecords row.records
+
+-- the first rows of a well-formed index
+pub record AreFirstRows (rows : List Row) : Type 0 where
+  pub begins : BeginsListing (map (λ row. row.path) rows)
+  pub each : All IsRow rows
+  pub limit : length rows ≤ 65536
+
+-- the rows of a well-formed index: a whole listing of at most 65,536 tasks
+pub record AreRows (rows : List Row) : Type 0 where
+  pub lists : IsListing (map (λ row. row.path) rows)
+  pub each : All IsRow rows
+  pub limit : length rows ≤ 65536
+
+-- the folder holds a well-formed index with these rows
+pub record IsIndex (files : Files) (dir : List ℕ) (rows : List Row) : Type 0 where
+  pub held : files (index_name dir) ≡ Some (index_bytes rows)
+  pub rows_are : AreRows rows

@@ -1,0 +1,14 @@
+pub mod FirstBad
+pub mod IndexFault
+pub mod KeepsRules
+pub mod Label
+pub mod Listing
+pub mod LogFault
+pub mod Mutexes
+pub mod Order
+pub mod Place
+pub mod Race
+pub mod Row
+pub mod Segment
+pub mod Trace
+pub mod WellFormed

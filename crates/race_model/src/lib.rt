@@ -1,0 +1,19 @@
+//! What the checker means, as definitions and laws: the records of a run, happens-before by forks, joins and barriers,
+//! the mutexes held at an access, data races and their line pairs, offset-span labels, and the first bad place of a folder.
+#![tactic(auto)]
+
+mod folders;
+mod index;
+mod labels;
+mod listing;
+mod mutexes;
+mod why;
+
+pub use folders::{folder_tells_its_trace, well_formed_folder_is_fork_join};
+pub use index::{
+    first_bad_index_place_is_unique, index_tells_its_rows, well_formed_index_has_no_bad_place,
+};
+pub use labels::{happens_before_is_an_order, labels_are_happens_before};
+pub use listing::listing_by_next_paths;
+pub use mutexes::mutexes_are_held_from_lock_to_unlock;
+pub use why::{IndexWhy, RecordWhy};
