@@ -1,0 +1,35 @@
+ghost use Rattle.std.specs.Prelude.{◌≡◌};
+
+use mutex_set::Held;
+
+/// One read or write of memory: what kind, where in the kernel, which bytes, and the mutexes that were held.
+#[derive(Drop)]
+pub struct Access {
+    pub write: bool,
+    /// How many bytes, 1, 2, 4 or 8.
+    pub size: u8,
+    /// The place in the kernel's text that made the access.
+    pub site: u16,
+    /// The line in the kernel's text, from 1.
+    pub line: u32,
+    /// The address of the first byte.
+    pub addr: u64,
+    /// The mutexes that the task held.
+    pub held: Held,
+}
+
+impl Access {
+    /// The same access.
+    pub fn copy(&self) -> Access
+        ensures { result ≡ self.now }
+    {
+        Access {
+            write: self.write,
+            size: self.size,
+            site: self.site,
+            line: self.line,
+            addr: self.addr,
+            held: self.held.copy(),
+        }
+    }
+}
