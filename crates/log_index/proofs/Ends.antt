@@ -1,0 +1,94 @@
+-- How the reading of rows goes on and ends.
+use Rattle.std.proofs.Common.{◌≡◌, ◌≢◌, inl, inr, ℕ, ◌+◌, ◌-◌, ◌<◌, List, [], ◌∷◌, ◌++◌, length, take, drop, map, refl, sym, ap, subst, ◌∙◌, arith, append_assoc, length-append, length-drop}
+use Rattle.std.specs.List.{flat_map}
+use Rattle.std.proofs.lemmas.Grind.{flat_map-append}
+use Rattle.std.proofs.lemmas.List.{append-nil, map-append, length-map, take_all}
+use Rattle.sw_base.specs.declared.path.Step.{Step}
+use Rattle.sw_base.specs.declared.path.TheConstants.{INDEX_HEADER}
+use Rattle.race_model.specs.declared.why.IndexWhy.{IndexWhy}
+use Rattle.race_model.specs.declared.why.IndexWhy.TheVariants.{Header, TooMany, Cut, Depth, Span, Lane, Order, Records}
+use Rattle.race_model.specs.Place.{index_rank, bad_row}
+use Rattle.race_model.specs.Row.{Row, RawRow, row_spelling, raw_of}
+use Rattle.race_model.specs.Listing.{IsListing}
+use Rattle.race_model.specs.IndexFault.{FailsTest, Fails as HasFault, FailsFirst, AreFirstRows, AreRows, IsFirstBadIndexPlace}
+use Rattle.race_model.proofs.Listings.{begins_none}
+use Rattle.race_model.proofs.RowSpelling.{length-row}
+use Rattle.race_model.proofs.IndexPlaces.{used-raws_of, header_first, row_first}
+use Rattle.log_index.specs.declared.row.IndexAnswer.TheVariants.{Bad}
+use Rattle.log_index.specs.Rows.{path_of, OneMore, StopsAt, SpellsFirstRows, SpellsRows, IsFirstBadRow}
+
+-- the end of rows that are no whole listing
+pub end_fails : (rows : List Row) → (rows ≢ []) → (IsListing (map path_of rows) → ⊥) → FailsFirst (map raw_of rows) [] Order
+end_fails rows some not = record { fails = inr (refl, λ is. not (subst (λ (paths : List (List Step)). IsListing paths) (used-raws_of rows) is)); least = least } where
+  none : map raw_of rows ≡ [] → rows ≡ []
+  none is = by_rows rows refl where
+    by_rows : (rs : List Row) → rows ≡ rs → rows ≡ []
+    by_rows [] same = same
+    by_rows (r ∷ rs) same = absurd (omega (arith, ap length is, length-map rows raw_of, ap length same))
+
+  no_test : (why : IndexWhy) → FailsTest (map raw_of rows) [] why → ⊥
+  no_test why test = absurd (omega (arith, ap length test.spelled, length-append (row_spelling test.row) test.more, length-row test.row test.fits.four))
+
+  least : (other : IndexWhy) → index_rank other < 6 → HasFault (map raw_of rows) [] other → ⊥
+  least Header less fails = fails
+  least TooMany less fails = fails.1 refl
+  least Cut less (inl short) = short.0 refl
+  least Cut less (inr empty) = some (none empty.0)
+  least Depth less fails = no_test Depth fails
+  least Span less fails = no_test Span fails
+  least Lane less fails = no_test Lane fails
+  least Order less fails = absurd (omega arith)
+  least Records less fails = no_test Records fails
+
+pub more_good : (before now : List Row) (rest : List ℕ) → OneMore before now rest → AreFirstRows now
+more_good before now rest more = subst (λ (rows : List Row). AreFirstRows rows) (sym more.rows) more.adds.good
+
+spellings-more : (before : List Row) (row : Row) → flat_map row_spelling (map raw_of (before ++ row ∷ [])) ≡ flat_map row_spelling (map raw_of before) ++ row_spelling (raw_of row)
+spellings-more before row =
+    ap (λ (raws : List RawRow). flat_map row_spelling raws) (map-append raw_of before (row ∷ []))
+    ∙ flat_map-append row_spelling (map raw_of before) (raw_of row ∷ [])
+    ∙ ap (λ (bs : List ℕ). flat_map row_spelling (map raw_of before) ++ bs) (append-nil (row_spelling (raw_of row)))
+
+pub more_parts : (bytes : List ℕ) (before now : List Row) (rest : List ℕ) → bytes ≡ flat_map row_spelling (map raw_of before) ++ rest → OneMore before now rest
+    → bytes ≡ flat_map row_spelling (map raw_of now) ++ drop 48 rest
+more_parts bytes before now rest parts more =
+    parts
+    ∙ ap (λ (bs : List ℕ). flat_map row_spelling (map raw_of before) ++ bs) more.adds.parts
+    ∙ sym (append_assoc (flat_map row_spelling (map raw_of before)) (row_spelling (raw_of more.row)) (drop 48 rest))
+    ∙ ap (λ (bs : List ℕ). bs ++ drop 48 rest) (sym (spellings-more before more.row))
+    ∙ ap (λ (rows : List Row). flat_map row_spelling (map raw_of rows) ++ drop 48 rest) (sym more.rows)
+
+-- behind the header
+module _ (bytes rest : List ℕ) (parts : bytes ≡ INDEX_HEADER ++ rest) where
+  whole_parts : (rows : List Row) (left : List ℕ) → rest ≡ flat_map row_spelling (map raw_of rows) ++ left → bytes ≡ INDEX_HEADER ++ flat_map row_spelling (map raw_of rows) ++ left
+  whole_parts rows left is =
+      parts ∙ ap (λ (bs : List ℕ). INDEX_HEADER ++ bs) is ∙ sym (append_assoc INDEX_HEADER (flat_map row_spelling (map raw_of rows)) left)
+
+  pub rows_spelled : (rows : List Row) → SpellsFirstRows rest rows → AreRows rows → SpellsRows bytes rows
+  rows_spelled rows first all = record { spelled = parts ∙ ap (λ (bs : List ℕ). INDEX_HEADER ++ bs) first.spelled; rows_are = all }
+
+  pub stops_first : (n : ℕ) (why : IndexWhy) → StopsAt rest n why → IsFirstBadRow bytes n why
+  stops_first n why stops files dir held =
+      subst (λ (m : ℕ). IsFirstBadIndexPlace files dir (bad_row m why)) (sym stops.number)
+      (row_first files dir bytes held stops.before stops.rest stops.good (whole_parts stops.before stops.rest stops.parts) why stops.first)
+
+  pub end_first : (rows : List Row) (why : IndexWhy) → SpellsFirstRows rest rows → FailsFirst (map raw_of rows) [] why → IsFirstBadRow bytes (length rows + 1) why
+  end_first rows why first fails files dir held =
+      row_first files dir bytes held rows [] first.good (whole_parts rows [] (first.spelled ∙ sym (append-nil (flat_map row_spelling (map raw_of rows))))) why fails
+
+pub header_bad : (bytes : List ℕ) → (take 8 bytes ≢ INDEX_HEADER) → IsFirstBadRow bytes 0 Header
+header_bad bytes other files dir held = header_first files dir bytes held other
+
+-- no row is read yet
+pub none_good : (rows : List Row) → rows ≡ [] → AreFirstRows rows
+none_good rows none = subst (λ (rs : List Row). AreFirstRows rs) (sym none) (record { begins = begins_none; each = λ k d h. absurd (omega arith); limit = omega arith })
+
+pub none_parts : (bytes : List ℕ) (rows : List Row) → rows ≡ [] → bytes ≡ flat_map row_spelling (map raw_of rows) ++ bytes
+none_parts bytes rows none = ap (λ (rs : List Row). flat_map row_spelling (map raw_of rs) ++ bytes) (sym none)
+
+pub after_row : (rest : List ℕ) → take (length rest - 48) (drop 48 rest) ≡ drop 48 rest
+after_row rest = take_all (length rest - 48) (drop 48 rest) (omega (arith, length-drop 48 rest))
+
+-- the answer at the end
+pub same_answer : {n m : ℕ} {v w : IndexWhy} → Bad n v ≡ Bad m w → (n ≡ m) × (v ≡ w)
+same_answer same = (cc, cc)

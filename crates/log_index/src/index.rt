@@ -1,0 +1,59 @@
+ghost use Rattle.std.specs.Prelude.{◌≡◌, ◌≤◌, ℕ, IfOk, IfErr, OnOk, OnErr, IsErrOf};
+ghost use Rattle.std.specs.Option.{option_map};
+ghost use Rattle.sw_base.specs.Environment.{WhereTold, Rose, HasCause, LeavesFront, with_put};
+ghost use Rattle.sw_base.specs.Names.{index_name};
+ghost use Rattle.race_model.specs.declared.why.IndexWhy.{IndexWhy};
+ghost use Rattle.race_model.specs.Place.{no_index, bad_row};
+ghost use Rattle.race_model.specs.Row.{index_bytes};
+ghost use Rattle.race_model.specs.IndexFault.{AreRows, IsIndex, IsFirstBadIndexPlace};
+ghost use Rattle.log_index.specs.Rows.{rows_of};
+
+use crate::row::{IndexAnswer, Row};
+use crate::rows::read_rows;
+use crate::spelling::spell_rows;
+use std::alloc::Global;
+use sw_base::{Folder, Trouble, index_name, read_file};
+
+/// The rows of the folder's index, or the first bad place of the index. The rows of every Ok are well formed.
+pub fn read_index<F: Folder>(
+    alloc: Global,
+    place: &mut F,
+    dir: &str,
+) -> Result<Vec<Row>, IndexAnswer>
+    ensures rows { IfOk result (λ rows. AreRows (rows_of rows.items)) }
+    ensures found { IfOk result (λ rows. WhereTold (F.content place.old) (λ c. IsIndex c.held dir.now (rows_of rows.items))) }
+    ensures missing { IsErrOf result IndexAnswer.NoIndex → WhereTold (F.content place.old) (λ c. IsFirstBadIndexPlace c.held dir.now no_index) }
+    ensures bad { (n : ℕ) (why : IndexWhy) → IsErrOf result (IndexAnswer.Bad n why) →
+        WhereTold (F.content place.old) (λ c. IsFirstBadIndexPlace c.held dir.now (bad_row n why)) }
+
+    ensures same { F.content place.new ≡ F.content place.old }
+    ensures later { F.read_faults place.old ≤ F.read_faults place.new }
+    ensures cause { IsErrOf result IndexAnswer.ReadFault → Rose (F.read_faults place.old) (F.read_faults place.new) }
+    ensures same_writes { F.write_faults place.new ≡ F.write_faults place.old }
+{
+    let name = index_name(alloc, dir)?;
+    match read_file(alloc, place, &name) {
+        Ok(None) => Err(IndexAnswer::NoIndex),
+        Ok(Some(bytes)) => read_rows(alloc, &bytes),
+        Err(trouble) => Err(IndexAnswer::from(trouble)),
+    }
+}
+
+/// Writes the index with these rows.
+pub fn write_index<F: Folder>(
+    alloc: Global,
+    place: &mut F,
+    dir: &str,
+    rows: &[Row],
+) -> Result<(), Trouble>
+    requires { AreRows (rows_of rows.now) }
+    ensures done { OnOk result (F.content place.new ≡ option_map (with_put (index_name dir.now) (index_bytes (rows_of rows.now))) (F.content place.old)) }
+    ensures refused { OnErr result (LeavesFront (F.content place.old) (F.content place.new) (index_name dir.now) (index_bytes (rows_of rows.now))) }
+
+    ensures cause { HasCause (F.write_faults place.old) (F.write_faults place.new) result }
+    ensures same_reads { F.read_faults place.new ≡ F.read_faults place.old }
+{
+    let name = index_name(alloc, dir)?;
+    let bytes = spell_rows(alloc, rows)?;
+    place.put(alloc, &name, &bytes)
+}

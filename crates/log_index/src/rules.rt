@@ -1,0 +1,71 @@
+ghost use Rattle.std.specs.Prelude.{◌≡◌, ◌↔◌, map, All, IsTrue, IfErr, OnOk};
+ghost use Rattle.sw_base.specs.declared.path.Step.{Step};
+ghost use Rattle.race_model.specs.declared.why.IndexWhy.{IndexWhy};
+ghost use Rattle.race_model.specs.Listing.{BeginsListing};
+ghost use Rattle.race_model.specs.Row.{raw_of, no_step};
+ghost use Rattle.race_model.specs.IndexFault.{HasSpan, HasLane, HasDepth, HasRecords, Passes};
+ghost use Rattle.log_index.specs.Rows.{rows_of, path_of, raw_of_fields, FailsTestFirst};
+
+use crate::fields::Fields;
+use crate::listing::goes_on;
+use crate::row::Row;
+use race_model::IndexWhy;
+use sw_base::Step;
+
+/// The most records that a log has.
+const MAX_RECORDS: u64 = 4_194_304;
+
+fn have_spans(steps: &[Step]) -> bool
+    ensures { IsTrue result ↔ All HasSpan steps.now }
+{
+    steps.iter().all(|step| step.span >= 1 && step.span <= 64)
+}
+
+fn have_lanes(steps: &[Step]) -> bool
+    ensures { IsTrue result ↔ All HasLane steps.now }
+{
+    steps.iter().all(|step| step.lane < step.span)
+}
+
+fn are_zero(steps: &[Step]) -> bool
+    ensures { IsTrue result ↔ All (λ (step : Step). step ≡ no_step) steps.now }
+{
+    steps.iter().all(|step| step.region == 0 && step.lane == 0 && step.span == 0)
+}
+
+fn has_depth(fields: &Fields) -> bool
+    ensures { IsTrue result ↔ HasDepth (raw_of_fields fields.now) }
+{
+    fields.depth <= 4 && fields.reserved == 0 && are_zero(&fields.steps[fields.depth as usize..])
+}
+
+fn has_records(records: u64) -> bool
+    ensures { IsTrue result ↔ HasRecords records }
+{
+    records >= 1 && records <= MAX_RECORDS
+}
+
+/// The first rule that a row after others breaks. A whole row is there, and there is room for it.
+pub fn check(before: &[Row], fields: &Fields) -> Result<(), IndexWhy>
+    requires { BeginsListing (map path_of (rows_of before.now)) }
+    ensures passes { OnOk result ((why : IndexWhy) → Passes (map raw_of (rows_of before.now)) (raw_of_fields fields.now) why) }
+    ensures fails { IfErr result (λ why. FailsTestFirst (map raw_of (rows_of before.now)) (raw_of_fields fields.now) why) }
+{
+    if !has_depth(fields) {
+        return Err(IndexWhy::Depth);
+    }
+    let steps = &fields.steps[..fields.depth as usize];
+    if !have_spans(steps) {
+        return Err(IndexWhy::Span);
+    }
+    if !have_lanes(steps) {
+        return Err(IndexWhy::Lane);
+    }
+    if !goes_on(before, steps) {
+        return Err(IndexWhy::Order);
+    }
+    if !has_records(fields.records) {
+        return Err(IndexWhy::Records);
+    }
+    Ok(())
+}
