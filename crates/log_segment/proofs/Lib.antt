@@ -1,0 +1,11 @@
+pub mod Ancestors
+pub mod Following
+pub mod LabelMoves
+pub mod OwnLevel
+pub mod Passing
+pub mod Stacks
+pub mod Tasks
+pub mod Members
+pub mod Runs
+pub mod WholeRun
+pub mod RootAlone

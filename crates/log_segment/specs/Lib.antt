@@ -1,0 +1,4 @@
+pub mod Accesses
+pub mod Intervals
+pub mod Stack
+pub mod Walking
