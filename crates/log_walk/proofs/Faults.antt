@@ -1,0 +1,103 @@
+-- No fault of a log lies among records that were read and keep the rules; and which faults there are at the next record.
+use Rattle.std.proofs.Common.{◌≡◌, ℕ, zero, suc, ◌<◌, ◌≤◌, List, [], ◌∷◌, ◌++◌, length, take, drop, Some, refl, sym, ap, subst, ◌∙◌, arith, append_assoc}
+use Rattle.std.specs.Prelude.{slice_get}
+use Rattle.std.specs.List.{flat_map}
+use Rattle.std.proofs.lemmas.List.{take_at, length-append}
+use Rattle.std.proofs.lemmas.Option.{get_or_from_slice_get}
+use Rattle.sw_base.specs.declared.path.TheConstants.{LOG_HEADER}
+use Rattle.log_format.specs.declared.record.Record.{Record}
+use Rattle.log_format.specs.declared.record.Why.{Why}
+use Rattle.log_format.specs.Spelling.{spelling}
+use Rattle.log_format.specs.Table.{IsTabled, Spells, IsFirstFault}
+use Rattle.log_format.proofs.Records.{length-spelling, spelled_no_fault}
+use Rattle.race_model.specs.declared.why.RecordWhy.{RecordWhy}
+use Rattle.race_model.specs.declared.why.RecordWhy.TheVariants as log
+use Rattle.race_model.specs.LogFault.{LogTask, Breaks, IsRead, IsCut, IsUntabled, IsRecord, IsBroken, IsLogFault}
+use Rattle.log_walk.specs.Check.{KeepsRules}
+use Rattle.log_walk.proofs.Reading.{same_first, read_front}
+
+-- the element at a place, and what comes from there on
+pub record Found {X : Type 0} (xs : List X) (k : ℕ) : Type 0 where
+  pub item : X
+  pub found : slice_get xs k ≡ Some item
+  pub rest : drop k xs ≡ item ∷ drop (suc k) xs
+
+pub find : {X : Type 0} (xs : List X) (k : ℕ) → k < length xs → Found xs k
+find [] k within = absurd (omega arith)
+find (x ∷ xs) zero within = record { item = x; found = refl; rest = refl }
+find (x ∷ xs) (suc k) within = let at = find xs k (omega arith) in record { item = at.item; found = at.found; rest = at.rest }
+
+-- one of the records that were read stands at a place
+pub record Stands (records before : List Record) (more : List ℕ) : Type 0 where
+  pub r : Record
+  pub found : slice_get records (length before) ≡ Some r
+  pub front : before ≡ take (length before) records
+  pub tabled : IsTabled r
+  pub after : List ℕ
+  pub begins : more ≡ spelling r ++ after
+
+pub stands : (bytes : List ℕ) (records before : List Record) (rest more : List ℕ) → IsRead bytes records rest → IsRead bytes before more
+    → length before < length records → Stands records before more
+stands bytes records before rest more one other within =
+    let front = read_front bytes records before rest more one other (omega arith) in
+    let at = find records (length before) within in
+    record {
+      r = at.item;
+      found = at.found;
+      front = front.front;
+      tabled = subst (λ (x : Record). IsTabled x) (get_or_from_slice_get records (length before) at.item at.item at.found) (one.tabled (length before) at.item within);
+      after = flat_map spelling (drop (suc (length before)) records) ++ rest;
+      begins = front.left ∙ ap (λ (xs : List Record). flat_map spelling xs ++ rest) at.rest ∙ append_assoc (spelling at.item) _ rest;
+    }
+
+long_enough : (r : Record) (after : List ℕ) → 24 ≤ length (spelling r ++ after)
+long_enough r after = omega (arith, length-append (spelling r) after, length-spelling r)
+
+-- bytes that begin with a record of the table aren't cut
+pub not_cut : (more : List ℕ) (r : Record) (after : List ℕ) → more ≡ spelling r ++ after → length more < 24 → ⊥
+not_cut more r after begins short = absurd (omega (arith, ap (λ (bs : List ℕ). length bs) begins, long_enough r after))
+
+-- and have no fault of the table
+pub not_untabled : (more : List ℕ) (r : Record) (after : List ℕ) (w : Why) → more ≡ spelling r ++ after → IsTabled r → IsFirstFault (take 24 more) w → ⊥
+not_untabled more r after w begins tabled fault =
+    let bytes : take 24 more ≡ spelling r = ap (λ (bs : List ℕ). take 24 bs) begins ∙ take_at (spelling r) after 24 (length-spelling r) in
+    let spells : Spells (take 24 more) r = record { tabled = tabled; spelled = bytes } in
+    spelled_no_fault (take 24 more) r w spells fault
+
+no_cut_in : (bytes : List ℕ) (task : LogTask) (records : List Record) (rest : List ℕ) (n : ℕ) → IsRead bytes records rest → n ≤ length records → IsCut bytes task.records n → ⊥
+no_cut_in bytes task records rest n read within fault =
+    let at = stands bytes records fault.before rest fault.rest read fault.at.read (omega (arith, fault.at.number)) in
+    not_cut fault.rest at.r at.after at.begins fault.short
+
+no_untabled_in : (bytes : List ℕ) (task : LogTask) (records : List Record) (rest : List ℕ) (n : ℕ) (w : Why) → IsRead bytes records rest → n ≤ length records → IsUntabled bytes task.records n w → ⊥
+no_untabled_in bytes task records rest n w read within fault =
+    let at = stands bytes records fault.before rest fault.rest read fault.at.read (omega (arith, fault.at.number)) in
+    not_untabled fault.rest at.r at.after w at.begins at.tabled fault.first
+
+-- a record that is told there is the one that was read
+pub same_record : (bytes : List ℕ) (count n : ℕ) (records : List Record) (rest : List ℕ) (before : List Record) (r : Record) → IsRead bytes records rest → n ≤ length records
+    → IsRecord bytes count n before r → (slice_get records (length before) ≡ Some r) × (before ≡ take (length before) records)
+same_record bytes count n records rest before r read within told =
+    let at = stands bytes records before rest (spelling r ++ told.rest) read told.at.read (omega (arith, told.at.number)) in
+    let same = same_first r at.r told.rest at.after told.tabled at.tabled at.begins in
+    (at.found ∙ ap (λ (x : Record). Some x) (sym same.0), at.front)
+
+no_broken_in : (bytes : List ℕ) (task : LogTask) (records : List Record) (rest : List ℕ) (n : ℕ) (rule : RecordWhy) → IsRead bytes records rest → KeepsRules task records
+    → n ≤ length records → IsBroken bytes task n rule → ⊥
+no_broken_in bytes task records rest n rule read keeps within fault =
+    let same = same_record bytes task.records n records rest fault.before fault.r read within fault.at in
+    keeps.each (length fault.before) fault.r same.0 rule (subst (λ (xs : List Record). Breaks task xs fault.r rule) same.1 fault.breaks)
+
+-- nothing is bad among records that were read and keep the rules
+pub no_fault_in : (bytes : List ℕ) (task : LogTask) (records : List Record) (rest : List ℕ) (n : ℕ) (rule : RecordWhy) → IsRead bytes records rest → KeepsRules task records
+    → length records ≤ task.records → n ≤ length records → IsLogFault bytes task n rule → ⊥
+no_fault_in bytes task records rest n log.Header read keeps few within fault = fault.1 (flat_map spelling records ++ rest) (read.parts ∙ append_assoc LOG_HEADER (flat_map spelling records) rest)
+no_fault_in bytes task records rest n log.Cut read keeps few within fault = no_cut_in bytes task records rest n read within fault
+no_fault_in bytes task records rest n log.Kind read keeps few within fault = no_untabled_in bytes task records rest n _ read within fault
+no_fault_in bytes task records rest n log.Size read keeps few within fault = no_untabled_in bytes task records rest n _ read within fault
+no_fault_in bytes task records rest n log.LineZero read keeps few within fault = no_untabled_in bytes task records rest n _ read within fault
+no_fault_in bytes task records rest n log.Address read keeps few within fault = no_untabled_in bytes task records rest n _ read within fault
+no_fault_in bytes task records rest n log.Span read keeps few within fault = no_untabled_in bytes task records rest n _ read within fault
+no_fault_in bytes task records rest n log.Reserved read keeps few within fault = no_untabled_in bytes task records rest n _ read within fault
+no_fault_in bytes task records rest n log.Extra read keeps few within fault = absurd (omega (arith, fault.number))
+no_fault_in bytes task records rest n rule read keeps few within fault = no_broken_in bytes task records rest n rule read keeps within fault

@@ -1,0 +1,49 @@
+-- Bytes spell one list of records: what is read of a log is a front of what it holds.
+use Rattle.std.proofs.Common.{◌≡◌, ℕ, suc, ◌≤◌, List, [], ◌∷◌, ◌++◌, length, take, drop, refl, sym, ap, ◌∙◌, arith, append_assoc, All}
+use Rattle.std.specs.List.{flat_map}
+use Rattle.std.proofs.lemmas.List.{append_cancel_left, take_at, drop_at}
+use Rattle.sw_base.specs.declared.path.TheConstants.{LOG_HEADER}
+use Rattle.log_format.specs.declared.record.Record.{Record}
+use Rattle.log_format.specs.Spelling.{spelling}
+use Rattle.log_format.specs.Table.{IsTabled}
+use Rattle.log_format.proofs.Records.{length-spelling, spelling-injective}
+use Rattle.race_model.specs.LogFault.{IsRead}
+
+-- all but the first
+all_tail : {X : Type 0} (P : X → Type 0) (x : X) (xs : List X) → All P (x ∷ xs) → All P xs
+all_tail P x xs each = λ k d h. each (suc k) d (omega arith)
+
+-- bytes that begin with two spellings begin with one
+pub same_first : (r s : Record) (more other : List ℕ) → IsTabled r → IsTabled s → spelling r ++ more ≡ spelling s ++ other → (r ≡ s) × (more ≡ other)
+same_first r s more other r_tabled s_tabled same = (
+  spelling-injective r s r_tabled.fits s_tabled.fits
+      (sym (take_at (spelling r) more 24 (length-spelling r)) ∙ ap (λ bs. take 24 bs) same ∙ take_at (spelling s) other 24 (length-spelling s)),
+  sym (drop_at (spelling r) more 24 (length-spelling r)) ∙ ap (λ bs. drop 24 bs) same ∙ drop_at (spelling s) other 24 (length-spelling s),
+)
+
+-- what a shorter list of records leaves of the bytes
+pub record IsFront (records before : List Record) (rest more : List ℕ) : Type 0 where
+  pub front : before ≡ take (length before) records
+  pub left : more ≡ flat_map spelling (drop (length before) records) ++ rest
+
+pub is_front : (records before : List Record) (rest more : List ℕ) → All IsTabled records → All IsTabled before → length before ≤ length records
+    → flat_map spelling records ++ rest ≡ flat_map spelling before ++ more → IsFront records before rest more
+is_front records [] rest more tabled before_tabled within same = record { front = refl; left = sym same }
+is_front [] (b ∷ before) rest more tabled before_tabled within same = absurd (omega arith)
+is_front (r ∷ records) (b ∷ before) rest more tabled before_tabled within same =
+    let regrouped : spelling r ++ (flat_map spelling records ++ rest) ≡ spelling b ++ (flat_map spelling before ++ more)
+    = sym (append_assoc (spelling r) (flat_map spelling records) rest) ∙ same ∙ append_assoc (spelling b) (flat_map spelling before) more in
+    let first = same_first r b _ _ (tabled 0 r (omega arith)) (before_tabled 0 b (omega arith)) regrouped in
+    let rest_is = is_front records before rest more (all_tail IsTabled r records tabled) (all_tail IsTabled b before before_tabled) (omega arith) first.1 in
+    record {
+      front = ap (λ (x : Record). x ∷ before) (sym first.0) ∙ ap (λ (xs : List Record). r ∷ xs) rest_is.front;
+      left = rest_is.left;
+    }
+
+-- a log that was read to the end of some records has the fewer ones as its front
+pub read_front : (bytes : List ℕ) (records before : List Record) (rest more : List ℕ) → IsRead bytes records rest → IsRead bytes before more
+    → length before ≤ length records → IsFront records before rest more
+read_front bytes records before rest more one other within =
+    is_front records before rest more one.tabled other.tabled within
+    (append_cancel_left LOG_HEADER _ _
+    (sym (append_assoc LOG_HEADER (flat_map spelling records) rest) ∙ sym one.parts ∙ other.parts ∙ append_assoc LOG_HEADER (flat_map spelling before) more))

@@ -1,0 +1,228 @@
+-- A log that was read so far: what its next bytes say of it.
+use Rattle.std.proofs.Common.{◌≡◌, ◌⊎◌, inl, inr, ℕ, zero, suc, ◌+◌, ◌<◌, ◌≤◌, true, false, List, [], ◌∷◌, ◌++◌, length, take, drop, Some, refl, sym, ap, subst, ◌∙◌, arith, append_assoc, append-nil, All}
+use Rattle.std.specs.Prelude.{slice_get, nat_eq}
+use Rattle.std.specs.Cmp.Lexicographic.{same_text, other_text}
+use lib.Pointwise.{pointwise}
+use Rattle.std.proofs.lemmas.List.{length-append, take_at, take-append-drop, take-append-le, nil_from_length, get_or_append_left, get_or_push}
+use Rattle.std.proofs.lemmas.Bool.{cases_order}
+use Rattle.std.proofs.lemmas.Option.{slice_get_within}
+use Rattle.sw_base.specs.declared.path.TheConstants.{LOG_HEADER}
+use Rattle.log_format.specs.declared.record.Record.{Record}
+use Rattle.log_format.specs.declared.record.Why.{Why}
+use Rattle.log_format.specs.Spelling.{spelling, log_bytes}
+use Rattle.log_format.specs.Table.{IsTabled, Spells, IsFirstFault}
+use Rattle.log_format.proofs.Logs.{log_bytes-append}
+use Rattle.race_model.specs.declared.why.RecordWhy.{RecordWhy}
+use Rattle.race_model.specs.declared.why.RecordWhy.TheVariants as log
+use Rattle.race_model.specs.Place.{record_rank}
+use Rattle.race_model.specs.Segment.{segment_count}
+use Rattle.race_model.specs.LogFault.{LogTask, Breaks, IsRead, IsRecord, IsLogFault, max_segments}
+use Rattle.log_walk.specs.declared.check.LogFault.{LogFault}
+use Rattle.log_walk.specs.declared.check.LogFault.TheVariants as fault
+use Rattle.log_walk.specs.declared.state.State.{State}
+use Rattle.log_walk.specs.Check.{KeepsRules, NothingBefore, of_why, IsLogRefused, IsGoodLog, IsNextRefused, IsGoodNext}
+use Rattle.log_walk.specs.Rules.{BreaksNone}
+use Rattle.log_walk.specs.State.{Follows}
+use Rattle.log_walk.proofs.Next.{next_cut, next_untabled, before_next, before_cut, before_untabled, before_broken, past_end}
+use Rattle.log_walk.proofs.Opening.{segment_count-push}
+
+-- these records were read of a log, and the rest is left
+pub record SoFar (bytes : List ℕ) (task : LogTask) (opened : ℕ) (state : State) (records : List Record) (rest : List ℕ) (index : ℕ) : Type 0 where
+  pub read : IsRead bytes records rest
+  pub keeps : KeepsRules task records
+  pub follows : Follows state opened records
+  pub count : length records ≡ index
+  pub regions : state.regions ≤ index
+  pub barriers : state.barriers ≤ index
+  pub limit : state.segments ≤ max_segments
+
+-- no log has fewer segments than were counted
+few : (bytes : List ℕ) (task : LogTask) (opened : ℕ) (state : State) (records : List Record) (rest : List ℕ) (index : ℕ) → SoFar bytes task opened state records rest index
+    → opened + segment_count records ≤ max_segments
+few bytes task opened state records rest index so = omega (arith, so.limit, so.follows.segments)
+
+keeps_nothing : (task : LogTask) → KeepsRules task []
+keeps_nothing task = record { each = λ k r found. absurd (omega (arith, slice_get_within [] k r found)) }
+
+-- the header was read
+pub so_far_start : (bytes : List ℕ) (task : LogTask) (opened : ℕ) (state : State) (rest : List ℕ) → bytes ≡ LOG_HEADER ++ rest → Follows state opened [] → opened ≤ max_segments
+    → SoFar bytes task opened state [] rest 0
+so_far_start bytes task opened state rest parts follows small = record {
+  read = record { parts = parts; tabled = λ k d h. absurd (omega arith) };
+  keeps = keeps_nothing task;
+  follows = follows;
+  count = refl;
+  regions = omega (arith, follows.regions);
+  barriers = omega (arith, follows.barriers);
+  limit = omega (arith, follows.segments);
+}
+
+-- the rest begins with the next record
+begins : (rest next : List ℕ) (r : Record) → next ≡ take 24 rest → Spells next r → rest ≡ spelling r ++ drop 24 rest
+begins rest next r next_is spells = sym (take-append-drop 24 rest) ∙ ap (λ (bs : List ℕ). bs ++ drop 24 rest) (sym next_is ∙ spells.spelled)
+
+pub below_or_at : (j n : ℕ) → j < n + 1 → (j < n) ⊎ (j ≡ n)
+below_or_at j n within = elim (cases_order j n) [
+  | inl same ↦ inr same
+  | inr either ↦ elim either [ inl less ↦ inl less | inr more ↦ absurd (omega arith) ]
+]
+
+all_push : (P : Record → Type 0) (xs : List Record) (x : Record) → All P xs → P x → All P (xs ++ x ∷ [])
+all_push P xs x each last k d within = elim (below_or_at k (length xs) (omega (arith, length-append xs (x ∷ [])))) [
+  | inl less ↦ subst P (sym (get_or_append_left xs (x ∷ []) d k less)) (each k d less)
+  | inr same ↦ subst P (sym (get_or_push xs x d k (sym same))) last
+]
+
+pub slice_get_left : {X : Type 0} (xs ys : List X) (k : ℕ) → k < length xs → slice_get (xs ++ ys) k ≡ slice_get xs k
+slice_get_left [] ys k within = absurd (omega arith)
+slice_get_left (x ∷ xs) ys zero within = refl
+slice_get_left (x ∷ xs) ys (suc k) within = slice_get_left xs ys k (omega arith)
+
+pub slice_get_last : {X : Type 0} (xs : List X) (x : X) → slice_get (xs ++ x ∷ []) (length xs) ≡ Some x
+slice_get_last [] x = refl
+slice_get_last (y ∷ xs) x = slice_get_last xs x
+
+some_same : {X : Type 0} (x y : X) → Some x ≡ Some y → x ≡ y
+some_same x y same = cc
+
+keeps_push : (task : LogTask) (records : List Record) (r : Record) → KeepsRules task records → BreaksNone task records r → KeepsRules task (records ++ r ∷ [])
+keeps_push task records r keeps holds = record {
+  each = λ k s found rule breaks.
+      let within : k < length records + 1 = omega (arith, slice_get_within (records ++ r ∷ []) k s found, length-append records (r ∷ [])) in
+      elim (below_or_at k (length records) within) [
+        | inl less ↦
+            keeps.each k s (sym (slice_get_left records (r ∷ []) k less) ∙ found) rule
+            (subst (λ (rs : List Record). Breaks task rs s rule) (take-append-le k records (r ∷ []) (omega arith)) breaks)
+        | inr same ↦
+            holds rule
+            (subst (λ (t : Record). Breaks task records t rule) (some_same s r (sym found ∙ ap (λ (j : ℕ). slice_get (records ++ r ∷ []) j) same ∙ slice_get_last records r))
+            (subst (λ (rs : List Record). Breaks task rs s rule) (take_at records (r ∷ []) k (sym same)) breaks))
+      ];
+}
+
+-- one record more was read
+pub so_far_next : (bytes : List ℕ) (task : LogTask) (opened : ℕ) (state now : State) (records : List Record) (rest next : List ℕ) (index : ℕ) (r : Record)
+    → SoFar bytes task opened state records rest index → next ≡ take 24 rest → IsGoodNext next task records r → Follows now opened (records ++ r ∷ [])
+    → now.regions ≤ index + 1 → now.barriers ≤ index + 1 → now.segments ≤ max_segments → SoFar bytes task opened now (records ++ r ∷ []) (drop 24 rest) (index + 1)
+so_far_next bytes task opened state now records rest next index r so next_is good follows regions barriers limit = record {
+  read = record {
+    parts = so.read.parts ∙ ap (λ (bs : List ℕ). log_bytes LOG_HEADER records ++ bs) (begins rest next r next_is good.spells)
+        ∙ sym (append_assoc (log_bytes LOG_HEADER records) (spelling r) (drop 24 rest))
+        ∙ ap (λ (bs : List ℕ). bs ++ drop 24 rest) (sym (log_bytes-append LOG_HEADER records (r ∷ []) ∙ ap (λ (bs : List ℕ). log_bytes LOG_HEADER records ++ bs) (append-nil (spelling r))));
+    tabled = all_push IsTabled records r so.read.tabled good.spells.tabled;
+  };
+  keeps = keeps_push task records r so.keeps good.breaks;
+  follows = follows;
+  count = omega (arith, length-append records (r ∷ []), so.count);
+  regions = regions;
+  barriers = barriers;
+  limit = limit;
+}
+
+-- the next record is cut
+pub cut_refused : (bytes : List ℕ) (task : LogTask) (opened : ℕ) (state : State) (records : List Record) (rest : List ℕ) (index : ℕ) → SoFar bytes task opened state records rest index
+    → length rest < 24 → index < task.records → IsLogRefused bytes task opened (fault.Bad (index + 1) log.Cut)
+cut_refused bytes task opened state records rest index so short within = (
+  next_cut bytes task.records (index + 1) records rest so.read (omega (arith, so.count)) (omega arith) short,
+  before_next bytes task opened (index + 1) 1 records rest so.read so.keeps (few bytes task opened state records rest index so) (omega (arith, so.count)) (omega (arith, so.count))
+      (λ rule low told. before_cut bytes task (index + 1) rule (omega arith) low told),
+)
+
+untabled_refused : (bytes : List ℕ) (task : LogTask) (opened : ℕ) (state : State) (records : List Record) (rest : List ℕ) (index : ℕ) (w : Why) → SoFar bytes task opened state records rest index
+    → 24 ≤ length rest → IsFirstFault (take 24 rest) w → index < task.records → IsLogRefused bytes task opened (fault.Bad (index + 1) (of_why w))
+untabled_refused bytes task opened state records rest index w so whole first within = (
+  next_untabled bytes task (index + 1) records rest w so.read (omega (arith, so.count)) (omega arith) whole first,
+  before_next bytes task opened (index + 1) (record_rank (of_why w)) records rest so.read so.keeps (few bytes task opened state records rest index so) (omega (arith, so.count)) (omega (arith, so.count))
+      (before_untabled bytes task (index + 1) records rest w so.read (omega (arith, so.count)) whole first),
+)
+
+-- the next record is one of the table
+at_next : (bytes : List ℕ) (task : LogTask) (opened : ℕ) (state : State) (records : List Record) (rest : List ℕ) (index : ℕ) (next : List ℕ) (r : Record) → SoFar bytes task opened state records rest index
+    → next ≡ take 24 rest → Spells next r → index < task.records → IsRecord bytes task.records (index + 1) records r
+at_next bytes task opened state records rest index next r so next_is spells within = record {
+  rest = drop 24 rest;
+  at = record { read = subst (λ (bs : List ℕ). IsRead bytes records bs) (begins rest next r next_is spells) so.read; number = omega (arith, so.count); counted = omega arith };
+  tabled = spells.tabled;
+}
+
+nothing_before : (bytes : List ℕ) (task : LogTask) (opened : ℕ) (state : State) (records : List Record) (rest : List ℕ) (index : ℕ) (next : List ℕ) (r : Record) (rank : ℕ) → SoFar bytes task opened state records rest index
+    → next ≡ take 24 rest → Spells next r → index < task.records → ((rule : RecordWhy) → record_rank rule < rank → Breaks task records r rule → ⊥) → NothingBefore bytes task opened (index + 1) rank
+unfolding at_next
+nothing_before bytes task opened state records rest index next r rank so next_is spells within holds =
+    let at = at_next bytes task opened state records rest index next r so next_is spells within in
+    before_next bytes task opened (index + 1) rank records rest so.read so.keeps (few bytes task opened state records rest index so) (omega (arith, so.count)) (omega (arith, so.count))
+    (before_broken bytes task (index + 1) rank records r (drop 24 rest) at.at.read spells.tabled (omega (arith, so.count)) (omega arith) holds)
+
+-- a rule that a record can break is told of a record
+broken_at : (bytes : List ℕ) (task : LogTask) (n : ℕ) (before : List Record) (r : Record) (rule : RecordWhy) → IsRecord bytes task.records n before r → Breaks task before r rule → IsLogFault bytes task n rule
+broken_at bytes task n before r log.Header at breaks = absurd breaks
+broken_at bytes task n before r log.Cut at breaks = absurd breaks
+broken_at bytes task n before r log.Kind at breaks = absurd breaks
+broken_at bytes task n before r log.Size at breaks = absurd breaks
+broken_at bytes task n before r log.LineZero at breaks = absurd breaks
+broken_at bytes task n before r log.Address at breaks = absurd breaks
+broken_at bytes task n before r log.Span at breaks = absurd breaks
+broken_at bytes task n before r log.Reserved at breaks = absurd breaks
+broken_at bytes task n before r log.Extra at breaks = absurd breaks
+broken_at bytes task n before r rule at breaks = record { before = before; r = r; at = at; breaks = breaks }
+
+-- the next record is refused
+pub next_refused : (bytes : List ℕ) (task : LogTask) (opened : ℕ) (state : State) (records : List Record) (rest : List ℕ) (index : ℕ) (next : List ℕ) (refusal : LogFault) → SoFar bytes task opened state records rest index
+    → 24 ≤ length rest → next ≡ take 24 rest → index < task.records → IsNextRefused next task opened records (index + 1) refusal → IsLogRefused bytes task opened refusal
+next_refused bytes task opened state records rest index next (fault.Bad n rule) so whole next_is within (number, inl no_record) =
+    subst (λ (m : ℕ). IsLogRefused bytes task opened (fault.Bad m rule)) (sym number)
+    (subst (λ (w : RecordWhy). IsLogRefused bytes task opened (fault.Bad (index + 1) w)) (sym no_record.rule_is)
+    (untabled_refused bytes task opened state records rest index no_record.fault so whole (subst (λ (bs : List ℕ). IsFirstFault bs no_record.fault) next_is no_record.first) within))
+next_refused bytes task opened state records rest index next (fault.Bad n rule) so whole next_is within (number, inr bad) =
+    subst (λ (m : ℕ). IsLogRefused bytes task opened (fault.Bad m rule)) (sym number) (
+      broken_at bytes task (index + 1) records bad.r rule (at_next bytes task opened state records rest index next bad.r so next_is bad.spells within) bad.breaks.breaks,
+      nothing_before bytes task opened state records rest index next bad.r (record_rank rule) so next_is bad.spells within bad.breaks.least,
+    )
+next_refused bytes task opened state records rest index next (fault.TooMany n) so whole next_is within (number, over) =
+    subst (λ (m : ℕ). IsLogRefused bytes task opened (fault.TooMany m)) (sym number) (
+      record {
+        before = records;
+        r = over.r;
+        at = at_next bytes task opened state records rest index next over.r so next_is over.spells within;
+        full = over.full;
+        opens = segment_count-push records over.r ∙ ap (λ (k : ℕ). segment_count records + k) over.opens;
+      },
+      nothing_before bytes task opened state records rest index next over.r 20 so next_is over.spells within (λ rule low. over.breaks rule),
+    )
+next_refused bytes task opened state records rest index next fault.Memory so whole next_is within refused = absurd refused
+
+-- a byte follows the last record
+pub extra_refused : (bytes : List ℕ) (task : LogTask) (opened : ℕ) (state : State) (records : List Record) (rest : List ℕ) (index : ℕ) → SoFar bytes task opened state records rest index
+    → index ≡ task.records → 0 < length rest → IsLogRefused bytes task opened (fault.Bad (task.records + 1) log.Extra)
+extra_refused bytes task opened state records rest index so all more = (
+  record { records = records; rest = rest; read = so.read; all = so.count ∙ all; number = refl; more = more },
+  before_next bytes task opened (task.records + 1) 19 records rest so.read so.keeps (few bytes task opened state records rest index so) (omega (arith, so.count)) (omega (arith, so.count))
+      (λ rule low told. past_end bytes task (task.records + 1) rule (omega arith) low told),
+)
+
+-- the log is good
+pub log_is_good : (bytes : List ℕ) (task : LogTask) (opened : ℕ) (state : State) (records : List Record) (rest : List ℕ) (index : ℕ) → SoFar bytes task opened state records rest index
+    → index ≡ task.records → length rest ≡ 0 → IsGoodLog bytes task opened records state.segments
+log_is_good bytes task opened state records rest index so all done = record {
+  whole = so.read.parts ∙ ap (λ (bs : List ℕ). log_bytes LOG_HEADER records ++ bs) (nil_from_length rest done) ∙ append-nil (log_bytes LOG_HEADER records);
+  tabled = so.read.tabled;
+  counted = so.count ∙ all;
+  keeps = so.keeps;
+  sum = so.follows.segments;
+  limit = so.limit;
+}
+
+-- what the test of the header tells
+pub header_read : (bytes rest : List ℕ) → pointwise nat_eq (take 8 bytes) LOG_HEADER ≡ true → rest ≡ drop 8 bytes → bytes ≡ LOG_HEADER ++ rest
+header_read bytes rest same rest_is =
+    sym (take-append-drop 8 bytes) ∙ ap (λ (bs : List ℕ). bs ++ drop 8 bytes) (same_text (take 8 bytes) LOG_HEADER (sym same)) ∙ ap (λ (bs : List ℕ). LOG_HEADER ++ bs) (sym rest_is)
+
+pub header_refused : (bytes : List ℕ) (task : LogTask) (opened : ℕ) → pointwise nat_eq (take 8 bytes) LOG_HEADER ≡ false → IsLogRefused bytes task opened (fault.Bad 0 log.Header)
+header_refused bytes task opened differs = (
+  (refl, λ rest parts. other_text (take 8 bytes) LOG_HEADER (sym differs) (ap (λ (bs : List ℕ). take 8 bs) parts ∙ take_at LOG_HEADER rest 8 refl)),
+  record {
+    earlier = λ m rule less told. absurd (omega arith);
+    here = λ rule low told. absurd (omega arith);
+    segments = λ m less told. absurd (omega arith);
+  },
+)

@@ -1,0 +1,33 @@
+use Rattle.std.proofs.Common.{refl, sym, ap, ◌∙◌, inr, arith, Bool}
+use Rattle.log_walk.specs.declared.state.State.{State}
+use Rattle.log_walk.specs.Check.{opens_by}
+use Rattle.log_walk.proofs.Steps.{follows_push}
+use Rattle.log_walk.proofs.check.accept.Goals as goal
+
+pub returns-in-Some-clause-refused : goal.returns-in-Some-clause-refused
+returns-in-Some-clause-refused c = λ opened before follows number.
+    (refl, inr (record { r = c.in-Ok.record; spells = c.in-Ok.ensures.found; breaks = c.in-Some.ensures.rules opened before follows number }))
+
+pub returns-then-not-count-clause-refused : goal.returns-then-not-count-clause-refused
+returns-then-not-count-clause-refused c = λ opened before follows number.
+    let told = c.in_default.ensures.rules opened before follows number in
+    let full = c.if-not-count.ensures.full refl in (
+      refl,
+      record {
+        r = c.in-Ok.record;
+        spells = c.in-Ok.ensures.found;
+        breaks = told.0;
+        full = omega (arith, full.0, ap (λ (s : State). s.segments) c.broken.ensures.same, follows.segments);
+        opens = ap (λ (b : Bool). opens_by c.in-Ok.record.kind b) (sym follows.is_open ∙ ap (λ (s : State). s.is_open) (sym c.broken.ensures.same)) ∙ full.1;
+      },
+    )
+
+pub returns-clause-good : goal.returns-clause-good
+returns-clause-good c = λ opened before follows number.
+    let told = c.in_default.ensures.rules opened before follows number in
+    record { spells = c.in-Ok.ensures.found; breaks = told.0 }
+
+pub returns-clause-follows : goal.returns-clause-follows
+returns-clause-follows c = λ opened before follows number.
+    let told = c.in_default.ensures.rules opened before follows number in
+    follows_push c.args.state.now c.broken.new.self c.count.new.self opened before c.in-Ok.record follows c.broken.ensures.same told.1 (c.if-not-count.ensures.counted refl)

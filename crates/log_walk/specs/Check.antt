@@ -1,0 +1,102 @@
+-- What the check of one log says of its records.
+use Rattle.std.specs.Prelude.{◌≡◌, ◌⊎◌, ℕ, ◌+◌, ◌<◌, ◌≤◌, Bool, true, false, cond, List, [], ◌∷◌, length, take, slice_get, All, Some}
+use Rattle.log_format.specs.declared.record.Kind.{Kind}
+use Rattle.log_format.specs.declared.record.Kind.TheVariants.{Read, Write, Barrier, Region}
+use Rattle.log_format.specs.declared.record.Record.{Record}
+use Rattle.log_format.specs.declared.record.Why.{Why}
+use Rattle.log_format.specs.declared.record.Why.TheVariants as why
+use Rattle.race_model.specs.declared.why.RecordWhy.{RecordWhy}
+use Rattle.race_model.specs.declared.why.RecordWhy.TheVariants as log
+use Rattle.log_format.specs.Spelling.{log_bytes}
+use Rattle.log_format.specs.Table.{IsTabled, Spells, IsFirstFault}
+use Rattle.sw_base.specs.declared.path.TheConstants.{LOG_HEADER}
+use Rattle.race_model.specs.LogFault.{LogTask, Breaks, IsLogFault, OpensTooMany, max_segments}
+use Rattle.race_model.specs.Segment.{segment_count}
+use Rattle.log_walk.specs.Rules.{BreaksNone, BreaksFirst}
+use Rattle.log_walk.specs.declared.check.LogFault.{LogFault}
+use Rattle.log_walk.specs.declared.check.LogFault.TheVariants as fault
+use Rattle.race_model.specs.Place.{record_rank}
+
+-- no record breaks a rule after those before it
+pub record KeepsRules (task : LogTask) (records : List Record) : Type 0 where
+  pub each : (k : ℕ) (r : Record) → slice_get records k ≡ Some r → (rule : RecordWhy) → Breaks task (take k records) r rule → ⊥
+
+-- the rule of a log that a fault of a record's bytes breaks
+abbrev pub of_why : Why → RecordWhy
+of_why why.Kind = log.Kind
+of_why why.Size = log.Size
+of_why why.LineZero = log.LineZero
+of_why why.Address = log.Address
+of_why why.Span = log.Span
+of_why why.Reserved = log.Reserved
+
+-- whether a segment is open after a record of this kind
+abbrev pub open_after : Kind → Bool → Bool
+open_after Read open_before = true
+open_after Write open_before = true
+open_after Barrier open_before = false
+open_after Region open_before = false
+open_after _ open_before = open_before
+
+-- how many segments a record of this kind opens
+abbrev pub opens_by : Kind → Bool → ℕ
+opens_by Read open_before = cond open_before 0 1
+opens_by Write open_before = cond open_before 0 1
+opens_by _ open_before = 0
+
+-- whether a segment with an access is open after these records
+abbrev pub is_open : Bool → List Record → Bool
+is_open open_before [] = open_before
+is_open open_before (r ∷ records) = is_open (open_after r.kind open_before) records
+
+-- nothing is bad in the log before record n, nor at it by a rule of a lower rank
+pub record NothingBefore (bytes : List ℕ) (task : LogTask) (opened n rank : ℕ) : Type 0 where
+  pub earlier : (m : ℕ) (rule : RecordWhy) → m < n → IsLogFault bytes task m rule → ⊥
+  pub here : (rule : RecordWhy) → record_rank rule < rank → IsLogFault bytes task n rule → ⊥
+  pub segments : (m : ℕ) → m < n → OpensTooMany bytes task.records opened m → ⊥
+
+-- a log is refused at this place
+abbrev pub IsLogRefused : List ℕ → LogTask → ℕ → LogFault → Type 0
+IsLogRefused bytes task opened (fault.Bad n rule) = IsLogFault bytes task n rule × NothingBefore bytes task opened n (record_rank rule)
+IsLogRefused bytes task opened (fault.TooMany n) = OpensTooMany bytes task.records opened n × NothingBefore bytes task opened n 20
+IsLogRefused bytes task opened fault.Memory = Unit {0}
+
+-- a log is good: these are its records, and with it and the earlier logs there are so many segments
+pub record IsGoodLog (bytes : List ℕ) (task : LogTask) (opened : ℕ) (records : List Record) (segments : ℕ) : Type 0 where
+  pub whole : bytes ≡ log_bytes LOG_HEADER records
+  pub tabled : All IsTabled records
+  pub counted : length records ≡ task.records
+  pub keeps : KeepsRules task records
+  pub sum : segments ≡ opened + segment_count records
+  pub limit : segments ≤ max_segments
+
+-- the bytes of the next record are a fault of the table
+pub record IsNoRecord (bytes : List ℕ) (rule : RecordWhy) : Type 0 where
+  pub fault : Why
+  pub rule_is : rule ≡ of_why fault
+  pub first : IsFirstFault bytes fault
+
+-- or a record that breaks a rule
+pub record IsBadNext (bytes : List ℕ) (task : LogTask) (before : List Record) (rule : RecordWhy) : Type 0 where
+  pub r : Record
+  pub spells : Spells bytes r
+  pub breaks : BreaksFirst task before r rule
+
+-- or one that opens a segment too many
+pub record IsOverNext (bytes : List ℕ) (task : LogTask) (opened : ℕ) (before : List Record) : Type 0 where
+  pub r : Record
+  pub spells : Spells bytes r
+  pub breaks : BreaksNone task before r
+  pub full : opened + segment_count before ≡ max_segments
+  pub opens : opens_by r.kind (is_open false before) ≡ 1
+
+-- why the next record is refused
+abbrev pub IsNextRefused : List ℕ → LogTask → ℕ → List Record → ℕ → LogFault → Type 0
+IsNextRefused bytes task opened before number (fault.Bad n rule) = (n ≡ number) × (IsNoRecord bytes rule ⊎ IsBadNext bytes task before rule)
+IsNextRefused bytes task opened before number (fault.TooMany n) = (n ≡ number) × IsOverNext bytes task opened before
+IsNextRefused bytes task opened before number fault.Memory = ⊥
+
+-- what the next record is where it isn't refused
+pub record IsGoodNext (bytes : List ℕ) (task : LogTask) (before : List Record) (r : Record) : Type 0 where
+  pub spells : Spells bytes r
+  pub breaks : BreaksNone task before r

@@ -1,0 +1,16 @@
+ghost use Rattle.std.specs.Prelude.{◌≡◌, ℕ, List};
+ghost use Rattle.sw_base.specs.declared.path.Step.{Step};
+ghost use Rattle.sw_base.specs.Environment.{Files};
+ghost use Rattle.race_model.specs.Place.{Place};
+ghost use Rattle.race_model.specs.FirstBad.{IsFirstBad};
+ghost use Rattle.log_walk.specs.Walk.{IsLogRow};
+
+/// A folder has at most one first bad place.
+pub fn first_bad_place_is_unique()
+    ensures { (files : Files) (dir : List ℕ) (place other : Place) → IsFirstBad files dir place → IsFirstBad files dir other → place ≡ other }
+{}
+
+/// The number of a row tells the path of its task.
+pub fn row_tells_its_task()
+    ensures { (files : Files) (dir : List ℕ) (path other : List Step) (row : ℕ) → IsLogRow files dir path row → IsLogRow files dir other row → path ≡ other }
+{}

@@ -1,0 +1,178 @@
+//! Reads the logs of a folder.
+ghost use Rattle.std.specs.Prelude.{◌≡◌, ◌≤◌, ◌<◌, ◌+◌, Some, length, slice_get, IfOk, IfErr, OnOk, IsErrOf};
+ghost use Rattle.sw_base.specs.Environment.{WhereTold, Rose};
+ghost use Rattle.sw_base.specs.Names.{log_name};
+ghost use Rattle.log_format.specs.declared.record.Record.{Record};
+ghost use Rattle.race_model.specs.Row.{Row};
+ghost use Rattle.race_model.specs.IndexFault.{AreRows, IsIndex};
+ghost use Rattle.race_model.specs.FirstBad.{segments_in, HoldsTrace, IsWellFormed};
+ghost use Rattle.race_model.specs.LogFault.{IsWholeLog};
+ghost use Rattle.race_model.specs.KeepsRules.{KeepsRules};
+ghost use Rattle.race_model.specs.Trace.{logs_of};
+ghost use Rattle.race_model.specs.WellFormed.{IsForkJoin};
+ghost use Rattle.log_index.specs.Rows.{rows_of};
+ghost use Rattle.log_walk.specs.GoodTrace.{IsGoodTrace, HasFirst};
+ghost use Rattle.log_walk.specs.Rules.{task_of};
+ghost use Rattle.log_walk.specs.Walk.{trace_of, of_log, Walked, TellsFirstBad, IsUnread, IsTaskOf, IsNextTask};
+
+use crate::check::{Checked, LogFault, check_log};
+use crate::fault::WalkFault;
+use crate::spans::spans_of;
+use crate::task::Task;
+use crate::team::team_barriers;
+use log_index::{Row as IndexRow, read_index};
+use log_segment::TaskRecords;
+use std::alloc::Global;
+use sw_base::{Folder, Memory, Path, read_file};
+
+/// The bytes of a task's log.
+fn read_log<F: Folder>(
+    alloc: Global,
+    place: &mut F,
+    dir: &str,
+    path: &Path,
+) -> Result<Vec<u8>, WalkFault>
+    ensures found { IfOk result (λ bytes. WhereTold (F.content place.old) (λ c. c.held (log_name dir.now path.now) ≡ Some bytes.items)) }
+    ensures unread { IfErr result (λ e. IsUnread (F.content place.old) dir.now path.now e) }
+    ensures same { F.content place.new ≡ F.content place.old }
+    ensures later { F.read_faults place.old ≤ F.read_faults place.new }
+    ensures cause { IsErrOf result WalkFault.ReadFault → Rose (F.read_faults place.old) (F.read_faults place.new) }
+    ensures same_writes { F.write_faults place.new ≡ F.write_faults place.old }
+{
+    let name = path.name(alloc, dir)?;
+    match read_file(alloc, place, &name) {
+        Ok(Some(bytes)) => Ok(bytes),
+        Ok(None) => Err(WalkFault::MissingLog { path: path.copy() }),
+        Err(trouble) => Err(WalkFault::from(trouble)),
+    }
+}
+
+/// What the rules of the log of this row stand on.
+fn task_at(
+    alloc: Global,
+    rows: &[IndexRow],
+    index: usize,
+    trace: &[TaskRecords],
+) -> Result<Task, Memory>
+    requires rows { AreRows (rows_of rows.now) }
+    requires within { index < length rows.now }
+    requires first { (row : Row) → slice_get (rows_of rows.now) index ≡ Some row → HasFirst (trace_of trace.now) row.path }
+    ensures task { IfOk result (λ task. (row : Row) → slice_get (rows_of rows.now) index ≡ Some row → IsTaskOf (rows_of rows.now) (trace_of trace.now) row (task_of task)) }
+{
+    let row = &rows[index];
+    Ok(Task {
+        path: row.path.copy(),
+        records: row.records,
+        spans: spans_of(alloc, rows, index)?,
+        team: team_barriers(trace, &row.path),
+    })
+}
+
+/// The fault of a walk for that of a task's log.
+fn fault_of(path: &Path, fault: LogFault) -> WalkFault
+    ensures { result ≡ of_log path.now fault }
+{
+    match fault {
+        LogFault::Bad { number, why } => WalkFault::BadRecord {
+            path: path.copy(),
+            number,
+            why,
+        },
+        LogFault::TooMany { number } => WalkFault::TooManySegments {
+            path: path.copy(),
+            number,
+        },
+        LogFault::Memory => WalkFault::Memory,
+    }
+}
+
+/// The records of the log of this row, where it is good, and how many segments there are then.
+fn read_task<F: Folder>(
+    alloc: Global,
+    place: &mut F,
+    dir: &str,
+    rows: &[IndexRow],
+    index: usize,
+    trace: &[TaskRecords],
+    opened: u32,
+) -> Result<Checked, WalkFault>
+    requires rows { AreRows (rows_of rows.now) }
+    requires within { index < length rows.now }
+    requires trace { IsGoodTrace (rows_of rows.now) (trace_of trace.now) }
+    requires read { length trace.now ≡ index }
+    requires opened { opened ≡ segments_in (trace_of trace.now) }
+    ensures good { IfOk result (λ checked. (row : Row) → slice_get (rows_of rows.now) index ≡ Some row →
+        IsNextTask (rows_of rows.now) (trace_of trace.now) row checked.records.items checked.segments) }
+    ensures whole { IfOk result (λ checked. WhereTold (F.content place.old) (λ c. (row : Row) → slice_get (rows_of rows.now) index ≡ Some row →
+        IsWholeLog c.held dir.now row.path checked.records.items)) }
+    ensures refused { IfErr result (λ e. WhereTold (F.content place.old) (λ c.
+        Walked c.held dir.now (rows_of rows.now) (trace_of trace.now) → TellsFirstBad c.held dir.now e)) }
+    ensures same { F.content place.new ≡ F.content place.old }
+    ensures later { F.read_faults place.old ≤ F.read_faults place.new }
+    ensures cause { IsErrOf result WalkFault.ReadFault → Rose (F.read_faults place.old) (F.read_faults place.new) }
+    ensures same_writes { F.write_faults place.new ≡ F.write_faults place.old }
+{
+    let row = &rows[index];
+    let bytes = read_log(alloc, place, dir, &row.path)?;
+    let task = task_at(alloc, rows, index, trace)?;
+    match check_log(alloc, &bytes, &task, opened) {
+        Ok(checked) => Ok(checked),
+        Err(fault) => Err(fault_of(&row.path, fault)),
+    }
+}
+
+/// The tasks of these rows with the records of their logs, where all are good.
+fn read_logs<F: Folder>(
+    alloc: Global,
+    place: &mut F,
+    dir: &str,
+    rows: &[IndexRow],
+) -> Result<Vec<TaskRecords>, WalkFault>
+    requires { AreRows (rows_of rows.now) }
+    ensures good { IfOk result (λ trace. IsGoodTrace (rows_of rows.now) (trace_of trace.items)) }
+    ensures all { IfOk result (λ trace. length trace.items ≡ length rows.now) }
+    ensures walked { IfOk result (λ trace. WhereTold (F.content place.old) (λ c.
+        IsIndex c.held dir.now (rows_of rows.now) → Walked c.held dir.now (rows_of rows.now) (trace_of trace.items))) }
+    ensures refused { IfErr result (λ e. WhereTold (F.content place.old) (λ c.
+        IsIndex c.held dir.now (rows_of rows.now) → TellsFirstBad c.held dir.now e)) }
+    ensures same { F.content place.new ≡ F.content place.old }
+    ensures later { F.read_faults place.old ≤ F.read_faults place.new }
+    ensures cause { IsErrOf result WalkFault.ReadFault → Rose (F.read_faults place.old) (F.read_faults place.new) }
+    ensures same_writes { F.write_faults place.new ≡ F.write_faults place.old }
+{
+    let mut trace = Vec::new(alloc);
+    let mut segments = 0;
+    'logs: for index in 0..rows.len() {
+        let checked = read_task(alloc, place, dir, rows, index, &trace, segments)?;
+        segments = checked.segments;
+        let row = &rows[index];
+        trace.push(TaskRecords {
+            path: row.path.copy(),
+            records: checked.records,
+        })?;
+    }
+    Ok(trace)
+}
+
+/// The tasks of a folder with the records of their logs, in the order of their rows, where the folder is well formed:
+/// they are the trace of a fork-join run. Else the folder's first bad place.
+pub fn read_trace<F: Folder>(
+    alloc: Global,
+    place: &mut F,
+    dir: &str,
+) -> Result<Vec<TaskRecords>, WalkFault>
+    ensures keeps { IfOk result (λ trace. KeepsRules (trace_of trace.items)) }
+    ensures fork_join { IfOk result (λ trace. IsForkJoin (logs_of (trace_of trace.items))) }
+    ensures holds { IfOk result (λ trace. WhereTold (F.content place.old) (λ c. HoldsTrace c.held dir.now (trace_of trace.items))) }
+    ensures well_formed { OnOk result (WhereTold (F.content place.old) (λ c. IsWellFormed c.held dir.now)) }
+    ensures refused { IfErr result (λ e. WhereTold (F.content place.old) (λ c. TellsFirstBad c.held dir.now e)) }
+
+    ensures same { F.content place.new ≡ F.content place.old }
+    ensures later { F.read_faults place.old ≤ F.read_faults place.new }
+    ensures cause { IsErrOf result WalkFault.ReadFault → Rose (F.read_faults place.old) (F.read_faults place.new) }
+    ensures same_writes { F.write_faults place.new ≡ F.write_faults place.old }
+{
+    let rows = read_index(alloc, place, dir)?;
+    let trace = read_logs(alloc, place, dir, &rows)?;
+    Ok(trace)
+}

@@ -1,0 +1,364 @@
+//! Folders by hand with their first bad places, and each public call with ample memory.
+
+use crate::{RecordWhy, TaskRecords, WalkFault, read_trace, walk};
+use race_model::IndexWhy;
+use std::alloc::{AllocError, Global};
+use std::test::Fail;
+use sw_base::{INDEX_HEADER, LOG_HEADER, MemFolder, Memory, Path};
+
+type Spelled = [u8; 24];
+
+const LOCK: u8 = 3;
+
+const UNLOCK: u8 = 4;
+
+const BARRIER: u8 = 5;
+
+const REGION: u8 = 6;
+
+const END: u8 = 8;
+
+// What a walk answered; a task is told by 0 for the root, and by its lane plus 1.
+#[derive(Clone, Copy, Debug, PartialEq, Eq)]
+enum Told {
+    Good,
+    NoIndex,
+    Row(u32, IndexWhy),
+    Missing(u32),
+    Record(u32, u32, RecordWhy),
+    TooMany(u32, u32),
+    ReadFault,
+    Memory,
+}
+
+fn task_of(path: &Path) -> u32 {
+    match path.steps().first() {
+        None => 0,
+        Some(step) => step.lane as u32 + 1,
+    }
+}
+
+fn fault_told(fault: &WalkFault) -> Told {
+    match fault {
+        WalkFault::NoIndex => Told::NoIndex,
+        WalkFault::BadIndex { row, why } => Told::Row(*row, *why),
+        WalkFault::MissingLog { path } => Told::Missing(task_of(path)),
+        WalkFault::BadRecord { path, number, why } => Told::Record(task_of(path), *number, *why),
+        WalkFault::TooManySegments { path, number } => Told::TooMany(task_of(path), *number),
+        WalkFault::ReadFault => Told::ReadFault,
+        WalkFault::Memory => Told::Memory,
+    }
+}
+
+fn answer_of(answer: Result<Vec<TaskRecords>, WalkFault>) -> Told {
+    match answer {
+        Ok(_trace) => Told::Good,
+        Err(fault) => fault_told(&fault),
+    }
+}
+
+fn spelled(kind: u8, size: u8, line: u8, addr: u64, value: u8) -> Spelled {
+    let [a, b, c, d, e, f, g, h] = addr.to_be_bytes();
+    [
+        kind, size, 0, 0, 0, 0, 0, line, a, b, c, d, e, f, g, h, 0, 0, 0, 0, 0, 0, 0, value,
+    ]
+}
+
+fn write(addr: u64) -> Spelled {
+    spelled(2, 8, 3, addr, 0)
+}
+
+fn other(kind: u8, line: u8, addr: u64, value: u8) -> Spelled {
+    spelled(kind, 0, line, addr, value)
+}
+
+fn root() -> [Spelled; 2] {
+    [other(REGION, 1, 0, 2), other(END, 9, 0, 0)]
+}
+
+fn lane(addr: u64) -> [Spelled; 5] {
+    [
+        other(LOCK, 2, 1, 0),
+        write(addr),
+        other(UNLOCK, 4, 1, 0),
+        other(BARRIER, 5, 0, 0),
+        other(END, 8, 0, 0),
+    ]
+}
+
+fn log(alloc: Global, records: &[Spelled]) -> Result<Vec<u8>, AllocError> {
+    let mut bytes = Vec::from_slice(alloc, &LOG_HEADER)?;
+    for record in records {
+        bytes.extend_from_slice(record)?;
+    }
+    Ok(bytes)
+}
+
+// A row of the root, or of a lane of its region.
+fn row(depth: u8, lane: u8, span: u8, records: u32) -> [u8; 48] {
+    let [a, b, c, d] = records.to_be_bytes();
+    [
+        0, 0, 0, depth, 0, 0, 0, 0, 0, 0, 0, 0, 0, lane, 0, span, 0, 0, 0, 0, 0, 0, 0, 0, 0, 0, 0,
+        0, 0, 0, 0, 0, 0, 0, 0, 0, 0, 0, 0, 0, 0, 0, 0, 0, a, b, c, d,
+    ]
+}
+
+fn index(alloc: Global, span: u8, records: [u32; 3]) -> Result<Vec<u8>, AllocError> {
+    let mut bytes = Vec::from_slice(alloc, &INDEX_HEADER)?;
+    bytes.extend_from_slice(&row(0, 0, 0, records[0]))?;
+    bytes.extend_from_slice(&row(1, 0, 2, records[1]))?;
+    bytes.extend_from_slice(&row(1, 1, span, records[2]))?;
+    Ok(bytes)
+}
+
+// A root with a region of two lanes, and the logs of the three.
+fn folder(
+    alloc: Global,
+    records: [u32; 3],
+    root: &[Spelled],
+    first: &[Spelled],
+    second: &[Spelled],
+) -> Result<MemFolder, Memory> {
+    let mut folder = MemFolder::new(alloc)?;
+    folder.hold("d/index.swi", &index(alloc, 2, records)?)?;
+    folder.hold("d/t.swl", &log(alloc, root)?)?;
+    folder.hold("d/t-0.0.swl", &log(alloc, first)?)?;
+    folder.hold("d/t-0.1.swl", &log(alloc, second)?)?;
+    Ok(folder)
+}
+
+// What is told where lane 1 has these records, and its row this number.
+fn lane_1(alloc: Global, records: u32, second: &[Spelled]) -> Result<Told, Memory> {
+    let mut folder = folder(alloc, [2, 5, records], &root(), &lane(4096), second)?;
+    Ok(answer_of(read_trace(alloc, &mut folder, "d")))
+}
+
+// What is told where the root and lane 0 have these records.
+fn root_and_lane_0(
+    alloc: Global,
+    root: &[Spelled],
+    first: &[Spelled],
+    second: &[Spelled],
+) -> Result<Told, Memory> {
+    let mut folder = folder(alloc, [2, 5, 5], root, first, second)?;
+    Ok(answer_of(read_trace(alloc, &mut folder, "d")))
+}
+
+// What is told where lane 1's log has these bytes.
+fn lane_1_bytes(alloc: Global, bytes: &[u8]) -> Result<Told, Memory> {
+    let mut folder = folder(alloc, [2, 5, 5], &root(), &lane(4096), &lane(4104))?;
+    folder.hold("d/t-0.1.swl", bytes)?;
+    Ok(answer_of(read_trace(alloc, &mut folder, "d")))
+}
+
+#[test]
+fn a_good_folder_is_read_and_walked(rt: HostRuntime) -> Result<(), Fail> {
+    let alloc = rt.alloc();
+    let mut folder = folder(alloc, [2, 5, 5], &root(), &lane(4096), &lane(4104))?;
+    let Ok(trace) = read_trace(alloc, &mut folder, "d") else {
+        return Err(Fail::new("refused"));
+    };
+    assert_eq!(rt; trace.len(), 3);
+    assert_eq!(rt; trace[2].path.bare_name(alloc)?.as_str(), "t-0.1.swl");
+    assert_eq!(rt; (trace[0].records.len(), trace[2].records.len()), (2, 5));
+    let Ok(found) = walk(alloc, &mut folder, "d") else {
+        return Err(Fail::new("refused"));
+    };
+    assert_eq!(rt; found.len(), 2);
+    assert_eq!(rt; (found[1].first, found[1].last), (1, 3));
+    assert_eq!(rt; found[1].accesses.len(), 1);
+    Ok(())
+}
+
+#[test]
+fn one_record_that_breaks_a_rule_is_told(rt: HostRuntime) -> Result<(), Fail> {
+    let alloc = rt.alloc();
+    let table = [
+        (1, spelled(0, 8, 3, 4104, 0), 2, RecordWhy::Kind),
+        (1, spelled(2, 3, 3, 4104, 0), 2, RecordWhy::Size),
+        (1, spelled(2, 8, 0, 4104, 0), 2, RecordWhy::LineZero),
+        (1, write(281_474_976_710_649), 2, RecordWhy::Address),
+        (3, other(BARRIER, 5, 0, 1), 4, RecordWhy::Reserved),
+        (3, other(END, 8, 0, 0), 4, RecordWhy::EndEarly),
+        (4, other(BARRIER, 5, 0, 0), 5, RecordWhy::EndMissing),
+        (2, other(LOCK, 2, 1, 0), 3, RecordWhy::LockTwice),
+        (2, other(UNLOCK, 4, 2, 0), 3, RecordWhy::UnlockOther),
+        (2, other(BARRIER, 5, 0, 0), 3, RecordWhy::BarrierLocked),
+        (2, other(REGION, 5, 0, 1), 3, RecordWhy::RegionLocked),
+        (3, other(REGION, 5, 0, 1), 4, RecordWhy::RegionRows),
+        (3, write(4104), 5, RecordWhy::BarrierCount),
+    ];
+    for (at, changed, number, why) in table {
+        let mut second = lane(4104);
+        if let Some(record) = second.get_mut(at) {
+            *record = changed;
+        }
+        assert_eq!(rt; lane_1(alloc, 5, &second)?, Told::Record(2, number, why));
+    }
+    Ok(())
+}
+
+#[test]
+fn open_and_deep_locks_and_wrong_counts_are_told(rt: HostRuntime) -> Result<(), Fail> {
+    let alloc = rt.alloc();
+    let [lock, access, unlock, barrier, end] = lane(4104);
+    let open = [lock, access, access, access, end];
+    assert_eq!(rt;
+        lane_1(alloc, 5, &open)?,
+        Told::Record(2, 5, RecordWhy::LockOpen)
+    );
+
+    let mut deep = Vec::new(alloc);
+    for mutex in 1..10 {
+        deep.push(other(LOCK, 2, mutex, 0))?;
+    }
+    deep.push(end)?;
+    assert_eq!(rt;
+        lane_1(alloc, 10, &deep)?,
+        Told::Record(2, 9, RecordWhy::LocksDeep)
+    );
+
+    let same = [lock, access, unlock, barrier, end];
+    assert_eq!(rt;
+        lane_1(alloc, 6, &same)?,
+        Told::Record(2, 5, RecordWhy::EndEarly)
+    );
+    assert_eq!(rt;
+        lane_1(alloc, 4, &same)?,
+        Told::Record(2, 4, RecordWhy::EndMissing)
+    );
+    Ok(())
+}
+
+#[test]
+fn a_cut_or_long_log_is_told(rt: HostRuntime) -> Result<(), Fail> {
+    let alloc = rt.alloc();
+    let mut bytes = log(alloc, &lane(4104))?;
+    let short = bytes.len().min(79);
+    assert_eq!(rt;
+        lane_1_bytes(alloc, &bytes[..short])?,
+        Told::Record(2, 3, RecordWhy::Cut)
+    );
+    assert_eq!(rt;
+        lane_1_bytes(alloc, &[])?,
+        Told::Record(2, 0, RecordWhy::Header)
+    );
+    assert_eq!(rt;
+        lane_1_bytes(alloc, b"SWLOG002")?,
+        Told::Record(2, 0, RecordWhy::Header)
+    );
+    bytes.push(0)?;
+    assert_eq!(rt;
+        lane_1_bytes(alloc, &bytes)?,
+        Told::Record(2, 6, RecordWhy::Extra)
+    );
+    Ok(())
+}
+
+#[test]
+fn the_first_log_in_row_order_is_told(rt: HostRuntime) -> Result<(), Fail> {
+    let alloc = rt.alloc();
+    let end = other(END, 9, 0, 0);
+    let table = [
+        (other(REGION, 1, 0, 65), 1, RecordWhy::Span),
+        (other(BARRIER, 1, 0, 0), 1, RecordWhy::RootBarrier),
+        (write(4096), 2, RecordWhy::RegionRows),
+    ];
+    for (changed, number, why) in table {
+        let root = [changed, end];
+        let answer = root_and_lane_0(alloc, &root, &lane(4096), &lane(4104))?;
+        assert_eq!(rt; answer, Told::Record(0, number, why));
+    }
+    let [lock, access, unlock, barrier, _] = lane(4096);
+    let first = [lock, access, unlock, barrier, spelled(0, 0, 8, 0, 0)];
+    let second = [spelled(0, 0, 2, 1, 0), access, unlock, barrier, end];
+    let answer = root_and_lane_0(alloc, &root(), &first, &second)?;
+    assert_eq!(rt; answer, Told::Record(1, 5, RecordWhy::Kind));
+    Ok(())
+}
+
+#[test]
+fn the_index_comes_before_the_logs(rt: HostRuntime) -> Result<(), Fail> {
+    let alloc = rt.alloc();
+    let bad = [spelled(0, 0, 1, 0, 2), other(END, 9, 0, 0)];
+    let mut folder = folder(alloc, [2, 5, 5], &bad, &lane(4096), &lane(4104))?;
+    folder.hold("d/index.swi", &index(alloc, 0, [2, 5, 5])?)?;
+    assert_eq!(rt;
+        answer_of(read_trace(alloc, &mut folder, "d")),
+        Told::Row(3, IndexWhy::Span)
+    );
+    assert_eq!(rt;
+        answer_of(read_trace(alloc, &mut folder, "e")),
+        Told::NoIndex
+    );
+    Ok(())
+}
+
+#[test]
+fn a_missing_log_comes_before_a_later_bad_one(rt: HostRuntime) -> Result<(), Fail> {
+    let alloc = rt.alloc();
+    let mut folder = MemFolder::new(alloc)?;
+    folder.hold("d/index.swi", &index(alloc, 2, [2, 5, 5])?)?;
+    folder.hold("d/t.swl", &log(alloc, &root())?)?;
+    folder.hold("d/t-0.1.swl", b"SWLOG002")?;
+    assert_eq!(rt;
+        answer_of(read_trace(alloc, &mut folder, "d")),
+        Told::Missing(1)
+    );
+    Ok(())
+}
+
+#[test]
+fn unequal_barrier_counts_are_told(rt: HostRuntime) -> Result<(), Fail> {
+    let alloc = rt.alloc();
+    let end = other(END, 9, 0, 0);
+    let first = [other(BARRIER, 5, 0, 0), end];
+    let mut folder = folder(alloc, [2, 2, 1], &root(), &first, &[end])?;
+    assert_eq!(rt;
+        answer_of(read_trace(alloc, &mut folder, "d")),
+        Told::Record(2, 1, RecordWhy::BarrierCount)
+    );
+    Ok(())
+}
+
+#[test]
+fn the_65537th_segment_is_one_too_many(rt: HostRuntime) -> Result<(), Fail> {
+    let alloc = rt.alloc();
+    let mut records = Vec::new(alloc);
+    for _ in 0..65_537 {
+        records.push(write(4096))?;
+        records.push(other(BARRIER, 5, 0, 0))?;
+    }
+    records.push(other(END, 8, 0, 0))?;
+    let mut bytes = Vec::from_slice(alloc, &INDEX_HEADER)?;
+    bytes.extend_from_slice(&row(0, 0, 0, 2))?;
+    bytes.extend_from_slice(&row(1, 0, 1, 131_075))?;
+    let mut folder = MemFolder::new(alloc)?;
+    folder.hold("d/index.swi", &bytes)?;
+    let root = [other(REGION, 1, 0, 1), other(END, 9, 0, 0)];
+    folder.hold("d/t.swl", &log(alloc, &root)?)?;
+    folder.hold("d/t-0.0.swl", &log(alloc, &records)?)?;
+    assert_eq!(rt;
+        answer_of(read_trace(alloc, &mut folder, "d")),
+        Told::TooMany(1, 131_073)
+    );
+    Ok(())
+}
+
+#[test]
+fn each_read_that_fails_is_told(rt: HostRuntime) -> Result<(), Fail> {
+    let alloc = rt.alloc();
+    // The size and the bytes of the index and of three logs.
+    for call in 1..9 {
+        let mut folder = folder(alloc, [2, 5, 5], &root(), &lane(4096), &lane(4104))?;
+        folder.fail(&[call])?;
+        assert_eq!(rt;
+            answer_of(read_trace(alloc, &mut folder, "d")),
+            Told::ReadFault
+        );
+    }
+    let mut folder = folder(alloc, [2, 5, 5], &root(), &lane(4096), &lane(4104))?;
+    folder.fail(&[9])?;
+    assert_eq!(rt; answer_of(read_trace(alloc, &mut folder, "d")), Told::Good);
+    Ok(())
+}

@@ -1,0 +1,29 @@
+//! The segments of a folder.
+ghost use Rattle.std.specs.Prelude.{◌≡◌, ◌≤◌, IfOk, IfErr, OnOk, IsErrOf};
+ghost use Rattle.sw_base.specs.Environment.{WhereTold, Rose};
+ghost use Rattle.race_model.specs.FirstBad.{IsWellFormed};
+ghost use Rattle.log_walk.specs.Walk.{TellsFirstBad};
+ghost use Rattle.log_walk.specs.Segments.{AreOfFolder};
+
+use crate::fault::WalkFault;
+use crate::read::read_trace;
+use log_segment::{Segment, segments};
+use std::alloc::Global;
+use sw_base::Folder;
+
+/// The barrier intervals of a folder's trace, in the order of its rows, and in each log by number, each with its label,
+/// where the folder is well formed. Else the folder's first bad place.
+pub fn walk<F: Folder>(alloc: Global, place: &mut F, dir: &str) -> Result<Vec<Segment>, WalkFault>
+    ensures segments { IfOk result (λ found. AreOfFolder (F.content place.old) dir.now found.items) }
+    ensures well_formed { OnOk result (WhereTold (F.content place.old) (λ c. IsWellFormed c.held dir.now)) }
+    ensures refused { IfErr result (λ e. WhereTold (F.content place.old) (λ c. TellsFirstBad c.held dir.now e)) }
+
+    ensures same { F.content place.new ≡ F.content place.old }
+    ensures later { F.read_faults place.old ≤ F.read_faults place.new }
+    ensures cause { IsErrOf result WalkFault.ReadFault → Rose (F.read_faults place.old) (F.read_faults place.new) }
+    ensures same_writes { F.write_faults place.new ≡ F.write_faults place.old }
+{
+    let trace = read_trace(alloc, place, dir)?;
+    let found = segments(alloc, &trace)?;
+    Ok(found)
+}
