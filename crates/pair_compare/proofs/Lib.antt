@@ -1,0 +1,4 @@
+pub mod Adds
+pub mod Inserts
+pub mod Compared
+pub mod Races
