@@ -1,0 +1,70 @@
+-- One step of the layout: what it keeps.
+use Rattle.std.proofs.Common.{◌≡◌, refl, ap, sym, ◌∙◌, ℕ, suc, ◌+◌, ◌*◌, ◌<◌, ◌≤◌, List, [], ◌∷◌, ◌++◌, length, take, drop, set, get_or, arith, le_refl}
+use Rattle.std.proofs.lemmas.Nat.{mul-le}
+use Rattle.std.proofs.lemmas.List.{drop_more, take_more, get_or_at, set_at, length-take-le, append_assoc}
+use Rattle.std.proofs.lemmas.List.Sums.{sum_by-append}
+use Rattle.kernel_syntax.specs.declared.syntax.Array.{Array}
+use Rattle.kernel_syntax.specs.Layout.{laid, laid_from, aligned, elements}
+
+length-laid_from : (base first : ℕ) (xs : List Array) → length (laid_from base first xs) ≡ length xs
+length-laid_from base first [] = refl
+length-laid_from base first (a ∷ xs) = ap suc (length-laid_from (aligned (base + a.width * a.count)) (first + a.count) xs)
+
+pub length-laid : (xs : List Array) → length (laid xs) ≡ length xs
+length-laid xs = length-laid_from 4096 0 xs
+
+-- the array laid out at this base and element
+abbrev pub placed : ℕ → ℕ → Array → Array
+placed base first a = record a { base = base; first = first }
+
+-- where i arrays are laid out, and what is left of the layout begins at this base and element
+module _ (xs now : List Array) (i base first : ℕ) (d : Array) (within : i < length xs)
+    (done : now ≡ take i (laid xs) ++ drop i xs) (left : drop i (laid xs) ≡ laid_from base first (drop i xs)) where
+  front_length : length (take i (laid xs)) ≡ i
+  front_length = length-take-le i (laid xs) (omega (arith, length-laid xs))
+
+  opened : now ≡ take i (laid xs) ++ get_or xs i d ∷ drop (i + 1) xs
+  opened = done ∙ ap (λ rest. take i (laid xs) ++ rest) (drop_more xs i d within)
+
+  pub next-is : get_or now i d ≡ get_or xs i d
+  next-is = ap (λ l. get_or l i d) opened ∙ get_or_at (take i (laid xs)) (get_or xs i d) (drop (i + 1) xs) d i front_length
+
+  -- the next array of the layout, and what is left after it
+  split : get_or (laid xs) i d ∷ drop (i + 1) (laid xs)
+      ≡ placed base first (get_or xs i d)
+      ∷ laid_from (aligned (base + (get_or xs i d).width * (get_or xs i d).count)) (first + (get_or xs i d).count) (drop (i + 1) xs)
+  split = sym (drop_more (laid xs) i d (omega (arith, length-laid xs))) ∙ left ∙ ap (laid_from base first) (drop_more xs i d within)
+
+  pub left-more : drop (i + 1) (laid xs)
+      ≡ laid_from (aligned (base + (get_or xs i d).width * (get_or xs i d).count)) (first + (get_or xs i d).count) (drop (i + 1) xs)
+  left-more = let both = split in cc
+
+  laid-next : get_or (laid xs) i d ≡ placed base first (get_or xs i d)
+  laid-next = let both = split in cc
+
+  pub done-more : set now i (placed base first (get_or xs i d)) ≡ take (i + 1) (laid xs) ++ drop (i + 1) xs
+  done-more =
+      let b = placed base first (get_or xs i d) in
+      ap (λ l. set l i b) opened
+      ∙ set_at (take i (laid xs)) (get_or xs i d) (drop (i + 1) xs) b i front_length
+      ∙ sym (append_assoc (take i (laid xs)) (b ∷ []) (drop (i + 1) xs))
+      ∙ ap (λ a. (take i (laid xs) ++ a ∷ []) ++ drop (i + 1) xs) (sym laid-next)
+      ∙ ap (λ front. front ++ drop (i + 1) xs) (sym (take_more (laid xs) i d (omega (arith, length-laid xs))))
+
+  pub counted-more : elements (take (i + 1) xs) ≡ elements (take i xs) + (get_or xs i d).count
+  counted-more =
+      ap elements (take_more xs i d within)
+      ∙ omega (arith, sum_by-append (λ (a : Array). a.count) (take i xs) (get_or xs i d ∷ []))
+
+-- no base lies further than this from the one before
+pub aligned-near : (n : ℕ) → aligned n ≤ n + 63
+aligned-near n = omega arith
+
+-- how far the next base is, where a width has 8 bits
+pub near-more : (base width count first i : ℕ) → width < 256 → base ≤ 4096 + 255 * first + 63 * i →
+    aligned (base + width * count) ≤ 4096 + 255 * (first + count) + 63 * (i + 1)
+near-more base width count first i w near =
+    omega (arith, aligned-near (base + width * count), mul-le width count 255 count w' (le_refl count))
+  where
+    w' : width ≤ 255
+    w' = omega arith

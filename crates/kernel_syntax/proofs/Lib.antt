@@ -1,0 +1,6 @@
+pub mod Equations
+pub mod Wrapping
+pub mod Laying
+pub mod Fitting
+pub mod Sharing
+pub mod Following

@@ -1,0 +1,5 @@
+pub mod Tree
+pub mod Program
+pub mod Arithmetic
+pub mod Layout
+pub mod Share

@@ -1,0 +1,155 @@
+//! The syntax types of a kernel.
+use crate::declarations::{Arrays, Name, Names};
+
+/// A whole kernel. Its `main` is a team of span 1.
+#[derive(Debug, Drop)]
+pub struct Kernel {
+    /// The shared arrays, in order of declaration.
+    pub arrays: Arrays,
+    /// The declared mutexes in order; the first has the number 1, since 0 is that of all unnamed
+    /// critical sections.
+    pub mutexes: Names,
+    /// The body of `main`.
+    pub main: Team,
+    /// How many local variables the kernel has: one for each `let`, `loop` and `for` in the text.
+    pub slots: u32,
+}
+
+/// A shared array. Element `i` has the address `base + i * width` and the number `first + i`.
+#[derive(Debug, Drop)]
+pub struct Array {
+    pub name: Name,
+    /// Bytes of an element: 1, 2, 4 or 8.
+    pub width: u8,
+    /// How many elements it has.
+    pub count: u32,
+    /// The address of its first element.
+    pub base: u64,
+    /// The number of its first element, counted over all arrays in order.
+    pub first: u32,
+}
+
+/// The lanes of a parallel region (OpenMP 5.2: a team of threads), and what each executes.
+#[cycle(stmts)]
+#[derive(Debug, Drop)]
+pub struct Team {
+    /// How many lanes the team has.
+    pub span: u16,
+    /// The line of `parallel` or `main`.
+    pub line: u32,
+    /// The line of the closing brace.
+    pub end: u32,
+    pub body: Body,
+}
+
+/// How a worksharing loop's iterations go to the lanes (OpenMP 5.2: its schedule).
+#[derive(Clone, Copy, PartialEq, Eq, Debug)]
+pub enum Schedule {
+    /// One contiguous share for each lane, of nearly equal lengths.
+    Even,
+    /// Chunks of this many iterations, dealt to the lanes in turn.
+    Static(u32),
+    /// Chunks of this many iterations, each drawn by a lane that is free.
+    Dynamic(u32),
+}
+
+/// An operation on two values.
+#[derive(Clone, Copy, PartialEq, Eq, Debug)]
+pub enum Op {
+    Add,
+    Sub,
+    Mul,
+    Div,
+    Rem,
+    Eq,
+    Ne,
+    Lt,
+    Le,
+    Gt,
+    Ge,
+}
+
+/// An expression. A line is that of the array's name or of the operator.
+#[derive(Debug, Drop)]
+pub enum Expr {
+    Number(i64),
+    /// A local variable, by its slot.
+    Slot(u32),
+    /// The lane's number in its team.
+    Tid,
+    /// The team's number of lanes.
+    Span,
+    /// An element of the array of this number.
+    Load {
+        array: u32,
+        index: Box<Expr>,
+        line: u32,
+        site: u16,
+    },
+    Neg(Box<Expr>),
+    Binary {
+        op: Op,
+        line: u32,
+        left: Box<Expr>,
+        right: Box<Expr>,
+    },
+}
+
+/// A list of statements.
+#[cycle(stmts)]
+#[derive(Debug, Drop)]
+pub struct Body {
+    pub stmts: Vec<Stmt>,
+}
+
+/// A statement. `line` is that of the array's name or of the keyword, `end` that of the closing
+/// brace.
+#[cycle(stmts)]
+#[derive(Debug, Drop)]
+pub enum Stmt {
+    Set {
+        slot: u32,
+        value: Expr,
+    },
+    Store {
+        array: u32,
+        index: Expr,
+        value: Expr,
+        line: u32,
+        site: u16,
+    },
+    /// A missing `else` is an empty `no`.
+    If {
+        test: Expr,
+        yes: Body,
+        no: Body,
+    },
+    Loop {
+        slot: u32,
+        from: Expr,
+        to: Expr,
+        body: Body,
+    },
+    Parallel {
+        team: Team,
+    },
+    For {
+        slot: u32,
+        from: Expr,
+        to: Expr,
+        schedule: Schedule,
+        nowait: bool,
+        line: u32,
+        end: u32,
+        body: Body,
+    },
+    Barrier {
+        line: u32,
+    },
+    Critical {
+        mutex: u16,
+        line: u32,
+        end: u32,
+        body: Body,
+    },
+}
