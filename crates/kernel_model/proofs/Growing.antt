@@ -1,0 +1,89 @@
+-- A run only adds records, each takes room, and each Region record has its fork.
+use Rattle.std.proofs.Common.{◌≡◌, refl, ap, sym, ◌∙◌, ℕ, suc, ◌+◌, Bool, true, false, cond, List, [], ◌∷◌, ◌++◌, ℤ, arith, append_assoc, true≢false}
+use Rattle.std.proofs.lemmas.List.{append-nil, length-append}
+use Rattle.std.proofs.lemmas.List.Sums.{sum_by-append}
+use Rattle.kernel_syntax.specs.Tree.{Term, Code}
+use Rattle.kernel_syntax.specs.Program.{Program}
+use Rattle.log_format.specs.declared.record.Record.{Record}
+use Rattle.log_format.specs.declared.record.Kind.TheVariants as kind
+use Rattle.race_model.specs.Trace.{is_region_kind, region_count}
+use Rattle.kernel_model.specs.State.{State, state_of, event}
+use Rattle.kernel_model.specs.Value.{Site, value}
+use Rattle.kernel_model.specs.Trace.{run, task, Start, state_at}
+use Rattle.kernel_model.specs.Growth.{KeepsPlainSteps, KeepsSteps, Grows}
+use Rattle.kernel_model.proofs.Steps.{kept-value, kept-run, kept-task}
+
+region_count-append : (xs ys : List Record) → region_count (xs ++ ys) ≡ region_count xs + region_count ys
+region_count-append xs ys = sum_by-append (λ (r : Record). cond (is_region_kind r.kind) 1 0) xs ys
+
+-- a record that is no Region
+plain_count : (b : Bool) → b ≡ false → 0 ≡ 0 + cond b 1 0
+plain_count true is = absurd (true≢false is)
+plain_count false is = refl
+
+-- a step that puts no record
+grows-nothing : (s t : State) → t.records ≡ s.records → t.room ≡ s.room → t.forks ≡ s.forks → Grows s t
+grows-nothing s t records room forks = record {
+  added = [];
+  records_are = records ∙ sym (append-nil s.records);
+  room_is = omega (arith, room);
+  regions = [];
+  forks_are = forks ∙ sym (append-nil s.forks);
+  fork_count = refl;
+}
+
+grows-chain : (a b c : State) → Grows a b → Grows b c → Grows a c
+grows-chain a b c one more = record {
+  added = one.added ++ more.added;
+  records_are = more.records_are ∙ ap (λ l. l ++ more.added) one.records_are ∙ append_assoc a.records one.added more.added;
+  room_is = omega (arith, length-append one.added more.added, one.room_is, more.room_is);
+  regions = one.regions ++ more.regions;
+  forks_are = more.forks_are ∙ ap (λ l. l ++ more.regions) one.forks_are ∙ append_assoc a.forks one.regions more.regions;
+  fork_count =
+      omega (arith, length-append one.regions more.regions, one.fork_count, more.fork_count, region_count-append one.added more.added);
+}
+
+-- one record more, which is no Region
+grows-record : (r : Record) (room : ℕ) (s t : State) → s.room ≡ suc room → is_region_kind r.kind ≡ false →
+    t.records ≡ s.records ++ r ∷ [] → t.room ≡ room → t.forks ≡ s.forks → Grows s t
+grows-record r room s t is plain records left forks = record {
+  added = r ∷ [];
+  records_are = records;
+  room_is = omega (arith, is, left);
+  regions = [];
+  forks_are = forks ∙ sym (append-nil s.forks);
+  fork_count = plain_count (is_region_kind r.kind) plain;
+}
+
+grows-plain : KeepsPlainSteps Grows
+grows-plain = record {
+  same = λ s. grows-nothing s s refl refl refl;
+  chain = grows-chain;
+  assigns = λ slot v s. grows-nothing s _ refl refl refl;
+  puts = λ r room s is plain. grows-record r room s _ is plain refl refl refl;
+  reads = λ e site line room v reads s is front. grows-record _ room s _ is refl refl refl refl;
+  draws = λ line n room q chunks s is front. grows-record _ room s _ is refl refl refl refl;
+}
+
+grows-steps : KeepsSteps Grows
+grows-steps = record {
+  plain = grows-plain;
+  forks = λ team room s is. record {
+    added = event kind.Region team.line 0 team.span ∷ [];
+    records_are = refl;
+    room_is = omega (arith, is);
+    regions = record { team = team; slots = s.slots } ∷ [];
+    forks_are = refl;
+    fork_count = refl;
+  };
+}
+
+pub value-grows : (at : Site) (e : Term) (s : State) → Grows s (state_of (value at e s))
+value-grows = kept-value Grows grows-plain
+
+pub run-grows : (at : Site) (code : Code) (s : State) → Grows s (state_of (run at code s))
+run-grows = kept-run Grows grows-steps
+
+pub task-grows : (program : Program) (start : Start) (reads : List ℤ) (chunks : List ℕ) →
+    Grows (state_at start reads chunks) (state_of (task program start reads chunks))
+task-grows = kept-task Grows grows-steps

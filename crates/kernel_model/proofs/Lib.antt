@@ -1,0 +1,9 @@
+pub mod Effects
+pub mod Equations
+pub mod FirstKindFolder
+pub mod Growing
+pub mod Joining
+pub mod RunEffects
+pub mod Shares
+pub mod Steps
+pub mod WorkedRows

@@ -1,0 +1,8 @@
+pub mod Effect
+pub mod FirstKind
+pub mod Folder
+pub mod Growth
+pub mod Iterations
+pub mod State
+pub mod Trace
+pub mod Value
