@@ -1,0 +1,16 @@
+pub mod Fronts
+pub mod Scans
+pub mod Stacks
+pub mod Operators
+pub mod Completing
+pub mod Sounding
+pub mod Binds
+pub mod Stores
+pub mod Singles
+pub mod Rooms
+pub mod StoreReading
+pub mod KernelReading
+pub mod Accepting
+pub mod Few
+pub mod Kernels
+pub mod Examples

@@ -1,0 +1,10 @@
+use Rattle.std.proofs.Common.{◌≡◌, length, None, []}
+use Rattle.std.specs.Prelude.{option_map}
+use Rattle.kernel_reader.specs.Machine.{tree_of, stack_of, expression_from}
+use Rattle.kernel_reader.proofs.expression.expression.Given as goal
+
+abbrev pub invariant-tokens : goal.invariant-tokens
+invariant-tokens l = expression_from (option_map tree_of l.held) (stack_of l.frames.items) l.rest ≡ expression_from None [] l.fn.tokens
+
+abbrev pub decreases-tokens : goal.decreases-tokens
+decreases-tokens l = length l.rest

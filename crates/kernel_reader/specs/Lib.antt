@@ -1,0 +1,9 @@
+pub mod Tokens
+pub mod Grammar
+pub mod Faults
+pub mod Scope
+pub mod Rules
+pub mod Resolve
+pub mod KernelOf
+pub mod Machine
+pub mod Reading

@@ -1,0 +1,27 @@
+//! The text of a kernel: its tokens, its grammar, the rules that it has to keep, and the kernel.
+//!
+//! Promised here, exactly. `tokens` answers the tokens of a text, or the first fault: a text that
+//! is too large, that is no UTF-8, or that has a character, a number or a name that is no token.
+//! `read_kernel` answers the kernel of a text where it is of the first kind (one region of one
+//! statically scheduled loop of stores, without a mutex), and `NotBuilt` exactly where the text has
+//! no such kernel. What the kernel of a text is, or why and where the whole language refuses a text,
+//! is defined in `specs/`.
+#![tactic(auto)]
+
+mod binding;
+mod expression;
+mod fault;
+mod kernel;
+mod lexing;
+mod parsing;
+mod reading;
+mod token;
+mod tree;
+
+pub use crate::fault::{KernelWhy, ReadKernelFault, TextFault};
+pub use crate::kernel::read_kernel;
+pub use crate::lexing::tokens;
+pub use crate::token::{Lexeme, Sign, Token, Word};
+
+#[cfg(test)]
+mod tests;

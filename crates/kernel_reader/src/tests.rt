@@ -1,0 +1,154 @@
+use super::*;
+use kernel_syntax::{Expr, Op, Schedule, Stmt};
+use std::alloc::{AllocError, Global};
+use std::test::Fail;
+
+const TWO_LANES: &[u8] =
+    b"array a i64 8\nmain {\nparallel 2 {\nfor i in 0 .. 8 static 1 {\na[i] = a[i] + 1\n}\n}\n}";
+
+const NEIGHBOUR: &[u8] =
+    b"array a i64 9\nmain { parallel 2 {\nfor i in 0 .. 8 static 4 { a[i+1] = a[i] }\n} }";
+
+const NO_TURN: &[u8] = b"array a i64 4\nmain { parallel 2 {\nfor i in 0 .. 0 { a[i] = 1 }\n} }";
+
+const NO_WAIT: &[u8] =
+    b"array a i64 4\nmain { parallel 2 {\nfor i in 0 .. 0 nowait { a[i] = 1 }\n} }";
+
+const LOCKED: &[u8] =
+    b"array s i64 1\nmutex c\nmain { parallel 8 {\ncritical c { s[0] = s[0] + 1 }\n} }";
+
+fn is_not_built(alloc: Global, text: &[u8]) -> bool {
+    matches!(read_kernel(alloc, text), Err(ReadKernelFault::NotBuilt))
+}
+
+fn is_read(alloc: Global, text: &[u8]) -> bool {
+    read_kernel(alloc, text).is_ok()
+}
+
+// The text with a comment behind it, of so many bytes in all.
+fn padded(alloc: Global, text: &[u8], len: usize) -> Result<Vec<u8>, AllocError> {
+    let mut bytes = Vec::from_slice(alloc, text)?;
+    bytes.push(b'#')?;
+    for _ in bytes.len()..len {
+        bytes.push(b' ')?;
+    }
+    Ok(bytes)
+}
+
+#[test]
+fn digits_end_before_dots(rt: HostRuntime) -> Result<(), Fail> {
+    let found = tokens(rt.alloc(), b"0..8").ok().ok_or("tokens")?;
+    assert_eq!(rt; found.len(), 3);
+    assert!(rt; matches!(found[0].lexeme, Lexeme::Number(0)));
+    assert!(rt; matches!(found[1].lexeme, Lexeme::Mark(Sign::Dots)));
+    assert!(rt; matches!(found[2].lexeme, Lexeme::Number(8)));
+    Ok(())
+}
+
+#[test]
+fn a_store_has_site_0_and_its_load_site_1(rt: HostRuntime) -> Result<(), Fail> {
+    let kernel = read_kernel(rt.alloc(), TWO_LANES).ok().ok_or("a kernel")?;
+    assert_eq!(rt; kernel.slots, 1);
+    assert_eq!(rt; kernel.main.line, 2);
+    assert_eq!(rt; kernel.main.end, 8);
+    let [Stmt::Parallel { team }] = kernel.main.body.stmts.as_slice() else {
+        return Err(Fail::from("a region"));
+    };
+    assert_eq!(rt; team.span, 2);
+    assert_eq!(rt; team.line, 3);
+    assert_eq!(rt; team.end, 7);
+    let [
+        Stmt::For {
+            slot,
+            schedule,
+            nowait,
+            line,
+            end,
+            body,
+            ..
+        },
+    ] = team.body.stmts.as_slice()
+    else {
+        return Err(Fail::from("a loop"));
+    };
+    assert_eq!(rt; *slot, 0);
+    assert!(rt; *schedule == Schedule::Static(1));
+    assert!(rt; !*nowait);
+    assert_eq!(rt; *line, 4);
+    assert_eq!(rt; *end, 6);
+    let [
+        Stmt::Store {
+            array,
+            index: Expr::Slot(index),
+            value,
+            line,
+            site,
+        },
+    ] = body.stmts.as_slice()
+    else {
+        return Err(Fail::from("a store"));
+    };
+    assert_eq!(rt; *array, 0);
+    assert_eq!(rt; *index, 0);
+    assert_eq!(rt; *line, 5);
+    assert_eq!(rt; *site, 0);
+    let Expr::Binary {
+        op: Op::Add,
+        left,
+        ..
+    } = value
+    else {
+        return Err(Fail::from("a sum"));
+    };
+    let Expr::Load { site, .. } = &**left else {
+        return Err(Fail::from("a load"));
+    };
+    assert_eq!(rt; *site, 1);
+    Ok(())
+}
+
+#[test]
+fn kernels_of_the_first_kind_are_read(rt: HostRuntime) {
+    assert!(rt; is_read(rt.alloc(), NEIGHBOUR));
+    assert!(rt; is_read(rt.alloc(), NO_TURN));
+    assert!(rt; is_read(rt.alloc(), NO_WAIT));
+    assert!(rt; is_not_built(rt.alloc(), LOCKED));
+}
+
+#[test]
+fn a_text_has_at_most_65536_bytes(rt: HostRuntime) -> Result<(), Fail> {
+    let largest = padded(rt.alloc(), TWO_LANES, 65536)?;
+    assert!(rt; is_read(rt.alloc(), &largest));
+    let larger = padded(rt.alloc(), TWO_LANES, 65537)?;
+    assert!(rt; is_not_built(rt.alloc(), &larger));
+    Ok(())
+}
+
+#[test]
+fn refused_texts_are_not_built(rt: HostRuntime) {
+    let texts: [&[u8]; 20] = [
+        b"main {",
+        b"array a i64 4 main { parallel 2 { for i in 0 .. 4 { a[i] = 1 } } } }",
+        b"array a i64 4 main { parallel 2 { for i in 0 .. 4 { a[i] = 1 + } } }",
+        b"array a i64 4 main { parallel 2 { for i in 0 .. 4 { a[i] = 1 < 2 < 3 } } }",
+        b"array a i64 4 main { parallel 2 { for i in 0 .. 4 { a[i] = $ } } }",
+        b"array a i64 4 main { parallel 2 { for i in 0 .. 4 { a[i] = 9223372036854775808 } } }",
+        b"array a23456789012345678901234567890123 i64 4 main { parallel 2 { for i in 0 .. 4 { } } }",
+        b"array a i64 4 main { parallel 2 { for i in 0 .. 4 { b[i] = 1 } } }",
+        b"array a i64 4 main { parallel 2 { for i in 0 .. 4 { a[i] = j } } }",
+        b"array a i64 4 array a i64 4 main { parallel 2 { for i in 0 .. 4 { a[i] = 1 } } }",
+        b"array a i64 4 main { parallel 2 { for a in 0 .. 4 { } } }",
+        b"array a i63 4 main { parallel 2 { for i in 0 .. 4 { a[i] = 1 } } }",
+        b"array a i64 0 main { parallel 2 { for i in 0 .. 4 { a[i] = 1 } } }",
+        b"array a i64 4 main { parallel 65 { for i in 0 .. 4 { a[i] = 1 } } }",
+        b"array a i64 4 main { parallel 2 { for i in 0 .. 4 static 0 { a[i] = 1 } } }",
+        b"array a i64 1048576 array b i64 1 main { parallel 2 { for i in 0 .. 4 { a[i] = 1 } } }",
+        b"array a i64 4 main { parallel 2 { for i in tid .. 4 { a[i] = 1 } } }",
+        b"array a i64 4 main { parallel 2 { for i in 0 .. a[0] { a[i] = 1 } } }",
+        b"array a i64 4 main { parallel 2 { for i in 0 .. 4 / 2 { a[i] = 1 } } }",
+        b"main { parallel 2 { for i in 0 .. ---------------------------------1 { } } }",
+    ];
+    for text in texts {
+        assert!(rt; is_not_built(rt.alloc(), text));
+    }
+}
