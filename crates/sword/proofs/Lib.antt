@@ -1,0 +1,4 @@
+pub mod WordLists
+pub mod Lines
+pub mod Answering
+pub mod OneAnswer

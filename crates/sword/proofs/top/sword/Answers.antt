@@ -1,0 +1,29 @@
+use Rattle.std.proofs.Common.{refl, subst, List, ℕ}
+use Rattle.sword.specs.Answer.{Answers, UsageDue}
+use Rattle.sword.specs.Check.{FolderDue, HasReport}
+use Rattle.sword.specs.Show.{HasRecords}
+use Rattle.sword.specs.Words.{check, show}
+use Rattle.sword.proofs.Answering.{Answers-of, Tries-from_prints, usage_once}
+use Rattle.sword.proofs.WordLists.{same_check, same_show}
+use Rattle.sword.proofs.top.sword.Goals as goal
+
+pub returns-in-Ok-None-clause-usage : goal.returns-in-Ok-None-clause-usage
+returns-in-Ok-None-clause-usage g c = λ usage. Answers-of UsageDue usage_once _ _ _ (Tries-from_prints UsageDue _ _ _ _ _ (refl, refl) c.print.ensures.prints)
+
+pub returns-in-Ok-None-clause-check : goal.returns-in-Ok-None-clause-check
+returns-in-Ok-None-clause-check g c = λ dir workers says. let usage = rw c.in-Ok-None.field-0-is at c.in-Ok-None.ensures.usage in absurd (usage (check dir workers) says)
+
+pub returns-in-Ok-None-clause-show : goal.returns-in-Ok-None-clause-show
+returns-in-Ok-None-clause-show g c = λ dir says. let usage = rw c.in-Ok-None.field-0-is at c.in-Ok-None.ensures.usage in absurd (usage (show dir) says)
+
+pub returns-in-Ok-Some-Check-clause-check : goal.returns-in-Ok-Some-Check-clause-check
+returns-in-Ok-Some-Check-clause-check g c = λ dir workers says content told.
+    let said = rw (c.in-Ok-Some-Check.field-0-is, c.in-Ok-Some-Check.field-0-0-is) at c.in-Ok-Some-Check.ensures.said in
+    subst (λ (d : List ℕ). Answers (FolderDue HasReport content.held d) (g.O.Out.written c.args.out.now) (g.O.Out.written c.check.new.out) c.check.result)
+    (same_check _ _ dir _ _ said says) (c.check.ensures.answers content told)
+
+pub returns-in-Ok-Some-Show-clause-show : goal.returns-in-Ok-Some-Show-clause-show
+returns-in-Ok-Some-Show-clause-show g c = λ dir says content told.
+    let said = rw (c.in-Ok-Some-Show.field-0-is, c.in-Ok-Some-Show.field-0-0-is) at c.in-Ok-Some-Show.ensures.said in
+    subst (λ (d : List ℕ). Answers (FolderDue HasRecords content.held d) (g.O.Out.written c.args.out.now) (g.O.Out.written c.show.new.out) c.show.result)
+    (same_show _ _ dir said says) (c.show.ensures.answers content told)

@@ -1,0 +1,16 @@
+use Rattle.std.proofs.Common.{rules, arith, ◌≡◌, string_bytes, codes}
+use Rattle.sword.proofs.WordLists.{texts-two, texts-three}
+use Rattle.sword.proofs.words.read_words.Goals as goal
+
+pub returns-in-len3-clause-said : goal.returns-in-len3-clause-said
+returns-in-len3-clause-said c = let three = texts-three c.args.words.now _ _ _ (omega arith) (omega arith) c.name-item-then-words-lt4.is c.dir-item-then-words-lt4.is c.workers-item.is in
+    let name : string_bytes c.name-item-then-words-lt4.result ≡ codes "check" = search rules in
+    let dir : string_bytes c.dir-item-then-words-lt4.result ≡ c.as_str-in-len3.result.now = search rules in
+    let workers : string_bytes c.workers-item.result ≡ c.as_str-in-len3-2.result.now = search rules in
+    rw (three, name, dir, workers) c.check_words.ensures.said
+
+pub returns-in-len2-clause-said : goal.returns-in-len2-clause-said
+returns-in-len2-clause-said c = let two = texts-two c.args.words.now _ _ (omega arith) (omega arith) c.name-item.is c.dir-item.is in
+    let name : string_bytes c.name-item.result ≡ codes "show" = search rules in
+    let dir : string_bytes c.dir-item.result ≡ c.as_str-in-len2.result.now = search rules in
+    rw (two, name, dir) c.show_words.ensures.said

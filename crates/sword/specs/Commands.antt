@@ -1,0 +1,8 @@
+-- What a command asks for.
+use Rattle.sword.specs.declared.words.Command.{Command}
+use Rattle.sword.specs.declared.words.Command.TheVariants.{Check, Show}
+use Rattle.sword.specs.Words.{Request, check, show}
+
+abbrev pub request_of : Command → Request
+request_of (Check dir workers) = check dir.now workers
+request_of (Show dir) = show dir.now

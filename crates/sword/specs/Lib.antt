@@ -1,0 +1,6 @@
+pub mod Answer
+pub mod Check
+pub mod Commands
+pub mod Show
+pub mod Texts
+pub mod Words

@@ -1,0 +1,42 @@
+-- The words of a command line, and what they ask for.
+use Rattle.std.specs.Prelude.{◌≡◌, ℕ, ◌≤◌, List, [], ◌∷◌, length, map, String, string_bytes, codes, decimal}
+use Rattle.std.specs.declared.alloc.Global.{Global}
+
+-- what the words after the program's name may ask for
+pub data Request : Type 0 where
+  check : (dir : List ℕ) → (workers : ℕ) → Request
+  show : (dir : List ℕ) → Request
+
+-- a word that names a folder or a file has 1 to 1,024 bytes
+pub record IsName (word : List ℕ) : Type 0 where
+  pub some : 1 ≤ length word
+  pub limit : length word ≤ 1024
+
+-- the word is this number in decimal digits without a leading zero, and it lies within these limits
+pub record IsNumber (word : List ℕ) (low high n : ℕ) : Type 0 where
+  pub digits : word ≡ decimal n
+  pub least : low ≤ n
+  pub most : n ≤ high
+
+pub record SaysCheck (words : List (List ℕ)) (dir : List ℕ) (workers : ℕ) : Type 0 where
+  pub number : List ℕ
+  pub are : words ≡ codes "check" ∷ dir ∷ number ∷ []
+  pub dir_is : IsName dir
+  pub workers_are : IsNumber number 1 64 workers
+
+pub record SaysShow (words : List (List ℕ)) (dir : List ℕ) : Type 0 where
+  pub are : words ≡ codes "show" ∷ dir ∷ []
+  pub dir_is : IsName dir
+
+-- the words ask for it
+abbrev pub Says : List (List ℕ) → Request → Type 0
+Says words (check dir workers) = SaysCheck words dir workers
+Says words (show dir) = SaysShow words dir
+
+-- the words ask for nothing
+abbrev pub IsUsage : List (List ℕ) → Type 0
+IsUsage words = (request : Request) → Says words request → ⊥
+
+-- the bytes of each word
+abbrev pub texts : List (String Global) → List (List ℕ)
+texts words = map string_bytes words

@@ -1,0 +1,132 @@
+//! `check` and `show`: what is read from a folder of logs.
+ghost use Rattle.std.specs.Prelude.{◌≡◌, ◌≤◌, ◌↔◌, ℕ, List, map, string_bytes, IfOk, IfSome, IsTrue};
+ghost use Rattle.sw_base.specs.Environment.{Files, Rose, WhereTold};
+ghost use Rattle.race_model.specs.KeepsRules.{KeepsRules};
+ghost use Rattle.race_model.specs.Race.{IsRacePair, Lists};
+ghost use Rattle.race_model.specs.Trace.{logs_of};
+ghost use Rattle.log_segment.specs.Intervals.{task_of};
+ghost use Rattle.log_walk.specs.Walk.{TellsFirstBad};
+ghost use Rattle.log_walk.specs.declared.fault.WalkFault.TheVariants as fault;
+ghost use Rattle.sword.specs.Answer.{Answers, Tries};
+ghost use Rattle.sword.specs.Check.{FolderDue, IsRefused, HasReport};
+ghost use Rattle.sword.specs.Show.{HasRecords};
+ghost use Rattle.sword.specs.declared.status.TheConstants.{USAGE, FOLDER_REFUSED, READ_FAULT, WRITE_FAULT};
+
+use crate::printing::{failure, print, print_report};
+use crate::showing::print_trace;
+use crate::status::{DONE, FOLDER_REFUSED, NO_MEMORY, READ_FAULT};
+use crate::texts;
+use log_segment::{TaskRecords, segments};
+use log_walk::{WalkFault, read_trace};
+use pair_compare::compare_all;
+use std::alloc::Global;
+use std::collections::BTreeSet;
+use sw_base::{Folder, Memory, Out};
+
+/// The race pairs of a run.
+fn races(alloc: Global, trace: &[TaskRecords]) -> Result<BTreeSet<(u32, u32)>, Memory>
+    requires { KeepsRules (map task_of trace.now) }
+    ensures { IfOk result (λ pairs. Lists (IsRacePair (logs_of (map task_of trace.now))) pairs.keys) }
+{
+    let segments = segments(alloc, trace)?;
+    compare_all(alloc, &segments)
+}
+
+/// Prints the report of a run.
+fn report_run<O: Out>(alloc: Global, out: &mut O, trace: &[TaskRecords]) -> u8
+    requires { KeepsRules (map task_of trace.now) }
+    ensures answers { Tries (HasReport (map task_of trace.now)) (O.written out.old) (O.written out.new) result }
+    ensures later { O.faults out.old ≤ O.faults out.new }
+    ensures write_fault { result ≡ WRITE_FAULT → Rose (O.faults out.old) (O.faults out.new) }
+    ensures no_read_fault { result ≡ READ_FAULT → ⊥ }
+    ensures no_usage { result ≡ USAGE → ⊥ }
+{
+    match races(alloc, trace) {
+        Ok(pairs) => print_report(alloc, out, &pairs),
+        Err(_) => NO_MEMORY,
+    }
+}
+
+/// Prints the records of a run.
+fn show_run<O: Out>(alloc: Global, out: &mut O, trace: &[TaskRecords]) -> u8
+    ensures answers { Tries (HasRecords (map task_of trace.now)) (O.written out.old) (O.written out.new) result }
+    ensures later { O.faults out.old ≤ O.faults out.new }
+    ensures write_fault { result ≡ WRITE_FAULT → Rose (O.faults out.old) (O.faults out.new) }
+    ensures no_read_fault { result ≡ READ_FAULT → ⊥ }
+    ensures no_usage { result ≡ USAGE → ⊥ }
+{
+    match print_trace(alloc, out, trace) {
+        Ok(()) => DONE,
+        Err(trouble) => failure(trouble),
+    }
+}
+
+/// The text of the first bad place, where the fault tells one.
+fn place_text(alloc: Global, refused: &WalkFault) -> Result<Option<String>, Memory>
+    ensures place { IfOk result (λ found. IfSome found (λ text. (files : Files) (dir : List ℕ) → TellsFirstBad files dir refused.now
+        → IsRefused files dir FOLDER_REFUSED (string_bytes text))) }
+{
+    Ok(Some(match refused {
+        WalkFault::NoIndex => texts::no_index(alloc)?,
+        WalkFault::BadIndex { row, why } => texts::bad_row(alloc, *row, *why)?,
+        WalkFault::MissingLog { path } => texts::missing_log(alloc, path)?,
+        WalkFault::BadRecord { path, number, why } => {
+            texts::bad_record(alloc, path, *number, *why)?
+        }
+        WalkFault::TooManySegments { path, number } => {
+            texts::too_many_segments(alloc, path, *number)?
+        }
+        WalkFault::ReadFault | WalkFault::Memory => return Ok(None),
+    }))
+}
+
+fn is_read_fault(refused: &WalkFault) -> bool
+    ensures { IsTrue result ↔ (refused.now ≡ fault.ReadFault) }
+{
+    matches!(refused, WalkFault::ReadFault)
+}
+
+/// Prints why a folder is refused.
+fn refuse<O: Out>(alloc: Global, out: &mut O, refused: WalkFault) -> u8
+    ensures answers { (files : Files) (dir : List ℕ) → TellsFirstBad files dir refused → Tries (IsRefused files dir) (O.written out.old) (O.written out.new) result }
+    ensures later { O.faults out.old ≤ O.faults out.new }
+    ensures write_fault { result ≡ WRITE_FAULT → Rose (O.faults out.old) (O.faults out.new) }
+    ensures read_fault { result ≡ READ_FAULT → refused ≡ fault.ReadFault }
+    ensures no_usage { result ≡ USAGE → ⊥ }
+{
+    match place_text(alloc, &refused) {
+        Ok(Some(text)) => print(alloc, out, text.as_bytes(), FOLDER_REFUSED),
+        _ if is_read_fault(&refused) => READ_FAULT,
+        _ => NO_MEMORY,
+    }
+}
+
+/// Reads the folder's run and reports its race pairs.
+pub fn check<F: Folder, O: Out>(alloc: Global, place: &mut F, out: &mut O, dir: &str) -> u8
+    ensures answers { WhereTold (F.content place.old) (λ c. Answers (FolderDue HasReport c.held dir.now) (O.written out.old) (O.written out.new) result) }
+    ensures read_fault { result ≡ READ_FAULT → Rose (F.read_faults place.old) (F.read_faults place.new) }
+    ensures write_fault { result ≡ WRITE_FAULT → Rose (O.faults out.old) (O.faults out.new) }
+    ensures same { F.content place.new ≡ F.content place.old }
+    ensures same_writes { F.write_faults place.new ≡ F.write_faults place.old }
+    ensures no_usage { result ≡ USAGE → ⊥ }
+{
+    match read_trace(alloc, place, dir) {
+        Ok(trace) => report_run(alloc, out, &trace),
+        Err(refused) => refuse(alloc, out, refused),
+    }
+}
+
+/// Reads the folder's run and prints its records.
+pub fn show<F: Folder, O: Out>(alloc: Global, place: &mut F, out: &mut O, dir: &str) -> u8
+    ensures answers { WhereTold (F.content place.old) (λ c. Answers (FolderDue HasRecords c.held dir.now) (O.written out.old) (O.written out.new) result) }
+    ensures read_fault { result ≡ READ_FAULT → Rose (F.read_faults place.old) (F.read_faults place.new) }
+    ensures write_fault { result ≡ WRITE_FAULT → Rose (O.faults out.old) (O.faults out.new) }
+    ensures same { F.content place.new ≡ F.content place.old }
+    ensures same_writes { F.write_faults place.new ≡ F.write_faults place.old }
+    ensures no_usage { result ≡ USAGE → ⊥ }
+{
+    match read_trace(alloc, place, dir) {
+        Ok(trace) => show_run(alloc, out, &trace),
+        Err(refused) => refuse(alloc, out, refused),
+    }
+}

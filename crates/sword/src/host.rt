@@ -1,0 +1,291 @@
+//! The environment on the host: real files and the standard output. These objects tell nothing of what they hold; their
+//! counts of faults rise at each error of the system.
+ghost use Rattle.std.specs.Prelude.{◌≡◌, ◌≤◌, ℕ, List, None, Option, string_bytes, length, IfOk};
+ghost use Rattle.sw_base.specs.Environment.{Rose, HasCause, Content, Text};
+ghost use Rattle.sw_base.specs.declared.path.Step.{Step};
+ghost use Rattle.sw_base.specs.declared.trouble.Trouble.TheVariants as trouble;
+
+use std::alloc::Global;
+use std::fs;
+use std::fs::{File, OpenOptions};
+use std::io::{self, Error, ErrorKind, Read, Seek, SeekFrom, Write};
+use std::rt::Files;
+use sw_base::{Folder, Gate, Log, Out, Path, Trouble};
+
+/// Real files, under the names that the calls give.
+#[derive(Drop)]
+pub struct HostFolder<R> {
+    rt: R,
+    read_faults: u64,
+    write_faults: u64,
+}
+
+/// The log of one task as a real file, which is open only while a piece is appended.
+#[derive(Drop)]
+pub struct HostLog<R> {
+    rt: R,
+    dir: String,
+    path: Path,
+    faults: u64,
+}
+
+/// The standard output.
+#[derive(Drop)]
+pub struct HostOut<R> {
+    rt: R,
+    faults: u64,
+}
+
+/// A gate that lets everyone through.
+pub struct OpenGate;
+
+impl Gate for OpenGate {
+    fn enter(&self, _place: usize) {}
+}
+
+// What an error of the system is here; each raises the count, but want of memory.
+fn trouble(error: Error, faults: &mut u64) -> Trouble
+    ensures later { faults.old ≤ faults.new }
+    ensures rose { result ≡ trouble.Failed → Rose faults.old faults.new }
+{
+    if error.kind() == ErrorKind::OutOfMemory {
+        return Trouble::Memory;
+    }
+    *faults = faults.saturating_add(1);
+    Trouble::Failed
+}
+
+fn is_missing(error: &Error) -> bool {
+    error.kind() == ErrorKind::NotFound || error.kind() == ErrorKind::NotADirectory
+}
+
+fn write_whole<W: Write>(to: &mut W, piece: &[u8]) -> io::Result<()> {
+    let mut rest = piece;
+    while !rest.is_empty() {
+        let count = to.write(rest)?;
+        if count == 0 {
+            return Err(Error::from(ErrorKind::WriteZero));
+        }
+        rest = &rest[count..];
+    }
+    to.flush()
+}
+
+impl<R: Files> HostFolder<R> {
+    /// Real files, with no fault yet.
+    pub fn new(rt: R) -> Self {
+        HostFolder {
+            rt,
+            read_faults: 0,
+            write_faults: 0,
+        }
+    }
+}
+
+fn read_at<R: Files>(rt: &R, name: &str, at: u64, into: &mut [u8]) -> io::Result<usize>
+    ensures { IfOk result (λ count. count ≤ length into.old) }
+{
+    let mut file = File::open(rt, name)?;
+    file.seek(SeekFrom::Start(at))?;
+    file.read(into)
+}
+
+fn append_to<R: Files>(rt: &R, name: &str, piece: &[u8]) -> io::Result<()> {
+    let mut file = OpenOptions::new().append(true).open(rt, name)?;
+    write_whole(&mut file, piece)
+}
+
+fn make_empty<R: Files>(rt: &R, name: &str) -> io::Result<()> {
+    File::create(rt, name)?;
+    Ok(())
+}
+
+impl<R: Files + Clone + Drop + Send + 'static> Log for HostLog<R> {
+    ghost dir = { λ log. string_bytes log.dir };
+
+    ghost path = { λ log. log.path };
+
+    ghost text = { λ _. None };
+
+    ghost faults = { λ log. log.faults };
+
+    fn child(&mut self, alloc: Global, region: u32, lane: u16, span: u16) -> Result<Self, Trouble> {
+        let path = self.path.child(region, lane, span);
+        let dir = self.dir.clone()?;
+        let name = path.name(alloc, dir.as_str())?;
+        let rt = self.rt.clone()?;
+        match make_empty(&rt, name.as_str()) {
+            Ok(()) => Ok(HostLog {
+                rt,
+                dir,
+                path,
+                faults: 0,
+            }),
+            Err(error) => Err(trouble(error, &mut self.faults)),
+        }
+    }
+
+    fn append(&mut self, alloc: Global, piece: &[u8]) -> Result<(), Trouble> {
+        let name = self.path.name(alloc, self.dir.as_str())?;
+        match append_to(&self.rt, name.as_str(), piece) {
+            Ok(()) => Ok(()),
+            Err(error) => Err(trouble(error, &mut self.faults)),
+        }
+    }
+}
+
+impl<R: Files + Clone + Drop + Send + 'static> Folder for HostFolder<R> {
+    type Log = HostLog<R>;
+
+    ghost content = { λ _. None };
+
+    ghost read_faults = { λ folder. folder.read_faults };
+
+    ghost write_faults = { λ folder. folder.write_faults };
+
+    fn size(&mut self, _alloc: Global, name: &str) -> Result<Option<u64>, Trouble> {
+        match fs::metadata(&self.rt, name) {
+            Ok(about) => Ok(Some(about.len())),
+            Err(error) if is_missing(&error) => Ok(None),
+            Err(error) => Err(trouble(error, &mut self.read_faults)),
+        }
+    }
+
+    fn read(
+        &mut self,
+        _alloc: Global,
+        name: &str,
+        at: u64,
+        into: &mut [u8],
+    ) -> Result<usize, Trouble> {
+        match read_at(&self.rt, name, at, into) {
+            Ok(count) => Ok(count),
+            Err(error) if is_missing(&error) => Ok(0),
+            Err(error) => Err(trouble(error, &mut self.read_faults)),
+        }
+    }
+
+    fn put(&mut self, _alloc: Global, name: &str, bytes: &[u8]) -> Result<(), Trouble> {
+        match fs::write(&self.rt, name, bytes) {
+            Ok(()) => Ok(()),
+            Err(error) => Err(trouble(error, &mut self.write_faults)),
+        }
+    }
+
+    fn root(&mut self, alloc: Global, dir: &str) -> Result<HostLog<R>, Trouble> {
+        let path = Path::root();
+        let name = path.name(alloc, dir)?;
+        let rt = self.rt.clone()?;
+        let dir = String::from_str(alloc, dir)?;
+        match make_root(&rt, dir.as_str(), name.as_str()) {
+            Ok(()) => Ok(HostLog {
+                rt,
+                dir,
+                path,
+                faults: 0,
+            }),
+            Err(error) => Err(trouble(error, &mut self.write_faults)),
+        }
+    }
+
+    fn seal(&mut self, _alloc: Global, log: HostLog<R>) -> Result<(), (Trouble, HostLog<R>)> {
+        self.discard(log);
+        Ok(())
+    }
+
+    fn discard(&mut self, log: HostLog<R>) {
+        if log.faults > 0 {
+            self.write_faults = self.write_faults.saturating_add(1);
+        }
+    }
+}
+
+fn make_root<R: Files>(rt: &R, dir: &str, name: &str) -> io::Result<()> {
+    fs::create_dir_all(rt, dir)?;
+    make_empty(rt, name)
+}
+
+impl<R: Print> HostOut<R> {
+    /// The standard output, with no fault yet.
+    pub fn new(rt: R) -> Self {
+        HostOut { rt, faults: 0 }
+    }
+}
+
+impl<R: Print> Out for HostOut<R> {
+    ghost written = { λ _. None };
+
+    ghost faults = { λ out. out.faults };
+
+    fn append(&mut self, _alloc: Global, piece: &[u8]) -> Result<(), Trouble> {
+        match write_whole(&mut io::writer(&self.rt), piece) {
+            Ok(()) => Ok(()),
+            Err(error) => Err(trouble(error, &mut self.faults)),
+        }
+    }
+}
+
+#[cfg(test)]
+mod tests {
+    use super::*;
+    use std::test::Fail;
+    use std::{env, process};
+    use sw_base::read_file;
+
+    // A folder of its own for a test, which isn't there yet.
+    fn fresh(rt: &HostRuntime, name: &str) -> Result<String, Fail> {
+        let alloc = rt.alloc();
+        let base = env::temp_dir(rt)?;
+        let id = process::id(rt.process());
+        let base = base.to_str().ok_or("a path")?;
+        Ok(format!(in alloc; "{base}/sword-{name}-{id}")?)
+    }
+
+    #[test]
+    fn logs_are_written_piece_by_piece(rt: HostRuntime) -> Result<(), Fail> {
+        let alloc = rt.alloc();
+        let top = fresh(&rt, "pieces")?;
+        let dir = format!(in alloc; "{top}/made/below")?;
+        let mut place = HostFolder::new(rt);
+        let mut root = place.root(alloc, &dir)?;
+        root.append(alloc, b"SWLOG001")?;
+        let mut lane = root.child(alloc, 0, 1, 2)?;
+        lane.append(alloc, b"one")?;
+        root.append(alloc, b" and more")?;
+        lane.append(alloc, b" two")?;
+        let name = format!(in alloc; "{dir}/t.swl")?;
+        let whole = read_file(alloc, &mut place, &name)?.ok_or("a log")?;
+        assert_eq!(rt; whole.as_slice(), b"SWLOG001 and more".as_slice());
+        let name = format!(in alloc; "{dir}/t-0.1.swl")?;
+        let whole = read_file(alloc, &mut place, &name)?.ok_or("a log")?;
+        assert_eq!(rt; whole.as_slice(), b"one two".as_slice());
+        place.discard(lane);
+        assert!(rt; place.seal(alloc, root).is_ok());
+        assert_eq!(rt; place.write_faults, 0);
+        fs::remove_dir_all(&rt, &top)?;
+        Ok(())
+    }
+
+    #[test]
+    fn what_can_not_be_written_is_a_fault(rt: HostRuntime) -> Result<(), Fail> {
+        let alloc = rt.alloc();
+        let dir = fresh(&rt, "faults")?;
+        let mut place = HostFolder::new(rt);
+        let mut root = place.root(alloc, &dir)?;
+        assert!(rt; place.put(alloc, &dir, b"bytes").is_err());
+        assert_eq!(rt; place.write_faults, 1);
+        assert!(rt; place.put(alloc, "/dev/full", b"bytes").is_err());
+        assert_eq!(rt; place.write_faults, 2);
+        let name = format!(in alloc; "{dir}/t.swl")?;
+        fs::remove_file(&rt, &name)?;
+        fs::create_dir(&rt, &name)?;
+        assert!(rt; root.append(alloc, b"bytes").is_err());
+        assert_eq!(rt; root.faults, 1);
+        assert!(rt; read_file(alloc, &mut place, &name).is_err());
+        assert_eq!(rt; place.read_faults, 1);
+        place.discard(root);
+        assert_eq!(rt; place.write_faults, 3);
+        fs::remove_dir_all(&rt, &dir)?;
+        Ok(())
+    }
+}

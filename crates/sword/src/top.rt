@@ -1,0 +1,56 @@
+//! The top call: what the program does for the words that it is given.
+ghost use Rattle.std.specs.Prelude.{◌≡◌, ◌⊎◌, ℕ, List};
+ghost use Rattle.sw_base.specs.Environment.{Rose, WhereTold};
+ghost use Rattle.sword.specs.Answer.{Answers, UsageDue};
+ghost use Rattle.sword.specs.Check.{FolderDue, HasReport};
+ghost use Rattle.sword.specs.Show.{HasRecords};
+ghost use Rattle.sword.specs.Words.{IsUsage, SaysCheck, SaysShow, texts};
+ghost use Rattle.sword.specs.declared.status.TheConstants.{USAGE, READ_FAULT, WRITE_FAULT};
+
+use crate::checking::{check, show};
+use crate::printing::print;
+use crate::status::{NO_MEMORY, USAGE};
+use crate::words::{Command, read_words};
+use std::alloc::Global;
+use sw_base::{Folder, Gate, Out};
+
+const USAGE_LINE: &[u8] =
+    b"usage: sword check DIR W | run KERNEL DIR SIZE | replay KERNEL DIR | show DIR | gen N W\n";
+
+/// Does what the words after the program's name ask for, and answers the status that the program ends with.
+///
+/// The runtime and the gate are for lanes and workers in threads, which there are none of yet.
+pub fn sword<R, F: Folder, O: Out, G: Gate>(
+    _rt: &R,
+    alloc: Global,
+    words: &[String],
+    place: &mut F,
+    out: &mut O,
+    _gate: &G,
+) -> u8
+    // Words that ask for nothing are answered by the usage line, and nothing else is.
+    ensures usage { IsUsage (texts words.now) → Answers UsageDue (O.written out.old) (O.written out.new) result }
+    ensures only_usage { result ≡ USAGE → IsUsage (texts words.now) }
+
+    // `check` answers the first bad place of the folder; or, of the run that it holds, exactly the line pairs of accesses that
+    // share a byte, one a write, unordered by forks, joins and barriers, without a common mutex, once and in order.
+    ensures check { (dir : List ℕ) (workers : ℕ) → SaysCheck (texts words.now) dir workers → WhereTold (F.content place.old) (λ c.
+        Answers (FolderDue HasReport c.held dir) (O.written out.old) (O.written out.new) result) }
+
+    // `show` answers the first bad place of the folder, or every record of the run that it holds.
+    ensures show { (dir : List ℕ) → SaysShow (texts words.now) dir → WhereTold (F.content place.old) (λ c.
+        Answers (FolderDue HasRecords c.held dir) (O.written out.old) (O.written out.new) result) }
+
+    // A fault has its cause, and nothing is changed.
+    ensures read_fault { result ≡ READ_FAULT → Rose (F.read_faults place.old) (F.read_faults place.new) }
+    ensures write_fault { result ≡ WRITE_FAULT → Rose (O.faults out.old) (O.faults out.new) }
+    ensures same { F.content place.new ≡ F.content place.old }
+    ensures same_writes { F.write_faults place.new ≡ F.write_faults place.old }
+{
+    match read_words(alloc, words) {
+        Ok(None) => print(alloc, out, USAGE_LINE, USAGE),
+        Ok(Some(Command::Check { dir, .. })) => check(alloc, place, out, dir),
+        Ok(Some(Command::Show { dir })) => show(alloc, place, out, dir),
+        Err(_) => NO_MEMORY,
+    }
+}

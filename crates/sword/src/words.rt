@@ -1,0 +1,93 @@
+//! The words of a command line.
+ghost use Rattle.std.specs.Prelude.{◌≡◌, ◌<◌, ◌≤◌, ◌^◌, ◌↔◌, ℕ, [], ◌∷◌, codes, decimal, length, IsTrue, IfOk, IfSome, IfNone};
+ghost use Rattle.sword.specs.Words.{IsName, IsNumber, IsUsage, Says, texts};
+ghost use Rattle.sword.specs.Commands.{request_of};
+
+use std::alloc::{AllocError, Global};
+
+/// What a command line asks for.
+#[derive(Drop)]
+pub enum Command<'a> {
+    /// Compare the accesses of a folder's logs, with so many workers.
+    Check { dir: &'a str, workers: u64 },
+    /// Print the records of a folder's logs.
+    Show { dir: &'a str },
+}
+
+/// What the words ask for. `None` where they ask for nothing.
+pub fn read_words<'a>(alloc: Global, words: &'a [String]) -> Result<Option<Command<'a>>, AllocError>
+    ensures said { IfOk result (λ asked. IfSome asked (λ c. Says (texts words.now) (request_of c))) }
+    ensures usage { IfOk result (λ asked. IfNone asked (IsUsage (texts words.now))) }
+{
+    match words {
+        [name, dir, workers] if name.as_str() == "check" => {
+            check_words(alloc, dir.as_str(), workers.as_str())
+        }
+        [name, dir] if name.as_str() == "show" => Ok(show_words(dir.as_str())),
+        _ => Ok(None),
+    }
+}
+
+fn show_words<'a>(dir: &'a str) -> Option<Command<'a>>
+    ensures said { IfSome result (λ c. Says (codes "show" ∷ dir.now ∷ []) (request_of c)) }
+    ensures usage { IfNone result (IsUsage (codes "show" ∷ dir.now ∷ [])) }
+{
+    if !is_name(dir) {
+        return None;
+    }
+    Some(Command::Show { dir })
+}
+
+fn check_words<'a>(
+    alloc: Global,
+    dir: &'a str,
+    workers: &str,
+) -> Result<Option<Command<'a>>, AllocError>
+    ensures said { IfOk result (λ asked. IfSome asked (λ c. Says (codes "check" ∷ dir.now ∷ workers.now ∷ []) (request_of c))) }
+    ensures usage { IfOk result (λ asked. IfNone asked (IsUsage (codes "check" ∷ dir.now ∷ workers.now ∷ []))) }
+{
+    if !is_name(dir) {
+        return Ok(None);
+    }
+    let workers = number(alloc, workers, 1, 64)?;
+    Ok(workers.map(|workers| Command::Check { dir, workers }))
+}
+
+fn is_name(word: &str) -> bool
+    ensures { IsTrue result ↔ IsName word.now }
+{
+    1 <= word.len() && word.len() <= 1024
+}
+
+/// The number that the word is in decimal digits, where it lies within the limits.
+fn number(alloc: Global, word: &str, low: u64, high: u64) -> Result<Option<u64>, AllocError>
+    ensures found { IfOk result (λ found. IfSome found (λ n. IsNumber word.now low high n)) }
+    ensures none { IfOk result (λ found. IfNone found ((n : ℕ) → IsNumber word.now low high n → ⊥)) }
+{
+    let Some(n) = parsed(word) else {
+        return Ok(None);
+    };
+    if !is_within(n, low, high) {
+        return Ok(None);
+    }
+    Ok(is_decimal(alloc, word, n)?.then_some(n))
+}
+
+fn parsed(word: &str) -> Option<u64>
+    ensures { (n : ℕ) → n < 2 ^ 64 → word.now ≡ decimal n → result ≡ Some n }
+{
+    word.parse::<u64>().ok()
+}
+
+fn is_within(n: u64, low: u64, high: u64) -> bool
+    ensures { IsTrue result ↔ ((low ≤ n) × (n ≤ high)) }
+{
+    low <= n && n <= high
+}
+
+fn is_decimal(alloc: Global, word: &str, n: u64) -> Result<bool, AllocError>
+    ensures { IfOk result (λ same. IsTrue same ↔ (word.now ≡ decimal n)) }
+{
+    let digits = format!(in alloc; "{n}")?;
+    Ok(digits.as_str() == word)
+}
