@@ -1,0 +1,81 @@
+-- Kernels of the first kind: the one statement of a body.
+use Rattle.std.proofs.Common.{◌≡◌, refl, ap, sym, ◌∙◌, subst, ℕ, ◌<◌, Bool, List, [], ◌∷◌, length, arith}
+use Rattle.kernel_syntax.specs.declared.syntax.Expr.{Expr}
+use Rattle.kernel_syntax.specs.declared.syntax.Stmt.{Stmt}
+use Rattle.kernel_syntax.specs.declared.syntax.Stmt.TheOpen as layer
+use Rattle.kernel_syntax.specs.declared.syntax.Stmt.TheOpen.{Stmt-F}
+use Rattle.kernel_syntax.specs.declared.syntax.Stmt.TheVariants as variant
+use Rattle.kernel_syntax.specs.declared.syntax.Stmt.TheVariants.{rolls-Set, rolls-Store, rolls-If, rolls-Loop, rolls-Parallel, rolls-For, rolls-Barrier, rolls-Critical}
+use Rattle.kernel_syntax.specs.declared.syntax.Stmt.TheViews.{roll-Stmt, out-Stmt, roll-out-Stmt}
+use Rattle.kernel_syntax.specs.declared.syntax.Body.{Body}
+use Rattle.kernel_syntax.specs.declared.syntax.Team.{Team}
+use Rattle.kernel_syntax.specs.declared.syntax.Schedule.{Schedule}
+use Rattle.kernel_syntax.specs.Tree as tree
+use Rattle.kernel_syntax.specs.Tree.{Term, Code}
+use Rattle.kernel_syntax.specs.Program.{code_of, stmt_code}
+use Rattle.kernel_syntax.proofs.Equations.{stmt_code-Set, stmt_code-Store, stmt_code-If, stmt_code-Loop, stmt_code-Parallel, stmt_code-For, stmt_code-Barrier, stmt_code-Critical}
+use Rattle.kernel_model.specs.FirstKind.{AreStores, IsFixed, IsOneLoop, IsOneTeam}
+
+pub loop_is_there : (stmts : List Stmt) → IsOneLoop (code_of stmts) → 0 < length stmts
+loop_is_there [] one = absurd one
+loop_is_there (s ∷ rest) one = omega arith
+
+pub team_is_there : (stmts : List Stmt) → IsOneTeam (code_of stmts) → 0 < length stmts
+team_is_there [] one = absurd one
+team_is_there (s ∷ rest) one = omega arith
+
+-- nothing follows the loop
+pub loop_alone : (slot : ℕ) (from to : Term) (schedule : Schedule) (nowait : Bool) (line end : ℕ) (body rest : Code) →
+    IsOneLoop (tree.For slot from to schedule nowait line end body rest) → (rest ≡ tree.Done) × IsFixed schedule × AreStores body
+loop_alone slot from to schedule nowait line end body tree.Done one = (refl, one.0, one.1)
+loop_alone slot from to schedule nowait line end body _ one = absurd one
+
+-- nor the region
+pub team_alone : (span line end : ℕ) (body rest : Code) → IsOneTeam (tree.Parallel span line end body rest) → (rest ≡ tree.Done) × IsOneLoop body
+team_alone span line end body tree.Done one = (refl, one)
+team_alone span line end body _ one = absurd one
+
+-- such a statement is a store
+module _ (s : Stmt) (rest : Code) (h : AreStores (stmt_code s rest)) (other : (array : ℕ) (index value : Expr) (line site : ℕ) → s ≡ variant.Store array index value line site → ⊥) where
+  store_by_layer : (x : Stmt-F Stmt Body Team) → roll-Stmt x ≡ s → ⊥
+  store_by_layer (layer.Set slot value) is = subst AreStores (ap (λ (z : Stmt). stmt_code z rest) (sym is ∙ rolls-Set slot value) ∙ stmt_code-Set slot value rest) h
+  store_by_layer (layer.Store array index value line site) is = other array index value line site (sym is ∙ rolls-Store array index value line site)
+  store_by_layer (layer.If test if_true if_false) is = subst AreStores (ap (λ (z : Stmt). stmt_code z rest) (sym is ∙ rolls-If test if_true if_false) ∙ stmt_code-If test if_true if_false rest) h
+  store_by_layer (layer.Loop slot from to body) is = subst AreStores (ap (λ (z : Stmt). stmt_code z rest) (sym is ∙ rolls-Loop slot from to body) ∙ stmt_code-Loop slot from to body rest) h
+  store_by_layer (layer.Parallel team) is = subst AreStores (ap (λ (z : Stmt). stmt_code z rest) (sym is ∙ rolls-Parallel team) ∙ stmt_code-Parallel team rest) h
+  store_by_layer (layer.For slot from to schedule nowait line end body) is = subst AreStores (ap (λ (z : Stmt). stmt_code z rest) (sym is ∙ rolls-For slot from to schedule nowait line end body) ∙ stmt_code-For slot from to schedule nowait line end body rest) h
+  store_by_layer (layer.Barrier line) is = subst AreStores (ap (λ (z : Stmt). stmt_code z rest) (sym is ∙ rolls-Barrier line) ∙ stmt_code-Barrier line rest) h
+  store_by_layer (layer.Critical mutex line end body) is = subst AreStores (ap (λ (z : Stmt). stmt_code z rest) (sym is ∙ rolls-Critical mutex line end body) ∙ stmt_code-Critical mutex line end body rest) h
+
+  pub store_only : ⊥
+  store_only = store_by_layer (out-Stmt s) (roll-out-Stmt s)
+
+-- such a statement is a worksharing loop
+module _ (s : Stmt) (rest : Code) (h : IsOneLoop (stmt_code s rest)) (other : (slot : ℕ) (from to : Expr) (schedule : Schedule) (nowait : Bool) (line end : ℕ) (body : Body) → s ≡ variant.For slot from to schedule nowait line end body → ⊥) where
+  loop_by_layer : (x : Stmt-F Stmt Body Team) → roll-Stmt x ≡ s → ⊥
+  loop_by_layer (layer.Set slot value) is = subst IsOneLoop (ap (λ (z : Stmt). stmt_code z rest) (sym is ∙ rolls-Set slot value) ∙ stmt_code-Set slot value rest) h
+  loop_by_layer (layer.Store array index value line site) is = subst IsOneLoop (ap (λ (z : Stmt). stmt_code z rest) (sym is ∙ rolls-Store array index value line site) ∙ stmt_code-Store array index value line site rest) h
+  loop_by_layer (layer.If test if_true if_false) is = subst IsOneLoop (ap (λ (z : Stmt). stmt_code z rest) (sym is ∙ rolls-If test if_true if_false) ∙ stmt_code-If test if_true if_false rest) h
+  loop_by_layer (layer.Loop slot from to body) is = subst IsOneLoop (ap (λ (z : Stmt). stmt_code z rest) (sym is ∙ rolls-Loop slot from to body) ∙ stmt_code-Loop slot from to body rest) h
+  loop_by_layer (layer.Parallel team) is = subst IsOneLoop (ap (λ (z : Stmt). stmt_code z rest) (sym is ∙ rolls-Parallel team) ∙ stmt_code-Parallel team rest) h
+  loop_by_layer (layer.For slot from to schedule nowait line end body) is = other slot from to schedule nowait line end body (sym is ∙ rolls-For slot from to schedule nowait line end body)
+  loop_by_layer (layer.Barrier line) is = subst IsOneLoop (ap (λ (z : Stmt). stmt_code z rest) (sym is ∙ rolls-Barrier line) ∙ stmt_code-Barrier line rest) h
+  loop_by_layer (layer.Critical mutex line end body) is = subst IsOneLoop (ap (λ (z : Stmt). stmt_code z rest) (sym is ∙ rolls-Critical mutex line end body) ∙ stmt_code-Critical mutex line end body rest) h
+
+  pub loop_only : ⊥
+  loop_only = loop_by_layer (out-Stmt s) (roll-out-Stmt s)
+
+-- such a statement is a region
+module _ (s : Stmt) (rest : Code) (h : IsOneTeam (stmt_code s rest)) (other : (team : Team) → s ≡ variant.Parallel team → ⊥) where
+  team_by_layer : (x : Stmt-F Stmt Body Team) → roll-Stmt x ≡ s → ⊥
+  team_by_layer (layer.Set slot value) is = subst IsOneTeam (ap (λ (z : Stmt). stmt_code z rest) (sym is ∙ rolls-Set slot value) ∙ stmt_code-Set slot value rest) h
+  team_by_layer (layer.Store array index value line site) is = subst IsOneTeam (ap (λ (z : Stmt). stmt_code z rest) (sym is ∙ rolls-Store array index value line site) ∙ stmt_code-Store array index value line site rest) h
+  team_by_layer (layer.If test if_true if_false) is = subst IsOneTeam (ap (λ (z : Stmt). stmt_code z rest) (sym is ∙ rolls-If test if_true if_false) ∙ stmt_code-If test if_true if_false rest) h
+  team_by_layer (layer.Loop slot from to body) is = subst IsOneTeam (ap (λ (z : Stmt). stmt_code z rest) (sym is ∙ rolls-Loop slot from to body) ∙ stmt_code-Loop slot from to body rest) h
+  team_by_layer (layer.Parallel team) is = other team (sym is ∙ rolls-Parallel team)
+  team_by_layer (layer.For slot from to schedule nowait line end body) is = subst IsOneTeam (ap (λ (z : Stmt). stmt_code z rest) (sym is ∙ rolls-For slot from to schedule nowait line end body) ∙ stmt_code-For slot from to schedule nowait line end body rest) h
+  team_by_layer (layer.Barrier line) is = subst IsOneTeam (ap (λ (z : Stmt). stmt_code z rest) (sym is ∙ rolls-Barrier line) ∙ stmt_code-Barrier line rest) h
+  team_by_layer (layer.Critical mutex line end body) is = subst IsOneTeam (ap (λ (z : Stmt). stmt_code z rest) (sym is ∙ rolls-Critical mutex line end body) ∙ stmt_code-Critical mutex line end body rest) h
+
+  pub team_only : ⊥
+  team_only = team_by_layer (out-Stmt s) (roll-out-Stmt s)

@@ -1,0 +1,63 @@
+-- What puts into a log, flushes and closings do together.
+use Rattle.std.proofs.Common.{◌≡◌, refl, ap, sym, ◌∙◌, subst, ℕ, List, [], ◌++◌, Option, Some, None, Result, Ok, Err, append_assoc, arith}
+use Rattle.std.specs.Prelude.{is_some, OnOk, OnErr, IfErr}
+use Rattle.std.specs.Option.{option_map}
+use Rattle.std.specs.List.{flat_map}
+use Rattle.std.proofs.lemmas.List.{append-nil, length-append}
+use Rattle.std.proofs.lemmas.Grind.{flat_map-append}
+use Rattle.sw_base.specs.declared.trouble.Trouble.{Trouble}
+use Rattle.sw_base.specs.declared.trouble.Trouble.TheVariants as trouble
+use Rattle.sw_base.specs.Environment.{Text, HasCause, TearsPiece, with_piece, with_torn}
+use Rattle.log_format.specs.declared.record.Record.{Record}
+use Rattle.log_format.specs.Spelling.{spelling}
+use Rattle.team_runner.specs.Written.{Written, Adds, Keeps, HasFault, held}
+
+-- whether a log tells is the same after an append
+same_tells : (old : Option Text) (f : Text → Text) → is_some (option_map f old) ≡ is_some old
+same_tells None f = refl
+same_tells (Some t) f = refl
+
+pub tells_after : (r : Result (Unit {0}) Trouble) (old new : Option Text) (piece : List ℕ) → OnOk r (new ≡ option_map (with_piece piece) old) →
+    OnErr r (TearsPiece old new piece) → is_some new ≡ is_some old
+tells_after (Ok v) old new piece done refused = ap is_some done ∙ same_tells old (with_piece piece)
+tells_after (Err e) old new piece done refused = ap is_some refused.tears ∙ same_tells old (with_torn refused.front)
+
+-- what failed has its fault counted
+pub fault_counted : (r : Result (Unit {0}) Trouble) (before : ℕ) (w : Written) → HasCause before w.faults r → IfErr r (λ t. HasFault t w)
+fault_counted (Ok v) before w cause = tt
+fault_counted (Err trouble.Memory) before w cause = tt
+fault_counted (Err trouble.Failed) before w cause = let rose = cause.failed refl in omega arith
+
+pub keeps_chain : (a b c : Written) → Keeps a b → Keeps b c → Keeps a c
+keeps_chain a b c one more = record {
+  dir = more.dir ∙ one.dir;
+  path = more.path ∙ one.path;
+  size = more.size ∙ one.size;
+  tells = more.tells ∙ one.tells;
+}
+
+option_twice : (o : Option (List ℕ)) (xs ys : List ℕ) →
+    option_map (λ (bytes : List ℕ). bytes ++ ys) (option_map (λ (bytes : List ℕ). bytes ++ xs) o) ≡ option_map (λ (bytes : List ℕ). bytes ++ (xs ++ ys)) o
+option_twice None xs ys = refl
+option_twice (Some b) xs ys = ap Some (append_assoc b xs ys)
+
+pub adds_chain : (a b c : Written) (one more : List Record) → b.size ≡ a.size → Adds a b one → Adds b c more → Adds a c (one ++ more)
+adds_chain a b c one more size x y = record {
+  count = omega (arith, x.count, y.count, length-append one more);
+  held_are =
+      y.held_are
+      ∙ ap (option_map (λ (bytes : List ℕ). bytes ++ flat_map spelling more)) x.held_are
+      ∙ option_twice (held a) (flat_map spelling one) (flat_map spelling more)
+      ∙ ap (λ (s : List ℕ). option_map (λ (bytes : List ℕ). bytes ++ s) (held a)) (sym (flat_map-append spelling one more));
+  cut = λ some is. y.cut (omega (arith, size, some)) (x.cut some is);
+}
+
+option_nothing : (o : Option (List ℕ)) → o ≡ option_map (λ (bytes : List ℕ). bytes ++ []) o
+option_nothing None = refl
+option_nothing (Some b) = ap Some (sym (append-nil b))
+
+pub adds_nothing : (a : Written) → Adds a a []
+adds_nothing a = record { count = omega arith; held_are = option_nothing (held a); cut = λ some is. is }
+
+pub adds_same : (a b c : Written) (added : List Record) → c ≡ b → Adds a b added → Adds a c added
+adds_same a b c added same x = subst (λ w. Adds a w added) (sym same) x

@@ -1,0 +1,5 @@
+pub mod Written
+pub mod Stops
+pub mod Placed
+pub mod Lane
+pub mod Ready
