@@ -7,10 +7,10 @@ ghost use Rattle.log_format.specs.Table.{Fits, IsTabled, Spells, IsFirstFault};
 use crate::record::{Kind, Record, Why};
 use crate::table::{check, code_of, kind_of};
 
-/// The 24 bytes of a record of the table.
+/// The 24 bytes of a record.
 pub fn encode(r: &Record) -> [u8; 24]
-    requires { IsTabled r.now }
-    ensures { Spells result r.now }
+    ensures spelled { result ≡ spelling r.now }
+    ensures spells { IsTabled r.now → Spells result r.now }
 {
     let site = r.site.to_be_bytes();
     let line = r.line.to_be_bytes();

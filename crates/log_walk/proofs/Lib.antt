@@ -1,12 +1,10 @@
 pub mod ByKind
-pub mod Faults
 pub mod FirstOnce
 pub mod Keeps
 pub mod Next
 pub mod NextTask
 pub mod Opening
 pub mod Places
-pub mod Reading
 pub mod RowOrder
 pub mod RowReads
 pub mod SoFar
@@ -14,5 +12,4 @@ pub mod SpanOrder
 pub mod Steps
 pub mod TaskAt
 pub mod TaskReads
-pub mod Unique
 pub mod Whole

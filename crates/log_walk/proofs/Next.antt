@@ -1,8 +1,7 @@
 -- Which faults a log has at the record after those that were read, and at its end.
 use Rattle.std.proofs.Common.{◌≡◌, ℕ, ◌+◌, ◌<◌, ◌≤◌, List, [], ◌∷◌, ◌++◌, length, take, Some, sym, ap, subst, ◌∙◌, arith}
 use Rattle.std.specs.Prelude.{slice_get}
-use Rattle.std.specs.List.{flat_map}
-use Rattle.std.proofs.lemmas.List.{take_all, drop_all, take_more}
+use Rattle.std.proofs.lemmas.List.{take_more}
 use Rattle.std.proofs.lemmas.Option.{get_or_from_slice_get, slice_get_within}
 use Rattle.log_format.specs.declared.record.Record.{Record}
 use Rattle.log_format.specs.declared.record.Why.{Why}
@@ -16,23 +15,9 @@ use Rattle.race_model.specs.Place.{record_rank}
 use Rattle.race_model.specs.Segment.{segment_count}
 use Rattle.race_model.specs.LogFault.{LogTask, Breaks, IsRead, IsCut, IsUntabled, IsBroken, IsLogFault, OpensTooMany, max_segments}
 use Rattle.log_walk.specs.Check.{KeepsRules, NothingBefore, of_why}
-use Rattle.log_walk.proofs.Reading.{same_first, read_front}
-use Rattle.log_walk.proofs.Faults.{find, not_cut, not_untabled, same_record, no_fault_in}
+use Rattle.race_model.proofs.LogReading.{same_first, is_next}
+use Rattle.race_model.proofs.LogFaults.{find, not_cut, not_untabled, same_record, no_fault_in}
 use Rattle.log_walk.proofs.Opening.{segment_count-take}
-
--- the next record comes after just the records that were read
-pub record IsNext (records before : List Record) (rest more : List ℕ) : Type 0 where
-  pub before_is : before ≡ records
-  pub more_is : more ≡ rest
-
-pub is_next : (bytes : List ℕ) (records before : List Record) (rest more : List ℕ) → IsRead bytes records rest → IsRead bytes before more
-    → length before ≡ length records → IsNext records before rest more
-is_next bytes records before rest more one other same =
-    let front = read_front bytes records before rest more one other (omega arith) in
-    record {
-      before_is = front.front ∙ take_all (length before) records (omega arith);
-      more_is = front.left ∙ ap (λ (xs : List Record). flat_map spelling xs ++ rest) (drop_all (length before) records (omega arith));
-    }
 
 -- no record that was read opens one segment too many
 pub no_overflow_in : (bytes : List ℕ) (count opened n : ℕ) (records : List Record) (rest : List ℕ) → IsRead bytes records rest
@@ -84,7 +69,7 @@ pub before_next : (bytes : List ℕ) (task : LogTask) (opened n rank : ℕ) (rec
     → opened + segment_count records ≤ max_segments → length records ≤ task.records → n ≡ length records + 1
     → ((rule : RecordWhy) → record_rank rule < rank → IsLogFault bytes task n rule → ⊥) → NothingBefore bytes task opened n rank
 before_next bytes task opened n rank records rest read keeps few counted number here = record {
-  earlier = λ m rule less fault. no_fault_in bytes task records rest m rule read keeps counted (omega arith) fault;
+  earlier = λ m rule less fault. no_fault_in bytes task records rest m rule read keeps.each counted (omega arith) fault;
   here = here;
   segments = λ m less over. no_overflow_in bytes task.records opened m records rest read (omega arith) few over;
 }
@@ -157,16 +142,3 @@ before_broken bytes task n rank records r after read tabled number counted holds
 before_broken bytes task n rank records r after read tabled number counted holds log.Reserved low fault = no_untabled_at bytes task.records n records r after _ read tabled number fault
 before_broken bytes task n rank records r after read tabled number counted holds log.Extra low fault = absurd (omega (arith, fault.number))
 before_broken bytes task n rank records r after read tabled number counted holds rule low fault = no_broken_at bytes task n records r after rule read tabled number (holds rule low) fault
-
--- past the last record, only a byte too many is a fault
-pub past_end : (bytes : List ℕ) (task : LogTask) (n : ℕ) (rule : RecordWhy) → task.records < n → record_rank rule < 19 → IsLogFault bytes task n rule → ⊥
-past_end bytes task n log.Header past low fault = absurd (omega (arith, fault.0))
-past_end bytes task n log.Cut past low fault = absurd (omega (arith, fault.at.counted))
-past_end bytes task n log.Kind past low fault = absurd (omega (arith, fault.at.counted))
-past_end bytes task n log.Size past low fault = absurd (omega (arith, fault.at.counted))
-past_end bytes task n log.LineZero past low fault = absurd (omega (arith, fault.at.counted))
-past_end bytes task n log.Address past low fault = absurd (omega (arith, fault.at.counted))
-past_end bytes task n log.Span past low fault = absurd (omega (arith, fault.at.counted))
-past_end bytes task n log.Reserved past low fault = absurd (omega (arith, fault.at.counted))
-past_end bytes task n log.Extra past low fault = absurd (omega arith)
-past_end bytes task n rule past low fault = absurd (omega (arith, fault.at.at.counted))

@@ -26,7 +26,8 @@ use Rattle.log_walk.specs.Walk.{of_log, Walked, IsTaskOf, IsNextTask, IsLogRow, 
 use Rattle.log_walk.specs.declared.fault.WalkFault.{WalkFault}
 use Rattle.log_walk.proofs.RowOrder.{first_lane_earlier}
 use Rattle.log_walk.proofs.SpanOrder.{paths_of, row_path, path_found, contains_at, place_of}
-use Rattle.log_walk.proofs.Places.{NextLog, row_task, missing_first, record_first, over_first, slice_get_take, task_in}
+use Rattle.log_walk.proofs.Places.{NextLog, row_task, missing_first, record_first, over_first, slice_get_take}
+use Rattle.race_model.proofs.TraceLogs.{task_in}
 use Rattle.log_walk.proofs.TaskReads.{contains_got}
 
 -- lane 0 of a lane's team was read before it

@@ -1,5 +1,5 @@
 -- The first bad place of a folder whose index and first logs are good.
-use Rattle.std.proofs.Common.{◌≡◌, ◌⊎◌, inl, inr, ℕ, zero, suc, ◌+◌, ◌<◌, ◌≤◌, List, [], ◌∷◌, ◌++◌, length, take, Option, Some, None, refl, sym, ap, subst, ◌∙◌, arith, All}
+use Rattle.std.proofs.Common.{◌≡◌, ◌⊎◌, inl, inr, ℕ, zero, suc, ◌+◌, ◌<◌, ◌≤◌, List, [], ◌∷◌, ◌++◌, length, take, Option, Some, None, refl, sym, ap, subst, ◌∙◌, arith}
 use Rattle.std.specs.Prelude.{slice_get}
 use Rattle.std.specs.Cmp.{nat_cmp_is}
 use Rattle.std.specs.Cmp.Lexicographic.{slice_cmp}
@@ -7,7 +7,7 @@ use Rattle.std.specs.Ordering.{nat_cmp, ordering_then}
 use Rattle.std.specs.declared.cmp.Ordering.{Ordering}
 use Rattle.std.specs.declared.cmp.Ordering.TheVariants.{Less, Equal, Greater}
 use Rattle.std.proofs.lemmas.Bool.{cases_order}
-use Rattle.std.proofs.lemmas.List.{append-nil, take_all, take-map, take_more, same_from_push, length-take, take-take, get_or-take, map-append, length_push, take-append-le}
+use Rattle.std.proofs.lemmas.List.{take_all, take-map, take_more, same_from_push, length-take, take-take, get_or-take, map-append, length_push, take-append-le}
 use Rattle.std.proofs.lemmas.List.Sums.{sum_by-append, sum_by-cons, sum_by-take-le}
 use Rattle.std.proofs.lemmas.List.Elements.{All-contains, All-push}
 use Rattle.std.proofs.lemmas.Option.{same_Some, slice_get_within, get_or_from_slice_get}
@@ -17,7 +17,6 @@ use Rattle.sw_base.specs.Environment.{Files}
 use Rattle.sw_base.specs.Names.{log_name}
 use Rattle.log_format.specs.declared.record.Record.{Record}
 use Rattle.log_format.specs.Spelling.{log_bytes}
-use Rattle.log_format.specs.Table.{IsTabled}
 use Rattle.race_model.specs.declared.why.RecordWhy.{RecordWhy}
 use Rattle.race_model.specs.declared.why.RecordWhy.TheVariants as log
 use Rattle.race_model.specs.Row.{Row}
@@ -26,40 +25,20 @@ use Rattle.race_model.specs.IndexFault.{IsIndex}
 use Rattle.race_model.specs.Segment.{segment_count}
 use Rattle.race_model.specs.Trace.{TaskLog, Trace, barrier_count}
 use Rattle.race_model.specs.Place.{Place, no_index, bad_row, missing_log, bad_record, too_many_segments, IsEarlier, place_key, record_rank}
-use Rattle.race_model.specs.LogFault.{LogTask, IsRead, IsExtra, IsLogFault, OpensTooMany, IsWholeLog, HasTeam, RowAt, ListsSpans, IsMissingLog, IsBadRecord, max_segments}
+use Rattle.race_model.specs.LogFault.{LogTask, IsLogFault, OpensTooMany, IsWholeLog, HasTeam, RowAt, ListsSpans, IsMissingLog, IsBadRecord, max_segments}
 use Rattle.race_model.specs.FirstBad.{rows_of, row_of, segments_in, HoldsLogs, HoldsTrace, IsOneTooMany, IsBad, IsFirstBad, IsWellFormed}
 use Rattle.race_model.proofs.IndexPlaces.{index_good}
-use Rattle.log_walk.specs.Check.{KeepsRules, NothingBefore}
+use Rattle.log_walk.specs.Check.{NothingBefore}
 use Rattle.log_walk.specs.GoodTrace.{IsGoodTask, IsGoodTrace, IsTeam, FollowsTeam, log_task}
 use Rattle.log_walk.specs.Walk.{Walked}
-use Rattle.log_walk.proofs.Faults.{no_fault_in}
 use Rattle.log_walk.proofs.SoFar.{below_or_at, slice_get_left, slice_get_last}
-use Rattle.log_walk.proofs.Next.{no_overflow_in, past_end, is_next}
+use Rattle.log_walk.proofs.Next.{no_overflow_in}
 use Rattle.race_model.proofs.IndexRows.{index_once}
-use Rattle.log_walk.proofs.Unique.{log_once, trace_once, spans_once}
-
--- ---- a whole good log has no fault
-
-whole_read : (task : TaskLog) → All IsTabled task.records → IsRead (log_bytes LOG_HEADER task.records) task.records []
-whole_read task tabled = record { parts = sym (append-nil (log_bytes LOG_HEADER task.records)); tabled = tabled }
-
-no_extra : (bytes : List ℕ) (records : List Record) (n : ℕ) → IsRead bytes records [] → IsExtra bytes (length records) n → ⊥
-no_extra bytes records n read fault =
-    let next = is_next bytes records fault.records [] fault.rest read fault.read fault.all in
-    absurd (omega (arith, fault.more, ap (λ (bs : List ℕ). length bs) next.more_is))
-
-no_fault_past : (bytes : List ℕ) (task : LogTask) (records : List Record) (n : ℕ) (rule : RecordWhy) → IsRead bytes records [] → length records ≡ task.records → task.records < n → IsLogFault bytes task n rule → ⊥
-no_fault_past bytes task records n log.Extra read counted past fault = no_extra bytes records n read (subst (λ (m : ℕ). IsExtra bytes m n) (sym counted) fault)
-no_fault_past bytes task records n rule read counted past fault = past_end bytes task n rule past (omega arith) fault
-
-no_fault_whole : (bytes : List ℕ) (task : LogTask) (records : List Record) (n : ℕ) (rule : RecordWhy) → IsRead bytes records [] → KeepsRules task records → length records ≡ task.records → IsLogFault bytes task n rule → ⊥
-no_fault_whole bytes task records n rule read keeps counted fault = elim (cases_order n (length records)) [
-  | inl even ↦ no_fault_in bytes task records [] n rule read keeps (omega arith) (omega arith) fault
-  | inr either ↦ elim either [
-    | inl less ↦ no_fault_in bytes task records [] n rule read keeps (omega arith) (omega arith) fault
-    | inr more ↦ no_fault_past bytes task records n rule read counted (omega arith) fault
-  ]
-]
+use Rattle.race_model.proofs.FolderTrace.{same_tasks}
+use Rattle.race_model.proofs.TraceLogs.{RowTask, task_in}
+use Rattle.race_model.proofs.LogOnce.{log_once, spans_once}
+use Rattle.race_model.proofs.LogReading.{whole_read}
+use Rattle.race_model.proofs.LogFaults.{no_fault_whole, other_team}
 
 -- ---- what a place tells stands on the trace
 
@@ -72,29 +51,6 @@ team_once files dir earlier path told barriers logs has team =
     = ap (λ (p : List Step). lane_of p has.step.region 0 has.step.span) both.0 ∙ ap (λ (s : Step). lane_of team.above s.region 0 s.span) both.1 ∙ sym team.first_path in
     let records : has.records ≡ team.first.records = log_once files dir team.first.path has.records team.first.records (subst (λ (p : List Step). IsWholeLog files dir p has.records) same_path has.log_of_first) whole in
     has.counted ∙ ap (λ (rs : List Record). barrier_count rs) records ∙ sym team.counted
-
-abbrev with_team : LogTask → Option ℕ → LogTask
-with_team task team = record { path = task.path; records = task.records; spans = task.spans; team = team }
-
--- a fault stands on the team only by the rule of barrier counts
-other_team : (bytes : List ℕ) (task : LogTask) (team : Option ℕ) (n : ℕ) (rule : RecordWhy) → ((barriers : ℕ) → task.team ≡ Some barriers → team ≡ Some barriers)
-    → IsLogFault bytes task n rule → IsLogFault bytes (with_team task team) n rule
-other_team bytes task team n log.Header same fault = fault
-other_team bytes task team n log.Cut same fault = fault
-other_team bytes task team n log.Kind same fault = fault
-other_team bytes task team n log.Size same fault = fault
-other_team bytes task team n log.LineZero same fault = fault
-other_team bytes task team n log.Address same fault = fault
-other_team bytes task team n log.Span same fault = fault
-other_team bytes task team n log.Reserved same fault = fault
-other_team bytes task team n log.Extra same fault = fault
-other_team bytes task team n log.BarrierCount same fault = record {
-  before = fault.before;
-  r = fault.r;
-  at = fault.at;
-  breaks = (fault.breaks.0, (fault.breaks.1.0, same fault.breaks.1.0 fault.breaks.1.1, fault.breaks.1.2));
-}
-other_team bytes task team n rule same fault = record { before = fault.before; r = fault.r; at = fault.at; breaks = fault.breaks }
 
 -- the teams agree
 same_team : (files : Files) (dir : List ℕ) (earlier : Trace) (path : List Step) (told team : Option ℕ) → HoldsLogs files dir earlier → ((barriers : ℕ) → told ≡ Some barriers → HasTeam files dir path barriers)
@@ -135,18 +91,7 @@ slice_get_take (suc n) [] k less = refl
 slice_get_take (suc n) (x ∷ xs) zero less = refl
 slice_get_take (suc n) (x ∷ xs) (suc k) less = slice_get_take n xs k (omega arith)
 
--- the task of an earlier row
-pub record EarlierTask (trace : Trace) (index : ℕ) (row : Row) : Type 0 where
-  pub task : TaskLog
-  pub found : slice_get trace index ≡ Some task
-  pub row_is : row ≡ row_of task
-
-pub task_in : (trace : Trace) (index : ℕ) (row : Row) → slice_get (rows_of trace) index ≡ Some row → EarlierTask trace index row
-task_in [] index row found = cc
-task_in (t ∷ trace) zero row found = record { task = t; found = refl; row_is = sym (same_Some (row_of t) row found) }
-task_in (t ∷ trace) (suc index) row found = let at = task_in trace index row found in record { task = at.task; found = at.found; row_is = at.row_is }
-
-earlier_task : (files : Files) (dir : List ℕ) (rows : List Row) (trace : Trace) (index : ℕ) (row : Row) → Walked files dir rows trace → slice_get rows index ≡ Some row → index < length trace → EarlierTask trace index row
+earlier_task : (files : Files) (dir : List ℕ) (rows : List Row) (trace : Trace) (index : ℕ) (row : Row) → Walked files dir rows trace → slice_get rows index ≡ Some row → index < length trace → RowTask trace index row
 earlier_task files dir rows trace index row walked found less =
     task_in trace index row (ap (λ (rs : List Row). slice_get rs index) walked.good.rows_are ∙ slice_get_take (length trace) rows index less ∙ found)
 
@@ -181,7 +126,7 @@ no_bad_record files dir rows trace row n rule walked bad less =
     = subst (λ (r : Row). IsLogFault bad.bytes (record { path = r.path; records = r.records; spans = good.spans; team = good.team }) n rule) at.row_is fault in
     let bytes : bad.bytes ≡ log_bytes LOG_HEADER at.task.records
     = same_Some bad.bytes (log_bytes LOG_HEADER at.task.records) (sym bad.there ∙ (ap (λ (p : List Step). files (log_name dir p)) (sym path) ∙ whole.there)) in
-    no_fault_whole (log_bytes LOG_HEADER at.task.records) (log_task at.task good.spans good.team) at.task.records n rule (whole_read at.task whole.tabled) good.keeps refl
+    no_fault_whole (log_bytes LOG_HEADER at.task.records) (log_task at.task good.spans good.team) at.task.records n rule (whole_read at.task.records whole.tabled) good.keeps.each refl
     (subst (λ (bs : List ℕ). IsLogFault bs (log_task at.task good.spans good.team) n rule) bytes own)
 
 rows_take : (files : Files) (dir : List ℕ) (rows : List Row) (trace : Trace) (index : ℕ) → Walked files dir rows trace → index ≤ length trace → rows_of (take index trace) ≡ take index rows
@@ -192,7 +137,7 @@ rows_take files dir rows trace index walked less =
 earlier_logs : (files : Files) (dir : List ℕ) (rows : List Row) (trace earlier : Trace) (index : ℕ) → Walked files dir rows trace → index ≤ length trace → rows_of earlier ≡ take index rows → HoldsLogs files dir earlier
     → earlier ≡ take index trace
 earlier_logs files dir rows trace earlier index walked less rows_are logs =
-    trace_once files dir earlier (take index trace) (rows_are ∙ sym (rows_take files dir rows trace index walked less)) logs (logs_take files dir trace index walked.logs)
+    same_tasks files dir earlier (take index trace) (rows_are ∙ sym (rows_take files dir rows trace index walked less)) logs (logs_take files dir trace index walked.logs)
 
 segments_more : (trace : Trace) (index : ℕ) (task : TaskLog) → slice_get trace index ≡ Some task → segments_in (take index trace) + segment_count task.records ≤ segments_in trace
 segments_more trace index task found =
@@ -214,7 +159,7 @@ no_too_many files dir rows trace row n walked bad less =
     let count : bad.task.records ≡ length at.task.records = ap (λ (r : Row). r.records) at.row_is in
     let over : OpensTooMany (log_bytes LOG_HEADER at.task.records) bad.task.records (segments_in (take bad.listed.index trace)) n
     = subst (λ (t : Trace). OpensTooMany (log_bytes LOG_HEADER at.task.records) bad.task.records (segments_in t) n) same (subst (λ (bs : List ℕ). OpensTooMany bs bad.task.records (segments_in bad.earlier) n) bytes bad.over) in
-    no_overflow_in (log_bytes LOG_HEADER at.task.records) bad.task.records (segments_in (take bad.listed.index trace)) n at.task.records [] (whole_read at.task whole.tabled)
+    no_overflow_in (log_bytes LOG_HEADER at.task.records) bad.task.records (segments_in (take bad.listed.index trace)) n at.task.records [] (whole_read at.task.records whole.tabled)
     (omega (arith, over.at.at.counted, count)) (omega (arith, segments_more trace bad.listed.index at.task at.found, walked.good.limit)) over
 
 -- ---- the row that is read

@@ -23,7 +23,8 @@ use Rattle.log_walk.specs.declared.state.State.{State}
 use Rattle.log_walk.specs.Check.{KeepsRules, NothingBefore, of_why, IsLogRefused, IsGoodLog, IsNextRefused, IsGoodNext}
 use Rattle.log_walk.specs.Rules.{BreaksNone}
 use Rattle.log_walk.specs.State.{Follows}
-use Rattle.log_walk.proofs.Next.{next_cut, next_untabled, before_next, before_cut, before_untabled, before_broken, past_end}
+use Rattle.log_walk.proofs.Next.{next_cut, next_untabled, before_next, before_cut, before_untabled, before_broken}
+use Rattle.race_model.proofs.LogFaults.{past_end}
 use Rattle.log_walk.proofs.Opening.{segment_count-push}
 
 -- these records were read of a log, and the rest is left

@@ -15,7 +15,7 @@ use Rattle.race_model.specs.Row.{Row}
 use Rattle.race_model.specs.Listing.{IsListing, lane_of}
 use Rattle.race_model.specs.Trace.{TaskLog, Trace, Node, logs_of, regions_before, region_count, barrier_count, is_region_kind, is_barrier_kind}
 use Rattle.race_model.specs.Order.{IsLane}
-use Rattle.race_model.specs.IndexFault.{IsRow, IsStep}
+use Rattle.race_model.specs.IndexFault.{IsRow, IsStep, AreRows}
 use Rattle.race_model.specs.LogFault.{Breaks, ListsSpans}
 use Rattle.race_model.specs.FirstBad.{row_of, rows_of}
 use Rattle.race_model.specs.KeepsRules.{KnowsTeam, TaskKeepsRules, KeepsRules}
@@ -132,6 +132,11 @@ paths_same (t ∷ trace) = ap (λ (ps : List (List Step)). t.path ∷ ps) (paths
 pub with_records : (trace : Trace) → All IsRow (rows_of trace) → All HasRecords trace
 with_records trace all k d within = let row = row_all trace k (get_or trace k d) all (slice_get-get_or trace k d within) in row.records.some
 
+-- a listed task has records
+pub has_begun : (trace : Trace) → AreRows (rows_of trace) → (path : List Step) → Contains (map (λ (row : Row). row.path) (rows_of trace)) path → IsTask (logs_of trace) path
+has_begun trace rows path listed =
+    listed_task trace path (with_records trace rows.each) (subst (λ (ps : List (List Step)). Contains ps path) (paths_same trace) listed)
+
 module _ (trace : Trace) (good : KeepsRules trace) where
   is_listing : IsListing (map (λ (row : Row). row.path) (rows_of trace))
   is_listing = good.rows.lists
@@ -205,10 +210,6 @@ module _ (trace : Trace) (good : KeepsRules trace) where
       at None e = absurd (never (λ also. none-some r.value (sym e ∙ also)))
       at (Some span) e = e ∙ ap (λ (n : ℕ). Some n) (sym (span_listed path k place r found is span e))
 
-  begun_listed : (path : List Step) → Contains (map (λ (row : Row). row.path) (rows_of trace)) path → IsTask (logs_of trace) path
-  begun_listed path listed =
-      listed_task trace path (with_records trace good.rows.each) (subst (λ (ps : List (List Step)). Contains ps path) (paths_same trace) listed)
-
   forked : (path : List Step) (step : Step) → IsTask (logs_of trace) (path ++ step ∷ []) → IsForked (logs_of trace) path step
   forked path step begun = go (known path above) (ending path above)
     where
@@ -216,7 +217,7 @@ module _ (trace : Trace) (good : KeepsRules trace) where
       below = known (path ++ step ∷ []) begun
 
       above : IsTask (logs_of trace) path
-      above = begun_listed path (above_listed (map (λ (row : Row). row.path) (rows_of trace)) path step is_listing below.listed)
+      above = has_begun trace good.rows path (above_listed (map (λ (row : Row). row.path) (rows_of trace)) path step is_listing below.listed)
 
       is_step : IsStep step
       is_step = All-contains IsStep (path ++ step ∷ []) step below.row_is.steps (Contains-push path step)
@@ -262,7 +263,7 @@ module _ (trace : Trace) (good : KeepsRules trace) where
       region_spans fork.path k fork.index is.event is.found is.region ∙ ap (λ (n : ℕ). Some n) is.spans in
       let first = (k.lists (regions_before (logs_of trace) fork) span).1 spans in
       subst (λ (p : List Step). IsTask (logs_of trace) p) (sym is.child)
-      (begun_listed _ (beside_listed (map (λ (row : Row). row.path) (rows_of trace)) fork.path (regions_before (logs_of trace) fork) first.lane lane span is_listing
+      (has_begun trace good.rows _ (beside_listed (map (λ (row : Row). row.path) (rows_of trace)) fork.path (regions_before (logs_of trace) fork) first.lane lane span is_listing
       (subst (λ (p : List Step). Contains (map (λ (row : Row). row.path) (rows_of trace)) p) first.child (path_listed (rows_of trace) first.row first.listed)) is.in_span))
 
   -- a task passed as many barriers as it has before its End
@@ -290,7 +291,7 @@ module _ (trace : Trace) (good : KeepsRules trace) where
       (λ ne. k.keeps e.place e.last e.found log.BarrierCount (e.is_last, (barrier_count (logs_of trace (lane_zero fork span)), known_team, ne)))
 
   root_begun : IsTask (logs_of trace) []
-  root_begun = begun_listed [] (root_listed (map (λ (row : Row). row.path) (rows_of trace)) is_listing)
+  root_begun = has_begun trace good.rows [] (root_listed (map (λ (row : Row). row.path) (rows_of trace)) is_listing)
 
   none_in_root : (n : ℕ) → barrier_count (logs_of trace []) ≡ n → n ≡ 0
   none_in_root zero e = refl

@@ -6,20 +6,19 @@ use Rattle.std.proofs.lemmas.List.Elements.{All-contains, Contains-push}
 use Rattle.std.proofs.lemmas.Option.{slice_get-get_or, same_Some, none-some}
 use Rattle.sw_base.specs.declared.path.Step.{Step}
 use Rattle.sw_base.specs.Environment.{Files}
-use Rattle.log_format.specs.declared.record.Record.{Record}
 use Rattle.race_model.specs.Row.{Row}
-use Rattle.race_model.specs.Listing.{IsListing, lane_of}
+use Rattle.race_model.specs.Listing.{lane_of}
 use Rattle.race_model.specs.Trace.{TaskLog, Trace, logs_of, barrier_count}
 use Rattle.race_model.specs.IndexFault.{IsStep}
 use Rattle.race_model.specs.LogFault.{IsWholeLog, HasTeam}
 use Rattle.race_model.specs.FirstBad.{HoldsTrace, IsWellFormed, rows_of}
 use Rattle.race_model.specs.KeepsRules.{KnowsTeam, TaskKeepsRules, KeepsRules}
-use Rattle.race_model.specs.WellFormed.{IsTask}
 use Rattle.race_model.proofs.LabelPlace.{has_last, HasLast, not_both_empty}
 use Rattle.race_model.proofs.Listed.{beside_listed, spans_listed}
-use Rattle.race_model.proofs.TraceLogs.{all_at, find_task, listed_task}
+use Rattle.race_model.proofs.TraceLogs.{all_at}
+use Rattle.race_model.proofs.HeldLogs.{held_log}
 use Rattle.race_model.proofs.FolderRules.{kept, lists_spans}
-use Rattle.race_model.proofs.FolderForkJoin.{path_at, paths_same, row_all, with_records}
+use Rattle.race_model.proofs.FolderForkJoin.{path_at, row_all, has_begun}
 
 -- what a task's team is known to have passed, and where that is read
 record Team (files : Files) (dir : List ℕ) (trace : Trace) (path : List Step) : Type 0 where
@@ -28,20 +27,6 @@ record Team (files : Files) (dir : List ℕ) (trace : Trace) (path : List Step) 
   has : (barriers : ℕ) → team ≡ Some barriers → HasTeam files dir path barriers
 
 module _ (files : Files) (dir : List ℕ) (trace : Trace) (holds : HoldsTrace files dir trace) (good : IsWellFormed files dir) where
-  is_listing : IsListing (map (λ (row : Row). row.path) (rows_of trace))
-  is_listing = holds.index.rows_are.lists
-
-  begun : (path : List Step) → Contains (map (λ (row : Row). row.path) (rows_of trace)) path → IsTask (logs_of trace) path
-  begun path listed =
-      listed_task trace path (with_records trace holds.index.rows_are.each) (subst (λ (ps : List (List Step)). Contains ps path) (paths_same trace) listed)
-
-  whole : (path : List Step) → IsTask (logs_of trace) path → IsWholeLog files dir path (logs_of trace path)
-  whole path there =
-      let f = find_task trace path there in
-      subst (λ (records : List Record). IsWholeLog files dir path records) f.records_are
-      (subst (λ (p : List Step). IsWholeLog files dir p f.task.records) f.path_is
-      (all_at (λ (t : TaskLog). IsWholeLog files dir t.path t.records) trace f.index f.task holds.logs f.found))
-
   no_team : (path : List Step) → ((above : List Step) (step : Step) → path ≡ above ++ step ∷ [] → 0 < step.lane → ⊥) → Team files dir trace path
   no_team path never = record {
     team = None;
@@ -55,7 +40,7 @@ module _ (files : Files) (dir : List ℕ) (trace : Trace) (holds : HoldsTrace fi
       let lanes : step.lane ≡ last.lane = ap (λ (s : Step). s.lane) both.1 in omega arith)
   lane_team path above step e steps listed (suc n) is_more =
       let is_step = All-contains IsStep (above ++ step ∷ []) step (subst (λ (p : List Step). All IsStep p) e steps) (Contains-push above step) in
-      let first = beside_listed (map (λ (row : Row). row.path) (rows_of trace)) above step.region step.lane 0 step.span is_listing (subst (λ (p : List Step). Contains (map (λ (row : Row). row.path) (rows_of trace)) p) e listed) is_step.span.some in
+      let first = beside_listed (map (λ (row : Row). row.path) (rows_of trace)) above step.region step.lane 0 step.span holds.index.rows_are.lists (subst (λ (p : List Step). Contains (map (λ (row : Row). row.path) (rows_of trace)) p) e listed) is_step.span.some in
       record {
         team = Some (barrier_count (logs_of trace (lane_of above step.region 0 step.span)));
         knows = λ other last same from. ap (λ (o : List Step × Step). Some (barrier_count (logs_of trace (lane_of o.0 o.1.region 0 o.1.span))))
@@ -66,7 +51,7 @@ module _ (files : Files) (dir : List ℕ) (trace : Trace) (holds : HoldsTrace fi
           path_is = e;
           from_one = omega arith;
           records = logs_of trace (lane_of above step.region 0 step.span);
-          log_of_first = whole (lane_of above step.region 0 step.span) (begun (lane_of above step.region 0 step.span) first);
+          log_of_first = held_log files dir trace holds (lane_of above step.region 0 step.span) (has_begun trace holds.index.rows_are (lane_of above step.region 0 step.span) first);
           counted = sym (same_Some _ barriers same);
         };
       }
@@ -78,7 +63,7 @@ module _ (files : Files) (dir : List ℕ) (trace : Trace) (holds : HoldsTrace fi
   task_keeps : (index : ℕ) (task : TaskLog) → slice_get trace index ≡ Some task → TaskKeepsRules trace task
   task_keeps index task found =
       let listed = path_at trace index task found in
-      let has = spans_listed (map (λ (row : Row). row.path) (rows_of trace)) task.path is_listing listed in
+      let has = spans_listed (map (λ (row : Row). row.path) (rows_of trace)) task.path holds.index.rows_are.lists listed in
       let row = row_all trace index task holds.index.rows_are.each found in
       let team = team_of task.path row.steps listed (has_last task.path) in
       let log = all_at (λ (t : TaskLog). IsWholeLog files dir t.path t.records) trace index task holds.logs found in

@@ -1,37 +1,26 @@
 -- A folder holds at most one trace.
-use Rattle.std.proofs.Common.{◌≡◌, ℕ, List, [], ◌∷◌, Some, refl, sym, ap, subst, ◌∙◌}
-use Rattle.std.specs.Prelude.{All}
+use Rattle.std.proofs.Common.{◌≡◌, ℕ, List, [], ◌∷◌, refl, ap, subst}
 use Rattle.std.proofs.lemmas.List.Elements.{All-head, All-tail}
-use Rattle.std.proofs.lemmas.Option.{same_Some}
 use Rattle.sw_base.specs.declared.path.Step.{Step}
-use Rattle.sw_base.specs.declared.path.TheConstants.{LOG_HEADER}
 use Rattle.sw_base.specs.Environment.{Files}
-use Rattle.sw_base.specs.Names.{log_name}
-use Rattle.log_format.specs.declared.record.Record.{Record}
-use Rattle.log_format.specs.Spelling.{log_bytes}
-use Rattle.log_format.proofs.Logs.{log_bytes-injective}
 use Rattle.race_model.specs.Row.{Row}
 use Rattle.race_model.specs.Trace.{TaskLog, Trace}
 use Rattle.race_model.specs.LogFault.{IsWholeLog}
 use Rattle.race_model.specs.FirstBad.{HoldsLogs, HoldsTrace, row_of, rows_of}
 use Rattle.race_model.proofs.IndexRows.{index_once}
+use Rattle.race_model.proofs.LogOnce.{log_once}
 
-abbrev Whole : Files → List ℕ → TaskLog → Type 0
+abbrev pub Whole : Files → List ℕ → TaskLog → Type 0
 Whole files dir task = IsWholeLog files dir task.path task.records
-
--- a task's records are those of its log
-same_records : (files : Files) (dir : List ℕ) (t u : TaskLog) → t.path ≡ u.path → Whole files dir t → Whole files dir u → t.records ≡ u.records
-same_records files dir t u path a b =
-    log_bytes-injective LOG_HEADER t.records u.records a.tabled b.tabled
-    (same_Some (log_bytes LOG_HEADER t.records) (log_bytes LOG_HEADER u.records) (sym a.there ∙ (ap (λ (p : List Step). files (log_name dir p)) path ∙ b.there)))
 
 same_task : (files : Files) (dir : List ℕ) (t u : TaskLog) → row_of t ≡ row_of u → Whole files dir t → Whole files dir u → t ≡ u
 same_task files dir t u row a b =
     let path : t.path ≡ u.path = ap (λ (r : Row). r.path) row in
-    let records = same_records files dir t u path a b in
+    let records = log_once files dir u.path t.records u.records (subst (λ (p : List Step). IsWholeLog files dir p t.records) path a) b in
     λ i. record { path = path i; records = records i }
 
-same_tasks : (files : Files) (dir : List ℕ) (t u : Trace) → rows_of t ≡ rows_of u → HoldsLogs files dir t → HoldsLogs files dir u → t ≡ u
+-- the logs beside the same rows are those of one trace
+pub same_tasks : (files : Files) (dir : List ℕ) (t u : Trace) → rows_of t ≡ rows_of u → HoldsLogs files dir t → HoldsLogs files dir u → t ≡ u
 same_tasks files dir [] [] rows a b = refl
 same_tasks files dir [] (y ∷ u) rows a b = cc
 same_tasks files dir (x ∷ t) [] rows a b = cc

@@ -6,10 +6,12 @@ pub mod FolderKeepsRules
 pub mod FolderRules
 pub mod FolderTrace
 pub mod ForkJoinExample
+pub mod HeldLogs
 pub mod HeldMutexes
 pub mod IndexPlaces
 pub mod IndexRows
 pub mod IndexVectors
+pub mod KeptFolder
 pub mod LabelLaw
 pub mod LabelOrder
 pub mod LabelPlace
@@ -18,6 +20,9 @@ pub mod Listed
 pub mod ListedOnce
 pub mod ListedTree
 pub mod Listings
+pub mod LogFaults
+pub mod LogOnce
+pub mod LogReading
 pub mod Parting
 pub mod ProgramOrder
 pub mod RowSpelling

@@ -1,18 +1,16 @@
 -- Paths of a listing ascend, so each is listed once, and a trace's logs are found at its tasks.
-use Rattle.std.proofs.Common.{◌≡◌, ◌⊎◌, inl, inr, ℕ, zero, suc, ◌+◌, ◌<◌, ◌≤◌, Bool, true, false, cond, if◌then◌else◌, List, [], ◌∷◌, ◌++◌, length, take, Some, refl, sym, ap, subst, ◌∙◌, arith}
-use Rattle.std.specs.Prelude.{slice_get, map, All}
+use Rattle.std.proofs.Common.{◌≡◌, ◌⊎◌, inl, inr, ℕ, zero, suc, ◌<◌, ◌≤◌, Bool, true, false, List, [], ◌∷◌, ◌++◌, length, take, Some, refl, sym, ap, subst, ◌∙◌, arith}
+use Rattle.std.specs.Prelude.{slice_get, map}
 use Rattle.std.specs.Cmp.{IsTotalOrder, nat_cmp_is}
-use Rattle.std.specs.Cmp.Lexicographic.{slice_cmp}
 use Rattle.std.specs.Ordering.{nat_cmp, ordering_then}
 use Rattle.std.specs.declared.cmp.Ordering.{Ordering}
-use Rattle.std.specs.declared.cmp.Ordering.TheVariants.{Less, Equal, Greater}
+use Rattle.std.specs.declared.cmp.Ordering.TheVariants.{Less, Equal}
 use Rattle.std.proofs.lemmas.Cmp.{tied_itself}
 use Rattle.std.proofs.lemmas.Option.{same_Some}
 use Rattle.sw_base.specs.declared.path.Step.{Step}
 use Rattle.sw_base.specs.Names.{path_cmp, step_cmp}
 use Rattle.sw_base.specs.PathOrder.{path_cmp_total, step_cmp_total}
-use Rattle.log_format.specs.declared.record.Record.{Record}
-use Rattle.race_model.specs.Listing.{IsListing, IsNextPath, IsNextLane, IsNextRegion, IsLastLane, IsChain}
+use Rattle.race_model.specs.Listing.{IsListing, IsNextPath, IsNextLane, IsNextRegion, IsChain}
 use Rattle.race_model.specs.Trace.{TaskLog, Trace, logs_of, path_eq}
 use Rattle.race_model.proofs.Listings.{lists_begins, chain_of_begins, begins_at_root}
 use Rattle.race_model.proofs.TraceLogs.{path_is, path_itself}

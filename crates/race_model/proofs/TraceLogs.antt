@@ -1,11 +1,13 @@
 -- The logs of a trace: what is found at a path is a task's records, and each task is found.
 use Rattle.std.proofs.Common.{◌≡◌, ℕ, zero, suc, ◌<◌, ◌≤◌, Bool, true, false, ◌&&◌, List, [], ◌∷◌, length, Some, refl, sym, ap₂, subst, ◌∙◌, arith}
 use Rattle.std.specs.Prelude.{◌==◌, slice_get, Contains, map, All}
-use Rattle.std.proofs.lemmas.Option.{slice_get_within, get_or_from_slice_get}
+use Rattle.std.proofs.lemmas.Option.{slice_get_within, get_or_from_slice_get, same_Some}
 use Rattle.std.proofs.lemmas.List.Elements.{All-head, All-tail}
 use Rattle.sw_base.specs.declared.path.Step.{Step}
 use Rattle.log_format.specs.declared.record.Record.{Record}
+use Rattle.race_model.specs.Row.{Row}
 use Rattle.race_model.specs.Trace.{TaskLog, Trace, logs_of, step_eq, path_eq}
+use Rattle.race_model.specs.FirstBad.{row_of, rows_of}
 use Rattle.race_model.specs.WellFormed.{IsTask}
 
 both_true : (a b : Bool) → (a && b) ≡ true → (a ≡ true) × (b ≡ true)
@@ -99,3 +101,14 @@ listed_task (task ∷ tasks) path each listed = go (path_eq task.path path) refl
     go false e listed rest =
         let same : logs_of tasks path ≡ logs_of (task ∷ tasks) path = rw e refl in
         subst (λ (records : List Record). 0 < length records) same (rest (in_rest e listed))
+
+-- the task of a row
+pub record RowTask (trace : Trace) (index : ℕ) (row : Row) : Type 0 where
+  pub task : TaskLog
+  pub found : slice_get trace index ≡ Some task
+  pub row_is : row ≡ row_of task
+
+pub task_in : (trace : Trace) (index : ℕ) (row : Row) → slice_get (rows_of trace) index ≡ Some row → RowTask trace index row
+task_in [] index row found = cc
+task_in (t ∷ trace) zero row found = record { task = t; found = refl; row_is = sym (same_Some (row_of t) row found) }
+task_in (t ∷ trace) (suc index) row found = let at = task_in trace index row found in record { task = at.task; found = at.found; row_is = at.row_is }

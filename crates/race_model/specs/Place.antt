@@ -61,3 +61,8 @@ place_key (too_many_segments row n) = 2 ∷ row ∷ n ∷ 20 ∷ []
 
 abbrev pub IsEarlier : Place → Place → Type 0
 IsEarlier p q = slice_cmp nat_cmp (place_key p) (place_key q) ≡ Less
+
+-- the place is where a segment is one too many
+abbrev pub IsTooMany : Place → Type 0
+IsTooMany (too_many_segments row n) = Unit {0}
+IsTooMany _ = ⊥

@@ -9,7 +9,9 @@ mod listing;
 mod mutexes;
 mod why;
 
-pub use folders::{folder_tells_its_trace, well_formed_folder_is_fork_join};
+pub use folders::{
+    folder_tells_its_trace, kept_rules_leave_no_bad_place, well_formed_folder_is_fork_join,
+};
 pub use index::{
     first_bad_index_place_is_unique, index_tells_its_rows, well_formed_index_has_no_bad_place,
 };

@@ -1,8 +1,7 @@
--- A folder holds at most one index, and the logs of at most one trace beside it.
-use Rattle.std.proofs.Common.{◌≡◌, inl, inr, ℕ, ◌<◌, List, [], ◌∷◌, length, Some, refl, sym, ap, ap₂, subst, ◌∙◌, arith, get_or}
+-- A log has one list of records, and an index lists one list of spans for each task.
+use Rattle.std.proofs.Common.{◌≡◌, inl, inr, ℕ, ◌<◌, List, length, Some, sym, ◌∙◌, arith, get_or}
 use Rattle.std.specs.Prelude.{slice_get}
 use Rattle.std.proofs.lemmas.List.{ext_get_or}
-use Rattle.std.proofs.lemmas.List.Elements.{All-head, All-tail}
 use Rattle.std.proofs.lemmas.Option.{same_Some, slice_get-get_or, slice_get_within}
 use Rattle.std.proofs.lemmas.Bool.{cases_order}
 use Rattle.sw_base.specs.declared.path.Step.{Step}
@@ -12,31 +11,12 @@ use Rattle.log_format.specs.declared.record.Record.{Record}
 use Rattle.log_format.specs.Spelling.{log_bytes}
 use Rattle.log_format.proofs.Logs.{log_bytes-injective}
 use Rattle.race_model.specs.Row.{Row}
-use Rattle.race_model.specs.Trace.{TaskLog, Trace}
 use Rattle.race_model.specs.LogFault.{IsWholeLog, ListsSpans}
-use Rattle.race_model.specs.FirstBad.{rows_of, row_of, HoldsLogs}
 
 -- a name holds the log of one list of records
 pub log_once : (files : Files) (dir : List ℕ) (path : List Step) (records others : List Record) → IsWholeLog files dir path records → IsWholeLog files dir path others → records ≡ others
 log_once files dir path records others one other =
     log_bytes-injective LOG_HEADER records others one.tabled other.tabled (same_Some (log_bytes LOG_HEADER records) (log_bytes LOG_HEADER others) (sym one.there ∙ other.there))
-
--- and so the logs of one trace beside the same rows
-pub trace_once : (files : Files) (dir : List ℕ) (trace other : Trace) → rows_of trace ≡ rows_of other → HoldsLogs files dir trace → HoldsLogs files dir other → trace ≡ other
-trace_once files dir [] [] same one two = refl
-trace_once files dir [] (u ∷ other) same one two = cc
-trace_once files dir (t ∷ trace) [] same one two = cc
-trace_once files dir (t ∷ trace) (u ∷ other) same one two =
-    let first : row_of t ≡ row_of u = cc in
-    let rest : rows_of trace ≡ rows_of other = cc in
-    let path : t.path ≡ u.path = ap (λ (row : Row). row.path) first in
-    let records : t.records ≡ u.records = log_once files dir u.path t.records u.records
-    (subst (λ (p : List Step). IsWholeLog files dir p t.records) path (All-head (λ (task : TaskLog). IsWholeLog files dir task.path task.records) t trace one))
-    (All-head (λ (task : TaskLog). IsWholeLog files dir task.path task.records) u other two) in
-    ap₂ (λ (x : TaskLog) (xs : Trace). x ∷ xs) (λ i. record { path = path i; records = records i })
-    (trace_once files dir trace other rest
-    (All-tail (λ (task : TaskLog). IsWholeLog files dir task.path task.records) t trace one)
-    (All-tail (λ (task : TaskLog). IsWholeLog files dir task.path task.records) u other two))
 
 -- an index lists one list of spans for a task
 shorter_spans : (rows : List Row) (path : List Step) (spans others : List ℕ) → ListsSpans rows path spans → ListsSpans rows path others → length spans < length others → ⊥

@@ -1,10 +1,10 @@
 -- Bytes spell one list of records: what is read of a log is a front of what it holds.
 use Rattle.std.proofs.Common.{◌≡◌, ℕ, suc, ◌≤◌, List, [], ◌∷◌, ◌++◌, length, take, drop, refl, sym, ap, ◌∙◌, arith, append_assoc, All}
 use Rattle.std.specs.List.{flat_map}
-use Rattle.std.proofs.lemmas.List.{append_cancel_left, take_at, drop_at}
+use Rattle.std.proofs.lemmas.List.{append-nil, append_cancel_left, take_at, drop_at, take_all, drop_all}
 use Rattle.sw_base.specs.declared.path.TheConstants.{LOG_HEADER}
 use Rattle.log_format.specs.declared.record.Record.{Record}
-use Rattle.log_format.specs.Spelling.{spelling}
+use Rattle.log_format.specs.Spelling.{spelling, log_bytes}
 use Rattle.log_format.specs.Table.{IsTabled}
 use Rattle.log_format.proofs.Records.{length-spelling, spelling-injective}
 use Rattle.race_model.specs.LogFault.{IsRead}
@@ -47,3 +47,21 @@ read_front bytes records before rest more one other within =
     is_front records before rest more one.tabled other.tabled within
     (append_cancel_left LOG_HEADER _ _
     (sym (append_assoc LOG_HEADER (flat_map spelling records) rest) ∙ sym one.parts ∙ other.parts ∙ append_assoc LOG_HEADER (flat_map spelling before) more))
+
+-- and is told to have just these records where it is told to have as many
+pub record IsNext (records before : List Record) (rest more : List ℕ) : Type 0 where
+  pub before_is : before ≡ records
+  pub more_is : more ≡ rest
+
+pub is_next : (bytes : List ℕ) (records before : List Record) (rest more : List ℕ) → IsRead bytes records rest → IsRead bytes before more
+    → length before ≡ length records → IsNext records before rest more
+is_next bytes records before rest more one other same =
+    let front = read_front bytes records before rest more one other (omega arith) in
+    record {
+      before_is = front.front ∙ take_all (length before) records (omega arith);
+      more_is = front.left ∙ ap (λ (xs : List Record). flat_map spelling xs ++ rest) (drop_all (length before) records (omega arith));
+    }
+
+-- a whole log is read to its end
+pub whole_read : (records : List Record) → All IsTabled records → IsRead (log_bytes LOG_HEADER records) records []
+whole_read records tabled = record { parts = sym (append-nil (log_bytes LOG_HEADER records)); tabled = tabled }

@@ -1,8 +1,9 @@
 -- No fault of a log lies among records that were read and keep the rules; and which faults there are at the next record.
-use Rattle.std.proofs.Common.{◌≡◌, ℕ, zero, suc, ◌<◌, ◌≤◌, List, [], ◌∷◌, ◌++◌, length, take, drop, Some, refl, sym, ap, subst, ◌∙◌, arith, append_assoc}
+use Rattle.std.proofs.Common.{◌≡◌, inl, inr, ℕ, zero, suc, ◌<◌, ◌≤◌, List, [], ◌∷◌, ◌++◌, length, take, drop, Option, Some, refl, sym, ap, subst, ◌∙◌, arith, append_assoc}
 use Rattle.std.specs.Prelude.{slice_get}
 use Rattle.std.specs.List.{flat_map}
 use Rattle.std.proofs.lemmas.List.{take_at, length-append}
+use Rattle.std.proofs.lemmas.Bool.{cases_order}
 use Rattle.std.proofs.lemmas.Option.{get_or_from_slice_get}
 use Rattle.sw_base.specs.declared.path.TheConstants.{LOG_HEADER}
 use Rattle.log_format.specs.declared.record.Record.{Record}
@@ -12,9 +13,9 @@ use Rattle.log_format.specs.Table.{IsTabled, Spells, IsFirstFault}
 use Rattle.log_format.proofs.Records.{length-spelling, spelled_no_fault}
 use Rattle.race_model.specs.declared.why.RecordWhy.{RecordWhy}
 use Rattle.race_model.specs.declared.why.RecordWhy.TheVariants as log
-use Rattle.race_model.specs.LogFault.{LogTask, Breaks, IsRead, IsCut, IsUntabled, IsRecord, IsBroken, IsLogFault}
-use Rattle.log_walk.specs.Check.{KeepsRules}
-use Rattle.log_walk.proofs.Reading.{same_first, read_front}
+use Rattle.race_model.specs.Place.{record_rank}
+use Rattle.race_model.specs.LogFault.{LogTask, Breaks, IsRead, IsCut, IsUntabled, IsRecord, IsBroken, IsExtra, IsLogFault}
+use Rattle.race_model.proofs.LogReading.{same_first, read_front, is_next}
 
 -- the element at a place, and what comes from there on
 pub record Found {X : Type 0} (xs : List X) (k : ℕ) : Type 0 where
@@ -82,14 +83,18 @@ same_record bytes count n records rest before r read within told =
     let same = same_first r at.r told.rest at.after told.tabled at.tabled at.begins in
     (at.found ∙ ap (λ (x : Record). Some x) (sym same.0), at.front)
 
-no_broken_in : (bytes : List ℕ) (task : LogTask) (records : List Record) (rest : List ℕ) (n : ℕ) (rule : RecordWhy) → IsRead bytes records rest → KeepsRules task records
+-- no record breaks a rule after those before it
+abbrev pub KeepsEach : LogTask → List Record → Type 0
+KeepsEach task records = (k : ℕ) (r : Record) → slice_get records k ≡ Some r → (rule : RecordWhy) → Breaks task (take k records) r rule → ⊥
+
+no_broken_in : (bytes : List ℕ) (task : LogTask) (records : List Record) (rest : List ℕ) (n : ℕ) (rule : RecordWhy) → IsRead bytes records rest → KeepsEach task records
     → n ≤ length records → IsBroken bytes task n rule → ⊥
 no_broken_in bytes task records rest n rule read keeps within fault =
     let same = same_record bytes task.records n records rest fault.before fault.r read within fault.at in
-    keeps.each (length fault.before) fault.r same.0 rule (subst (λ (xs : List Record). Breaks task xs fault.r rule) same.1 fault.breaks)
+    keeps (length fault.before) fault.r same.0 rule (subst (λ (xs : List Record). Breaks task xs fault.r rule) same.1 fault.breaks)
 
 -- nothing is bad among records that were read and keep the rules
-pub no_fault_in : (bytes : List ℕ) (task : LogTask) (records : List Record) (rest : List ℕ) (n : ℕ) (rule : RecordWhy) → IsRead bytes records rest → KeepsRules task records
+pub no_fault_in : (bytes : List ℕ) (task : LogTask) (records : List Record) (rest : List ℕ) (n : ℕ) (rule : RecordWhy) → IsRead bytes records rest → KeepsEach task records
     → length records ≤ task.records → n ≤ length records → IsLogFault bytes task n rule → ⊥
 no_fault_in bytes task records rest n log.Header read keeps few within fault = fault.1 (flat_map spelling records ++ rest) (read.parts ∙ append_assoc LOG_HEADER (flat_map spelling records) rest)
 no_fault_in bytes task records rest n log.Cut read keeps few within fault = no_cut_in bytes task records rest n read within fault
@@ -101,3 +106,59 @@ no_fault_in bytes task records rest n log.Span read keeps few within fault = no_
 no_fault_in bytes task records rest n log.Reserved read keeps few within fault = no_untabled_in bytes task records rest n _ read within fault
 no_fault_in bytes task records rest n log.Extra read keeps few within fault = absurd (omega (arith, fault.number))
 no_fault_in bytes task records rest n rule read keeps few within fault = no_broken_in bytes task records rest n rule read keeps within fault
+
+-- past the last record, only a byte too many is a fault
+pub past_end : (bytes : List ℕ) (task : LogTask) (n : ℕ) (rule : RecordWhy) → task.records < n → record_rank rule < 19 → IsLogFault bytes task n rule → ⊥
+past_end bytes task n log.Header past low fault = absurd (omega (arith, fault.0))
+past_end bytes task n log.Cut past low fault = absurd (omega (arith, fault.at.counted))
+past_end bytes task n log.Kind past low fault = absurd (omega (arith, fault.at.counted))
+past_end bytes task n log.Size past low fault = absurd (omega (arith, fault.at.counted))
+past_end bytes task n log.LineZero past low fault = absurd (omega (arith, fault.at.counted))
+past_end bytes task n log.Address past low fault = absurd (omega (arith, fault.at.counted))
+past_end bytes task n log.Span past low fault = absurd (omega (arith, fault.at.counted))
+past_end bytes task n log.Reserved past low fault = absurd (omega (arith, fault.at.counted))
+past_end bytes task n log.Extra past low fault = absurd (omega arith)
+past_end bytes task n rule past low fault = absurd (omega (arith, fault.at.at.counted))
+
+no_extra : (bytes : List ℕ) (records : List Record) (n : ℕ) → IsRead bytes records [] → IsExtra bytes (length records) n → ⊥
+no_extra bytes records n read fault =
+    let next = is_next bytes records fault.records [] fault.rest read fault.read fault.all in
+    absurd (omega (arith, fault.more, ap (λ (bs : List ℕ). length bs) next.more_is))
+
+no_fault_past : (bytes : List ℕ) (task : LogTask) (records : List Record) (n : ℕ) (rule : RecordWhy) → IsRead bytes records [] → length records ≡ task.records → task.records < n → IsLogFault bytes task n rule → ⊥
+no_fault_past bytes task records n log.Extra read counted past fault = no_extra bytes records n read (subst (λ (m : ℕ). IsExtra bytes m n) (sym counted) fault)
+no_fault_past bytes task records n rule read counted past fault = past_end bytes task n rule past (omega arith) fault
+
+-- a whole log that keeps the rules has no fault
+pub no_fault_whole : (bytes : List ℕ) (task : LogTask) (records : List Record) (n : ℕ) (rule : RecordWhy) → IsRead bytes records [] → KeepsEach task records → length records ≡ task.records → IsLogFault bytes task n rule → ⊥
+no_fault_whole bytes task records n rule read keeps counted fault = elim (cases_order n (length records)) [
+  | inl even ↦ no_fault_in bytes task records [] n rule read keeps (omega arith) (omega arith) fault
+  | inr either ↦ elim either [
+    | inl less ↦ no_fault_in bytes task records [] n rule read keeps (omega arith) (omega arith) fault
+    | inr more ↦ no_fault_past bytes task records n rule read counted (omega arith) fault
+  ]
+]
+
+-- the same task with another team
+abbrev pub with_team : LogTask → Option ℕ → LogTask
+with_team task team = record { path = task.path; records = task.records; spans = task.spans; team = team }
+
+-- a fault stands on the team only by the rule of barrier counts
+pub other_team : (bytes : List ℕ) (task : LogTask) (team : Option ℕ) (n : ℕ) (rule : RecordWhy) → ((barriers : ℕ) → task.team ≡ Some barriers → team ≡ Some barriers)
+    → IsLogFault bytes task n rule → IsLogFault bytes (with_team task team) n rule
+other_team bytes task team n log.Header same fault = fault
+other_team bytes task team n log.Cut same fault = fault
+other_team bytes task team n log.Kind same fault = fault
+other_team bytes task team n log.Size same fault = fault
+other_team bytes task team n log.LineZero same fault = fault
+other_team bytes task team n log.Address same fault = fault
+other_team bytes task team n log.Span same fault = fault
+other_team bytes task team n log.Reserved same fault = fault
+other_team bytes task team n log.Extra same fault = fault
+other_team bytes task team n log.BarrierCount same fault = record {
+  before = fault.before;
+  r = fault.r;
+  at = fault.at;
+  breaks = (fault.breaks.0, (fault.breaks.1.0, same fault.breaks.1.0 fault.breaks.1.1, fault.breaks.1.2));
+}
+other_team bytes task team n rule same fault = record { before = fault.before; r = fault.r; at = fault.at; breaks = fault.breaks }
