@@ -16,7 +16,7 @@ use Rattle.kernel_reader.specs.Grammar.{Tree, Derives, depth, tree_tokens, expr,
 use Rattle.kernel_reader.specs.Scope.{Names, Place, declares, array_number, is_array, count_of, is_between, with_local, slots}
 use Rattle.kernel_reader.specs.Rules.{fault_at, fault_if, width_of, array_of, array_faults, tree_faults, schedule_faults, stmts_faults, declarations_faults, arrays_of, mutex_names, at_main, kernel_faults}
 use Rattle.kernel_reader.specs.Resolve.{sites, term, array_at, schedule_of, code, program}
-use Rattle.kernel_reader.specs.KernelOf.{AreStores, IsStatic, IsOneLoop, IsOneRegion}
+use Rattle.kernel_syntax.specs.FirstKind.{AreStores, IsStatic, IsOneLoop, IsOneRegion}
 use Rattle.kernel_reader.specs.Machine.{expression_from, role_of}
 use Rattle.kernel_reader.specs.Reading.{◌>>=◌, counted, array_in, bind, word_at, sign_at, name_at, number_at, declaration_at, arrays_at, StoreTree, store_at, bind_store, BoundStore, read_store, closes, stores_at, range_at, schedule_at, nowait_at, loop_at, region_at, kernel_at}
 use Rattle.kernel_reader.proofs.Singles.{word_at-front, sign_at-front, name_at-front, number_at-front}
@@ -34,19 +34,19 @@ pass : {A : Type 0} (b : Bool) (o y : Option A) → b ≡ false → o ≡ y → 
 pass true o y e g = absurd cc
 pass false o y e g = g
 
-nil_left : {A : Type 0} (xs ys : List A) → xs ++ ys ≡ [] → xs ≡ []
+pub nil_left : {A : Type 0} (xs ys : List A) → xs ++ ys ≡ [] → xs ≡ []
 nil_left [] ys e = refl
 nil_left (x ∷ xs) ys e = absurd cc
 
-nil_right : {A : Type 0} (xs ys : List A) → xs ++ ys ≡ [] → ys ≡ []
+pub nil_right : {A : Type 0} (xs ys : List A) → xs ++ ys ≡ [] → ys ≡ []
 nil_right [] ys e = e
 nil_right (x ∷ xs) ys e = absurd cc
 
-fault_if-none : (b : Bool) (line : ℕ) (w : KernelWhy) → fault_if b line w ≡ [] → b ≡ false
+pub fault_if-none : (b : Bool) (line : ℕ) (w : KernelWhy) → fault_if b line w ≡ [] → b ≡ false
 fault_if-none true line w e = absurd cc
 fault_if-none false line w e = refl
 
-not-false : (b : Bool) → not b ≡ false → b ≡ true
+pub not-false : (b : Bool) → not b ≡ false → b ≡ true
 not-false true e = refl
 not-false false e = absurd cc
 

@@ -20,7 +20,7 @@ use Rattle.kernel_reader.specs.Grammar.{Tree, Derives, depth, tree_tokens, expr,
 use Rattle.kernel_reader.specs.Scope.{Names, Place, declares, is_array, slots, count_of, is_between}
 use Rattle.kernel_reader.specs.Rules.{fault_if, width_of, array_of, tree_faults, schedule_faults, stmts_faults, in_region, weight, declarations_faults, arrays_of, mutex_names, at_main, kernel_faults}
 use Rattle.kernel_reader.specs.Resolve.{sites, term, schedule_of, code, program}
-use Rattle.kernel_reader.specs.KernelOf.{IsStatic, IsOneLoop, IsOneRegion}
+use Rattle.kernel_syntax.specs.FirstKind.{IsStatic, IsOneLoop, IsOneRegion}
 use Rattle.kernel_reader.specs.Machine.{expression_from}
 use Rattle.kernel_reader.specs.Reading.{◌>>=◌, counted, bind, word_at, sign_at, name_at, number_at, declaration_at, arrays_at, stores_at, range_at, schedule_at, nowait_at, loop_at, region_at, kernel_at}
 use Rattle.kernel_reader.proofs.Singles.{some-is, bind_some, with_some, test_some, choice_some, word_at-some, sign_at-some, name_at-some, number_at-some}
@@ -46,7 +46,7 @@ pub counted-some : (most : ℕ) (z : ℤ) (c : ℕ) → counted most z ≡ Some 
 unfolding counted
 counted-some most z c e = choice_some (is_between 1 most z) (count_of z) c e
 
-between-le : (most : ℕ) (z : ℤ) → is_between 1 most z ≡ true → count_of z ≤ most
+pub between-le : (most : ℕ) (z : ℤ) → is_between 1 most z ≡ true → count_of z ≤ most
 between-le most (pos n) e = grind (arith, nat_tests)
 between-le most (negsuc n) e = omega arith
 

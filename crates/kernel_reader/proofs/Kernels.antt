@@ -9,10 +9,13 @@ use Rattle.kernel_reader.specs.Machine.{Gives}
 use Rattle.kernel_reader.specs.declared.token.Token.{Token}
 use Rattle.kernel_reader.specs.Tokens.{Refusal, tokens_of}
 use Rattle.kernel_reader.specs.Grammar.{kernel_tokens}
-use Rattle.kernel_reader.specs.KernelOf.{IsKernelOf, IsFirstKind, IsOneRegion}
+use Rattle.kernel_reader.specs.KernelOf.{IsKernelOf}
+use Rattle.kernel_syntax.specs.Bounds.{IsBounded}
+use Rattle.kernel_syntax.specs.FirstKind.{IsFirstKind, IsOneRegion}
 use Rattle.kernel_reader.specs.Reading.{kernel_at}
 use Rattle.kernel_reader.proofs.KernelReading.{kernel_at-some}
 use Rattle.kernel_reader.proofs.Accepting.{accept-kernel}
+use Rattle.kernel_reader.proofs.Bounded.{kernels_are_bounded}
 
 -- what is read is the kernel of the text, and of the first kind
 pub is_kernel : (text : List ℕ) (ts : List Token) (p : Program) → tokens_of text ≡ Ok ts → kernel_at ts ≡ Some p → IsKernelOf text p
@@ -59,6 +62,10 @@ no_tokens text r e p k =
 pub gives_kernel : (text : List ℕ) (ts : List Token) (r : Result Kernel ReadKernelFault) → tokens_of text ≡ Ok ts → Gives program_of r (kernel_at ts) → IfOk r (λ k. IsKernelOf text (program_of k))
 gives_kernel text ts (Ok k) e given = is_kernel text ts (program_of k) e given
 gives_kernel text ts (Err f) e given = tt
+
+pub gives_bounded : (text : List ℕ) (ts : List Token) (r : Result Kernel ReadKernelFault) → tokens_of text ≡ Ok ts → Gives program_of r (kernel_at ts) → IfOk r (λ k. IsBounded (program_of k))
+gives_bounded text ts (Ok k) e given = kernels_are_bounded text (program_of k) (is_kernel text ts (program_of k) e given)
+gives_bounded text ts (Err f) e given = tt
 
 pub gives_first_kind : (ts : List Token) (r : Result Kernel ReadKernelFault) → Gives program_of r (kernel_at ts) → IfOk r (λ k. IsFirstKind (program_of k))
 gives_first_kind ts (Ok k) given = is_first_kind ts (program_of k) given

@@ -12,5 +12,7 @@ pub mod StoreReading
 pub mod KernelReading
 pub mod Accepting
 pub mod Few
+pub mod Lines
+pub mod Bounded
 pub mod Kernels
 pub mod Examples

@@ -1,12 +1,14 @@
--- How many sites an expression has: one in three of its tokens, at most.
-use Rattle.std.proofs.Common.{◌≡◌, ◌+◌, ◌*◌, ◌<◌, ◌≤◌, List, [], ◌∷◌, length, Some, None, ap, arith, length-append}
+-- How many sites there are: in an expression at most one in three of its tokens, in statements at most one a token.
+use Rattle.std.proofs.Common.{◌≡◌, ℕ, ◌+◌, ◌*◌, ◌<◌, ◌≤◌, List, [], ◌∷◌, ◌++◌, length, Some, None, ap, arith, length-append}
+use Rattle.kernel_reader.specs.declared.token.Word.TheVariants as word
 use Rattle.kernel_reader.specs.declared.token.Sign.TheVariants as sign
 use Rattle.kernel_reader.specs.declared.token.Token.{Token}
-use Rattle.kernel_reader.specs.Grammar.{Tree, NumberAt, NameAt, TidAt, SpanAt, Element, Group, Minus, Binary, tree_tokens, mark, sign_of}
-use Rattle.kernel_reader.specs.Resolve.{sites}
+use Rattle.kernel_reader.specs.Grammar.{Tree, NumberAt, NameAt, TidAt, SpanAt, Element, Group, Minus, Binary, tree_tokens, reserved, mark, sign_of, block, range, schedule_tokens, nowait_tokens, Stmts, NoMore, Let, Assign, Store, If, IfElse, Loop, Parallel, For, Barrier, Critical, CriticalOf, stmts_tokens}
+use Rattle.kernel_reader.specs.Resolve.{sites, stmts_sites}
 use Rattle.kernel_reader.specs.Machine.{expression_from}
 use Rattle.kernel_reader.proofs.Sounding.{expression-sound}
 
+-- each site of an expression has a name and two brackets
 pub tree_sites-bound : (t : Tree) → 3 * sites t + 1 ≤ length (tree_tokens t)
 tree_sites-bound (NumberAt line value) = omega arith
 tree_sites-bound (NameAt line name) = omega arith
@@ -17,6 +19,76 @@ tree_sites-bound (Group opened inside closed) = omega (arith, tree_sites-bound i
 tree_sites-bound (Minus line operand) = omega (arith, tree_sites-bound operand)
 tree_sites-bound (Binary left op line right) =
     omega (arith, tree_sites-bound left, tree_sites-bound right, length-append (tree_tokens left) (mark line (sign_of op) ∷ tree_tokens right))
+
+-- a block's tokens are its statements' and its braces
+block-length : (opened : ℕ) (body : List Token) (closed : ℕ) (after : List Token) → length (block opened body closed ++ after) ≡ 2 + length body + length after
+block-length opened body closed after =
+    omega (arith, length-append (block opened body closed) after, length-append body (mark closed sign.CloseBrace ∷ []))
+
+-- a range's tokens are its bounds' and three more
+range-length : (name_line : ℕ) (name : List ℕ) (in_line : ℕ) (from : Tree) (dots : ℕ) (to : Tree) (after : List Token)
+    → length (range name_line name in_line from dots to ++ after) ≡ 3 + length (tree_tokens from) + length (tree_tokens to) + length after
+range-length name_line name in_line from dots to after =
+    omega (arith, length-append (range name_line name in_line from dots to) after, length-append (tree_tokens from) (mark dots sign.Dots ∷ tree_tokens to))
+
+-- statements have at most one site a token
+pub stmts_sites-bound : (s : Stmts) → stmts_sites s ≤ length (stmts_tokens s)
+stmts_sites-bound NoMore = omega arith
+stmts_sites-bound (Let line name_line name sign_line value rest) =
+    omega (arith, stmts_sites-bound rest, tree_sites-bound value, length-append (tree_tokens value) (stmts_tokens rest))
+stmts_sites-bound (Assign line name sign_line value rest) =
+    omega (arith, stmts_sites-bound rest, tree_sites-bound value, length-append (tree_tokens value) (stmts_tokens rest))
+stmts_sites-bound (Store line name opened index closed sign_line value rest) =
+    let behind = mark closed sign.CloseBracket ∷ mark sign_line sign.Assign ∷ tree_tokens value ++ stmts_tokens rest in
+    omega (arith, stmts_sites-bound rest, tree_sites-bound index, tree_sites-bound value, length-append (tree_tokens index) behind, length-append (tree_tokens value) (stmts_tokens rest))
+stmts_sites-bound (If line test opened if_true closed rest) =
+    let behind = block opened (stmts_tokens if_true) closed ++ stmts_tokens rest in
+    omega (arith, stmts_sites-bound if_true, stmts_sites-bound rest, tree_sites-bound test, length-append (tree_tokens test) behind, block-length opened (stmts_tokens if_true) closed (stmts_tokens rest))
+stmts_sites-bound (IfElse line test opened if_true closed else_line else_opened if_false else_closed rest) =
+    let other = reserved else_line word.Else ∷ block else_opened (stmts_tokens if_false) else_closed ++ stmts_tokens rest in
+    let behind = block opened (stmts_tokens if_true) closed ++ other in
+    omega (
+      arith,
+      stmts_sites-bound if_true,
+      stmts_sites-bound if_false,
+      stmts_sites-bound rest,
+      tree_sites-bound test,
+      length-append (tree_tokens test) behind,
+      block-length opened (stmts_tokens if_true) closed other,
+      block-length else_opened (stmts_tokens if_false) else_closed (stmts_tokens rest),
+    )
+stmts_sites-bound (Loop line name_line name in_line from dots to opened body closed rest) =
+    let behind = block opened (stmts_tokens body) closed ++ stmts_tokens rest in
+    omega (
+      arith,
+      stmts_sites-bound body,
+      stmts_sites-bound rest,
+      tree_sites-bound from,
+      tree_sites-bound to,
+      range-length name_line name in_line from dots to behind,
+      block-length opened (stmts_tokens body) closed (stmts_tokens rest),
+    )
+stmts_sites-bound (Parallel line number_line span opened body closed rest) =
+    omega (arith, stmts_sites-bound body, stmts_sites-bound rest, block-length opened (stmts_tokens body) closed (stmts_tokens rest))
+stmts_sites-bound (For line name_line name in_line from dots to schedule nowait opened body closed rest) =
+    let inside = block opened (stmts_tokens body) closed ++ stmts_tokens rest in
+    let behind = schedule_tokens schedule ++ (nowait_tokens nowait ++ inside) in
+    omega (
+      arith,
+      stmts_sites-bound body,
+      stmts_sites-bound rest,
+      tree_sites-bound from,
+      tree_sites-bound to,
+      range-length name_line name in_line from dots to behind,
+      length-append (schedule_tokens schedule) (nowait_tokens nowait ++ inside),
+      length-append (nowait_tokens nowait) inside,
+      block-length opened (stmts_tokens body) closed (stmts_tokens rest),
+    )
+stmts_sites-bound (Barrier line rest) = omega (arith, stmts_sites-bound rest)
+stmts_sites-bound (Critical line opened body closed rest) =
+    omega (arith, stmts_sites-bound body, stmts_sites-bound rest, block-length opened (stmts_tokens body) closed (stmts_tokens rest))
+stmts_sites-bound (CriticalOf line name_line name opened body closed rest) =
+    omega (arith, stmts_sites-bound body, stmts_sites-bound rest, block-length opened (stmts_tokens body) closed (stmts_tokens rest))
 
 pub expression-room : (ts : List Token) (t : Tree) (rest : List Token) → expression_from None [] ts ≡ Some (t, rest) → 3 * sites t + length rest < length ts
 expression-room ts t rest e =

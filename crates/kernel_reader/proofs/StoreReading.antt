@@ -10,7 +10,7 @@ use Rattle.kernel_reader.specs.Grammar.{Tree, Derives, depth, tree_tokens, expr,
 use Rattle.kernel_reader.specs.Scope.{Names, Place, array_number, slots}
 use Rattle.kernel_reader.specs.Rules.{fault_at, fault_if, array_faults, tree_faults, stmts_faults}
 use Rattle.kernel_reader.specs.Resolve.{sites, term, array_at, code}
-use Rattle.kernel_reader.specs.KernelOf.{AreStores}
+use Rattle.kernel_syntax.specs.FirstKind.{AreStores}
 use Rattle.kernel_reader.specs.Machine.{expression_from}
 use Rattle.kernel_reader.specs.Reading.{◌>>=◌, array_in, bind, name_at, sign_at, StoreTree, store_at, bind_store, BoundStore, read_store, closes, stores_at}
 use Rattle.kernel_reader.proofs.Singles.{some-is, bind_some, name_at-some, sign_at-some}

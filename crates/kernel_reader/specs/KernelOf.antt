@@ -1,9 +1,5 @@
 -- The kernel of a text, or why it has none.
 use Rattle.std.specs.Prelude.{◌≡◌, ℕ, List, [], ◌∷◌, length, Ok, Err}
-use Rattle.kernel_syntax.specs.declared.syntax.Schedule.{Schedule}
-use Rattle.kernel_syntax.specs.declared.syntax.Schedule.TheVariants as schedule
-use Rattle.kernel_syntax.specs.Tree as kernel
-use Rattle.kernel_syntax.specs.Tree.{Code, TeamTree}
 use Rattle.kernel_syntax.specs.Program.{Program}
 use Rattle.kernel_reader.specs.declared.fault.KernelWhy.TheVariants as why
 use Rattle.kernel_reader.specs.declared.token.Token.{Token}
@@ -29,30 +25,3 @@ pub data IsRefused (text : List ℕ) (r : Refusal) : Type 0 where
   AtDepth : (ts : List Token) → (bad : Token) → tokens_of text ≡ Ok ts → IsTooDeep ts bad → r ≡ record { line = bad.line; why = why.Deep } → IsRefused text r
   AtEnd : (ts : List Token) → tokens_of text ≡ Ok ts → EndsEarly ts → r ≡ record { line = line_at text (length text); why = why.Syntax } → IsRefused text r
   AtRule : (tree : KernelTree) → (later : List Refusal) → tokens_of text ≡ Ok (kernel_tokens tree) → IsKernel tree → IsShallow tree → kernel_faults tree ≡ r ∷ later → IsRefused text r
-
--- a list of stores
-abbrev pub AreStores : Code → Type 0
-AreStores kernel.Done = Unit {0}
-AreStores (kernel.Store array index value line site rest) = AreStores rest
-AreStores _ = ⊥
-
--- an even share, or chunks in turn
-abbrev pub IsStatic : Schedule → Type 0
-IsStatic schedule.Even = Unit {0}
-IsStatic (schedule.Static chunk) = Unit {0}
-IsStatic (schedule.Dynamic chunk) = ⊥
-
--- one worksharing loop of stores
-abbrev pub IsOneLoop : Code → Type 0
-IsOneLoop (kernel.For slot from to sched nowait line end body kernel.Done) = IsStatic sched × AreStores body
-IsOneLoop _ = ⊥
-
--- one region
-abbrev pub IsOneRegion : Code → Type 0
-IsOneRegion (kernel.Parallel span line end body kernel.Done) = IsOneLoop body
-IsOneRegion _ = ⊥
-
--- no mutex, and one region with one statically scheduled loop of stores
-pub record IsFirstKind (p : Program) : Type 0 where
-  pub no_mutex : p.mutexes ≡ []
-  pub one_region : IsOneRegion p.main.body

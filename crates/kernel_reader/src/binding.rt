@@ -1,6 +1,8 @@
 //! The names of an expression become numbers of arrays and slots, and its accesses get their sites.
-ghost use Rattle.std.specs.Prelude.{◌≡◌, ◌+◌, ◌<◌, ◌≤◌, length, bytes_eq, option_copied, [], IfSome, IfOk};
+ghost use Rattle.std.specs.Prelude.{◌≡◌, ◌+◌, ◌<◌, ◌≤◌, length, bytes_eq, option_copied, [], IfSome, IfOk, IfErr};
+ghost use Rattle.kernel_syntax.specs.Tree as kernel;
 ghost use Rattle.kernel_syntax.specs.Program.{term_of};
+ghost use Rattle.kernel_reader.specs.declared.fault.ReadKernelFault.TheVariants.{Memory};
 ghost use Rattle.kernel_reader.specs.Scope.{array_number, is_array, variable_of};
 ghost use Rattle.kernel_reader.specs.Resolve.{sites};
 ghost use Rattle.kernel_reader.specs.Rules.{is_unfit};
@@ -78,6 +80,47 @@ fn is_unfit(op: Op) -> bool
     !matches!(op, Op::Add | Op::Sub | Op::Mul)
 }
 
+/// An element of an array.
+fn load(
+    alloc: Global,
+    array: u32,
+    index: Expr,
+    line: u32,
+    site: u16,
+) -> Result<Expr, ReadKernelFault>
+    ensures made { IfOk result (λ e. term_of e ≡ kernel.Load array (term_of index) line site) }
+    ensures fault { IfErr result (λ e. e ≡ Memory) }
+{
+    let index = Box::new(alloc, index)?;
+    Ok(Expr::Load {
+        array,
+        index,
+        line,
+        site,
+    })
+}
+
+/// An operation on two expressions.
+fn binary(
+    alloc: Global,
+    op: Op,
+    line: u32,
+    left: Expr,
+    right: Expr,
+) -> Result<Expr, ReadKernelFault>
+    ensures made { IfOk result (λ e. term_of e ≡ kernel.Binary op line (term_of left) (term_of right)) }
+    ensures fault { IfErr result (λ e. e ≡ Memory) }
+{
+    let left = Box::new(alloc, left)?;
+    let right = Box::new(alloc, right)?;
+    Ok(Expr::Binary {
+        op,
+        line,
+        left,
+        right,
+    })
+}
+
 /// An expression with its names bound, and the next site.
 pub fn bind(
     alloc: Global,
@@ -98,12 +141,8 @@ pub fn bind(
             let slot = slot_in(variables, in_bound, name).ok_or(ReadKernelFault::NotBuilt)?;
             Ok((Expr::Slot(slot), site))
         }
-        Tree::Tid { .. } => {
-            if in_bound {
-                return Err(ReadKernelFault::NotBuilt);
-            }
-            Ok((Expr::Tid, site))
-        }
+        Tree::Tid { .. } if in_bound => Err(ReadKernelFault::NotBuilt),
+        Tree::Tid { .. } => Ok((Expr::Tid, site)),
         Tree::Span { .. } => Ok((Expr::Span, site)),
         Tree::Element {
             line,
@@ -113,14 +152,7 @@ pub fn bind(
         } => {
             let array = array_in(arrays, in_bound, name).ok_or(ReadKernelFault::NotBuilt)?;
             let (index, next) = bind(alloc, arrays, variables, in_bound, site + 1, index)?;
-            let index = Box::new(alloc, index)?;
-            let load = Expr::Load {
-                array,
-                index,
-                line: *line,
-                site,
-            };
-            Ok((load, next))
+            Ok((load(alloc, array, index, *line, site)?, next))
         }
         Tree::Group { inside, .. } => bind(alloc, arrays, variables, in_bound, site, inside),
         Tree::Minus { operand, .. } => {
@@ -138,13 +170,7 @@ pub fn bind(
                 return Err(ReadKernelFault::NotBuilt);
             }
             let (right, next) = bind(alloc, arrays, variables, in_bound, next, right)?;
-            let binary = Expr::Binary {
-                op: *op,
-                line: *line,
-                left: Box::new(alloc, left)?,
-                right: Box::new(alloc, right)?,
-            };
-            Ok((binary, next))
+            Ok((binary(alloc, *op, *line, left, right)?, next))
         }
     }
 }

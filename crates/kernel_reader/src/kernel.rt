@@ -2,7 +2,9 @@
 ghost use Rattle.std.specs.Prelude.{◌≡◌, IfOk, Err};
 ghost use Rattle.kernel_syntax.specs.Program.{Program, program_of};
 ghost use Rattle.kernel_reader.specs.declared.fault.ReadKernelFault.TheVariants.{NotBuilt};
-ghost use Rattle.kernel_reader.specs.KernelOf.{IsKernelOf, IsFirstKind};
+ghost use Rattle.kernel_reader.specs.KernelOf.{IsKernelOf};
+ghost use Rattle.kernel_syntax.specs.Bounds.{IsBounded};
+ghost use Rattle.kernel_syntax.specs.FirstKind.{IsFirstKind};
 
 use crate::fault::{ReadKernelFault, TextFault};
 use crate::lexing::tokens;
@@ -18,6 +20,7 @@ pub fn read_kernel(alloc: Global, text: &[u8]) -> Result<Kernel, ReadKernelFault
     // The kernel is the text's, by the grammar, the rules and the resolution of names.
     ensures kernel { IfOk result (λ k. IsKernelOf text.now (program_of k)) }
     ensures first_kind { IfOk result (λ k. IsFirstKind (program_of k)) }
+    ensures bounded { IfOk result (λ k. IsBounded (program_of k)) }
     // It is the only kernel that the text has.
     ensures only { (p : Program) → IsKernelOf text.now p → IsFirstKind p → IfOk result (λ k. program_of k ≡ p) }
     ensures not_built { result ≡ Err NotBuilt → (p : Program) → IsKernelOf text.now p → IsFirstKind p → ⊥ }

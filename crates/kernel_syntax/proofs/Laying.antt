@@ -1,11 +1,14 @@
--- One step of the layout: what it keeps.
-use Rattle.std.proofs.Common.{◌≡◌, refl, ap, sym, ◌∙◌, ℕ, suc, ◌+◌, ◌*◌, ◌<◌, ◌≤◌, List, [], ◌∷◌, ◌++◌, length, take, drop, set, get_or, arith, le_refl}
+-- The layout: what it keeps, and one step of it.
+use Rattle.std.proofs.Common.{◌≡◌, refl, ap, sym, ◌∙◌, ℕ, suc, ◌+◌, ◌*◌, ◌<◌, ◌≤◌, List, [], ◌∷◌, ◌++◌, length, take, drop, set, get_or, All, arith, le_refl}
 use Rattle.std.proofs.lemmas.Nat.{mul-le}
 use Rattle.std.proofs.lemmas.List.{drop_more, take_more, get_or_at, set_at, length-take-le, append_assoc}
-use Rattle.std.proofs.lemmas.List.Sums.{sum_by-append}
+use Rattle.std.proofs.lemmas.List.Sums.{sum_by-append, sum_by-cons}
+use Rattle.std.proofs.lemmas.List.Elements.{All-nil, All-cons, All-head, All-tail}
 use Rattle.kernel_syntax.specs.declared.syntax.Array.{Array}
+use Rattle.kernel_syntax.specs.Arithmetic.{IsWidth}
 use Rattle.kernel_syntax.specs.Layout.{laid, laid_from, aligned, elements}
 
+-- as many arrays are laid out
 length-laid_from : (base first : ℕ) (xs : List Array) → length (laid_from base first xs) ≡ length xs
 length-laid_from base first [] = refl
 length-laid_from base first (a ∷ xs) = ap suc (length-laid_from (aligned (base + a.width * a.count)) (first + a.count) xs)
@@ -16,6 +19,48 @@ length-laid xs = length-laid_from 4096 0 xs
 -- the array laid out at this base and element
 abbrev pub placed : ℕ → ℕ → Array → Array
 placed base first a = record a { base = base; first = first }
+
+-- ---- what no layout changes
+
+-- with as many elements
+elements-laid_from : (base first : ℕ) (xs : List Array) → elements (laid_from base first xs) ≡ elements xs
+elements-laid_from base first [] = refl
+elements-laid_from base first (a ∷ xs) =
+    let base' = aligned (base + a.width * a.count) in
+    let first' = first + a.count in
+    sum_by-cons (λ (b : Array). b.count) (placed base first a) (laid_from base' first' xs)
+    ∙ ap (λ n. a.count + n) (elements-laid_from base' first' xs)
+    ∙ sym (sum_by-cons (λ (b : Array). b.count) a xs)
+
+pub elements-laid : (xs : List Array) → elements (laid xs) ≡ elements xs
+elements-laid xs = elements-laid_from 4096 0 xs
+
+-- an array whose elements have one of the widths
+abbrev pub HasWidth : Array → Type 0
+HasWidth a = IsWidth a.width
+
+-- and with the same widths
+widths-laid_from : (base first : ℕ) (xs : List Array) → All HasWidth xs → All HasWidth (laid_from base first xs)
+widths-laid_from base first [] all = All-nil HasWidth
+widths-laid_from base first (a ∷ xs) all =
+    let rest = laid_from (aligned (base + a.width * a.count)) (first + a.count) xs in
+    All-cons HasWidth (placed base first a) rest (All-head HasWidth a xs all)
+    (widths-laid_from (aligned (base + a.width * a.count)) (first + a.count) xs (All-tail HasWidth a xs all))
+
+pub widths-laid : (xs : List Array) → All HasWidth xs → All HasWidth (laid xs)
+widths-laid xs all = widths-laid_from 4096 0 xs all
+
+-- to lay out again changes nothing
+laid_from-laid_from : (base first base' first' : ℕ) (xs : List Array) → laid_from base first (laid_from base' first' xs) ≡ laid_from base first xs
+laid_from-laid_from base first base' first' [] = refl
+laid_from-laid_from base first base' first' (a ∷ xs) =
+    ap (λ rest. placed base first a ∷ rest)
+    (laid_from-laid_from (aligned (base + a.width * a.count)) (first + a.count) (aligned (base' + a.width * a.count)) (first' + a.count) xs)
+
+pub laid-laid : (xs : List Array) → laid (laid xs) ≡ laid xs
+laid-laid xs = laid_from-laid_from 4096 0 4096 0 xs
+
+-- ---- one step
 
 -- where i arrays are laid out, and what is left of the layout begins at this base and element
 module _ (xs now : List Array) (i base first : ℕ) (d : Array) (within : i < length xs)

@@ -1,6 +1,7 @@
 -- Where the arrays lie: their addresses and their places among all elements.
-use Rattle.std.specs.Prelude.{ℕ, ◌+◌, ◌*◌, ◌/◌, ◌≤◌, List, [], ◌∷◌, length, sum_by}
+use Rattle.std.specs.Prelude.{◌≡◌, ℕ, ◌+◌, ◌*◌, ◌/◌, ◌^◌, ◌<◌, ◌≤◌, List, [], ◌∷◌, length, sum_by, Some, slice_get}
 use Rattle.kernel_syntax.specs.declared.syntax.Array.{Array}
+use Rattle.kernel_syntax.specs.Arithmetic.{IsWidth}
 
 -- the least multiple of 64 that is not below n
 abbrev pub aligned : ℕ → ℕ
@@ -24,3 +25,14 @@ elements arrays = sum_by (λ a. a.count) arrays
 pub record IsWithinLimits (arrays : List Array) : Type 0 where
   pub few : length arrays ≤ 64
   pub small : elements arrays ≤ 1048576
+
+-- an array whose elements have places among so many, and addresses below 2 ^ 48
+pub record IsPlaced (words : ℕ) (a : Array) : Type 0 where
+  pub width : IsWidth a.width
+  pub inside : a.first + a.count ≤ words
+  pub ends : a.base + a.count * a.width ≤ 2 ^ 48
+
+-- all arrays, in a table of at most 2 ^ 31 numbers
+pub record ArePlaced (arrays : List Array) (words : ℕ) : Type 0 where
+  pub few : words < 2 ^ 31
+  pub each : (k : ℕ) (a : Array) → slice_get arrays k ≡ Some a → IsPlaced words a
