@@ -14,7 +14,7 @@ use Rattle.kernel_syntax.specs.Tree.{Code, TeamTree, Done, Parallel}
 use Rattle.kernel_model.specs.State.{State, put, event, reads_of, chunks_of}
 use Rattle.kernel_model.specs.Trace.{Start, Ended, run, task, trace, state_at, site_of}
 use Rattle.kernel_model.specs.Folder.{IsTracedFolder, IsTraced, IsTracedTask, root_start, lane_start, start_at, start_below, paths_of}
-use Rattle.kernel_model.specs.FirstKind.{IsFirstKind, IsOneTeam, IsOneLoop}
+use Rattle.kernel_syntax.specs.FirstKind.{IsFirstKind, IsOneRegion, IsOneLoop}
 use Rattle.kernel_model.specs.Growth.{KeepsPlainSteps}
 use Rattle.kernel_model.proofs.Steps.{kept-one_loop, kept-after, kept-put}
 
@@ -247,11 +247,23 @@ IsFirstRun program =
     ((l : ℕ) (d : List Record) → l < (first_team program.main.body).span → IsTraced program (first_lane program l) (get_or lanes l d)) →
     IsTracedFolder program (first_tasks program lanes)
 
-first_run : (program : Program) (code : Code) → IsOneTeam code → IsFirstRun (record program { main = record program.main { body = code } })
+first_run : (program : Program) (code : Code) → IsOneRegion code → IsFirstRun (record program { main = record program.main { body = code } })
 first_run program (Parallel span line end body Done) one =
     kernel_folder program.arrays program.mutexes program.slots program.main.line program.main.end span line end program.main.span body one
 first_run program _ one = absurd one
 
 -- The root and the team's lanes, each with its trace, are a whole run of a kernel of the first kind.
 pub first_kind_folder : (program : Program) → IsFirstKind program → IsFirstRun program
-first_kind_folder program first = first_run program program.main.body first.one_team
+first_kind_folder program first = first_run program program.main.body first.one_region
+
+first_starting : (program : Program) (code : Code) → IsOneRegion code → (logs : Logs) (i : ℕ) → i < (first_team code).span →
+    start_at (record program { main = record program.main { body = code } }) logs (record { region = 0; lane = i; span = (first_team code).span } ∷ [])
+    ≡ Some (first_lane (record program { main = record program.main { body = code } }) i)
+first_starting program (Parallel span line end body Done) one =
+    starts_lane program.arrays program.mutexes program.slots program.main.line program.main.end span line end program.main.span body one
+first_starting program _ one = absurd one
+
+-- Each lane of the team is forked.
+pub first_starts : (program : Program) → IsFirstKind program → (logs : Logs) (i : ℕ) → i < (first_team program.main.body).span →
+    start_at program logs (record { region = 0; lane = i; span = (first_team program.main.body).span } ∷ []) ≡ Some (first_lane program i)
+first_starts program first = first_starting program program.main.body first.one_region

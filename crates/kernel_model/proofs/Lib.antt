@@ -1,9 +1,13 @@
 pub mod Effects
 pub mod Equations
 pub mod FirstKindFolder
+pub mod FirstKindLanes
+pub mod FirstKindRules
+pub mod FirstKindShape
 pub mod Growing
 pub mod Joining
 pub mod RunEffects
 pub mod Shares
 pub mod Steps
+pub mod Tracing
 pub mod WorkedRows

@@ -374,7 +374,7 @@ module _ (at : Site) (slots : List ℤ) (room : ℕ) where
 
 -- ---- whole tasks
 
-abbrev end_of : Finish (Unit {0}) → Ending
+abbrev pub end_of : Finish (Unit {0}) → Ending
 end_of (Returned a) = Ended
 end_of (Halted why line) = Stopped why line
 
@@ -385,10 +385,10 @@ trace_of-finished (Returned a) s = refl
 trace_of-finished (Halted why line) s = refl
 
 module _ (program : Program) (start : Start) where
-  abbrev parts : State → Outcome (Unit {0})
+  abbrev pub parts : State → Outcome (Unit {0})
   parts s = after (run (site_of program start) start.team.body s) (put (event kind.End start.team.end 0 0))
 
-  own_trace-is : (e : Effect) (finish : Finish (Unit {0})) → Makes parts start.slots log_limit e finish →
+  pub own_trace-is : (e : Effect) (finish : Finish (Unit {0})) → Makes parts start.slots log_limit e finish →
       own_trace program start e.added ≡ record { records = e.added; forks = e.forks; end = end_of finish }
   unfolding task
   own_trace-is e finish m =

@@ -17,7 +17,8 @@ is_dealt chunk lane span i = (i / chunk) % span == lane
 abbrev pub static_from : ℕ → ℕ → ℕ → ℕ → ℕ → List ℕ
 static_from chunk total lane span q = filter (is_dealt chunk lane span) (range_with_len (q * chunk) (total - q * chunk))
 
-range_with_len-add : (a m n : ℕ) → range_with_len a (m + n) ≡ range_with_len a m ++ range_with_len (a + m) n
+-- so many numbers, and then more
+pub range_with_len-add : (a m n : ℕ) → range_with_len a (m + n) ≡ range_with_len a m ++ range_with_len (a + m) n
 range_with_len-add a zero n = ap (range_with_len a) (omega arith) ∙ ap (λ b. range_with_len b n) (omega arith)
 range_with_len-add a (suc m) n =
     let more : suc m + n ≡ suc (m + n) = omega arith in

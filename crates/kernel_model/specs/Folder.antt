@@ -6,7 +6,7 @@ use Rattle.log_format.specs.declared.record.Record.{Record}
 use Rattle.race_model.specs.Trace.{TaskLog, Trace, Logs, logs_of, path_eq}
 use Rattle.kernel_syntax.specs.Program.{Program}
 use Rattle.kernel_model.specs.State.{Fork, reads_of, chunks_of}
-use Rattle.kernel_model.specs.Trace.{Start, TaskTrace, Ended, trace}
+use Rattle.kernel_model.specs.Trace.{Start, TaskTrace, Ending, Ended, trace}
 
 -- the trace of a task under what its own records read and drew
 abbrev pub own_trace : Program → Start → List Record → TaskTrace
@@ -34,10 +34,14 @@ start_below program logs path (Some start) (step ∷ steps) =
 unfoldable pub start_at : Program → Logs → List Step → Option Start
 start_at program logs path = start_below program logs [] (Some (root_start program)) path
 
--- the records are those of the task's trace under what they read and drew, and the trace ends
-pub record IsTraced (program : Program) (start : Start) (records : List Record) : Type 0 where
+-- the records are those of the task's trace under what they read and drew, and the trace ends so
+pub record IsTracedTo (program : Program) (start : Start) (records : List Record) (end : Ending) : Type 0 where
   pub records_are : (own_trace program start records).records ≡ records
-  pub ended : (own_trace program start records).end ≡ Ended
+  pub ended : (own_trace program start records).end ≡ end
+
+-- and the trace ends with its End record
+abbrev pub IsTraced : Program → Start → List Record → Type 0
+IsTraced program start records = IsTracedTo program start records Ended
 
 -- the task starts where the run forks it, and has its trace's records
 pub record IsTracedTask (program : Program) (logs : Logs) (task : TaskLog) : Type 0 where

@@ -1,5 +1,4 @@
 pub mod Effect
-pub mod FirstKind
 pub mod Folder
 pub mod Growth
 pub mod Iterations

@@ -1,0 +1,268 @@
+-- The log of a lane of a kernel of the first kind breaks no rule of a log.
+use Rattle.std.proofs.Common.{◌≡◌, refl, ap, sym, ◌∙◌, subst, inl, inr, ℕ, zero, suc, ◌+◌, ◌^◌, ◌<◌, ◌≤◌, Bool, true, false, cond, List, [], ◌∷◌, ◌++◌, length, take, Some, slice_get, All, arith, append_assoc}
+use Rattle.std.proofs.lemmas.List.{take_at, length-append, length-take-le}
+use Rattle.std.proofs.lemmas.List.Elements.{All-nil, All-cons, All-head, All-tail, All-append, All-take, All-weaker, All-same, All-push}
+use Rattle.std.proofs.lemmas.List.Sums.{sum_by-append, sum_by-cons}
+use Rattle.std.proofs.lemmas.Option.{slice_get_within, same_Some}
+use Rattle.sw_base.specs.declared.path.Step.{Step}
+use Rattle.log_format.specs.declared.record.Record.{Record}
+use Rattle.log_format.specs.declared.record.Kind.{Kind}
+use Rattle.log_format.specs.declared.record.Kind.TheVariants as kind
+use Rattle.log_format.specs.declared.record.Why.{Why}
+use Rattle.log_format.specs.declared.record.Why.TheVariants as why
+use Rattle.log_format.specs.Table.{IsTabled, Fits, Passes}
+use Rattle.race_model.specs.declared.why.RecordWhy.{RecordWhy}
+use Rattle.race_model.specs.declared.why.RecordWhy.TheVariants as log
+use Rattle.race_model.specs.IndexFault.{HasRecords}
+use Rattle.race_model.specs.LogFault.{Breaks}
+use Rattle.race_model.specs.Race.{held_after, held_after_kind, IsAccess}
+use Rattle.race_model.specs.Trace.{barrier_count, is_barrier_kind}
+use Rattle.race_model.specs.WellFormed.{EndsOnce}
+use Rattle.race_model.proofs.TraceLogs.{all_at}
+use Rattle.kernel_syntax.specs.Bounds.{IsLine, IsSpan, IsBoundedCode}
+use Rattle.kernel_syntax.specs.FirstKind.{IsOneLoop}
+use Rattle.kernel_syntax.specs.Tree.{Code, TeamTree, Done, For}
+use Rattle.kernel_model.specs.State.{event}
+use Rattle.kernel_model.proofs.FirstKindShape.{IsTabledAccess, IsLaneLog, loop_barrier}
+
+-- ---- records that are no accesses
+
+event_fits : (k : Kind) (line value : ℕ) → IsLine line → value < 2 ^ 64 → Fits (event k line 0 value)
+event_fits k line value is small = record { size = omega arith; site = omega arith; line = is.fits; addr = omega arith; value = small }
+
+tabled_barrier : (line : ℕ) → IsLine line → IsTabled (event kind.Barrier line 0 0)
+tabled_barrier line is = record { fits = event_fits kind.Barrier line 0 is (omega arith); passes = passes }
+  where
+    passes : (w : Why) → Passes (event kind.Barrier line 0 0) w
+    passes why.Kind = tt
+    passes why.Size = refl
+    passes why.LineZero = is.some
+    passes why.Address = tt
+    passes why.Span = tt
+    passes why.Reserved = (refl, refl, refl)
+
+pub tabled_end : (line : ℕ) → IsLine line → IsTabled (event kind.End line 0 0)
+tabled_end line is = record { fits = event_fits kind.End line 0 is (omega arith); passes = passes }
+  where
+    passes : (w : Why) → Passes (event kind.End line 0 0) w
+    passes why.Kind = tt
+    passes why.Size = refl
+    passes why.LineZero = is.some
+    passes why.Address = tt
+    passes why.Span = tt
+    passes why.Reserved = (refl, refl, refl)
+
+pub tabled_region : (line span : ℕ) → IsLine line → IsSpan span → IsTabled (event kind.Region line 0 span)
+tabled_region line span is spans =
+    let limit = spans.limit in
+    record { fits = event_fits kind.Region line span is (omega arith); passes = passes }
+  where
+    passes : (w : Why) → Passes (event kind.Region line 0 span) w
+    passes why.Kind = tt
+    passes why.Size = refl
+    passes why.LineZero = is.some
+    passes why.Address = tt
+    passes why.Span = (spans.some, spans.limit)
+    passes why.Reserved = (refl, refl)
+
+-- ---- a log that ends once
+
+abbrev NotEnd : Record → Type 0
+NotEnd r = r.kind ≡ kind.End → ⊥
+
+-- an End is the last record, and the last record is the End
+end_at : (front : List Record) (last : Record) (k : ℕ) (r : Record) → All NotEnd front →
+    slice_get (front ++ last ∷ []) k ≡ Some r → r.kind ≡ kind.End → k + 1 ≡ length (front ++ last ∷ [])
+end_at [] last zero r once found ends = omega arith
+end_at [] last (suc k) r once found ends = cc
+end_at (x ∷ front) last zero r once found ends =
+    absurd (All-head NotEnd x front once (ap (λ y. y.kind) (same_Some x r found) ∙ ends))
+end_at (x ∷ front) last (suc k) r once found ends =
+    let rest = end_at front last k r (All-tail NotEnd x front once) found ends in
+    omega arith
+
+last_at : (front : List Record) (last : Record) (k : ℕ) (r : Record) → slice_get (front ++ last ∷ []) k ≡ Some r →
+    k + 1 ≡ length (front ++ last ∷ []) → last ≡ r
+last_at [] last zero r found is = same_Some last r found
+last_at [] last (suc k) r found is = cc
+last_at (x ∷ front) last zero r found is = absurd (omega (arith, length-append front (last ∷ [])))
+last_at (x ∷ front) last (suc k) r found is = last_at front last k r found (omega arith)
+
+module _ (records : List Record) (ends : EndsOnce records) (k : ℕ) (r : Record) (found : slice_get records k ≡ Some r) where
+  found_there : slice_get (ends.front ++ ends.last ∷ []) k ≡ Some r
+  found_there = subst (λ rs. slice_get rs k ≡ Some r) ends.parts found
+
+  end_is_last : r.kind ≡ kind.End → k + 1 ≡ length records
+  end_is_last is = end_at ends.front ends.last k r ends.once found_there is ∙ ap length (sym ends.parts)
+
+  last_is_end : k + 1 ≡ length records → r.kind ≡ kind.End
+  last_is_end is = ap (λ x. x.kind) (sym (last_at ends.front ends.last k r found_there (is ∙ ap length ends.parts))) ∙ ends.ends
+
+  -- what is before the End
+  before_end : r.kind ≡ kind.End → take k records ≡ ends.front
+  before_end is =
+      let place = end_at ends.front ends.last k r ends.once found_there is in
+      ap (take k) ends.parts
+      ∙ take_at ends.front (ends.last ∷ []) k (omega (arith, length-append ends.front (ends.last ∷ [])))
+
+-- ---- lanes
+
+-- the records of a lane before its End
+abbrev IsFrontKind : Kind → Type 0
+IsFrontKind kind.Read = Unit {0}
+IsFrontKind kind.Write = Unit {0}
+IsFrontKind kind.Barrier = Unit {0}
+IsFrontKind _ = ⊥
+
+-- records of a log without mutexes and regions
+abbrev pub IsPlainKind : Kind → Type 0
+IsPlainKind kind.Lock = ⊥
+IsPlainKind kind.Unlock = ⊥
+IsPlainKind kind.Region = ⊥
+IsPlainKind _ = Unit {0}
+
+abbrev pub IsPlain : Record → Type 0
+IsPlain r = IsPlainKind r.kind
+
+plain_front : (k : Kind) → IsFrontKind k → IsPlainKind k
+plain_front kind.Read is = tt
+plain_front kind.Write is = tt
+plain_front kind.Barrier is = tt
+plain_front _ is = absurd is
+
+front_not_end : (k : Kind) → IsFrontKind k → k ≡ kind.End → ⊥
+front_not_end k is same = subst IsFrontKind same is
+
+front_access : (r : Record) → IsAccess r → IsFrontKind r.kind
+front_access r (inl is) = subst IsFrontKind (sym is) tt
+front_access r (inr is) = subst IsFrontKind (sym is) tt
+
+held_kind : (k : Kind) (mutex : ℕ) → IsPlainKind k → held_after_kind k mutex [] ≡ []
+held_kind kind.Lock mutex is = absurd is
+held_kind kind.Unlock mutex is = absurd is
+held_kind _ mutex is = refl
+
+-- a log without mutexes holds none
+held_none : (records : List Record) → All IsPlain records → held_after [] records ≡ []
+held_none [] plain = refl
+held_none (r ∷ records) plain =
+    ap (λ held. held_after held records) (held_kind r.kind r.addr (All-head IsPlain r records plain))
+    ∙ held_none records (All-tail IsPlain r records plain)
+
+-- a lane's log with so many barriers
+pub record IsLane (barriers : ℕ) (records : List Record) : Type 0 where
+  pub ends : EndsOnce records
+  pub tabled : All IsTabled records
+  pub plain : All IsPlain records
+  pub count : barrier_count ends.front ≡ barriers
+  pub size : HasRecords (length records)
+
+module _ (barriers : ℕ) (records : List Record) (lane : IsLane barriers records) (path : List Step) (below : path ≡ [] → ⊥) where
+  -- no record of a lane breaks a rule
+  pub lane_keeps : (k : ℕ) (r : Record) → slice_get records k ≡ Some r → (rule : RecordWhy) →
+      Breaks (record { path = path; records = length records; spans = []; team = Some barriers }) (take k records) r rule → ⊥
+  lane_keeps k r found = keeps
+    where
+      plain : IsPlainKind r.kind
+      plain = all_at IsPlain records k r lane.plain found
+
+      held : held_after [] (take k records) ≡ []
+      held = held_none (take k records) (All-take IsPlain k records lane.plain)
+
+      before : length (take k records) ≡ k
+      before = let within = slice_get_within records k r found in length-take-le k records (omega arith)
+
+      not_plain : (other : Kind) → r.kind ≡ other → IsPlainKind other
+      not_plain other is = subst IsPlainKind is plain
+
+      keeps : (rule : RecordWhy) →
+          Breaks (record { path = path; records = length records; spans = []; team = Some barriers }) (take k records) r rule → ⊥
+      keeps log.EndEarly b = let last = end_is_last records lane.ends k r found b.0 in let early = b.1 in omega (arith, before)
+      keeps log.EndMissing b = b.0 (last_is_end records lane.ends k r found (ap (λ n. n + 1) (sym before) ∙ b.1))
+      keeps log.LockTwice b = not_plain kind.Lock b.0
+      keeps log.LocksDeep b = not_plain kind.Lock b.0
+      keeps log.UnlockOther b = not_plain kind.Unlock b.0
+      keeps log.RootBarrier b = below b.1
+      keeps log.BarrierLocked b = b.1 held
+      keeps log.RegionLocked b = b.1 held
+      keeps log.LockOpen b = b.1 held
+      keeps log.RegionRows (inl b) = not_plain kind.Region b.0
+      keeps log.RegionRows (inr b) = let fewer = b.1 in omega arith
+      keeps log.BarrierCount b =
+          b.1.2
+          (ap (λ rs. barrier_count rs) (before_end records lane.ends k r found b.0) ∙ lane.count ∙ same_Some barriers b.1.0 b.1.1)
+      keeps _ b = b
+
+-- what a record adds to the number of barriers
+abbrev number : Bool → ℕ
+number b = cond b 1 0
+
+-- a record that is no barrier isn't counted
+uncounted : (r : Record) (records : List Record) → is_barrier_kind r.kind ≡ false → barrier_count (r ∷ records) ≡ barrier_count records
+uncounted r records is =
+    let none : number (is_barrier_kind r.kind) ≡ 0 = ap number is in
+    omega (arith, none, sum_by-cons (λ (x : Record). number (is_barrier_kind x.kind)) r records)
+
+-- all barriers of a lane stand before its End
+pub lane_barriers : (barriers : ℕ) (records : List Record) → IsLane barriers records → barrier_count records ≡ barriers
+lane_barriers barriers records lane =
+    let front = lane.ends.front in
+    let last = lane.ends.last in
+    let none : barrier_count (last ∷ []) ≡ 0 = uncounted last [] (ap is_barrier_kind lane.ends.ends) in
+    let sum : barrier_count (front ++ last ∷ []) ≡ barrier_count front + barrier_count (last ∷ []) =
+    sum_by-append (λ (r : Record). number (is_barrier_kind r.kind)) front (last ∷ []) in
+    ap (λ rs. barrier_count rs) lane.ends.parts ∙ omega (arith, sum, none, lane.count)
+
+-- a record of a lane before its End
+record IsFront (r : Record) : Type 0 where
+  tabled : IsTabled r
+  kind_is : IsFrontKind r.kind
+
+-- the barrier of a loop is such a record
+loop_front : (code : Code) → IsOneLoop code → IsBoundedCode code → All IsFront (loop_barrier code)
+loop_front (For slot from to schedule true line end body Done) one bounded = All-nil IsFront
+loop_front (For slot from to schedule false line end body Done) one bounded =
+    All-cons IsFront _ [] (record { tabled = tabled_barrier end bounded.4; kind_is = tt }) (All-nil IsFront)
+loop_front _ one bounded = absurd one
+
+access_uncounted : (r : Record) → IsAccess r → is_barrier_kind r.kind ≡ false
+access_uncounted r (inl is) = ap is_barrier_kind is
+access_uncounted r (inr is) = ap is_barrier_kind is
+
+-- accesses are no barriers
+no_barriers : (accesses : List Record) → All IsTabledAccess accesses → barrier_count accesses ≡ 0
+no_barriers [] each = refl
+no_barriers (r ∷ accesses) each =
+    uncounted r accesses (access_uncounted r (All-head IsTabledAccess r accesses each).access)
+    ∙ no_barriers accesses (All-tail IsTabledAccess r accesses each)
+
+-- The trace of a lane of one loop is a lane's log, with the loop's barrier.
+pub is_lane : (team : TeamTree) → IsOneLoop team.body → IsBoundedCode team.body → IsLine team.end → (records : List Record) →
+    IsLaneLog team records → length records ≤ 4194304 → IsLane (barrier_count (loop_barrier team.body)) records
+is_lane team one bounded line records log limit =
+    let middle = loop_barrier team.body in
+    let front = log.accesses ++ middle in
+    let last = event kind.End team.end 0 0 in
+    let parts : records ≡ front ++ last ∷ [] = log.parts ∙ sym (append_assoc log.accesses middle (last ∷ [])) in
+    let each : All IsFront front =
+    All-append IsFront log.accesses middle
+    (All-weaker IsTabledAccess IsFront (λ r is. record { tabled = is.tabled; kind_is = front_access r is.access }) log.accesses log.each)
+    (loop_front team.body one bounded) in
+    let tabled = All-weaker IsFront IsTabled (λ r is. is.tabled) front each in
+    let plain = All-weaker IsFront IsPlain (λ r is. plain_front r.kind is.kind_is) front each in
+    let sum : barrier_count front ≡ barrier_count log.accesses + barrier_count middle =
+    sum_by-append (λ (r : Record). number (is_barrier_kind r.kind)) log.accesses middle in
+    let count : length records ≡ length front + 1 = ap length parts ∙ length-append front (last ∷ []) in
+    record {
+      ends = record {
+        front = front;
+        last = last;
+        parts = parts;
+        ends = refl;
+        once = All-weaker IsFront NotEnd (λ r is. front_not_end r.kind is.kind_is) front each;
+      };
+      tabled = All-same IsTabled records (front ++ last ∷ []) parts (All-push IsTabled front last tabled (tabled_end team.end line));
+      plain = All-same IsPlain records (front ++ last ∷ []) parts (All-push IsPlain front last plain tt);
+      count = omega (arith, sum, no_barriers log.accesses log.each);
+      size = record { some = omega arith; limit = limit };
+    }
