@@ -14,24 +14,28 @@ use Rattle.kernel_syntax.specs.Tree as tree
 use Rattle.kernel_syntax.specs.Tree.{Term, Code}
 use Rattle.kernel_syntax.specs.Program.{code_of, stmt_code}
 use Rattle.kernel_syntax.proofs.Equations.{stmt_code-Set, stmt_code-Store, stmt_code-If, stmt_code-Loop, stmt_code-Parallel, stmt_code-For, stmt_code-Barrier, stmt_code-Critical}
-use Rattle.kernel_model.specs.FirstKind.{AreStores, IsFixed, IsOneLoop, IsOneTeam}
+use Rattle.kernel_syntax.specs.declared.syntax.Schedule.TheVariants.{Even, Static, Dynamic}
+use Rattle.kernel_syntax.specs.Bounds.{IsBoundedCode, IsBoundedSchedule}
+use Rattle.kernel_syntax.specs.FirstKind.{AreStores, IsStatic, IsOneLoop, IsOneRegion}
+use Rattle.kernel_model.proofs.FirstKindFolder.{first_team}
+use Rattle.team_runner.specs.Ready.{HasChunks, IsChunked}
 
 pub loop_is_there : (stmts : List Stmt) → IsOneLoop (code_of stmts) → 0 < length stmts
 loop_is_there [] one = absurd one
 loop_is_there (s ∷ rest) one = omega arith
 
-pub team_is_there : (stmts : List Stmt) → IsOneTeam (code_of stmts) → 0 < length stmts
+pub team_is_there : (stmts : List Stmt) → IsOneRegion (code_of stmts) → 0 < length stmts
 team_is_there [] one = absurd one
 team_is_there (s ∷ rest) one = omega arith
 
 -- nothing follows the loop
 pub loop_alone : (slot : ℕ) (from to : Term) (schedule : Schedule) (nowait : Bool) (line end : ℕ) (body rest : Code) →
-    IsOneLoop (tree.For slot from to schedule nowait line end body rest) → (rest ≡ tree.Done) × IsFixed schedule × AreStores body
+    IsOneLoop (tree.For slot from to schedule nowait line end body rest) → (rest ≡ tree.Done) × IsStatic schedule × AreStores body
 loop_alone slot from to schedule nowait line end body tree.Done one = (refl, one.0, one.1)
 loop_alone slot from to schedule nowait line end body _ one = absurd one
 
 -- nor the region
-pub team_alone : (span line end : ℕ) (body rest : Code) → IsOneTeam (tree.Parallel span line end body rest) → (rest ≡ tree.Done) × IsOneLoop body
+pub team_alone : (span line end : ℕ) (body rest : Code) → IsOneRegion (tree.Parallel span line end body rest) → (rest ≡ tree.Done) × IsOneLoop body
 team_alone span line end body tree.Done one = (refl, one)
 team_alone span line end body _ one = absurd one
 
@@ -66,16 +70,34 @@ module _ (s : Stmt) (rest : Code) (h : IsOneLoop (stmt_code s rest)) (other : (s
   loop_only = loop_by_layer (out-Stmt s) (roll-out-Stmt s)
 
 -- such a statement is a region
-module _ (s : Stmt) (rest : Code) (h : IsOneTeam (stmt_code s rest)) (other : (team : Team) → s ≡ variant.Parallel team → ⊥) where
+module _ (s : Stmt) (rest : Code) (h : IsOneRegion (stmt_code s rest)) (other : (team : Team) → s ≡ variant.Parallel team → ⊥) where
   team_by_layer : (x : Stmt-F Stmt Body Team) → roll-Stmt x ≡ s → ⊥
-  team_by_layer (layer.Set slot value) is = subst IsOneTeam (ap (λ (z : Stmt). stmt_code z rest) (sym is ∙ rolls-Set slot value) ∙ stmt_code-Set slot value rest) h
-  team_by_layer (layer.Store array index value line site) is = subst IsOneTeam (ap (λ (z : Stmt). stmt_code z rest) (sym is ∙ rolls-Store array index value line site) ∙ stmt_code-Store array index value line site rest) h
-  team_by_layer (layer.If test if_true if_false) is = subst IsOneTeam (ap (λ (z : Stmt). stmt_code z rest) (sym is ∙ rolls-If test if_true if_false) ∙ stmt_code-If test if_true if_false rest) h
-  team_by_layer (layer.Loop slot from to body) is = subst IsOneTeam (ap (λ (z : Stmt). stmt_code z rest) (sym is ∙ rolls-Loop slot from to body) ∙ stmt_code-Loop slot from to body rest) h
+  team_by_layer (layer.Set slot value) is = subst IsOneRegion (ap (λ (z : Stmt). stmt_code z rest) (sym is ∙ rolls-Set slot value) ∙ stmt_code-Set slot value rest) h
+  team_by_layer (layer.Store array index value line site) is = subst IsOneRegion (ap (λ (z : Stmt). stmt_code z rest) (sym is ∙ rolls-Store array index value line site) ∙ stmt_code-Store array index value line site rest) h
+  team_by_layer (layer.If test if_true if_false) is = subst IsOneRegion (ap (λ (z : Stmt). stmt_code z rest) (sym is ∙ rolls-If test if_true if_false) ∙ stmt_code-If test if_true if_false rest) h
+  team_by_layer (layer.Loop slot from to body) is = subst IsOneRegion (ap (λ (z : Stmt). stmt_code z rest) (sym is ∙ rolls-Loop slot from to body) ∙ stmt_code-Loop slot from to body rest) h
   team_by_layer (layer.Parallel team) is = other team (sym is ∙ rolls-Parallel team)
-  team_by_layer (layer.For slot from to schedule nowait line end body) is = subst IsOneTeam (ap (λ (z : Stmt). stmt_code z rest) (sym is ∙ rolls-For slot from to schedule nowait line end body) ∙ stmt_code-For slot from to schedule nowait line end body rest) h
-  team_by_layer (layer.Barrier line) is = subst IsOneTeam (ap (λ (z : Stmt). stmt_code z rest) (sym is ∙ rolls-Barrier line) ∙ stmt_code-Barrier line rest) h
-  team_by_layer (layer.Critical mutex line end body) is = subst IsOneTeam (ap (λ (z : Stmt). stmt_code z rest) (sym is ∙ rolls-Critical mutex line end body) ∙ stmt_code-Critical mutex line end body rest) h
+  team_by_layer (layer.For slot from to schedule nowait line end body) is = subst IsOneRegion (ap (λ (z : Stmt). stmt_code z rest) (sym is ∙ rolls-For slot from to schedule nowait line end body) ∙ stmt_code-For slot from to schedule nowait line end body rest) h
+  team_by_layer (layer.Barrier line) is = subst IsOneRegion (ap (λ (z : Stmt). stmt_code z rest) (sym is ∙ rolls-Barrier line) ∙ stmt_code-Barrier line rest) h
+  team_by_layer (layer.Critical mutex line end body) is = subst IsOneRegion (ap (λ (z : Stmt). stmt_code z rest) (sym is ∙ rolls-Critical mutex line end body) ∙ stmt_code-Critical mutex line end body rest) h
 
   pub team_only : ⊥
   team_only = team_by_layer (out-Stmt s) (roll-out-Stmt s)
+
+-- the team's one loop, and its chunks
+pub team_loop : (code : Code) → IsOneRegion code → IsOneLoop (first_team code).body
+team_loop (tree.Parallel span line end body tree.Done) one = one
+team_loop _ one = absurd one
+
+bounded_chunks : (schedule : Schedule) → IsStatic schedule → IsBoundedSchedule schedule → IsChunked schedule
+bounded_chunks Even static bounded = tt
+bounded_chunks (Static chunk) static bounded = bounded.some
+bounded_chunks (Dynamic chunk) static bounded = static
+
+loop_chunks : (code : Code) → IsOneLoop code → IsBoundedCode code → HasChunks code
+loop_chunks (tree.For slot from to schedule nowait line end body tree.Done) one bounded = bounded_chunks schedule one.0 bounded.2
+loop_chunks _ one bounded = absurd one
+
+pub team_chunks : (code : Code) → IsOneRegion code → IsBoundedCode code → HasChunks (first_team code).body
+team_chunks (tree.Parallel span line end body tree.Done) one bounded = loop_chunks body one bounded.3
+team_chunks _ one bounded = absurd one

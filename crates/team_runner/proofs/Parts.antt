@@ -10,7 +10,7 @@ use Rattle.kernel_syntax.specs.Tree.{Term, Code}
 use Rattle.kernel_syntax.specs.Program.{stmt_code, code_of}
 use Rattle.kernel_syntax.proofs.Equations.{stmts_code-append}
 use Rattle.kernel_syntax.proofs.Following.{followed_by, stmt_code-first}
-use Rattle.kernel_model.specs.FirstKind.{AreStores}
+use Rattle.kernel_syntax.specs.FirstKind.{AreStores}
 use Rattle.kernel_model.specs.State as model
 use Rattle.kernel_model.specs.State.{State, Outcome, after, assign}
 use Rattle.kernel_model.specs.Value.{Site, element_at, access}
@@ -46,6 +46,11 @@ part_same p q slots slots' old new finish same m = record {
   adds_records = m.adds_records;
   makes = makes-same p q slots (log_limit - old.count) (adds slots' m.added) finish same m.makes;
 }
+
+pub finishes_same : (p q : Part) (slots slots' : List ℤ) (old new : Written) (r : Result (Unit {0}) Stop) → ((s : State) → q s ≡ p s) →
+    Finishes (MadePart p slots old new slots') new r → Finishes (MadePart q slots old new slots') new r
+finishes_same p q slots slots' old new r same =
+    finishes_weaker (MadePart p slots old new slots') (MadePart q slots old new slots') new r (λ finish. part_same p q slots slots' old new finish same)
 
 -- a part, and what follows it
 pub part_after : (p q : Part) (slots mid_slots slots' : List ℤ) (old mid new : Written) (finish : Finish (Unit {0})) → mid.size ≡ old.size →
@@ -221,6 +226,13 @@ module _ (at : Site) (body : Code) (slot : ℕ) (a : ℤ) where
   pub turns_halt : (i : ℕ) (is : List ℕ) (slots slots' : List ℤ) (old new : Written) (why : Stop) →
       Finishes (MadePart (a_turn i) slots old new slots') new (Err why) → Finishes (MadePart (each (i ∷ is) a_turn) slots old new slots') new (Err why)
   turns_halt i is slots slots' old new why m = part_halts (a_turn i) (each is a_turn) slots slots' old new why m
+
+  -- turns that stop, whatever others follow them
+  pub turns_halted : (is js : List ℕ) (slots slots' : List ℤ) (old new : Written) (why : Stop) →
+      Finishes (MadePart (each is a_turn) slots old new slots') new (Err why) → Finishes (MadePart (each (is ++ js) a_turn) slots old new slots') new (Err why)
+  turns_halted is js slots slots' old new why m =
+      finishes_same (λ s. after (each is a_turn s) (each js a_turn)) (each (is ++ js) a_turn) slots slots' old new (Err why) (each-append is js a_turn)
+      (part_halts (each is a_turn) (each js a_turn) slots slots' old new why m)
 
 -- ---- what the statements of a list are
 

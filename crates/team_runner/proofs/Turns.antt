@@ -8,26 +8,20 @@ use Rattle.kernel_syntax.specs.Tree.{Code}
 use Rattle.kernel_model.specs.Value.{Site}
 use Rattle.kernel_model.specs.Trace.{each}
 use Rattle.kernel_model.specs.Effect.{Returned}
+use Rattle.kernel_model.proofs.Shares.{range_with_len-add}
 use Rattle.team_runner.specs.declared.stop.Stop.{Stop}
 use Rattle.team_runner.specs.Written.{Written}
 use Rattle.team_runner.specs.Stops.{Finishes}
 use Rattle.team_runner.specs.Lane.{MadePart, turn}
 use Rattle.team_runner.proofs.Parts.{finishes_weaker, turns_append, turns_one, turns_halt}
 
-range_add : (a m n : ℕ) → range_with_len a (m + n) ≡ range_with_len a m ++ range_with_len (a + m) n
-range_add a zero n = ap (range_with_len a) (omega arith) ∙ ap (λ b. range_with_len b n) (omega arith)
-range_add a (suc m) n =
-    let more : suc m + n ≡ suc (m + n) = omega arith in
-    let place : a + 1 + m ≡ a + suc m = omega arith in
-    ap (range_with_len a) more ∙ ap (λ l. a ∷ l) (range_add (a + 1) m n ∙ ap (λ b. range_with_len (a + 1) m ++ range_with_len b n) place)
-
 range_grow : (a i : ℕ) → range_with_len a (i + 1) ≡ range_with_len a i ++ (a + i) ∷ []
-range_grow a i = range_add a i 1
+range_grow a i = range_with_len-add a i 1
 
 range_split : (a i n : ℕ) → i < n → range_with_len a n ≡ range_with_len a i ++ (a + i) ∷ range_with_len (a + i + 1) (n - i - 1)
 range_split a i n lt =
     let parts : n ≡ i + suc (n - i - 1) = omega arith in
-    ap (range_with_len a) parts ∙ range_add a i (suc (n - i - 1))
+    ap (range_with_len a) parts ∙ range_with_len-add a i (suc (n - i - 1))
 
 module _ (at : Site) (body : Code) (slot : ℕ) (from : ℤ) (first i : ℕ) (slots mid_slots slots' : List ℤ) (old mid new : Written) (size : mid.size ≡ old.size)
     (before : MadePart (each (range_with_len first i) (turn at body slot from)) slots old mid mid_slots (Returned tt)) where

@@ -1,5 +1,5 @@
 -- What a lane does, by the definition of its trace.
-use Rattle.std.specs.Prelude.{◌≡◌, ℕ, ◌-◌, ◌<◌, ◌≤◌, List, [], ◌∷◌, ℤ, pos, ◌+ℤ◌, Option, Some, None, Result, Ok, Err, FitsSigned}
+use Rattle.std.specs.Prelude.{◌≡◌, ℕ, ◌-◌, ◌<◌, ◌≤◌, List, [], ◌∷◌, length, ℤ, pos, ◌+ℤ◌, Option, Some, None, Result, Ok, Err, FitsSigned}
 use Rattle.std.specs.Int.{w64}
 use Rattle.log_format.specs.declared.record.Record.{Record}
 use Rattle.log_format.specs.declared.record.Kind.TheVariants as kind
@@ -7,12 +7,19 @@ use Rattle.kernel_syntax.specs.declared.syntax.Array.{Array}
 use Rattle.kernel_syntax.specs.Arithmetic.{fitted}
 use Rattle.kernel_syntax.specs.Tree.{Term, Code}
 use Rattle.kernel_model.specs.Value.{Site, Element, access}
-use Rattle.kernel_model.specs.Trace.{log_limit, run}
+use Rattle.kernel_model.specs.Trace.{Start, Ending, Ended, Stopped, log_limit, run}
+use Rattle.kernel_model.specs.Folder.{IsTracedTo}
 use Rattle.kernel_model.specs.State.{State, Outcome, assign}
-use Rattle.kernel_model.specs.Effect.{Finish, Makes, MakesValue, adds}
+use Rattle.kernel_model.specs.Effect.{Finish, Returned, Halted, Makes, MakesValue, adds}
 use Rattle.team_runner.specs.declared.stop.Stop.{Stop}
 use Rattle.team_runner.specs.declared.stop.Stop.TheVariants.{DivZero, Index, LogFull, Trouble}
-use Rattle.team_runner.specs.Written.{Written, Adds, HasFault}
+use Rattle.team_runner.specs.Written.{Written, Adds, Begun, HasFault}
+use Rattle.team_runner.specs.Stops.{Finishes}
+use Rattle.team_runner.specs.Answer.{outline, whole_outline}
+use Rattle.sw_base.specs.declared.path.TheConstants.{LOG_HEADER}
+use Rattle.sw_base.specs.Environment.{WhereTold, empty_text}
+use Rattle.std.specs.Option.{option_map}
+use Rattle.kernel_syntax.specs.Program.{Program}
 
 abbrev pub site : List Array → ℕ → ℕ → Site
 site arrays lane span = record { arrays = arrays; lane = lane; span = span }
@@ -76,3 +83,34 @@ Stores found line site v old new (Err (Trouble trouble)) = HasFault trouble new
 -- a turn of a loop: its number is assigned, and the body runs
 abbrev pub turn : Site → Code → ℕ → ℤ → ℕ → State → Outcome (Unit {0})
 turn at body slot from i s = run at body (assign slot (from +ℤ pos i) s)
+
+-- how a trace ends where the task ends so
+abbrev pub ending_of : Finish (Unit {0}) → Ending
+ending_of (Returned _) = Ended
+ending_of (Halted why line) = Stopped why line
+
+-- nothing was put, and the log is empty
+pub record IsFresh (w : Written) : Type 0 where
+  pub count : w.count ≡ 0
+  pub buffer : w.buffer ≡ []
+  pub text : WhereTold w.text (λ t. t ≡ empty_text)
+
+-- the log is that of the task's trace, which ends so
+pub record HasTrace (arrays : List Array) (start : Start) (old new : Written) (ending : Ending) : Type 0 where
+  pub records : List Record
+  pub traced : (program : Program) → program.arrays ≡ arrays → IsTracedTo program start records ending
+  pub told : outline new.text ≡ option_map (λ _. whole_outline new.size records) old.text
+  pub count : new.count ≡ length records
+
+-- the log has its header, and the records that were put after it are those of the task's trace, which ends so
+pub record MadeTask (arrays : List Array) (start : Start) (old new : Written) (ending : Ending) : Type 0 where
+  pub begun : Written
+  pub begins : Begun old begun LOG_HEADER
+  pub size : begun.size ≡ old.size
+  pub records : List Record
+  pub traced : (program : Program) → program.arrays ≡ arrays → IsTracedTo program start records ending
+  pub adds_records : Adds begun new records
+
+-- the task ended or stopped so, and its log is that of its trace
+abbrev pub EndsTask : List Array → Start → Written → Written → Result (Unit {0}) Stop → Type 0
+EndsTask arrays start old new result = Finishes (λ finish. HasTrace arrays start old new (ending_of finish)) new result

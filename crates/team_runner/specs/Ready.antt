@@ -1,12 +1,11 @@
 -- What `run_kernel` asks of a kernel.
-use Rattle.std.specs.Prelude.{◌<◌}
+use Rattle.std.specs.Prelude.{ℕ, ◌<◌, ◌≤◌}
 use Rattle.kernel_syntax.specs.declared.syntax.Schedule.{Schedule}
 use Rattle.kernel_syntax.specs.declared.syntax.Schedule.TheVariants.{Even, Static, Dynamic}
+use Rattle.kernel_syntax.specs.Bounds.{IsBounded}
+use Rattle.kernel_syntax.specs.FirstKind.{IsFirstKind}
 use Rattle.kernel_syntax.specs.Tree.{Code, Parallel, For}
 use Rattle.kernel_syntax.specs.Program.{Program}
-use Rattle.kernel_syntax.specs.Layout.{elements}
-use Rattle.kernel_model.specs.FirstKind.{IsFirstKind}
-use Rattle.team_runner.specs.Placed.{ArePlaced}
 
 -- an even share, or chunks of at least one iteration
 abbrev pub IsChunked : Schedule → Type 0
@@ -23,8 +22,12 @@ abbrev pub TeamHasChunks : Code → Type 0
 TeamHasChunks (Parallel span line end body rest) = HasChunks body
 TeamHasChunks _ = Unit {0}
 
--- a kernel of the first kind whose arrays are laid out and whose chunks have iterations, as one that was read has
+-- a kernel of the first kind within the bounds of the language, as one that was read is
 pub record IsReady (program : Program) : Type 0 where
   pub first : IsFirstKind program
-  pub chunks : TeamHasChunks program.main.body
-  pub placed : ArePlaced program.arrays (elements program.arrays)
+  pub bounded : IsBounded program
+
+-- a buffer holds at least one record, and at most 4,194,304 bytes
+pub record IsBufferSize (size : ℕ) : Type 0 where
+  pub least : 24 ≤ size
+  pub most : size ≤ 4194304

@@ -1,7 +1,8 @@
 //! The elements of a kernel's arrays.
 ghost use Rattle.std.specs.Prelude.{◌≡◌, ◌+◌, ◌*◌, ◌^◌, ◌<◌, MatchOption, None};
 ghost use Rattle.kernel_model.specs.Value.{element_at};
-ghost use Rattle.team_runner.specs.Placed.{ArePlaced, IsElement, IsPlaced};
+ghost use Rattle.kernel_syntax.specs.Layout.{ArePlaced, IsPlaced};
+ghost use Rattle.team_runner.specs.Placed.{IsElement};
 
 use kernel_syntax::Array;
 

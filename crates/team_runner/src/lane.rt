@@ -1,16 +1,16 @@
 //! What a lane of a team executes.
 ghost use Rattle.std.specs.Prelude.{◌≡◌, ◌+◌, ◌-◌, ◌^◌, ◌<◌, ℕ, ℤ, pos, ◌+ℤ◌, ◌≤ℤ◌, ◌∷◌, length};
 ghost use Rattle.std.specs.List.{range_with_len};
-ghost use Rattle.kernel_model.specs.Iterations.{total_of};
+ghost use Rattle.kernel_model.specs.Iterations.{static_iterations, total_of};
 ghost use Rattle.kernel_model.specs.Value.{element_at};
-ghost use Rattle.kernel_model.specs.Trace.{run, each};
+ghost use Rattle.kernel_model.specs.Trace.{run, each, shared};
 ghost use Rattle.kernel_syntax.specs.Tree.{Done};
 ghost use Rattle.team_runner.specs.Stops.{Finishes};
-ghost use Rattle.team_runner.specs.Lane.{MadePart, Stores, site, turn};
-ghost use Rattle.team_runner.specs.Placed.{ArePlaced};
+ghost use Rattle.team_runner.specs.Lane.{EndsTask, IsFresh, MadePart, MadeTask, Stores, ending_of, site, turn};
+ghost use Rattle.kernel_syntax.specs.Layout.{ArePlaced};
 ghost use Rattle.team_runner.specs.Written.{Keeps};
-ghost use Rattle.team_runner.specs.Ready.{IsChunked, HasChunks};
-ghost use Rattle.kernel_model.specs.FirstKind.{AreStores, IsOneLoop};
+ghost use Rattle.team_runner.specs.Ready.{IsBufferSize, IsChunked, HasChunks};
+ghost use Rattle.kernel_syntax.specs.FirstKind.{AreStores, IsOneLoop};
 ghost use Rattle.kernel_syntax.specs.Program.{code_of, stmt_code, team_of};
 
 use crate::element::find_element;
@@ -232,6 +232,9 @@ impl<L: Log> Lane<L> {
         requires some { 0 < chunk }
         requires stores { AreStores (code_of stmts.now) }
         requires top { (from +ℤ pos total) ≤ℤ pos (2 ^ 63 - 1) }
+        ensures made { Finishes (MadePart (each (static_iterations chunk total self.old.frame.lane self.old.frame.span)
+            (turn (site arrays.now self.old.frame.lane self.old.frame.span) (code_of stmts.now) slot from))
+            self.old.frame.locals.items self.old.recorder self.new.recorder self.new.frame.locals.items) self.new.recorder result }
         ensures same { Keeps self.old.recorder self.new.recorder }
         ensures lane { self.new.frame.lane ≡ self.old.frame.lane }
         ensures span { self.new.frame.span ≡ self.old.frame.span }
@@ -264,6 +267,9 @@ impl<L: Log> Lane<L> {
         requires fixed { IsChunked schedule }
         requires stores { AreStores (code_of stmts.now) }
         requires top { (from +ℤ pos total) ≤ℤ pos (2 ^ 63 - 1) }
+        ensures made { (line : ℕ) → Finishes (MadePart (shared schedule (site arrays.now self.old.frame.lane self.old.frame.span) line total
+            (turn (site arrays.now self.old.frame.lane self.old.frame.span) (code_of stmts.now) slot from))
+            self.old.frame.locals.items self.old.recorder self.new.recorder self.new.frame.locals.items) self.new.recorder result }
         ensures same { Keeps self.old.recorder self.new.recorder }
         ensures lane { self.new.frame.lane ≡ self.old.frame.lane }
         ensures span { self.new.frame.span ≡ self.old.frame.span }
@@ -293,6 +299,8 @@ impl<L: Log> Lane<L> {
         requires within { self.old.frame.lane < self.old.frame.span }
         requires one { IsOneLoop (stmt_code stmt.now (code_of rest.now)) }
         requires chunked { HasChunks (stmt_code stmt.now (code_of rest.now)) }
+        ensures made { Finishes (MadePart (run (site arrays.now self.old.frame.lane self.old.frame.span) (stmt_code stmt.now (code_of rest.now)))
+            self.old.frame.locals.items self.old.recorder self.new.recorder self.new.frame.locals.items) self.new.recorder result }
         ensures same { Keeps self.old.recorder self.new.recorder }
         ensures lane { self.new.frame.lane ≡ self.old.frame.lane }
         ensures span { self.new.frame.span ≡ self.old.frame.span }
@@ -342,6 +350,10 @@ impl<L: Log> Lane<L> {
         requires within { self.old.frame.lane < self.old.frame.span }
         requires one { IsOneLoop (team_of team.now).body }
         requires chunked { HasChunks (team_of team.now).body }
+        requires span { self.old.frame.span ≡ team.now.span }
+        requires none { self.old.recorder.count ≡ 0 }
+        ensures made { Finishes (λ finish. MadeTask arrays.now (record { team = team_of team.now; lane = self.old.frame.lane; slots = self.old.frame.locals.items })
+            self.old.recorder self.new.recorder (ending_of finish)) self.new.recorder result }
         ensures same { Keeps self.old.recorder self.new.recorder }
         ensures lane { self.new.frame.lane ≡ self.old.frame.lane }
         ensures span { self.new.frame.span ≡ self.old.frame.span }
@@ -364,6 +376,11 @@ impl<L: Log> Lane<L> {
         requires within { self.old.frame.lane < self.old.frame.span }
         requires one { IsOneLoop (team_of team.now).body }
         requires chunked { HasChunks (team_of team.now).body }
+        requires span { self.old.frame.span ≡ team.now.span }
+        requires fresh { IsFresh self.old.recorder }
+        requires size { IsBufferSize self.old.recorder.size }
+        ensures ran { EndsTask arrays.now (record { team = team_of team.now; lane = self.old.frame.lane; slots = self.old.frame.locals.items })
+            self.old.recorder self.new.recorder result }
         ensures same { Keeps self.old.recorder self.new.recorder }
         ensures lane { self.new.frame.lane ≡ self.old.frame.lane }
         ensures span { self.new.frame.span ≡ self.old.frame.span }

@@ -1,14 +1,14 @@
 //! The records of one task, on their way to its log.
 ghost use Rattle.std.specs.Prelude.{◌≡◌, ◌+◌, ◌-◌, ◌<◌, ◌≤◌, ◌↔◌, [], ◌∷◌, ◌++◌, length, OnOk, OnErr, IfOk, IfErr, IsTrue};
 ghost use Rattle.std.specs.Option.{option_map};
-ghost use Rattle.log_format.specs.Spelling.{kind_code, spelling};
+ghost use Rattle.log_format.specs.Spelling.{spelling};
 ghost use Rattle.team_runner.specs.Written.{Keeps, Begun, Flushed, Closed, HasFault};
-ghost use Rattle.team_runner.specs.Stops.{Puts};
+ghost use Rattle.team_runner.specs.Stops.{Ends, Puts};
 ghost use Rattle.kernel_model.specs.Trace.{log_limit};
 ghost use Rattle.sw_base.specs.Environment.{empty_text};
 
 use crate::stop::Stop;
-use log_format::{Kind, Record};
+use log_format::{Record, encode};
 use std::alloc::Global;
 use std::marker::Model;
 use sw_base::{LOG_HEADER, Log, Memory, Trouble};
@@ -102,7 +102,7 @@ impl<L: Log> Recorder<L> {
         ensures kept { OnOk result (self.new ≡ record self.old { buffer = self.old.buffer ++ spelling event.now; count = self.old.count + 1 }) }
         ensures refused { OnErr result (self.new ≡ self.old) }
     {
-        self.buffer.extend_from_slice(&spelled(event))?;
+        self.buffer.extend_from_slice(&encode(event))?;
         self.count += 1;
         Ok(())
     }
@@ -147,6 +147,7 @@ impl<L: Log> Recorder<L> {
 
     /// Hands the last records to the log after the task ended so, but not after trouble.
     pub fn finish(&mut self, alloc: Global, outcome: Result<(), Stop>) -> Result<(), Stop>
+        ensures ends { Ends outcome self.old self.new result }
         ensures same { Keeps self.old self.new }
     {
         if let Err(Stop::Trouble(trouble)) = outcome {
@@ -179,56 +180,4 @@ impl<L: Log> Recorder<L> {
     {
         (self.log, self.count)
     }
-}
-
-/// The number of a kind, its record's first byte.
-fn code_of(kind: Kind) -> u8
-    ensures { result ≡ kind_code kind }
-{
-    match kind {
-        Kind::Read => 1,
-        Kind::Write => 2,
-        Kind::Lock => 3,
-        Kind::Unlock => 4,
-        Kind::Barrier => 5,
-        Kind::Region => 6,
-        Kind::Chunk => 7,
-        Kind::End => 8,
-    }
-}
-
-/// The 24 bytes of a record.
-fn spelled(r: &Record) -> [u8; 24]
-    ensures { result ≡ spelling r.now }
-{
-    let site = r.site.to_be_bytes();
-    let line = r.line.to_be_bytes();
-    let addr = r.addr.to_be_bytes();
-    let value = r.value.to_be_bytes();
-    [
-        code_of(r.kind),
-        r.size,
-        site[0],
-        site[1],
-        line[0],
-        line[1],
-        line[2],
-        line[3],
-        addr[0],
-        addr[1],
-        addr[2],
-        addr[3],
-        addr[4],
-        addr[5],
-        addr[6],
-        addr[7],
-        value[0],
-        value[1],
-        value[2],
-        value[3],
-        value[4],
-        value[5],
-        value[6],
-        value[7],
-    ]
 }

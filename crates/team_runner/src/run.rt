@@ -1,17 +1,28 @@
 //! A whole run.
-ghost use Rattle.std.specs.Prelude.{◌≡◌, ◌<◌, [], length, replicate, All, IfOk, OnOk};
-ghost use Rattle.kernel_model.specs.FirstKind.{IsOneLoop, IsOneTeam};
-ghost use Rattle.kernel_syntax.specs.Layout.{elements};
-ghost use Rattle.kernel_syntax.specs.Program.{code_of, program_of, stmt_code, team_of};
-ghost use Rattle.team_runner.specs.Placed.{ArePlaced};
-ghost use Rattle.team_runner.specs.Ready.{HasChunks, IsReady, TeamHasChunks};
+ghost use Rattle.std.specs.Prelude.{◌≡◌, ◌≢◌, ◌⊎◌, ◌<◌, [], ◌∷◌, ◌++◌, length, map, replicate, is_some, All, Contains, IfOk, IfErr, OnOk, Ok, Err, true, false};
+ghost use Rattle.log_format.specs.declared.record.Kind.TheVariants as kind;
+ghost use Rattle.kernel_syntax.specs.FirstKind.{IsOneRegion};
+ghost use Rattle.kernel_syntax.specs.Layout.{ArePlaced, elements};
+ghost use Rattle.kernel_syntax.specs.Program.{program_of, team_of};
+ghost use Rattle.kernel_model.specs.State.{event};
+ghost use Rattle.kernel_model.specs.Trace.{log_limit};
+ghost use Rattle.team_runner.specs.Answer.{outline, HasRun, HasStoppedRun, IsOwnLog, HasFaulty};
+ghost use Rattle.team_runner.specs.Lane.{IsFresh};
+ghost use Rattle.team_runner.specs.Ready.{IsBufferSize, IsReady};
+ghost use Rattle.team_runner.specs.Stops.{StopsSo};
+ghost use Rattle.team_runner.specs.Team.{EachAt, IsForked, HasTeam, HasRunTeam, HasPut, ClosesWith, region_record, all_logs, entry, AreLogs, handed, logged, faulty, path_of};
+ghost use Rattle.team_runner.specs.Written.{Adds, HasFault, Keeps};
+ghost use Rattle.team_runner.specs.declared.stop.Stop.TheVariants as stop;
+ghost use Rattle.sw_base.specs.declared.trouble.Trouble.TheVariants as trouble;
+ghost use Rattle.sw_base.specs.Environment.{WhereTold, empty_text};
+ghost use Rattle.kernel_model.proofs.FirstKindFolder.{first_team};
 
 use crate::lane::{Lane, event, parted};
 use crate::recorder::Recorder;
 use crate::stop::Stop;
 use crate::team::{Halt, fork, run_lanes};
 use kernel_syntax::{Array, Kernel, Stmt, Team};
-use log_format::Kind;
+use log_format::{Kind, Record};
 use std::alloc::{AllocError, Global};
 use sw_base::{Gate, Log, Path, Trouble};
 
@@ -49,30 +60,48 @@ fn table(alloc: Global, arrays: &[Array]) -> Result<Vec<u64>, AllocError>
     vec![in alloc; 0; count]
 }
 
-/// A stop of the root.
-fn of_root(why: Stop) -> Halt {
-    Halt {
-        path: Path::root(),
-        why,
+/// The team of a kernel of the first kind.
+fn only_team(kernel: &Kernel) -> &Team
+    requires { IsOneRegion (program_of kernel.now).main.body }
+    ensures { team_of result.now ≡ first_team (program_of kernel.now).main.body }
+{
+    let (stmt, _) = parted(&kernel.main.body.stmts);
+    let Stmt::Parallel { team } = stmt else {
+        unreachable!()
+    };
+    team
+}
+
+/// Puts one more record into a log that has room for it.
+fn put<L: Log>(log: &mut Recorder<L>, alloc: Global, event: &Record) -> Result<(), Trouble>
+    requires { log.old.count < log_limit }
+    ensures adds { OnOk result (Adds log.old log.new (event.now ∷ [])) }
+    ensures same { Keeps log.old log.new }
+    ensures fault { IfErr result (λ trouble. HasFault trouble log.new) }
+{
+    match log.put(alloc, event) {
+        Ok(()) => Ok(()),
+        Err(Stop::Trouble(trouble)) => Err(trouble),
+        Err(_) => unreachable!(),
     }
 }
 
-/// A stop of the root for want of memory.
-fn want() -> Halt {
-    of_root(Stop::Trouble(Trouble::Memory))
-}
-
 impl<L: Log> Run<L> {
-    /// Puts the root's Region record, and makes the lanes.
-    fn fork(&mut self, alloc: Global, team: &Team, slots: u32, size: usize) -> Result<(), Stop>
+    /// Begins the root's log with its Region record, and makes the lanes.
+    fn fork(&mut self, alloc: Global, team: &Team, slots: u32, size: usize) -> Result<(), Trouble>
         requires root { self.old.root.path ≡ [] }
+        requires fresh { IsFresh self.old.root }
         requires none { self.old.lanes.items ≡ [] }
         ensures words { self.new.words ≡ self.old.words }
-        ensures lanes { OnOk result (All (λ made. made.frame.lane < made.frame.span) self.new.lanes.items) }
+        ensures same { Keeps self.old.root self.new.root }
+        ensures forked { EachAt (IsForked self.old.root team.now.span slots size) self.new.lanes.items }
+        ensures all { OnOk result (length self.new.lanes.items ≡ team.now.span) }
+        ensures put { OnOk result (HasPut self.old.root self.new.root (event kind.Region team.now.line 0 team.now.span ∷ [])) }
+        ensures fault { IfErr result (λ trouble. HasFault trouble self.new.root) }
     {
         self.root.start(alloc)?;
         let region = event(Kind::Region, team.line, u64::from(team.span));
-        self.root.put(alloc, &region)?;
+        put(&mut self.root, alloc, &region)?;
         fork(
             alloc,
             &mut self.root,
@@ -83,124 +112,134 @@ impl<L: Log> Run<L> {
         )
     }
 
+    /// Puts the root's End record, and closes its log.
+    fn end(&mut self, alloc: Global, line: u32) -> Result<(), Trouble>
+        requires { self.old.root.count < log_limit }
+        ensures words { self.new.words ≡ self.old.words }
+        ensures lanes { self.new.lanes ≡ self.old.lanes }
+        ensures same { Keeps self.old.root self.new.root }
+        ensures closes { OnOk result (ClosesWith self.old.root self.new.root (event kind.End line 0 0 ∷ [])) }
+        ensures fault { IfErr result (λ trouble. HasFault trouble self.new.root) }
+    {
+        put(&mut self.root, alloc, &event(Kind::End, line, 0))?;
+        self.root.close(alloc)
+    }
+
+    /// Closes the root's log after a stop of a lane. Want of memory goes before that stop.
+    fn stop(&mut self, alloc: Global, halt: Halt) -> Halt
+        ensures words { self.new.words ≡ self.old.words }
+        ensures lanes { self.new.lanes ≡ self.old.lanes }
+        ensures same { Keeps self.old.root self.new.root }
+        ensures first { (result ≡ halt) ⊎ (result.why ≡ stop.Trouble trouble.Memory) }
+    {
+        match self.root.close(alloc) {
+            Err(Trouble::Memory) => Halt::from(Trouble::Memory),
+            Ok(()) | Err(Trouble::Failed) => halt,
+        }
+    }
+
     /// Forks the team, and runs its lanes.
-    fn region<G: Gate>(
+    fn team<G: Gate>(
         &mut self,
         alloc: Global,
-        arrays: &[Array],
-        team: &Team,
-        slots: u32,
+        kernel: &Kernel,
+        size: usize,
+        gate: &G,
+    ) -> Result<Option<Halt>, Trouble>
+        requires ready { IsReady (program_of kernel.now) }
+        requires placed { ArePlaced kernel.now.arrays (length self.old.words.items) }
+        requires root { self.old.root.path ≡ [] }
+        requires fresh { IsFresh self.old.root }
+        requires size { IsBufferSize size }
+        requires none { self.old.lanes.items ≡ [] }
+        ensures words { length self.new.words.items ≡ length self.old.words.items }
+        ensures same { Keeps self.old.root self.new.root }
+        ensures put { OnOk result (HasPut self.old.root self.new.root (region_record (program_of kernel.now) ∷ [])) }
+        ensures lanes { HasTeam (program_of kernel.now) self.old.root size self.new.lanes.items }
+        ensures ran { IfOk result (HasRunTeam (program_of kernel.now) self.old.root size self.new.lanes.items) }
+        ensures fault { IfErr result (λ trouble. HasFault trouble self.new.root) }
+    {
+        let team = only_team(kernel);
+        self.fork(alloc, team, kernel.slots, size)?;
+        Ok(run_lanes(
+            alloc,
+            kernel.arrays.as_slice(),
+            &mut self.words,
+            team,
+            &mut self.lanes,
+            gate,
+        ))
+    }
+
+    /// Makes the table of numbers, and runs the root and its team.
+    fn execute<G: Gate>(
+        &mut self,
+        alloc: Global,
+        kernel: &Kernel,
         size: usize,
         gate: &G,
     ) -> Result<(), Halt>
-        requires placed { ArePlaced arrays.now (length self.old.words.items) }
+        requires ready { IsReady (program_of kernel.now) }
         requires root { self.old.root.path ≡ [] }
+        requires fresh { IsFresh self.old.root }
+        requires size_is { self.old.root.size ≡ size }
+        requires size { IsBufferSize size }
         requires none { self.old.lanes.items ≡ [] }
-        requires one { IsOneLoop (team_of team.now).body }
-        requires chunked { HasChunks (team_of team.now).body }
+        ensures words { OnOk result (length self.new.words.items ≡ elements kernel.now.arrays) }
+        ensures left { IfErr result (λ halt. halt.why ≢ stop.Trouble trouble.Memory → length self.new.words.items ≡ elements kernel.now.arrays) }
+        ensures finished { OnOk result (HasRun (program_of kernel.now) self.old.root.dir size self.old.root.text
+            (map logged (all_logs self.new.root self.new.lanes.items))) }
+        ensures stopped { IfErr result (λ halt. StopsSo (HasStoppedRun (program_of kernel.now) self.old.root.dir size self.old.root.text
+            (map logged (all_logs self.new.root self.new.lanes.items)) halt.path) halt.why) }
+        ensures own { All (λ h. IsOwnLog self.old.root.dir (is_some self.old.root.text) (logged h)) (all_logs self.new.root self.new.lanes.items) }
+        ensures cause { IfErr result (λ halt. halt.why ≡ stop.Trouble trouble.Failed →
+            HasFaulty (map faulty (all_logs self.new.root self.new.lanes.items)) halt.path) }
     {
-        if let Err(why) = self.fork(alloc, team, slots, size) {
-            return Err(of_root(why));
+        self.words = table(alloc, kernel.arrays.as_slice())?;
+        match self.team(alloc, kernel, size, gate)? {
+            None => Ok(self.end(alloc, kernel.main.end)?),
+            Some(halt) => Err(self.stop(alloc, halt)),
         }
-        match run_lanes(alloc, arrays, &mut self.words, team, &mut self.lanes, gate) {
-            Some(halt) => Err(halt),
-            None => Ok(()),
-        }
-    }
-
-    /// Puts the root's End record.
-    fn end(&mut self, alloc: Global, line: u32) -> Result<(), Halt> {
-        match self.root.put(alloc, &event(Kind::End, line, 0)) {
-            Ok(()) => Ok(()),
-            Err(why) => Err(of_root(why)),
-        }
-    }
-
-    /// Hands the root's last records to its log after the run ended so, but not after trouble of the root itself.
-    fn close(&mut self, alloc: Global, outcome: Result<(), Halt>) -> Result<(), Halt> {
-        if let Err(halt) = &outcome
-            && halt.path.steps().is_empty()
-        {
-            return outcome;
-        }
-        match self.root.close(alloc) {
-            Ok(()) => outcome,
-            Err(Trouble::Memory) => Err(want()),
-            Err(Trouble::Failed) => match outcome {
-                Ok(()) => Err(of_root(Stop::Trouble(Trouble::Failed))),
-                Err(halt) => Err(halt),
-            },
-        }
-    }
-
-    /// The logs in path order, and whether all found a place.
-    fn logs(self, alloc: Global) -> (Vec<(Path, L, u32)>, bool, Vec<u64>) {
-        let Run { words, root, lanes } = self;
-        let mut logs = Vec::new(alloc);
-        let mut whole = add_log(&mut logs, Path::root(), root);
-        for lane in lanes {
-            let Lane { frame, recorder } = lane;
-            let path = Path::root().child(0, frame.lane, frame.span);
-            if !add_log(&mut logs, path, recorder) {
-                whole = false;
-            }
-        }
-        (logs, whole, words)
     }
 }
 
 /// Adds a task's log. Without memory it is dropped.
-fn add_log<L: Log>(logs: &mut Vec<(Path, L, u32)>, path: Path, recorder: Recorder<L>) -> bool {
+fn add_log<L: Log>(logs: &mut Vec<(Path, L, u32)>, path: Path, recorder: Recorder<L>) -> bool
+    ensures added { result ≡ true → map (entry L.dir L.path L.text L.faults) logs.new.items
+        ≡ map (entry L.dir L.path L.text L.faults) logs.old.items ++ handed path recorder ∷ [] }
+    ensures dropped { result ≡ false → logs.new.items ≡ logs.old.items }
+{
     let (log, count) = recorder.into_parts();
     logs.push((path, log, count)).is_ok()
 }
 
-/// Runs the team of a region, which is the first statement, and nothing follows it.
-fn run_region<L: Log, G: Gate>(
+/// The logs of all tasks in path order, and whether all found a place.
+fn logs<L: Log>(
     alloc: Global,
-    kernel: &Kernel,
-    stmt: &Stmt,
-    rest: &[Stmt],
-    run: &mut Run<L>,
-    size: usize,
-    gate: &G,
-) -> Result<(), Halt>
-    requires placed { ArePlaced kernel.now.arrays (length run.old.words.items) }
-    requires one { IsOneTeam (stmt_code stmt.now (code_of rest.now)) }
-    requires chunks { TeamHasChunks (stmt_code stmt.now (code_of rest.now)) }
-    requires root { run.old.root.path ≡ [] }
-    requires none { run.old.lanes.items ≡ [] }
+    root: Recorder<L>,
+    lanes: Vec<Lane<L>>,
+) -> (Vec<(Path, L, u32)>, bool)
+    ensures { AreLogs (all_logs root lanes.items) (map (entry L.dir L.path L.text L.faults) result.0.items) result.1 }
 {
-    let Stmt::Parallel { team } = stmt else {
-        unreachable!()
-    };
-    run.region(
-        alloc,
-        kernel.arrays.as_slice(),
-        team,
-        kernel.slots,
-        size,
-        gate,
-    )
+    let mut logs = Vec::new(alloc);
+    let mut whole = add_log(&mut logs, Path::root(), root);
+    for lane in lanes {
+        let Lane { frame, recorder } = lane;
+        let path = Path::root().child(0, frame.lane, frame.span);
+        whole &= add_log(&mut logs, path, recorder);
+    }
+    (logs, whole)
 }
 
-/// Runs the team of a kernel of the first kind, and ends.
-fn run_main<L: Log, G: Gate>(
-    alloc: Global,
-    kernel: &Kernel,
-    run: &mut Run<L>,
-    size: usize,
-    gate: &G,
-) -> Result<(), Halt>
-    requires placed { ArePlaced kernel.now.arrays (length run.old.words.items) }
-    requires one { IsOneTeam (code_of kernel.now.main.body.stmts.items) }
-    requires chunks { TeamHasChunks (code_of kernel.now.main.body.stmts.items) }
-    requires root { run.old.root.path ≡ [] }
-    requires none { run.old.lanes.items ≡ [] }
+/// How a run ended, once it is known whether all its logs found a place.
+fn settled(outcome: Result<(), Halt>, whole: bool) -> Result<(), Halt>
+    ensures { ((whole ≡ true) × (result ≡ outcome)) ⊎ (result ≡ Err (record { path = []; why = stop.Trouble trouble.Memory })) }
 {
-    let (stmt, rest) = parted(&kernel.main.body.stmts);
-    run_region(alloc, kernel, stmt, rest, run, size, gate)?;
-    run.end(alloc, kernel.main.end)
+    if whole {
+        outcome
+    } else {
+        Err(Halt::from(Trouble::Memory))
+    }
 }
 
 /// What is answered of a run that ended so.
@@ -208,24 +247,34 @@ fn answer<L: Log>(
     alloc: Global,
     run: Run<L>,
     outcome: Result<(), Halt>,
-) -> Result<Finished<L>, Stopped<L>> {
-    let (logs, whole, words) = run.logs(alloc);
-    let halt = match outcome {
-        Ok(()) if whole => return Ok(Finished { logs, words }),
-        Err(halt) if whole => halt,
-        _ => want(),
-    };
-    Err(Stopped {
-        path: halt.path,
-        why: halt.why,
-        logs,
-        words,
-    })
+) -> Result<Finished<L>, Stopped<L>>
+    ensures ended { OnOk result (outcome ≡ Ok tt) }
+    ensures logs { IfOk result (λ f. map (entry L.dir L.path L.text L.faults) f.logs.items ≡ all_logs run.root run.lanes.items) }
+    ensures words { IfOk result (λ f. f.words ≡ run.words) }
+    ensures stopped { IfErr result (λ s. s.why ≢ stop.Trouble trouble.Memory → outcome ≡ Err (record { path = s.path; why = s.why })) }
+    ensures left_logs { IfErr result (λ s. s.why ≢ stop.Trouble trouble.Memory → map (entry L.dir L.path L.text L.faults) s.logs.items ≡ all_logs run.root run.lanes.items) }
+    ensures left_words { IfErr result (λ s. s.words ≡ run.words) }
+    ensures among { IfErr result (λ s. All (Contains (all_logs run.root run.lanes.items)) (map (entry L.dir L.path L.text L.faults) s.logs.items)) }
+{
+    let Run { words, root, lanes } = run;
+    let (logs, whole) = logs(alloc, root, lanes);
+    match settled(outcome, whole) {
+        Ok(()) => Ok(Finished { logs, words }),
+        Err(Halt { path, why }) => Err(Stopped {
+            path,
+            why,
+            logs,
+            words,
+        }),
+    }
 }
 
 /// Runs a kernel of the first kind: the root puts its Region record, the lanes run one after another, and the root ends.
 /// The buffer of each log has `size` bytes. The gate sees each lane start.
-pub fn run_kernel<L: Log, G: Gate>(
+///
+/// The runtime is for lanes in threads, which there are none of yet.
+pub fn run_kernel<R, L: Log, G: Gate>(
+    _rt: &R,
     alloc: Global,
     kernel: &Kernel,
     root: L,
@@ -234,19 +283,31 @@ pub fn run_kernel<L: Log, G: Gate>(
 ) -> Result<Finished<L>, Stopped<L>>
     requires ready { IsReady (program_of kernel.now) }
     requires root { L.path root ≡ [] }
+    requires empty { WhereTold (L.text root) (λ t. t ≡ empty_text) }
+    requires no_faults { L.faults root ≡ 0 }
+    requires size { IsBufferSize size }
+
+    // A run that ended: the logs are those of the kernel's tasks, each with its whole trace under what it read, cut into pieces
+    // that fill the buffer; and each element has a value.
+    ensures finished { IfOk result (λ f. HasRun (program_of kernel.now) (L.dir root) size (L.text root) (map
+        (λ e. record { task = e.0; dir = L.dir e.1; path = L.path e.1; told = outline (L.text e.1); count = e.2 }) f.logs.items)) }
+    ensures values { IfOk result (λ f. length f.words.items ≡ elements kernel.now.arrays) }
+
+    // A stop of the kernel is that of the least lane that stopped, whose log has its whole trace up to the stop.
+    ensures stopped { IfErr result (λ s. StopsSo (HasStoppedRun (program_of kernel.now) (L.dir root) size (L.text root) (map
+        (λ e. record { task = e.0; dir = L.dir e.1; path = L.path e.1; told = outline (L.text e.1); count = e.2 }) s.logs.items) s.path) s.why) }
+    ensures own_logs { IfErr result (λ s. All (λ e. IsOwnLog (L.dir root) (is_some (L.text root))
+        (record { task = e.0; dir = L.dir e.1; path = L.path e.1; told = outline (L.text e.1); count = e.2 })) s.logs.items) }
+    ensures left { IfErr result (λ s. (s.why ≢ stop.Trouble trouble.Memory) → length s.words.items ≡ elements kernel.now.arrays) }
+
+    // A failure has its cause: a log of the task that is named counts a fault.
+    ensures cause { IfErr result (λ s. s.why ≡ stop.Trouble trouble.Failed → HasFaulty (map (λ e. (e.0, L.faults e.1)) s.logs.items) s.path) }
 {
     let mut run = Run {
         words: Vec::new(alloc),
         root: Recorder::new(alloc, root, size),
         lanes: Vec::new(alloc),
     };
-    match table(alloc, kernel.arrays.as_slice()) {
-        Err(_) => answer(alloc, run, Err(want())),
-        Ok(words) => {
-            run.words = words;
-            let outcome = run_main(alloc, kernel, &mut run, size, gate);
-            let outcome = run.close(alloc, outcome);
-            answer(alloc, run, outcome)
-        }
-    }
+    let outcome = run.execute(alloc, kernel, size, gate);
+    answer(alloc, run, outcome)
 }

@@ -1,16 +1,20 @@
 //! The lanes of a team.
-ghost use Rattle.std.specs.Prelude.{◌≡◌, ◌<◌, [], length, All, OnOk, IfOk};
-ghost use Rattle.kernel_model.specs.FirstKind.{IsOneLoop};
+ghost use Rattle.std.specs.Prelude.{◌≡◌, ◌↔◌, [], length, All, OnOk, IfOk, IfErr, IsTrue};
+ghost use Rattle.kernel_syntax.specs.FirstKind.{IsOneLoop};
 ghost use Rattle.kernel_syntax.specs.Program.{team_of};
-ghost use Rattle.team_runner.specs.Placed.{ArePlaced};
+ghost use Rattle.kernel_syntax.specs.Layout.{ArePlaced};
 ghost use Rattle.team_runner.specs.Ready.{HasChunks};
+ghost use Rattle.team_runner.specs.Team.{EachAt, PairsBelow, IsForked, IsFreshLane, KeepsLane, Ran, AllRan, IsFirstOf};
+ghost use Rattle.team_runner.specs.Written.{HasFault};
+ghost use Rattle.team_runner.specs.declared.stop.Stop.TheVariants as stop;
+ghost use Rattle.sw_base.specs.declared.trouble.Trouble.TheVariants as trouble;
 
 use crate::frame::Frame;
 use crate::lane::Lane;
 use crate::recorder::Recorder;
 use crate::stop::Stop;
 use kernel_syntax::{Array, Team};
-use std::alloc::Global;
+use std::alloc::{AllocError, Global};
 use sw_base::{Gate, Log, Path, Trouble};
 
 /// A stop: the task that made it, and why.
@@ -18,6 +22,36 @@ use sw_base::{Gate, Log, Path, Trouble};
 pub struct Halt {
     pub path: Path,
     pub why: Stop,
+}
+
+/// Trouble of the root.
+impl From<Trouble> for Halt {
+    ghost use Rattle.std.specs.Prelude.{◌≡◌, []};
+    ghost use Rattle.team_runner.specs.declared.stop.Stop.TheVariants as stop;
+
+    ghost from_gives = { λ trouble e. e ≡ record { path = []; why = stop.Trouble trouble } };
+
+    fn from(trouble: Trouble) -> Self {
+        Halt {
+            path: Path::root(),
+            why: Stop::Trouble(trouble),
+        }
+    }
+}
+
+impl From<AllocError> for Halt {
+    ghost use Rattle.std.specs.Prelude.{◌≡◌, []};
+    ghost use Rattle.sw_base.specs.declared.trouble.Trouble.TheVariants as trouble;
+    ghost use Rattle.team_runner.specs.declared.stop.Stop.TheVariants as stop;
+
+    ghost from_gives = { λ _ e. e ≡ record { path = []; why = stop.Trouble trouble.Memory } };
+
+    fn from(_: AllocError) -> Self {
+        Halt {
+            path: Path::root(),
+            why: Stop::Trouble(Trouble::Memory),
+        }
+    }
 }
 
 /// Makes a lane with an empty log and with all locals 0.
@@ -28,10 +62,11 @@ fn fork_lane<L: Log>(
     span: u16,
     slots: u32,
     size: usize,
-) -> Result<Lane<L>, Stop>
+) -> Result<Lane<L>, Trouble>
     requires { root.old.path ≡ [] }
-    ensures path { root.new.path ≡ root.old.path }
-    ensures within { IfOk result (λ made. (made.frame.lane ≡ lane) × (made.frame.span ≡ span)) }
+    ensures forked { IfOk result (IsForked root.old span slots size lane) }
+    ensures same { root.new ≡ record root.old { faults = root.new.faults } }
+    ensures fault { IfErr result (λ trouble. HasFault trouble root.new) }
 {
     let log = root.child(alloc, lane, span)?;
     let locals = vec![in alloc; 0; slots as usize]?;
@@ -41,7 +76,7 @@ fn fork_lane<L: Log>(
     })
 }
 
-/// Makes the team's lanes.
+/// Makes the team's lanes, numbered from 0.
 pub fn fork<L: Log>(
     alloc: Global,
     root: &mut Recorder<L>,
@@ -49,32 +84,67 @@ pub fn fork<L: Log>(
     slots: u32,
     size: usize,
     lanes: &mut Vec<Lane<L>>,
-) -> Result<(), Stop>
+) -> Result<(), Trouble>
     requires root { root.old.path ≡ [] }
     requires none { lanes.old.items ≡ [] }
-    ensures { OnOk result (All (λ made. made.frame.lane < made.frame.span) lanes.new.items) }
+    ensures forked { EachAt (IsForked root.old span slots size) lanes.new.items }
+    ensures all { OnOk result (length lanes.new.items ≡ span) }
+    ensures same { root.new ≡ record root.old { faults = root.new.faults } }
+    ensures fault { IfErr result (λ trouble. HasFault trouble root.new) }
 {
     for lane in 0..span {
-        lanes.push(fork_lane(alloc, root, lane, span, slots, size)?)?;
+        let made = fork_lane(alloc, root, lane, span, slots, size)?;
+        lanes.push(made)?;
     }
     Ok(())
 }
 
 /// Whether a stop is want of memory, which goes before the stop of an earlier lane.
-fn is_want(why: Stop) -> bool {
+fn is_want(why: Stop) -> bool
+    ensures { IsTrue result ↔ (why ≡ stop.Trouble trouble.Memory) }
+{
     matches!(why, Stop::Trouble(Trouble::Memory))
 }
 
-/// The stop of a team, once one more lane stopped.
-fn with_stop(first: Option<Halt>, later: Halt) -> Halt {
-    match first {
-        None => later,
-        Some(halt) => {
-            if is_want(later.why) && !is_want(halt.why) {
-                later
+/// The stop of a team, once it is known how one more lane ended.
+fn first_stop(first: Option<Halt>, later: Option<Halt>) -> Option<Halt>
+    ensures { IsFirstOf first later result }
+{
+    match (first, later) {
+        (first, None) => first,
+        (None, later) => later,
+        (Some(first), Some(later)) => {
+            if is_want(later.why) && !is_want(first.why) {
+                Some(later)
             } else {
-                halt
+                Some(first)
             }
+        }
+    }
+}
+
+/// Runs a lane, and answers its stop.
+fn run_lane<L: Log, G: Gate>(
+    alloc: Global,
+    arrays: &[Array],
+    words: &mut [u64],
+    team: &Team,
+    lane: &mut Lane<L>,
+    gate: &G,
+) -> Option<Halt>
+    requires placed { ArePlaced arrays.now (length words.old) }
+    requires one { IsOneLoop (team_of team.now).body }
+    requires chunked { HasChunks (team_of team.now).body }
+    requires lane { IsFreshLane (team_of team.now) lane.old }
+    ensures ran { Ran arrays.now (team_of team.now) lane.old lane.new result }
+    ensures same { KeepsLane lane.old lane.new }
+{
+    gate.enter(lane.frame.lane as usize);
+    match lane.run(alloc, arrays, words, team) {
+        Ok(()) => None,
+        Err(why) => {
+            let path = Path::root().child(0, lane.frame.lane, lane.frame.span);
+            Some(Halt { path, why })
         }
     }
 }
@@ -90,17 +160,15 @@ pub fn run_lanes<L: Log, G: Gate>(
     gate: &G,
 ) -> Option<Halt>
     requires placed { ArePlaced arrays.now (length words.old) }
-    requires lanes { All (λ made. made.frame.lane < made.frame.span) lanes.old }
     requires one { IsOneLoop (team_of team.now).body }
     requires chunked { HasChunks (team_of team.now).body }
+    requires lanes { All (IsFreshLane (team_of team.now)) lanes.old }
+    ensures ran { AllRan arrays.now (team_of team.now) lanes.old lanes.new (length lanes.old) result }
+    ensures same { PairsBelow (length lanes.old) KeepsLane lanes.old lanes.new }
 {
     let mut first = None;
     for lane in lanes.iter_mut() {
-        gate.enter(lane.frame.lane as usize);
-        if let Err(why) = lane.run(alloc, arrays, words, team) {
-            let path = Path::root().child(0, lane.frame.lane, lane.frame.span);
-            first = Some(with_stop(first, Halt { path, why }));
-        }
+        first = first_stop(first, run_lane(alloc, arrays, words, team, lane, gate));
     }
     first
 }

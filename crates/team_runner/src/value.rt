@@ -3,7 +3,7 @@ ghost use Rattle.std.specs.Prelude.{◌≡◌, length, ok_or};
 ghost use Rattle.kernel_syntax.specs.Arithmetic.{applied, negated};
 ghost use Rattle.kernel_syntax.specs.Program.{term_of};
 ghost use Rattle.kernel_model.specs.Value.{element_at};
-ghost use Rattle.team_runner.specs.Placed.{ArePlaced};
+ghost use Rattle.kernel_syntax.specs.Layout.{ArePlaced};
 ghost use Rattle.team_runner.specs.Stops.{Finishes};
 ghost use Rattle.team_runner.specs.Written.{Keeps};
 ghost use Rattle.team_runner.specs.Lane.{Loads, MadeValue, site};

@@ -1,0 +1,76 @@
+-- The lanes of a team that ran so far, and one more.
+use Rattle.std.proofs.Common.{◌≡◌, ◌≢◌, sym, ◌∙◌, subst, ℕ, ◌+◌, ◌<◌, ◌≤◌, List, length, get_or, get_or-set_other, get_or-set_same, below_more, Option, Some, None, inl, inr, arith}
+use Rattle.std.proofs.Math.ListN.{set}
+use Rattle.std.proofs.lemmas.List.{get_or_default}
+use Rattle.sw_base.specs.declared.trouble.Trouble.TheVariants as trouble
+use Rattle.kernel_syntax.specs.declared.syntax.Array.{Array}
+use Rattle.kernel_syntax.specs.Tree.{TeamTree}
+use Rattle.team_runner.specs.declared.lane.Lane.{Lane}
+use Rattle.team_runner.specs.declared.team.Halt.{Halt}
+use Rattle.team_runner.specs.declared.stop.Stop.TheVariants as stop
+use Rattle.team_runner.specs.Team.{PairsBelow, Ran, Halts, AllRan, IsFirstStop, IsFirstOf}
+
+-- the lane at i was taken from a list whose lanes from i on are the old ones, and is a new one now
+module _ {X : Type 0} (olds lanes : List (Lane X)) (i : ℕ) (item new : Lane X) (within : i < length lanes) (same_length : length olds ≡ length lanes)
+    (item_is : item ≡ get_or lanes i item) (rest : (k : ℕ) (d : Lane X) → i ≤ k → get_or lanes k d ≡ get_or olds k d) where
+  -- the lane that was taken is an old one
+  old_is : (d : Lane X) → item ≡ get_or olds i d
+  old_is d = item_is ∙ rest i item (omega arith) ∙ get_or_default olds i item d (omega arith)
+
+  -- the new lane at its place
+  new_is : (e : Lane X) → new ≡ get_or (set lanes i new) i e
+  new_is e = sym (get_or-set_same lanes i new e within)
+
+  -- another place has the lane that it had
+  other_is : (k : ℕ) (e : Lane X) → k < i → get_or lanes k e ≡ get_or (set lanes i new) k e
+  other_is k e lt = sym (get_or-set_other lanes i k new e (omega arith))
+
+  -- a fact about both lanes at the place
+  at_new : (P : Lane X → Lane X → Type 0) → P item new → (d e : Lane X) → P (get_or olds i d) (get_or (set lanes i new) i e)
+  at_new P here d e = subst (λ a. P a (get_or (set lanes i new) i e)) (old_is d) (subst (λ b. P item b) (new_is e) here)
+
+  -- what holds of the pairs before it still holds
+  pairs_before : (P : Lane X → Lane X → Type 0) (n : ℕ) → n ≤ i → PairsBelow n P olds lanes → PairsBelow n P olds (set lanes i new)
+  pairs_before P n le pairs = λ k d e lt. subst (λ b. P (get_or olds k d) b) (other_is k e (omega arith)) (pairs k d e lt)
+
+  -- and of one pair more
+  pub pairs_more : (P : Lane X → Lane X → Type 0) → PairsBelow i P olds lanes → P item new → PairsBelow (i + 1) P olds (set lanes i new)
+  pairs_more P pairs here = λ k d e lt.
+      below_more (λ k. (d e : Lane X) → P (get_or olds k d) (get_or (set lanes i new) k e)) i
+      (λ k lt d e. pairs_before P i (omega arith) pairs k d e lt) (at_new P here) k lt d e
+
+  -- the lanes after it are the old ones
+  pub rest_more : (k : ℕ) (d : Lane X) → i + 1 ≤ k → get_or (set lanes i new) k d ≡ get_or olds k d
+  rest_more k d le = get_or-set_other lanes i k new d (omega arith) ∙ rest k d (omega arith)
+
+  module _ (arrays : List Array) (team : TeamTree) where
+    -- an earlier stop stays the first
+    stop_stays : (halt : Halt) → IsFirstStop arrays team olds lanes i halt → IsFirstStop arrays team olds (set lanes i new) (i + 1) halt
+    stop_stays halt s = record {
+      lane = s.lane;
+      within = omega arith;
+      halts = λ d e. subst (λ b. Halts arrays team (get_or olds s.lane d) b halt) (other_is s.lane e s.within) (s.halts d e);
+      before = λ other. pairs_before (λ a b. Ran arrays team a b None) s.lane (omega arith) (s.before other);
+    }
+
+    -- the new lane's stop is the first
+    stop_new : (halt : Halt) → (halt.why ≢ stop.Trouble trouble.Memory → PairsBelow i (λ a b. Ran arrays team a b None) olds lanes) →
+        Halts arrays team item new halt → IsFirstStop arrays team olds (set lanes i new) (i + 1) halt
+    stop_new halt before here = record {
+      lane = i;
+      within = omega arith;
+      halts = at_new (λ a b. Halts arrays team a b halt) here;
+      before = λ other. pairs_before (λ a b. Ran arrays team a b None) i (omega arith) (before other);
+    }
+
+    -- one lane more ran
+    pub ran_more : (first one result : Option Halt) → AllRan arrays team olds lanes i first → Ran arrays team item new one → IsFirstOf first one result →
+        AllRan arrays team olds (set lanes i new) (i + 1) result
+    ran_more None None result all here is =
+        subst (AllRan arrays team olds (set lanes i new) (i + 1)) (sym is) (pairs_more (λ a b. Ran arrays team a b None) all here)
+    ran_more (Some halt) None result all here is = subst (AllRan arrays team olds (set lanes i new) (i + 1)) (sym is) (stop_stays halt all)
+    ran_more None (Some later) result all here is =
+        subst (AllRan arrays team olds (set lanes i new) (i + 1)) (sym is) (stop_new later (λ other. all) here)
+    ran_more (Some halt) (Some later) result all here (inl is) = subst (AllRan arrays team olds (set lanes i new) (i + 1)) (sym is) (stop_stays halt all)
+    ran_more (Some halt) (Some later) result all here (inr is) =
+        subst (AllRan arrays team olds (set lanes i new) (i + 1)) (sym is.0) (stop_new later (λ other. absurd (other is.1)) here)

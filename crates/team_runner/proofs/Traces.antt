@@ -1,0 +1,94 @@
+-- The tasks of a kernel of the first kind, by what its lanes did.
+use Rattle.std.proofs.Common.{◌≡◌, refl, ap, ◌∙◌, subst, ℕ, zero, suc, ◌+◌, ◌<◌, List, [], ◌∷◌, length, map, get_or, arith}
+use Rattle.std.specs.List.{range_with_len}
+use Rattle.log_format.specs.declared.record.Record.{Record}
+use Rattle.kernel_syntax.specs.FirstKind.{region_span}
+use Rattle.kernel_syntax.specs.Program.{Program}
+use Rattle.kernel_syntax.specs.Tree.{Code, Parallel}
+use Rattle.kernel_model.specs.Folder.{IsTracedTo, IsTraced}
+use Rattle.kernel_model.specs.Trace.{Start, Ending, Ended}
+use Rattle.kernel_model.proofs.FirstKindFolder.{first_team, first_lane, first_lanes}
+use Rattle.team_runner.specs.declared.lane.Lane.{Lane}
+use Rattle.team_runner.specs.Answer.{Logged, whole_log}
+use Rattle.team_runner.specs.Lane.{HasTrace}
+use Rattle.team_runner.specs.Team.{IsForked, KeepsLane, handed, logged, path_of, start_of, lane_step}
+use Rattle.team_runner.specs.Written.{Written}
+use Rattle.team_runner.proofs.OneLane.{whole_lane}
+
+-- both tell how many lanes the one region has
+pub region_span_is : (code : Code) → region_span code ≡ (first_team code).span
+region_span_is (Parallel span line end body rest) = refl
+region_span_is _ = refl
+
+-- how many lanes the team has
+abbrev pub span_of : Program → ℕ
+span_of program = (first_team program.main.body).span
+
+-- the lane's log is a whole log of its trace, which ends so
+pub record TracedLane {X : Type 0} (program : Program) (root : Written) (size : ℕ) (ending : Ending) (number : ℕ) (lane : Lane X) : Type 0 where
+  pub records : List Record
+  pub traced : IsTracedTo program (first_lane program number) records ending
+  pub log : logged (handed (path_of lane) lane.recorder)
+      ≡ whole_log root.dir size root.text (record { path = lane_step number (span_of program) ∷ []; records = records })
+
+-- the first trace and those after it
+first_trace : (program : Program) (i l : ℕ) (d r : List Record) (rs : List (List Record)) (n : ℕ) → l < suc n → IsTraced program (first_lane program i) r →
+    ((l : ℕ) (d : List Record) → l < n → IsTraced program (first_lane program (i + 1 + l)) (get_or rs l d)) →
+    IsTraced program (first_lane program (i + l)) (get_or (r ∷ rs) l d)
+first_trace program i zero d r rs n lt here rest = let at : i ≡ i + 0 = omega arith in subst (λ k. IsTraced program (first_lane program k) r) at here
+first_trace program i (suc l) d r rs n lt here rest =
+    let at : i + 1 + l ≡ i + suc l = omega arith in
+    subst (λ k. IsTraced program (first_lane program k) (get_or rs l d)) at (rest l d (omega arith))
+
+module _ {X : Type 0} (program : Program) (root : Written) (size : ℕ) (at_root : root.path ≡ []) where
+  -- a lane whose log is that of its trace, numbered in the kernel
+  pub traced_lane : (number : ℕ) (old new : Lane X) (ending : Ending) → IsForked root (span_of program) program.slots size number old → KeepsLane old new →
+      HasTrace program.arrays (start_of (first_team program.main.body) old) old.recorder new.recorder ending → TracedLane program root size ending number new
+  traced_lane number old new ending forked same has =
+      let start : start_of (first_team program.main.body) old ≡ first_lane program number =
+      ap (λ n. record { team = first_team program.main.body; lane = n; slots = old.frame.locals.items }) forked.lane_is
+      ∙ ap (λ slots. record { team = first_team program.main.body; lane = number; slots = slots }) forked.locals in
+      record {
+        records = has.records;
+        traced = subst (λ (s : Start). IsTracedTo program s has.records ending) start (has.traced program refl);
+        log = whole_lane root (span_of program) program.slots size at_root number old new forked same has.records has.told has.count;
+      }
+
+  -- the logs of some lanes from a number on are those of their traces
+  pub record HasTraces (i : ℕ) (lanes : List (Lane X)) : Type 0 where
+    pub records : List (List Record)
+    pub count : length records ≡ length lanes
+    pub traced : (l : ℕ) (d : List Record) → l < length lanes → IsTraced program (first_lane program (i + l)) (get_or records l d)
+    pub logs : map logged (map (λ lane. handed (path_of lane) lane.recorder) lanes) ≡ map (whole_log root.dir size root.text) (first_lanes (span_of program) i records)
+
+  -- each lane has its own
+  pub has_traces : (i : ℕ) (lanes : List (Lane X)) → ((l : ℕ) (e : Lane X) → l < length lanes → TracedLane program root size Ended (i + l) (get_or lanes l e)) → HasTraces i lanes
+  has_traces i [] each = record { records = []; count = refl; traced = λ l d lt. absurd (omega arith); logs = refl }
+  has_traces i (lane ∷ lanes) each =
+      let at : i + 0 ≡ i = omega arith in
+      let here = subst (λ k. TracedLane program root size Ended k lane) at (each 0 lane (omega arith)) in
+      let rest = has_traces (i + 1) lanes (λ l e lt.
+      let next : i + suc l ≡ i + 1 + l = omega arith in
+      subst (λ k. TracedLane program root size Ended k (get_or lanes l e)) next (each (suc l) e (omega arith))) in
+      record {
+        records = here.records ∷ rest.records;
+        count = ap suc rest.count;
+        traced = λ l d lt. first_trace program i l d here.records rest.records (length lanes) lt here.traced rest.traced;
+        logs =
+            ap (λ (log : Logged). log ∷ map logged (map (λ lane. handed (path_of lane) lane.recorder) lanes)) here.log
+            ∙ ap (λ (logs : List Logged). whole_log root.dir size root.text (record { path = lane_step i (span_of program) ∷ []; records = here.records }) ∷ logs) rest.logs;
+      }
+
+  -- the paths of some lanes from a number on
+  pub lane_paths : (i : ℕ) (lanes : List (Lane X)) → ((l : ℕ) (e : Lane X) → l < length lanes → path_of (get_or lanes l e) ≡ lane_step (i + l) (span_of program) ∷ []) →
+      map (λ (log : Logged). log.task) (map logged (map (λ lane. handed (path_of lane) lane.recorder) lanes))
+      ≡ map (λ l. lane_step l (span_of program) ∷ []) (range_with_len i (length lanes))
+  lane_paths i [] each = refl
+  lane_paths i (lane ∷ lanes) each =
+      let at : i + 0 ≡ i = omega arith in
+      let here : path_of lane ≡ lane_step i (span_of program) ∷ [] = each 0 lane (omega arith) ∙ ap (λ k. lane_step k (span_of program) ∷ []) at in
+      let rest = lane_paths (i + 1) lanes (λ l e lt.
+      let next : i + suc l ≡ i + 1 + l = omega arith in
+      each (suc l) e (omega arith) ∙ ap (λ k. lane_step k (span_of program) ∷ []) next) in
+      ap (λ p. p ∷ map (λ (log : Logged). log.task) (map logged (map (λ lane. handed (path_of lane) lane.recorder) lanes))) here
+      ∙ ap (λ ps. (lane_step i (span_of program) ∷ []) ∷ ps) rest

@@ -1,0 +1,95 @@
+-- What `run_kernel` answers.
+use Rattle.std.specs.Prelude.{◌≡◌, ℕ, ◌<◌, List, [], ◌∷◌, length, map, Option, Some, is_some, Bool, Contains}
+use Rattle.std.specs.Option.{option_map}
+use Rattle.sw_base.specs.declared.path.Step.{Step}
+use Rattle.sw_base.specs.declared.path.TheConstants.{LOG_HEADER}
+use Rattle.sw_base.specs.Environment.{Text}
+use Rattle.log_format.specs.declared.record.Record.{Record}
+use Rattle.log_format.specs.Spelling.{log_bytes}
+use Rattle.race_model.specs.KeepsRules.{KeepsRules}
+use Rattle.race_model.specs.Trace.{TaskLog, Trace, Logs}
+use Rattle.kernel_syntax.specs.FirstKind.{region_span}
+use Rattle.kernel_syntax.specs.Program.{Program}
+use Rattle.kernel_model.specs.State as model
+use Rattle.kernel_model.specs.Trace.{Start, Ending, Ended, Stopped}
+use Rattle.kernel_model.specs.Folder.{IsTracedFolder, IsTracedTo, start_at}
+use Rattle.kernel_model.specs.Iterations.{below}
+use Rattle.team_runner.specs.Written.{cut}
+
+-- a log's bytes and the lengths of its pieces, where the log tells them
+abbrev pub outline : Option Text → Option (List ℕ × List ℕ)
+outline text = option_map (λ (t : Text). (t.bytes, map length t.pieces)) text
+
+-- a task's log as it is answered: the task, the log's folder and path, what it tells, and how many records were put
+pub record Logged : Type 0 where
+  pub task : List Step
+  pub dir : List ℕ
+  pub path : List Step
+  pub told : Option (List ℕ × List ℕ)
+  pub count : ℕ
+
+-- the bytes of a whole log and the lengths of its pieces, from a buffer of this size
+abbrev pub whole_outline : ℕ → List Record → List ℕ × List ℕ
+whole_outline size records = (log_bytes LOG_HEADER records, cut (length records) size)
+
+-- the whole log of a task, in the folder `dir`; it tells its content where the root's log, `root`, does
+abbrev pub whole_log : List ℕ → ℕ → Option Text → TaskLog → Logged
+whole_log dir size root task = record {
+  task = task.path;
+  dir = dir;
+  path = task.path;
+  told = option_map (λ _. whole_outline size task.records) root;
+  count = length task.records;
+}
+
+-- the tasks of a run are those of the kernel, each with its trace, and their logs keep the rules of a folder
+pub record IsRun (program : Program) (tasks : Trace) : Type 0 where
+  pub traced : IsTracedFolder program tasks
+  pub rules : KeepsRules tasks
+
+-- the logs are those of a whole run, in the order of their paths
+pub record HasRun (program : Program) (dir : List ℕ) (size : ℕ) (root : Option Text) (logs : List Logged) : Type 0 where
+  pub tasks : Trace
+  pub run : IsRun program tasks
+  pub logs_are : logs ≡ map (whole_log dir size root) tasks
+
+-- the path of a lane of the one region
+abbrev pub lane_path : Program → ℕ → List Step
+lane_path program lane = record { region = 0; lane = lane; span = region_span program.main.body } ∷ []
+
+-- the root and the lanes of the one region, in the order of their paths
+abbrev pub task_paths : Program → List (List Step)
+task_paths program = [] ∷ map (lane_path program) (below (region_span program.main.body))
+
+-- the task that the kernel forks at this path has a log of its trace, which ends so
+pub record HasTask (program : Program) (HasLog : TaskLog → Type 0) (path : List Step) (ending : Ending) : Type 0 where
+  pub start : Start
+  pub starts : (logs : Logs) → start_at program logs path ≡ Some start
+  pub records : List Record
+  pub traced : IsTracedTo program start records ending
+  pub logged : HasLog (record { path = path; records = records })
+
+-- The lane of this path stopped so, after all its records, and each lane before it ended.
+pub record HasStop (program : Program) (HasLog : TaskLog → Type 0) (path : List Step) (why : model.Stop) (line : ℕ) : Type 0 where
+  pub lane : ℕ
+  pub within : lane < region_span program.main.body
+  pub path_is : path ≡ lane_path program lane
+  pub stopped : HasTask program HasLog path (Stopped why line)
+  pub before : (other : ℕ) → other < lane → HasTask program HasLog (lane_path program other) Ended
+
+-- the logs of a run that stopped so: those of all tasks, in the order of their paths
+pub record HasStoppedRun (program : Program) (dir : List ℕ) (size : ℕ) (root : Option Text) (logs : List Logged) (path : List Step) (why : model.Stop) (line : ℕ) : Type 0 where
+  pub all : map (λ (log : Logged). log.task) logs ≡ task_paths program
+  pub stop : HasStop program (λ task. Contains logs (whole_log dir size root task)) path why line
+
+-- the log of its task, in the folder `dir`, tells its content where the root's does
+pub record IsOwnLog (dir : List ℕ) (tells : Bool) (log : Logged) : Type 0 where
+  pub dir_is : log.dir ≡ dir
+  pub path_is : log.path ≡ log.task
+  pub tells_so : is_some log.told ≡ tells
+
+-- the log of this task counts a fault
+pub record HasFaulty (faults : List (List Step × ℕ)) (path : List Step) : Type 0 where
+  pub count : ℕ
+  pub logged : Contains faults (path, count)
+  pub some : 0 < count

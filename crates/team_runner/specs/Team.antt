@@ -1,0 +1,164 @@
+-- The tasks of a run: its root, and the lanes of its one team.
+use Rattle.std.specs.Prelude.{◌≡◌, ◌≢◌, ℕ, ◌<◌, List, [], ◌∷◌, ◌++◌, length, map, replicate, pos, Option, Some, None, Ok, Err, slice_index_or, ◌⊎◌, Bool, true, All, Contains}
+use Rattle.std.specs.Option.{option_map}
+use Rattle.sw_base.specs.declared.path.Step.{Step}
+use Rattle.sw_base.specs.declared.path.TheConstants.{LOG_HEADER}
+use Rattle.sw_base.specs.declared.trouble.Trouble.TheVariants as trouble
+use Rattle.sw_base.specs.Environment.{Text, empty_text}
+use Rattle.log_format.specs.declared.record.Record.{Record}
+use Rattle.log_format.specs.declared.record.Kind.TheVariants as kind
+use Rattle.kernel_syntax.specs.declared.syntax.Array.{Array}
+use Rattle.kernel_syntax.specs.Tree.{TeamTree}
+use Rattle.kernel_syntax.specs.Program.{Program}
+use Rattle.kernel_model.specs.State.{event}
+use Rattle.kernel_model.specs.Trace.{Start}
+use Rattle.kernel_model.proofs.FirstKindFolder.{first_team}
+use Rattle.team_runner.specs.declared.lane.Lane.{Lane}
+use Rattle.team_runner.specs.declared.team.Halt.{Halt}
+use Rattle.team_runner.specs.declared.stop.Stop.TheVariants as stop
+use Rattle.team_runner.specs.Written.{Written, Adds, Begun, Closed, Keeps}
+use Rattle.team_runner.specs.Ready.{IsBufferSize}
+use Rattle.team_runner.specs.Lane.{IsFresh, EndsTask}
+use Rattle.team_runner.specs.Answer.{Logged, outline}
+
+-- a fact about each element of a list and its place
+abbrev pub EachAt : {X : Type 0} → (ℕ → X → Type 0) → List X → Type 0
+EachAt {X} P xs = (k : ℕ) (d : X) → k < length xs → P k (slice_index_or xs k d)
+
+-- a fact about the first n elements of two lists, in pairs
+abbrev pub PairsBelow : {X : Type 0} → ℕ → (X → X → Type 0) → List X → List X → Type 0
+PairsBelow {X} n P xs ys = (k : ℕ) (d e : X) → k < n → P (slice_index_or xs k d) (slice_index_or ys k e)
+
+-- the step to a lane of the root's one region
+abbrev pub lane_step : ℕ → ℕ → Step
+lane_step lane span = record { region = 0; lane = lane; span = span }
+
+-- the log of a lane that was just forked
+abbrev pub fresh_log : Written → ℕ → ℕ → ℕ → Written
+fresh_log root size span lane = record {
+  dir = root.dir;
+  path = root.path ++ lane_step lane span ∷ [];
+  text = option_map (λ _. empty_text) root.text;
+  faults = 0;
+  buffer = [];
+  size = size;
+  count = 0;
+}
+
+-- a lane as it is forked: it has its number, all its locals are 0, and its log is empty
+pub record IsForked {X : Type 0} (root : Written) (span slots size number : ℕ) (lane : Lane X) : Type 0 where
+  pub lane_is : lane.frame.lane ≡ number
+  pub span_is : lane.frame.span ≡ span
+  pub locals : lane.frame.locals.items ≡ replicate slots (pos 0)
+  pub log : lane.recorder ≡ fresh_log root size span number
+
+-- a lane of the team that has not run
+pub record IsFreshLane {X : Type 0} (team : TeamTree) (lane : Lane X) : Type 0 where
+  pub within : lane.frame.lane < lane.frame.span
+  pub span : lane.frame.span ≡ team.span
+  pub fresh : IsFresh lane.recorder
+  pub size : IsBufferSize lane.recorder.size
+
+-- the same lane, whatever it put
+pub record KeepsLane {X : Type 0} (old new : Lane X) : Type 0 where
+  pub lane : new.frame.lane ≡ old.frame.lane
+  pub span : new.frame.span ≡ old.frame.span
+  pub log : Keeps old.recorder new.recorder
+
+abbrev pub path_of : {X : Type 0} → Lane X → List Step
+path_of lane = lane_step lane.frame.lane lane.frame.span ∷ []
+
+-- how a lane's task starts
+abbrev pub start_of : {X : Type 0} → TeamTree → Lane X → Start
+start_of team lane = record { team = team; lane = lane.frame.lane; slots = lane.frame.locals.items }
+
+-- the lane made this stop
+pub record Halts {X : Type 0} (arrays : List Array) (team : TeamTree) (old new : Lane X) (halt : Halt) : Type 0 where
+  pub path_is : halt.path ≡ path_of old
+  pub stopped : EndsTask arrays (start_of team old) old.recorder new.recorder (Err halt.why)
+
+-- the lane ended, or made this stop
+abbrev pub Ran : {X : Type 0} → List Array → TeamTree → Lane X → Lane X → Option Halt → Type 0
+Ran arrays team old new None = EndsTask arrays (start_of team old) old.recorder new.recorder (Ok tt)
+Ran arrays team old new (Some halt) = Halts arrays team old new halt
+
+-- one of the first n lanes made this stop, and each lane before it ended, unless the stop is want of memory
+pub record IsFirstStop {X : Type 0} (arrays : List Array) (team : TeamTree) (olds news : List (Lane X)) (n : ℕ) (halt : Halt) : Type 0 where
+  pub lane : ℕ
+  pub within : lane < n
+  pub halts : (d e : Lane X) → Halts arrays team (slice_index_or olds lane d) (slice_index_or news lane e) halt
+  pub before : halt.why ≢ stop.Trouble trouble.Memory → PairsBelow lane (λ old new. Ran arrays team old new None) olds news
+
+-- the first n lanes ended, or made this stop first
+abbrev pub AllRan : {X : Type 0} → List Array → TeamTree → List (Lane X) → List (Lane X) → ℕ → Option Halt → Type 0
+AllRan arrays team olds news n None = PairsBelow n (λ old new. Ran arrays team old new None) olds news
+AllRan arrays team olds news n (Some halt) = IsFirstStop arrays team olds news n halt
+
+-- the lanes of the kernel's team, as many as were forked from this root, whatever they put since
+pub record HasTeam {X : Type 0} (program : Program) (root : Written) (size : ℕ) (lanes : List (Lane X)) : Type 0 where
+  pub forked : List (Lane X)
+  pub are_forked : EachAt (IsForked root (first_team program.main.body).span program.slots size) forked
+  pub same_length : length lanes ≡ length forked
+  pub same : PairsBelow (length forked) KeepsLane forked lanes
+
+-- all lanes of the team were forked, and ended or made this stop first
+pub record HasRunTeam {X : Type 0} (program : Program) (root : Written) (size : ℕ) (lanes : List (Lane X)) (outcome : Option Halt) : Type 0 where
+  pub team : HasTeam program root size lanes
+  pub all : length team.forked ≡ (first_team program.main.body).span
+  pub ran : AllRan program.arrays (first_team program.main.body) team.forked lanes (length team.forked) outcome
+
+-- the root's first record
+abbrev pub region_record : Program → Record
+region_record program = event kind.Region (first_team program.main.body).line 0 (first_team program.main.body).span
+
+-- of two stops the first, but want of memory goes before it
+abbrev pub IsFirstOf : Option Halt → Option Halt → Option Halt → Type 0
+IsFirstOf first None result = result ≡ first
+IsFirstOf None (Some later) result = result ≡ Some later
+IsFirstOf (Some first) (Some later) result = (result ≡ Some first) ⊎ ((result ≡ Some later) × (later.why ≡ stop.Trouble trouble.Memory))
+
+-- the log began with its header, and just these records were put since
+pub record HasPut (old new : Written) (records : List Record) : Type 0 where
+  pub begun : Written
+  pub begins : Begun old begun LOG_HEADER
+  pub size : begun.size ≡ old.size
+  pub adds : Adds begun new records
+
+-- just these records were put, and all are in the log
+pub record ClosesWith (old new : Written) (records : List Record) : Type 0 where
+  pub last : Written
+  pub adds : Adds old last records
+  pub size : last.size ≡ old.size
+  pub closed : Closed last new
+
+-- a task's log, as it is handed on
+pub record Handed : Type 0 where
+  pub task : List Step
+  pub dir : List ℕ
+  pub path : List Step
+  pub text : Option Text
+  pub faults : ℕ
+  pub count : ℕ
+
+abbrev pub handed : List Step → Written → Handed
+handed task w = record { task = task; dir = w.dir; path = w.path; text = w.text; faults = w.faults; count = w.count }
+
+-- the same of what is answered, by what is seen of a log
+abbrev pub entry : {X : Type 0} → (X → List ℕ) → (X → List Step) → (X → Option Text) → (X → ℕ) → List Step × X × ℕ → Handed
+entry dir path text faults e = record { task = e.0; dir = dir e.1; path = path e.1; text = text e.1; faults = faults e.1; count = e.2 }
+
+-- the logs of all tasks, in the order of their paths
+abbrev pub all_logs : {X : Type 0} → Written → List (Lane X) → List Handed
+all_logs root lanes = handed [] root ∷ map (λ lane. handed (path_of lane) lane.recorder) lanes
+
+-- these are some of all logs; `whole` tells whether none was dropped
+pub record AreLogs (all logs : List Handed) (whole : Bool) : Type 0 where
+  pub none_dropped : whole ≡ true → logs ≡ all
+  pub among : All (Contains all) logs
+
+-- what is answered of a log
+abbrev pub logged : Handed → Logged
+logged h = record { task = h.task; dir = h.dir; path = h.path; told = outline h.text; count = h.count }
+
+abbrev pub faulty : Handed → List Step × ℕ
+faulty h = (h.task, h.faults)

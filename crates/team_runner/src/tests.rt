@@ -1,0 +1,202 @@
+//! Runs of small kernels: how their logs are cut, which stop is answered, and calls on the root's log that fail.
+ghost use Rattle.team_runner.specs.Ready.{IsBufferSize};
+
+use crate::{Finished, Stop, Stopped, run_kernel};
+use kernel_reader::read_kernel;
+use std::alloc::Global;
+use std::process::Abort;
+use std::test::Fail;
+use sw_base::{MemLog, NoGate, Path, Trouble};
+
+// Each of two lanes adds 1 to every other element.
+const COUNTING: &str = "array a i64 8
+main {
+parallel 2 {
+for i in 0 .. 8 static 1 {
+a[i] = a[i] + 1
+}
+}
+}
+";
+
+// Lane 0 writes four elements. Lane 1 writes two, and then leaves the array.
+const LEAVING: &str = "array a i64 6
+main { parallel 2 {
+for i in 0 .. 8 static 4 { a[i] = 1 }
+} }
+";
+
+// Lane 0 leaves the array after two elements, and lane 1 at once.
+const BOTH_LEAVING: &str = "array a i64 2
+main { parallel 2 {
+for i in 0 .. 8 static 4 { a[i] = 1 }
+} }
+";
+
+// Lane 1 divides by 0 after it has read an element.
+const DIVIDING: &str = "array a i64 2
+main { parallel 2 {
+for i in 0 .. 2 static 1 { a[i] = a[i] + 1
+/ (tid - 1) }
+} }
+";
+
+// Runs the kernel of a text, where these calls on the root's log are to fail.
+fn run(
+    alloc: Global,
+    text: &str,
+    size: usize,
+    failing: &[u64],
+) -> Result<Result<Finished<MemLog>, Stopped<MemLog>>, Fail>
+    requires { IsBufferSize size }
+{
+    let kernel = read_kernel(alloc, text.as_bytes())?;
+    let mut root = MemLog::new(alloc, "d")?;
+    root.fail(failing)?;
+    Ok(run_kernel(&(), alloc, &kernel, root, size, &NoGate))
+}
+
+// The names of the logs' tasks, in order, each with the number of its records and of the log's bytes.
+fn listed<R: Abort>(
+    rt: &R,
+    alloc: Global,
+    logs: &[(Path, MemLog, u32)],
+    expected: &[(&str, u32, usize)],
+) -> Result<(), Fail> {
+    assert_eq!(rt; logs.len(), expected.len());
+    for ((path, log, count), (name, records, bytes)) in logs.iter().zip(expected) {
+        assert_eq!(rt; path.bare_name(alloc)?.as_str(), *name);
+        assert_eq!(rt; count, records, "records of {name}");
+        assert_eq!(rt; log.bytes().len(), *bytes, "bytes of {name}");
+    }
+    Ok(())
+}
+
+#[test]
+fn pieces_fill_the_buffer_and_the_bytes_stay_the_same(rt: HostRuntime) -> Result<(), Fail> {
+    let alloc = rt.alloc();
+    let whole = run(alloc, COUNTING, 4_194_304, &[])?.ok().ok_or("stopped")?;
+    listed(
+        &rt,
+        alloc,
+        &whole.logs,
+        &[
+            ("t.swl", 2, 56),
+            ("t-0.0.swl", 10, 248),
+            ("t-0.1.swl", 10, 248),
+        ],
+    )?;
+    let table: [(usize, &[usize]); 6] = [
+        (24, &[8, 24, 24, 24, 24, 24, 24, 24, 24, 24, 24]),
+        (47, &[8, 24, 24, 24, 24, 24, 24, 24, 24, 24, 24]),
+        (48, &[8, 48, 48, 48, 48, 48]),
+        (100, &[8, 96, 96, 48]),
+        (4096, &[8, 240]),
+        (4_194_304, &[8, 240]),
+    ];
+    for (size, lengths) in table {
+        assert!(rt; size >= 24 && size <= 4_194_304);
+        let cut = run(alloc, COUNTING, size, &[])?.ok().ok_or("stopped")?;
+        assert_eq!(rt; cut.words.as_slice(), [1; 8].as_slice());
+        assert_eq!(rt; cut.logs.len(), 3);
+        assert_eq!(rt; cut.logs[1].1.lengths(), lengths, "at {size}");
+        for (one, other) in cut.logs.iter().zip(&whole.logs) {
+            assert_eq!(rt; one.1.bytes(), other.1.bytes(), "at {size}");
+        }
+    }
+    Ok(())
+}
+
+#[test]
+fn the_first_records_of_a_lane_are_spelled_in_its_log(rt: HostRuntime) -> Result<(), Fail> {
+    let alloc = rt.alloc();
+    let finished = run(alloc, COUNTING, 4096, &[])?.ok().ok_or("stopped")?;
+    assert!(rt; finished.logs.len() > 1);
+    let bytes = finished.logs[1].1.bytes();
+    assert!(rt; bytes.len() > 56);
+    assert_eq!(rt; &bytes[..8], b"SWLOG001".as_slice());
+    // A read of 8 bytes at site 1 in line 5, at 4096, of 0; and a write of 8 bytes in line 5, at 4096, of 1.
+    assert_eq!(rt;
+        &bytes[8..32],
+        [
+            1, 8, 0, 1, 0, 0, 0, 5, 0, 0, 0, 0, 0, 0, 16, 0, 0, 0, 0, 0, 0, 0, 0, 0
+        ]
+        .as_slice()
+    );
+    assert_eq!(rt;
+        &bytes[32..56],
+        [
+            2, 8, 0, 0, 0, 0, 0, 5, 0, 0, 0, 0, 0, 0, 16, 0, 0, 0, 0, 0, 0, 0, 0, 1
+        ]
+        .as_slice()
+    );
+    Ok(())
+}
+
+#[test]
+fn the_least_lane_that_stopped_is_answered(rt: HostRuntime) -> Result<(), Fail> {
+    let alloc = rt.alloc();
+    let table: [(&str, &str, Stop, [u32; 2], &[u64]); 3] = [
+        (
+            LEAVING,
+            "t-0.1.swl",
+            Stop::Index { line: 3 },
+            [6, 2],
+            &[1, 1, 1, 1, 1, 1],
+        ),
+        (
+            BOTH_LEAVING,
+            "t-0.0.swl",
+            Stop::Index { line: 3 },
+            [2, 0],
+            &[1, 1],
+        ),
+        (
+            DIVIDING,
+            "t-0.1.swl",
+            Stop::DivZero { line: 4 },
+            [4, 1],
+            &[u64::MAX, 0],
+        ),
+    ];
+    for (text, name, why, [first, second], words) in table {
+        let stopped = run(alloc, text, 4096, &[])?.err().ok_or("ended")?;
+        assert_eq!(rt; stopped.path.bare_name(alloc)?.as_str(), name);
+        assert_eq!(rt; stopped.why, why);
+        assert_eq!(rt; stopped.words.as_slice(), words);
+        listed(
+            &rt,
+            alloc,
+            &stopped.logs,
+            &[
+                ("t.swl", 1, 32),
+                ("t-0.0.swl", first, 8 + 24 * first as usize),
+                ("t-0.1.swl", second, 8 + 24 * second as usize),
+            ],
+        )?;
+    }
+    Ok(())
+}
+
+#[test]
+fn each_call_on_the_root_log_fails_in_turn(rt: HostRuntime) -> Result<(), Fail> {
+    let alloc = rt.alloc();
+    // With a buffer for one record: the header, the Region record, two lanes, and the End record. With a large one: the header,
+    // two lanes, and both records.
+    for (size, calls, after) in [(24, 5, 6), (4096, 4, 5)] {
+        assert!(rt; size >= 24 && size <= 4_194_304);
+        for call in 1..=calls {
+            let stopped = run(alloc, COUNTING, size, &[call])?.err().ok_or("ended")?;
+            assert_eq!(rt; stopped.path.bare_name(alloc)?.as_str(), "t.swl");
+            assert_eq!(rt; stopped.why, Stop::Trouble(Trouble::Failed), "call {call}");
+            assert_eq!(rt; stopped.words.len(), 8);
+            assert!(rt; !stopped.logs.is_empty());
+        }
+        assert!(rt; run(alloc, COUNTING, size, &[after])?.is_ok());
+    }
+    // After the stop of a lane the root's log isn't closed, and the stop stays.
+    let stopped = run(alloc, LEAVING, 4096, &[4])?.err().ok_or("ended")?;
+    assert_eq!(rt; stopped.why, Stop::Index { line: 3 });
+    assert_eq!(rt; stopped.logs.len(), 3);
+    Ok(())
+}
