@@ -14,7 +14,7 @@ Tries-from_prints due status text old new result is_due (whole same all) = done 
 Tries-from_prints due status text old new result is_due (part failure front) = broken_off failure status text is_due front
 
 -- an answer for one thing that is due is an answer for all that are
-Tries-weaker : (due more : ℕ → List ℕ → Type 0) (old new : Option (List ℕ)) (result : ℕ) → ((status : ℕ) (text : List ℕ) → due status text → more status text)
+pub Tries-weaker : (due more : ℕ → List ℕ → Type 0) (old new : Option (List ℕ)) (result : ℕ) → ((status : ℕ) (text : List ℕ) → due status text → more status text)
     → Tries due old new result → Tries more old new result
 Tries-weaker due more old new result also (done text is_due all) = done text (also result text is_due) all
 Tries-weaker due more old new result also (broken_off failure status text is_due front) = broken_off failure status text (also status text is_due) front

@@ -1,7 +1,8 @@
 -- The bytes of a few words.
-use Rattle.std.proofs.Common.{◌≡◌, ℕ, ◌≤◌, ◌<◌, List, [], ◌∷◌, length, String, string_bytes, get_or, sym, ◌∙◌, arith}
+use Rattle.std.proofs.Common.{◌≡◌, ℕ, ◌≤◌, ◌<◌, List, [], ◌∷◌, length, String, string_bytes, get_or, sym, subst, ◌∙◌, arith}
 use Rattle.std.specs.declared.alloc.Global.{Global}
-use Rattle.sword.specs.Words.{texts, SaysCheck, SaysShow}
+use Rattle.std.proofs.lemmas.Fmt.{decimal_injective}
+use Rattle.sword.specs.Words.{texts, SaysCheck, SaysRun, SaysShow}
 
 pub texts-three : (words : List (String Global)) (a b c : String Global) → 3 ≤ length words → length words < 4 → a ≡ get_or words 0 a → b ≡ get_or words 1 b → c ≡ get_or words 2 c
     → texts words ≡ string_bytes a ∷ string_bytes b ∷ string_bytes c ∷ []
@@ -25,3 +26,26 @@ same_check words one other n m a b = let both = sym a.are ∙ b.are in cc both
 -- and so do those that ask to show it
 pub same_show : (words : List (List ℕ)) (one other : List ℕ) → SaysShow words one → SaysShow words other → one ≡ other
 same_show words one other a b = let both = sym a.are ∙ b.are in cc both
+
+-- the bytes of four words
+pub texts-four : (words : List (String Global)) (a b c d : String Global) → 4 ≤ length words → length words < 5 → a ≡ get_or words 0 a → b ≡ get_or words 1 b → c ≡ get_or words 2 c → d ≡ get_or words 3 d
+    → texts words ≡ string_bytes a ∷ string_bytes b ∷ string_bytes c ∷ string_bytes d ∷ []
+texts-four [] a b c d least most ea eb ec ed = absurd (omega arith)
+texts-four (x ∷ []) a b c d least most ea eb ec ed = absurd (omega arith)
+texts-four (x ∷ y ∷ []) a b c d least most ea eb ec ed = absurd (omega arith)
+texts-four (x ∷ y ∷ z ∷ []) a b c d least most ea eb ec ed = absurd (omega arith)
+texts-four (x ∷ y ∷ z ∷ w ∷ []) a b c d least most ea eb ec ed = λ i. string_bytes (sym ea i) ∷ string_bytes (sym eb i) ∷ string_bytes (sym ec i) ∷ string_bytes (sym ed i) ∷ []
+texts-four (x ∷ y ∷ z ∷ w ∷ v ∷ more) a b c d least most ea eb ec ed = absurd (omega arith)
+
+-- words that ask for a run ask for one
+pub same_run : (P : List ℕ → List ℕ → ℕ → Type 0) (words : List (List ℕ)) (kernel dir other_kernel other_dir : List ℕ) (size other_size : ℕ)
+    → SaysRun words kernel dir size → SaysRun words other_kernel other_dir other_size → P kernel dir size → P other_kernel other_dir other_size
+same_run P words kernel dir other_kernel other_dir size other_size a b holds =
+    let both = sym a.are ∙ b.are in
+    let number : a.number ≡ b.number = cc both in
+    let most = a.size_is.most in
+    let other_most = b.size_is.most in
+    let kernel_is : kernel ≡ other_kernel = cc both in
+    let dir_is : dir ≡ other_dir = cc both in
+    let size_is = decimal_injective size other_size (omega arith) (omega arith) (sym a.size_is.digits ∙ number ∙ b.size_is.digits) in
+    subst (λ (k : List ℕ). P k other_dir other_size) kernel_is (subst (λ (d : List ℕ). P kernel d other_size) dir_is (subst (P kernel dir) size_is holds))

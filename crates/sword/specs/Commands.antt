@@ -1,8 +1,9 @@
 -- What a command asks for.
 use Rattle.sword.specs.declared.words.Command.{Command}
-use Rattle.sword.specs.declared.words.Command.TheVariants.{Check, Show}
-use Rattle.sword.specs.Words.{Request, check, show}
+use Rattle.sword.specs.declared.words.Command.TheVariants.{Check, Run, Show}
+use Rattle.sword.specs.Words.{Request, check, run, show}
 
 abbrev pub request_of : Command → Request
 request_of (Check dir workers) = check dir.now workers
+request_of (Run kernel dir size) = run kernel.now dir.now size
 request_of (Show dir) = show dir.now

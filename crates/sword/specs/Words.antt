@@ -5,6 +5,7 @@ use Rattle.std.specs.declared.alloc.Global.{Global}
 -- what the words after the program's name may ask for
 pub data Request : Type 0 where
   check : (dir : List ℕ) → (workers : ℕ) → Request
+  run : (kernel dir : List ℕ) → (size : ℕ) → Request
   show : (dir : List ℕ) → Request
 
 -- a word that names a folder or a file has 1 to 1,024 bytes
@@ -24,6 +25,20 @@ pub record SaysCheck (words : List (List ℕ)) (dir : List ℕ) (workers : ℕ) 
   pub dir_is : IsName dir
   pub workers_are : IsNumber number 1 64 workers
 
+pub record SaysRun (words : List (List ℕ)) (kernel dir : List ℕ) (size : ℕ) : Type 0 where
+  pub number : List ℕ
+  pub are : words ≡ codes "run" ∷ kernel ∷ dir ∷ number ∷ []
+  pub kernel_is : IsName kernel
+  pub dir_is : IsName dir
+  pub size_is : IsNumber number 24 4194304 size
+
+-- the words ask for a run
+pub record AsksRun (words : List (List ℕ)) : Type 0 where
+  pub kernel : List ℕ
+  pub dir : List ℕ
+  pub size : ℕ
+  pub says : SaysRun words kernel dir size
+
 pub record SaysShow (words : List (List ℕ)) (dir : List ℕ) : Type 0 where
   pub are : words ≡ codes "show" ∷ dir ∷ []
   pub dir_is : IsName dir
@@ -31,6 +46,7 @@ pub record SaysShow (words : List (List ℕ)) (dir : List ℕ) : Type 0 where
 -- the words ask for it
 abbrev pub Says : List (List ℕ) → Request → Type 0
 Says words (check dir workers) = SaysCheck words dir workers
+Says words (run kernel dir size) = SaysRun words kernel dir size
 Says words (show dir) = SaysShow words dir
 
 -- the words ask for nothing

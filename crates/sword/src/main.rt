@@ -1,9 +1,13 @@
-//! `sword` checks the logs of fork-join loop kernels for data races, and prints them.
+//! `sword` runs fork-join loop kernels and logs their accesses, checks the logs for data races, and prints them.
 #![tactic(auto)]
 
+mod beginning;
 mod checking;
 mod host;
 mod printing;
+mod run_texts;
+mod running;
+mod sealing;
 mod showing;
 mod status;
 mod texts;
@@ -31,5 +35,11 @@ fn main(rt: HostRuntime) -> ExitCode {
     ExitCode::from(top::sword(&rt, alloc, &words, &mut place, &mut out, &OpenGate))
 }
 
+#[cfg(test)]
+mod example_tests;
+#[cfg(test)]
+mod graph_tests;
+#[cfg(test)]
+mod run_tests;
 #[cfg(test)]
 mod tests;

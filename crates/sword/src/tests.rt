@@ -6,7 +6,7 @@ use std::test::Fail;
 use sw_base::{MemFolder, MemOut, NoGate};
 
 /// A record: kind, size, line, address and value. Its site is 1 where it reads, else 0.
-type Rec = (u8, u8, u32, u64, u64);
+pub type Rec = (u8, u8, u32, u64, u64);
 
 /// A task: its name, the steps of its path and its records.
 type Task<'a> = (&'a str, &'a [(u32, u16, u16)], &'a [Rec]);
@@ -31,7 +31,7 @@ const BARRIER: Rec = (5, 0, 7, 0, 0);
 
 const END: Rec = (8, 0, 9, 0, 0);
 
-fn spell(bytes: &mut Vec<u8>, record: &Rec) -> Result<(), AllocError> {
+pub fn spell(bytes: &mut Vec<u8>, record: &Rec) -> Result<(), AllocError> {
     bytes.push(record.0)?;
     bytes.push(record.1)?;
     let site = if record.0 == 1 { 1 } else { 0 };
@@ -41,7 +41,7 @@ fn spell(bytes: &mut Vec<u8>, record: &Rec) -> Result<(), AllocError> {
     bytes.extend_from_slice(&record.4.to_be_bytes())
 }
 
-fn spell_row(
+pub fn spell_row(
     bytes: &mut Vec<u8>,
     steps: &[(u32, u16, u16)],
     records: usize,
@@ -75,7 +75,7 @@ fn folder(alloc: Global, tasks: &[Task<'_>]) -> Result<MemFolder, Fail> {
     Ok(place)
 }
 
-fn words(alloc: Global, given: &[&str]) -> Result<Vec<String>, AllocError> {
+pub fn words(alloc: Global, given: &[&str]) -> Result<Vec<String>, AllocError> {
     let mut all = Vec::new(alloc);
     for word in given {
         all.push(String::from_str(alloc, word)?)?;
@@ -83,7 +83,7 @@ fn words(alloc: Global, given: &[&str]) -> Result<Vec<String>, AllocError> {
     Ok(all)
 }
 
-fn answers<R: Abort>(
+pub fn answers<R: Abort>(
     rt: &R,
     alloc: Global,
     place: &mut MemFolder,

@@ -1,14 +1,16 @@
 //! The top call: what the program does for the words that it is given.
-ghost use Rattle.std.specs.Prelude.{◌≡◌, ◌⊎◌, ℕ, List};
+ghost use Rattle.std.specs.Prelude.{◌≡◌, ◌⊎◌, ℕ, List, is_some};
 ghost use Rattle.sw_base.specs.Environment.{Rose, WhereTold};
-ghost use Rattle.sword.specs.Answer.{Answers, UsageDue};
+ghost use Rattle.sword.specs.Answer.{Answers, IsFailure, Tries, UsageDue};
 ghost use Rattle.sword.specs.Check.{FolderDue, HasReport};
+ghost use Rattle.sword.specs.Run.{LeavesPart, RunDue};
 ghost use Rattle.sword.specs.Show.{HasRecords};
-ghost use Rattle.sword.specs.Words.{IsUsage, SaysCheck, SaysShow, texts};
+ghost use Rattle.sword.specs.Words.{AsksRun, IsUsage, SaysCheck, SaysRun, SaysShow, texts};
 ghost use Rattle.sword.specs.declared.status.TheConstants.{USAGE, READ_FAULT, WRITE_FAULT};
 
 use crate::checking::{check, show};
 use crate::printing::print;
+use crate::running::run;
 use crate::status::{NO_MEMORY, USAGE};
 use crate::words::{Command, read_words};
 use std::alloc::Global;
@@ -21,12 +23,12 @@ const USAGE_LINE: &[u8] =
 ///
 /// The runtime and the gate are for lanes and workers in threads, which there are none of yet.
 pub fn sword<R, F: Folder, O: Out, G: Gate>(
-    _rt: &R,
+    rt: &R,
     alloc: Global,
     words: &[String],
     place: &mut F,
     out: &mut O,
-    _gate: &G,
+    gate: &G,
 ) -> u8
     // Words that ask for nothing are answered by the usage line, and nothing else is.
     ensures usage { IsUsage (texts words.now) → Answers UsageDue (O.written out.old) (O.written out.new) result }
@@ -41,15 +43,29 @@ pub fn sword<R, F: Folder, O: Out, G: Gate>(
     ensures show { (dir : List ℕ) → SaysShow (texts words.now) dir → WhereTold (F.content place.old) (λ c.
         Answers (FolderDue HasRecords c.held dir) (O.written out.old) (O.written out.new) result) }
 
-    // A fault has its cause, and nothing is changed.
+    // `run` answers that there is no kernel, or none of the first kind; that the folder has an index; where the kernel stopped; or
+    // the counts and sums of the run, whose logs and index are then there: those of the kernel's tasks, each with its whole trace
+    // under what it read, cut into pieces that fill the buffer.
+    ensures run { (kernel dir : List ℕ) (size : ℕ) → SaysRun (texts words.now) kernel dir size → WhereTold (F.content place.old) (λ c.
+        WhereTold (F.content place.new) (λ d. Tries (RunDue kernel dir size c d) (O.written out.old) (O.written out.new) result)) }
+    ensures run_leaves { (kernel dir : List ℕ) (size : ℕ) → SaysRun (texts words.now) kernel dir size → WhereTold (F.content place.old) (λ c.
+        WhereTold (F.content place.new) (λ d. IsFailure result → LeavesPart kernel dir size c d)) }
+    ensures run_reads { result ≡ READ_FAULT → F.content place.new ≡ F.content place.old }
+
+    // A fault has its cause, and only a run changes anything.
     ensures read_fault { result ≡ READ_FAULT → Rose (F.read_faults place.old) (F.read_faults place.new) }
-    ensures write_fault { result ≡ WRITE_FAULT → Rose (O.faults out.old) (O.faults out.new) }
-    ensures same { F.content place.new ≡ F.content place.old }
-    ensures same_writes { F.write_faults place.new ≡ F.write_faults place.old }
+    ensures write_fault { result ≡ WRITE_FAULT → Rose (O.faults out.old) (O.faults out.new)
+        ⊎ (AsksRun (texts words.now) × Rose (F.write_faults place.old) (F.write_faults place.new)) }
+    ensures same { (AsksRun (texts words.now) → ⊥) → F.content place.new ≡ F.content place.old }
+    ensures same_writes { (AsksRun (texts words.now) → ⊥) → F.write_faults place.new ≡ F.write_faults place.old }
+    ensures tells { is_some (F.content place.new) ≡ is_some (F.content place.old) }
 {
     match read_words(alloc, words) {
         Ok(None) => print(alloc, out, USAGE_LINE, USAGE),
         Ok(Some(Command::Check { dir, .. })) => check(alloc, place, out, dir),
+        Ok(Some(Command::Run { kernel, dir, size })) => {
+            run(rt, alloc, kernel, dir, size as usize, place, out, gate)
+        }
         Ok(Some(Command::Show { dir })) => show(alloc, place, out, dir),
         Err(_) => NO_MEMORY,
     }

@@ -9,9 +9,20 @@ use std::alloc::{AllocError, Global};
 #[derive(Drop)]
 pub enum Command<'a> {
     /// Compare the accesses of a folder's logs, with so many workers.
-    Check { dir: &'a str, workers: u64 },
+    Check {
+        dir: &'a str,
+        workers: u64,
+    },
+    /// Run a kernel, with buffers of so many bytes.
+    Run {
+        kernel: &'a str,
+        dir: &'a str,
+        size: u64,
+    },
     /// Print the records of a folder's logs.
-    Show { dir: &'a str },
+    Show {
+        dir: &'a str,
+    },
 }
 
 /// What the words ask for. `None` where they ask for nothing.
@@ -22,6 +33,9 @@ pub fn read_words<'a>(alloc: Global, words: &'a [String]) -> Result<Option<Comma
     match words {
         [name, dir, workers] if name.as_str() == "check" => {
             check_words(alloc, dir.as_str(), workers.as_str())
+        }
+        [name, kernel, dir, size] if name.as_str() == "run" => {
+            run_words(alloc, kernel.as_str(), dir.as_str(), size.as_str())
         }
         [name, dir] if name.as_str() == "show" => Ok(show_words(dir.as_str())),
         _ => Ok(None),
@@ -51,6 +65,22 @@ fn check_words<'a>(
     }
     let workers = number(alloc, workers, 1, 64)?;
     Ok(workers.map(|workers| Command::Check { dir, workers }))
+}
+
+fn run_words<'a>(
+    alloc: Global,
+    kernel: &'a str,
+    dir: &'a str,
+    size: &str,
+) -> Result<Option<Command<'a>>, AllocError>
+    ensures said { IfOk result (λ asked. IfSome asked (λ c. Says (codes "run" ∷ kernel.now ∷ dir.now ∷ size.now ∷ []) (request_of c))) }
+    ensures usage { IfOk result (λ asked. IfNone asked (IsUsage (codes "run" ∷ kernel.now ∷ dir.now ∷ size.now ∷ []))) }
+{
+    if !is_name(kernel) || !is_name(dir) {
+        return Ok(None);
+    }
+    let size = number(alloc, size, 24, 4_194_304)?;
+    Ok(size.map(|size| Command::Run { kernel, dir, size }))
 }
 
 fn is_name(word: &str) -> bool

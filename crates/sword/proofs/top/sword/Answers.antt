@@ -1,10 +1,11 @@
 use Rattle.std.proofs.Common.{refl, subst, List, ℕ}
-use Rattle.sword.specs.Answer.{Answers, UsageDue}
+use Rattle.sword.specs.Answer.{Answers, Tries, UsageDue}
 use Rattle.sword.specs.Check.{FolderDue, HasReport}
+use Rattle.sword.specs.Run.{LeavesPart, RunDue}
 use Rattle.sword.specs.Show.{HasRecords}
-use Rattle.sword.specs.Words.{check, show}
+use Rattle.sword.specs.Words.{check, run, show, texts}
 use Rattle.sword.proofs.Answering.{Answers-of, Tries-from_prints, usage_once}
-use Rattle.sword.proofs.WordLists.{same_check, same_show}
+use Rattle.sword.proofs.WordLists.{same_check, same_run, same_show}
 use Rattle.sword.proofs.top.sword.Goals as goal
 
 pub returns-in-Ok-None-clause-usage : goal.returns-in-Ok-None-clause-usage
@@ -27,3 +28,17 @@ returns-in-Ok-Some-Show-clause-show g c = λ dir says content told.
     let said = rw (c.in-Ok-Some-Show.field-0-is, c.in-Ok-Some-Show.field-0-0-is) at c.in-Ok-Some-Show.ensures.said in
     subst (λ (d : List ℕ). Answers (FolderDue HasRecords content.held d) (g.O.Out.written c.args.out.now) (g.O.Out.written c.show.new.out) c.show.result)
     (same_show _ _ dir said says) (c.show.ensures.answers content told)
+
+pub returns-in-Ok-None-clause-run : goal.returns-in-Ok-None-clause-run
+returns-in-Ok-None-clause-run g c = λ kernel dir size says. let usage = rw c.in-Ok-None.field-0-is at c.in-Ok-None.ensures.usage in absurd (usage (run kernel dir size) says)
+
+pub returns-in-Ok-Some-Run-clause-run : goal.returns-in-Ok-Some-Run-clause-run
+returns-in-Ok-Some-Run-clause-run g c = λ kernel dir size says old is new now.
+    let said = rw (c.in-Ok-Some-Run.field-0-is, c.in-Ok-Some-Run.field-0-0-is) at c.in-Ok-Some-Run.ensures.said in
+    same_run (λ (k d : List ℕ) (n : ℕ). Tries (RunDue k d n old new) (g.O.Out.written c.args.out.now) (g.O.Out.written c.run.new.out) c.run.result) (texts c.args.words.now) _ _ kernel dir _ size
+    said says (c.run.ensures.answers old is new now)
+
+pub returns-in-Ok-Some-Run-clause-run_leaves : goal.returns-in-Ok-Some-Run-clause-run_leaves
+returns-in-Ok-Some-Run-clause-run_leaves g c = λ kernel dir size says old is new now failure.
+    let said = rw (c.in-Ok-Some-Run.field-0-is, c.in-Ok-Some-Run.field-0-0-is) at c.in-Ok-Some-Run.ensures.said in
+    same_run (λ (k d : List ℕ) (n : ℕ). LeavesPart k d n old new) (texts c.args.words.now) _ _ kernel dir _ size said says (c.run.ensures.leaves old is new now failure)

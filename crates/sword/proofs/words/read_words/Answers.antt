@@ -1,5 +1,5 @@
 use Rattle.std.proofs.Common.{rules, arith, ◌≡◌, string_bytes, codes}
-use Rattle.sword.proofs.WordLists.{texts-two, texts-three}
+use Rattle.sword.proofs.WordLists.{texts-four, texts-three, texts-two}
 use Rattle.sword.proofs.words.read_words.Goals as goal
 
 pub returns-in-len3-clause-said : goal.returns-in-len3-clause-said
@@ -14,3 +14,13 @@ returns-in-len2-clause-said c = let two = texts-two c.args.words.now _ _ (omega 
     let name : string_bytes c.name-item.result ≡ codes "show" = search rules in
     let dir : string_bytes c.dir-item.result ≡ c.as_str-in-len2.result.now = search rules in
     rw (two, name, dir) c.show_words.ensures.said
+
+pub returns-in-len4-clause-said : goal.returns-in-len4-clause-said
+returns-in-len4-clause-said c = let four = texts-four c.args.words.now _ _ _ _ (omega arith) (omega arith) c.name-item-then-words-lt5.is c.kernel-item.is c.dir-item-then-words-lt5.is c.size-item.is in
+    let name : string_bytes c.name-item-then-words-lt5.result ≡ codes "run" = search rules in
+    rw (four, name, ← c.as_str-in-len4.ensures.value, ← c.as_str-in-len4-2.ensures.value, ← c.as_str-in-len4-3.ensures.value) c.run_words.ensures.said
+
+pub returns-in-len4-clause-usage : goal.returns-in-len4-clause-usage
+returns-in-len4-clause-usage c = let four = texts-four c.args.words.now _ _ _ _ (omega arith) (omega arith) c.name-item-then-words-lt5.is c.kernel-item.is c.dir-item-then-words-lt5.is c.size-item.is in
+    let name : string_bytes c.name-item-then-words-lt5.result ≡ codes "run" = search rules in
+    rw (four, name, ← c.as_str-in-len4.ensures.value, ← c.as_str-in-len4-2.ensures.value, ← c.as_str-in-len4-3.ensures.value) c.run_words.ensures.usage

@@ -1,0 +1,53 @@
+-- What `run` answers and leaves, by what its parts did.
+use Rattle.std.proofs.Common.{◌≡◌, refl, sym, subst, ◌∙◌, ℕ, List, [], Option, None}
+use Rattle.sw_base.specs.Environment.{Content, Files}
+use Rattle.sw_base.specs.Names.{index_name}
+use Rattle.sw_base.proofs.NameLaws.{log_name-not_index}
+use Rattle.kernel_syntax.specs.Program.{Program}
+use Rattle.sword.specs.declared.beginning.Refusal.{Refusal}
+use Rattle.sword.specs.declared.beginning.Refusal.TheVariants.{NoKernel, NotBuilt, IndexThere, ReadFault, Memory}
+use Rattle.sword.specs.Answer.{IsFailure, Tries}
+use Rattle.sword.specs.Begins.{IsRefusal, RefusalDue}
+use Rattle.sword.specs.Ends.{EndDue, EndLeaves, Ends}
+use Rattle.sword.specs.Ends as end
+use Rattle.sword.specs.Run.{ChangesLogs, HoldsKernel, LeavesPart, RunDue}
+use Rattle.sword.specs.Run as run
+use Rattle.sword.proofs.Answering.{Tries-weaker}
+
+module _ (kernel dir : List ℕ) (size : ℕ) (old new : Content) where
+  -- a text that is due of a refusal is due of `run`
+  refusal_due : (why : Refusal) → IsRefusal old.held kernel dir why → new ≡ old → (status : ℕ) (text : List ℕ) → RefusalDue why status text → RunDue kernel dir size old new status text
+  refusal_due NoKernel told same status text due = run.no_kernel told due.0 due.1 same
+  refusal_due NotBuilt told same status text due = run.not_built told.0 told.1 due.0 due.1 same
+  refusal_due IndexThere told same status text due = run.index_there told.program told.holds told.there due.0 due.1 same
+  refusal_due ReadFault told same status text due = absurd due
+  refusal_due Memory told same status text due = absurd due
+
+  -- what was printed of a refusal is the answer of `run`
+  pub refused_run : (why : Refusal) (before after : Option (List ℕ)) (status : ℕ) → IsRefusal old.held kernel dir why → new ≡ old → Tries (RefusalDue why) before after status
+      → Tries (RunDue kernel dir size old new) before after status
+  refused_run why before after status told same = Tries-weaker (RefusalDue why) (RunDue kernel dir size old new) before after status (refusal_due why told same)
+
+  module _ (program : Program) (holds : HoldsKernel old.held kernel program) (fresh : old.held (index_name dir) ≡ None) where
+    -- a text that is due of a run that began is due of `run`
+    end_due : (status : ℕ) (text : List ℕ) → EndDue program dir size old new status text → RunDue kernel dir size old new status text
+    end_due status text (end.stopped is stops) = run.stopped program holds fresh is stops
+    end_due status text (end.ran is ran) = run.ran program holds fresh is ran
+
+    -- and so is its answer
+    pub ended_run : (before after : Option (List ℕ)) (status : ℕ) → Ends program dir size old before after status new → Tries (RunDue kernel dir size old new) before after status
+    ended_run before after status ends = Tries-weaker (EndDue program dir size old new) (RunDue kernel dir size old new) before after status end_due ends.answers
+
+    -- no log has the index's name
+    no_index : ChangesLogs program dir old.held new.held → new.held (index_name dir) ≡ None
+    no_index changes = changes (index_name dir) (λ path listed same. log_name-not_index dir path (sym same)) ∙ fresh
+
+    -- what it leaves is what `run` leaves
+    part_of : EndLeaves program dir size old new → LeavesPart kernel dir size old new
+    part_of (end.nothing same) = run.nothing same
+    part_of (end.logs changes) = run.logs program holds fresh (no_index changes) changes
+    part_of (end.index tasks is front rest parts leaves) = run.index program holds fresh tasks is front rest parts leaves
+
+    -- where it could not give its answer
+    pub ended_part : (before after : Option (List ℕ)) (status : ℕ) → Ends program dir size old before after status new → IsFailure status → LeavesPart kernel dir size old new
+    ended_part before after status ends failure = part_of (ends.leaves failure)

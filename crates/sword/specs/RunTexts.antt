@@ -1,0 +1,51 @@
+-- The texts of `run`, each line ended by a line feed.
+use Rattle.std.specs.Prelude.{ℕ, List, [], ◌∷◌, ◌++◌, length, take, drop, sum_by, codes, decimal, flat_map, ℤ, pos, ◌+ℤ◌}
+use Rattle.std.specs.Int.{w64, cast_signed}
+use Rattle.std.specs.Fmt.{signed_decimal}
+use Rattle.sw_base.specs.declared.path.Step.{Step}
+use Rattle.sw_base.specs.Names.{bare_log_name}
+use Rattle.race_model.specs.Trace.{TaskLog, Trace}
+use Rattle.kernel_syntax.specs.declared.syntax.Array.{Array}
+use Rattle.kernel_model.specs.State.{Stop, DivZero, Index, LogFull}
+
+abbrev pub no_kernel_text : List ℕ
+no_kernel_text = codes "no kernel\n"
+
+abbrev pub not_built_text : List ℕ
+not_built_text = codes "kernel not built\n"
+
+abbrev pub index_exists_text : List ℕ
+index_exists_text = codes "index exists\n"
+
+abbrev pub stop_name : Stop → List ℕ
+stop_name DivZero = codes "DivZero"
+stop_name Index = codes "Index"
+stop_name LogFull = codes "LogFull"
+
+-- the task of this path stopped so at this line
+abbrev pub stop_line : List Step → ℕ → List ℕ → List ℕ
+stop_line path line why = codes "stopped " ++ bare_log_name path ++ codes " line " ++ decimal line ++ codes ": " ++ why ++ codes "\n"
+
+abbrev pub stopped_text : List Step → ℕ → Stop → List ℕ
+stopped_text path line why = stop_line path line (stop_name why)
+
+-- the sum of values of 64 bits, signed and not wrapped
+abbrev pub sum_of : List ℕ → ℤ
+sum_of [] = pos 0
+sum_of (value ∷ values) = cast_signed w64 value +ℤ sum_of values
+
+-- the values of an array's elements, of those of all arrays
+abbrev pub values_of : Array → List ℕ → List ℕ
+values_of array values = take array.count (drop array.first values)
+
+abbrev pub sum_line : List ℕ → Array → List ℕ
+sum_line values array = codes "sum " ++ array.name ++ codes " " ++ signed_decimal (sum_of (values_of array values)) ++ codes "\n"
+
+-- how many tasks and records there are
+abbrev pub count_lines : ℕ → ℕ → List ℕ
+count_lines tasks records = codes "tasks " ++ decimal tasks ++ codes "\n" ++ (codes "records " ++ decimal records ++ codes "\n")
+
+-- the counts of a run, and the sum of each array's values
+abbrev pub run_text : Trace → List Array → List ℕ → List ℕ
+run_text tasks arrays values =
+    count_lines (length tasks) (sum_by (λ (task : TaskLog). length task.records) tasks) ++ flat_map (sum_line values) arrays

@@ -1,0 +1,263 @@
+use crate::status::{
+    DONE, INDEX_THERE, KERNEL_REFUSED, KERNEL_STOPPED, RACES, READ_FAULT, USAGE, WRITE_FAULT,
+};
+use crate::tests::{answers, words};
+use crate::top::sword;
+use std::alloc::Global;
+use std::process::Abort;
+use std::test::Fail;
+use sw_base::{MemFolder, MemOut, NoGate};
+
+// Each lane adds 1 to every other element.
+const COUNT: &str =
+    "array a i64 8\nmain {\nparallel 2 {\nfor i in 0 .. 8 static 1 {\na[i] = a[i] + 1\n}\n}\n}\n";
+
+// Lane 1 reads the element that lane 0 writes last.
+const SHIFT: &str =
+    "array a i64 9\nmain { parallel 2 {\nfor i in 0 .. 8 static 4 { a[i+1] = a[i] }\n} }\n";
+
+const SHIFT_ON: &str =
+    "array a i64 9\nmain { parallel 2 {\nfor i in 0 .. 8 static 4 nowait { a[i+1] = a[i] }\n} }\n";
+
+const NOTHING: &str = "array a i64 4\nmain { parallel 2 {\nfor i in 0 .. 0 { a[i] = 1 }\n} }\n";
+
+const NOTHING_ON: &str =
+    "array a i64 4\nmain { parallel 2 {\nfor i in 0 .. 0 nowait { a[i] = 1 }\n} }\n";
+
+// Lane 1 begins past the end of the array.
+const BEYOND: &str =
+    "array a i64 4\nmain { parallel 2 {\nfor i in 0 .. 8 static 4 { a[i] = 1 }\n} }\n";
+
+// Each lane divides by an element, which is 0.
+const DIVIDE: &str =
+    "array a i64 4\nmain { parallel 2 {\nfor i in 0 .. 4 { a[i] = 1 / a[i] }\n} }\n";
+
+const COUNTED: &str = "tasks 3\nrecords 22\nsum a 8\n";
+
+const INDEX: &str = "d/index.swi";
+
+const LANE_0: &str = "d/t-0.0.swl";
+
+// A folder with this kernel.
+fn holding(alloc: Global, kernel: &str) -> Result<MemFolder, Fail> {
+    let mut place = MemFolder::new(alloc)?;
+    place.hold("k", kernel.as_bytes())?;
+    Ok(place)
+}
+
+// A folder in which this kernel ran and printed the text.
+fn after<R: Abort>(
+    rt: &R,
+    alloc: Global,
+    kernel: &str,
+    size: &str,
+    status: u8,
+    text: &str,
+) -> Result<MemFolder, Fail> {
+    let mut place = holding(alloc, kernel)?;
+    answers(
+        rt,
+        alloc,
+        &mut place,
+        &["run", "k", "d", size],
+        status,
+        text,
+    )?;
+    Ok(place)
+}
+
+fn show<R: Abort>(rt: &R, alloc: Global, place: &mut MemFolder, text: &str) -> Result<(), Fail> {
+    answers(rt, alloc, place, &["show", "d"], DONE, text)
+}
+
+#[test]
+fn two_lanes_count(rt: HostRuntime) -> Result<(), Fail> {
+    let alloc = rt.alloc();
+    let mut place = after(&rt, alloc, COUNT, "4096", DONE, COUNTED)?;
+    assert_eq!(rt; place.file(INDEX).ok_or("an index")?.len(), 152);
+    let check = ["check", "d", "2"];
+    answers(&rt, alloc, &mut place, &check, DONE, "races 0\n")?;
+    let mut out = MemOut::new(alloc)?;
+    let all = words(alloc, &["show", "d"])?;
+    assert_eq!(rt;
+        sword(&rt, alloc, &all, &mut place, &mut out, &NoGate),
+        DONE
+    );
+    assert!(rt;
+        out.written().starts_with(
+            b"log t.swl records 2\n1 region 2 line 3\n2 end line 8\nlog t-0.0.swl records 10\n1 read 8 site 1 line 5 addr 4096 value 0\n2 write 8 site 0 line 5 addr 4096 value 1\n3 read 8 site 1 line 5 addr 4112 value 0\n"
+        )
+    );
+    Ok(())
+}
+
+#[test]
+fn pieces_fill_the_buffer(rt: HostRuntime) -> Result<(), Fail> {
+    let alloc = rt.alloc();
+    let whole = after(&rt, alloc, COUNT, "4096", DONE, COUNTED)?;
+    let log = whole.file(LANE_0).ok_or("a log")?;
+    assert_eq!(rt; log.len(), 248);
+    let single: &[usize] = &[8, 24, 24, 24, 24, 24, 24, 24, 24, 24, 24];
+    for (size, lengths) in [
+        ("24", single),
+        ("47", single),
+        ("48", &[8, 48, 48, 48, 48, 48]),
+        ("100", &[8, 96, 96, 48]),
+        ("4194304", &[8, 240]),
+    ] {
+        let place = after(&rt, alloc, COUNT, size, DONE, COUNTED)?;
+        assert_eq!(rt; place.file(LANE_0).ok_or("a log")?, log);
+        assert_eq!(rt; place.sealed_name(0).ok_or("a log")?, "d/t.swl");
+        assert_eq!(rt; place.sealed_name(1).ok_or("a log")?, LANE_0);
+        assert_eq!(rt; place.sealed_lengths(1).ok_or("a log")?, lengths);
+        assert_eq!(rt; place.sealed_name(2).ok_or("a log")?, "d/t-0.1.swl");
+        assert!(rt; place.sealed_name(3).is_none());
+    }
+    Ok(())
+}
+
+#[test]
+fn a_run_races_where_lanes_share_an_element(rt: HostRuntime) -> Result<(), Fail> {
+    let alloc = rt.alloc();
+    for (kernel, text) in [
+        (SHIFT, "tasks 3\nrecords 22\nsum a 0\n"),
+        (SHIFT_ON, "tasks 3\nrecords 20\nsum a 0\n"),
+    ] {
+        let mut place = after(&rt, alloc, kernel, "4096", DONE, text)?;
+        let check = ["check", "d", "2"];
+        answers(&rt, alloc, &mut place, &check, RACES, "race 3 3\nraces 1\n")?;
+    }
+    Ok(())
+}
+
+#[test]
+fn an_empty_loop_has_a_barrier_alone(rt: HostRuntime) -> Result<(), Fail> {
+    let alloc = rt.alloc();
+    let text = "tasks 3\nrecords 6\nsum a 0\n";
+    let mut waits = after(&rt, alloc, NOTHING, "4096", DONE, text)?;
+    show(
+        &rt,
+        alloc,
+        &mut waits,
+        "log t.swl records 2\n1 region 2 line 2\n2 end line 4\nlog t-0.0.swl records 2\n1 barrier line 3\n2 end line 4\nlog t-0.1.swl records 2\n1 barrier line 3\n2 end line 4\n",
+    )?;
+    let text = "tasks 3\nrecords 4\nsum a 0\n";
+    let mut goes_on = after(&rt, alloc, NOTHING_ON, "4096", DONE, text)?;
+    show(
+        &rt,
+        alloc,
+        &mut goes_on,
+        "log t.swl records 2\n1 region 2 line 2\n2 end line 4\nlog t-0.0.swl records 1\n1 end line 4\nlog t-0.1.swl records 1\n1 end line 4\n",
+    )
+}
+
+#[test]
+fn sums_are_signed(rt: HostRuntime) -> Result<(), Fail> {
+    let alloc = rt.alloc();
+    let kernel =
+        "array a i8 2\narray b i64 3\nmain { parallel 1 {\nfor i in 0 .. 2 { a[i] = 200 b[i+1] = 9223372036854775807 }\n} }\n";
+    let text = "tasks 2\nrecords 8\nsum a -112\nsum b 18446744073709551614\n";
+    after(&rt, alloc, kernel, "4096", DONE, text)?;
+    Ok(())
+}
+
+#[test]
+fn an_index_is_kept(rt: HostRuntime) -> Result<(), Fail> {
+    let alloc = rt.alloc();
+    let mut place = after(&rt, alloc, COUNT, "4096", DONE, COUNTED)?;
+    place.hold("k", SHIFT.as_bytes())?;
+    let run = ["run", "k", "d", "24"];
+    answers(&rt, alloc, &mut place, &run, INDEX_THERE, "index exists\n")?;
+    assert_eq!(rt; place.file(INDEX).ok_or("an index")?.len(), 152);
+    assert_eq!(rt; place.file(LANE_0).ok_or("a log")?.len(), 248);
+    assert!(rt; place.sealed_name(3).is_none());
+    Ok(())
+}
+
+#[test]
+fn a_stop_names_the_least_lane(rt: HostRuntime) -> Result<(), Fail> {
+    let alloc = rt.alloc();
+    for (kernel, text) in [
+        (BEYOND, "stopped t-0.1.swl line 3: Index\n"),
+        (DIVIDE, "stopped t-0.0.swl line 3: DivZero\n"),
+    ] {
+        let place = after(&rt, alloc, kernel, "4096", KERNEL_STOPPED, text)?;
+        assert!(rt; place.file(INDEX).is_none());
+        assert_eq!(rt; place.sealed_name(2).ok_or("a log")?, "d/t-0.1.swl");
+        assert!(rt; place.sealed_name(3).is_none());
+    }
+    Ok(())
+}
+
+#[test]
+fn other_sizes_are_usage(rt: HostRuntime) -> Result<(), Fail> {
+    let alloc = rt.alloc();
+    let mut place = holding(alloc, COUNT)?;
+    for size in ["23", "4194305", "024"] {
+        let mut out = MemOut::new(alloc)?;
+        let all = words(alloc, &["run", "k", "d", size])?;
+        assert_eq!(rt;
+            sword(&rt, alloc, &all, &mut place, &mut out, &NoGate),
+            USAGE
+        );
+        assert!(rt;
+            out.written()
+                .starts_with(b"usage: sword check DIR W | run KERNEL DIR SIZE |")
+        );
+    }
+    assert!(rt; place.file("d/t.swl").is_none());
+    Ok(())
+}
+
+#[test]
+fn other_kernels_are_refused(rt: HostRuntime) -> Result<(), Fail> {
+    let alloc = rt.alloc();
+    let mut empty = MemFolder::new(alloc)?;
+    let run = ["run", "k", "d", "4096"];
+    answers(&rt, alloc, &mut empty, &run, KERNEL_REFUSED, "no kernel\n")?;
+    let text = "kernel not built\n";
+    for kernel in ["array a i64 4 main { a[0] = 1 }", "no kernel at all", ""] {
+        let place = after(&rt, alloc, kernel, "4096", KERNEL_REFUSED, text)?;
+        assert!(rt; place.file("d/t.swl").is_none());
+    }
+    Ok(())
+}
+
+#[test]
+fn each_call_of_a_run_may_fail(rt: HostRuntime) -> Result<(), Fail> {
+    let alloc = rt.alloc();
+    let whole = after(&rt, alloc, COUNT, "4096", DONE, COUNTED)?;
+    let index = whole.file(INDEX).ok_or("an index")?;
+    for call in 1..9 {
+        let mut place = holding(alloc, COUNT)?;
+        place.fail(&[call])?;
+        let status = if call < 4 { READ_FAULT } else { WRITE_FAULT };
+        let run = ["run", "k", "d", "4096"];
+        answers(&rt, alloc, &mut place, &run, status, "")?;
+        let front = place.file(INDEX).unwrap_or(b"");
+        assert!(rt; call == 8 || place.file(INDEX).is_none());
+        assert!(rt; index.starts_with(front) && front.len() < index.len());
+    }
+    let mut place = holding(alloc, COUNT)?;
+    place.fail(&[9])?;
+    let run = ["run", "k", "d", "4096"];
+    answers(&rt, alloc, &mut place, &run, DONE, COUNTED)
+}
+
+#[test]
+fn each_text_of_a_run_may_fail(rt: HostRuntime) -> Result<(), Fail> {
+    let alloc = rt.alloc();
+    for kernel in [COUNT, BEYOND, "no kernel"] {
+        let mut place = holding(alloc, kernel)?;
+        let mut out = MemOut::new(alloc)?;
+        out.fail(&[1])?;
+        let all = words(alloc, &["run", "k", "d", "4096"])?;
+        assert_eq!(rt;
+            sword(&rt, alloc, &all, &mut place, &mut out, &NoGate),
+            WRITE_FAULT
+        );
+        assert!(rt; out.written().len() < COUNTED.len());
+        assert_eq!(rt; place.file(INDEX).is_some(), kernel == COUNT);
+    }
+    Ok(())
+}
