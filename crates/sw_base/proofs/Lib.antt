@@ -5,3 +5,4 @@ pub mod HeldFiles
 pub mod Paths
 pub mod NameLaws
 pub mod AfterPut
+pub mod Planned

@@ -1,10 +1,13 @@
 -- Paths that compare equal are equal.
-use Rattle.std.proofs.Common.{◌≡◌, List, [], ◌∷◌, refl, arith}
+use Rattle.std.proofs.Common.{◌≡◌, List, [], ◌∷◌, refl, subst, arith}
+use Rattle.std.specs.Prelude.{◌↔◌}
+use Rattle.std.proofs.lemmas.Cmp.{tied_itself}
 use Rattle.std.proofs.lemmas.Bool.Decides.{nat_tests}
 use Rattle.std.specs.declared.cmp.Ordering.{Ordering}
 use Rattle.std.specs.declared.cmp.Ordering.TheVariants.{Less, Equal, Greater}
 use Rattle.std.specs.Ordering.{ordering_then}
 use Rattle.sw_base.specs.Names.{path_cmp, step_cmp}
+use Rattle.sw_base.specs.PathOrder.{path_cmp_total}
 use Rattle.sw_base.specs.declared.path.Step.{Step}
 
 -- steps that compare equal are equal
@@ -27,3 +30,6 @@ path_cmp-equal (x ∷ xs) (y ∷ ys) same =
     let first = step_cmp-equal x y both.0 in
     let rest = path_cmp-equal xs ys both.1 in
     cc
+
+pub path_cmp_decides : (one other : List Step) → (path_cmp one other ≡ Equal) ↔ (one ≡ other)
+path_cmp_decides one other = (path_cmp-equal one other, λ same. subst (λ (p : List Step). path_cmp one p ≡ Equal) same (tied_itself path_cmp_total one))

@@ -5,3 +5,4 @@ pub mod MemLog
 pub mod MemOut
 pub mod Names
 pub mod PathOrder
+pub mod Plans

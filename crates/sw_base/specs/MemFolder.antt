@@ -6,6 +6,7 @@ use Rattle.std.specs.BTreeMap.{BTreeMap, get_by_text}
 use Rattle.std.specs.Option.{option_map}
 use Rattle.sw_base.specs.Environment.{Content, Files, Sealed}
 use Rattle.sw_base.specs.InMemory.{next_count}
+use Rattle.sw_base.specs.Plans.{Plan, plans_by}
 use Rattle.sw_base.specs.declared.in_memory.folder.MemFolder.{MemFolder}
 use Rattle.sw_base.specs.declared.in_memory.folder.SealedLog.{SealedLog}
 
@@ -44,6 +45,10 @@ calls_of folder = folder.calls.made
 -- the numbers of the calls that are to fail
 abbrev pub failing_of : MemFolder → List ℕ
 failing_of folder = folder.calls.failing.items
+
+-- which calls are to fail on the logs that it makes
+abbrev pub plans_of : MemFolder → List Plan
+plans_of folder = plans_by folder.plans
 
 -- the next call is to fail
 abbrev pub IsNextToFail : MemFolder → Type 0

@@ -2,6 +2,7 @@
 use Rattle.std.specs.Prelude.{ℕ, List, map, Option, Some, Contains, string_bytes}
 use Rattle.sw_base.specs.Environment.{Text}
 use Rattle.sw_base.specs.InMemory.{next_count}
+use Rattle.sw_base.specs.Plans.{Plan, plans_by}
 use Rattle.sw_base.specs.declared.in_memory.log.MemLog.{MemLog}
 use Rattle.sw_base.specs.declared.path.Step.{Step}
 
@@ -36,6 +37,10 @@ calls_of log = log.calls.made
 -- the numbers of the calls that are to fail
 abbrev pub failing_of : MemLog → List ℕ
 failing_of log = log.calls.failing.items
+
+-- which calls are to fail on the logs that are made from it
+abbrev pub plans_of : MemLog → List Plan
+plans_of log = plans_by log.plans
 
 -- the next call is to fail
 abbrev pub IsNextToFail : MemLog → Type 0

@@ -6,6 +6,7 @@ mod files;
 mod folder;
 mod log;
 mod out;
+mod plans;
 
 pub use folder::MemFolder;
 pub use log::MemLog;

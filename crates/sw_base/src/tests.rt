@@ -106,6 +106,26 @@ fn calls_of_a_log_fail_by_their_number(rt: HostRuntime) -> Result<(), Fail> {
     Ok(())
 }
 
+#[test]
+fn planned_calls_of_later_logs_fail(rt: HostRuntime) -> Result<(), Fail> {
+    let alloc = rt.alloc();
+    let mut folder = MemFolder::new(alloc)?;
+    folder.fail_log(&Path::root(), &[2])?;
+    folder.fail_log(&Path::root().child(0, 1, 2), &[1, 3])?;
+    let mut root = folder.root(alloc, "d")?;
+    assert_eq!(rt; root.append(alloc, b"ab"), Ok(()));
+    assert_eq!(rt; root.child(alloc, 0, 0, 2).err(), Some(Trouble::Failed));
+    let mut first = root.child(alloc, 0, 0, 2)?;
+    let mut second = root.child(alloc, 0, 1, 2)?;
+    assert_eq!(rt; first.append(alloc, b"x"), Ok(()));
+    assert_eq!(rt; second.append(alloc, b"yz"), Err(Trouble::Failed));
+    assert_eq!(rt; second.append(alloc, b"u"), Ok(()));
+    assert_eq!(rt; second.append(alloc, b"vw"), Err(Trouble::Failed));
+    assert_eq!(rt; second.bytes(), b"yuv".as_slice());
+    assert_eq!(rt; second.lengths(), [1].as_slice());
+    Ok(())
+}
+
 // Whether the name holds these bytes.
 fn holds(folder: &MemFolder, name: &str, bytes: &[u8]) -> bool {
     match folder.file(name) {

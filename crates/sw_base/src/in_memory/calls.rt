@@ -24,6 +24,14 @@ impl Calls {
         }
     }
 
+    /// No call yet, and these are to fail.
+    pub fn failing(failing: Vec<u64>) -> Calls
+        ensures made { result.made ≡ 0 }
+        ensures failing { result.failing ≡ failing }
+    {
+        Calls { made: 0, failing }
+    }
+
     /// Counts one more call, and tells whether it is to fail.
     pub fn next(&mut self) -> bool
         ensures made { self.new.made ≡ next_count self.old.made }

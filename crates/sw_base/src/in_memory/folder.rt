@@ -1,17 +1,20 @@
 //! A folder, kept in memory.
-ghost use Rattle.std.specs.Prelude.{◌≡◌, ◌<◌, ◌≤◌, ◌↔◌, [], length, unwrap_or, is_some, IfOk, IfErr, OnOk, OnErr, IsErrOf, IsErrAnd, IsTrue, slice_get, string_bytes};
+ghost use Rattle.std.specs.Prelude.{◌≡◌, ◌<◌, ◌≤◌, ◌↔◌, [], ◌∷◌, ◌++◌, length, unwrap_or, is_some, IfOk, IfErr, OnOk, OnErr, IsErrOf, IsErrAnd, IsTrue, slice_get, string_bytes};
 ghost use Rattle.std.specs.Bool.{OnFalse};
 ghost use Rattle.std.specs.Option.{option_copied, option_map};
 ghost use Rattle.sw_base.specs.Environment.{HasCause, LeavesFront, Reads, Rose, TakesFaults, WhereTold, empty_text, no_files, with_file, with_log, with_put};
 ghost use Rattle.sw_base.specs.InMemory.{next_count};
-ghost use Rattle.sw_base.specs.MemFolder.{content_of, held_of, sealed_of, read_faults_of, write_faults_of, calls_of, failing_of, IsNextToFail};
-ghost use Rattle.sw_base.specs.MemLog.{dir_of, path_of, text_of, faults_of, bytes_of, pieces_of};
+ghost use Rattle.sw_base.specs.MemFolder.{content_of, held_of, sealed_of, read_faults_of, write_faults_of, calls_of, failing_of, plans_of, IsNextToFail};
+ghost use Rattle.sw_base.specs.MemLog.{dir_of, path_of, text_of, faults_of, bytes_of, pieces_of, failing_of as log_failing_of, plans_of as log_plans_of};
 ghost use Rattle.sw_base.specs.Names.{log_name};
+ghost use Rattle.sw_base.specs.Plans.{FailsAsPlanned};
 
 use crate::in_memory::calls::Calls;
 use crate::in_memory::files::{Held, copy_from, find, store};
 use crate::in_memory::log::MemLog;
+use crate::in_memory::plans::Plans;
 use crate::outside::Folder;
+use crate::path::Path;
 use crate::trouble::{Memory, Trouble};
 use std::alloc::Global;
 use std::collections::BTreeMap;
@@ -32,6 +35,7 @@ pub struct MemFolder {
     read_faults: u64,
     write_faults: u64,
     calls: Calls,
+    plans: Plans,
 }
 
 impl MemFolder {
@@ -44,6 +48,7 @@ impl MemFolder {
         ensures write_faults { IfOk result (λ folder. write_faults_of folder ≡ 0) }
         ensures calls { IfOk result (λ folder. calls_of folder ≡ 0) }
         ensures failing { IfOk result (λ folder. failing_of folder ≡ []) }
+        ensures plans { IfOk result (λ folder. plans_of folder ≡ []) }
     {
         Ok(MemFolder {
             alloc,
@@ -52,6 +57,7 @@ impl MemFolder {
             read_faults: 0,
             write_faults: 0,
             calls: Calls::new(alloc),
+            plans: Plans::new(alloc),
         })
     }
 
@@ -65,8 +71,24 @@ impl MemFolder {
         ensures same_reads { read_faults_of self.new ≡ read_faults_of self.old }
         ensures same_writes { write_faults_of self.new ≡ write_faults_of self.old }
         ensures same_calls { calls_of self.new ≡ calls_of self.old }
+        ensures same_plans { plans_of self.new ≡ plans_of self.old }
     {
         self.calls.fail(calls)
+    }
+
+    /// Plans that these calls on the log of this task, of those that this folder's later logs make, are to fail. Where there is
+    /// no memory nothing changes.
+    pub fn fail_log(&mut self, path: &Path, calls: &[u64]) -> Result<(), Memory>
+        ensures ok { OnOk result (plans_of self.new ≡ plans_of self.old ++ (path.now, calls.now) ∷ []) }
+        ensures err { OnErr result (plans_of self.new ≡ plans_of self.old) }
+        ensures same_held { held_of self.new ≡ held_of self.old }
+        ensures same_sealed { sealed_of self.new ≡ sealed_of self.old }
+        ensures same_reads { read_faults_of self.new ≡ read_faults_of self.old }
+        ensures same_writes { write_faults_of self.new ≡ write_faults_of self.old }
+        ensures same_calls { calls_of self.new ≡ calls_of self.old }
+        ensures same_failing { failing_of self.new ≡ failing_of self.old }
+    {
+        self.plans.add(path, calls)
     }
 
     /// Makes the name hold the bytes. It is no call that is counted. Where there is no memory nothing changes.
@@ -78,6 +100,7 @@ impl MemFolder {
         ensures same_writes { write_faults_of self.new ≡ write_faults_of self.old }
         ensures same_calls { calls_of self.new ≡ calls_of self.old }
         ensures same_failing { failing_of self.new ≡ failing_of self.old }
+        ensures same_plans { plans_of self.new ≡ plans_of self.old }
     {
         store(&mut self.files, self.alloc, name, bytes)
     }
@@ -121,6 +144,7 @@ impl MemFolder {
         ensures same { content_of self.new ≡ content_of self.old }
         ensures counts_call { calls_of self.new ≡ next_count (calls_of self.old) }
         ensures same_failing { failing_of self.new ≡ failing_of self.old }
+        ensures same_plans { plans_of self.new ≡ plans_of self.old }
     {
         let fails = self.calls.next();
         if fails {
@@ -139,6 +163,7 @@ impl MemFolder {
         ensures same { content_of self.new ≡ content_of self.old }
         ensures counts_call { calls_of self.new ≡ next_count (calls_of self.old) }
         ensures same_failing { failing_of self.new ≡ failing_of self.old }
+        ensures same_plans { plans_of self.new ≡ plans_of self.old }
     {
         let fails = self.calls.next();
         if fails {
@@ -154,6 +179,7 @@ impl MemFolder {
         ensures same_writes { write_faults_of self.new ≡ write_faults_of self.old }
         ensures same_calls { calls_of self.new ≡ calls_of self.old }
         ensures same_failing { failing_of self.new ≡ failing_of self.old }
+        ensures same_plans { plans_of self.new ≡ plans_of self.old }
     {
         let half = bytes.len() / 2;
         let _ = self.hold(name, &bytes[..half]);
@@ -168,6 +194,7 @@ impl MemFolder {
         ensures same_writes { write_faults_of self.new ≡ write_faults_of self.old }
         ensures same_calls { calls_of self.new ≡ calls_of self.old }
         ensures same_failing { failing_of self.new ≡ failing_of self.old }
+        ensures same_plans { plans_of self.new ≡ plans_of self.old }
     {
         let name = log.name(alloc)?;
         let lengths = log.lengths().to_vec(alloc)?;
@@ -185,6 +212,7 @@ impl MemFolder {
         ensures same { content_of self.new ≡ content_of self.old }
         ensures same_calls { calls_of self.new ≡ calls_of self.old }
         ensures same_failing { failing_of self.new ≡ failing_of self.old }
+        ensures same_plans { plans_of self.new ≡ plans_of self.old }
     {
         if log.faults() > 0 {
             self.write_faults = self.write_faults.saturating_add(1);
@@ -214,6 +242,7 @@ impl Folder for MemFolder {
         ensures counts_fault { IsErrOf result Trouble.Failed → read_faults_of self.new ≡ next_count (read_faults_of self.old) }
         ensures none_to_fail { failing_of self.old ≡ [] → read_faults_of self.new ≡ read_faults_of self.old }
         ensures same_failing { failing_of self.new ≡ failing_of self.old }
+        ensures same_plans { plans_of self.new ≡ plans_of self.old }
     {
         if self.fails_to_read() {
             return Err(Trouble::Failed);
@@ -241,6 +270,7 @@ impl Folder for MemFolder {
         ensures counts_fault { IsErrOf result Trouble.Failed → read_faults_of self.new ≡ next_count (read_faults_of self.old) }
         ensures none_to_fail { failing_of self.old ≡ [] → read_faults_of self.new ≡ read_faults_of self.old }
         ensures same_failing { failing_of self.new ≡ failing_of self.old }
+        ensures same_plans { plans_of self.new ≡ plans_of self.old }
     {
         if self.fails_to_read() {
             return Err(Trouble::Failed);
@@ -264,6 +294,7 @@ impl Folder for MemFolder {
         ensures counts_fault { IsErrOf result Trouble.Failed → write_faults_of self.new ≡ next_count (write_faults_of self.old) }
         ensures none_to_fail { failing_of self.old ≡ [] → write_faults_of self.new ≡ write_faults_of self.old }
         ensures same_failing { failing_of self.new ≡ failing_of self.old }
+        ensures same_plans { plans_of self.new ≡ plans_of self.old }
     {
         if self.fails_to_write() {
             self.tear_file(name, bytes);
@@ -278,6 +309,8 @@ impl Folder for MemFolder {
         ensures log_path { IfOk result (λ log. path_of log ≡ []) }
         ensures log_text { IfOk result (λ log. text_of log ≡ option_map (λ _. empty_text) (content_of self.old)) }
         ensures log_faults { IfOk result (λ log. faults_of log ≡ 0) }
+        ensures log_failing { IfOk result (λ log. FailsAsPlanned (plans_of self.old) [] (log_failing_of log)) }
+        ensures log_plans { IfOk result (λ log. log_plans_of log ≡ plans_of self.old) }
 
         ensures same { content_of self.new ≡ content_of self.old }
         ensures cause { HasCause (write_faults_of self.old) (write_faults_of self.new) result }
@@ -288,11 +321,12 @@ impl Folder for MemFolder {
         ensures counts_fault { IsErrOf result Trouble.Failed → write_faults_of self.new ≡ next_count (write_faults_of self.old) }
         ensures none_to_fail { failing_of self.old ≡ [] → write_faults_of self.new ≡ write_faults_of self.old }
         ensures same_failing { failing_of self.new ≡ failing_of self.old }
+        ensures same_plans { plans_of self.new ≡ plans_of self.old }
     {
         if self.fails_to_write() {
             return Err(Trouble::Failed);
         }
-        Ok(MemLog::new(alloc, dir)?)
+        Ok(MemLog::planned(alloc, dir, Path::root(), &self.plans)?)
     }
 
     fn seal(&mut self, alloc: Global, log: MemLog) -> Result<(), (Trouble, MemLog)>
@@ -312,6 +346,7 @@ impl Folder for MemFolder {
         ensures counts_call { calls_of self.new ≡ next_count (calls_of self.old) }
         ensures none_to_fail { failing_of self.old ≡ [] → faults_of log ≡ 0 → write_faults_of self.new ≡ write_faults_of self.old }
         ensures same_failing { failing_of self.new ≡ failing_of self.old }
+        ensures same_plans { plans_of self.new ≡ plans_of self.old }
     {
         self.take_faults(&log);
         if self.fails_to_write() {
@@ -334,6 +369,7 @@ impl Folder for MemFolder {
 
         ensures same_calls { calls_of self.new ≡ calls_of self.old }
         ensures same_failing { failing_of self.new ≡ failing_of self.old }
+        ensures same_plans { plans_of self.new ≡ plans_of self.old }
     {
         self.take_faults(&log);
     }

@@ -4,14 +4,17 @@ ghost use Rattle.std.specs.Option.{option_map};
 ghost use Rattle.sw_base.specs.Environment.{HasCause, TearsPiece, empty_text, with_piece};
 ghost use Rattle.sw_base.specs.InMemory.{next_count};
 ghost use Rattle.sw_base.specs.Names.{log_name};
+ghost use Rattle.sw_base.specs.Plans.{plans_by, FailsAsPlanned};
 
 use crate::in_memory::calls::{Calls, tear};
+use crate::in_memory::plans::Plans;
 use crate::outside::Log;
 use crate::path::Path;
 use crate::trouble::{Memory, Trouble};
 use std::alloc::Global;
 
-/// A log that keeps its bytes, and its pieces. After an append that failed the bytes are more than the pieces.
+/// A log that keeps its bytes, and its pieces. After an append that failed the bytes are more than the pieces. The logs that
+/// are made from it take over the plans for calls that are to fail.
 #[derive(Drop)]
 pub struct MemLog {
     dir: String,
@@ -21,13 +24,15 @@ pub struct MemLog {
     lengths: Vec<usize>,
     faults: u64,
     calls: Calls,
+    plans: Plans,
     ghost lengths_of_pieces: { lengths.items ≡ map length (map (λ piece. piece.items) pieces.items) },
 }
 
 impl MemLog {
-    ghost use Rattle.sw_base.specs.MemLog.{dir_of, path_of, bytes_of, pieces_of, text_of, faults_of, calls_of, failing_of};
+    ghost use Rattle.sw_base.specs.MemLog.{dir_of, path_of, bytes_of, pieces_of, text_of, faults_of, calls_of, failing_of, plans_of};
 
     /// An empty log of the root task, in the folder `dir`.
+    #[tactic(auto, using(crate::proofs::Planned::none_planned))]
     pub fn new(alloc: Global, dir: &str) -> Result<MemLog, Memory>
         ensures dir { IfOk result (λ log. dir_of log ≡ dir.now) }
         ensures path { IfOk result (λ log. path_of log ≡ []) }
@@ -36,30 +41,38 @@ impl MemLog {
         ensures faults { IfOk result (λ log. faults_of log ≡ 0) }
         ensures calls { IfOk result (λ log. calls_of log ≡ 0) }
         ensures failing { IfOk result (λ log. failing_of log ≡ []) }
+        ensures plans { IfOk result (λ log. plans_of log ≡ []) }
     {
-        let dir = String::from_str(alloc, dir)?;
-        Ok(MemLog::empty(alloc, dir, Path::root()))
+        MemLog::planned(alloc, dir, Path::root(), &Plans::new(alloc))
     }
 
-    // An empty log of this task.
-    fn empty(alloc: Global, dir: String, path: Path) -> MemLog
-        ensures dir { dir_of result ≡ string_bytes dir }
-        ensures path { path_of result ≡ path }
-        ensures bytes { bytes_of result ≡ [] }
-        ensures pieces { pieces_of result ≡ [] }
-        ensures faults { faults_of result ≡ 0 }
-        ensures calls { calls_of result ≡ 0 }
-        ensures failing { failing_of result ≡ [] }
+    // An empty log of this task, whose calls fail as they are planned for it.
+    pub(crate) fn planned(
+        alloc: Global,
+        dir: &str,
+        path: Path,
+        plans: &Plans,
+    ) -> Result<MemLog, Memory>
+        ensures dir { IfOk result (λ log. dir_of log ≡ dir.now) }
+        ensures path { IfOk result (λ log. path_of log ≡ path) }
+        ensures bytes { IfOk result (λ log. bytes_of log ≡ []) }
+        ensures pieces { IfOk result (λ log. pieces_of log ≡ []) }
+        ensures faults { IfOk result (λ log. faults_of log ≡ 0) }
+        ensures calls { IfOk result (λ log. calls_of log ≡ 0) }
+        ensures failing { IfOk result (λ log. FailsAsPlanned (plans_by plans.now) path (failing_of log)) }
+        ensures plans { IfOk result (λ log. plans_of log ≡ plans_by plans.now) }
     {
-        MemLog {
-            dir,
+        let calls = Calls::failing(plans.of(alloc, &path)?);
+        Ok(MemLog {
+            dir: String::from_str(alloc, dir)?,
             path,
             bytes: Vec::new(alloc),
             pieces: Vec::new(alloc),
             lengths: Vec::new(alloc),
             faults: 0,
-            calls: Calls::new(alloc),
-        }
+            calls,
+            plans: plans.copy(alloc)?,
+        })
     }
 
     /// Sets the numbers of the calls of `append` and `child` that are to fail, counted together from 1. Where there is no
@@ -72,6 +85,7 @@ impl MemLog {
         ensures same_text { text_of self.new ≡ text_of self.old }
         ensures same_faults { faults_of self.new ≡ faults_of self.old }
         ensures same_calls { calls_of self.new ≡ calls_of self.old }
+        ensures same_plans { plans_of self.new ≡ plans_of self.old }
     {
         self.calls.fail(calls)
     }
@@ -114,6 +128,7 @@ impl MemLog {
         ensures same_faults { faults_of self.new ≡ faults_of self.old }
         ensures same_calls { calls_of self.new ≡ calls_of self.old }
         ensures same_failing { failing_of self.new ≡ failing_of self.old }
+        ensures same_plans { plans_of self.new ≡ plans_of self.old }
     {
         let kept = piece.to_vec(alloc)?;
         self.pieces.try_reserve(1)?;
@@ -126,7 +141,7 @@ impl MemLog {
 }
 
 impl Log for MemLog {
-    ghost use Rattle.sw_base.specs.MemLog.{dir_of, path_of, text_of, faults_of, calls_of, failing_of, IsNextToFail};
+    ghost use Rattle.sw_base.specs.MemLog.{dir_of, path_of, text_of, faults_of, calls_of, failing_of, plans_of, IsNextToFail};
 
     ghost dir = { dir_of };
 
@@ -144,7 +159,8 @@ impl Log for MemLog {
         ensures child_text { IfOk result (λ log. text_of log ≡ option_map (λ _. empty_text) (text_of self.old)) }
         ensures child_faults { IfOk result (λ log. faults_of log ≡ 0) }
         ensures child_calls { IfOk result (λ log. calls_of log ≡ 0) }
-        ensures child_failing { IfOk result (λ log. failing_of log ≡ []) }
+        ensures child_failing { IfOk result (λ log. FailsAsPlanned (plans_of self.old) (path_of log) (failing_of log)) }
+        ensures child_plans { IfOk result (λ log. plans_of log ≡ plans_of self.old) }
 
         ensures same_dir { dir_of self.new ≡ dir_of self.old }
         ensures same_path { path_of self.new ≡ path_of self.old }
@@ -156,14 +172,14 @@ impl Log for MemLog {
         ensures counts_fault { IsErrOf result Trouble.Failed → faults_of self.new ≡ next_count (faults_of self.old) }
         ensures none_to_fail { failing_of self.old ≡ [] → faults_of self.new ≡ faults_of self.old }
         ensures same_failing { failing_of self.new ≡ failing_of self.old }
+        ensures same_plans { plans_of self.new ≡ plans_of self.old }
     {
         if self.calls.next() {
             self.faults = self.faults.saturating_add(1);
             return Err(Trouble::Failed);
         }
-        let dir = String::from_str(alloc, self.dir.as_str())?;
         let path = self.path.child(region, lane, span);
-        Ok(MemLog::empty(alloc, dir, path))
+        Ok(MemLog::planned(alloc, self.dir.as_str(), path, &self.plans)?)
     }
 
     #[tactic(auto, using(crate::proofs::Fronts::tears_piece_same))]
@@ -181,6 +197,7 @@ impl Log for MemLog {
         ensures counts_fault { IsErrOf result Trouble.Failed → faults_of self.new ≡ next_count (faults_of self.old) }
         ensures none_to_fail { failing_of self.old ≡ [] → faults_of self.new ≡ faults_of self.old }
         ensures same_failing { failing_of self.new ≡ failing_of self.old }
+        ensures same_plans { plans_of self.new ≡ plans_of self.old }
     {
         if self.calls.next() {
             self.faults = self.faults.saturating_add(1);
