@@ -4,8 +4,10 @@ ghost use Rattle.std.specs.List.{range_with_len};
 ghost use Rattle.kernel_model.specs.Iterations.{static_iterations, total_of};
 ghost use Rattle.kernel_model.specs.Value.{element_at};
 ghost use Rattle.kernel_model.specs.Trace.{run, each, shared};
+ghost use Rattle.kernel_model.specs.State as state;
+ghost use Rattle.log_format.specs.declared.record.Kind.TheVariants as kind;
 ghost use Rattle.kernel_syntax.specs.Tree.{Done};
-ghost use Rattle.team_runner.specs.Stops.{Finishes};
+ghost use Rattle.team_runner.specs.Stops.{Finishes, Puts};
 ghost use Rattle.team_runner.specs.Lane.{EndsTask, IsFresh, MadePart, MadeTask, Stores, ending_of, site, turn};
 ghost use Rattle.kernel_syntax.specs.Layout.{ArePlaced};
 ghost use Rattle.team_runner.specs.Written.{Keeps};
@@ -21,7 +23,7 @@ use crate::value::value;
 use kernel_syntax::{Array, Schedule, Stmt, Team, even_share, fit};
 use log_format::{Kind, Record};
 use std::alloc::Global;
-use sw_base::Log;
+use sw_base::{Gate, Log};
 
 /// A lane of a team, and its records.
 #[derive(Drop)]
@@ -42,6 +44,22 @@ pub fn event(kind: Kind, line: u32, value: u64) -> Record
         addr: 0,
         value,
     }
+}
+
+/// Puts the record of a barrier, after which the gate sees the lane start its next phase.
+fn put_barrier<L: Log, G: Gate>(
+    recorder: &mut Recorder<L>,
+    alloc: Global,
+    lane: u16,
+    line: u32,
+    gate: &G,
+) -> Result<(), Stop>
+    ensures puts { Puts (state.event kind.Barrier line 0 0) recorder.old recorder.new result }
+    ensures same { Keeps recorder.old recorder.new }
+{
+    recorder.put(alloc, &event(Kind::Barrier, line, 0))?;
+    gate.enter(usize::from(lane));
+    Ok(())
 }
 
 /// The number of an iteration.
@@ -286,14 +304,15 @@ impl<L: Log> Lane<L> {
         }
     }
 
-    /// Executes a worksharing loop of stores.
-    fn worksharing(
+    /// Executes a worksharing loop of stores. A barrier at its end starts a phase.
+    fn worksharing<G: Gate>(
         &mut self,
         alloc: Global,
         arrays: &[Array],
         words: &mut [u64],
         stmt: &Stmt,
         rest: &[Stmt],
+        gate: &G,
     ) -> Result<(), Stop>
         requires placed { ArePlaced arrays.now (length words.old) }
         requires within { self.old.frame.lane < self.old.frame.span }
@@ -334,17 +353,18 @@ impl<L: Log> Lane<L> {
         if *nowait {
             Ok(())
         } else {
-            self.recorder.put(alloc, &event(Kind::Barrier, *end, 0))
+            put_barrier(&mut self.recorder, alloc, self.frame.lane, *end, gate)
         }
     }
 
-    /// Executes what the team's lanes execute, and then ends.
-    fn task(
+    /// Executes what the team's lanes execute, and then ends. The gate sees the lane start each phase.
+    fn task<G: Gate>(
         &mut self,
         alloc: Global,
         arrays: &[Array],
         words: &mut [u64],
         team: &Team,
+        gate: &G,
     ) -> Result<(), Stop>
         requires placed { ArePlaced arrays.now (length words.old) }
         requires within { self.old.frame.lane < self.old.frame.span }
@@ -358,19 +378,21 @@ impl<L: Log> Lane<L> {
         ensures lane { self.new.frame.lane ≡ self.old.frame.lane }
         ensures span { self.new.frame.span ≡ self.old.frame.span }
     {
+        gate.enter(usize::from(self.frame.lane));
         self.recorder.start(alloc)?;
         let (stmt, rest) = parted(&team.body.stmts);
-        self.worksharing(alloc, arrays, words, stmt, rest)?;
+        self.worksharing(alloc, arrays, words, stmt, rest, gate)?;
         self.recorder.put(alloc, &event(Kind::End, team.end, 0))
     }
 
     /// Executes the task, and hands its last records to the log, but not after trouble.
-    pub fn run(
+    pub fn run<G: Gate>(
         &mut self,
         alloc: Global,
         arrays: &[Array],
         words: &mut [u64],
         team: &Team,
+        gate: &G,
     ) -> Result<(), Stop>
         requires placed { ArePlaced arrays.now (length words.old) }
         requires within { self.old.frame.lane < self.old.frame.span }
@@ -385,7 +407,7 @@ impl<L: Log> Lane<L> {
         ensures lane { self.new.frame.lane ≡ self.old.frame.lane }
         ensures span { self.new.frame.span ≡ self.old.frame.span }
     {
-        let outcome = self.task(alloc, arrays, words, team);
+        let outcome = self.task(alloc, arrays, words, team, gate);
         self.recorder.finish(alloc, outcome)
     }
 }

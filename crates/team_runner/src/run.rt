@@ -270,7 +270,7 @@ fn answer<L: Log>(
 }
 
 /// Runs a kernel of the first kind: the root puts its Region record, the lanes run one after another, and the root ends.
-/// The buffer of each log has `size` bytes. The gate sees each lane start.
+/// The buffer of each log has `size` bytes. The gate sees each lane start each of its phases.
 ///
 /// The runtime is for lanes in threads, which there are none of yet.
 pub fn run_kernel<R, L: Log, G: Gate>(

@@ -139,8 +139,7 @@ fn run_lane<L: Log, G: Gate>(
     ensures ran { Ran arrays.now (team_of team.now) lane.old lane.new result }
     ensures same { KeepsLane lane.old lane.new }
 {
-    gate.enter(lane.frame.lane as usize);
-    match lane.run(alloc, arrays, words, team) {
+    match lane.run(alloc, arrays, words, team, gate) {
         Ok(()) => None,
         Err(why) => {
             let path = Path::root().child(0, lane.frame.lane, lane.frame.span);

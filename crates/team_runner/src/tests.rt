@@ -1,18 +1,31 @@
-//! Runs of small kernels: how their logs are cut, which stop is answered, and calls on the root's log that fail.
+//! Runs of small kernels: how their logs are cut, which stop is answered, calls on each log that fail, and what
+//! the gate sees.
 ghost use Rattle.team_runner.specs.Ready.{IsBufferSize};
 
 use crate::{Finished, Stop, Stopped, run_kernel};
 use kernel_reader::read_kernel;
 use std::alloc::Global;
 use std::process::Abort;
+use std::sync::atomic::{AtomicU64, Ordering};
 use std::test::Fail;
-use sw_base::{MemLog, NoGate, Path, Trouble};
+use sw_base::{Folder, Gate, MemFolder, MemLog, NoGate, Path, Trouble};
 
 // Each of two lanes adds 1 to every other element.
 const COUNTING: &str = "array a i64 8
 main {
 parallel 2 {
 for i in 0 .. 8 static 1 {
+a[i] = a[i] + 1
+}
+}
+}
+";
+
+// The same without a barrier at the loop's end.
+const UNBARRED: &str = "array a i64 8
+main {
+parallel 2 {
+for i in 0 .. 8 static 1 nowait {
 a[i] = a[i] + 1
 }
 }
@@ -41,19 +54,32 @@ for i in 0 .. 2 static 1 { a[i] = a[i] + 1
 } }
 ";
 
-// Runs the kernel of a text, where these calls on the root's log are to fail.
-fn run(
+// Runs the kernel of a text, where these calls on the log of this task are to fail.
+fn run_failing(
     alloc: Global,
     text: &str,
     size: usize,
-    failing: &[u64],
+    path: &Path,
+    calls: &[u64],
 ) -> Result<Result<Finished<MemLog>, Stopped<MemLog>>, Fail>
     requires { IsBufferSize size }
 {
     let kernel = read_kernel(alloc, text.as_bytes())?;
-    let mut root = MemLog::new(alloc, "d")?;
-    root.fail(failing)?;
+    let mut folder = MemFolder::new(alloc)?;
+    folder.fail_log(path, calls)?;
+    let root = folder.root(alloc, "d")?;
     Ok(run_kernel(&(), alloc, &kernel, root, size, &NoGate))
+}
+
+// Runs the kernel of a text.
+fn run(
+    alloc: Global,
+    text: &str,
+    size: usize,
+) -> Result<Result<Finished<MemLog>, Stopped<MemLog>>, Fail>
+    requires { IsBufferSize size }
+{
+    run_failing(alloc, text, size, &Path::root(), &[])
 }
 
 // The names of the logs' tasks, in order, each with the number of its records and of the log's bytes.
@@ -75,7 +101,7 @@ fn listed<R: Abort>(
 #[test]
 fn pieces_fill_the_buffer_and_the_bytes_stay_the_same(rt: HostRuntime) -> Result<(), Fail> {
     let alloc = rt.alloc();
-    let whole = run(alloc, COUNTING, 4_194_304, &[])?.ok().ok_or("stopped")?;
+    let whole = run(alloc, COUNTING, 4_194_304)?.ok().ok_or("stopped")?;
     listed(
         &rt,
         alloc,
@@ -96,7 +122,7 @@ fn pieces_fill_the_buffer_and_the_bytes_stay_the_same(rt: HostRuntime) -> Result
     ];
     for (size, lengths) in table {
         assert!(rt; size >= 24 && size <= 4_194_304);
-        let cut = run(alloc, COUNTING, size, &[])?.ok().ok_or("stopped")?;
+        let cut = run(alloc, COUNTING, size)?.ok().ok_or("stopped")?;
         assert_eq!(rt; cut.words.as_slice(), [1; 8].as_slice());
         assert_eq!(rt; cut.logs.len(), 3);
         assert_eq!(rt; cut.logs[1].1.lengths(), lengths, "at {size}");
@@ -110,7 +136,7 @@ fn pieces_fill_the_buffer_and_the_bytes_stay_the_same(rt: HostRuntime) -> Result
 #[test]
 fn the_first_records_of_a_lane_are_spelled_in_its_log(rt: HostRuntime) -> Result<(), Fail> {
     let alloc = rt.alloc();
-    let finished = run(alloc, COUNTING, 4096, &[])?.ok().ok_or("stopped")?;
+    let finished = run(alloc, COUNTING, 4096)?.ok().ok_or("stopped")?;
     assert!(rt; finished.logs.len() > 1);
     let bytes = finished.logs[1].1.bytes();
     assert!(rt; bytes.len() > 56);
@@ -160,7 +186,7 @@ fn the_least_lane_that_stopped_is_answered(rt: HostRuntime) -> Result<(), Fail> 
         ),
     ];
     for (text, name, why, [first, second], words) in table {
-        let stopped = run(alloc, text, 4096, &[])?.err().ok_or("ended")?;
+        let stopped = run(alloc, text, 4096)?.err().ok_or("ended")?;
         assert_eq!(rt; stopped.path.bare_name(alloc)?.as_str(), name);
         assert_eq!(rt; stopped.why, why);
         assert_eq!(rt; stopped.words.as_slice(), words);
@@ -179,24 +205,84 @@ fn the_least_lane_that_stopped_is_answered(rt: HostRuntime) -> Result<(), Fail> 
 }
 
 #[test]
-fn each_call_on_the_root_log_fails_in_turn(rt: HostRuntime) -> Result<(), Fail> {
+fn each_call_on_each_log_fails_in_turn(rt: HostRuntime) -> Result<(), Fail> {
     let alloc = rt.alloc();
-    // With a buffer for one record: the header, the Region record, two lanes, and the End record. With a large one: the header,
-    // two lanes, and both records.
-    for (size, calls, after) in [(24, 5, 6), (4096, 4, 5)] {
-        assert!(rt; size >= 24 && size <= 4_194_304);
-        for call in 1..=calls {
-            let stopped = run(alloc, COUNTING, size, &[call])?.err().ok_or("ended")?;
-            assert_eq!(rt; stopped.path.bare_name(alloc)?.as_str(), "t.swl");
+    // A buffer for four records makes four calls on each log. On the root's: its header, two lanes, and its two records. On a lane's:
+    // its header, and 4, 4 and 2 records.
+    let tasks = [
+        Path::root(),
+        Path::root().child(0, 0, 2),
+        Path::root().child(0, 1, 2),
+    ];
+    for task in &tasks {
+        for call in 1..=4 {
+            let run = run_failing(alloc, COUNTING, 96, task, &[call])?;
+            let stopped = run.err().ok_or("ended")?;
+            assert!(rt; stopped.path == *task, "call {call}");
             assert_eq!(rt; stopped.why, Stop::Trouble(Trouble::Failed), "call {call}");
             assert_eq!(rt; stopped.words.len(), 8);
             assert!(rt; !stopped.logs.is_empty());
         }
-        assert!(rt; run(alloc, COUNTING, size, &[after])?.is_ok());
+        assert!(rt; run_failing(alloc, COUNTING, 96, task, &[5])?.is_ok());
     }
-    // After the stop of a lane the root's log isn't closed, and the stop stays.
-    let stopped = run(alloc, LEAVING, 4096, &[4])?.err().ok_or("ended")?;
+    // With a buffer for one record the root's log takes five calls.
+    assert!(rt; run_failing(alloc, COUNTING, 24, &tasks[0], &[5])?.is_err());
+    assert!(rt; run_failing(alloc, COUNTING, 24, &tasks[0], &[6])?.is_ok());
+    Ok(())
+}
+
+#[test]
+fn a_stop_or_failure_of_the_least_lane_is_answered(rt: HostRuntime) -> Result<(), Fail> {
+    let alloc = rt.alloc();
+    // After the stop of a lane the root's log is closed, and a failure of that call leaves the stop.
+    let run = run_failing(alloc, LEAVING, 4096, &Path::root(), &[4])?;
+    let stopped = run.err().ok_or("ended")?;
     assert_eq!(rt; stopped.why, Stop::Index { line: 3 });
     assert_eq!(rt; stopped.logs.len(), 3);
+    // Of two lanes that end otherwise than well the first is answered: its log fails, or it stops.
+    let first = Path::root().child(0, 0, 2);
+    let run = run_failing(alloc, LEAVING, 4096, &first, &[2])?;
+    let stopped = run.err().ok_or("ended")?;
+    assert!(rt; stopped.path == first);
+    assert_eq!(rt; stopped.why, Stop::Trouble(Trouble::Failed));
+    let second = Path::root().child(0, 1, 2);
+    let run = run_failing(alloc, BOTH_LEAVING, 4096, &second, &[1])?;
+    let stopped = run.err().ok_or("ended")?;
+    assert!(rt; stopped.path == first);
+    assert_eq!(rt; stopped.why, Stop::Index { line: 3 });
+    Ok(())
+}
+
+// Counts how often each of two lanes starts a phase, and whoever else enters.
+#[derive(Drop)]
+struct CountingGate {
+    lanes: [AtomicU64; 2],
+    others: AtomicU64,
+}
+
+impl Gate for CountingGate {
+    fn enter(&self, place: usize) {
+        let counter = self.lanes.get(place).unwrap_or(&self.others);
+        counter.fetch_add(1, Ordering::SeqCst);
+    }
+}
+
+#[test]
+fn the_gate_sees_each_lane_start_each_phase(rt: HostRuntime) -> Result<(), Fail> {
+    let alloc = rt.alloc();
+    // A loop that waits at its end is followed by an empty phase, and one that doesn't by none. A lane that stops starts no more.
+    let table = [(COUNTING, [2, 2]), (UNBARRED, [1, 1]), (LEAVING, [2, 1])];
+    for (text, phases) in table {
+        let kernel = read_kernel(alloc, text.as_bytes())?;
+        let gate = CountingGate {
+            lanes: [AtomicU64::new(0), AtomicU64::new(0)],
+            others: AtomicU64::new(0),
+        };
+        let root = MemLog::new(alloc, "d")?;
+        let _ = run_kernel(&(), alloc, &kernel, root, 4096, &gate);
+        assert_eq!(rt; gate.lanes[0].load(Ordering::SeqCst), phases[0]);
+        assert_eq!(rt; gate.lanes[1].load(Ordering::SeqCst), phases[1]);
+        assert_eq!(rt; gate.others.load(Ordering::SeqCst), 0);
+    }
     Ok(())
 }

@@ -1,7 +1,6 @@
 use Rattle.std.proofs.Common.{◌≡◌, List, ℤ, Ok, Err, ap, sym, subst, ◌∙◌, w64, to_z, of_z, rules}
 use Rattle.std.proofs.lemmas.Result.{err_from_is_err_and}
 use Rattle.std.proofs.lemmas.Int.{to_z-of_z}
-use Rattle.log_format.specs.declared.record.Record.{Record}
 use Rattle.kernel_syntax.specs.declared.syntax.Stmt.{Stmt}
 use Rattle.kernel_syntax.specs.Tree as tree
 use Rattle.kernel_syntax.specs.Tree.{Code}
@@ -10,7 +9,7 @@ use Rattle.kernel_syntax.proofs.Equations.{stmt_code-For}
 use Rattle.kernel_syntax.specs.FirstKind.{AreStores, IsOneLoop}
 use Rattle.kernel_model.specs.Iterations.{total_of}
 use Rattle.kernel_model.specs.Trace.{run}
-use Rattle.team_runner.specs.Stops.{Finishes, Puts}
+use Rattle.team_runner.specs.Stops.{Finishes}
 use Rattle.team_runner.specs.Lane.{site, MadePart}
 use Rattle.team_runner.specs.Ready.{HasChunks}
 use Rattle.team_runner.proofs.Firsts.{loop_only, loop_alone}
@@ -109,14 +108,14 @@ returns-else-nowait-clause-made g c =
     let alone = (loop_alone c.in-For.slot (term_of c.in-For.from) (term_of c.in-For.to) c.in-For.schedule c.in-For.nowait c.in-For.line c.in-For.end (code_of c.in-For.body.stmts.items) (code_of c.args.rest.now) (subst IsOneLoop code_is c.requires.one)).0 in
     let first_is = to_z-of_z w64 c.in_ok-first.first (search rules) in
     let last_is = to_z-of_z w64 c.in_ok-last.last (search rules) in
-    subst (λ (x : Code). Finishes (MadePart (run (site c.args.arrays.now frame.lane frame.span) x) frame.locals.items c.args.self.now.recorder c.put.new.self c.share.new.self.frame.locals.items) c.put.new.self c.put.result) (sym code_is)
+    subst (λ (x : Code). Finishes (MadePart (run (site c.args.arrays.now frame.lane frame.span) x) frame.locals.items c.args.self.now.recorder c.put_barrier.new.recorder c.share.new.self.frame.locals.items) c.put_barrier.new.recorder c.put_barrier.result) (sym code_is)
     (loop_made (site c.args.arrays.now frame.lane frame.span) c.in-For.slot (term_of c.in-For.from) (term_of c.in-For.to) c.in-For.schedule c.in-For.nowait c.in-For.line c.in-For.end (code_of c.in-For.body.stmts.items) (code_of c.args.rest.now) frame.locals.items
     c.in_ok-first.first c.args.self.now.recorder c.value.new.recorder c.in_ok-first.ensures.same.size c.in_ok-first.ensures.made
     c.in_ok-last.last c.value-2.new.recorder c.in_ok-last.ensures.same.size c.in_ok-last.ensures.made c.share.new.self.frame.locals.items
-    c.share.new.self.recorder c.put.new.self c.put.result c.in_ok-share.ensures.same.size alone
+    c.share.new.self.recorder c.put_barrier.new.recorder c.put_barrier.result c.in_ok-share.ensures.same.size alone
     (share_same (site c.args.arrays.now frame.lane frame.span) c.in-For.slot c.in-For.line c.in-For.schedule c.deref.result.now c.in-For.body.stmts.items (to_z w64 (of_z w64 c.in_ok-first.first)) c.in_ok-first.first
     c.total_of-total.result (total_of c.in_ok-first.first c.in_ok-last.last) frame.locals.items c.share.new.self.frame.locals.items c.value-2.new.recorder c.share.new.self.recorder (Ok tt)
     c.deref.ensures.value first_is (c.total_of-total.ensures ∙ ap (λ (z : ℤ). total_of z (to_z w64 (of_z w64 c.in_ok-last.last))) first_is ∙ ap (total_of c.in_ok-first.first) last_is)
     (c.in_ok-share.ensures.made c.in-For.line))
-    (end_waits (site c.args.arrays.now frame.lane frame.span) c.in-For.nowait c.in-For.end c.share.new.self.frame.locals.items c.share.new.self.recorder c.put.new.self c.put.result c.if-nowait.false
-    (subst (λ (e : Record). Puts e c.share.new.self.recorder c.put.new.self c.put.result) c.event.ensures c.put.ensures.puts)))
+    (end_waits (site c.args.arrays.now frame.lane frame.span) c.in-For.nowait c.in-For.end c.share.new.self.frame.locals.items c.share.new.self.recorder c.put_barrier.new.recorder c.put_barrier.result c.if-nowait.false
+    c.put_barrier.ensures.puts))
