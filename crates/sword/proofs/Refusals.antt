@@ -1,5 +1,5 @@
 -- A text that has no kernel of the first kind.
-use Rattle.std.proofs.Common.{◌≡◌, refl, sym, ap, subst, ◌∙◌, List, ℕ, Some}
+use Rattle.std.proofs.Common.{◌≡◌, refl, sym, subst, ◌∙◌, List, ℕ, Some}
 use Rattle.std.specs.Prelude.{IsSome}
 use Rattle.std.proofs.lemmas.Option.{same_Some}
 use Rattle.sw_base.specs.Environment.{Files}
@@ -9,7 +9,6 @@ use Rattle.kernel_reader.specs.declared.fault.ReadKernelFault.{ReadKernelFault}
 use Rattle.kernel_reader.specs.declared.fault.ReadKernelFault.TheVariants as text
 use Rattle.kernel_reader.specs.KernelOf.{IsKernelOf}
 use Rattle.sword.specs.Begins.{IsRefusal, refusal_of_text}
-use Rattle.sword.specs.Run.{HoldsKernel}
 
 -- the file has no kernel where its text has none
 pub text_refused : (files : Files) (kernel dir bytes : List ℕ) (fault : ReadKernelFault) → files kernel ≡ Some bytes

@@ -1,9 +1,9 @@
 -- What a run answers and leaves, by what its logs were stored or sealed to.
-use Rattle.std.proofs.Common.{◌≡◌, refl, sym, ap, ap₂, subst, ◌∙◌, inr, ℕ, List, [], ◌∷◌, ◌++◌, map, length, Option, Some, None, Result, Ok, Err, IfOk, OnErr, String, string_bytes, true, Contains, append-nil, arith}
+use Rattle.std.proofs.Common.{◌≡◌, refl, sym, ap, ap₂, subst, ◌∙◌, inr, ℕ, List, [], ◌∷◌, map, length, Option, Some, Result, Ok, Err, IfOk, OnErr, String, string_bytes, true, Contains, append-nil, arith}
 use Rattle.std.specs.Prelude.{All, is_some}
 use Rattle.std.specs.declared.alloc.Global.{Global}
 use Rattle.std.proofs.lemmas.List.{get_or-map, length-map}
-use Rattle.std.proofs.lemmas.List.Elements.{All-contains, All-head, All-map, All-tail}
+use Rattle.std.proofs.lemmas.List.Elements.{All-head, All-map, All-tail}
 use Rattle.std.proofs.lemmas.Option.{none-some, same_Some}
 use Rattle.std.proofs.lemmas.Simd.{map-map}
 use Rattle.sw_base.specs.declared.path.Step.{Step}
@@ -14,7 +14,7 @@ use Rattle.sw_base.specs.Names.{index_name}
 use Rattle.race_model.specs.FirstBad.{IsBad, rows_of}
 use Rattle.race_model.specs.IndexFault.{AreRows}
 use Rattle.race_model.specs.Row.{Row, index_bytes}
-use Rattle.race_model.specs.Trace.{TaskLog, Trace}
+use Rattle.race_model.specs.Trace.{Trace}
 use Rattle.kernel_syntax.specs.FirstKind.{IsFirstKind}
 use Rattle.kernel_syntax.specs.Layout.{elements}
 use Rattle.kernel_syntax.specs.Program.{Program}
@@ -24,16 +24,17 @@ use Rattle.kernel_model.specs.Trace.{Ended, Ending, Stopped}
 use Rattle.team_runner.specs.declared.stop.Stop.{Stop}
 use Rattle.team_runner.specs.declared.stop.Stop.TheVariants.{DivZero, Index, LogFull}
 use Rattle.team_runner.specs.declared.stop.Stop.TheVariants as stop
-use Rattle.team_runner.specs.Answer.{HasRun, HasStop, HasStoppedRun, HasTask, IsOwnLog, IsRun, Logged, task_paths, whole_log}
+use Rattle.team_runner.specs.Answer.{HasRun, HasStop, HasStoppedRun, HasTask, IsOwnLog, IsRun, Logged, whole_log}
 use Rattle.team_runner.specs.Stops.{StopsSo}
 use Rattle.sword.specs.declared.status.TheConstants.{DONE, KERNEL_STOPPED, NO_MEMORY}
 use Rattle.sword.specs.Answer.{IsFailure, Prints, Tries, silent}
-use Rattle.sword.specs.Ends.{EndDue, EndLeaves, Ends, EndsSo, IsTold, index, logs, ran, stop_of, stopped}
-use Rattle.sword.specs.Run.{ChangesLogs, Ran, SealedLog, StoppedRun, sealed_log, with_sealed}
-use Rattle.sword.specs.RunTexts.{run_text, stop_line, stopped_text}
-use Rattle.sword.specs.Seals.{AllTell, ChangesOnly, Seals, SealsAll, StoresAll, StoresFront, StoresPart, Tells, all_logged, all_sealed, front, logged, part, row_of_entry, rows_of_logs, sealed_of, tasks_of, with_index}
+use Rattle.sword.specs.Ends.{EndDue, EndLeaves, EndsSo, index, logs, ran, stop_of, stopped}
+use Rattle.sword.specs.Run.{AreStopped, Ran, SealedLog, StoppedRun, ended, sealed_log, with_sealed}
+use Rattle.sword.specs.Run as kinds
+use Rattle.sword.specs.RunTexts.{run_text, stopped_text}
+use Rattle.sword.specs.Seals.{AllTell, SealsAll, StoresAll, StoresFront, StoresPart, all_logged, all_sealed, front, logged, part, row_of_entry, rows_of_logs, sealed_of, tasks_of, with_index}
 use Rattle.sword.proofs.Answering.{Tries-from_prints}
-use Rattle.sword.proofs.RunFolder.{left_by, run_well_formed, task_listed}
+use Rattle.sword.proofs.RunFolder.{left_by, run_well_formed}
 use Rattle.sword.proofs.StoredRun.{rows-logged}
 
 -- a text was printed, where memory was found for it
@@ -79,15 +80,9 @@ module _ (program : Program) (first : IsFirstKind program) (dir : List ℕ) (siz
   all_left : (old : Content) → with_index dir run_logs (index_bytes (rows_of_logs run_logs)) old ≡ left_by program first dir size tasks run old
   all_left old = ap (λ (rows : List Row). with_index dir run_logs (index_bytes rows) old) (whole_rows dir size (Some root) tasks) ∙ with_index-is (index_bytes (rows_of tasks)) old
 
-  -- only logs of the kernel's tasks changed
-  run_changes : (old new : Content) → ChangesOnly (tasks_of run_logs) dir old.held new.held → ChangesLogs program dir old.held new.held
-  run_changes old new changes name apart =
-      let listed : All (Contains (task_paths program)) (paths_of tasks) = All-map (Contains (task_paths program)) (λ (task : TaskLog). task.path) tasks (task_listed program first dir size tasks run) in
-      changes name (λ path there. apart path (All-contains (Contains (task_paths program)) (paths_of tasks) path listed (subst (λ (ps : List (List Step)). Contains ps path) (whole_tasks dir size (Some root) tasks) there)))
-
   -- what is left where storing the run was refused
   part_left : (old new : Content) → StoresPart dir run_logs old new → EndLeaves program dir size old new
-  part_left old new (part changes) = logs (run_changes old new changes)
+  part_left old new (part sealed) = logs (all_sealed run_logs) (ended tasks run (whole_sealed dir size root tasks)) sealed
   part_left old new (front bytes rest parts leaves) =
       index tasks run bytes rest (ap index_bytes (sym (whole_rows dir size (Some root) tasks)) ∙ parts) (leaves ∙ with_index-is bytes old)
 
@@ -192,6 +187,10 @@ module _ (program : Program) (dir : List ℕ) (size : ℕ) (root : Text) (all : 
   }
 
   module _ (tell : AllTell dir all) (path : List Step) (kind : model.Stop) (line : ℕ) (has : HasStoppedRun program dir size (Some root) all path kind line) where
+    -- what is sealed of them
+    are_stopped : AreStopped program size (all_sealed all) path kind line
+    are_stopped = record { all = sealed_paths dir all tell ∙ has.all; stop = stop_sealed path kind line has.stop }
+
     -- all logs were sealed
     pub stop_ends : (old new : Option Content) (status : ℕ) (before after : Option (List ℕ)) (made : Result (String Global) Memory) → SealsAll all (Ok tt) old new
         → IfOk made (λ m. string_bytes m ≡ stopped_text path line kind) → IfOk made (λ m. Prints KERNEL_STOPPED (string_bytes m) before after status)
@@ -200,11 +199,10 @@ module _ (program : Program) (dir : List ℕ) (size : ℕ) (root : Text) (all : 
         let now = seals dir content tell is in
         let due : StoppedRun program dir size content now.content (stopped_text path line kind) = record {
           logs = all_sealed all;
-          all = sealed_paths dir all tell ∙ has.all;
           path = path;
           why = kind;
           line = line;
-          stop = stop_sealed path kind line has.stop;
+          stopped = are_stopped;
           leaves = now.holds.done;
           text_is = refl;
         } in
@@ -213,7 +211,7 @@ module _ (program : Program) (dir : List ℕ) (size : ℕ) (root : Text) (all : 
           is = now.is;
           holds = record {
             answers = printed_made (EndDue program dir size content now.content) KERNEL_STOPPED (stopped_text path line kind) made before after status (stopped refl due) same prints none;
-            leaves = λ _. logs (subst (λ (ps : List (List Step)). ChangesOnly ps dir content.held now.content.held) has.all now.holds.others);
+            leaves = λ _. logs (all_sealed all) (kinds.stopped path kind line are_stopped) now.holds.front;
           };
         }
 
@@ -227,6 +225,6 @@ module _ (program : Program) (dir : List ℕ) (size : ℕ) (root : Text) (all : 
           is = now.is;
           holds = record {
             answers = silent failure refl;
-            leaves = λ _. logs (subst (λ (ps : List (List Step)). ChangesOnly ps dir content.held now.content.held) has.all now.holds.others);
+            leaves = λ _. logs (all_sealed all) (kinds.stopped path kind line are_stopped) now.holds.front;
           };
         }

@@ -1,5 +1,5 @@
 -- Values and sums of arrays, worked out by hand.
-use Rattle.std.proofs.Common.{◌≡◌, refl, ℕ, [], ◌∷◌, ◌-◌, ◌^◌, pos, negsuc}
+use Rattle.std.proofs.Common.{◌≡◌, refl, [], ◌∷◌, ◌-◌, ◌^◌, pos, negsuc}
 use Rattle.std.specs.Prelude.{codes}
 use Rattle.kernel_syntax.specs.declared.syntax.Array.{Array}
 use Rattle.sword.specs.RunTexts.{sum_of, values_of}

@@ -1,21 +1,18 @@
 -- The folder that a run leaves holds the run's trace.
-use Rattle.std.proofs.Common.{◌≡◌, ◌≢◌, ◌⊎◌, inl, inr, refl, sym, ap, subst, ◌∙◌, ℕ, zero, suc, ◌<◌, ◌^◌, Bool, true, false, List, [], ◌∷◌, map, length, get_or, Option, Some, IsSome, Contains, arith}
+use Rattle.std.proofs.Common.{◌≡◌, ◌≢◌, ◌⊎◌, inl, inr, refl, sym, ap, subst, ◌∙◌, ℕ, ◌<◌, true, false, List, [], ◌∷◌, map, length, get_or, Option, Some, IsSome, Contains, arith}
 use Rattle.std.specs.Prelude.{All}
 use Rattle.std.specs.List.{IsDistinct, AllByRecursion}
 use Rattle.std.proofs.lemmas.List.{get_or-map, length-map}
 use Rattle.std.proofs.lemmas.List.Elements.{All-nil, All-cons, All-head, All-tail, All-weaker}
 use Rattle.sw_base.specs.declared.path.Step.{Step}
-use Rattle.sw_base.specs.declared.path.TheConstants.{LOG_HEADER}
-use Rattle.sw_base.specs.Environment.{Content, Files, with_file, with_put}
+use Rattle.sw_base.specs.Environment.{Content, Files, with_put}
 use Rattle.sw_base.specs.Names.{index_name, log_name}
 use Rattle.sw_base.proofs.AfterPut.{with_file-elsewhere, with_file-here}
 use Rattle.sw_base.proofs.NameLaws.{HasPlace, log_name-not_index, log_name-places, place}
-use Rattle.log_format.specs.Spelling.{log_bytes}
 use Rattle.race_model.specs.FirstBad.{HoldsLogs, HoldsTrace, IsBad, row_of, rows_of}
-use Rattle.race_model.specs.IndexFault.{AreRows, IsRow, IsStep}
-use Rattle.race_model.specs.KeepsRules.{KeepsRules}
+use Rattle.race_model.specs.IndexFault.{IsRow, IsStep}
 use Rattle.race_model.specs.Place.{IsTooMany, Place}
-use Rattle.race_model.specs.Row.{Row, index_bytes}
+use Rattle.race_model.specs.Row.{index_bytes}
 use Rattle.race_model.specs.Trace.{TaskLog, Trace, logs_of, path_eq}
 use Rattle.race_model.proofs.IndexRows.{put_is_index}
 use Rattle.race_model.proofs.KeptFolder.{kept_bad}

@@ -1,16 +1,15 @@
 -- What a folder holds while logs are sealed, one after another.
-use Rattle.std.proofs.Common.{◌≡◌, ◌≢◌, ◌⊎◌, ◌<◌, inl, inr, arith, refl, sym, ap, subst, ◌∙◌, ℕ, List, [], ◌∷◌, ◌++◌, map, length, Option, Some, None, Result, Ok, Err, OnOk, OnErr, true, Contains}
+use Rattle.std.proofs.Common.{◌≡◌, ◌⊎◌, ◌<◌, inl, inr, ⊎_elim, append-nil, arith, refl, sym, ap, subst, ◌∙◌, ℕ, List, [], ◌∷◌, ◌++◌, map, Option, Some, None, Result, Ok, Err, OnOk, OnErr, true, Contains}
 use Rattle.std.specs.Option.{option_map}
-use Rattle.std.proofs.lemmas.List.{map-append}
-use Rattle.std.proofs.lemmas.List.Elements.{All-pop, Contains-push, Contains-push_cases, Contains-append_left}
+use Rattle.std.proofs.lemmas.List.{append_assoc, map-append}
+use Rattle.std.proofs.lemmas.List.Elements.{All-pop, Contains-push_cases}
 use Rattle.sw_base.specs.declared.path.Step.{Step}
 use Rattle.sw_base.specs.declared.trouble.Trouble.{Trouble}
-use Rattle.sw_base.specs.Environment.{Content, Files, LeavesFront, Text, WhereTold, with_file, with_log}
+use Rattle.sw_base.specs.Environment.{Content, LeavesFront, Text, WhereTold, with_log, with_put}
 use Rattle.sw_base.specs.Names.{log_name}
-use Rattle.sw_base.proofs.AfterPut.{leaves_front_others, with_file-elsewhere}
 use Rattle.team_runner.specs.Answer.{HasFaulty, IsOwnLog, Logged, outline}
-use Rattle.sword.specs.Run.{SealedLog, with_sealed}
-use Rattle.sword.specs.Seals.{AllTell, ChangesOnly, Seals, SealsAll, Tells, all_logged, all_sealed, logged, sealed_of, tasks_of}
+use Rattle.sword.specs.Run.{SealedLog, SealsFront, between, torn, with_sealed}
+use Rattle.sword.specs.Seals.{Seals, SealsAll, Tells, all_logged, all_sealed, logged, sealed_of}
 
 -- a folder after one log was sealed
 abbrev pub with_one : List ℕ → SealedLog → Content → Content
@@ -33,46 +32,57 @@ sealed_text : (dir : List ℕ) (log : Logged) (text : Text) (content : Content) 
     with_log (log_name log.dir log.path) text content ≡ with_one dir (sealed_of log) content
 sealed_text dir log text content own told = rw (own.dir_is, told) refl
 
--- the log's own name may have changed too
-others_push : (dir : List ℕ) (logs : List Logged) (log : Logged) (old mid new : Files) → IsOwnLog dir true log → ChangesOnly (tasks_of logs) dir old mid
-    → ((name : List ℕ) → name ≢ log_name log.dir log.path → new name ≡ mid name) → ChangesOnly (tasks_of (logs ++ log ∷ [])) dir old new
-others_push dir logs log old mid new own before now name apart =
-    let task : Logged → List Step = λ (l : Logged). l.task in
-    let parts : tasks_of (logs ++ log ∷ []) ≡ tasks_of logs ++ log.task ∷ [] = map-append task logs (log ∷ []) in
-    let last : Contains (tasks_of (logs ++ log ∷ [])) log.task = subst (λ (ps : List (List Step)). Contains ps log.task) (sym parts) (Contains-push (tasks_of logs) log.task) in
-    let own_name : log_name log.dir log.path ≡ log_name dir log.task = rw (own.dir_is, own.path_is) refl in
-    now name (λ same. apart log.task last (same ∙ own_name))
-    ∙ before name (λ path listed. apart path (subst (λ (ps : List (List Step)). Contains ps path) (sym parts) (Contains-append_left (tasks_of logs) (log.task ∷ []) path listed)))
+-- what is sealed of one more log
+all_sealed-push : (logs : List Logged) (log : Logged) → all_sealed (logs ++ log ∷ []) ≡ all_sealed logs ++ sealed_of log ∷ []
+all_sealed-push logs log = map-append sealed_of logs (log ∷ [])
 
 -- nothing was sealed yet
 seals_none : (dir : List ℕ) (content : Content) → Seals dir [] (Ok tt) content content
-seals_none dir content = record { done = refl; others = λ name apart. refl }
+seals_none dir content = record { done = refl; front = between [] [] refl refl }
 
 module _ (dir : List ℕ) (logs : List Logged) (log : Logged) (old mid : Content) (own : IsOwnLog dir true log) where
   -- a log was sealed
   seals_push : (text : Text) → log.told ≡ outline (Some text) → Seals dir logs (Ok tt) old mid → Seals dir (logs ++ log ∷ []) (Ok tt) old (with_log (log_name log.dir log.path) text mid)
-  seals_push text told before = record {
-    done =
-        ap (with_log (log_name log.dir log.path) text) before.done
-        ∙ sealed_text dir log text (with_sealed dir (all_sealed logs) old) own told
-        ∙ sym (with_sealed-push dir logs log old);
-    others = others_push dir logs log old.held mid.held _ own before.others (λ name apart. with_file-elsewhere (log_name log.dir log.path) text.bytes mid.held name apart);
-  }
+  seals_push text told before =
+      let done : with_log (log_name log.dir log.path) text mid ≡ with_sealed dir (all_sealed (logs ++ log ∷ [])) old =
+      ap (with_log (log_name log.dir log.path) text) before.done
+      ∙ sealed_text dir log text (with_sealed dir (all_sealed logs) old) own told
+      ∙ sym (with_sealed-push dir logs log old) in
+      record { done = done; front = between (all_sealed (logs ++ log ∷ [])) [] (sym (append-nil (all_sealed (logs ++ log ∷ [])))) done }
 
   -- a log was refused
-  seals_refused : (text : Text) (trouble : Trouble) (new : Option Content) → Seals dir logs (Ok tt) old mid → LeavesFront (Some mid) new (log_name log.dir log.path) text.bytes
-      → Tells new (Seals dir (logs ++ log ∷ []) (Err trouble) old)
-  seals_refused text trouble new before left =
-      let after = leaves_front_others mid new (log_name log.dir log.path) text.bytes left in
-      record {
-        content = after.0;
-        is = after.1;
-        holds = record { done = tt; others = others_push dir logs log old.held mid.held after.0.held own before.others after.2.others };
-      }
+  seals_refused : (text : Text) (trouble : Trouble) (new : Option Content) → log.told ≡ outline (Some text) → Seals dir logs (Ok tt) old mid
+      → LeavesFront (Some mid) new (log_name log.dir log.path) text.bytes → Tells new (Seals dir (logs ++ log ∷ []) (Err trouble) old)
+  seals_refused text trouble new told before left =
+      ⊎_elim
+      (λ same. let it : Tells new (Seals dir (logs ++ log ∷ []) (Err trouble) old) = record {
+        content = mid;
+        is = same;
+        holds = record { done = tt; front = between (all_sealed logs) (sealed_of log ∷ []) (all_sealed-push logs log) before.done };
+      } in it)
+      (λ put. record {
+        content = with_put (log_name log.dir log.path) left.front mid;
+        is = put;
+        holds = record {
+          done = tt;
+          front = torn (all_sealed logs) (sealed_of log) [] (all_sealed-push logs log) left.front left.rest (bytes_are ∙ left.parts)
+              (rw (own.dir_is) (ap (with_put (log_name dir log.path) left.front) before.done));
+        };
+      })
+      left.leaves where
+        bytes_are : (sealed_of log).bytes ≡ text.bytes
+        bytes_are = rw (told) refl
 
   -- an earlier one was
   seals_given_up : (trouble : Trouble) → Seals dir logs (Err trouble) old mid → Seals dir (logs ++ log ∷ []) (Err trouble) old mid
-  seals_given_up trouble before = record { done = tt; others = others_push dir logs log old.held mid.held mid.held own before.others (λ name apart. refl) }
+  seals_given_up trouble before = record { done = tt; front = longer before.front } where
+    longer : SealsFront dir (all_sealed logs) old mid → SealsFront dir (all_sealed (logs ++ log ∷ [])) old mid
+    longer (between first rest parts leaves) =
+        between first (rest ++ sealed_of log ∷ [])
+        (all_sealed-push logs log ∙ ap (λ (ls : List SealedLog). ls ++ sealed_of log ∷ []) parts ∙ append_assoc first rest (sealed_of log ∷ [])) leaves
+    longer (torn first next rest parts front behind bytes leaves) =
+        torn first next (rest ++ sealed_of log ∷ [])
+        (all_sealed-push logs log ∙ ap (λ (ls : List SealedLog). ls ++ sealed_of log ∷ []) parts ∙ append_assoc first (next ∷ rest) (sealed_of log ∷ [])) front behind bytes leaves
 
   -- one more log was sealed or refused
   seals_next : (text : Option Text) (r : Result (Unit {0}) Trouble) (new : Option Content) → log.told ≡ outline text → Seals dir logs (Ok tt) old mid
@@ -81,7 +91,7 @@ module _ (dir : List ℕ) (logs : List Logged) (log : Logged) (old mid : Content
       → Tells new (Seals dir (logs ++ log ∷ []) r old)
   seals_next None r new told before done refused = let tells = own.tells_so in absurd (cc)
   seals_next (Some text) (Ok _) new told before done refused = record { content = _; is = done text refl; holds = seals_push text told before }
-  seals_next (Some text) (Err trouble) new told before done refused = seals_refused text trouble new before (refused text refl)
+  seals_next (Some text) (Err trouble) new told before done refused = seals_refused text trouble new told before (refused text refl)
 
 -- no log yet
 pub seals_all_none : (told : Option Content) → SealsAll [] (Ok tt) told told

@@ -1,25 +1,30 @@
 -- What a folder holds once a run was stored, or its storing was refused.
-use Rattle.std.proofs.Common.{◌≡◌, refl, sym, ap, subst, ◌∙◌, ⊎_elim, ℕ, List, [], ◌∷◌, map, Option, Some, Result, Ok, Err}
+use Rattle.std.proofs.Common.{◌≡◌, refl, ap, ◌∙◌, ⊎_elim, ℕ, List, [], map, Option, Some, Ok, Err}
 use Rattle.std.specs.Option.{option_map}
 use Rattle.std.proofs.lemmas.Simd.{map-map}
 use Rattle.sw_base.specs.declared.path.Step.{Step}
 use Rattle.sw_base.specs.declared.trouble.Trouble.{Trouble}
 use Rattle.sw_base.specs.Environment.{Content, LeavesFront, Text, with_put}
 use Rattle.sw_base.specs.Names.{index_name}
-use Rattle.race_model.specs.Row.{Row, index_bytes}
+use Rattle.race_model.specs.Row.{index_bytes}
 use Rattle.team_runner.specs.Answer.{Logged}
-use Rattle.sword.specs.Seals.{AllTell, SealsAll, StoresAll, StoresFront, StoresPart, Tells, all_logged, front, logged, part, row_of_entry, rows_of_logs, with_index}
+use Rattle.sword.specs.Run.{between}
+use Rattle.sword.specs.Seals.{SealsAll, StoresAll, StoresFront, StoresPart, Tells, all_logged, all_sealed, front, logged, part, row_of_entry, rows_of_logs, with_index}
 
 -- the rows of a run's logs
 pub rows-logged : {L : Type 0} (dir_of : L → List ℕ) (path_of : L → List Step) (text_of : L → Option Text) (entries : List (List Step × L × ℕ)) →
     rows_of_logs (all_logged dir_of path_of text_of entries) ≡ map row_of_entry entries
 rows-logged dir_of path_of text_of entries = map-map (λ (log : Logged). record { path = log.task; records = log.count }) (logged dir_of path_of text_of) entries
 
+-- no log was sealed
+pub stores_none : (dir : List ℕ) (logs : List Logged) (old new : Option Content) → new ≡ old → StoresFront dir logs old new
+stores_none dir logs old new same content tell is = record { content = content; is = same ∙ is; holds = part (between [] (all_sealed logs) refl refl) }
+
 -- a log was refused
 pub stores_part : (dir : List ℕ) (logs : List Logged) (trouble : Trouble) (old new : Option Content) → SealsAll logs (Err trouble) old new → StoresFront dir logs old new
 stores_part dir logs trouble old new seals content tell is =
     let now = seals dir content tell is in
-    record { content = now.content; is = now.is; holds = part now.holds.others }
+    record { content = now.content; is = now.is; holds = part now.holds.front }
 
 module _ (dir : List ℕ) (logs : List Logged) (old mid new : Option Content) (seals : SealsAll logs (Ok tt) old mid) where
   -- all logs and the index are there
@@ -33,7 +38,7 @@ module _ (dir : List ℕ) (logs : List Logged) (old mid new : Option Content) (s
   stores_front left content tell is =
       let now = seals dir content tell is in
       ⊎_elim
-      (λ same. let it : Tells new (StoresPart dir logs content) = record { content = now.content; is = same ∙ now.is; holds = part now.holds.others } in it)
+      (λ same. let it : Tells new (StoresPart dir logs content) = record { content = now.content; is = same ∙ now.is; holds = part now.holds.front } in it)
       (λ put. record {
         content = with_index dir logs left.front content;
         is = put ∙ ap (option_map (with_put (index_name dir) left.front)) (now.is ∙ ap Some now.holds.done);

@@ -12,7 +12,7 @@ use Rattle.team_runner.specs.declared.stop.Stop.TheVariants.{DivZero, Index, Log
 use Rattle.team_runner.specs.Answer.{IsRun}
 use Rattle.sword.specs.declared.status.TheConstants.{DONE, KERNEL_STOPPED}
 use Rattle.sword.specs.Answer.{IsFailure, Tries}
-use Rattle.sword.specs.Run.{ChangesLogs, Ran, StoppedRun, sealed_log, with_sealed}
+use Rattle.sword.specs.Run.{AreLogs, Ran, SealedLog, SealsFront, StoppedRun, sealed_log, with_sealed}
 use Rattle.sword.specs.RunTexts.{stop_name}
 use Rattle.sword.specs.Seals.{Tells}
 
@@ -21,10 +21,10 @@ pub data EndDue (program : Program) (dir : List ℕ) (size : ℕ) (old new : Con
   stopped : status ≡ KERNEL_STOPPED → StoppedRun program dir size old new text → EndDue program dir size old new status text
   ran : status ≡ DONE → Ran program dir size old new text → EndDue program dir size old new status text
 
--- the folder as it was; or changed logs of the kernel's tasks; or the logs of the whole run, and a front of its index
+-- the folder as it was; or the first logs of the run; or those of the whole run, and a front of its index
 pub data EndLeaves (program : Program) (dir : List ℕ) (size : ℕ) (old new : Content) : Type 0 where
   nothing : new ≡ old → EndLeaves program dir size old new
-  logs : ChangesLogs program dir old.held new.held → EndLeaves program dir size old new
+  logs : (logs : List SealedLog) → AreLogs program size logs → SealsFront dir logs old new → EndLeaves program dir size old new
   index : (tasks : Trace) → IsRun program tasks → (front rest : List ℕ) → index_bytes (rows_of tasks) ≡ front ++ rest
       → new ≡ with_put (index_name dir) front (with_sealed dir (map (sealed_log size) tasks) old) → EndLeaves program dir size old new
 

@@ -1,5 +1,5 @@
 -- What `run` answers, and what it leaves in the folder.
-use Rattle.std.specs.Prelude.{◌≡◌, ◌≢◌, ◌⊎◌, ℕ, List, [], ◌∷◌, ◌++◌, length, map, Option, None, Some, IsSome, Contains}
+use Rattle.std.specs.Prelude.{◌≡◌, ℕ, List, [], ◌∷◌, ◌++◌, length, map, None, Some, IsSome, Contains}
 use Rattle.sw_base.specs.declared.path.Step.{Step}
 use Rattle.sw_base.specs.declared.path.TheConstants.{LOG_HEADER}
 use Rattle.sw_base.specs.Environment.{Files, Content, with_file, with_put}
@@ -45,6 +45,12 @@ with_sealed dir (log ∷ logs) content =
       sealed = content.sealed ++ record { name = log_name dir log.path; lengths = log.lengths } ∷ [];
     })
 
+-- Sealing these logs was broken off: the first of them are sealed, and a front of the next may stand under its name.
+pub data SealsFront (dir : List ℕ) (logs : List SealedLog) (old new : Content) : Type 0 where
+  between : (first rest : List SealedLog) → logs ≡ first ++ rest → new ≡ with_sealed dir first old → SealsFront dir logs old new
+  torn : (first : List SealedLog) (next : SealedLog) (rest : List SealedLog) → logs ≡ first ++ next ∷ rest → (front behind : List ℕ)
+      → next.bytes ≡ front ++ behind → new ≡ with_put (log_name dir next.path) front (with_sealed dir first old) → SealsFront dir logs old new
+
 -- The run ended: its logs and its index are there, and nothing else changed. Its folder has no bad place, but it may have too
 -- many segments.
 pub record Ran (program : Program) (dir : List ℕ) (size : ℕ) (old new : Content) (text : List ℕ) : Type 0 where
@@ -56,15 +62,19 @@ pub record Ran (program : Program) (dir : List ℕ) (size : ℕ) (old new : Cont
   pub values_are : length values ≡ elements program.arrays
   pub text_is : text ≡ run_text tasks program.arrays values
 
--- The kernel stopped so: the logs of all its tasks are there, in the order of their paths, and nothing else changed. The log of
--- the task that stopped has all its records, and those of the lanes before it are whole.
+-- The logs of a kernel that stopped so: those of all its tasks, in the order of their paths. The log of the task that stopped has
+-- all its records, and those of the lanes before it are whole.
+pub record AreStopped (program : Program) (size : ℕ) (logs : List SealedLog) (path : List Step) (why : model.Stop) (line : ℕ) : Type 0 where
+  pub all : map (λ (log : SealedLog). log.path) logs ≡ task_paths program
+  pub stop : HasStop program (λ task. Contains logs (sealed_log size task)) path why line
+
+-- The kernel stopped so: its logs are there, and nothing else changed.
 pub record StoppedRun (program : Program) (dir : List ℕ) (size : ℕ) (old new : Content) (text : List ℕ) : Type 0 where
   pub logs : List SealedLog
-  pub all : map (λ (log : SealedLog). log.path) logs ≡ task_paths program
   pub path : List Step
   pub why : model.Stop
   pub line : ℕ
-  pub stop : HasStop program (λ task. Contains logs (sealed_log size task)) path why line
+  pub stopped : AreStopped program size logs path why line
   pub leaves : new ≡ with_sealed dir logs old
   pub text_is : text ≡ stopped_text path line why
 
@@ -81,17 +91,17 @@ pub data RunDue (kernel dir : List ℕ) (size : ℕ) (old new : Content) (status
   ran : (program : Program) → HoldsKernel old.held kernel program → old.held (index_name dir) ≡ None → status ≡ DONE
       → Ran program dir size old new text → RunDue kernel dir size old new status text
 
--- only logs of the kernel's tasks may have changed
-abbrev pub ChangesLogs : Program → List ℕ → Files → Files → Type 0
-ChangesLogs program dir old new =
-    (name : List ℕ) → ((path : List Step) → Contains (task_paths program) path → name ≢ log_name dir path) → new name ≡ old name
+-- the logs of a run that ended, or of one that stopped
+pub data AreLogs (program : Program) (size : ℕ) (logs : List SealedLog) : Type 0 where
+  ended : (tasks : Trace) → IsRun program tasks → logs ≡ map (sealed_log size) tasks → AreLogs program size logs
+  stopped : (path : List Step) (why : model.Stop) (line : ℕ) → AreStopped program size logs path why line → AreLogs program size logs
 
--- What a run leaves that could not give its answer: the folder as it was; or, of a run that began, changed logs and no index;
--- or the logs of a whole run, and a front of its index.
+-- What a run leaves that could not give its answer: the folder as it was; or, of a run that began, the first of its logs and no
+-- index; or the logs of a whole run, and a front of its index.
 pub data LeavesPart (kernel dir : List ℕ) (size : ℕ) (old new : Content) : Type 0 where
   nothing : new ≡ old → LeavesPart kernel dir size old new
   logs : (program : Program) → HoldsKernel old.held kernel program → old.held (index_name dir) ≡ None → new.held (index_name dir) ≡ None
-      → ChangesLogs program dir old.held new.held → LeavesPart kernel dir size old new
+      → (logs : List SealedLog) → AreLogs program size logs → SealsFront dir logs old new → LeavesPart kernel dir size old new
   index : (program : Program) → HoldsKernel old.held kernel program → old.held (index_name dir) ≡ None → (tasks : Trace) → IsRun program tasks
       → (front rest : List ℕ) → index_bytes (rows_of tasks) ≡ front ++ rest
       → new ≡ with_put (index_name dir) front (with_sealed dir (map (sealed_log size) tasks) old) → LeavesPart kernel dir size old new

@@ -1,12 +1,12 @@
 -- What sealing the logs of a run does to a folder.
-use Rattle.std.specs.Prelude.{◌≡◌, ◌≢◌, ℕ, List, [], ◌++◌, map, All, Option, Some, unwrap_or, true, Result, OnOk, Contains}
+use Rattle.std.specs.Prelude.{◌≡◌, ℕ, List, [], ◌++◌, map, All, Option, Some, unwrap_or, true, Result, OnOk}
 use Rattle.sw_base.specs.declared.path.Step.{Step}
 use Rattle.sw_base.specs.declared.trouble.Trouble.{Trouble}
-use Rattle.sw_base.specs.Environment.{Files, Content, Text, with_put}
-use Rattle.sw_base.specs.Names.{index_name, log_name}
+use Rattle.sw_base.specs.Environment.{Content, Text, with_put}
+use Rattle.sw_base.specs.Names.{index_name}
 use Rattle.race_model.specs.Row.{Row, index_bytes}
 use Rattle.team_runner.specs.Answer.{Logged, IsOwnLog, outline}
-use Rattle.sword.specs.Run.{SealedLog, with_sealed}
+use Rattle.sword.specs.Run.{SealedLog, SealsFront, with_sealed}
 
 -- a log of a run, beside its task and its number of records, as it is answered
 abbrev pub logged : {L : Type 0} → (L → List ℕ) → (L → List Step) → (L → Option Text) → List Step × L × ℕ → Logged
@@ -39,20 +39,16 @@ row_of_entry entry = record { path = entry.0; records = entry.2 }
 abbrev pub rows_of_logs : List Logged → List Row
 rows_of_logs logs = map (λ (log : Logged). record { path = log.task; records = log.count }) logs
 
--- only the logs of these tasks may have changed
-abbrev pub ChangesOnly : List (List Step) → List ℕ → Files → Files → Type 0
-ChangesOnly paths dir old new = (name : List ℕ) → ((path : List Step) → Contains paths path → name ≢ log_name dir path) → new name ≡ old name
-
 -- what a folder tells, and a fact about it
 pub record Tells (told : Option Content) (P : Content → Type 0) : Type 0 where
   pub content : Content
   pub is : told ≡ Some content
   pub holds : P content
 
--- The logs were sealed one after another; or one was refused, and then at most names of logs changed.
+-- The logs were sealed one after another; or one was refused, and then the first of them are sealed.
 pub record Seals (dir : List ℕ) (logs : List Logged) (result : Result (Unit {0}) Trouble) (old new : Content) : Type 0 where
   pub done : OnOk result (new ≡ with_sealed dir (all_sealed logs) old)
-  pub others : ChangesOnly (tasks_of logs) dir old.held new.held
+  pub front : SealsFront dir (all_sealed logs) old new
 
 -- the logs are of the folder, and tell what they hold
 abbrev pub AllTell : List ℕ → List Logged → Type 0
@@ -67,9 +63,9 @@ SealsAll logs result old new =
 abbrev pub with_index : List ℕ → List Logged → List ℕ → Content → Content
 with_index dir logs bytes content = with_put (index_name dir) bytes (with_sealed dir (all_sealed logs) content)
 
--- Storing a run was refused: at most names of logs changed; or all logs are there, and a front of the index.
+-- Storing a run was refused: the first of its logs are sealed; or all are, and a front of the index is there.
 pub data StoresPart (dir : List ℕ) (logs : List Logged) (old new : Content) : Type 0 where
-  part : ChangesOnly (tasks_of logs) dir old.held new.held → StoresPart dir logs old new
+  part : SealsFront dir (all_sealed logs) old new → StoresPart dir logs old new
   front : (front rest : List ℕ) → index_bytes (rows_of_logs logs) ≡ front ++ rest → new ≡ with_index dir logs front old → StoresPart dir logs old new
 
 -- a run was stored in a folder that may tell

@@ -1,7 +1,6 @@
 use Rattle.std.proofs.Common.{◌≡◌, ap, Err, Some}
 use Rattle.std.proofs.lemmas.Result.{err_from_is_err_and}
 use Rattle.kernel_reader.specs.declared.fault.ReadKernelFault.{ReadKernelFault}
-use Rattle.kernel_reader.specs.declared.fault.ReadKernelFault.TheVariants as text
 use Rattle.sword.proofs.Refusals.{text_refused}
 use Rattle.sword.proofs.beginning.begin.Goals as goal
 

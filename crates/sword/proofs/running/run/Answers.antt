@@ -1,4 +1,4 @@
-use Rattle.std.proofs.Common.{◌≡◌, sym, ◌∙◌, Some, subst}
+use Rattle.std.proofs.Common.{sym, ◌∙◌, subst}
 use Rattle.std.proofs.lemmas.Option.{same_Some}
 use Rattle.sw_base.specs.Environment.{Content}
 use Rattle.kernel_syntax.specs.Program.{program_of}

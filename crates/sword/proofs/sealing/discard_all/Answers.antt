@@ -1,7 +1,7 @@
-use Rattle.std.proofs.Common.{◌≡◌, arith, rules, refl, sym, inl, inr, ◌∙◌, map}
+use Rattle.std.proofs.Common.{◌≡◌, arith, rules, refl, sym, inl, inr, ◌∙◌}
 use Rattle.std.proofs.lemmas.Iterator.Adapters.{YieldsList-from_vec}
 use Rattle.std.proofs.lemmas.Iterator.Consumers.{YieldsList-end}
-use Rattle.std.proofs.lemmas.List.{map-id, map-append}
+use Rattle.std.proofs.lemmas.List.{map-id}
 use Rattle.sword.proofs.SealedLogs.{faulty_none, faulty_last}
 use Rattle.sword.proofs.sealing.discard_all.Goals as goal
 

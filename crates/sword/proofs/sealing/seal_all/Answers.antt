@@ -1,8 +1,7 @@
-use Rattle.std.proofs.Common.{◌≡◌, List, ℕ, arith, rules, refl, sym, inl, inr, ◌∙◌, subst}
+use Rattle.std.proofs.Common.{◌≡◌, arith, rules, refl, sym, inl, inr, ◌∙◌}
 use Rattle.std.proofs.lemmas.Iterator.Adapters.{YieldsList-from_vec}
 use Rattle.std.proofs.lemmas.Iterator.Consumers.{YieldsList-end}
 use Rattle.std.proofs.lemmas.List.{map-id}
-use Rattle.sword.specs.Seals.{SealsAll, all_logged}
 use Rattle.sword.proofs.SealedLogs.{seals_all_none, seals_all_push}
 use Rattle.sword.proofs.sealing.seal_all.Goals as goal
 

@@ -1,10 +1,12 @@
-use Rattle.std.proofs.Common.{◌≡◌, sym, ◌∙◌, List, map, OnOk}
+use Rattle.std.proofs.Common.{◌≡◌, sym}
 use Rattle.std.proofs.lemmas.Result.{err_from_is_err_and}
-use Rattle.race_model.specs.Row.{Row}
 use Rattle.log_index.specs.Rows.{rows_of}
-use Rattle.sword.specs.Seals.{all_logged, row_of_entry, rows_of_logs}
-use Rattle.sword.proofs.StoredRun.{rows-logged, stores_all, stores_front, stores_part}
+use Rattle.sword.specs.Seals.{all_logged, rows_of_logs}
+use Rattle.sword.proofs.StoredRun.{rows-logged, stores_all, stores_front, stores_none, stores_part}
 use Rattle.sword.proofs.sealing.store.Goals as goal
+
+pub returns-in_default-clause-refused : goal.returns-in_default-clause-refused
+returns-in_default-clause-refused g c = stores_none c.args.dir.now (all_logged g.F.Log.Log.dir g.F.Log.Log.path g.F.Log.Log.text c.args.logs.items) _ _ c.discard_all.ensures.same
 
 pub returns-in_err-seal_all-clause-refused : goal.returns-in_err-seal_all-clause-refused
 returns-in_err-seal_all-clause-refused g c =
