@@ -6,7 +6,7 @@ use crate::top::sword;
 use std::alloc::Global;
 use std::process::Abort;
 use std::test::Fail;
-use sw_base::{MemFolder, MemOut, NoGate};
+use sw_base::{MemFolder, MemOut, NoGate, Path};
 
 // Each lane adds 1 to every other element.
 const COUNT: &str =
@@ -242,6 +242,28 @@ fn each_call_of_a_run_may_fail(rt: HostRuntime) -> Result<(), Fail> {
     place.fail(&[9])?;
     let run = ["run", "k", "d", "4096"];
     answers(&rt, alloc, &mut place, &run, DONE, COUNTED)
+}
+
+#[test]
+fn each_call_on_a_log_may_fail(rt: HostRuntime) -> Result<(), Fail> {
+    let alloc = rt.alloc();
+    // With a buffer for four records each log takes four calls.
+    let root = Path::root();
+    for task in [root.copy(), root.child(0, 0, 2), root.child(0, 1, 2)] {
+        for call in 1..6 {
+            let mut place = holding(alloc, COUNT)?;
+            place.fail_log(&task, &[call])?;
+            let run = ["run", "k", "d", "96"];
+            if call == 5 {
+                answers(&rt, alloc, &mut place, &run, DONE, COUNTED)?;
+            } else {
+                answers(&rt, alloc, &mut place, &run, WRITE_FAULT, "")?;
+            }
+            assert_eq!(rt; place.file(INDEX).is_some(), call == 5);
+            assert_eq!(rt; place.file(LANE_0).is_some(), call == 5);
+        }
+    }
+    Ok(())
 }
 
 #[test]
