@@ -10,6 +10,9 @@ use std::alloc::Global;
 use std::collections::BTreeSet;
 use sw_base::{Out, Trouble};
 
+#[cfg(test)]
+mod tests;
+
 /// Prints the pairs of lines in ascending order, and then their number. After an error a front of that text was written.
 pub fn report<O: Out>(
     alloc: Global,

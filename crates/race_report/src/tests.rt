@@ -1,0 +1,49 @@
+use crate::report;
+use std::alloc::{AllocError, Global};
+use std::collections::BTreeSet;
+use std::test::Fail;
+use sw_base::{MemOut, Trouble};
+
+fn three_pairs(alloc: Global) -> Result<BTreeSet<(u32, u32)>, AllocError> {
+    let mut pairs = BTreeSet::new(alloc);
+    for pair in [(12, 17), (5, 6), (5, 5)] {
+        pairs.insert(pair)?;
+    }
+    Ok(pairs)
+}
+
+#[test]
+fn pairs_are_in_order_and_counted(rt: HostRuntime) -> Result<(), Fail> {
+    let alloc = rt.alloc();
+    let mut out = MemOut::new(alloc)?;
+    report(alloc, &mut out, &BTreeSet::new(alloc))?;
+    report(alloc, &mut out, &three_pairs(alloc)?)?;
+    assert_eq!(rt;
+        out.written(),
+        b"races 0\nrace 5 5\nrace 5 6\nrace 12 17\nraces 3\n".as_slice()
+    );
+    Ok(())
+}
+
+// A write that fails leaves the first half of its piece.
+#[test]
+fn each_line_is_one_write(rt: HostRuntime) -> Result<(), Fail> {
+    let alloc = rt.alloc();
+    let pairs = three_pairs(alloc)?;
+    let fronts: [(u64, &[u8]); 4] = [
+        (1, b"race"),
+        (2, b"race 5 5\nrace"),
+        (3, b"race 5 5\nrace 5 6\nrace "),
+        (4, b"race 5 5\nrace 5 6\nrace 12 17\nrace"),
+    ];
+    for (call, front) in fronts {
+        let mut out = MemOut::new(alloc)?;
+        out.fail(&[call])?;
+        assert_eq!(rt; report(alloc, &mut out, &pairs), Err(Trouble::Failed));
+        assert_eq!(rt; out.written(), front);
+    }
+    let mut out = MemOut::new(alloc)?;
+    out.fail(&[5])?;
+    assert_eq!(rt; report(alloc, &mut out, &pairs), Ok(()));
+    Ok(())
+}
