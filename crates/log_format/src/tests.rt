@@ -64,3 +64,21 @@ fn encodes_what_the_vectors_spell(rt: HostRuntime) {
         }
     }
 }
+
+#[test]
+fn the_first_of_many_faults_is_told(rt: HostRuntime) {
+    let table = [
+        ([0x0903_0001_0000_0000, u64::MAX, 65], Why::Kind),
+        ([0x0103_0001_0000_0000, u64::MAX, 65], Why::Size),
+        ([0x0108_0001_0000_0000, u64::MAX, 65], Why::LineZero),
+        ([0x0601_0001_0000_0000, 1, 65], Why::Size),
+        ([0x0600_0001_0000_0000, 1, 65], Why::LineZero),
+        ([0x0600_0001_0000_0001, 1, 65], Why::Span),
+        ([0x0600_0001_0000_0001, 1, 64], Why::Reserved),
+        ([0x0300_0001_0000_0001, 65_536, 1], Why::Address),
+        ([0x0300_0001_0000_0001, 65_535, 1], Why::Reserved),
+    ];
+    for (groups, want) in table {
+        assert_eq!(rt; decode(&joined(groups)), Err(want));
+    }
+}
