@@ -4,7 +4,7 @@ use Rattle.std.proofs.lemmas.List.Elements.{Contains-push, Contains-push_cases, 
 use Rattle.std.proofs.lemmas.List.{take_more}
 use Rattle.log_segment.specs.declared.segment.Segment.{Segment}
 use Rattle.race_model.specs.Label.{IsConcurrent}
-use Rattle.pair_compare.specs.Conflict.{IsConflictPair, AddsPairs}
+use Rattle.pair_compare.specs.Conflict.{IsConflictPair, AddsPairs, AddsSome}
 use Rattle.pair_compare.specs.Compare.{IsRacingPair, IsRacingWith, AreCompared}
 use Rattle.pair_compare.proofs.Adds.{not_in_nothing, AddsPairs-both}
 
@@ -14,6 +14,13 @@ pub AddsPairs-concurrent : (old new : List (ℕ × ℕ)) (a b : Segment) → IsC
 AddsPairs-concurrent old new a b concurrent adds = record {
   kept = adds.kept;
   added = λ pair h. adds.added pair h.conflict;
+  only = λ pair h. elim (adds.only pair h) [ inl was ↦ inl was | inr p ↦ inr (record { concurrent = concurrent; conflict = p }) ];
+}
+
+pub AddsSome-concurrent : (old new : List (ℕ × ℕ)) (a b : Segment) → IsConcurrent a.label b.label → AddsSome old new (IsConflictPair a.accesses.items b.accesses.items)
+    → AddsSome old new (IsRacingPair a b)
+AddsSome-concurrent old new a b concurrent adds = record {
+  kept = adds.kept;
   only = λ pair h. elim (adds.only pair h) [ inl was ↦ inl was | inr p ↦ inr (record { concurrent = concurrent; conflict = p }) ];
 }
 

@@ -29,6 +29,11 @@ pub record IsConflictPair (xs ys : List Access) (pair : ℕ × ℕ) : Type 0 whe
   pub conflict : IsConflict a b
   pub lines : pair ≡ line_pair a b
 
+-- the new pairs are the old ones and some of those with the property
+pub record AddsSome (old new : List (ℕ × ℕ)) (P : ℕ × ℕ → Type 0) : Type 0 where
+  pub kept : (pair : ℕ × ℕ) → Contains old pair → Contains new pair
+  pub only : (pair : ℕ × ℕ) → Contains new pair → Contains old pair ⊎ P pair
+
 -- the new pairs are the old ones and those with the property
 pub record AddsPairs (old new : List (ℕ × ℕ)) (P : ℕ × ℕ → Type 0) : Type 0 where
   pub kept : (pair : ℕ × ℕ) → Contains old pair → Contains new pair

@@ -1,10 +1,10 @@
-ghost use Rattle.std.specs.Prelude.{◌≡◌, ◌↔◌, ◌⊎◌, ℕ, [], Contains, IfOk, OnOk};
+ghost use Rattle.std.specs.Prelude.{◌≡◌, ◌↔◌, ◌⊎◌, ℕ, [], Contains, IfOk, OnOk, OnErr};
 ghost use Rattle.std.specs.List.Sorted.{IsStrictlySortedBy};
 ghost use Rattle.race_model.specs.Race.{IsRacePair, Lists, pair_cmp};
 ghost use Rattle.race_model.specs.Trace.{Logs};
 ghost use Rattle.race_model.specs.WellFormed.{IsForkJoin};
 ghost use Rattle.log_segment.specs.Intervals.{AreSegments};
-ghost use Rattle.pair_compare.specs.Conflict.{AddsPairs};
+ghost use Rattle.pair_compare.specs.Conflict.{AddsPairs, AddsSome};
 ghost use Rattle.pair_compare.specs.Compare.{AreCompared, IsRacingPair, IsRacingWith, IsSegmentPair};
 
 use crate::add_conflicts;
@@ -14,9 +14,10 @@ use std::collections::BTreeSet;
 use sw_base::Memory;
 
 /// Adds the line pairs of the races of two segments, the smaller line first: none where the labels aren't concurrent.
-/// After an error some of them may have been added.
+/// After an error some of them may have been added, and nothing else changed.
 pub fn compare(a: &Segment, b: &Segment, pairs: &mut BTreeSet<(u32, u32)>) -> Result<(), Memory>
     ensures added { OnOk result (AddsPairs pairs.old.keys pairs.new.keys (IsRacingPair a.now b.now)) }
+    ensures refused { OnErr result (AddsSome pairs.old.keys pairs.new.keys (IsRacingPair a.now b.now)) }
 {
     if a.label.concurrent(&b.label) {
         add_conflicts(&a.accesses, &b.accesses, pairs)?;

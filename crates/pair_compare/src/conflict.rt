@@ -1,5 +1,5 @@
 ghost use Rattle.std.specs.Prelude.{◌≡◌, ◌⊎◌, ◌↔◌, ◌<◌, ◌≤◌, ◌+◌, ℕ, [], ◌∷◌, IsTrue, OnOk, OnErr};
-ghost use Rattle.pair_compare.specs.Conflict.{IsConflict, IsConflictPair, AddsPairs, Touches, line_pair};
+ghost use Rattle.pair_compare.specs.Conflict.{IsConflict, IsConflictPair, AddsPairs, AddsSome, Touches, line_pair};
 
 use std::collections::BTreeSet;
 use stride_summary::Access;
@@ -36,6 +36,7 @@ fn lines_of(a: &Access, b: &Access) -> (u32, u32)
 
 fn add_conflict(a: &Access, b: &Access, pairs: &mut BTreeSet<(u32, u32)>) -> Result<(), Memory>
     ensures added { OnOk result (AddsPairs pairs.old.keys pairs.new.keys (IsConflictPair (a.now ∷ []) (b.now ∷ []))) }
+    ensures refused { OnErr result (AddsSome pairs.old.keys pairs.new.keys (IsConflictPair (a.now ∷ []) (b.now ∷ []))) }
 {
     if conflicts(a, b) {
         pairs.insert(lines_of(a, b))?;
@@ -49,6 +50,7 @@ fn add_against(
     pairs: &mut BTreeSet<(u32, u32)>,
 ) -> Result<(), Memory>
     ensures added { OnOk result (AddsPairs pairs.old.keys pairs.new.keys (IsConflictPair (a.now ∷ []) others.now)) }
+    ensures refused { OnErr result (AddsSome pairs.old.keys pairs.new.keys (IsConflictPair (a.now ∷ []) others.now)) }
 {
     for b in others {
         add_conflict(a, b, pairs)?;
@@ -57,13 +59,14 @@ fn add_against(
 }
 
 /// Adds the line pairs of the conflicts of an access of the first list with one of the second, the smaller line first.
-/// After an error some of them may have been added.
+/// After an error some of them may have been added, and nothing else changed.
 pub fn add_conflicts(
     accesses: &[Access],
     others: &[Access],
     pairs: &mut BTreeSet<(u32, u32)>,
 ) -> Result<(), Memory>
     ensures added { OnOk result (AddsPairs pairs.old.keys pairs.new.keys (IsConflictPair accesses.now others.now)) }
+    ensures refused { OnErr result (AddsSome pairs.old.keys pairs.new.keys (IsConflictPair accesses.now others.now)) }
 {
     for a in accesses {
         add_against(a, others, pairs)?;
