@@ -18,6 +18,7 @@ use Rattle.team_runner.specs.Answer.{IsRun, HasStop, task_paths}
 use Rattle.team_runner.specs.Written.{cut}
 use Rattle.sword.specs.declared.status.TheConstants.{DONE, KERNEL_REFUSED, KERNEL_STOPPED, INDEX_THERE}
 use Rattle.sword.specs.RunTexts.{no_kernel_text, not_built_text, index_exists_text, stopped_text, run_text}
+use Rattle.sword.specs.Words.{SaysRun}
 
 -- the file of this name holds the text of a kernel of the first kind
 pub record HoldsKernel (files : Files) (name : List ℕ) (program : Program) : Type 0 where
@@ -25,6 +26,20 @@ pub record HoldsKernel (files : Files) (name : List ℕ) (program : Program) : T
   pub held : files name ≡ Some text
   pub kernel : IsKernelOf text program
   pub first : IsFirstKind program
+
+-- the named file holds such a kernel, and the folder has no index
+pub record CanRun (files : Files) (kernel dir : List ℕ) : Type 0 where
+  pub program : Program
+  pub holds : HoldsKernel files kernel program
+  pub fresh : files (index_name dir) ≡ None
+
+-- the words ask for a run, and it can begin
+pub record BeginsRun (words : List (List ℕ)) (files : Files) : Type 0 where
+  pub kernel : List ℕ
+  pub dir : List ℕ
+  pub size : ℕ
+  pub says : SaysRun words kernel dir size
+  pub can : CanRun files kernel dir
 
 -- a log that is sealed: its task, its bytes, and the lengths of its pieces
 pub record SealedLog : Type 0 where

@@ -13,7 +13,7 @@ use std::alloc::Global;
 use std::collections::BTreeSet;
 use sw_base::{Out, Trouble};
 
-/// The status of a printing that failed.
+/// The status of a write that failed, or for which no memory was found.
 pub fn failure(trouble: Trouble) -> u8
     ensures failure { IsFailure result }
     ensures no_read { result ≡ READ_FAULT → ⊥ }

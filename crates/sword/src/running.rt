@@ -12,7 +12,7 @@ ghost use Rattle.team_runner.specs.Stops.{StopsSo};
 ghost use Rattle.team_runner.specs.declared.stop.Stop.TheVariants as stop;
 ghost use Rattle.sword.specs.Answer.{IsFailure, Prints, Tries};
 ghost use Rattle.sword.specs.Ends.{EndsSo, IsTold};
-ghost use Rattle.sword.specs.Run.{LeavesPart, RunDue};
+ghost use Rattle.sword.specs.Run.{CanRun, LeavesPart, RunDue};
 ghost use Rattle.sword.specs.Seals.{AllTell, all_logged, row_of_entry};
 ghost use Rattle.sword.specs.declared.status.TheConstants.{USAGE, READ_FAULT, WRITE_FAULT, NO_MEMORY};
 
@@ -170,6 +170,10 @@ pub fn run<R, F: Folder, O: Out, G: Gate>(
     ensures reads { result ≡ READ_FAULT → F.content place.new ≡ F.content place.old }
     ensures read_fault { result ≡ READ_FAULT → Rose (F.read_faults place.old) (F.read_faults place.new) }
     ensures write_fault { result ≡ WRITE_FAULT → Rose (O.faults out.old) (O.faults out.new) ⊎ Rose (F.write_faults place.old) (F.write_faults place.new) }
+    ensures only_printed { WhereTold (F.content place.old) (λ c. (CanRun c.held kernel.now dir.now → ⊥) →
+        result ≡ WRITE_FAULT → Rose (O.faults out.old) (O.faults out.new)) }
+    ensures same_writes { WhereTold (F.content place.old) (λ c. (CanRun c.held kernel.now dir.now → ⊥) →
+        F.write_faults place.new ≡ F.write_faults place.old) }
     ensures tells { is_some (F.content place.new) ≡ is_some (F.content place.old) }
     ensures no_usage { result ≡ USAGE → ⊥ }
 {

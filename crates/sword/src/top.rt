@@ -3,7 +3,7 @@ ghost use Rattle.std.specs.Prelude.{◌≡◌, ◌⊎◌, ℕ, List, is_some};
 ghost use Rattle.sw_base.specs.Environment.{Rose, WhereTold};
 ghost use Rattle.sword.specs.Answer.{Answers, IsFailure, Tries, UsageDue};
 ghost use Rattle.sword.specs.Check.{FolderDue, HasReport};
-ghost use Rattle.sword.specs.Run.{LeavesPart, RunDue};
+ghost use Rattle.sword.specs.Run.{BeginsRun, LeavesPart, RunDue};
 ghost use Rattle.sword.specs.Show.{HasRecords};
 ghost use Rattle.sword.specs.Words.{AsksRun, IsUsage, SaysCheck, SaysRun, SaysShow, texts};
 ghost use Rattle.sword.specs.declared.status.TheConstants.{USAGE, READ_FAULT, WRITE_FAULT};
@@ -21,7 +21,7 @@ const USAGE_LINE: &[u8] =
 
 /// Does what the words after the program's name ask for, and answers the status that the program ends with.
 ///
-/// The runtime and the gate are for lanes and workers in threads, which there are none of yet.
+/// The gate sees the lanes of a run. The runtime is for lanes and workers in threads, which there are none of yet.
 pub fn sword<R, F: Folder, O: Out, G: Gate>(
     rt: &R,
     alloc: Global,
@@ -44,7 +44,7 @@ pub fn sword<R, F: Folder, O: Out, G: Gate>(
         Answers (FolderDue HasRecords c.held dir) (O.written out.old) (O.written out.new) result) }
 
     // `run` answers that there is no kernel, or none of the first kind; that the folder has an index; where the kernel stopped; or
-    // the counts and sums of the run, whose logs and index are then there: those of the kernel's tasks, each with its whole trace
+    // the counts of the run and some sums, whose logs and index are then there: those of the kernel's tasks, each with its whole trace
     // under what it read, cut into pieces that fill the buffer.
     ensures run { (kernel dir : List ℕ) (size : ℕ) → SaysRun (texts words.now) kernel dir size → WhereTold (F.content place.old) (λ c.
         WhereTold (F.content place.new) (λ d. Tries (RunDue kernel dir size c d) (O.written out.old) (O.written out.new) result)) }
@@ -52,10 +52,14 @@ pub fn sword<R, F: Folder, O: Out, G: Gate>(
         WhereTold (F.content place.new) (λ d. IsFailure result → LeavesPart kernel dir size c d)) }
     ensures run_reads { result ≡ READ_FAULT → F.content place.new ≡ F.content place.old }
 
-    // A fault has its cause, and only a run changes anything.
+    // A fault has its cause, and only a run that can begin writes anything.
     ensures read_fault { result ≡ READ_FAULT → Rose (F.read_faults place.old) (F.read_faults place.new) }
     ensures write_fault { result ≡ WRITE_FAULT → Rose (O.faults out.old) (O.faults out.new)
         ⊎ (AsksRun (texts words.now) × Rose (F.write_faults place.old) (F.write_faults place.new)) }
+    ensures only_printed { WhereTold (F.content place.old) (λ c. (BeginsRun (texts words.now) c.held → ⊥) →
+        result ≡ WRITE_FAULT → Rose (O.faults out.old) (O.faults out.new)) }
+    ensures no_writes { WhereTold (F.content place.old) (λ c. (BeginsRun (texts words.now) c.held → ⊥) →
+        F.write_faults place.new ≡ F.write_faults place.old) }
     ensures same { (AsksRun (texts words.now) → ⊥) → F.content place.new ≡ F.content place.old }
     ensures same_writes { (AsksRun (texts words.now) → ⊥) → F.write_faults place.new ≡ F.write_faults place.old }
     ensures tells { is_some (F.content place.new) ≡ is_some (F.content place.old) }

@@ -23,3 +23,11 @@ returns-in-Ok-clause-leaves g c = λ old is new now failure.
 pub returns-in-Err-clause-answers : goal.returns-in-Err-clause-answers
 returns-in-Err-clause-answers g c = λ old is new now.
     refused_run c.args.kernel.now c.args.dir.now c.args.size old new c.in-Err.why _ _ _ (c.in-Err.ensures.refused old is) (same_Some new old (sym now ∙ c.begin.ensures.same ∙ is)) c.refuse.ensures.answers
+
+pub returns-in-Ok-clause-only_printed : goal.returns-in-Ok-clause-only_printed
+returns-in-Ok-clause-only_printed g c = λ old is none fault.
+    absurd (none (record { program = program_of c.in-Ok.kernel; holds = c.in-Ok.ensures.kernel old is; fresh = c.in-Ok.ensures.fresh old is }))
+
+pub returns-in-Ok-clause-same_writes : goal.returns-in-Ok-clause-same_writes
+returns-in-Ok-clause-same_writes g c = λ old is none.
+    absurd (none (record { program = program_of c.in-Ok.kernel; holds = c.in-Ok.ensures.kernel old is; fresh = c.in-Ok.ensures.fresh old is }))

@@ -42,3 +42,13 @@ pub returns-in-Ok-Some-Run-clause-run_leaves : goal.returns-in-Ok-Some-Run-claus
 returns-in-Ok-Some-Run-clause-run_leaves g c = λ kernel dir size says old is new now failure.
     let said = rw (c.in-Ok-Some-Run.field-0-is, c.in-Ok-Some-Run.field-0-0-is) at c.in-Ok-Some-Run.ensures.said in
     same_run (λ (k d : List ℕ) (n : ℕ). LeavesPart k d n old new) (texts c.args.words.now) _ _ kernel dir _ size said says (c.run.ensures.leaves old is new now failure)
+
+pub returns-in-Ok-Some-Run-clause-only_printed : goal.returns-in-Ok-Some-Run-clause-only_printed
+returns-in-Ok-Some-Run-clause-only_printed g c = λ old is none.
+    let said = rw (c.in-Ok-Some-Run.field-0-is, c.in-Ok-Some-Run.field-0-0-is) at c.in-Ok-Some-Run.ensures.said in
+    c.run.ensures.only_printed old is (λ can. none (record { kernel = _; dir = _; size = _; says = said; can = can }))
+
+pub returns-in-Ok-Some-Run-clause-no_writes : goal.returns-in-Ok-Some-Run-clause-no_writes
+returns-in-Ok-Some-Run-clause-no_writes g c = λ old is none.
+    let said = rw (c.in-Ok-Some-Run.field-0-is, c.in-Ok-Some-Run.field-0-0-is) at c.in-Ok-Some-Run.ensures.said in
+    c.run.ensures.same_writes old is (λ can. none (record { kernel = _; dir = _; size = _; says = said; can = can }))
