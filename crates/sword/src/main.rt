@@ -1,4 +1,7 @@
 //! `sword` runs fork-join loop kernels and logs their accesses, checks the logs for data races, and prints them.
+//!
+//! What it promises stands on `top::sword`: `check` prints exactly the line pairs of accesses that race or names the folder's
+//! first bad place, and a run that ends leaves each task's whole trace under the values that it read.
 #![tactic(auto)]
 
 mod beginning;
@@ -15,21 +18,31 @@ mod top;
 mod words;
 
 use host::{HostFolder, HostOut, OpenGate};
+use std::alloc::AllocError;
 use std::env;
+use std::io::ErrorKind;
 use std::process::ExitCode;
+
+/// The words after the program's name. Where one of them isn't UTF-8 they ask for nothing, and so none is answered.
+fn given_words(rt: &HostRuntime) -> Result<Vec<String>, AllocError> {
+    let mut words = Vec::new(rt.alloc());
+    match env::args(rt) {
+        Ok(given) => {
+            for word in given.skip(1) {
+                words.push(word)?;
+            }
+            Ok(words)
+        }
+        Err(error) if error.kind() == ErrorKind::OutOfMemory => Err(AllocError),
+        Err(_) => Ok(words),
+    }
+}
 
 fn main(rt: HostRuntime) -> ExitCode {
     let alloc = rt.alloc();
-    let mut words = Vec::new(alloc);
-    let Ok(mut given) = env::args(&rt) else {
+    let Ok(words) = given_words(&rt) else {
         return ExitCode::from(status::NO_MEMORY);
     };
-    given.next();
-    for word in given {
-        if words.push(word).is_err() {
-            return ExitCode::from(status::NO_MEMORY);
-        }
-    }
     let mut place = HostFolder::new(rt);
     let mut out = HostOut::new(rt);
     ExitCode::from(top::sword(&rt, alloc, &words, &mut place, &mut out, &OpenGate))
