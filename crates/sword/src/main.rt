@@ -56,3 +56,5 @@ mod graph_tests;
 mod run_tests;
 #[cfg(test)]
 mod tests;
+#[cfg(test)]
+mod text_tests;

@@ -9,27 +9,27 @@ use sw_base::{MemFolder, MemOut, NoGate};
 pub type Rec = (u8, u8, u32, u64, u64);
 
 /// A task: its name, the steps of its path and its records.
-type Task<'a> = (&'a str, &'a [(u32, u16, u16)], &'a [Rec]);
+pub type Task<'a> = (&'a str, &'a [(u32, u16, u16)], &'a [Rec]);
 
-const fn region(line: u32, span: u64) -> Rec {
+pub const fn region(line: u32, span: u64) -> Rec {
     (6, 0, line, 0, span)
 }
 
-const fn write(line: u32, addr: u64) -> Rec {
+pub const fn write(line: u32, addr: u64) -> Rec {
     (2, 8, line, addr, 1)
 }
 
-const fn lock(line: u32, mutex: u64) -> Rec {
+pub const fn lock(line: u32, mutex: u64) -> Rec {
     (3, 0, line, mutex, 0)
 }
 
-const fn unlock(line: u32, mutex: u64) -> Rec {
+pub const fn unlock(line: u32, mutex: u64) -> Rec {
     (4, 0, line, mutex, 0)
 }
 
-const BARRIER: Rec = (5, 0, 7, 0, 0);
+pub const BARRIER: Rec = (5, 0, 7, 0, 0);
 
-const END: Rec = (8, 0, 9, 0, 0);
+pub const END: Rec = (8, 0, 9, 0, 0);
 
 pub fn spell(bytes: &mut Vec<u8>, record: &Rec) -> Result<(), AllocError> {
     bytes.push(record.0)?;
@@ -60,7 +60,7 @@ pub fn spell_row(
     bytes.extend_from_slice(&(records as u64).to_be_bytes())
 }
 
-fn folder(alloc: Global, tasks: &[Task<'_>]) -> Result<MemFolder, Fail> {
+pub fn folder(alloc: Global, tasks: &[Task<'_>]) -> Result<MemFolder, Fail> {
     let mut place = MemFolder::new(alloc)?;
     let mut index = b"SWIDX001".to_vec(alloc)?;
     for (name, steps, records) in tasks {
@@ -100,7 +100,7 @@ pub fn answers<R: Abort>(
 }
 
 // A root that forks two lanes.
-const ROOT: &[Rec] = &[(6, 0, 1, 0, 2), (8, 0, 9, 0, 0)];
+pub const ROOT: &[Rec] = &[(6, 0, 1, 0, 2), (8, 0, 9, 0, 0)];
 
 #[test]
 fn lanes_that_share_a_byte_race(rt: HostRuntime) -> Result<(), Fail> {
