@@ -21,7 +21,8 @@ const USAGE_LINE: &[u8] =
 
 /// Does what the words after the program's name ask for, and answers the status that the program ends with.
 ///
-/// The gate sees the lanes of a run. The runtime is for lanes and workers in threads, which there are none of yet.
+/// The gate sees each lane of a run start each of its phases. The runtime is for lanes and workers in threads, which there are none of
+/// yet.
 pub fn sword<R, F: Folder, O: Out, G: Gate>(
     rt: &R,
     alloc: Global,
