@@ -13,6 +13,7 @@ use Rattle.kernel_syntax.specs.Program.{Program}
 use Rattle.kernel_syntax.specs.Tree.{Code, TeamTree, Done, Parallel}
 use Rattle.kernel_model.specs.State.{State, put, event, reads_of, chunks_of}
 use Rattle.kernel_model.specs.Trace.{Start, Ended, run, task, trace, state_at, site_of}
+use Rattle.kernel_model.specs.FirstTeam.{first_team}
 use Rattle.kernel_model.specs.Folder.{IsTracedFolder, IsTraced, IsTracedTask, root_start, lane_start, start_at, start_below, paths_of}
 use Rattle.kernel_syntax.specs.FirstKind.{IsFirstKind, IsOneRegion, IsOneLoop}
 use Rattle.kernel_model.specs.Growth.{KeepsPlainSteps}
@@ -220,11 +221,6 @@ module _ (arrays : List Array) (mutexes : List (List ℕ)) (slots line end span 
       }
 
 -- ---- kernels of the first kind, whatever their fields
-
--- the team of the root's one region
-abbrev pub first_team : Code → TeamTree
-first_team (Parallel span line end body rest) = record { span = span; line = line; end = end; body = body }
-first_team _ = record { span = 0; line = 0; end = 0; body = Done }
 
 -- the root's records
 abbrev pub first_root : Program → List Record

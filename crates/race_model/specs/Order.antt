@@ -4,11 +4,12 @@ use Rattle.std.specs.Prelude.{◌≡◌, ℕ, ◌+◌, ◌<◌, List, [], ◌∷
 use Rattle.sw_base.specs.declared.path.Step.{Step}
 use Rattle.log_format.specs.declared.record.Record.{Record}
 use Rattle.log_format.specs.declared.record.Kind.TheVariants.{Barrier, Region, End}
+use Rattle.race_model.specs.Listing.{lane_of}
 use Rattle.race_model.specs.Trace.{Logs, Node, record_at, IsThere, HasKind, regions_before, barriers_before}
 
 -- the lane of this number at the fork's region, which has this span
 abbrev pub lane_path : Logs → Node → ℕ → ℕ → List Step
-lane_path logs fork lane span = fork.path ++ record { region = regions_before logs fork; lane = lane; span = span } ∷ []
+lane_path logs fork lane span = lane_of fork.path (regions_before logs fork) lane span
 
 -- the node is a Region record of this span, and the path is that of its lane of this number
 pub record IsLane (logs : Logs) (fork : Node) (lane span : ℕ) (path : List Step) : Type 0 where

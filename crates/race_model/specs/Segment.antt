@@ -22,12 +22,6 @@ events_from n held (r ∷ records) = record { number = n; event = r; held = held
 abbrev pub events : List Record → List Event
 events records = events_from 1 [] records
 
--- a Region or a Barrier orders what is before it and what is after it
-abbrev pub is_ordering : Kind → Bool
-is_ordering Region = true
-is_ordering Barrier = true
-is_ordering _ = false
-
 abbrev pub is_access : Kind → Bool
 is_access Read = true
 is_access Write = true

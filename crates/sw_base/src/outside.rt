@@ -73,6 +73,7 @@ pub trait Log: Drop + Send + Sized + 'static {
         ensures done { OnOk result (text self.new ≡ option_map (with_piece piece.now) (text self.old)) }
         ensures refused { OnErr result (TearsPiece (text self.old) (text self.new) piece.now) }
         ensures memory { IsErrOf result Trouble.Memory → text self.new ≡ text self.old }
+        ensures memory_faults { IsErrOf result Trouble.Memory → faults self.new ≡ faults self.old }
 
         ensures same_dir { dir self.new ≡ dir self.old }
         ensures same_path { path self.new ≡ path self.old }

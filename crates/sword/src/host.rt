@@ -47,6 +47,7 @@ impl Gate for OpenGate {
 fn trouble(error: Error, faults: &mut u64) -> Trouble
     ensures later { faults.old ≤ faults.new }
     ensures rose { result ≡ trouble.Failed → Rose faults.old faults.new }
+    ensures memory { result ≡ trouble.Memory → faults.new ≡ faults.old }
 {
     if error.kind() == ErrorKind::OutOfMemory {
         return Trouble::Memory;

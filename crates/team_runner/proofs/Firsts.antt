@@ -17,7 +17,7 @@ use Rattle.kernel_syntax.proofs.Equations.{stmt_code-Set, stmt_code-Store, stmt_
 use Rattle.kernel_syntax.specs.declared.syntax.Schedule.TheVariants.{Even, Static, Dynamic}
 use Rattle.kernel_syntax.specs.Bounds.{IsBoundedCode, IsBoundedSchedule}
 use Rattle.kernel_syntax.specs.FirstKind.{AreStores, IsStatic, IsOneLoop, IsOneRegion}
-use Rattle.kernel_model.proofs.FirstKindFolder.{first_team}
+use Rattle.kernel_model.specs.FirstTeam.{first_team}
 use Rattle.team_runner.specs.Ready.{HasChunks, IsChunked}
 
 pub loop_is_there : (stmts : List Stmt) → IsOneLoop (code_of stmts) → 0 < length stmts

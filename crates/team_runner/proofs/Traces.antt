@@ -7,7 +7,8 @@ use Rattle.kernel_syntax.specs.Program.{Program}
 use Rattle.kernel_syntax.specs.Tree.{Code, Parallel}
 use Rattle.kernel_model.specs.Folder.{IsTracedTo, IsTraced}
 use Rattle.kernel_model.specs.Trace.{Start, Ending, Ended}
-use Rattle.kernel_model.proofs.FirstKindFolder.{first_team, first_lane, first_lanes}
+use Rattle.kernel_model.specs.FirstTeam.{first_team}
+use Rattle.kernel_model.proofs.FirstKindFolder.{first_lane, first_lanes}
 use Rattle.team_runner.specs.declared.lane.Lane.{Lane}
 use Rattle.team_runner.specs.Answer.{Logged, whole_log}
 use Rattle.team_runner.specs.Lane.{HasTrace}

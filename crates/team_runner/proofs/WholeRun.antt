@@ -19,7 +19,8 @@ use Rattle.kernel_model.specs.State.{event}
 use Rattle.kernel_model.specs.Folder.{IsTraced}
 use Rattle.kernel_model.specs.Iterations.{below}
 use Rattle.kernel_model.specs.Trace.{Ending, Ended, Stopped}
-use Rattle.kernel_model.proofs.FirstKindFolder.{first_team, first_lane, first_root, first_tasks, first_kind_folder, first_starts}
+use Rattle.kernel_model.specs.FirstTeam.{first_team}
+use Rattle.kernel_model.proofs.FirstKindFolder.{first_lane, first_root, first_tasks, first_kind_folder, first_starts}
 use Rattle.team_runner.specs.declared.lane.Lane.{Lane}
 use Rattle.team_runner.specs.declared.stop.Stop.{Stop}
 use Rattle.team_runner.specs.declared.stop.Stop.TheVariants.{DivZero, Index, LogFull}

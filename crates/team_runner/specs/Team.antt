@@ -12,7 +12,7 @@ use Rattle.kernel_syntax.specs.Tree.{TeamTree}
 use Rattle.kernel_syntax.specs.Program.{Program}
 use Rattle.kernel_model.specs.State.{event}
 use Rattle.kernel_model.specs.Trace.{Start}
-use Rattle.kernel_model.proofs.FirstKindFolder.{first_team}
+use Rattle.kernel_model.specs.FirstTeam.{first_team}
 use Rattle.team_runner.specs.declared.lane.Lane.{Lane}
 use Rattle.team_runner.specs.declared.team.Halt.{Halt}
 use Rattle.team_runner.specs.declared.stop.Stop.TheVariants as stop

@@ -15,7 +15,7 @@ ghost use Rattle.team_runner.specs.Written.{Adds, HasFault, Keeps};
 ghost use Rattle.team_runner.specs.declared.stop.Stop.TheVariants as stop;
 ghost use Rattle.sw_base.specs.declared.trouble.Trouble.TheVariants as trouble;
 ghost use Rattle.sw_base.specs.Environment.{WhereTold, empty_text};
-ghost use Rattle.kernel_model.proofs.FirstKindFolder.{first_team};
+ghost use Rattle.kernel_model.specs.FirstTeam.{first_team};
 
 use crate::lane::{Lane, event, parted};
 use crate::recorder::Recorder;

@@ -240,6 +240,7 @@ impl Folder for MemFolder {
         ensures no_memory { IsErrOf result Trouble.Memory → ⊥ }
         ensures counts_call { calls_of self.new ≡ next_count (calls_of self.old) }
         ensures counts_fault { IsErrOf result Trouble.Failed → read_faults_of self.new ≡ next_count (read_faults_of self.old) }
+        ensures no_fault { (IsErrOf result Trouble.Failed → ⊥) → read_faults_of self.new ≡ read_faults_of self.old }
         ensures none_to_fail { failing_of self.old ≡ [] → read_faults_of self.new ≡ read_faults_of self.old }
         ensures same_failing { failing_of self.new ≡ failing_of self.old }
         ensures same_plans { plans_of self.new ≡ plans_of self.old }
@@ -268,6 +269,7 @@ impl Folder for MemFolder {
         ensures no_memory { IsErrOf result Trouble.Memory → ⊥ }
         ensures counts_call { calls_of self.new ≡ next_count (calls_of self.old) }
         ensures counts_fault { IsErrOf result Trouble.Failed → read_faults_of self.new ≡ next_count (read_faults_of self.old) }
+        ensures no_fault { (IsErrOf result Trouble.Failed → ⊥) → read_faults_of self.new ≡ read_faults_of self.old }
         ensures none_to_fail { failing_of self.old ≡ [] → read_faults_of self.new ≡ read_faults_of self.old }
         ensures same_failing { failing_of self.new ≡ failing_of self.old }
         ensures same_plans { plans_of self.new ≡ plans_of self.old }
@@ -292,6 +294,7 @@ impl Folder for MemFolder {
         ensures fails { IsErrOf result Trouble.Failed ↔ IsNextToFail self.old }
         ensures counts_call { calls_of self.new ≡ next_count (calls_of self.old) }
         ensures counts_fault { IsErrOf result Trouble.Failed → write_faults_of self.new ≡ next_count (write_faults_of self.old) }
+        ensures no_fault { (IsErrOf result Trouble.Failed → ⊥) → write_faults_of self.new ≡ write_faults_of self.old }
         ensures none_to_fail { failing_of self.old ≡ [] → write_faults_of self.new ≡ write_faults_of self.old }
         ensures same_failing { failing_of self.new ≡ failing_of self.old }
         ensures same_plans { plans_of self.new ≡ plans_of self.old }
@@ -319,6 +322,7 @@ impl Folder for MemFolder {
         ensures fails { IsErrOf result Trouble.Failed ↔ IsNextToFail self.old }
         ensures counts_call { calls_of self.new ≡ next_count (calls_of self.old) }
         ensures counts_fault { IsErrOf result Trouble.Failed → write_faults_of self.new ≡ next_count (write_faults_of self.old) }
+        ensures no_fault { (IsErrOf result Trouble.Failed → ⊥) → write_faults_of self.new ≡ write_faults_of self.old }
         ensures none_to_fail { failing_of self.old ≡ [] → write_faults_of self.new ≡ write_faults_of self.old }
         ensures same_failing { failing_of self.new ≡ failing_of self.old }
         ensures same_plans { plans_of self.new ≡ plans_of self.old }
@@ -344,6 +348,7 @@ impl Folder for MemFolder {
 
         ensures fails { IsErrAnd result (λ error. error.0 ≡ Trouble.Failed) ↔ IsNextToFail self.old }
         ensures counts_call { calls_of self.new ≡ next_count (calls_of self.old) }
+        ensures no_fault { (IsErrAnd result (λ error. error.0 ≡ Trouble.Failed) → ⊥) → faults_of log ≡ 0 → write_faults_of self.new ≡ write_faults_of self.old }
         ensures none_to_fail { failing_of self.old ≡ [] → faults_of log ≡ 0 → write_faults_of self.new ≡ write_faults_of self.old }
         ensures same_failing { failing_of self.new ≡ failing_of self.old }
         ensures same_plans { plans_of self.new ≡ plans_of self.old }

@@ -170,6 +170,7 @@ impl Log for MemLog {
         ensures fails { IsErrOf result Trouble.Failed ↔ IsNextToFail self.old }
         ensures counts_call { calls_of self.new ≡ next_count (calls_of self.old) }
         ensures counts_fault { IsErrOf result Trouble.Failed → faults_of self.new ≡ next_count (faults_of self.old) }
+        ensures no_fault { (IsErrOf result Trouble.Failed → ⊥) → faults_of self.new ≡ faults_of self.old }
         ensures none_to_fail { failing_of self.old ≡ [] → faults_of self.new ≡ faults_of self.old }
         ensures same_failing { failing_of self.new ≡ failing_of self.old }
         ensures same_plans { plans_of self.new ≡ plans_of self.old }
@@ -187,6 +188,7 @@ impl Log for MemLog {
         ensures done { OnOk result (text_of self.new ≡ option_map (with_piece piece.now) (text_of self.old)) }
         ensures refused { OnErr result (TearsPiece (text_of self.old) (text_of self.new) piece.now) }
         ensures memory { IsErrOf result Trouble.Memory → text_of self.new ≡ text_of self.old }
+        ensures memory_faults { IsErrOf result Trouble.Memory → faults_of self.new ≡ faults_of self.old }
 
         ensures same_dir { dir_of self.new ≡ dir_of self.old }
         ensures same_path { path_of self.new ≡ path_of self.old }
@@ -195,6 +197,7 @@ impl Log for MemLog {
         ensures fails { IsErrOf result Trouble.Failed ↔ IsNextToFail self.old }
         ensures counts_call { calls_of self.new ≡ next_count (calls_of self.old) }
         ensures counts_fault { IsErrOf result Trouble.Failed → faults_of self.new ≡ next_count (faults_of self.old) }
+        ensures no_fault { (IsErrOf result Trouble.Failed → ⊥) → faults_of self.new ≡ faults_of self.old }
         ensures none_to_fail { failing_of self.old ≡ [] → faults_of self.new ≡ faults_of self.old }
         ensures same_failing { failing_of self.new ≡ failing_of self.old }
         ensures same_plans { plans_of self.new ≡ plans_of self.old }

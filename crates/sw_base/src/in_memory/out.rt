@@ -66,6 +66,7 @@ impl Out for MemOut {
         ensures fails { IsErrOf result Trouble.Failed ↔ IsNextToFail self.old }
         ensures counts_call { calls_of self.new ≡ next_count (calls_of self.old) }
         ensures counts_fault { IsErrOf result Trouble.Failed → faults_of self.new ≡ next_count (faults_of self.old) }
+        ensures no_fault { (IsErrOf result Trouble.Failed → ⊥) → faults_of self.new ≡ faults_of self.old }
         ensures none_to_fail { failing_of self.old ≡ [] → faults_of self.new ≡ faults_of self.old }
         ensures same_failing { failing_of self.new ≡ failing_of self.old }
     {

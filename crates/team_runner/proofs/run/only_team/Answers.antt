@@ -3,7 +3,7 @@ use Rattle.kernel_syntax.specs.declared.syntax.Stmt.{Stmt}
 use Rattle.kernel_syntax.specs.FirstKind.{IsOneRegion}
 use Rattle.kernel_syntax.specs.Program.{code_of}
 use Rattle.kernel_syntax.proofs.Equations.{stmt_code-Parallel}
-use Rattle.kernel_model.proofs.FirstKindFolder.{first_team}
+use Rattle.kernel_model.specs.FirstTeam.{first_team}
 use Rattle.team_runner.proofs.Firsts.{team_only}
 use Rattle.team_runner.proofs.run.only_team.Goals as goal
 
