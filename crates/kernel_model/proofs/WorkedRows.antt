@@ -1,7 +1,7 @@
 -- Traces of whole tasks, computed by the definitions, against the records that are worked out by hand.
 use Rattle.std.proofs.Common.{◌≡◌, refl, ℕ, ◌+◌, ◌-◌, ◌^◌, Bool, true, false, List, [], ◌∷◌, ◌++◌, pos, Some, None, Option}
 use Rattle.kernel_syntax.specs.declared.syntax.Array.{Array}
-use Rattle.kernel_syntax.specs.declared.syntax.Op.TheVariants.{Add, Sub, Div}
+use Rattle.kernel_syntax.specs.declared.syntax.Op.TheVariants.{Add, Sub, Div, Eq}
 use Rattle.kernel_syntax.specs.declared.syntax.Schedule.TheVariants.{Even, Static, Dynamic}
 use Rattle.kernel_syntax.specs.Arithmetic.{wrapped}
 use Rattle.kernel_syntax.specs.Layout.{laid}
@@ -14,6 +14,7 @@ use Rattle.sw_base.specs.declared.path.Step.{Step}
 use Rattle.race_model.specs.Trace.{logs_of}
 use Rattle.kernel_model.specs.State.{DivZero, Index, LogFull, Gives, Stops, put, event}
 use Rattle.kernel_model.specs.Value.{value, read}
+use Rattle.kernel_model.specs.Iterations.{even_iterations}
 use Rattle.kernel_model.specs.Trace.{Start, TaskTrace, Ended, Stopped, Wanting, run, draw, draws, task, trace}
 use Rattle.kernel_model.specs.Folder.{own_trace, root_start, start_at}
 
@@ -278,3 +279,60 @@ pub full_draw : (draws 3 6 3 (λ q s. Gives tt s) (record { slots = []; records 
     ≡ Stops LogFull 6 (record { slots = []; records = []; forks = []; room = 0; reads = []; chunks = [] })
 unfolding draw
 full_draw = refl
+
+-- eight iterations for three lanes
+pub even_rows : even_iterations 8 0 3 ∷ even_iterations 8 1 3 ∷ even_iterations 8 2 3 ∷ [] ≡ (0 ∷ 1 ∷ 2 ∷ []) ∷ (3 ∷ 4 ∷ 5 ∷ []) ∷ (6 ∷ 7 ∷ []) ∷ []
+even_rows = refl
+
+-- array a i64 8 / main { parallel 2 { / if tid == 1 { / let k = 8 / a[k] = 1 / } / } }: lane 0 ends at once, lane 1 stops
+abbrev branching : TeamTree
+branching = record {
+  span = 2;
+  line = 2;
+  end = 7;
+  body =
+      tree.If (tree.Binary Eq 3 tree.Tid (tree.Number (pos 1)))
+      (tree.Set 0 (tree.Number (pos 8)) (tree.Store 0 (tree.Slot 0) (tree.Number (pos 1)) 5 0 Done)) Done Done;
+}
+
+abbrev branching_trace : ℕ → TaskTrace
+branching_trace lane = trace (program 8 2 7 (tree.Parallel 2 2 7 branching.body Done)) (lane_of branching lane) [] []
+
+pub branching_lane-0 : branching_trace 0 ≡ whole (event End 7 0 0 ∷ [])
+unfolding run value put read draw task wrapped
+branching_lane-0 = refl
+
+pub branching_lane-1 : branching_trace 1 ≡ record { records = []; forks = []; end = Stopped Index 5 }
+unfolding run value put read draw task wrapped
+branching_lane-1 = refl
+
+-- if tid == 0 { parallel 2 { / a[tid] = 1 } } / barrier / if tid == 1 { a[1] = 2 }, in lines 3 to 6 of a team of two
+abbrev inner_body : Code
+inner_body = tree.Store 0 tree.Tid (tree.Number (pos 1)) 4 0 Done
+
+abbrev nesting : TeamTree
+nesting = record {
+  span = 2;
+  line = 2;
+  end = 7;
+  body =
+      tree.If (tree.Binary Eq 3 tree.Tid (tree.Number (pos 0))) (tree.Parallel 2 3 4 inner_body Done) Done
+      (tree.Barrier 5
+      (tree.If (tree.Binary Eq 6 tree.Tid (tree.Number (pos 1))) (tree.Store 0 (tree.Number (pos 1)) (tree.Number (pos 2)) 6 1 Done) Done Done));
+}
+
+abbrev nesting_trace : ℕ → TaskTrace
+nesting_trace lane = trace (program 4 2 7 (tree.Parallel 2 2 7 nesting.body Done)) (lane_of nesting lane) [] []
+
+pub nesting_lane-0 : nesting_trace 0
+    ≡ record {
+      records = event Region 3 0 2 ∷ event Barrier 5 0 0 ∷ event End 7 0 0 ∷ [];
+      forks = record { team = record { span = 2; line = 3; end = 4; body = inner_body }; slots = pos 0 ∷ [] } ∷ [];
+      end = Ended;
+    }
+unfolding run value put read draw task wrapped
+nesting_lane-0 = refl
+
+pub nesting_lane-1 : nesting_trace 1 ≡ whole (event Barrier 5 0 0 ∷ write_of 1 6 4104 2 ∷ event End 7 0 0 ∷ [])
+unfolding run value put read draw task wrapped
+nesting_lane-1 = refl

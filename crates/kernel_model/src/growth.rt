@@ -1,3 +1,4 @@
+//! Laws of a task's parts: they only add records.
 ghost use Rattle.std.specs.Prelude.{ℤ, List, ℕ};
 ghost use Rattle.kernel_syntax.specs.Tree.{Term, Code};
 ghost use Rattle.kernel_syntax.specs.Program.{Program};

@@ -27,7 +27,7 @@ pub number_too_large : tokens_from 1 0 (codes "9223372036854775808") ≡ Err 1
 unfolding tokens_from lexeme_at
 number_too_large = refl
 
--- ---- rules: an array `a` is declared in line 1, `main` and the region begin in line 2 and end in line 8 and 9
+-- ---- rules: an array `a` is declared in line 1, `main` and the region begin in line 2, the region ends in line 8, and `main` in 9
 
 abbrev pub an_array : Declaration
 an_array = ArrayOf 1 1 (codes "a") 1 (codes "i64") 1 (pos 8)

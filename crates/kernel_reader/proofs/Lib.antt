@@ -16,3 +16,4 @@ pub mod Lines
 pub mod Bounded
 pub mod Kernels
 pub mod Examples
+pub mod Texts

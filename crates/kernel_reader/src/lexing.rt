@@ -9,8 +9,11 @@ use crate::token::{Lexeme, Sign, Token, Word};
 use kernel_syntax::Name;
 use std::alloc::Global;
 
+/// How many bytes a text may have.
+const MOST_BYTES: usize = 65_536;
+
 /// The greatest number.
-const MOST: u64 = 9223372036854775807;
+const MOST_VALUE: u64 = 9_223_372_036_854_775_807;
 
 fn is_white(byte: u8) -> bool
     ensures { result ≡ is_white byte }
@@ -153,11 +156,11 @@ fn value_of(digits: &[u8]) -> Option<i64>
 {
     let mut value = 0;
     for digit in digits {
-        if value > MOST / 10 {
+        if value > MOST_VALUE / 10 {
             return None;
         }
         value = 10 * value + u64::from(*digit - b'0');
-        if value > MOST {
+        if value > MOST_VALUE {
             return None;
         }
     }
@@ -243,7 +246,7 @@ pub fn tokens(alloc: Global, text: &[u8]) -> Result<Vec<Token>, TextFault>
     ensures found { IfOk result (λ found. tokens_of text.now ≡ Ok found.items) }
     ensures fault { IfErr result (λ fault. Tells fault (tokens_of text.now)) }
 {
-    if text.len() > 65536 {
+    if text.len() > MOST_BYTES {
         return Err(TextFault::Refused {
             line: 1,
             why: KernelWhy::Large,

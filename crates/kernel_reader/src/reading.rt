@@ -25,6 +25,9 @@ const MOST_ARRAYS: usize = 64;
 /// How many elements the arrays may have in all.
 const MOST_ELEMENTS: u32 = 1_048_576;
 
+/// How many iterations a chunk may have.
+const MOST_ITERATIONS: u32 = 1_048_576;
+
 /// How many lanes a region may have.
 const MOST_LANES: u32 = 64;
 
@@ -227,7 +230,7 @@ fn schedule_at(tokens: &[Token]) -> Option<(Schedule, &[Token])>
     let Some((value, after)) = number_at(rest) else {
         return Some((Schedule::Even, rest));
     };
-    let chunk = counted(value, MOST_ELEMENTS)?;
+    let chunk = counted(value, MOST_ITERATIONS)?;
     Some((Schedule::Static(chunk), after))
 }
 

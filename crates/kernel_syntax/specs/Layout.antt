@@ -32,7 +32,7 @@ pub record IsPlaced (words : ℕ) (a : Array) : Type 0 where
   pub inside : a.first + a.count ≤ words
   pub ends : a.base + a.count * a.width ≤ 2 ^ 48
 
--- all arrays, in a table of at most 2 ^ 31 numbers
+-- all arrays, in a table of fewer than 2 ^ 31 numbers
 pub record ArePlaced (arrays : List Array) (words : ℕ) : Type 0 where
   pub few : words < 2 ^ 31
   pub each : (k : ℕ) (a : Array) → slice_get arrays k ≡ Some a → IsPlaced words a

@@ -2,6 +2,7 @@
 
 use crate::{RecordWhy, TaskRecords, WalkFault, read_trace, walk};
 use race_model::IndexWhy;
+use span_label::Triple;
 use std::alloc::{AllocError, Global};
 use std::test::Fail;
 use sw_base::{INDEX_HEADER, LOG_HEADER, MemFolder, Memory, Path};
@@ -167,6 +168,64 @@ fn a_good_folder_is_read_and_walked(rt: HostRuntime) -> Result<(), Fail> {
     assert_eq!(rt; found.len(), 2);
     assert_eq!(rt; (found[1].first, found[1].last), (1, 3));
     assert_eq!(rt; found[1].accesses.len(), 1);
+    assert_eq!(rt; found[1].accesses[0].held.ids(), [1].as_slice());
+    Ok(())
+}
+
+// A row of a lane below lane 0 of the root's region, both of teams of two.
+fn nested_row(lane: u8, records: u32) -> [u8; 48] {
+    let mut bytes = row(2, 0, 2, records);
+    bytes[21] = lane;
+    bytes[23] = 2;
+    bytes
+}
+
+fn triple(offset: u64, span: u16, barrier: u32) -> Triple {
+    Triple {
+        offset,
+        span,
+        barrier,
+    }
+}
+
+#[test]
+fn segments_have_the_labels_of_their_tasks(rt: HostRuntime) -> Result<(), Fail> {
+    let alloc = rt.alloc();
+    let barrier = other(BARRIER, 5, 0, 0);
+    let end = other(END, 9, 0, 0);
+    let rows = [
+        row(0, 0, 0, 2),
+        row(1, 0, 2, 3),
+        nested_row(0, 2),
+        nested_row(1, 2),
+        row(1, 1, 2, 3),
+    ];
+    let mut bytes = Vec::from_slice(alloc, &INDEX_HEADER)?;
+    for row in &rows {
+        bytes.extend_from_slice(row)?;
+    }
+    let mut folder = MemFolder::new(alloc)?;
+    folder.hold("d/index.swi", &bytes)?;
+    folder.hold("d/t.swl", &log(alloc, &root())?)?;
+    let forks = [other(REGION, 3, 0, 2), barrier, end];
+    folder.hold("d/t-0.0.swl", &log(alloc, &forks)?)?;
+    folder.hold("d/t-0.0-0.0.swl", &log(alloc, &[write(4096), end])?)?;
+    folder.hold("d/t-0.0-0.1.swl", &log(alloc, &[write(4104), end])?)?;
+    let after = [barrier, write(4104), end];
+    folder.hold("d/t-0.1.swl", &log(alloc, &after)?)?;
+    let Ok(found) = walk(alloc, &mut folder, "d") else {
+        return Err(Fail::new("refused"));
+    };
+    assert_eq!(rt; found.len(), 3);
+    assert_eq!(rt;
+        found[1].label.triples(),
+        [triple(0, 1, 0), triple(0, 2, 0), triple(1, 2, 0)].as_slice()
+    );
+    assert_eq!(rt;
+        found[2].label.triples(),
+        [triple(0, 1, 0), triple(1, 2, 1)].as_slice()
+    );
+    assert_eq!(rt; (found[2].first, found[2].last), (2, 3));
     Ok(())
 }
 
