@@ -4,9 +4,10 @@
 //! is too large, that is no UTF-8, or that has a character, a number or a name that is no token.
 //! `read_kernel` answers the kernel of a text where it is of the first kind (one region of one
 //! statically scheduled loop of stores, without a mutex), and `NotBuilt` exactly where the text has
-//! no such kernel. Each number of a kernel that is read is within the bounds that the rules set. What
-//! the kernel of a text is, or why and where the whole language refuses a text, is defined in `specs/`;
-//! kernels of the first kind and the bounds are defined in `kernel_syntax`.
+//! no such kernel. Of a kernel that is read the sizes, lines, sites, spans, chunks and mutexes are
+//! within the bounds that the rules set. What the kernel of a text is, or why and where the whole
+//! language refuses a text, is defined in `specs/`; kernels of the first kind and the bounds are
+//! defined in `kernel_syntax`.
 #![tactic(auto)]
 
 mod binding;

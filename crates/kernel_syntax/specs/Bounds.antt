@@ -1,4 +1,5 @@
--- The bounds that the rules of the language set to the numbers of a kernel. Each kernel that is read keeps them.
+-- The bounds that the rules of the language set to sizes, lines, sites, spans, chunks and mutexes. Each kernel that is read keeps
+-- them.
 use Rattle.std.specs.Prelude.{◌≡◌, ℕ, ◌^◌, ◌<◌, ◌≤◌, All}
 use Rattle.kernel_syntax.specs.declared.syntax.Schedule.{Schedule}
 use Rattle.kernel_syntax.specs.declared.syntax.Schedule.TheVariants.{Even, Static, Dynamic}
@@ -51,7 +52,7 @@ IsBoundedCode (tree.For slot from to schedule nowait line end body rest) =
 IsBoundedCode (tree.Barrier line rest) = IsLine line × IsBoundedCode rest
 IsBoundedCode (tree.Critical mutex line end body rest) = (mutex ≤ 63) × IsLine line × IsLine end × IsBoundedCode body × IsBoundedCode rest
 
--- the arrays are within the limits and laid out, and each number of `main` is within its bounds
+-- the arrays are within the limits and laid out, and these numbers of `main` are within their bounds
 pub record IsBounded (program : Program) : Type 0 where
   pub limits : IsWithinLimits program.arrays
   pub widths : All (λ a. IsWidth a.width) program.arrays

@@ -1,4 +1,4 @@
-//! The accesses of a barrier interval, and later their summary as strided runs.
+//! The accesses of a barrier interval.
 //!
 //! An access is one read or write of memory with the mutexes that were held. A copy is the same access.
 #![tactic(auto)]

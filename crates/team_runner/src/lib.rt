@@ -1,6 +1,7 @@
 //! Runs a kernel: its root, and the lanes of its one team, one after another over one table of numbers.
 //!
-//! Each task's records go to a log of its own through a buffer of a given size.
+//! `run_kernel` answers the logs of the kernel's tasks, each with the task's whole trace under the values that it read, in pieces that
+//! fill a buffer of a given size; or the stop of the least lane that stopped.
 #![tactic(auto)]
 
 mod element;
