@@ -1,7 +1,8 @@
 -- What a run of a kernel of the first kind answers, by what its root and its lanes did.
-use Rattle.std.proofs.Common.{◌≡◌, ◌≢◌, refl, ap, sym, ◌∙◌, subst, ℕ, suc, ◌+◌, ◌<◌, ◌≤◌, List, [], ◌∷◌, length, map, get_or, Option, None, Err, All, Contains, ◌⊎◌, inl, inr, arith}
+use Rattle.std.proofs.Common.{◌≡◌, ◌≢◌, refl, ap, sym, ◌∙◌, subst, ℕ, suc, ◌+◌, ◌<◌, ◌≤◌, List, [], ◌∷◌, length, map, take, get_or, Option, None, Err, All, Contains, ◌⊎◌, inl, inr, arith}
 use Rattle.std.specs.Prelude.{is_some}
 use Rattle.std.specs.Option.{option_map}
+use Rattle.std.proofs.lemmas.List.FromFn.{take-map-range_with_len}
 use Rattle.std.proofs.lemmas.List.{get_or-map, get_or_default, length-map}
 use Rattle.std.proofs.lemmas.List.Elements.{All-cons, All-map}
 use Rattle.sw_base.specs.declared.path.Step.{Step}
@@ -26,7 +27,7 @@ use Rattle.team_runner.specs.declared.stop.Stop.{Stop}
 use Rattle.team_runner.specs.declared.stop.Stop.TheVariants.{DivZero, Index, LogFull}
 use Rattle.team_runner.specs.declared.stop.Stop.TheVariants as stop
 use Rattle.team_runner.specs.declared.team.Halt.{Halt}
-use Rattle.team_runner.specs.Answer.{Logged, IsOwnLog, HasRun, HasTask, HasStoppedRun, HasFaulty, whole_outline, whole_log, lane_path, task_paths}
+use Rattle.team_runner.specs.Answer.{Logged, AreFirst, IsOwnLog, HasRun, HasTask, HasStoppedRun, HasFaulty, whole_outline, whole_log, lane_path, task_paths}
 use Rattle.team_runner.specs.Lane.{HasTrace, EndsTask, IsFresh, ending_of}
 use Rattle.team_runner.specs.Ready.{IsReady, IsBufferSize}
 use Rattle.team_runner.specs.Stops.{StopsSo, Finishes}
@@ -74,20 +75,28 @@ cause_after Q halt result (inl same) cause failed = subst (λ (h : Halt). h.why 
 cause_after Q halt result (inr memory) cause failed =
     let other : stop.Trouble trouble.Memory ≡ stop.Trouble trouble.Failed = sym memory ∙ failed in absurd (cc)
 
+-- the root's log alone is the first
+pub first_root_log : {X : Type 0} (program : Program) (root : Written) (lanes : List (Lane X)) → lanes ≡ [] → AreFirst program (map logged (all_logs root lanes))
+first_root_log program root lanes none = rw none refl
+
 -- a lane that did nothing
 same_lane : {X : Type 0} (lane : Lane X) → KeepsLane lane lane
 same_lane lane = record { lane = refl; span = refl; log = record { dir = refl; path = refl; size = refl; tells = refl } }
 
 module _ {X : Type 0} (program : Program) (root : Written) (size : ℕ) (team : TeamTree) (olds : List (Lane X)) (team_is : team ≡ first_team program.main.body)
-    (forked : EachAt (IsForked root team.span program.slots size) olds) where
+    (forked : EachAt (IsForked root team.span program.slots size) olds) (few : length olds ≤ team.span) where
   -- they were forked for the kernel's team
   forked_so : EachAt (IsForked root (span_of program) program.slots size) olds
   forked_so = subst (λ (t : TeamTree). EachAt (IsForked root t.span program.slots size) olds) team_is forked
+
+  few_so : length olds ≤ span_of program
+  few_so = subst (λ (t : TeamTree). length olds ≤ t.span) team_is few
 
   -- the team before its lanes run
   pub fresh_team : HasTeam program root size olds
   fresh_team = record {
     forked = olds;
+    few = few_so;
     are_forked = forked_so;
     same_length = refl;
     same = λ k d e lt. subst (KeepsLane (get_or olds k d)) (get_or_default olds k d e lt) (same_lane (get_or olds k d));
@@ -105,6 +114,7 @@ module _ {X : Type 0} (program : Program) (root : Written) (size : ℕ) (team : 
     ran_team : HasTeam program root size left
     ran_team = record {
       forked = olds;
+      few = few_so;
       are_forked = forked_so;
       same_length = same_length ∙ ap length taken_is;
       same = subst (λ ls. PairsBelow (length ls) KeepsLane ls left) taken_is same;
@@ -150,6 +160,19 @@ module _ {X : Type 0} (program : Program) (root : Written) (size : ℕ) (at_root
       All-cons (λ h. IsOwnLog root.dir (is_some root.text) (logged h)) (handed [] now) (map (λ lane. handed (path_of lane) lane.recorder) news)
       (record { dir_is = keeps.dir; path_is = keeps.path ∙ at_root; tells_so = tells_mapped _ now.text ∙ keeps.tells })
       (All-map (λ h. IsOwnLog root.dir (is_some root.text) (logged h)) (λ (lane : Lane X). handed (path_of lane) lane.recorder) news own_at)
+
+  -- the logs are those of the first tasks
+  pub first_logs : (now : Written) → AreFirst program (map logged (all_logs now news))
+  first_logs now =
+      let lane_log = λ (lane : Lane X). handed (path_of lane) lane.recorder in
+      let span_is = region_span_is program.main.body in
+      let few : length news ≤ region_span program.main.body = omega (arith, team.few, team.same_length) in
+      let count : length (map logged (map lane_log news)) ≡ length news = length-map (map lane_log news) logged ∙ length-map news lane_log in
+      ap (λ (paths : List (List Step)). [] ∷ paths)
+      (lane_paths program root size at_root 0 news (λ l e lt. path_at l e lt ∙ ap (λ n. lane_step n (span_of program) ∷ []) (omega arith))
+      ∙ ap (λ n. map (λ l. lane_step l n ∷ []) (below (length news))) (sym span_is)
+      ∙ sym (take-map-range_with_len (lane_path program) 0 (region_span program.main.body) (length news) few)
+      ∙ ap (λ n. take n (map (lane_path program) (below (region_span program.main.body)))) (sym count))
 
   -- what is seen of a lane's log stands among what is seen of all logs
   lane_seen : {B : Type 0} (f : Handed → B) (now : Written) (k : ℕ) (e : Lane X) (b : B) → k < length news →

@@ -1,5 +1,5 @@
 -- What `run_kernel` answers.
-use Rattle.std.specs.Prelude.{◌≡◌, ℕ, ◌<◌, List, [], ◌∷◌, length, map, Option, Some, is_some, Bool, Contains}
+use Rattle.std.specs.Prelude.{◌≡◌, ℕ, ◌<◌, List, [], ◌∷◌, length, map, take, Option, Some, is_some, Bool, Contains}
 use Rattle.std.specs.Option.{option_map}
 use Rattle.sw_base.specs.declared.path.Step.{Step}
 use Rattle.sw_base.specs.declared.path.TheConstants.{LOG_HEADER}
@@ -27,6 +27,10 @@ pub record Logged : Type 0 where
   pub path : List Step
   pub told : Option (List ℕ × List ℕ)
   pub count : ℕ
+
+-- the same of a log beside its task and its number of records, by what is seen of a log
+abbrev pub logged_entry : {L : Type 0} → (L → List ℕ) → (L → List Step) → (L → Option Text) → List Step × L × ℕ → Logged
+logged_entry dir path text entry = record { task = entry.0; dir = dir entry.1; path = path entry.1; told = outline (text entry.1); count = entry.2 }
 
 -- the bytes of a whole log and the lengths of its pieces, from a buffer of this size
 abbrev pub whole_outline : ℕ → List Record → List ℕ × List ℕ
@@ -60,6 +64,10 @@ lane_path program lane = record { region = 0; lane = lane; span = region_span pr
 -- the root and the lanes of the one region, in the order of their paths
 abbrev pub task_paths : Program → List (List Step)
 task_paths program = [] ∷ map (lane_path program) (below (region_span program.main.body))
+
+-- the logs are those of the first tasks, in the order of their paths
+abbrev pub AreFirst : Program → List Logged → Type 0
+AreFirst program logs = map (λ (log : Logged). log.task) logs ≡ take (length logs) (task_paths program)
 
 -- the task that the kernel forks at this path has a log of its trace, which ends so
 pub record HasTask (program : Program) (HasLog : TaskLog → Type 0) (path : List Step) (ending : Ending) : Type 0 where

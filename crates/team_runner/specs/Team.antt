@@ -1,5 +1,5 @@
 -- The tasks of a run: its root, and the lanes of its one team.
-use Rattle.std.specs.Prelude.{◌≡◌, ◌≢◌, ℕ, ◌<◌, List, [], ◌∷◌, ◌++◌, length, map, replicate, pos, Option, Some, None, Ok, Err, slice_index_or, ◌⊎◌, Bool, true, All, Contains}
+use Rattle.std.specs.Prelude.{◌≡◌, ◌≢◌, ℕ, ◌<◌, ◌≤◌, List, [], ◌∷◌, ◌++◌, length, map, replicate, pos, Option, Some, None, Ok, Err, slice_index_or, ◌⊎◌, Bool, true, All, Contains}
 use Rattle.std.specs.Option.{option_map}
 use Rattle.sw_base.specs.declared.path.Step.{Step}
 use Rattle.sw_base.specs.declared.path.TheConstants.{LOG_HEADER}
@@ -97,6 +97,7 @@ AllRan arrays team olds news n (Some halt) = IsFirstStop arrays team olds news n
 -- the lanes of the kernel's team, as many as were forked from this root, whatever they put since
 pub record HasTeam {X : Type 0} (program : Program) (root : Written) (size : ℕ) (lanes : List (Lane X)) : Type 0 where
   pub forked : List (Lane X)
+  pub few : length forked ≤ (first_team program.main.body).span
   pub are_forked : EachAt (IsForked root (first_team program.main.body).span program.slots size) forked
   pub same_length : length lanes ≡ length forked
   pub same : PairsBelow (length forked) KeepsLane forked lanes

@@ -1,12 +1,12 @@
 //! A whole run.
-ghost use Rattle.std.specs.Prelude.{◌≡◌, ◌≢◌, ◌⊎◌, ◌<◌, [], ◌∷◌, ◌++◌, length, map, replicate, is_some, All, Contains, IfOk, IfErr, OnOk, Ok, Err, true, false};
+ghost use Rattle.std.specs.Prelude.{◌≡◌, ◌≢◌, ◌⊎◌, ◌<◌, ◌≤◌, [], ◌∷◌, ◌++◌, length, map, replicate, is_some, All, Contains, IfOk, IfErr, OnOk, Ok, Err, true, false};
 ghost use Rattle.log_format.specs.declared.record.Kind.TheVariants as kind;
 ghost use Rattle.kernel_syntax.specs.FirstKind.{IsOneRegion};
 ghost use Rattle.kernel_syntax.specs.Layout.{ArePlaced, elements};
 ghost use Rattle.kernel_syntax.specs.Program.{program_of, team_of};
 ghost use Rattle.kernel_model.specs.State.{event};
 ghost use Rattle.kernel_model.specs.Trace.{log_limit};
-ghost use Rattle.team_runner.specs.Answer.{outline, HasRun, HasStoppedRun, IsOwnLog, HasFaulty};
+ghost use Rattle.team_runner.specs.Answer.{AreFirst, HasRun, HasStoppedRun, IsOwnLog, HasFaulty, logged_entry};
 ghost use Rattle.team_runner.specs.Lane.{IsFresh};
 ghost use Rattle.team_runner.specs.Ready.{IsBufferSize, IsReady};
 ghost use Rattle.team_runner.specs.Stops.{StopsSo};
@@ -95,6 +95,7 @@ impl<L: Log> Run<L> {
         ensures words { self.new.words ≡ self.old.words }
         ensures same { Keeps self.old.root self.new.root }
         ensures forked { EachAt (IsForked self.old.root team.now.span slots size) self.new.lanes.items }
+        ensures few { length self.new.lanes.items ≤ team.now.span }
         ensures all { OnOk result (length self.new.lanes.items ≡ team.now.span) }
         ensures put { OnOk result (HasPut self.old.root self.new.root (event kind.Region team.now.line 0 team.now.span ∷ [])) }
         ensures fault { IfErr result (λ trouble. HasFault trouble self.new.root) }
@@ -191,6 +192,8 @@ impl<L: Log> Run<L> {
             (map logged (all_logs self.new.root self.new.lanes.items))) }
         ensures stopped { IfErr result (λ halt. StopsSo (HasStoppedRun (program_of kernel.now) self.old.root.dir size self.old.root.text
             (map logged (all_logs self.new.root self.new.lanes.items)) halt.path) halt.why) }
+        ensures kept { (self.new.words ≡ self.old.words) ⊎ (length self.new.words.items ≡ elements kernel.now.arrays) }
+        ensures first { AreFirst (program_of kernel.now) (map logged (all_logs self.new.root self.new.lanes.items)) }
         ensures own { All (λ h. IsOwnLog self.old.root.dir (is_some self.old.root.text) (logged h)) (all_logs self.new.root self.new.lanes.items) }
         ensures cause { IfErr result (λ halt. halt.why ≡ stop.Trouble trouble.Failed →
             HasFaulty (map faulty (all_logs self.new.root self.new.lanes.items)) halt.path) }
@@ -289,16 +292,19 @@ pub fn run_kernel<R, L: Log, G: Gate>(
 
     // A run that ended: the logs are those of the kernel's tasks, each with its whole trace under what it read, cut into pieces
     // that fill the buffer; and each element has a value.
-    ensures finished { IfOk result (λ f. HasRun (program_of kernel.now) (L.dir root) size (L.text root) (map
-        (λ e. record { task = e.0; dir = L.dir e.1; path = L.path e.1; told = outline (L.text e.1); count = e.2 }) f.logs.items)) }
+    ensures finished { IfOk result (λ f. HasRun (program_of kernel.now) (L.dir root) size (L.text root) (map (logged_entry L.dir L.path L.text) f.logs.items)) }
     ensures values { IfOk result (λ f. length f.words.items ≡ elements kernel.now.arrays) }
 
     // A stop of the kernel is that of the least lane that stopped, whose log has its whole trace up to the stop.
-    ensures stopped { IfErr result (λ s. StopsSo (HasStoppedRun (program_of kernel.now) (L.dir root) size (L.text root) (map
-        (λ e. record { task = e.0; dir = L.dir e.1; path = L.path e.1; told = outline (L.text e.1); count = e.2 }) s.logs.items) s.path) s.why) }
-    ensures own_logs { IfErr result (λ s. All (λ e. IsOwnLog (L.dir root) (is_some (L.text root))
-        (record { task = e.0; dir = L.dir e.1; path = L.path e.1; told = outline (L.text e.1); count = e.2 })) s.logs.items) }
+    ensures stopped { IfErr result (λ s. StopsSo
+        (HasStoppedRun (program_of kernel.now) (L.dir root) size (L.text root) (map (logged_entry L.dir L.path L.text) s.logs.items) s.path) s.why) }
+
+    // Whatever the stop, each log is its task's. Where memory was found they are those of the first tasks, in order, and each element
+    // has a value; else there may be no values.
+    ensures own_logs { IfErr result (λ s. All (λ e. IsOwnLog (L.dir root) (is_some (L.text root)) (logged_entry L.dir L.path L.text e)) s.logs.items) }
+    ensures left_logs { IfErr result (λ s. (s.why ≢ stop.Trouble trouble.Memory) → AreFirst (program_of kernel.now) (map (logged_entry L.dir L.path L.text) s.logs.items)) }
     ensures left { IfErr result (λ s. (s.why ≢ stop.Trouble trouble.Memory) → length s.words.items ≡ elements kernel.now.arrays) }
+    ensures left_none { IfErr result (λ s. (s.words.items ≡ []) ⊎ (length s.words.items ≡ elements kernel.now.arrays)) }
 
     // A failure has its cause: a log of the task that is named counts a fault.
     ensures cause { IfErr result (λ s. s.why ≡ stop.Trouble trouble.Failed → HasFaulty (map (λ e. (e.0, L.faults e.1)) s.logs.items) s.path) }

@@ -1,5 +1,5 @@
 //! The lanes of a team.
-ghost use Rattle.std.specs.Prelude.{◌≡◌, ◌↔◌, [], length, All, OnOk, IfOk, IfErr, IsTrue};
+ghost use Rattle.std.specs.Prelude.{◌≡◌, ◌≤◌, ◌↔◌, [], length, All, OnOk, IfOk, IfErr, IsTrue};
 ghost use Rattle.kernel_syntax.specs.FirstKind.{IsOneLoop};
 ghost use Rattle.kernel_syntax.specs.Program.{team_of};
 ghost use Rattle.kernel_syntax.specs.Layout.{ArePlaced};
@@ -88,6 +88,7 @@ pub fn fork<L: Log>(
     requires root { root.old.path ≡ [] }
     requires none { lanes.old.items ≡ [] }
     ensures forked { EachAt (IsForked root.old span slots size) lanes.new.items }
+    ensures few { length lanes.new.items ≤ span }
     ensures all { OnOk result (length lanes.new.items ≡ span) }
     ensures same { root.new ≡ record root.old { faults = root.new.faults } }
     ensures fault { IfErr result (λ trouble. HasFault trouble root.new) }

@@ -6,7 +6,7 @@ use Rattle.kernel_syntax.specs.Program.{program_of}
 use Rattle.team_runner.specs.declared.run.Stopped.{Stopped}
 use Rattle.team_runner.specs.declared.stop.Stop.TheVariants as stop
 use Rattle.team_runner.specs.declared.team.Halt.{Halt}
-use Rattle.team_runner.specs.Answer.{HasRun, HasStoppedRun, HasFaulty, IsOwnLog, outline}
+use Rattle.team_runner.specs.Answer.{AreFirst, HasRun, HasStoppedRun, HasFaulty, IsOwnLog, outline}
 use Rattle.team_runner.specs.Stops.{StopsSo}
 use Rattle.team_runner.specs.Team.{Handed, all_logs, entry, logged, faulty}
 use Rattle.team_runner.specs.Written.{Written}
@@ -55,3 +55,14 @@ returns-clause-cause g c =
     (λ s. s.why ≡ stop.Trouble trouble.Failed → HasFaulty (map (λ e. (e.0, g.L.Log.faults e.1)) s.logs.items) s.path)
     c.answer.ensures.stopped c.execute-outcome.ensures.cause c.answer.ensures.left_logs
     (λ s cause logs. caused_entries g.L.Log.dir g.L.Log.path g.L.Log.text g.L.Log.faults all s.logs.items s.path s.why cause logs)
+
+pub returns-clause-left_logs : goal.returns-clause-left_logs
+returns-clause-left_logs g c =
+    let program = program_of c.args.kernel.now in
+    let all = (all_logs c.execute-outcome.new.self.root c.execute-outcome.new.self.lanes.items) in
+    IfErr-weaker c.answer.result (λ s. s.why ≢ stop.Trouble trouble.Memory → map (entry g.L.Log.dir g.L.Log.path g.L.Log.text g.L.Log.faults) s.logs.items ≡ all)
+    (λ s. s.why ≢ stop.Trouble trouble.Memory → AreFirst program
+    (map (λ e. record { task = e.0; dir = g.L.Log.dir e.1; path = g.L.Log.path e.1; told = outline (g.L.Log.text e.1); count = e.2 }) s.logs.items))
+    (λ s logs other.
+    subst (AreFirst program) (sym (ap (map logged) (logs other)) ∙ logged_entries g.L.Log.dir g.L.Log.path g.L.Log.text g.L.Log.faults s.logs.items) c.execute-outcome.ensures.first)
+    c.answer.ensures.left_logs

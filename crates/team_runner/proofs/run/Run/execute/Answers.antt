@@ -8,7 +8,7 @@ use Rattle.std.proofs.lemmas.Result.{err_from_is_err_and}
 use Rattle.team_runner.specs.Answer.{HasStoppedRun, HasFaulty}
 use Rattle.team_runner.specs.Team.{HasTeam, HasRunTeam, all_logs, logged, faulty}
 use Rattle.team_runner.proofs.Putting.{keeps_chain}
-use Rattle.team_runner.proofs.WholeRun.{own_logs, lane_cause, root_cause, stopped_run, finished_run, stops_after, cause_after}
+use Rattle.team_runner.proofs.WholeRun.{own_logs, first_logs, first_root_log, lane_cause, root_cause, stopped_run, finished_run, stops_after, cause_after}
 use Rattle.team_runner.proofs.run.Run.execute.Goals as goal
 
 pub table-requires : goal.table-requires
@@ -26,6 +26,11 @@ returns-in_err-team-clause-own g c =
     let team = c.in_err-team.ensures.lanes in
     own_logs (program_of c.args.kernel.now) c.args.self.now.root c.args.size c.requires.root c.team.new.self.lanes.items team c.team.new.self.root c.in_err-team.ensures.same
 
+pub returns-in_err-team-clause-first : goal.returns-in_err-team-clause-first
+returns-in_err-team-clause-first g c =
+    let team = c.in_err-team.ensures.lanes in
+    first_logs (program_of c.args.kernel.now) c.args.self.now.root c.args.size c.requires.root c.team.new.self.lanes.items team c.team.new.self.root
+
 pub returns-in_err-team-clause-cause : goal.returns-in_err-team-clause-cause
 returns-in_err-team-clause-cause g c =
     let p = err_from_is_err_and c.from_residual-in_err-team.result c.from_residual-in_err-team.ensures.1 in
@@ -36,6 +41,11 @@ pub returns-in_err-end-in-None-clause-own : goal.returns-in_err-end-in-None-clau
 returns-in_err-end-in-None-clause-own g c =
     let team = subst (λ lanes. HasTeam (program_of c.args.kernel.now) c.args.self.now.root c.args.size lanes.items) (sym c.end.ensures.lanes) c.in_ok-team.ensures.lanes in
     own_logs (program_of c.args.kernel.now) c.args.self.now.root c.args.size c.requires.root c.end.new.self.lanes.items team c.end.new.self.root (keeps_chain c.args.self.now.root c.team.new.self.root c.end.new.self.root c.in_ok-team.ensures.same c.end.ensures.same)
+
+pub returns-in_err-end-in-None-clause-first : goal.returns-in_err-end-in-None-clause-first
+returns-in_err-end-in-None-clause-first g c =
+    let team = subst (λ lanes. HasTeam (program_of c.args.kernel.now) c.args.self.now.root c.args.size lanes.items) (sym c.end.ensures.lanes) c.in_ok-team.ensures.lanes in
+    first_logs (program_of c.args.kernel.now) c.args.self.now.root c.args.size c.requires.root c.end.new.self.lanes.items team c.end.new.self.root
 
 pub returns-in_err-end-in-None-clause-cause : goal.returns-in_err-end-in-None-clause-cause
 returns-in_err-end-in-None-clause-cause g c =
@@ -56,6 +66,11 @@ returns-in_ok-end-in-None-clause-own g c =
     let team = subst (λ lanes. HasTeam (program_of c.args.kernel.now) c.args.self.now.root c.args.size lanes.items) (sym c.end.ensures.lanes) c.in_ok-team.ensures.lanes in
     own_logs (program_of c.args.kernel.now) c.args.self.now.root c.args.size c.requires.root c.end.new.self.lanes.items team c.end.new.self.root (keeps_chain c.args.self.now.root c.team.new.self.root c.end.new.self.root c.in_ok-team.ensures.same c.end.ensures.same)
 
+pub returns-in_ok-end-in-None-clause-first : goal.returns-in_ok-end-in-None-clause-first
+returns-in_ok-end-in-None-clause-first g c =
+    let team = subst (λ lanes. HasTeam (program_of c.args.kernel.now) c.args.self.now.root c.args.size lanes.items) (sym c.end.ensures.lanes) c.in_ok-team.ensures.lanes in
+    first_logs (program_of c.args.kernel.now) c.args.self.now.root c.args.size c.requires.root c.end.new.self.lanes.items team c.end.new.self.root
+
 pub returns-in-Some-clause-stopped : goal.returns-in-Some-clause-stopped
 returns-in-Some-clause-stopped g c =
     let left = subst (λ outcome. HasRunTeam (program_of c.args.kernel.now) c.args.self.now.root c.args.size c.team.new.self.lanes.items outcome) c.in-Some.is c.in_ok-team.ensures.ran in
@@ -68,6 +83,11 @@ pub returns-in-Some-clause-own : goal.returns-in-Some-clause-own
 returns-in-Some-clause-own g c =
     let team = subst (λ lanes. HasTeam (program_of c.args.kernel.now) c.args.self.now.root c.args.size lanes.items) (sym c.stop.ensures.lanes) c.in_ok-team.ensures.lanes in
     own_logs (program_of c.args.kernel.now) c.args.self.now.root c.args.size c.requires.root c.stop.new.self.lanes.items team c.stop.new.self.root (keeps_chain c.args.self.now.root c.team.new.self.root c.stop.new.self.root c.in_ok-team.ensures.same c.stop.ensures.same)
+
+pub returns-in-Some-clause-first : goal.returns-in-Some-clause-first
+returns-in-Some-clause-first g c =
+    let team = subst (λ lanes. HasTeam (program_of c.args.kernel.now) c.args.self.now.root c.args.size lanes.items) (sym c.stop.ensures.lanes) c.in_ok-team.ensures.lanes in
+    first_logs (program_of c.args.kernel.now) c.args.self.now.root c.args.size c.requires.root c.stop.new.self.lanes.items team c.stop.new.self.root
 
 pub returns-in-Some-clause-cause : goal.returns-in-Some-clause-cause
 returns-in-Some-clause-cause g c =

@@ -10,7 +10,7 @@ use Rattle.team_runner.proofs.run.Run.team.Goals as goal
 
 pub returns-in_err-fork-clause-lanes : goal.returns-in_err-fork-clause-lanes
 returns-in_err-fork-clause-lanes g c =
-    fresh_team (program_of c.args.kernel.now) c.args.self.now.root c.args.size (team_of c.only_team-team.result.now) c.fork.new.self.lanes.items c.only_team-team.ensures c.in_err-fork.ensures.forked
+    fresh_team (program_of c.args.kernel.now) c.args.self.now.root c.args.size (team_of c.only_team-team.result.now) c.fork.new.self.lanes.items c.only_team-team.ensures c.in_err-fork.ensures.forked c.in_err-fork.ensures.few
 
 pub run_lanes-requires-clause-one : goal.run_lanes-requires-clause-one
 run_lanes-requires-clause-one g c = λ κs given.
@@ -24,13 +24,13 @@ run_lanes-requires-clause-chunked g c = λ κs given.
 
 pub run_lanes-requires-clause-lanes : goal.run_lanes-requires-clause-lanes
 run_lanes-requires-clause-lanes g c = λ κs given.
-    all_fresh (program_of c.args.kernel.now) c.args.self.now.root c.args.size (team_of c.only_team-team.result.now) c.fork.new.self.lanes.items c.only_team-team.ensures c.in_ok-fork.ensures.forked
+    all_fresh (program_of c.args.kernel.now) c.args.self.now.root c.args.size (team_of c.only_team-team.result.now) c.fork.new.self.lanes.items c.only_team-team.ensures c.in_ok-fork.ensures.forked c.in_ok-fork.ensures.few
     c.deref_mut-2.result.now c.deref_mut-2.ensures.value c.requires.root c.in_ok-fork.ensures.all c.requires.size
 
 pub returns-clause-ran : goal.returns-clause-ran
 returns-clause-ran g c =
     let length_is : length c.run_lanes.new.lanes ≡ c.fork.new.self.lanes.len = omega (arith, c.run_lanes.auto.lanes, c.deref_mut-2.ensures.len) in
-    has_run_team (program_of c.args.kernel.now) c.args.self.now.root c.args.size (team_of c.only_team-team.result.now) c.fork.new.self.lanes.items c.only_team-team.ensures c.in_ok-fork.ensures.forked
+    has_run_team (program_of c.args.kernel.now) c.args.self.now.root c.args.size (team_of c.only_team-team.result.now) c.fork.new.self.lanes.items c.only_team-team.ensures c.in_ok-fork.ensures.forked c.in_ok-fork.ensures.few
     c.deref_mut-2.result.now c.run_lanes.new.lanes c.deref_mut-2.ensures.value c.run_lanes.auto.lanes c.run_lanes.ensures.same c.as_slice.result.now c.run_lanes.result _
     c.in_ok-fork.ensures.all c.as_slice.ensures c.run_lanes.ensures.ran (with_items_is c.fork.new.self.lanes c.run_lanes.new.lanes length_is)
 
