@@ -1,7 +1,7 @@
 //! The logs of a run are sealed and their index is written, or they are given up.
 ghost use Rattle.std.specs.Prelude.{◌≡◌, ◌⊎◌, ◌≤◌, List, map, is_some, IfOk, OnOk, OnErr, IsErrOf};
 ghost use Rattle.std.specs.Option.{option_map};
-ghost use Rattle.sw_base.specs.Environment.{WhereTold, Rose, HasCause, LeavesFront, with_log};
+ghost use Rattle.sw_base.specs.Environment.{WhereTold, Rose, HasCause, TakesFaults, LeavesFront, with_log};
 ghost use Rattle.sw_base.specs.Names.{log_name};
 ghost use Rattle.sw_base.specs.declared.path.Step.{Step};
 ghost use Rattle.race_model.specs.IndexFault.{AreRows};
@@ -20,6 +20,7 @@ fn seal_one<F: Folder>(alloc: Global, place: &mut F, log: F::Log) -> Result<(), 
     ensures refused { OnErr result (WhereTold (F.Log.text log) (λ text.
         LeavesFront (F.content place.old) (F.content place.new) (log_name (F.Log.dir log) (F.Log.path log)) text.bytes)) }
     ensures tells { is_some (F.content place.new) ≡ is_some (F.content place.old) }
+    ensures log_faults { TakesFaults (F.Log.faults log) (F.write_faults place.old) (F.write_faults place.new) }
     ensures cause { HasCause (F.write_faults place.old) (F.write_faults place.new) result }
 {
     match place.seal(alloc, log) {
@@ -44,7 +45,7 @@ fn seal_next<F: Folder>(
         LeavesFront (F.content place.old) (F.content place.new) (log_name (F.Log.dir log) (F.Log.path log)) text.bytes))) }
     ensures given_up { OnErr so_far ((result ≡ so_far) × (F.content place.new ≡ F.content place.old)) }
     ensures tells { is_some (F.content place.new) ≡ is_some (F.content place.old) }
-    ensures later { F.write_faults place.old ≤ F.write_faults place.new }
+    ensures log_faults { TakesFaults (F.Log.faults log) (F.write_faults place.old) (F.write_faults place.new) }
     ensures cause { IsErrOf result Trouble.Failed → IsErrOf so_far Trouble.Failed ⊎ Rose (F.write_faults place.old) (F.write_faults place.new) }
 {
     match so_far {
@@ -64,6 +65,8 @@ pub fn seal_all<F: Folder>(
 ) -> Result<(), Trouble>
     ensures seals { SealsAll (all_logged F.Log.dir F.Log.path F.Log.text logs.items) result (F.content place.old) (F.content place.new) }
     ensures tells { is_some (F.content place.new) ≡ is_some (F.content place.old) }
+    ensures faulty { (path : List Step) → HasFaulty (map (λ e. (e.0, F.Log.faults e.1)) logs.items) path
+        → Rose (F.write_faults place.old) (F.write_faults place.new) }
     ensures cause { HasCause (F.write_faults place.old) (F.write_faults place.new) result }
 {
     let mut outcome = Ok(());
@@ -111,6 +114,8 @@ pub fn store<F: Folder>(
     ensures stored { OnOk result (StoresAll dir.now (all_logged F.Log.dir F.Log.path F.Log.text logs.items) (F.content place.old) (F.content place.new)) }
     ensures refused { OnErr result (StoresFront dir.now (all_logged F.Log.dir F.Log.path F.Log.text logs.items) (F.content place.old) (F.content place.new)) }
     ensures tells { is_some (F.content place.new) ≡ is_some (F.content place.old) }
+    ensures faulty { (path : List Step) → HasFaulty (map (λ e. (e.0, F.Log.faults e.1)) logs.items) path
+        → Rose (F.write_faults place.old) (F.write_faults place.new) }
     ensures cause { HasCause (F.write_faults place.old) (F.write_faults place.new) result }
 {
     let Ok(rows) = index_rows(alloc, &logs) else {

@@ -1,4 +1,4 @@
-use Rattle.std.proofs.Common.{◌≡◌, sym}
+use Rattle.std.proofs.Common.{◌≡◌, arith, sym}
 use Rattle.std.proofs.lemmas.Result.{err_from_is_err_and}
 use Rattle.log_index.specs.Rows.{rows_of}
 use Rattle.sword.specs.Seals.{all_logged, rows_of_logs}
@@ -28,3 +28,11 @@ returns-clause-stored g c =
     let logs = all_logged g.F.Log.Log.dir g.F.Log.Log.path g.F.Log.Log.text c.args.logs.items in
     let rows : rows_of c.deref-2.result.now ≡ rows_of_logs logs = rw (c.deref-2.ensures.value, c.in-Ok.ensures, c.deref.ensures.value) (sym (rows-logged g.F.Log.Log.dir g.F.Log.Log.path g.F.Log.Log.text c.args.logs.items)) in
     stores_all c.args.dir.now logs _ (g.F.Folder.content c.seal_all.new.place) _ c.in_ok-seal_all.ensures.seals (rw rows at c.in_ok-write_index.ensures.done)
+
+pub returns-in_err-write_index-clause-faulty : goal.returns-in_err-write_index-clause-faulty
+returns-in_err-write_index-clause-faulty g c = λ path has.
+    let rose = c.seal_all.ensures.faulty path has in let cause = c.write_index.ensures.cause in omega arith
+
+pub returns-clause-faulty : goal.returns-clause-faulty
+returns-clause-faulty g c = λ path has.
+    let rose = c.seal_all.ensures.faulty path has in let cause = c.write_index.ensures.cause in omega arith
