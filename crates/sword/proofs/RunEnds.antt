@@ -24,7 +24,7 @@ use Rattle.kernel_model.specs.Trace.{Ended, Ending, Stopped}
 use Rattle.team_runner.specs.declared.stop.Stop.{Stop}
 use Rattle.team_runner.specs.declared.stop.Stop.TheVariants.{DivZero, Index, LogFull}
 use Rattle.team_runner.specs.declared.stop.Stop.TheVariants as stop
-use Rattle.team_runner.specs.Answer.{HasRun, HasStop, HasStoppedRun, HasTask, IsOwnLog, IsRun, Logged, whole_log}
+use Rattle.team_runner.specs.Answer.{HasRun, HasStop, HasStoppedRun, HasTask, IsOwnLog, IsRun, Logged, whole_log, logged_entry}
 use Rattle.team_runner.specs.Stops.{StopsSo}
 use Rattle.sword.specs.declared.status.TheConstants.{DONE, KERNEL_STOPPED, NO_MEMORY}
 use Rattle.sword.specs.Answer.{IsFailure, Prints, Tries, silent}
@@ -32,7 +32,7 @@ use Rattle.sword.specs.Ends.{EndDue, EndLeaves, EndsSo, index, logs, ran, stop_o
 use Rattle.sword.specs.Run.{AreStopped, Ran, SealedLog, StoppedRun, ended, sealed_log, with_sealed}
 use Rattle.sword.specs.Run as kinds
 use Rattle.sword.specs.RunTexts.{run_text, stopped_text}
-use Rattle.sword.specs.Seals.{AllTell, SealsAll, StoresAll, StoresFront, StoresPart, all_logged, all_sealed, front, logged, part, row_of_entry, rows_of_logs, sealed_of, tasks_of, with_index}
+use Rattle.sword.specs.Seals.{AllTell, SealsAll, StoresAll, StoresFront, StoresPart, all_logged, all_sealed, front, part, row_of_entry, rows_of_logs, sealed_of, tasks_of, with_index}
 use Rattle.sword.proofs.Answering.{Tries-from_prints}
 use Rattle.sword.proofs.RunFolder.{left_by, run_well_formed}
 use Rattle.sword.proofs.StoredRun.{rows-logged}
@@ -139,11 +139,11 @@ module _ (program : Program) (first : IsFirstKind program) (dir : List ℕ) (siz
 
 -- the logs tell what they hold where the root's does
 pub all_tell : {L : Type 0} (dir_of : L → List ℕ) (path_of : L → List Step) (text_of : L → Option Text) (entries : List (List Step × L × ℕ)) (dir of_root : List ℕ) (told : Option Text) (root : Text)
-    → of_root ≡ dir → told ≡ Some root → All (λ entry. IsOwnLog of_root (is_some told) (logged dir_of path_of text_of entry)) entries → AllTell dir (all_logged dir_of path_of text_of entries)
+    → of_root ≡ dir → told ≡ Some root → All (λ entry. IsOwnLog of_root (is_some told) (logged_entry dir_of path_of text_of entry)) entries → AllTell dir (all_logged dir_of path_of text_of entries)
 all_tell dir_of path_of text_of entries dir of_root told root dir_is told_is own =
-    All-map (IsOwnLog dir true) (logged dir_of path_of text_of) entries
-    (subst (λ (d : List ℕ). All (λ entry. IsOwnLog d true (logged dir_of path_of text_of entry)) entries) dir_is
-    (subst (λ (t : Option Text). All (λ entry. IsOwnLog of_root (is_some t) (logged dir_of path_of text_of entry)) entries) told_is own))
+    All-map (IsOwnLog dir true) (logged_entry dir_of path_of text_of) entries
+    (subst (λ (d : List ℕ). All (λ entry. IsOwnLog d true (logged_entry dir_of path_of text_of entry)) entries) dir_is
+    (subst (λ (t : Option Text). All (λ entry. IsOwnLog of_root (is_some t) (logged_entry dir_of path_of text_of entry)) entries) told_is own))
 
 -- the kernel's own stop
 pub told_stop : (P : model.Stop → ℕ → Type 0) (why : Stop) (kind : model.Stop) (line : ℕ) → stop_of why ≡ Some (kind, line) → StopsSo P why → P kind line

@@ -7,9 +7,9 @@ use Rattle.sw_base.specs.declared.path.Step.{Step}
 use Rattle.sw_base.specs.declared.trouble.Trouble.{Trouble}
 use Rattle.sw_base.specs.Environment.{Content, LeavesFront, Text, WhereTold, with_log, with_put}
 use Rattle.sw_base.specs.Names.{log_name}
-use Rattle.team_runner.specs.Answer.{HasFaulty, IsOwnLog, Logged, outline}
+use Rattle.team_runner.specs.Answer.{HasFaulty, IsOwnLog, Logged, outline, logged_entry}
 use Rattle.sword.specs.Run.{SealedLog, SealsFront, between, torn, with_sealed}
-use Rattle.sword.specs.Seals.{Seals, SealsAll, Tells, all_logged, all_sealed, logged, sealed_of}
+use Rattle.sword.specs.Seals.{Seals, SealsAll, Tells, all_logged, all_sealed, sealed_of}
 
 -- a folder after one log was sealed
 abbrev pub with_one : List ℕ → SealedLog → Content → Content
@@ -124,8 +124,8 @@ pub seals_all_push : {L : Type 0} (dir_of : L → List ℕ) (path_of : L → Lis
     → OnOk so_far (OnErr r (WhereTold (text_of log) (λ t. LeavesFront mid new (log_name (dir_of log) (path_of log)) t.bytes)))
     → OnErr so_far ((r ≡ so_far) × (new ≡ mid)) → SealsAll (all_logged dir_of path_of text_of (entries ++ (path, log, count) ∷ [])) r old new
 seals_all_push dir_of path_of text_of entries path log count so_far r old mid new before done refused given_up =
-    subst (λ (logs : List Logged). SealsAll logs r old new) (sym (map-append (logged dir_of path_of text_of) entries ((path, log, count) ∷ [])))
-    (seals_all_next (all_logged dir_of path_of text_of entries) (logged dir_of path_of text_of (path, log, count)) (text_of log) so_far r old mid new refl before done refused given_up)
+    subst (λ (logs : List Logged). SealsAll logs r old new) (sym (map-append (logged_entry dir_of path_of text_of) entries ((path, log, count) ∷ [])))
+    (seals_all_next (all_logged dir_of path_of text_of entries) (logged_entry dir_of path_of text_of (path, log, count)) (text_of log) so_far r old mid new refl before done refused given_up)
 
 -- ---- faults of logs
 

@@ -7,14 +7,14 @@ use Rattle.sw_base.specs.declared.trouble.Trouble.{Trouble}
 use Rattle.sw_base.specs.Environment.{Content, LeavesFront, Text, with_put}
 use Rattle.sw_base.specs.Names.{index_name}
 use Rattle.race_model.specs.Row.{index_bytes}
-use Rattle.team_runner.specs.Answer.{Logged}
+use Rattle.team_runner.specs.Answer.{Logged, logged_entry}
 use Rattle.sword.specs.Run.{between}
-use Rattle.sword.specs.Seals.{SealsAll, StoresAll, StoresFront, StoresPart, Tells, all_logged, all_sealed, front, logged, part, row_of_entry, rows_of_logs, with_index}
+use Rattle.sword.specs.Seals.{SealsAll, StoresAll, StoresFront, StoresPart, Tells, all_logged, all_sealed, front, part, row_of_entry, rows_of_logs, with_index}
 
 -- the rows of a run's logs
 pub rows-logged : {L : Type 0} (dir_of : L → List ℕ) (path_of : L → List Step) (text_of : L → Option Text) (entries : List (List Step × L × ℕ)) →
     rows_of_logs (all_logged dir_of path_of text_of entries) ≡ map row_of_entry entries
-rows-logged dir_of path_of text_of entries = map-map (λ (log : Logged). record { path = log.task; records = log.count }) (logged dir_of path_of text_of) entries
+rows-logged dir_of path_of text_of entries = map-map (λ (log : Logged). record { path = log.task; records = log.count }) (logged_entry dir_of path_of text_of) entries
 
 -- no log was sealed
 pub stores_none : (dir : List ℕ) (logs : List Logged) (old new : Option Content) → new ≡ old → StoresFront dir logs old new

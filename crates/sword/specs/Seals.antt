@@ -5,21 +5,12 @@ use Rattle.sw_base.specs.declared.trouble.Trouble.{Trouble}
 use Rattle.sw_base.specs.Environment.{Content, Text, with_put}
 use Rattle.sw_base.specs.Names.{index_name}
 use Rattle.race_model.specs.Row.{Row, index_bytes}
-use Rattle.team_runner.specs.Answer.{Logged, IsOwnLog, outline}
+use Rattle.team_runner.specs.Answer.{IsOwnLog, Logged, logged_entry}
 use Rattle.sword.specs.Run.{SealedLog, SealsFront, with_sealed}
 
--- a log of a run, beside its task and its number of records, as it is answered
-abbrev pub logged : {L : Type 0} → (L → List ℕ) → (L → List Step) → (L → Option Text) → List Step × L × ℕ → Logged
-logged dir_of path_of text_of entry = record {
-  task = entry.0;
-  dir = dir_of entry.1;
-  path = path_of entry.1;
-  told = outline (text_of entry.1);
-  count = entry.2;
-}
-
+-- the logs of a run, each beside its task and its number of records, as they are answered
 abbrev pub all_logged : {L : Type 0} → (L → List ℕ) → (L → List Step) → (L → Option Text) → List (List Step × L × ℕ) → List Logged
-all_logged dir_of path_of text_of entries = map (logged dir_of path_of text_of) entries
+all_logged dir_of path_of text_of entries = map (logged_entry dir_of path_of text_of) entries
 
 -- a log as it is sealed: its bytes and the lengths of its pieces, as it tells them
 abbrev pub sealed_of : Logged → SealedLog
