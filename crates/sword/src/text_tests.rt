@@ -48,9 +48,9 @@ fn a_log_that_is_cut_is_named(rt: HostRuntime) -> Result<(), Fail> {
         ("d/t-0.1.swl", &[(0, 1, 2)], ten),
     ];
     let mut place = folder(alloc, tasks)?;
-    let whole = place.file("d/t-0.1.swl").ok_or("a log")?.to_vec(alloc)?;
-    assert!(rt; whole.len() > 162);
-    place.hold("d/t-0.1.swl", &whole[..162])?;
+    let mut log = place.file("d/t-0.1.swl").ok_or("a log")?.to_vec(alloc)?;
+    log.truncate(162);
+    place.hold("d/t-0.1.swl", &log)?;
     answers(
         &rt,
         alloc,
