@@ -14,7 +14,7 @@ made kind value = record { kind = kind; size = 0; site = 0; line = 1; addr = 0; 
 abbrev step : ℕ → ℕ → ℕ → Step
 step region lane span = record { region = region; lane = lane; span = span }
 
-abbrev triple : ℕ → ℕ → ℕ → Triple
+abbrev pub triple : ℕ → ℕ → ℕ → Triple
 triple offset span barrier = record { offset = offset; span = span; barrier = barrier }
 
 abbrev write_and_end : List Record
@@ -44,7 +44,7 @@ outer_label =
 pub barrier_orders : IsLabelBefore (triple 0 1 0 ∷ triple 0 2 0 ∷ triple 1 2 0 ∷ []) (triple 0 1 0 ∷ triple 1 2 1 ∷ [])
 barrier_orders = IsLabelBefore.same _ _ _ (IsLabelBefore.differ _ _ _ _ (λ e. cc) (record { same_span = refl; earlier = inl (omega arith) }))
 
-not_across : (n m b : ℕ) → n < 2 → m < 2 → (n ≡ m → ⊥) → (xs ys : List Triple) → IsLabelBefore (triple 0 1 0 ∷ triple n 2 b ∷ xs) (triple 0 1 0 ∷ triple m 2 b ∷ ys) → ⊥
+pub not_across : (n m b : ℕ) → n < 2 → m < 2 → (n ≡ m → ⊥) → (xs ys : List Triple) → IsLabelBefore (triple 0 1 0 ∷ triple n 2 b ∷ xs) (triple 0 1 0 ∷ triple m 2 b ∷ ys) → ⊥
 not_across n m b n_lane m_lane apart xs ys before =
     at (label_before_first _ _ xs ys (λ e. apart (ap (λ (t : Triple). t.offset) e)) (label_before_rest _ _ _ _ refl before)).earlier
   where

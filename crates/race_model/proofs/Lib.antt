@@ -24,7 +24,9 @@ pub mod LogFaults
 pub mod LogOnce
 pub mod LogReading
 pub mod Parting
+pub mod PlaceVectors
 pub mod ProgramOrder
+pub mod RaceVectors
 pub mod RowSpelling
 pub mod SegmentVectors
 pub mod TraceLogs
