@@ -290,6 +290,66 @@ fn open_and_deep_locks_and_wrong_counts_are_told(rt: HostRuntime) -> Result<(), 
 }
 
 #[test]
+fn of_two_broken_rules_the_first_is_told(rt: HostRuntime) -> Result<(), Fail> {
+    let alloc = rt.alloc();
+    let [lock, access, unlock, barrier, end] = lane(4104);
+    let table = [
+        ([lock, end, unlock, barrier, end], 2, RecordWhy::EndEarly),
+        (
+            [lock, access, access, access, lock],
+            5,
+            RecordWhy::EndMissing,
+        ),
+        (
+            [lock, access, access, access, barrier],
+            5,
+            RecordWhy::EndMissing,
+        ),
+    ];
+    for (second, number, why) in table {
+        assert_eq!(rt; lane_1(alloc, 5, &second)?, Told::Record(2, number, why));
+    }
+
+    let mut twice = Vec::new(alloc);
+    for mutex in 1..9 {
+        twice.push(other(LOCK, 2, mutex, 0))?;
+    }
+    twice.push(lock)?;
+    twice.push(end)?;
+    assert_eq!(rt;
+        lane_1(alloc, 10, &twice)?,
+        Told::Record(2, 9, RecordWhy::LockTwice)
+    );
+
+    let open = root_and_lane_0(alloc, &[lock, end], &lane(4096), &lane(4104))?;
+    assert_eq!(rt; open, Told::Record(0, 2, RecordWhy::LockOpen));
+    let root = [lock, barrier, end];
+    let mut folder = folder(alloc, [3, 5, 5], &root, &lane(4096), &lane(4104))?;
+    assert_eq!(rt;
+        answer_of(read_trace(alloc, &mut folder, "d")),
+        Told::Record(0, 2, RecordWhy::RootBarrier)
+    );
+    Ok(())
+}
+
+#[test]
+fn a_region_that_is_not_forked_comes_before_too_few_barriers(rt: HostRuntime) -> Result<(), Fail> {
+    let alloc = rt.alloc();
+    let end = other(END, 9, 0, 0);
+    let mut below = row(2, 1, 2, 1);
+    below[23] = 1;
+    let mut bytes = index(alloc, 2, [2, 5, 1])?;
+    bytes.extend_from_slice(&below)?;
+    let mut folder = folder(alloc, [2, 5, 1], &root(), &lane(4096), &[end])?;
+    folder.hold("d/index.swi", &bytes)?;
+    assert_eq!(rt;
+        answer_of(read_trace(alloc, &mut folder, "d")),
+        Told::Record(2, 1, RecordWhy::RegionRows)
+    );
+    Ok(())
+}
+
+#[test]
 fn a_cut_or_long_log_is_told(rt: HostRuntime) -> Result<(), Fail> {
     let alloc = rt.alloc();
     let mut bytes = log(alloc, &lane(4104))?;
