@@ -17,9 +17,8 @@ use Rattle.race_model.proofs.FolderForkJoin.{fork_join, paths_same, row_all}
 use Rattle.race_model.proofs.LabelPlace.{has_last, HasLast, not_both_empty}
 use Rattle.race_model.proofs.ListedOnce.{NextShape, next_shape, next_path, first_path, logs_at}
 use Rattle.std.proofs.lemmas.List.Elements.{All-contains, Contains-push}
-use Rattle.log_segment.specs.Stack.{HasForks, IsStack, Reached}
 use Rattle.log_segment.specs.Walking.{AreForks, IsOwnAfter}
-use Rattle.log_segment.proofs.Stacks.{Fork, fork_there, lane_first, root_first}
+use Rattle.log_segment.proofs.Stacks.{HasForks, IsStack, Reached, Fork, fork_there, lane_first, root_first}
 
 take_whole : {X : Type 0} (xs : List X) → take (length xs) xs ≡ xs
 take_whole [] = refl

@@ -19,8 +19,21 @@ use Rattle.race_model.proofs.FolderRules.{parted}
 use Rattle.log_segment.specs.declared.segment.Segment.{Segment}
 use Rattle.log_segment.specs.declared.walk.Walk.{Walk}
 use Rattle.log_segment.specs.Intervals.{IsSegmentOf}
-use Rattle.log_segment.specs.Walking.{Adds, begun_after, event_after, ended, ended_by, ends_from, Follows, IsNextOf, MayCome, MayAllCome, Going}
+use Rattle.log_segment.specs.Walking.{Adds, begun_after, event_after, ended, ended_by, Follows, IsNextOf, MayCome, MayAllCome}
 use Rattle.log_segment.proofs.Following.{held_push}
+
+-- the segments that end from here on
+abbrev pub ends_from : List Step → List Event → List Event → List Interval
+ends_from path begun [] = ended path begun
+ends_from path begun (e ∷ es) = ended_by path e.event.kind begun ++ ends_from path (begun_after e.event.kind e begun) es
+
+-- what was gone over and what is ahead are the segments of the log
+pub record Going (logs : Logs) (path : List Step) (before rest : List Record) (walk : Walk) (old new : List Segment) (all : List Interval) : Type 0 where
+  pub begun : List Event
+  pub done : List Interval
+  pub follows : Follows logs path before walk begun
+  pub adds : Adds logs done old new
+  pub total : done ++ ends_from path begun (events_from (length before + 1) (held_after [] before) rest) ≡ all
 
 -- the intervals of runs
 abbrev segs : List Step → List (List Event) → List Interval

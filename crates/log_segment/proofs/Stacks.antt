@@ -1,5 +1,5 @@
 -- The label of a task's first record, from the labels of the forks of the tasks above.
-use Rattle.std.proofs.Common.{◌≡◌, ◌≢◌, ◌⊎◌, inl, inr, ℕ, ◌+◌, ◌*◌, ◌-◌, ◌<◌, ◌≤◌, List, [], ◌∷◌, ◌++◌, length, take, refl, sym, ap, subst, ◌∙◌, arith}
+use Rattle.std.proofs.Common.{◌≡◌, ◌≢◌, ◌⊎◌, inl, inr, ℕ, ◌+◌, ◌*◌, ◌-◌, ◌<◌, ◌≤◌, List, [], ◌∷◌, ◌++◌, length, take, Some, refl, sym, ap, subst, ◌∙◌, arith}
 use Rattle.std.specs.Prelude.{slice_get}
 use Rattle.std.specs.Global.{Vec}
 use Rattle.std.proofs.lemmas.List.{same_from_push, length_push}
@@ -14,13 +14,27 @@ use Rattle.race_model.specs.KeepsRules.{TaskKeepsRules}
 use Rattle.race_model.specs.Label.{Triple, IsLabel}
 use Rattle.race_model.specs.Order.{IsLane}
 use Rattle.race_model.specs.Race.{held_after}
-use Rattle.race_model.specs.Trace.{TaskLog, Trace, Logs, Node, regions_before}
+use Rattle.race_model.specs.Trace.{TaskLog, Trace, Logs, Node, logs_of, regions_before}
 use Rattle.race_model.specs.WellFormed.{IsTask, IsForked, IsForkJoin}
 use Rattle.race_model.proofs.LabelPlace.{has_last, HasLast, not_both_empty, is_region}
 use Rattle.race_model.proofs.TraceLogs.{all_at}
-use Rattle.log_segment.specs.Stack.{HasFork, HasForks}
+use Rattle.log_segment.specs.Stack.{HasFork}
 use Rattle.log_segment.specs.Walking.{AreForks, IsOwnAfter, MayAllCome}
 use Rattle.log_segment.proofs.OwnLevel.{own_last}
+
+-- the labels of the forks of one task
+pub record HasForks (logs : Logs) (forks : List (Vec (List Triple))) (path : List Step) (depth : ℕ) : Type 0 where
+  pub labels : Vec (List Triple)
+  pub row : slice_get forks depth ≡ Some labels
+  pub are : AreForks logs (take depth path) (length (logs (take depth path))) labels.items
+
+-- the labels of the forks of the task of this path and of all above it, by depth
+abbrev pub IsStack : Logs → List (Vec (List Triple)) → List Step → Type 0
+IsStack logs forks path = (depth : ℕ) → depth ≤ length path → HasForks logs forks path depth
+
+-- the labels of the forks are those of the last of the first tasks
+abbrev pub Reached : Trace → ℕ → List (Vec (List Triple)) → Type 0
+Reached trace n forks = (k : ℕ) (last : TaskLog) → n ≡ k + 1 → slice_get trace k ≡ Some last → IsStack (logs_of trace) forks last.path
 
 -- a label has one level more than its path
 pub label_levels : (logs : Logs) (x : Node) (l : List Triple) → IsLabel logs x l → length l ≡ length x.path + 1

@@ -46,11 +46,6 @@ ended_by path Region begun = ended path begun
 ended_by path Barrier begun = ended path begun
 ended_by path _ begun = []
 
--- the segments that end from here on
-abbrev pub ends_from : List Step → List Event → List Event → List Interval
-ends_from path begun [] = ended path begun
-ends_from path begun (e ∷ es) = ended_by path e.event.kind begun ++ ends_from path (begun_after e.event.kind e begun) es
-
 -- the events are numbered on from here
 abbrev pub AreNumbered : ℕ → List Event → Type 0
 AreNumbered n [] = Unit {0}
@@ -106,11 +101,3 @@ pub record IsLogOf (logs : Logs) (task : TaskRecords) (label : List Triple) : Ty
   pub fork_join : IsForkJoin logs
   pub records : logs task.path ≡ task.records.items
   pub first : IsLabel logs (record { path = task.path; index = 0 }) label
-
--- what was gone over and what is ahead are the segments of the log
-pub record Going (logs : Logs) (path : List Step) (before rest : List Record) (walk : Walk) (old new : List Segment) (all : List Interval) : Type 0 where
-  pub begun : List Event
-  pub done : List Interval
-  pub follows : Follows logs path before walk begun
-  pub adds : Adds logs done old new
-  pub total : done ++ ends_from path begun (events_from (length before + 1) (held_after [] before) rest) ≡ all

@@ -14,7 +14,7 @@ use Rattle.race_model.specs.declared.why.RecordWhy.TheVariants as log
 use Rattle.race_model.specs.Place.{record_rank}
 use Rattle.race_model.specs.Segment.{segment_count}
 use Rattle.race_model.specs.LogFault.{LogTask, Breaks, IsRead, IsCut, IsUntabled, IsBroken, IsLogFault, OpensTooMany, max_segments}
-use Rattle.log_walk.specs.Check.{KeepsRules, NothingBefore, of_why}
+use Rattle.log_walk.specs.Check.{KeepsLogRules, NothingBefore, of_why}
 use Rattle.race_model.proofs.LogReading.{same_first, is_next}
 use Rattle.race_model.proofs.LogFaults.{find, not_cut, not_untabled, same_record, no_fault_in}
 use Rattle.log_walk.proofs.Opening.{segment_count-take}
@@ -65,7 +65,7 @@ next_untabled bytes task n records rest w read number counted whole first = at w
   at why.Reserved fault = fault
 
 -- nothing comes before what is told of the next record
-pub before_next : (bytes : List ℕ) (task : LogTask) (opened n rank : ℕ) (records : List Record) (rest : List ℕ) → IsRead bytes records rest → KeepsRules task records
+pub before_next : (bytes : List ℕ) (task : LogTask) (opened n rank : ℕ) (records : List Record) (rest : List ℕ) → IsRead bytes records rest → KeepsLogRules task records
     → opened + segment_count records ≤ max_segments → length records ≤ task.records → n ≡ length records + 1
     → ((rule : RecordWhy) → record_rank rule < rank → IsLogFault bytes task n rule → ⊥) → NothingBefore bytes task opened n rank
 before_next bytes task opened n rank records rest read keeps few counted number here = record {

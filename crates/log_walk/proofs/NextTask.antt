@@ -20,7 +20,7 @@ use Rattle.race_model.proofs.Listed.{beside_listed}
 use Rattle.log_walk.specs.declared.check.LogFault.{LogFault}
 use Rattle.log_walk.specs.declared.check.LogFault.TheVariants as log_fault
 use Rattle.log_walk.specs.declared.fault.WalkFault.TheVariants as fault
-use Rattle.log_walk.specs.Check.{KeepsRules, NothingBefore, IsGoodLog, IsLogRefused}
+use Rattle.log_walk.specs.Check.{KeepsLogRules, NothingBefore, IsGoodLog, IsLogRefused}
 use Rattle.log_walk.specs.GoodTrace.{IsGoodTrace, HasFirst, log_task}
 use Rattle.log_walk.specs.Walk.{of_log, Walked, IsTaskOf, IsNextTask, IsLogRow, TellsFirstBad, IsUnread}
 use Rattle.log_walk.specs.declared.fault.WalkFault.{WalkFault}
@@ -66,7 +66,7 @@ next_task rows earlier row task bytes opened records segments is opened_is good 
     team = task.team;
     has_team = is.team;
     tabled = good.tabled;
-    keeps = subst (λ (t : LogTask). KeepsRules t records) same good.keeps;
+    keeps = subst (λ (t : LogTask). KeepsLogRules t records) same good.keeps;
   };
   counted = good.counted ∙ is.records;
   sum = good.sum ∙ ap (λ (n : ℕ). n + segment_count records) opened_is;

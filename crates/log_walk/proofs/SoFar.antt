@@ -20,9 +20,9 @@ use Rattle.race_model.specs.LogFault.{LogTask, Breaks, IsRead, IsRecord, IsLogFa
 use Rattle.log_walk.specs.declared.check.LogFault.{LogFault}
 use Rattle.log_walk.specs.declared.check.LogFault.TheVariants as fault
 use Rattle.log_walk.specs.declared.state.State.{State}
-use Rattle.log_walk.specs.Check.{KeepsRules, NothingBefore, of_why, IsLogRefused, IsGoodLog, IsNextRefused, IsGoodNext}
+use Rattle.log_walk.specs.Check.{KeepsLogRules, NothingBefore, of_why, IsLogRefused, IsGoodLog, IsNextRefused, IsGoodNext}
 use Rattle.log_walk.specs.Rules.{BreaksNone}
-use Rattle.log_walk.specs.State.{Follows}
+use Rattle.log_walk.specs.State.{IsStateAfter}
 use Rattle.log_walk.proofs.Next.{next_cut, next_untabled, before_next, before_cut, before_untabled, before_broken}
 use Rattle.race_model.proofs.LogFaults.{past_end}
 use Rattle.log_walk.proofs.Opening.{segment_count-push}
@@ -30,8 +30,8 @@ use Rattle.log_walk.proofs.Opening.{segment_count-push}
 -- these records were read of a log, and the rest is left
 pub record SoFar (bytes : List ℕ) (task : LogTask) (opened : ℕ) (state : State) (records : List Record) (rest : List ℕ) (index : ℕ) : Type 0 where
   pub read : IsRead bytes records rest
-  pub keeps : KeepsRules task records
-  pub follows : Follows state opened records
+  pub keeps : KeepsLogRules task records
+  pub follows : IsStateAfter state opened records
   pub count : length records ≡ index
   pub regions : state.regions ≤ index
   pub barriers : state.barriers ≤ index
@@ -42,11 +42,11 @@ few : (bytes : List ℕ) (task : LogTask) (opened : ℕ) (state : State) (record
     → opened + segment_count records ≤ max_segments
 few bytes task opened state records rest index so = omega (arith, so.limit, so.follows.segments)
 
-keeps_nothing : (task : LogTask) → KeepsRules task []
+keeps_nothing : (task : LogTask) → KeepsLogRules task []
 keeps_nothing task = record { each = λ k r found. absurd (omega (arith, slice_get_within [] k r found)) }
 
 -- the header was read
-pub so_far_start : (bytes : List ℕ) (task : LogTask) (opened : ℕ) (state : State) (rest : List ℕ) → bytes ≡ LOG_HEADER ++ rest → Follows state opened [] → opened ≤ max_segments
+pub so_far_start : (bytes : List ℕ) (task : LogTask) (opened : ℕ) (state : State) (rest : List ℕ) → bytes ≡ LOG_HEADER ++ rest → IsStateAfter state opened [] → opened ≤ max_segments
     → SoFar bytes task opened state [] rest 0
 so_far_start bytes task opened state rest parts follows small = record {
   read = record { parts = parts; tabled = λ k d h. absurd (omega arith) };
@@ -86,7 +86,7 @@ slice_get_last (y ∷ xs) x = slice_get_last xs x
 some_same : {X : Type 0} (x y : X) → Some x ≡ Some y → x ≡ y
 some_same x y same = cc
 
-keeps_push : (task : LogTask) (records : List Record) (r : Record) → KeepsRules task records → BreaksNone task records r → KeepsRules task (records ++ r ∷ [])
+keeps_push : (task : LogTask) (records : List Record) (r : Record) → KeepsLogRules task records → BreaksNone task records r → KeepsLogRules task (records ++ r ∷ [])
 keeps_push task records r keeps holds = record {
   each = λ k s found rule breaks.
       let within : k < length records + 1 = omega (arith, slice_get_within (records ++ r ∷ []) k s found, length-append records (r ∷ [])) in
@@ -103,7 +103,7 @@ keeps_push task records r keeps holds = record {
 
 -- one record more was read
 pub so_far_next : (bytes : List ℕ) (task : LogTask) (opened : ℕ) (state now : State) (records : List Record) (rest next : List ℕ) (index : ℕ) (r : Record)
-    → SoFar bytes task opened state records rest index → next ≡ take 24 rest → IsGoodNext next task records r → Follows now opened (records ++ r ∷ [])
+    → SoFar bytes task opened state records rest index → next ≡ take 24 rest → IsGoodNext next task records r → IsStateAfter now opened (records ++ r ∷ [])
     → now.regions ≤ index + 1 → now.barriers ≤ index + 1 → now.segments ≤ max_segments → SoFar bytes task opened now (records ++ r ∷ []) (drop 24 rest) (index + 1)
 so_far_next bytes task opened state now records rest next index r so next_is good follows regions barriers limit = record {
   read = record {

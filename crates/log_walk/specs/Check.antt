@@ -18,7 +18,7 @@ use Rattle.log_walk.specs.declared.check.LogFault.TheVariants as fault
 use Rattle.race_model.specs.Place.{record_rank}
 
 -- no record breaks a rule after those before it
-pub record KeepsRules (task : LogTask) (records : List Record) : Type 0 where
+pub record KeepsLogRules (task : LogTask) (records : List Record) : Type 0 where
   pub each : (k : ℕ) (r : Record) → slice_get records k ≡ Some r → (rule : RecordWhy) → Breaks task (take k records) r rule → ⊥
 
 -- the rule of a log that a fault of a record's bytes breaks
@@ -66,7 +66,7 @@ pub record IsGoodLog (bytes : List ℕ) (task : LogTask) (opened : ℕ) (records
   pub whole : bytes ≡ log_bytes LOG_HEADER records
   pub tabled : All IsTabled records
   pub counted : length records ≡ task.records
-  pub keeps : KeepsRules task records
+  pub keeps : KeepsLogRules task records
   pub sum : segments ≡ opened + segment_count records
   pub limit : segments ≤ max_segments
 

@@ -7,7 +7,7 @@ use Rattle.race_model.specs.Listing.{lane_of}
 use Rattle.race_model.specs.Trace.{TaskLog, Trace, barrier_count}
 use Rattle.race_model.specs.LogFault.{LogTask, ListsSpans, max_segments}
 use Rattle.race_model.specs.FirstBad.{rows_of, segments_in}
-use Rattle.log_walk.specs.Check.{KeepsRules}
+use Rattle.log_walk.specs.Check.{KeepsLogRules}
 
 -- the task is the root or lane 0 of a team
 abbrev pub LeadsTeam : List Step → Type 0
@@ -45,7 +45,7 @@ pub record IsGoodTask (rows : List Row) (earlier : Trace) (task : TaskLog) : Typ
   pub team : Option ℕ
   pub has_team : IsTeam earlier task.path team
   pub tabled : All IsTabled task.records
-  pub keeps : KeepsRules (log_task task spans team) task.records
+  pub keeps : KeepsLogRules (log_task task spans team) task.records
 
 -- the tasks are those of the first rows, and their logs keep the rules
 pub record IsGoodTrace (rows : List Row) (trace : Trace) : Type 0 where

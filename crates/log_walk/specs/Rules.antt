@@ -12,8 +12,8 @@ use Rattle.race_model.specs.Place.{record_rank}
 use Rattle.log_walk.specs.declared.task.Task.{Task}
 
 -- a task, as the rules see it
-abbrev pub task_of : Task → LogTask
-task_of task = record { path = task.path; records = task.records; spans = task.spans.items; team = task.team }
+abbrev pub log_task_of : Task → LogTask
+log_task_of task = record { path = task.path; records = task.records; spans = task.spans.items; team = task.team }
 
 -- the record breaks none
 abbrev pub BreaksNone : LogTask → List Record → Record → Type 0

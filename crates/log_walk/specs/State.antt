@@ -9,7 +9,7 @@ use Rattle.log_walk.specs.Check.{open_after, opens_by, is_open}
 use Rattle.log_walk.specs.declared.state.State.{State}
 
 -- a state after these records, where earlier logs have so many segments
-pub record Follows (state : State) (opened : ℕ) (before : List Record) : Type 0 where
+pub record IsStateAfter (state : State) (opened : ℕ) (before : List Record) : Type 0 where
   pub held : state.held ≡ held_after [] before
   pub regions : state.regions ≡ region_count before
   pub barriers : state.barriers ≡ barrier_count before

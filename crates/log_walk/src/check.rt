@@ -2,8 +2,8 @@
 ghost use Rattle.std.specs.Prelude.{◌≡◌, ◌+◌, ◌<◌, ◌≤◌, ℕ, List, [], ◌∷◌, ◌++◌, length, IfOk, IfErr, OnOk};
 ghost use Rattle.log_format.specs.declared.record.Record.{Record};
 ghost use Rattle.log_walk.specs.Check.{of_why, IsGoodNext, IsNextRefused, IsGoodLog, IsLogRefused};
-ghost use Rattle.log_walk.specs.Rules.{task_of};
-ghost use Rattle.log_walk.specs.State.{Follows};
+ghost use Rattle.log_walk.specs.Rules.{log_task_of};
+ghost use Rattle.log_walk.specs.State.{IsStateAfter};
 
 use crate::state::State;
 use crate::task::Task;
@@ -60,12 +60,12 @@ fn accept(state: &mut State, task: &Task, number: u32, bytes: &[u8; 24]) -> Resu
     requires segments { state.old.segments ≤ 65536 }
     requires regions { state.old.regions < number }
     requires barriers { state.old.barriers < number }
-    ensures good { (opened : ℕ) (before : List Record) → Follows state.old opened before → number ≡ length before + 1
-        → IfOk result (λ r. IsGoodNext bytes.now (task_of task.now) before r) }
-    ensures follows { (opened : ℕ) (before : List Record) → Follows state.old opened before → number ≡ length before + 1
-        → IfOk result (λ r. Follows state.new opened (before ++ r ∷ [])) }
-    ensures refused { (opened : ℕ) (before : List Record) → Follows state.old opened before → number ≡ length before + 1
-        → IfErr result (λ e. IsNextRefused bytes.now (task_of task.now) opened before number e) }
+    ensures good { (opened : ℕ) (before : List Record) → IsStateAfter state.old opened before → number ≡ length before + 1
+        → IfOk result (λ r. IsGoodNext bytes.now (log_task_of task.now) before r) }
+    ensures follows { (opened : ℕ) (before : List Record) → IsStateAfter state.old opened before → number ≡ length before + 1
+        → IfOk result (λ r. IsStateAfter state.new opened (before ++ r ∷ [])) }
+    ensures refused { (opened : ℕ) (before : List Record) → IsStateAfter state.old opened before → number ≡ length before + 1
+        → IfErr result (λ e. IsNextRefused bytes.now (log_task_of task.now) opened before number e) }
     ensures limit { OnOk result (state.new.segments ≤ 65536) }
     ensures regions { OnOk result (state.new.regions ≤ number) }
     ensures barriers { OnOk result (state.new.barriers ≤ number) }
@@ -92,8 +92,8 @@ fn accept(state: &mut State, task: &Task, number: u32, bytes: &[u8; 24]) -> Resu
 pub fn check_log(alloc: Global, bytes: &[u8], task: &Task, opened: u32) -> Result<Checked, LogFault>
     requires opened { opened ≤ 65536 }
     requires records { task.now.records ≤ 4194304 }
-    ensures good { IfOk result (λ c. IsGoodLog bytes.now (task_of task.now) opened c.records.items c.segments) }
-    ensures refused { IfErr result (λ e. IsLogRefused bytes.now (task_of task.now) opened e) }
+    ensures good { IfOk result (λ c. IsGoodLog bytes.now (log_task_of task.now) opened c.records.items c.segments) }
+    ensures refused { IfErr result (λ e. IsLogRefused bytes.now (log_task_of task.now) opened e) }
 {
     let Some(mut rest) = bytes.strip_prefix(&LOG_HEADER) else {
         return Err(LogFault::Bad {

@@ -12,7 +12,7 @@ ghost use Rattle.race_model.specs.Trace.{logs_of};
 ghost use Rattle.race_model.specs.WellFormed.{IsForkJoin};
 ghost use Rattle.log_index.specs.Rows.{rows_of};
 ghost use Rattle.log_walk.specs.GoodTrace.{IsGoodTrace, HasFirst};
-ghost use Rattle.log_walk.specs.Rules.{task_of};
+ghost use Rattle.log_walk.specs.Rules.{log_task_of};
 ghost use Rattle.log_walk.specs.Walk.{trace_of, of_log, Walked, TellsFirstBad, IsUnread, IsTaskOf, IsNextTask};
 
 use crate::check::{Checked, LogFault, check_log};
@@ -57,7 +57,7 @@ fn task_at(
     requires rows { AreRows (rows_of rows.now) }
     requires within { index < length rows.now }
     requires first { (row : Row) → slice_get (rows_of rows.now) index ≡ Some row → HasFirst (trace_of trace.now) row.path }
-    ensures task { IfOk result (λ task. (row : Row) → slice_get (rows_of rows.now) index ≡ Some row → IsTaskOf (rows_of rows.now) (trace_of trace.now) row (task_of task)) }
+    ensures task { IfOk result (λ task. (row : Row) → slice_get (rows_of rows.now) index ≡ Some row → IsTaskOf (rows_of rows.now) (trace_of trace.now) row (log_task_of task)) }
 {
     let row = &rows[index];
     Ok(Task {

@@ -1,6 +1,6 @@
 //! The rules of a run, one function for each kind of record. Each tells the first rule that the record breaks.
 ghost use Rattle.std.specs.Prelude.{◌≡◌, ◌<◌, MatchOption, OnSome};
-ghost use Rattle.log_walk.specs.Rules.{InPlace, OutOfPlace, Locks, CantLock, Unlocks, CantUnlock, MayPass, CantPass, MayFork, CantFork, MayEnd, CantEnd, task_of};
+ghost use Rattle.log_walk.specs.Rules.{InPlace, OutOfPlace, Locks, CantLock, Unlocks, CantUnlock, MayPass, CantPass, MayFork, CantFork, MayEnd, CantEnd, log_task_of};
 
 use crate::task::Task;
 use log_format::Kind;
@@ -69,7 +69,7 @@ pub fn region(held: &Held, spans: &[u16], number: u32, span: u64) -> Option<Reco
 
 /// A task ends with no mutex, after all regions that the index lists, and after as many barriers as its team.
 pub fn end(held: &Held, task: &Task, regions: u32, barriers: u32) -> Option<RecordWhy>
-    ensures { MatchOption result (MayEnd held.now (task_of task.now) regions barriers) (λ why. CantEnd held.now (task_of task.now) regions barriers why) }
+    ensures { MatchOption result (MayEnd held.now (log_task_of task.now) regions barriers) (λ why. CantEnd held.now (log_task_of task.now) regions barriers why) }
 {
     if !held.ids().is_empty() {
         return Some(RecordWhy::LockOpen);

@@ -3,8 +3,8 @@ ghost use Rattle.log_format.specs.declared.record.Record.{Record};
 ghost use Rattle.log_format.specs.Table.{IsTabled};
 ghost use Rattle.race_model.specs.Race.{held_after};
 ghost use Rattle.log_walk.specs.Check.{opens_by};
-ghost use Rattle.log_walk.specs.Rules.{task_of, BreaksNone, BreaksFirst};
-ghost use Rattle.log_walk.specs.State.{Follows, counted};
+ghost use Rattle.log_walk.specs.Rules.{log_task_of, BreaksNone, BreaksFirst};
+ghost use Rattle.log_walk.specs.State.{IsStateAfter, counted};
 
 use crate::rules;
 use crate::task::Task;
@@ -33,7 +33,7 @@ pub struct State {
 impl State {
     /// Before the first record of a log.
     pub fn new(opened: u32) -> State
-        ensures { Follows result opened [] }
+        ensures { IsStateAfter result opened [] }
     {
         State {
             held: Held::none(),
@@ -47,9 +47,9 @@ impl State {
     /// The first rule that the next record breaks. Where it breaks none, its mutex is taken or given back.
     pub fn broken(&mut self, task: &Task, number: u32, next: &Record) -> Option<RecordWhy>
         requires { IsTabled next.now }
-        ensures rules { (opened : ℕ) (before : List Record) → Follows self.old opened before → number ≡ length before + 1
-            → MatchOption result (BreaksNone (task_of task.now) before next.now × (self.new.held ≡ held_after [] (before ++ next.now ∷ [])))
-            (λ why. BreaksFirst (task_of task.now) before next.now why) }
+        ensures rules { (opened : ℕ) (before : List Record) → IsStateAfter self.old opened before → number ≡ length before + 1
+            → MatchOption result (BreaksNone (log_task_of task.now) before next.now × (self.new.held ≡ held_after [] (before ++ next.now ∷ [])))
+            (λ why. BreaksFirst (log_task_of task.now) before next.now why) }
         ensures same { self.new ≡ record self.old { held = self.new.held } }
     {
         if let Some(why) = rules::place(next.kind, number, task.records) {

@@ -10,9 +10,9 @@ use Rattle.std.proofs.lemmas.Option.{same_Some}
 use Rattle.sw_base.specs.declared.path.Step.{Step}
 use Rattle.sw_base.specs.Names.{path_cmp, step_cmp}
 use Rattle.sw_base.specs.PathOrder.{path_cmp_total, step_cmp_total}
-use Rattle.race_model.specs.Listing.{IsListing, IsNextPath, IsNextLane, IsNextRegion, IsChain}
+use Rattle.race_model.specs.Listing.{IsListing, IsNextPath, IsNextLane, IsNextRegion}
 use Rattle.race_model.specs.Trace.{TaskLog, Trace, logs_of, path_eq}
-use Rattle.race_model.proofs.Listings.{lists_begins, chain_of_begins, begins_at_root}
+use Rattle.race_model.proofs.Listings.{IsChain, lists_begins, chain_of_begins, begins_at_root}
 use Rattle.race_model.proofs.TraceLogs.{path_is, path_itself}
 
 -- the next path is a front of this one, and a step

@@ -3,7 +3,12 @@ use Rattle.std.proofs.Common.{◌≡◌, ◌⊎◌, inl, inr, ℕ, zero, suc, �
 use Rattle.std.proofs.lemmas.List.{append-nil}
 use Rattle.std.proofs.lemmas.List.Elements.{All-nil, All-cons, All-head, All-tail}
 use Rattle.sw_base.specs.declared.path.Step.{Step}
-use Rattle.race_model.specs.Listing.{Task, Lanes, Ends, Forks, NoLane, Lane, lane_count, lane_of, under, lanes, listing, IsListing, BeginsListing, IsLastLane, IsNextLane, IsFirstLane, IsNextRegion, IsNextPath, IsChain}
+use Rattle.race_model.specs.Listing.{Task, Lanes, Ends, Forks, NoLane, Lane, lane_count, lane_of, under, lanes, listing, IsListing, BeginsListing, IsLastLane, IsNextLane, IsFirstLane, IsNextRegion, IsNextPath}
+
+-- each path is the next after the one before
+abbrev pub IsChain : List Step → List (List Step) → Type 0
+IsChain path [] = Unit {0}
+IsChain path (next ∷ paths) = IsNextPath path next × IsChain next paths
 
 -- a chain whose last path has the property
 abbrev pub EndsIn : (List Step → Type 0) → List Step → List (List Step) → Type 0

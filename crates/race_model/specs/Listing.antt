@@ -83,8 +83,3 @@ IsNextPath [] (next ∷ []) = IsFirstLane 0 next
 IsNextPath (step ∷ below) (next ∷ []) = All IsLastLane below × (IsNextLane step next ⊎ IsNextRegion step next)
 IsNextPath [] (next ∷ more ∷ others) = ⊥
 IsNextPath (step ∷ below) (next ∷ more ∷ others) = (step ≡ next) × IsNextPath below (more ∷ others)
-
--- each path is the next after the one before
-abbrev pub IsChain : List Step → List (List Step) → Type 0
-IsChain path [] = Unit {0}
-IsChain path (next ∷ paths) = IsNextPath path next × IsChain next paths

@@ -9,7 +9,7 @@ use Rattle.race_model.proofs.FolderForkJoin.{fork_join, row_all}
 use Rattle.race_model.proofs.TraceLogs.{all_at}
 use Rattle.race_model.specs.KeepsRules.{TaskKeepsRules}
 use Rattle.log_segment.specs.Intervals.{task_of}
-use Rattle.log_segment.specs.Stack.{Reached}
+use Rattle.log_segment.proofs.Stacks.{Reached}
 use Rattle.log_segment.specs.Walking.{IsLogOf}
 use Rattle.log_segment.proofs.Ancestors.{first_is, forked, log_is, reached_next}
 use Rattle.log_segment.proofs.Stacks.{may_all}

@@ -3,7 +3,7 @@ use Rattle.std.specs.List.{AllZip}
 use Rattle.race_model.specs.Segment.{segments_of}
 use Rattle.race_model.specs.Trace.{logs_of}
 use Rattle.log_segment.specs.Intervals.{IsSegmentOf, task_of}
-use Rattle.log_segment.specs.Stack.{Reached}
+use Rattle.log_segment.proofs.Stacks.{Reached}
 use Rattle.log_segment.proofs.building.segments.Given as goal
 
 abbrev pub invariant-tasks : goal.invariant-tasks

@@ -3,7 +3,8 @@ use Rattle.race_model.specs.Race.{held_after}
 use Rattle.race_model.specs.Segment.{task_segments}
 use Rattle.race_model.specs.Trace.{Logs}
 use Rattle.log_segment.specs.Intervals.{task_of}
-use Rattle.log_segment.specs.Walking.{IsLogOf, IsOwnAfter, Going}
+use Rattle.log_segment.specs.Walking.{IsLogOf, IsOwnAfter}
+use Rattle.log_segment.proofs.Passing.{Going}
 use Rattle.log_segment.proofs.going.add_task.Given as goal
 
 abbrev pub invariant-records : goal.invariant-records

@@ -6,7 +6,7 @@ use Rattle.race_model.specs.IndexFault.{IsRow}
 use Rattle.race_model.specs.LogFault.{IsWholeLog}
 use Rattle.log_index.specs.Rows.{rows_of, row_of}
 use Rattle.log_walk.specs.declared.fault.WalkFault.{WalkFault}
-use Rattle.log_walk.specs.Rules.{task_of}
+use Rattle.log_walk.specs.Rules.{log_task_of}
 use Rattle.log_walk.specs.Walk.{trace_of, TellsFirstBad}
 use Rattle.log_walk.proofs.RowReads.{row_read}
 use Rattle.log_walk.proofs.TaskReads.{row_after}
@@ -36,7 +36,7 @@ check_log-requires-clause-records g c =
 
 pub returns-in-Ok-clause-good : goal.returns-in-Ok-clause-good
 returns-in-Ok-clause-good g c = λ row found.
-    next_task (rows_of c.args.rows.now) (trace_of c.args.trace.now) row (task_of c.in_ok-task.task) c.deref.result.now c.args.opened c.in-Ok.checked.records.items c.in-Ok.checked.segments
+    next_task (rows_of c.args.rows.now) (trace_of c.args.trace.now) row (log_task_of c.in_ok-task.task) c.deref.result.now c.args.opened c.in-Ok.checked.records.items c.in-Ok.checked.segments
     (c.in_ok-task.ensures.task row found) c.requires.opened c.in-Ok.ensures.good
 
 pub returns-in-Ok-clause-whole : goal.returns-in-Ok-clause-whole
@@ -44,7 +44,7 @@ returns-in-Ok-clause-whole g c = λ content told row found.
     let mine = row_read c.args.rows.now c.args.index c.index-rows-index.result c.requires.within c.index-rows-index.is in
     let same : row_of c.index-rows-index.result ≡ row = same_Some _ row (sym mine ∙ found) in
     subst (λ (r : Row). IsWholeLog content.held c.args.dir.now r.path c.in-Ok.checked.records.items) same
-    (next_whole content.held c.args.dir.now (rows_of c.args.rows.now) (trace_of c.args.trace.now) (row_of c.index-rows-index.result) (task_of c.in_ok-task.task) c.deref.result.now c.args.opened
+    (next_whole content.held c.args.dir.now (rows_of c.args.rows.now) (trace_of c.args.trace.now) (row_of c.index-rows-index.result) (log_task_of c.in_ok-task.task) c.deref.result.now c.args.opened
     c.in-Ok.checked.records.items c.in-Ok.checked.segments (c.in_ok-task.ensures.task (row_of c.index-rows-index.result) mine)
     (c.in_ok-bytes.ensures.found content told ∙ ap (λ (bs : List ℕ). Some bs) (sym c.deref.ensures.value)) c.in-Ok.ensures.good)
 
@@ -52,7 +52,7 @@ pub returns-clause-refused : goal.returns-clause-refused
 returns-clause-refused g c = λ content told walked.
     let mine = row_read c.args.rows.now c.args.index c.index-rows-index.result c.requires.within c.index-rows-index.is in
     subst (λ (e : WalkFault). TellsFirstBad content.held c.args.dir.now e) (sym c.fault_of.ensures)
-    (log_told content.held c.args.dir.now (rows_of c.args.rows.now) (trace_of c.args.trace.now) (row_of c.index-rows-index.result) (task_of c.in_ok-task.task) c.deref.result.now c.args.opened
+    (log_told content.held c.args.dir.now (rows_of c.args.rows.now) (trace_of c.args.trace.now) (row_of c.index-rows-index.result) (log_task_of c.in_ok-task.task) c.deref.result.now c.args.opened
     c.in-Err.fault walked (row_after c.args.trace.now (rows_of c.args.rows.now) c.args.index (row_of c.index-rows-index.result) c.requires.read mine)
     (c.in_ok-task.ensures.task (row_of c.index-rows-index.result) mine) (c.in_ok-bytes.ensures.found content told ∙ ap (λ (bs : List ℕ). Some bs) (sym c.deref.ensures.value)) c.requires.opened
     c.in-Err.ensures.refused)
