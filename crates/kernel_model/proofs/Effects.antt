@@ -8,7 +8,7 @@ use Rattle.std.proofs.lemmas.Int.{to_z-of_z}
 use Rattle.kernel_syntax.specs.Arithmetic.{applied, negated, fitted}
 use Rattle.kernel_syntax.specs.declared.syntax.Op.{Op}
 use Rattle.kernel_syntax.specs.Tree as tree
-use Rattle.kernel_syntax.specs.Tree.{Term, Code, TeamTree}
+use Rattle.kernel_syntax.specs.Tree.{Term}
 use Rattle.log_format.specs.declared.record.Record.{Record}
 use Rattle.log_format.specs.declared.record.Kind.TheVariants as kind
 use Rattle.kernel_model.specs.State.{State, Fork, Stop, DivZero, Index, LogFull, Outcome, Gives, and_then, put, event, reads_of, chunks_of, value_read, number_drawn}

@@ -7,7 +7,7 @@ use Rattle.kernel_syntax.specs.Arithmetic.{wrapped}
 use Rattle.kernel_syntax.specs.Layout.{laid}
 use Rattle.kernel_syntax.specs.Program.{Program}
 use Rattle.kernel_syntax.specs.Tree as tree
-use Rattle.kernel_syntax.specs.Tree.{Term, Code, Done, TeamTree}
+use Rattle.kernel_syntax.specs.Tree.{Code, Done, TeamTree}
 use Rattle.log_format.specs.declared.record.Record.{Record}
 use Rattle.log_format.specs.declared.record.Kind.TheVariants.{Read, Write, Lock, Unlock, Barrier, Region, Chunk, End}
 use Rattle.sw_base.specs.declared.path.Step.{Step}

@@ -12,7 +12,7 @@ use Rattle.kernel_syntax.specs.declared.syntax.Stmt.TheFolds.{fold-Body, fold-Te
 use Rattle.kernel_syntax.specs.declared.syntax.Body.{Body}
 use Rattle.kernel_syntax.specs.declared.syntax.Team.{Team}
 use Rattle.kernel_syntax.specs.Tree as tree
-use Rattle.kernel_syntax.specs.Tree.{Term, Code, TeamTree}
+use Rattle.kernel_syntax.specs.Tree.{Code, TeamTree}
 use Rattle.kernel_syntax.specs.Program.{term_of, stmt_code, stmts_code, code_of, team_of, team_tree, layer_code, layer_body, layer_team}
 
 -- what the folds give for the parts of a statement

@@ -1,4 +1,4 @@
-ghost use Rattle.std.specs.Prelude.{◌≡◌, ◌≢◌, ◌↔◌, ◌≤◌, IsTrue, OnOk, IfErr, MatchOption};
+ghost use Rattle.std.specs.Prelude.{◌≡◌, ◌≢◌, ◌↔◌, IsTrue, OnOk, IfErr, MatchOption};
 ghost use Rattle.log_format.specs.declared.record.Kind.{Kind};
 ghost use Rattle.log_format.specs.declared.record.Why.{Why};
 ghost use Rattle.log_format.specs.Spelling.{kind_code};

@@ -1,6 +1,6 @@
 ghost use Rattle.std.specs.Prelude.{◌≡◌, ◌≢◌, ℕ, ◌+◌, ◌≤◌, [], ◌++◌, length, take, map, IfOk, IfErr, OnOk, MatchOption};
 ghost use Rattle.race_model.specs.declared.why.IndexWhy.{IndexWhy};
-ghost use Rattle.race_model.specs.Row.{raw_of, row_spelling, used};
+ghost use Rattle.race_model.specs.Row.{raw_of, used};
 ghost use Rattle.race_model.specs.IndexFault.{HasDepth, HasRecords, AreFirstRows, AreRows, FailsFirst};
 ghost use Rattle.log_index.specs.Answers.{IsOfBytes};
 ghost use Rattle.log_index.specs.Rows.{row_of, rows_of, raw_of_fields, AddsRow, OneMore, StopsAt, SpellsFirstRows, SpellsRows, IsFirstBadRow};

@@ -1,8 +1,7 @@
-ghost use Rattle.std.specs.Prelude.{◌≡◌, ◌≤◌, ◌++◌, length, map, IfOk, OnOk};
+ghost use Rattle.std.specs.Prelude.{◌≡◌, ◌++◌, IfOk, OnOk};
 ghost use Rattle.std.specs.List.{flat_map};
 ghost use Rattle.sw_base.specs.declared.path.Step.{Step};
 ghost use Rattle.race_model.specs.Row.{raw_of, step_spelling, row_spelling, index_bytes};
-ghost use Rattle.race_model.specs.IndexFault.{AreRows};
 ghost use Rattle.log_index.specs.Rows.{row_of, rows_of};
 
 use crate::row::Row;

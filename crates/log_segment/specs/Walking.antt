@@ -12,7 +12,7 @@ use Rattle.span_label.specs.Levels.{own_level}
 use Rattle.race_model.specs.Trace.{Logs, Node, HasKind, regions_before}
 use Rattle.race_model.specs.Race.{held_after}
 use Rattle.race_model.specs.Label.{Triple, IsLabel}
-use Rattle.race_model.specs.Segment.{Event, Segment as Interval, is_access_event, has_access, segment_of, events_from}
+use Rattle.race_model.specs.Segment.{Event, Segment as Interval, is_access_event, has_access, segment_of}
 use Rattle.race_model.specs.WellFormed.{IsForkJoin}
 use Rattle.log_segment.specs.Accesses.{access_of}
 use Rattle.log_segment.specs.Intervals.{IsSegmentOf}

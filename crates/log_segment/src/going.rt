@@ -1,5 +1,5 @@
 //! Going over the records of one log.
-ghost use Rattle.std.specs.Prelude.{◌≡◌, ◌+◌, ◌^◌, ◌<◌, ◌≤◌, ℕ, List, [], ◌∷◌, ◌++◌, length, OnOk, IfOk};
+ghost use Rattle.std.specs.Prelude.{◌≡◌, ◌+◌, ◌<◌, ◌≤◌, List, [], ◌∷◌, ◌++◌, length, OnOk, IfOk};
 ghost use Rattle.log_format.specs.declared.record.Record.{Record};
 ghost use Rattle.race_model.specs.Race.{held_after_kind};
 ghost use Rattle.race_model.specs.Segment.{Event, task_segments};

@@ -1,5 +1,5 @@
 //! What is kept of the records of a log that were gone over.
-ghost use Rattle.std.specs.Prelude.{◌≡◌, ◌≢◌, ◌+◌, ◌-◌, ◌^◌, ◌<◌, ◌≤◌, ℕ, List, [], ◌∷◌, ◌++◌, length, filter, not, ◌==◌, Contains, OnOk, IsOk};
+ghost use Rattle.std.specs.Prelude.{◌≡◌, ◌≢◌, ◌+◌, ◌-◌, ◌^◌, ◌<◌, List, [], ◌∷◌, ◌++◌, length, filter, not, ◌==◌, Contains, OnOk};
 ghost use Rattle.std.specs.Option.{ForSome};
 ghost use Rattle.mutex_set.specs.Held.{IsInnermost};
 ghost use Rattle.race_model.specs.Label.{Triple};

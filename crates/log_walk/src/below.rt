@@ -1,5 +1,5 @@
 //! The last step of a path.
-ghost use Rattle.std.specs.Prelude.{◌≡◌, ◌↔◌, List, [], ◌∷◌, ◌++◌, IsTrue, MatchOption};
+ghost use Rattle.std.specs.Prelude.{◌≡◌, ◌↔◌, [], ◌∷◌, ◌++◌, IsTrue, MatchOption};
 ghost use Rattle.sw_base.specs.declared.path.Step.{Step as PathStep};
 
 use sw_base::Step;

@@ -1,8 +1,7 @@
 //! Reads the logs of a folder.
-ghost use Rattle.std.specs.Prelude.{◌≡◌, ◌≤◌, ◌<◌, ◌+◌, Some, length, slice_get, IfOk, IfErr, OnOk, IsErrOf};
+ghost use Rattle.std.specs.Prelude.{◌≡◌, ◌≤◌, ◌<◌, Some, length, slice_get, IfOk, IfErr, OnOk, IsErrOf};
 ghost use Rattle.sw_base.specs.Environment.{WhereTold, Rose};
 ghost use Rattle.sw_base.specs.Names.{log_name};
-ghost use Rattle.log_format.specs.declared.record.Record.{Record};
 ghost use Rattle.race_model.specs.Row.{Row};
 ghost use Rattle.race_model.specs.IndexFault.{AreRows, IsIndex};
 ghost use Rattle.race_model.specs.FirstBad.{segments_in, HoldsTrace, IsWellFormed};

@@ -1,5 +1,5 @@
 //! The rules of a run, one function for each kind of record. Each tells the first rule that the record breaks.
-ghost use Rattle.std.specs.Prelude.{◌≡◌, ◌<◌, MatchOption, OnSome};
+ghost use Rattle.std.specs.Prelude.{◌<◌, MatchOption};
 ghost use Rattle.log_walk.specs.Rules.{InPlace, OutOfPlace, Locks, CantLock, Unlocks, CantUnlock, MayPass, CantPass, MayFork, CantFork, MayEnd, CantEnd, log_task_of};
 
 use crate::task::Task;

@@ -1,4 +1,4 @@
-ghost use Rattle.std.specs.Prelude.{◌≡◌, ◌+◌, ◌-◌, ◌^◌, ◌<◌, ◌≤◌, ◌≢◌, ℕ, true, false, List, [], ◌∷◌, ◌++◌, length, IsTrue, IsFalse, MatchOption};
+ghost use Rattle.std.specs.Prelude.{◌≡◌, ◌+◌, ◌-◌, ◌^◌, ◌<◌, ◌≤◌, ℕ, true, false, List, [], ◌∷◌, ◌++◌, length, IsTrue, IsFalse, MatchOption};
 ghost use Rattle.log_format.specs.declared.record.Record.{Record};
 ghost use Rattle.log_format.specs.Table.{IsTabled};
 ghost use Rattle.race_model.specs.Race.{held_after};

@@ -1,6 +1,5 @@
 //! The barriers that a task's log must have.
-ghost use Rattle.std.specs.Prelude.{◌≡◌, ◌<◌, ℕ, List, [], ◌∷◌, ◌++◌, Contains, count_by, IsTrue, ◌↔◌};
-ghost use Rattle.sw_base.specs.declared.path.Step.{Step as PathStep};
+ghost use Rattle.std.specs.Prelude.{◌≡◌, ◌<◌, IsTrue, ◌↔◌};
 ghost use Rattle.race_model.specs.Listing.{lane_of};
 ghost use Rattle.race_model.specs.Trace.{is_barrier_kind, barrier_count};
 ghost use Rattle.log_walk.specs.GoodTrace.{IsTeam, HasFirst};

@@ -1,11 +1,11 @@
-ghost use Rattle.std.specs.Prelude.{◌≡◌, ◌↔◌, ◌⊎◌, ℕ, [], Contains, IfOk, OnOk, OnErr};
+ghost use Rattle.std.specs.Prelude.{[], IfOk, OnOk, OnErr};
 ghost use Rattle.std.specs.List.Sorted.{IsStrictlySortedBy};
 ghost use Rattle.race_model.specs.Race.{IsRacePair, Lists, pair_cmp};
 ghost use Rattle.race_model.specs.Trace.{Logs};
 ghost use Rattle.race_model.specs.WellFormed.{IsForkJoin};
 ghost use Rattle.log_segment.specs.Intervals.{AreSegments};
 ghost use Rattle.pair_compare.specs.Conflict.{AddsPairs, AddsSome};
-ghost use Rattle.pair_compare.specs.Compare.{AreCompared, IsRacingPair, IsRacingWith, IsSegmentPair};
+ghost use Rattle.pair_compare.specs.Compare.{AreCompared, IsRacingPair, IsRacingWith};
 
 use crate::add_conflicts;
 use log_segment::Segment;

@@ -1,4 +1,4 @@
-ghost use Rattle.std.specs.Prelude.{◌≡◌, ◌⊎◌, ◌↔◌, ◌<◌, ◌≤◌, ◌+◌, ℕ, [], ◌∷◌, IsTrue, OnOk, OnErr};
+ghost use Rattle.std.specs.Prelude.{◌≡◌, ◌⊎◌, ◌↔◌, ◌<◌, ℕ, [], ◌∷◌, IsTrue, OnOk, OnErr};
 ghost use Rattle.pair_compare.specs.Conflict.{IsConflict, IsConflictPair, AddsPairs, AddsSome, Touches, line_pair};
 
 use std::collections::BTreeSet;

@@ -1,6 +1,6 @@
 -- The races of a worked run: lane 0 writes the bytes 100 to 107 in line 5; lane 1 reads byte 107 in line 6, and after a barrier
 -- byte 100 in line 7. The first two race, and nothing else does. Last, the mutexes that a task holds.
-use Rattle.std.proofs.Common.{◌≡◌, ◌⊎◌, ◌↔◌, ℕ, zero, suc, ◌<◌, List, [], ◌∷◌, refl, sym, ap, subst, subst₂, arith, ◌∙◌, ap₂, Some, inl, inr}
+use Rattle.std.proofs.Common.{◌≡◌, ◌⊎◌, ℕ, zero, suc, ◌<◌, List, [], ◌∷◌, refl, sym, ap, subst, subst₂, arith, ◌∙◌, ap₂, Some, inl, inr}
 use Rattle.std.specs.Prelude.{slice_get, min, max, Contains}
 use Rattle.std.specs.List.Sorted.{IsStrictlySortedBy}
 use Rattle.std.proofs.lemmas.Option.{same_Some, slice_get_within}
@@ -8,9 +8,9 @@ use Rattle.sw_base.specs.declared.path.Step.{Step}
 use Rattle.log_format.specs.declared.record.Record.{Record}
 use Rattle.log_format.specs.declared.record.Kind.{Kind}
 use Rattle.log_format.specs.declared.record.Kind.TheVariants.{Read, Write, Lock, Unlock, Barrier, Region, End}
-use Rattle.race_model.specs.Trace.{Logs, logs_of, Node, record_at, HasKind, IsThere}
+use Rattle.race_model.specs.Trace.{Logs, logs_of, Node, record_at}
 use Rattle.race_model.specs.Order.{Edge, HappensBefore}
-use Rattle.race_model.specs.Race.{IsAccess, HasByte, SharesByte, IsUnordered, IsRace, IsRacePair, Lists, held_at}
+use Rattle.race_model.specs.Race.{IsAccess, SharesByte, IsUnordered, IsRace, IsRacePair, Lists, held_at}
 use Rattle.race_model.specs.Label.{Triple, IsLabel}
 use Rattle.race_model.proofs.ForkJoinExample.{at_task, made, access, lane_of, lane_log, team, logs, root_forks, is_lane, team_is_fork_join}
 use Rattle.race_model.proofs.LabelVectors.{triple, not_across}

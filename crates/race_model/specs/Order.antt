@@ -1,6 +1,6 @@
 -- Happens-before of a fork-join run: program order, and the edges of forks, joins and team barriers
 -- (OpenMP 5.2, the parallel construct and the barrier construct).
-use Rattle.std.specs.Prelude.{◌≡◌, ℕ, ◌+◌, ◌<◌, List, [], ◌∷◌, ◌++◌, Some}
+use Rattle.std.specs.Prelude.{◌≡◌, ℕ, ◌+◌, ◌<◌, List, Some}
 use Rattle.sw_base.specs.declared.path.Step.{Step}
 use Rattle.log_format.specs.declared.record.Record.{Record}
 use Rattle.log_format.specs.declared.record.Kind.TheVariants.{Barrier, Region, End}

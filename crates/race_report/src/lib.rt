@@ -2,7 +2,7 @@
 //! `races N`, the number of pairs. Each line is one write.
 #![tactic(auto)]
 
-ghost use Rattle.std.specs.Prelude.{◌≡◌, length, OnOk, OnErr};
+ghost use Rattle.std.specs.Prelude.{◌≡◌, OnOk, OnErr};
 ghost use Rattle.sw_base.specs.Environment.{HasCause, GainsFront, gained};
 ghost use Rattle.race_report.specs.Report.{race_line, count_line, report_text};
 

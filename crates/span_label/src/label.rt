@@ -1,4 +1,4 @@
-ghost use Rattle.std.specs.Prelude.{◌≡◌, ◌+◌, ◌^◌, ◌-◌, ◌<◌, ◌≤◌, ◌↔◌, List, [], ◌∷◌, ◌++◌, length, All, IsTrue};
+ghost use Rattle.std.specs.Prelude.{◌≡◌, ◌+◌, ◌^◌, ◌-◌, ◌<◌, ◌↔◌, List, [], ◌∷◌, ◌++◌, length, All, IsTrue};
 ghost use Rattle.std.specs.Option.{ForSome};
 ghost use Rattle.race_model.specs.Label.{Triple as ModelTriple, IsLabelBefore, IsConcurrent};
 ghost use Rattle.span_label.specs.Levels.{HasLane, HasLevels, own_level};

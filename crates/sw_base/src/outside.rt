@@ -2,7 +2,7 @@
 //!
 //! What an object holds is optional: a real file tells nothing, and the versions in memory tell all. A clause on content
 //! says what holds where the object tells it. Counts of faults are always there, and never fall.
-ghost use Rattle.std.specs.Prelude.{◌≡◌, ◌+◌, ◌<◌, ◌≤◌, ◌↔◌, ℕ, List, [], ◌∷◌, ◌++◌, length, Option, unwrap_or, is_some, IfOk, IfErr, OnOk, OnErr, IsErrOf};
+ghost use Rattle.std.specs.Prelude.{◌≡◌, ◌+◌, ◌<◌, ◌≤◌, ℕ, List, [], ◌∷◌, ◌++◌, length, Option, unwrap_or, is_some, IfOk, IfErr, OnOk, OnErr, IsErrOf};
 ghost use Rattle.std.specs.Option.{option_map};
 ghost use Rattle.sw_base.specs.Environment.{Content, Text, WhereTold, Rose, HasCause, TakesFaults, Reads, LeavesFront, TearsPiece, GainsFront, with_put, with_log, with_piece, empty_text, gained};
 ghost use Rattle.sw_base.specs.Names.{log_name};

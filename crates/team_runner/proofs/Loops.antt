@@ -8,7 +8,7 @@ use Rattle.kernel_syntax.specs.Program.{code_of}
 use Rattle.kernel_syntax.specs.Tree as tree
 use Rattle.kernel_syntax.specs.Tree.{Term, Code}
 use Rattle.kernel_model.specs.State as model
-use Rattle.kernel_model.specs.State.{State, Outcome, Gives, after, and_then, put, event, value_read, number_drawn}
+use Rattle.kernel_model.specs.State.{State, Gives, after, and_then, put, event, value_read, number_drawn}
 use Rattle.kernel_model.specs.Value.{Site, value}
 use Rattle.kernel_model.specs.Iterations.{total_of}
 use Rattle.kernel_model.specs.Trace.{log_limit, run, shared, loop_end}

@@ -12,7 +12,7 @@ use Rattle.kernel_syntax.proofs.Equations.{stmts_code-append}
 use Rattle.kernel_syntax.proofs.Following.{followed_by, stmt_code-first}
 use Rattle.kernel_syntax.specs.FirstKind.{AreStores}
 use Rattle.kernel_model.specs.State as model
-use Rattle.kernel_model.specs.State.{State, Outcome, after, assign}
+use Rattle.kernel_model.specs.State.{State, Outcome, after}
 use Rattle.kernel_model.specs.Value.{Site, element_at, access}
 use Rattle.kernel_model.specs.Trace.{log_limit, run, each}
 use Rattle.kernel_model.specs.Effect.{Finish, Returned, Halted, Makes, MakesValue, adds}

@@ -10,7 +10,7 @@ ghost use Rattle.team_runner.specs.Answer.{AreFirst, HasRun, HasStoppedRun, IsOw
 ghost use Rattle.team_runner.specs.Lane.{IsFresh};
 ghost use Rattle.team_runner.specs.Ready.{IsBufferSize, IsReady};
 ghost use Rattle.team_runner.specs.Stops.{StopsSo};
-ghost use Rattle.team_runner.specs.Team.{EachAt, IsForked, HasTeam, HasRunTeam, HasPut, ClosesWith, region_record, all_logs, entry, AreLogs, handed, logged, faulty, path_of};
+ghost use Rattle.team_runner.specs.Team.{EachAt, IsForked, HasTeam, HasRunTeam, HasPut, ClosesWith, region_record, all_logs, entry, AreLogs, handed, logged, faulty};
 ghost use Rattle.team_runner.specs.Written.{Adds, HasFault, Keeps};
 ghost use Rattle.team_runner.specs.declared.stop.Stop.TheVariants as stop;
 ghost use Rattle.sw_base.specs.declared.trouble.Trouble.TheVariants as trouble;

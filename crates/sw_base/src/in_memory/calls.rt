@@ -1,5 +1,5 @@
 //! Which calls of an object in memory are to fail, and what a call that fails leaves of a piece.
-ghost use Rattle.std.specs.Prelude.{◌≡◌, ◌+◌, ◌-◌, ◌^◌, ◌↔◌, [], min, OnOk, OnErr, IsTrue, Contains};
+ghost use Rattle.std.specs.Prelude.{◌≡◌, ◌-◌, ◌↔◌, [], OnOk, OnErr, IsTrue, Contains};
 ghost use Rattle.sw_base.specs.InMemory.{next_count, TornEnd};
 
 use crate::trouble::Memory;

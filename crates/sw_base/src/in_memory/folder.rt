@@ -1,5 +1,5 @@
 //! A folder, kept in memory.
-ghost use Rattle.std.specs.Prelude.{◌≡◌, ◌<◌, ◌≤◌, ◌↔◌, [], ◌∷◌, ◌++◌, length, unwrap_or, is_some, IfOk, IfErr, OnOk, OnErr, IsErrOf, IsErrAnd, IsTrue, slice_get, string_bytes};
+ghost use Rattle.std.specs.Prelude.{◌≡◌, ◌<◌, ◌≤◌, ◌↔◌, [], ◌∷◌, ◌++◌, length, unwrap_or, is_some, IfOk, IfErr, OnOk, OnErr, IsErrOf, IsErrAnd, IsTrue, slice_get};
 ghost use Rattle.std.specs.Bool.{OnFalse};
 ghost use Rattle.std.specs.Option.{option_copied, option_map};
 ghost use Rattle.sw_base.specs.Environment.{HasCause, LeavesFront, Reads, Rose, TakesFaults, WhereTold, empty_text, no_files, with_file, with_log, with_put};

@@ -1,5 +1,5 @@
 //! What is printed, kept in memory.
-ghost use Rattle.std.specs.Prelude.{◌≡◌, ◌↔◌, [], ◌++◌, IfOk, OnOk, OnErr, IsErrOf};
+ghost use Rattle.std.specs.Prelude.{◌≡◌, ◌↔◌, [], IfOk, OnOk, OnErr, IsErrOf};
 ghost use Rattle.sw_base.specs.Environment.{HasCause, GainsFront, gained};
 ghost use Rattle.sw_base.specs.InMemory.{next_count};
 ghost use Rattle.sw_base.specs.MemOut.{bytes_of, written_of, faults_of, calls_of, failing_of, IsNextToFail};

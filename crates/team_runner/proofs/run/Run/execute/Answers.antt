@@ -8,7 +8,7 @@ use Rattle.std.proofs.lemmas.Result.{err_from_is_err_and}
 use Rattle.team_runner.specs.Answer.{HasStoppedRun, HasFaulty}
 use Rattle.team_runner.specs.Team.{HasTeam, HasRunTeam, all_logs, logged, faulty}
 use Rattle.team_runner.proofs.Putting.{keeps_chain}
-use Rattle.team_runner.proofs.WholeRun.{own_logs, first_logs, first_root_log, lane_cause, root_cause, stopped_run, finished_run, stops_after, cause_after}
+use Rattle.team_runner.proofs.WholeRun.{own_logs, first_logs, lane_cause, root_cause, stopped_run, finished_run, stops_after, cause_after}
 use Rattle.team_runner.proofs.run.Run.execute.Goals as goal
 
 pub table-requires : goal.table-requires
