@@ -309,7 +309,13 @@ fn of_two_broken_rules_the_first_is_told(rt: HostRuntime) -> Result<(), Fail> {
     for (second, number, why) in table {
         assert_eq!(rt; lane_1(alloc, 5, &second)?, Told::Record(2, number, why));
     }
+    Ok(())
+}
 
+#[test]
+fn a_ninth_lock_and_the_root_break_two_rules(rt: HostRuntime) -> Result<(), Fail> {
+    let alloc = rt.alloc();
+    let [lock, _, _, barrier, end] = lane(4104);
     let mut twice = Vec::new(alloc);
     for mutex in 1..9 {
         twice.push(other(LOCK, 2, mutex, 0))?;
