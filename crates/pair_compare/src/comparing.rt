@@ -7,7 +7,7 @@ ghost use Rattle.log_segment.specs.Intervals.{AreSegments};
 ghost use Rattle.pair_compare.specs.Conflict.{AddsPairs, AddsSome};
 ghost use Rattle.pair_compare.specs.Compare.{AreCompared, IsRacingPair, IsRacingWith};
 
-use crate::add_conflicts;
+use crate::conflict::add_conflicts;
 use log_segment::Segment;
 use std::alloc::Global;
 use std::collections::BTreeSet;

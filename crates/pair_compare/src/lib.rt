@@ -10,4 +10,6 @@ mod comparing;
 mod conflict;
 
 pub use comparing::{compare, compare_all};
-pub use conflict::{add_conflicts, conflicts};
+
+#[cfg(test)]
+mod tests;

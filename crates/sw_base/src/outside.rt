@@ -41,7 +41,7 @@ pub trait Out {
 }
 
 /// The log of one task: the pieces of its bytes, as they are appended.
-pub trait Log: Drop + Send + Sized + 'static {
+pub trait Log: Drop + Send + Sized {
     /// The folder's name.
     ghost dir: { Self → List ℕ };
 
@@ -102,7 +102,8 @@ pub trait Folder {
         ensures same_writes { write_faults self.new ≡ write_faults self.old };
 
     /// Reads bytes of the named file, from the place `at` on, into the front of `into`, and answers how many. A file that
-    /// isn't there is read as one without a byte. Fewer may come than `into` has room for, but none only at the end.
+    /// isn't there is read as one without a byte. Fewer may come than `into` has room for, but none only at the end or where
+    /// there is no room. Behind them, and after an error, `into` may hold anything.
     fn read(
         &mut self,
         alloc: Global,

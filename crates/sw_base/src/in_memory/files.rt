@@ -1,5 +1,5 @@
 //! The files of a folder in memory: a map from names to bytes.
-ghost use Rattle.std.specs.Prelude.{◌≡◌, OnOk, OnErr, length, ◌≤◌};
+ghost use Rattle.std.specs.Prelude.{◌≡◌, OnOk, OnErr, drop, length, ◌≤◌};
 ghost use Rattle.std.specs.Option.{option_copied};
 ghost use Rattle.sw_base.specs.Environment.{Reads, with_file};
 ghost use Rattle.sw_base.specs.MemFolder.{held_by};
@@ -34,10 +34,11 @@ pub fn store(files: &mut Held, alloc: Global, name: &str, bytes: &[u8]) -> Resul
     Ok(())
 }
 
-/// Copies the file's bytes from `at` on to the front of `into`, as many as there are and fit.
+/// Copies the file's bytes from `at` on to the front of `into`, as many as there are and fit. The rest of `into` is kept.
 pub fn copy_from(file: &[u8], at: u64, into: &mut [u8]) -> usize
     ensures fits { result ≤ length into.old }
     ensures reads { Reads file.now at result into.new }
+    ensures rest { drop result into.new ≡ drop result into.old }
 {
     if at >= file.len() as u64 {
         return 0;

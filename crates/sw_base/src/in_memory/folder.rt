@@ -1,5 +1,5 @@
 //! A folder, kept in memory.
-ghost use Rattle.std.specs.Prelude.{◌≡◌, ◌<◌, ◌≤◌, ◌↔◌, [], ◌∷◌, ◌++◌, length, unwrap_or, is_some, IfOk, IfErr, OnOk, OnErr, IsErrOf, IsErrAnd, IsTrue, slice_get};
+ghost use Rattle.std.specs.Prelude.{◌≡◌, ◌<◌, ◌≤◌, ◌↔◌, [], ◌∷◌, ◌++◌, length, drop, unwrap_or, is_some, IfOk, IfErr, OnOk, OnErr, IsErrOf, IsErrAnd, IsTrue, slice_get};
 ghost use Rattle.std.specs.Bool.{OnFalse};
 ghost use Rattle.std.specs.Option.{option_copied, option_map};
 ghost use Rattle.sw_base.specs.Environment.{HasCause, LeavesFront, Reads, Rose, TakesFaults, WhereTold, empty_text, no_files, with_file, with_log, with_put};
@@ -260,6 +260,8 @@ impl Folder for MemFolder {
     ) -> Result<usize, Trouble>
         ensures fits { IfOk result (λ count. count ≤ length into.old) }
         ensures bytes { IfOk result (λ count. WhereTold (content_of self.old) (λ c. Reads (unwrap_or (c.held name.now) []) at count into.new)) }
+        ensures rest { IfOk result (λ count. drop count into.new ≡ drop count into.old) }
+        ensures unread { OnErr result (into.new ≡ into.old) }
 
         ensures same { content_of self.new ≡ content_of self.old }
         ensures cause { HasCause (read_faults_of self.old) (read_faults_of self.new) result }
