@@ -63,13 +63,22 @@ fn role_of(lexeme: &Lexeme) -> Role
     }
 }
 
+// The parts of an expression by how tightly they bind.
+const UNARY: u8 = 0;
+
+const PRODUCT: u8 = 1;
+
+const SUM: u8 = 2;
+
+const EXPR: u8 = 3;
+
 fn rank_of(op: Op) -> u8
     ensures { result ≡ rank_of op }
 {
     match op {
-        Op::Mul | Op::Div | Op::Rem => 1,
-        Op::Add | Op::Sub => 2,
-        Op::Eq | Op::Ne | Op::Lt | Op::Le | Op::Gt | Op::Ge => 3,
+        Op::Mul | Op::Div | Op::Rem => PRODUCT,
+        Op::Add | Op::Sub => SUM,
+        Op::Eq | Op::Ne | Op::Lt | Op::Le | Op::Gt | Op::Ge => EXPR,
     }
 }
 
@@ -77,8 +86,8 @@ fn left_rank(op: Op) -> u8
     ensures { result ≡ left_rank op }
 {
     match op {
-        Op::Mul | Op::Div | Op::Rem => 1,
-        _ => 2,
+        Op::Mul | Op::Div | Op::Rem => PRODUCT,
+        _ => SUM,
     }
 }
 
@@ -86,9 +95,9 @@ fn right_rank(op: Op) -> u8
     ensures { result ≡ right_rank op }
 {
     match op {
-        Op::Mul | Op::Div | Op::Rem => 0,
-        Op::Add | Op::Sub => 1,
-        _ => 2,
+        Op::Mul | Op::Div | Op::Rem => UNARY,
+        Op::Add | Op::Sub => PRODUCT,
+        _ => SUM,
     }
 }
 
@@ -120,7 +129,7 @@ fn wanted(frames: &[Frame]) -> u8
     ensures { result ≡ wanted (stack_of frames.now) }
 {
     match frames.split_last() {
-        None => 3,
+        None => EXPR,
         Some((frame, _)) => wanted_by(frame),
     }
 }
@@ -129,9 +138,9 @@ fn wanted_by(frame: &Frame) -> u8
     ensures { result ≡ wanted (around_of frame.now ∷ []) }
 {
     match frame {
-        Frame::Minus { .. } => 0,
+        Frame::Minus { .. } => UNARY,
         Frame::Left { op, .. } => right_rank(*op),
-        Frame::Group { .. } | Frame::Index { .. } => 3,
+        Frame::Group { .. } | Frame::Index { .. } => EXPR,
     }
 }
 
@@ -300,11 +309,11 @@ fn role_step(
     match role {
         Role::OpenIndex => open_index(frames, held, line),
         Role::CloseGroup => {
-            let inside = reduced(alloc, frames, held, 3)?;
+            let inside = reduced(alloc, frames, held, EXPR)?;
             close_group(alloc, frames, inside, line)
         }
         Role::CloseIndex => {
-            let index = reduced(alloc, frames, held, 3)?;
+            let index = reduced(alloc, frames, held, EXPR)?;
             close_index(alloc, frames, index, line)
         }
         Role::Operator(op) => {
@@ -312,7 +321,7 @@ fn role_step(
             take_left(frames, left, op, line)
         }
         Role::Other => {
-            let whole = reduced(alloc, frames, held, 3)?;
+            let whole = reduced(alloc, frames, held, EXPR)?;
             finish(frames, whole)
         }
     }
