@@ -1,5 +1,5 @@
 -- Whole texts by the definitions: the kernel of each, or the rule that it breaks first, worked out by hand.
-use Rattle.std.proofs.Common.{◌≡◌, refl, rules, arith, ℕ, ◌+◌, Bool, true, false, nat_lt, length, List, [], ◌∷◌, ◌++◌, None, Some, Ok, Err}
+use Rattle.std.proofs.Common.{◌≡◌, refl, rules, arith, ℕ, ◌+◌, Bool, true, false, nat_lt, length, List, [], ◌∷◌, ◌++◌, None, Ok}
 use Rattle.std.specs.Prelude.{◌&&◌, pos, codes, flat_map}
 use Rattle.std.specs.Str.{IsAscii}
 use Rattle.std.proofs.lemmas.Bool.Decides.{nat_tests}
@@ -13,7 +13,7 @@ use Rattle.kernel_syntax.specs.Tree as kernel
 use Rattle.kernel_syntax.specs.Program.{Program}
 use Rattle.kernel_reader.specs.declared.fault.KernelWhy.TheVariants as why
 use Rattle.kernel_reader.specs.Tokens.{lexeme_at, tokens_from, tokens_of}
-use Rattle.kernel_reader.specs.Grammar.{Tree, NumberAt, NameAt, TidAt, Element, Binary, Unsaid, Dynamic, DynamicBy, Stmts, NoMore, Let, Store, If, Loop, Parallel, For, Barrier, CriticalOf, Declaration, ArrayOf, MutexOf, KernelTree}
+use Rattle.kernel_reader.specs.Grammar.{Tree, NumberAt, NameAt, TidAt, Element, Binary, Dynamic, DynamicBy, Stmts, NoMore, Let, Store, If, Loop, Parallel, For, Barrier, CriticalOf, Declaration, ArrayOf, MutexOf, KernelTree}
 use Rattle.kernel_reader.specs.Faults.{kernel_levels}
 use Rattle.kernel_reader.specs.KernelOf.{IsKernelOf, IsRefused, AtRule}
 

@@ -106,36 +106,27 @@ fn sign_lexeme(bytes: &[u8]) -> Option<(Lexeme, usize)>
     Some((Lexeme::Mark(sign), 1))
 }
 
-/// How many bytes at the front pass a test.
+// How many bytes at the front pass a test: those of a name, of a number, and of a comment.
 fn name_len(bytes: &[u8]) -> usize
     ensures { result ≡ prefix_len is_in_name bytes.now }
 {
-    let mut len = 0;
-    while len < bytes.len() && is_in_name(bytes[len]) {
-        len += 1;
-    }
-    len
+    bytes.iter().take_while(|byte| is_in_name(**byte)).count()
 }
 
 fn digits_len(bytes: &[u8]) -> usize
     ensures { result ≡ prefix_len is_ascii_digit bytes.now }
 {
-    let mut len = 0;
-    while len < bytes.len() && bytes[len].is_ascii_digit() {
-        len += 1;
-    }
-    len
+    bytes
+        .iter()
+        .take_while(|byte| byte.is_ascii_digit())
+        .count()
 }
 
 fn line_len(bytes: &[u8]) -> usize
     ensures len { result ≡ prefix_len not_line_feed bytes.now }
     ensures within { result ≤ length bytes.now }
 {
-    let mut len = 0;
-    while len < bytes.len() && bytes[len] != b'\n' {
-        len += 1;
-    }
-    len
+    bytes.iter().take_while(|byte| **byte != b'\n').count()
 }
 
 fn name_lexeme(bytes: &[u8]) -> Option<(Lexeme, usize)>
