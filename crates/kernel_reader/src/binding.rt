@@ -1,5 +1,5 @@
 //! The names of an expression become numbers of arrays and slots, and its accesses get their sites.
-ghost use Rattle.std.specs.Prelude.{◌≡◌, ◌+◌, ◌<◌, ◌≤◌, length, bytes_eq, option_copied, [], IfSome, IfOk, IfErr};
+ghost use Rattle.std.specs.Prelude.{◌≡◌, ◌+◌, ◌<◌, ◌≤◌, length, bytes_eq, option_copied, [], IfSome, IfOk, IfErr, None, Some, if◌then◌else◌};
 ghost use Rattle.kernel_syntax.specs.Tree as kernel;
 ghost use Rattle.kernel_syntax.specs.Program.{term_of};
 ghost use Rattle.kernel_reader.specs.declared.fault.ReadKernelFault.TheVariants.{Memory};
@@ -52,26 +52,14 @@ fn variable_of<'a>(variables: &'a [Variable], name: &Name) -> Option<&'a Variabl
         .find(|variable| is_same(&variable.name, name))
 }
 
-fn slot_in(variables: &[Variable], in_bound: bool, name: &Name) -> Option<u32>
-    ensures { result ≡ slot_in (record { arrays = []; scope = variables.now }) in_bound name.now }
-{
-    let variable = variable_of(variables, name)?;
-    if in_bound && variable.assignable {
-        return None;
-    }
-    Some(variable.slot)
-}
-
-/// The number of the array of a name, which doesn't stand in a bound of a worksharing loop.
-pub fn array_in(arrays: &[Array], in_bound: bool, name: &Name) -> Option<u32>
-    requires { length arrays.now ≤ 64 }
-    ensures { result ≡ array_in (record { arrays = arrays.now; scope = [] }) in_bound name.now }
-{
-    let number = array_number(arrays, name)?;
-    if in_bound {
-        return None;
-    }
-    Some(number as u32)
+/// What names mean in an expression.
+#[derive(Clone, Copy)]
+pub struct Binder<'a> {
+    pub alloc: Global,
+    pub arrays: &'a [Array],
+    pub variables: &'a [Variable],
+    /// Whether the expression is a bound of a worksharing loop.
+    pub in_bound: bool,
 }
 
 fn is_unfit(op: Op) -> bool
@@ -121,56 +109,80 @@ fn binary(
     })
 }
 
-/// An expression with its names bound, and the next site.
-pub fn bind(
-    alloc: Global,
-    arrays: &[Array],
-    variables: &[Variable],
-    in_bound: bool,
-    site: u16,
-    tree: &Tree,
-) -> Result<(Expr, u16), ReadKernelFault>
-    requires few { length arrays.now ≤ 64 }
-    requires room { site + sites (tree_of tree.now) < 65536 }
-    ensures bound { Gives (λ x. (term_of x.0, x.1)) result (bind (record { arrays = arrays.now; scope = variables.now }) in_bound site (tree_of tree.now)) }
-    ensures next { IfOk result (λ x. x.1 ≡ site + sites (tree_of tree.now)) }
-{
-    match tree {
-        Tree::Number { value, .. } => Ok((Expr::Number(*value), site)),
-        Tree::Name { name, .. } => {
-            let slot = slot_in(variables, in_bound, name).ok_or(ReadKernelFault::NotBuilt)?;
-            Ok((Expr::Slot(slot), site))
+impl Binder<'_> {
+    /// The slot of a variable, which isn't assignable in a bound.
+    fn slot(&self, name: &Name) -> Result<u32, ReadKernelFault>
+        ensures { Gives (λ x. x) result (slot_in (record { arrays = []; scope = self.now.variables.now }) self.now.in_bound name.now) }
+    {
+        let variable = variable_of(self.variables, name).ok_or(ReadKernelFault::NotBuilt)?;
+        if self.in_bound && variable.assignable {
+            return Err(ReadKernelFault::NotBuilt);
         }
-        Tree::Tid { .. } if in_bound => Err(ReadKernelFault::NotBuilt),
-        Tree::Tid { .. } => Ok((Expr::Tid, site)),
-        Tree::Span { .. } => Ok((Expr::Span, site)),
-        Tree::Element {
-            line,
-            name,
-            index,
-            ..
-        } => {
-            let array = array_in(arrays, in_bound, name).ok_or(ReadKernelFault::NotBuilt)?;
-            let (index, next) = bind(alloc, arrays, variables, in_bound, site + 1, index)?;
-            Ok((load(alloc, array, index, *line, site)?, next))
+        Ok(variable.slot)
+    }
+
+    /// The number of the array of a name, which doesn't stand in a bound.
+    pub fn array(&self, name: &Name) -> Result<u32, ReadKernelFault>
+        requires { length self.now.arrays.now ≤ 64 }
+        ensures { Gives (λ x. x) result (array_in (record { arrays = self.now.arrays.now; scope = [] }) self.now.in_bound name.now) }
+    {
+        let number = array_number(self.arrays, name).ok_or(ReadKernelFault::NotBuilt)?;
+        if self.in_bound {
+            return Err(ReadKernelFault::NotBuilt);
         }
-        Tree::Group { inside, .. } => bind(alloc, arrays, variables, in_bound, site, inside),
-        Tree::Minus { operand, .. } => {
-            let (operand, next) = bind(alloc, arrays, variables, in_bound, site, operand)?;
-            Ok((Expr::Neg(Box::new(alloc, operand)?), next))
+        Ok(number as u32)
+    }
+
+    /// The lane's number, which doesn't stand in a bound.
+    fn tid(&self) -> Result<Expr, ReadKernelFault>
+        ensures { Gives term_of result (if self.now.in_bound then None else Some kernel.Tid) }
+    {
+        if self.in_bound {
+            return Err(ReadKernelFault::NotBuilt);
         }
-        Tree::Binary {
-            left,
-            op,
-            line,
-            right,
-        } => {
-            let (left, next) = bind(alloc, arrays, variables, in_bound, site, left)?;
-            if in_bound && is_unfit(*op) {
-                return Err(ReadKernelFault::NotBuilt);
+        Ok(Expr::Tid)
+    }
+
+    /// An expression with its names bound, and the next site.
+    pub fn bind(&self, site: u16, tree: &Tree) -> Result<(Expr, u16), ReadKernelFault>
+        requires few { length self.now.arrays.now ≤ 64 }
+        requires room { site + sites (tree_of tree.now) < 65536 }
+        ensures bound { Gives (λ x. (term_of x.0, x.1)) result (bind (record { arrays = self.now.arrays.now; scope = self.now.variables.now }) self.now.in_bound site (tree_of tree.now)) }
+        ensures next { IfOk result (λ x. x.1 ≡ site + sites (tree_of tree.now)) }
+    {
+        match tree {
+            Tree::Number { value, .. } => Ok((Expr::Number(*value), site)),
+            Tree::Name { name, .. } => Ok((Expr::Slot(self.slot(name)?), site)),
+            Tree::Tid { .. } => Ok((self.tid()?, site)),
+            Tree::Span { .. } => Ok((Expr::Span, site)),
+            Tree::Element {
+                line,
+                name,
+                index,
+                ..
+            } => {
+                let array = self.array(name)?;
+                let (index, next) = self.bind(site + 1, index)?;
+                Ok((load(self.alloc, array, index, *line, site)?, next))
             }
-            let (right, next) = bind(alloc, arrays, variables, in_bound, next, right)?;
-            Ok((binary(alloc, *op, *line, left, right)?, next))
+            Tree::Group { inside, .. } => self.bind(site, inside),
+            Tree::Minus { operand, .. } => {
+                let (operand, next) = self.bind(site, operand)?;
+                Ok((Expr::Neg(Box::new(self.alloc, operand)?), next))
+            }
+            Tree::Binary {
+                left,
+                op,
+                line,
+                right,
+            } => {
+                let (left, next) = self.bind(site, left)?;
+                if self.in_bound && is_unfit(*op) {
+                    return Err(ReadKernelFault::NotBuilt);
+                }
+                let (right, next) = self.bind(next, right)?;
+                Ok((binary(self.alloc, *op, *line, left, right)?, next))
+            }
         }
     }
 }

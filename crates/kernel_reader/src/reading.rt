@@ -10,7 +10,7 @@ ghost use Rattle.kernel_reader.specs.declared.fault.ReadKernelFault.TheVariants.
 ghost use Rattle.kernel_reader.specs.Machine.{Gives, tree_of};
 ghost use Rattle.kernel_reader.specs.Reading.{Finds, declaration_at, arrays_at, store_of, store_at, bind_store, bound_of, read_store, closes, stores_at, range_at, schedule_at, nowait_at, loop_at, region_at, kernel_at};
 
-use crate::binding::{Variable, array_in, bind, is_array};
+use crate::binding::{Binder, Variable, is_array};
 use crate::expression::expression;
 use crate::fault::ReadKernelFault;
 use crate::parsing::{counted, name_at, number_at, sign_at, word_at};
@@ -147,9 +147,15 @@ fn bind_store(
     ensures bound { Gives (λ x. (x.0, term_of x.1, term_of x.2, x.3)) result (bind_store (record { arrays = arrays.now; scope = variables.now }) site (store_of store.now)) }
     ensures next { IfOk result (λ x. x.3 ≡ site + 1 + sites (tree_of store.now.index) + sites (tree_of store.now.value)) }
 {
-    let array = array_in(arrays, false, &store.name).ok_or(ReadKernelFault::NotBuilt)?;
-    let (index, next) = bind(alloc, arrays, variables, false, site + 1, &store.index)?;
-    let (value, next) = bind(alloc, arrays, variables, false, next, &store.value)?;
+    let binder = Binder {
+        alloc,
+        arrays,
+        variables,
+        in_bound: false,
+    };
+    let array = binder.array(&store.name)?;
+    let (index, next) = binder.bind(site + 1, &store.index)?;
+    let (value, next) = binder.bind(next, &store.value)?;
     Ok((array, index, value, next))
 }
 
@@ -301,8 +307,14 @@ fn loop_at<'a>(
     if is_array(arrays, &range.name) {
         return Err(ReadKernelFault::NotBuilt);
     }
-    let (from, site) = bind(alloc, arrays, &[], true, 0, &range.from)?;
-    let (to, site) = bind(alloc, arrays, &[], true, site, &range.to)?;
+    let binder = Binder {
+        alloc,
+        arrays,
+        variables: &[],
+        in_bound: true,
+    };
+    let (from, site) = binder.bind(0, &range.from)?;
+    let (to, site) = binder.bind(site, &range.to)?;
     let variables = [Variable {
         name: range.name.copy(),
         slot: 0,
