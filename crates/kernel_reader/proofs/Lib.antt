@@ -17,3 +17,4 @@ pub mod Bounded
 pub mod Kernels
 pub mod Examples
 pub mod Texts
+pub mod RefusedTexts

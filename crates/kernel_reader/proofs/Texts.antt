@@ -1,5 +1,5 @@
 -- Whole texts by the definitions: the kernel of each, or the rule that it breaks first, worked out by hand.
-use Rattle.std.proofs.Common.{◌≡◌, refl, rules, arith, ℕ, ◌+◌, Bool, true, false, nat_lt, length, List, [], ◌∷◌, ◌++◌, None, Ok}
+use Rattle.std.proofs.Common.{◌≡◌, refl, rules, arith, ℕ, ◌+◌, Bool, true, false, nat_lt, length, List, [], ◌∷◌, ◌++◌, None, Ok, Err}
 use Rattle.std.specs.Prelude.{◌&&◌, pos, codes, flat_map}
 use Rattle.std.specs.Str.{IsAscii}
 use Rattle.std.proofs.lemmas.Bool.Decides.{nat_tests}
@@ -18,7 +18,7 @@ use Rattle.kernel_reader.specs.Faults.{kernel_levels}
 use Rattle.kernel_reader.specs.KernelOf.{IsKernelOf, IsRefused, AtRule}
 
 -- each byte is below 128
-abbrev all_ascii : List ℕ → Bool
+abbrev pub all_ascii : List ℕ → Bool
 all_ascii [] = true
 all_ascii (b ∷ bs) = nat_lt b 128 && all_ascii bs
 
@@ -31,11 +31,16 @@ is_ascii [] all = IsAscii-nil
 is_ascii (b ∷ bs) all = IsAscii-cons b bs (grind (arith, nat_tests)) (is_ascii bs (and_right (nat_lt b 128) (all_ascii bs) all))
 
 -- the tokens of a short text in ASCII
-ascii_tokens : (bs : List ℕ) (ts : List Token) → all_ascii bs ≡ true → nat_lt 65536 (length bs) ≡ false → tokens_from 1 0 bs ≡ Ok ts → tokens_of bs ≡ Ok ts
+pub ascii_tokens : (bs : List ℕ) (ts : List Token) → all_ascii bs ≡ true → nat_lt 65536 (length bs) ≡ false → tokens_from 1 0 bs ≡ Ok ts → tokens_of bs ≡ Ok ts
 unfolding tokens_of
 ascii_tokens bs ts all short is = rw (short, is_utf8-from_IsUtf8 bs (IsUtf8-from_ascii bs (is_ascii bs all)), is) refl
 
-abbrev lines : List (List ℕ) → List ℕ
+-- or the line of the first character that begins none
+pub ascii_fault : (bs : List ℕ) (line : ℕ) → all_ascii bs ≡ true → nat_lt 65536 (length bs) ≡ false → tokens_from 1 0 bs ≡ Err line → tokens_of bs ≡ Err (record { line = line; why = why.Token })
+unfolding tokens_of
+ascii_fault bs line all short is = rw (short, is_utf8-from_IsUtf8 bs (IsUtf8-from_ascii bs (is_ascii bs all)), is) refl
+
+abbrev pub lines : List (List ℕ) → List ℕ
 lines ls = flat_map (λ (l : List ℕ). l ++ 10 ∷ []) ls
 
 abbrev number : ℕ → ℕ → Tree

@@ -1,0 +1,200 @@
+-- Whole texts that are refused before any rule is asked: for a token, by the grammar, for their depth, at their end.
+use Rattle.std.proofs.Common.{◌≡◌, refl, ap, ◌∙◌, subst, append_assoc, arith, ℕ, zero, suc, ◌+◌, ◌≤◌, true, List, [], ◌∷◌, ◌++◌, length, take, replicate}
+use Rattle.std.specs.Prelude.{pos, codes, nat_le, ℤ, map, All}
+use Rattle.std.specs.List.{list_all}
+use Rattle.std.specs.Str.{is_utf8, chars}
+use Rattle.std.specs.Str.Lossy.{utf8_valid_len}
+use Rattle.std.proofs.lemmas.Bool.Decides.{nat_tests}
+use Rattle.std.proofs.lemmas.List.Elements.{All-nil, All-cons}
+use lib.Utf8.{encode}
+use Rattle.kernel_reader.specs.declared.fault.KernelWhy.TheVariants as why
+use Rattle.kernel_reader.specs.declared.token.Word.TheVariants as word
+use Rattle.kernel_reader.specs.declared.token.Sign.TheVariants as sign
+use Rattle.kernel_reader.specs.declared.token.Lexeme.{Lexeme}
+use Rattle.kernel_reader.specs.declared.token.Lexeme.TheVariants.{Reserved, Number}
+use Rattle.kernel_reader.specs.declared.token.Token.{Token}
+use Rattle.kernel_reader.specs.Tokens.{lexeme_at, tokens_from, tokens_of}
+use Rattle.kernel_reader.specs.Grammar.{Tree, NumberAt, NameAt, TidAt, SpanAt, Element, Group, Minus, Binary, named, number, reserved, mark, sign_of, tree_tokens, Stmts, NoMore, Let, Assign, Store, If, IfElse, Loop, Parallel, For, Barrier, Critical, CriticalOf, stmts_tokens, Declaration, ArrayOf, MutexOf, declarations_tokens, KernelTree, kernel_tokens, IsKernel, IsShallow}
+use Rattle.kernel_reader.specs.Faults.{tree_levels, stmts_levels, flat, block_levels, kernel_levels, BeginsShallow}
+use Rattle.kernel_reader.specs.KernelOf.{IsRefused, AtTokens, AtSyntax, AtDepth, AtEnd}
+use Rattle.kernel_reader.proofs.Texts.{ascii_tokens, ascii_fault, lines}
+
+-- ---- for a token
+
+-- no token begins with a dollar
+pub stray_refused : IsRefused (lines (codes "main {" ∷ codes "$" ∷ [])) (record { line = 2; why = why.Token })
+unfolding tokens_from lexeme_at
+stray_refused = AtTokens (ascii_fault _ 2 refl refl refl)
+
+-- no character of UTF-8 has the byte 255
+pub not_utf8_refused : IsRefused (lines (codes "main {" ∷ (255 ∷ []) ∷ [])) (record { line = 2; why = why.NotUtf8 })
+unfolding tokens_of is_utf8 chars encode utf8_valid_len
+not_utf8_refused = AtTokens refl
+
+-- ---- by the grammar
+
+-- levels that are written out
+low : (ns : List ℕ) → list_all (λ n. nat_le n 32) ns ≡ true → All (λ n. n ≤ 32) ns
+low [] all = All-nil (λ n. n ≤ 32)
+low (n ∷ ns) all = All-cons (λ n. n ≤ 32) n ns (grind (arith, nat_tests)) (low ns (grind (arith, nat_tests)))
+
+-- the first tokens of a kernel that is written out
+begins : (ts : List Token) (k : KernelTree) (rest : List Token) → IsKernel k → kernel_tokens k ≡ ts ++ rest → list_all (λ n. nat_le n 32) (take (length ts) (kernel_levels k)) ≡ true → BeginsShallow ts
+begins ts k rest derives e all = (k, rest, derives, e, low (take (length ts) (kernel_levels k)) all)
+
+-- tokens without their lines
+abbrev lexemes : List Token → List Lexeme
+lexemes ts = map (λ (t : Token). t.lexeme) ts
+
+-- where a kernel begins with `main`, it has no declarations
+no_declarations : (ds : List Declaration) (l o line opened : ℕ) (body ts : List Token)
+    → declarations_tokens ds ++ reserved l word.Main ∷ mark o sign.OpenBrace ∷ body ≡ reserved line word.Main ∷ mark opened sign.OpenBrace ∷ ts → (ds ≡ []) × (body ≡ ts)
+no_declarations [] l o line opened body ts e = (refl, cc)
+no_declarations (ArrayOf _ _ _ _ _ _ _ ∷ ds) l o line opened body ts e = let l = ap lexemes e in absurd cc
+no_declarations (MutexOf _ _ _ ∷ ds) l o line opened body ts e = let l = ap lexemes e in absurd cc
+
+-- the statements of a kernel, and the brace behind them
+abbrev body_tokens : KernelTree → List Token
+body_tokens k = stmts_tokens k.body ++ mark k.closed sign.CloseBrace ∷ []
+
+-- `main`, a brace, and more in the first line
+abbrev in_main : List Token → List Token
+in_main ts = reserved 1 word.Main ∷ mark 1 sign.OpenBrace ∷ ts
+
+-- a kernel without declarations, from the first line to the second
+abbrev main_of : Stmts → KernelTree
+main_of body = record { declarations = []; line = 1; opened = 1; body = body; closed = 2 }
+
+-- no number stands behind `let`
+let_number : (body : Stmts) (closed : ℕ) (value : ℤ) (rest : List Lexeme) → lexemes (stmts_tokens body ++ mark closed sign.CloseBrace ∷ []) ≡ Reserved word.Let ∷ Number value ∷ rest → ⊥
+let_number NoMore closed value rest e = absurd cc
+let_number (Let _ _ _ _ _ _) closed value rest e = absurd cc
+let_number (Assign _ _ _ _ _) closed value rest e = absurd cc
+let_number (Store _ _ _ _ _ _ _ _) closed value rest e = absurd cc
+let_number (If _ _ _ _ _ _) closed value rest e = absurd cc
+let_number (IfElse _ _ _ _ _ _ _ _ _ _) closed value rest e = absurd cc
+let_number (Loop _ _ _ _ _ _ _ _ _ _ _) closed value rest e = absurd cc
+let_number (Parallel _ _ _ _ _ _ _) closed value rest e = absurd cc
+let_number (For _ _ _ _ _ _ _ _ _ _ _ _ _) closed value rest e = absurd cc
+let_number (Barrier _ _) closed value rest e = absurd cc
+let_number (Critical _ _ _ _ _) closed value rest e = absurd cc
+let_number (CriticalOf _ _ _ _ _ _ _) closed value rest e = absurd cc
+
+-- the number in the second line is the first token with which no kernel begins
+pub number_refused : IsRefused (lines (codes "main {" ∷ codes "let 1 = 2" ∷ codes "}" ∷ [])) (record { line = 2; why = why.Syntax })
+unfolding tokens_from lexeme_at
+number_refused = AtSyntax _ (number 2 (pos 1)) (ascii_tokens _ _ refl refl refl)
+    (record {
+      good = in_main (reserved 2 word.Let ∷ []);
+      rest = mark 2 sign.Assign ∷ number 2 (pos 2) ∷ mark 3 sign.CloseBrace ∷ [];
+      parts = refl;
+      begins = begins (in_main (reserved 2 word.Let ∷ [])) (main_of (Let 2 2 (codes "k") 2 (NumberAt 2 (pos 0)) NoMore)) _ (tt, tt) refl refl;
+      stops = λ b. let_number b.0.body b.0.closed (pos 1) (lexemes b.1) (ap lexemes (no_declarations b.0.declarations b.0.line b.0.opened 1 1 (body_tokens b.0) _ b.3).1);
+    })
+    refl
+
+-- ---- at the end
+
+no_brace : (xs : List Token) (x : Token) → xs ++ x ∷ [] ≡ [] → ⊥
+no_brace [] x e = absurd cc
+no_brace (y ∷ xs) x e = absurd cc
+
+-- the brace isn't closed, as is seen at the end of the text
+pub open_refused : IsRefused (lines (codes "main {" ∷ [])) (record { line = 2; why = why.Syntax })
+unfolding tokens_from lexeme_at
+open_refused = AtEnd (in_main []) (ascii_tokens _ _ refl refl refl)
+    (record {
+      begins = begins (in_main []) (main_of NoMore) _ tt refl refl;
+      unfinished = λ k derives e. no_brace (stmts_tokens k.body) (mark k.closed sign.CloseBrace) (no_declarations k.declarations k.line k.opened 1 1 (body_tokens k) [] e).1;
+    })
+    refl
+
+-- ---- for the depth of an expression
+
+-- so many opening brackets
+abbrev brackets : ℕ → List Token
+brackets n = replicate n (mark 2 sign.OpenParen)
+
+-- the levels from above m on, so many
+abbrev rising : ℕ → ℕ → List ℕ
+rising m zero = []
+rising m (suc n) = (m + 1) ∷ rising (m + 1) n
+
+-- brackets at the front of an expression open one level after another
+pub brackets_rise : (n m : ℕ) (t : Tree) (more rest : List Token) (tail : List ℕ) → tree_tokens t ++ more ≡ brackets n ++ rest → (after : List ℕ) × (tree_levels m t ++ tail ≡ rising m n ++ after)
+brackets_rise zero m t more rest tail e = (_, refl)
+brackets_rise (suc n) m (NumberAt line value) more rest tail e = let l = ap lexemes e in absurd cc
+brackets_rise (suc n) m (NameAt line name) more rest tail e = let l = ap lexemes e in absurd cc
+brackets_rise (suc n) m (TidAt line) more rest tail e = let l = ap lexemes e in absurd cc
+brackets_rise (suc n) m (SpanAt line) more rest tail e = let l = ap lexemes e in absurd cc
+brackets_rise (suc n) m (Element line name opened index closed) more rest tail e = let l = ap lexemes e in absurd cc
+brackets_rise (suc n) m (Minus line operand) more rest tail e = let l = ap lexemes e in absurd cc
+brackets_rise (suc n) m (Group opened inside closed) more rest tail e =
+    let inner = brackets_rise n (m + 1) inside (mark closed sign.CloseParen ∷ more) rest (0 ∷ tail) (rw (← append_assoc (tree_tokens inside) (mark closed sign.CloseParen ∷ []) more) cc) in
+    (inner.0, ap (λ (ls : List ℕ). (m + 1) ∷ ls) (append_assoc (tree_levels (m + 1) inside) (0 ∷ []) tail ∙ inner.1))
+brackets_rise (suc n) m (Binary left op line right) more rest tail e =
+    let inner = brackets_rise (suc n) m left (mark line (sign_of op) ∷ tree_tokens right ++ more) rest (0 ∷ tree_levels m right ++ tail) (rw (← append_assoc (tree_tokens left) (mark line (sign_of op) ∷ tree_tokens right) more) e) in
+    (inner.0, append_assoc (tree_levels m left) (0 ∷ tree_levels m right) tail ∙ inner.1)
+
+-- in the second line, an assignment that begins with so many brackets
+abbrev open_tokens : ℕ → List Token
+open_tokens n = in_main (named 2 (codes "a") ∷ mark 2 sign.Assign ∷ brackets n)
+
+abbrev bracketed : ℕ → Tree
+bracketed zero = NumberAt 2 (pos 0)
+bracketed (suc n) = Group 2 (bracketed n) 2
+
+abbrev assigned : ℕ → KernelTree
+assigned n = main_of (Assign 2 (codes "a") 2 (bracketed n) NoMore)
+
+-- 32 brackets begin a kernel that isn't too deep
+pub brackets_32 : BeginsShallow (open_tokens 32)
+brackets_32 = begins (open_tokens 32) (assigned 32) _ (tt, tt) refl refl
+
+-- the levels of an expression that is assigned first
+assigned_levels : (n : ℕ) (body : Stmts) (closed : ℕ) (rest : List Token) → stmts_tokens body ++ mark closed sign.CloseBrace ∷ [] ≡ named 2 (codes "a") ∷ mark 2 sign.Assign ∷ brackets n ++ rest
+    → (after : List ℕ) × (stmts_levels 1 body ++ 0 ∷ [] ≡ 0 ∷ 0 ∷ rising 0 n ++ after)
+assigned_levels n NoMore closed rest e = let l = ap lexemes e in absurd cc
+assigned_levels n (Let _ _ _ _ _ _) closed rest e = let l = ap lexemes e in absurd cc
+assigned_levels n (Assign line name sign_line value more) closed rest e =
+    let behind = stmts_tokens more ++ mark closed sign.CloseBrace ∷ [] in
+    let r = brackets_rise n 0 value behind rest (stmts_levels 1 more ++ 0 ∷ []) (rw (← append_assoc (tree_tokens value) (stmts_tokens more) (mark closed sign.CloseBrace ∷ [])) cc) in
+    (r.0, ap (λ (ls : List ℕ). 0 ∷ 0 ∷ ls) (append_assoc (tree_levels 0 value) (stmts_levels 1 more) (0 ∷ []) ∙ r.1))
+assigned_levels n (Store _ _ _ _ _ _ _ _) closed rest e = let l = ap lexemes e in absurd cc
+assigned_levels n (If _ _ _ _ _ _) closed rest e = let l = ap lexemes e in absurd cc
+assigned_levels n (IfElse _ _ _ _ _ _ _ _ _ _) closed rest e = let l = ap lexemes e in absurd cc
+assigned_levels n (Loop _ _ _ _ _ _ _ _ _ _ _) closed rest e = let l = ap lexemes e in absurd cc
+assigned_levels n (Parallel _ _ _ _ _ _ _) closed rest e = let l = ap lexemes e in absurd cc
+assigned_levels n (For _ _ _ _ _ _ _ _ _ _ _ _ _) closed rest e = let l = ap lexemes e in absurd cc
+assigned_levels n (Barrier _ _) closed rest e = let l = ap lexemes e in absurd cc
+assigned_levels n (Critical _ _ _ _ _) closed rest e = let l = ap lexemes e in absurd cc
+assigned_levels n (CriticalOf _ _ _ _ _ _ _) closed rest e = let l = ap lexemes e in absurd cc
+
+-- and 33 begin none
+pub brackets_33 : BeginsShallow (open_tokens 33) → ⊥
+brackets_33 b =
+    let k = b.0 in
+    let is = no_declarations k.declarations k.line k.opened 1 1 (body_tokens k) (named 2 (codes "a") ∷ mark 2 sign.Assign ∷ brackets 33 ++ b.1) b.3 in
+    let r = assigned_levels 33 k.body k.closed b.1 is.1 in
+    let same : kernel_levels k ≡ 0 ∷ 1 ∷ 0 ∷ 0 ∷ rising 0 33 ++ r.0 =
+    ap (λ (ds : List Declaration). flat (declarations_tokens ds) ++ 0 ∷ block_levels 0 (stmts_levels 1 k.body)) is.0 ∙ ap (λ (ls : List ℕ). 0 ∷ 1 ∷ ls) r.1 in
+    let over : 33 ≤ 32 = subst (λ (ls : List ℕ). All (λ n. n ≤ 32) (take (length (open_tokens 33)) ls)) same b.4 36 0 (omega arith) in
+    absurd (omega (arith, over))
+
+-- the 33rd bracket is the first token that opens a level above 32
+pub brackets_refused : IsRefused (lines (codes "main {" ∷ (codes "a = " ++ replicate 33 40) ∷ [])) (record { line = 2; why = why.Deep })
+unfolding tokens_from lexeme_at
+brackets_refused = AtDepth (open_tokens 33) (mark 2 sign.OpenParen) (ascii_tokens _ _ refl refl refl)
+    (record {
+      good = open_tokens 32;
+      rest = [];
+      parts = refl;
+      begins = brackets_32;
+      goes_on = (assigned 33, _, (tt, tt), refl);
+      deep = brackets_33;
+    })
+    refl
+
+-- of two whole kernels that differ in one pair of brackets, one is too deep
+pub brackets_shallow : IsShallow (assigned 32) × (IsShallow (assigned 33) → ⊥)
+brackets_shallow = ((omega arith, tt), λ s. absurd (omega (arith, s.0)))
