@@ -17,4 +17,5 @@ pub mod Bounded
 pub mod Kernels
 pub mod Examples
 pub mod Texts
+pub mod Levels
 pub mod RefusedTexts

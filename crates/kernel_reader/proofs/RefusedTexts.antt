@@ -1,5 +1,5 @@
 -- Whole texts that are refused before any rule is asked: for a token, by the grammar, for their depth, at their end.
-use Rattle.std.proofs.Common.{◌≡◌, refl, ap, ◌∙◌, subst, append_assoc, arith, ℕ, zero, suc, ◌+◌, ◌≤◌, true, List, [], ◌∷◌, ◌++◌, length, take, replicate}
+use Rattle.std.proofs.Common.{◌≡◌, refl, ap, ◌∙◌, subst, append_assoc, arith, rules, ℕ, zero, suc, ◌+◌, ◌≤◌, true, List, [], ◌∷◌, ◌++◌, length, take, replicate}
 use Rattle.std.specs.Prelude.{pos, codes, nat_le, ℤ, map, All}
 use Rattle.std.specs.List.{list_all}
 use Rattle.std.specs.Str.{is_utf8, chars}
@@ -61,9 +61,9 @@ body_tokens k = stmts_tokens k.body ++ mark k.closed sign.CloseBrace ∷ []
 abbrev in_main : List Token → List Token
 in_main ts = reserved 1 word.Main ∷ mark 1 sign.OpenBrace ∷ ts
 
--- a kernel without declarations, from the first line to the second
-abbrev main_of : Stmts → KernelTree
-main_of body = record { declarations = []; line = 1; opened = 1; body = body; closed = 2 }
+-- a kernel without declarations, from the first line on
+abbrev main_of : Stmts → ℕ → KernelTree
+main_of body closed = record { declarations = []; line = 1; opened = 1; body = body; closed = closed }
 
 -- no number stands behind `let`
 let_number : (body : Stmts) (closed : ℕ) (value : ℤ) (rest : List Lexeme) → lexemes (stmts_tokens body ++ mark closed sign.CloseBrace ∷ []) ≡ Reserved word.Let ∷ Number value ∷ rest → ⊥
@@ -88,7 +88,7 @@ number_refused = AtSyntax _ (number 2 (pos 1)) (ascii_tokens _ _ refl refl refl)
       good = in_main (reserved 2 word.Let ∷ []);
       rest = mark 2 sign.Assign ∷ number 2 (pos 2) ∷ mark 3 sign.CloseBrace ∷ [];
       parts = refl;
-      begins = begins (in_main (reserved 2 word.Let ∷ [])) (main_of (Let 2 2 (codes "k") 2 (NumberAt 2 (pos 0)) NoMore)) _ (tt, tt) refl refl;
+      begins = begins (in_main (reserved 2 word.Let ∷ [])) (main_of (Let 2 2 (codes "k") 2 (NumberAt 2 (pos 0)) NoMore) 3) _ (tt, tt) refl refl;
       stops = λ b. let_number b.0.body b.0.closed (pos 1) (lexemes b.1) (ap lexemes (no_declarations b.0.declarations b.0.line b.0.opened 1 1 (body_tokens b.0) _ b.3).1);
     })
     refl
@@ -104,7 +104,7 @@ pub open_refused : IsRefused (lines (codes "main {" ∷ [])) (record { line = 2;
 unfolding tokens_from lexeme_at
 open_refused = AtEnd (in_main []) (ascii_tokens _ _ refl refl refl)
     (record {
-      begins = begins (in_main []) (main_of NoMore) _ tt refl refl;
+      begins = begins (in_main []) (main_of NoMore 2) _ tt refl refl;
       unfinished = λ k derives e. no_brace (stmts_tokens k.body) (mark k.closed sign.CloseBrace) (no_declarations k.declarations k.line k.opened 1 1 (body_tokens k) [] e).1;
     })
     refl
@@ -145,7 +145,7 @@ bracketed zero = NumberAt 2 (pos 0)
 bracketed (suc n) = Group 2 (bracketed n) 2
 
 abbrev assigned : ℕ → KernelTree
-assigned n = main_of (Assign 2 (codes "a") 2 (bracketed n) NoMore)
+assigned n = main_of (Assign 2 (codes "a") 2 (bracketed n) NoMore) 3
 
 -- 32 brackets begin a kernel that isn't too deep
 pub brackets_32 : BeginsShallow (open_tokens 32)
@@ -198,3 +198,66 @@ brackets_refused = AtDepth (open_tokens 33) (mark 2 sign.OpenParen) (ascii_token
 -- of two whole kernels that differ in one pair of brackets, one is too deep
 pub brackets_shallow : IsShallow (assigned 32) × (IsShallow (assigned 33) → ⊥)
 brackets_shallow = ((omega arith, tt), λ s. absurd (omega (arith, s.0)))
+
+-- ---- for the depth of blocks
+
+-- so many critical sections, one inside another, each from a line of its own
+abbrev sections : ℕ → ℕ → List Token
+sections line zero = []
+sections line (suc n) = reserved line word.Critical ∷ mark line sign.OpenBrace ∷ sections (line + 1) n
+
+abbrev section_levels : ℕ → ℕ → List ℕ
+section_levels m zero = []
+section_levels m (suc n) = 0 ∷ (m + 1) ∷ section_levels (m + 1) n
+
+in_block : {X : Type 0} (body : List X) (brace : X) (rest more : List X) → ((body ++ brace ∷ []) ++ rest) ++ more ≡ body ++ (brace ∷ (rest ++ more))
+in_block body brace rest more = append_assoc (body ++ brace ∷ []) rest more ∙ append_assoc body (brace ∷ []) (rest ++ more)
+
+-- sections at the front of statements open one level after another
+pub sections_rise : (n line m closed : ℕ) (body : Stmts) (more rest : List Token) (tail : List ℕ) → stmts_tokens body ++ mark closed sign.CloseBrace ∷ more ≡ sections line n ++ rest
+    → (after : List ℕ) × (stmts_levels m body ++ tail ≡ section_levels m n ++ after)
+sections_rise zero line m closed body more rest tail e = (_, refl)
+sections_rise (suc n) line m closed NoMore more rest tail e = let l = ap lexemes e in absurd cc
+sections_rise (suc n) line m closed (Let _ _ _ _ _ _) more rest tail e = let l = ap lexemes e in absurd cc
+sections_rise (suc n) line m closed (Assign _ _ _ _ _) more rest tail e = let l = ap lexemes e in absurd cc
+sections_rise (suc n) line m closed (Store _ _ _ _ _ _ _ _) more rest tail e = let l = ap lexemes e in absurd cc
+sections_rise (suc n) line m closed (If _ _ _ _ _ _) more rest tail e = let l = ap lexemes e in absurd cc
+sections_rise (suc n) line m closed (IfElse _ _ _ _ _ _ _ _ _ _) more rest tail e = let l = ap lexemes e in absurd cc
+sections_rise (suc n) line m closed (Loop _ _ _ _ _ _ _ _ _ _ _) more rest tail e = let l = ap lexemes e in absurd cc
+sections_rise (suc n) line m closed (Parallel _ _ _ _ _ _ _) more rest tail e = let l = ap lexemes e in absurd cc
+sections_rise (suc n) line m closed (For _ _ _ _ _ _ _ _ _ _ _ _ _) more rest tail e = let l = ap lexemes e in absurd cc
+sections_rise (suc n) line m closed (Barrier _ _) more rest tail e = let l = ap lexemes e in absurd cc
+sections_rise (suc n) line m closed (Critical first opened body last next) more rest tail e =
+    let behind = mark closed sign.CloseBrace ∷ more in
+    let inner = sections_rise n (line + 1) (m + 1) last body (stmts_tokens next ++ behind) rest (0 ∷ stmts_levels m next ++ tail) (rw (← in_block (stmts_tokens body) (mark last sign.CloseBrace) (stmts_tokens next) behind) cc) in
+    (inner.0, ap (λ (ls : List ℕ). 0 ∷ (m + 1) ∷ ls) (in_block (stmts_levels (m + 1) body) 0 (stmts_levels m next) tail ∙ inner.1))
+sections_rise (suc n) line m closed (CriticalOf _ _ _ _ _ _ _) more rest tail e = let l = ap lexemes e in absurd cc
+
+abbrev nested : ℕ → ℕ → Stmts
+nested line zero = NoMore
+nested line (suc n) = Critical line line (nested (line + 1) n) 34 NoMore
+
+-- the block of `main` and 32 sections begin no kernel that isn't too deep
+sections_32 : BeginsShallow (in_main (sections 2 32)) → ⊥
+sections_32 b =
+    let k = b.0 in
+    let is = no_declarations k.declarations k.line k.opened 1 1 (body_tokens k) (sections 2 32 ++ b.1) b.3 in
+    let r = sections_rise 32 2 1 k.closed k.body [] b.1 (0 ∷ []) is.1 in
+    let same : kernel_levels k ≡ 0 ∷ 1 ∷ section_levels 1 32 ++ r.0 =
+    ap (λ (ds : List Declaration). flat (declarations_tokens ds) ++ 0 ∷ block_levels 0 (stmts_levels 1 k.body)) is.0 ∙ ap (λ (ls : List ℕ). 0 ∷ 1 ∷ ls) r.1 in
+    let over : 33 ≤ 32 = subst (λ (ls : List ℕ). All (λ n. n ≤ 32) (take (length (in_main (sections 2 32))) ls)) same b.4 65 0 (omega arith) in
+    absurd (omega (arith, over))
+
+-- the 33rd brace is the first token that opens a level above 32, though `critical` before it can't but be followed by one
+pub blocks_refused : IsRefused (lines (codes "main {" ∷ replicate 32 (codes "critical {"))) (record { line = 33; why = why.Deep })
+unfolding tokens_from lexeme_at
+blocks_refused = AtDepth (in_main (sections 2 32)) (mark 33 sign.OpenBrace) (ascii_tokens _ _ refl refl refl)
+    (record {
+      good = in_main (sections 2 31 ++ reserved 33 word.Critical ∷ []);
+      rest = [];
+      parts = refl;
+      begins = begins (in_main (sections 2 31 ++ reserved 33 word.Critical ∷ [])) (main_of (nested 2 32) 34) _ (search rules) refl refl;
+      goes_on = (main_of (nested 2 32) 34, _, search rules, refl);
+      deep = sections_32;
+    })
+    refl

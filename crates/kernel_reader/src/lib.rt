@@ -7,7 +7,8 @@
 //! no such kernel. Of a kernel that is read the sizes, lines, sites, spans, chunks and mutexes are
 //! within the bounds that the rules set. What the kernel of a text is, or why and where the whole
 //! language refuses a text, is defined in `specs/`; kernels of the first kind and the bounds are
-//! defined in `kernel_syntax`.
+//! defined in `kernel_syntax`. `levels_tell_the_depth` is a law: the depth of a kernel, by its tree,
+//! and the levels that its tokens open are one bound.
 #![tactic(auto)]
 
 mod binding;
@@ -15,6 +16,7 @@ mod expression;
 mod fault;
 mod kernel;
 mod lexing;
+mod nesting;
 mod parsing;
 mod reading;
 mod token;
@@ -23,6 +25,7 @@ mod tree;
 pub use crate::fault::{KernelWhy, ReadKernelFault, TextFault};
 pub use crate::kernel::read_kernel;
 pub use crate::lexing::tokens;
+pub use crate::nesting::levels_tell_the_depth;
 pub use crate::token::{Lexeme, Sign, Token, Word};
 
 #[cfg(test)]
