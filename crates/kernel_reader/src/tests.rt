@@ -1,5 +1,5 @@
 use super::*;
-use kernel_syntax::{Expr, Op, Schedule, Stmt};
+use kernel_syntax::{Expr, Kernel, Op, Schedule, Stmt, Team};
 use std::alloc::{AllocError, Global};
 use std::test::Fail;
 
@@ -45,15 +45,21 @@ fn digits_end_before_dots(rt: HostRuntime) -> Result<(), Fail> {
     Ok(())
 }
 
+// The one region of a kernel of the first kind.
+fn region(kernel: &Kernel) -> Option<&Team> {
+    match kernel.main.body.stmts.as_slice() {
+        [Stmt::Parallel { team }] => Some(team),
+        _ => None,
+    }
+}
+
 #[test]
-fn a_store_has_site_0_and_its_load_site_1(rt: HostRuntime) -> Result<(), Fail> {
+fn lines_are_those_of_first_and_last_token(rt: HostRuntime) -> Result<(), Fail> {
     let kernel = read_kernel(rt.alloc(), TWO_LANES).ok().ok_or("a kernel")?;
     assert_eq!(rt; kernel.slots, 1);
     assert_eq!(rt; kernel.main.line, 2);
     assert_eq!(rt; kernel.main.end, 8);
-    let [Stmt::Parallel { team }] = kernel.main.body.stmts.as_slice() else {
-        return Err(Fail::from("a region"));
-    };
+    let team = region(&kernel).ok_or("a region")?;
     assert_eq!(rt; team.span, 2);
     assert_eq!(rt; team.line, 3);
     assert_eq!(rt; team.end, 7);
@@ -64,7 +70,6 @@ fn a_store_has_site_0_and_its_load_site_1(rt: HostRuntime) -> Result<(), Fail> {
             nowait,
             line,
             end,
-            body,
             ..
         },
     ] = team.body.stmts.as_slice()
@@ -76,30 +81,36 @@ fn a_store_has_site_0_and_its_load_site_1(rt: HostRuntime) -> Result<(), Fail> {
     assert!(rt; !*nowait);
     assert_eq!(rt; *line, 4);
     assert_eq!(rt; *end, 6);
+    Ok(())
+}
+
+#[test]
+fn a_store_has_site_0_and_its_load_site_1(rt: HostRuntime) -> Result<(), Fail> {
+    let kernel = read_kernel(rt.alloc(), TWO_LANES).ok().ok_or("a kernel")?;
+    let team = region(&kernel).ok_or("a region")?;
+    let [Stmt::For { body, .. }] = team.body.stmts.as_slice() else {
+        return Err(Fail::from("a loop"));
+    };
     let [
         Stmt::Store {
             array,
             index: Expr::Slot(index),
-            value,
+            value: Expr::Binary {
+                op: Op::Add,
+                left,
+                ..
+            },
             line,
             site,
         },
     ] = body.stmts.as_slice()
     else {
-        return Err(Fail::from("a store"));
+        return Err(Fail::from("a store of a sum"));
     };
     assert_eq!(rt; *array, 0);
     assert_eq!(rt; *index, 0);
     assert_eq!(rt; *line, 5);
     assert_eq!(rt; *site, 0);
-    let Expr::Binary {
-        op: Op::Add,
-        left,
-        ..
-    } = value
-    else {
-        return Err(Fail::from("a sum"));
-    };
     let Expr::Load { site, .. } = &**left else {
         return Err(Fail::from("a load"));
     };
