@@ -65,6 +65,9 @@ in_main ts = reserved 1 word.Main ∷ mark 1 sign.OpenBrace ∷ ts
 abbrev main_of : Stmts → ℕ → KernelTree
 main_of body closed = record { declarations = []; line = 1; opened = 1; body = body; closed = closed }
 
+main_levels : (k : KernelTree) (ls : List ℕ) → k.declarations ≡ [] → stmts_levels 1 k.body ++ 0 ∷ [] ≡ ls → kernel_levels k ≡ 0 ∷ 1 ∷ ls
+main_levels k ls bare e = ap (λ (ds : List Declaration). flat (declarations_tokens ds) ++ 0 ∷ block_levels 0 (stmts_levels 1 k.body)) bare ∙ ap (λ (ls : List ℕ). 0 ∷ 1 ∷ ls) e
+
 -- no number stands behind `let`
 let_number : (body : Stmts) (closed : ℕ) (value : ℤ) (rest : List Lexeme) → lexemes (stmts_tokens body ++ mark closed sign.CloseBrace ∷ []) ≡ Reserved word.Let ∷ Number value ∷ rest → ⊥
 let_number NoMore closed value rest e = absurd cc
@@ -176,8 +179,7 @@ brackets_33 b =
     let k = b.0 in
     let is = no_declarations k.declarations k.line k.opened 1 1 (body_tokens k) (named 2 (codes "a") ∷ mark 2 sign.Assign ∷ brackets 33 ++ b.1) b.3 in
     let r = assigned_levels 33 k.body k.closed b.1 is.1 in
-    let same : kernel_levels k ≡ 0 ∷ 1 ∷ 0 ∷ 0 ∷ rising 0 33 ++ r.0 =
-    ap (λ (ds : List Declaration). flat (declarations_tokens ds) ++ 0 ∷ block_levels 0 (stmts_levels 1 k.body)) is.0 ∙ ap (λ (ls : List ℕ). 0 ∷ 1 ∷ ls) r.1 in
+    let same = main_levels k (0 ∷ 0 ∷ rising 0 33 ++ r.0) is.0 r.1 in
     let over : 33 ≤ 32 = subst (λ (ls : List ℕ). All (λ n. n ≤ 32) (take (length (open_tokens 33)) ls)) same b.4 36 0 (omega arith) in
     absurd (omega (arith, over))
 
@@ -243,8 +245,7 @@ sections_32 b =
     let k = b.0 in
     let is = no_declarations k.declarations k.line k.opened 1 1 (body_tokens k) (sections 2 32 ++ b.1) b.3 in
     let r = sections_rise 32 2 1 k.closed k.body [] b.1 (0 ∷ []) is.1 in
-    let same : kernel_levels k ≡ 0 ∷ 1 ∷ section_levels 1 32 ++ r.0 =
-    ap (λ (ds : List Declaration). flat (declarations_tokens ds) ++ 0 ∷ block_levels 0 (stmts_levels 1 k.body)) is.0 ∙ ap (λ (ls : List ℕ). 0 ∷ 1 ∷ ls) r.1 in
+    let same = main_levels k (section_levels 1 32 ++ r.0) is.0 r.1 in
     let over : 33 ≤ 32 = subst (λ (ls : List ℕ). All (λ n. n ≤ 32) (take (length (in_main (sections 2 32))) ls)) same b.4 65 0 (omega arith) in
     absurd (omega (arith, over))
 
