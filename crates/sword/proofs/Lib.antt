@@ -1,13 +1,4 @@
 pub mod WordLists
 pub mod Lines
-pub mod Answering
+pub mod FolderAnswers
 pub mod OneAnswer
-pub mod SealedLogs
-pub mod StoredRun
-pub mod RunSums
-pub mod Refusals
-pub mod FirstPaths
-pub mod RunFolder
-pub mod RunEnds
-pub mod BeginEnd
-pub mod RunExamples

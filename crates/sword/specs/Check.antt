@@ -8,7 +8,7 @@ use Rattle.race_model.specs.Race.{IsRacePair, Lists}
 use Rattle.race_model.specs.Trace.{Trace, logs_of}
 use Rattle.race_report.specs.Report.{report_text}
 use Rattle.log_walk.specs.Walk.{IsLogRow}
-use Rattle.sword.specs.declared.status.TheConstants.{DONE, RACES, FOLDER_REFUSED}
+use Rattle.command_answer.specs.declared.status.TheConstants.{DONE, RACES, FOLDER_REFUSED}
 use Rattle.sword.specs.Texts.{no_index_text, bad_row_text, missing_log_text, bad_record_text, too_many_segments_text}
 
 -- whether there are races

@@ -1,11 +1,5 @@
-pub mod Answer
-pub mod Begins
 pub mod Check
 pub mod Commands
-pub mod Ends
-pub mod Run
-pub mod RunTexts
-pub mod Seals
 pub mod Show
 pub mod Texts
 pub mod Words

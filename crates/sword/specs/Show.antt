@@ -8,7 +8,7 @@ use Rattle.log_format.specs.declared.record.Record.{Record}
 use Rattle.log_format.specs.declared.record.Kind.{Kind}
 use Rattle.log_format.specs.declared.record.Kind.TheVariants.{Read, Write, Lock, Unlock, Barrier, Region, Chunk, End}
 use Rattle.race_model.specs.Trace.{TaskLog, Trace}
-use Rattle.sword.specs.declared.status.TheConstants.{DONE}
+use Rattle.command_answer.specs.declared.status.TheConstants.{DONE}
 
 -- the size of an access, and where it stands in the kernel
 abbrev pub place_text : Record → List ℕ

@@ -1,6 +1,10 @@
--- The words of a command line, and what they ask for.
+-- The words of a command line, what they ask for, and what is answered where they ask for nothing.
 use Rattle.std.specs.Prelude.{◌≡◌, ℕ, ◌≤◌, List, [], ◌∷◌, length, map, String, string_bytes, codes, decimal}
 use Rattle.std.specs.declared.alloc.Global.{Global}
+use Rattle.sw_base.specs.Environment.{Files}
+use Rattle.command_answer.specs.declared.status.TheConstants.{USAGE}
+use Rattle.run_command.specs.Run.{CanRun}
+use Rattle.sword.specs.Texts.{usage_text}
 
 -- what the words after the program's name may ask for
 pub data Request : Type 0 where
@@ -39,6 +43,14 @@ pub record AsksRun (words : List (List ℕ)) : Type 0 where
   pub size : ℕ
   pub says : SaysRun words kernel dir size
 
+-- the words ask for a run, and it can begin
+pub record BeginsRun (words : List (List ℕ)) (files : Files) : Type 0 where
+  pub kernel : List ℕ
+  pub dir : List ℕ
+  pub size : ℕ
+  pub says : SaysRun words kernel dir size
+  pub can : CanRun files kernel dir
+
 pub record SaysShow (words : List (List ℕ)) (dir : List ℕ) : Type 0 where
   pub are : words ≡ codes "show" ∷ dir ∷ []
   pub dir_is : IsName dir
@@ -56,3 +68,7 @@ IsUsage words = (request : Request) → Says words request → ⊥
 -- the bytes of each word
 abbrev pub texts : List (String Global) → List (List ℕ)
 texts words = map string_bytes words
+
+-- the one answer to words that ask for nothing
+abbrev pub UsageDue : ℕ → List ℕ → Type 0
+UsageDue status text = (status ≡ USAGE) × (text ≡ usage_text)

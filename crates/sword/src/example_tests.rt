@@ -1,8 +1,8 @@
 //! The kernels of `examples/`, and what the README says that the program prints of them.
 
-use crate::status::{DONE, KERNEL_STOPPED, RACES};
 use crate::tests::{answers, words};
 use crate::top::sword;
+use command_answer::{DONE, KERNEL_STOPPED, RACES};
 use std::test::Fail;
 use sw_base::{MemFolder, MemOut, NoGate};
 

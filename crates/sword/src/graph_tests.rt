@@ -1,8 +1,8 @@
 //! The checker against a search of the graph of edges: small and slow on purpose, and written from the definition alone.
 ghost use Rattle.std.specs.Prelude.{◌<◌};
 
-use crate::status::RACES;
 use crate::tests::{Rec, answers, spell, spell_row};
+use command_answer::RACES;
 use std::alloc::{AllocError, Global};
 use std::test::Fail;
 use sw_base::MemFolder;

@@ -4,19 +4,15 @@
 //! first bad place, and a run that ends leaves each task's whole trace under the values that it read.
 #![tactic(auto)]
 
-mod beginning;
 mod checking;
 mod host;
 mod printing;
-mod run_texts;
-mod running;
-mod sealing;
 mod showing;
-mod status;
 mod texts;
 mod top;
 mod words;
 
+use command_answer::NO_MEMORY;
 use host::{HostFolder, HostOut, OpenGate};
 use std::alloc::AllocError;
 use std::env;
@@ -41,7 +37,7 @@ fn given_words(rt: &HostRuntime) -> Result<Vec<String>, AllocError> {
 fn main(rt: HostRuntime) -> ExitCode {
     let alloc = rt.alloc();
     let Ok(words) = given_words(&rt) else {
-        return ExitCode::from(status::NO_MEMORY);
+        return ExitCode::from(NO_MEMORY);
     };
     let mut place = HostFolder::new(rt);
     let mut out = HostOut::new(rt);

@@ -1,8 +1,8 @@
-use crate::status::{
-    DONE, INDEX_THERE, KERNEL_REFUSED, KERNEL_STOPPED, RACES, READ_FAULT, USAGE, WRITE_FAULT,
-};
 use crate::tests::{answers, words};
 use crate::top::sword;
+use command_answer::{
+    DONE, INDEX_THERE, KERNEL_REFUSED, KERNEL_STOPPED, RACES, READ_FAULT, USAGE, WRITE_FAULT,
+};
 use std::alloc::Global;
 use std::process::Abort;
 use std::test::Fail;

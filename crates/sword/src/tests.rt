@@ -1,5 +1,5 @@
-use crate::status::{DONE, FOLDER_REFUSED, RACES, READ_FAULT, USAGE, WRITE_FAULT};
 use crate::top::sword;
+use command_answer::{DONE, FOLDER_REFUSED, RACES, READ_FAULT, USAGE, WRITE_FAULT};
 use std::alloc::{AllocError, Global};
 use std::process::Abort;
 use std::test::Fail;

@@ -1,7 +1,7 @@
 //! The texts of refusals and of records that no other test has, with the values that the formats give.
 
-use crate::status::{DONE, FOLDER_REFUSED};
 use crate::tests::{BARRIER, END, ROOT, Rec, Task, answers, folder, lock, region, unlock, write};
+use command_answer::{DONE, FOLDER_REFUSED};
 use std::alloc::Global;
 use std::process::Abort;
 use std::test::Fail;

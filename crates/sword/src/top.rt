@@ -1,18 +1,17 @@
 //! The top call: what the program does for the words that it is given.
 ghost use Rattle.std.specs.Prelude.{◌≡◌, ◌⊎◌, ℕ, List, is_some};
 ghost use Rattle.sw_base.specs.Environment.{Rose, WhereTold};
-ghost use Rattle.sword.specs.Answer.{Answers, IsFailure, Tries, UsageDue};
+ghost use Rattle.command_answer.specs.Answer.{Answers, IsFailure, Tries};
 ghost use Rattle.sword.specs.Check.{FolderDue, HasReport};
-ghost use Rattle.sword.specs.Run.{BeginsRun, LeavesPart, RunDue};
+ghost use Rattle.run_command.specs.Run.{LeavesPart, RunDue};
 ghost use Rattle.sword.specs.Show.{HasRecords};
-ghost use Rattle.sword.specs.Words.{AsksRun, IsUsage, SaysCheck, SaysRun, SaysShow, texts};
-ghost use Rattle.sword.specs.declared.status.TheConstants.{USAGE, READ_FAULT, WRITE_FAULT};
+ghost use Rattle.sword.specs.Words.{AsksRun, BeginsRun, IsUsage, SaysCheck, SaysRun, SaysShow, UsageDue, texts};
+ghost use Rattle.command_answer.specs.declared.status.TheConstants.{USAGE, READ_FAULT, WRITE_FAULT};
 
 use crate::checking::{check, show};
-use crate::printing::print;
-use crate::running::run;
-use crate::status::{NO_MEMORY, USAGE};
 use crate::words::{Command, read_words};
+use command_answer::{NO_MEMORY, USAGE, print};
+use run_command::run;
 use std::alloc::Global;
 use sw_base::{Folder, Gate, Out};
 

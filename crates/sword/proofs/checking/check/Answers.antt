@@ -1,6 +1,7 @@
+use Rattle.command_answer.proofs.Answering.{Answers-of}
 use Rattle.sword.specs.Check.{HasReport}
 use Rattle.sword.proofs.OneAnswer.{one_report}
-use Rattle.sword.proofs.Answering.{Answers-of, answered_of, refused_of}
+use Rattle.sword.proofs.FolderAnswers.{answered_of, refused_of}
 use Rattle.sword.proofs.checking.check.Goals as goal
 
 pub returns-in-Ok-clause-answers : goal.returns-in-Ok-clause-answers

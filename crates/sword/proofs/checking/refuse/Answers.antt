@@ -1,5 +1,5 @@
 use Rattle.sword.specs.Check.{IsRefused}
-use Rattle.sword.proofs.Answering.{Tries-from_prints}
+use Rattle.command_answer.proofs.Answering.{Tries-from_prints}
 use Rattle.sword.proofs.checking.refuse.Goals as goal
 
 pub returns-in-Ok-Some-clause-answers : goal.returns-in-Ok-Some-clause-answers

@@ -1,7 +1,7 @@
 use Rattle.std.proofs.Common.{map, refl}
 use Rattle.log_segment.specs.Intervals.{task_of}
 use Rattle.sword.specs.Check.{HasReport}
-use Rattle.sword.proofs.Answering.{Tries-from_prints}
+use Rattle.command_answer.proofs.Answering.{Tries-from_prints}
 use Rattle.sword.proofs.checking.report_run.Goals as goal
 
 pub returns-in-Ok-clause-answers : goal.returns-in-Ok-clause-answers

@@ -1,8 +1,8 @@
 use Rattle.std.proofs.Common.{map, refl}
 use Rattle.log_segment.specs.Intervals.{task_of}
-use Rattle.sword.specs.Answer.{done, broken_off}
+use Rattle.command_answer.specs.Answer.{done, broken_off}
 use Rattle.sword.specs.Show.{show_text}
-use Rattle.sword.specs.declared.status.TheConstants.{DONE}
+use Rattle.command_answer.specs.declared.status.TheConstants.{DONE}
 use Rattle.sword.proofs.checking.show_run.Goals as goal
 
 pub returns-in-Ok-clause-answers : goal.returns-in-Ok-clause-answers

@@ -1,10 +1,11 @@
 use Rattle.std.proofs.Common.{refl, subst, List, ℕ}
-use Rattle.sword.specs.Answer.{Answers, Tries, UsageDue}
+use Rattle.command_answer.specs.Answer.{Answers, Tries}
+use Rattle.command_answer.proofs.Answering.{Answers-of, Tries-from_prints}
 use Rattle.sword.specs.Check.{FolderDue, HasReport}
-use Rattle.sword.specs.Run.{LeavesPart, RunDue}
+use Rattle.run_command.specs.Run.{LeavesPart, RunDue}
 use Rattle.sword.specs.Show.{HasRecords}
-use Rattle.sword.specs.Words.{check, run, show, texts}
-use Rattle.sword.proofs.Answering.{Answers-of, Tries-from_prints, usage_once}
+use Rattle.sword.specs.Words.{UsageDue, check, run, show, texts}
+use Rattle.sword.proofs.FolderAnswers.{usage_once}
 use Rattle.sword.proofs.WordLists.{same_check, same_run, same_show}
 use Rattle.sword.proofs.top.sword.Goals as goal
 

@@ -1,0 +1,17 @@
+//! What each command is answered with, and what it means that a due text was printed, a front of it, or nothing.
+//!
+//! A text comes with its status. Where it couldn't be printed the status tells the cause: `WRITE_FAULT` only where the output's count of
+//! faults rose, and `NO_MEMORY` for want of memory; and what was printed is a front of the text.
+#![tactic(auto)]
+
+mod printing;
+mod status;
+
+pub use printing::{failure, print, print_made};
+pub use status::{
+    DONE, FOLDER_REFUSED, INDEX_THERE, KERNEL_REFUSED, KERNEL_STOPPED, NO_MEMORY, RACES, READ_FAULT,
+    USAGE, WRITE_FAULT,
+};
+
+#[cfg(test)]
+mod tests;

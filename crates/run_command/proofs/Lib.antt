@@ -1,0 +1,9 @@
+pub mod SealedLogs
+pub mod StoredRun
+pub mod RunSums
+pub mod Refusals
+pub mod FirstPaths
+pub mod RunFolder
+pub mod RunEnds
+pub mod BeginEnd
+pub mod RunExamples

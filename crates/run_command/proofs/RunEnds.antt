@@ -1,0 +1,230 @@
+-- What a run answers and leaves, by what its logs were stored or sealed to.
+use Rattle.std.proofs.Common.{◌≡◌, refl, sym, ap, ap₂, subst, ◌∙◌, inr, ℕ, List, [], ◌∷◌, map, length, Option, Some, Result, Ok, Err, IfOk, OnErr, String, string_bytes, true, Contains, append-nil, arith}
+use Rattle.std.specs.Prelude.{All, is_some}
+use Rattle.std.specs.declared.alloc.Global.{Global}
+use Rattle.std.proofs.lemmas.List.{get_or-map, length-map}
+use Rattle.std.proofs.lemmas.List.Elements.{All-head, All-map, All-tail}
+use Rattle.std.proofs.lemmas.Option.{none-some, same_Some}
+use Rattle.std.proofs.lemmas.Simd.{map-map}
+use Rattle.sw_base.specs.declared.path.Step.{Step}
+use Rattle.sw_base.specs.declared.trouble.Memory.{Memory}
+use Rattle.sw_base.specs.declared.trouble.Trouble.{Trouble}
+use Rattle.sw_base.specs.Environment.{Content, Text, with_put}
+use Rattle.sw_base.specs.Names.{index_name}
+use Rattle.race_model.specs.FirstBad.{IsBad, rows_of}
+use Rattle.race_model.specs.IndexFault.{AreRows}
+use Rattle.race_model.specs.Row.{Row, index_bytes}
+use Rattle.race_model.specs.Trace.{Trace}
+use Rattle.kernel_syntax.specs.FirstKind.{IsFirstKind}
+use Rattle.kernel_syntax.specs.Layout.{elements}
+use Rattle.kernel_syntax.specs.Program.{Program}
+use Rattle.kernel_model.specs.Folder.{paths_of}
+use Rattle.kernel_model.specs.State as model
+use Rattle.kernel_model.specs.Trace.{Ended, Ending, Stopped}
+use Rattle.team_runner.specs.declared.stop.Stop.{Stop}
+use Rattle.team_runner.specs.declared.stop.Stop.TheVariants.{DivZero, Index, LogFull}
+use Rattle.team_runner.specs.declared.stop.Stop.TheVariants as stop
+use Rattle.team_runner.specs.Answer.{HasRun, HasStop, HasStoppedRun, HasTask, IsOwnLog, IsRun, Logged, whole_log, logged_entry}
+use Rattle.team_runner.specs.Stops.{StopsSo}
+use Rattle.command_answer.specs.declared.status.TheConstants.{DONE, KERNEL_STOPPED, NO_MEMORY}
+use Rattle.command_answer.specs.Answer.{IsFailure, Prints, Tries, silent}
+use Rattle.run_command.specs.Ends.{EndDue, EndLeaves, EndsSo, index, logs, ran, stop_of, stopped}
+use Rattle.run_command.specs.Run.{AreStopped, Ran, SealedLog, StoppedRun, ended, sealed_log, with_sealed}
+use Rattle.run_command.specs.Run as kinds
+use Rattle.run_command.specs.RunTexts.{run_text, stopped_text}
+use Rattle.run_command.specs.Seals.{AllTell, SealsAll, StoresAll, StoresFront, StoresPart, all_logged, all_sealed, front, part, row_of_entry, rows_of_logs, sealed_of, tasks_of, with_index}
+use Rattle.command_answer.proofs.Answering.{Tries-from_prints}
+use Rattle.run_command.proofs.RunFolder.{left_by, run_well_formed}
+use Rattle.run_command.proofs.StoredRun.{rows-logged}
+
+-- a text was printed, where memory was found for it
+pub printed_made : (due : ℕ → List ℕ → Type 0) (status : ℕ) (text : List ℕ) (made : Result (String Global) Memory) (before after : Option (List ℕ)) (result : ℕ) → due status text
+    → IfOk made (λ m. string_bytes m ≡ text) → IfOk made (λ m. Prints status (string_bytes m) before after result) → OnErr made ((result ≡ NO_MEMORY) × (after ≡ before))
+    → Tries due before after result
+printed_made due status text (Ok m) before after result is_due same prints none =
+    Tries-from_prints due status text before after result is_due (subst (λ (t : List ℕ). Prints status t before after result) same prints)
+printed_made due status text (Err e) before after result is_due same prints none = silent (inr (inr none.0)) none.1
+
+-- ---- a run that ended
+
+-- the logs of a whole run: what is sealed, their rows, their tasks
+whole_sealed : (dir : List ℕ) (size : ℕ) (root : Text) (tasks : Trace) → all_sealed (map (whole_log dir size (Some root)) tasks) ≡ map (sealed_log size) tasks
+whole_sealed dir size root tasks = map-map sealed_of (whole_log dir size (Some root)) tasks
+
+whole_rows : (dir : List ℕ) (size : ℕ) (root : Option Text) (tasks : Trace) → rows_of_logs (map (whole_log dir size root) tasks) ≡ rows_of tasks
+whole_rows dir size root tasks = map-map (λ (log : Logged). record { path = log.task; records = log.count }) (whole_log dir size root) tasks
+
+whole_tasks : (dir : List ℕ) (size : ℕ) (root : Option Text) (tasks : Trace) → tasks_of (map (whole_log dir size root) tasks) ≡ paths_of tasks
+whole_tasks dir size root tasks = map-map (λ (log : Logged). log.task) (whole_log dir size root) tasks
+
+-- each is of the folder and tells what it holds
+whole_tell : (dir : List ℕ) (size : ℕ) (root : Text) (tasks : Trace) → AllTell dir (map (whole_log dir size (Some root)) tasks)
+whole_tell dir size root tasks = All-map (IsOwnLog dir true) (whole_log dir size (Some root)) tasks (λ k d within. record { dir_is = refl; path_is = refl; tells_so = refl })
+
+-- its rows are those of an index
+pub run_rows : {L : Type 0} (program : Program) (dir : List ℕ) (size : ℕ) (root : Option Text) (dir_of : L → List ℕ) (path_of : L → List Step) (text_of : L → Option Text) (entries : List (List Step × L × ℕ))
+    → HasRun program dir size root (all_logged dir_of path_of text_of entries) → AreRows (map row_of_entry entries)
+run_rows program dir size root dir_of path_of text_of entries has =
+    subst AreRows (sym (whole_rows dir size root has.tasks) ∙ ap rows_of_logs (sym has.logs_are) ∙ rows-logged dir_of path_of text_of entries) has.run.rules.rows
+
+module _ (program : Program) (first : IsFirstKind program) (dir : List ℕ) (size : ℕ) (root : Text) (tasks : Trace) (run : IsRun program tasks) where
+  -- the logs that the run answers
+  abbrev run_logs : List Logged
+  run_logs = map (whole_log dir size (Some root)) tasks
+
+  -- a folder with all logs and these bytes under the index's name
+  with_index-is : (bytes : List ℕ) (old : Content) → with_index dir run_logs bytes old ≡ with_put (index_name dir) bytes (with_sealed dir (map (sealed_log size) tasks) old)
+  with_index-is bytes old = ap (λ (ls : List SealedLog). with_put (index_name dir) bytes (with_sealed dir ls old)) (whole_sealed dir size root tasks)
+
+  -- and with the whole index
+  all_left : (old : Content) → with_index dir run_logs (index_bytes (rows_of_logs run_logs)) old ≡ left_by program first dir size tasks run old
+  all_left old = ap (λ (rows : List Row). with_index dir run_logs (index_bytes rows) old) (whole_rows dir size (Some root) tasks) ∙ with_index-is (index_bytes (rows_of tasks)) old
+
+  -- what is left where storing the run was refused
+  part_left : (old new : Content) → StoresPart dir run_logs old new → EndLeaves program dir size old new
+  part_left old new (part sealed) = logs (all_sealed run_logs) (ended tasks run (whole_sealed dir size root tasks)) sealed
+  part_left old new (front bytes rest parts leaves) =
+      index tasks run bytes rest (ap index_bytes (sym (whole_rows dir size (Some root) tasks)) ∙ parts) (leaves ∙ with_index-is bytes old)
+
+  -- storing the run was refused
+  refused_ends : (old new : Option Content) (status : ℕ) (written : Option (List ℕ)) → StoresFront dir run_logs old new → IsFailure status → EndsSo program dir size old new written written status
+  refused_ends old new status written stores failure content is =
+      let left = stores content (whole_tell dir size root tasks) is in
+      record { content = left.content; is = left.is; holds = record { answers = silent failure refl; leaves = λ _. part_left content left.content left.holds } }
+
+  -- what is due where it was stored
+  has_ran : (old new : Content) (values : List ℕ) → new ≡ left_by program first dir size tasks run old → length values ≡ elements program.arrays
+      → Ran program dir size old new (run_text tasks program.arrays values)
+  has_ran old new values leaves all = record {
+    tasks = tasks;
+    run = run;
+    leaves = leaves;
+    well_formed = λ place bad. run_well_formed program first dir size tasks run old place (subst (λ (c : Content). IsBad c.held dir place) leaves bad);
+    values = values;
+    values_are = all;
+    text_is = refl;
+  }
+
+  -- it was stored
+  stored_ends : (old new : Option Content) (status : ℕ) (before after : Option (List ℕ)) (values : List ℕ) (made : Result (String Global) Memory) → StoresAll dir run_logs old new
+      → length values ≡ elements program.arrays → IfOk made (λ m. string_bytes m ≡ run_text tasks program.arrays values)
+      → IfOk made (λ m. Prints DONE (string_bytes m) before after status) → OnErr made ((status ≡ NO_MEMORY) × (after ≡ before)) → EndsSo program dir size old new before after status
+  stored_ends old new status before after values made stores all same prints none content is =
+      let left : Content = with_index dir run_logs (index_bytes (rows_of_logs run_logs)) content in
+      record {
+        content = left;
+        is = stores content (whole_tell dir size root tasks) is;
+        holds = record {
+          answers = printed_made (EndDue program dir size content left) DONE (run_text tasks program.arrays values) made before after status (ran refl (has_ran content left values (all_left content) all)) same prints none;
+          leaves = λ _. index tasks run (index_bytes (rows_of tasks)) [] (sym (append-nil (index_bytes (rows_of tasks)))) (all_left content);
+        };
+      }
+
+-- the same of the logs that a run answered
+module _ (program : Program) (first : IsFirstKind program) (dir : List ℕ) (size : ℕ) (root : Text) (all : List Logged) (has : HasRun program dir size (Some root) all) where
+  -- storing them was refused
+  pub run_refused : (old new : Option Content) (status : ℕ) (written : Option (List ℕ)) → StoresFront dir all old new → IsFailure status → EndsSo program dir size old new written written status
+  run_refused old new status written stores failure =
+      refused_ends program first dir size root has.tasks has.run old new status written (subst (λ (ls : List Logged). StoresFront dir ls old new) has.logs_are stores) failure
+
+  -- they were stored
+  pub run_stored : (old new : Option Content) (status : ℕ) (before after : Option (List ℕ)) (values : List ℕ) (made : Result (String Global) Memory) → StoresAll dir all old new
+      → length values ≡ elements program.arrays → ((tasks : Trace) → rows_of tasks ≡ rows_of_logs all → IfOk made (λ m. string_bytes m ≡ run_text tasks program.arrays values))
+      → IfOk made (λ m. Prints DONE (string_bytes m) before after status) → OnErr made ((status ≡ NO_MEMORY) × (after ≡ before)) → EndsSo program dir size old new before after status
+  run_stored old new status before after values made stores values_are text prints none =
+      stored_ends program first dir size root has.tasks has.run old new status before after values made (subst (λ (ls : List Logged). StoresAll dir ls old new) has.logs_are stores) values_are
+      (text has.tasks (sym (whole_rows dir size (Some root) has.tasks) ∙ ap rows_of_logs (sym has.logs_are))) prints none
+
+-- ---- a kernel that stopped
+
+-- the logs tell what they hold where the root's does
+pub all_tell : {L : Type 0} (dir_of : L → List ℕ) (path_of : L → List Step) (text_of : L → Option Text) (entries : List (List Step × L × ℕ)) (dir of_root : List ℕ) (told : Option Text) (root : Text)
+    → of_root ≡ dir → told ≡ Some root → All (λ entry. IsOwnLog of_root (is_some told) (logged_entry dir_of path_of text_of entry)) entries → AllTell dir (all_logged dir_of path_of text_of entries)
+all_tell dir_of path_of text_of entries dir of_root told root dir_is told_is own =
+    All-map (IsOwnLog dir true) (logged_entry dir_of path_of text_of) entries
+    (subst (λ (d : List ℕ). All (λ entry. IsOwnLog d true (logged_entry dir_of path_of text_of entry)) entries) dir_is
+    (subst (λ (t : Option Text). All (λ entry. IsOwnLog of_root (is_some t) (logged_entry dir_of path_of text_of entry)) entries) told_is own))
+
+-- the kernel's own stop
+pub told_stop : (P : model.Stop → ℕ → Type 0) (why : Stop) (kind : model.Stop) (line : ℕ) → stop_of why ≡ Some (kind, line) → StopsSo P why → P kind line
+told_stop P (DivZero at) kind line is stops = let both : (model.DivZero, at) ≡ (kind, line) = same_Some (model.DivZero, at) (kind, line) is in subst (λ (s : model.Stop × ℕ). P s.0 s.1) both stops
+told_stop P (Index at) kind line is stops = let both : (model.Index, at) ≡ (kind, line) = same_Some (model.Index, at) (kind, line) is in subst (λ (s : model.Stop × ℕ). P s.0 s.1) both stops
+told_stop P (LogFull at) kind line is stops = let both : (model.LogFull, at) ≡ (kind, line) = same_Some (model.LogFull, at) (kind, line) is in subst (λ (s : model.Stop × ℕ). P s.0 s.1) both stops
+told_stop P (stop.Trouble trouble) kind line is stops = absurd (none-some (kind, line) is)
+
+-- what is sealed has the tasks' paths
+sealed_paths : (dir : List ℕ) (all : List Logged) → AllTell dir all → map (λ (log : SealedLog). log.path) (all_sealed all) ≡ tasks_of all
+sealed_paths dir [] tell = refl
+sealed_paths dir (log ∷ all) tell =
+    let own = All-head (IsOwnLog dir true) log all tell in
+    ap₂ (λ (path : List Step) (paths : List (List Step)). path ∷ paths) own.path_is (sealed_paths dir all (All-tail (IsOwnLog dir true) log all tell))
+
+-- an element of a list has its image in the list of images
+contains_mapped : {A B : Type 0} (f : A → B) (xs : List A) (x : A) → Contains xs x → Contains (map f xs) (f x)
+contains_mapped f xs x (k, within, is) = (k, omega (arith, length-map xs f), get_or-map f xs k x (f x) within ∙ ap f is)
+
+module _ (program : Program) (dir : List ℕ) (size : ℕ) (root : Text) (all : List Logged) where
+  -- a task's whole log is sealed as that
+  task_sealed : (path : List Step) (ending : Ending) → HasTask program (λ task. Contains all (whole_log dir size (Some root) task)) path ending
+      → HasTask program (λ task. Contains (all_sealed all) (sealed_log size task)) path ending
+  task_sealed path ending has = record {
+    start = has.start;
+    starts = has.starts;
+    records = has.records;
+    traced = has.traced;
+    logged = contains_mapped sealed_of all (whole_log dir size (Some root) (record { path = path; records = has.records })) has.logged;
+  }
+
+  -- the logs of a stop are
+  stop_sealed : (path : List Step) (kind : model.Stop) (line : ℕ) → HasStop program (λ task. Contains all (whole_log dir size (Some root) task)) path kind line
+      → HasStop program (λ task. Contains (all_sealed all) (sealed_log size task)) path kind line
+  stop_sealed path kind line has = record {
+    lane = has.lane;
+    within = has.within;
+    path_is = has.path_is;
+    stopped = task_sealed path (Stopped kind line) has.stopped;
+    before = λ other below. task_sealed _ Ended (has.before other below);
+  }
+
+  module _ (tell : AllTell dir all) (path : List Step) (kind : model.Stop) (line : ℕ) (has : HasStoppedRun program dir size (Some root) all path kind line) where
+    -- what is sealed of them
+    are_stopped : AreStopped program size (all_sealed all) path kind line
+    are_stopped = record { all = sealed_paths dir all tell ∙ has.all; stop = stop_sealed path kind line has.stop }
+
+    -- all logs were sealed
+    pub stop_ends : (old new : Option Content) (status : ℕ) (before after : Option (List ℕ)) (made : Result (String Global) Memory) → SealsAll all (Ok tt) old new
+        → IfOk made (λ m. string_bytes m ≡ stopped_text path line kind) → IfOk made (λ m. Prints KERNEL_STOPPED (string_bytes m) before after status)
+        → OnErr made ((status ≡ NO_MEMORY) × (after ≡ before)) → EndsSo program dir size old new before after status
+    stop_ends old new status before after made seals same prints none content is =
+        let now = seals dir content tell is in
+        let due : StoppedRun program dir size content now.content (stopped_text path line kind) = record {
+          logs = all_sealed all;
+          path = path;
+          why = kind;
+          line = line;
+          stopped = are_stopped;
+          leaves = now.holds.done;
+          text_is = refl;
+        } in
+        record {
+          content = now.content;
+          is = now.is;
+          holds = record {
+            answers = printed_made (EndDue program dir size content now.content) KERNEL_STOPPED (stopped_text path line kind) made before after status (stopped refl due) same prints none;
+            leaves = λ _. logs (all_sealed all) (kinds.stopped path kind line are_stopped) now.holds.front;
+          };
+        }
+
+    -- one was refused
+    pub stop_refused : (old new : Option Content) (status : ℕ) (written : Option (List ℕ)) (trouble : Trouble) → SealsAll all (Err trouble) old new → IsFailure status
+        → EndsSo program dir size old new written written status
+    stop_refused old new status written trouble seals failure content is =
+        let now = seals dir content tell is in
+        record {
+          content = now.content;
+          is = now.is;
+          holds = record {
+            answers = silent failure refl;
+            leaves = λ _. logs (all_sealed all) (kinds.stopped path kind line are_stopped) now.holds.front;
+          };
+        }

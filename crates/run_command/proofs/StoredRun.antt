@@ -1,0 +1,47 @@
+-- What a folder holds once a run was stored, or its storing was refused.
+use Rattle.std.proofs.Common.{◌≡◌, refl, ap, ◌∙◌, ⊎_elim, ℕ, List, [], map, Option, Some, Ok, Err}
+use Rattle.std.specs.Option.{option_map}
+use Rattle.std.proofs.lemmas.Simd.{map-map}
+use Rattle.sw_base.specs.declared.path.Step.{Step}
+use Rattle.sw_base.specs.declared.trouble.Trouble.{Trouble}
+use Rattle.sw_base.specs.Environment.{Content, LeavesFront, Text, with_put}
+use Rattle.sw_base.specs.Names.{index_name}
+use Rattle.race_model.specs.Row.{index_bytes}
+use Rattle.team_runner.specs.Answer.{Logged, logged_entry}
+use Rattle.run_command.specs.Run.{between}
+use Rattle.run_command.specs.Seals.{SealsAll, StoresAll, StoresFront, StoresPart, Tells, all_logged, all_sealed, front, part, row_of_entry, rows_of_logs, with_index}
+
+-- the rows of a run's logs
+pub rows-logged : {L : Type 0} (dir_of : L → List ℕ) (path_of : L → List Step) (text_of : L → Option Text) (entries : List (List Step × L × ℕ)) →
+    rows_of_logs (all_logged dir_of path_of text_of entries) ≡ map row_of_entry entries
+rows-logged dir_of path_of text_of entries = map-map (λ (log : Logged). record { path = log.task; records = log.count }) (logged_entry dir_of path_of text_of) entries
+
+-- no log was sealed
+pub stores_none : (dir : List ℕ) (logs : List Logged) (old new : Option Content) → new ≡ old → StoresFront dir logs old new
+stores_none dir logs old new same content tell is = record { content = content; is = same ∙ is; holds = part (between [] (all_sealed logs) refl refl) }
+
+-- a log was refused
+pub stores_part : (dir : List ℕ) (logs : List Logged) (trouble : Trouble) (old new : Option Content) → SealsAll logs (Err trouble) old new → StoresFront dir logs old new
+stores_part dir logs trouble old new seals content tell is =
+    let now = seals dir content tell is in
+    record { content = now.content; is = now.is; holds = part now.holds.front }
+
+module _ (dir : List ℕ) (logs : List Logged) (old mid new : Option Content) (seals : SealsAll logs (Ok tt) old mid) where
+  -- all logs and the index are there
+  pub stores_all : new ≡ option_map (with_put (index_name dir) (index_bytes (rows_of_logs logs))) mid → StoresAll dir logs old new
+  stores_all put content tell is =
+      let now = seals dir content tell is in
+      put ∙ ap (option_map (with_put (index_name dir) (index_bytes (rows_of_logs logs)))) (now.is ∙ ap Some now.holds.done)
+
+  -- the index was refused
+  pub stores_front : LeavesFront mid new (index_name dir) (index_bytes (rows_of_logs logs)) → StoresFront dir logs old new
+  stores_front left content tell is =
+      let now = seals dir content tell is in
+      ⊎_elim
+      (λ same. let it : Tells new (StoresPart dir logs content) = record { content = now.content; is = same ∙ now.is; holds = part now.holds.front } in it)
+      (λ put. record {
+        content = with_index dir logs left.front content;
+        is = put ∙ ap (option_map (with_put (index_name dir) left.front)) (now.is ∙ ap Some now.holds.done);
+        holds = front left.front left.rest left.parts refl;
+      })
+      left.leaves

@@ -1,0 +1,43 @@
+use Rattle.std.proofs.Common.{◌≡◌, arith, rules, refl, sym, inl, inr, ◌∙◌}
+use Rattle.std.proofs.lemmas.Iterator.Adapters.{YieldsList-from_vec}
+use Rattle.std.proofs.lemmas.Iterator.Consumers.{YieldsList-end}
+use Rattle.std.proofs.lemmas.List.{map-id}
+use Rattle.run_command.proofs.SealedLogs.{faulty_none, faulty_last, seals_all_none, seals_all_push}
+use Rattle.run_command.proofs.sealing.seal_all.Goals as goal
+
+pub loop-log-init : goal.loop-log-init
+loop-log-init g c = record {
+  seals = seals_all_none (g.F.Folder.content c.args.place.now);
+  tells = refl;
+  later = omega arith;
+  faulty = λ path has. absurd (faulty_none path has);
+  cause = λ is. absurd (cc);
+}
+
+pub loop-log-preserved : goal.loop-log-preserved
+loop-log-preserved g c = record {
+  seals = seals_all_push _ _ _ c.loop-log.yielded c.in-Some.field-0-0 c.in-Some.log c.in-Some.field-0-2 c.loop-log.outcome c.seal_next-outcome.result _ (g.F.Folder.content c.loop-log.place) _
+      c.loop-log.invariant.seals c.seal_next-outcome.ensures.sealed c.seal_next-outcome.ensures.refused c.seal_next-outcome.ensures.given_up;
+  tells = cc;
+  later = let taken = c.seal_next-outcome.ensures.log_faults in omega arith;
+  faulty = λ path has. elim (faulty_last _ c.loop-log.yielded _ path has) [
+    | inl before ↦ let rose = c.loop-log.invariant.faulty path before in let taken = c.seal_next-outcome.ensures.log_faults in omega arith
+    | inr own ↦ let rose = c.seal_next-outcome.ensures.log_faults.faulty own in omega arith
+  ];
+  cause = λ is. elim (c.seal_next-outcome.ensures.cause is) [
+    | inl was ↦ let rose = c.loop-log.invariant.cause was in let taken = c.seal_next-outcome.ensures.log_faults in omega arith
+    | inr rose ↦ omega arith
+  ];
+}
+
+pub returns-clause-seals : goal.returns-clause-seals
+returns-clause-seals g c =
+    let end = YieldsList-end (YieldsList-from_vec {s = c.into_iter-log-iterator.result} c.args.logs.items (search rules) (search rules)) c.loop-log.yielded _ c.loop-log.yielded_by _ c.next.new.self c.in-None.is c.next.ensures.steps in
+    let whole : c.loop-log.yielded ≡ c.args.logs.items = sym (map-id _) ∙ end.0 in
+    rw (← whole) c.loop-log.invariant.seals
+
+pub returns-clause-faulty : goal.returns-clause-faulty
+returns-clause-faulty g c =
+    let end = YieldsList-end (YieldsList-from_vec {s = c.into_iter-log-iterator.result} c.args.logs.items (search rules) (search rules)) c.loop-log.yielded _ c.loop-log.yielded_by _ c.next.new.self c.in-None.is c.next.ensures.steps in
+    let whole : c.loop-log.yielded ≡ c.args.logs.items = sym (map-id _) ∙ end.0 in
+    rw (← whole) c.loop-log.invariant.faulty

@@ -1,0 +1,5 @@
+pub mod Begins
+pub mod Ends
+pub mod Run
+pub mod RunTexts
+pub mod Seals

@@ -1,0 +1,113 @@
+-- What `run` answers, and what it leaves in the folder.
+use Rattle.std.specs.Prelude.{◌≡◌, ℕ, List, [], ◌∷◌, ◌++◌, length, map, None, Some, IsSome, Contains}
+use Rattle.sw_base.specs.declared.path.Step.{Step}
+use Rattle.sw_base.specs.declared.path.TheConstants.{LOG_HEADER}
+use Rattle.sw_base.specs.Environment.{Files, Content, with_file, with_put}
+use Rattle.sw_base.specs.Names.{index_name, log_name}
+use Rattle.log_format.specs.Spelling.{log_bytes}
+use Rattle.race_model.specs.Place.{Place, IsTooMany}
+use Rattle.race_model.specs.FirstBad.{IsBad, rows_of}
+use Rattle.race_model.specs.Row.{index_bytes}
+use Rattle.race_model.specs.Trace.{TaskLog, Trace}
+use Rattle.kernel_syntax.specs.FirstKind.{IsFirstKind}
+use Rattle.kernel_syntax.specs.Layout.{elements}
+use Rattle.kernel_syntax.specs.Program.{Program}
+use Rattle.kernel_model.specs.State as model
+use Rattle.kernel_reader.specs.KernelOf.{IsKernelOf}
+use Rattle.team_runner.specs.Answer.{IsRun, HasStop, task_paths}
+use Rattle.team_runner.specs.Written.{cut}
+use Rattle.command_answer.specs.declared.status.TheConstants.{DONE, KERNEL_REFUSED, KERNEL_STOPPED, INDEX_THERE}
+use Rattle.run_command.specs.RunTexts.{no_kernel_text, not_built_text, index_exists_text, stopped_text, run_text}
+
+-- the file of this name holds the text of a kernel of the first kind
+pub record HoldsKernel (files : Files) (name : List ℕ) (program : Program) : Type 0 where
+  pub text : List ℕ
+  pub held : files name ≡ Some text
+  pub kernel : IsKernelOf text program
+  pub first : IsFirstKind program
+
+-- the named file holds such a kernel, and the folder has no index
+pub record CanRun (files : Files) (kernel dir : List ℕ) : Type 0 where
+  pub program : Program
+  pub holds : HoldsKernel files kernel program
+  pub fresh : files (index_name dir) ≡ None
+
+-- a log that is sealed: its task, its bytes, and the lengths of its pieces
+pub record SealedLog : Type 0 where
+  pub path : List Step
+  pub bytes : List ℕ
+  pub lengths : List ℕ
+
+-- the whole log of a task, from a buffer of this size
+abbrev pub sealed_log : ℕ → TaskLog → SealedLog
+sealed_log size task = record { path = task.path; bytes = log_bytes LOG_HEADER task.records; lengths = cut (length task.records) size }
+
+-- a folder after these logs are sealed, one after another
+abbrev pub with_sealed : List ℕ → List SealedLog → Content → Content
+with_sealed dir [] content = content
+with_sealed dir (log ∷ logs) content =
+    with_sealed dir logs (record {
+      held = with_file (log_name dir log.path) log.bytes content.held;
+      sealed = content.sealed ++ record { name = log_name dir log.path; lengths = log.lengths } ∷ [];
+    })
+
+-- Sealing these logs was broken off: the first of them are sealed, and a front of the next may stand under its name.
+pub data SealsFront (dir : List ℕ) (logs : List SealedLog) (old new : Content) : Type 0 where
+  between : (first rest : List SealedLog) → logs ≡ first ++ rest → new ≡ with_sealed dir first old → SealsFront dir logs old new
+  torn : (first : List SealedLog) (next : SealedLog) (rest : List SealedLog) → logs ≡ first ++ next ∷ rest → (front behind : List ℕ)
+      → next.bytes ≡ front ++ behind → new ≡ with_put (log_name dir next.path) front (with_sealed dir first old) → SealsFront dir logs old new
+
+-- The run ended: its logs and its index are there, and nothing else changed. Its folder has no bad place, but it may have too
+-- many segments.
+pub record Ran (program : Program) (dir : List ℕ) (size : ℕ) (old new : Content) (text : List ℕ) : Type 0 where
+  pub tasks : Trace
+  pub run : IsRun program tasks
+  pub leaves : new ≡ with_put (index_name dir) (index_bytes (rows_of tasks)) (with_sealed dir (map (sealed_log size) tasks) old)
+  pub well_formed : (place : Place) → IsBad new.held dir place → IsTooMany place
+  pub values : List ℕ
+  pub values_are : length values ≡ elements program.arrays
+  pub text_is : text ≡ run_text tasks program.arrays values
+
+-- The logs of a kernel that stopped so: those of all its tasks, in the order of their paths. The log of the task that stopped has
+-- all its records, and those of the lanes before it are whole.
+pub record AreStopped (program : Program) (size : ℕ) (logs : List SealedLog) (path : List Step) (why : model.Stop) (line : ℕ) : Type 0 where
+  pub all : map (λ (log : SealedLog). log.path) logs ≡ task_paths program
+  pub stop : HasStop program (λ task. Contains logs (sealed_log size task)) path why line
+
+-- The kernel stopped so: its logs are there, and nothing else changed.
+pub record StoppedRun (program : Program) (dir : List ℕ) (size : ℕ) (old new : Content) (text : List ℕ) : Type 0 where
+  pub logs : List SealedLog
+  pub path : List Step
+  pub why : model.Stop
+  pub line : ℕ
+  pub stopped : AreStopped program size logs path why line
+  pub leaves : new ≡ with_sealed dir logs old
+  pub text_is : text ≡ stopped_text path line why
+
+-- What is due of `run`: there is no kernel, or none of the first kind; or the folder has an index; or the kernel stopped; or
+-- the run ended.
+pub data RunDue (kernel dir : List ℕ) (size : ℕ) (old new : Content) (status : ℕ) (text : List ℕ) : Type 0 where
+  no_kernel : old.held kernel ≡ None → status ≡ KERNEL_REFUSED → text ≡ no_kernel_text → new ≡ old → RunDue kernel dir size old new status text
+  not_built : IsSome (old.held kernel) → ((program : Program) → HoldsKernel old.held kernel program → ⊥) → status ≡ KERNEL_REFUSED
+      → text ≡ not_built_text → new ≡ old → RunDue kernel dir size old new status text
+  index_there : (program : Program) → HoldsKernel old.held kernel program → IsSome (old.held (index_name dir)) → status ≡ INDEX_THERE
+      → text ≡ index_exists_text → new ≡ old → RunDue kernel dir size old new status text
+  stopped : (program : Program) → HoldsKernel old.held kernel program → old.held (index_name dir) ≡ None → status ≡ KERNEL_STOPPED
+      → StoppedRun program dir size old new text → RunDue kernel dir size old new status text
+  ran : (program : Program) → HoldsKernel old.held kernel program → old.held (index_name dir) ≡ None → status ≡ DONE
+      → Ran program dir size old new text → RunDue kernel dir size old new status text
+
+-- the logs of a run that ended, or of one that stopped
+pub data AreLogs (program : Program) (size : ℕ) (logs : List SealedLog) : Type 0 where
+  ended : (tasks : Trace) → IsRun program tasks → logs ≡ map (sealed_log size) tasks → AreLogs program size logs
+  stopped : (path : List Step) (why : model.Stop) (line : ℕ) → AreStopped program size logs path why line → AreLogs program size logs
+
+-- What a run leaves that could not give its answer: the folder as it was; or, of a run that began, the first of its logs and no
+-- index; or the logs of a whole run, and a front of its index.
+pub data LeavesPart (kernel dir : List ℕ) (size : ℕ) (old new : Content) : Type 0 where
+  nothing : new ≡ old → LeavesPart kernel dir size old new
+  logs : (program : Program) → HoldsKernel old.held kernel program → old.held (index_name dir) ≡ None → new.held (index_name dir) ≡ None
+      → (logs : List SealedLog) → AreLogs program size logs → SealsFront dir logs old new → LeavesPart kernel dir size old new
+  index : (program : Program) → HoldsKernel old.held kernel program → old.held (index_name dir) ≡ None → (tasks : Trace) → IsRun program tasks
+      → (front rest : List ℕ) → index_bytes (rows_of tasks) ≡ front ++ rest
+      → new ≡ with_put (index_name dir) front (with_sealed dir (map (sealed_log size) tasks) old) → LeavesPart kernel dir size old new

@@ -1,0 +1,128 @@
+//! The logs of a run are sealed and their index is written, or they are given up.
+ghost use Rattle.std.specs.Prelude.{◌≡◌, ◌⊎◌, ◌≤◌, List, map, is_some, IfOk, OnOk, OnErr, IsErrOf};
+ghost use Rattle.std.specs.Option.{option_map};
+ghost use Rattle.sw_base.specs.Environment.{WhereTold, Rose, HasCause, TakesFaults, LeavesFront, with_log};
+ghost use Rattle.sw_base.specs.Names.{log_name};
+ghost use Rattle.sw_base.specs.declared.path.Step.{Step};
+ghost use Rattle.race_model.specs.IndexFault.{AreRows};
+ghost use Rattle.team_runner.specs.Answer.{HasFaulty};
+ghost use Rattle.log_index.specs.Rows.{rows_of};
+ghost use Rattle.run_command.specs.Seals.{SealsAll, StoresAll, StoresFront, all_logged, row_of_entry};
+
+use log_index::{Row, write_index};
+use std::alloc::{AllocError, Global};
+use sw_base::{Folder, Log, Path, Trouble};
+
+/// Seals a log. One that is refused is given up.
+fn seal_one<F: Folder>(alloc: Global, place: &mut F, log: F::Log) -> Result<(), Trouble>
+    ensures done { OnOk result (WhereTold (F.Log.text log) (λ text.
+        F.content place.new ≡ option_map (with_log (log_name (F.Log.dir log) (F.Log.path log)) text) (F.content place.old))) }
+    ensures refused { OnErr result (WhereTold (F.Log.text log) (λ text.
+        LeavesFront (F.content place.old) (F.content place.new) (log_name (F.Log.dir log) (F.Log.path log)) text.bytes)) }
+    ensures tells { is_some (F.content place.new) ≡ is_some (F.content place.old) }
+    ensures log_faults { TakesFaults (F.Log.faults log) (F.write_faults place.old) (F.write_faults place.new) }
+    ensures cause { HasCause (F.write_faults place.old) (F.write_faults place.new) result }
+{
+    match place.seal(alloc, log) {
+        Ok(()) => Ok(()),
+        Err((trouble, log)) => {
+            place.discard(log);
+            Err(trouble)
+        }
+    }
+}
+
+/// Seals one more log after others, unless one of them was refused: then it is given up.
+fn seal_next<F: Folder>(
+    alloc: Global,
+    place: &mut F,
+    log: F::Log,
+    so_far: Result<(), Trouble>,
+) -> Result<(), Trouble>
+    ensures sealed { OnOk so_far (OnOk result (WhereTold (F.Log.text log) (λ text.
+        F.content place.new ≡ option_map (with_log (log_name (F.Log.dir log) (F.Log.path log)) text) (F.content place.old)))) }
+    ensures refused { OnOk so_far (OnErr result (WhereTold (F.Log.text log) (λ text.
+        LeavesFront (F.content place.old) (F.content place.new) (log_name (F.Log.dir log) (F.Log.path log)) text.bytes))) }
+    ensures given_up { OnErr so_far ((result ≡ so_far) × (F.content place.new ≡ F.content place.old)) }
+    ensures tells { is_some (F.content place.new) ≡ is_some (F.content place.old) }
+    ensures log_faults { TakesFaults (F.Log.faults log) (F.write_faults place.old) (F.write_faults place.new) }
+    ensures cause { IsErrOf result Trouble.Failed → IsErrOf so_far Trouble.Failed ⊎ Rose (F.write_faults place.old) (F.write_faults place.new) }
+{
+    match so_far {
+        Ok(()) => seal_one(alloc, place, log),
+        Err(trouble) => {
+            place.discard(log);
+            Err(trouble)
+        }
+    }
+}
+
+/// Seals logs one after another. Once one is refused, it and the rest are given up.
+pub fn seal_all<F: Folder>(
+    alloc: Global,
+    place: &mut F,
+    logs: Vec<(Path, F::Log, u32)>,
+) -> Result<(), Trouble>
+    ensures seals { SealsAll (all_logged F.Log.dir F.Log.path F.Log.text logs.items) result (F.content place.old) (F.content place.new) }
+    ensures tells { is_some (F.content place.new) ≡ is_some (F.content place.old) }
+    ensures faulty { (path : List Step) → HasFaulty (map (λ e. (e.0, F.Log.faults e.1)) logs.items) path
+        → Rose (F.write_faults place.old) (F.write_faults place.new) }
+    ensures cause { HasCause (F.write_faults place.old) (F.write_faults place.new) result }
+{
+    let mut outcome = Ok(());
+    for (_, log, _) in logs {
+        outcome = seal_next(alloc, place, log, outcome);
+    }
+    outcome
+}
+
+/// Gives up logs.
+pub fn discard_all<F: Folder>(place: &mut F, logs: Vec<(Path, F::Log, u32)>)
+    ensures same { F.content place.new ≡ F.content place.old }
+    ensures later { F.write_faults place.old ≤ F.write_faults place.new }
+    ensures faulty { (path : List Step) → HasFaulty (map (λ e. (e.0, F.Log.faults e.1)) logs.items) path
+        → Rose (F.write_faults place.old) (F.write_faults place.new) }
+{
+    for (_, log, _) in logs {
+        place.discard(log);
+    }
+}
+
+/// The rows of the index for these logs.
+fn index_rows<L: Log>(alloc: Global, logs: &[(Path, L, u32)]) -> Result<Vec<Row>, AllocError>
+    ensures { IfOk result (λ rows. rows_of rows.items ≡ map row_of_entry logs.now) }
+{
+    let mut rows = Vec::new(alloc);
+    for (path, _, records) in logs {
+        rows.push(Row {
+            path: path.copy(),
+            records: *records,
+        })?;
+    }
+    Ok(rows)
+}
+
+/// Seals the logs of a whole run, and then writes their index, whose rows are answered.
+pub fn store<F: Folder>(
+    alloc: Global,
+    place: &mut F,
+    dir: &str,
+    logs: Vec<(Path, F::Log, u32)>,
+) -> Result<Vec<Row>, Trouble>
+    requires { AreRows (map row_of_entry logs.items) }
+    ensures rows { IfOk result (λ rows. rows_of rows.items ≡ map row_of_entry logs.items) }
+    ensures stored { OnOk result (StoresAll dir.now (all_logged F.Log.dir F.Log.path F.Log.text logs.items) (F.content place.old) (F.content place.new)) }
+    ensures refused { OnErr result (StoresFront dir.now (all_logged F.Log.dir F.Log.path F.Log.text logs.items) (F.content place.old) (F.content place.new)) }
+    ensures tells { is_some (F.content place.new) ≡ is_some (F.content place.old) }
+    ensures faulty { (path : List Step) → HasFaulty (map (λ e. (e.0, F.Log.faults e.1)) logs.items) path
+        → Rose (F.write_faults place.old) (F.write_faults place.new) }
+    ensures cause { HasCause (F.write_faults place.old) (F.write_faults place.new) result }
+{
+    let Ok(rows) = index_rows(alloc, &logs) else {
+        discard_all(place, logs);
+        return Err(Trouble::Memory);
+    };
+    seal_all(alloc, place, logs)?;
+    write_index(alloc, place, dir, &rows)?;
+    Ok(rows)
+}
