@@ -1,30 +1,17 @@
 -- What `run` answers and leaves, by what its parts did.
-use Rattle.std.proofs.Common.{◌≡◌, ◌≢◌, refl, sym, ap, ◌∙◌, ℕ, List, [], ◌∷◌, ◌++◌, Option, None}
-use Rattle.sw_base.specs.Environment.{Content, with_file}
-use Rattle.sw_base.specs.declared.path.Step.{Step}
-use Rattle.sw_base.specs.Names.{index_name, log_name}
-use Rattle.sw_base.proofs.AfterPut.{with_file-elsewhere}
-use Rattle.sw_base.proofs.NameLaws.{log_name-not_index}
+use Rattle.std.proofs.Common.{◌≡◌, ℕ, List, Option, None}
+use Rattle.sw_base.specs.Environment.{Content}
+use Rattle.sw_base.specs.Names.{index_name}
 use Rattle.kernel_syntax.specs.Program.{Program}
 use Rattle.run_command.specs.declared.beginning.Refusal.{Refusal}
 use Rattle.run_command.specs.declared.beginning.Refusal.TheVariants.{NoKernel, NotBuilt, IndexThere, ReadFault, Memory}
 use Rattle.command_answer.specs.Answer.{IsFailure, Tries}
 use Rattle.run_command.specs.Begins.{IsRefusal, RefusalDue}
-use Rattle.run_command.specs.Ends.{EndDue, EndLeaves, Ends}
+use Rattle.run_command.specs.Ends.{EndDue, Ends}
 use Rattle.run_command.specs.Ends as end
-use Rattle.run_command.specs.Run.{HoldsKernel, LeavesPart, RunDue, SealedLog, SealsFront, with_sealed}
+use Rattle.run_command.specs.Run.{HoldsKernel, LeavesPart, RunDue}
 use Rattle.run_command.specs.Run as run
 use Rattle.command_answer.proofs.Answering.{Tries-weaker}
-
-index_apart : (dir : List ℕ) (path : List Step) → index_name dir ≢ log_name dir path
-index_apart dir path same = log_name-not_index dir path (sym same)
-
--- sealing logs leaves the index as it is
-index_kept : (dir : List ℕ) (logs : List SealedLog) (content : Content) → (with_sealed dir logs content).held (index_name dir) ≡ content.held (index_name dir)
-index_kept dir [] content = refl
-index_kept dir (log ∷ logs) content =
-    index_kept dir logs (record { held = with_file (log_name dir log.path) log.bytes content.held; sealed = content.sealed ++ record { name = log_name dir log.path; lengths = log.lengths } ∷ [] })
-    ∙ with_file-elsewhere (log_name dir log.path) log.bytes content.held (index_name dir) (index_apart dir log.path)
 
 module _ (kernel dir : List ℕ) (size : ℕ) (old new : Content) where
   -- a text that is due of a refusal is due of `run`
@@ -50,20 +37,6 @@ module _ (kernel dir : List ℕ) (size : ℕ) (old new : Content) where
     pub ended_run : (before after : Option (List ℕ)) (status : ℕ) → Ends program dir size old before after status new → Tries (RunDue kernel dir size old new) before after status
     ended_run before after status ends = Tries-weaker (EndDue program dir size old new) (RunDue kernel dir size old new) before after status end_due ends.answers
 
-    -- no log has the index's name
-    no_index : (logs : List SealedLog) → SealsFront dir logs old new → new.held (index_name dir) ≡ None
-    no_index logs (run.between first rest parts leaves) = ap (λ (c : Content). c.held (index_name dir)) leaves ∙ index_kept dir first old ∙ fresh
-    no_index logs (run.torn first next rest parts front behind bytes leaves) =
-        ap (λ (c : Content). c.held (index_name dir)) leaves
-        ∙ with_file-elsewhere (log_name dir next.path) front (with_sealed dir first old).held (index_name dir) (index_apart dir next.path)
-        ∙ index_kept dir first old ∙ fresh
-
-    -- what it leaves is what `run` leaves
-    part_of : EndLeaves program dir size old new → LeavesPart kernel dir size old new
-    part_of (end.nothing same) = run.nothing same
-    part_of (end.logs logs are sealed) = run.logs program holds fresh (no_index logs sealed) logs are sealed
-    part_of (end.index tasks is front rest parts leaves) = run.index program holds fresh tasks is front rest parts leaves
-
-    -- where it could not give its answer
+    -- what it leaves where it could not give its answer is what `run` leaves
     pub ended_part : (before after : Option (List ℕ)) (status : ℕ) → Ends program dir size old before after status new → IsFailure status → LeavesPart kernel dir size old new
-    ended_part before after status ends failure = part_of (ends.leaves failure)
+    ended_part before after status ends failure = run.began program holds fresh (ends.leaves failure)

@@ -1,6 +1,7 @@
 pub mod SealedLogs
 pub mod StoredRun
 pub mod RunSums
+pub mod IndexKept
 pub mod Refusals
 pub mod FirstPaths
 pub mod RunFolder

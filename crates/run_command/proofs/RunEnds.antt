@@ -28,12 +28,13 @@ use Rattle.team_runner.specs.Answer.{HasRun, HasStop, HasStoppedRun, HasTask, Is
 use Rattle.team_runner.specs.Stops.{StopsSo}
 use Rattle.command_answer.specs.declared.status.TheConstants.{DONE, KERNEL_STOPPED, NO_MEMORY}
 use Rattle.command_answer.specs.Answer.{IsFailure, Prints, Tries, silent}
-use Rattle.run_command.specs.Ends.{EndDue, EndLeaves, EndsSo, index, logs, ran, stop_of, stopped}
-use Rattle.run_command.specs.Run.{AreStopped, Ran, SealedLog, StoppedRun, ended, sealed_log, with_sealed}
+use Rattle.run_command.specs.Ends.{EndDue, EndsSo, ran, stop_of, stopped}
+use Rattle.run_command.specs.Run.{AreStopped, EndLeaves, Ran, SealedLog, SealsFront, StoppedRun, ended, index, logs, sealed_log, with_sealed}
 use Rattle.run_command.specs.Run as kinds
 use Rattle.run_command.specs.RunTexts.{run_text, stopped_text}
 use Rattle.run_command.specs.Seals.{AllTell, SealsAll, StoresAll, StoresFront, StoresPart, all_logged, all_sealed, front, part, row_of_entry, rows_of_logs, sealed_of, tasks_of, with_index}
 use Rattle.command_answer.proofs.Answering.{Tries-from_prints}
+use Rattle.run_command.proofs.IndexKept.{front_keeps_index}
 use Rattle.run_command.proofs.RunFolder.{left_by, run_well_formed}
 use Rattle.run_command.proofs.StoredRun.{rows-logged}
 
@@ -82,7 +83,7 @@ module _ (program : Program) (first : IsFirstKind program) (dir : List ℕ) (siz
 
   -- what is left where storing the run was refused
   part_left : (old new : Content) → StoresPart dir run_logs old new → EndLeaves program dir size old new
-  part_left old new (part sealed) = logs (all_sealed run_logs) (ended tasks run (whole_sealed dir size root tasks)) sealed
+  part_left old new (part sealed) = logs (all_sealed run_logs) (ended tasks run (whole_sealed dir size root tasks)) sealed (front_keeps_index dir (all_sealed run_logs) old new sealed)
   part_left old new (front bytes rest parts leaves) =
       index tasks run bytes rest (ap index_bytes (sym (whole_rows dir size (Some root) tasks)) ∙ parts) (leaves ∙ with_index-is bytes old)
 
@@ -191,6 +192,10 @@ module _ (program : Program) (dir : List ℕ) (size : ℕ) (root : Text) (all : 
     are_stopped : AreStopped program size (all_sealed all) path kind line
     are_stopped = record { all = sealed_paths dir all tell ∙ has.all; stop = stop_sealed path kind line has.stop }
 
+    -- what is left where sealing was broken off
+    left_logs : (old new : Content) → SealsFront dir (all_sealed all) old new → EndLeaves program dir size old new
+    left_logs old new sealed = logs (all_sealed all) (kinds.stopped path kind line are_stopped) sealed (front_keeps_index dir (all_sealed all) old new sealed)
+
     -- all logs were sealed
     pub stop_ends : (old new : Option Content) (status : ℕ) (before after : Option (List ℕ)) (made : Result (String Global) Memory) → SealsAll all (Ok tt) old new
         → IfOk made (λ m. string_bytes m ≡ stopped_text path line kind) → IfOk made (λ m. Prints KERNEL_STOPPED (string_bytes m) before after status)
@@ -211,7 +216,7 @@ module _ (program : Program) (dir : List ℕ) (size : ℕ) (root : Text) (all : 
           is = now.is;
           holds = record {
             answers = printed_made (EndDue program dir size content now.content) KERNEL_STOPPED (stopped_text path line kind) made before after status (stopped refl due) same prints none;
-            leaves = λ _. logs (all_sealed all) (kinds.stopped path kind line are_stopped) now.holds.front;
+            leaves = λ _. left_logs content now.content now.holds.front;
           };
         }
 
@@ -225,6 +230,6 @@ module _ (program : Program) (dir : List ℕ) (size : ℕ) (root : Text) (all : 
           is = now.is;
           holds = record {
             answers = silent failure refl;
-            leaves = λ _. logs (all_sealed all) (kinds.stopped path kind line are_stopped) now.holds.front;
+            leaves = λ _. left_logs content now.content now.holds.front;
           };
         }

@@ -1,18 +1,13 @@
 -- What a run that began does: its answer, and what it leaves.
-use Rattle.std.specs.Prelude.{◌≡◌, ℕ, List, ◌++◌, map, Option, Some, None}
-use Rattle.sw_base.specs.Environment.{Content, with_put}
-use Rattle.sw_base.specs.Names.{index_name}
-use Rattle.race_model.specs.FirstBad.{rows_of}
-use Rattle.race_model.specs.Row.{index_bytes}
-use Rattle.race_model.specs.Trace.{Trace}
+use Rattle.std.specs.Prelude.{◌≡◌, ℕ, List, Option, Some, None}
+use Rattle.sw_base.specs.Environment.{Content}
 use Rattle.kernel_syntax.specs.Program.{Program}
 use Rattle.kernel_model.specs.State as model
 use Rattle.team_runner.specs.declared.stop.Stop.{Stop}
 use Rattle.team_runner.specs.declared.stop.Stop.TheVariants.{DivZero, Index, LogFull, Trouble}
-use Rattle.team_runner.specs.Answer.{IsRun}
 use Rattle.command_answer.specs.declared.status.TheConstants.{DONE, KERNEL_STOPPED}
 use Rattle.command_answer.specs.Answer.{IsFailure, Tries}
-use Rattle.run_command.specs.Run.{AreLogs, Ran, SealedLog, SealsFront, StoppedRun, sealed_log, with_sealed}
+use Rattle.run_command.specs.Run.{EndLeaves, Ran, StoppedRun}
 use Rattle.run_command.specs.RunTexts.{stop_name}
 use Rattle.run_command.specs.Seals.{Tells}
 
@@ -20,13 +15,6 @@ use Rattle.run_command.specs.Seals.{Tells}
 pub data EndDue (program : Program) (dir : List ℕ) (size : ℕ) (old new : Content) (status : ℕ) (text : List ℕ) : Type 0 where
   stopped : status ≡ KERNEL_STOPPED → StoppedRun program dir size old new text → EndDue program dir size old new status text
   ran : status ≡ DONE → Ran program dir size old new text → EndDue program dir size old new status text
-
--- the folder as it was; or the first logs of the run; or those of the whole run, and a front of its index
-pub data EndLeaves (program : Program) (dir : List ℕ) (size : ℕ) (old new : Content) : Type 0 where
-  nothing : new ≡ old → EndLeaves program dir size old new
-  logs : (logs : List SealedLog) → AreLogs program size logs → SealsFront dir logs old new → EndLeaves program dir size old new
-  index : (tasks : Trace) → IsRun program tasks → (front rest : List ℕ) → index_bytes (rows_of tasks) ≡ front ++ rest
-      → new ≡ with_put (index_name dir) front (with_sealed dir (map (sealed_log size) tasks) old) → EndLeaves program dir size old new
 
 -- an answer that is due, or none and what is left then
 pub record Ends (program : Program) (dir : List ℕ) (size : ℕ) (old : Content) (before after : Option (List ℕ)) (status : ℕ) (new : Content) : Type 0 where

@@ -102,12 +102,18 @@ pub data AreLogs (program : Program) (size : ℕ) (logs : List SealedLog) : Type
   ended : (tasks : Trace) → IsRun program tasks → logs ≡ map (sealed_log size) tasks → AreLogs program size logs
   stopped : (path : List Step) (why : model.Stop) (line : ℕ) → AreStopped program size logs path why line → AreLogs program size logs
 
--- What a run leaves that could not give its answer: the folder as it was; or, of a run that began, the first of its logs and no
--- index; or the logs of a whole run, and a front of its index.
+-- What a run leaves that began and could not give its answer: the folder as it was; or the first of its logs, and under the
+-- index's name what was there; or the logs of a whole run, and a front of its index.
+pub data EndLeaves (program : Program) (dir : List ℕ) (size : ℕ) (old new : Content) : Type 0 where
+  nothing : new ≡ old → EndLeaves program dir size old new
+  logs : (logs : List SealedLog) → AreLogs program size logs → SealsFront dir logs old new → new.held (index_name dir) ≡ old.held (index_name dir)
+      → EndLeaves program dir size old new
+  index : (tasks : Trace) → IsRun program tasks → (front rest : List ℕ) → index_bytes (rows_of tasks) ≡ front ++ rest
+      → new ≡ with_put (index_name dir) front (with_sealed dir (map (sealed_log size) tasks) old) → EndLeaves program dir size old new
+
+-- What `run` leaves that could not give its answer: the folder as it was; or, of a kernel that the file holds and a folder that had
+-- no index, what its run leaves.
 pub data LeavesPart (kernel dir : List ℕ) (size : ℕ) (old new : Content) : Type 0 where
   nothing : new ≡ old → LeavesPart kernel dir size old new
-  logs : (program : Program) → HoldsKernel old.held kernel program → old.held (index_name dir) ≡ None → new.held (index_name dir) ≡ None
-      → (logs : List SealedLog) → AreLogs program size logs → SealsFront dir logs old new → LeavesPart kernel dir size old new
-  index : (program : Program) → HoldsKernel old.held kernel program → old.held (index_name dir) ≡ None → (tasks : Trace) → IsRun program tasks
-      → (front rest : List ℕ) → index_bytes (rows_of tasks) ≡ front ++ rest
-      → new ≡ with_put (index_name dir) front (with_sealed dir (map (sealed_log size) tasks) old) → LeavesPart kernel dir size old new
+  began : (program : Program) → HoldsKernel old.held kernel program → old.held (index_name dir) ≡ None → EndLeaves program dir size old new
+      → LeavesPart kernel dir size old new
