@@ -9,8 +9,8 @@ mod status;
 
 pub use printing::{failure, print, print_made};
 pub use status::{
-    DONE, FOLDER_REFUSED, INDEX_THERE, KERNEL_REFUSED, KERNEL_STOPPED, NO_MEMORY, RACES, READ_FAULT,
-    USAGE, WRITE_FAULT,
+    DONE, FOLDER_REFUSED, INDEX_THERE, KERNEL_REFUSED, KERNEL_STOPPED, NO_MEMORY, RACES,
+    READ_FAULT, USAGE, WRITE_FAULT,
 };
 
 #[cfg(test)]

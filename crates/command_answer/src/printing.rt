@@ -37,7 +37,12 @@ pub fn print<O: Out>(alloc: Global, out: &mut O, text: &[u8], status: u8) -> u8
 }
 
 /// Prints a text, where memory was found for it.
-pub fn print_made<O: Out>(alloc: Global, out: &mut O, made: Result<String, Memory>, status: u8) -> u8
+pub fn print_made<O: Out>(
+    alloc: Global,
+    out: &mut O,
+    made: Result<String, Memory>,
+    status: u8,
+) -> u8
     ensures prints { IfOk made (λ text. Prints status (string_bytes text) (O.written out.old) (O.written out.new) result) }
     ensures silent { OnErr made ((result ≡ NO_MEMORY) × (O.written out.new ≡ O.written out.old)) }
     ensures write_fault { result ≡ WRITE_FAULT → (status ≡ WRITE_FAULT → ⊥) → Rose (O.faults out.old) (O.faults out.new) }

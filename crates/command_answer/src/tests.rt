@@ -1,6 +1,6 @@
 use crate::{DONE, KERNEL_REFUSED, NO_MEMORY, RACES, WRITE_FAULT, failure, print, print_made};
 use std::test::Fail;
-use sw_base::{Memory, MemOut, Trouble};
+use sw_base::{MemOut, Memory, Trouble};
 
 #[test]
 fn each_trouble_has_its_status(rt: HostRuntime) {
@@ -26,7 +26,10 @@ fn a_failed_write_is_a_write_fault(rt: HostRuntime) -> Result<(), Fail> {
     let alloc = rt.alloc();
     let mut out = MemOut::new(alloc)?;
     out.fail(&[1, 2])?;
-    assert_eq!(rt; print(alloc, &mut out, b"no kernel\n", KERNEL_REFUSED), WRITE_FAULT);
+    assert_eq!(rt;
+        print(alloc, &mut out, b"no kernel\n", KERNEL_REFUSED),
+        WRITE_FAULT
+    );
     let made = String::from_str(alloc, "records")?;
     assert_eq!(rt; print_made(alloc, &mut out, Ok(made), DONE), WRITE_FAULT);
     assert_eq!(rt; out.written(), b"no kerec".as_slice());

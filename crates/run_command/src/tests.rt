@@ -22,7 +22,10 @@ fn answers<R: Abort>(
     text: &str,
 ) -> Result<(), Fail> {
     let mut out = MemOut::new(alloc)?;
-    assert_eq!(rt; run(rt, alloc, "k", "d", 48, place, &mut out, &NoGate), status);
+    assert_eq!(rt;
+        run(rt, alloc, "k", "d", 48, place, &mut out, &NoGate),
+        status
+    );
     assert_eq!(rt; out.written(), text.as_bytes());
     Ok(())
 }
@@ -32,7 +35,13 @@ fn one_store_is_run(rt: HostRuntime) -> Result<(), Fail> {
     let alloc = rt.alloc();
     let mut place = MemFolder::new(alloc)?;
     place.hold("k", STORE.as_bytes())?;
-    answers(&rt, alloc, &mut place, DONE, "tasks 2\nrecords 5\nsum a 7\n")?;
+    answers(
+        &rt,
+        alloc,
+        &mut place,
+        DONE,
+        "tasks 2\nrecords 5\nsum a 7\n",
+    )?;
     assert_eq!(rt; place.sealed_name(0), Some("d/t.swl"));
     assert_eq!(rt; place.sealed_lengths(0), Some([8, 48].as_slice()));
     assert_eq!(rt; place.sealed_name(1), Some("d/t-0.0.swl"));
@@ -50,7 +59,13 @@ fn a_stop_is_told(rt: HostRuntime) -> Result<(), Fail> {
     let alloc = rt.alloc();
     let mut place = MemFolder::new(alloc)?;
     place.hold("k", BEYOND.as_bytes())?;
-    answers(&rt, alloc, &mut place, KERNEL_STOPPED, "stopped t-0.0.swl line 3: Index\n")?;
+    answers(
+        &rt,
+        alloc,
+        &mut place,
+        KERNEL_STOPPED,
+        "stopped t-0.0.swl line 3: Index\n",
+    )?;
     assert_eq!(rt; place.sealed_name(1), Some("d/t-0.0.swl"));
     assert_eq!(rt; place.file(INDEX), None);
     Ok(())
