@@ -1,7 +1,7 @@
 //! What each command is answered with, and what it means that a due text was printed, a front of it, or nothing.
 //!
-//! A text comes with its status. Where it couldn't be printed the status tells the cause: `WRITE_FAULT` only where the output's count of
-//! faults rose, and `NO_MEMORY` for want of memory; and what was printed is a front of the text.
+//! A text comes with its status. Where it couldn't be printed a front of it was, and the status is that of the failure:
+//! `WRITE_FAULT`, only where the output's count of faults rose, or `NO_MEMORY`.
 #![tactic(auto)]
 
 mod printing;

@@ -67,6 +67,8 @@ fn a_stop_is_told(rt: HostRuntime) -> Result<(), Fail> {
         "stopped t-0.0.swl line 3: Index\n",
     )?;
     assert_eq!(rt; place.sealed_name(1), Some("d/t-0.0.swl"));
+    assert_eq!(rt; place.sealed_lengths(1), Some([8, 24].as_slice()));
+    assert_eq!(rt; place.sealed_name(2), None);
     assert_eq!(rt; place.file(INDEX), None);
     Ok(())
 }
