@@ -6,7 +6,7 @@ use Rattle.std.proofs.lemmas.Bool.{cases_order, cases_lt}
 use Rattle.std.proofs.lemmas.List.{append-nil, map-append, length-map, take-append-drop, get_or-drop}
 use Rattle.std.proofs.lemmas.List.Elements.{All-nil, All-cons, All-head, All-tail}
 use Rattle.sw_base.specs.declared.path.Step.{Step}
-use Rattle.sw_base.specs.declared.path.TheConstants.{INDEX_HEADER}
+use Rattle.sw_base.specs.declared.files.TheConstants.{INDEX_HEADER}
 use Rattle.sw_base.specs.Environment.{Files}
 use Rattle.sw_base.specs.Names.{index_name}
 use Rattle.race_model.specs.declared.why.IndexWhy.{IndexWhy}

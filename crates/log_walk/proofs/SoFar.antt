@@ -6,7 +6,7 @@ use lib.Pointwise.{pointwise}
 use Rattle.std.proofs.lemmas.List.{length-append, take_at, take-append-drop, take-append-le, nil_from_length, get_or_append_left, get_or_push}
 use Rattle.std.proofs.lemmas.Bool.{cases_order}
 use Rattle.std.proofs.lemmas.Option.{slice_get_within}
-use Rattle.sw_base.specs.declared.path.TheConstants.{LOG_HEADER}
+use Rattle.sw_base.specs.declared.files.TheConstants.{LOG_HEADER}
 use Rattle.log_format.specs.declared.record.Record.{Record}
 use Rattle.log_format.specs.declared.record.Why.{Why}
 use Rattle.log_format.specs.Spelling.{spelling, log_bytes}

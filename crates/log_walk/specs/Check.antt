@@ -9,7 +9,7 @@ use Rattle.race_model.specs.declared.why.RecordWhy.{RecordWhy}
 use Rattle.race_model.specs.declared.why.RecordWhy.TheVariants as log
 use Rattle.log_format.specs.Spelling.{log_bytes}
 use Rattle.log_format.specs.Table.{IsTabled, Spells, IsFirstFault}
-use Rattle.sw_base.specs.declared.path.TheConstants.{LOG_HEADER}
+use Rattle.sw_base.specs.declared.files.TheConstants.{LOG_HEADER}
 use Rattle.race_model.specs.LogFault.{LogTask, Breaks, IsLogFault, OpensTooMany, max_segments}
 use Rattle.race_model.specs.Segment.{segment_count}
 use Rattle.log_walk.specs.Rules.{BreaksNone, BreaksFirst}

@@ -7,7 +7,7 @@ use Rattle.std.proofs.lemmas.List.{length-take-le}
 use Rattle.std.proofs.lemmas.Option.{slice_get_within, get_or_from_slice_get, slice_get-map}
 use Rattle.std.proofs.lemmas.List.Elements.{All-take}
 use Rattle.sw_base.specs.declared.path.Step.{Step}
-use Rattle.sw_base.specs.declared.path.TheConstants.{LOG_HEADER}
+use Rattle.sw_base.specs.declared.files.TheConstants.{LOG_HEADER}
 use Rattle.sw_base.specs.Environment.{Files}
 use Rattle.log_format.specs.declared.record.Record.{Record}
 use Rattle.log_format.specs.Spelling.{spelling, log_bytes}

@@ -4,7 +4,7 @@ use Rattle.std.specs.Prelude.{slice_get, Contains, map, All}
 use Rattle.std.proofs.lemmas.List.Elements.{All-contains, Contains-push}
 use Rattle.std.proofs.lemmas.Option.{same_Some}
 use Rattle.sw_base.specs.declared.path.Step.{Step}
-use Rattle.sw_base.specs.declared.path.TheConstants.{LOG_HEADER}
+use Rattle.sw_base.specs.declared.files.TheConstants.{LOG_HEADER}
 use Rattle.sw_base.specs.Environment.{Files}
 use Rattle.sw_base.specs.Names.{log_name}
 use Rattle.log_format.specs.declared.record.Record.{Record}

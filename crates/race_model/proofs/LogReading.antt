@@ -2,7 +2,7 @@
 use Rattle.std.proofs.Common.{◌≡◌, ℕ, suc, ◌≤◌, List, [], ◌∷◌, ◌++◌, length, take, drop, refl, sym, ap, ◌∙◌, arith, append_assoc, All}
 use Rattle.std.specs.List.{flat_map}
 use Rattle.std.proofs.lemmas.List.{append-nil, append_cancel_left, take_at, drop_at, take_all, drop_all}
-use Rattle.sw_base.specs.declared.path.TheConstants.{LOG_HEADER}
+use Rattle.sw_base.specs.declared.files.TheConstants.{LOG_HEADER}
 use Rattle.log_format.specs.declared.record.Record.{Record}
 use Rattle.log_format.specs.Spelling.{spelling, log_bytes}
 use Rattle.log_format.specs.Table.{IsTabled}

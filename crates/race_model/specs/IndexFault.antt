@@ -2,7 +2,7 @@
 use Rattle.std.specs.Prelude.{◌≡◌, ◌≢◌, ◌⊎◌, ℕ, ◌+◌, ◌^◌, ◌<◌, ◌≤◌, List, [], ◌∷◌, ◌++◌, length, take, map, All, Some, None}
 use Rattle.std.specs.List.{flat_map}
 use Rattle.sw_base.specs.declared.path.Step.{Step}
-use Rattle.sw_base.specs.declared.path.TheConstants.{INDEX_HEADER}
+use Rattle.sw_base.specs.declared.files.TheConstants.{INDEX_HEADER}
 use Rattle.sw_base.specs.Environment.{Files}
 use Rattle.sw_base.specs.Names.{index_name}
 use Rattle.race_model.specs.declared.why.IndexWhy.{IndexWhy}

@@ -3,7 +3,7 @@ use Rattle.std.specs.Prelude.{◌≡◌, ℕ, ◌-◌, ◌^◌, ◌<◌, List, �
 use Rattle.std.specs.Int.{w16, w32, w64, to_be_bytes}
 use Rattle.std.specs.List.{flat_map}
 use Rattle.sw_base.specs.declared.path.Step.{Step}
-use Rattle.sw_base.specs.declared.path.TheConstants.{INDEX_HEADER}
+use Rattle.sw_base.specs.declared.files.TheConstants.{INDEX_HEADER}
 
 -- a task: its path, and how many records its log has
 pub record Row : Type 0 where

@@ -1,7 +1,7 @@
 -- What `run` answers, and what it leaves in the folder.
 use Rattle.std.specs.Prelude.{◌≡◌, ℕ, List, [], ◌∷◌, ◌++◌, length, map, None, Some, IsSome, Contains}
 use Rattle.sw_base.specs.declared.path.Step.{Step}
-use Rattle.sw_base.specs.declared.path.TheConstants.{LOG_HEADER}
+use Rattle.sw_base.specs.declared.files.TheConstants.{LOG_HEADER}
 use Rattle.sw_base.specs.Environment.{Files, Content, with_file, with_put}
 use Rattle.sw_base.specs.Names.{index_name, log_name}
 use Rattle.log_format.specs.Spelling.{log_bytes}

@@ -1,18 +1,12 @@
 //! The path of a task, from the root down: one step for each region that it lies in.
 ghost use Rattle.std.specs.Prelude.{◌≡◌, ◌<◌, ◌≤◌, ◌↔◌, [], ◌∷◌, ◌++◌, length, string_bytes, IfOk, IsTrue};
-ghost use Rattle.sw_base.specs.Names.{IsUnder, bare_log_name, index_name, log_name, path_cmp};
+ghost use Rattle.sw_base.specs.Names.{IsUnder, bare_log_name, log_name, path_cmp};
 
 use crate::trouble::Memory;
 use arrayvec::ArrayVec;
 use std::alloc::Global;
 use std::cmp::Ordering;
 use std::marker::Model;
-
-/// The eight bytes that a log begins with.
-pub const LOG_HEADER: [u8; 8] = *b"SWLOG001";
-
-/// The eight bytes that an index begins with.
-pub const INDEX_HEADER: [u8; 8] = *b"SWIDX001";
 
 /// The most steps that a path has.
 const DEPTH: usize = 4;
@@ -170,12 +164,4 @@ impl PartialOrd for Path {
     fn partial_cmp(&self, other: &Path) -> Option<Ordering> {
         Some(self.cmp(other))
     }
-}
-
-/// The name of the index of the folder `dir`.
-#[tactic(auto, unfolding(crate::specs::Names::index_name))]
-pub fn index_name(alloc: Global, dir: &str) -> Result<String, Memory>
-    ensures { IfOk result (λ name. string_bytes name ≡ index_name dir.now) }
-{
-    Ok(format!(in alloc; "{dir}/index.swi")?)
 }

@@ -16,7 +16,7 @@ use Rattle.team_runner.specs.declared.stop.Stop.TheVariants.{DivZero, Index, Log
 use Rattle.team_runner.specs.Written.{Written, Adds, Begun, HasFault}
 use Rattle.team_runner.specs.Stops.{Finishes}
 use Rattle.team_runner.specs.Answer.{outline, whole_outline}
-use Rattle.sw_base.specs.declared.path.TheConstants.{LOG_HEADER}
+use Rattle.sw_base.specs.declared.files.TheConstants.{LOG_HEADER}
 use Rattle.sw_base.specs.Environment.{WhereTold, empty_text}
 use Rattle.std.specs.Option.{option_map}
 use Rattle.kernel_syntax.specs.Program.{Program}
