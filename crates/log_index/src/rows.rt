@@ -1,7 +1,7 @@
 ghost use Rattle.std.specs.Prelude.{◌≡◌, ◌≢◌, ℕ, ◌+◌, ◌≤◌, [], ◌++◌, length, take, map, IfOk, IfErr, OnOk, MatchOption};
 ghost use Rattle.race_model.specs.declared.why.IndexWhy.{IndexWhy};
 ghost use Rattle.race_model.specs.Row.{raw_of, used};
-ghost use Rattle.race_model.specs.IndexFault.{HasDepth, HasRecords, AreFirstRows, AreRows, FailsFirst};
+ghost use Rattle.race_model.specs.IndexFault.{HasDepth, HasRecords, AreFirstRows, AreRows, FailsFirst, max_rows};
 ghost use Rattle.log_index.specs.Answers.{IsOfBytes};
 ghost use Rattle.log_index.specs.Rows.{row_of, rows_of, raw_of_fields, AddsRow, OneMore, StopsAt, SpellsFirstRows, SpellsRows, IsFirstBadRow};
 
@@ -72,7 +72,7 @@ fn add_row(rows: &mut Vec<Row>, rest: &[u8]) -> Result<(), IndexAnswer>
 
 /// The first row after these is bad.
 fn bad_row(rows: &[Row], why: IndexWhy) -> IndexAnswer
-    requires { length rows.now ≤ 65536 }
+    requires { length rows.now ≤ max_rows }
     ensures { result ≡ IndexAnswer.Bad (length rows.now + 1) why }
 {
     IndexAnswer::Bad {

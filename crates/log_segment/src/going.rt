@@ -6,6 +6,7 @@ ghost use Rattle.race_model.specs.Segment.{Event, task_segments};
 ghost use Rattle.race_model.specs.Trace.{Logs};
 ghost use Rattle.log_segment.specs.Intervals.{task_of};
 ghost use Rattle.log_segment.specs.Walking.{Adds, AreForks, Follows, IsLogOf, IsNextOf, IsOwnAfter, MayAllCome, MayCome, begun_after, ended_by, event_after};
+ghost use Rattle.race_model.specs.IndexFault.{max_records};
 
 use crate::segment::{Segment, TaskRecords};
 use crate::walk::Walk;
@@ -24,7 +25,7 @@ fn step(
     found: &mut Vec<Segment>,
 ) -> Result<(), Memory>
     requires from_one { 1 ≤ number }
-    requires number { number ≤ 4194304 }
+    requires number { number ≤ max_records }
     requires own { IsOwnAfter walk.old.label number }
     requires may { MayCome walk.old.held next.now }
     ensures own { OnOk result (IsOwnAfter walk.new.label (number + 1)) }
@@ -60,7 +61,7 @@ pub fn add_task(
     label: Label,
     found: &mut Vec<Segment>,
 ) -> Result<Vec<Label>, Memory>
-    requires records { length task.now.records.items ≤ 4194304 }
+    requires records { length task.now.records.items ≤ max_records }
     requires own { IsOwnAfter label 1 }
     requires may { MayAllCome task.now.records.items }
     ensures forks { (logs : Logs) → IsLogOf logs task.now label → IfOk result (λ forks. AreForks logs task.now.path (length task.now.records.items) forks.items) }

@@ -4,6 +4,8 @@ ghost use Rattle.log_format.specs.declared.record.Record.{Record};
 ghost use Rattle.log_walk.specs.Check.{of_why, IsGoodNext, IsNextRefused, IsGoodLog, IsLogRefused};
 ghost use Rattle.log_walk.specs.Rules.{log_task_of};
 ghost use Rattle.log_walk.specs.State.{IsStateAfter};
+ghost use Rattle.race_model.specs.LogFault.{max_segments};
+ghost use Rattle.race_model.specs.IndexFault.{max_records};
 
 use crate::state::State;
 use crate::task::Task;
@@ -57,7 +59,7 @@ fn rule_of(why: Why) -> RecordWhy
 
 /// The record that these bytes spell, where it keeps the rules.
 fn accept(state: &mut State, task: &Task, number: u32, bytes: &[u8; 24]) -> Result<Record, LogFault>
-    requires segments { state.old.segments ≤ 65536 }
+    requires segments { state.old.segments ≤ max_segments }
     requires regions { state.old.regions < number }
     requires barriers { state.old.barriers < number }
     ensures good { (opened : ℕ) (before : List Record) → IsStateAfter state.old opened before → number ≡ length before + 1
@@ -66,7 +68,7 @@ fn accept(state: &mut State, task: &Task, number: u32, bytes: &[u8; 24]) -> Resu
         → IfOk result (λ r. IsStateAfter state.new opened (before ++ r ∷ [])) }
     ensures refused { (opened : ℕ) (before : List Record) → IsStateAfter state.old opened before → number ≡ length before + 1
         → IfErr result (λ e. IsNextRefused bytes.now (log_task_of task.now) opened before number e) }
-    ensures limit { OnOk result (state.new.segments ≤ 65536) }
+    ensures limit { OnOk result (state.new.segments ≤ max_segments) }
     ensures regions { OnOk result (state.new.regions ≤ number) }
     ensures barriers { OnOk result (state.new.barriers ≤ number) }
 {
@@ -90,8 +92,8 @@ fn accept(state: &mut State, task: &Task, number: u32, bytes: &[u8; 24]) -> Resu
 
 /// The records of a log, where it is good. Else the first place at which it isn't.
 pub fn check_log(alloc: Global, bytes: &[u8], task: &Task, opened: u32) -> Result<Checked, LogFault>
-    requires opened { opened ≤ 65536 }
-    requires records { task.now.records ≤ 4194304 }
+    requires opened { opened ≤ max_segments }
+    requires records { task.now.records ≤ max_records }
     ensures good { IfOk result (λ c. IsGoodLog bytes.now (log_task_of task.now) opened c.records.items c.segments) }
     ensures refused { IfErr result (λ e. IsLogRefused bytes.now (log_task_of task.now) opened e) }
 {

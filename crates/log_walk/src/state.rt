@@ -5,6 +5,7 @@ ghost use Rattle.race_model.specs.Race.{held_after};
 ghost use Rattle.log_walk.specs.Check.{opens_by};
 ghost use Rattle.log_walk.specs.Rules.{log_task_of, BreaksNone, BreaksFirst};
 ghost use Rattle.log_walk.specs.State.{IsStateAfter, counted};
+ghost use Rattle.race_model.specs.LogFault.{max_segments};
 
 use crate::rules;
 use crate::task::Task;
@@ -67,10 +68,10 @@ impl State {
 
     /// Opens a segment where none is open. False where it is one too many.
     fn open(&mut self) -> bool
-        requires { self.old.segments ≤ 65536 }
+        requires { self.old.segments ≤ max_segments }
         ensures opened { IsTrue result → self.new ≡ record self.old { is_open = true; segments = self.old.segments + opens_by Kind.Read self.old.is_open } }
-        ensures limit { self.new.segments ≤ 65536 }
-        ensures full { IsFalse result → (self.old.segments ≡ 65536) × (self.old.is_open ≡ false) }
+        ensures limit { self.new.segments ≤ max_segments }
+        ensures full { IsFalse result → (self.old.segments ≡ max_segments) × (self.old.is_open ≡ false) }
     {
         if self.is_open {
             return true;
@@ -85,12 +86,12 @@ impl State {
 
     /// Counts a record of this kind. False where it opens one segment too many.
     pub fn count(&mut self, kind: Kind) -> bool
-        requires segments { self.old.segments ≤ 65536 }
+        requires segments { self.old.segments ≤ max_segments }
         requires regions { self.old.regions < 2 ^ 32 - 1 }
         requires barriers { self.old.barriers < 2 ^ 32 - 1 }
         ensures counted { IsTrue result → self.new ≡ counted self.old kind }
-        ensures limit { self.new.segments ≤ 65536 }
-        ensures full { IsFalse result → (self.old.segments ≡ 65536) × (opens_by kind self.old.is_open ≡ 1) }
+        ensures limit { self.new.segments ≤ max_segments }
+        ensures full { IsFalse result → (self.old.segments ≡ max_segments) × (opens_by kind self.old.is_open ≡ 1) }
     {
         match kind {
             Kind::Region => {

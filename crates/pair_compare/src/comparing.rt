@@ -47,7 +47,7 @@ fn segment_pairs(alloc: Global, segments: &[Segment]) -> Result<BTreeSet<(u32, u
         compare_with(first, others, &mut pairs)?;
         rest = others;
     }
-    // The length tells that the keys are in order.
+    // That the keys of a set ascend is told by its length's contract.
     let _length = pairs.len();
     Ok(pairs)
 }

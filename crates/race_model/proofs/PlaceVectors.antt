@@ -1,8 +1,10 @@
--- The order of bad places, on each pair of neighbours: what is read first is named first.
-use Rattle.std.proofs.Common.{refl}
+-- The order of bad places, on pairs of places: what is read first is named first. Last, the rules of one row and of one record in
+-- the order in which they are tried.
+use Rattle.std.proofs.Common.{◌≡◌, ℕ, [], ◌∷◌, refl}
+use Rattle.std.specs.Prelude.{map}
 use Rattle.race_model.specs.declared.why.IndexWhy.TheVariants as index
 use Rattle.race_model.specs.declared.why.RecordWhy.TheVariants as log
-use Rattle.race_model.specs.Place.{no_index, bad_row, missing_log, bad_record, too_many_segments, IsEarlier}
+use Rattle.race_model.specs.Place.{no_index, bad_row, missing_log, bad_record, too_many_segments, IsEarlier, index_rank, record_rank}
 
 pub no_index_first : IsEarlier no_index (bad_row 0 index.Header)
 no_index_first = refl
@@ -34,3 +36,14 @@ record_by_rule = refl
 
 pub too_many_after_its_rules : IsEarlier (bad_record 1 9 log.Extra) (too_many_segments 1 9)
 too_many_after_its_rules = refl
+
+pub rules_of_a_row : map index_rank (index.Header ∷ index.TooMany ∷ index.Cut ∷ index.Depth ∷ index.Span ∷ index.Lane ∷ index.Order ∷ index.Records ∷ [])
+    ≡ 0 ∷ 1 ∷ 2 ∷ 3 ∷ 4 ∷ 5 ∷ 6 ∷ 7 ∷ []
+rules_of_a_row = refl
+
+pub rules_of_a_record : map record_rank
+    (log.Header ∷ log.Cut ∷ log.Kind ∷ log.Size ∷ log.LineZero ∷ log.Address ∷ log.Span ∷ log.Reserved ∷ log.EndEarly ∷ log.EndMissing
+    ∷ log.LockTwice ∷ log.LocksDeep ∷ log.UnlockOther ∷ log.RootBarrier ∷ log.BarrierLocked ∷ log.RegionLocked ∷ log.LockOpen
+    ∷ log.RegionRows ∷ log.BarrierCount ∷ log.Extra ∷ [])
+    ≡ 0 ∷ 1 ∷ 2 ∷ 3 ∷ 4 ∷ 5 ∷ 6 ∷ 7 ∷ 8 ∷ 9 ∷ 10 ∷ 11 ∷ 12 ∷ 13 ∷ 14 ∷ 15 ∷ 16 ∷ 17 ∷ 18 ∷ 19 ∷ []
+rules_of_a_record = refl

@@ -26,10 +26,17 @@ pub record HasDepth (row : RawRow) : Type 0 where
   pub reserved : row.reserved ≡ 0
   pub unused : All (λ step. step ≡ no_step) (unused row)
 
--- a log has 1 to 4,194,304 records
+-- how many records a log has at most, and how many rows an index
+abbrev pub max_records : ℕ
+max_records = 4194304
+
+abbrev pub max_rows : ℕ
+max_rows = 65536
+
+-- a log has a record at least
 pub record HasRecords (records : ℕ) : Type 0 where
   pub some : 1 ≤ records
-  pub limit : records ≤ 4194304
+  pub limit : records ≤ max_records
 
 -- a row after others passes the test that the fault names
 abbrev pub Passes : List RawRow → RawRow → IndexWhy → Type 0
@@ -51,7 +58,7 @@ pub record FailsTest (before : List RawRow) (rest : List ℕ) (why : IndexWhy) :
 -- after these rows, the bytes that are left have this fault
 abbrev pub Fails : List RawRow → List ℕ → IndexWhy → Type 0
 Fails before rest Header = ⊥
-Fails before rest TooMany = (length before ≡ 65536) × (rest ≢ [])
+Fails before rest TooMany = (length before ≡ max_rows) × (rest ≢ [])
 Fails before rest Cut = ((rest ≢ []) × (length rest < 48)) ⊎ ((before ≡ []) × (rest ≡ []))
 Fails before rest Order = FailsTest before rest Order ⊎ ((rest ≡ []) × (IsListing (map used before) → ⊥))
 Fails before rest why = FailsTest before rest why
@@ -114,13 +121,13 @@ pub record IsRow (row : Row) : Type 0 where
 pub record AreFirstRows (rows : List Row) : Type 0 where
   pub begins : BeginsListing (map (λ row. row.path) rows)
   pub each : All IsRow rows
-  pub limit : length rows ≤ 65536
+  pub limit : length rows ≤ max_rows
 
--- the rows of a well-formed index: a whole listing of at most 65,536 tasks
+-- the rows of a well-formed index: a whole listing
 pub record AreRows (rows : List Row) : Type 0 where
   pub lists : IsListing (map (λ row. row.path) rows)
   pub each : All IsRow rows
-  pub limit : length rows ≤ 65536
+  pub limit : length rows ≤ max_rows
 
 -- the folder holds a well-formed index with these rows
 pub record IsIndex (files : Files) (dir : List ℕ) (rows : List Row) : Type 0 where
