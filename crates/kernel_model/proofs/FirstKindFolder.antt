@@ -16,7 +16,7 @@ use Rattle.kernel_model.specs.Trace.{Start, Ended, run, task, trace, state_at, s
 use Rattle.kernel_model.specs.FirstTeam.{first_team}
 use Rattle.kernel_model.specs.Folder.{IsTracedFolder, IsTraced, IsTracedTask, root_start, lane_start, start_at, start_below, paths_of}
 use Rattle.kernel_syntax.specs.FirstKind.{IsFirstKind, IsOneRegion, IsOneLoop}
-use Rattle.kernel_model.specs.Growth.{KeepsPlainSteps}
+use Rattle.kernel_model.proofs.SingleSteps.{KeepsPlainSteps}
 use Rattle.kernel_model.proofs.Steps.{kept-one_loop, kept-after, kept-put}
 
 -- a part that forks nothing

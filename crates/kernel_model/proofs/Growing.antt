@@ -10,7 +10,8 @@ use Rattle.race_model.specs.Trace.{is_region_kind, region_count}
 use Rattle.kernel_model.specs.State.{State, state_of, event}
 use Rattle.kernel_model.specs.Value.{Site, value}
 use Rattle.kernel_model.specs.Trace.{run, task, Start, state_at}
-use Rattle.kernel_model.specs.Growth.{KeepsPlainSteps, KeepsSteps, Grows}
+use Rattle.kernel_model.specs.Growth.{Grows}
+use Rattle.kernel_model.proofs.SingleSteps.{KeepsPlainSteps, KeepsSteps}
 use Rattle.kernel_model.proofs.Steps.{kept-value, kept-run, kept-task}
 
 region_count-append : (xs ys : List Record) → region_count (xs ++ ys) ≡ region_count xs + region_count ys

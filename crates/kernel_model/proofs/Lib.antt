@@ -8,6 +8,7 @@ pub mod Growing
 pub mod Joining
 pub mod RunEffects
 pub mod Shares
+pub mod SingleSteps
 pub mod Steps
 pub mod Tracing
 pub mod WorkedRows

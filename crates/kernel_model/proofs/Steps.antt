@@ -12,7 +12,7 @@ use Rattle.kernel_model.specs.State.{State, Outcome, Gives, Stops, Wants, and_th
 use Rattle.kernel_model.specs.Value.{Site, Element, element_at, access, read, read_in, loaded, operated, value}
 use Rattle.kernel_model.specs.Iterations.{total_of, even_iterations, static_iterations, chunk_count, chunk_iterations}
 use Rattle.kernel_model.specs.Trace.{stored, branch, turns, each, drawn, draw, draw_in, draws, shared, loop_end, forked, run, task, Start, site_of, state_at}
-use Rattle.kernel_model.specs.Growth.{KeepsPlainSteps, KeepsSteps}
+use Rattle.kernel_model.proofs.SingleSteps.{KeepsPlainSteps, KeepsSteps}
 use Rattle.kernel_syntax.specs.FirstKind.{AreStores, IsOneLoop}
 
 -- what a part of a task does, as a function of its state

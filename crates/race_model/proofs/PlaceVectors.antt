@@ -1,6 +1,6 @@
 -- The order of bad places, on pairs of places: what is read first is named first. Last, the rules of one row and of one record in
 -- the order in which they are tried.
-use Rattle.std.proofs.Common.{◌≡◌, ℕ, [], ◌∷◌, refl}
+use Rattle.std.proofs.Common.{◌≡◌, [], ◌∷◌, refl}
 use Rattle.std.specs.Prelude.{map}
 use Rattle.race_model.specs.declared.why.IndexWhy.TheVariants as index
 use Rattle.race_model.specs.declared.why.RecordWhy.TheVariants as log

@@ -32,6 +32,7 @@ abbrev pub in_first : Event → List (List Event) → List (List Event)
 in_first e [] = (e ∷ []) ∷ []
 in_first e (run ∷ runs) = (e ∷ run) ∷ runs
 
+-- an event before the runs behind it: a Region or Barrier parts them, and stands in none
 abbrev pub joined : Kind → Event → List (List Event) → List (List Event)
 joined Region e runs = [] ∷ runs
 joined Barrier e runs = [] ∷ runs
