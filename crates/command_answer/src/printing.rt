@@ -1,5 +1,5 @@
 //! What is printed, and the status that goes with it.
-ghost use Rattle.std.specs.Prelude.{◌≡◌, ◌≤◌, string_bytes, IfOk, OnErr};
+ghost use Rattle.std.specs.Prelude.{◌≡◌, ◌↔◌, ◌≤◌, string_bytes, IfOk, OnErr};
 ghost use Rattle.sw_base.specs.Environment.{Rose};
 ghost use Rattle.sw_base.specs.declared.trouble.Trouble.TheVariants as troubles;
 ghost use Rattle.command_answer.specs.Answer.{IsFailure, Prints};
@@ -14,7 +14,8 @@ pub fn failure(trouble: Trouble) -> u8
     ensures failure { IsFailure result }
     ensures no_read { result ≡ READ_FAULT → ⊥ }
     ensures no_usage { result ≡ USAGE → ⊥ }
-    ensures failed { result ≡ WRITE_FAULT → trouble ≡ troubles.Failed }
+    ensures failed { (result ≡ WRITE_FAULT) ↔ (trouble ≡ troubles.Failed) }
+    ensures no_memory { (result ≡ NO_MEMORY) ↔ (trouble ≡ troubles.Memory) }
 {
     match trouble {
         Trouble::Memory => NO_MEMORY,

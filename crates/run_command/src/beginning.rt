@@ -1,5 +1,5 @@
 //! What `run` reads before a kernel runs, and what it prints where none does.
-ghost use Rattle.std.specs.Prelude.{◌≡◌, ◌≤◌, None, IfOk, IfErr};
+ghost use Rattle.std.specs.Prelude.{◌≡◌, ◌↔◌, ◌≤◌, None, IfOk, IfErr};
 ghost use Rattle.sw_base.specs.Environment.{Rose, WhereTold};
 ghost use Rattle.sw_base.specs.Names.{index_name};
 ghost use Rattle.kernel_syntax.specs.Program.{program_of};
@@ -109,7 +109,7 @@ pub fn refuse<O: Out>(alloc: Global, out: &mut O, why: Refusal) -> u8
     ensures answers { Tries (RefusalDue why) (O.written out.old) (O.written out.new) result }
     ensures later { O.faults out.old ≤ O.faults out.new }
     ensures write_fault { result ≡ WRITE_FAULT → Rose (O.faults out.old) (O.faults out.new) }
-    ensures read_fault { result ≡ READ_FAULT → why ≡ refusal.ReadFault }
+    ensures read_fault { (result ≡ READ_FAULT) ↔ (why ≡ refusal.ReadFault) }
     ensures no_usage { result ≡ USAGE → ⊥ }
 {
     match why {

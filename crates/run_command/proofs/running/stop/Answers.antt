@@ -10,7 +10,7 @@ use Rattle.run_command.proofs.running.stop.Goals as goal
 
 pub returns-in-Err-clause-write_fault : goal.returns-in-Err-clause-write_fault
 returns-in-Err-clause-write_fault g c = λ faulty is.
-    inr (c.discard_all.ensures.faulty c.args.stopped.path (faulty (c.in-Err.ensures ∙ ap (λ (t : Trouble). stop.Trouble t) (c.failure.ensures.failed is))))
+    inr (c.discard_all.ensures.faulty c.args.stopped.path (faulty (c.in-Err.ensures ∙ ap (λ (t : Trouble). stop.Trouble t) (c.failure.ensures.failed.0 is))))
 
 pub returns-in-Ok-seal_all-clause-ends : goal.returns-in-Ok-seal_all-clause-ends
 returns-in-Ok-seal_all-clause-ends g c = λ program dir size root stops tell.
