@@ -75,19 +75,23 @@ pub barrier_orders : HappensBefore logs (at 0 0) (at 1 2)
 barrier_orders =
     HappensBefore.step (at 0 0) (at 0 1) (at 1 2) (record { from_there = omega arith; to_there = omega arith; edge = Edge.next (record { same_log = refl; after = refl }) })
     (HappensBefore.step (at 0 1) (at 1 2) (at 1 2)
-    (record { from_there = omega arith; to_there = omega arith; edge = Edge.barrier (record {
-      fork = root_forks;
-      span = 2;
-      from_lane = 0;
-      from_team = is_lane 0 (omega arith);
-      reached = record { event = _; found = refl; kind_is = refl };
-      met = at 1 1;
-      to_lane = 1;
-      to_team = is_lane 1 (omega arith);
-      meets = record { event = _; found = refl; kind_is = refl };
-      same_number = refl;
-      after = record { same_log = refl; after = refl };
-    }) })
+    (record {
+      from_there = omega arith;
+      to_there = omega arith;
+      edge = Edge.barrier (record {
+        fork = root_forks;
+        span = 2;
+        from_lane = 0;
+        from_team = is_lane 0 (omega arith);
+        reached = record { event = _; found = refl; kind_is = refl };
+        met = at 1 1;
+        to_lane = 1;
+        to_team = is_lane 1 (omega arith);
+        meets = record { event = _; found = refl; kind_is = refl };
+        same_number = refl;
+        after = record { same_log = refl; after = refl };
+      });
+    })
     (HappensBefore.here (at 1 2)))
 
 -- ---- nothing else races

@@ -1,7 +1,7 @@
 //! The checker against a search of the graph of edges: small and slow on purpose, and written from the definition alone.
 ghost use Rattle.std.specs.Prelude.{◌<◌};
 
-use crate::tests::{Rec, answers, spell, spell_row};
+use crate::tests::{Rec, Step, answers, folder};
 use command_answer::RACES;
 use std::alloc::{AllocError, Global};
 use std::test::Fail;
@@ -20,9 +20,6 @@ const BARRIER: u8 = 5;
 const REGION: u8 = 6;
 
 const END: u8 = 8;
-
-/// A step of a path: region, lane and span.
-type Step = (u32, u16, u16);
 
 /// A task of a run.
 #[derive(Drop)]
@@ -164,24 +161,12 @@ fn run(alloc: Global, state: u64) -> Result<Vec<Task>, AllocError> {
 }
 
 /// The folder of the run.
-fn folder(alloc: Global, tasks: &[Task]) -> Result<MemFolder, Fail> {
-    let mut place = MemFolder::new(alloc)?;
-    let mut index = b"SWIDX001".to_vec(alloc)?;
+fn folder_of(alloc: Global, tasks: &[Task]) -> Result<MemFolder, Fail> {
+    let mut all: Vec<(&[Step], &[Rec])> = Vec::new(alloc);
     for task in tasks {
-        let mut name = String::from_str(alloc, "d/t")?;
-        for (region, lane, _) in task.steps.iter() {
-            write!(name, "-{region}.{lane}")?;
-        }
-        name.push_str(".swl")?;
-        let mut log = b"SWLOG001".to_vec(alloc)?;
-        for record in task.records.iter() {
-            spell(&mut log, record)?;
-        }
-        place.hold(&name, &log)?;
-        spell_row(&mut index, &task.steps, task.records.len())?;
+        all.push((&task.steps, &task.records))?;
     }
-    place.hold("d/index.swi", &index)?;
-    Ok(place)
+    folder(alloc, &all)
 }
 
 /// A record of the run, by its log and its place there.
@@ -374,7 +359,7 @@ fn races_are_those_of_a_search_of_the_graph(rt: HostRuntime) -> Result<(), Fail>
         }
         let pairs = race_pairs(alloc, &nodes)?;
         let text = report(alloc, &pairs)?;
-        let mut place = folder(alloc, &tasks)?;
+        let mut place = folder_of(alloc, &tasks)?;
         answers(&rt, alloc, &mut place, &["check", "d", "2"], RACES, &text)?;
     }
     Ok(())

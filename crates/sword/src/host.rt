@@ -1,5 +1,5 @@
 //! The environment on the host: real files and the standard output. These objects tell nothing of what they hold; their
-//! counts of faults rise at each error of the system.
+//! counts of faults rise at each error of the system but want of memory before anything was written.
 ghost use Rattle.std.specs.Prelude.{◌≡◌, ◌≤◌, ℕ, List, None, Option, string_bytes, length, IfOk};
 ghost use Rattle.sw_base.specs.Environment.{Rose, HasCause, Content, Text};
 ghost use Rattle.sw_base.specs.declared.path.Step.{Step};
@@ -10,7 +10,7 @@ use std::fs;
 use std::fs::{File, OpenOptions};
 use std::io::{self, Error, ErrorKind, Read, Seek, SeekFrom, Write};
 use std::rt::Files;
-use sw_base::{Folder, Gate, Log, Out, Path, Trouble};
+use sw_base::{Folder, Log, Out, Path, Trouble};
 
 /// Real files, under the names that the calls give.
 #[derive(Drop)]
@@ -36,14 +36,7 @@ pub struct HostOut<R> {
     faults: u64,
 }
 
-/// A gate that lets everyone through.
-pub struct OpenGate;
-
-impl Gate for OpenGate {
-    fn enter(&self, _place: usize) {}
-}
-
-// What an error of the system is here; each raises the count, but want of memory.
+// What an error of the system is here: each raises the count, but want of memory.
 fn trouble(error: Error, faults: &mut u64) -> Trouble
     ensures later { faults.old ≤ faults.new }
     ensures rose { result ≡ trouble.Failed → Rose faults.old faults.new }
@@ -60,16 +53,22 @@ fn is_missing(error: &Error) -> bool {
     error.kind() == ErrorKind::NotFound || error.kind() == ErrorKind::NotADirectory
 }
 
+// Writes the whole piece. Once something was written, want of memory is an error as others are.
 fn write_whole<W: Write>(to: &mut W, piece: &[u8]) -> io::Result<()> {
     let mut rest = piece;
     while !rest.is_empty() {
-        let count = to.write(rest)?;
-        if count == 0 {
-            return Err(Error::from(ErrorKind::WriteZero));
+        match to.write(rest) {
+            Ok(0) => return Err(Error::from(ErrorKind::WriteZero)),
+            Ok(count) => rest = &rest[count..],
+            Err(_) if rest.len() < piece.len() => return Err(Error::from(ErrorKind::Other)),
+            Err(error) => return Err(error),
         }
-        rest = &rest[count..];
     }
-    to.flush()
+    match to.flush() {
+        Ok(()) => Ok(()),
+        Err(_) if !piece.is_empty() => Err(Error::from(ErrorKind::Other)),
+        Err(error) => Err(error),
+    }
 }
 
 impl<R: Files> HostFolder<R> {

@@ -13,11 +13,12 @@ mod top;
 mod words;
 
 use command_answer::NO_MEMORY;
-use host::{HostFolder, HostOut, OpenGate};
+use host::{HostFolder, HostOut};
 use std::alloc::AllocError;
 use std::env;
 use std::io::ErrorKind;
 use std::process::ExitCode;
+use sw_base::NoGate;
 
 /// The words after the program's name. Where one of them isn't UTF-8 they ask for nothing, and so none is answered.
 fn given_words(rt: &HostRuntime) -> Result<Vec<String>, AllocError> {
@@ -41,7 +42,7 @@ fn main(rt: HostRuntime) -> ExitCode {
     };
     let mut place = HostFolder::new(rt);
     let mut out = HostOut::new(rt);
-    ExitCode::from(top::sword(&rt, alloc, &words, &mut place, &mut out, &OpenGate))
+    ExitCode::from(top::sword(&rt, alloc, &words, &mut place, &mut out, &NoGate))
 }
 
 #[cfg(test)]

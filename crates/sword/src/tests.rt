@@ -8,8 +8,11 @@ use sw_base::{MemFolder, MemOut, NoGate};
 /// A record: kind, size, line, address and value. Its site is 1 where it reads, else 0.
 pub type Rec = (u8, u8, u32, u64, u64);
 
-/// A task: its name, the steps of its path and its records.
-pub type Task<'a> = (&'a str, &'a [(u32, u16, u16)], &'a [Rec]);
+/// A step of a path: region, lane and span.
+pub type Step = (u32, u16, u16);
+
+/// A task: the steps of its path and its records.
+pub type Task<'a> = (&'a [Step], &'a [Rec]);
 
 pub const fn region(line: u32, span: u64) -> Rec {
     (6, 0, line, 0, span)
@@ -31,7 +34,7 @@ pub const BARRIER: Rec = (5, 0, 7, 0, 0);
 
 pub const END: Rec = (8, 0, 9, 0, 0);
 
-pub fn spell(bytes: &mut Vec<u8>, record: &Rec) -> Result<(), AllocError> {
+fn spell(bytes: &mut Vec<u8>, record: &Rec) -> Result<(), AllocError> {
     bytes.push(record.0)?;
     bytes.push(record.1)?;
     let site = if record.0 == 1 { 1 } else { 0 };
@@ -41,11 +44,7 @@ pub fn spell(bytes: &mut Vec<u8>, record: &Rec) -> Result<(), AllocError> {
     bytes.extend_from_slice(&record.4.to_be_bytes())
 }
 
-pub fn spell_row(
-    bytes: &mut Vec<u8>,
-    steps: &[(u32, u16, u16)],
-    records: usize,
-) -> Result<(), AllocError> {
+fn spell_row(bytes: &mut Vec<u8>, steps: &[Step], records: usize) -> Result<(), AllocError> {
     let depth = steps.len() as u64;
     bytes.extend_from_slice(&depth.to_be_bytes()[4..])?;
     bytes.extend_from_slice(&[0; 4])?;
@@ -60,15 +59,25 @@ pub fn spell_row(
     bytes.extend_from_slice(&(records as u64).to_be_bytes())
 }
 
+fn log_name(alloc: Global, steps: &[Step]) -> Result<String, AllocError> {
+    let mut name = String::from_str(alloc, "d/t")?;
+    for (region, lane, _) in steps {
+        write!(name, "-{region}.{lane}")?;
+    }
+    name.push_str(".swl")?;
+    Ok(name)
+}
+
+/// The folder `d` with these tasks, and an index with their rows.
 pub fn folder(alloc: Global, tasks: &[Task<'_>]) -> Result<MemFolder, Fail> {
     let mut place = MemFolder::new(alloc)?;
     let mut index = b"SWIDX001".to_vec(alloc)?;
-    for (name, steps, records) in tasks {
+    for (steps, records) in tasks {
         let mut log = b"SWLOG001".to_vec(alloc)?;
         for record in records.iter() {
             spell(&mut log, record)?;
         }
-        place.hold(name, &log)?;
+        place.hold(&log_name(alloc, steps)?, &log)?;
         spell_row(&mut index, steps, records.len())?;
     }
     place.hold("d/index.swi", &index)?;
@@ -112,9 +121,9 @@ fn lanes_that_share_a_byte_race(rt: HostRuntime) -> Result<(), Fail> {
         let mut place = folder(
             alloc,
             &[
-                ("d/t.swl", &[], ROOT),
-                ("d/t-0.0.swl", &[(0, 0, 2)], &[write(5, 100), END]),
-                ("d/t-0.1.swl", &[(0, 1, 2)], &[(1, 1, 6, addr, 0), END]),
+                (&[], ROOT),
+                (&[(0, 0, 2)], &[write(5, 100), END]),
+                (&[(0, 1, 2)], &[(1, 1, 6, addr, 0), END]),
             ],
         )?;
         answers(&rt, alloc, &mut place, &["check", "d", "1"], status, text)?;
@@ -130,14 +139,12 @@ fn only_a_common_mutex_excludes(rt: HostRuntime) -> Result<(), Fail> {
         let mut place = folder(
             alloc,
             &[
-                ("d/t.swl", &[], ROOT),
+                (&[], ROOT),
                 (
-                    "d/t-0.0.swl",
                     &[(0, 0, 2)],
                     &[lock(5, 1), write(5, 4096), unlock(5, 1), END],
                 ),
                 (
-                    "d/t-0.1.swl",
                     &[(0, 1, 2)],
                     &[lock(6, other), write(6, 4096), unlock(6, other), END],
                 ),
@@ -151,58 +158,95 @@ fn only_a_common_mutex_excludes(rt: HostRuntime) -> Result<(), Fail> {
 #[test]
 fn a_barrier_orders_a_nested_region(rt: HostRuntime) -> Result<(), Fail> {
     let alloc = rt.alloc();
-    let mut without = folder(
-        alloc,
-        &[
-            ("d/t.swl", &[], ROOT),
-            ("d/t-0.0.swl", &[(0, 0, 2)], &[region(3, 2), END]),
-            (
-                "d/t-0.0-0.0.swl",
-                &[(0, 0, 2), (0, 0, 2)],
-                &[write(4, 4096), END],
-            ),
-            (
-                "d/t-0.0-0.1.swl",
-                &[(0, 0, 2), (0, 1, 2)],
-                &[write(4, 4104), END],
-            ),
-            ("d/t-0.1.swl", &[(0, 1, 2)], &[write(5, 4104), END]),
-        ],
-    )?;
-    answers(
-        &rt,
-        alloc,
-        &mut without,
-        &["check", "d", "1"],
-        RACES,
-        "race 4 5\nraces 1\n",
-    )?;
-    let mut with = folder(
-        alloc,
-        &[
-            ("d/t.swl", &[], ROOT),
-            ("d/t-0.0.swl", &[(0, 0, 2)], &[region(3, 2), BARRIER, END]),
-            (
-                "d/t-0.0-0.0.swl",
-                &[(0, 0, 2), (0, 0, 2)],
-                &[write(4, 4096), END],
-            ),
-            (
-                "d/t-0.0-0.1.swl",
-                &[(0, 0, 2), (0, 1, 2)],
-                &[write(4, 4104), END],
-            ),
-            ("d/t-0.1.swl", &[(0, 1, 2)], &[BARRIER, write(5, 4104), END]),
-        ],
-    )?;
-    answers(
-        &rt,
-        alloc,
-        &mut with,
-        &["check", "d", "1"],
-        DONE,
-        "races 0\n",
-    )
+    let table: [(&[Rec], &[Rec], u8, &str); 2] = [
+        (
+            &[region(3, 2), END],
+            &[write(5, 4104), END],
+            RACES,
+            "race 4 5\nraces 1\n",
+        ),
+        (
+            &[region(3, 2), BARRIER, END],
+            &[BARRIER, write(5, 4104), END],
+            DONE,
+            "races 0\n",
+        ),
+    ];
+    for (first, second, status, text) in table {
+        let tasks: &[Task<'_>] = &[
+            (&[], ROOT),
+            (&[(0, 0, 2)], first),
+            (&[(0, 0, 2), (0, 0, 2)], &[write(4, 4096), END]),
+            (&[(0, 0, 2), (0, 1, 2)], &[write(4, 4104), END]),
+            (&[(0, 1, 2)], second),
+        ];
+        let mut place = folder(alloc, tasks)?;
+        answers(&rt, alloc, &mut place, &["check", "d", "1"], status, text)?;
+    }
+    Ok(())
+}
+
+#[test]
+fn one_mutex_excludes_eight_lanes(rt: HostRuntime) -> Result<(), Fail> {
+    let alloc = rt.alloc();
+    let locked: &[Rec] = &[
+        lock(4, 1),
+        (1, 8, 4, 4096, 0),
+        write(4, 4096),
+        unlock(4, 1),
+        END,
+    ];
+    let free: &[Rec] = &[(1, 8, 4, 4096, 0), write(4, 4096), END];
+    for (records, status, text) in [
+        (locked, DONE, "races 0\n"),
+        (free, RACES, "race 4 4\nraces 1\n"),
+    ] {
+        let steps: [[Step; 1]; 8] = [
+            [(0, 0, 8)],
+            [(0, 1, 8)],
+            [(0, 2, 8)],
+            [(0, 3, 8)],
+            [(0, 4, 8)],
+            [(0, 5, 8)],
+            [(0, 6, 8)],
+            [(0, 7, 8)],
+        ];
+        let root: &[Rec] = &[region(3, 8), END];
+        let mut tasks: Vec<Task<'_>> = Vec::new(alloc);
+        tasks.push((&[], root))?;
+        for step in &steps {
+            tasks.push((step, records))?;
+        }
+        let mut place = folder(alloc, &tasks)?;
+        answers(&rt, alloc, &mut place, &["check", "d", "8"], status, text)?;
+    }
+    Ok(())
+}
+
+// Lane 0 reads in its second loop what lane 1 writes in the first.
+#[test]
+fn a_barrier_parts_two_loops(rt: HostRuntime) -> Result<(), Fail> {
+    let alloc = rt.alloc();
+    let table: [(&[Rec], &[Rec], u8, &str); 2] = [
+        (
+            &[write(4, 4120), BARRIER, (1, 8, 5, 4128, 0), BARRIER, END],
+            &[write(4, 4128), BARRIER, (1, 8, 5, 4152, 0), BARRIER, END],
+            DONE,
+            "races 0\n",
+        ),
+        (
+            &[write(4, 4120), (1, 8, 5, 4128, 0), BARRIER, END],
+            &[write(4, 4128), (1, 8, 5, 4152, 0), BARRIER, END],
+            RACES,
+            "race 4 5\nraces 1\n",
+        ),
+    ];
+    for (first, second, status, text) in table {
+        let tasks: &[Task<'_>] = &[(&[], ROOT), (&[(0, 0, 2)], first), (&[(0, 1, 2)], second)];
+        let mut place = folder(alloc, tasks)?;
+        answers(&rt, alloc, &mut place, &["check", "d", "1"], status, text)?;
+    }
+    Ok(())
 }
 
 #[test]
@@ -211,11 +255,11 @@ fn regions_in_turn_are_ordered(rt: HostRuntime) -> Result<(), Fail> {
     let mut place = folder(
         alloc,
         &[
-            ("d/t.swl", &[], &[region(3, 2), region(4, 2), END]),
-            ("d/t-0.0.swl", &[(0, 0, 2)], &[write(3, 4096), END]),
-            ("d/t-0.1.swl", &[(0, 1, 2)], &[write(3, 4104), END]),
-            ("d/t-1.0.swl", &[(1, 0, 2)], &[write(4, 4104), END]),
-            ("d/t-1.1.swl", &[(1, 1, 2)], &[write(4, 4096), END]),
+            (&[], &[region(3, 2), region(4, 2), END]),
+            (&[(0, 0, 2)], &[write(3, 4096), END]),
+            (&[(0, 1, 2)], &[write(3, 4104), END]),
+            (&[(1, 0, 2)], &[write(4, 4104), END]),
+            (&[(1, 1, 2)], &[write(4, 4096), END]),
         ],
     )?;
     answers(
@@ -229,65 +273,29 @@ fn regions_in_turn_are_ordered(rt: HostRuntime) -> Result<(), Fail> {
 }
 
 #[test]
-fn the_first_bad_place_is_named(rt: HostRuntime) -> Result<(), Fail> {
+fn unequal_barriers_are_named(rt: HostRuntime) -> Result<(), Fail> {
     let alloc = rt.alloc();
-    let mut unequal = folder(
-        alloc,
-        &[
-            ("d/t.swl", &[], ROOT),
-            ("d/t-0.0.swl", &[(0, 0, 2)], &[BARRIER, END]),
-            ("d/t-0.1.swl", &[(0, 1, 2)], &[END]),
-        ],
-    )?;
-    answers(
-        &rt,
-        alloc,
-        &mut unequal,
-        &["check", "d", "2"],
-        FOLDER_REFUSED,
-        "bad log t-0.1.swl record 1: BarrierCount\n",
-    )?;
-    answers(
-        &rt,
-        alloc,
-        &mut unequal,
-        &["show", "d"],
-        FOLDER_REFUSED,
-        "bad log t-0.1.swl record 1: BarrierCount\n",
-    )?;
-    let mut cut = folder(
-        alloc,
-        &[
-            ("e/t.swl", &[], &[END]),
-            ("e/t-0.0.swl", &[(0, 0, 1)], &[END]),
-        ],
-    )?;
-    answers(
-        &rt,
-        alloc,
-        &mut cut,
-        &["check", "d", "2"],
-        FOLDER_REFUSED,
-        "missing log t.swl\n",
-    )?;
-    let mut empty = MemFolder::new(alloc)?;
-    answers(
-        &rt,
-        alloc,
-        &mut empty,
-        &["check", "d", "2"],
-        FOLDER_REFUSED,
-        "no index\n",
-    )?;
-    empty.hold("d/index.swi", b"SWIDX001")?;
-    answers(
-        &rt,
-        alloc,
-        &mut empty,
-        &["check", "d", "2"],
-        FOLDER_REFUSED,
-        "bad index row 1: Cut\n",
-    )
+    let tasks: &[Task<'_>] = &[
+        (&[], ROOT),
+        (&[(0, 0, 2)], &[BARRIER, END]),
+        (&[(0, 1, 2)], &[END]),
+    ];
+    let mut place = folder(alloc, tasks)?;
+    let text = "bad log t-0.1.swl record 1: BarrierCount\n";
+    let check = ["check", "d", "2"];
+    answers(&rt, alloc, &mut place, &check, FOLDER_REFUSED, text)?;
+    answers(&rt, alloc, &mut place, &["show", "d"], FOLDER_REFUSED, text)
+}
+
+#[test]
+fn a_missing_or_empty_index_is_named(rt: HostRuntime) -> Result<(), Fail> {
+    let alloc = rt.alloc();
+    let check = ["check", "d", "2"];
+    let mut place = MemFolder::new(alloc)?;
+    answers(&rt, alloc, &mut place, &check, FOLDER_REFUSED, "no index\n")?;
+    place.hold("d/index.swi", b"SWIDX001")?;
+    let text = "bad index row 1: Cut\n";
+    answers(&rt, alloc, &mut place, &check, FOLDER_REFUSED, text)
 }
 
 #[test]
@@ -296,7 +304,6 @@ fn records_are_shown(rt: HostRuntime) -> Result<(), Fail> {
     let mut place = folder(
         alloc,
         &[(
-            "d/t.swl",
             &[],
             &[
                 (2, 8, 1, 4096, 1),
@@ -330,20 +337,32 @@ fn other_words_are_a_usage_fault(rt: HostRuntime) -> Result<(), Fail> {
 }
 
 #[test]
-fn failing_calls_have_their_status(rt: HostRuntime) -> Result<(), Fail> {
+fn each_call_of_a_check_may_fail(rt: HostRuntime) -> Result<(), Fail> {
     let alloc = rt.alloc();
-    let mut place = folder(alloc, &[("d/t.swl", &[], &[END])])?;
-    for call in 1..4 {
+    let check = words(alloc, &["check", "d", "1"])?;
+    // The size and the bytes of the index and of the log.
+    for call in 1..=4 {
+        let mut place = folder(alloc, &[(&[], &[END])])?;
         place.fail(&[call])?;
         let mut out = MemOut::new(alloc)?;
-        let all = words(alloc, &["check", "d", "1"])?;
-        assert_eq!(rt;
-            sword(&rt, alloc, &all, &mut place, &mut out, &NoGate),
-            READ_FAULT
-        );
+        let status = sword(&rt, alloc, &check, &mut place, &mut out, &NoGate);
+        assert_eq!(rt; status, READ_FAULT);
         assert_eq!(rt; out.written(), b"".as_slice());
-        place = folder(alloc, &[("d/t.swl", &[], &[END])])?;
     }
+    let mut place = folder(alloc, &[(&[], &[END])])?;
+    place.fail(&[5])?;
+    let mut out = MemOut::new(alloc)?;
+    out.fail(&[1])?;
+    let status = sword(&rt, alloc, &check, &mut place, &mut out, &NoGate);
+    assert_eq!(rt; status, WRITE_FAULT);
+    assert_eq!(rt; out.written(), b"race".as_slice());
+    Ok(())
+}
+
+#[test]
+fn a_failed_write_ends_what_is_shown(rt: HostRuntime) -> Result<(), Fail> {
+    let alloc = rt.alloc();
+    let mut place = folder(alloc, &[(&[], &[END])])?;
     let mut out = MemOut::new(alloc)?;
     out.fail(&[2])?;
     let all = words(alloc, &["show", "d"])?;
@@ -360,11 +379,7 @@ fn accesses_are_shown(rt: HostRuntime) -> Result<(), Fail> {
     let alloc = rt.alloc();
     let mut place = folder(
         alloc,
-        &[(
-            "d/t.swl",
-            &[],
-            &[(1, 8, 5, 4096, 0), (2, 8, 5, 4096, 1), END],
-        )],
+        &[(&[], &[(1, 8, 5, 4096, 0), (2, 8, 5, 4096, 1), END])],
     )?;
     answers(
         &rt,
@@ -381,23 +396,21 @@ fn barriers_order_at_every_depth(rt: HostRuntime) -> Result<(), Fail> {
     let alloc = rt.alloc();
     let fork: &[Rec] = &[region(3, 1), BARRIER, END];
     let step = (0, 0, 1);
-    let one: &[(u32, u16, u16)] = &[step];
-    let two: &[(u32, u16, u16)] = &[step, step];
-    let three: &[(u32, u16, u16)] = &[step, step, step];
+    let one: &[Step] = &[step];
+    let two: &[Step] = &[step, step];
+    let three: &[Step] = &[step, step, step];
     let mut place = folder(
         alloc,
         &[
-            ("d/t.swl", &[], &[region(1, 1), END]),
-            ("d/t-0.0.swl", one, fork),
-            ("d/t-0.0-0.0.swl", two, fork),
-            ("d/t-0.0-0.0-0.0.swl", three, &[region(4, 2), BARRIER, END]),
+            (&[], &[region(1, 1), END]),
+            (one, fork),
+            (two, fork),
+            (three, &[region(4, 2), BARRIER, END]),
             (
-                "d/t-0.0-0.0-0.0-0.0.swl",
                 &[step, step, step, (0, 0, 2)],
                 &[write(5, 4096), BARRIER, write(6, 4104), END],
             ),
             (
-                "d/t-0.0-0.0-0.0-0.1.swl",
                 &[step, step, step, (0, 1, 2)],
                 &[write(7, 4104), BARRIER, write(8, 4104), END],
             ),
@@ -418,10 +431,7 @@ fn a_team_of_65_lanes_is_refused(rt: HostRuntime) -> Result<(), Fail> {
     let alloc = rt.alloc();
     let mut place = folder(
         alloc,
-        &[
-            ("d/t.swl", &[], &[region(1, 65), END]),
-            ("d/t-0.0.swl", &[(0, 0, 64)], &[END]),
-        ],
+        &[(&[], &[region(1, 65), END]), (&[(0, 0, 64)], &[END])],
     )?;
     answers(
         &rt,
@@ -433,10 +443,7 @@ fn a_team_of_65_lanes_is_refused(rt: HostRuntime) -> Result<(), Fail> {
     )?;
     let mut wide = folder(
         alloc,
-        &[
-            ("d/t.swl", &[], &[region(1, 65), END]),
-            ("d/t-0.0.swl", &[(0, 0, 65)], &[END]),
-        ],
+        &[(&[], &[region(1, 65), END]), (&[(0, 0, 65)], &[END])],
     )?;
     answers(
         &rt,

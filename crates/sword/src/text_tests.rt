@@ -5,6 +5,7 @@ use command_answer::{DONE, FOLDER_REFUSED};
 use std::alloc::Global;
 use std::process::Abort;
 use std::test::Fail;
+use sw_base::MemFolder;
 
 // Of these tasks the folder is refused so.
 fn refused<R: Abort>(rt: &R, alloc: Global, tasks: &[Task<'_>], text: &str) -> Result<(), Fail> {
@@ -16,15 +17,20 @@ fn refused<R: Abort>(rt: &R, alloc: Global, tasks: &[Task<'_>], text: &str) -> R
 #[test]
 fn bad_rows_and_a_missing_log_are_named(rt: HostRuntime) -> Result<(), Fail> {
     let alloc = rt.alloc();
-    let root: Task<'_> = ("d/t.swl", &[], ROOT);
-    let lane_1: Task<'_> = ("d/t-0.1.swl", &[(0, 1, 2)], &[END]);
+    let root: Task<'_> = (&[], ROOT);
+    let lane_1: Task<'_> = (&[(0, 1, 2)], &[END]);
     refused(&rt, alloc, &[root, lane_1], "bad index row 2: Order\n")?;
-    let empty: Task<'_> = ("d/t.swl", &[], &[]);
+    let empty: Task<'_> = (&[], &[]);
     refused(&rt, alloc, &[empty], "bad index row 1: Records\n")?;
-    let lane_0: Task<'_> = ("d/t-0.0.swl", &[(0, 0, 2)], &[END]);
-    let elsewhere: Task<'_> = ("e/t-0.1.swl", &[(0, 1, 2)], &[END]);
-    let tasks = [root, lane_0, elsewhere];
-    refused(&rt, alloc, &tasks, "missing log t-0.1.swl\n")
+    let lane_0: Task<'_> = (&[(0, 0, 2)], &[END]);
+    let whole = folder(alloc, &[root, lane_0, lane_1])?;
+    let mut place = MemFolder::new(alloc)?;
+    for name in ["d/index.swi", "d/t.swl", "d/t-0.0.swl"] {
+        place.hold(name, whole.file(name).ok_or("a file")?)?;
+    }
+    let text = "missing log t-0.1.swl\n";
+    let check = ["check", "d", "2"];
+    answers(&rt, alloc, &mut place, &check, FOLDER_REFUSED, text)
 }
 
 #[test]
@@ -42,11 +48,7 @@ fn a_log_that_is_cut_is_named(rt: HostRuntime) -> Result<(), Fail> {
         BARRIER,
         END,
     ];
-    let tasks: &[Task<'_>] = &[
-        ("d/t.swl", &[], ROOT),
-        ("d/t-0.0.swl", &[(0, 0, 2)], ten),
-        ("d/t-0.1.swl", &[(0, 1, 2)], ten),
-    ];
+    let tasks: &[Task<'_>] = &[(&[], ROOT), (&[(0, 0, 2)], ten), (&[(0, 1, 2)], ten)];
     let mut place = folder(alloc, tasks)?;
     let mut log = place.file("d/t-0.1.swl").ok_or("a log")?.to_vec(alloc)?;
     log.truncate(162);
@@ -71,8 +73,8 @@ fn a_segment_too_many_is_named(rt: HostRuntime) -> Result<(), Fail> {
     }
     records.push(END)?;
     let tasks: &[Task<'_>] = &[
-        ("d/t.swl", &[], &[region(1, 1), END]),
-        ("d/t-0.0.swl", &[(0, 0, 1)], records.as_slice()),
+        (&[], &[region(1, 1), END]),
+        (&[(0, 0, 1)], records.as_slice()),
     ];
     refused(
         &rt,
@@ -86,7 +88,7 @@ fn a_segment_too_many_is_named(rt: HostRuntime) -> Result<(), Fail> {
 fn mutexes_and_chunks_are_shown(rt: HostRuntime) -> Result<(), Fail> {
     let alloc = rt.alloc();
     let records: &[Rec] = &[lock(5, 2), unlock(6, 2), (7, 0, 3, 1, 3), END];
-    let mut place = folder(alloc, &[("d/t.swl", &[], records)])?;
+    let mut place = folder(alloc, &[(&[], records)])?;
     answers(
         &rt,
         alloc,
