@@ -2,9 +2,8 @@
 ghost use Rattle.std.specs.Prelude.{◌≡◌, ◌≤◌, ◌↔◌, ℕ, List, map, string_bytes, IfOk, IfSome, IsTrue};
 ghost use Rattle.sw_base.specs.Environment.{Files, Rose, WhereTold};
 ghost use Rattle.race_model.specs.KeepsRules.{KeepsRules};
-ghost use Rattle.race_model.specs.Race.{IsRacePair, Lists};
-ghost use Rattle.race_model.specs.Trace.{logs_of};
-ghost use Rattle.log_segment.specs.Intervals.{task_of};
+ghost use Rattle.race_model.specs.Trace.{Trace, logs_of};
+ghost use Rattle.log_segment.specs.Intervals.{AreSegments, task_of};
 ghost use Rattle.log_walk.specs.Walk.{TellsFirstBad};
 ghost use Rattle.log_walk.specs.declared.fault.WalkFault.TheVariants as fault;
 ghost use Rattle.command_answer.specs.Answer.{Answers, Tries};
@@ -16,32 +15,22 @@ use crate::printing::print_report;
 use crate::showing::print_trace;
 use crate::texts;
 use command_answer::{DONE, FOLDER_REFUSED, NO_MEMORY, READ_FAULT, failure, print};
-use log_segment::{TaskRecords, segments};
-use log_walk::{WalkFault, read_trace};
+use log_segment::{Segment, TaskRecords};
+use log_walk::{WalkFault, read_trace, walk};
 use pair_compare::compare_all;
 use std::alloc::Global;
-use std::collections::BTreeSet;
 use sw_base::{Folder, Memory, Out};
 
-/// The race pairs of a run.
-fn races(alloc: Global, trace: &[TaskRecords]) -> Result<BTreeSet<(u32, u32)>, Memory>
-    requires { KeepsRules (map task_of trace.now) }
-    ensures { IfOk result (λ pairs. Lists (IsRacePair (logs_of (map task_of trace.now))) pairs.keys) }
-{
-    let segments = segments(alloc, trace)?;
-    compare_all(alloc, &segments)
-}
-
-/// Prints the report of a run.
-fn report_run<O: Out>(alloc: Global, out: &mut O, trace: &[TaskRecords]) -> u8
-    requires { KeepsRules (map task_of trace.now) }
-    ensures answers { Tries (HasReport (map task_of trace.now)) (O.written out.old) (O.written out.new) result }
+/// Prints the report of the run that has these segments.
+fn report_run<O: Out>(alloc: Global, out: &mut O, segments: &[Segment]) -> u8
+    ensures answers { (trace : Trace) → KeepsRules trace → AreSegments (logs_of trace) segments.now
+        → Tries (HasReport trace) (O.written out.old) (O.written out.new) result }
     ensures later { O.faults out.old ≤ O.faults out.new }
     ensures write_fault { result ≡ WRITE_FAULT → Rose (O.faults out.old) (O.faults out.new) }
     ensures no_read_fault { result ≡ READ_FAULT → ⊥ }
     ensures no_usage { result ≡ USAGE → ⊥ }
 {
-    match races(alloc, trace) {
+    match compare_all(alloc, segments) {
         Ok(pairs) => print_report(alloc, out, &pairs),
         Err(_) => NO_MEMORY,
     }
@@ -101,7 +90,7 @@ fn refuse<O: Out>(alloc: Global, out: &mut O, refused: WalkFault) -> u8
     }
 }
 
-/// Reads the folder's run and reports its race pairs.
+/// Walks through the folder and reports the race pairs of its run.
 pub fn check<F: Folder, O: Out>(alloc: Global, place: &mut F, out: &mut O, dir: &str) -> u8
     ensures answers { WhereTold (F.content place.old) (λ c. Answers (FolderDue HasReport c.held dir.now) (O.written out.old) (O.written out.new) result) }
     ensures read_fault { result ≡ READ_FAULT → Rose (F.read_faults place.old) (F.read_faults place.new) }
@@ -110,8 +99,8 @@ pub fn check<F: Folder, O: Out>(alloc: Global, place: &mut F, out: &mut O, dir: 
     ensures same_writes { F.write_faults place.new ≡ F.write_faults place.old }
     ensures no_usage { result ≡ USAGE → ⊥ }
 {
-    match read_trace(alloc, place, dir) {
-        Ok(trace) => report_run(alloc, out, &trace),
+    match walk(alloc, place, dir) {
+        Ok(segments) => report_run(alloc, out, &segments),
         Err(refused) => refuse(alloc, out, refused),
     }
 }
