@@ -18,7 +18,11 @@ use std::alloc::AllocError;
 use std::env;
 use std::io::ErrorKind;
 use std::process::ExitCode;
+use std::thread::Builder;
 use sw_base::NoGate;
+
+/// How many bytes the stack has. An expression may be nearly as deep as its kernel's text is long, and calls on it are as deep.
+const STACK: usize = 1 << 28;
 
 /// The words after the program's name. Where one of them isn't UTF-8 they ask for nothing, and so none is answered.
 fn given_words(rt: &HostRuntime) -> Result<Vec<String>, AllocError> {
@@ -35,7 +39,8 @@ fn given_words(rt: &HostRuntime) -> Result<Vec<String>, AllocError> {
     }
 }
 
-fn main(rt: HostRuntime) -> ExitCode {
+/// Does what the words ask for.
+fn work(rt: HostRuntime) -> ExitCode {
     let alloc = rt.alloc();
     let Ok(words) = given_words(&rt) else {
         return ExitCode::from(NO_MEMORY);
@@ -43,6 +48,17 @@ fn main(rt: HostRuntime) -> ExitCode {
     let mut place = HostFolder::new(rt);
     let mut out = HostOut::new(rt);
     ExitCode::from(top::sword(&rt, alloc, &words, &mut place, &mut out, &NoGate))
+}
+
+/// On a stack of its own, or on this one where no thread can be started.
+fn main(rt: HostRuntime) -> ExitCode {
+    match Builder::new()
+        .stack_size(STACK)
+        .spawn(&rt, move || work(rt))
+    {
+        Ok(thread) => thread.join(&rt),
+        Err(_) => work(rt),
+    }
 }
 
 #[cfg(test)]

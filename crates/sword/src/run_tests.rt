@@ -1,3 +1,4 @@
+use crate::STACK;
 use crate::tests::{answers, words};
 use crate::top::sword;
 use command_answer::{
@@ -6,6 +7,7 @@ use command_answer::{
 use std::alloc::Global;
 use std::process::Abort;
 use std::test::Fail;
+use std::thread::Builder;
 use sw_base::{MemFolder, MemOut, NoGate, Path};
 
 // Each lane adds 1 to every other element.
@@ -281,5 +283,29 @@ fn each_text_of_a_run_may_fail(rt: HostRuntime) -> Result<(), Fail> {
         assert!(rt; out.written().len() < COUNTED.len());
         assert_eq!(rt; place.file(INDEX).is_some(), kernel == COUNT);
     }
+    Ok(())
+}
+
+// The sum is nearly as deep as its text is long.
+fn run_long_sum(rt: HostRuntime) -> Result<(), Fail> {
+    let alloc = rt.alloc();
+    let mut kernel = String::from_str(
+        alloc,
+        "array a i64 1 main { parallel 1 { for i in 0 .. 1 { a[0] = 1",
+    )?;
+    for _ in 0..32_000 {
+        kernel.push_str("+1")?;
+    }
+    kernel.push_str(" } } }")?;
+    let text = "tasks 2\nrecords 5\nsum a 32001\n";
+    after(&rt, alloc, &kernel, "4096", DONE, text)?;
+    Ok(())
+}
+
+#[test]
+fn a_long_sum_is_run(rt: HostRuntime) -> Result<(), Fail> {
+    let work = move || run_long_sum(rt).is_ok();
+    let thread = Builder::new().stack_size(STACK).spawn(&rt, work)?;
+    assert!(rt; thread.join(&rt));
     Ok(())
 }
