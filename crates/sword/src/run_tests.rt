@@ -286,26 +286,27 @@ fn each_text_of_a_run_may_fail(rt: HostRuntime) -> Result<(), Fail> {
     Ok(())
 }
 
-// The sum is nearly as deep as its text is long.
-fn run_long_sum(rt: HostRuntime) -> Result<(), Fail> {
+// Whether a sum that is nearly as deep as its text is long is run; `None` where no memory was found.
+fn long_sum_is_run(rt: HostRuntime) -> Option<bool> {
     let alloc = rt.alloc();
-    let mut kernel = String::from_str(
-        alloc,
-        "array a i64 1 main { parallel 1 { for i in 0 .. 1 { a[0] = 1",
-    )?;
+    let begin = "array a i64 1 main { parallel 1 { for i in 0 .. 1 { a[0] = 1";
+    let mut kernel = String::from_str(alloc, begin).ok()?;
     for _ in 0..32_000 {
-        kernel.push_str("+1")?;
+        kernel.push_str("+1").ok()?;
     }
-    kernel.push_str(" } } }")?;
-    let text = "tasks 2\nrecords 5\nsum a 32001\n";
-    after(&rt, alloc, &kernel, "4096", DONE, text)?;
-    Ok(())
+    kernel.push_str(" } } }").ok()?;
+    let mut place = MemFolder::new(alloc).ok()?;
+    place.hold("k", kernel.as_bytes()).ok()?;
+    let mut out = MemOut::new(alloc).ok()?;
+    let all = words(alloc, &["run", "k", "d", "4096"]).ok()?;
+    let status = sword(&rt, alloc, &all, &mut place, &mut out, &NoGate);
+    Some(status == DONE && out.written() == b"tasks 2\nrecords 5\nsum a 32001\n".as_slice())
 }
 
 #[test]
 fn a_long_sum_is_run(rt: HostRuntime) -> Result<(), Fail> {
-    let work = move || run_long_sum(rt).is_ok();
+    let work = move || long_sum_is_run(rt);
     let thread = Builder::new().stack_size(STACK).spawn(&rt, work)?;
-    assert!(rt; thread.join(&rt));
+    assert_eq!(rt; thread.join(&rt), Some(true));
     Ok(())
 }
