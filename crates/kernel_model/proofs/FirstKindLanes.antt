@@ -1,5 +1,5 @@
 -- The log of a lane of a kernel of the first kind breaks no rule of a log.
-use Rattle.std.proofs.Common.{◌≡◌, refl, ap, sym, ◌∙◌, subst, inl, inr, ℕ, zero, suc, ◌+◌, ◌^◌, ◌<◌, ◌≤◌, Bool, true, false, cond, List, [], ◌∷◌, ◌++◌, length, take, Some, slice_get, All, arith, append_assoc}
+use Rattle.std.proofs.Common.{◌≡◌, refl, ap, sym, ◌∙◌, subst, inl, inr, ℕ, zero, suc, ◌+◌, ◌^◌, ◌<◌, ◌≤◌, Bool, true, false, cond, List, [], ◌∷◌, ◌++◌, length, take, Some, slice_get, All, ℤ, arith, append_assoc}
 use Rattle.std.proofs.lemmas.List.{take_at, length-append, length-take-le}
 use Rattle.std.proofs.lemmas.List.Elements.{All-nil, All-cons, All-head, All-tail, All-append, All-take, All-weaker, All-same, All-push}
 use Rattle.std.proofs.lemmas.List.Sums.{sum_by-append, sum_by-cons}
@@ -22,8 +22,12 @@ use Rattle.race_model.proofs.TraceLogs.{all_at}
 use Rattle.kernel_syntax.specs.Bounds.{IsLine, IsSpan, IsBoundedCode}
 use Rattle.kernel_syntax.specs.FirstKind.{IsOneLoop}
 use Rattle.kernel_syntax.specs.Tree.{Code, TeamTree, Done, For}
-use Rattle.kernel_model.specs.State.{event}
-use Rattle.kernel_model.proofs.FirstKindShape.{IsTabledAccess, IsLaneLog, loop_barrier}
+use Rattle.kernel_syntax.specs.Layout.{ArePlaced}
+use Rattle.kernel_model.specs.State.{Stop, event}
+use Rattle.kernel_model.specs.Value.{Site}
+use Rattle.kernel_model.specs.Trace.{run}
+use Rattle.kernel_model.specs.Effect.{Makes, Returned, Halted, adds}
+use Rattle.kernel_model.proofs.FirstKindShape.{IsTabledAccess, IsLaneLog, loop_barrier, loop_stops, loop_ends}
 
 -- ---- records that are no accesses
 
@@ -235,6 +239,20 @@ no_barriers [] each = refl
 no_barriers (r ∷ accesses) each =
     uncounted r accesses (access_uncounted r (All-head IsTabledAccess r accesses each).access)
     ∙ no_barriers accesses (All-tail IsTabledAccess r accesses each)
+
+module _ (at : Site) (words : ℕ) (placed : ArePlaced at.arrays words) (code : Code) (one : IsOneLoop code) (bounded : IsBoundedCode code)
+    (slots slots' : List ℤ) (room : ℕ) (added : List Record) where
+  -- a loop that stops passed no barrier
+  pub stop_barriers : (w : Stop) (line : ℕ) → Makes (run at code) slots room (adds slots' added) (Halted w line) → barrier_count added ≡ 0
+  stop_barriers w line m = no_barriers added (loop_stops at words placed code one bounded slots slots' room added w line m)
+
+  -- and one that ends its own
+  pub loop_barriers : Makes (run at code) slots room (adds slots' added) (Returned tt) → barrier_count added ≡ barrier_count (loop_barrier code)
+  loop_barriers m =
+      let does = loop_ends at words placed code one bounded slots slots' room added m in
+      let sum : barrier_count (does.0 ++ loop_barrier code) ≡ barrier_count does.0 + barrier_count (loop_barrier code) =
+      sum_by-append (λ (r : Record). number (is_barrier_kind r.kind)) does.0 (loop_barrier code) in
+      ap (λ rs. barrier_count rs) does.2 ∙ omega (arith, sum, no_barriers does.0 does.1)
 
 -- The trace of a lane of one loop is a lane's log, with the loop's barrier.
 pub is_lane : (team : TeamTree) → IsOneLoop team.body → IsBoundedCode team.body → IsLine team.end → (records : List Record) →

@@ -1,5 +1,5 @@
 -- What a lane of a kernel of the first kind records: accesses, the barrier at its loop's end unless there is none, and End.
-use Rattle.std.proofs.Common.{◌≡◌, refl, ap, sym, ◌∙◌, inl, inr, ℕ, zero, suc, ◌+◌, ◌*◌, ◌^◌, ◌<◌, ◌≤◌, Bool, true, false, cond, List, [], ◌∷◌, ◌++◌, length, ℤ, pos, negsuc, ◌+ℤ◌, Option, Some, None, nat_lt, slice_get, IfSome, All, arith, append_assoc}
+use Rattle.std.proofs.Common.{◌≡◌, refl, ap, sym, ◌∙◌, subst, inl, inr, ℕ, zero, suc, ◌+◌, ◌*◌, ◌^◌, ◌<◌, ◌≤◌, Bool, true, false, cond, List, [], ◌∷◌, ◌++◌, length, ℤ, pos, negsuc, ◌+ℤ◌, Option, Some, None, nat_lt, slice_get, IfSome, All, arith, append_assoc}
 use Rattle.std.proofs.Math.Facts.{Fits-of_z}
 use Rattle.std.proofs.lemmas.Bool.Decides.{nat_tests}
 use Rattle.std.proofs.lemmas.List.{append-nil}
@@ -21,11 +21,12 @@ use Rattle.kernel_syntax.specs.Tree.{Term, Code, TeamTree, Number, Slot, Tid, Sp
 use Rattle.kernel_syntax.specs.declared.syntax.Schedule.{Schedule}
 use Rattle.kernel_syntax.specs.declared.syntax.Schedule.TheVariants.{Even, Static, Dynamic}
 use Rattle.kernel_syntax.proofs.Fitting.{fitted_fits}
-use Rattle.kernel_model.specs.State.{State, Outcome, Gives, Stops, Wants, and_then, after, put, put_in, event, assign, state_of, reads_of, chunks_of}
+use Rattle.kernel_model.specs.State.{State, Stop, Outcome, Gives, Stops, Wants, and_then, after, put, put_in, event, assign, state_of, reads_of, chunks_of}
 use Rattle.kernel_model.specs.Value.{Site, Element, element_of, element_at, access, read, read_in, loaded, operated, value}
 use Rattle.kernel_model.specs.Iterations.{total_of, even_iterations, static_iterations}
 use Rattle.kernel_model.specs.Trace.{stored, each, shared, loop_end, run, task, Start, site_of, state_at, log_limit, Ended, ending_of}
 use Rattle.kernel_model.specs.Folder.{IsTraced}
+use Rattle.kernel_model.specs.Effect.{Makes, Returned, Halted, adds, state_with}
 use Rattle.kernel_model.proofs.Growing.{task-grows}
 
 -- ---- accesses
@@ -320,6 +321,73 @@ module _ (at : Site) (words : ℕ) (placed : ArePlaced at.arrays words) where
       ends true w = with-nothing w
       ends false w = with-barrier (event kind.Barrier end 0 0) w
   with-one_loop _ s one bounded = absurd one
+
+-- ---- a loop that stops
+
+-- where a part stops, its state is so
+abbrev IfStops : {A : Type 0} → Outcome A → (State → Type 0) → Type 0
+IfStops (Gives a s) P = Unit {0}
+IfStops (Stops why line s) P = P s
+IfStops (Wants s) P = Unit {0}
+
+stops-chained : {A : Type 0} (s t : State) (m : Outcome A) → AddsAccesses s t → IfStops m (AddsAccesses t) → IfStops m (AddsAccesses s)
+stops-chained s t (Gives a u) one more = tt
+stops-chained s t (Stops why line u) one more = adds-chain s t u one more
+stops-chained s t (Wants u) one more = tt
+
+stops-and_then : {A B : Type 0} (s : State) (m : Outcome A) (next : A → State → Outcome B) → Adds s m →
+    ((a : A) (t : State) → IfStops (next a t) (AddsAccesses t)) → IfStops (and_then m next) (AddsAccesses s)
+stops-and_then s (Gives a t) next first later = stops-chained s t (next a t) first (later a t)
+stops-and_then s (Stops why line t) next first later = first
+stops-and_then s (Wants t) next first later = tt
+
+stops-after : (s : State) (m : Outcome (Unit {0})) (next : State → Outcome (Unit {0})) → Adds s m →
+    ((t : State) → IfStops (next t) (AddsAccesses t)) → IfStops (after m next) (AddsAccesses s)
+stops-after s (Gives a t) next first later = stops-chained s t (next t) first (later t)
+stops-after s (Stops why line t) next first later = first
+stops-after s (Wants t) next first later = tt
+
+-- a record without room, and then nothing
+stops-put_in : (room : ℕ) (r : Record) (at : Site) (s : State) → IfStops (after (put_in room r s) (run at Done)) (AddsAccesses s)
+unfolding run
+stops-put_in zero r at s = adds-nothing s s refl
+stops-put_in (suc room) r at s = tt
+
+stops-put : (r : Record) (at : Site) (s : State) → IfStops (after (put r s) (run at Done)) (AddsAccesses s)
+unfolding put
+stops-put r at s = stops-put_in s.room r at s
+
+module _ (at : Site) (words : ℕ) (placed : ArePlaced at.arrays words) where
+  stops-one_loop : (code : Code) (s : State) → IsOneLoop code → IsBoundedCode code → IfStops (run at code s) (AddsAccesses s)
+  unfolding run
+  stops-one_loop (For slot from to schedule nowait line end body Done) s one bounded =
+      stops-and_then s (value at from s) _ (adds-value at words placed from s bounded.0) (λ a t.
+      stops-and_then t (value at to t) _ (adds-value at words placed to t bounded.1) (λ b u.
+      stops-after u (shared schedule at line (total_of a b) (λ i w. run at body (assign slot (a +ℤ pos i) w)) u) _
+      (adds-shared schedule at line (total_of a b) (λ i w. run at body (assign slot (a +ℤ pos i) w)) u one.0
+      (λ i w. adds-turn at words placed body slot (a +ℤ pos i) w one.1 bounded.5))
+      (λ w. ends nowait w)))
+    where
+      ends : (b : Bool) (w : State) → IfStops (after (loop_end b end w) (run at Done)) (AddsAccesses w)
+      ends true w = tt
+      ends false w = stops-put (event kind.Barrier end 0 0) at w
+  stops-one_loop _ s one bounded = absurd one
+
+  module _ (code : Code) (one : IsOneLoop code) (bounded : IsBoundedCode code) (slots slots' : List ℤ) (room : ℕ) (added : List Record) where
+    -- a loop that stops records accesses alone
+    pub loop_stops : (w : Stop) (line : ℕ) → Makes (run at code) slots room (adds slots' added) (Halted w line) → All IsTabledAccess added
+    loop_stops w line m =
+        let does = subst (λ o. IfStops o (AddsAccesses (state_with slots [] [] room (reads_of added ++ []) (chunks_of added ++ [])))) (m.makes [] [] [] [])
+        (stops-one_loop code (state_with slots [] [] room (reads_of added ++ []) (chunks_of added ++ [])) one bounded) in
+        subst (All IsTabledAccess) (sym does.records_are) does.each
+
+    -- and one that ends its barrier after them
+    pub loop_ends : Makes (run at code) slots room (adds slots' added) (Returned tt) →
+        (accesses : List Record) × All IsTabledAccess accesses × (added ≡ accesses ++ loop_barrier code)
+    loop_ends m =
+        let does = subst (λ o. IfGives o (AddsWith (loop_barrier code) (state_with slots [] [] room (reads_of added ++ []) (chunks_of added ++ [])))) (m.makes [] [] [] [])
+        (with-one_loop at words placed code (state_with slots [] [] room (reads_of added ++ []) (chunks_of added ++ [])) one bounded) in
+        (does.accesses, does.each, does.records_are)
 
 -- ---- lanes
 
