@@ -101,3 +101,8 @@ loop_chunks _ one bounded = absurd one
 pub team_chunks : (code : Code) → IsOneRegion code → IsBoundedCode code → HasChunks (first_team code).body
 team_chunks (tree.Parallel span line end body tree.Done) one bounded = loop_chunks body one bounded.3
 team_chunks _ one bounded = absurd one
+
+-- its body, with its numbers in their bounds
+pub team_bounded : (code : Code) → IsOneRegion code → IsBoundedCode code → IsBoundedCode (first_team code).body
+team_bounded (tree.Parallel span line end body tree.Done) one bounded = bounded.3
+team_bounded _ one bounded = absurd one

@@ -1,14 +1,12 @@
--- The lanes of a team that ran so far, and one more.
+-- The lanes of a team over which a pass went so far, and one more.
 use Rattle.std.proofs.Common.{◌≡◌, ◌≢◌, sym, ◌∙◌, subst, ℕ, ◌+◌, ◌<◌, ◌≤◌, List, length, get_or, get_or-set_other, get_or-set_same, below_more, Option, Some, None, inl, inr, arith}
 use Rattle.std.proofs.Math.ListN.{set}
 use Rattle.std.proofs.lemmas.List.{get_or_default}
 use Rattle.sw_base.specs.declared.trouble.Trouble.TheVariants as trouble
-use Rattle.kernel_syntax.specs.declared.syntax.Array.{Array}
-use Rattle.kernel_syntax.specs.Tree.{TeamTree}
 use Rattle.team_runner.specs.declared.lane.Lane.{Lane}
 use Rattle.team_runner.specs.declared.team.Halt.{Halt}
 use Rattle.team_runner.specs.declared.stop.Stop.TheVariants as stop
-use Rattle.team_runner.specs.Team.{PairsBelow, Ran, Halts, AllRan, IsFirstStop, IsFirstOf}
+use Rattle.team_runner.specs.Team.{PairsBelow, AllPassed, IsFirst, IsFirstOf}
 
 -- the lane at i was taken from a list whose lanes from i on are the old ones, and is a new one now
 module _ {X : Type 0} (olds lanes : List (Lane X)) (i : ℕ) (item new : Lane X) (within : i < length lanes) (same_length : length olds ≡ length lanes)
@@ -43,34 +41,32 @@ module _ {X : Type 0} (olds lanes : List (Lane X)) (i : ℕ) (item new : Lane X)
   pub rest_more : (k : ℕ) (d : Lane X) → i + 1 ≤ k → get_or (set lanes i new) k d ≡ get_or olds k d
   rest_more k d le = get_or-set_other lanes i k new d (omega arith) ∙ rest k d (omega arith)
 
-  module _ (arrays : List Array) (team : TeamTree) where
+  module _ (Ended : Lane X → Lane X → Option Halt → Type 0) where
     -- an earlier stop stays the first
-    stop_stays : (halt : Halt) → IsFirstStop arrays team olds lanes i halt → IsFirstStop arrays team olds (set lanes i new) (i + 1) halt
+    stop_stays : (halt : Halt) → IsFirst Ended (λ a b. Ended a b None) olds lanes i halt → IsFirst Ended (λ a b. Ended a b None) olds (set lanes i new) (i + 1) halt
     stop_stays halt s = record {
       lane = s.lane;
       within = omega arith;
-      halts = λ d e. subst (λ b. Halts arrays team (get_or olds s.lane d) b halt) (other_is s.lane e s.within) (s.halts d e);
-      before = λ other. pairs_before (λ a b. Ran arrays team a b None) s.lane (omega arith) (s.before other);
+      halts = λ d e. subst (λ b. Ended (get_or olds s.lane d) b (Some halt)) (other_is s.lane e s.within) (s.halts d e);
+      before = λ other. pairs_before (λ a b. Ended a b None) s.lane (omega arith) (s.before other);
     }
 
     -- the new lane's stop is the first
-    stop_new : (halt : Halt) → (halt.why ≢ stop.Trouble trouble.Memory → PairsBelow i (λ a b. Ran arrays team a b None) olds lanes) →
-        Halts arrays team item new halt → IsFirstStop arrays team olds (set lanes i new) (i + 1) halt
+    stop_new : (halt : Halt) → (halt.why ≢ stop.Trouble trouble.Memory → PairsBelow i (λ a b. Ended a b None) olds lanes) →
+        Ended item new (Some halt) → IsFirst Ended (λ a b. Ended a b None) olds (set lanes i new) (i + 1) halt
     stop_new halt before here = record {
       lane = i;
       within = omega arith;
-      halts = at_new (λ a b. Halts arrays team a b halt) here;
-      before = λ other. pairs_before (λ a b. Ran arrays team a b None) i (omega arith) (before other);
+      halts = at_new (λ a b. Ended a b (Some halt)) here;
+      before = λ other. pairs_before (λ a b. Ended a b None) i (omega arith) (before other);
     }
 
-    -- one lane more ran
-    pub ran_more : (first one result : Option Halt) → AllRan arrays team olds lanes i first → Ran arrays team item new one → IsFirstOf first one result →
-        AllRan arrays team olds (set lanes i new) (i + 1) result
-    ran_more None None result all here is =
-        subst (AllRan arrays team olds (set lanes i new) (i + 1)) (sym is) (pairs_more (λ a b. Ran arrays team a b None) all here)
-    ran_more (Some halt) None result all here is = subst (AllRan arrays team olds (set lanes i new) (i + 1)) (sym is) (stop_stays halt all)
-    ran_more None (Some later) result all here is =
-        subst (AllRan arrays team olds (set lanes i new) (i + 1)) (sym is) (stop_new later (λ other. all) here)
-    ran_more (Some halt) (Some later) result all here (inl is) = subst (AllRan arrays team olds (set lanes i new) (i + 1)) (sym is) (stop_stays halt all)
-    ran_more (Some halt) (Some later) result all here (inr is) =
-        subst (AllRan arrays team olds (set lanes i new) (i + 1)) (sym is.0) (stop_new later (λ other. absurd (other is.1)) here)
+    -- one lane more
+    pub passed_more : (first one result : Option Halt) → AllPassed Ended olds lanes i first → Ended item new one → IsFirstOf first one result →
+        AllPassed Ended olds (set lanes i new) (i + 1) result
+    passed_more None None result all here is = subst (AllPassed Ended olds (set lanes i new) (i + 1)) (sym is) (pairs_more (λ a b. Ended a b None) all here)
+    passed_more (Some halt) None result all here is = subst (AllPassed Ended olds (set lanes i new) (i + 1)) (sym is) (stop_stays halt all)
+    passed_more None (Some later) result all here is = subst (AllPassed Ended olds (set lanes i new) (i + 1)) (sym is) (stop_new later (λ other. all) here)
+    passed_more (Some halt) (Some later) result all here (inl is) = subst (AllPassed Ended olds (set lanes i new) (i + 1)) (sym is) (stop_stays halt all)
+    passed_more (Some halt) (Some later) result all here (inr is) =
+        subst (AllPassed Ended olds (set lanes i new) (i + 1)) (sym is.0) (stop_new later (λ other. absurd (other is.1)) here)

@@ -9,6 +9,7 @@ pub mod Logs
 pub mod Loops
 pub mod OneLane
 pub mod Parts
+pub mod Phases
 pub mod Putting
 pub mod Tasks
 pub mod Traces

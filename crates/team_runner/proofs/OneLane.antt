@@ -80,8 +80,7 @@ module _ {X : Type 0} (root : Written) (span slots size : ℕ) (at_root : root.p
   -- it may run in its team
   pub fresh_lane : (team : TeamTree) → team.span ≡ span → number < span → IsBufferSize size → IsFreshLane team old
   fresh_lane team span_is within room = record {
-    within = omega (arith, forked.lane_is, forked.span_is);
-    span = forked.span_is ∙ sym span_is;
+    of_team = record { within = omega (arith, forked.lane_is, forked.span_is); span = forked.span_is ∙ sym span_is };
     fresh = record {
       count = ap (λ (w : Written). w.count) forked.log;
       buffer = ap (λ (w : Written). w.buffer) forked.log;

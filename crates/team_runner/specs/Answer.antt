@@ -1,5 +1,5 @@
 -- What `run_kernel` answers.
-use Rattle.std.specs.Prelude.{◌≡◌, ℕ, ◌<◌, List, [], ◌∷◌, length, map, take, Option, Some, is_some, Bool, Contains}
+use Rattle.std.specs.Prelude.{◌≡◌, ◌⊎◌, ℕ, ◌<◌, ◌≤◌, List, [], ◌∷◌, ◌++◌, length, map, take, Option, Some, is_some, Bool, Contains}
 use Rattle.std.specs.Option.{option_map}
 use Rattle.sw_base.specs.declared.path.Step.{Step}
 use Rattle.sw_base.specs.declared.files.TheConstants.{LOG_HEADER}
@@ -7,7 +7,7 @@ use Rattle.sw_base.specs.Environment.{Text}
 use Rattle.log_format.specs.declared.record.Record.{Record}
 use Rattle.log_format.specs.Spelling.{log_bytes}
 use Rattle.race_model.specs.KeepsRules.{KeepsRules}
-use Rattle.race_model.specs.Trace.{TaskLog, Trace, Logs}
+use Rattle.race_model.specs.Trace.{TaskLog, Trace, Logs, barrier_count}
 use Rattle.kernel_syntax.specs.FirstKind.{region_span}
 use Rattle.kernel_syntax.specs.Program.{Program}
 use Rattle.kernel_model.specs.State as model
@@ -77,27 +77,52 @@ pub record HasTask (program : Program) (HasLog : TaskLog → Type 0) (path : Lis
   pub traced : IsTracedTo program start records ending
   pub logged : HasLog (record { path = path; records = records })
 
--- The lane of this path stopped so, after all its records, and each lane before it ended.
-pub record HasStop (program : Program) (HasLog : TaskLog → Type 0) (path : List Step) (why : model.Stop) (line : ℕ) : Type 0 where
+-- the records are the first of the task's trace
+pub record IsFrontOf (program : Program) (start : Start) (records : List Record) : Type 0 where
+  pub rest : List Record
+  pub ending : Ending
+  pub traced : IsTracedTo program start (records ++ rest) ending
+
+-- the task that the kernel forks at this path passed more than so many barriers, and its records up to there are the first of
+-- its trace
+pub record HasFront (program : Program) (HasPart : TaskLog → Type 0) (path : List Step) (barriers : ℕ) : Type 0 where
+  pub start : Start
+  pub starts : (logs : Logs) → start_at program logs path ≡ Some start
+  pub records : List Record
+  pub front : IsFrontOf program start records
+  pub passed : barriers < barrier_count records
+  pub logged : HasPart (record { path = path; records = records })
+
+-- The task of this path is ahead of a stop that comes after so many barriers: it ended and passed no more of them, or it passed
+-- more and waits.
+pub data IsAhead (program : Program) (HasLog HasPart : TaskLog → Type 0) (path : List Step) (barriers : ℕ) : Type 0 where
+  ended : (task : HasTask program HasLog path Ended) → barrier_count task.records ≤ barriers → IsAhead program HasLog HasPart path barriers
+  waits : HasFront program HasPart path barriers → IsAhead program HasLog HasPart path barriers
+
+-- The lane of this path stopped so, after all its records, and each lane before it is ahead of the stop.
+pub record HasStop (program : Program) (HasLog HasPart : TaskLog → Type 0) (path : List Step) (why : model.Stop) (line : ℕ) : Type 0 where
   pub lane : ℕ
   pub within : lane < region_span program.main.body
   pub path_is : path ≡ lane_path program lane
   pub stopped : HasTask program HasLog path (Stopped why line)
-  pub before : (other : ℕ) → other < lane → HasTask program HasLog (lane_path program other) Ended
-
--- the logs of a run that stopped so: those of all tasks, in the order of their paths
-pub record HasStoppedRun (program : Program) (dir : List ℕ) (size : ℕ) (root : Option Text) (logs : List Logged) (path : List Step) (why : model.Stop) (line : ℕ) : Type 0 where
-  pub all : map (λ (log : Logged). log.task) logs ≡ task_paths program
-  pub stop : HasStop program (λ task. Contains logs (whole_log dir size root task)) path why line
-
--- the log of its task, in the folder `dir`, tells its content where the root's does
-pub record IsOwnLog (dir : List ℕ) (tells : Bool) (log : Logged) : Type 0 where
-  pub dir_is : log.dir ≡ dir
-  pub path_is : log.path ≡ log.task
-  pub tells_so : is_some log.told ≡ tells
+  pub before : (other : ℕ) → other < lane → IsAhead program HasLog HasPart (lane_path program other) (barrier_count stopped.records)
 
 -- the log of this task counts a fault
 pub record HasFaulty (faults : List (List Step × ℕ)) (path : List Step) : Type 0 where
   pub count : ℕ
   pub logged : Contains faults (path, count)
   pub some : 0 < count
+
+-- the logs of a run that stopped so: those of all tasks, in the order of their paths; that of a lane that waits is whole so far,
+-- unless it counts a fault
+pub record HasStoppedRun (program : Program) (dir : List ℕ) (size : ℕ) (root : Option Text) (faults : List (List Step × ℕ)) (logs : List Logged) (path : List Step)
+    (why : model.Stop) (line : ℕ) : Type 0 where
+  pub all : map (λ (log : Logged). log.task) logs ≡ task_paths program
+  pub stop : HasStop program (λ task. Contains logs (whole_log dir size root task))
+      (λ task. Contains logs (whole_log dir size root task) ⊎ HasFaulty faults task.path) path why line
+
+-- the log of its task, in the folder `dir`, tells its content where the root's does
+pub record IsOwnLog (dir : List ℕ) (tells : Bool) (log : Logged) : Type 0 where
+  pub dir_is : log.dir ≡ dir
+  pub path_is : log.path ≡ log.task
+  pub tells_so : is_some log.told ≡ tells

@@ -1,5 +1,5 @@
 -- The tasks of a run: its root, and the lanes of its one team.
-use Rattle.std.specs.Prelude.{◌≡◌, ◌≢◌, ℕ, ◌<◌, ◌≤◌, List, [], ◌∷◌, ◌++◌, length, map, replicate, pos, Option, Some, None, Ok, Err, slice_index_or, ◌⊎◌, Bool, true, All, Contains}
+use Rattle.std.specs.Prelude.{◌≡◌, ◌≢◌, ℕ, ◌<◌, ◌≤◌, List, [], ◌∷◌, ◌++◌, length, map, replicate, pos, Option, Some, None, Result, Ok, Err, slice_index_or, ◌⊎◌, Bool, true, All, Contains}
 use Rattle.std.specs.Option.{option_map}
 use Rattle.sw_base.specs.declared.path.Step.{Step}
 use Rattle.sw_base.specs.declared.files.TheConstants.{LOG_HEADER}
@@ -18,7 +18,9 @@ use Rattle.team_runner.specs.declared.team.Halt.{Halt}
 use Rattle.team_runner.specs.declared.stop.Stop.TheVariants as stop
 use Rattle.team_runner.specs.Written.{Written, Adds, Begun, Closed, Keeps}
 use Rattle.team_runner.specs.Ready.{IsBufferSize}
-use Rattle.team_runner.specs.Lane.{IsFresh, EndsTask}
+use Rattle.team_runner.specs.declared.lane.Pass.{Pass}
+use Rattle.team_runner.specs.declared.stop.Stop.{Stop}
+use Rattle.team_runner.specs.Lane.{IsFresh, EndsTask, Does, HasFrontLog, barriers_of}
 use Rattle.team_runner.specs.Answer.{Logged, outline}
 
 -- a fact about each element of a list and its place
@@ -52,10 +54,14 @@ pub record IsForked {X : Type 0} (root : Written) (span slots size number : ℕ)
   pub locals : lane.frame.locals.items ≡ replicate slots (pos 0)
   pub log : lane.recorder ≡ fresh_log root size span number
 
--- a lane of the team that has not run
-pub record IsFreshLane {X : Type 0} (team : TeamTree) (lane : Lane X) : Type 0 where
+-- a lane of the team
+pub record IsLaneOf {X : Type 0} (team : TeamTree) (lane : Lane X) : Type 0 where
   pub within : lane.frame.lane < lane.frame.span
   pub span : lane.frame.span ≡ team.span
+
+-- one that has not run
+pub record IsFreshLane {X : Type 0} (team : TeamTree) (lane : Lane X) : Type 0 where
+  pub of_team : IsLaneOf team lane
   pub fresh : IsFresh lane.recorder
   pub size : IsBufferSize lane.recorder.size
 
@@ -73,25 +79,50 @@ abbrev pub start_of : {X : Type 0} → TeamTree → Lane X → Start
 start_of team lane = record { team = team; lane = lane.frame.lane; slots = lane.frame.locals.items }
 
 -- the lane made this stop
-pub record Halts {X : Type 0} (arrays : List Array) (team : TeamTree) (old new : Lane X) (halt : Halt) : Type 0 where
-  pub path_is : halt.path ≡ path_of old
-  pub stopped : EndsTask arrays (start_of team old) old.recorder new.recorder (Err halt.why)
+pub record Halts {X : Type 0} (Ends : Result (Unit {0}) Stop → Type 0) (lane : Lane X) (halt : Halt) : Type 0 where
+  pub path_is : halt.path ≡ path_of lane
+  pub stopped : Ends (Err halt.why)
 
--- the lane ended, or made this stop
-abbrev pub Ran : {X : Type 0} → List Array → TeamTree → Lane X → Lane X → Option Halt → Type 0
-Ran arrays team old new None = EndsTask arrays (start_of team old) old.recorder new.recorder (Ok tt)
-Ran arrays team old new (Some halt) = Halts arrays team old new halt
+-- a fact about how a lane ended, or about the stop that it made
+abbrev pub LaneEnds : {X : Type 0} → (Result (Unit {0}) Stop → Type 0) → Lane X → Option Halt → Type 0
+LaneEnds Ends lane None = Ends (Ok tt)
+LaneEnds Ends lane (Some halt) = Halts Ends lane halt
 
--- one of the first n lanes made this stop, and each lane before it ended, unless the stop is want of memory
-pub record IsFirstStop {X : Type 0} (arrays : List Array) (team : TeamTree) (olds news : List (Lane X)) (n : ℕ) (halt : Halt) : Type 0 where
+-- what a pass did with the lane
+abbrev pub Passed : {X : Type 0} → Pass → List Array → TeamTree → Lane X → Lane X → Option Halt → Type 0
+Passed pass arrays team old new outcome = LaneEnds (Does pass arrays (start_of team old) old.recorder new.recorder) old outcome
+
+-- the lane ended or made this stop, after so many barriers
+abbrev pub Ran : {X : Type 0} → List Array → TeamTree → ℕ → Lane X → Lane X → Option Halt → Type 0
+Ran arrays team barriers old new outcome = LaneEnds (EndsTask arrays (start_of team old) barriers old.recorder new.recorder) old outcome
+
+-- one of the first n lanes made this stop, and this holds of each lane before it, unless the stop is want of memory
+pub record IsFirst {X : Type 0} (Ended : Lane X → Lane X → Option Halt → Type 0) (Before : Lane X → Lane X → Type 0) (olds news : List (Lane X)) (n : ℕ)
+    (halt : Halt) : Type 0 where
   pub lane : ℕ
   pub within : lane < n
-  pub halts : (d e : Lane X) → Halts arrays team (slice_index_or olds lane d) (slice_index_or news lane e) halt
-  pub before : halt.why ≢ stop.Trouble trouble.Memory → PairsBelow lane (λ old new. Ran arrays team old new None) olds news
+  pub halts : (d e : Lane X) → Ended (slice_index_or olds lane d) (slice_index_or news lane e) (Some halt)
+  pub before : halt.why ≢ stop.Trouble trouble.Memory → PairsBelow lane Before olds news
+
+-- the first n lanes ended so, or made this stop first
+abbrev pub AllPassed : {X : Type 0} → (Lane X → Lane X → Option Halt → Type 0) → List (Lane X) → List (Lane X) → ℕ → Option Halt → Type 0
+AllPassed Ended olds news n None = PairsBelow n (λ old new. Ended old new None) olds news
+AllPassed Ended olds news n (Some halt) = IsFirst Ended (λ old new. Ended old new None) olds news n halt
+
+-- the lane is ahead of a stop after so many barriers: it ended, and passed no more of them; or it passed more, and waits
+abbrev pub IsAheadLane : {X : Type 0} → List Array → TeamTree → ℕ → Lane X → Lane X → Type 0
+IsAheadLane arrays team barriers old new =
+    ((barriers_of team.body ≤ barriers) × Ran arrays team (barriers_of team.body) old new None)
+    ⊎ ((barriers < barriers_of team.body) × HasFrontLog arrays (start_of team old) (barriers_of team.body) old.recorder new.recorder)
+
+-- one of the first n lanes made this stop, and each lane before it is ahead of it
+pub record IsFirstStop {X : Type 0} (arrays : List Array) (team : TeamTree) (olds news : List (Lane X)) (n : ℕ) (halt : Halt) : Type 0 where
+  pub barriers : ℕ
+  pub first : IsFirst (Ran arrays team barriers) (IsAheadLane arrays team barriers) olds news n halt
 
 -- the first n lanes ended, or made this stop first
 abbrev pub AllRan : {X : Type 0} → List Array → TeamTree → List (Lane X) → List (Lane X) → ℕ → Option Halt → Type 0
-AllRan arrays team olds news n None = PairsBelow n (λ old new. Ran arrays team old new None) olds news
+AllRan arrays team olds news n None = PairsBelow n (λ old new. Ran arrays team (barriers_of team.body) old new None) olds news
 AllRan arrays team olds news n (Some halt) = IsFirstStop arrays team olds news n halt
 
 -- the lanes of the kernel's team, as many as were forked from this root, whatever they put since

@@ -69,8 +69,9 @@ pub record Begun (old new : Written) (header : List ℕ) : Type 0 where
   pub buffer : new.buffer ≡ old.buffer
   pub count : new.count ≡ old.count
 
--- all records that were put are in the log
+-- all records that were put are in the log, and none waits
 pub record Closed (old new : Written) : Type 0 where
+  pub clear : new.buffer ≡ []
   pub bytes : option_map (λ (t : Text). t.bytes) new.text ≡ held old
   pub count : new.count ≡ old.count
   pub pieces : 24 ≤ old.size → IsCut old → WhereTold new.text (λ t. map length t.pieces ≡ cut old.count old.size)

@@ -8,10 +8,10 @@ ghost use Rattle.kernel_model.specs.State as state;
 ghost use Rattle.log_format.specs.declared.record.Kind.TheVariants as kind;
 ghost use Rattle.kernel_syntax.specs.Tree.{Done};
 ghost use Rattle.team_runner.specs.Stops.{Finishes, Puts};
-ghost use Rattle.team_runner.specs.Lane.{EndsTask, IsFresh, MadePart, MadeTask, Stores, ending_of, site, turn};
+ghost use Rattle.team_runner.specs.Lane.{Begins, Does, EndsWith, MadeBody, MadePart, Runs, Shuts, Stores, site, turn};
 ghost use Rattle.kernel_syntax.specs.Layout.{ArePlaced};
 ghost use Rattle.team_runner.specs.Written.{Keeps};
-ghost use Rattle.team_runner.specs.Ready.{IsBufferSize, IsChunked, HasChunks};
+ghost use Rattle.team_runner.specs.Ready.{IsChunked, HasChunks};
 ghost use Rattle.kernel_syntax.specs.FirstKind.{AreStores, IsOneLoop};
 ghost use Rattle.kernel_syntax.specs.Program.{code_of, stmt_code, team_of};
 
@@ -23,13 +23,26 @@ use crate::value::value;
 use kernel_syntax::{Array, Schedule, Stmt, Team, even_share, fit};
 use log_format::{Kind, Record};
 use std::alloc::Global;
-use sw_base::{Gate, Log};
+use sw_base::{Gate, Log, Trouble};
 
 /// A lane of a team, and its records.
 #[derive(Drop)]
 pub struct Lane<L: Log> {
     pub frame: Frame,
     pub recorder: Recorder<L>,
+}
+
+/// What the lanes of a team do in one pass over them.
+#[derive(Clone, Copy)]
+pub enum Pass {
+    /// Their whole tasks, where no lane waits for another.
+    Whole,
+    /// The phase up to the barrier at the loop's end.
+    First,
+    /// The empty phase after it, and their ends.
+    Last,
+    /// Their logs are closed, as a lane stopped.
+    Shut,
 }
 
 /// A record of a kind that is no access.
@@ -46,20 +59,12 @@ pub fn event(kind: Kind, line: u32, value: u64) -> Record
     }
 }
 
-/// Puts the record of a barrier, after which the gate sees the lane start its next phase.
-fn put_barrier<L: Log, G: Gate>(
-    recorder: &mut Recorder<L>,
-    alloc: Global,
-    lane: u16,
-    line: u32,
-    gate: &G,
-) -> Result<(), Stop>
+/// Puts the record of a barrier.
+fn put_barrier<L: Log>(recorder: &mut Recorder<L>, alloc: Global, line: u32) -> Result<(), Stop>
     ensures puts { Puts (state.event kind.Barrier line 0 0) recorder.old recorder.new result }
     ensures same { Keeps recorder.old recorder.new }
 {
-    recorder.put(alloc, &event(Kind::Barrier, line, 0))?;
-    gate.enter(usize::from(lane));
-    Ok(())
+    recorder.put(alloc, &event(Kind::Barrier, line, 0))
 }
 
 /// The number of an iteration.
@@ -304,15 +309,14 @@ impl<L: Log> Lane<L> {
         }
     }
 
-    /// Executes a worksharing loop of stores. A barrier at its end starts a phase.
-    fn worksharing<G: Gate>(
+    /// Executes a worksharing loop of stores.
+    fn worksharing(
         &mut self,
         alloc: Global,
         arrays: &[Array],
         words: &mut [u64],
         stmt: &Stmt,
         rest: &[Stmt],
-        gate: &G,
     ) -> Result<(), Stop>
         requires placed { ArePlaced arrays.now (length words.old) }
         requires within { self.old.frame.lane < self.old.frame.span }
@@ -353,12 +357,12 @@ impl<L: Log> Lane<L> {
         if *nowait {
             Ok(())
         } else {
-            put_barrier(&mut self.recorder, alloc, self.frame.lane, *end, gate)
+            put_barrier(&mut self.recorder, alloc, *end)
         }
     }
 
-    /// Executes what the team's lanes execute, and then ends. The gate sees the lane start each phase.
-    fn task<G: Gate>(
+    /// Begins the log, and executes what the team's lanes execute.
+    fn body<G: Gate>(
         &mut self,
         alloc: Global,
         arrays: &[Array],
@@ -371,9 +375,8 @@ impl<L: Log> Lane<L> {
         requires one { IsOneLoop (team_of team.now).body }
         requires chunked { HasChunks (team_of team.now).body }
         requires span { self.old.frame.span ≡ team.now.span }
-        requires none { self.old.recorder.count ≡ 0 }
-        ensures made { Finishes (λ finish. MadeTask arrays.now (record { team = team_of team.now; lane = self.old.frame.lane; slots = self.old.frame.locals.items })
-            self.old.recorder self.new.recorder (ending_of finish)) self.new.recorder result }
+        ensures made { Finishes (MadeBody arrays.now (record { team = team_of team.now; lane = self.old.frame.lane; slots = self.old.frame.locals.items })
+            self.old.recorder self.new.recorder) self.new.recorder result }
         ensures same { Keeps self.old.recorder self.new.recorder }
         ensures lane { self.new.frame.lane ≡ self.old.frame.lane }
         ensures span { self.new.frame.span ≡ self.old.frame.span }
@@ -381,12 +384,11 @@ impl<L: Log> Lane<L> {
         gate.enter(usize::from(self.frame.lane));
         self.recorder.start(alloc)?;
         let (stmt, rest) = parted(&team.body.stmts);
-        self.worksharing(alloc, arrays, words, stmt, rest, gate)?;
-        self.recorder.put(alloc, &event(Kind::End, team.end, 0))
+        self.worksharing(alloc, arrays, words, stmt, rest)
     }
 
-    /// Executes the task, and hands its last records to the log, but not after trouble.
-    pub fn run<G: Gate>(
+    /// Executes the phase up to the loop's barrier. Where it stops, the last records are handed to the log, but not after trouble.
+    fn begin<G: Gate>(
         &mut self,
         alloc: Global,
         arrays: &[Array],
@@ -399,15 +401,93 @@ impl<L: Log> Lane<L> {
         requires one { IsOneLoop (team_of team.now).body }
         requires chunked { HasChunks (team_of team.now).body }
         requires span { self.old.frame.span ≡ team.now.span }
-        requires fresh { IsFresh self.old.recorder }
-        requires size { IsBufferSize self.old.recorder.size }
-        ensures ran { EndsTask arrays.now (record { team = team_of team.now; lane = self.old.frame.lane; slots = self.old.frame.locals.items })
+        ensures begins { Begins arrays.now (record { team = team_of team.now; lane = self.old.frame.lane; slots = self.old.frame.locals.items })
             self.old.recorder self.new.recorder result }
         ensures same { Keeps self.old.recorder self.new.recorder }
         ensures lane { self.new.frame.lane ≡ self.old.frame.lane }
         ensures span { self.new.frame.span ≡ self.old.frame.span }
     {
-        let outcome = self.task(alloc, arrays, words, team, gate);
+        match self.body(alloc, arrays, words, team, gate) {
+            Ok(()) => Ok(()),
+            Err(why) => self.recorder.finish(alloc, Err(why)),
+        }
+    }
+
+    /// Puts the End record, and hands the last records to the log, but not after trouble.
+    fn end(&mut self, alloc: Global, line: u32) -> Result<(), Stop>
+        ensures ends { EndsWith (state.event kind.End line 0 0) self.old.recorder self.new.recorder result }
+        ensures same { Keeps self.old.recorder self.new.recorder }
+        ensures frame { self.new.frame ≡ self.old.frame }
+    {
+        let outcome = self.recorder.put(alloc, &event(Kind::End, line, 0));
         self.recorder.finish(alloc, outcome)
+    }
+
+    /// Executes the whole task of a lane that waits for no other.
+    fn run<G: Gate>(
+        &mut self,
+        alloc: Global,
+        arrays: &[Array],
+        words: &mut [u64],
+        team: &Team,
+        gate: &G,
+    ) -> Result<(), Stop>
+        requires placed { ArePlaced arrays.now (length words.old) }
+        requires within { self.old.frame.lane < self.old.frame.span }
+        requires one { IsOneLoop (team_of team.now).body }
+        requires chunked { HasChunks (team_of team.now).body }
+        requires span { self.old.frame.span ≡ team.now.span }
+        ensures runs { Runs arrays.now (record { team = team_of team.now; lane = self.old.frame.lane; slots = self.old.frame.locals.items })
+            self.old.recorder self.new.recorder result }
+        ensures same { Keeps self.old.recorder self.new.recorder }
+        ensures lane { self.new.frame.lane ≡ self.old.frame.lane }
+        ensures span { self.new.frame.span ≡ self.old.frame.span }
+    {
+        self.begin(alloc, arrays, words, team, gate)?;
+        self.end(alloc, team.end)
+    }
+
+    /// Hands the last records to the log, after the stop of another lane. Want of memory alone goes before that stop.
+    fn shut(&mut self, alloc: Global) -> Result<(), Stop>
+        ensures shuts { Shuts self.old.recorder self.new.recorder result }
+        ensures same { Keeps self.old.recorder self.new.recorder }
+        ensures frame { self.new.frame ≡ self.old.frame }
+    {
+        match self.recorder.close(alloc) {
+            Err(Trouble::Memory) => Err(Stop::Trouble(Trouble::Memory)),
+            Ok(()) | Err(Trouble::Failed) => Ok(()),
+        }
+    }
+
+    /// Does what a pass over the team's lanes does with each. The gate sees the lane start each phase.
+    pub fn pass<G: Gate>(
+        &mut self,
+        pass: Pass,
+        alloc: Global,
+        arrays: &[Array],
+        words: &mut [u64],
+        team: &Team,
+        gate: &G,
+    ) -> Result<(), Stop>
+        requires placed { ArePlaced arrays.now (length words.old) }
+        requires within { self.old.frame.lane < self.old.frame.span }
+        requires one { IsOneLoop (team_of team.now).body }
+        requires chunked { HasChunks (team_of team.now).body }
+        requires span { self.old.frame.span ≡ team.now.span }
+        ensures does { Does pass arrays.now (record { team = team_of team.now; lane = self.old.frame.lane; slots = self.old.frame.locals.items })
+            self.old.recorder self.new.recorder result }
+        ensures same { Keeps self.old.recorder self.new.recorder }
+        ensures lane { self.new.frame.lane ≡ self.old.frame.lane }
+        ensures span { self.new.frame.span ≡ self.old.frame.span }
+    {
+        match pass {
+            Pass::Whole => self.run(alloc, arrays, words, team, gate),
+            Pass::First => self.begin(alloc, arrays, words, team, gate),
+            Pass::Last => {
+                gate.enter(usize::from(self.frame.lane));
+                self.end(alloc, team.end)
+            }
+            Pass::Shut => self.shut(alloc),
+        }
     }
 }

@@ -1,5 +1,5 @@
 //! The records of one task, on their way to its log.
-ghost use Rattle.std.specs.Prelude.{◌≡◌, ◌+◌, ◌-◌, ◌<◌, ◌↔◌, [], ◌∷◌, ◌++◌, length, OnOk, OnErr, IfOk, IfErr, IsTrue};
+ghost use Rattle.std.specs.Prelude.{◌≡◌, ◌+◌, ◌-◌, ◌<◌, ◌≤◌, ◌↔◌, [], ◌∷◌, ◌++◌, length, OnOk, OnErr, IfOk, IfErr, IsTrue};
 ghost use Rattle.std.specs.Option.{option_map};
 ghost use Rattle.log_format.specs.Spelling.{spelling};
 ghost use Rattle.team_runner.specs.Written.{Keeps, Begun, Flushed, Closed, HasFault};
@@ -118,6 +118,7 @@ impl<L: Log> Recorder<L> {
     fn flush(&mut self, alloc: Global) -> Result<(), Trouble>
         ensures done { OnOk result (Flushed self.old self.new) }
         ensures same { Keeps self.old self.new }
+        ensures later { self.old.faults ≤ self.new.faults }
         ensures fault { IfErr result (λ trouble. HasFault trouble self.new) }
     {
         let outcome = self.log.append(alloc, &self.buffer);
@@ -136,6 +137,8 @@ impl<L: Log> Recorder<L> {
     pub fn close(&mut self, alloc: Global) -> Result<(), Trouble>
         ensures closed { OnOk result (Closed self.old self.new) }
         ensures same { Keeps self.old self.new }
+        ensures nothing { self.old.buffer ≡ [] → self.new ≡ self.old }
+        ensures later { self.old.faults ≤ self.new.faults }
         ensures fault { IfErr result (λ trouble. HasFault trouble self.new) }
     {
         if self.is_clear() {

@@ -191,7 +191,7 @@ impl<L: Log> Run<L> {
         ensures finished { OnOk result (HasRun (program_of kernel.now) self.old.root.dir size self.old.root.text
             (map logged (all_logs self.new.root self.new.lanes.items))) }
         ensures stopped { IfErr result (λ halt. StopsSo (HasStoppedRun (program_of kernel.now) self.old.root.dir size self.old.root.text
-            (map logged (all_logs self.new.root self.new.lanes.items)) halt.path) halt.why) }
+            (map faulty (all_logs self.new.root self.new.lanes.items)) (map logged (all_logs self.new.root self.new.lanes.items)) halt.path) halt.why) }
         ensures kept { (self.new.words ≡ self.old.words) ⊎ (length self.new.words.items ≡ elements kernel.now.arrays) }
         ensures first { AreFirst (program_of kernel.now) (map logged (all_logs self.new.root self.new.lanes.items)) }
         ensures own { All (λ h. IsOwnLog self.old.root.dir (is_some self.old.root.text) (logged h)) (all_logs self.new.root self.new.lanes.items) }
@@ -272,7 +272,8 @@ fn answer<L: Log>(
     }
 }
 
-/// Runs a kernel of the first kind: the root puts its Region record, the lanes run one after another, and the root ends.
+/// Runs a kernel of the first kind: the root puts its Region record, the lanes run one after another in each phase, and the root
+/// ends.
 /// The buffer of each log has `size` bytes. The gate sees each lane start each of its phases.
 ///
 /// The runtime is for lanes in threads, which there are none of yet.
@@ -295,9 +296,11 @@ pub fn run_kernel<R, L: Log, G: Gate>(
     ensures finished { IfOk result (λ f. HasRun (program_of kernel.now) (L.dir root) size (L.text root) (map (logged_entry L.dir L.path L.text) f.logs.items)) }
     ensures values { IfOk result (λ f. length f.words.items ≡ elements kernel.now.arrays) }
 
-    // A stop of the kernel is that of the least lane that stopped, whose log has its whole trace up to the stop.
+    // A stop of the kernel is that of the least lane that stopped in the first phase in which one did. Its log has its whole trace up
+    // to the stop.
     ensures stopped { IfErr result (λ s. StopsSo
-        (HasStoppedRun (program_of kernel.now) (L.dir root) size (L.text root) (map (logged_entry L.dir L.path L.text) s.logs.items) s.path) s.why) }
+        (HasStoppedRun (program_of kernel.now) (L.dir root) size (L.text root) (map (λ e. (e.0, L.faults e.1)) s.logs.items)
+        (map (logged_entry L.dir L.path L.text) s.logs.items) s.path) s.why) }
 
     // Whatever the stop, each log is its task's. Where memory was found they are those of the first tasks, in order, and each element
     // has a value; else there may be no values.

@@ -1,19 +1,20 @@
 //! The lanes of a team.
-ghost use Rattle.std.specs.Prelude.{◌≡◌, ◌≤◌, ◌↔◌, [], length, All, OnOk, IfOk, IfErr, IsTrue};
+ghost use Rattle.std.specs.Prelude.{◌≡◌, ◌≤◌, ◌↔◌, [], length, All, OnOk, IfOk, IfErr, IsTrue, cond};
 ghost use Rattle.kernel_syntax.specs.FirstKind.{IsOneLoop};
 ghost use Rattle.kernel_syntax.specs.Program.{team_of};
 ghost use Rattle.kernel_syntax.specs.Layout.{ArePlaced};
 ghost use Rattle.team_runner.specs.Ready.{HasChunks};
-ghost use Rattle.team_runner.specs.Team.{EachAt, PairsBelow, IsForked, IsFreshLane, KeepsLane, Ran, AllRan, IsFirstOf};
+ghost use Rattle.team_runner.specs.Lane.{barriers_of};
+ghost use Rattle.team_runner.specs.Team.{EachAt, PairsBelow, IsForked, IsFreshLane, IsLaneOf, KeepsLane, Passed, AllPassed, AllRan, IsFirstOf};
 ghost use Rattle.team_runner.specs.Written.{HasFault};
 ghost use Rattle.team_runner.specs.declared.stop.Stop.TheVariants as stop;
 ghost use Rattle.sw_base.specs.declared.trouble.Trouble.TheVariants as trouble;
 
 use crate::frame::Frame;
-use crate::lane::Lane;
+use crate::lane::{Lane, Pass, parted};
 use crate::recorder::Recorder;
 use crate::stop::Stop;
-use kernel_syntax::{Array, Team};
+use kernel_syntax::{Array, Stmt, Team};
 use std::alloc::{AllocError, Global};
 use sw_base::{Gate, Log, Path, Trouble};
 
@@ -124,8 +125,21 @@ fn first_stop(first: Option<Halt>, later: Option<Halt>) -> Option<Halt>
     }
 }
 
-/// Runs a lane, and answers its stop.
-fn run_lane<L: Log, G: Gate>(
+/// Whether a barrier stands at the end of the loop that the team's lanes share.
+fn waits(team: &Team) -> bool
+    requires { IsOneLoop (team_of team.now).body }
+    ensures { barriers_of (team_of team.now).body ≡ cond result 1 0 }
+{
+    let (stmt, _) = parted(&team.body.stmts);
+    let Stmt::For { nowait, .. } = stmt else {
+        unreachable!()
+    };
+    !*nowait
+}
+
+/// Does what a pass does with a lane, and answers its stop.
+fn pass_lane<L: Log, G: Gate>(
+    pass: Pass,
     alloc: Global,
     arrays: &[Array],
     words: &mut [u64],
@@ -136,11 +150,11 @@ fn run_lane<L: Log, G: Gate>(
     requires placed { ArePlaced arrays.now (length words.old) }
     requires one { IsOneLoop (team_of team.now).body }
     requires chunked { HasChunks (team_of team.now).body }
-    requires lane { IsFreshLane (team_of team.now) lane.old }
-    ensures ran { Ran arrays.now (team_of team.now) lane.old lane.new result }
+    requires lane { IsLaneOf (team_of team.now) lane.old }
+    ensures passed { Passed pass arrays.now (team_of team.now) lane.old lane.new result }
     ensures same { KeepsLane lane.old lane.new }
 {
-    match lane.run(alloc, arrays, words, team, gate) {
+    match lane.pass(pass, alloc, arrays, words, team, gate) {
         Ok(()) => None,
         Err(why) => {
             let path = Path::root().child(0, lane.frame.lane, lane.frame.span);
@@ -149,8 +163,33 @@ fn run_lane<L: Log, G: Gate>(
     }
 }
 
-/// Runs each lane to its end or stop, one after another. Answers the stop of the least lane that stopped, but want of memory
-/// goes first.
+/// Makes a pass over the lanes, one after another. Answers the stop of the least lane that stopped, but want of memory goes
+/// first.
+fn pass_lanes<L: Log, G: Gate>(
+    pass: Pass,
+    alloc: Global,
+    arrays: &[Array],
+    words: &mut [u64],
+    team: &Team,
+    lanes: &mut [Lane<L>],
+    gate: &G,
+) -> Option<Halt>
+    requires placed { ArePlaced arrays.now (length words.old) }
+    requires one { IsOneLoop (team_of team.now).body }
+    requires chunked { HasChunks (team_of team.now).body }
+    requires lanes { All (IsLaneOf (team_of team.now)) lanes.old }
+    ensures passed { AllPassed (Passed pass arrays.now (team_of team.now)) lanes.old lanes.new (length lanes.old) result }
+    ensures same { PairsBelow (length lanes.old) KeepsLane lanes.old lanes.new }
+{
+    let mut first = None;
+    for lane in lanes.iter_mut() {
+        first = first_stop(first, pass_lane(pass, alloc, arrays, words, team, lane, gate));
+    }
+    first
+}
+
+/// Runs the lanes, phase after phase. No phase starts after one in which a lane stopped. Answers the stop of the least lane that
+/// stopped, but want of memory goes first.
 pub fn run_lanes<L: Log, G: Gate>(
     alloc: Global,
     arrays: &[Array],
@@ -166,9 +205,16 @@ pub fn run_lanes<L: Log, G: Gate>(
     ensures ran { AllRan arrays.now (team_of team.now) lanes.old lanes.new (length lanes.old) result }
     ensures same { PairsBelow (length lanes.old) KeepsLane lanes.old lanes.new }
 {
-    let mut first = None;
-    for lane in lanes.iter_mut() {
-        first = first_stop(first, run_lane(alloc, arrays, words, team, lane, gate));
+    if !waits(team) {
+        return pass_lanes(Pass::Whole, alloc, arrays, words, team, lanes, gate);
     }
-    first
+    match pass_lanes(Pass::First, alloc, arrays, words, team, lanes, gate) {
+        None => pass_lanes(Pass::Last, alloc, arrays, words, team, lanes, gate),
+        Some(halt) => {
+            match pass_lanes(Pass::Shut, alloc, arrays, words, team, lanes, gate) {
+                None => Some(halt),
+                Some(want) => Some(want),
+            }
+        }
+    }
 }
