@@ -52,12 +52,16 @@ module _ {X : Type 0} (dir : X → List ℕ) (path : X → List Step) (text : X 
   faulty_entries (e ∷ es) = ap (λ (counts : List (List Step × ℕ)). faulty (entry dir path text faults e) ∷ counts) (faulty_entries es)
 
   -- where the stop is another one than want of memory, these are all logs
-  pub stopped_entries : (P : List Logged → List Step → model.Stop → ℕ → Type 0) (all : List Handed) (es : List (List Step × X × ℕ)) (at : List Step) (why : Stop) →
-      (why ≢ stop.Trouble trouble.Memory → StopsSo (P (map logged all) at) why) → (why ≢ stop.Trouble trouble.Memory → map (entry dir path text faults) es ≡ all) →
-      StopsSo (P (map (λ e. record { task = e.0; dir = dir e.1; path = path e.1; told = outline (text e.1); count = e.2 }) es) at) why
+  pub stopped_entries : (P : List (List Step × ℕ) → List Logged → List Step → model.Stop → ℕ → Type 0) (all : List Handed) (es : List (List Step × X × ℕ)) (at : List Step)
+      (why : Stop) → (why ≢ stop.Trouble trouble.Memory → StopsSo (P (map faulty all) (map logged all) at) why) →
+      (why ≢ stop.Trouble trouble.Memory → map (entry dir path text faults) es ≡ all) →
+      StopsSo (P (map (λ e. (e.0, faults e.1)) es) (map (λ e. record { task = e.0; dir = dir e.1; path = path e.1; told = outline (text e.1); count = e.2 }) es) at) why
   stopped_entries P all es at why stops are =
-      stops_unless (P (map (λ e. record { task = e.0; dir = dir e.1; path = path e.1; told = outline (text e.1); count = e.2 }) es) at) why
-      (λ other. subst (λ logs. StopsSo (P logs at) why) (sym (ap (map logged) (are other)) ∙ logged_entries es) (stops other))
+      stops_unless (P (map (λ e. (e.0, faults e.1)) es) (map (λ e. record { task = e.0; dir = dir e.1; path = path e.1; told = outline (text e.1); count = e.2 }) es) at) why
+      (λ other.
+      subst (λ counts. StopsSo (P counts (map (λ e. record { task = e.0; dir = dir e.1; path = path e.1; told = outline (text e.1); count = e.2 }) es) at) why)
+      (sym (ap (map faulty) (are other)) ∙ faulty_entries es)
+      (subst (λ logs. StopsSo (P (map faulty all) logs at) why) (sym (ap (map logged) (are other)) ∙ logged_entries es) (stops other)))
 
   -- and the cause of a failure is among them
   pub caused_entries : (all : List Handed) (es : List (List Step × X × ℕ)) (at : List Step) (why : Stop) →

@@ -1,17 +1,13 @@
 -- How the lanes of a team ran, by the passes over them.
-use Rattle.std.proofs.Common.{◌≡◌, ◌≢◌, refl, ap, sym, ◌∙◌, subst, ℕ, ◌<◌, ◌≤◌, List, [], ◌∷◌, length, get_or, Option, None, Some, Result, Ok, Err, All, inl, inr, arith}
-use Rattle.sw_base.specs.declared.path.Step.{Step}
-use Rattle.sw_base.specs.declared.trouble.Trouble.TheVariants as trouble
+use Rattle.std.proofs.Common.{◌≡◌, refl, ap, sym, ◌∙◌, subst, ℕ, ◌<◌, List, [], ◌∷◌, length, get_or, Option, None, Some, Result, Ok, Err, All, inl, inr, arith}
 use Rattle.kernel_syntax.specs.declared.syntax.Array.{Array}
 use Rattle.kernel_syntax.specs.Tree.{TeamTree}
 use Rattle.team_runner.specs.declared.lane.Lane.{Lane}
 use Rattle.team_runner.specs.declared.lane.Pass.TheVariants.{Whole, First, Last, Shut}
 use Rattle.team_runner.specs.declared.stop.Stop.{Stop}
-use Rattle.team_runner.specs.declared.stop.Stop.TheVariants as stop
 use Rattle.team_runner.specs.declared.team.Halt.{Halt}
 use Rattle.team_runner.specs.Lane.{EndsTask, barriers_of}
 use Rattle.team_runner.specs.Team.{PairsBelow, IsFreshLane, IsLaneOf, KeepsLane, LaneEnds, Passed, Ran, IsFirst, AllPassed, AllRan, path_of, start_of, lane_step}
-use Rattle.team_runner.specs.Written.{Written}
 use Rattle.team_runner.proofs.Putting.{keeps_chain}
 use Rattle.team_runner.proofs.Tasks.{body_ends, body_waits, runs_whole, shut_stops}
 
@@ -35,9 +31,6 @@ of_team_still team olds mids fresh same_length kept = λ k d lt.
     let old = fresh k d (omega arith) in
     let same = kept k d d (omega arith) in
     record { within = omega (arith, same.lane, same.span, old.of_team.within); span = same.span ∙ old.of_team.span }
-
-pub of_team : {X : Type 0} (team : TeamTree) (olds : List (Lane X)) → All (IsFreshLane team) olds → All (IsLaneOf team) olds
-of_team team olds fresh = λ k d lt. (fresh k d lt).of_team
 
 -- what follows for each lane follows for all
 all_follows : {X : Type 0} (One More : Lane X → Lane X → Option Halt → Type 0) (olds mids news : List (Lane X)) (n : ℕ) →
@@ -85,7 +78,7 @@ module _ {X : Type 0} (arrays : List Array) (team : TeamTree) (olds : List (Lane
       (runs_whole arrays (start_of team old) old.recorder (get_or news k e).recorder is.fresh is.size.least none) o)
       outcome all)
 
-  module _ (mids news : List (Lane X)) (kept : PairsBelow (length olds) KeepsLane olds mids) (kept' : PairsBelow (length olds) KeepsLane mids news) where
+  module _ (mids news : List (Lane X)) (kept : PairsBelow (length olds) KeepsLane olds mids) where
     -- all waited, and then ended or stopped
     pub ran_on : PairsBelow (length olds) (λ old mid. Passed First arrays team old mid None) olds mids → (outcome : Option Halt) →
         AllPassed (Passed Last arrays team) mids news (length olds) outcome → AllRan arrays team olds news (length olds) outcome
@@ -127,8 +120,10 @@ module _ {X : Type 0} (arrays : List Array) (team : TeamTree) (olds : List (Lane
             let mid = get_or mids k d in
             let is = fresh k d below in
             let same = kept k d d below in
-            inr (some,
-            body_waits arrays (start_of team old) old.recorder mid.recorder (get_or news k e).recorder is.fresh is.size.least (first.before other k d d lt) same.log.size (shut k d e below));
+            inr (
+              some,
+              body_waits arrays (start_of team old) old.recorder mid.recorder (get_or news k e).recorder is.fresh is.size.least (first.before other k d d lt) same.log.size (shut k d e below),
+            );
       };
     }
 

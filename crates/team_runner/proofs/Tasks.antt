@@ -11,8 +11,7 @@ use Rattle.kernel_syntax.specs.Tree.{Code, For}
 use Rattle.kernel_syntax.specs.Program.{Program}
 use Rattle.kernel_model.specs.State as model
 use Rattle.kernel_model.specs.Trace.{Start, Ending, Ended, Stopped, log_limit, site_of}
-use Rattle.kernel_model.specs.Value.{Site}
-use Rattle.kernel_model.specs.Effect.{Effect, Finish, Returned, Halted, MakesRun, adds}
+use Rattle.kernel_model.specs.Effect.{Finish, Returned, Halted, MakesRun, adds}
 use Rattle.kernel_model.specs.Folder.{IsTracedTo}
 use Rattle.kernel_model.proofs.RunEffects.{makes-task, makes-full_task, makes-stopped_task}
 use Rattle.kernel_model.proofs.FirstKindShape.{loop_barrier}

@@ -1,5 +1,5 @@
 -- The tasks of a kernel of the first kind, by what its lanes did.
-use Rattle.std.proofs.Common.{◌≡◌, refl, ap, ◌∙◌, subst, ℕ, zero, suc, ◌+◌, ◌<◌, List, [], ◌∷◌, length, map, get_or, arith}
+use Rattle.std.proofs.Common.{◌≡◌, refl, ap, ◌∙◌, subst, ℕ, zero, suc, ◌+◌, ◌<◌, List, [], ◌∷◌, length, map, get_or, inl, inr, ◌⊎◌, arith}
 use Rattle.std.specs.List.{range_with_len}
 use Rattle.log_format.specs.declared.record.Record.{Record}
 use Rattle.kernel_syntax.specs.FirstKind.{region_span}
@@ -10,8 +10,8 @@ use Rattle.kernel_model.specs.Trace.{Start, Ending, Ended}
 use Rattle.kernel_model.specs.FirstTeam.{first_team}
 use Rattle.kernel_model.proofs.FirstKindFolder.{first_lane, first_lanes}
 use Rattle.team_runner.specs.declared.lane.Lane.{Lane}
-use Rattle.team_runner.specs.Answer.{Logged, whole_log}
-use Rattle.team_runner.specs.Lane.{HasTrace}
+use Rattle.team_runner.specs.Answer.{IsFrontOf, Logged, whole_log}
+use Rattle.team_runner.specs.Lane.{HasTrace, HasFrontLog, HasPassed, IsLogOf}
 use Rattle.team_runner.specs.Team.{IsForked, KeepsLane, handed, logged, path_of, start_of, lane_step}
 use Rattle.team_runner.specs.Written.{Written}
 use Rattle.team_runner.proofs.OneLane.{whole_lane}
@@ -25,12 +25,21 @@ region_span_is _ = refl
 abbrev pub span_of : Program → ℕ
 span_of program = (first_team program.main.body).span
 
--- the lane's log is a whole log of its trace, which ends so
-pub record TracedLane {X : Type 0} (program : Program) (root : Written) (size : ℕ) (ending : Ending) (number : ℕ) (lane : Lane X) : Type 0 where
+-- the lane's log is a whole log of its trace, which ends so after so many barriers
+pub record TracedLane {X : Type 0} (program : Program) (root : Written) (size barriers : ℕ) (ending : Ending) (number : ℕ) (lane : Lane X) : Type 0 where
   pub records : List Record
   pub traced : IsTracedTo program (first_lane program number) records ending
+  pub passed : HasPassed program.arrays (first_team program.main.body) barriers records
   pub log : logged (handed (path_of lane) lane.recorder)
       ≡ whole_log root.dir size root.text (record { path = lane_step number (span_of program) ∷ []; records = records })
+
+-- the lane waits after so many barriers: its log is a whole log of the first records of its trace, or it counts a fault
+pub record FrontLane {X : Type 0} (program : Program) (root : Written) (size barriers number : ℕ) (lane : Lane X) : Type 0 where
+  pub records : List Record
+  pub front : IsFrontOf program (first_lane program number) records
+  pub passed : HasPassed program.arrays (first_team program.main.body) barriers records
+  pub log : (logged (handed (path_of lane) lane.recorder)
+      ≡ whole_log root.dir size root.text (record { path = lane_step number (span_of program) ∷ []; records = records })) ⊎ (0 < lane.recorder.faults)
 
 -- the first trace and those after it
 first_trace : (program : Program) (i l : ℕ) (d r : List Record) (rs : List (List Record)) (n : ℕ) → l < suc n → IsTraced program (first_lane program i) r →
@@ -42,18 +51,37 @@ first_trace program i (suc l) d r rs n lt here rest =
     subst (λ k. IsTraced program (first_lane program k) (get_or rs l d)) at (rest l d (omega arith))
 
 module _ {X : Type 0} (program : Program) (root : Written) (size : ℕ) (at_root : root.path ≡ []) where
-  -- a lane whose log is that of its trace, numbered in the kernel
-  pub traced_lane : (number : ℕ) (old new : Lane X) (ending : Ending) → IsForked root (span_of program) program.slots size number old → KeepsLane old new →
-      HasTrace program.arrays (start_of (first_team program.main.body) old) old.recorder new.recorder ending → TracedLane program root size ending number new
-  traced_lane number old new ending forked same has =
-      let start : start_of (first_team program.main.body) old ≡ first_lane program number =
+  -- how such a lane starts
+  lane_start : (number : ℕ) (old : Lane X) → IsForked root (span_of program) program.slots size number old → start_of (first_team program.main.body) old ≡ first_lane program number
+  lane_start number old forked =
       ap (λ n. record { team = first_team program.main.body; lane = n; slots = old.frame.locals.items }) forked.lane_is
-      ∙ ap (λ slots. record { team = first_team program.main.body; lane = number; slots = slots }) forked.locals in
-      record {
-        records = has.records;
-        traced = subst (λ (s : Start). IsTracedTo program s has.records ending) start (has.traced program refl);
-        log = whole_lane root (span_of program) program.slots size at_root number old new forked same has.records has.told has.count;
-      }
+      ∙ ap (λ slots. record { team = first_team program.main.body; lane = number; slots = slots }) forked.locals
+
+  module _ (number barriers : ℕ) (old new : Lane X) (forked : IsForked root (span_of program) program.slots size number old) (same : KeepsLane old new) where
+    -- a lane whose log is that of its trace, numbered in the kernel
+    pub traced_lane : (ending : Ending) → HasTrace program.arrays (start_of (first_team program.main.body) old) barriers old.recorder new.recorder ending →
+        TracedLane program root size barriers ending number new
+    traced_lane ending has = record {
+      records = has.records;
+      traced = subst (λ (s : Start). IsTracedTo program s has.records ending) (lane_start number old forked) (has.traced program refl);
+      passed = has.passed;
+      log = whole_lane root (span_of program) program.slots size at_root number old new forked same has.records has.logged.told has.logged.count;
+    }
+
+    -- and one that waits
+    pub front_lane : HasFrontLog program.arrays (start_of (first_team program.main.body) old) barriers old.recorder new.recorder → FrontLane program root size barriers number new
+    front_lane has = record {
+      records = has.records;
+      front = subst (λ (s : Start). IsFrontOf program s has.records) (lane_start number old forked) (has.front program refl);
+      passed = has.passed;
+      log = log_or has.logged;
+    }
+      where
+        log_or : IsLogOf old.recorder new.recorder has.records ⊎ (0 < new.recorder.faults) →
+            (logged (handed (path_of new) new.recorder)
+            ≡ whole_log root.dir size root.text (record { path = lane_step number (span_of program) ∷ []; records = has.records })) ⊎ (0 < new.recorder.faults)
+        log_or (inl log) = inl (whole_lane root (span_of program) program.slots size at_root number old new forked same has.records log.told log.count)
+        log_or (inr faulty) = inr faulty
 
   -- the logs of some lanes from a number on are those of their traces
   pub record HasTraces (i : ℕ) (lanes : List (Lane X)) : Type 0 where
@@ -63,14 +91,14 @@ module _ {X : Type 0} (program : Program) (root : Written) (size : ℕ) (at_root
     pub logs : map logged (map (λ lane. handed (path_of lane) lane.recorder) lanes) ≡ map (whole_log root.dir size root.text) (first_lanes (span_of program) i records)
 
   -- each lane has its own
-  pub has_traces : (i : ℕ) (lanes : List (Lane X)) → ((l : ℕ) (e : Lane X) → l < length lanes → TracedLane program root size Ended (i + l) (get_or lanes l e)) → HasTraces i lanes
-  has_traces i [] each = record { records = []; count = refl; traced = λ l d lt. absurd (omega arith); logs = refl }
-  has_traces i (lane ∷ lanes) each =
+  pub has_traces : (barriers i : ℕ) (lanes : List (Lane X)) → ((l : ℕ) (e : Lane X) → l < length lanes → TracedLane program root size barriers Ended (i + l) (get_or lanes l e)) → HasTraces i lanes
+  has_traces barriers i [] each = record { records = []; count = refl; traced = λ l d lt. absurd (omega arith); logs = refl }
+  has_traces barriers i (lane ∷ lanes) each =
       let at : i + 0 ≡ i = omega arith in
-      let here = subst (λ k. TracedLane program root size Ended k lane) at (each 0 lane (omega arith)) in
-      let rest = has_traces (i + 1) lanes (λ l e lt.
+      let here = subst (λ k. TracedLane program root size barriers Ended k lane) at (each 0 lane (omega arith)) in
+      let rest = has_traces barriers (i + 1) lanes (λ l e lt.
       let next : i + suc l ≡ i + 1 + l = omega arith in
-      subst (λ k. TracedLane program root size Ended k (get_or lanes l e)) next (each (suc l) e (omega arith))) in
+      subst (λ k. TracedLane program root size barriers Ended k (get_or lanes l e)) next (each (suc l) e (omega arith))) in
       record {
         records = here.records ∷ rest.records;
         count = ap suc rest.count;

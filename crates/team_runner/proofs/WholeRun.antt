@@ -27,14 +27,16 @@ use Rattle.team_runner.specs.declared.stop.Stop.{Stop}
 use Rattle.team_runner.specs.declared.stop.Stop.TheVariants.{DivZero, Index, LogFull}
 use Rattle.team_runner.specs.declared.stop.Stop.TheVariants as stop
 use Rattle.team_runner.specs.declared.team.Halt.{Halt}
-use Rattle.team_runner.specs.Answer.{Logged, AreFirst, IsOwnLog, HasRun, HasTask, HasStoppedRun, HasFaulty, whole_outline, whole_log, lane_path, task_paths}
-use Rattle.team_runner.specs.Lane.{HasTrace, EndsTask, IsFresh, ending_of}
+use Rattle.team_runner.specs.Answer.{Logged, AreFirst, IsOwnLog, HasRun, HasTask, HasFront, HasStop, IsAhead, ended, waits, HasStoppedRun, HasFaulty, whole_outline, whole_log, lane_path, task_paths}
+use Rattle.team_runner.specs.Lane.{HasTrace, HasFrontLog, HasPassed, EndsTask, IsFresh, barriers_of, ending_of}
 use Rattle.team_runner.specs.Ready.{IsReady, IsBufferSize}
 use Rattle.team_runner.specs.Stops.{StopsSo, Finishes}
-use Rattle.team_runner.specs.Team.{EachAt, PairsBelow, IsForked, IsFreshLane, KeepsLane, Ran, AllRan, IsFirstStop, HasTeam, HasRunTeam, HasPut, ClosesWith, region_record, Handed, handed, all_logs, logged, faulty, path_of, start_of, lane_step}
+use Rattle.team_runner.specs.Team.{EachAt, PairsBelow, IsForked, IsFreshLane, KeepsLane, IsAheadLane, AllRan, IsFirstStop, HasTeam, HasRunTeam, HasPut, ClosesWith, region_record, Handed, handed, all_logs, logged, faulty, path_of, start_of, lane_step}
 use Rattle.team_runner.specs.Written.{Written, Keeps, HasFault}
 use Rattle.team_runner.proofs.OneLane.{task_path, own_lane, fresh_lane, logged_same, tells_mapped}
-use Rattle.team_runner.proofs.Traces.{span_of, region_span_is, TracedLane, traced_lane, has_traces, lane_paths}
+use Rattle.team_runner.proofs.Traces.{span_of, region_span_is, TracedLane, FrontLane, traced_lane, front_lane, has_traces, lane_paths}
+use Rattle.team_runner.proofs.Firsts.{team_loop, team_bounded}
+use Rattle.race_model.specs.Trace.{TaskLog, barrier_count}
 use Rattle.team_runner.proofs.Putting.{adds_chain}
 use Rattle.team_runner.proofs.WholeLog.{whole_told, whole_count}
 use Rattle.kernel_syntax.proofs.Placing.{bounded_arrays_are_placed}
@@ -186,7 +188,8 @@ module _ {X : Type 0} (program : Program) (root : Written) (size : ℕ) (at_root
   -- the lane that made a failure counts a fault
   pub lane_cause : (now : Written) (halt : Halt) → IsFirstStop program.arrays (first_team program.main.body) team.forked news (length team.forked) halt →
       halt.why ≡ stop.Trouble trouble.Failed → HasFaulty (map faulty (all_logs now news)) halt.path
-  lane_cause now halt first failed =
+  lane_cause now halt stops failed =
+      let first = stops.first in
       let within : first.lane < length news = omega arith in
       let e = an_element news first.lane within in
       let old : Lane X = get_or team.forked first.lane e in
@@ -197,7 +200,7 @@ module _ {X : Type 0} (program : Program) (root : Written) (size : ℕ) (at_root
         count = new.recorder.faults;
         logged = lane_seen faulty now first.lane e (halt.path, new.recorder.faults) within (ap (λ (p : List Step). (p, new.recorder.faults)) path);
         some =
-            subst (λ (why : Stop). EndsTask program.arrays (start_of (first_team program.main.body) old) old.recorder new.recorder (Err why)) failed halts.stopped;
+            subst (λ (why : Stop). EndsTask program.arrays (start_of (first_team program.main.body) old) stops.barriers old.recorder new.recorder (Err why)) failed halts.stopped;
       }
 
   -- the root counts its own
@@ -207,27 +210,107 @@ module _ {X : Type 0} (program : Program) (root : Written) (size : ℕ) (at_root
 
   module _ (ready : IsReady program) (all : length team.forked ≡ span_of program) where
     -- the log of a lane is that of its trace
-    traced_at : (k : ℕ) (d e : Lane X) (ending : Ending) → k < length news →
-        HasTrace program.arrays (start_of (first_team program.main.body) (get_or team.forked k d)) (get_or team.forked k d).recorder (get_or news k e).recorder ending →
-        TracedLane program root size ending k (get_or news k e)
-    traced_at k d e ending lt has =
+    traced_at : (k barriers : ℕ) (d e : Lane X) (ending : Ending) → k < length news →
+        HasTrace program.arrays (start_of (first_team program.main.body) (get_or team.forked k d)) barriers (get_or team.forked k d).recorder (get_or news k e).recorder ending →
+        TracedLane program root size barriers ending k (get_or news k e)
+    traced_at k barriers d e ending lt has =
         let within : k < length team.forked = omega arith in
-        traced_lane program root size at_root k (get_or team.forked k d) (get_or news k e) ending (team.are_forked k d within) (team.same k d e within) has
+        traced_lane program root size at_root k barriers (get_or team.forked k d) (get_or news k e) (team.are_forked k d within) (team.same k d e within) ending has
 
-    -- a lane's task has its log
-    has_task : (now : Written) (k : ℕ) (e : Lane X) (ending : Ending) → k < length news → TracedLane program root size ending k (get_or news k e) →
-        HasTask program (λ task. Contains (map logged (all_logs now news)) (whole_log root.dir size root.text task)) (lane_path program k) ending
-    has_task now k e ending lt lane =
-        subst (λ n. HasTask program (λ task. Contains (map logged (all_logs now news)) (whole_log root.dir size root.text task)) (lane_step k n ∷ []) ending)
-        (sym (region_span_is program.main.body))
-        (record {
-          start = first_lane program k;
-          starts = λ logs. first_starts program ready.first logs k (omega arith);
-          records = lane.records;
-          traced = lane.traced;
-          logged =
-              lane_seen logged now k e (whole_log root.dir size root.text (record { path = lane_step k (span_of program) ∷ []; records = lane.records })) lt lane.log;
-        })
+    -- or it waits
+    front_at : (k barriers : ℕ) (d e : Lane X) → k < length news →
+        HasFrontLog program.arrays (start_of (first_team program.main.body) (get_or team.forked k d)) barriers (get_or team.forked k d).recorder (get_or news k e).recorder →
+        FrontLane program root size barriers k (get_or news k e)
+    front_at k barriers d e lt has =
+        let within : k < length team.forked = omega arith in
+        front_lane program root size at_root k barriers (get_or team.forked k d) (get_or news k e) (team.are_forked k d within) (team.same k d e within) has
+
+    -- so many of its records are barriers
+    passed_is : (barriers : ℕ) (records : List Record) → HasPassed program.arrays (first_team program.main.body) barriers records → barrier_count records ≡ barriers
+    passed_is barriers records passed =
+        let main = program.main.body in
+        passed (elements program.arrays) (bounded_arrays_are_placed program ready.bounded) (team_loop main ready.first.one_region)
+        (team_bounded main ready.first.one_region ready.bounded.body)
+
+    module _ (now : Written) where
+      abbrev HasLog : TaskLog → Type 0
+      HasLog task = Contains (map logged (all_logs now news)) (whole_log root.dir size root.text task)
+
+      abbrev HasPart : TaskLog → Type 0
+      HasPart task = HasLog task ⊎ HasFaulty (map faulty (all_logs now news)) task.path
+
+      -- a task that ended or stopped so after so many barriers
+      abbrev Counted : List Step → Ending → ℕ → Type 0
+      Counted path ending barriers = (task : HasTask program HasLog path ending) × (barrier_count task.records ≡ barriers)
+
+      -- a lane's task has its log
+      has_task : (k barriers : ℕ) (e : Lane X) (ending : Ending) → k < length news → TracedLane program root size barriers ending k (get_or news k e) →
+          Counted (lane_path program k) ending barriers
+      has_task k barriers e ending lt lane =
+          subst (λ n. Counted (lane_step k n ∷ []) ending barriers) (sym (region_span_is program.main.body)) (
+            record {
+              start = first_lane program k;
+              starts = λ logs. first_starts program ready.first logs k (omega arith);
+              records = lane.records;
+              traced = lane.traced;
+              logged =
+                  lane_seen logged now k e (whole_log root.dir size root.text (record { path = lane_step k (span_of program) ∷ []; records = lane.records })) lt lane.log;
+            },
+            passed_is barriers lane.records lane.passed,
+          )
+
+      -- that of a lane that waits, or a fault is counted
+      has_front : (k barriers passed : ℕ) (e : Lane X) → k < length news → barriers < passed → FrontLane program root size passed k (get_or news k e) →
+          HasFront program HasPart (lane_path program k) barriers
+      has_front k barriers passed e lt more lane =
+          let count = passed_is passed lane.records lane.passed in
+          subst (λ n. HasFront program HasPart (lane_step k n ∷ []) barriers) (sym (region_span_is program.main.body))
+          (record {
+            start = first_lane program k;
+            starts = λ logs. first_starts program ready.first logs k (omega arith);
+            records = lane.records;
+            front = lane.front;
+            passed = omega (arith, count, more);
+            logged = log_or lane.log;
+          })
+        where
+          log_or : (logged (handed (path_of (get_or news k e)) (get_or news k e).recorder)
+              ≡ whole_log root.dir size root.text (record { path = lane_step k (span_of program) ∷ []; records = lane.records })) ⊎ (0 < (get_or news k e).recorder.faults) →
+              HasPart (record { path = lane_step k (span_of program) ∷ []; records = lane.records })
+          log_or (inl log) = inl (lane_seen logged now k e (whole_log root.dir size root.text (record { path = lane_step k (span_of program) ∷ []; records = lane.records })) lt log)
+          log_or (inr faults) = inr (record {
+            count = (get_or news k e).recorder.faults;
+            logged =
+                lane_seen faulty now k e (lane_step k (span_of program) ∷ [], (get_or news k e).recorder.faults) lt
+                (ap (λ (p : List Step). (p, (get_or news k e).recorder.faults)) (path_at k e lt));
+            some = faults;
+          })
+
+      -- a lane that is ahead of a stop
+      is_ahead : (k barriers : ℕ) (d e : Lane X) → k < length news →
+          IsAheadLane program.arrays (first_team program.main.body) barriers (get_or team.forked k d) (get_or news k e) →
+          IsAhead program HasLog HasPart (lane_path program k) barriers
+      is_ahead k barriers d e lt (inl (le, ran)) =
+          let passed = barriers_of (first_team program.main.body).body in
+          let task = has_task k passed e Ended lt (traced_at k passed d e Ended lt ran) in
+          ended task.0 (omega (arith, le, task.1))
+      is_ahead k barriers d e lt (inr (more, has)) =
+          let passed = barriers_of (first_team program.main.body).body in
+          waits (has_front k barriers passed e lt more (front_at k passed d e lt has))
+
+      -- a lane that stopped so, and each before it is ahead of it
+      has_stop : (k barriers : ℕ) (path : List Step) (m : model.Stop) (line : ℕ) → k < region_span program.main.body → path ≡ lane_path program k →
+          Counted (lane_path program k) (Stopped m line) barriers → ((other : ℕ) → other < k → IsAhead program HasLog HasPart (lane_path program other) barriers) →
+          HasStop program HasLog HasPart path m line
+      has_stop k barriers path m line within is task before =
+          subst (λ p. HasStop program HasLog HasPart p m line) (sym is)
+          (record {
+            lane = k;
+            within = within;
+            path_is = refl;
+            stopped = task.0;
+            before = λ other lt. subst (λ n. IsAhead program HasLog HasPart (lane_path program other) n) (sym task.1) (before other lt);
+          })
 
     -- the logs are those of all tasks
     all_paths : (now : Written) → map (λ (log : Logged). log.task) (map logged (all_logs now news)) ≡ task_paths program
@@ -237,10 +320,11 @@ module _ {X : Type 0} (program : Program) (root : Written) (size : ℕ) (at_root
         ∙ ap (λ n. map (λ l. lane_step l (span_of program) ∷ []) (below n)) (team.same_length ∙ all)
         ∙ ap (λ n. map (λ l. lane_step l n ∷ []) (below n)) (sym (region_span_is program.main.body)))
 
-    -- A run stops as its least lane that stopped.
+    -- A run stops as the least lane that stopped in its last phase.
     pub stopped_run : (now : Written) (halt : Halt) → IsFirstStop program.arrays (first_team program.main.body) team.forked news (length team.forked) halt →
-        StopsSo (HasStoppedRun program root.dir size root.text (map logged (all_logs now news)) halt.path) halt.why
-    stopped_run now halt first =
+        StopsSo (HasStoppedRun program root.dir size root.text (map faulty (all_logs now news)) (map logged (all_logs now news)) halt.path) halt.why
+    stopped_run now halt stops =
+        let first = stops.first in
         let within : first.lane < length news = omega arith in
         let e = an_element news first.lane within in
         let halts = first.halts e e in
@@ -249,23 +333,16 @@ module _ {X : Type 0} (program : Program) (root : Written) (size : ℕ) (at_root
         let path : halt.path ≡ lane_path program first.lane =
         halts.path_is ∙ sym (kept_path first.lane e within) ∙ path_at first.lane e within
         ∙ ap (λ n. lane_step first.lane n ∷ []) (sym span_is) in
-        at_stop (HasStoppedRun program root.dir size root.text (map logged (all_logs now news)) halt.path)
-        (HasTrace program.arrays (start_of (first_team program.main.body) (get_or team.forked first.lane e)) (get_or team.forked first.lane e).recorder (get_or news first.lane e).recorder)
-        (get_or news first.lane e).recorder (PairsBelow first.lane (λ old new. Ran program.arrays (first_team program.main.body) old new None) team.forked news)
+        at_stop (HasStoppedRun program root.dir size root.text (map faulty (all_logs now news)) (map logged (all_logs now news)) halt.path)
+        (HasTrace program.arrays (start_of (first_team program.main.body) (get_or team.forked first.lane e)) stops.barriers (get_or team.forked first.lane e).recorder (get_or news first.lane e).recorder)
+        (get_or news first.lane e).recorder (PairsBelow first.lane (IsAheadLane program.arrays (first_team program.main.body) stops.barriers) team.forked news)
         halt.why halts.stopped first.before
         (λ m line has before. record {
           all = all_paths now;
-          stop = record {
-            lane = first.lane;
-            within = lane_span;
-            path_is = path;
-            stopped =
-                subst (λ p. HasTask program (λ task. Contains (map logged (all_logs now news)) (whole_log root.dir size root.text task)) p (Stopped m line)) (sym path)
-                (has_task now first.lane e (Stopped m line) within (traced_at first.lane e e (Stopped m line) within has));
-            before = λ other lt.
-                let within_other : other < length news = omega arith in
-                has_task now other e Ended within_other (traced_at other e e Ended within_other (before other e e lt));
-          };
+          stop =
+              has_stop now first.lane stops.barriers halt.path m line lane_span path
+              (has_task now first.lane stops.barriers e (Stopped m line) within (traced_at first.lane stops.barriers e e (Stopped m line) within has))
+              (λ other lt. is_ahead now other stops.barriers e e (omega arith) (before other e e lt));
         })
 
     -- the root's log is that of its two records
@@ -290,11 +367,12 @@ module _ {X : Type 0} (program : Program) (root : Written) (size : ℕ) (at_root
         AllRan program.arrays (first_team program.main.body) team.forked news (length team.forked) None →
         HasRun program root.dir size root.text (map logged (all_logs now news))
     finished_run put now fresh room size_is kept keeps has closes ran =
+        let barriers = barriers_of (first_team program.main.body).body in
         let each = λ (l : ℕ) (e : Lane X) (lt : l < length news).
         let at : l ≡ 0 + l = omega arith in
         let within : l < length team.forked = omega arith in
-        subst (λ k. TracedLane program root size Ended k (get_or news l e)) at (traced_at l e e Ended lt (ran l e e within)) in
-        let traces = has_traces program root size at_root 0 news each in
+        subst (λ k. TracedLane program root size barriers Ended k (get_or news l e)) at (traced_at l barriers e e Ended lt (ran l e e within)) in
+        let traces = has_traces program root size at_root barriers 0 news each in
         let count : length traces.records ≡ span_of program = traces.count ∙ team.same_length ∙ all in
         let traced = λ (l : ℕ) (d : List Record) (lt : l < span_of program).
         let at : 0 + l ≡ l = omega arith in

@@ -183,7 +183,10 @@ fn pass_lanes<L: Log, G: Gate>(
 {
     let mut first = None;
     for lane in lanes.iter_mut() {
-        first = first_stop(first, pass_lane(pass, alloc, arrays, words, team, lane, gate));
+        first = first_stop(
+            first,
+            pass_lane(pass, alloc, arrays, words, team, lane, gate),
+        );
     }
     first
 }

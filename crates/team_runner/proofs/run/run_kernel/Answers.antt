@@ -29,13 +29,14 @@ pub returns-clause-stopped : goal.returns-clause-stopped
 returns-clause-stopped g c =
     let all = (all_logs c.execute-outcome.new.self.root c.execute-outcome.new.self.lanes.items) in
     if_stopped c.answer.result c.execute-outcome.result (λ (s : Stopped g.row.L.Denot). record { path = s.path; why = s.why })
-    (λ (h : Halt). StopsSo (HasStoppedRun (program_of c.args.kernel.now) c.new-2.result.dir c.args.size c.new-2.result.text (map logged all) h.path) h.why)
+    (λ (h : Halt). StopsSo (HasStoppedRun (program_of c.args.kernel.now) c.new-2.result.dir c.args.size c.new-2.result.text (map faulty all) (map logged all) h.path) h.why)
     (λ s. s.why ≢ stop.Trouble trouble.Memory → map (entry g.L.Log.dir g.L.Log.path g.L.Log.text g.L.Log.faults) s.logs.items ≡ all)
     (λ s. StopsSo (HasStoppedRun (program_of c.args.kernel.now) (g.L.Log.dir c.args.root) c.args.size (g.L.Log.text c.args.root)
+    (map (λ e. (e.0, g.L.Log.faults e.1)) s.logs.items)
     (map (λ e. record { task = e.0; dir = g.L.Log.dir e.1; path = g.L.Log.path e.1; told = outline (g.L.Log.text e.1); count = e.2 }) s.logs.items) s.path) s.why)
     c.answer.ensures.stopped c.execute-outcome.ensures.stopped c.answer.ensures.left_logs
     (λ s stops logs. stopped_entries g.L.Log.dir g.L.Log.path g.L.Log.text g.L.Log.faults (HasStoppedRun (program_of c.args.kernel.now) (g.L.Log.dir c.args.root) c.args.size (g.L.Log.text c.args.root)) all s.logs.items s.path s.why
-    (λ other. subst (λ (w : Written). StopsSo (HasStoppedRun (program_of c.args.kernel.now) w.dir c.args.size w.text (map logged all) s.path) s.why) c.new-2.ensures (stops other)) logs)
+    (λ other. subst (λ (w : Written). StopsSo (HasStoppedRun (program_of c.args.kernel.now) w.dir c.args.size w.text (map faulty all) (map logged all) s.path) s.why) c.new-2.ensures (stops other)) logs)
 
 pub returns-clause-own_logs : goal.returns-clause-own_logs
 returns-clause-own_logs g c =

@@ -1,7 +1,7 @@
 use Rattle.std.proofs.Common.{◌≡◌, ◌<◌, sym, subst, length, arith}
 use Rattle.kernel_syntax.specs.Program.{team_of}
 use Rattle.team_runner.specs.declared.lane.Lane.{Lane}
-use Rattle.team_runner.specs.Team.{KeepsLane, Passed}
+use Rattle.team_runner.specs.Team.{KeepsLane, Passed, AllPassed}
 use Rattle.team_runner.proofs.Lanes.{pairs_more, rest_more, passed_more}
 use Rattle.team_runner.proofs.team.pass_lanes.Goals as goal
 
@@ -16,3 +16,8 @@ loop-lane-preserved g c =
       same = pairs_more c.args.lanes.now c.loop-lane.lanes c.loop-lane.lane-index c.lane-item.result c.pass_lane.new.lane within same_length c.lane-item.is c.loop-lane.invariant.rest KeepsLane c.loop-lane.invariant.same same;
       rest = rest_more c.args.lanes.now c.loop-lane.lanes c.loop-lane.lane-index c.lane-item.result c.pass_lane.new.lane within same_length c.lane-item.is c.loop-lane.invariant.rest;
     }
+
+pub returns-clause-passed : goal.returns-clause-passed
+returns-clause-passed g c =
+    let all : c.loop-lane.lane-index ≡ length c.args.lanes.now = omega arith in
+    subst (λ n. AllPassed (Passed c.args.pass c.args.arrays.now (team_of c.args.team.now)) c.args.lanes.now c.loop-lane.lanes n c.loop-lane.first) all c.loop-lane.invariant.passed

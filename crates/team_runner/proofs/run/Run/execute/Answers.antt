@@ -75,7 +75,7 @@ pub returns-in-Some-clause-stopped : goal.returns-in-Some-clause-stopped
 returns-in-Some-clause-stopped g c =
     let left = subst (λ outcome. HasRunTeam (program_of c.args.kernel.now) c.args.self.now.root c.args.size c.team.new.self.lanes.items outcome) c.in-Some.is c.in_ok-team.ensures.ran in
     let run = subst (λ lanes. HasRunTeam (program_of c.args.kernel.now) c.args.self.now.root c.args.size lanes.items (Some c.in-Some.halt)) (sym c.stop.ensures.lanes) left in
-    stops_after (λ path. HasStoppedRun (program_of c.args.kernel.now) c.args.self.now.root.dir c.args.size c.args.self.now.root.text (map logged (all_logs c.stop.new.self.root c.stop.new.self.lanes.items)) path)
+    stops_after (λ path. HasStoppedRun (program_of c.args.kernel.now) c.args.self.now.root.dir c.args.size c.args.self.now.root.text (map faulty (all_logs c.stop.new.self.root c.stop.new.self.lanes.items)) (map logged (all_logs c.stop.new.self.root c.stop.new.self.lanes.items)) path)
     c.in-Some.halt c.stop.result c.stop.ensures.first
     (stopped_run (program_of c.args.kernel.now) c.args.self.now.root c.args.size c.requires.root c.stop.new.self.lanes.items run.team c.requires.ready run.all c.stop.new.self.root c.in-Some.halt run.ran)
 
