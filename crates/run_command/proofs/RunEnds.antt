@@ -24,12 +24,12 @@ use Rattle.kernel_model.specs.Trace.{Ended, Ending, Stopped}
 use Rattle.team_runner.specs.declared.stop.Stop.{Stop}
 use Rattle.team_runner.specs.declared.stop.Stop.TheVariants.{DivZero, Index, LogFull}
 use Rattle.team_runner.specs.declared.stop.Stop.TheVariants as stop
-use Rattle.team_runner.specs.Answer.{HasRun, HasStop, HasStoppedRun, HasTask, IsOwnLog, IsRun, Logged, whole_log, logged_entry}
+use Rattle.team_runner.specs.Answer.{HasRun, HasStop, HasStoppedRun, HasTask, IsAhead, IsOwnLog, IsRun, Logged, whole_log, logged_entry}
 use Rattle.team_runner.specs.Stops.{StopsSo}
 use Rattle.command_answer.specs.declared.status.TheConstants.{DONE, KERNEL_STOPPED, NO_MEMORY}
 use Rattle.command_answer.specs.Answer.{IsFailure, Prints, Tries, silent}
 use Rattle.run_command.specs.Ends.{EndDue, EndsSo, ran, stop_of, stopped}
-use Rattle.run_command.specs.Run.{AreStopped, EndLeaves, Ran, SealedLog, SealsFront, StoppedRun, ended, index, logs, sealed_log, with_sealed}
+use Rattle.run_command.specs.Run.{AreStopped, EndLeaves, Ran, SealedLog, SealsFront, StoppedRun, index, logs, sealed_log, with_sealed}
 use Rattle.run_command.specs.Run as kinds
 use Rattle.run_command.specs.RunTexts.{run_text, stopped_text}
 use Rattle.run_command.specs.Seals.{AllTell, SealsAll, StoresAll, StoresFront, StoresPart, all_logged, all_sealed, front, part, row_of_entry, rows_of_logs, sealed_of, tasks_of, with_index}
@@ -176,21 +176,29 @@ module _ (program : Program) (dir : List ℕ) (size : ℕ) (root : Text) (all : 
     logged = contains_mapped sealed_of all (whole_log dir size (Some root) (record { path = path; records = has.records })) has.logged;
   }
 
+  -- so is that of a lane which is ahead of a stop
+  ahead_sealed : (HasPart : TaskLog → Type 0) (path : List Step) (barriers : ℕ) → IsAhead program (λ task. Contains all (whole_log dir size (Some root) task)) HasPart path barriers
+      → IsAhead program (λ task. Contains (all_sealed all) (sealed_log size task)) (λ _. Unit {0}) path barriers
+  unfolding task_sealed
+  ahead_sealed HasPart path barriers (ended task few) = ended (task_sealed path Ended task) few
+  ahead_sealed HasPart path barriers (waits front) = waits (record { start = front.start; starts = front.starts; records = front.records; front = front.front; passed = front.passed; logged = tt })
+
   -- the logs of a stop are
-  stop_sealed : (path : List Step) (kind : model.Stop) (line : ℕ) → HasStop program (λ task. Contains all (whole_log dir size (Some root) task)) path kind line
-      → HasStop program (λ task. Contains (all_sealed all) (sealed_log size task)) path kind line
-  stop_sealed path kind line has = record {
+  stop_sealed : (HasPart : TaskLog → Type 0) (path : List Step) (kind : model.Stop) (line : ℕ) → HasStop program (λ task. Contains all (whole_log dir size (Some root) task)) HasPart path kind line
+      → HasStop program (λ task. Contains (all_sealed all) (sealed_log size task)) (λ _. Unit {0}) path kind line
+  unfolding task_sealed
+  stop_sealed HasPart path kind line has = record {
     lane = has.lane;
     within = has.within;
     path_is = has.path_is;
     stopped = task_sealed path (Stopped kind line) has.stopped;
-    before = λ other below. task_sealed _ Ended (has.before other below);
+    before = λ other below. ahead_sealed HasPart _ (barrier_count has.stopped.records) (has.before other below);
   }
 
-  module _ (tell : AllTell dir all) (path : List Step) (kind : model.Stop) (line : ℕ) (has : HasStoppedRun program dir size (Some root) all path kind line) where
+  module _ (tell : AllTell dir all) (path : List Step) (kind : model.Stop) (line : ℕ) (faults : List (List Step × ℕ)) (has : HasStoppedRun program dir size (Some root) faults all path kind line) where
     -- what is sealed of them
     are_stopped : AreStopped program size (all_sealed all) path kind line
-    are_stopped = record { all = sealed_paths dir all tell ∙ has.all; stop = stop_sealed path kind line has.stop }
+    are_stopped = record { all = sealed_paths dir all tell ∙ has.all; stop = stop_sealed _ path kind line has.stop }
 
     -- what is left where sealing was broken off
     left_logs : (old new : Content) → SealsFront dir (all_sealed all) old new → EndLeaves program dir size old new

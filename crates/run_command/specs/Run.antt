@@ -69,10 +69,10 @@ pub record Ran (program : Program) (dir : List ℕ) (size : ℕ) (old new : Cont
   pub text_is : text ≡ run_text tasks program.arrays values
 
 -- The logs of a kernel that stopped so: those of all its tasks, in the order of their paths. The log of the task that stopped has
--- all its records, and those of the lanes before it are whole.
+-- all its records, and those of the lanes before it that ended are whole.
 pub record AreStopped (program : Program) (size : ℕ) (logs : List SealedLog) (path : List Step) (why : model.Stop) (line : ℕ) : Type 0 where
   pub all : map (λ (log : SealedLog). log.path) logs ≡ task_paths program
-  pub stop : HasStop program (λ task. Contains logs (sealed_log size task)) path why line
+  pub stop : HasStop program (λ task. Contains logs (sealed_log size task)) (λ _. Unit {0}) path why line
 
 -- The kernel stopped so: its logs are there, and nothing else changed.
 pub record StoppedRun (program : Program) (dir : List ℕ) (size : ℕ) (old new : Content) (text : List ℕ) : Type 0 where

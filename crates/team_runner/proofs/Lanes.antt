@@ -6,7 +6,7 @@ use Rattle.sw_base.specs.declared.trouble.Trouble.TheVariants as trouble
 use Rattle.team_runner.specs.declared.lane.Lane.{Lane}
 use Rattle.team_runner.specs.declared.team.Halt.{Halt}
 use Rattle.team_runner.specs.declared.stop.Stop.TheVariants as stop
-use Rattle.team_runner.specs.Team.{PairsBelow, AllPassed, IsFirst, IsFirstOf}
+use Rattle.team_runner.specs.Team.{PairsBelow, AllPassed, IsNoWant, StopsFirst, IsFirstOf}
 
 -- the lane at i was taken from a list whose lanes from i on are the old ones, and is a new one now
 module _ {X : Type 0} (olds lanes : List (Lane X)) (i : ℕ) (item new : Lane X) (within : i < length lanes) (same_length : length olds ≡ length lanes)
@@ -42,31 +42,48 @@ module _ {X : Type 0} (olds lanes : List (Lane X)) (i : ℕ) (item new : Lane X)
   rest_more k d le = get_or-set_other lanes i k new d (omega arith) ∙ rest k d (omega arith)
 
   module _ (Ended : Lane X → Lane X → Option Halt → Type 0) where
+    abbrev Ends : Lane X → Lane X → Type 0
+    Ends a b = Ended a b None
+
+    abbrev EndsSo : Lane X → Lane X → Type 0
+    EndsSo a b = (outcome : Option Halt) × IsNoWant outcome × Ended a b outcome
+
     -- an earlier stop stays the first
-    stop_stays : (halt : Halt) → IsFirst Ended (λ a b. Ended a b None) olds lanes i halt → IsFirst Ended (λ a b. Ended a b None) olds (set lanes i new) (i + 1) halt
-    stop_stays halt s = record {
-      lane = s.lane;
-      within = omega arith;
-      halts = λ d e. subst (λ b. Ended (get_or olds s.lane d) b (Some halt)) (other_is s.lane e s.within) (s.halts d e);
-      before = λ other. pairs_before (λ a b. Ended a b None) s.lane (omega arith) (s.before other);
-    }
+    stop_stays : (halt : Halt) (one : Option Halt) → StopsFirst Ended olds lanes i halt → Ended item new one → (halt.why ≢ stop.Trouble trouble.Memory → IsNoWant one) →
+        StopsFirst Ended olds (set lanes i new) (i + 1) halt
+    stop_stays halt one s here no_want =
+        let first = s.first in
+        record {
+          first = record {
+            lane = first.lane;
+            within = omega (arith, first.within);
+            halts = λ d e. subst (λ b. Ended (get_or olds first.lane d) b (Some halt)) (other_is first.lane e first.within) (first.halts d e);
+            before = λ other. pairs_before Ends first.lane (omega (arith, first.within)) (first.before other);
+          };
+          each = λ other. pairs_more EndsSo (s.each other) (one, no_want other, here);
+        }
 
     -- the new lane's stop is the first
-    stop_new : (halt : Halt) → (halt.why ≢ stop.Trouble trouble.Memory → PairsBelow i (λ a b. Ended a b None) olds lanes) →
-        Ended item new (Some halt) → IsFirst Ended (λ a b. Ended a b None) olds (set lanes i new) (i + 1) halt
+    stop_new : (halt : Halt) → (halt.why ≢ stop.Trouble trouble.Memory → PairsBelow i Ends olds lanes) → Ended item new (Some halt) →
+        StopsFirst Ended olds (set lanes i new) (i + 1) halt
     stop_new halt before here = record {
-      lane = i;
-      within = omega arith;
-      halts = at_new (λ a b. Ended a b (Some halt)) here;
-      before = λ other. pairs_before (λ a b. Ended a b None) i (omega arith) (before other);
+      first = record {
+        lane = i;
+        within = omega arith;
+        halts = at_new (λ a b. Ended a b (Some halt)) here;
+        before = λ other. pairs_before Ends i (omega arith) (before other);
+      };
+      each = λ other. pairs_more EndsSo (λ k d e lt. (None, tt, before other k d e lt)) (Some halt, other, here);
     }
 
     -- one lane more
     pub passed_more : (first one result : Option Halt) → AllPassed Ended olds lanes i first → Ended item new one → IsFirstOf first one result →
         AllPassed Ended olds (set lanes i new) (i + 1) result
-    passed_more None None result all here is = subst (AllPassed Ended olds (set lanes i new) (i + 1)) (sym is) (pairs_more (λ a b. Ended a b None) all here)
-    passed_more (Some halt) None result all here is = subst (AllPassed Ended olds (set lanes i new) (i + 1)) (sym is) (stop_stays halt all)
-    passed_more None (Some later) result all here is = subst (AllPassed Ended olds (set lanes i new) (i + 1)) (sym is) (stop_new later (λ other. all) here)
-    passed_more (Some halt) (Some later) result all here (inl is) = subst (AllPassed Ended olds (set lanes i new) (i + 1)) (sym is) (stop_stays halt all)
+    passed_more None None result all here is = subst (AllPassed Ended olds (set lanes i new) (i + 1)) (sym is) (pairs_more Ends all here)
+    passed_more (Some halt) None result all here is = subst (AllPassed Ended olds (set lanes i new) (i + 1)) (sym is) (stop_stays halt None all here (λ other. tt))
+    passed_more None (Some later) result all here is =
+        subst (AllPassed Ended olds (set lanes i new) (i + 1)) (sym is) (stop_new later (λ other. all) here)
+    passed_more (Some halt) (Some later) result all here (inl is) =
+        subst (AllPassed Ended olds (set lanes i new) (i + 1)) (sym is.0) (stop_stays halt (Some later) all here (λ other want. other (is.1 want)))
     passed_more (Some halt) (Some later) result all here (inr is) =
         subst (AllPassed Ended olds (set lanes i new) (i + 1)) (sym is.0) (stop_new later (λ other. absurd (other is.1)) here)

@@ -1,5 +1,5 @@
 -- A lane's task: the body of its team, its End, and its closed log.
-use Rattle.std.proofs.Common.{◌≡◌, refl, ap, sym, ◌∙◌, subst, ℕ, ◌+◌, ◌-◌, ◌<◌, ◌≤◌, nat_lt, Bool, true, false, List, [], ◌∷◌, ◌++◌, length, inl, inr, ◌⊎◌, Result, Ok, Err, append-nil, arith}
+use Rattle.std.proofs.Common.{◌≡◌, ◌≢◌, refl, ap, sym, ◌∙◌, subst, ℕ, ◌+◌, ◌-◌, ◌<◌, ◌≤◌, nat_lt, Bool, true, false, List, [], ◌∷◌, ◌++◌, length, inl, inr, ◌⊎◌, Result, Ok, Err, append-nil, arith}
 use Rattle.std.proofs.lemmas.Bool.Decides.{nat_tests}
 use Rattle.std.proofs.lemmas.List.Sums.{sum_by-append}
 use Rattle.std.specs.Option.{option_map}
@@ -219,6 +219,29 @@ module _ (arrays : List Array) (start : Start) (old mid new : Written) (fresh : 
       closed_or : Closed mid new ⊎ (0 < new.faults) → IsLogOf old new m.made.added ⊎ (0 < new.faults)
       closed_or (inl closed) = inl (log_of old m.begun mid new m.made.added fresh some m.begins m.size m.made.adds_records size closed shut.size)
       closed_or (inr faulty) = inr faulty
+
+  -- a task that ended or stopped so has the first records of its trace
+  whole_front : (ending : Ending) → HasTrace arrays start barriers old new ending → HasFrontLog arrays start barriers old new
+  whole_front ending has = record {
+    records = has.records;
+    front = λ program is. record { rest = []; ending = ending; traced = subst (λ rs. IsTracedTo program start rs ending) (sym (append-nil has.records)) (has.traced program is) };
+    passed = has.passed;
+    logged = inl has.logged;
+  }
+
+  -- however it ended, it passed its barriers
+  pub body_reaches : (result : Result (Unit {0}) Stop) → (result ≢ Err (Trouble trouble.Memory)) → EndsTask arrays start barriers old new result → HasFrontLog arrays start barriers old new
+  body_reaches (Ok v) other has = whole_front Ended has
+  body_reaches (Err (DivZero line)) other has = whole_front (Stopped model.DivZero line) has
+  body_reaches (Err (Index line)) other has = whole_front (Stopped model.Index line) has
+  body_reaches (Err (LogFull line)) other has = whole_front (Stopped model.LogFull line) has
+  body_reaches (Err (Trouble trouble.Memory)) other has = absurd (other refl)
+  body_reaches (Err (Trouble trouble.Failed)) other has = record {
+    records = m.made.added;
+    front = λ program is. front_of program is (nat_lt (length m.made.added) log_limit) refl;
+    passed = body_passed;
+    logged = inr has;
+  }
 
 -- a task without a barrier
 pub runs_whole : (arrays : List Array) (start : Start) (old new : Written) → IsFresh old → 24 ≤ old.size → barriers_of start.team.body ≡ 0 → (result : Result (Unit {0}) Stop) →

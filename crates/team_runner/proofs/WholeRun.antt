@@ -301,8 +301,9 @@ module _ {X : Type 0} (program : Program) (root : Written) (size : ℕ) (at_root
       -- a lane that stopped so, and each before it is ahead of it
       has_stop : (k barriers : ℕ) (path : List Step) (m : model.Stop) (line : ℕ) → k < region_span program.main.body → path ≡ lane_path program k →
           Counted (lane_path program k) (Stopped m line) barriers → ((other : ℕ) → other < k → IsAhead program HasLog HasPart (lane_path program other) barriers) →
+          ((other n : ℕ) → other < region_span program.main.body → n < barriers → HasFront program HasPart (lane_path program other) n) →
           HasStop program HasLog HasPart path m line
-      has_stop k barriers path m line within is task before =
+      has_stop k barriers path m line within is task before reached =
           subst (λ p. HasStop program HasLog HasPart p m line) (sym is)
           (record {
             lane = k;
@@ -310,6 +311,7 @@ module _ {X : Type 0} (program : Program) (root : Written) (size : ℕ) (at_root
             path_is = refl;
             stopped = task.0;
             before = λ other lt. subst (λ n. IsAhead program HasLog HasPart (lane_path program other) n) (sym task.1) (before other lt);
+            reached = λ other n lt fewer. reached other n lt (omega (arith, fewer, task.1));
           })
 
     -- the logs are those of all tasks
@@ -335,14 +337,21 @@ module _ {X : Type 0} (program : Program) (root : Written) (size : ℕ) (at_root
         ∙ ap (λ n. lane_step first.lane n ∷ []) (sym span_is) in
         at_stop (HasStoppedRun program root.dir size root.text (map faulty (all_logs now news)) (map logged (all_logs now news)) halt.path)
         (HasTrace program.arrays (start_of (first_team program.main.body) (get_or team.forked first.lane e)) stops.barriers (get_or team.forked first.lane e).recorder (get_or news first.lane e).recorder)
-        (get_or news first.lane e).recorder (PairsBelow first.lane (IsAheadLane program.arrays (first_team program.main.body) stops.barriers) team.forked news)
-        halt.why halts.stopped first.before
+        (get_or news first.lane e).recorder
+        (PairsBelow first.lane (IsAheadLane program.arrays (first_team program.main.body) stops.barriers) team.forked news
+        × (0 < stops.barriers → PairsBelow (length team.forked)
+        (λ old new. HasFrontLog program.arrays (start_of (first_team program.main.body) old) stops.barriers old.recorder new.recorder) team.forked news))
+        halt.why halts.stopped (λ other. (first.before other, stops.reached other))
         (λ m line has before. record {
           all = all_paths now;
           stop =
               has_stop now first.lane stops.barriers halt.path m line lane_span path
               (has_task now first.lane stops.barriers e (Stopped m line) within (traced_at first.lane stops.barriers e e (Stopped m line) within has))
-              (λ other lt. is_ahead now other stops.barriers e e (omega arith) (before other e e lt));
+              (λ other lt. is_ahead now other stops.barriers e e (omega arith) (before.0 other e e lt))
+              (λ other n lt fewer.
+              let within_other : other < length news = omega arith in
+              has_front now other n stops.barriers e within_other fewer
+              (front_at other stops.barriers e e within_other (before.1 (omega (arith, fewer)) other e e (omega arith))));
         })
 
     -- the root's log is that of its two records

@@ -99,13 +99,16 @@ pub data IsAhead (program : Program) (HasLog HasPart : TaskLog → Type 0) (path
   ended : (task : HasTask program HasLog path Ended) → barrier_count task.records ≤ barriers → IsAhead program HasLog HasPart path barriers
   waits : HasFront program HasPart path barriers → IsAhead program HasLog HasPart path barriers
 
--- The lane of this path stopped so, after all its records, and each lane before it is ahead of the stop.
+-- The lane of this path stopped so, after all its records. Each lane before it is ahead of the stop, and all lanes passed the
+-- barriers that it passed.
 pub record HasStop (program : Program) (HasLog HasPart : TaskLog → Type 0) (path : List Step) (why : model.Stop) (line : ℕ) : Type 0 where
   pub lane : ℕ
   pub within : lane < region_span program.main.body
   pub path_is : path ≡ lane_path program lane
   pub stopped : HasTask program HasLog path (Stopped why line)
   pub before : (other : ℕ) → other < lane → IsAhead program HasLog HasPart (lane_path program other) (barrier_count stopped.records)
+  pub reached : (other barriers : ℕ) → other < region_span program.main.body → barriers < barrier_count stopped.records →
+      HasFront program HasPart (lane_path program other) barriers
 
 -- the log of this task counts a fault
 pub record HasFaulty (faults : List (List Step × ℕ)) (path : List Step) : Type 0 where

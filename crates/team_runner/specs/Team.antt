@@ -104,10 +104,20 @@ pub record IsFirst {X : Type 0} (Ended : Lane X → Lane X → Option Halt → T
   pub halts : (d e : Lane X) → Ended (slice_index_or olds lane d) (slice_index_or news lane e) (Some halt)
   pub before : halt.why ≢ stop.Trouble trouble.Memory → PairsBelow lane Before olds news
 
+-- a stop that is no want of memory
+abbrev pub IsNoWant : Option Halt → Type 0
+IsNoWant None = Unit {0}
+IsNoWant (Some halt) = halt.why ≢ stop.Trouble trouble.Memory
+
+-- One of the first n lanes made this stop, and each lane before it ended. No other stop is want of memory, unless this one is.
+pub record StopsFirst {X : Type 0} (Ended : Lane X → Lane X → Option Halt → Type 0) (olds news : List (Lane X)) (n : ℕ) (halt : Halt) : Type 0 where
+  pub first : IsFirst Ended (λ old new. Ended old new None) olds news n halt
+  pub each : halt.why ≢ stop.Trouble trouble.Memory → PairsBelow n (λ old new. (outcome : Option Halt) × IsNoWant outcome × Ended old new outcome) olds news
+
 -- the first n lanes ended so, or made this stop first
 abbrev pub AllPassed : {X : Type 0} → (Lane X → Lane X → Option Halt → Type 0) → List (Lane X) → List (Lane X) → ℕ → Option Halt → Type 0
 AllPassed Ended olds news n None = PairsBelow n (λ old new. Ended old new None) olds news
-AllPassed Ended olds news n (Some halt) = IsFirst Ended (λ old new. Ended old new None) olds news n halt
+AllPassed Ended olds news n (Some halt) = StopsFirst Ended olds news n halt
 
 -- the lane is ahead of a stop after so many barriers: it ended, and passed no more of them; or it passed more, and waits
 abbrev pub IsAheadLane : {X : Type 0} → List Array → TeamTree → ℕ → Lane X → Lane X → Type 0
@@ -115,10 +125,12 @@ IsAheadLane arrays team barriers old new =
     ((barriers_of team.body ≤ barriers) × Ran arrays team (barriers_of team.body) old new None)
     ⊎ ((barriers < barriers_of team.body) × HasFrontLog arrays (start_of team old) (barriers_of team.body) old.recorder new.recorder)
 
--- one of the first n lanes made this stop, and each lane before it is ahead of it
+-- one of the first n lanes made this stop, each lane before it is ahead of it, and all passed the barriers that it passed
 pub record IsFirstStop {X : Type 0} (arrays : List Array) (team : TeamTree) (olds news : List (Lane X)) (n : ℕ) (halt : Halt) : Type 0 where
   pub barriers : ℕ
   pub first : IsFirst (Ran arrays team barriers) (IsAheadLane arrays team barriers) olds news n halt
+  pub reached : halt.why ≢ stop.Trouble trouble.Memory → 0 < barriers →
+      PairsBelow n (λ old new. HasFrontLog arrays (start_of team old) barriers old.recorder new.recorder) olds news
 
 -- the first n lanes ended, or made this stop first
 abbrev pub AllRan : {X : Type 0} → List Array → TeamTree → List (Lane X) → List (Lane X) → ℕ → Option Halt → Type 0
@@ -147,7 +159,9 @@ region_record program = event kind.Region (first_team program.main.body).line 0 
 abbrev pub IsFirstOf : Option Halt → Option Halt → Option Halt → Type 0
 IsFirstOf first None result = result ≡ first
 IsFirstOf None (Some later) result = result ≡ Some later
-IsFirstOf (Some first) (Some later) result = (result ≡ Some first) ⊎ ((result ≡ Some later) × (later.why ≡ stop.Trouble trouble.Memory))
+IsFirstOf (Some first) (Some later) result =
+    ((result ≡ Some first) × (later.why ≡ stop.Trouble trouble.Memory → first.why ≡ stop.Trouble trouble.Memory))
+    ⊎ ((result ≡ Some later) × (later.why ≡ stop.Trouble trouble.Memory))
 
 -- the log began with its header, and just these records were put since
 pub record HasPut (old new : Written) (records : List Record) : Type 0 where

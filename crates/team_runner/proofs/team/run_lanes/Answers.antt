@@ -2,7 +2,7 @@ use Rattle.std.proofs.Common.{◌<◌, subst, length, None, arith}
 use Rattle.kernel_syntax.specs.Program.{team_of}
 use Rattle.team_runner.specs.declared.lane.Pass.TheVariants.{Last, Shut}
 use Rattle.team_runner.specs.Lane.{barriers_of}
-use Rattle.team_runner.specs.Team.{PairsBelow, KeepsLane, Passed, AllPassed, IsFirst}
+use Rattle.team_runner.specs.Team.{PairsBelow, KeepsLane, Passed, AllPassed, StopsFirst}
 use Rattle.team_runner.proofs.Phases.{keeps_all, of_team_still, ran_whole, ran_on, ran_short, ran_out}
 use Rattle.team_runner.proofs.team.run_lanes.Goals as goal
 
@@ -55,7 +55,7 @@ returns-in-Some-pass_lanes-clause-ran g c =
     let news = c.pass_lanes-in-Some.new.lanes in
     ran_out c.args.arrays.now (team_of c.args.team.now) c.args.lanes.now c.requires.lanes mids news c.pass_lanes-2.ensures.same
     c.in-Some-pass_lanes.want
-    (subst (λ n. IsFirst (Passed Shut c.args.arrays.now (team_of c.args.team.now)) (λ mid new. Passed Shut c.args.arrays.now (team_of c.args.team.now) mid new None) mids news n c.in-Some-pass_lanes.want)
+    (subst (λ n. StopsFirst (Passed Shut c.args.arrays.now (team_of c.args.team.now)) mids news n c.in-Some-pass_lanes.want)
     c.pass_lanes-2.auto.lanes c.in-Some-pass_lanes.ensures.passed)
 
 pub returns-in-Some-pass_lanes-clause-same : goal.returns-in-Some-pass_lanes-clause-same
