@@ -14,7 +14,7 @@ use Rattle.sw_base.specs.Names.{index_name}
 use Rattle.race_model.specs.FirstBad.{IsBad, rows_of}
 use Rattle.race_model.specs.IndexFault.{AreRows}
 use Rattle.race_model.specs.Row.{Row, index_bytes}
-use Rattle.race_model.specs.Trace.{Trace}
+use Rattle.race_model.specs.Trace.{Trace, TaskLog, barrier_count}
 use Rattle.kernel_syntax.specs.FirstKind.{IsFirstKind}
 use Rattle.kernel_syntax.specs.Layout.{elements}
 use Rattle.kernel_syntax.specs.Program.{Program}
@@ -24,12 +24,13 @@ use Rattle.kernel_model.specs.Trace.{Ended, Ending, Stopped}
 use Rattle.team_runner.specs.declared.stop.Stop.{Stop}
 use Rattle.team_runner.specs.declared.stop.Stop.TheVariants.{DivZero, Index, LogFull}
 use Rattle.team_runner.specs.declared.stop.Stop.TheVariants as stop
-use Rattle.team_runner.specs.Answer.{HasRun, HasStop, HasStoppedRun, HasTask, IsAhead, IsOwnLog, IsRun, Logged, whole_log, logged_entry}
+use Rattle.team_runner.specs.Answer.{HasRun, HasStop, HasStoppedRun, HasTask, HasFront, IsAhead, IsOwnLog, IsRun, Logged, whole_log, logged_entry}
+use Rattle.team_runner.specs.Answer as answered
 use Rattle.team_runner.specs.Stops.{StopsSo}
 use Rattle.command_answer.specs.declared.status.TheConstants.{DONE, KERNEL_STOPPED, NO_MEMORY}
 use Rattle.command_answer.specs.Answer.{IsFailure, Prints, Tries, silent}
 use Rattle.run_command.specs.Ends.{EndDue, EndsSo, ran, stop_of, stopped}
-use Rattle.run_command.specs.Run.{AreStopped, EndLeaves, Ran, SealedLog, SealsFront, StoppedRun, index, logs, sealed_log, with_sealed}
+use Rattle.run_command.specs.Run.{AreStopped, EndLeaves, Ran, SealedLog, SealsFront, StoppedRun, ended, index, logs, sealed_log, with_sealed}
 use Rattle.run_command.specs.Run as kinds
 use Rattle.run_command.specs.RunTexts.{run_text, stopped_text}
 use Rattle.run_command.specs.Seals.{AllTell, SealsAll, StoresAll, StoresFront, StoresPart, all_logged, all_sealed, front, part, row_of_entry, rows_of_logs, sealed_of, tasks_of, with_index}
@@ -176,12 +177,16 @@ module _ (program : Program) (dir : List ℕ) (size : ℕ) (root : Text) (all : 
     logged = contains_mapped sealed_of all (whole_log dir size (Some root) (record { path = path; records = has.records })) has.logged;
   }
 
+  -- the first records of a task are what they are
+  front_sealed : (HasPart : TaskLog → Type 0) (path : List Step) (barriers : ℕ) → HasFront program HasPart path barriers → HasFront program (λ _. Unit {0}) path barriers
+  front_sealed HasPart path barriers has = record { start = has.start; starts = has.starts; records = has.records; front = has.front; passed = has.passed; logged = tt }
+
   -- so is that of a lane which is ahead of a stop
   ahead_sealed : (HasPart : TaskLog → Type 0) (path : List Step) (barriers : ℕ) → IsAhead program (λ task. Contains all (whole_log dir size (Some root) task)) HasPart path barriers
       → IsAhead program (λ task. Contains (all_sealed all) (sealed_log size task)) (λ _. Unit {0}) path barriers
   unfolding task_sealed
-  ahead_sealed HasPart path barriers (ended task few) = ended (task_sealed path Ended task) few
-  ahead_sealed HasPart path barriers (waits front) = waits (record { start = front.start; starts = front.starts; records = front.records; front = front.front; passed = front.passed; logged = tt })
+  ahead_sealed HasPart path barriers (answered.ended task few) = answered.ended (task_sealed path Ended task) few
+  ahead_sealed HasPart path barriers (answered.waits has) = answered.waits (front_sealed HasPart path barriers has)
 
   -- the logs of a stop are
   stop_sealed : (HasPart : TaskLog → Type 0) (path : List Step) (kind : model.Stop) (line : ℕ) → HasStop program (λ task. Contains all (whole_log dir size (Some root) task)) HasPart path kind line
@@ -193,6 +198,7 @@ module _ (program : Program) (dir : List ℕ) (size : ℕ) (root : Text) (all : 
     path_is = has.path_is;
     stopped = task_sealed path (Stopped kind line) has.stopped;
     before = λ other below. ahead_sealed HasPart _ (barrier_count has.stopped.records) (has.before other below);
+    reached = λ other barriers below fewer. front_sealed HasPart _ barriers (has.reached other barriers below fewer);
   }
 
   module _ (tell : AllTell dir all) (path : List Step) (kind : model.Stop) (line : ℕ) (faults : List (List Step × ℕ)) (has : HasStoppedRun program dir size (Some root) faults all path kind line) where

@@ -75,7 +75,8 @@ fn stop<F: Folder, O: Out>(
     out: &mut O,
 ) -> u8
     ensures ends { (program : Program) (dir : List ℕ) (size : ℕ) (root : Text)
-        → StopsSo (HasStoppedRun program dir size (Some root) (all_logged F.Log.dir F.Log.path F.Log.text stopped.logs.items) stopped.path) stopped.why
+        → StopsSo (HasStoppedRun program dir size (Some root) (map (λ e. (e.0, F.Log.faults e.1)) stopped.logs.items)
+        (all_logged F.Log.dir F.Log.path F.Log.text stopped.logs.items) stopped.path) stopped.why
         → AllTell dir (all_logged F.Log.dir F.Log.path F.Log.text stopped.logs.items)
         → EndsSo program dir size (F.content place.old) (F.content place.new) (O.written out.old) (O.written out.new) result }
     ensures tells { is_some (F.content place.new) ≡ is_some (F.content place.old) }

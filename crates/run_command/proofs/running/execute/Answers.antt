@@ -1,5 +1,6 @@
-use Rattle.std.proofs.Common.{◌≡◌, sym, ◌∙◌, ap, subst, Some, Option, List, ℕ}
+use Rattle.std.proofs.Common.{◌≡◌, sym, ◌∙◌, ap, subst, Some, Option, List, map, ℕ}
 use Rattle.std.specs.Option.{option_map}
+use Rattle.sw_base.specs.declared.path.Step.{Step}
 use Rattle.sw_base.specs.Environment.{Text, empty_text}
 use Rattle.kernel_syntax.specs.Layout.{ArePlaced}
 use Rattle.kernel_syntax.specs.Program.{program_of}
@@ -31,8 +32,9 @@ returns-in-Err-run_kernel-clause-ends g c = λ content is.
     let program = program_of c.args.kernel.now in
     let stopped = c.in-Err-run_kernel.stopped in
     let logs = all_logged g.F.Log.Log.dir g.F.Log.Log.path g.F.Log.Log.text stopped.logs.items in
+    let faults = map (λ (e : List Step × g.row.F-Log.Denot × ℕ). (e.0, g.F.Log.Log.faults e.1)) stopped.logs.items in
     let told : g.F.Log.Log.text c.in-Ok.root ≡ Some empty_text = c.in-Ok.ensures.log_text ∙ ap (option_map (λ _. empty_text)) is in
-    let here = subst (λ (dir : List ℕ). StopsSo (HasStoppedRun program dir c.args.size (g.F.Log.Log.text c.in-Ok.root) logs stopped.path) stopped.why) c.in-Ok.ensures.log_dir c.in-Err-run_kernel.ensures.stopped in
-    let stops = subst (λ (text : Option Text). StopsSo (HasStoppedRun program c.args.dir.now c.args.size text logs stopped.path) stopped.why) told here in
+    let here = subst (λ (dir : List ℕ). StopsSo (HasStoppedRun program dir c.args.size (g.F.Log.Log.text c.in-Ok.root) faults logs stopped.path) stopped.why) c.in-Ok.ensures.log_dir c.in-Err-run_kernel.ensures.stopped in
+    let stops = subst (λ (text : Option Text). StopsSo (HasStoppedRun program c.args.dir.now c.args.size text faults logs stopped.path) stopped.why) told here in
     let tell = all_tell g.F.Log.Log.dir g.F.Log.Log.path g.F.Log.Log.text stopped.logs.items c.args.dir.now _ _ empty_text c.in-Ok.ensures.log_dir told c.in-Err-run_kernel.ensures.own_logs in
     c.stop.ensures.ends program c.args.dir.now c.args.size empty_text stops tell content (c.root.ensures.same ∙ is)
