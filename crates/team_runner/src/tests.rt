@@ -39,6 +39,20 @@ for i in 0 .. 8 static 4 { a[i] = 1 }
 } }
 ";
 
+// The same without a barrier at the loop's end.
+const LEAVING_UNBARRED: &str = "array a i64 6
+main { parallel 2 {
+for i in 0 .. 8 static 4 nowait { a[i] = 1 }
+} }
+";
+
+// Lane 0 writes an element. Lane 1 leaves the array at once, and lane 2 writes nothing.
+const MIDDLE_LEAVING: &str = "array a i64 1
+main { parallel 3 {
+for i in 0 .. 2 { a[i] = 1 }
+} }
+";
+
 // Lane 0 leaves the array after two elements, and lane 1 at once.
 const BOTH_LEAVING: &str = "array a i64 2
 main { parallel 2 {
@@ -162,12 +176,20 @@ fn the_first_records_of_a_lane_are_spelled_in_its_log(rt: HostRuntime) -> Result
 #[test]
 fn the_least_lane_that_stopped_is_answered(rt: HostRuntime) -> Result<(), Fail> {
     let alloc = rt.alloc();
-    let table: [(&str, &str, Stop, [u32; 2], &[u64]); 3] = [
+    // Lane 0 waits at its barrier where there is one, and has no End then.
+    let table: [(&str, &str, Stop, [u32; 2], &[u64]); 4] = [
         (
             LEAVING,
             "t-0.1.swl",
             Stop::Index { line: 3 },
-            [6, 2],
+            [5, 2],
+            &[1, 1, 1, 1, 1, 1],
+        ),
+        (
+            LEAVING_UNBARRED,
+            "t-0.1.swl",
+            Stop::Index { line: 3 },
+            [5, 2],
             &[1, 1, 1, 1, 1, 1],
         ),
         (
@@ -181,7 +203,7 @@ fn the_least_lane_that_stopped_is_answered(rt: HostRuntime) -> Result<(), Fail> 
             DIVIDING,
             "t-0.1.swl",
             Stop::DivZero { line: 4 },
-            [4, 1],
+            [3, 1],
             &[u64::MAX, 0],
         ),
     ];
@@ -201,6 +223,37 @@ fn the_least_lane_that_stopped_is_answered(rt: HostRuntime) -> Result<(), Fail> 
             ],
         )?;
     }
+    Ok(())
+}
+
+#[test]
+fn lanes_that_wait_have_their_barrier_last(rt: HostRuntime) -> Result<(), Fail> {
+    let alloc = rt.alloc();
+    let stopped = run(alloc, MIDDLE_LEAVING, 4096)?.err().ok_or("ended")?;
+    assert_eq!(rt; stopped.path.bare_name(alloc)?.as_str(), "t-0.1.swl");
+    assert_eq!(rt; stopped.why, Stop::Index { line: 3 });
+    listed(
+        &rt,
+        alloc,
+        &stopped.logs,
+        &[
+            ("t.swl", 1, 32),
+            ("t-0.0.swl", 2, 56),
+            ("t-0.1.swl", 0, 8),
+            ("t-0.2.swl", 1, 32),
+        ],
+    )?;
+    // A barrier in line 3.
+    assert!(rt; stopped.logs.len() > 3);
+    let bytes = stopped.logs[3].1.bytes();
+    assert!(rt; bytes.len() > 8);
+    assert_eq!(rt;
+        &bytes[8..],
+        [
+            5, 0, 0, 0, 0, 0, 0, 3, 0, 0, 0, 0, 0, 0, 0, 0, 0, 0, 0, 0, 0, 0, 0, 0
+        ]
+        .as_slice()
+    );
     Ok(())
 }
 
@@ -239,13 +292,23 @@ fn a_stop_or_failure_of_the_least_lane_is_answered(rt: HostRuntime) -> Result<()
     let stopped = run.err().ok_or("ended")?;
     assert_eq!(rt; stopped.why, Stop::Index { line: 3 });
     assert_eq!(rt; stopped.logs.len(), 3);
-    // Of two lanes that end otherwise than well the first is answered: its log fails, or it stops.
+    // So is the log of a lane that waits, with the same result.
     let first = Path::root().child(0, 0, 2);
+    let second = Path::root().child(0, 1, 2);
     let run = run_failing(alloc, LEAVING, 4096, &first, &[2])?;
+    let stopped = run.err().ok_or("ended")?;
+    assert!(rt; stopped.path == second);
+    assert_eq!(rt; stopped.why, Stop::Index { line: 3 });
+    assert_eq!(rt; stopped.logs.len(), 3);
+    // Of two lanes that end otherwise than well in a phase the first is answered: its log fails, or it stops.
+    let run = run_failing(alloc, LEAVING, 24, &first, &[2])?;
     let stopped = run.err().ok_or("ended")?;
     assert!(rt; stopped.path == first);
     assert_eq!(rt; stopped.why, Stop::Trouble(Trouble::Failed));
-    let second = Path::root().child(0, 1, 2);
+    let run = run_failing(alloc, LEAVING_UNBARRED, 4096, &first, &[2])?;
+    let stopped = run.err().ok_or("ended")?;
+    assert!(rt; stopped.path == first);
+    assert_eq!(rt; stopped.why, Stop::Trouble(Trouble::Failed));
     let run = run_failing(alloc, BOTH_LEAVING, 4096, &second, &[1])?;
     let stopped = run.err().ok_or("ended")?;
     assert!(rt; stopped.path == first);
@@ -270,8 +333,13 @@ impl Gate for CountingGate {
 #[test]
 fn the_gate_sees_each_lane_start_each_phase(rt: HostRuntime) -> Result<(), Fail> {
     let alloc = rt.alloc();
-    // A loop that waits at its end is followed by an empty phase, and one that doesn't by none. A lane that stops starts no more.
-    let table = [(COUNTING, [2, 2]), (UNBARRED, [1, 1]), (LEAVING, [2, 1])];
+    // A loop that waits at its end is followed by an empty phase, and one that doesn't by none. After a stop no phase starts.
+    let table = [
+        (COUNTING, [2, 2]),
+        (UNBARRED, [1, 1]),
+        (LEAVING, [1, 1]),
+        (LEAVING_UNBARRED, [1, 1]),
+    ];
     for (text, phases) in table {
         let kernel = read_kernel(alloc, text.as_bytes())?;
         let gate = CountingGate {
