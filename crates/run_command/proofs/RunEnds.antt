@@ -1,5 +1,5 @@
 -- What a run answers and leaves, by what its logs were stored or sealed to.
-use Rattle.std.proofs.Common.{◌≡◌, refl, sym, ap, ap₂, subst, ◌∙◌, inr, ℕ, List, [], ◌∷◌, map, length, Option, Some, Result, Ok, Err, IfOk, OnErr, String, string_bytes, true, Contains, append-nil, arith}
+use Rattle.std.proofs.Common.{◌≡◌, refl, sym, ap, ap₂, subst, ◌∙◌, inl, inr, ◌⊎◌, ℕ, ◌≤◌, List, [], ◌∷◌, map, length, Option, Some, Result, Ok, Err, IfOk, OnErr, String, string_bytes, true, Contains, append-nil, arith}
 use Rattle.std.specs.Prelude.{All, is_some}
 use Rattle.std.specs.declared.alloc.Global.{Global}
 use Rattle.std.proofs.lemmas.List.{get_or-map, length-map}
@@ -9,7 +9,7 @@ use Rattle.std.proofs.lemmas.Simd.{map-map}
 use Rattle.sw_base.specs.declared.path.Step.{Step}
 use Rattle.sw_base.specs.declared.trouble.Memory.{Memory}
 use Rattle.sw_base.specs.declared.trouble.Trouble.{Trouble}
-use Rattle.sw_base.specs.Environment.{Content, Text, with_put}
+use Rattle.sw_base.specs.Environment.{Content, Rose, Text, with_put}
 use Rattle.sw_base.specs.Names.{index_name}
 use Rattle.race_model.specs.FirstBad.{IsBad, rows_of}
 use Rattle.race_model.specs.IndexFault.{AreRows}
@@ -24,7 +24,7 @@ use Rattle.kernel_model.specs.Trace.{Ended, Ending, Stopped}
 use Rattle.team_runner.specs.declared.stop.Stop.{Stop}
 use Rattle.team_runner.specs.declared.stop.Stop.TheVariants.{DivZero, Index, LogFull}
 use Rattle.team_runner.specs.declared.stop.Stop.TheVariants as stop
-use Rattle.team_runner.specs.Answer.{HasRun, HasStop, HasStoppedRun, HasTask, HasFront, IsAhead, IsOwnLog, IsRun, Logged, whole_log, logged_entry}
+use Rattle.team_runner.specs.Answer.{HasRun, HasStop, HasStoppedRun, HasTask, HasFaulty, HasFront, IsAhead, IsOwnLog, IsRun, Logged, whole_log, logged_entry}
 use Rattle.team_runner.specs.Answer as answered
 use Rattle.team_runner.specs.Stops.{StopsSo}
 use Rattle.command_answer.specs.declared.status.TheConstants.{DONE, KERNEL_STOPPED, NO_MEMORY}
@@ -46,6 +46,10 @@ pub printed_made : (due : ℕ → List ℕ → Type 0) (status : ℕ) (text : Li
 printed_made due status text (Ok m) before after result is_due same prints none =
     Tries-from_prints due status text before after result is_due (subst (λ (t : List ℕ). Prints status t before after result) same prints)
 printed_made due status text (Err e) before after result is_due same prints none = silent (inr (inr none.0)) none.1
+
+-- a count that rose, from an earlier moment
+pub rose_more : (before old new : ℕ) → before ≤ old → Rose old new → Rose before new
+rose_more before old new below rose = omega (arith, below, rose)
 
 -- ---- a run that ended
 
@@ -69,7 +73,7 @@ pub run_rows : {L : Type 0} (program : Program) (dir : List ℕ) (size : ℕ) (r
 run_rows program dir size root dir_of path_of text_of entries has =
     subst AreRows (sym (whole_rows dir size root has.tasks) ∙ ap rows_of_logs (sym has.logs_are) ∙ rows-logged dir_of path_of text_of entries) has.run.rules.rows
 
-module _ (program : Program) (first : IsFirstKind program) (dir : List ℕ) (size : ℕ) (root : Text) (tasks : Trace) (run : IsRun program tasks) where
+module _ (rose : Type 0) (program : Program) (first : IsFirstKind program) (dir : List ℕ) (size : ℕ) (root : Text) (tasks : Trace) (run : IsRun program tasks) where
   -- the logs that the run answers
   abbrev run_logs : List Logged
   run_logs = map (whole_log dir size (Some root)) tasks
@@ -83,13 +87,13 @@ module _ (program : Program) (first : IsFirstKind program) (dir : List ℕ) (siz
   all_left old = ap (λ (rows : List Row). with_index dir run_logs (index_bytes rows) old) (whole_rows dir size (Some root) tasks) ∙ with_index-is (index_bytes (rows_of tasks)) old
 
   -- what is left where storing the run was refused
-  part_left : (old new : Content) → StoresPart dir run_logs old new → EndLeaves program dir size old new
+  part_left : (old new : Content) → StoresPart dir run_logs old new → EndLeaves rose program dir size old new
   part_left old new (part sealed) = logs (all_sealed run_logs) (ended tasks run (whole_sealed dir size root tasks)) sealed (front_keeps_index dir (all_sealed run_logs) old new sealed)
   part_left old new (front bytes rest parts leaves) =
       index tasks run bytes rest (ap index_bytes (sym (whole_rows dir size (Some root) tasks)) ∙ parts) (leaves ∙ with_index-is bytes old)
 
   -- storing the run was refused
-  refused_ends : (old new : Option Content) (status : ℕ) (written : Option (List ℕ)) → StoresFront dir run_logs old new → IsFailure status → EndsSo program dir size old new written written status
+  refused_ends : (old new : Option Content) (status : ℕ) (written : Option (List ℕ)) → StoresFront dir run_logs old new → IsFailure status → EndsSo rose program dir size old new written written status
   refused_ends old new status written stores failure content is =
       let left = stores content (whole_tell dir size root tasks) is in
       record { content = left.content; is = left.is; holds = record { answers = silent failure refl; leaves = λ _. part_left content left.content left.holds } }
@@ -110,31 +114,31 @@ module _ (program : Program) (first : IsFirstKind program) (dir : List ℕ) (siz
   -- it was stored
   stored_ends : (old new : Option Content) (status : ℕ) (before after : Option (List ℕ)) (values : List ℕ) (made : Result (String Global) Memory) → StoresAll dir run_logs old new
       → length values ≡ elements program.arrays → IfOk made (λ m. string_bytes m ≡ run_text tasks program.arrays values)
-      → IfOk made (λ m. Prints DONE (string_bytes m) before after status) → OnErr made ((status ≡ NO_MEMORY) × (after ≡ before)) → EndsSo program dir size old new before after status
+      → IfOk made (λ m. Prints DONE (string_bytes m) before after status) → OnErr made ((status ≡ NO_MEMORY) × (after ≡ before)) → EndsSo rose program dir size old new before after status
   stored_ends old new status before after values made stores all same prints none content is =
       let left : Content = with_index dir run_logs (index_bytes (rows_of_logs run_logs)) content in
       record {
         content = left;
         is = stores content (whole_tell dir size root tasks) is;
         holds = record {
-          answers = printed_made (EndDue program dir size content left) DONE (run_text tasks program.arrays values) made before after status (ran refl (has_ran content left values (all_left content) all)) same prints none;
+          answers = printed_made (EndDue rose program dir size content left) DONE (run_text tasks program.arrays values) made before after status (ran refl (has_ran content left values (all_left content) all)) same prints none;
           leaves = λ _. index tasks run (index_bytes (rows_of tasks)) [] (sym (append-nil (index_bytes (rows_of tasks)))) (all_left content);
         };
       }
 
 -- the same of the logs that a run answered
-module _ (program : Program) (first : IsFirstKind program) (dir : List ℕ) (size : ℕ) (root : Text) (all : List Logged) (has : HasRun program dir size (Some root) all) where
+module _ (rose : Type 0) (program : Program) (first : IsFirstKind program) (dir : List ℕ) (size : ℕ) (root : Text) (all : List Logged) (has : HasRun program dir size (Some root) all) where
   -- storing them was refused
-  pub run_refused : (old new : Option Content) (status : ℕ) (written : Option (List ℕ)) → StoresFront dir all old new → IsFailure status → EndsSo program dir size old new written written status
+  pub run_refused : (old new : Option Content) (status : ℕ) (written : Option (List ℕ)) → StoresFront dir all old new → IsFailure status → EndsSo rose program dir size old new written written status
   run_refused old new status written stores failure =
-      refused_ends program first dir size root has.tasks has.run old new status written (subst (λ (ls : List Logged). StoresFront dir ls old new) has.logs_are stores) failure
+      refused_ends rose program first dir size root has.tasks has.run old new status written (subst (λ (ls : List Logged). StoresFront dir ls old new) has.logs_are stores) failure
 
   -- they were stored
   pub run_stored : (old new : Option Content) (status : ℕ) (before after : Option (List ℕ)) (values : List ℕ) (made : Result (String Global) Memory) → StoresAll dir all old new
       → length values ≡ elements program.arrays → ((tasks : Trace) → rows_of tasks ≡ rows_of_logs all → IfOk made (λ m. string_bytes m ≡ run_text tasks program.arrays values))
-      → IfOk made (λ m. Prints DONE (string_bytes m) before after status) → OnErr made ((status ≡ NO_MEMORY) × (after ≡ before)) → EndsSo program dir size old new before after status
+      → IfOk made (λ m. Prints DONE (string_bytes m) before after status) → OnErr made ((status ≡ NO_MEMORY) × (after ≡ before)) → EndsSo rose program dir size old new before after status
   run_stored old new status before after values made stores values_are text prints none =
-      stored_ends program first dir size root has.tasks has.run old new status before after values made (subst (λ (ls : List Logged). StoresAll dir ls old new) has.logs_are stores) values_are
+      stored_ends rose program first dir size root has.tasks has.run old new status before after values made (subst (λ (ls : List Logged). StoresAll dir ls old new) has.logs_are stores) values_are
       (text has.tasks (sym (whole_rows dir size (Some root) has.tasks) ∙ ap rows_of_logs (sym has.logs_are))) prints none
 
 -- ---- a kernel that stopped
@@ -177,46 +181,61 @@ module _ (program : Program) (dir : List ℕ) (size : ℕ) (root : Text) (all : 
     logged = contains_mapped sealed_of all (whole_log dir size (Some root) (record { path = path; records = has.records })) has.logged;
   }
 
-  -- the first records of a task are what they are
-  front_sealed : (HasPart : TaskLog → Type 0) (path : List Step) (barriers : ℕ) → HasFront program HasPart path barriers → HasFront program (λ _. Unit {0}) path barriers
-  front_sealed HasPart path barriers has = record { start = has.start; starts = has.starts; records = has.records; front = has.front; passed = has.passed; logged = tt }
+  module _ (HasPart HasPart' : TaskLog → Type 0) (part : (task : TaskLog) → HasPart task → HasPart' task) where
+    -- so are the first records of one that waits
+    front_sealed : (path : List Step) (barriers : ℕ) → HasFront program HasPart path barriers → HasFront program HasPart' path barriers
+    front_sealed path barriers has = record {
+      start = has.start;
+      starts = has.starts;
+      records = has.records;
+      front = has.front;
+      passed = has.passed;
+      logged = part (record { path = path; records = has.records }) has.logged;
+    }
 
-  -- so is that of a lane which is ahead of a stop
-  ahead_sealed : (HasPart : TaskLog → Type 0) (path : List Step) (barriers : ℕ) → IsAhead program (λ task. Contains all (whole_log dir size (Some root) task)) HasPart path barriers
-      → IsAhead program (λ task. Contains (all_sealed all) (sealed_log size task)) (λ _. Unit {0}) path barriers
-  unfolding task_sealed
-  ahead_sealed HasPart path barriers (answered.ended task few) = answered.ended (task_sealed path Ended task) few
-  ahead_sealed HasPart path barriers (answered.waits has) = answered.waits (front_sealed HasPart path barriers has)
+    -- and the log of a lane that is ahead of a stop
+    ahead_sealed : (path : List Step) (barriers : ℕ) → IsAhead program (λ task. Contains all (whole_log dir size (Some root) task)) HasPart path barriers
+        → IsAhead program (λ task. Contains (all_sealed all) (sealed_log size task)) HasPart' path barriers
+    unfolding task_sealed
+    ahead_sealed path barriers (answered.ended task few) = answered.ended (task_sealed path Ended task) few
+    ahead_sealed path barriers (answered.waits has) = answered.waits (front_sealed path barriers has)
 
-  -- the logs of a stop are
-  stop_sealed : (HasPart : TaskLog → Type 0) (path : List Step) (kind : model.Stop) (line : ℕ) → HasStop program (λ task. Contains all (whole_log dir size (Some root) task)) HasPart path kind line
-      → HasStop program (λ task. Contains (all_sealed all) (sealed_log size task)) (λ _. Unit {0}) path kind line
-  unfolding task_sealed
-  stop_sealed HasPart path kind line has = record {
-    lane = has.lane;
-    within = has.within;
-    path_is = has.path_is;
-    stopped = task_sealed path (Stopped kind line) has.stopped;
-    before = λ other below. ahead_sealed HasPart _ (barrier_count has.stopped.records) (has.before other below);
-    reached = λ other barriers below fewer. front_sealed HasPart _ barriers (has.reached other barriers below fewer);
-  }
+    -- the logs of a stop are
+    stop_sealed : (path : List Step) (kind : model.Stop) (line : ℕ) → HasStop program (λ task. Contains all (whole_log dir size (Some root) task)) HasPart path kind line
+        → HasStop program (λ task. Contains (all_sealed all) (sealed_log size task)) HasPart' path kind line
+    unfolding task_sealed
+    stop_sealed path kind line has = record {
+      lane = has.lane;
+      within = has.within;
+      path_is = has.path_is;
+      stopped = task_sealed path (Stopped kind line) has.stopped;
+      before = λ other below. ahead_sealed _ (barrier_count has.stopped.records) (has.before other below);
+      reached = λ other barriers below fewer. front_sealed _ barriers (has.reached other barriers below fewer);
+    }
 
-  module _ (tell : AllTell dir all) (path : List Step) (kind : model.Stop) (line : ℕ) (faults : List (List Step × ℕ)) (has : HasStoppedRun program dir size (Some root) faults all path kind line) where
+  -- a log that is there is sealed, and a fault of one makes the count rise
+  part_sealed : (faults : List (List Step × ℕ)) (rose : Type 0) → ((path : List Step) → HasFaulty faults path → rose) → (task : TaskLog)
+      → Contains all (whole_log dir size (Some root) task) ⊎ HasFaulty faults task.path → Contains (all_sealed all) (sealed_log size task) ⊎ rose
+  part_sealed faults rose rises task (inl there) = inl (contains_mapped sealed_of all (whole_log dir size (Some root) task) there)
+  part_sealed faults rose rises task (inr faulty) = inr (rises task.path faulty)
+
+  module _ (tell : AllTell dir all) (path : List Step) (kind : model.Stop) (line : ℕ) (faults : List (List Step × ℕ)) (has : HasStoppedRun program dir size (Some root) faults all path kind line)
+      (rose : Type 0) (rises : (path : List Step) → HasFaulty faults path → rose) where
     -- what is sealed of them
-    are_stopped : AreStopped program size (all_sealed all) path kind line
-    are_stopped = record { all = sealed_paths dir all tell ∙ has.all; stop = stop_sealed _ path kind line has.stop }
+    are_stopped : AreStopped rose program size (all_sealed all) path kind line
+    are_stopped = record { all = sealed_paths dir all tell ∙ has.all; stop = stop_sealed _ _ (part_sealed faults rose rises) path kind line has.stop }
 
     -- what is left where sealing was broken off
-    left_logs : (old new : Content) → SealsFront dir (all_sealed all) old new → EndLeaves program dir size old new
+    left_logs : (old new : Content) → SealsFront dir (all_sealed all) old new → EndLeaves rose program dir size old new
     left_logs old new sealed = logs (all_sealed all) (kinds.stopped path kind line are_stopped) sealed (front_keeps_index dir (all_sealed all) old new sealed)
 
     -- all logs were sealed
     pub stop_ends : (old new : Option Content) (status : ℕ) (before after : Option (List ℕ)) (made : Result (String Global) Memory) → SealsAll all (Ok tt) old new
         → IfOk made (λ m. string_bytes m ≡ stopped_text path line kind) → IfOk made (λ m. Prints KERNEL_STOPPED (string_bytes m) before after status)
-        → OnErr made ((status ≡ NO_MEMORY) × (after ≡ before)) → EndsSo program dir size old new before after status
+        → OnErr made ((status ≡ NO_MEMORY) × (after ≡ before)) → EndsSo rose program dir size old new before after status
     stop_ends old new status before after made seals same prints none content is =
         let now = seals dir content tell is in
-        let due : StoppedRun program dir size content now.content (stopped_text path line kind) = record {
+        let due : StoppedRun rose program dir size content now.content (stopped_text path line kind) = record {
           logs = all_sealed all;
           path = path;
           why = kind;
@@ -229,14 +248,14 @@ module _ (program : Program) (dir : List ℕ) (size : ℕ) (root : Text) (all : 
           content = now.content;
           is = now.is;
           holds = record {
-            answers = printed_made (EndDue program dir size content now.content) KERNEL_STOPPED (stopped_text path line kind) made before after status (stopped refl due) same prints none;
+            answers = printed_made (EndDue rose program dir size content now.content) KERNEL_STOPPED (stopped_text path line kind) made before after status (stopped refl due) same prints none;
             leaves = λ _. left_logs content now.content now.holds.front;
           };
         }
 
     -- one was refused
     pub stop_refused : (old new : Option Content) (status : ℕ) (written : Option (List ℕ)) (trouble : Trouble) → SealsAll all (Err trouble) old new → IsFailure status
-        → EndsSo program dir size old new written written status
+        → EndsSo rose program dir size old new written written status
     stop_refused old new status written trouble seals failure content is =
         let now = seals dir content tell is in
         record {

@@ -12,18 +12,18 @@ use Rattle.run_command.specs.RunTexts.{stop_name}
 use Rattle.run_command.specs.Seals.{Tells}
 
 -- where the kernel stopped, or the counts and sums of the run
-pub data EndDue (program : Program) (dir : List ℕ) (size : ℕ) (old new : Content) (status : ℕ) (text : List ℕ) : Type 0 where
-  stopped : status ≡ KERNEL_STOPPED → StoppedRun program dir size old new text → EndDue program dir size old new status text
-  ran : status ≡ DONE → Ran program dir size old new text → EndDue program dir size old new status text
+pub data EndDue (rose : Type 0) (program : Program) (dir : List ℕ) (size : ℕ) (old new : Content) (status : ℕ) (text : List ℕ) : Type 0 where
+  stopped : status ≡ KERNEL_STOPPED → StoppedRun rose program dir size old new text → EndDue rose program dir size old new status text
+  ran : status ≡ DONE → Ran program dir size old new text → EndDue rose program dir size old new status text
 
 -- an answer that is due, or none and what is left then
-pub record Ends (program : Program) (dir : List ℕ) (size : ℕ) (old : Content) (before after : Option (List ℕ)) (status : ℕ) (new : Content) : Type 0 where
-  pub answers : Tries (EndDue program dir size old new) before after status
-  pub leaves : IsFailure status → EndLeaves program dir size old new
+pub record Ends (rose : Type 0) (program : Program) (dir : List ℕ) (size : ℕ) (old : Content) (before after : Option (List ℕ)) (status : ℕ) (new : Content) : Type 0 where
+  pub answers : Tries (EndDue rose program dir size old new) before after status
+  pub leaves : IsFailure status → EndLeaves rose program dir size old new
 
 -- the same of a folder that may tell
-abbrev pub EndsSo : Program → List ℕ → ℕ → Option Content → Option Content → Option (List ℕ) → Option (List ℕ) → ℕ → Type 0
-EndsSo program dir size old new before after status = (c : Content) → old ≡ Some c → Tells new (Ends program dir size c before after status)
+abbrev pub EndsSo : Type 0 → Program → List ℕ → ℕ → Option Content → Option Content → Option (List ℕ) → Option (List ℕ) → ℕ → Type 0
+EndsSo rose program dir size old new before after status = (c : Content) → old ≡ Some c → Tells new (Ends rose program dir size c before after status)
 
 -- a stop that the kernel itself makes
 abbrev pub stop_of : Stop → Option (model.Stop × ℕ)

@@ -1,5 +1,5 @@
 -- What `run` answers, and what it leaves in the folder.
-use Rattle.std.specs.Prelude.{◌≡◌, ℕ, List, [], ◌∷◌, ◌++◌, length, map, None, Some, IsSome, Contains}
+use Rattle.std.specs.Prelude.{◌≡◌, ◌⊎◌, ℕ, List, [], ◌∷◌, ◌++◌, length, map, None, Some, IsSome, Contains}
 use Rattle.sw_base.specs.declared.path.Step.{Step}
 use Rattle.sw_base.specs.declared.files.TheConstants.{LOG_HEADER}
 use Rattle.sw_base.specs.Environment.{Files, Content, with_file, with_put}
@@ -69,51 +69,52 @@ pub record Ran (program : Program) (dir : List ℕ) (size : ℕ) (old new : Cont
   pub text_is : text ≡ run_text tasks program.arrays values
 
 -- The logs of a kernel that stopped so: those of all its tasks, in the order of their paths. The log of the task that stopped has
--- all its records, and those of the lanes before it that ended are whole.
-pub record AreStopped (program : Program) (size : ℕ) (logs : List SealedLog) (path : List Step) (why : model.Stop) (line : ℕ) : Type 0 where
+-- all its records. Those of the lanes before it are whole up to where they ended or wait; `rose` tells of a fault, with which the log of
+-- a lane that waits may be another.
+pub record AreStopped (rose : Type 0) (program : Program) (size : ℕ) (logs : List SealedLog) (path : List Step) (why : model.Stop) (line : ℕ) : Type 0 where
   pub all : map (λ (log : SealedLog). log.path) logs ≡ task_paths program
-  pub stop : HasStop program (λ task. Contains logs (sealed_log size task)) (λ _. Unit {0}) path why line
+  pub stop : HasStop program (λ task. Contains logs (sealed_log size task)) (λ task. Contains logs (sealed_log size task) ⊎ rose) path why line
 
 -- The kernel stopped so: its logs are there, and nothing else changed.
-pub record StoppedRun (program : Program) (dir : List ℕ) (size : ℕ) (old new : Content) (text : List ℕ) : Type 0 where
+pub record StoppedRun (rose : Type 0) (program : Program) (dir : List ℕ) (size : ℕ) (old new : Content) (text : List ℕ) : Type 0 where
   pub logs : List SealedLog
   pub path : List Step
   pub why : model.Stop
   pub line : ℕ
-  pub stopped : AreStopped program size logs path why line
+  pub stopped : AreStopped rose program size logs path why line
   pub leaves : new ≡ with_sealed dir logs old
   pub text_is : text ≡ stopped_text path line why
 
 -- What is due of `run`: there is no kernel, or none of the first kind; or the folder has an index; or the kernel stopped; or
 -- the run ended.
-pub data RunDue (kernel dir : List ℕ) (size : ℕ) (old new : Content) (status : ℕ) (text : List ℕ) : Type 0 where
-  no_kernel : old.held kernel ≡ None → status ≡ KERNEL_REFUSED → text ≡ no_kernel_text → new ≡ old → RunDue kernel dir size old new status text
+pub data RunDue (rose : Type 0) (kernel dir : List ℕ) (size : ℕ) (old new : Content) (status : ℕ) (text : List ℕ) : Type 0 where
+  no_kernel : old.held kernel ≡ None → status ≡ KERNEL_REFUSED → text ≡ no_kernel_text → new ≡ old → RunDue rose kernel dir size old new status text
   not_built : IsSome (old.held kernel) → ((program : Program) → HoldsKernel old.held kernel program → ⊥) → status ≡ KERNEL_REFUSED
-      → text ≡ not_built_text → new ≡ old → RunDue kernel dir size old new status text
+      → text ≡ not_built_text → new ≡ old → RunDue rose kernel dir size old new status text
   index_there : (program : Program) → HoldsKernel old.held kernel program → IsSome (old.held (index_name dir)) → status ≡ INDEX_THERE
-      → text ≡ index_exists_text → new ≡ old → RunDue kernel dir size old new status text
+      → text ≡ index_exists_text → new ≡ old → RunDue rose kernel dir size old new status text
   stopped : (program : Program) → HoldsKernel old.held kernel program → old.held (index_name dir) ≡ None → status ≡ KERNEL_STOPPED
-      → StoppedRun program dir size old new text → RunDue kernel dir size old new status text
+      → StoppedRun rose program dir size old new text → RunDue rose kernel dir size old new status text
   ran : (program : Program) → HoldsKernel old.held kernel program → old.held (index_name dir) ≡ None → status ≡ DONE
-      → Ran program dir size old new text → RunDue kernel dir size old new status text
+      → Ran program dir size old new text → RunDue rose kernel dir size old new status text
 
 -- the logs of a run that ended, or of one that stopped
-pub data AreLogs (program : Program) (size : ℕ) (logs : List SealedLog) : Type 0 where
-  ended : (tasks : Trace) → IsRun program tasks → logs ≡ map (sealed_log size) tasks → AreLogs program size logs
-  stopped : (path : List Step) (why : model.Stop) (line : ℕ) → AreStopped program size logs path why line → AreLogs program size logs
+pub data AreLogs (rose : Type 0) (program : Program) (size : ℕ) (logs : List SealedLog) : Type 0 where
+  ended : (tasks : Trace) → IsRun program tasks → logs ≡ map (sealed_log size) tasks → AreLogs rose program size logs
+  stopped : (path : List Step) (why : model.Stop) (line : ℕ) → AreStopped rose program size logs path why line → AreLogs rose program size logs
 
 -- What a run leaves that began and could not give its answer: the folder as it was; or the first of its logs, and under the
 -- index's name what was there; or the logs of a whole run, and a front of its index.
-pub data EndLeaves (program : Program) (dir : List ℕ) (size : ℕ) (old new : Content) : Type 0 where
-  nothing : new ≡ old → EndLeaves program dir size old new
-  logs : (logs : List SealedLog) → AreLogs program size logs → SealsFront dir logs old new → new.held (index_name dir) ≡ old.held (index_name dir)
-      → EndLeaves program dir size old new
+pub data EndLeaves (rose : Type 0) (program : Program) (dir : List ℕ) (size : ℕ) (old new : Content) : Type 0 where
+  nothing : new ≡ old → EndLeaves rose program dir size old new
+  logs : (logs : List SealedLog) → AreLogs rose program size logs → SealsFront dir logs old new → new.held (index_name dir) ≡ old.held (index_name dir)
+      → EndLeaves rose program dir size old new
   index : (tasks : Trace) → IsRun program tasks → (front rest : List ℕ) → index_bytes (rows_of tasks) ≡ front ++ rest
-      → new ≡ with_put (index_name dir) front (with_sealed dir (map (sealed_log size) tasks) old) → EndLeaves program dir size old new
+      → new ≡ with_put (index_name dir) front (with_sealed dir (map (sealed_log size) tasks) old) → EndLeaves rose program dir size old new
 
 -- What `run` leaves that could not give its answer: the folder as it was; or, of a kernel that the file holds and a folder that had
 -- no index, what its run leaves.
-pub data LeavesPart (kernel dir : List ℕ) (size : ℕ) (old new : Content) : Type 0 where
-  nothing : new ≡ old → LeavesPart kernel dir size old new
-  began : (program : Program) → HoldsKernel old.held kernel program → old.held (index_name dir) ≡ None → EndLeaves program dir size old new
-      → LeavesPart kernel dir size old new
+pub data LeavesPart (rose : Type 0) (kernel dir : List ℕ) (size : ℕ) (old new : Content) : Type 0 where
+  nothing : new ≡ old → LeavesPart rose kernel dir size old new
+  began : (program : Program) → HoldsKernel old.held kernel program → old.held (index_name dir) ≡ None → EndLeaves rose program dir size old new
+      → LeavesPart rose kernel dir size old new

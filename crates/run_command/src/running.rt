@@ -38,8 +38,8 @@ fn finish<F: Folder, O: Out>(
     requires rows { AreRows (map row_of_entry finished.logs.items) }
     requires values { length finished.words.items ≡ elements kernel.now.arrays }
     requires placed { ArePlaced kernel.now.arrays (length finished.words.items) }
-    ensures ends { (size : ℕ) (root : Text) → HasRun (program_of kernel.now) dir.now size (Some root) (all_logged F.Log.dir F.Log.path F.Log.text finished.logs.items)
-        → EndsSo (program_of kernel.now) dir.now size (F.content place.old) (F.content place.new) (O.written out.old) (O.written out.new) result }
+    ensures ends { (size before : ℕ) (root : Text) → HasRun (program_of kernel.now) dir.now size (Some root) (all_logged F.Log.dir F.Log.path F.Log.text finished.logs.items)
+        → EndsSo (Rose before (F.write_faults place.new)) (program_of kernel.now) dir.now size (F.content place.old) (F.content place.new) (O.written out.old) (O.written out.new) result }
     ensures tells { is_some (F.content place.new) ≡ is_some (F.content place.old) }
     ensures write_fault { result ≡ WRITE_FAULT → Rose (O.faults out.old) (O.faults out.new) ⊎ Rose (F.write_faults place.old) (F.write_faults place.new) }
     ensures no_read { result ≡ READ_FAULT → ⊥ }
@@ -74,11 +74,11 @@ fn stop<F: Folder, O: Out>(
     place: &mut F,
     out: &mut O,
 ) -> u8
-    ensures ends { (program : Program) (dir : List ℕ) (size : ℕ) (root : Text)
+    ensures ends { (program : Program) (dir : List ℕ) (size before : ℕ) (root : Text) → before ≤ F.write_faults place.old
         → StopsSo (HasStoppedRun program dir size (Some root) (map (λ e. (e.0, F.Log.faults e.1)) stopped.logs.items)
         (all_logged F.Log.dir F.Log.path F.Log.text stopped.logs.items) stopped.path) stopped.why
         → AllTell dir (all_logged F.Log.dir F.Log.path F.Log.text stopped.logs.items)
-        → EndsSo program dir size (F.content place.old) (F.content place.new) (O.written out.old) (O.written out.new) result }
+        → EndsSo (Rose before (F.write_faults place.new)) program dir size (F.content place.old) (F.content place.new) (O.written out.old) (O.written out.new) result }
     ensures tells { is_some (F.content place.new) ≡ is_some (F.content place.old) }
     ensures write_fault { (stopped.why ≡ stop.Trouble trouble.Failed → HasFaulty (map (λ e. (e.0, F.Log.faults e.1)) stopped.logs.items) stopped.path)
         → result ≡ WRITE_FAULT → Rose (O.faults out.old) (O.faults out.new) ⊎ Rose (F.write_faults place.old) (F.write_faults place.new) }
@@ -120,7 +120,7 @@ fn execute<R, F: Folder, O: Out, G: Gate>(
 ) -> u8
     requires ready { IsReady (program_of kernel.now) }
     requires size { IsBufferSize size }
-    ensures ends { EndsSo (program_of kernel.now) dir.now size (F.content place.old) (F.content place.new) (O.written out.old) (O.written out.new) result }
+    ensures ends { EndsSo (Rose (F.write_faults place.old) (F.write_faults place.new)) (program_of kernel.now) dir.now size (F.content place.old) (F.content place.new) (O.written out.old) (O.written out.new) result }
     ensures tells { is_some (F.content place.new) ≡ is_some (F.content place.old) }
     ensures write_fault { result ≡ WRITE_FAULT → Rose (O.faults out.old) (O.faults out.new) ⊎ Rose (F.write_faults place.old) (F.write_faults place.new) }
     ensures no_read { result ≡ READ_FAULT → ⊥ }
@@ -150,9 +150,9 @@ pub fn run<R, F: Folder, O: Out, G: Gate>(
 ) -> u8
     requires { IsBufferSize size }
     ensures answers { WhereTold (F.content place.old) (λ c. WhereTold (F.content place.new) (λ d.
-        Tries (RunDue kernel.now dir.now size c d) (O.written out.old) (O.written out.new) result)) }
+        Tries (RunDue (Rose (F.write_faults place.old) (F.write_faults place.new)) kernel.now dir.now size c d) (O.written out.old) (O.written out.new) result)) }
     ensures leaves { WhereTold (F.content place.old) (λ c. WhereTold (F.content place.new) (λ d.
-        IsFailure result → LeavesPart kernel.now dir.now size c d)) }
+        IsFailure result → LeavesPart (Rose (F.write_faults place.old) (F.write_faults place.new)) kernel.now dir.now size c d)) }
     ensures reads { result ≡ READ_FAULT → F.content place.new ≡ F.content place.old }
     ensures read_fault { result ≡ READ_FAULT → Rose (F.read_faults place.old) (F.read_faults place.new) }
     ensures write_fault { result ≡ WRITE_FAULT → Rose (O.faults out.old) (O.faults out.new) ⊎ Rose (F.write_faults place.old) (F.write_faults place.new) }

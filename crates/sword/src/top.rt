@@ -47,9 +47,9 @@ pub fn sword<R, F: Folder, O: Out, G: Gate>(
     // the counts of the run and some sums, whose logs and index are then there: those of the kernel's tasks, each with its whole trace
     // under what it read, cut into pieces that fill the buffer.
     ensures run { (kernel dir : List ℕ) (size : ℕ) → SaysRun (texts words.now) kernel dir size → WhereTold (F.content place.old) (λ c.
-        WhereTold (F.content place.new) (λ d. Tries (RunDue kernel dir size c d) (O.written out.old) (O.written out.new) result)) }
+        WhereTold (F.content place.new) (λ d. Tries (RunDue (Rose (F.write_faults place.old) (F.write_faults place.new)) kernel dir size c d) (O.written out.old) (O.written out.new) result)) }
     ensures run_leaves { (kernel dir : List ℕ) (size : ℕ) → SaysRun (texts words.now) kernel dir size → WhereTold (F.content place.old) (λ c.
-        WhereTold (F.content place.new) (λ d. IsFailure result → LeavesPart kernel dir size c d)) }
+        WhereTold (F.content place.new) (λ d. IsFailure result → LeavesPart (Rose (F.write_faults place.old) (F.write_faults place.new)) kernel dir size c d)) }
     ensures run_reads { result ≡ READ_FAULT → F.content place.new ≡ F.content place.old }
 
     // A fault has its cause, and only a run that can begin writes anything.

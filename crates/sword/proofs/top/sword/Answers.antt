@@ -1,4 +1,5 @@
 use Rattle.std.proofs.Common.{refl, subst, List, ℕ}
+use Rattle.sw_base.specs.Environment.{Rose}
 use Rattle.command_answer.specs.Answer.{Answers, Tries}
 use Rattle.command_answer.proofs.Answering.{Answers-of, Tries-from_prints}
 use Rattle.sword.specs.Check.{FolderDue, HasReport}
@@ -36,13 +37,13 @@ returns-in-Ok-None-clause-run g c = λ kernel dir size says. let usage = rw c.in
 pub returns-in-Ok-Some-Run-clause-run : goal.returns-in-Ok-Some-Run-clause-run
 returns-in-Ok-Some-Run-clause-run g c = λ kernel dir size says old is new now.
     let said = rw (c.in-Ok-Some-Run.field-0-is, c.in-Ok-Some-Run.field-0-0-is) at c.in-Ok-Some-Run.ensures.said in
-    same_run (λ (k d : List ℕ) (n : ℕ). Tries (RunDue k d n old new) (g.O.Out.written c.args.out.now) (g.O.Out.written c.run.new.out) c.run.result) (texts c.args.words.now) _ _ kernel dir _ size
+    same_run (λ (k d : List ℕ) (n : ℕ). Tries (RunDue (Rose (g.F.Folder.write_faults c.args.place.now) (g.F.Folder.write_faults c.run.new.place)) k d n old new) (g.O.Out.written c.args.out.now) (g.O.Out.written c.run.new.out) c.run.result) (texts c.args.words.now) _ _ kernel dir _ size
     said says (c.run.ensures.answers old is new now)
 
 pub returns-in-Ok-Some-Run-clause-run_leaves : goal.returns-in-Ok-Some-Run-clause-run_leaves
 returns-in-Ok-Some-Run-clause-run_leaves g c = λ kernel dir size says old is new now failure.
     let said = rw (c.in-Ok-Some-Run.field-0-is, c.in-Ok-Some-Run.field-0-0-is) at c.in-Ok-Some-Run.ensures.said in
-    same_run (λ (k d : List ℕ) (n : ℕ). LeavesPart k d n old new) (texts c.args.words.now) _ _ kernel dir _ size said says (c.run.ensures.leaves old is new now failure)
+    same_run (λ (k d : List ℕ) (n : ℕ). LeavesPart (Rose (g.F.Folder.write_faults c.args.place.now) (g.F.Folder.write_faults c.run.new.place)) k d n old new) (texts c.args.words.now) _ _ kernel dir _ size said says (c.run.ensures.leaves old is new now failure)
 
 pub returns-in-Ok-Some-Run-clause-only_printed : goal.returns-in-Ok-Some-Run-clause-only_printed
 returns-in-Ok-Some-Run-clause-only_printed g c = λ old is none.
