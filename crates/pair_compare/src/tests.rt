@@ -29,7 +29,7 @@ fn segment(alloc: Global, lane: u16, only: Access) -> Result<Segment, AllocError
         path: Path::root().child(0, lane, 2),
         first: 1,
         last: 2,
-        label: Label::root().fork(lane, 2),
+        label: Label::root().fork(lane % 2, 2),
         accesses: vec![in alloc; only]?,
     })
 }

@@ -15,7 +15,7 @@ use Rattle.race_report.specs.Report.{report_text}
 use Rattle.log_walk.proofs.FirstOnce.{first_bad_once, row_task_once}
 use Rattle.pair_compare.proofs.Inserts.{pair_total}
 use Rattle.sword.specs.Check.{NamesLog, IsPlaceText, IsRefused, FolderDue, refused, answered, HasReport}
-use Rattle.sword.specs.Show.{HasRecords}
+use Rattle.sword.specs.Show.{ShowsRecords}
 
 not_in_nothing : (p : ℕ × ℕ) → Contains [] p → ⊥
 not_in_nothing p h = omega (arith, h.1)
@@ -99,11 +99,11 @@ due_once answer once files dir s r t u (answered one _ one_holds a) (answered ot
 report_once : (trace : Trace) (s r : ℕ) (t u : List ℕ) → HasReport trace s t → HasReport trace r u → t ≡ u
 report_once trace s r t u a b = a.text_is ∙ ap report_text (Lists-once (IsRacePair (logs_of trace)) a.pairs b.pairs a.races b.races) ∙ sym b.text_is
 
-records_once : (trace : Trace) (s r : ℕ) (t u : List ℕ) → HasRecords trace s t → HasRecords trace r u → t ≡ u
+records_once : (trace : Trace) (s r : ℕ) (t u : List ℕ) → ShowsRecords trace s t → ShowsRecords trace r u → t ≡ u
 records_once trace s r t u a b = a.text_is ∙ sym b.text_is
 
 pub one_report : (files : Files) (dir : List ℕ) (s r : ℕ) (t u : List ℕ) → FolderDue HasReport files dir s t → FolderDue HasReport files dir r u → t ≡ u
 one_report = due_once HasReport report_once
 
-pub one_listing : (files : Files) (dir : List ℕ) (s r : ℕ) (t u : List ℕ) → FolderDue HasRecords files dir s t → FolderDue HasRecords files dir r u → t ≡ u
-one_listing = due_once HasRecords records_once
+pub one_listing : (files : Files) (dir : List ℕ) (s r : ℕ) (t u : List ℕ) → FolderDue ShowsRecords files dir s t → FolderDue ShowsRecords files dir r u → t ≡ u
+one_listing = due_once ShowsRecords records_once

@@ -53,6 +53,6 @@ abbrev pub show_text : Trace → List ℕ
 show_text trace = flat_map (λ (task : TaskLog). log_text task.path task.records) trace
 
 -- the records of a run
-pub record HasRecords (trace : Trace) (status : ℕ) (text : List ℕ) : Type 0 where
+pub record ShowsRecords (trace : Trace) (status : ℕ) (text : List ℕ) : Type 0 where
   pub text_is : text ≡ show_text trace
   pub status_is : status ≡ DONE

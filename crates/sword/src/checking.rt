@@ -8,7 +8,7 @@ ghost use Rattle.log_walk.specs.Walk.{TellsFirstBad};
 ghost use Rattle.log_walk.specs.declared.fault.WalkFault.TheVariants as fault;
 ghost use Rattle.command_answer.specs.Answer.{Answers, Tries};
 ghost use Rattle.sword.specs.Check.{FolderDue, IsRefused, HasReport};
-ghost use Rattle.sword.specs.Show.{HasRecords};
+ghost use Rattle.sword.specs.Show.{ShowsRecords};
 ghost use Rattle.command_answer.specs.declared.status.TheConstants.{USAGE, FOLDER_REFUSED, READ_FAULT, WRITE_FAULT};
 
 use crate::printing::print_report;
@@ -38,7 +38,7 @@ fn report_run<O: Out>(alloc: Global, out: &mut O, segments: &[Segment]) -> u8
 
 /// Prints the records of a run.
 fn show_run<O: Out>(alloc: Global, out: &mut O, trace: &[TaskRecords]) -> u8
-    ensures answers { Tries (HasRecords (map task_of trace.now)) (O.written out.old) (O.written out.new) result }
+    ensures answers { Tries (ShowsRecords (map task_of trace.now)) (O.written out.old) (O.written out.new) result }
     ensures later { O.faults out.old ≤ O.faults out.new }
     ensures write_fault { result ≡ WRITE_FAULT → Rose (O.faults out.old) (O.faults out.new) }
     ensures no_read_fault { result ≡ READ_FAULT → ⊥ }
@@ -107,7 +107,7 @@ pub fn check<F: Folder, O: Out>(alloc: Global, place: &mut F, out: &mut O, dir: 
 
 /// Reads the folder's run and prints its records.
 pub fn show<F: Folder, O: Out>(alloc: Global, place: &mut F, out: &mut O, dir: &str) -> u8
-    ensures answers { WhereTold (F.content place.old) (λ c. Answers (FolderDue HasRecords c.held dir.now) (O.written out.old) (O.written out.new) result) }
+    ensures answers { WhereTold (F.content place.old) (λ c. Answers (FolderDue ShowsRecords c.held dir.now) (O.written out.old) (O.written out.new) result) }
     ensures read_fault { result ≡ READ_FAULT → Rose (F.read_faults place.old) (F.read_faults place.new) }
     ensures write_fault { result ≡ WRITE_FAULT → Rose (O.faults out.old) (O.faults out.new) }
     ensures same { F.content place.new ≡ F.content place.old }

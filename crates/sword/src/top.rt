@@ -4,7 +4,7 @@ ghost use Rattle.sw_base.specs.Environment.{Rose, WhereTold};
 ghost use Rattle.command_answer.specs.Answer.{Answers, IsFailure, Tries};
 ghost use Rattle.sword.specs.Check.{FolderDue, HasReport};
 ghost use Rattle.run_command.specs.Run.{LeavesPart, RunDue};
-ghost use Rattle.sword.specs.Show.{HasRecords};
+ghost use Rattle.sword.specs.Show.{ShowsRecords};
 ghost use Rattle.sword.specs.Words.{AsksRun, BeginsRun, IsUsage, SaysCheck, SaysRun, SaysShow, UsageDue, texts};
 ghost use Rattle.command_answer.specs.declared.status.TheConstants.{USAGE, READ_FAULT, WRITE_FAULT};
 
@@ -41,7 +41,7 @@ pub fn sword<R, F: Folder, O: Out, G: Gate>(
 
     // `show` answers the first bad place of the folder, or every record of the run that it holds.
     ensures show { (dir : List ℕ) → SaysShow (texts words.now) dir → WhereTold (F.content place.old) (λ c.
-        Answers (FolderDue HasRecords c.held dir) (O.written out.old) (O.written out.new) result) }
+        Answers (FolderDue ShowsRecords c.held dir) (O.written out.old) (O.written out.new) result) }
 
     // `run` answers that there is no kernel, or none of the first kind; that the folder has an index; where the kernel stopped; or
     // the counts of the run and some sums, whose logs and index are then there: those of the kernel's tasks, each with its whole trace

@@ -4,7 +4,7 @@ use Rattle.kernel_syntax.specs.declared.syntax.Schedule.{Schedule}
 use Rattle.kernel_syntax.specs.declared.syntax.Schedule.TheVariants.{Even, Static, Dynamic}
 use Rattle.kernel_syntax.specs.Bounds.{IsBounded}
 use Rattle.kernel_syntax.specs.FirstKind.{IsFirstKind}
-use Rattle.kernel_syntax.specs.Tree.{Code, Parallel, For}
+use Rattle.kernel_syntax.specs.Tree.{Code, For}
 use Rattle.kernel_syntax.specs.Program.{Program}
 
 -- an even share, or chunks of at least one iteration
@@ -17,10 +17,6 @@ IsChunked (Dynamic chunk) = ⊥
 abbrev pub HasChunks : Code → Type 0
 HasChunks (For slot from to schedule nowait line end body rest) = IsChunked schedule
 HasChunks _ = Unit {0}
-
-abbrev pub TeamHasChunks : Code → Type 0
-TeamHasChunks (Parallel span line end body rest) = HasChunks body
-TeamHasChunks _ = Unit {0}
 
 -- a kernel of the first kind within the bounds of the language, as one that was read is
 pub record IsReady (program : Program) : Type 0 where

@@ -24,14 +24,16 @@ pub record Written : Type 0 where
 abbrev pub records_in : ℕ → ℕ
 records_in size = size / 24
 
--- the lengths of the pieces of a log of n records: the header, as many records as the buffer holds, and the rest
+-- the piece of the records that are left, where there are some
 abbrev pub rest_piece : ℕ → List ℕ
 rest_piece zero = []
 rest_piece (suc n) = 24 * suc n ∷ []
 
+-- the header, and pieces of as many records as the buffer holds
 abbrev pub full_pieces : ℕ → ℕ → List ℕ
 full_pieces n size = 8 ∷ replicate (n / records_in size) (24 * records_in size)
 
+-- the lengths of the pieces of a log of n records
 abbrev pub cut : ℕ → ℕ → List ℕ
 cut n size = full_pieces n size ++ rest_piece (n % records_in size)
 

@@ -4,7 +4,7 @@ use Rattle.command_answer.specs.Answer.{Answers, Tries}
 use Rattle.command_answer.proofs.Answering.{Answers-of, Tries-from_prints}
 use Rattle.sword.specs.Check.{FolderDue, HasReport}
 use Rattle.run_command.specs.Run.{LeavesPart, RunDue}
-use Rattle.sword.specs.Show.{HasRecords}
+use Rattle.sword.specs.Show.{ShowsRecords}
 use Rattle.sword.specs.Words.{UsageDue, check, run, show, texts}
 use Rattle.sword.proofs.FolderAnswers.{usage_once}
 use Rattle.sword.proofs.WordLists.{same_check, same_run, same_show}
@@ -28,7 +28,7 @@ returns-in-Ok-Some-Check-clause-check g c = λ dir workers says content told.
 pub returns-in-Ok-Some-Show-clause-show : goal.returns-in-Ok-Some-Show-clause-show
 returns-in-Ok-Some-Show-clause-show g c = λ dir says content told.
     let said = rw (c.in-Ok-Some-Show.field-0-is, c.in-Ok-Some-Show.field-0-0-is) at c.in-Ok-Some-Show.ensures.said in
-    subst (λ (d : List ℕ). Answers (FolderDue HasRecords content.held d) (g.O.Out.written c.args.out.now) (g.O.Out.written c.show.new.out) c.show.result)
+    subst (λ (d : List ℕ). Answers (FolderDue ShowsRecords content.held d) (g.O.Out.written c.args.out.now) (g.O.Out.written c.show.new.out) c.show.result)
     (same_show _ _ dir said says) (c.show.ensures.answers content told)
 
 pub returns-in-Ok-None-clause-run : goal.returns-in-Ok-None-clause-run
