@@ -179,12 +179,14 @@ fn an_index_is_kept(rt: HostRuntime) -> Result<(), Fail> {
 #[test]
 fn a_stop_names_the_least_lane(rt: HostRuntime) -> Result<(), Fail> {
     let alloc = rt.alloc();
-    for (kernel, text) in [
-        (BEYOND, "stopped t-0.1.swl line 3: Index\n"),
-        (DIVIDE, "stopped t-0.0.swl line 3: DivZero\n"),
+    // Lane 0 has four Writes and waits at its Barrier, or it stops after a Read.
+    for (kernel, text, bytes) in [
+        (BEYOND, "stopped t-0.1.swl line 3: Index\n", 128),
+        (DIVIDE, "stopped t-0.0.swl line 3: DivZero\n", 32),
     ] {
         let place = after(&rt, alloc, kernel, "4096", KERNEL_STOPPED, text)?;
         assert!(rt; place.file(INDEX).is_none());
+        assert_eq!(rt; place.file(LANE_0).ok_or("a log")?.len(), bytes);
         assert_eq!(rt; place.sealed_name(2).ok_or("a log")?, "d/t-0.1.swl");
         assert!(rt; place.sealed_name(3).is_none());
     }
