@@ -172,12 +172,14 @@ fn a_barrier_orders_a_nested_region(rt: HostRuntime) -> Result<(), Fail> {
             "races 0\n",
         ),
     ];
+    let inner_0: &[Rec] = &[write(4, 4096), END];
+    let inner_1: &[Rec] = &[write(4, 4104), END];
     for (first, second, status, text) in table {
         let tasks: &[Task<'_>] = &[
             (&[], ROOT),
             (&[(0, 0, 2)], first),
-            (&[(0, 0, 2), (0, 0, 2)], &[write(4, 4096), END]),
-            (&[(0, 0, 2), (0, 1, 2)], &[write(4, 4104), END]),
+            (&[(0, 0, 2), (0, 0, 2)], inner_0),
+            (&[(0, 0, 2), (0, 1, 2)], inner_1),
             (&[(0, 1, 2)], second),
         ];
         let mut place = folder(alloc, tasks)?;
@@ -186,41 +188,33 @@ fn a_barrier_orders_a_nested_region(rt: HostRuntime) -> Result<(), Fail> {
     Ok(())
 }
 
+// The folder of a root whose eight lanes have these records.
+fn eight_lanes(alloc: Global, records: &[Rec]) -> Result<MemFolder, Fail> {
+    let tasks: &[Task<'_>] = &[
+        (&[], &[(6, 0, 3, 0, 8), END]),
+        (&[(0, 0, 8)], records),
+        (&[(0, 1, 8)], records),
+        (&[(0, 2, 8)], records),
+        (&[(0, 3, 8)], records),
+        (&[(0, 4, 8)], records),
+        (&[(0, 5, 8)], records),
+        (&[(0, 6, 8)], records),
+        (&[(0, 7, 8)], records),
+    ];
+    folder(alloc, tasks)
+}
+
 #[test]
 fn one_mutex_excludes_eight_lanes(rt: HostRuntime) -> Result<(), Fail> {
     let alloc = rt.alloc();
-    let locked: &[Rec] = &[
-        lock(4, 1),
-        (1, 8, 4, 4096, 0),
-        write(4, 4096),
-        unlock(4, 1),
-        END,
-    ];
-    let free: &[Rec] = &[(1, 8, 4, 4096, 0), write(4, 4096), END];
-    for (records, status, text) in [
-        (locked, DONE, "races 0\n"),
-        (free, RACES, "race 4 4\nraces 1\n"),
-    ] {
-        let steps: [[Step; 1]; 8] = [
-            [(0, 0, 8)],
-            [(0, 1, 8)],
-            [(0, 2, 8)],
-            [(0, 3, 8)],
-            [(0, 4, 8)],
-            [(0, 5, 8)],
-            [(0, 6, 8)],
-            [(0, 7, 8)],
-        ];
-        let root: &[Rec] = &[region(3, 8), END];
-        let mut tasks: Vec<Task<'_>> = Vec::new(alloc);
-        tasks.push((&[], root))?;
-        for step in &steps {
-            tasks.push((step, records))?;
-        }
-        let mut place = folder(alloc, &tasks)?;
-        answers(&rt, alloc, &mut place, &["check", "d", "8"], status, text)?;
-    }
-    Ok(())
+    let check = ["check", "d", "8"];
+    let read = (1, 8, 4, 4096, 0);
+    let locked = [lock(4, 1), read, write(4, 4096), unlock(4, 1), END];
+    let mut place = eight_lanes(alloc, &locked)?;
+    answers(&rt, alloc, &mut place, &check, DONE, "races 0\n")?;
+    let mut place = eight_lanes(alloc, &[read, write(4, 4096), END])?;
+    let text = "race 4 4\nraces 1\n";
+    answers(&rt, alloc, &mut place, &check, RACES, text)
 }
 
 // Lane 0 reads in its second loop what lane 1 writes in the first.
