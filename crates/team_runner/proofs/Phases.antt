@@ -9,7 +9,7 @@ use Rattle.team_runner.specs.declared.stop.Stop.{Stop}
 use Rattle.team_runner.specs.declared.stop.Stop.TheVariants as stop
 use Rattle.team_runner.specs.declared.team.Halt.{Halt}
 use Rattle.team_runner.specs.Lane.{EndsTask, HasFrontLog, barriers_of}
-use Rattle.team_runner.specs.Team.{PairsBelow, IsFreshLane, IsLaneOf, KeepsLane, LaneEnds, Passed, Ran, IsNoWant, StopsFirst, AllPassed, AllRan, path_of, start_of, lane_step}
+use Rattle.team_runner.specs.Team.{PairsBelow, IsFreshLane, IsLaneOf, KeepsLane, LaneEnds, Passed, Ran, IsNoWant, StopsFirst, AllPassed, AllRan, IsAfterClosing, path_of, start_of, lane_step}
 use Rattle.team_runner.proofs.Putting.{keeps_chain}
 use Rattle.team_runner.proofs.Tasks.{body_ends, body_reaches, body_waits, runs_whole, shut_stops}
 
@@ -122,7 +122,7 @@ module _ {X : Type 0} (arrays : List Array) (team : TeamTree) (olds : List (Lane
         outcome all)
 
     -- one stopped, and all logs were closed
-    pub ran_short : (halt : Halt) → 0 < barriers_of team.body → StopsFirst (Passed First arrays team) olds mids (length olds) halt →
+    ran_short : (halt : Halt) → 0 < barriers_of team.body → StopsFirst (Passed First arrays team) olds mids (length olds) halt →
         PairsBelow (length olds) (λ mid new. Passed Shut arrays team mid new None) mids news → AllRan arrays team olds news (length olds) (Some halt)
     ran_short halt some stops shut =
         let first = stops.first in
@@ -158,7 +158,7 @@ module _ {X : Type 0} (arrays : List Array) (team : TeamTree) (olds : List (Lane
         }
 
     -- memory was wanted then
-    pub ran_out : (want : Halt) → StopsFirst (Passed Shut arrays team) mids news (length olds) want →
+    ran_out : (want : Halt) → StopsFirst (Passed Shut arrays team) mids news (length olds) want →
         AllRan arrays team olds news (length olds) (Some want)
     ran_out want stops =
         let first = stops.first in
@@ -180,3 +180,32 @@ module _ {X : Type 0} (arrays : List Array) (team : TeamTree) (olds : List (Lane
           };
           reached = λ other none. absurd (omega (arith, none));
         }
+
+    -- or before
+    ran_wanting : (halt : Halt) → halt.why ≡ stop.Trouble trouble.Memory → StopsFirst (Passed First arrays team) olds mids (length olds) halt →
+        AllRan arrays team olds news (length olds) (Some halt)
+    ran_wanting halt wants stops =
+        let first = stops.first in
+        record {
+          barriers = 0;
+          first = record {
+            lane = first.lane;
+            within = first.within;
+            halts = λ d e.
+                let old = get_or olds first.lane d in
+                record {
+                  path_is = (first.halts d d).path_is;
+                  stopped =
+                      subst (λ (why : Stop). EndsTask arrays (start_of team old) 0 old.recorder (get_or news first.lane e).recorder (Err why)) (sym wants) tt;
+                };
+            before = λ other k d e lt. absurd (other wants);
+          };
+          reached = λ other none. absurd (omega (arith, none));
+        }
+
+    -- one stopped, and this is answered after all logs were closed
+    pub ran_closed : (halt : Halt) (want : Option Halt) (result : Halt) → 0 < barriers_of team.body → StopsFirst (Passed First arrays team) olds mids (length olds) halt →
+        AllPassed (Passed Shut arrays team) mids news (length olds) want → IsAfterClosing halt want result → AllRan arrays team olds news (length olds) (Some result)
+    ran_closed halt None result some stops shut is = subst (λ (h : Halt). AllRan arrays team olds news (length olds) (Some h)) (sym is) (ran_short halt some stops shut)
+    ran_closed halt (Some want) result some stops out (inl is) = subst (λ (h : Halt). AllRan arrays team olds news (length olds) (Some h)) (sym is) (ran_out want out)
+    ran_closed halt (Some want) result some stops out (inr is) = subst (λ (h : Halt). AllRan arrays team olds news (length olds) (Some h)) (sym is.0) (ran_wanting halt is.1 stops)

@@ -163,6 +163,11 @@ IsFirstOf (Some first) (Some later) result =
     ((result ≡ Some first) × (later.why ≡ stop.Trouble trouble.Memory → first.why ≡ stop.Trouble trouble.Memory))
     ⊎ ((result ≡ Some later) × (later.why ≡ stop.Trouble trouble.Memory))
 
+-- after the logs were closed: want of memory where that was found, but such a stop may stay; else the stop
+abbrev pub IsAfterClosing : Halt → Option Halt → Halt → Type 0
+IsAfterClosing halt None result = result ≡ halt
+IsAfterClosing halt (Some want) result = (result ≡ want) ⊎ ((result ≡ halt) × (halt.why ≡ stop.Trouble trouble.Memory))
+
 -- the log began with its header, and just these records were put since
 pub record HasPut (old new : Written) (records : List Record) : Type 0 where
   pub begun : Written

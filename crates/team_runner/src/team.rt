@@ -5,7 +5,7 @@ ghost use Rattle.kernel_syntax.specs.Program.{team_of};
 ghost use Rattle.kernel_syntax.specs.Layout.{ArePlaced};
 ghost use Rattle.team_runner.specs.Ready.{HasChunks};
 ghost use Rattle.team_runner.specs.Lane.{barriers_of};
-ghost use Rattle.team_runner.specs.Team.{EachAt, PairsBelow, IsForked, IsFreshLane, IsLaneOf, KeepsLane, Passed, AllPassed, AllRan, IsFirstOf};
+ghost use Rattle.team_runner.specs.Team.{EachAt, PairsBelow, IsForked, IsFreshLane, IsLaneOf, KeepsLane, Passed, AllPassed, AllRan, IsAfterClosing, IsFirstOf};
 ghost use Rattle.team_runner.specs.Written.{HasFault};
 ghost use Rattle.team_runner.specs.declared.stop.Stop.TheVariants as stop;
 ghost use Rattle.sw_base.specs.declared.trouble.Trouble.TheVariants as trouble;
@@ -125,6 +125,20 @@ fn first_stop(first: Option<Halt>, later: Option<Halt>) -> Option<Halt>
     }
 }
 
+/// The stop of a team, once its logs were closed after it. Want of memory goes first, of two that of the lesser path.
+fn after_closing(halt: Halt, want: Option<Halt>) -> Halt
+    ensures { IsAfterClosing halt want result }
+{
+    let Some(want) = want else {
+        return halt;
+    };
+    if is_want(halt.why) && halt.path < want.path {
+        halt
+    } else {
+        want
+    }
+}
+
 /// Whether a barrier stands at the end of the loop that the team's lanes share.
 fn waits(team: &Team) -> bool
     requires { IsOneLoop (team_of team.now).body }
@@ -214,10 +228,8 @@ pub fn run_lanes<L: Log, G: Gate>(
     match pass_lanes(Pass::First, alloc, arrays, words, team, lanes, gate) {
         None => pass_lanes(Pass::Last, alloc, arrays, words, team, lanes, gate),
         Some(halt) => {
-            match pass_lanes(Pass::Shut, alloc, arrays, words, team, lanes, gate) {
-                None => Some(halt),
-                Some(want) => Some(want),
-            }
+            let want = pass_lanes(Pass::Shut, alloc, arrays, words, team, lanes, gate);
+            Some(after_closing(halt, want))
         }
     }
 }

@@ -2,16 +2,16 @@ use Rattle.std.proofs.Common.{◌<◌, subst, length, None, arith}
 use Rattle.kernel_syntax.specs.Program.{team_of}
 use Rattle.team_runner.specs.declared.lane.Pass.TheVariants.{Last, Shut}
 use Rattle.team_runner.specs.Lane.{barriers_of}
-use Rattle.team_runner.specs.Team.{PairsBelow, KeepsLane, Passed, AllPassed, StopsFirst}
-use Rattle.team_runner.proofs.Phases.{keeps_all, of_team_still, ran_whole, ran_on, ran_short, ran_out}
+use Rattle.team_runner.specs.Team.{PairsBelow, KeepsLane, Passed, AllPassed}
+use Rattle.team_runner.proofs.Phases.{keeps_all, of_team_still, ran_whole, ran_on, ran_closed}
 use Rattle.team_runner.proofs.team.run_lanes.Goals as goal
 
 pub pass_lanes-requires-in-None-clause-lanes : goal.pass_lanes-requires-in-None-clause-lanes
 pass_lanes-requires-in-None-clause-lanes g c κs within =
     of_team_still (team_of c.args.team.now) c.args.lanes.now c.pass_lanes-2.new.lanes c.requires.lanes c.pass_lanes-2.auto.lanes c.pass_lanes-2.ensures.same
 
-pub pass_lanes-requires-in-Some-clause-lanes : goal.pass_lanes-requires-in-Some-clause-lanes
-pass_lanes-requires-in-Some-clause-lanes g c κs within =
+pub pass_lanes-want-requires-clause-lanes : goal.pass_lanes-want-requires-clause-lanes
+pass_lanes-want-requires-clause-lanes g c κs within =
     of_team_still (team_of c.args.team.now) c.args.lanes.now c.pass_lanes-2.new.lanes c.requires.lanes c.pass_lanes-2.auto.lanes c.pass_lanes-2.ensures.same
 
 pub returns-then-not-waits-clause-ran : goal.returns-then-not-waits-clause-ran
@@ -33,34 +33,19 @@ returns-in-None-clause-same g c =
     keeps_all (length c.args.lanes.now) c.args.lanes.now mids news c.pass_lanes-2.ensures.same
     (subst (λ n. PairsBelow n KeepsLane mids news) c.pass_lanes-2.auto.lanes c.pass_lanes-in-None.ensures.same)
 
-pub returns-in-None-pass_lanes-clause-ran : goal.returns-in-None-pass_lanes-clause-ran
-returns-in-None-pass_lanes-clause-ran g c =
+pub returns-in-Some-clause-ran : goal.returns-in-Some-clause-ran
+returns-in-Some-clause-ran g c =
     let mids = c.pass_lanes-2.new.lanes in
-    let news = c.pass_lanes-in-Some.new.lanes in
+    let news = c.pass_lanes-want.new.lanes in
     let some : 0 < barriers_of (team_of c.args.team.now).body = omega (arith, c.if-not-waits.ensures) in
-    ran_short c.args.arrays.now (team_of c.args.team.now) c.args.lanes.now c.requires.lanes mids news c.pass_lanes-2.ensures.same
-    c.in-Some.halt some c.in-Some.ensures.passed
-    (subst (λ n. PairsBelow n (λ mid new. Passed Shut c.args.arrays.now (team_of c.args.team.now) mid new None) mids news) c.pass_lanes-2.auto.lanes c.in-None-pass_lanes.ensures.passed)
+    ran_closed c.args.arrays.now (team_of c.args.team.now) c.args.lanes.now c.requires.lanes mids news c.pass_lanes-2.ensures.same
+    c.in-Some.halt c.pass_lanes-want.result c.after_closing.result some c.in-Some.ensures.passed
+    (subst (λ n. AllPassed (Passed Shut c.args.arrays.now (team_of c.args.team.now)) mids news n c.pass_lanes-want.result) c.pass_lanes-2.auto.lanes c.pass_lanes-want.ensures.passed)
+    c.after_closing.ensures
 
-pub returns-in-None-pass_lanes-clause-same : goal.returns-in-None-pass_lanes-clause-same
-returns-in-None-pass_lanes-clause-same g c =
+pub returns-in-Some-clause-same : goal.returns-in-Some-clause-same
+returns-in-Some-clause-same g c =
     let mids = c.pass_lanes-2.new.lanes in
-    let news = c.pass_lanes-in-Some.new.lanes in
+    let news = c.pass_lanes-want.new.lanes in
     keeps_all (length c.args.lanes.now) c.args.lanes.now mids news c.pass_lanes-2.ensures.same
-    (subst (λ n. PairsBelow n KeepsLane mids news) c.pass_lanes-2.auto.lanes c.pass_lanes-in-Some.ensures.same)
-
-pub returns-in-Some-pass_lanes-clause-ran : goal.returns-in-Some-pass_lanes-clause-ran
-returns-in-Some-pass_lanes-clause-ran g c =
-    let mids = c.pass_lanes-2.new.lanes in
-    let news = c.pass_lanes-in-Some.new.lanes in
-    ran_out c.args.arrays.now (team_of c.args.team.now) c.args.lanes.now c.requires.lanes mids news c.pass_lanes-2.ensures.same
-    c.in-Some-pass_lanes.want
-    (subst (λ n. StopsFirst (Passed Shut c.args.arrays.now (team_of c.args.team.now)) mids news n c.in-Some-pass_lanes.want)
-    c.pass_lanes-2.auto.lanes c.in-Some-pass_lanes.ensures.passed)
-
-pub returns-in-Some-pass_lanes-clause-same : goal.returns-in-Some-pass_lanes-clause-same
-returns-in-Some-pass_lanes-clause-same g c =
-    let mids = c.pass_lanes-2.new.lanes in
-    let news = c.pass_lanes-in-Some.new.lanes in
-    keeps_all (length c.args.lanes.now) c.args.lanes.now mids news c.pass_lanes-2.ensures.same
-    (subst (λ n. PairsBelow n KeepsLane mids news) c.pass_lanes-2.auto.lanes c.pass_lanes-in-Some.ensures.same)
+    (subst (λ n. PairsBelow n KeepsLane mids news) c.pass_lanes-2.auto.lanes c.pass_lanes-want.ensures.same)
