@@ -1,5 +1,5 @@
 //! `check` and `show`: what is read from a folder of logs.
-ghost use Rattle.std.specs.Prelude.{◌≡◌, ◌≤◌, ◌↔◌, ℕ, List, map, string_bytes, IfOk, IfSome, IsTrue};
+ghost use Rattle.std.specs.Prelude.{◌≡◌, ◌⊎◌, ◌≤◌, ◌↔◌, ℕ, List, None, map, string_bytes, IfOk, IfSome, IsTrue};
 ghost use Rattle.sw_base.specs.Environment.{Files, Rose, WhereTold};
 ghost use Rattle.race_model.specs.KeepsRules.{KeepsRules};
 ghost use Rattle.race_model.specs.Trace.{Trace, logs_of};
@@ -54,6 +54,7 @@ fn show_run<O: Out>(alloc: Global, out: &mut O, trace: &[TaskRecords]) -> u8
 fn place_text(alloc: Global, refused: &WalkFault) -> Result<Option<String>, Memory>
     ensures place { IfOk result (λ found. IfSome found (λ text. (files : Files) (dir : List ℕ) → TellsFirstBad files dir refused.now
         → IsRefused files dir FOLDER_REFUSED (string_bytes text))) }
+    ensures none { IfOk result (λ found. (found ≡ None) ↔ ((refused.now ≡ fault.ReadFault) ⊎ (refused.now ≡ fault.Memory))) }
 {
     Ok(Some(match refused {
         WalkFault::NoIndex => texts::no_index(alloc)?,
@@ -80,7 +81,7 @@ fn refuse<O: Out>(alloc: Global, out: &mut O, refused: WalkFault) -> u8
     ensures answers { (files : Files) (dir : List ℕ) → TellsFirstBad files dir refused → Tries (IsRefused files dir) (O.written out.old) (O.written out.new) result }
     ensures later { O.faults out.old ≤ O.faults out.new }
     ensures write_fault { result ≡ WRITE_FAULT → Rose (O.faults out.old) (O.faults out.new) }
-    ensures read_fault { result ≡ READ_FAULT → refused ≡ fault.ReadFault }
+    ensures read_fault { (result ≡ READ_FAULT) ↔ (refused ≡ fault.ReadFault) }
     ensures no_usage { result ≡ USAGE → ⊥ }
 {
     match place_text(alloc, &refused) {
