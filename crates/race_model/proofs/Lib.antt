@@ -29,4 +29,5 @@ pub mod ProgramOrder
 pub mod RaceVectors
 pub mod RowSpelling
 pub mod SegmentVectors
+pub mod StoppedTree
 pub mod TraceLogs

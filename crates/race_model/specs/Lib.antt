@@ -1,4 +1,5 @@
 pub mod FirstBad
+pub mod ForkJoin
 pub mod IndexFault
 pub mod KeepsRules
 pub mod Label
