@@ -5,7 +5,7 @@ use Rattle.std.proofs.lemmas.Grind.{flat_map-append}
 use Rattle.std.proofs.Math.Seq.{take-append_seam, take-append-add, drop-append_seam, drop-append-add, take-nil, drop-nil}
 use Rattle.log_format.specs.declared.record.Record.{Record}
 use Rattle.log_format.specs.Spelling.{spelling, log_bytes}
-use Rattle.log_format.specs.Table.{Fits, IsTabled}
+use Rattle.log_format.specs.Table.{RecordFits, IsTabled}
 use Rattle.log_format.proofs.Records.{length-spelling, spelling-injective}
 
 -- the bytes of some records, and then of more
@@ -68,7 +68,7 @@ record_in_log header n rs d within =
     ∙ first_spelled (get_or rs n d) (flat_map spelling (drop (suc n) rs))
 
 -- the bytes of records tell the records
-pub spellings-injective : (rs ss : List Record) → All Fits rs → All Fits ss → flat_map spelling rs ≡ flat_map spelling ss → rs ≡ ss
+pub spellings-injective : (rs ss : List Record) → All RecordFits rs → All RecordFits ss → flat_map spelling rs ≡ flat_map spelling ss → rs ≡ ss
 spellings-injective [] [] rs_fit ss_fit same = refl
 spellings-injective [] (s ∷ ss) rs_fit ss_fit same = absurd (omega (arith, ap length same, length-spellings (s ∷ ss)))
 spellings-injective (r ∷ rs) [] rs_fit ss_fit same = absurd (omega (arith, ap length same, length-spellings (r ∷ rs)))

@@ -14,7 +14,7 @@ use Rattle.log_format.specs.Table.{IsTabled, Spells, IsFirstFault}
 use Rattle.log_format.proofs.Logs.{log_bytes-append}
 use Rattle.race_model.specs.declared.why.RecordWhy.{RecordWhy}
 use Rattle.race_model.specs.declared.why.RecordWhy.TheVariants as log
-use Rattle.race_model.specs.Place.{record_rank}
+use Rattle.race_model.specs.BadPlace.{record_rank, last_rank}
 use Rattle.race_model.specs.Segment.{segment_count}
 use Rattle.race_model.specs.LogFault.{LogTask, Breaks, IsRead, IsRecord, IsLogFault, max_segments}
 use Rattle.log_walk.specs.declared.check.LogFault.{LogFault}
@@ -188,7 +188,7 @@ next_refused bytes task opened state records rest index next (fault.TooMany n) s
         full = over.full;
         opens = segment_count-push records over.r ∙ ap (λ (k : ℕ). segment_count records + k) over.opens;
       },
-      nothing_before bytes task opened state records rest index next over.r 20 so next_is over.spells within (λ rule low. over.breaks rule),
+      nothing_before bytes task opened state records rest index next over.r last_rank so next_is over.spells within (λ rule low. over.breaks rule),
     )
 next_refused bytes task opened state records rest index next fault.Memory so whole next_is within refused = absurd refused
 

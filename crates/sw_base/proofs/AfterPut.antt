@@ -3,7 +3,7 @@ use Rattle.std.proofs.Common.{◌≡◌, ◌≢◌, ℕ, List, Option, Some, ref
 use Rattle.std.proofs.lemmas.Bool.{false_from_ne_true}
 use Rattle.std.proofs.lemmas.Slice.Eq.{bytes_eq-Decides}
 use Rattle.std.specs.Str.{bytes_eq}
-use Rattle.sw_base.specs.Environment.{Content, Files, LeavesFront, with_file, with_put}
+use Rattle.sw_base.specs.Environment.{Content, Files, LeavesPrefix, with_file, with_put}
 
 -- the name holds the bytes
 pub with_file-here : (name bytes : List ℕ) (files : Files) → with_file name bytes files name ≡ Some bytes
@@ -20,9 +20,9 @@ pub record KeepsOthers (name : List ℕ) (old new : Content) : Type 0 where
   pub sealed : new.sealed ≡ old.sealed
   pub others : (other : List ℕ) → other ≢ name → new.held other ≡ old.held other
 
-pub leaves_front_others : (old : Content) (new : Option Content) (name bytes : List ℕ) → LeavesFront (Some old) new name bytes → (after : Content) × (new ≡ Some after) × KeepsOthers name old after
-leaves_front_others old new name bytes left =
+pub leaves_prefix_others : (old : Content) (new : Option Content) (name bytes : List ℕ) → LeavesPrefix (Some old) new name bytes → (after : Content) × (new ≡ Some after) × KeepsOthers name old after
+leaves_prefix_others old new name bytes left =
     ⊎_elim
     (λ same. (old, same, record { sealed = refl; others = λ _ _. refl }))
-    (λ put. (with_put name left.front old, put, record { sealed = refl; others = with_file-elsewhere name left.front old.held }))
+    (λ put. (with_put name left.prefix old, put, record { sealed = refl; others = with_file-elsewhere name left.prefix old.held }))
     left.leaves

@@ -5,9 +5,9 @@ use Rattle.std.specs.Prelude.{◌≡◌, ℕ, ◌+◌, ◌-◌, ◌^◌, min, Li
 abbrev pub next_count : ℕ → ℕ
 next_count count = min (count + 1) (2 ^ 64 - 1)
 
--- a front of the piece stands at the end
+-- a prefix of the piece stands at the end
 pub record TornEnd (old new piece : List ℕ) : Type 0 where
-  pub front : List ℕ
+  pub prefix : List ℕ
   pub rest : List ℕ
-  pub parts : piece ≡ front ++ rest
-  pub end : new ≡ old ++ front
+  pub parts : piece ≡ prefix ++ rest
+  pub end : new ≡ old ++ prefix

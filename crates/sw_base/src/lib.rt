@@ -8,14 +8,14 @@
 
 mod files;
 mod in_memory;
-mod outside;
+mod environment;
 mod path;
 mod reading;
 mod trouble;
 
 pub use files::{INDEX_HEADER, LOG_HEADER, index_name};
 pub use in_memory::{MemFolder, MemLog, MemOut};
-pub use outside::{Folder, Gate, Log, NoGate, Out};
+pub use environment::{Folder, Gate, Log, NoGate, Out};
 pub use path::{Path, Step};
 pub use reading::read_file;
 pub use trouble::{Memory, Trouble};

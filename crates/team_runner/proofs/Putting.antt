@@ -20,7 +20,7 @@ same_tells (Some t) f = refl
 pub tells_after : (r : Result (Unit {0}) Trouble) (old new : Option Text) (piece : List ℕ) → OnOk r (new ≡ option_map (with_piece piece) old) →
     OnErr r (TearsPiece old new piece) → is_some new ≡ is_some old
 tells_after (Ok v) old new piece done refused = ap is_some done ∙ same_tells old (with_piece piece)
-tells_after (Err e) old new piece done refused = ap is_some refused.tears ∙ same_tells old (with_torn refused.front)
+tells_after (Err e) old new piece done refused = ap is_some refused.tears ∙ same_tells old (with_torn refused.prefix)
 
 -- what failed has its fault counted
 pub fault_counted : (r : Result (Unit {0}) Trouble) (before : ℕ) (w : Written) → HasCause before w.faults r → IfErr r (λ t. HasFault t w)

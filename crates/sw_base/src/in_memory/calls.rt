@@ -54,7 +54,7 @@ impl Calls {
 }
 
 /// Appends the first half of a piece, or nothing where there is no memory: what is left of a write that failed.
-#[tactic(auto, using(crate::proofs::Fronts::torn_end_half))]
+#[tactic(auto, using(crate::proofs::Prefixes::torn_end_half))]
 pub fn tear(bytes: &mut Vec<u8>, piece: &[u8])
     ensures { TornEnd bytes.old.items bytes.new.items piece.now }
 {

@@ -2,7 +2,7 @@
 ghost use Rattle.std.specs.Prelude.{◌≡◌, ◌<◌, ◌≤◌, ◌↔◌, [], ◌∷◌, ◌++◌, length, drop, unwrap_or, is_some, IfOk, IfErr, OnOk, OnErr, IsErrOf, IsErrAnd, IsTrue, slice_get};
 ghost use Rattle.std.specs.Bool.{OnFalse};
 ghost use Rattle.std.specs.Option.{option_copied, option_map};
-ghost use Rattle.sw_base.specs.Environment.{HasCause, LeavesFront, Reads, Rose, TakesFaults, WhereTold, empty_text, no_files, with_file, with_log, with_put};
+ghost use Rattle.sw_base.specs.Environment.{HasCause, LeavesPrefix, Reads, Rose, TakesFaults, WhereTold, empty_text, no_files, with_file, with_log, with_put};
 ghost use Rattle.sw_base.specs.InMemory.{next_count};
 ghost use Rattle.sw_base.specs.MemFolder.{content_of, held_of, sealed_of, read_faults_of, write_faults_of, calls_of, failing_of, plans_of, IsNextToFail};
 ghost use Rattle.sw_base.specs.MemLog.{dir_of, path_of, text_of, faults_of, bytes_of, pieces_of, failing_of as log_failing_of, plans_of as log_plans_of};
@@ -13,7 +13,7 @@ use crate::in_memory::calls::Calls;
 use crate::in_memory::files::{Held, copy_from, find, store};
 use crate::in_memory::log::MemLog;
 use crate::in_memory::plans::Plans;
-use crate::outside::Folder;
+use crate::environment::Folder;
 use crate::path::Path;
 use crate::trouble::{Memory, Trouble};
 use std::alloc::Global;
@@ -174,7 +174,7 @@ impl MemFolder {
 
     // What a call that failed leaves: the name holds the first half of the bytes, or all is as before.
     fn tear_file(&mut self, name: &str, bytes: &[u8])
-        ensures torn { LeavesFront (content_of self.old) (content_of self.new) name.now bytes.now }
+        ensures torn { LeavesPrefix (content_of self.old) (content_of self.new) name.now bytes.now }
         ensures same_reads { read_faults_of self.new ≡ read_faults_of self.old }
         ensures same_writes { write_faults_of self.new ≡ write_faults_of self.old }
         ensures same_calls { calls_of self.new ≡ calls_of self.old }
@@ -287,7 +287,7 @@ impl Folder for MemFolder {
 
     fn put(&mut self, _alloc: Global, name: &str, bytes: &[u8]) -> Result<(), Trouble>
         ensures done { OnOk result (content_of self.new ≡ option_map (with_put name.now bytes.now) (content_of self.old)) }
-        ensures refused { OnErr result (LeavesFront (content_of self.old) (content_of self.new) name.now bytes.now) }
+        ensures refused { OnErr result (LeavesPrefix (content_of self.old) (content_of self.new) name.now bytes.now) }
         ensures memory { IsErrOf result Trouble.Memory → content_of self.new ≡ content_of self.old }
 
         ensures cause { HasCause (write_faults_of self.old) (write_faults_of self.new) result }
@@ -339,7 +339,7 @@ impl Folder for MemFolder {
         ensures done { OnOk result (WhereTold (text_of log) (λ text.
             content_of self.new ≡ option_map (with_log (log_name (dir_of log) (path_of log)) text) (content_of self.old))) }
         ensures refused { OnErr result (WhereTold (text_of log) (λ text.
-            LeavesFront (content_of self.old) (content_of self.new) (log_name (dir_of log) (path_of log)) text.bytes)) }
+            LeavesPrefix (content_of self.old) (content_of self.new) (log_name (dir_of log) (path_of log)) text.bytes)) }
         ensures memory { IsErrAnd result (λ error. error.0 ≡ Trouble.Memory) → content_of self.new ≡ content_of self.old }
         ensures tells { is_some (content_of self.new) ≡ is_some (content_of self.old) }
         ensures given_back { IfErr result (λ error. error.1 ≡ log) }

@@ -8,7 +8,7 @@ ghost use Rattle.sw_base.specs.Plans.{plans_by, FailsAsPlanned};
 
 use crate::in_memory::calls::{Calls, tear};
 use crate::in_memory::plans::Plans;
-use crate::outside::Log;
+use crate::environment::Log;
 use crate::path::Path;
 use crate::trouble::{Memory, Trouble};
 use std::alloc::Global;
@@ -183,7 +183,7 @@ impl Log for MemLog {
         Ok(MemLog::planned(alloc, self.dir.as_str(), path, &self.plans)?)
     }
 
-    #[tactic(auto, using(crate::proofs::Fronts::tears_piece_same))]
+    #[tactic(auto, using(crate::proofs::Prefixes::tears_piece_same))]
     fn append(&mut self, alloc: Global, piece: &[u8]) -> Result<(), Trouble>
         ensures done { OnOk result (text_of self.new ≡ option_map (with_piece piece.now) (text_of self.old)) }
         ensures refused { OnErr result (TearsPiece (text_of self.old) (text_of self.new) piece.now) }
