@@ -86,13 +86,6 @@ pub stores-fail : (fault : ReadKernelFault) (n : Names) (site : ℕ) (stmts : Li
 stores-fail NotBuilt n site stmts rest whole kept c e = sym kept.same ∙ ap (option_map (behind stmts)) (stores-none kept.turns n site rest c e)
 stores-fail Memory n site stmts rest whole kept c e = tt
 
-pub stores-start : (n : Names) (site : ℕ) (ts : List Token) → StoresKept n site [] ts (stores_at (suc (length ts)) n site ts)
-stores-start n site ts = record { turns = suc (length ts); enough = omega arith; same = start (stores_at (suc (length ts)) n site ts) }
-  where
-    start : (read : Option (Code × List Token)) → option_map (behind []) read ≡ read
-    start None = refl
-    start (Some x) = refl
-
 -- ---- arrays
 
 pub record ArraysKept (arrays : List Array) (rest : List Token) (whole : Option (List Array × List Token)) : Type 0 where

@@ -36,10 +36,6 @@ kind_at-code Region = refl
 kind_at-code Chunk = refl
 kind_at-code End = refl
 
--- kinds have different numbers
-pub kind_code-injective : (k l : Kind) → kind_code k ≡ kind_code l → k ≡ l
-kind_code-injective k l same = sym (kind_at-code k) ∙ ap kind_at same ∙ kind_at-code l
-
 -- the fields that bytes tell
 fields_at : List ℕ → Record
 fields_at bytes = record {

@@ -64,9 +64,6 @@ module _ (bytes rest : List ℕ) (parts : bytes ≡ INDEX_HEADER ++ rest) where
   whole_parts rows left is =
       parts ∙ ap (λ (bs : List ℕ). INDEX_HEADER ++ bs) is ∙ sym (append_assoc INDEX_HEADER (flat_map row_spelling (map raw_of rows)) left)
 
-  pub rows_spelled : (rows : List Row) → SpellsFirstRows rest rows → AreRows rows → SpellsRows bytes rows
-  rows_spelled rows first all = record { spelled = parts ∙ ap (λ (bs : List ℕ). INDEX_HEADER ++ bs) first.spelled; rows_are = all }
-
   pub stops_first : (n : ℕ) (why : IndexWhy) → StopsAt rest n why → IsFirstBadRow bytes n why
   stops_first n why stops files dir held =
       subst (λ (m : ℕ). IsFirstBadIndexPlace files dir (bad_row m why)) (sym stops.number)
@@ -75,9 +72,6 @@ module _ (bytes rest : List ℕ) (parts : bytes ≡ INDEX_HEADER ++ rest) where
   pub end_first : (rows : List Row) (why : IndexWhy) → SpellsFirstRows rest rows → FailsIndexFirst (map raw_of rows) [] why → IsFirstBadRow bytes (length rows + 1) why
   end_first rows why first fails files dir held =
       row_first files dir bytes held rows [] first.good (whole_parts rows [] (first.spelled ∙ sym (append-nil (flat_map row_spelling (map raw_of rows))))) why fails
-
-pub header_bad : (bytes : List ℕ) → (take 8 bytes ≢ INDEX_HEADER) → IsFirstBadRow bytes 0 Header
-header_bad bytes other files dir held = header_first files dir bytes held other
 
 -- no row is read yet
 pub none_good : (rows : List Row) → rows ≡ [] → AreFirstRows rows

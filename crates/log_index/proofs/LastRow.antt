@@ -72,9 +72,6 @@ next_goes_on rows row path is begins = (to, from) where
   from : BeginsListing (paths_of rows ++ path ∷ []) → IsNextPath row.path path
   from all = (begins_less (paths_of last.prefix) row.path path (subst (λ (ps : List (List Step)). BeginsListing ps) longer all)).1
 
-pub none_whole : (rows : List Row) → slice_get rows (length rows - 1) ≡ None → IsListing (paths_of rows) → ⊥
-none_whole rows is all = lists_some (subst (λ (rs : List Row). IsListing (paths_of rs)) (none_of rows is) all)
-
 pub last_whole : (rows : List Row) (row : Row) → slice_get rows (length rows - 1) ≡ Some row → BeginsListing (paths_of rows)
     → (All IsLastLane row.path → IsListing (paths_of rows)) × (IsListing (paths_of rows) → All IsLastLane row.path)
 last_whole rows row is begins = (to, from) where

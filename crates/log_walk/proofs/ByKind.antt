@@ -183,11 +183,6 @@ below_nine task before r log.RegionRows low broken = absurd (omega arith)
 below_nine task before r log.BarrierCount low broken = absurd (omega arith)
 below_nine task before r _ low broken = absurd broken
 
--- a record that isn't in its place breaks that first
-pub place_first : (task : LogTask) (before : List Record) (r : Record) (rule : RecordWhy) → OutOfPlace r.kind (length before + 1) task.records rule → BreaksFirst task before r rule
-place_first task before r log.EndEarly out = record {
-  breaks = out;
-  least = λ other low broken. let same = below_nine task before r other (omega arith) broken in absurd (omega (arith, ap record_rank same));
 }
 place_first task before r log.EndMissing out = record {
   breaks = out;

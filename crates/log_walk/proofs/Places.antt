@@ -402,9 +402,6 @@ holds_trace files dir rows trace walked all = record {
 pub good_nothing : (rows : List Row) → IsGoodTrace rows []
 good_nothing rows = record { rows_are = refl; each = λ k task found. absurd (omega (arith, slice_get_within [] k task found)); limit = omega arith }
 
-pub walked_nothing : (files : Files) (dir : List ℕ) (rows : List Row) → IsIndex files dir rows → Walked files dir rows []
-walked_nothing files dir rows index = record { index = index; logs = λ k d within. absurd (omega arith); good = good_nothing rows }
-
 -- the sum of segments after one log more
 pub segments_push : (trace : Trace) (task : TaskLog) → segments_in (trace ++ task ∷ []) ≡ segments_in trace + segment_count task.records
 segments_push trace task =
@@ -438,10 +435,4 @@ good_next rows trace task good found good_task few = record {
             (subst (λ (u : TaskLog). IsGoodTask rows trace u) task_is good_task)
       ]
 
-pub walked_next : (files : Files) (dir : List ℕ) (rows : List Row) (trace : Trace) (task : TaskLog) → Walked files dir rows trace → slice_get rows (length trace) ≡ Some (row_of task) → IsGoodTask rows trace task
-    → segments_in trace + segment_count task.records ≤ max_segments → IsWholeLog files dir task.path task.records → Walked files dir rows (trace ++ task ∷ [])
-walked_next files dir rows trace task walked found good few whole = record {
-  index = walked.index;
-  logs = All-push (λ (t : TaskLog). IsWholeLog files dir t.path t.records) trace task walked.logs whole;
-  good = good_next rows trace task walked.good found good few;
 }

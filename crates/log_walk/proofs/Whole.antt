@@ -30,12 +30,6 @@ pub record LogsRead (told : Option Content) (dir : List ℕ) (rows : List Row) (
   pub sum : segments ≡ segments_in (trace_of tasks)
   pub holds : WhereTold told (λ c. HoldsLogs c.held dir (trace_of tasks))
 
-pub logs_start : (told : Option Content) (dir : List ℕ) (rows : List Row) (tasks : List TaskRecords) → tasks ≡ [] → LogsRead told dir rows tasks 0 0
-logs_start told dir rows tasks empty = subst (λ (ts : List TaskRecords). LogsRead told dir rows ts 0 0) (sym empty) (record {
-  good = good_nothing rows;
-  count = refl;
-  sum = refl;
-  holds = λ content is k d within. absurd (omega arith);
 })
 
 -- what is known where the index is a good one

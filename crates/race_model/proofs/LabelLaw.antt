@@ -194,14 +194,6 @@ same_label_from_place logs x y _ m (IsLabel.lane fork x1 n s above h up) is_m sa
     let equal : above ++ lane_triple logs x n s ∷ [] ≡ above ++ lane_triple logs y n s ∷ [] = cc in
     equal ∙ label_unique logs y _ m (IsLabel.lane fork y n s above (subst (λ (path : List Step). IsLane logs fork n s path) same h) up) is_m
 
--- where labels are the same, happens-before is the order of the log
-pub same_label_index : (logs : Logs) (x y : Node) (l m : List Triple) → IsForkJoin logs → IsLabel logs x l → IsLabel logs y m → l ≡ m → HappensBefore logs x y → x.index ≤ y.index
-same_label_index logs x y l m tree is_l is_m e before = at (happens_before_labels logs x y before tree l m is_l is_m)
-  where
-    at : AtMost x.index y.index l m → x.index ≤ y.index
-    at (inl same) = same.1
-    at (inr less) = absurd (label_not_before_itself l m e less)
-
 -- happens-before is a partial order
 pub happens_before_antisym : (logs : Logs) (x y : Node) → IsForkJoin logs → IsThere logs x → IsThere logs y → HappensBefore logs x y → HappensBefore logs y x → x ≡ y
 happens_before_antisym logs x y tree x_there y_there before after =
@@ -226,8 +218,6 @@ happens_before_index logs x y tree x_there y_there same before =
     let back : y.index < x.index → x.index ≡ y.index = λ l. ap (λ (w : Node). w.index) (happens_before_antisym logs x y tree x_there y_there before (program_order logs y x (sym same) (omega arith) x_there)) in
     not_above x.index y.index back
   where
-    not_above : (i j : ℕ) → (j < i → i ≡ j) → i ≤ j
-    not_above i j back = grind arith
 
 -- happens-before by labels
 pub happens_before_by_labels : (logs : Logs) (x y : Node) (l m : List Triple) → IsForkJoin logs → IsThere logs x → IsThere logs y → IsLabel logs x l → IsLabel logs y m

@@ -60,9 +60,6 @@ whole_sealed dir size root tasks = map-map sealed_of (whole_log dir size (Some r
 whole_rows : (dir : List ℕ) (size : ℕ) (root : Option Text) (tasks : Trace) → rows_of_logs (map (whole_log dir size root) tasks) ≡ rows_of tasks
 whole_rows dir size root tasks = map-map (λ (log : Logged). record { path = log.task; records = log.count }) (whole_log dir size root) tasks
 
-whole_tasks : (dir : List ℕ) (size : ℕ) (root : Option Text) (tasks : Trace) → tasks_of (map (whole_log dir size root) tasks) ≡ paths_of tasks
-whole_tasks dir size root tasks = map-map (λ (log : Logged). log.task) (whole_log dir size root) tasks
-
 -- each is of the folder and tells what it holds
 whole_tell : (dir : List ℕ) (size : ℕ) (root : Text) (tasks : Trace) → AllTell dir (map (whole_log dir size (Some root)) tasks)
 whole_tell dir size root tasks = All-map (IsOwnLog dir true) (whole_log dir size (Some root)) tasks (λ k d within. record { dir_is = refl; path_is = refl; tells_so = refl })

@@ -19,10 +19,3 @@ with_file-elsewhere name bytes files other apart =
 pub record KeepsOthers (name : List ℕ) (old new : Content) : Type 0 where
   pub sealed : new.sealed ≡ old.sealed
   pub others : (other : List ℕ) → other ≢ name → new.held other ≡ old.held other
-
-pub leaves_prefix_others : (old : Content) (new : Option Content) (name bytes : List ℕ) → LeavesPrefix (Some old) new name bytes → (after : Content) × (new ≡ Some after) × KeepsOthers name old after
-leaves_prefix_others old new name bytes left =
-    ⊎_elim
-    (λ same. (old, same, record { sealed = refl; others = λ _ _. refl }))
-    (λ put. (with_put name left.prefix old, put, record { sealed = refl; others = with_file-elsewhere name left.prefix old.held }))
-    left.leaves

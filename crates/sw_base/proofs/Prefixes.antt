@@ -14,10 +14,6 @@ pub tears_piece_same : (old new : Option Text) (piece : List ℕ) → new ≡ ol
 tears_piece_same None new piece same = record { prefix = []; rest = piece; parts = refl; tears = same }
 tears_piece_same (Some text) new piece same = record { prefix = []; rest = piece; parts = refl; tears = same ∙ ap Some (sym (rw append-nil refl)) }
 
--- a call that changed nothing
-pub leaves_prefix_same : (old new : Option Content) (name bytes : List ℕ) → new ≡ old → LeavesPrefix old new name bytes
-leaves_prefix_same old new name bytes same = record { prefix = []; rest = bytes; parts = refl; leaves = inl same }
-
 -- whether an append of a first half went through or not, a prefix of the piece stands at the end
 pub torn_end_half : (ok : Bool) (old new piece : List ℕ) (half : ℕ) → new ≡ cond ok (old ++ take half piece) old → TornEnd old new piece
 torn_end_half true old new piece half half_added = record { prefix = take half piece; rest = drop half piece; parts = sym (take-append-drop half piece); end = half_added }

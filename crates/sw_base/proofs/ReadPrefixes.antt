@@ -53,12 +53,6 @@ held_whole (Some file) bytes size sized begins enough =
     let same : length file ≡ size = ap (λ (n : Option ℕ). unwrap_or n 0) (sym sized) in
     ap Some (whole file bytes begins (enough same))
 
--- as many bytes as the file has were read
-pub told_all : (told : Option Content) (name bytes : List ℕ) (size : ℕ) → ToldPrefix told name bytes
-    → WhereTold told (λ c. Some size ≡ option_map length (c.held name)) → size ≤ length bytes → WhereTold told (λ c. c.held name ≡ Some bytes)
-told_all told name bytes size begins sized enough =
-    λ c is. held_whole (c.held name) bytes size (sized c is) (begins.prefix c is) (λ same. omega arith)
-
 -- no more bytes came
 pub told_stop : (told : Option Content) (name bytes window : List ℕ) (size : ℕ) → ToldPrefix told name bytes
     → WhereTold told (λ c. Some size ≡ option_map length (c.held name)) → 0 < length window

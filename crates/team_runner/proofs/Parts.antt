@@ -196,15 +196,6 @@ module _ (at : Site) (body : Code) (slot : ℕ) (a : ℤ) where
   abbrev a_turn : ℕ → Part
   a_turn = turn at body slot a
 
-  -- one turn, after its number is assigned
-  pub turn_made : (i : ℕ) (v : ℤ) (slots slots' : List ℤ) (old new : Written) (finish : Finish (Unit {0})) → v ≡ a +ℤ pos i →
-      MadePart (run at body) (slice_set slots slot v) old new slots' finish → MadePart (a_turn i) slots old new slots' finish
-  turn_made i v slots slots' old new finish is m = record {
-    added = m.added;
-    adds_records = m.adds_records;
-    makes =
-        makes-assign (run at body) slot (a +ℤ pos i) slots (log_limit - old.count) (adds slots' m.added) finish
-        (subst (λ w. Makes (run at body) (slice_set slots slot w) (log_limit - old.count) (adds slots' m.added) finish) is m.makes);
   }
 
   pub turns_none : (slots : List ℤ) (w : Written) → MadePart (each [] a_turn) slots w w slots (Returned tt)

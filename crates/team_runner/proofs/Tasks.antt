@@ -111,20 +111,6 @@ module _ (P Q : Finish (Unit {0}) → Type 0) (old new : Written) where
   ends_weaker (Err (LogFull line)) result goes e p = closes_weaker (Err (LogFull line)) result goes e p
   ends_weaker (Err (Trouble trouble)) result goes e p = subst (Finishes Q new) (sym e.0) (subst (HasFault trouble) (sym e.1) p)
 
--- what the recorder says of a body that stopped
-no_ok : (why : Stop) (v : Unit {0}) (old new : Written) → EndsPart (Err why) old new (Ok v) → ⊥
-no_ok (DivZero line) v old new e = let is = e.0 in cc
-no_ok (Index line) v old new e = let is = e.0 in cc
-no_ok (LogFull line) v old new e = let is = e.0 in cc
-no_ok (Trouble trouble) v old new e = let is = e.0 in cc
-
-pub stop_closed : (arrays : List Array) (start : Start) (old last new : Written) (why : Stop) (result : Result (Unit {0}) Stop) → last.size ≡ old.size → new.size ≡ last.size →
-    Finishes (MadeBody arrays start old last) last (Err why) → EndsPart (Err why) last new result → BeginsTask arrays start old new result
-stop_closed arrays start old last new why (Ok v) size size_now made ends = absurd (no_ok why v last new ends)
-stop_closed arrays start old last new why (Err e) size size_now made ends =
-    ends_weaker (MadeBody arrays start old last) (ClosedBody arrays start old new) last new (Err why) (Err e)
-    (λ finish m closed. record { last = last; made = m; size = size; size_now = size_now; closed = closed }) ends made
-
 -- ---- a body that ended
 
 module _ (arrays : List Array) (start : Start) (old mid new : Written) (fresh : IsFresh old) (some : 24 ≤ old.size) (m : MadeBody arrays start old mid (Returned tt)) (size : mid.size ≡ old.size) where

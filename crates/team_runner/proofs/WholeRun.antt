@@ -77,10 +77,6 @@ cause_after Q halt result (inl same) cause failed = subst (λ (h : Halt). h.why 
 cause_after Q halt result (inr memory) cause failed =
     let other : stop.Trouble trouble.Memory ≡ stop.Trouble trouble.Failed = sym memory ∙ failed in absurd (cc)
 
--- the root's log alone is the first
-pub first_root_log : {X : Type 0} (program : Program) (root : Written) (lanes : List (Lane X)) → lanes ≡ [] → AreFirst program (map logged (all_logs root lanes))
-first_root_log program root lanes none = rw none refl
-
 -- a lane that did nothing
 same_lane : {X : Type 0} (lane : Lane X) → KeepsLane lane lane
 same_lane lane = record { lane = refl; span = refl; log = record { dir = refl; path = refl; size = refl; tells = refl } }
