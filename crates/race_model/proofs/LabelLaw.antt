@@ -218,6 +218,8 @@ happens_before_index logs x y tree x_there y_there same before =
     let back : y.index < x.index → x.index ≡ y.index = λ l. ap (λ (w : Node). w.index) (happens_before_antisym logs x y tree x_there y_there before (program_order logs y x (sym same) (omega arith) x_there)) in
     not_above x.index y.index back
   where
+    not_above : (i j : ℕ) → (j < i → i ≡ j) → i ≤ j
+    not_above i j back = grind arith
 
 -- happens-before by labels
 pub happens_before_by_labels : (logs : Logs) (x y : Node) (l m : List Triple) → IsForkJoin logs → IsThere logs x → IsThere logs y → IsLabel logs x l → IsLabel logs y m

@@ -162,5 +162,5 @@ pub record IsBadRecord (files : Files) (dir : List ℕ) (rows : List Row) (row n
   pub spans : List ℕ
   pub has_spans : ListsSpans rows task.path spans
   pub due_barriers : Option ℕ
-  pub has_team : (barriers : ℕ) → team ≡ Some barriers → HasTeamBarriers files dir task.path barriers
-  pub fault : IsLogFault bytes (record { path = task.path; records = task.records; spans = spans; due_barriers = team }) n rule
+  pub has_team : (barriers : ℕ) → due_barriers ≡ Some barriers → HasTeamBarriers files dir task.path barriers
+  pub fault : IsLogFault bytes (record { path = task.path; records = task.records; spans = spans; due_barriers = due_barriers }) n rule

@@ -1,9 +1,9 @@
 -- What a folder holds after a file was put or a log was sealed.
-use Rattle.std.proofs.Common.{◌≡◌, ◌≢◌, ℕ, List, Option, Some, refl, sym, ⊎_elim, true, false}
+use Rattle.std.proofs.Common.{◌≡◌, ◌≢◌, ℕ, List, Some, refl, sym, true, false}
 use Rattle.std.proofs.lemmas.Bool.{false_from_ne_true}
 use Rattle.std.proofs.lemmas.Slice.Eq.{bytes_eq-Decides}
 use Rattle.std.specs.Str.{bytes_eq}
-use Rattle.sw_base.specs.Environment.{Content, Files, LeavesPrefix, with_file, with_put}
+use Rattle.sw_base.specs.Environment.{Content, Files, with_file}
 
 -- the name holds the bytes
 pub with_file-here : (name bytes : List ℕ) (files : Files) → with_file name bytes files name ≡ Some bytes

@@ -1,7 +1,7 @@
 -- What a refused call leaves: a prefix of what it was to write.
 use Rattle.std.proofs.Common.{◌≡◌, Bool, true, false, cond, ℕ, List, [], ◌++◌, take, drop, Option, None, Some, refl, sym, ap, ◌∙◌, append-nil, inl, inr, Result, Ok, Err, OnOk, OnErr}
 use Rattle.std.proofs.lemmas.List.{take-append-drop}
-use Rattle.sw_base.specs.Environment.{Content, Files, GainsPrefix, LeavesPrefix, Sealed, TearsPiece, Text, with_file}
+use Rattle.sw_base.specs.Environment.{Files, GainsPrefix, LeavesPrefix, Sealed, TearsPiece, Text, with_file}
 use Rattle.sw_base.specs.InMemory.{TornEnd}
 use Rattle.sw_base.proofs.Gains.{GainsPrefix-same}
 
