@@ -1,24 +1,24 @@
 -- Printing a due text gives the answer.
 use Rattle.std.proofs.Common.{◌≡◌, ℕ, List, Option, sym, subst}
-use Rattle.sw_base.specs.Environment.{GainsFront}
-use Rattle.sw_base.proofs.Gains.{GainsFront-same}
+use Rattle.sw_base.specs.Environment.{GainsPrefix}
+use Rattle.sw_base.proofs.Gains.{GainsPrefix-same}
 use Rattle.command_answer.specs.Answer.{Answers, given, failed, Tries, done, broken_off, silent, Prints, whole, part}
 
 pub Tries-from_prints : (due : ℕ → List ℕ → Type 0) (status : ℕ) (text : List ℕ) (old new : Option (List ℕ)) (result : ℕ) → due status text → Prints status text old new result
     → Tries due old new result
 Tries-from_prints due status text old new result is_due (whole same all) = done text (subst (λ (s : ℕ). due s text) (sym same) is_due) all
-Tries-from_prints due status text old new result is_due (part failure front) = broken_off failure status text is_due front
+Tries-from_prints due status text old new result is_due (part failure prefix) = broken_off failure status text is_due prefix
 
 -- an answer for one thing that is due is an answer for all that are
 pub Tries-weaker : (due more : ℕ → List ℕ → Type 0) (old new : Option (List ℕ)) (result : ℕ) → ((status : ℕ) (text : List ℕ) → due status text → more status text)
     → Tries due old new result → Tries more old new result
 Tries-weaker due more old new result also (done text is_due all) = done text (also result text is_due) all
-Tries-weaker due more old new result also (broken_off failure status text is_due front) = broken_off failure status text (also status text is_due) front
+Tries-weaker due more old new result also (broken_off failure status text is_due prefix) = broken_off failure status text (also status text is_due) prefix
 Tries-weaker due more old new result also (silent failure same) = silent failure same
 
--- where one text is due, a front of it is a front of each
+-- where one text is due, a prefix of it is a prefix of each
 pub Answers-of : (due : ℕ → List ℕ → Type 0) → ((s r : ℕ) (t u : List ℕ) → due s t → due r u → t ≡ u) → (old new : Option (List ℕ)) (result : ℕ) → Tries due old new result → Answers due old new result
 Answers-of due once old new result (done text is_due all) = given text is_due all
-Answers-of due once old new result (broken_off failure status text is_due front) =
-    failed failure (λ other_status other is. subst (λ (t : List ℕ). GainsFront old new t) (once status other_status text other is_due is) front)
-Answers-of due once old new result (silent failure same) = failed failure (λ other_status other is. GainsFront-same old new other same)
+Answers-of due once old new result (broken_off failure status text is_due prefix) =
+    failed failure (λ other_status other is. subst (λ (t : List ℕ). GainsPrefix old new t) (once status other_status text other is_due is) prefix)
+Answers-of due once old new result (silent failure same) = failed failure (λ other_status other is. GainsPrefix-same old new other same)

@@ -1,6 +1,6 @@
-//! What each command is answered with, and what it means that a due text was printed, a front of it, or nothing.
+//! What each command is answered with, and what it means that a due text was printed, a prefix of it, or nothing.
 //!
-//! A text comes with its status. Where it couldn't be printed a front of it was, and the status is that of a failure:
+//! A text comes with its status. Where it couldn't be printed a prefix of it was, and the status is that of a failure:
 //! `WRITE_FAULT`, only where the output's count of faults rose, or `NO_MEMORY`.
 #![tactic(auto)]
 

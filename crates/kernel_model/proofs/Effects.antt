@@ -59,13 +59,13 @@ module _ {A B : Type 0} (part : State → Outcome A) (next : A → State → Out
   makes-then a more finish m n = record {
     within = omega (arith, length-append one.added more.added, m.within, n.within);
     makes = λ records forks reads chunks.
-        let fronts : reads_of (one.added ++ more.added) ++ reads ≡ reads_of one.added ++ (reads_of more.added ++ reads) =
+        let prefixes : reads_of (one.added ++ more.added) ++ reads ≡ reads_of one.added ++ (reads_of more.added ++ reads) =
         ap (λ l. l ++ reads) (reads_of-append one.added more.added) ∙ append_assoc (reads_of one.added) (reads_of more.added) reads in
         let draws : chunks_of (one.added ++ more.added) ++ chunks ≡ chunks_of one.added ++ (chunks_of more.added ++ chunks) =
         ap (λ l. l ++ chunks) (chunks_of-append one.added more.added) ∙ append_assoc (chunks_of one.added) (chunks_of more.added) chunks in
         let left : room - length one.added - length more.added ≡ room - length (one.added ++ more.added) =
         omega (arith, length-append one.added more.added) in
-        ap (λ l. and_then (part (state_with slots records forks room l (chunks_of (one.added ++ more.added) ++ chunks))) next) fronts
+        ap (λ l. and_then (part (state_with slots records forks room l (chunks_of (one.added ++ more.added) ++ chunks))) next) prefixes
         ∙ ap (λ l. and_then (part (state_with slots records forks room (reads_of one.added ++ (reads_of more.added ++ reads)) l)) next) draws
         ∙ ap (λ o. and_then o next) (m.makes records forks (reads_of more.added ++ reads) (chunks_of more.added ++ chunks))
         ∙ n.makes (records ++ one.added) (forks ++ one.forks) reads chunks

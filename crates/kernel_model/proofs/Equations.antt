@@ -29,7 +29,7 @@ pub read-room : (e : Element) (site line : ℕ) (s : State) (room : ℕ) (v : �
     ≡ Gives (fitted v e.width)
     (record s { records = s.records ++ access kind.Read e site line (fitted v e.width) ∷ []; room = room; reads = reads })
 unfolding read
-read-room e site line s room v reads is front = rw (is, front) refl
+read-room e site line s room v reads is prefix = rw (is, prefix) refl
 
 pub read-wants : (e : Element) (site line : ℕ) (s : State) (room : ℕ) → s.room ≡ suc room → s.reads ≡ [] → read e site line s ≡ Wants s
 unfolding read
@@ -43,7 +43,7 @@ pub draw-room : (line n : ℕ) (s : State) (room q : ℕ) (chunks : List ℕ) �
     draw line n s
     ≡ Gives q (record s { records = s.records ++ event kind.Chunk line (min q n) n ∷ []; room = room; chunks = chunks })
 unfolding draw
-draw-room line n s room q chunks is front = rw (is, front) refl
+draw-room line n s room q chunks is prefix = rw (is, prefix) refl
 
 pub draw-wants : (line n : ℕ) (s : State) (room : ℕ) → s.room ≡ suc room → s.chunks ≡ [] → draw line n s ≡ Wants s
 unfolding draw

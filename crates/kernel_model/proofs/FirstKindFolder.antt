@@ -29,8 +29,8 @@ same_forks-steps = record {
   chain = λ a b c one more. more ∙ one;
   assigns = λ slot v s. refl;
   puts = λ r room s is plain. refl;
-  reads = λ e site line room v reads s is front. refl;
-  draws = λ line n room q chunks s is front. refl;
+  reads = λ e site line room v reads s is prefix. refl;
+  draws = λ line n room q chunks s is prefix. refl;
 }
 
 -- a lane of one loop forks nothing

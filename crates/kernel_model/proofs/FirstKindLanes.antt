@@ -10,7 +10,7 @@ use Rattle.log_format.specs.declared.record.Kind.{Kind}
 use Rattle.log_format.specs.declared.record.Kind.TheVariants as kind
 use Rattle.log_format.specs.declared.record.Why.{Why}
 use Rattle.log_format.specs.declared.record.Why.TheVariants as why
-use Rattle.log_format.specs.Table.{IsTabled, Fits, Passes}
+use Rattle.log_format.specs.Table.{IsTabled, RecordFits, PassesTable}
 use Rattle.race_model.specs.declared.why.RecordWhy.{RecordWhy}
 use Rattle.race_model.specs.declared.why.RecordWhy.TheVariants as log
 use Rattle.race_model.specs.IndexFault.{HasRecords}
@@ -31,13 +31,13 @@ use Rattle.kernel_model.proofs.FirstKindShape.{IsTabledAccess, IsLaneLog, loop_b
 
 -- ---- records that are no accesses
 
-event_fits : (k : Kind) (line value : ℕ) → IsLine line → value < 2 ^ 64 → Fits (event k line 0 value)
+event_fits : (k : Kind) (line value : ℕ) → IsLine line → value < 2 ^ 64 → RecordFits (event k line 0 value)
 event_fits k line value is small = record { size = omega arith; site = omega arith; line = is.fits; addr = omega arith; value = small }
 
 tabled_barrier : (line : ℕ) → IsLine line → IsTabled (event kind.Barrier line 0 0)
 tabled_barrier line is = record { fits = event_fits kind.Barrier line 0 is (omega arith); passes = passes }
   where
-    passes : (w : Why) → Passes (event kind.Barrier line 0 0) w
+    passes : (w : Why) → PassesTable (event kind.Barrier line 0 0) w
     passes why.Kind = tt
     passes why.Size = refl
     passes why.LineZero = is.some
@@ -48,7 +48,7 @@ tabled_barrier line is = record { fits = event_fits kind.Barrier line 0 is (omeg
 pub tabled_end : (line : ℕ) → IsLine line → IsTabled (event kind.End line 0 0)
 tabled_end line is = record { fits = event_fits kind.End line 0 is (omega arith); passes = passes }
   where
-    passes : (w : Why) → Passes (event kind.End line 0 0) w
+    passes : (w : Why) → PassesTable (event kind.End line 0 0) w
     passes why.Kind = tt
     passes why.Size = refl
     passes why.LineZero = is.some
@@ -61,7 +61,7 @@ tabled_region line span is spans =
     let limit = spans.limit in
     record { fits = event_fits kind.Region line span is (omega arith); passes = passes }
   where
-    passes : (w : Why) → Passes (event kind.Region line 0 span) w
+    passes : (w : Why) → PassesTable (event kind.Region line 0 span) w
     passes why.Kind = tt
     passes why.Size = refl
     passes why.LineZero = is.some
@@ -75,48 +75,48 @@ abbrev NotEnd : Record → Type 0
 NotEnd r = r.kind ≡ kind.End → ⊥
 
 -- an End is the last record, and the last record is the End
-end_at : (front : List Record) (last : Record) (k : ℕ) (r : Record) → All NotEnd front →
-    slice_get (front ++ last ∷ []) k ≡ Some r → r.kind ≡ kind.End → k + 1 ≡ length (front ++ last ∷ [])
+end_at : (prefix : List Record) (last : Record) (k : ℕ) (r : Record) → All NotEnd prefix →
+    slice_get (prefix ++ last ∷ []) k ≡ Some r → r.kind ≡ kind.End → k + 1 ≡ length (prefix ++ last ∷ [])
 end_at [] last zero r once found ends = omega arith
 end_at [] last (suc k) r once found ends = cc
-end_at (x ∷ front) last zero r once found ends =
-    absurd (All-head NotEnd x front once (ap (λ y. y.kind) (same_Some x r found) ∙ ends))
-end_at (x ∷ front) last (suc k) r once found ends =
-    let rest = end_at front last k r (All-tail NotEnd x front once) found ends in
+end_at (x ∷ prefix) last zero r once found ends =
+    absurd (All-head NotEnd x prefix once (ap (λ y. y.kind) (same_Some x r found) ∙ ends))
+end_at (x ∷ prefix) last (suc k) r once found ends =
+    let rest = end_at prefix last k r (All-tail NotEnd x prefix once) found ends in
     omega arith
 
-last_at : (front : List Record) (last : Record) (k : ℕ) (r : Record) → slice_get (front ++ last ∷ []) k ≡ Some r →
-    k + 1 ≡ length (front ++ last ∷ []) → last ≡ r
+last_at : (prefix : List Record) (last : Record) (k : ℕ) (r : Record) → slice_get (prefix ++ last ∷ []) k ≡ Some r →
+    k + 1 ≡ length (prefix ++ last ∷ []) → last ≡ r
 last_at [] last zero r found is = same_Some last r found
 last_at [] last (suc k) r found is = cc
-last_at (x ∷ front) last zero r found is = absurd (omega (arith, length-append front (last ∷ [])))
-last_at (x ∷ front) last (suc k) r found is = last_at front last k r found (omega arith)
+last_at (x ∷ prefix) last zero r found is = absurd (omega (arith, length-append prefix (last ∷ [])))
+last_at (x ∷ prefix) last (suc k) r found is = last_at prefix last k r found (omega arith)
 
 module _ (records : List Record) (ends : EndsOnce records) (k : ℕ) (r : Record) (found : slice_get records k ≡ Some r) where
-  found_there : slice_get (ends.front ++ ends.last ∷ []) k ≡ Some r
+  found_there : slice_get (ends.prefix ++ ends.last ∷ []) k ≡ Some r
   found_there = subst (λ rs. slice_get rs k ≡ Some r) ends.parts found
 
   end_is_last : r.kind ≡ kind.End → k + 1 ≡ length records
-  end_is_last is = end_at ends.front ends.last k r ends.once found_there is ∙ ap length (sym ends.parts)
+  end_is_last is = end_at ends.prefix ends.last k r ends.once found_there is ∙ ap length (sym ends.parts)
 
   last_is_end : k + 1 ≡ length records → r.kind ≡ kind.End
-  last_is_end is = ap (λ x. x.kind) (sym (last_at ends.front ends.last k r found_there (is ∙ ap length ends.parts))) ∙ ends.ends
+  last_is_end is = ap (λ x. x.kind) (sym (last_at ends.prefix ends.last k r found_there (is ∙ ap length ends.parts))) ∙ ends.ends
 
   -- what is before the End
-  before_end : r.kind ≡ kind.End → take k records ≡ ends.front
+  before_end : r.kind ≡ kind.End → take k records ≡ ends.prefix
   before_end is =
-      let place = end_at ends.front ends.last k r ends.once found_there is in
+      let place = end_at ends.prefix ends.last k r ends.once found_there is in
       ap (take k) ends.parts
-      ∙ take_at ends.front (ends.last ∷ []) k (omega (arith, length-append ends.front (ends.last ∷ [])))
+      ∙ take_at ends.prefix (ends.last ∷ []) k (omega (arith, length-append ends.prefix (ends.last ∷ [])))
 
 -- ---- lanes
 
 -- the records of a lane before its End
-abbrev IsFrontKind : Kind → Type 0
-IsFrontKind kind.Read = Unit {0}
-IsFrontKind kind.Write = Unit {0}
-IsFrontKind kind.Barrier = Unit {0}
-IsFrontKind _ = ⊥
+abbrev IsPrefixKind : Kind → Type 0
+IsPrefixKind kind.Read = Unit {0}
+IsPrefixKind kind.Write = Unit {0}
+IsPrefixKind kind.Barrier = Unit {0}
+IsPrefixKind _ = ⊥
 
 -- records of a log without mutexes and regions
 abbrev pub IsPlainKind : Kind → Type 0
@@ -128,18 +128,18 @@ IsPlainKind _ = Unit {0}
 abbrev pub IsPlain : Record → Type 0
 IsPlain r = IsPlainKind r.kind
 
-plain_front : (k : Kind) → IsFrontKind k → IsPlainKind k
-plain_front kind.Read is = tt
-plain_front kind.Write is = tt
-plain_front kind.Barrier is = tt
-plain_front _ is = absurd is
+plain_prefix : (k : Kind) → IsPrefixKind k → IsPlainKind k
+plain_prefix kind.Read is = tt
+plain_prefix kind.Write is = tt
+plain_prefix kind.Barrier is = tt
+plain_prefix _ is = absurd is
 
-front_not_end : (k : Kind) → IsFrontKind k → k ≡ kind.End → ⊥
-front_not_end k is same = subst IsFrontKind same is
+prefix_not_end : (k : Kind) → IsPrefixKind k → k ≡ kind.End → ⊥
+prefix_not_end k is same = subst IsPrefixKind same is
 
-front_access : (r : Record) → IsAccess r → IsFrontKind r.kind
-front_access r (inl is) = subst IsFrontKind (sym is) tt
-front_access r (inr is) = subst IsFrontKind (sym is) tt
+prefix_access : (r : Record) → IsAccess r → IsPrefixKind r.kind
+prefix_access r (inl is) = subst IsPrefixKind (sym is) tt
+prefix_access r (inr is) = subst IsPrefixKind (sym is) tt
 
 held_kind : (k : Kind) (mutex : ℕ) → IsPlainKind k → held_after_kind k mutex [] ≡ []
 held_kind kind.Lock mutex is = absurd is
@@ -158,13 +158,13 @@ pub record IsLane (barriers : ℕ) (records : List Record) : Type 0 where
   pub ends : EndsOnce records
   pub tabled : All IsTabled records
   pub plain : All IsPlain records
-  pub count : barrier_count ends.front ≡ barriers
+  pub count : barrier_count ends.prefix ≡ barriers
   pub size : HasRecords (length records)
 
 module _ (barriers : ℕ) (records : List Record) (lane : IsLane barriers records) (path : List Step) (below : path ≡ [] → ⊥) where
   -- no record of a lane breaks a rule
   pub lane_keeps : (k : ℕ) (r : Record) → slice_get records k ≡ Some r → (rule : RecordWhy) →
-      Breaks (record { path = path; records = length records; spans = []; team = Some barriers }) (take k records) r rule → ⊥
+      Breaks (record { path = path; records = length records; spans = []; due_barriers = Some barriers }) (take k records) r rule → ⊥
   lane_keeps k r found = keeps
     where
       plain : IsPlainKind r.kind
@@ -180,7 +180,7 @@ module _ (barriers : ℕ) (records : List Record) (lane : IsLane barriers record
       not_plain other is = subst IsPlainKind is plain
 
       keeps : (rule : RecordWhy) →
-          Breaks (record { path = path; records = length records; spans = []; team = Some barriers }) (take k records) r rule → ⊥
+          Breaks (record { path = path; records = length records; spans = []; due_barriers = Some barriers }) (take k records) r rule → ⊥
       keeps log.EndEarly b = let last = end_is_last records lane.ends k r found b.0 in let early = b.1 in omega (arith, before)
       keeps log.EndMissing b = b.0 (last_is_end records lane.ends k r found (ap (λ n. n + 1) (sym before) ∙ b.1))
       keeps log.LockTwice b = not_plain kind.Lock b.0
@@ -210,24 +210,24 @@ uncounted r records is =
 -- all barriers of a lane stand before its End
 pub lane_barriers : (barriers : ℕ) (records : List Record) → IsLane barriers records → barrier_count records ≡ barriers
 lane_barriers barriers records lane =
-    let front = lane.ends.front in
+    let prefix = lane.ends.prefix in
     let last = lane.ends.last in
     let none : barrier_count (last ∷ []) ≡ 0 = uncounted last [] (ap is_barrier_kind lane.ends.ends) in
-    let sum : barrier_count (front ++ last ∷ []) ≡ barrier_count front + barrier_count (last ∷ []) =
-    sum_by-append (λ (r : Record). number (is_barrier_kind r.kind)) front (last ∷ []) in
+    let sum : barrier_count (prefix ++ last ∷ []) ≡ barrier_count prefix + barrier_count (last ∷ []) =
+    sum_by-append (λ (r : Record). number (is_barrier_kind r.kind)) prefix (last ∷ []) in
     ap (λ rs. barrier_count rs) lane.ends.parts ∙ omega (arith, sum, none, lane.count)
 
 -- a record of a lane before its End
-record IsFront (r : Record) : Type 0 where
+record IsPrefix (r : Record) : Type 0 where
   tabled : IsTabled r
-  kind_is : IsFrontKind r.kind
+  kind_is : IsPrefixKind r.kind
 
 -- the barrier of a loop is such a record
-loop_front : (code : Code) → IsOneLoop code → IsBoundedCode code → All IsFront (loop_barrier code)
-loop_front (For slot from to schedule true line end body Done) one bounded = All-nil IsFront
-loop_front (For slot from to schedule false line end body Done) one bounded =
-    All-cons IsFront _ [] (record { tabled = tabled_barrier end bounded.4; kind_is = tt }) (All-nil IsFront)
-loop_front _ one bounded = absurd one
+loop_prefix : (code : Code) → IsOneLoop code → IsBoundedCode code → All IsPrefix (loop_barrier code)
+loop_prefix (For slot from to schedule true line end body Done) one bounded = All-nil IsPrefix
+loop_prefix (For slot from to schedule false line end body Done) one bounded =
+    All-cons IsPrefix _ [] (record { tabled = tabled_barrier end bounded.4; kind_is = tt }) (All-nil IsPrefix)
+loop_prefix _ one bounded = absurd one
 
 access_uncounted : (r : Record) → IsAccess r → is_barrier_kind r.kind ≡ false
 access_uncounted r (inl is) = ap is_barrier_kind is
@@ -259,28 +259,28 @@ pub is_lane : (team : TeamTree) → IsOneLoop team.body → IsBoundedCode team.b
     IsLaneLog team records → length records ≤ 4194304 → IsLane (barrier_count (loop_barrier team.body)) records
 is_lane team one bounded line records log limit =
     let middle = loop_barrier team.body in
-    let front = log.accesses ++ middle in
+    let prefix = log.accesses ++ middle in
     let last = event kind.End team.end 0 0 in
-    let parts : records ≡ front ++ last ∷ [] = log.parts ∙ sym (append_assoc log.accesses middle (last ∷ [])) in
-    let each : All IsFront front =
-    All-append IsFront log.accesses middle
-    (All-weaker IsTabledAccess IsFront (λ r is. record { tabled = is.tabled; kind_is = front_access r is.access }) log.accesses log.each)
-    (loop_front team.body one bounded) in
-    let tabled = All-weaker IsFront IsTabled (λ r is. is.tabled) front each in
-    let plain = All-weaker IsFront IsPlain (λ r is. plain_front r.kind is.kind_is) front each in
-    let sum : barrier_count front ≡ barrier_count log.accesses + barrier_count middle =
+    let parts : records ≡ prefix ++ last ∷ [] = log.parts ∙ sym (append_assoc log.accesses middle (last ∷ [])) in
+    let each : All IsPrefix prefix =
+    All-append IsPrefix log.accesses middle
+    (All-weaker IsTabledAccess IsPrefix (λ r is. record { tabled = is.tabled; kind_is = prefix_access r is.access }) log.accesses log.each)
+    (loop_prefix team.body one bounded) in
+    let tabled = All-weaker IsPrefix IsTabled (λ r is. is.tabled) prefix each in
+    let plain = All-weaker IsPrefix IsPlain (λ r is. plain_prefix r.kind is.kind_is) prefix each in
+    let sum : barrier_count prefix ≡ barrier_count log.accesses + barrier_count middle =
     sum_by-append (λ (r : Record). number (is_barrier_kind r.kind)) log.accesses middle in
-    let count : length records ≡ length front + 1 = ap length parts ∙ length-append front (last ∷ []) in
+    let count : length records ≡ length prefix + 1 = ap length parts ∙ length-append prefix (last ∷ []) in
     record {
       ends = record {
-        front = front;
+        prefix = prefix;
         last = last;
         parts = parts;
         ends = refl;
-        once = All-weaker IsFront NotEnd (λ r is. front_not_end r.kind is.kind_is) front each;
+        once = All-weaker IsPrefix NotEnd (λ r is. prefix_not_end r.kind is.kind_is) prefix each;
       };
-      tabled = All-same IsTabled records (front ++ last ∷ []) parts (All-push IsTabled front last tabled (tabled_end team.end line));
-      plain = All-same IsPlain records (front ++ last ∷ []) parts (All-push IsPlain front last plain tt);
+      tabled = All-same IsTabled records (prefix ++ last ∷ []) parts (All-push IsTabled prefix last tabled (tabled_end team.end line));
+      plain = All-same IsPlain records (prefix ++ last ∷ []) parts (All-push IsPlain prefix last plain tt);
       count = omega (arith, sum, no_barriers log.accesses log.each);
       size = record { some = omega arith; limit = limit };
     }

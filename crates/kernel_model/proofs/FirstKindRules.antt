@@ -51,7 +51,7 @@ module _ (span line last : ℕ) where
   root_records = region_record line span ∷ end_record last ∷ []
 
   abbrev root_task : LogTask
-  root_task = record { path = []; records = 2; spans = span ∷ []; team = None }
+  root_task = record { path = []; records = 2; spans = span ∷ []; due_barriers = None }
 
   -- the Region, and the End after it, break no rule
   region_keeps : (rule : RecordWhy) → Breaks root_task [] (region_record line span) rule → ⊥
@@ -210,7 +210,7 @@ module _ (span line last barriers : ℕ) (spans : IsSpan span) (fork : IsLine li
         (All-cons IsTabled (end_record last) [] (tabled_end last ends) (All-nil IsTabled));
     spans = span ∷ [];
     has_spans = lists_spans (rows_of all_tasks) [] (span ∷ []) (root_spans span spans lanes count);
-    team = None;
+    due_barriers = None;
     knows_team = λ above step is from. absurd (not_both_empty [] above step refl is);
     keeps = root_keeps span line last;
   }
@@ -235,7 +235,7 @@ module _ (span line last barriers : ℕ) (spans : IsSpan span) (fork : IsLine li
     tabled = lane.tabled;
     spans = [];
     has_spans = lists_spans (rows_of all_tasks) (lane_at span i ∷ []) [] (lane_spans span lanes i);
-    team = Some barriers;
+    due_barriers = Some barriers;
     knows_team = lane_knows_team i;
     keeps = lane_keeps barriers records lane (lane_at span i ∷ []) (λ is. cc);
   }

@@ -1,6 +1,6 @@
 -- What a lane of a kernel of the first kind records: accesses, the barrier at its loop's end unless there is none, and End.
 use Rattle.std.proofs.Common.{◌≡◌, refl, ap, sym, ◌∙◌, subst, inl, inr, ℕ, zero, suc, ◌+◌, ◌*◌, ◌^◌, ◌<◌, ◌≤◌, Bool, true, false, cond, List, [], ◌∷◌, ◌++◌, length, ℤ, pos, negsuc, ◌+ℤ◌, Option, Some, None, nat_lt, slice_get, IfSome, All, arith, append_assoc}
-use Rattle.std.proofs.Math.Facts.{Fits-of_z}
+use Rattle.std.proofs.Math.Facts.{RecordFits-of_z}
 use Rattle.std.proofs.lemmas.Bool.Decides.{nat_tests}
 use Rattle.std.proofs.lemmas.List.{append-nil}
 use Rattle.std.proofs.lemmas.List.Elements.{All-nil, All-cons, All-append}
@@ -9,7 +9,7 @@ use Rattle.log_format.specs.declared.record.Kind.{Kind}
 use Rattle.log_format.specs.declared.record.Kind.TheVariants as kind
 use Rattle.log_format.specs.declared.record.Why.{Why}
 use Rattle.log_format.specs.declared.record.Why.TheVariants as why
-use Rattle.log_format.specs.Table.{IsTabled, Fits, Passes}
+use Rattle.log_format.specs.Table.{IsTabled, RecordFits, PassesTable}
 use Rattle.race_model.specs.Race.{IsAccess}
 use Rattle.kernel_syntax.specs.declared.syntax.Array.{Array}
 use Rattle.kernel_syntax.specs.Arithmetic.{IsWidth, fitted}
@@ -67,7 +67,7 @@ pub record IsTabledAccess (r : Record) : Type 0 where
   pub access : IsAccess r
 
 module _ (e : Element) (site line : ℕ) (v : ℤ) (placed : IsPlacedElement e) (place : IsPlace line site) where
-  read_passes : (w : Why) → Passes (access kind.Read e site line (fitted v e.width)) w
+  read_passes : (w : Why) → PassesTable (access kind.Read e site line (fitted v e.width)) w
   read_passes why.Kind = tt
   read_passes why.Size = placed.width
   read_passes why.LineZero = place.line_is.some
@@ -75,7 +75,7 @@ module _ (e : Element) (site line : ℕ) (v : ℤ) (placed : IsPlacedElement e) 
   read_passes why.Span = tt
   read_passes why.Reserved = tt
 
-  write_passes : (w : Why) → Passes (access kind.Write e site line (fitted v e.width)) w
+  write_passes : (w : Why) → PassesTable (access kind.Write e site line (fitted v e.width)) w
   write_passes why.Kind = tt
   write_passes why.Size = placed.width
   write_passes why.LineZero = place.line_is.some
@@ -83,13 +83,13 @@ module _ (e : Element) (site line : ℕ) (v : ℤ) (placed : IsPlacedElement e) 
   write_passes why.Span = tt
   write_passes why.Reserved = tt
 
-  access_fits : (k : Kind) → Fits (access k e site line (fitted v e.width))
+  access_fits : (k : Kind) → RecordFits (access k e site line (fitted v e.width))
   access_fits k = record {
     size = byte_width e.width placed.width;
     site = place.site_fits;
     line = place.line_is.fits;
     addr = let ends = placed.ends in omega arith;
-    value = (Fits-of_z (fitted_fits v e.width placed.width)).fits;
+    value = (RecordFits-of_z (fitted_fits v e.width placed.width)).fits;
   }
 
   read_tabled : IsTabledAccess (access kind.Read e site line (fitted v e.width))

@@ -62,8 +62,8 @@ grows-plain = record {
   chain = grows-chain;
   assigns = λ slot v s. grows-nothing s _ refl refl refl;
   puts = λ r room s is plain. grows-record r room s _ is plain refl refl refl;
-  reads = λ e site line room v reads s is front. grows-record _ room s _ is refl refl refl refl;
-  draws = λ line n room q chunks s is front. grows-record _ room s _ is refl refl refl refl;
+  reads = λ e site line room v reads s is prefix. grows-record _ room s _ is refl refl refl refl;
+  draws = λ line n room q chunks s is prefix. grows-record _ room s _ is refl refl refl refl;
 }
 
 grows-steps : KeepsSteps Grows

@@ -45,9 +45,9 @@ module _ (R : State → State → Type 0) (keeps : KeepsPlainSteps R) where
 
   kept-read_in : (room : ℕ) (reads : List ℤ) (e : Element) (site line : ℕ) (s : State) → s.room ≡ room → s.reads ≡ reads →
       Kept s (read_in room reads e site line s)
-  kept-read_in zero reads e site line s is front = keeps.same s
-  kept-read_in (suc room) [] e site line s is front = keeps.same s
-  kept-read_in (suc room) (v ∷ reads) e site line s is front = keeps.reads e site line room v reads s is front
+  kept-read_in zero reads e site line s is prefix = keeps.same s
+  kept-read_in (suc room) [] e site line s is prefix = keeps.same s
+  kept-read_in (suc room) (v ∷ reads) e site line s is prefix = keeps.reads e site line room v reads s is prefix
 
   kept-read : (e : Element) (site line : ℕ) (s : State) → Kept s (read e site line s)
   unfolding read
@@ -92,9 +92,9 @@ module _ (R : State → State → Type 0) (keeps : KeepsPlainSteps R) where
   kept-each (i ∷ is) turn s each = kept-after s (turn i s) _ (each i s) (λ t. kept-each is turn t each)
 
   kept-draw_in : (room : ℕ) (chunks : List ℕ) (line n : ℕ) (s : State) → s.room ≡ room → s.chunks ≡ chunks → Kept s (draw_in room chunks line n s)
-  kept-draw_in zero chunks line n s is front = keeps.same s
-  kept-draw_in (suc room) [] line n s is front = keeps.same s
-  kept-draw_in (suc room) (q ∷ chunks) line n s is front = keeps.draws line n room q chunks s is front
+  kept-draw_in zero chunks line n s is prefix = keeps.same s
+  kept-draw_in (suc room) [] line n s is prefix = keeps.same s
+  kept-draw_in (suc room) (q ∷ chunks) line n s is prefix = keeps.draws line n room q chunks s is prefix
 
   kept-draw : (line n : ℕ) (s : State) → Kept s (draw line n s)
   unfolding draw

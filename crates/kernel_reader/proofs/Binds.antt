@@ -91,10 +91,6 @@ only_if-some (f ∷ F) x y e = absurd cc
 pub bind-some : (n : Names) (b : Bool) (s : ℕ) (t : Tree) (r : Bound) → bind n b s t ≡ Some r → (tree_faults n b t ≡ []) × ((term n s t, s + sites t) ≡ r)
 bind-some n b s t r e = only_if-some (tree_faults n b t) (term n s t, s + sites t) r (sym (bind-is n b s t) ∙ e)
 
--- the next site
-pub bind-sites : (n : Names) (b : Bool) (s : ℕ) (t : Tree) (r : Bound) → bind n b s t ≡ Some r → r.1 ≡ s + sites t
-bind-sites n b s t r e = sym (ap (λ (x : Bound). x.1) (bind-some n b s t r e).1)
-
 -- and where it breaks none it is bound
 pub bind-lawful : (n : Names) (b : Bool) (s : ℕ) (t : Tree) → tree_faults n b t ≡ [] → bind n b s t ≡ Some (term n s t, s + sites t)
 bind-lawful n b s t e = bind-is n b s t ∙ ap (λ (F : List Refusal). only_if F (term n s t, s + sites t)) e

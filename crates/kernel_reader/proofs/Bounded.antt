@@ -19,7 +19,7 @@ use Rattle.kernel_reader.specs.declared.token.Sign.TheVariants as sign
 use Rattle.kernel_reader.specs.declared.token.Token.{Token}
 use Rattle.kernel_reader.specs.Tokens.{Refusal}
 use Rattle.kernel_reader.specs.Grammar.{Tree, NumberAt, NameAt, TidAt, SpanAt, Element, Group, Minus, Binary, tree_tokens, sign_of, reserved, mark, block, range, ScheduleTree, Unsaid, Static, StaticBy, Dynamic, DynamicBy, schedule_tokens, nowait_tokens, Stmts, NoMore, Let, Assign, Store, If, IfElse, Loop, Parallel, For, Barrier, Critical, CriticalOf, stmts_tokens, Declaration, ArrayOf, MutexOf, declarations_tokens, KernelTree, kernel_tokens}
-use Rattle.kernel_reader.specs.Scope.{number_of, is_among, is_array, Names, Place, with_local, slots, past, count_of, is_between}
+use Rattle.kernel_reader.specs.Scope.{number_of, is_among, is_array, Names, Place, with_local, slots, past, count_literal, is_between}
 use Rattle.kernel_reader.specs.Rules.{fault_if, width_of, array_of, declarations_faults, array_faults, tree_faults, declared_faults, assigned_faults, schedule_faults, critical_faults, stmts_faults, weight, is_misplaced, mutex_of, is_fixed, in_branch, in_region, in_work, in_critical, arrays_of, mutex_names, at_main, kernel_faults}
 use Rattle.kernel_reader.specs.Resolve.{sites, stmts_sites, term, schedule_of, code, program}
 use Rattle.kernel_reader.specs.KernelOf.{IsKernelOf}
@@ -32,7 +32,7 @@ use Rattle.kernel_reader.proofs.Rooms.{stmts_sites-bound}
 -- ---- numbers that are counted
 
 -- such a number is at least 1
-between-least : (most : ℕ) (z : ℤ) → is_between 1 most z ≡ true → 1 ≤ count_of z
+between-least : (most : ℕ) (z : ℤ) → is_between 1 most z ≡ true → 1 ≤ count_literal z
 between-least most (pos n) e = grind (arith, nat_tests)
 between-least most (negsuc n) e = absurd cc
 
@@ -41,13 +41,13 @@ counted-between : (most : ℕ) (z : ℤ) (line : ℕ) → fault_if (not (is_betw
 counted-between most z line lawful = not-false (is_between 1 most z) (fault_if-none (not (is_between 1 most z)) line why.Count lawful)
 
 -- the lanes of a region
-span-bounded : (z : ℤ) (line : ℕ) → fault_if (not (is_between 1 64 z)) line why.Count ≡ [] → IsSpan (count_of z)
+span-bounded : (z : ℤ) (line : ℕ) → fault_if (not (is_between 1 64 z)) line why.Count ≡ [] → IsSpan (count_literal z)
 span-bounded z line lawful =
     let between = counted-between 64 z line lawful in
     record { some = between-least 64 z between; limit = between-le 64 z between }
 
 -- the iterations of a chunk
-chunk-bounded : (z : ℤ) (line : ℕ) → fault_if (not (is_between 1 1048576 z)) line why.Count ≡ [] → IsChunk (count_of z)
+chunk-bounded : (z : ℤ) (line : ℕ) → fault_if (not (is_between 1 1048576 z)) line why.Count ≡ [] → IsChunk (count_literal z)
 chunk-bounded z line lawful =
     let between = counted-between 1048576 z line lawful in
     record { some = between-least 1048576 z between; limit = between-le 1048576 z between }
@@ -106,7 +106,7 @@ mutex-small p name few = small (number_of name p.mutexes) refl
     small None at = omega arith
     small (Some n) at = let within = (position-Some (λ x. bytes_eq x name) p.mutexes n [] at).0 in omega arith
 
--- faults in front of others
+-- faults ahead of others
 nil_split : (xs ys : List Refusal) → xs ++ ys ≡ [] → (xs ≡ []) × (ys ≡ [])
 nil_split xs ys e = (nil_left xs ys e, nil_right xs ys e)
 
@@ -183,13 +183,13 @@ code-bounded p q site (Parallel line number_line span opened body closed rest) f
     let open_here = nil_right (fault_if (is_some q.critical) line why.ParallelHere) _ lawful in
     let shallow = nil_right (fault_if (leb 4 q.regions) line why.Deep) _ open_here in
     let counted = nil_split (fault_if (not (is_between 1 64 span)) number_line why.Count) _ shallow in
-    let small = nil_right (fault_if (ltb 64 (q.spans * count_of span)) number_line why.Large) _ counted.1 in
-    let kept = nil_split (stmts_faults (in_region q (count_of span)) body) _ small in
+    let small = nil_right (fault_if (ltb 64 (q.spans * count_literal span)) number_line why.Large) _ counted.1 in
+    let kept = nil_split (stmts_faults (in_region q (count_literal span)) body) _ small in
     let light = nil_right (fault_if (ltb 65536 (weight body)) closed why.Large) _ kept.1 in (
       span-bounded span number_line counted.0,
       lined.0,
       parts.1,
-      code-bounded p (in_region q (count_of span)) site body few parts.0 (omega arith) kept.0,
+      code-bounded p (in_region q (count_literal span)) site body few parts.0 (omega arith) kept.0,
       code-bounded (past p (slots body)) (past q (slots body)) (site + stmts_sites body) rest few parts.2 (omega arith) light,
     )
 code-bounded p q site (For line name_line name in_line from dots to schedule nowait opened body closed rest) few lined room lawful =
@@ -296,7 +296,7 @@ declared-within (ArrayOf line name_line name width_line width count_line count �
     let room = nil_split (fault_if (leb 64 (length arrays)) name_line why.Large) _ free in
     let wide = nil_split (fault_if (is_none (width_of width)) width_line why.Width) _ room.1 in
     let counted = nil_right (fault_if (not (is_between 1 1048576 count)) count_line why.Count) _ wide.1 in
-    let small = nil_split (fault_if (ltb 1048576 (elements arrays + count_of count)) count_line why.Large) _ counted in
+    let small = nil_split (fault_if (ltb 1048576 (elements arrays + count_literal count)) count_line why.Large) _ counted in
     let more = array-within arrays mutexes a name_line count_line within (width-bounded width width_line wide.0) room.0 small.0 in
     subst (λ (x : List Array). AreWithin x (mutexes ++ mutex_names ds)) (append_assoc arrays (a ∷ []) (arrays_of ds))
     (declared-within ds (arrays ++ a ∷ []) mutexes more small.1)

@@ -12,16 +12,16 @@ read ts = Ok ts
 pub read-is : (xs ys : List Token) → read xs ≡ read ys → xs ≡ ys
 read-is xs ys e = cc
 
--- one more token in front
+-- one more token first
 with_token-few : (t : Token) (r : Result (List Token) ℕ) (n : ℕ) (ts : List Token) → ((us : List Token) → r ≡ Ok us → length us ≤ n) → with_token t r ≡ Ok ts → length ts ≤ suc n
 with_token-few t (Ok us) n ts few e = let same = ap (λ (l : List Token). length l) (read-is (t ∷ us) ts e) in omega (arith, few us refl, same)
 with_token-few t (Err line) n ts few e = absurd cc
 
--- what stands at the front
-front-few : (o : Option (Lexeme × ℕ)) (line n : ℕ) (bs : List ℕ) (ts : List Token) → ((k : ℕ) (us : List Token) → tokens_from line k bs ≡ Ok us → length us ≤ n)
+-- what stands at the start
+prefix-few : (o : Option (Lexeme × ℕ)) (line n : ℕ) (bs : List ℕ) (ts : List Token) → ((k : ℕ) (us : List Token) → tokens_from line k bs ≡ Ok us → length us ≤ n)
     → elim o [ None ↦ Err line | Some found ↦ with_token (record { lexeme = found.0; line = line }) (tokens_from line (found.1 - 1) bs) ] ≡ read ts → length ts ≤ suc n
-front-few None line n bs ts few e = absurd cc
-front-few (Some found) line n bs ts few e = with_token-few (record { lexeme = found.0; line = line }) (tokens_from line (found.1 - 1) bs) n ts (few (found.1 - 1)) e
+prefix-few None line n bs ts few e = absurd cc
+prefix-few (Some found) line n bs ts few e = with_token-few (record { lexeme = found.0; line = line }) (tokens_from line (found.1 - 1) bs) n ts (few (found.1 - 1)) e
 
 -- what holds of each of four results holds of the one that is chosen
 pub chosen : {G : Type 0} (a b c : Bool) (x y z u r : Result (List Token) ℕ) → (x ≡ r → G) → (y ≡ r → G) → (z ≡ r → G) → (u ≡ r → G) → cond a x (cond b y (cond c z u)) ≡ r → G
@@ -43,7 +43,7 @@ tokens_from-few (b ∷ bs) line zero ts e =
     (λ f. more (length ts) (length bs) (tokens_from-few bs (line + 1) 0 ts f))
     (λ f. more (length ts) (length bs) (tokens_from-few bs line 0 ts f))
     (λ f. more (length ts) (length bs) (tokens_from-few bs line _ ts f))
-    (λ f. front-few (lexeme_at (b ∷ bs)) line (length bs) bs ts (λ k us g. tokens_from-few bs line k us g) f)
+    (λ f. prefix-few (lexeme_at (b ∷ bs)) line (length bs) bs ts (λ k us g. tokens_from-few bs line k us g) f)
     e
 
 abbrev told : List Token → Result (List Token) Refusal

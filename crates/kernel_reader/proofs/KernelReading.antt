@@ -17,7 +17,7 @@ use Rattle.kernel_reader.specs.declared.token.Word.TheVariants as word
 use Rattle.kernel_reader.specs.declared.token.Sign.TheVariants as sign
 use Rattle.kernel_reader.specs.declared.token.Token.{Token}
 use Rattle.kernel_reader.specs.Grammar.{Tree, Derives, depth, tree_tokens, expr, named, number, reserved, mark, block, range, ScheduleTree, Unsaid, Static, StaticBy, schedule_tokens, nowait_tokens, Stmts, NoMore, Parallel, For, stmts_tokens, StmtsDerive, AreShallow, Declaration, ArrayOf, declarations_tokens, KernelTree, kernel_tokens, IsKernel, IsShallow}
-use Rattle.kernel_reader.specs.Scope.{Names, Place, declares, is_array, slots, count_of, is_between}
+use Rattle.kernel_reader.specs.Scope.{Names, Place, declares, is_array, slots, count_literal, is_between}
 use Rattle.kernel_reader.specs.Rules.{fault_if, width_of, array_of, tree_faults, schedule_faults, stmts_faults, in_region, weight, declarations_faults, arrays_of, mutex_names, at_main, kernel_faults}
 use Rattle.kernel_reader.specs.Resolve.{sites, term, schedule_of, code, program}
 use Rattle.kernel_syntax.specs.FirstKind.{IsStatic, IsOneLoop, IsOneRegion}
@@ -42,11 +42,11 @@ NumberRead = ℤ × List Token
 
 -- ---- numbers that are counted
 
-pub counted-some : (most : ℕ) (z : ℤ) (c : ℕ) → counted most z ≡ Some c → (is_between 1 most z ≡ true) × (count_of z ≡ c)
+pub counted-some : (most : ℕ) (z : ℤ) (c : ℕ) → counted most z ≡ Some c → (is_between 1 most z ≡ true) × (count_literal z ≡ c)
 unfolding counted
-counted-some most z c e = choice_some (is_between 1 most z) (count_of z) c e
+counted-some most z c e = choice_some (is_between 1 most z) (count_literal z) c e
 
-pub between-le : (most : ℕ) (z : ℤ) → is_between 1 most z ≡ true → count_of z ≤ most
+pub between-le : (most : ℕ) (z : ℤ) → is_between 1 most z ≡ true → count_literal z ≤ most
 between-le most (pos n) e = grind (arith, nat_tests)
 between-le most (negsuc n) e = omega arith
 
@@ -330,13 +330,13 @@ pub record IsRegion (arrays : List Array) (found : Code × List Token) (ts : Lis
   pub slot : slots stmts ≡ 1
 
 region-is : (arrays : List Array) (ts after_opened : List Token) (line number_line opened closed span : ℕ) (n : ℤ) (body : Code × List Token) (rest : List Token)
-    → ts ≡ reserved line word.Parallel ∷ number number_line n ∷ mark opened sign.OpenBrace ∷ after_opened → is_between 1 64 n ≡ true → count_of n ≡ span
+    → ts ≡ reserved line word.Parallel ∷ number number_line n ∷ mark opened sign.OpenBrace ∷ after_opened → is_between 1 64 n ≡ true → count_literal n ≡ span
     → IsLoop arrays body after_opened → body.1 ≡ mark closed sign.CloseBrace ∷ rest
     → IsRegion arrays (kernel.Parallel span line closed body.0 kernel.Done, rest) ts
 region-is arrays ts after_opened line number_line opened closed span n body rest e between counts l c =
     let stmts : Stmts = Parallel line number_line n opened l.stmts closed NoMore in
-    let le : count_of n ≤ 64 = between-le 64 n between in
-    let small : ltb 64 (1 * count_of n) ≡ false = le-ltb 64 (1 * count_of n) (omega arith) in
+    let le : count_literal n ≤ 64 = between-le 64 n between in
+    let small : ltb 64 (1 * count_literal n) ≡ false = le-ltb 64 (1 * count_literal n) (omega arith) in
     let inner : after_opened ≡ ((stmts_tokens l.stmts ++ mark closed sign.CloseBrace ∷ []) ++ []) ++ rest =
     l.tokens ∙ ap (λ (x : List Token). stmts_tokens l.stmts ++ x) c ∙ sym (append_assoc (stmts_tokens l.stmts) (mark closed sign.CloseBrace ∷ []) rest)
     ∙ ap (λ (x : List Token). x ++ rest) (sym (append-nil (stmts_tokens l.stmts ++ mark closed sign.CloseBrace ∷ []))) in
@@ -347,10 +347,10 @@ region-is arrays ts after_opened line number_line opened closed span n body rest
       shallow = (omega arith, l.shallow 30 (omega arith), tt);
       lawful =
           both-nil (fault_if (not (is_between 1 64 n)) number_line why.Count) _ (not-not (is_between 1 64 n) number_line why.Count between)
-          (both-nil (fault_if (ltb 64 (1 * count_of n)) number_line why.Large) _ (fault_if-false (ltb 64 (1 * count_of n)) number_line why.Large small)
-          (both-nil (stmts_faults (region_place arrays (count_of n)) l.stmts) _ (l.lawful (count_of n))
+          (both-nil (fault_if (ltb 64 (1 * count_literal n)) number_line why.Large) _ (fault_if-false (ltb 64 (1 * count_literal n)) number_line why.Large small)
+          (both-nil (stmts_faults (region_place arrays (count_literal n)) l.stmts) _ (l.lawful (count_literal n))
           (both-nil (fault_if (ltb 65536 (weight l.stmts)) closed why.Large) [] (ap (λ (w : ℕ). fault_if (ltb 65536 w) closed why.Large) l.light) refl)));
-      codes = ap (λ (k : ℕ). kernel.Parallel k line closed body.0 kernel.Done) (sym counts) ∙ ap (λ (x : Code). kernel.Parallel (count_of n) line closed x kernel.Done) l.codes;
+      codes = ap (λ (k : ℕ). kernel.Parallel k line closed body.0 kernel.Done) (sym counts) ∙ ap (λ (x : Code). kernel.Parallel (count_literal n) line closed x kernel.Done) l.codes;
       kind = l.kind;
       slot = ap (λ (k : ℕ). k + 0) l.slot;
     }
@@ -393,7 +393,7 @@ pub record IsDeclared (arrays : List Array) (found : Array × List Token) (ts : 
   pub between : is_between 1 1048576 count ≡ true
   pub free : is_array name arrays ≡ false
   pub few : leb 64 (length arrays) ≡ false
-  pub small : ltb 1048576 (elements arrays + count_of count) ≡ false
+  pub small : ltb 1048576 (elements arrays + count_literal count) ≡ false
   pub made : found.0 ≡ array_of name bytes count
 
 declaration-made : (arrays : List Array) (ts : List Token) (found : Array × List Token) (n w : NameRead) (c : NumberRead) (b m : ℕ)
@@ -476,7 +476,7 @@ declared-then line arrays ts after d found e s more =
           (both-nil (fault_if (leb 64 (length arrays)) s.name_line why.Large) _ (fault_if-false (leb 64 (length arrays)) s.name_line why.Large s.few)
           (both-nil (fault_if (is_none (width_of s.width)) s.width_line why.Width) _ (width-known (width_of s.width) s.bytes s.width_line s.width_is)
           (both-nil (fault_if (not (is_between 1 1048576 s.count)) s.count_line why.Count) _ (not-not (is_between 1 1048576 s.count) s.count_line why.Count s.between)
-          (both-nil (fault_if (ltb 1048576 (elements arrays + count_of s.count)) s.count_line why.Large) _ (fault_if-false (ltb 1048576 (elements arrays + count_of s.count)) s.count_line why.Large s.small)
+          (both-nil (fault_if (ltb 1048576 (elements arrays + count_literal s.count)) s.count_line why.Large) _ (fault_if-false (ltb 1048576 (elements arrays + count_literal s.count)) s.count_line why.Large s.small)
           (ap (λ (a : Array). declarations_faults (arrays ++ a ∷ []) [] more.declarations) (sym array_is) ∙ more.lawful)))));
       made = more.made ∙ append_assoc arrays (d.0 ∷ []) (arrays_of more.declarations) ∙ ap (λ (a : Array). arrays ++ a ∷ arrays_of more.declarations) array_is;
       plain = more.plain;

@@ -52,12 +52,6 @@ no_kernel text ts e none p k f =
     let both : Some p ≡ None = sym (is_read text ts e p k f) ∙ none in
     absurd cc
 
--- a text that is refused for its tokens has none
-pub no_tokens : (text : List ℕ) (r : Refusal) → tokens_of text ≡ Err r → (p : Program) → IsKernelOf text p → ⊥
-no_tokens text r e p k =
-    let both : told (kernel_tokens k.tree) ≡ Err r = sym k.tokens ∙ e in
-    absurd cc
-
 -- what the code gives
 pub gives_kernel : (text : List ℕ) (ts : List Token) (r : Result Kernel ReadKernelFault) → tokens_of text ≡ Ok ts → Gives program_of r (kernel_at ts) → IfOk r (λ k. IsKernelOf text (program_of k))
 gives_kernel text ts (Ok k) e given = is_kernel text ts (program_of k) e given

@@ -1,4 +1,4 @@
-pub mod Fronts
+pub mod Prefixes
 pub mod Scans
 pub mod Stacks
 pub mod Operators

@@ -12,16 +12,16 @@ AreLined ts = AllByRecursion (λ (t : Token). IsLine t.line) ts
 
 -- ---- the tokens of a text
 
--- one more token in front
+-- one more token first
 with_token-lined : (t : Token) (r : Result (List Token) ℕ) (ts : List Token) → IsLine t.line → ((us : List Token) → r ≡ Ok us → AreLined us) → with_token t r ≡ Ok ts → AreLined ts
 with_token-lined t (Ok us) ts here later e = subst AreLined (read-is (t ∷ us) ts e) (here, later us refl)
 with_token-lined t (Err line) ts here later e = absurd cc
 
--- what stands at the front
-front-lined : (o : Option (Lexeme × ℕ)) (line : ℕ) (bs : List ℕ) (ts : List Token) → IsLine line → ((k : ℕ) (us : List Token) → tokens_from line k bs ≡ Ok us → AreLined us)
+-- what stands at the start
+prefix-lined : (o : Option (Lexeme × ℕ)) (line : ℕ) (bs : List ℕ) (ts : List Token) → IsLine line → ((k : ℕ) (us : List Token) → tokens_from line k bs ≡ Ok us → AreLined us)
     → elim o [ None ↦ Err line | Some found ↦ with_token (record { lexeme = found.0; line = line }) (tokens_from line (found.1 - 1) bs) ] ≡ read ts → AreLined ts
-front-lined None line bs ts here later e = absurd cc
-front-lined (Some found) line bs ts here later e = with_token-lined (record { lexeme = found.0; line = line }) (tokens_from line (found.1 - 1) bs) ts here (later (found.1 - 1)) e
+prefix-lined None line bs ts here later e = absurd cc
+prefix-lined (Some found) line bs ts here later e = with_token-lined (record { lexeme = found.0; line = line }) (tokens_from line (found.1 - 1) bs) ts here (later (found.1 - 1)) e
 
 -- each byte ends one line at most
 tokens_from-lined : (bs : List ℕ) (line passed : ℕ) (ts : List Token) → 1 ≤ line → line + length bs < 2 ^ 32 → tokens_from line passed bs ≡ Ok ts → AreLined ts
@@ -36,7 +36,7 @@ tokens_from-lined (b ∷ bs) line zero ts some fits e =
     (λ f. tokens_from-lined bs (line + 1) 0 ts (omega arith) next f)
     (λ f. tokens_from-lined bs line 0 ts some same f)
     (λ f. tokens_from-lined bs line _ ts some same f)
-    (λ f. front-lined (lexeme_at (b ∷ bs)) line bs ts here (λ k us g. tokens_from-lined bs line k us some same g) f)
+    (λ f. prefix-lined (lexeme_at (b ∷ bs)) line bs ts here (λ k us g. tokens_from-lined bs line k us some same g) f)
     e
 
 -- the tokens of a whole text

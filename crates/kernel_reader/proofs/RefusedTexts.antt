@@ -123,7 +123,7 @@ abbrev rising : ℕ → ℕ → List ℕ
 rising m zero = []
 rising m (suc n) = (m + 1) ∷ rising (m + 1) n
 
--- brackets at the front of an expression open one level after another
+-- brackets at the start of an expression open one level after another
 pub brackets_rise : (n m : ℕ) (t : Tree) (more rest : List Token) (tail : List ℕ) → tree_tokens t ++ more ≡ brackets n ++ rest → (after : List ℕ) × (tree_levels m t ++ tail ≡ rising m n ++ after)
 brackets_rise zero m t more rest tail e = (_, refl)
 brackets_rise (suc n) m (NumberAt line value) more rest tail e = let l = ap lexemes e in absurd cc
@@ -215,7 +215,7 @@ section_levels m (suc n) = 0 ∷ (m + 1) ∷ section_levels (m + 1) n
 in_block : {X : Type 0} (body : List X) (brace : X) (rest more : List X) → ((body ++ brace ∷ []) ++ rest) ++ more ≡ body ++ (brace ∷ (rest ++ more))
 in_block body brace rest more = append_assoc (body ++ brace ∷ []) rest more ∙ append_assoc body (brace ∷ []) (rest ++ more)
 
--- sections at the front of statements open one level after another
+-- sections at the start of statements open one level after another
 pub sections_rise : (n line m closed : ℕ) (body : Stmts) (more rest : List Token) (tail : List ℕ) → stmts_tokens body ++ mark closed sign.CloseBrace ∷ more ≡ sections line n ++ rest
     → (after : List ℕ) × (stmts_levels m body ++ tail ≡ section_levels m n ++ after)
 sections_rise zero line m closed body more rest tail e = (_, refl)

@@ -1,4 +1,4 @@
--- Single tokens in front of others.
+-- Single tokens ahead of others.
 use Rattle.std.proofs.Common.{◌≡◌, ℕ, zero, suc, Bool, true, false, cond, eqb, List, [], ◌∷◌, Option, Some, None, refl, sym, ap, ◌∙◌, eq-eqb}
 use Rattle.std.specs.Prelude.{ℤ}
 use Rattle.std.proofs.lemmas.Bool.{eqb-true}
@@ -199,7 +199,7 @@ pub choice_some : {A : Type 0} (b : Bool) (x y : A) → cond b (Some x) None ≡
 choice_some true x y e = (refl, cc)
 choice_some false x y e = absurd cc
 
--- what is in front, where it is read
+-- what is first, where it is read
 pub word_at-some : (w : Word) (ts : List Token) (r : ℕ × List Token) → word_at w ts ≡ Some r → ts ≡ reserved r.0 w ∷ r.1
 unfolding word_at
 word_at-some w [] r e = absurd cc
@@ -239,19 +239,19 @@ number_at-some (t ∷ ts) r e = (t.line, number_lexeme-some t.line t.lexeme ts r
 eqb-same : (n : ℕ) → eqb n n ≡ true
 eqb-same n = eq-eqb n n refl
 
--- what is in front is read
-pub word_at-front : (w : Word) (line : ℕ) (ts : List Token) → word_at w (reserved line w ∷ ts) ≡ Some (line, ts)
+-- what is first is read
+pub word_at-prefix : (w : Word) (line : ℕ) (ts : List Token) → word_at w (reserved line w ∷ ts) ≡ Some (line, ts)
 unfolding word_at
-word_at-front w line ts = rw (eqb-same (word_number w)) refl
+word_at-prefix w line ts = rw (eqb-same (word_number w)) refl
 
-pub sign_at-front : (s : Sign) (line : ℕ) (ts : List Token) → sign_at s (mark line s ∷ ts) ≡ Some (line, ts)
+pub sign_at-prefix : (s : Sign) (line : ℕ) (ts : List Token) → sign_at s (mark line s ∷ ts) ≡ Some (line, ts)
 unfolding sign_at
-sign_at-front s line ts = rw (eqb-same (sign_number s)) refl
+sign_at-prefix s line ts = rw (eqb-same (sign_number s)) refl
 
-pub name_at-front : (line : ℕ) (name : List ℕ) (ts : List Token) → name_at (named line name ∷ ts) ≡ Some (name, line, ts)
+pub name_at-prefix : (line : ℕ) (name : List ℕ) (ts : List Token) → name_at (named line name ∷ ts) ≡ Some (name, line, ts)
 unfolding name_at
-name_at-front line name ts = refl
+name_at-prefix line name ts = refl
 
-pub number_at-front : (line : ℕ) (value : ℤ) (ts : List Token) → number_at (number line value ∷ ts) ≡ Some (value, ts)
+pub number_at-prefix : (line : ℕ) (value : ℤ) (ts : List Token) → number_at (number line value ∷ ts) ≡ Some (value, ts)
 unfolding number_at
-number_at-front line value ts = refl
+number_at-prefix line value ts = refl

@@ -28,12 +28,6 @@ levels_from (f ∷ fs) s = levels_from fs (around_of f ∷ s) ∙ omega (arith, 
 pub levels_counted : (fs : List Frame) → levels (stack_of fs) ≡ count_by (λ f. opens (around_of f)) fs
 levels_counted fs = let e = levels_from fs [] in omega (arith, e)
 
-pub wanted-cons : (a : Around) (s : List Around) → wanted (a ∷ s) ≡ wanted (a ∷ [])
-wanted-cons (AfterMinus line) s = refl
-wanted-cons (AfterLeft left o line) s = refl
-wanted-cons (InGroup opened) s = refl
-wanted-cons (InIndex line name opened) s = refl
-
 finish-more : (t : Tree) (fs : List Frame) (a : Around) (s : List Around) → finish t (fold (λ (s : List Around) (f : Frame). around_of f ∷ s) (a ∷ s) fs) ≡ Fails
 finish-more t [] a s = refl
 finish-more t (f ∷ fs) a s = finish-more t fs (around_of f) (a ∷ s)

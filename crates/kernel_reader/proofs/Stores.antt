@@ -8,7 +8,7 @@ use Rattle.kernel_syntax.specs.declared.syntax.Stmt.{Stmt}
 use Rattle.kernel_syntax.specs.declared.syntax.Stmt.TheVariants as variant
 use Rattle.kernel_syntax.specs.Tree as kernel
 use Rattle.kernel_syntax.specs.Tree.{Code, Term}
-use Rattle.kernel_syntax.specs.Program.{stmts_code, stmt_code, joined, term_of}
+use Rattle.kernel_syntax.specs.Program.{stmts_code, stmt_code, in_sequence, term_of}
 use Rattle.kernel_syntax.proofs.Equations.{stmt_code-Store}
 use Rattle.kernel_reader.specs.declared.fault.ReadKernelFault.{ReadKernelFault}
 use Rattle.kernel_reader.specs.declared.fault.ReadKernelFault.TheVariants.{NotBuilt, Memory}
@@ -22,12 +22,12 @@ use Rattle.kernel_reader.specs.Reading.{◌>>=◌, word_at, declaration_at, arra
 abbrev pub behind : List Stmt → Code × List Token → Code × List Token
 behind stmts x = (stmts_code stmts x.0, x.1)
 
-joined-push : (fs : List (Code → Code)) (f : Code → Code) (rest : Code) → joined (fs ++ f ∷ []) rest ≡ joined fs (f rest)
-joined-push [] f rest = refl
-joined-push (g ∷ fs) f rest = ap g (joined-push fs f rest)
+in_sequence-push : (fs : List (Code → Code)) (f : Code → Code) (rest : Code) → in_sequence (fs ++ f ∷ []) rest ≡ in_sequence fs (f rest)
+in_sequence-push [] f rest = refl
+in_sequence-push (g ∷ fs) f rest = ap g (in_sequence-push fs f rest)
 
 pub stmts_code-push : (stmts : List Stmt) (s : Stmt) (rest : Code) → stmts_code (stmts ++ s ∷ []) rest ≡ stmts_code stmts (stmt_code s rest)
-stmts_code-push stmts s rest = ap (λ (fs : List (Code → Code)). joined fs rest) (map_push stmt_code stmts s) ∙ joined-push (map stmt_code stmts) (stmt_code s) rest
+stmts_code-push stmts s rest = ap (λ (fs : List (Code → Code)). in_sequence fs rest) (map_push stmt_code stmts s) ∙ in_sequence-push (map stmt_code stmts) (stmt_code s) rest
 
 -- a store more
 pub behind-push : (stmts : List Stmt) (array : ℕ) (index value : Expr) (line site : ℕ) (read : Option (Code × List Token))
@@ -85,13 +85,6 @@ pub stores-fail : (fault : ReadKernelFault) (n : Names) (site : ℕ) (stmts : Li
     → Refuses fault (read_store n site rest) → Refuses fault whole
 stores-fail NotBuilt n site stmts rest whole kept c e = sym kept.same ∙ ap (option_map (behind stmts)) (stores-none kept.turns n site rest c e)
 stores-fail Memory n site stmts rest whole kept c e = tt
-
-pub stores-start : (n : Names) (site : ℕ) (ts : List Token) → StoresKept n site [] ts (stores_at (suc (length ts)) n site ts)
-stores-start n site ts = record { turns = suc (length ts); enough = omega arith; same = start (stores_at (suc (length ts)) n site ts) }
-  where
-    start : (read : Option (Code × List Token)) → option_map (behind []) read ≡ read
-    start None = refl
-    start (Some x) = refl
 
 -- ---- arrays
 

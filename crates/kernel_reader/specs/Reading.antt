@@ -15,7 +15,7 @@ use Rattle.kernel_reader.specs.declared.token.Lexeme.{Lexeme}
 use Rattle.kernel_reader.specs.declared.token.Lexeme.TheVariants.{Named, Number, Reserved, Mark}
 use Rattle.kernel_reader.specs.declared.token.Token.{Token}
 use Rattle.kernel_reader.specs.Grammar.{Tree, NumberAt, NameAt, TidAt, SpanAt, Element, Group, Minus, Binary}
-use Rattle.kernel_reader.specs.Scope.{array_number, is_array, variable_of, Names, declares, count_of, is_between}
+use Rattle.kernel_reader.specs.Scope.{array_number, is_array, variable_of, Names, declares, count_literal, is_between}
 use Rattle.kernel_reader.specs.Rules.{width_of, is_unfit}
 use Rattle.kernel_reader.specs.Machine.{expression_from, tree_of}
 use Rattle.kernel_reader.specs.declared.reading.Store as stored
@@ -79,7 +79,7 @@ abbrev pub is_sign : Sign → Lexeme → Bool
 is_sign s (Mark found) = sign_number found == sign_number s
 is_sign s _ = false
 
--- a reserved name in front, by its line
+-- a reserved name first, by its line
 unfoldable pub word_at : Word → List Token → Option (ℕ × List Token)
 word_at w [] = None
 word_at w (t ∷ ts) = if is_word w t.lexeme then Some (t.line, ts) else None
@@ -88,7 +88,7 @@ unfoldable pub sign_at : Sign → List Token → Option (ℕ × List Token)
 sign_at s [] = None
 sign_at s (t ∷ ts) = if is_sign s t.lexeme then Some (t.line, ts) else None
 
--- a name in front, and its line
+-- a name first, and its line
 abbrev pub named_lexeme : ℕ → Lexeme → List Token → Option (List ℕ × ℕ × List Token)
 named_lexeme line (Named name) ts = Some (name, line, ts)
 named_lexeme line _ ts = None
@@ -97,7 +97,7 @@ unfoldable pub name_at : List Token → Option (List ℕ × ℕ × List Token)
 name_at [] = None
 name_at (t ∷ ts) = named_lexeme t.line t.lexeme ts
 
--- a number in front
+-- a number first
 abbrev pub number_lexeme : Lexeme → List Token → Option (ℤ × List Token)
 number_lexeme (Number value) ts = Some (value, ts)
 number_lexeme _ ts = None
@@ -114,7 +114,7 @@ Finds view found due = option_map view found ≡ due
 
 -- a number between 1 and the most
 unfoldable pub counted : ℕ → ℤ → Option ℕ
-counted most value = if is_between 1 most value then Some (count_of value) else None
+counted most value = if is_between 1 most value then Some (count_literal value) else None
 
 -- an array that keeps the rules, behind `array`
 unfoldable pub declaration_at : List Array → List Token → Option (Array × List Token)

@@ -7,7 +7,7 @@ use Rattle.kernel_syntax.specs.Tree as kernel
 use Rattle.kernel_syntax.specs.Tree.{Term, Code}
 use Rattle.kernel_syntax.specs.Program.{Program}
 use Rattle.kernel_reader.specs.Grammar.{Tree, NumberAt, NameAt, TidAt, SpanAt, Element, Group, Minus, Binary, ScheduleTree, Unsaid, Static, StaticBy, Dynamic, DynamicBy, Stmts, NoMore, Let, Assign, Store, If, IfElse, Loop, Parallel, For, Barrier, Critical, CriticalOf, KernelTree}
-use Rattle.kernel_reader.specs.Scope.{array_number, variable_of, Names, Place, with_local, slots, past, count_of}
+use Rattle.kernel_reader.specs.Scope.{array_number, variable_of, Names, Place, with_local, slots, past, count_literal}
 use Rattle.kernel_reader.specs.declared.binding.Variable.{Variable}
 use Rattle.kernel_reader.specs.Rules.{mutex_of, arrays_of, mutex_names, at_main}
 
@@ -59,9 +59,9 @@ term n site (Binary left op line right) = kernel.Binary op line (term n site lef
 abbrev pub schedule_of : ScheduleTree → Schedule
 schedule_of Unsaid = schedule.Even
 schedule_of (Static line) = schedule.Even
-schedule_of (StaticBy line number_line chunk) = schedule.Static (count_of chunk)
+schedule_of (StaticBy line number_line chunk) = schedule.Static (count_literal chunk)
 schedule_of (Dynamic line) = schedule.Dynamic 1
-schedule_of (DynamicBy line number_line chunk) = schedule.Dynamic (count_of chunk)
+schedule_of (DynamicBy line number_line chunk) = schedule.Dynamic (count_literal chunk)
 
 abbrev pub code : Place → ℕ → Stmts → Code
 code p site NoMore = kernel.Done
@@ -84,7 +84,7 @@ code p site (Loop line name_line name in_line from dots to opened body closed re
     kernel.Loop p.slot (term p.names site from) (term p.names (site + sites from) to) (code (with_local p name false) inside body)
     (code (past p (1 + slots body)) (inside + stmts_sites body) rest)
 code p site (Parallel line number_line span opened body closed rest) =
-    kernel.Parallel (count_of span) line closed (code p site body) (code (past p (slots body)) (site + stmts_sites body) rest)
+    kernel.Parallel (count_literal span) line closed (code p site body) (code (past p (slots body)) (site + stmts_sites body) rest)
 code p site (For line name_line name in_line from dots to schedule nowait opened body closed rest) =
     let inside = site + sites from + sites to in
     kernel.For p.slot (term p.names site from) (term p.names (site + sites from) to) (schedule_of schedule) (is_some nowait) line closed

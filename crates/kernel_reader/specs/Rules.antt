@@ -8,7 +8,7 @@ use Rattle.kernel_reader.specs.Tokens.{Refusal}
 use Rattle.kernel_reader.specs.Grammar.{Tree, NumberAt, NameAt, TidAt, SpanAt, Element, Group, Minus, Binary, ScheduleTree, Unsaid, Static, StaticBy, Dynamic, DynamicBy, Stmts, NoMore, Let, Assign, Store, If, IfElse, Loop, Parallel, For, Barrier, Critical, CriticalOf, Declaration, ArrayOf, MutexOf, KernelTree}
 use Rattle.kernel_syntax.specs.declared.syntax.Array.{Array}
 use Rattle.kernel_syntax.specs.Layout.{elements}
-use Rattle.kernel_reader.specs.Scope.{number_of, is_among, is_array, variable_of, Names, Place, with_local, slots, past, count_of, is_between}
+use Rattle.kernel_reader.specs.Scope.{number_of, is_among, is_array, variable_of, Names, Place, with_local, slots, past, count_literal, is_between}
 
 -- a rule that is broken at a line
 abbrev pub fault_at : ℕ → KernelWhy → List Refusal
@@ -29,7 +29,7 @@ width_of name =
 
 -- an array as declared, not laid out yet
 abbrev pub array_of : List ℕ → ℕ → ℤ → Array
-array_of name width count = record { name = name; width = width; count = count_of count; base = 0; first = 0 }
+array_of name width count = record { name = name; width = width; count = count_literal count; base = 0; first = 0 }
 
 -- at most 64 arrays and 63 mutexes, with different names, and 1 to 1,048,576 elements in each array and in all
 abbrev pub declarations_faults : List Array → List (List ℕ) → List Declaration → List Refusal
@@ -39,7 +39,7 @@ declarations_faults arrays mutexes (ArrayOf line name_line name width_line width
     (fault_if (nat_le 64 (length arrays)) name_line why.Large ++
     (fault_if (is_none (width_of width)) width_line why.Width ++
     (fault_if (not (is_between 1 1048576 count)) count_line why.Count ++
-    (fault_if (nat_lt 1048576 (elements arrays + count_of count)) count_line why.Large ++
+    (fault_if (nat_lt 1048576 (elements arrays + count_literal count)) count_line why.Large ++
     declarations_faults (arrays ++ array_of name (unwrap_or (width_of width) 0) count ∷ []) mutexes ds))))
 declarations_faults arrays mutexes (MutexOf line name_line name ∷ ds) =
     fault_if (is_array name arrays || is_among name mutexes) name_line why.Twice ++
@@ -118,7 +118,7 @@ holds_work (CriticalOf line name_line name opened body closed rest) = holds_work
 
 -- a fixed loop that holds a worksharing loop or a barrier weighs one more than its body, in each of its turns
 abbrev pub loop_weight : Option ℤ → Option ℤ → Bool → ℕ → ℕ
-loop_weight (Some a) (Some b) true body = count_of (b -ℤ a) * (body + 1)
+loop_weight (Some a) (Some b) true body = count_literal (b -ℤ a) * (body + 1)
 loop_weight _ _ _ body = 1
 
 abbrev pub weight : Stmts → ℕ
@@ -205,8 +205,8 @@ stmts_faults p (Loop line name_line name in_line from dots to opened body closed
     (stmts_faults (in_branch (with_local p name false) (not (is_fixed from to))) body ++ stmts_faults (past p (1 + slots body)) rest)))
 stmts_faults p (Parallel line number_line span opened body closed rest) =
     fault_if (is_some p.critical) line why.ParallelHere ++ (fault_if (nat_le 4 p.regions) line why.Deep ++
-    (fault_if (not (is_between 1 64 span)) number_line why.Count ++ (fault_if (nat_lt 64 (p.spans * count_of span)) number_line why.Large ++
-    (stmts_faults (in_region p (count_of span)) body ++ (fault_if (nat_lt 65536 (weight body)) closed why.Large ++
+    (fault_if (not (is_between 1 64 span)) number_line why.Count ++ (fault_if (nat_lt 64 (p.spans * count_literal span)) number_line why.Large ++
+    (stmts_faults (in_region p (count_literal span)) body ++ (fault_if (nat_lt 65536 (weight body)) closed why.Large ++
     stmts_faults (past p (slots body)) rest)))))
 stmts_faults p (For line name_line name in_line from dots to schedule nowait opened body closed rest) =
     fault_if (is_misplaced p) line why.WorkHere ++ (fault_if p.uneven line why.NotUniform ++ (declared_faults p name_line name ++

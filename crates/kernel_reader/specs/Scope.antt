@@ -71,9 +71,9 @@ abbrev pub past : Place → ℕ → Place
 past p declared = record p { slot = p.slot + declared }
 
 -- a number of the text as a count; no token is negative
-abbrev pub count_of : ℤ → ℕ
-count_of (pos n) = n
-count_of (negsuc n) = 0
+abbrev pub count_literal : ℤ → ℕ
+count_literal (pos n) = n
+count_literal (negsuc n) = 0
 
 -- a number between two
 abbrev pub is_between : ℕ → ℕ → ℤ → Bool

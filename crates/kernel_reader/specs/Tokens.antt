@@ -111,14 +111,14 @@ sign_lexeme b c = elim (two_byte_sign b c) [
   | None ↦ option_map (λ s. (Mark s, 1)) (one_byte_sign b)
 ]
 
--- the longest lexeme at the front of bytes
+-- the longest lexeme at the start of bytes
 unfoldable pub lexeme_at : List ℕ → Option Found
 lexeme_at bs =
     if begins_name (slice_index bs 0) then name_lexeme (take_while is_in_name bs)
     else (if is_ascii_digit (slice_index bs 0) then number_lexeme (take_while is_ascii_digit bs)
     else sign_lexeme (slice_index bs 0) (slice_index bs 1))
 
--- one more token in front
+-- one more token first
 abbrev pub with_token : Token → Result (List Token) ℕ → Result (List Token) ℕ
 with_token t (Ok ts) = Ok (t ∷ ts)
 with_token t (Err line) = Err line

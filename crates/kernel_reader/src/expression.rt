@@ -342,7 +342,7 @@ fn step(
     }
 }
 
-/// The expression at the front of tokens, and the tokens behind it.
+/// The expression at the start of tokens, and the tokens behind it.
 pub fn expression(alloc: Global, tokens: &[Token]) -> Result<(Tree, &[Token]), ReadKernelFault>
     ensures read { Gives (λ x. (tree_of x.0, x.1.now)) result (expression_from None [] tokens.now) }
     ensures room { IfOk result (λ x. 3 * sites (tree_of x.0) + length x.1.now < length tokens.now) }

@@ -106,7 +106,7 @@ fn sign_lexeme(bytes: &[u8]) -> Option<(Lexeme, usize)>
     Some((Lexeme::Mark(sign), 1))
 }
 
-// How many bytes at the front pass a test: those of a name, of a number, and of a comment.
+// How many bytes at the start pass a test: those of a name, of a number, and of a comment.
 fn name_len(bytes: &[u8]) -> usize
     ensures { result ≡ prefix_len is_in_name bytes.now }
 {

@@ -1,4 +1,4 @@
-//! Single tokens in front of others.
+//! Single tokens ahead of others.
 ghost use Rattle.std.specs.Prelude.{◌≡◌, ◌<◌, ◌≤◌, length, IfSome};
 ghost use Rattle.kernel_reader.specs.Reading.{Finds, word_number, sign_number, is_word, is_sign, word_at, sign_at, name_at, number_at, counted};
 
@@ -35,7 +35,7 @@ fn is_sign(lexeme: &Lexeme, sign: Sign) -> bool
     }
 }
 
-/// A reserved name in front of tokens: its line, and the tokens behind it.
+/// A reserved name ahead of tokens: its line, and the tokens behind it.
 #[tactic(auto, unfolding(crate::specs::Reading::word_at))]
 pub fn word_at(tokens: &[Token], word: Word) -> Option<(u32, &[Token])>
     ensures found { Finds (λ x. (x.0, x.1.now)) result (word_at word tokens.now) }
@@ -47,7 +47,7 @@ pub fn word_at(tokens: &[Token], word: Word) -> Option<(u32, &[Token])>
     }
 }
 
-/// A sign in front of tokens: its line, and the tokens behind it.
+/// A sign ahead of tokens: its line, and the tokens behind it.
 #[tactic(auto, unfolding(crate::specs::Reading::sign_at))]
 pub fn sign_at(tokens: &[Token], sign: Sign) -> Option<(u32, &[Token])>
     ensures found { Finds (λ x. (x.0, x.1.now)) result (sign_at sign tokens.now) }
@@ -59,7 +59,7 @@ pub fn sign_at(tokens: &[Token], sign: Sign) -> Option<(u32, &[Token])>
     }
 }
 
-/// A name in front of tokens, its line, and the tokens behind it.
+/// A name ahead of tokens, its line, and the tokens behind it.
 #[tactic(auto, unfolding(crate::specs::Reading::name_at))]
 pub fn name_at(tokens: &[Token]) -> Option<(&Name, u32, &[Token])>
     ensures found { Finds (λ x. (x.0.now, x.1, x.2.now)) result (name_at tokens.now) }
@@ -72,7 +72,7 @@ pub fn name_at(tokens: &[Token]) -> Option<(&Name, u32, &[Token])>
     }
 }
 
-/// A number in front of tokens, and the tokens behind it.
+/// A number ahead of tokens, and the tokens behind it.
 #[tactic(auto, unfolding(crate::specs::Reading::number_at))]
 pub fn number_at(tokens: &[Token]) -> Option<(i64, &[Token])>
     ensures found { Finds (λ x. (x.0, x.1.now)) result (number_at tokens.now) }

@@ -82,7 +82,7 @@ fn declaration_at<'a>(
     Ok((array, rest))
 }
 
-/// The arrays that are declared in front, and the tokens behind them.
+/// The arrays that are declared first, and the tokens behind them.
 fn arrays_at(alloc: Global, tokens: &[Token]) -> Result<(Arrays, &[Token]), ReadKernelFault>
     ensures found { Gives (λ x. (x.0, x.1.now)) result (arrays_at (suc (length tokens.now)) [] tokens.now) }
     ensures limits { IfOk result (λ x. IsWithinLimits x.0) }

@@ -62,7 +62,3 @@ fitted-fitted z width is = wrapped-wrapped (2 ^ (8 * width)) z (range_bounds wid
 
 pub fitted_fits : (z : ℤ) (width : ℕ) → IsWidth width → FitsSigned w64 (fitted z width)
 fitted_fits z width is = let b = range_bounds width is in wrapped_fits_word (2 ^ (8 * width)) z b.0 b.1
-
--- to bits and back
-pub fitted_from_bits : (z : ℤ) (width : ℕ) → IsWidth width → cast_signed w64 (cast_unsigned w64 (fitted z width)) ≡ fitted z width
-fitted_from_bits z width is = to_z-of_z w64 (fitted z width) (fitted_fits z width is)

@@ -65,14 +65,14 @@ laid-laid xs = laid_from-laid_from 4096 0 4096 0 xs
 -- where i arrays are laid out, and what is left of the layout begins at this base and element
 module _ (xs now : List Array) (i base first : ℕ) (d : Array) (within : i < length xs)
     (done : now ≡ take i (laid xs) ++ drop i xs) (left : drop i (laid xs) ≡ laid_from base first (drop i xs)) where
-  front_length : length (take i (laid xs)) ≡ i
-  front_length = length-take-le i (laid xs) (omega (arith, length-laid xs))
+  prefix_length : length (take i (laid xs)) ≡ i
+  prefix_length = length-take-le i (laid xs) (omega (arith, length-laid xs))
 
   opened : now ≡ take i (laid xs) ++ get_or xs i d ∷ drop (i + 1) xs
   opened = done ∙ ap (λ rest. take i (laid xs) ++ rest) (drop_more xs i d within)
 
   pub next-is : get_or now i d ≡ get_or xs i d
-  next-is = ap (λ l. get_or l i d) opened ∙ get_or_at (take i (laid xs)) (get_or xs i d) (drop (i + 1) xs) d i front_length
+  next-is = ap (λ l. get_or l i d) opened ∙ get_or_at (take i (laid xs)) (get_or xs i d) (drop (i + 1) xs) d i prefix_length
 
   -- the next array of the layout, and what is left after it
   split : get_or (laid xs) i d ∷ drop (i + 1) (laid xs)
@@ -91,10 +91,10 @@ module _ (xs now : List Array) (i base first : ℕ) (d : Array) (within : i < le
   done-more =
       let b = placed base first (get_or xs i d) in
       ap (λ l. set l i b) opened
-      ∙ set_at (take i (laid xs)) (get_or xs i d) (drop (i + 1) xs) b i front_length
+      ∙ set_at (take i (laid xs)) (get_or xs i d) (drop (i + 1) xs) b i prefix_length
       ∙ sym (append_assoc (take i (laid xs)) (b ∷ []) (drop (i + 1) xs))
       ∙ ap (λ a. (take i (laid xs) ++ a ∷ []) ++ drop (i + 1) xs) (sym laid-next)
-      ∙ ap (λ front. front ++ drop (i + 1) xs) (sym (take_more (laid xs) i d (omega (arith, length-laid xs))))
+      ∙ ap (λ prefix. prefix ++ drop (i + 1) xs) (sym (take_more (laid xs) i d (omega (arith, length-laid xs))))
 
   pub counted-more : elements (take (i + 1) xs) ≡ elements (take i xs) + (get_or xs i d).count
   counted-more =

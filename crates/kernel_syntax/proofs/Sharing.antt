@@ -5,9 +5,6 @@ use Rattle.std.proofs.lemmas.Nat.{div-add-mod'}
 use Rattle.std.proofs.lemmas.Bool.Decides.{nat_tests}
 use Rattle.kernel_syntax.specs.Share.{even_share_of}
 
-pub share_begins : (total span : ℕ) → (even_share_of total 0 span).0 ≡ 0
-share_begins total span = omega arith
-
 more_is : (lane over : ℕ) → min (lane + 1) over ≡ min lane over + (if nat_lt lane over then 1 else 0)
 more_is lane over = grind (arith, nat_tests)
 

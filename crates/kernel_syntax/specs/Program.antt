@@ -23,9 +23,9 @@ term_of (Neg' _ e) = tree.Neg (term_of e)
 term_of (Binary' op line _ left _ right) = tree.Binary op line (term_of left) (term_of right)
 
 -- several statements followed by the rest, each given what follows it
-abbrev pub joined : List (Code → Code) → Code → Code
-joined [] rest = rest
-joined (first ∷ others) rest = first (joined others rest)
+abbrev pub in_sequence : List (Code → Code) → Code → Code
+in_sequence [] rest = rest
+in_sequence (first ∷ others) rest = first (in_sequence others rest)
 
 -- a team, given the code of its body
 abbrev pub team_tree : ℕ → ℕ → ℕ → Code → TeamTree
@@ -44,7 +44,7 @@ layer_code (layer.Barrier line) rest = tree.Barrier line rest
 layer_code (layer.Critical mutex line end body) rest = tree.Critical mutex line end body rest
 
 abbrev pub layer_body : Body-F (Code → Code) Code TeamTree → Code
-layer_body body = joined body.stmts.items Done
+layer_body body = in_sequence body.stmts.items Done
 
 abbrev pub layer_team : Team-F (Code → Code) Code TeamTree → TeamTree
 layer_team team = team_tree team.span team.line team.end team.body
@@ -55,7 +55,7 @@ stmt_code = fold-Stmt (Code → Code) Code TeamTree layer_code layer_body layer_
 
 -- several statements followed by the rest
 abbrev pub stmts_code : List Stmt → Code → Code
-stmts_code stmts = joined (map stmt_code stmts)
+stmts_code stmts = in_sequence (map stmt_code stmts)
 
 -- a list of statements
 abbrev pub code_of : List Stmt → Code

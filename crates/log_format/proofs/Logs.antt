@@ -5,7 +5,7 @@ use Rattle.std.proofs.lemmas.Grind.{flat_map-append}
 use Rattle.std.proofs.Math.Seq.{take-append_seam, take-append-add, drop-append_seam, drop-append-add, take-nil, drop-nil}
 use Rattle.log_format.specs.declared.record.Record.{Record}
 use Rattle.log_format.specs.Spelling.{spelling, log_bytes}
-use Rattle.log_format.specs.Table.{Fits, IsTabled}
+use Rattle.log_format.specs.Table.{RecordFits, IsTabled}
 use Rattle.log_format.proofs.Records.{length-spelling, spelling-injective}
 
 -- the bytes of some records, and then of more
@@ -20,10 +20,6 @@ log_bytes-append header rs ss = ap (λ (bs : List ℕ). header ++ bs) (spellings
 pub length-spellings : (rs : List Record) → length (flat_map spelling rs) ≡ 24 * length rs
 length-spellings [] = refl
 length-spellings (r ∷ rs) = omega (arith, length-append (spelling r) (flat_map spelling rs), length-spelling r, length-spellings rs)
-
--- a log's header and records, counted
-pub length-log_bytes : (header : List ℕ) (rs : List Record) → length (log_bytes header rs) ≡ length header + 24 * length rs
-length-log_bytes header rs = length-append header (flat_map spelling rs) ∙ ap (λ (n : ℕ). length header + n) (length-spellings rs)
 
 one_record_on : (r : Record) (n : ℕ) → 24 * suc n ≡ length (spelling r) + 24 * n
 one_record_on r n = omega (arith, length-spelling r)
@@ -46,29 +42,14 @@ drop-spellings (suc n) (r ∷ rs) =
     ∙ drop-append-add (spelling r) (flat_map spelling rs) (24 * n)
     ∙ drop-spellings n rs
 
--- a log's bytes up to a record
-pub take-log_bytes : (header : List ℕ) (n : ℕ) (rs : List Record) → take (length header + 24 * n) (log_bytes header rs) ≡ log_bytes header (take n rs)
-take-log_bytes header n rs = take-append-add header (flat_map spelling rs) (24 * n) ∙ ap (λ (bs : List ℕ). header ++ bs) (take-spellings n rs)
-
--- a log's bytes from a record on
-pub drop-log_bytes : (header : List ℕ) (n : ℕ) (rs : List Record) → drop (length header + 24 * n) (log_bytes header rs) ≡ flat_map spelling (drop n rs)
-drop-log_bytes header n rs = drop-append-add header (flat_map spelling rs) (24 * n) ∙ drop-spellings n rs
-
 first_spelled : (r : Record) (bs : List ℕ) → take 24 (spelling r ++ bs) ≡ spelling r
 first_spelled r bs = ap (λ (n : ℕ). take n (spelling r ++ bs)) (sym (length-spelling r)) ∙ take-append_seam (spelling r) bs
 
 rest_spelled : (r : Record) (bs : List ℕ) → drop 24 (spelling r ++ bs) ≡ bs
 rest_spelled r bs = ap (λ (n : ℕ). drop n (spelling r ++ bs)) (sym (length-spelling r)) ∙ drop-append_seam (spelling r) bs
 
--- the bytes of one record of a log, the first being number 0
-pub record_in_log : (header : List ℕ) (n : ℕ) (rs : List Record) (d : Record) → n < length rs
-    → take 24 (drop (length header + 24 * n) (log_bytes header rs)) ≡ spelling (get_or rs n d)
-record_in_log header n rs d within =
-    ap (λ (bs : List ℕ). take 24 bs) (drop-log_bytes header n rs ∙ ap (λ (ss : List Record). flat_map spelling ss) (drop-cons rs n d within))
-    ∙ first_spelled (get_or rs n d) (flat_map spelling (drop (suc n) rs))
-
 -- the bytes of records tell the records
-pub spellings-injective : (rs ss : List Record) → All Fits rs → All Fits ss → flat_map spelling rs ≡ flat_map spelling ss → rs ≡ ss
+pub spellings-injective : (rs ss : List Record) → All RecordFits rs → All RecordFits ss → flat_map spelling rs ≡ flat_map spelling ss → rs ≡ ss
 spellings-injective [] [] rs_fit ss_fit same = refl
 spellings-injective [] (s ∷ ss) rs_fit ss_fit same = absurd (omega (arith, ap length same, length-spellings (s ∷ ss)))
 spellings-injective (r ∷ rs) [] rs_fit ss_fit same = absurd (omega (arith, ap length same, length-spellings (r ∷ rs)))

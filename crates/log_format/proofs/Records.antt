@@ -9,7 +9,7 @@ use Rattle.log_format.specs.declared.record.Record.{Record}
 use Rattle.log_format.specs.declared.record.Why.{Why}
 use Rattle.log_format.specs.declared.record.Why.TheVariants as why
 use Rattle.log_format.specs.Spelling.{kind_code, spelling}
-use Rattle.log_format.specs.Table.{Fits, Spells, Passes, rank, IsFirstFailed, IsFirstFault}
+use Rattle.log_format.specs.Table.{RecordFits, Spells, PassesTable, rank, IsFirstFailed, IsFirstFault}
 
 -- a record is spelled by 24 bytes
 pub length-spelling : (r : Record) → length (spelling r) ≡ 24
@@ -36,10 +36,6 @@ kind_at-code Region = refl
 kind_at-code Chunk = refl
 kind_at-code End = refl
 
--- kinds have different numbers
-pub kind_code-injective : (k l : Kind) → kind_code k ≡ kind_code l → k ≡ l
-kind_code-injective k l same = sym (kind_at-code k) ∙ ap kind_at same ∙ kind_at-code l
-
 -- the fields that bytes tell
 fields_at : List ℕ → Record
 fields_at bytes = record {
@@ -51,7 +47,7 @@ fields_at bytes = record {
   value = from_be_bytes w64 (take 8 (drop 16 bytes));
 }
 
-fields_at-spelling : (r : Record) → Fits r → fields_at (spelling r) ≡ r
+fields_at-spelling : (r : Record) → RecordFits r → fields_at (spelling r) ≡ r
 unfolding fields_at spelling
 fields_at-spelling r fits =
     let kind : kind_at (kind_code r.kind) ≡ r.kind = kind_at-code r.kind in
@@ -66,7 +62,7 @@ fields_at-spelling r fits =
     ∙ ap (λ (n : ℕ). let it : Record = record { kind = r.kind; size = r.size; site = r.site; line = r.line; addr = r.addr; value = n } in it) value
 
 -- records whose fields fit are spelled differently
-pub spelling-injective : (r s : Record) → Fits r → Fits s → spelling r ≡ spelling s → r ≡ s
+pub spelling-injective : (r s : Record) → RecordFits r → RecordFits s → spelling r ≡ spelling s → r ≡ s
 spelling-injective r s r_fits s_fits same = sym (fields_at-spelling r r_fits) ∙ ap fields_at same ∙ fields_at-spelling s s_fits
 
 -- bytes spell at most one record
@@ -175,7 +171,7 @@ first_failed-unique r v w one other =
     ]
 
 -- bytes whose fields fail a test have no other first fault
-pub first_fault-unique : (bytes : List ℕ) (r : Record) (v w : Why) → Fits r → bytes ≡ spelling r → IsFirstFailed r v → IsFirstFault bytes w → v ≡ w
+pub first_fault-unique : (bytes : List ℕ) (r : Record) (v w : Why) → RecordFits r → bytes ≡ spelling r → IsFirstFailed r v → IsFirstFault bytes w → v ≡ w
 first_fault-unique bytes r v why.Kind fits spelled failed fault =
     absurd (fault r.kind (ap (λ (bs : List ℕ). get_or bs 0 0) spelled ∙ spelling-kind r))
 first_fault-unique bytes r v _ fits spelled failed fault =
@@ -183,10 +179,10 @@ first_fault-unique bytes r v _ fits spelled failed fault =
     first_failed-unique fault.fields v _ (subst (λ (s : Record). IsFirstFailed s v) same failed) fault.failed
 
 -- bytes whose fields fail a test spell no record
-pub failed_not_spelled : (bytes : List ℕ) (r s : Record) (v : Why) → Fits r → bytes ≡ spelling r → IsFirstFailed r v → Spells bytes s → ⊥
+pub failed_not_spelled : (bytes : List ℕ) (r s : Record) (v : Why) → RecordFits r → bytes ≡ spelling r → IsFirstFailed r v → Spells bytes s → ⊥
 failed_not_spelled bytes r s v fits spelled failed spells =
     let same : s ≡ r = spelling-injective _ _ spells.tabled.fits fits (sym spells.spelled ∙ spelled) in
-    failed.fails (subst (λ (t : Record). Passes t v) same (spells.tabled.passes v))
+    failed.fails (subst (λ (t : Record). PassesTable t v) same (spells.tabled.passes v))
 
 -- bytes that spell a record have no fault
 pub spelled_no_fault : (bytes : List ℕ) (r : Record) (w : Why) → Spells bytes r → IsFirstFault bytes w → ⊥

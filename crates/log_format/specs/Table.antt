@@ -8,7 +8,7 @@ use Rattle.log_format.specs.declared.record.Why.TheVariants as why
 use Rattle.log_format.specs.Spelling.{kind_code, spelling}
 
 -- each field is below its width, as every field of a program's record is
-pub record Fits (r : Record) : Type 0 where
+pub record RecordFits (r : Record) : Type 0 where
   pub size : r.size < 2 ^ 8
   pub site : r.site < 2 ^ 16
   pub line : r.line < 2 ^ 32
@@ -34,9 +34,9 @@ HasAddress Unlock r = r.addr < 2 ^ 16
 HasAddress _ r = Unit {0}
 
 -- a region has 1 to 64 lanes
-abbrev pub HasSpan : Kind → Record → Type 0
-HasSpan Region r = (1 ≤ r.value) × (r.value ≤ 64)
-HasSpan _ r = Unit {0}
+abbrev pub SpanIsTabled : Kind → Record → Type 0
+SpanIsTabled Region r = (1 ≤ r.value) × (r.value ≤ 64)
+SpanIsTabled _ r = Unit {0}
 
 -- what a kind doesn't use is 0, and a chunk's number is at most how many there are
 abbrev pub HasNothingElse : Kind → Record → Type 0
@@ -50,18 +50,18 @@ HasNothingElse Chunk r = (r.site ≡ 0) × (r.addr ≤ r.value)
 HasNothingElse End r = (r.site ≡ 0) × (r.addr ≡ 0) × (r.value ≡ 0)
 
 -- a record passes the test that the fault names
-abbrev pub Passes : Record → Why → Type 0
-Passes r why.Kind = Unit {0}
-Passes r why.Size = HasSize r.kind r.size
-Passes r why.LineZero = 1 ≤ r.line
-Passes r why.Address = HasAddress r.kind r
-Passes r why.Span = HasSpan r.kind r
-Passes r why.Reserved = HasNothingElse r.kind r
+abbrev pub PassesTable : Record → Why → Type 0
+PassesTable r why.Kind = Unit {0}
+PassesTable r why.Size = HasSize r.kind r.size
+PassesTable r why.LineZero = 1 ≤ r.line
+PassesTable r why.Address = HasAddress r.kind r
+PassesTable r why.Span = SpanIsTabled r.kind r
+PassesTable r why.Reserved = HasNothingElse r.kind r
 
 -- a record of the table
 pub record IsTabled (r : Record) : Type 0 where
-  pub fits : Fits r
-  pub passes : (w : Why) → Passes r w
+  pub fits : RecordFits r
+  pub passes : (w : Why) → PassesTable r w
 
 -- the place of a test among the tests
 abbrev pub rank : Why → ℕ
@@ -74,8 +74,8 @@ rank why.Reserved = 5
 
 -- the first test that a record fails
 pub record IsFirstFailed (r : Record) (w : Why) : Type 0 where
-  pub fails : Passes r w → ⊥
-  pub before : (v : Why) → rank v < rank w → Passes r v
+  pub fails : PassesTable r w → ⊥
+  pub before : (v : Why) → rank v < rank w → PassesTable r v
 
 -- bytes that spell a record of the table
 pub record Spells (bytes : List ℕ) (r : Record) : Type 0 where
@@ -83,13 +83,13 @@ pub record Spells (bytes : List ℕ) (r : Record) : Type 0 where
   pub spelled : bytes ≡ spelling r
 
 -- bytes whose fields make a record that fails this test first
-pub record FailsFirst (bytes : List ℕ) (w : Why) : Type 0 where
+pub record FailsTableFirst (bytes : List ℕ) (w : Why) : Type 0 where
   pub fields : Record
-  pub fits : Fits fields
+  pub fits : RecordFits fields
   pub spelled : bytes ≡ spelling fields
   pub failed : IsFirstFailed fields w
 
 -- the first fault of bytes: they name no kind, or their fields fail a test
 abbrev pub IsFirstFault : List ℕ → Why → Type 0
 IsFirstFault bytes why.Kind = (k : Kind) → slice_index bytes 0 ≢ kind_code k
-IsFirstFault bytes w = FailsFirst bytes w
+IsFirstFault bytes w = FailsTableFirst bytes w

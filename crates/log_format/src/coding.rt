@@ -2,7 +2,7 @@ ghost use Rattle.std.specs.Prelude.{◌≡◌, slice_index, IfOk, IfErr};
 ghost use Rattle.log_format.specs.declared.record.Record.{Record};
 ghost use Rattle.log_format.specs.declared.record.Why.{Why};
 ghost use Rattle.log_format.specs.Spelling.{kind_code, spelling};
-ghost use Rattle.log_format.specs.Table.{Fits, IsTabled, Spells, IsFirstFault};
+ghost use Rattle.log_format.specs.Table.{RecordFits, IsTabled, Spells, IsFirstFault};
 
 use crate::record::{Kind, Record, Why};
 use crate::table::{check, code_of, kind_of};
@@ -46,7 +46,7 @@ pub fn encode(r: &Record) -> [u8; 24]
 
 fn fields(kind: Kind, bytes: &[u8; 24]) -> Record
     requires { slice_index bytes.now 0 ≡ kind_code kind }
-    ensures fits { Fits result }
+    ensures fits { RecordFits result }
     ensures spelled { bytes.now ≡ spelling result }
 {
     Record {

@@ -2,7 +2,7 @@ ghost use Rattle.std.specs.Prelude.{◌≡◌, ◌≢◌, ◌↔◌, IsTrue, OnO
 ghost use Rattle.log_format.specs.declared.record.Kind.{Kind};
 ghost use Rattle.log_format.specs.declared.record.Why.{Why};
 ghost use Rattle.log_format.specs.Spelling.{kind_code};
-ghost use Rattle.log_format.specs.Table.{HasSize, HasAddress, HasSpan, HasNothingElse, Passes, IsFirstFailed};
+ghost use Rattle.log_format.specs.Table.{HasSize, HasAddress, SpanIsTabled, HasNothingElse, PassesTable, IsFirstFailed};
 
 use crate::record::{Kind, Record, Why};
 
@@ -66,7 +66,7 @@ fn has_address(r: &Record) -> bool
 }
 
 fn has_span(r: &Record) -> bool
-    ensures { IsTrue result ↔ HasSpan r.now.kind r.now }
+    ensures { IsTrue result ↔ SpanIsTabled r.now.kind r.now }
 {
     match r.kind {
         Kind::Region => 1 <= r.value && r.value <= 64,
@@ -88,7 +88,7 @@ fn has_nothing_else(r: &Record) -> bool
 
 /// The first test of the table that the record fails, if there is one.
 pub fn check(r: &Record) -> Result<(), Why>
-    ensures passes { OnOk result ((w : Why) → Passes r.now w) }
+    ensures passes { OnOk result ((w : Why) → PassesTable r.now w) }
     ensures fails { IfErr result (λ w. IsFirstFailed r.now w) }
 {
     if !has_size(r.kind, r.size) {

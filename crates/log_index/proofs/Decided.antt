@@ -11,10 +11,10 @@ use Rattle.sw_base.specs.Environment.{Files}
 use Rattle.sw_base.specs.Names.{index_name}
 use Rattle.race_model.specs.declared.why.IndexWhy.{IndexWhy}
 use Rattle.race_model.specs.declared.why.IndexWhy.TheVariants.{Header, TooMany, Cut, Depth, Span, Lane, Order, Records}
-use Rattle.race_model.specs.Place.{Place, no_index, bad_row}
-use Rattle.race_model.specs.Row.{Row, RawRow, StepFits, Fits, step_spelling, row_spelling, used, unused, no_step, raw_of, index_bytes}
+use Rattle.race_model.specs.BadPlace.{BadPlace, no_index, bad_row}
+use Rattle.race_model.specs.Row.{Row, RawRow, StepFits, RowFits, step_spelling, row_spelling, used, unused, no_step, raw_of, index_bytes}
 use Rattle.race_model.specs.Listing.{BeginsListing, IsListing, IsLastLane, IsNextLane, IsFirstLane, IsNextRegion, IsNextPath}
-use Rattle.race_model.specs.IndexFault.{HasSpan, HasLane, Passes, FailsTest, Fails as HasFault, IsAtRow, IsBadRow, IsBadIndexPlace, AreFirstRows, IsIndex}
+use Rattle.race_model.specs.IndexFault.{HasRegionSpan, HasLaneInSpan, RowPasses, FailsTest, Fails as HasFault, IsAtRow, IsBadRow, IsBadIndexPlace, AreFirstRows, IsIndex}
 use Rattle.race_model.proofs.Listings.{begins_none, begins_at_root, begins_one, begins_less, begins_more, lists_less, lists_more, lists_some}
 use Rattle.race_model.proofs.IndexPlaces.{used-raws_of, raws_fit}
 use Rattle.log_index.specs.Rows.{path_of, AddsRow, OneMore}
@@ -101,14 +101,14 @@ next_path (step ∷ below) (next ∷ more ∷ others) = both (same_step step nex
 -- rows are none, or have a last one
 data View (rows : List Row) : Type 0 where
   no_row : rows ≡ [] → View rows
-  last : (front : List Row) (row : Row) → rows ≡ front ++ row ∷ [] → View rows
+  last : (prefix : List Row) (row : Row) → rows ≡ prefix ++ row ∷ [] → View rows
 
 view : (rows : List Row) → View rows
 view [] = no_row refl
 view (row ∷ rows) = more (view rows) where
   more : View rows → View (row ∷ rows)
   more (no_row is) = last [] row (ap (λ (rs : List Row). row ∷ rs) is)
-  more (last front end is) = last (row ∷ front) end (ap (λ (rs : List Row). row ∷ rs) is)
+  more (last prefix end is) = last (row ∷ prefix) end (ap (λ (rs : List Row). row ∷ rs) is)
 
 empty_path : (path : List Step) → Decided (path ≡ [])
 empty_path [] = inl refl
@@ -120,26 +120,26 @@ goes_on rows path begins = by_view (view rows) where
   by_view (no_row is) =
       subst (λ (rs : List Row). Decided (BeginsListing (map path_of rs ++ path ∷ []))) (sym is)
       (through (begins_one path) (begins_at_root path []) (empty_path path))
-  by_view (last front row is) =
-      let paths : map path_of rows ≡ map path_of front ++ row.path ∷ [] = ap (λ (rs : List Row). map path_of rs) is ∙ map-append path_of front (row ∷ []) in
-      let longer : map path_of rows ++ path ∷ [] ≡ map path_of front ++ row.path ∷ path ∷ [] =
-      ap (λ (ps : List (List Step)). ps ++ path ∷ []) paths ∙ append_assoc (map path_of front) (row.path ∷ []) (path ∷ []) in
+  by_view (last prefix row is) =
+      let paths : map path_of rows ≡ map path_of prefix ++ row.path ∷ [] = ap (λ (rs : List Row). map path_of rs) is ∙ map-append path_of prefix (row ∷ []) in
+      let longer : map path_of rows ++ path ∷ [] ≡ map path_of prefix ++ row.path ∷ path ∷ [] =
+      ap (λ (ps : List (List Step)). ps ++ path ∷ []) paths ∙ append_assoc (map path_of prefix) (row.path ∷ []) (path ∷ []) in
       subst (λ (ps : List (List Step)). Decided (BeginsListing ps)) (sym longer)
-      (through (λ on. begins_more (map path_of front) row.path path (subst (λ (ps : List (List Step)). BeginsListing ps) paths begins) on)
-      (λ is_front. (begins_less (map path_of front) row.path path is_front).1) (next_path row.path path))
+      (through (λ on. begins_more (map path_of prefix) row.path path (subst (λ (ps : List (List Step)). BeginsListing ps) paths begins) on)
+      (λ is_prefix. (begins_less (map path_of prefix) row.path path is_prefix).1) (next_path row.path path))
 
 whole : (rows : List Row) → BeginsListing (map path_of rows) → Decided (IsListing (map path_of rows))
 whole rows begins = by_view (view rows) where
   by_view : View rows → Decided (IsListing (map path_of rows))
   by_view (no_row is) = inr (λ lists. lists_some (subst (λ (rs : List Row). IsListing (map path_of rs)) is lists))
-  by_view (last front row is) =
-      let paths : map path_of rows ≡ map path_of front ++ row.path ∷ [] = ap (λ (rs : List Row). map path_of rs) is ∙ map-append path_of front (row ∷ []) in
+  by_view (last prefix row is) =
+      let paths : map path_of rows ≡ map path_of prefix ++ row.path ∷ [] = ap (λ (rs : List Row). map path_of rs) is ∙ map-append path_of prefix (row ∷ []) in
       subst (λ (ps : List (List Step)). Decided (IsListing ps)) (sym paths)
-      (through (λ lasts. lists_more (map path_of front) row.path (subst (λ (ps : List (List Step)). BeginsListing ps) paths begins) lasts)
-      (lists_less (map path_of front) row.path) (all IsLastLane (λ s. equal (s.lane + 1) s.span) row.path))
+      (through (λ lasts. lists_more (map path_of prefix) row.path (subst (λ (ps : List (List Step)). BeginsListing ps) paths begins) lasts)
+      (lists_less (map path_of prefix) row.path) (all IsLastLane (λ s. equal (s.lane + 1) s.span) row.path))
 
 -- each test of a row can be told
-passes : (before : List Row) (raw : RawRow) → BeginsListing (map path_of before) → (why : IndexWhy) → Decided (Passes (map raw_of before) raw why)
+passes : (before : List Row) (raw : RawRow) → BeginsListing (map path_of before) → (why : IndexWhy) → Decided (RowPasses (map raw_of before) raw why)
 passes before raw begins Header = inl tt
 passes before raw begins TooMany = inl tt
 passes before raw begins Cut = inl tt
@@ -147,8 +147,8 @@ passes before raw begins Depth =
     through (λ p. record { limit = p.0; reserved = p.1.0; unused = p.1.1 }) (λ is. (is.limit, (is.reserved, is.unused)))
     (both (at_most raw.depth 4) (both (equal raw.reserved 0) (all (λ step. step ≡ no_step) (λ step. same_step step no_step) (unused raw))))
 passes before raw begins Span =
-    all HasSpan (λ step. through (λ p. record { some = p.0; limit = p.1 }) (λ is. (is.some, is.limit)) (both (at_most 1 step.span) (at_most step.span 64))) (used raw)
-passes before raw begins Lane = all HasLane (λ step. at_most (suc step.lane) step.span) (used raw)
+    all HasRegionSpan (λ step. through (λ p. record { some = p.0; limit = p.1 }) (λ is. (is.some, is.limit)) (both (at_most 1 step.span) (at_most step.span 64))) (used raw)
+passes before raw begins Lane = all HasLaneInSpan (λ step. at_most (suc step.lane) step.span) (used raw)
 passes before raw begins Order =
     subst (λ (ps : List (List Step)). Decided (BeginsListing ps)) (sym (paths_same before raw)) (goes_on before (used raw) begins)
 passes before raw begins Records =
@@ -208,7 +208,7 @@ cut_32 bs =
 -- the row that 48 bytes spell
 record SpellsRow (bs : List ℕ) : Type 0 where
   raw : RawRow
-  fits : Fits raw
+  fits : RowFits raw
   spelled : bs ≡ row_spelling raw
 
 four_spelled : (bs : List ℕ) → length bs ≡ 32 → Small bs
@@ -274,7 +274,7 @@ pub record HasRows (files : Files) (dir : List ℕ) : Type 0 where
   pub rows : List Row
   pub is_index : IsIndex files dir rows
 
-module _ (files : Files) (dir : List ℕ) (bytes : List ℕ) (held : files (index_name dir) ≡ Some bytes) (good : (place : Place) → IsBadIndexPlace files dir place → ⊥) where
+module _ (files : Files) (dir : List ℕ) (bytes : List ℕ) (held : files (index_name dir) ≡ Some bytes) (good : (place : BadPlace) → IsBadIndexPlace files dir place → ⊥) where
   not_bad : (n : ℕ) (why : IndexWhy) → IsBadRow bytes n why → ⊥
   not_bad n why bad = good (bad_row n why) (record { bytes = bytes; held = held; bad = bad })
 
@@ -322,12 +322,12 @@ module _ (files : Files) (dir : List ℕ) (bytes : List ℕ) (held : files (inde
             by_order (inl less) = less
             by_order (inr more) = absurd (short more)
 
-          tests : (raw : RawRow) → Fits raw → rest ≡ row_spelling raw ++ drop 48 rest → (why : IndexWhy) → Passes (map raw_of rows) raw why
+          tests : (raw : RawRow) → RowFits raw → rest ≡ row_spelling raw ++ drop 48 rest → (why : IndexWhy) → RowPasses (map raw_of rows) raw why
           tests raw fits spelled why = stable (passes rows raw first.begins why) (fails why) where
-            test : (w : IndexWhy) → (Passes (map raw_of rows) raw w → ⊥) → FailsTest (map raw_of rows) rest w
+            test : (w : IndexWhy) → (RowPasses (map raw_of rows) raw w → ⊥) → FailsTest (map raw_of rows) rest w
             test w not = record { row = raw; more = drop 48 rest; fits = fits; spelled = spelled; fails = not }
 
-            fails : (w : IndexWhy) → (Passes (map raw_of rows) raw w → ⊥) → ⊥
+            fails : (w : IndexWhy) → (RowPasses (map raw_of rows) raw w → ⊥) → ⊥
             fails Header not = not tt
             fails TooMany not = not tt
             fails Cut not = not tt
@@ -359,7 +359,7 @@ module _ (files : Files) (dir : List ℕ) (bytes : List ℕ) (held : files (inde
       read_all (length (drop 8 bytes)) [] (drop 8 bytes) (omega arith) (small_drop 8 bytes small) (record { begins = begins_none; each = λ k d h. absurd (omega arith); limit = omega arith }) parts
 
 -- a folder whose index isn't bad has rows
-pub has_rows : (files : Files) (dir : List ℕ) → ((bytes : List ℕ) → files (index_name dir) ≡ Some bytes → (i : ℕ) → get_or bytes i 0 < 256) → ((place : Place) → IsBadIndexPlace files dir place → ⊥)
+pub has_rows : (files : Files) (dir : List ℕ) → ((bytes : List ℕ) → files (index_name dir) ≡ Some bytes → (i : ℕ) → get_or bytes i 0 < 256) → ((place : BadPlace) → IsBadIndexPlace files dir place → ⊥)
     → HasRows files dir
 has_rows files dir small good = by_held (files (index_name dir)) refl where
   by_held : (held : Option (List ℕ)) → files (index_name dir) ≡ held → HasRows files dir

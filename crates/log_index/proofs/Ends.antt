@@ -7,10 +7,10 @@ use Rattle.sw_base.specs.declared.path.Step.{Step}
 use Rattle.sw_base.specs.declared.files.TheConstants.{INDEX_HEADER}
 use Rattle.race_model.specs.declared.why.IndexWhy.{IndexWhy}
 use Rattle.race_model.specs.declared.why.IndexWhy.TheVariants.{Header, TooMany, Cut, Depth, Span, Lane, Order, Records}
-use Rattle.race_model.specs.Place.{index_rank, bad_row}
+use Rattle.race_model.specs.BadPlace.{index_rank, bad_row}
 use Rattle.race_model.specs.Row.{Row, RawRow, row_spelling, raw_of}
 use Rattle.race_model.specs.Listing.{IsListing}
-use Rattle.race_model.specs.IndexFault.{FailsTest, Fails as HasFault, FailsFirst, AreFirstRows, AreRows, IsFirstBadIndexPlace}
+use Rattle.race_model.specs.IndexFault.{FailsTest, Fails as HasFault, FailsIndexFirst, AreFirstRows, AreRows, IsFirstBadIndexPlace}
 use Rattle.race_model.proofs.Listings.{begins_none}
 use Rattle.race_model.proofs.RowSpelling.{length-row}
 use Rattle.race_model.proofs.IndexPlaces.{used-raws_of, header_first, row_first}
@@ -18,7 +18,7 @@ use Rattle.log_index.specs.declared.row.IndexAnswer.TheVariants.{Bad}
 use Rattle.log_index.specs.Rows.{path_of, OneMore, StopsAt, SpellsFirstRows, SpellsRows, IsFirstBadRow}
 
 -- the end of rows that are no whole listing
-pub end_fails : (rows : List Row) → (rows ≢ []) → (IsListing (map path_of rows) → ⊥) → FailsFirst (map raw_of rows) [] Order
+pub end_fails : (rows : List Row) → (rows ≢ []) → (IsListing (map path_of rows) → ⊥) → FailsIndexFirst (map raw_of rows) [] Order
 end_fails rows some not = record { fails = inr (refl, λ is. not (subst (λ (paths : List (List Step)). IsListing paths) (used-raws_of rows) is)); least = least } where
   none : map raw_of rows ≡ [] → rows ≡ []
   none is = by_rows rows refl where
@@ -64,20 +64,14 @@ module _ (bytes rest : List ℕ) (parts : bytes ≡ INDEX_HEADER ++ rest) where
   whole_parts rows left is =
       parts ∙ ap (λ (bs : List ℕ). INDEX_HEADER ++ bs) is ∙ sym (append_assoc INDEX_HEADER (flat_map row_spelling (map raw_of rows)) left)
 
-  pub rows_spelled : (rows : List Row) → SpellsFirstRows rest rows → AreRows rows → SpellsRows bytes rows
-  rows_spelled rows first all = record { spelled = parts ∙ ap (λ (bs : List ℕ). INDEX_HEADER ++ bs) first.spelled; rows_are = all }
-
   pub stops_first : (n : ℕ) (why : IndexWhy) → StopsAt rest n why → IsFirstBadRow bytes n why
   stops_first n why stops files dir held =
       subst (λ (m : ℕ). IsFirstBadIndexPlace files dir (bad_row m why)) (sym stops.number)
       (row_first files dir bytes held stops.before stops.rest stops.good (whole_parts stops.before stops.rest stops.parts) why stops.first)
 
-  pub end_first : (rows : List Row) (why : IndexWhy) → SpellsFirstRows rest rows → FailsFirst (map raw_of rows) [] why → IsFirstBadRow bytes (length rows + 1) why
+  pub end_first : (rows : List Row) (why : IndexWhy) → SpellsFirstRows rest rows → FailsIndexFirst (map raw_of rows) [] why → IsFirstBadRow bytes (length rows + 1) why
   end_first rows why first fails files dir held =
       row_first files dir bytes held rows [] first.good (whole_parts rows [] (first.spelled ∙ sym (append-nil (flat_map row_spelling (map raw_of rows))))) why fails
-
-pub header_bad : (bytes : List ℕ) → (take 8 bytes ≢ INDEX_HEADER) → IsFirstBadRow bytes 0 Header
-header_bad bytes other files dir held = header_first files dir bytes held other
 
 -- no row is read yet
 pub none_good : (rows : List Row) → rows ≡ [] → AreFirstRows rows

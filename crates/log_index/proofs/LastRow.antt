@@ -12,20 +12,20 @@ abbrev paths_of : List Row → List (List Step)
 paths_of rows = map path_of (rows_of rows)
 
 record IsLast (rows : List Row) (row : Row) : Type 0 where
-  front : List Row
-  parts : rows ≡ front ++ row ∷ []
+  prefix : List Row
+  parts : rows ≡ prefix ++ row ∷ []
 
 same_some : {r s : Row} → Some r ≡ Some s → r ≡ s
 same_some is = cc
 
 one_before : (r : Row) (rows : List Row) (row : Row) → IsLast rows row → IsLast (r ∷ rows) row
-one_before r rows row rest = record { front = r ∷ rest.front; parts = ap (λ (xs : List Row). r ∷ xs) rest.parts }
+one_before r rows row rest = record { prefix = r ∷ rest.prefix; parts = ap (λ (xs : List Row). r ∷ xs) rest.parts }
 
 last_of : (rows : List Row) (row : Row) → slice_get rows (length rows - 1) ≡ Some row → IsLast rows row
 last_of [] row is = cc
 last_of (r ∷ []) row is =
     let same : r ≡ row = same_some is in
-    record { front = []; parts = ap (λ (x : Row). x ∷ []) same }
+    record { prefix = []; parts = ap (λ (x : Row). x ∷ []) same }
 last_of (r ∷ s ∷ rows) row is =
     let count : length (r ∷ s ∷ rows) - 1 ≡ suc (length (s ∷ rows) - 1) = omega arith in
     let rest : IsLast (s ∷ rows) row = last_of (s ∷ rows) row (sym (ap (λ (n : ℕ). slice_get (r ∷ s ∷ rows) n) count) ∙ is) in
@@ -44,8 +44,8 @@ pub empty_told : (path : List Step) (answer : Bool) → answer ≡ (length path 
 empty_told [] answer is = (λ _. refl, λ _. is)
 empty_told (step ∷ path) answer is = (λ told. absurd (grind (arith, sym told ∙ is)), λ none. absurd (omega (arith, ap length none)))
 
-paths_last : (front : List Row) (row : Row) → paths_of (front ++ row ∷ []) ≡ paths_of front ++ row.path ∷ []
-paths_last front row = ap (λ rows. map path_of rows) (map-append row_of front (row ∷ [])) ∙ map-append path_of (rows_of front) (row_of row ∷ [])
+paths_last : (prefix : List Row) (row : Row) → paths_of (prefix ++ row ∷ []) ≡ paths_of prefix ++ row.path ∷ []
+paths_last prefix row = ap (λ rows. map path_of rows) (map-append row_of prefix (row ∷ [])) ∙ map-append path_of (rows_of prefix) (row_of row ∷ [])
 
 pub first_goes_on : (rows : List Row) (path : List Step) → slice_get rows (length rows - 1) ≡ None
     → (path ≡ [] → BeginsListing (paths_of rows ++ path ∷ [])) × (BeginsListing (paths_of rows ++ path ∷ []) → path ≡ [])
@@ -60,20 +60,17 @@ next_goes_on rows row path is begins = (to, from) where
   last : IsLast rows row
   last = last_of rows row is
 
-  paths_are : paths_of rows ≡ paths_of last.front ++ row.path ∷ []
-  paths_are = ap paths_of last.parts ∙ paths_last last.front row
+  paths_are : paths_of rows ≡ paths_of last.prefix ++ row.path ∷ []
+  paths_are = ap paths_of last.parts ∙ paths_last last.prefix row
 
-  longer : paths_of rows ++ path ∷ [] ≡ paths_of last.front ++ row.path ∷ path ∷ []
-  longer = ap (λ (ps : List (List Step)). ps ++ path ∷ []) paths_are ∙ append_assoc (paths_of last.front) (row.path ∷ []) (path ∷ [])
+  longer : paths_of rows ++ path ∷ [] ≡ paths_of last.prefix ++ row.path ∷ path ∷ []
+  longer = ap (λ (ps : List (List Step)). ps ++ path ∷ []) paths_are ∙ append_assoc (paths_of last.prefix) (row.path ∷ []) (path ∷ [])
 
   to : IsNextPath row.path path → BeginsListing (paths_of rows ++ path ∷ [])
-  to on = subst (λ (ps : List (List Step)). BeginsListing ps) (sym longer) (begins_more (paths_of last.front) row.path path (subst (λ (ps : List (List Step)). BeginsListing ps) paths_are begins) on)
+  to on = subst (λ (ps : List (List Step)). BeginsListing ps) (sym longer) (begins_more (paths_of last.prefix) row.path path (subst (λ (ps : List (List Step)). BeginsListing ps) paths_are begins) on)
 
   from : BeginsListing (paths_of rows ++ path ∷ []) → IsNextPath row.path path
-  from all = (begins_less (paths_of last.front) row.path path (subst (λ (ps : List (List Step)). BeginsListing ps) longer all)).1
-
-pub none_whole : (rows : List Row) → slice_get rows (length rows - 1) ≡ None → IsListing (paths_of rows) → ⊥
-none_whole rows is all = lists_some (subst (λ (rs : List Row). IsListing (paths_of rs)) (none_of rows is) all)
+  from all = (begins_less (paths_of last.prefix) row.path path (subst (λ (ps : List (List Step)). BeginsListing ps) longer all)).1
 
 pub last_whole : (rows : List Row) (row : Row) → slice_get rows (length rows - 1) ≡ Some row → BeginsListing (paths_of rows)
     → (All IsLastLane row.path → IsListing (paths_of rows)) × (IsListing (paths_of rows) → All IsLastLane row.path)
@@ -81,14 +78,14 @@ last_whole rows row is begins = (to, from) where
   last : IsLast rows row
   last = last_of rows row is
 
-  paths_are : paths_of rows ≡ paths_of last.front ++ row.path ∷ []
-  paths_are = ap paths_of last.parts ∙ paths_last last.front row
+  paths_are : paths_of rows ≡ paths_of last.prefix ++ row.path ∷ []
+  paths_are = ap paths_of last.parts ∙ paths_last last.prefix row
 
   to : All IsLastLane row.path → IsListing (paths_of rows)
-  to lasts = subst (λ (ps : List (List Step)). IsListing ps) (sym paths_are) (lists_more (paths_of last.front) row.path (subst (λ (ps : List (List Step)). BeginsListing ps) paths_are begins) lasts)
+  to lasts = subst (λ (ps : List (List Step)). IsListing ps) (sym paths_are) (lists_more (paths_of last.prefix) row.path (subst (λ (ps : List (List Step)). BeginsListing ps) paths_are begins) lasts)
 
   from : IsListing (paths_of rows) → All IsLastLane row.path
-  from all = lists_less (paths_of last.front) row.path (subst (λ (ps : List (List Step)). IsListing ps) paths_are all)
+  from all = lists_less (paths_of last.prefix) row.path (subst (λ (ps : List (List Step)). IsListing ps) paths_are all)
 
 pub no_rows : (rows : List Row) → rows_of rows ≡ [] → (length rows == 0) ≡ true
 no_rows [] none = refl

@@ -5,10 +5,10 @@ use Rattle.std.proofs.lemmas.List.Elements.{All-head, All-tail, All-take, All-pu
 use Rattle.sw_base.specs.declared.path.Step.{Step}
 use Rattle.race_model.specs.declared.why.IndexWhy.{IndexWhy}
 use Rattle.race_model.specs.declared.why.IndexWhy.TheVariants.{Header, TooMany, Cut, Depth, Span, Lane, Order, Records}
-use Rattle.race_model.specs.Place.{index_rank}
-use Rattle.race_model.specs.Row.{Row, RawRow, StepFits, Fits, row_spelling, used, unused, no_step, raw_of}
+use Rattle.race_model.specs.BadPlace.{index_rank}
+use Rattle.race_model.specs.Row.{Row, RawRow, StepFits, RowFits, row_spelling, used, unused, no_step, raw_of}
 use Rattle.race_model.specs.Listing.{BeginsListing}
-use Rattle.race_model.specs.IndexFault.{HasDepth, HasSpan, HasLane, HasRecords, Passes, FailsTest, Fails as HasFault, FailsFirst, IsRow, AreFirstRows}
+use Rattle.race_model.specs.IndexFault.{HasDepth, HasRegionSpan, HasLaneInSpan, HasRecords, RowPasses, FailsTest, Fails as HasFault, FailsIndexFirst, IsRow, AreFirstRows}
 use Rattle.race_model.proofs.RowSpelling.{SameRow, same_row, length-row}
 use Rattle.log_index.specs.Rows.{path_of, FailsTestFirst, AddsRow}
 use Rattle.log_index.proofs.RowTests.{paths_same}
@@ -22,35 +22,35 @@ all_same {X} (y ∷ xs) x all =
 abbrev pub row_from : RawRow → Row
 row_from raw = record { path = used raw; records = raw.records }
 
-used_length : (raw : RawRow) → Fits raw → HasDepth raw → length (used raw) ≡ raw.depth
+used_length : (raw : RawRow) → RowFits raw → HasDepth raw → length (used raw) ≡ raw.depth
 used_length raw fits is = omega (arith, length-take raw.depth raw.steps, fits.four, is.limit)
 
-steps_are : (raw : RawRow) → Fits raw → HasDepth raw → used raw ++ replicate (4 - length (used raw)) no_step ≡ raw.steps
+steps_are : (raw : RawRow) → RowFits raw → HasDepth raw → used raw ++ replicate (4 - length (used raw)) no_step ≡ raw.steps
 steps_are raw fits is =
     let count : length (unused raw) ≡ 4 - length (used raw) = omega (arith, length-drop raw.depth raw.steps, fits.four, used_length raw fits is) in
     ap (λ (n : ℕ). used raw ++ replicate n no_step) (sym count)
     ∙ ap (λ (steps : List Step). used raw ++ steps) (sym (all_same (unused raw) no_step is.unused))
     ∙ take-append-drop raw.depth raw.steps
 
-pub raw_of-row_from : (raw : RawRow) → Fits raw → HasDepth raw → raw_of (row_from raw) ≡ raw
+pub raw_of-row_from : (raw : RawRow) → RowFits raw → HasDepth raw → raw_of (row_from raw) ≡ raw
 raw_of-row_from raw fits is =
     ap (λ (n : ℕ). let it : RawRow = record { depth = n; reserved = 0; steps = used raw ++ replicate (4 - length (used raw)) no_step; records = raw.records } in it) (used_length raw fits is)
     ∙ ap (λ (n : ℕ). let it : RawRow = record { depth = raw.depth; reserved = n; steps = used raw ++ replicate (4 - length (used raw)) no_step; records = raw.records } in it) (sym is.reserved)
     ∙ ap (λ (steps : List Step). let it : RawRow = record { depth = raw.depth; reserved = raw.reserved; steps = steps; records = raw.records } in it) (steps_are raw fits is)
 
-is_row : (raw : RawRow) → Fits raw → HasDepth raw → All HasSpan (used raw) → All HasLane (used raw) → HasRecords raw.records → IsRow (row_from raw)
+is_row : (raw : RawRow) → RowFits raw → HasDepth raw → All HasRegionSpan (used raw) → All HasLaneInSpan (used raw) → HasRecords raw.records → IsRow (row_from raw)
 is_row raw fits depth spans lanes records = record {
   depth = omega (arith, used_length raw fits depth, depth.limit);
   steps = λ k d h. record { region = (All-take StepFits raw.depth raw.steps fits.steps k d h).region; span = spans k d h; lane = lanes k d h };
   records = records;
 }
 
-cut_off : (bytes rest front : List ℕ) → bytes ≡ take 48 rest → bytes ≡ front → rest ≡ front ++ drop 48 rest
-cut_off bytes rest front taken is = sym (take-append-drop 48 rest) ∙ ap (λ (bs : List ℕ). bs ++ drop 48 rest) (sym taken ∙ is)
+cut_off : (bytes rest prefix : List ℕ) → bytes ≡ take 48 rest → bytes ≡ prefix → rest ≡ prefix ++ drop 48 rest
+cut_off bytes rest prefix taken is = sym (take-append-drop 48 rest) ∙ ap (λ (bs : List ℕ). bs ++ drop 48 rest) (sym taken ∙ is)
 
 -- the row may be added
-pub adds_row : (before : List Row) (raw : RawRow) (rest : List ℕ) → AreFirstRows before → (length before ≢ 65536) → Fits raw → rest ≡ row_spelling raw ++ drop 48 rest
-    → ((why : IndexWhy) → Passes (map raw_of before) raw why) → AddsRow before (row_from raw) rest
+pub adds_row : (before : List Row) (raw : RawRow) (rest : List ℕ) → AreFirstRows before → (length before ≢ 65536) → RowFits raw → rest ≡ row_spelling raw ++ drop 48 rest
+    → ((why : IndexWhy) → RowPasses (map raw_of before) raw why) → AddsRow before (row_from raw) rest
 adds_row before raw rest good room fits spelled passes = record {
   good = record {
     begins = subst (λ (paths : List (List Step)). BeginsListing paths) (paths_same before raw ∙ sym (map-append path_of before (row_from raw ∷ []))) (passes Order);
@@ -62,16 +62,16 @@ adds_row before raw rest good room fits spelled passes = record {
 }
 
 -- the first test that the row fails is the first fault of the bytes that are left
-pub fails_first : (before : List RawRow) (raw : RawRow) (rest more : List ℕ) (why : IndexWhy) → (length before ≢ 65536) → Fits raw → rest ≡ row_spelling raw ++ more
-    → FailsTestFirst before raw why → FailsFirst before rest why
+pub fails_first : (before : List RawRow) (raw : RawRow) (rest more : List ℕ) (why : IndexWhy) → (length before ≢ 65536) → RowFits raw → rest ≡ row_spelling raw ++ more
+    → FailsTestFirst before raw why → FailsIndexFirst before rest why
 fails_first before raw rest more why room fits spelled first = record { fails = fault why first.fails; least = least } where
   there : length rest ≡ 48 + length more
   there = omega (arith, ap length spelled, length-append (row_spelling raw) more, length-row raw fits.four)
 
-  test : (w : IndexWhy) → (Passes before raw w → ⊥) → FailsTest before rest w
+  test : (w : IndexWhy) → (RowPasses before raw w → ⊥) → FailsTest before rest w
   test w fails = record { row = raw; more = more; fits = fits; spelled = spelled; fails = fails }
 
-  fault : (w : IndexWhy) → (Passes before raw w → ⊥) → HasFault before rest w
+  fault : (w : IndexWhy) → (RowPasses before raw w → ⊥) → HasFault before rest w
   fault Header fails = absurd (fails tt)
   fault TooMany fails = absurd (fails tt)
   fault Cut fails = absurd (fails tt)
@@ -81,12 +81,12 @@ fails_first before raw rest more why room fits spelled first = record { fails = 
   fault Order fails = inl (test Order fails)
   fault Records fails = test Records fails
 
-  not_test : (w : IndexWhy) → Passes before raw w → FailsTest before rest w → ⊥
+  not_test : (w : IndexWhy) → RowPasses before raw w → FailsTest before rest w → ⊥
   not_test w passes other =
       let same : SameRow raw other.row more other.more = same_row raw other.row more other.more fits other.fits (sym spelled ∙ other.spelled) in
-      other.fails (subst (λ (r : RawRow). Passes before r w) same.row passes)
+      other.fails (subst (λ (r : RawRow). RowPasses before r w) same.row passes)
 
-  not_fault : (w : IndexWhy) → Passes before raw w → HasFault before rest w → ⊥
+  not_fault : (w : IndexWhy) → RowPasses before raw w → HasFault before rest w → ⊥
   not_fault Header passes fails = fails
   not_fault TooMany passes fails = room fails.0
   not_fault Cut passes (inl short) = absurd (omega (arith, short.1, there))
@@ -102,16 +102,16 @@ fails_first before raw rest more why room fits spelled first = record { fails = 
   least other less fails = not_fault other (first.passed other less) fails
 
 -- the same with the bytes of the row cut off, and the row told by its parts
-pub adds_row_as : (before : List Row) (raw : RawRow) (bytes rest : List ℕ) (path : List Step) (records : ℕ) → AreFirstRows before → (length before ≢ 65536) → Fits raw
-    → bytes ≡ take 48 rest → bytes ≡ row_spelling raw → ((why : IndexWhy) → Passes (map raw_of before) raw why) → path ≡ used raw → records ≡ raw.records
+pub adds_row_as : (before : List Row) (raw : RawRow) (bytes rest : List ℕ) (path : List Step) (records : ℕ) → AreFirstRows before → (length before ≢ 65536) → RowFits raw
+    → bytes ≡ take 48 rest → bytes ≡ row_spelling raw → ((why : IndexWhy) → RowPasses (map raw_of before) raw why) → path ≡ used raw → records ≡ raw.records
     → AddsRow before (record { path = path; records = records }) rest
-adds_row_as before raw bytes rest path records good room fits front spelled passes path_is records_is =
-    let cut : rest ≡ row_spelling raw ++ drop 48 rest = cut_off bytes rest (row_spelling raw) front spelled in
+adds_row_as before raw bytes rest path records good room fits prefix spelled passes path_is records_is =
+    let cut : rest ≡ row_spelling raw ++ drop 48 rest = cut_off bytes rest (row_spelling raw) prefix spelled in
     let adds : AddsRow before (row_from raw) rest = adds_row before raw rest good room fits cut passes in
     subst (λ (p : List Step). AddsRow before (record { path = p; records = records }) rest) (sym path_is)
     (subst (λ (n : ℕ). AddsRow before (record { path = used raw; records = n }) rest) (sym records_is) adds)
 
-pub fails_first_as : (before : List Row) (raw : RawRow) (bytes rest : List ℕ) (why : IndexWhy) → (length before ≢ 65536) → Fits raw → bytes ≡ take 48 rest → bytes ≡ row_spelling raw
-    → FailsTestFirst (map raw_of before) raw why → FailsFirst (map raw_of before) rest why
-fails_first_as before raw bytes rest why room fits front spelled first =
-    fails_first (map raw_of before) raw rest (drop 48 rest) why (λ full. room (sym (length-map before raw_of) ∙ full)) fits (cut_off bytes rest (row_spelling raw) front spelled) first
+pub fails_first_as : (before : List Row) (raw : RawRow) (bytes rest : List ℕ) (why : IndexWhy) → (length before ≢ 65536) → RowFits raw → bytes ≡ take 48 rest → bytes ≡ row_spelling raw
+    → FailsTestFirst (map raw_of before) raw why → FailsIndexFirst (map raw_of before) rest why
+fails_first_as before raw bytes rest why room fits prefix spelled first =
+    fails_first (map raw_of before) raw rest (drop 48 rest) why (λ full. room (sym (length-map before raw_of) ∙ full)) fits (cut_off bytes rest (row_spelling raw) prefix spelled) first

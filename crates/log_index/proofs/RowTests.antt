@@ -4,10 +4,10 @@ use Rattle.std.proofs.lemmas.List.{map-append}
 use Rattle.sw_base.specs.declared.path.Step.{Step}
 use Rattle.race_model.specs.declared.why.IndexWhy.{IndexWhy}
 use Rattle.race_model.specs.declared.why.IndexWhy.TheVariants.{Header, TooMany, Cut, Depth, Span, Lane, Order, Records}
-use Rattle.race_model.specs.Place.{index_rank}
+use Rattle.race_model.specs.BadPlace.{index_rank}
 use Rattle.race_model.specs.Row.{Row, RawRow, used, raw_of}
 use Rattle.race_model.specs.Listing.{BeginsListing}
-use Rattle.race_model.specs.IndexFault.{HasDepth, HasSpan, HasLane, HasRecords, Passes}
+use Rattle.race_model.specs.IndexFault.{HasDepth, HasRegionSpan, HasLaneInSpan, HasRecords, RowPasses}
 use Rattle.race_model.proofs.IndexPlaces.{used-raws_of}
 use Rattle.log_index.specs.Rows.{path_of, FailsTestFirst}
 
@@ -18,10 +18,10 @@ not_both one other = cc
 pub paths_same : (before : List Row) (row : RawRow) → map used (map raw_of before ++ row ∷ []) ≡ map path_of before ++ used row ∷ []
 paths_same before row = map-append used (map raw_of before) (row ∷ []) ∙ ap (λ (paths : List (List Step)). paths ++ used row ∷ []) (used-raws_of before)
 
-module _ (before : List Row) (row : RawRow) (depth : HasDepth row) (spans : All HasSpan (used row)) (lanes : All HasLane (used row)) where
+module _ (before : List Row) (row : RawRow) (depth : HasDepth row) (spans : All HasRegionSpan (used row)) (lanes : All HasLaneInSpan (used row)) where
   pub order_fails : (BeginsListing (map path_of before ++ used row ∷ []) → ⊥) → FailsTestFirst (map raw_of before) row Order
   order_fails not = record { fails = λ begins. not (subst (λ (paths : List (List Step)). BeginsListing paths) (paths_same before row) begins); passed = passed } where
-    passed : (other : IndexWhy) → index_rank other < 6 → Passes (map raw_of before) row other
+    passed : (other : IndexWhy) → index_rank other < 6 → RowPasses (map raw_of before) row other
     passed Header less = tt
     passed TooMany less = tt
     passed Cut less = tt
@@ -37,7 +37,7 @@ module _ (before : List Row) (row : RawRow) (depth : HasDepth row) (spans : All 
 
     pub records_fail : (HasRecords row.records → ⊥) → FailsTestFirst (map raw_of before) row Records
     records_fail not = record { fails = not; passed = passed } where
-      passed : (other : IndexWhy) → index_rank other < 7 → Passes (map raw_of before) row other
+      passed : (other : IndexWhy) → index_rank other < 7 → RowPasses (map raw_of before) row other
       passed Header less = tt
       passed TooMany less = tt
       passed Cut less = tt
@@ -47,7 +47,7 @@ module _ (before : List Row) (row : RawRow) (depth : HasDepth row) (spans : All 
       passed Order less = order
       passed Records less = absurd (omega arith)
 
-    pub all_pass : HasRecords row.records → (why : IndexWhy) → Passes (map raw_of before) row why
+    pub all_pass : HasRecords row.records → (why : IndexWhy) → RowPasses (map raw_of before) row why
     all_pass records Header = tt
     all_pass records TooMany = tt
     all_pass records Cut = tt

@@ -5,9 +5,9 @@ use Rattle.sw_base.specs.declared.path.Step.{Step}
 use Rattle.sw_base.specs.Environment.{Files}
 use Rattle.sw_base.specs.Names.{index_name}
 use Rattle.race_model.specs.declared.why.IndexWhy.{IndexWhy}
-use Rattle.race_model.specs.Place.{bad_row, index_rank}
+use Rattle.race_model.specs.BadPlace.{bad_row, index_rank}
 use Rattle.race_model.specs.Row.{Row as TaskRow, RawRow, row_spelling, raw_of, index_bytes}
-use Rattle.race_model.specs.IndexFault.{Passes, FailsFirst, AreFirstRows, AreRows, IsFirstBadIndexPlace}
+use Rattle.race_model.specs.IndexFault.{RowPasses, FailsIndexFirst, AreFirstRows, AreRows, IsFirstBadIndexPlace}
 use Rattle.log_index.specs.declared.fields.Fields.{Fields}
 use Rattle.log_index.specs.declared.row.Row.{Row}
 
@@ -25,8 +25,8 @@ raw_of_fields fields = record { depth = fields.depth; reserved = fields.reserved
 
 -- the first test that a row after others fails
 pub record FailsTestFirst (before : List RawRow) (row : RawRow) (why : IndexWhy) : Type 0 where
-  pub fails : Passes before row why → ⊥
-  pub passed : (other : IndexWhy) → index_rank other < index_rank why → Passes before row other
+  pub fails : RowPasses before row why → ⊥
+  pub passed : (other : IndexWhy) → index_rank other < index_rank why → RowPasses before row other
 
 -- the bytes that are left begin with this row, and it may follow the rows of an index
 pub record AddsRow (before : List TaskRow) (row : TaskRow) (rest : List ℕ) : Type 0 where
@@ -41,7 +41,7 @@ pub record StopsAt (bytes : List ℕ) (n : ℕ) (why : IndexWhy) : Type 0 where
   pub good : AreFirstRows before
   pub parts : bytes ≡ flat_map row_spelling (map raw_of before) ++ rest
   pub number : n ≡ length before + 1
-  pub first : FailsFirst (map raw_of before) rest why
+  pub first : FailsIndexFirst (map raw_of before) rest why
 
 -- these bytes are the first rows of an index
 pub record SpellsFirstRows (bytes : List ℕ) (rows : List TaskRow) : Type 0 where

@@ -1,7 +1,7 @@
 ghost use Rattle.std.specs.Prelude.{◌≡◌, ◌≤◌, length, All};
 ghost use Rattle.std.specs.List.{flat_map};
 ghost use Rattle.sw_base.specs.declared.path.Step.{Step};
-ghost use Rattle.race_model.specs.Row.{StepFits, Fits, step_spelling, row_spelling};
+ghost use Rattle.race_model.specs.Row.{StepFits, RowFits, step_spelling, row_spelling};
 ghost use Rattle.log_index.specs.Rows.{raw_of_fields};
 
 use sw_base::{Path, Step};
@@ -42,7 +42,7 @@ fn steps_of(bytes: &[u8]) -> [Step; 4]
 
 /// The fields that the bytes of a row spell.
 pub fn fields_of(bytes: &[u8; 48]) -> Fields
-    ensures fits { Fits (raw_of_fields result) }
+    ensures fits { RowFits (raw_of_fields result) }
     ensures spelled { bytes.now ≡ row_spelling (raw_of_fields result) }
 {
     Fields {

@@ -1,9 +1,9 @@
 ghost use Rattle.std.specs.Prelude.{◌≡◌, ◌≤◌, ℕ, IfOk, OnOk, OnErr, IsErrOf};
 ghost use Rattle.std.specs.Option.{option_map};
-ghost use Rattle.sw_base.specs.Environment.{WhereTold, Rose, HasCause, LeavesFront, with_put};
+ghost use Rattle.sw_base.specs.Environment.{WhereTold, Rose, HasCause, LeavesPrefix, with_put};
 ghost use Rattle.sw_base.specs.Names.{index_name};
 ghost use Rattle.race_model.specs.declared.why.IndexWhy.{IndexWhy};
-ghost use Rattle.race_model.specs.Place.{no_index, bad_row};
+ghost use Rattle.race_model.specs.BadPlace.{no_index, bad_row};
 ghost use Rattle.race_model.specs.Row.{index_bytes};
 ghost use Rattle.race_model.specs.IndexFault.{AreRows, IsIndex, IsFirstBadIndexPlace};
 ghost use Rattle.log_index.specs.Rows.{rows_of};
@@ -48,7 +48,7 @@ pub fn write_index<F: Folder>(
 ) -> Result<(), Trouble>
     requires { AreRows (rows_of rows.now) }
     ensures done { OnOk result (F.content place.new ≡ option_map (with_put (index_name dir.now) (index_bytes (rows_of rows.now))) (F.content place.old)) }
-    ensures refused { OnErr result (LeavesFront (F.content place.old) (F.content place.new) (index_name dir.now) (index_bytes (rows_of rows.now))) }
+    ensures refused { OnErr result (LeavesPrefix (F.content place.old) (F.content place.new) (index_name dir.now) (index_bytes (rows_of rows.now))) }
 
     ensures cause { HasCause (F.write_faults place.old) (F.write_faults place.new) result }
     ensures same_reads { F.read_faults place.new ≡ F.read_faults place.old }

@@ -1,7 +1,7 @@
 ghost use Rattle.std.specs.Prelude.{◌≡◌, ◌<◌, ℕ, List, Some, slice_index};
 ghost use Rattle.sw_base.specs.Environment.{Files};
 ghost use Rattle.sw_base.specs.Names.{index_name};
-ghost use Rattle.race_model.specs.Place.{Place};
+ghost use Rattle.race_model.specs.BadPlace.{BadPlace};
 ghost use Rattle.race_model.specs.Row.{Row};
 ghost use Rattle.race_model.specs.IndexFault.{IsIndex, IsBadIndexPlace};
 
@@ -9,6 +9,6 @@ ghost use Rattle.race_model.specs.IndexFault.{IsIndex, IsBadIndexPlace};
 pub fn index_without_a_bad_place_is_well_formed()
     ensures { (files : Files) (dir : List ℕ) →
         ((bytes : List ℕ) → files (index_name dir) ≡ Some bytes → (i : ℕ) → slice_index bytes i < 256) →
-        ((place : Place) → IsBadIndexPlace files dir place → ⊥) →
+        ((place : BadPlace) → IsBadIndexPlace files dir place → ⊥) →
         (rows : List Row) × IsIndex files dir rows }
 {}

@@ -1,7 +1,7 @@
 ghost use Rattle.std.specs.Prelude.{◌≡◌, ◌≢◌, ℕ, ◌+◌, ◌≤◌, [], ◌++◌, length, take, map, IfOk, IfErr, OnOk, MatchOption};
 ghost use Rattle.race_model.specs.declared.why.IndexWhy.{IndexWhy};
 ghost use Rattle.race_model.specs.Row.{raw_of, used};
-ghost use Rattle.race_model.specs.IndexFault.{HasDepth, HasRecords, AreFirstRows, AreRows, FailsFirst, max_rows};
+ghost use Rattle.race_model.specs.IndexFault.{HasDepth, HasRecords, AreFirstRows, AreRows, FailsIndexFirst, max_rows};
 ghost use Rattle.log_index.specs.Answers.{IsOfBytes};
 ghost use Rattle.log_index.specs.Rows.{row_of, rows_of, raw_of_fields, AddsRow, OneMore, StopsAt, SpellsFirstRows, SpellsRows, IsFirstBadRow};
 
@@ -32,12 +32,12 @@ fn row_of_fields(fields: &Fields) -> Row
     }
 }
 
-/// The row that stands at the front of the bytes that are left, or the first rule that it breaks.
+/// The row that stands at the start of the bytes that are left, or the first rule that it breaks.
 fn next_row(before: &[Row], rest: &[u8]) -> Result<Row, IndexWhy>
     requires good { AreFirstRows (rows_of before.now) }
     requires some { rest.now ≢ [] }
     ensures adds { IfOk result (λ row. AddsRow (rows_of before.now) (row_of row) rest.now) }
-    ensures fails { IfErr result (λ why. FailsFirst (map raw_of (rows_of before.now)) rest.now why) }
+    ensures fails { IfErr result (λ why. FailsIndexFirst (map raw_of (rows_of before.now)) rest.now why) }
 {
     if before.len() == MAX_ROWS {
         return Err(IndexWhy::TooMany);
@@ -52,13 +52,13 @@ fn next_row(before: &[Row], rest: &[u8]) -> Result<Row, IndexWhy>
     }
 }
 
-/// Reads the row that stands at the front of the bytes that are left.
+/// Reads the row that stands at the start of the bytes that are left.
 fn add_row(rows: &mut Vec<Row>, rest: &[u8]) -> Result<(), IndexAnswer>
     requires good { AreFirstRows (rows_of rows.old.items) }
     requires some { rest.now ≢ [] }
     ensures adds { OnOk result (OneMore (rows_of rows.old.items) (rows_of rows.new.items) rest.now) }
     ensures bad { IfErr result (λ answer. (n : ℕ) (why : IndexWhy) → answer ≡ IndexAnswer.Bad n why →
-        (n ≡ length rows.old.items + 1) × FailsFirst (map raw_of (rows_of rows.old.items)) rest.now why) }
+        (n ≡ length rows.old.items + 1) × FailsIndexFirst (map raw_of (rows_of rows.old.items)) rest.now why) }
     ensures only { IfErr result IsOfBytes }
 {
     match next_row(rows, rest) {
@@ -100,7 +100,7 @@ fn first_rows(alloc: Global, bytes: &[u8]) -> Result<Vec<Row>, IndexAnswer>
 fn check_end(rows: &[Row]) -> Result<(), IndexWhy>
     requires { AreFirstRows (rows_of rows.now) }
     ensures whole { OnOk result (AreRows (rows_of rows.now)) }
-    ensures fails { IfErr result (λ why. FailsFirst (map raw_of (rows_of rows.now)) [] why) }
+    ensures fails { IfErr result (λ why. FailsIndexFirst (map raw_of (rows_of rows.now)) [] why) }
 {
     if rows.is_empty() {
         return Err(IndexWhy::Cut);

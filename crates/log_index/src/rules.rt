@@ -3,7 +3,7 @@ ghost use Rattle.sw_base.specs.declared.path.Step.{Step};
 ghost use Rattle.race_model.specs.declared.why.IndexWhy.{IndexWhy};
 ghost use Rattle.race_model.specs.Listing.{BeginsListing};
 ghost use Rattle.race_model.specs.Row.{raw_of, no_step};
-ghost use Rattle.race_model.specs.IndexFault.{HasSpan, HasLane, HasDepth, HasRecords, Passes};
+ghost use Rattle.race_model.specs.IndexFault.{HasRegionSpan, HasLaneInSpan, HasDepth, HasRecords, RowPasses};
 ghost use Rattle.log_index.specs.Rows.{rows_of, path_of, raw_of_fields, FailsTestFirst};
 
 use crate::fields::Fields;
@@ -16,13 +16,13 @@ use sw_base::Step;
 const MAX_RECORDS: u64 = 4_194_304;
 
 fn have_spans(steps: &[Step]) -> bool
-    ensures { IsTrue result ↔ All HasSpan steps.now }
+    ensures { IsTrue result ↔ All HasRegionSpan steps.now }
 {
     steps.iter().all(|step| step.span >= 1 && step.span <= 64)
 }
 
 fn have_lanes(steps: &[Step]) -> bool
-    ensures { IsTrue result ↔ All HasLane steps.now }
+    ensures { IsTrue result ↔ All HasLaneInSpan steps.now }
 {
     steps.iter().all(|step| step.lane < step.span)
 }
@@ -48,7 +48,7 @@ fn has_records(records: u64) -> bool
 /// The first rule that a row after others breaks. A whole row is there, and there is room for it.
 pub fn check(before: &[Row], fields: &Fields) -> Result<(), IndexWhy>
     requires { BeginsListing (map path_of (rows_of before.now)) }
-    ensures passes { OnOk result ((why : IndexWhy) → Passes (map raw_of (rows_of before.now)) (raw_of_fields fields.now) why) }
+    ensures passes { OnOk result ((why : IndexWhy) → RowPasses (map raw_of (rows_of before.now)) (raw_of_fields fields.now) why) }
     ensures fails { IfErr result (λ why. FailsTestFirst (map raw_of (rows_of before.now)) (raw_of_fields fields.now) why) }
 {
     if !has_depth(fields) {

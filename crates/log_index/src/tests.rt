@@ -197,9 +197,9 @@ fn each_rule_is_told_at_row_3(rt: HostRuntime) -> Result<(), Fail> {
 }
 
 // The answer for this many bytes of the index.
-fn answer_of_front(alloc: Global, bytes: &[u8], count: usize) -> Option<IndexAnswer> {
+fn answer_of_prefix(alloc: Global, bytes: &[u8], count: usize) -> Option<IndexAnswer> {
     match bytes.get(..count) {
-        Some(front) => read(alloc, front).err(),
+        Some(prefix) => read(alloc, prefix).err(),
         None => None,
     }
 }
@@ -218,7 +218,7 @@ fn an_index_cut_short_is_told(rt: HostRuntime) -> Result<(), Fail> {
     ];
     assert_eq!(rt; bytes.len(), 152);
     for (count, row, why) in table {
-        assert_eq!(rt; answer_of_front(alloc, &bytes, count), bad(row, why));
+        assert_eq!(rt; answer_of_prefix(alloc, &bytes, count), bad(row, why));
     }
     assert_eq!(rt; read(alloc, b"SWIDX00").err(), bad(0, IndexWhy::Header));
     assert_eq!(rt; read(alloc, b"SWIDX002").err(), bad(0, IndexWhy::Header));

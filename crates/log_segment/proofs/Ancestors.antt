@@ -24,11 +24,11 @@ take_whole : {X : Type 0} (xs : List X) → take (length xs) xs ≡ xs
 take_whole [] = refl
 take_whole (x ∷ xs) = ap (λ ys. x ∷ ys) (take_whole xs)
 
-front_at : {X : Type 0} (xs : List X) (x y : X) (n k : ℕ) → k < n → slice_get xs k ≡ Some y → slice_get (take n xs ++ x ∷ []) k ≡ Some y
-front_at [] x y n k less found = cc
-front_at (z ∷ xs) x y zero k less found = absurd (omega arith)
-front_at (z ∷ xs) x y (suc n) zero less found = found
-front_at (z ∷ xs) x y (suc n) (suc k) less found = front_at xs x y n k (omega arith) found
+prefix_at : {X : Type 0} (xs : List X) (x y : X) (n k : ℕ) → k < n → slice_get xs k ≡ Some y → slice_get (take n xs ++ x ∷ []) k ≡ Some y
+prefix_at [] x y n k less found = cc
+prefix_at (z ∷ xs) x y zero k less found = absurd (omega arith)
+prefix_at (z ∷ xs) x y (suc n) zero less found = found
+prefix_at (z ∷ xs) x y (suc n) (suc k) less found = prefix_at xs x y n k (omega arith) found
 
 last_at : {X : Type 0} (xs : List X) (x : X) (n : ℕ) → n ≤ length xs → slice_get (take n xs ++ x ∷ []) n ≡ Some x
 last_at xs x zero le = refl
@@ -107,10 +107,10 @@ module _ (trace : Trace) (good : KeepsRules trace) where
       go : (task.path ≡ []) ⊎ HasLast task.path → IsLabel logs (record { path = task.path; index = 0 }) label × IsOwnAfter label 1
       go (inl e) = root_first logs task.path label e (of_root e)
       go (inr l) =
-          let f = forked k task forks found reached l.front l.last l.parts in
+          let f = forked k task forks found reached l.prefix l.last l.parts in
           let row = row_is k task found in
-          let is_step : IsStep l.last = All-contains IsStep (l.front ++ l.last ∷ []) l.last (subst (λ (p : List Step). All IsStep p) l.parts row.steps) (Contains-push l.front l.last) in
-          let it = lane_first logs forks l.front l.last label is_step f (of_lane l.front l.last f.has.labels f.has.label l.parts f.has.row f.has.found) in
+          let is_step : IsStep l.last = All-contains IsStep (l.prefix ++ l.last ∷ []) l.last (subst (λ (p : List Step). All IsStep p) l.parts row.steps) (Contains-push l.prefix l.last) in
+          let it = lane_first logs forks l.prefix l.last label is_step f (of_lane l.prefix l.last f.has.labels f.has.label l.parts f.has.row f.has.found) in
           (subst (λ (p : List Step). IsLabel logs (record { path = p; index = 0 }) label) (sym l.parts) it.0, it.1)
 
   -- the labels of the forks after the task
@@ -149,19 +149,19 @@ module _ (trace : Trace) (good : KeepsRules trace) where
           long : length task.path ≤ length forks
           long = let h = b.stack b.shape.depth b.shape.within in let less = slice_get_within forks b.shape.depth h.labels h.row in omega (arith, longer, less)
 
-          front : depth < length task.path → take depth b.prev.path ≡ take depth task.path
-          front less =
+          prefix : depth < length task.path → take depth b.prev.path ≡ take depth task.path
+          prefix less =
               let le_depth : depth ≤ b.shape.depth = omega (arith, longer) in
-              let le_front : depth ≤ length (take b.shape.depth b.prev.path) = (let l = length-take-le b.shape.depth b.prev.path b.shape.within in omega arith) in
+              let le_prefix : depth ≤ length (take b.shape.depth b.prev.path) = (let l = length-take-le b.shape.depth b.prev.path b.shape.within in omega arith) in
               sym (take-take depth b.shape.depth b.prev.path le_depth)
-              ∙ (sym (take-append-le depth (take b.shape.depth b.prev.path) (b.shape.step ∷ []) le_front) ∙ ap (λ (p : List Step). take depth p) (sym b.shape.is))
+              ∙ (sym (take-append-le depth (take b.shape.depth b.prev.path) (b.shape.step ∷ []) le_prefix) ∙ ap (λ (p : List Step). take depth p) (sym b.shape.is))
 
           go : (depth < length task.path) ⊎ (depth ≡ length task.path) → HasForks logs (take (length task.path) forks ++ labels ∷ []) task.path depth
           go (inl less) =
               let h = b.stack depth (let up = longer in let w = b.shape.within in omega arith) in
               record {
                 labels = h.labels;
-                row = front_at forks labels h.labels (length task.path) depth less h.row;
-                are = subst (λ (p : List Step). AreForks logs p (length (logs p)) h.labels.items) (front less) h.are;
+                row = prefix_at forks labels h.labels (length task.path) depth less h.row;
+                are = subst (λ (p : List Step). AreForks logs p (length (logs p)) h.labels.items) (prefix less) h.are;
               }
           go (inr at) = subst (λ (d : ℕ). HasForks logs (take (length task.path) forks ++ labels ∷ []) task.path d) (sym at) (own long)

@@ -18,9 +18,9 @@ use Rattle.race_model.proofs.LabelPlace.{same_node}
 use Rattle.stride_summary.specs.declared.access.Access.{Access}
 use Rattle.log_segment.specs.Accesses.{access_at, access_of}
 use Rattle.log_segment.specs.declared.segment.Segment.{Segment}
-use Rattle.log_segment.specs.declared.walk.Walk.{Walk}
+use Rattle.log_segment.specs.declared.open_interval.Walk.{Walk}
 use Rattle.log_segment.specs.Intervals.{IsSegmentOf}
-use Rattle.log_segment.specs.Walking.{Adds, begun_after, event_after, ended, ended_by, AreNumbered, KeepsFork, AreForks, Follows, IsNextOf}
+use Rattle.log_segment.specs.Walking.{AddsSegments, begun_after, event_after, ended, ended_by, AreNumbered, KeepsFork, AreForks, Follows, IsNextOf}
 use Rattle.log_segment.proofs.LabelMoves.{found_next, regions_next, barriers_next, moved}
 
 -- mutexes
@@ -247,10 +247,10 @@ module _ (logs : Logs) (path : List Step) (before : List Record) (r : Record) (n
           (λ above own e. raised above own e ∙ (λ i. let t : Triple = record { offset = one_span own.offset own.span i; span = own.span; barrier = none_more own.barrier i } in above ++ t ∷ []))
           here_label
 
-      front_of : (xs : List (List Triple)) (x : List Triple) (k : ℕ) (y : List Triple) → slice_get xs k ≡ Some y → slice_get (xs ++ x ∷ []) k ≡ Some y
-      front_of [] x k y found = cc
-      front_of (z ∷ xs) x zero y found = found
-      front_of (z ∷ xs) x (suc k) y found = front_of xs x k y found
+      prefix_of : (xs : List (List Triple)) (x : List Triple) (k : ℕ) (y : List Triple) → slice_get xs k ≡ Some y → slice_get (xs ++ x ∷ []) k ≡ Some y
+      prefix_of [] x k y found = cc
+      prefix_of (z ∷ xs) x zero y found = found
+      prefix_of (z ∷ xs) x (suc k) y found = prefix_of xs x k y found
 
       last_of : (xs : List (List Triple)) (x : List Triple) → slice_get (xs ++ x ∷ []) (length xs) ≡ Some x
       last_of [] x = refl
@@ -262,7 +262,7 @@ module _ (logs : Logs) (path : List Step) (before : List Record) (r : Record) (n
       keeps : (fork : Node) → fork.path ≡ path → HasKind logs fork Region → (fork.index < length before) ⊎ (fork.index ≡ length before) → KeepsFork logs (walk.forks.items ++ walk.label ∷ []) fork
       keeps fork same kind (inl less) =
           let k = f.forks.each fork same less kind in
-          record { label = k.label; kept = front_of walk.forks.items walk.label (regions_before logs fork) k.label k.kept; is_label = k.is_label }
+          record { label = k.label; kept = prefix_of walk.forks.items walk.label (regions_before logs fork) k.label k.kept; is_label = k.is_label }
       keeps fork same kind (inr at) = subst (λ (y : Node). KeepsFork logs (walk.forks.items ++ walk.label ∷ []) y) (sym (same_node fork here same at))
           (record {
             label = walk.label;
@@ -370,10 +370,10 @@ ends_barrier k path begun is = rw is refl
 
 pub adds_ended : (logs : Logs) (path : List Step) (before : List Record) (walk : Walk) (begun : List Event) (last : ℕ) (old new : List Segment)
     → last ≡ length before → (walk.accesses.items ≡ [] → new ≡ old) → ((walk.accesses.items ≢ []) → new ≡ old ++ closed path last walk ∷ [])
-    → Follows logs path before walk begun → Adds logs (ended path begun) old new
+    → Follows logs path before walk begun → AddsSegments logs (ended path begun) old new
 adds_ended logs path before walk begun last old new is_last empty some f = go (walk.accesses.items) refl
   where
-    adds_one : (walk.accesses.items ≢ []) → Adds logs (ended path begun) old new
+    adds_one : (walk.accesses.items ≢ []) → AddsSegments logs (ended path begun) old new
     adds_one ne =
         let has : has_access begun ≡ true = some_access begun (λ e. ne (f.accesses ∙ e)) in
         let long : 1 ≤ length begun = access_some begun has in
@@ -393,7 +393,7 @@ adds_ended logs path before walk begun last old new is_last empty some f = go (w
           );
         }
 
-    go : (xs : List Access) → walk.accesses.items ≡ xs → Adds logs (ended path begun) old new
+    go : (xs : List Access) → walk.accesses.items ≡ xs → AddsSegments logs (ended path begun) old new
     go [] e = record {
       added = [];
       gains = empty e ∙ sym (append-nil old);

@@ -10,7 +10,7 @@ use Rattle.race_model.specs.Trace.{Logs, Node, regions_before, barriers_before, 
 use Rattle.race_model.specs.Order.{IsLane}
 use Rattle.race_model.specs.Label.{Triple, IsLabel, lane_triple}
 
--- the front of a log, up to a record and with it
+-- the prefix of a log, up to a record and with it
 pub takes_before : (log before rest : List Record) (r : Record) → log ≡ before ++ r ∷ rest → take (length before) log ≡ before
 takes_before log before rest r e = ap (λ (rs : List Record). take (length before) rs) e ∙ take-append_seam before (r ∷ rest)
 

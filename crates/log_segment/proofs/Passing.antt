@@ -12,14 +12,14 @@ use Rattle.log_format.specs.declared.record.Kind.TheVariants.{Read, Write, Lock,
 use Rattle.race_model.specs.Trace.{Logs, Node}
 use Rattle.race_model.specs.Race.{held_after, held_after_kind}
 use Rattle.race_model.specs.Label.{Triple, IsLabel}
-use Rattle.race_model.specs.Segment.{Event, Segment as Interval, has_access, segment_of, runs_of, joined, in_first, events_from, events, task_segments}
+use Rattle.race_model.specs.Segment.{Event, Segment as Interval, has_access, segment_of, runs_of, with_event, in_first, events_from, events, task_segments}
 use Rattle.race_model.specs.ForkJoin.{IsForkJoin}
 use Rattle.race_model.proofs.LabelPlace.{same_node}
 use Rattle.race_model.proofs.FolderRules.{parted}
 use Rattle.log_segment.specs.declared.segment.Segment.{Segment}
-use Rattle.log_segment.specs.declared.walk.Walk.{Walk}
+use Rattle.log_segment.specs.declared.open_interval.Walk.{Walk}
 use Rattle.log_segment.specs.Intervals.{IsSegmentOf}
-use Rattle.log_segment.specs.Walking.{Adds, begun_after, event_after, ended, ended_by, Follows, IsNextOf, MayCome, MayAllCome}
+use Rattle.log_segment.specs.Walking.{AddsSegments, begun_after, event_after, ended, ended_by, Follows, IsNextOf, MayCome, MayAllCome}
 use Rattle.log_segment.proofs.Following.{held_push}
 
 -- the segments that end from here on
@@ -32,7 +32,7 @@ pub record Going (logs : Logs) (path : List Step) (before rest : List Record) (w
   pub begun : List Event
   pub done : List Interval
   pub follows : Follows logs path before walk begun
-  pub adds : Adds logs done old new
+  pub adds : AddsSegments logs done old new
   pub total : done ++ ends_from path begun (events_from (length before + 1) (held_after [] before) rest) ≡ all
 
 -- the intervals of runs
@@ -63,7 +63,7 @@ record Some_run (runs : List (List Event)) : Type 0 where
 onto_none : (runs : List (List Event)) → Some_run runs → onto [] runs ≡ runs
 onto_none runs s = subst (λ (rs : List (List Event)). onto [] rs ≡ rs) (sym s.parts) refl
 
-has_run : (k : Kind) (e : Event) (runs : List (List Event)) → Some_run (joined k e runs)
+has_run : (k : Kind) (e : Event) (runs : List (List Event)) → Some_run (with_event k e runs)
 has_run Read e [] = record { first = _; others = _; parts = refl }
 has_run Write e [] = record { first = _; others = _; parts = refl }
 has_run Lock e [] = record { first = _; others = _; parts = refl }
@@ -89,7 +89,7 @@ parts_here path begun runs some =
     ∙ (segs_first path begun runs ∙ ap (λ (r : List Event). segs path (r ∷ runs)) (sym (append-nil begun)))
 
 by_kind : (k : Kind) (path : List Step) (begun : List Event) (e : Event) (runs : List (List Event)) → Some_run runs
-    → ended_by path k begun ++ segs path (onto (begun_after k e begun) runs) ≡ segs path (onto begun (joined k e runs))
+    → ended_by path k begun ++ segs path (onto (begun_after k e begun) runs) ≡ segs path (onto begun (with_event k e runs))
 by_kind Region path begun e runs some = parts_here path begun runs some
 by_kind Barrier path begun e runs some = parts_here path begun runs some
 by_kind Read path begun e runs some = ap (λ (rs : List (List Event)). segs path rs) (onto_more begun e runs)
@@ -115,14 +115,14 @@ zip_append logs [] js (x ∷ xs) ys a b = absurd a
 zip_append logs (i ∷ is) js [] ys a b = absurd a
 zip_append logs (i ∷ is) js (x ∷ xs) ys a b = (a.0, zip_append logs is js xs ys a.1 b)
 
-pub adds_more : (logs : Logs) (is js : List Interval) (old mid new : List Segment) → Adds logs is old mid → Adds logs js mid new → Adds logs (is ++ js) old new
+pub adds_more : (logs : Logs) (is js : List Interval) (old mid new : List Segment) → AddsSegments logs is old mid → AddsSegments logs js mid new → AddsSegments logs (is ++ js) old new
 adds_more logs is js old mid new a b = record {
   added = a.added ++ b.added;
   gains = b.gains ∙ (ap (λ (xs : List Segment). xs ++ b.added) a.gains ∙ append_assoc old a.added b.added);
   are = zip_append logs is js a.added b.added a.are b.are;
 }
 
-pub adds_none : (logs : Logs) (old : List Segment) → Adds logs [] old old
+pub adds_none : (logs : Logs) (old : List Segment) → AddsSegments logs [] old old
 adds_none logs old = record { added = []; gains = sym (append-nil old); are = tt }
 
 -- before the first record
@@ -149,7 +149,7 @@ going_begins logs path records walk old held first accesses forks label = record
 -- one record more
 pub going_on : (logs : Logs) (path : List Step) (before rest : List Record) (r : Record) (walk now : Walk) (old mid new : List Segment) (all : List Interval)
     → (g : Going logs path before (r ∷ rest) walk old mid all)
-    → Follows logs path (before ++ r ∷ []) now (begun_after r.kind (event_after before r) g.begun) → Adds logs (ended_by path r.kind g.begun) mid new
+    → Follows logs path (before ++ r ∷ []) now (begun_after r.kind (event_after before r) g.begun) → AddsSegments logs (ended_by path r.kind g.begun) mid new
     → Going logs path (before ++ r ∷ []) rest now old new all
 going_on logs path before rest r walk now old mid new all g follows adds = record {
   begun = begun_after r.kind (event_after before r) g.begun;
@@ -165,11 +165,11 @@ going_on logs path before rest r walk now old mid new all g follows adds = recor
 
 -- at the end
 pub going_ends : (logs : Logs) (path : List Step) (before : List Record) (walk : Walk) (old mid new : List Segment) (all : List Interval)
-    → (g : Going logs path before [] walk old mid all) → Adds logs (ended path g.begun) mid new → Adds logs all old new
+    → (g : Going logs path before [] walk old mid all) → AddsSegments logs (ended path g.begun) mid new → AddsSegments logs all old new
 going_ends logs path before walk old mid new all g adds =
-    subst (λ (is : List Interval). Adds logs is old new) g.total (adds_more logs g.done (ended path g.begun) old mid new g.adds adds)
+    subst (λ (is : List Interval). AddsSegments logs is old new) g.total (adds_more logs g.done (ended path g.begun) old mid new g.adds adds)
 
--- the fronts of a log up to an element and with it
+-- the prefixes of a log up to an element and with it
 drop_is : (records : List Record) (k : ℕ) (r : Record) → slice_get records k ≡ Some r → drop k records ≡ r ∷ drop (suc k) records
 drop_is [] k r found = cc
 drop_is (x ∷ records) zero r found = ap (λ (y : Record). y ∷ records) (same_Some x r found)
@@ -197,7 +197,7 @@ pub going_next : (logs : Logs) (path : List Step) (records : List Record) (k : �
     → ((before : List Record) (begun : List Event) → IsNextOf logs path before r → k + 1 ≡ length before + 1 → Follows logs path before walk begun
     → Follows logs path (before ++ r ∷ []) now (begun_after r.kind (event_after before r) begun))
     → ((before : List Record) (begun : List Event) → IsNextOf logs path before r → k + 1 ≡ length before + 1 → Follows logs path before walk begun
-    → Adds logs (ended_by path r.kind begun) mid new)
+    → AddsSegments logs (ended_by path r.kind begun) mid new)
     → Going logs path (take (k + 1) records) (drop (k + 1) records) now old new all
 going_next logs path records k r walk now old mid new all found log tree going follows adds =
     subst (λ (rs : List Record). Going logs path rs (drop (k + 1) records) now old new all) (sym (take_is records k r found) ∙ ap (λ (n : ℕ). take n records) (suc_is k))

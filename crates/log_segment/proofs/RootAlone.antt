@@ -8,7 +8,7 @@ use Rattle.log_format.specs.declared.record.Record.{Record}
 use Rattle.log_format.specs.declared.record.Kind.TheVariants.{Write, End}
 use Rattle.log_format.specs.declared.record.Why.{Why}
 use Rattle.log_format.specs.declared.record.Why.TheVariants as why
-use Rattle.log_format.specs.Table.{IsTabled, Passes}
+use Rattle.log_format.specs.Table.{IsTabled, PassesTable}
 use Rattle.race_model.specs.declared.why.RecordWhy.{RecordWhy}
 use Rattle.race_model.specs.declared.why.RecordWhy.TheVariants as log
 use Rattle.race_model.specs.FirstBad.{rows_of}
@@ -32,7 +32,7 @@ task = record { path = []; records = write ∷ end ∷ [] }
 abbrev alone : Trace
 alone = task ∷ []
 
-write_passes : (w : Why) → Passes write w
+write_passes : (w : Why) → PassesTable write w
 write_passes why.Kind = tt
 write_passes why.Size = inr (inr (inr refl))
 write_passes why.LineZero = omega arith
@@ -40,7 +40,7 @@ write_passes why.Address = omega arith
 write_passes why.Span = tt
 write_passes why.Reserved = tt
 
-end_passes : (w : Why) → Passes end w
+end_passes : (w : Why) → PassesTable end w
 end_passes why.Kind = tt
 end_passes why.Size = refl
 end_passes why.LineZero = omega arith
@@ -59,7 +59,7 @@ no_region rows region span e r = at (subst (λ (rs : List Row). Contains rs r.ro
   at (suc k, within, is) = absurd (omega arith)
 
 abbrev rules : LogTask
-rules = record { path = []; records = 2; spans = []; team = None }
+rules = record { path = []; records = 2; spans = []; due_barriers = None }
 
 write_keeps : (rule : RecordWhy) → Breaks rules [] write rule → ⊥
 write_keeps log.EndEarly b = let e = b.0 in cc
@@ -110,7 +110,7 @@ alone_keeps = record {
     tabled = tabled;
     spans = [];
     has_spans = λ region span. ((λ r. absurd (no_region (rows_of alone) region span refl r)), (λ found. cc));
-    team = None;
+    due_barriers = None;
     knows_team = λ above step e from. absurd (not_both_empty [] above step refl e);
     keeps = keeps;
   }) (All-nil (TaskKeepsRules alone));

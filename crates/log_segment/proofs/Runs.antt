@@ -6,7 +6,7 @@ use Rattle.log_format.specs.declared.record.Record.{Record}
 use Rattle.log_format.specs.declared.record.Kind.{Kind}
 use Rattle.log_format.specs.declared.record.Kind.TheVariants.{Read, Write, Lock, Unlock, Barrier, Region, Chunk, End}
 use Rattle.race_model.specs.Race.{held_after, held_after_kind}
-use Rattle.race_model.specs.Segment.{Event, is_access, is_access_event, has_access, runs_of, joined, in_first, events_from, first_number, last_number}
+use Rattle.race_model.specs.Segment.{Event, is_access, is_access_event, has_access, runs_of, with_event, in_first, events_from, first_number, last_number}
 use Rattle.log_segment.specs.Walking.{AreNumbered}
 use Rattle.log_segment.proofs.Following.{last_is}
 use Rattle.log_segment.proofs.Members.{In}
@@ -64,7 +64,7 @@ taken : (n : ℕ) (e : Event) (runs : List (List Event)) → e.number ≡ n → 
 taken n e runs is all = subst (λ (rs : List (List Event)). Numbered n (in_first e rs)) (sym all.parts)
     (record { first = e ∷ all.first; others = all.others; parts = refl; first_on = (is, all.first_on); others_on = all.others_on })
 
-joined_on : (k : Kind) (n : ℕ) (e : Event) (runs : List (List Event)) → e.number ≡ n → Numbered (n + 1) runs → Numbered n (joined k e runs)
+joined_on : (k : Kind) (n : ℕ) (e : Event) (runs : List (List Event)) → e.number ≡ n → Numbered (n + 1) runs → Numbered n (with_event k e runs)
 joined_on Region n e runs is all = ordered n runs all
 joined_on Barrier n e runs is all = ordered n runs all
 joined_on Read n e runs is all = taken n e runs is all
@@ -126,7 +126,7 @@ taken_back e (first ∷ runs) run x (inl same) h = at (subst (λ (r : List Event
   at (inr more) = inr (record { run = first; is_run = inl refl; is_in = more })
 taken_back e (first ∷ runs) run x (inr more) h = inr (record { run = run; is_run = inr more; is_in = h })
 
-joined_back : (k : Kind) (e : Event) (runs : List (List Event)) (run : List Event) (x : Event) → In run (joined k e runs) → In x run → (e ≡ x) ⊎ InRun runs x
+joined_back : (k : Kind) (e : Event) (runs : List (List Event)) (run : List Event) (x : Event) → In run (with_event k e runs) → In x run → (e ≡ x) ⊎ InRun runs x
 joined_back Region e runs run x listed h = inr (ordered_back runs run x listed h)
 joined_back Barrier e runs run x listed h = inr (ordered_back runs run x listed h)
 joined_back Read e runs run x listed h = taken_back e runs run x listed h
@@ -155,7 +155,7 @@ first_has : (e : Event) (runs : List (List Event)) → InRun (in_first e runs) e
 first_has e [] = record { run = e ∷ []; is_run = inl refl; is_in = inl refl }
 first_has e (run ∷ runs) = record { run = e ∷ run; is_run = inl refl; is_in = inl refl }
 
-joined_has : (k : Kind) (e : Event) (runs : List (List Event)) → is_access k ≡ true → InRun (joined k e runs) e
+joined_has : (k : Kind) (e : Event) (runs : List (List Event)) → is_access k ≡ true → InRun (with_event k e runs) e
 joined_has Read e runs is = first_has e runs
 joined_has Write e runs is = first_has e runs
 joined_has Lock e runs is = cc
@@ -175,7 +175,7 @@ first_more e (run ∷ runs) x r = at r.run r.is_run r.is_in where
 later_has : (runs : List (List Event)) (x : Event) → InRun runs x → InRun ([] ∷ runs) x
 later_has runs x r = record { run = r.run; is_run = inr r.is_run; is_in = r.is_in }
 
-joined_more : (k : Kind) (e : Event) (runs : List (List Event)) (x : Event) → InRun runs x → InRun (joined k e runs) x
+joined_more : (k : Kind) (e : Event) (runs : List (List Event)) (x : Event) → InRun runs x → InRun (with_event k e runs) x
 joined_more Region e runs x r = later_has runs x r
 joined_more Barrier e runs x r = later_has runs x r
 joined_more Read e runs x r = first_more e runs x r
@@ -187,7 +187,7 @@ joined_more End e runs x r = first_more e runs x r
 
 in_run : (es : List Event) (e : Event) → In e es → is_access_event e ≡ true → InRun (runs_of es) e
 in_run [] e h is = absurd h
-in_run (x ∷ es) e (inl same) is = subst (λ (y : Event). InRun (joined x.event.kind x (runs_of es)) y) same (joined_has x.event.kind x (runs_of es) (ap (λ (y : Event). is_access_event y) same ∙ is))
+in_run (x ∷ es) e (inl same) is = subst (λ (y : Event). InRun (with_event x.event.kind x (runs_of es)) y) same (joined_has x.event.kind x (runs_of es) (ap (λ (y : Event). is_access_event y) same ∙ is))
 in_run (x ∷ es) e (inr h) is = joined_more x.event.kind x (runs_of es) e (in_run es e h is)
 
 pub of_run : (es : List Event) (e : Event) → In e es → is_access_event e ≡ true → OfRun es e

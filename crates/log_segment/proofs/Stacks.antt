@@ -15,7 +15,7 @@ use Rattle.race_model.specs.Label.{Triple, IsLabel}
 use Rattle.race_model.specs.Order.{IsLane}
 use Rattle.race_model.specs.Race.{held_after}
 use Rattle.race_model.specs.Trace.{TaskLog, Trace, Logs, Node, logs_of, regions_before}
-use Rattle.race_model.specs.ForkJoin.{IsTask, IsForked, IsForkJoin}
+use Rattle.race_model.specs.ForkJoin.{IsTask, WasForked, IsForkJoin}
 use Rattle.race_model.proofs.LabelPlace.{has_last, HasLast, not_both_empty, is_region}
 use Rattle.race_model.proofs.TraceLogs.{all_at}
 use Rattle.log_segment.specs.Stack.{HasFork}
@@ -64,7 +64,7 @@ fork_there logs forks above step tree begun deep h = go (tree.tasks.forked above
     are : AreForks logs above (length (logs above)) h.labels.items
     are = subst (λ (p : List Step). AreForks logs p (length (logs p)) h.labels.items) whole h.are
 
-    go : IsForked logs above step → Fork logs above step forks
+    go : WasForked logs above step → Fork logs above step forks
     go f =
         let there : f.fork.index < length (logs above) = subst (λ (p : List Step). f.fork.index < length (logs p)) f.above (slice_get_within (logs f.fork.path) f.fork.index f.lane.event f.lane.found) in
         let kept = are.each f.fork f.above there (is_region logs f.fork step.lane step.span (above ++ step ∷ []) f.lane) in
@@ -142,5 +142,5 @@ may_all trace task rules k r found = record {
         same_or_not m n = grind arith
 
         decide : (l.last ≡ r.addr) ⊎ (l.last ≢ r.addr) → IsInnermost (held_after [] (take k task.records)) r.addr
-        decide (inl e) = (l.front, l.parts ∙ ap (λ (m : ℕ). l.front ++ m ∷ []) e)
-        decide (inr ne) = absurd (rules.keeps k r found log.UnlockOther (is, λ outer same. ne (let both = same_from_push l.front outer l.last r.addr (sym l.parts ∙ same) in both.1)))
+        decide (inl e) = (l.prefix, l.parts ∙ ap (λ (m : ℕ). l.prefix ++ m ∷ []) e)
+        decide (inr ne) = absurd (rules.keeps k r found log.UnlockOther (is, λ outer same. ne (let both = same_from_push l.prefix outer l.last r.addr (sym l.parts ∙ same) in both.1)))

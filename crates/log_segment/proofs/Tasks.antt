@@ -10,7 +10,7 @@ use Rattle.race_model.specs.Trace.{TaskLog, Trace, Logs}
 use Rattle.log_segment.specs.declared.segment.Segment.{Segment}
 use Rattle.log_segment.specs.declared.segment.TaskRecords.{TaskRecords}
 use Rattle.log_segment.specs.Intervals.{IsSegmentOf, task_of}
-use Rattle.log_segment.specs.Walking.{Adds}
+use Rattle.log_segment.specs.Walking.{AddsSegments}
 use Rattle.log_segment.proofs.Passing.{zip_append}
 
 pub model_at : (trace : List TaskRecords) (k : ℕ) (x : TaskRecords) → k < length trace → x ≡ get_or trace k x → slice_get (map task_of trace) k ≡ Some (task_of x)
@@ -32,7 +32,7 @@ segments_more trace k task found =
     ∙ (flat_map-append task_segments (take k trace) (task ∷ []) ∙ ap (λ (is : List Interval). segments_of (take k trace) ++ is) (append-nil (task_segments task)))
 
 pub in_order_next : (logs : Logs) (trace : Trace) (k : ℕ) (task : TaskLog) (old new : List Segment) → slice_get trace k ≡ Some task
-    → AllZip (IsSegmentOf logs) (segments_of (take k trace)) old → Adds logs (task_segments task) old new → AllZip (IsSegmentOf logs) (segments_of (take (k + 1) trace)) new
+    → AllZip (IsSegmentOf logs) (segments_of (take k trace)) old → AddsSegments logs (task_segments task) old new → AllZip (IsSegmentOf logs) (segments_of (take (k + 1) trace)) new
 in_order_next logs trace k task old new found so_far adds =
     subst (λ (is : List Interval). AllZip (IsSegmentOf logs) is new) (sym (segments_more trace k task found))
     (subst (λ (xs : List Segment). AllZip (IsSegmentOf logs) (segments_of (take k trace) ++ task_segments task) xs) (sym adds.gains)

@@ -18,10 +18,10 @@ use Rattle.log_segment.specs.Accesses.{access_of}
 use Rattle.log_segment.specs.Intervals.{IsSegmentOf}
 use Rattle.log_segment.specs.declared.segment.Segment.{Segment}
 use Rattle.log_segment.specs.declared.segment.TaskRecords.{TaskRecords}
-use Rattle.log_segment.specs.declared.walk.Walk.{Walk}
+use Rattle.log_segment.specs.declared.open_interval.Walk.{Walk}
 
 -- the segments that were added are these of the model
-pub record Adds (logs : Logs) (intervals : List Interval) (old new : List Segment) : Type 0 where
+pub record AddsSegments (logs : Logs) (intervals : List Interval) (old new : List Segment) : Type 0 where
   pub added : List Segment
   pub gains : new ≡ old ++ added
   pub are : AllZip (IsSegmentOf logs) intervals added
@@ -97,7 +97,7 @@ abbrev pub MayAllCome : List Record → Type 0
 MayAllCome records = (k : ℕ) (r : Record) → slice_get records k ≡ Some r → MayCome (held_after [] (take k records)) r
 
 -- the task's records are a log of a fork-join run, and the first has the label
-pub record IsLogOf (logs : Logs) (task : TaskRecords) (label : List Triple) : Type 0 where
+pub record IsTaskLogFrom (logs : Logs) (task : TaskRecords) (label : List Triple) : Type 0 where
   pub fork_join : IsForkJoin logs
   pub records : logs task.path ≡ task.records.items
   pub first : IsLabel logs (record { path = task.path; index = 0 }) label

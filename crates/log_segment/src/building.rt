@@ -10,7 +10,7 @@ ghost use Rattle.race_model.specs.Trace.{logs_of};
 ghost use Rattle.log_segment.specs.Intervals.{IsSegmentOf, AreSegments, task_of};
 ghost use Rattle.log_segment.specs.Stack.{HasFork};
 
-use crate::going::add_task;
+use crate::task_records::add_task;
 use crate::segment::{Segment, TaskRecords};
 use span_label::Label;
 use std::alloc::Global;

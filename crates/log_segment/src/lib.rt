@@ -4,9 +4,9 @@
 #![tactic(auto)]
 
 mod building;
-mod going;
+mod task_records;
 mod segment;
-mod walk;
+mod open_interval;
 
 pub use building::segments;
 pub use segment::{Segment, TaskRecords};

@@ -10,7 +10,7 @@ use Rattle.mutex_set.specs.Held.{IsInnermost}
 use Rattle.race_model.specs.declared.why.RecordWhy.{RecordWhy}
 use Rattle.race_model.specs.declared.why.RecordWhy.TheVariants as log
 use Rattle.race_model.specs.LogFault.{LogTask, Breaks}
-use Rattle.race_model.specs.Place.{record_rank}
+use Rattle.race_model.specs.BadPlace.{record_rank, last_rank}
 use Rattle.race_model.specs.Race.{held_after, held_after_kind}
 use Rattle.race_model.specs.Trace.{region_count, barrier_count}
 use Rattle.log_walk.specs.Rules.{BreaksNone, BreaksFirst, InPlace, OutOfPlace, Locks, CantLock, Unlocks, CantUnlock, MayPass, CantPass, MayFork, CantFork, MayEnd, CantEnd}
@@ -152,7 +152,7 @@ region_below task before r n kind place free listed _ low broken = absurd broken
 end_below : (task : LogTask) (before : List Record) (r : Record) (n : ℕ) → r.kind ≡ End → Placed task before r
     → (16 < n → held_after [] before ≡ [])
     → (17 < n → length task.spans ≤ region_count before)
-    → (18 < n → (others : ℕ) → task.team ≡ Some others → barrier_count before ≡ others)
+    → (18 < n → (others : ℕ) → task.due_barriers ≡ Some others → barrier_count before ≡ others)
     → (rule : RecordWhy) → record_rank rule < n → Breaks task before r rule → ⊥
 end_below task before r n kind place free all together log.EndEarly low broken = place.early broken.0 broken.1
 end_below task before r n kind place free all together log.EndMissing low broken = place.missing broken.0 broken.1
@@ -183,11 +183,6 @@ below_nine task before r log.RegionRows low broken = absurd (omega arith)
 below_nine task before r log.BarrierCount low broken = absurd (omega arith)
 below_nine task before r _ low broken = absurd broken
 
--- a record that isn't in its place breaks that first
-pub place_first : (task : LogTask) (before : List Record) (r : Record) (rule : RecordWhy) → OutOfPlace r.kind (length before + 1) task.records rule → BreaksFirst task before r rule
-place_first task before r log.EndEarly out = record {
-  breaks = out;
-  least = λ other low broken. let same = below_nine task before r other (omega arith) broken in absurd (omega (arith, ap record_rank same));
 }
 place_first task before r log.EndMissing out = record {
   breaks = out;
@@ -259,7 +254,7 @@ end_first task before r held is kind place log.BarrierCount cant = record {
 end_first task before r held is kind place _ cant = absurd cant
 
 -- a record that breaks no rule of any rank
-none_of : (task : LogTask) (before : List Record) (r : Record) → ((rule : RecordWhy) → record_rank rule < 20 → Breaks task before r rule → ⊥) → BreaksNone task before r
+none_of : (task : LogTask) (before : List Record) (r : Record) → ((rule : RecordWhy) → record_rank rule < last_rank → Breaks task before r rule → ⊥) → BreaksNone task before r
 none_of task before r below log.Extra broken = broken
 none_of task before r below rule broken = below rule (omega arith) broken
 
@@ -272,42 +267,42 @@ kept before r held now kind is_kind is now_is =
     now_is ∙ ap (λ (hs : List ℕ). held_after_kind kind r.addr hs) is ∙ ap (λ (k : Kind). held_after_kind k r.addr (held_after [] before)) (sym is_kind) ∙ sym (held_after-push [] before r)
 
 pub read_none : (task : LogTask) (before : List Record) (r : Record) (held : List ℕ) → held ≡ held_after [] before → r.kind ≡ Read → Placed task before r → BreaksNone task before r × Keeps before r held
-read_none task before r held is kind place = (none_of task before r (read_below task before r 20 kind place), kept before r held held Read kind is refl)
+read_none task before r held is kind place = (none_of task before r (read_below task before r last_rank kind place), kept before r held held Read kind is refl)
 
 pub write_none : (task : LogTask) (before : List Record) (r : Record) (held : List ℕ) → held ≡ held_after [] before → r.kind ≡ Write → Placed task before r → BreaksNone task before r × Keeps before r held
-write_none task before r held is kind place = (none_of task before r (write_below task before r 20 kind place), kept before r held held Write kind is refl)
+write_none task before r held is kind place = (none_of task before r (write_below task before r last_rank kind place), kept before r held held Write kind is refl)
 
 pub chunk_none : (task : LogTask) (before : List Record) (r : Record) (held : List ℕ) → held ≡ held_after [] before → r.kind ≡ Chunk → Placed task before r → BreaksNone task before r × Keeps before r held
-chunk_none task before r held is kind place = (none_of task before r (chunk_below task before r 20 kind place), kept before r held held Chunk kind is refl)
+chunk_none task before r held is kind place = (none_of task before r (chunk_below task before r last_rank kind place), kept before r held held Chunk kind is refl)
 
 pub lock_none : (task : LogTask) (before : List Record) (r : Record) (held now : List ℕ) → held ≡ held_after [] before → r.kind ≡ Lock → Placed task before r
     → Locks held r.addr now → BreaksNone task before r × Keeps before r now
 lock_none task before r held now is kind place locks = (
-  none_of task before r (lock_below task before r 20 kind place (λ low here. locks.free (subst (λ (hs : List ℕ). Contains hs r.addr) (sym is) here)) (λ low full. locks.few (ap (λ (hs : List ℕ). length hs) is ∙ full))),
+  none_of task before r (lock_below task before r last_rank kind place (λ low here. locks.free (subst (λ (hs : List ℕ). Contains hs r.addr) (sym is) here)) (λ low full. locks.few (ap (λ (hs : List ℕ). length hs) is ∙ full))),
   kept before r held now Lock kind is locks.taken,
 )
 
 pub unlock_none : (task : LogTask) (before : List Record) (r : Record) (held now : List ℕ) → held ≡ held_after [] before → r.kind ≡ Unlock → Placed task before r
     → Unlocks held r.addr now → BreaksNone task before r × Keeps before r now
 unlock_none task before r held now is kind place unlocks = (
-  none_of task before r (unlock_below task before r 20 kind place (λ low. subst (λ (hs : List ℕ). IsInnermost hs r.addr) is unlocks.innermost)),
+  none_of task before r (unlock_below task before r last_rank kind place (λ low. subst (λ (hs : List ℕ). IsInnermost hs r.addr) is unlocks.innermost)),
   kept before r held now Unlock kind is unlocks.rest,
 )
 
 pub barrier_none : (task : LogTask) (before : List Record) (r : Record) (held : List ℕ) → held ≡ held_after [] before → r.kind ≡ Barrier → Placed task before r
     → MayPass held task.path → BreaksNone task before r × Keeps before r held
 barrier_none task before r held is kind place may =
-    (none_of task before r (barrier_below task before r 20 kind place (λ low. may.lane) (λ low. sym is ∙ may.free)), kept before r held held Barrier kind is refl)
+    (none_of task before r (barrier_below task before r last_rank kind place (λ low. may.lane) (λ low. sym is ∙ may.free)), kept before r held held Barrier kind is refl)
 
 pub region_none : (task : LogTask) (before : List Record) (r : Record) (held : List ℕ) → held ≡ held_after [] before → r.kind ≡ Region → Placed task before r
     → MayFork held task.spans (region_count before) r.value → BreaksNone task before r × Keeps before r held
 region_none task before r held is kind place may =
-    (none_of task before r (region_below task before r 20 kind place (λ low. sym is ∙ may.free) (λ low. may.listed)), kept before r held held Region kind is refl)
+    (none_of task before r (region_below task before r last_rank kind place (λ low. sym is ∙ may.free) (λ low. may.listed)), kept before r held held Region kind is refl)
 
 pub end_none : (task : LogTask) (before : List Record) (r : Record) (held : List ℕ) → held ≡ held_after [] before → r.kind ≡ End → Placed task before r
     → MayEnd held task (region_count before) (barrier_count before) → BreaksNone task before r × Keeps before r held
 end_none task before r held is kind place may =
-    (none_of task before r (end_below task before r 20 kind place (λ low. sym is ∙ may.free) (λ low. may.all) (λ low. may.together)), kept before r held held End kind is refl)
+    (none_of task before r (end_below task before r last_rank kind place (λ low. sym is ∙ may.free) (λ low. may.all) (λ low. may.together)), kept before r held held End kind is refl)
 
 -- a mutex's number fits 16 bits
 pub lock_fits : (r : Record) → IsTabled r → r.kind ≡ Lock → r.addr < 2 ^ 16

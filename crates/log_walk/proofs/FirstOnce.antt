@@ -16,10 +16,11 @@ use Rattle.race_model.specs.declared.why.IndexWhy.{IndexWhy}
 use Rattle.race_model.specs.declared.why.IndexWhy.TheVariants as index
 use Rattle.race_model.specs.declared.why.RecordWhy.{RecordWhy}
 use Rattle.race_model.specs.declared.why.RecordWhy.TheVariants as log
-use Rattle.race_model.specs.Place.{Place, no_index, bad_row, missing_log, bad_record, too_many_segments, place_key}
+use Rattle.race_model.specs.BadPlace.{BadPlace, no_index, bad_row, missing_log, bad_record, too_many_segments, place_key}
 use Rattle.race_model.specs.FirstBad.{IsFirstBad}
 use Rattle.race_model.proofs.IndexRows.{index_once}
 use Rattle.log_walk.specs.Walk.{IsLogRow}
+use Rattle.race_model.specs.BadPlace.{last_rank}
 
 -- the rules by their ranks
 abbrev index_rule : ℕ → IndexWhy
@@ -29,10 +30,10 @@ abbrev record_rule : ℕ → RecordWhy
 record_rule n = cond (n == 0) log.Header (cond (n == 1) log.Cut (cond (n == 2) log.Kind (cond (n == 3) log.Size (cond (n == 4) log.LineZero (cond (n == 5) log.Address (cond (n == 6) log.Span (cond (n == 7) log.Reserved (cond (n == 8) log.EndEarly (cond (n == 9) log.EndMissing (cond (n == 10) log.LockTwice (cond (n == 11) log.LocksDeep (cond (n == 12) log.UnlockOther (cond (n == 13) log.RootBarrier (cond (n == 14) log.BarrierLocked (cond (n == 15) log.RegionLocked (cond (n == 16) log.LockOpen (cond (n == 17) log.RegionRows (cond (n == 18) log.BarrierCount (log.Extra)))))))))))))))))))
 
 -- the place that a key tells
-abbrev of_log_key : List ℕ → ℕ → Place
-of_log_key key rank = cond (rank == 20) (too_many_segments (get_or key 1 0) (get_or key 2 0)) (bad_record (get_or key 1 0) (get_or key 2 0) (record_rule rank))
+abbrev of_log_key : List ℕ → ℕ → BadPlace
+of_log_key key rank = cond (rank == last_rank) (too_many_segments (get_or key 1 0) (get_or key 2 0)) (bad_record (get_or key 1 0) (get_or key 2 0) (record_rule rank))
 
-abbrev of_key : List ℕ → Place
+abbrev of_key : List ℕ → BadPlace
 of_key key = cond (get_or key 0 0 == 0) no_index (cond (get_or key 0 0 == 1) (bad_row (get_or key 1 0) (index_rule (get_or key 2 0)))
     (cond (length key == 2) (missing_log (get_or key 1 0)) (of_log_key key (get_or key 3 0))))
 
@@ -68,7 +69,7 @@ of_record_key row n log.RegionRows = refl
 of_record_key row n log.BarrierCount = refl
 of_record_key row n log.Extra = refl
 
-key_tells : (place : Place) → of_key (place_key place) ≡ place
+key_tells : (place : BadPlace) → of_key (place_key place) ≡ place
 key_tells no_index = refl
 key_tells (bad_row n rule) = of_index_key n rule
 key_tells (missing_log row) = refl
@@ -90,7 +91,7 @@ same_keys (x ∷ xs) (y ∷ ys) same = elim (cases_order x y) [
 ]
 
 -- of two places that differ one is earlier
-pub first_bad_once : (files : Files) (dir : List ℕ) (place other : Place) → IsFirstBad files dir place → IsFirstBad files dir other → place ≡ other
+pub first_bad_once : (files : Files) (dir : List ℕ) (place other : BadPlace) → IsFirstBad files dir place → IsFirstBad files dir other → place ≡ other
 first_bad_once files dir place other one two = at (slice_cmp nat_cmp (place_key place) (place_key other)) refl where
   at : (o : Ordering) → slice_cmp nat_cmp (place_key place) (place_key other) ≡ o → place ≡ other
   at Less is = absurd (two.least place is one.bad)

@@ -12,7 +12,7 @@ use Rattle.race_model.specs.KeepsRules.{KnowsTeam, TaskKeepsRules, KeepsRules}
 use Rattle.race_model.specs.LogFault.{ListsSpans}
 use Rattle.race_model.specs.FirstBad.{rows_of}
 use Rattle.race_model.specs.Trace.{TaskLog, Trace, logs_of, barrier_count}
-use Rattle.log_walk.specs.GoodTrace.{IsGoodTrace, IsTeam}
+use Rattle.log_walk.specs.GoodTrace.{IsGoodTrace, AreTeamBarriers}
 use Rattle.log_walk.proofs.TaskAt.{IsIndexed, logs_at, indexed_once}
 
 -- a task of the first ones is one of all
@@ -23,7 +23,7 @@ contains_take (suc n) (y ∷ xs) x (zero, within, is) = (0, ap (λ (z : _). Some
 contains_take (suc n) (y ∷ xs) x (suc k, within, is) = let at = contains_take n xs x (k, omega arith, is) in (suc at.0, at.1)
 
 -- a team that is told of the earlier tasks is told of all
-knows_team : (rows : List Row) (trace : Trace) (index : ℕ) (path : List Step) (team : Option ℕ) → IsIndexed rows trace → IsTeam (take index trace) path team → KnowsTeam trace path team
+knows_team : (rows : List Row) (trace : Trace) (index : ℕ) (path : List Step) (team : Option ℕ) → IsIndexed rows trace → AreTeamBarriers (take index trace) path team → KnowsTeam trace path team
 knows_team rows trace index path None is leads above step path_is from_one = absurd (omega (arith, leads above step path_is))
 knows_team rows trace index path (Some barriers) is team above step path_is from_one =
     let both = same_from_push team.above above team.step step (sym team.path_is ∙ path_is) in
@@ -49,7 +49,7 @@ keeps_rules rows trace good_rows good all = record {
         tabled = is.tabled;
         spans = is.spans;
         has_spans = subst (λ (rs : List Row). ListsSpans rs task.path is.spans) (sym (good.rows_are ∙ take_all (length trace) rows (omega arith))) is.has_spans;
-        team = is.team;
-        knows_team = knows_team rows trace k task.path is.team (record { rows_are = good.rows_are ∙ take_all (length trace) rows (omega arith); good = good_rows }) is.has_team;
+        due_barriers = is.due_barriers;
+        knows_team = knows_team rows trace k task.path is.due_barriers (record { rows_are = good.rows_are ∙ take_all (length trace) rows (omega arith); good = good_rows }) is.has_team;
         keeps = is.keeps.each;
       }

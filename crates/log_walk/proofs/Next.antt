@@ -11,9 +11,9 @@ use Rattle.log_format.specs.Table.{IsTabled, IsFirstFault}
 use Rattle.log_format.proofs.Records.{kind_is_first, first_fault-unique}
 use Rattle.race_model.specs.declared.why.RecordWhy.{RecordWhy}
 use Rattle.race_model.specs.declared.why.RecordWhy.TheVariants as log
-use Rattle.race_model.specs.Place.{record_rank}
+use Rattle.race_model.specs.BadPlace.{record_rank}
 use Rattle.race_model.specs.Segment.{segment_count}
-use Rattle.race_model.specs.LogFault.{LogTask, Breaks, IsRead, IsCut, IsUntabled, IsBroken, IsLogFault, OpensTooMany, max_segments}
+use Rattle.race_model.specs.LogFault.{LogTask, Breaks, IsRead, IsCutRecord, IsUntabled, IsBroken, IsLogFault, OpensTooMany, max_segments}
 use Rattle.log_walk.specs.Check.{KeepsLogRules, NothingBefore, of_why}
 use Rattle.race_model.proofs.LogReading.{same_first, is_next}
 use Rattle.race_model.proofs.LogFaults.{find, not_cut, not_untabled, same_record, no_fault_in}
@@ -29,10 +29,10 @@ no_overflow_in bytes count opened n records rest read within few over =
     absurd (omega (arith, over.full, over.opens, ap (λ (xs : List Record). segment_count xs) pushed, segment_count-take records (length over.before + 1)))
   where
     taken : (xs ys : List Record) (r : Record) → slice_get xs (length ys) ≡ Some r → ys ≡ take (length ys) xs → take (length ys + 1) xs ≡ ys ++ r ∷ []
-    taken xs ys r found front =
+    taken xs ys r found prefix =
         take_more xs (length ys) r (slice_get_within xs (length ys) r found)
         ∙ ap (λ (x : Record). take (length ys) xs ++ x ∷ []) (get_or_from_slice_get xs (length ys) r r found)
-        ∙ ap (λ (zs : List Record). zs ++ r ∷ []) (sym front)
+        ∙ ap (λ (zs : List Record). zs ++ r ∷ []) (sym prefix)
 
 -- bytes have one first fault
 pub one_fault : (bytes : List ℕ) (v w : Why) → IsFirstFault bytes v → IsFirstFault bytes w → v ≡ w
@@ -41,7 +41,7 @@ one_fault bytes v w v_first w_first = first_fault-unique bytes v_first.fields _ 
 
 -- at the next record, if its bytes are cut
 pub next_cut : (bytes : List ℕ) (count n : ℕ) (records : List Record) (rest : List ℕ) → IsRead bytes records rest → n ≡ length records + 1 → n ≤ count
-    → length rest < 24 → IsCut bytes count n
+    → length rest < 24 → IsCutRecord bytes count n
 next_cut bytes count n records rest read number counted short = record {
   before = records;
   rest = rest;
@@ -118,7 +118,7 @@ no_broken_at bytes task n records r after rule read tabled number holds fault =
     holds (subst (λ (s : Record). Breaks task records s rule) same.0 (subst (λ (rs : List Record). Breaks task rs fault.r rule) next.before_is fault.breaks))
 
 no_cut_at : (bytes : List ℕ) (count n : ℕ) (records : List Record) (r : Record) (after : List ℕ) → IsRead bytes records (spelling r ++ after)
-    → n ≡ length records + 1 → IsCut bytes count n → ⊥
+    → n ≡ length records + 1 → IsCutRecord bytes count n → ⊥
 no_cut_at bytes count n records r after read number fault =
     let next = is_next bytes records fault.before (spelling r ++ after) fault.rest read fault.at.read (omega (arith, fault.at.number)) in
     not_cut fault.rest r after next.more_is fault.short

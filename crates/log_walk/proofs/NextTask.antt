@@ -15,7 +15,7 @@ use Rattle.race_model.specs.Segment.{segment_count}
 use Rattle.race_model.specs.Trace.{TaskLog, Trace}
 use Rattle.race_model.specs.LogFault.{LogTask, IsLogFault, IsWholeLog, OpensTooMany}
 use Rattle.race_model.specs.FirstBad.{segments_in}
-use Rattle.race_model.specs.Place.{record_rank}
+use Rattle.race_model.specs.BadPlace.{record_rank, last_rank}
 use Rattle.race_model.proofs.Listed.{beside_listed}
 use Rattle.log_walk.specs.declared.check.LogFault.{LogFault}
 use Rattle.log_walk.specs.declared.check.LogFault.TheVariants as log_fault
@@ -53,8 +53,8 @@ has_first rows trace row good is found above step path_is from_one =
             (at.task, at.found, sym (ap row_path at.row_is) ∙ same_Some other.path (lane_of above step.region 0 step.span) (sym (path_found rows i other there) ∙ found_path))
 
 -- the rules of a row's log, whatever record they stand in
-task_is : (rows : List Row) (earlier : Trace) (row : Row) (task : LogTask) → IsTaskOf rows earlier row task → task ≡ row_task row task.spans task.team
-task_is rows earlier row task is = λ i. record { path = is.path i; records = is.records i; spans = task.spans; team = task.team }
+task_is : (rows : List Row) (earlier : Trace) (row : Row) (task : LogTask) → IsTaskOf rows earlier row task → task ≡ row_task row task.spans task.due_barriers
+task_is rows earlier row task is = λ i. record { path = is.path i; records = is.records i; spans = task.spans; due_barriers = task.due_barriers }
 
 -- a good log is that of the next task
 pub next_task : (rows : List Row) (earlier : Trace) (row : Row) (task : LogTask) (bytes : List ℕ) (opened : ℕ) (records : List Record) (segments : ℕ) → IsTaskOf rows earlier row task → opened ≡ segments_in earlier
@@ -63,7 +63,7 @@ next_task rows earlier row task bytes opened records segments is opened_is good 
   good = record {
     spans = task.spans;
     has_spans = is.spans;
-    team = task.team;
+    due_barriers = task.due_barriers;
     has_team = is.team;
     tabled = good.tabled;
     keeps = subst (λ (t : LogTask). KeepsLogRules t records) same good.keeps;
@@ -72,8 +72,8 @@ next_task rows earlier row task bytes opened records segments is opened_is good 
   sum = good.sum ∙ ap (λ (n : ℕ). n + segment_count records) opened_is;
   limit = good.limit;
 } where
-  same : task ≡ log_task (record { path = row.path; records = records }) task.spans task.team
-  same = λ i. record { path = is.path i; records = sym good.counted i; spans = task.spans; team = task.team }
+  same : task ≡ log_task (record { path = row.path; records = records }) task.spans task.due_barriers
+  same = λ i. record { path = is.path i; records = sym good.counted i; spans = task.spans; due_barriers = task.due_barriers }
 
 -- and its log is whole
 pub next_whole : (files : Files) (dir : List ℕ) (rows : List Row) (earlier : Trace) (row : Row) (task : LogTask) (bytes : List ℕ) (opened : ℕ) (records : List Record) (segments : ℕ) → IsTaskOf rows earlier row task
@@ -81,7 +81,7 @@ pub next_whole : (files : Files) (dir : List ℕ) (rows : List Row) (earlier : T
 next_whole files dir rows earlier row task bytes opened records segments is there good = record { there = there ∙ ap (λ (bs : List ℕ). Some bs) good.whole; tabled = good.tabled }
 
 next_log : (files : Files) (dir : List ℕ) (rows : List Row) (trace : Trace) (row : Row) (task : LogTask) (bytes : List ℕ) → slice_get rows (length trace) ≡ Some row → IsTaskOf rows trace row task
-    → files (log_name dir row.path) ≡ Some bytes → NextLog files dir rows trace row bytes task.spans task.team
+    → files (log_name dir row.path) ≡ Some bytes → NextLog files dir rows trace row bytes task.spans task.due_barriers
 next_log files dir rows trace row task bytes found is there = record { listed = found; there = there; has_spans = is.spans; has_team = is.team }
 
 first_in : (files : Files) (dir : List ℕ) (rows : List Row) (trace : Trace) (row : Row) → Walked files dir rows trace → slice_get rows (length trace) ≡ Some row → IsLogRow files dir row.path (length trace + 1)
@@ -104,9 +104,9 @@ record_told files dir rows trace row task bytes opened n rule walked found is th
     record {
       row = length trace + 1;
       is_row = first_in files dir rows trace row walked found;
-      first = record_first files dir rows trace row bytes task.spans task.team n rule walked (next_log files dir rows trace row task bytes found is there)
+      first = record_first files dir rows trace row bytes task.spans task.due_barriers n rule walked (next_log files dir rows trace row task bytes found is there)
           (subst (λ (t : LogTask). IsLogFault bytes t n rule) same refused.0)
-          (subst (λ (k : ℕ). NothingBefore bytes (row_task row task.spans task.team) k n (record_rank rule)) opened_is
+          (subst (λ (k : ℕ). NothingBefore bytes (row_task row task.spans task.due_barriers) k n (record_rank rule)) opened_is
           (subst (λ (t : LogTask). NothingBefore bytes t opened n (record_rank rule)) same refused.1));
     }
 
@@ -118,10 +118,10 @@ over_told files dir rows trace row task bytes opened n walked found is there ope
     record {
       row = length trace + 1;
       is_row = first_in files dir rows trace row walked found;
-      first = over_first files dir rows trace row bytes task.spans task.team n walked (next_log files dir rows trace row task bytes found is there)
+      first = over_first files dir rows trace row bytes task.spans task.due_barriers n walked (next_log files dir rows trace row task bytes found is there)
           (subst (λ (k : ℕ). OpensTooMany bytes row.records k n) opened_is (subst (λ (m : ℕ). OpensTooMany bytes m opened n) is.records refused.0))
-          (subst (λ (k : ℕ). NothingBefore bytes (row_task row task.spans task.team) k n 20) opened_is
-          (subst (λ (t : LogTask). NothingBefore bytes t opened n 20) same refused.1));
+          (subst (λ (k : ℕ). NothingBefore bytes (row_task row task.spans task.due_barriers) k n last_rank) opened_is
+          (subst (λ (t : LogTask). NothingBefore bytes t opened n last_rank) same refused.1));
     }
 
 -- the log of the next row wasn't read

@@ -5,7 +5,7 @@ use Rattle.log_format.specs.declared.record.Record.{Record}
 use Rattle.log_format.specs.declared.record.Kind.{Kind}
 use Rattle.log_format.specs.declared.record.Kind.TheVariants.{Read, Write, Lock, Unlock, Barrier, Region, Chunk, End}
 use Rattle.race_model.specs.Race.{held_after_kind}
-use Rattle.race_model.specs.Segment.{Event, events_from, runs_of, joined, in_first, has_access, is_access, is_access_event, segment_count}
+use Rattle.race_model.specs.Segment.{Event, events_from, runs_of, with_event, in_first, has_access, is_access, is_access_event, segment_count}
 use Rattle.log_walk.specs.Check.{open_after, opens_by, is_open}
 
 -- how many segments the records open, where one is open before them or not
@@ -25,21 +25,21 @@ pub is_open-push : (open_before : Bool) (records : List Record) (r : Record)
 is_open-push open_before [] r = refl
 is_open-push open_before (s ∷ records) r = is_open-push (open_after s.kind open_before) records r
 
--- a front opens no more
+-- a prefix opens no more
 pub opened_by-take : (open_before : Bool) (records : List Record) (n : ℕ) → opened_by open_before (take n records) ≤ opened_by open_before records
 opened_by-take open_before records zero = omega arith
 opened_by-take open_before [] (suc n) = omega arith
 opened_by-take open_before (r ∷ records) (suc n) = omega (arith, opened_by-take (open_after r.kind open_before) records n)
 
 -- the first run with these events before it
-abbrev with_front : List Event → List (List Event) → List (List Event)
-with_front front [] = front ∷ []
-with_front front (run ∷ runs) = (front ++ run) ∷ runs
+abbrev with_prefix : List Event → List (List Event) → List (List Event)
+with_prefix prefix [] = prefix ∷ []
+with_prefix prefix (run ∷ runs) = (prefix ++ run) ∷ runs
 
-with_front-nil : (es : List Event) → with_front [] (runs_of es) ≡ runs_of es
-with_front-nil [] = refl
-with_front-nil (e ∷ es) = at e.event.kind (runs_of es) where
-  at : (kind : Kind) (runs : List (List Event)) → with_front [] (joined kind e runs) ≡ joined kind e runs
+with_prefix-nil : (es : List Event) → with_prefix [] (runs_of es) ≡ runs_of es
+with_prefix-nil [] = refl
+with_prefix-nil (e ∷ es) = at e.event.kind (runs_of es) where
+  at : (kind : Kind) (runs : List (List Event)) → with_prefix [] (with_event kind e runs) ≡ with_event kind e runs
   at Region runs = refl
   at Barrier runs = refl
   at Read [] = refl
@@ -55,9 +55,9 @@ with_front-nil (e ∷ es) = at e.event.kind (runs_of es) where
   at End [] = refl
   at End (run ∷ runs) = refl
 
-with_front-in_first : (front : List Event) (e : Event) (runs : List (List Event)) → with_front front (in_first e runs) ≡ with_front (front ++ e ∷ []) runs
-with_front-in_first front e [] = refl
-with_front-in_first front e (run ∷ runs) = ap (λ (es : List Event). es ∷ runs) (sym (append_assoc front (e ∷ []) run))
+with_prefix-in_first : (prefix : List Event) (e : Event) (runs : List (List Event)) → with_prefix prefix (in_first e runs) ≡ with_prefix (prefix ++ e ∷ []) runs
+with_prefix-in_first prefix e [] = refl
+with_prefix-in_first prefix e (run ∷ runs) = ap (λ (es : List Event). es ∷ runs) (sym (append_assoc prefix (e ∷ []) run))
 
 has_access-append : (xs ys : List Event) → has_access (xs ++ ys) ≡ has_access xs || has_access ys
 has_access-append [] ys = refl
@@ -95,50 +95,50 @@ later n held r records = events_from (n + 1) (held_after_kind r.kind r.addr held
 
 -- what is said below of the records after one
 abbrev Counts : ℕ → List ℕ → List Record → Type 0
-Counts n held records = (front : List Event) → count (with_front front (runs_of (events_from n held records))) ≡ cond (has_access front) 1 0 + opened_by (has_access front) records
+Counts n held records = (prefix : List Event) → count (with_prefix prefix (runs_of (events_from n held records))) ≡ cond (has_access prefix) 1 0 + opened_by (has_access prefix) records
 
-parts_runs : (front : List Event) (n : ℕ) (held : List ℕ) (records : List Record) → Counts n held records
-    → count ((front ++ []) ∷ runs_of (events_from n held records)) ≡ cond (has_access front) 1 0 + (0 + opened_by false records)
-parts_runs front n held records rest =
-    count-cons (front ++ []) (runs_of (events_from n held records))
-    ∙ ap (λ (xs : List Event). cond {A = ℕ} (has_access xs) 1 0 + count (runs_of (events_from n held records))) (append-nil front)
-    ∙ ap (λ (m : ℕ). cond {A = ℕ} (has_access front) 1 0 + m) (ap count (sym (with_front-nil (events_from n held records))) ∙ rest [] ∙ omega arith)
+parts_runs : (prefix : List Event) (n : ℕ) (held : List ℕ) (records : List Record) → Counts n held records
+    → count ((prefix ++ []) ∷ runs_of (events_from n held records)) ≡ cond (has_access prefix) 1 0 + (0 + opened_by false records)
+parts_runs prefix n held records rest =
+    count-cons (prefix ++ []) (runs_of (events_from n held records))
+    ∙ ap (λ (xs : List Event). cond {A = ℕ} (has_access xs) 1 0 + count (runs_of (events_from n held records))) (append-nil prefix)
+    ∙ ap (λ (m : ℕ). cond {A = ℕ} (has_access prefix) 1 0 + m) (ap count (sym (with_prefix-nil (events_from n held records))) ∙ rest [] ∙ omega arith)
 
-keeps_run : (front : List Event) (e : Event) (n : ℕ) (held : List ℕ) (records : List Record) → Counts n held records → (k : Kind) → k ≡ e.event.kind
-    → (c : Bool) → has_access front || (is_access k || false) ≡ c → count (with_front front (in_first e (runs_of (events_from n held records)))) ≡ cond c 1 0 + opened_by c records
-keeps_run front e n held records rest k same c is =
-    ap count (with_front-in_first front e (runs_of (events_from n held records))) ∙ rest (front ++ e ∷ [])
+keeps_run : (prefix : List Event) (e : Event) (n : ℕ) (held : List ℕ) (records : List Record) → Counts n held records → (k : Kind) → k ≡ e.event.kind
+    → (c : Bool) → has_access prefix || (is_access k || false) ≡ c → count (with_prefix prefix (in_first e (runs_of (events_from n held records)))) ≡ cond c 1 0 + opened_by c records
+keeps_run prefix e n held records rest k same c is =
+    ap count (with_prefix-in_first prefix e (runs_of (events_from n held records))) ∙ rest (prefix ++ e ∷ [])
     ∙ ap (λ (b : Bool). cond {A = ℕ} b 1 0 + opened_by b records)
-    (has_access-append front (e ∷ []) ∙ ap (λ (k : Kind). has_access front || (is_access k || false)) (sym same) ∙ is)
+    (has_access-append prefix (e ∷ []) ∙ ap (λ (k : Kind). has_access prefix || (is_access k || false)) (sym same) ∙ is)
 
-step_runs : (front : List Event) (e : Event) (n : ℕ) (held : List ℕ) (records : List Record) → Counts n held records → (k : Kind) → k ≡ e.event.kind
-    → count (with_front front (joined k e (runs_of (events_from n held records)))) ≡ cond (has_access front) 1 0 + (opens_by k (has_access front) + opened_by (open_after k (has_access front)) records)
-step_runs front e n held records rest Region is = parts_runs front n held records rest
-step_runs front e n held records rest Barrier is = parts_runs front n held records rest
-step_runs front e n held records rest Read is =
-    goes_on Read (has_access front) records _ (keeps_run front e n held records rest Read is) (λ (same : Read ≡ Region). absurd cc) (λ (same : Read ≡ Barrier). absurd cc)
-step_runs front e n held records rest Write is =
-    goes_on Write (has_access front) records _ (keeps_run front e n held records rest Write is) (λ (same : Write ≡ Region). absurd cc) (λ (same : Write ≡ Barrier). absurd cc)
-step_runs front e n held records rest Lock is =
-    goes_on Lock (has_access front) records _ (keeps_run front e n held records rest Lock is) (λ (same : Lock ≡ Region). absurd cc) (λ (same : Lock ≡ Barrier). absurd cc)
-step_runs front e n held records rest Unlock is =
-    goes_on Unlock (has_access front) records _ (keeps_run front e n held records rest Unlock is) (λ (same : Unlock ≡ Region). absurd cc) (λ (same : Unlock ≡ Barrier). absurd cc)
-step_runs front e n held records rest Chunk is =
-    goes_on Chunk (has_access front) records _ (keeps_run front e n held records rest Chunk is) (λ (same : Chunk ≡ Region). absurd cc) (λ (same : Chunk ≡ Barrier). absurd cc)
-step_runs front e n held records rest End is =
-    goes_on End (has_access front) records _ (keeps_run front e n held records rest End is) (λ (same : End ≡ Region). absurd cc) (λ (same : End ≡ Barrier). absurd cc)
+step_runs : (prefix : List Event) (e : Event) (n : ℕ) (held : List ℕ) (records : List Record) → Counts n held records → (k : Kind) → k ≡ e.event.kind
+    → count (with_prefix prefix (with_event k e (runs_of (events_from n held records)))) ≡ cond (has_access prefix) 1 0 + (opens_by k (has_access prefix) + opened_by (open_after k (has_access prefix)) records)
+step_runs prefix e n held records rest Region is = parts_runs prefix n held records rest
+step_runs prefix e n held records rest Barrier is = parts_runs prefix n held records rest
+step_runs prefix e n held records rest Read is =
+    goes_on Read (has_access prefix) records _ (keeps_run prefix e n held records rest Read is) (λ (same : Read ≡ Region). absurd cc) (λ (same : Read ≡ Barrier). absurd cc)
+step_runs prefix e n held records rest Write is =
+    goes_on Write (has_access prefix) records _ (keeps_run prefix e n held records rest Write is) (λ (same : Write ≡ Region). absurd cc) (λ (same : Write ≡ Barrier). absurd cc)
+step_runs prefix e n held records rest Lock is =
+    goes_on Lock (has_access prefix) records _ (keeps_run prefix e n held records rest Lock is) (λ (same : Lock ≡ Region). absurd cc) (λ (same : Lock ≡ Barrier). absurd cc)
+step_runs prefix e n held records rest Unlock is =
+    goes_on Unlock (has_access prefix) records _ (keeps_run prefix e n held records rest Unlock is) (λ (same : Unlock ≡ Region). absurd cc) (λ (same : Unlock ≡ Barrier). absurd cc)
+step_runs prefix e n held records rest Chunk is =
+    goes_on Chunk (has_access prefix) records _ (keeps_run prefix e n held records rest Chunk is) (λ (same : Chunk ≡ Region). absurd cc) (λ (same : Chunk ≡ Barrier). absurd cc)
+step_runs prefix e n held records rest End is =
+    goes_on End (has_access prefix) records _ (keeps_run prefix e n held records rest End is) (λ (same : End ≡ Region). absurd cc) (λ (same : End ≡ Barrier). absurd cc)
 
 -- a run that is open counts once it has an access, and the records after it count what they open
 count_runs : (n : ℕ) (held : List ℕ) (records : List Record) → Counts n held records
-count_runs n held [] front = count-cons (front ++ []) [] ∙ ap (λ (es : List Event). cond {A = ℕ} (has_access es) 1 0 + 0) (append-nil front)
-count_runs n held (r ∷ records) front =
-    step_runs front (record { number = n; event = r; held = held }) (n + 1) (held_after_kind r.kind r.addr held) records
+count_runs n held [] prefix = count-cons (prefix ++ []) [] ∙ ap (λ (es : List Event). cond {A = ℕ} (has_access es) 1 0 + 0) (append-nil prefix)
+count_runs n held (r ∷ records) prefix =
+    step_runs prefix (record { number = n; event = r; held = held }) (n + 1) (held_after_kind r.kind r.addr held) records
     (count_runs (n + 1) (held_after_kind r.kind r.addr held) records) r.kind refl
 
 -- a log has as many segments as its records open
 pub segment_count-opened : (records : List Record) → segment_count records ≡ opened_by false records
 segment_count-opened records =
-    ap count (sym (with_front-nil (events_from 1 [] records))) ∙ count_runs 1 [] records [] ∙ omega arith
+    ap count (sym (with_prefix-nil (events_from 1 [] records))) ∙ count_runs 1 [] records [] ∙ omega arith
 
 -- one record more
 pub segment_count-push : (records : List Record) (r : Record) → segment_count (records ++ r ∷ []) ≡ segment_count records + opens_by r.kind (is_open false records)
@@ -146,6 +146,6 @@ segment_count-push records r =
     segment_count-opened (records ++ r ∷ []) ∙ opened_by-push false records r
     ∙ ap (λ (n : ℕ). n + opens_by r.kind (is_open false records)) (sym (segment_count-opened records))
 
--- a front has no more
+-- a prefix has no more
 pub segment_count-take : (records : List Record) (n : ℕ) → segment_count (take n records) ≤ segment_count records
 segment_count-take records n = omega (arith, segment_count-opened (take n records), segment_count-opened records, opened_by-take false records n)

@@ -24,13 +24,13 @@ use Rattle.race_model.specs.Listing.{lane_of}
 use Rattle.race_model.specs.IndexFault.{IsIndex}
 use Rattle.race_model.specs.Segment.{segment_count}
 use Rattle.race_model.specs.Trace.{TaskLog, Trace, barrier_count}
-use Rattle.race_model.specs.Place.{Place, no_index, bad_row, missing_log, bad_record, too_many_segments, IsEarlier, place_key, record_rank}
-use Rattle.race_model.specs.LogFault.{LogTask, IsLogFault, OpensTooMany, IsWholeLog, HasTeam, RowAt, ListsSpans, IsMissingLog, IsBadRecord, max_segments}
+use Rattle.race_model.specs.BadPlace.{BadPlace, no_index, bad_row, missing_log, bad_record, too_many_segments, IsEarlier, place_key, record_rank}
+use Rattle.race_model.specs.LogFault.{LogTask, IsLogFault, OpensTooMany, IsWholeLog, HasTeamBarriers, RowAt, ListsSpans, IsMissingLog, IsBadRecord, max_segments}
 use Rattle.race_model.specs.FirstBad.{rows_of, row_of, segments_in, HoldsLogs, HoldsTrace, IsOneTooMany, IsBad, IsFirstBad}
 use Rattle.race_model.specs.WellFormed.{IsWellFormed}
 use Rattle.race_model.proofs.IndexPlaces.{index_good}
 use Rattle.log_walk.specs.Check.{NothingBefore}
-use Rattle.log_walk.specs.GoodTrace.{IsGoodTask, IsGoodTrace, IsTeam, FollowsTeam, log_task}
+use Rattle.log_walk.specs.GoodTrace.{IsGoodTask, IsGoodTrace, AreTeamBarriers, FollowsTeam, log_task}
 use Rattle.log_walk.specs.Walk.{Walked}
 use Rattle.log_walk.proofs.SoFar.{below_or_at, slice_get_left, slice_get_last}
 use Rattle.log_walk.proofs.Next.{no_overflow_in}
@@ -40,11 +40,12 @@ use Rattle.race_model.proofs.TraceLogs.{RowTask, task_in}
 use Rattle.race_model.proofs.LogOnce.{log_once, spans_once}
 use Rattle.race_model.proofs.LogReading.{whole_read}
 use Rattle.race_model.proofs.LogFaults.{no_fault_whole, other_team}
+use Rattle.race_model.specs.BadPlace.{last_rank}
 
 -- ---- what a place tells stands on the trace
 
 -- a team that the folder tells is the one that the trace tells
-team_once : (files : Files) (dir : List ℕ) (earlier : Trace) (path : List Step) (told barriers : ℕ) → HoldsLogs files dir earlier → HasTeam files dir path told → FollowsTeam earlier path barriers → told ≡ barriers
+team_once : (files : Files) (dir : List ℕ) (earlier : Trace) (path : List Step) (told barriers : ℕ) → HoldsLogs files dir earlier → HasTeamBarriers files dir path told → FollowsTeam earlier path barriers → told ≡ barriers
 team_once files dir earlier path told barriers logs has team =
     let both = same_from_push has.above team.above has.step team.step (sym has.path_is ∙ team.path_is) in
     let whole : IsWholeLog files dir team.first.path team.first.records = All-contains (λ (task : TaskLog). IsWholeLog files dir task.path task.records) earlier team.first logs team.listed in
@@ -54,13 +55,13 @@ team_once files dir earlier path told barriers logs has team =
     has.counted ∙ ap (λ (rs : List Record). barrier_count rs) records ∙ sym team.counted
 
 -- the teams agree
-same_team : (files : Files) (dir : List ℕ) (earlier : Trace) (path : List Step) (told team : Option ℕ) → HoldsLogs files dir earlier → ((barriers : ℕ) → told ≡ Some barriers → HasTeam files dir path barriers)
-    → IsTeam earlier path team → (barriers : ℕ) → told ≡ Some barriers → team ≡ Some barriers
+same_team : (files : Files) (dir : List ℕ) (earlier : Trace) (path : List Step) (told team : Option ℕ) → HoldsLogs files dir earlier → ((barriers : ℕ) → told ≡ Some barriers → HasTeamBarriers files dir path barriers)
+    → AreTeamBarriers earlier path team → (barriers : ℕ) → told ≡ Some barriers → team ≡ Some barriers
 same_team files dir earlier path told None logs has leads barriers is = let it = has barriers is in absurd (omega (arith, it.from_one, leads it.above it.step it.path_is))
 same_team files dir earlier path told (Some mine) logs has team barriers is = ap (λ (b : ℕ). Some b) (sym (team_once files dir earlier path barriers mine logs (has barriers is) team))
 
 -- the team of the trace is one that the folder tells
-has_team : (files : Files) (dir : List ℕ) (earlier : Trace) (path : List Step) (team : Option ℕ) → HoldsLogs files dir earlier → IsTeam earlier path team → (barriers : ℕ) → team ≡ Some barriers → HasTeam files dir path barriers
+has_team : (files : Files) (dir : List ℕ) (earlier : Trace) (path : List Step) (team : Option ℕ) → HoldsLogs files dir earlier → AreTeamBarriers earlier path team → (barriers : ℕ) → team ≡ Some barriers → HasTeamBarriers files dir path barriers
 has_team files dir earlier path None logs leads barriers is = cc
 has_team files dir earlier path (Some mine) logs team barriers is =
     let whole : IsWholeLog files dir team.first.path team.first.records = All-contains (λ (task : TaskLog). IsWholeLog files dir task.path task.records) earlier team.first logs team.listed in
@@ -76,13 +77,13 @@ has_team files dir earlier path (Some mine) logs team barriers is =
 
 -- a fault that the folder tells of a row's log is one beside these spans and this team
 fault_beside : (files : Files) (dir : List ℕ) (rows : List Row) (earlier : Trace) (row n : ℕ) (rule : RecordWhy) (spans : List ℕ) (team : Option ℕ) → HoldsLogs files dir earlier
-    → (bad : IsBadRecord files dir rows row n rule) → ListsSpans rows bad.task.path spans → IsTeam earlier bad.task.path team
-    → IsLogFault bad.bytes (record { path = bad.task.path; records = bad.task.records; spans = spans; team = team }) n rule
+    → (bad : IsBadRecord files dir rows row n rule) → ListsSpans rows bad.task.path spans → AreTeamBarriers earlier bad.task.path team
+    → IsLogFault bad.bytes (record { path = bad.task.path; records = bad.task.records; spans = spans; due_barriers = team }) n rule
 fault_beside files dir rows earlier row n rule spans team logs bad has_spans is_team =
-    subst (λ (ss : List ℕ). IsLogFault bad.bytes (record { path = bad.task.path; records = bad.task.records; spans = ss; team = team }) n rule)
+    subst (λ (ss : List ℕ). IsLogFault bad.bytes (record { path = bad.task.path; records = bad.task.records; spans = ss; due_barriers = team }) n rule)
     (spans_once rows bad.task.path bad.spans spans bad.has_spans has_spans)
-    (other_team bad.bytes (record { path = bad.task.path; records = bad.task.records; spans = bad.spans; team = bad.team }) team n rule
-    (same_team files dir earlier bad.task.path bad.team team logs bad.has_team is_team) bad.fault)
+    (other_team bad.bytes (record { path = bad.task.path; records = bad.task.records; spans = bad.spans; due_barriers = bad.due_barriers }) team n rule
+    (same_team files dir earlier bad.task.path bad.due_barriers team logs bad.has_team is_team) bad.fault)
 
 -- ---- the rows whose logs were read
 
@@ -121,14 +122,14 @@ no_bad_record files dir rows trace row n rule walked bad less =
     let good = walked.good.each bad.listed.index at.task at.found in
     let whole = whole_at files dir trace bad.listed.index at.task walked.logs at.found in
     let path : at.task.path ≡ bad.task.path = ap (λ (r : Row). r.path) (sym at.row_is) in
-    let fault = fault_beside files dir rows (take bad.listed.index trace) row n rule good.spans good.team (logs_take files dir trace bad.listed.index walked.logs) bad
-    (subst (λ (p : List Step). ListsSpans rows p good.spans) path good.has_spans) (subst (λ (p : List Step). IsTeam (take bad.listed.index trace) p good.team) path good.has_team) in
-    let own : IsLogFault bad.bytes (log_task at.task good.spans good.team) n rule
-    = subst (λ (r : Row). IsLogFault bad.bytes (record { path = r.path; records = r.records; spans = good.spans; team = good.team }) n rule) at.row_is fault in
+    let fault = fault_beside files dir rows (take bad.listed.index trace) row n rule good.spans good.due_barriers (logs_take files dir trace bad.listed.index walked.logs) bad
+    (subst (λ (p : List Step). ListsSpans rows p good.spans) path good.has_spans) (subst (λ (p : List Step). AreTeamBarriers (take bad.listed.index trace) p good.due_barriers) path good.has_team) in
+    let own : IsLogFault bad.bytes (log_task at.task good.spans good.due_barriers) n rule
+    = subst (λ (r : Row). IsLogFault bad.bytes (record { path = r.path; records = r.records; spans = good.spans; due_barriers = good.due_barriers }) n rule) at.row_is fault in
     let bytes : bad.bytes ≡ log_bytes LOG_HEADER at.task.records
     = same_Some bad.bytes (log_bytes LOG_HEADER at.task.records) (sym bad.there ∙ (ap (λ (p : List Step). files (log_name dir p)) (sym path) ∙ whole.there)) in
-    no_fault_whole (log_bytes LOG_HEADER at.task.records) (log_task at.task good.spans good.team) at.task.records n rule (whole_read at.task.records whole.tabled) good.keeps.each refl
-    (subst (λ (bs : List ℕ). IsLogFault bs (log_task at.task good.spans good.team) n rule) bytes own)
+    no_fault_whole (log_bytes LOG_HEADER at.task.records) (log_task at.task good.spans good.due_barriers) at.task.records n rule (whole_read at.task.records whole.tabled) good.keeps.each refl
+    (subst (λ (bs : List ℕ). IsLogFault bs (log_task at.task good.spans good.due_barriers) n rule) bytes own)
 
 rows_take : (files : Files) (dir : List ℕ) (rows : List Row) (trace : Trace) (index : ℕ) → Walked files dir rows trace → index ≤ length trace → rows_of (take index trace) ≡ take index rows
 rows_take files dir rows trace index walked less =
@@ -170,10 +171,10 @@ pub record NextLog (files : Files) (dir : List ℕ) (rows : List Row) (trace : T
   pub listed : slice_get rows (length trace) ≡ Some task
   pub there : files (log_name dir task.path) ≡ Some bytes
   pub has_spans : ListsSpans rows task.path spans
-  pub has_team : IsTeam trace task.path team
+  pub has_team : AreTeamBarriers trace task.path team
 
 abbrev pub row_task : Row → List ℕ → Option ℕ → LogTask
-row_task row spans team = record { path = row.path; records = row.records; spans = spans; team = team }
+row_task row spans team = record { path = row.path; records = row.records; spans = spans; due_barriers = team }
 
 row_once : (rows : List Row) (index : ℕ) (row : ℕ) (task other : Row) → slice_get rows index ≡ Some task → (at : RowAt rows row other) → at.index ≡ index → other ≡ task
 row_once rows index row task other found at same = same_Some other task (sym at.listed ∙ ap (λ (k : ℕ). slice_get rows k) same ∙ found)
@@ -184,7 +185,7 @@ bad_here : (files : Files) (dir : List ℕ) (rows : List Row) (trace : Trace) (t
 bad_here files dir rows trace task bytes spans team row n rule walked next bad same =
     let task_is : bad.task ≡ task = row_once rows (length trace) row task bad.task next.listed bad.listed same in
     let path : task.path ≡ bad.task.path = ap (λ (r : Row). r.path) (sym task_is) in
-    let fault = fault_beside files dir rows trace row n rule spans team walked.logs bad (subst (λ (p : List Step). ListsSpans rows p spans) path next.has_spans) (subst (λ (p : List Step). IsTeam trace p team) path next.has_team) in
+    let fault = fault_beside files dir rows trace row n rule spans team walked.logs bad (subst (λ (p : List Step). ListsSpans rows p spans) path next.has_spans) (subst (λ (p : List Step). AreTeamBarriers trace p team) path next.has_team) in
     let bytes_are : bad.bytes ≡ bytes = same_Some bad.bytes bytes (sym bad.there ∙ ap (λ (p : List Step). files (log_name dir p)) (sym path) ∙ next.there) in
     subst (λ (bs : List ℕ). IsLogFault bs (row_task task spans team) n rule) bytes_are (subst (λ (r : Row). IsLogFault bad.bytes (row_task r spans team) n rule) task_is fault)
 
@@ -229,10 +230,10 @@ number_before n m rank bound earlier = elim (cmp_first n m (rank ∷ []) (bound 
 -- ---- nothing is bad before the next row
 
 -- a place at the next row or before it: the next row, and what is before it in this row
-before_row : (files : Files) (dir : List ℕ) (rows : List Row) (trace : Trace) (key : List ℕ) (place other : Place) → Walked files dir rows trace → place_key place ≡ 2 ∷ (length trace + 1) ∷ key
+before_row : (files : Files) (dir : List ℕ) (rows : List Row) (trace : Trace) (key : List ℕ) (place other : BadPlace) → Walked files dir rows trace → place_key place ≡ 2 ∷ (length trace + 1) ∷ key
     → ((row : ℕ) → row ≡ length trace + 1 → slice_cmp nat_cmp [] key ≡ Less → IsBad files dir (missing_log row) → ⊥)
     → ((row n : ℕ) (rule : RecordWhy) → row ≡ length trace + 1 → slice_cmp nat_cmp (n ∷ record_rank rule ∷ []) key ≡ Less → IsBad files dir (bad_record row n rule) → ⊥)
-    → ((row n : ℕ) → row ≡ length trace + 1 → slice_cmp nat_cmp (n ∷ 20 ∷ []) key ≡ Less → IsBad files dir (too_many_segments row n) → ⊥)
+    → ((row n : ℕ) → row ≡ length trace + 1 → slice_cmp nat_cmp (n ∷ last_rank ∷ []) key ≡ Less → IsBad files dir (too_many_segments row n) → ⊥)
     → IsEarlier other place → IsBad files dir other → ⊥
 before_row files dir rows trace key place no_index walked key_is missing record_bad over earlier bad = index_good files dir rows no_index walked.index bad
 before_row files dir rows trace key place (bad_row n rule) walked key_is missing record_bad over earlier bad = index_good files dir rows (bad_row n rule) walked.index bad
@@ -250,7 +251,7 @@ before_row files dir rows trace key place (bad_record row n rule) walked key_is 
     ]
 before_row files dir rows trace key place (too_many_segments row n) walked key_is missing record_bad over earlier (told, index, bad) =
     let here : IsOneTooMany files dir rows row n = subst (λ (rs : List Row). IsOneTooMany files dir rs row n) (index_once files dir told rows index walked.index) bad in
-    elim (row_before row (length trace + 1) (n ∷ 20 ∷ []) key (ap (λ (k : List ℕ). slice_cmp nat_cmp (2 ∷ row ∷ n ∷ 20 ∷ []) k) (sym key_is) ∙ earlier)) [
+    elim (row_before row (length trace + 1) (n ∷ last_rank ∷ []) key (ap (λ (k : List ℕ). slice_cmp nat_cmp (2 ∷ row ∷ n ∷ last_rank ∷ []) k) (sym key_is) ∙ earlier)) [
       | inl less ↦ no_too_many files dir rows trace row n walked here (omega (arith, here.listed.number))
       | inr same ↦ over row n same.0 same.1 (rows, walked.index, here)
     ]
@@ -266,14 +267,14 @@ missing_first files dir rows trace task walked found missing = record {
   least = λ other earlier bad. before_row files dir rows trace [] (missing_log (length trace + 1)) other walked refl
       (λ row is less _. not_below_nothing [] less)
       (λ row n rule is less _. not_below_nothing (n ∷ record_rank rule ∷ []) less)
-      (λ row n is less _. not_below_nothing (n ∷ 20 ∷ []) less)
+      (λ row n is less _. not_below_nothing (n ∷ last_rank ∷ []) less)
       earlier bad;
 }
 
 -- what is before a place of the next log
-in_row : (files : Files) (dir : List ℕ) (rows : List Row) (trace : Trace) (task : Row) (bytes spans : List ℕ) (team : Option ℕ) (n rank : ℕ) (place : Place) → Walked files dir rows trace
-    → NextLog files dir rows trace task bytes spans team → NothingBefore bytes (row_task task spans team) (segments_in trace) n rank → rank ≤ 20
-    → place_key place ≡ 2 ∷ (length trace + 1) ∷ n ∷ rank ∷ [] → (other : Place) → IsEarlier other place → IsBad files dir other → ⊥
+in_row : (files : Files) (dir : List ℕ) (rows : List Row) (trace : Trace) (task : Row) (bytes spans : List ℕ) (team : Option ℕ) (n rank : ℕ) (place : BadPlace) → Walked files dir rows trace
+    → NextLog files dir rows trace task bytes spans team → NothingBefore bytes (row_task task spans team) (segments_in trace) n rank → rank ≤ last_rank
+    → place_key place ≡ 2 ∷ (length trace + 1) ∷ n ∷ rank ∷ [] → (other : BadPlace) → IsEarlier other place → IsBad files dir other → ⊥
 in_row files dir rows trace task bytes spans team n rank place walked next nothing small key_is other earlier bad =
     before_row files dir rows trace (n ∷ rank ∷ []) place other walked key_is
     (λ row is less missing. is_there row is missing)
@@ -297,16 +298,16 @@ in_row files dir rows trace task bytes spans team n rank place walked next nothi
           | inr same ↦ nothing.here rule same.1 (subst (λ (k : ℕ). IsLogFault bytes (row_task task spans team) k rule) same.0 fault)
         ]
 
-    over_there : (row m : ℕ) → row ≡ length trace + 1 → slice_cmp nat_cmp (m ∷ 20 ∷ []) (n ∷ rank ∷ []) ≡ Less → IsBad files dir (too_many_segments row m) → ⊥
+    over_there : (row m : ℕ) → row ≡ length trace + 1 → slice_cmp nat_cmp (m ∷ last_rank ∷ []) (n ∷ rank ∷ []) ≡ Less → IsBad files dir (too_many_segments row m) → ⊥
     over_there row m is less (told, index, found) =
         let here : IsOneTooMany files dir rows row m = subst (λ (rs : List Row). IsOneTooMany files dir rs row m) (index_once files dir told rows index walked.index) found in
         let over = over_here files dir rows trace task bytes spans team row m walked next here (omega (arith, here.listed.number)) in
-        elim (number_before m n 20 rank less) [
+        elim (number_before m n last_rank rank less) [
           | inl below ↦ nothing.segments m below over
           | inr same ↦ absurd (omega (arith, same.1))
         ]
 
-rank_small : (rule : RecordWhy) → record_rank rule ≤ 20
+rank_small : (rule : RecordWhy) → record_rank rule ≤ last_rank
 rank_small log.Header = omega arith
 rank_small log.Cut = omega arith
 rank_small log.Kind = omega arith
@@ -343,7 +344,7 @@ record_first files dir rows trace task bytes spans team n rule walked next fault
       there = next.there;
       spans = spans;
       has_spans = next.has_spans;
-      team = team;
+      due_barriers = team;
       has_team = has_team files dir trace task.path team walked.logs next.has_team;
       fault = fault;
     },
@@ -353,7 +354,7 @@ record_first files dir rows trace task bytes spans team n rule walked next fault
 
 -- a record of the next log opens one segment too many
 pub over_first : (files : Files) (dir : List ℕ) (rows : List Row) (trace : Trace) (task : Row) (bytes spans : List ℕ) (team : Option ℕ) (n : ℕ) → Walked files dir rows trace
-    → NextLog files dir rows trace task bytes spans team → OpensTooMany bytes task.records (segments_in trace) n → NothingBefore bytes (row_task task spans team) (segments_in trace) n 20
+    → NextLog files dir rows trace task bytes spans team → OpensTooMany bytes task.records (segments_in trace) n → NothingBefore bytes (row_task task spans team) (segments_in trace) n last_rank
     → IsFirstBad files dir (too_many_segments (length trace + 1) n)
 over_first files dir rows trace task bytes spans team n walked next over nothing = record {
   bad = (
@@ -370,7 +371,7 @@ over_first files dir rows trace task bytes spans team n walked next over nothing
       over = over;
     },
   );
-  least = in_row files dir rows trace task bytes spans team n 20 (too_many_segments (length trace + 1) n) walked next nothing (omega arith) refl;
+  least = in_row files dir rows trace task bytes spans team n last_rank (too_many_segments (length trace + 1) n) walked next nothing (omega arith) refl;
 }
 
 -- ---- a folder whose logs are all good
@@ -402,9 +403,6 @@ holds_trace files dir rows trace walked all = record {
 pub good_nothing : (rows : List Row) → IsGoodTrace rows []
 good_nothing rows = record { rows_are = refl; each = λ k task found. absurd (omega (arith, slice_get_within [] k task found)); limit = omega arith }
 
-pub walked_nothing : (files : Files) (dir : List ℕ) (rows : List Row) → IsIndex files dir rows → Walked files dir rows []
-walked_nothing files dir rows index = record { index = index; logs = λ k d within. absurd (omega arith); good = good_nothing rows }
-
 -- the sum of segments after one log more
 pub segments_push : (trace : Trace) (task : TaskLog) → segments_in (trace ++ task ∷ []) ≡ segments_in trace + segment_count task.records
 segments_push trace task =
@@ -422,26 +420,20 @@ good_next rows trace task good found good_task few = record {
   each = each;
   limit = omega (arith, segments_push trace task);
 } where
-  front : (k : ℕ) → k ≤ length trace → take k (trace ++ task ∷ []) ≡ take k trace
-  front k small = take-append-le k trace (task ∷ []) small
+  prefix : (k : ℕ) → k ≤ length trace → take k (trace ++ task ∷ []) ≡ take k trace
+  prefix k small = take-append-le k trace (task ∷ []) small
 
   each : (k : ℕ) (t : TaskLog) → slice_get (trace ++ task ∷ []) k ≡ Some t → IsGoodTask rows (take k (trace ++ task ∷ [])) t
   each k t at =
       let within : k < length trace + 1 = omega (arith, slice_get_within (trace ++ task ∷ []) k t at, length_push trace task) in
       elim (below_or_at k (length trace) within) [
         | inl less ↦
-            subst (λ (earlier : Trace). IsGoodTask rows earlier t) (sym (front k (omega arith)))
+            subst (λ (earlier : Trace). IsGoodTask rows earlier t) (sym (prefix k (omega arith)))
             (good.each k t (sym (slice_get_left trace (task ∷ []) k less) ∙ at))
         | inr same ↦
             let task_is : task ≡ t = same_Some task t (sym (slice_get_last trace task) ∙ ap (λ (j : ℕ). slice_get (trace ++ task ∷ []) j) (sym same) ∙ at) in
-            subst (λ (earlier : Trace). IsGoodTask rows earlier t) (sym (front k (omega arith) ∙ take_all k trace (omega arith)))
+            subst (λ (earlier : Trace). IsGoodTask rows earlier t) (sym (prefix k (omega arith) ∙ take_all k trace (omega arith)))
             (subst (λ (u : TaskLog). IsGoodTask rows trace u) task_is good_task)
       ]
 
-pub walked_next : (files : Files) (dir : List ℕ) (rows : List Row) (trace : Trace) (task : TaskLog) → Walked files dir rows trace → slice_get rows (length trace) ≡ Some (row_of task) → IsGoodTask rows trace task
-    → segments_in trace + segment_count task.records ≤ max_segments → IsWholeLog files dir task.path task.records → Walked files dir rows (trace ++ task ∷ [])
-walked_next files dir rows trace task walked found good few whole = record {
-  index = walked.index;
-  logs = All-push (λ (t : TaskLog). IsWholeLog files dir t.path t.records) trace task walked.logs whole;
-  good = good_next rows trace task walked.good found good few;
 }

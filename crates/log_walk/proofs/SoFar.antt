@@ -14,7 +14,7 @@ use Rattle.log_format.specs.Table.{IsTabled, Spells, IsFirstFault}
 use Rattle.log_format.proofs.Logs.{log_bytes-append}
 use Rattle.race_model.specs.declared.why.RecordWhy.{RecordWhy}
 use Rattle.race_model.specs.declared.why.RecordWhy.TheVariants as log
-use Rattle.race_model.specs.Place.{record_rank}
+use Rattle.race_model.specs.BadPlace.{record_rank, last_rank}
 use Rattle.race_model.specs.Segment.{segment_count}
 use Rattle.race_model.specs.LogFault.{LogTask, Breaks, IsRead, IsRecord, IsLogFault, max_segments}
 use Rattle.log_walk.specs.declared.check.LogFault.{LogFault}
@@ -42,20 +42,6 @@ few : (bytes : List ℕ) (task : LogTask) (opened : ℕ) (state : State) (record
     → opened + segment_count records ≤ max_segments
 few bytes task opened state records rest index so = omega (arith, so.limit, so.follows.segments)
 
-keeps_nothing : (task : LogTask) → KeepsLogRules task []
-keeps_nothing task = record { each = λ k r found. absurd (omega (arith, slice_get_within [] k r found)) }
-
--- the header was read
-pub so_far_start : (bytes : List ℕ) (task : LogTask) (opened : ℕ) (state : State) (rest : List ℕ) → bytes ≡ LOG_HEADER ++ rest → IsStateAfter state opened [] → opened ≤ max_segments
-    → SoFar bytes task opened state [] rest 0
-so_far_start bytes task opened state rest parts follows small = record {
-  read = record { parts = parts; tabled = λ k d h. absurd (omega arith) };
-  keeps = keeps_nothing task;
-  follows = follows;
-  count = refl;
-  regions = omega (arith, follows.regions);
-  barriers = omega (arith, follows.barriers);
-  limit = omega (arith, follows.segments);
 }
 
 -- the rest begins with the next record
@@ -188,7 +174,7 @@ next_refused bytes task opened state records rest index next (fault.TooMany n) s
         full = over.full;
         opens = segment_count-push records over.r ∙ ap (λ (k : ℕ). segment_count records + k) over.opens;
       },
-      nothing_before bytes task opened state records rest index next over.r 20 so next_is over.spells within (λ rule low. over.breaks rule),
+      nothing_before bytes task opened state records rest index next over.r last_rank so next_is over.spells within (λ rule low. over.breaks rule),
     )
 next_refused bytes task opened state records rest index next fault.Memory so whole next_is within refused = absurd refused
 
@@ -201,29 +187,6 @@ extra_refused bytes task opened state records rest index so all more = (
       (λ rule low told. past_end bytes task (task.records + 1) rule (omega arith) low told),
 )
 
--- the log is good
-pub log_is_good : (bytes : List ℕ) (task : LogTask) (opened : ℕ) (state : State) (records : List Record) (rest : List ℕ) (index : ℕ) → SoFar bytes task opened state records rest index
-    → index ≡ task.records → length rest ≡ 0 → IsGoodLog bytes task opened records state.segments
-log_is_good bytes task opened state records rest index so all done = record {
-  whole = so.read.parts ∙ ap (λ (bs : List ℕ). log_bytes LOG_HEADER records ++ bs) (nil_from_length rest done) ∙ append-nil (log_bytes LOG_HEADER records);
-  tabled = so.read.tabled;
-  counted = so.count ∙ all;
-  keeps = so.keeps;
-  sum = so.follows.segments;
-  limit = so.limit;
 }
 
--- what the test of the header tells
-pub header_read : (bytes rest : List ℕ) → pointwise nat_eq (take 8 bytes) LOG_HEADER ≡ true → rest ≡ drop 8 bytes → bytes ≡ LOG_HEADER ++ rest
-header_read bytes rest same rest_is =
-    sym (take-append-drop 8 bytes) ∙ ap (λ (bs : List ℕ). bs ++ drop 8 bytes) (same_text (take 8 bytes) LOG_HEADER (sym same)) ∙ ap (λ (bs : List ℕ). LOG_HEADER ++ bs) (sym rest_is)
-
-pub header_refused : (bytes : List ℕ) (task : LogTask) (opened : ℕ) → pointwise nat_eq (take 8 bytes) LOG_HEADER ≡ false → IsLogRefused bytes task opened (fault.Bad 0 log.Header)
-header_refused bytes task opened differs = (
-  (refl, λ rest parts. other_text (take 8 bytes) LOG_HEADER (sym differs) (ap (λ (bs : List ℕ). take 8 bs) parts ∙ take_at LOG_HEADER rest 8 refl)),
-  record {
-    earlier = λ m rule less told. absurd (omega arith);
-    here = λ rule low told. absurd (omega arith);
-    segments = λ m less told. absurd (omega arith);
-  },
 )

@@ -43,7 +43,7 @@ paths_of rows = map row_path rows
 
 -- the spans of the regions whose first lane stands before a place of the listing
 pub record SpansSoFar (paths : List (List Step)) (path : List Step) (all : List ℕ) (at : ℕ) (spans : List ℕ) : Type 0 where
-  pub front : spans ≡ take (length spans) all
+  pub prefix : spans ≡ take (length spans) all
   pub few : length spans ≤ length all
   pub seen : (region j span : ℕ) → slice_get paths j ≡ Some (lane_of path region 0 span) → j < at → region < length spans
   pub past : (region j span : ℕ) → slice_get paths j ≡ Some (lane_of path region 0 span) → region < length spans → j < at
@@ -51,7 +51,7 @@ pub record SpansSoFar (paths : List (List Step)) (path : List Step) (all : List 
 -- before the first lane
 pub spans_start : (paths : List (List Step)) (path : List Step) (all : List ℕ) (index : ℕ) → IsListing paths → slice_get paths index ≡ Some path → SpansSoFar paths path all (index + 1) []
 spans_start paths path all index lists here = record {
-  front = refl;
+  prefix = refl;
   few = omega arith;
   seen = λ region j span found before. absurd (elim (below_or_at j index before) [
     | inl less ↦ not_before_above path _ (listing_sorted paths j index _ path lists less found here)
@@ -64,7 +64,7 @@ spans_start paths path all index lists here = record {
 pub spans_skip : (paths : List (List Step)) (path : List Step) (all : List ℕ) (at : ℕ) (spans : List ℕ) (here : List Step) → SpansSoFar paths path all at spans → slice_get paths at ≡ Some here
     → ((region span : ℕ) → here ≡ lane_of path region 0 span → ⊥) → SpansSoFar paths path all (at + 1) spans
 spans_skip paths path all at spans here so found other = record {
-  front = so.front;
+  prefix = so.prefix;
   few = so.few;
   seen = λ region j span lane before. elim (below_or_at j at before) [
     | inl less ↦ so.seen region j span lane less
@@ -120,7 +120,7 @@ spans_push paths path all at spans region span lists are so found = pushed (next
   pushed number listed =
       let there : slice_get all (length spans) ≡ Some span = ap (λ (k : ℕ). slice_get all k) (sym number) ∙ listed in
       record {
-        front = ap (λ (xs : List ℕ). xs ++ span ∷ []) so.front
+        prefix = ap (λ (xs : List ℕ). xs ++ span ∷ []) so.prefix
             ∙ ap (λ (n : ℕ). take (length spans) all ++ n ∷ []) (sym (get_or_from_slice_get all (length spans) span span there))
             ∙ sym (take_more all (length spans) span (slice_get_within all (length spans) span there))
             ∙ ap (λ (n : ℕ). take n all) (sym (length_push spans span));
@@ -173,7 +173,7 @@ all_met rows path all at spans are so met = subst (λ (xs : List ℕ). ListsSpan
   ]
 
   same : spans ≡ all
-  same = so.front ∙ take_all (length spans) all all_of_them
+  same = so.prefix ∙ take_all (length spans) all all_of_them
 
 -- what the rows told so far, for the spans that they list
 abbrev pub Met : List Row → List Step → ℕ → List ℕ → Type 0

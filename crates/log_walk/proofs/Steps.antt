@@ -7,7 +7,7 @@ use Rattle.race_model.specs.Race.{held_after}
 use Rattle.race_model.specs.Trace.{is_region_kind, is_barrier_kind}
 use Rattle.log_walk.specs.declared.state.State.{State}
 use Rattle.log_walk.specs.Check.{open_after, opens_by}
-use Rattle.log_walk.specs.State.{IsStateAfter, counted}
+use Rattle.log_walk.specs.State.{IsStateAfter, with_counted}
 use Rattle.log_walk.proofs.Opening.{is_open-push, segment_count-push}
 
 pub count-push : (p : Record → Bool) (records : List Record) (r : Record) → count_by p (records ++ r ∷ []) ≡ count_by p records + cond (p r) 1 0
@@ -17,7 +17,7 @@ count-push p records r =
 
 -- the state after one record more
 pub follows_push : (old mid new : State) (opened : ℕ) (before : List Record) (r : Record) → IsStateAfter old opened before → mid ≡ record old { held = mid.held }
-    → mid.held ≡ held_after [] (before ++ r ∷ []) → new ≡ counted mid r.kind → IsStateAfter new opened (before ++ r ∷ [])
+    → mid.held ≡ held_after [] (before ++ r ∷ []) → new ≡ with_counted mid r.kind → IsStateAfter new opened (before ++ r ∷ [])
 follows_push old mid new opened before r follows same held next = record {
   held = ap (λ (s : State). s.held) next ∙ held;
   regions = omega (arith, ap (λ (s : State). s.regions) next, ap (λ (s : State). s.regions) same, follows.regions, count-push (λ (x : Record). is_region_kind x.kind) before r);

@@ -10,7 +10,7 @@ use Rattle.sw_base.specs.Environment.{Files, Content, WhereTold}
 use Rattle.race_model.specs.Row.{Row}
 use Rattle.race_model.specs.IndexFault.{IsIndex, IsFirstBadIndexPlace}
 use Rattle.race_model.specs.Trace.{TaskLog, Trace}
-use Rattle.race_model.specs.Place.{Place, no_index, bad_row, missing_log, bad_record, too_many_segments, IsEarlier, index_rank, record_rank}
+use Rattle.race_model.specs.BadPlace.{BadPlace, no_index, bad_row, missing_log, bad_record, too_many_segments, IsEarlier, index_rank, record_rank}
 use Rattle.race_model.specs.FirstBad.{row_of, segments_in, HoldsLogs, IsBad, IsFirstBad}
 use Rattle.race_model.specs.LogFault.{IsWholeLog}
 use Rattle.race_model.specs.declared.why.IndexWhy.{IndexWhy}
@@ -21,6 +21,7 @@ use Rattle.log_index.specs.declared.row.IndexAnswer.TheVariants as answer
 use Rattle.log_walk.specs.GoodTrace.{IsGoodTrace}
 use Rattle.log_walk.specs.Walk.{trace_of, of_index, Walked, IsNextTask, TellsFirstBad}
 use Rattle.log_walk.proofs.Places.{good_next, good_nothing, segments_push, cmp_first}
+use Rattle.race_model.specs.BadPlace.{last_rank}
 
 -- these logs were read, where the object tells what it holds
 pub record LogsRead (told : Option Content) (dir : List ℕ) (rows : List Row) (tasks : List TaskRecords) (segments index : ℕ) : Type 0 where
@@ -29,12 +30,6 @@ pub record LogsRead (told : Option Content) (dir : List ℕ) (rows : List Row) (
   pub sum : segments ≡ segments_in (trace_of tasks)
   pub holds : WhereTold told (λ c. HoldsLogs c.held dir (trace_of tasks))
 
-pub logs_start : (told : Option Content) (dir : List ℕ) (rows : List Row) (tasks : List TaskRecords) → tasks ≡ [] → LogsRead told dir rows tasks 0 0
-logs_start told dir rows tasks empty = subst (λ (ts : List TaskRecords). LogsRead told dir rows ts 0 0) (sym empty) (record {
-  good = good_nothing rows;
-  count = refl;
-  sum = refl;
-  holds = λ content is k d within. absurd (omega arith);
 })
 
 -- what is known where the index is a good one
@@ -75,21 +70,21 @@ no_log_before n x row y small earlier = elim (cmp_first 2 n (row ∷ y) x earlie
 
 pub no_index_first : (files : Files) (dir : List ℕ) → IsFirstBadIndexPlace files dir no_index → IsFirstBad files dir no_index
 no_index_first files dir first = record { bad = first.bad; least = least } where
-  least : (other : Place) → IsEarlier other no_index → IsBad files dir other → ⊥
+  least : (other : BadPlace) → IsEarlier other no_index → IsBad files dir other → ⊥
   least no_index earlier bad = first.least no_index earlier bad
   least (bad_row n rule) earlier bad = first.least (bad_row n rule) earlier bad
   least (missing_log row) earlier bad = no_log_before 0 [] row [] (omega arith) earlier
   least (bad_record row n rule) earlier bad = no_log_before 0 [] row (n ∷ record_rank rule ∷ []) (omega arith) earlier
-  least (too_many_segments row n) earlier bad = no_log_before 0 [] row (n ∷ 20 ∷ []) (omega arith) earlier
+  least (too_many_segments row n) earlier bad = no_log_before 0 [] row (n ∷ last_rank ∷ []) (omega arith) earlier
 
 pub bad_row_first : (files : Files) (dir : List ℕ) (n : ℕ) (rule : IndexWhy) → IsFirstBadIndexPlace files dir (bad_row n rule) → IsFirstBad files dir (bad_row n rule)
 bad_row_first files dir n rule first = record { bad = first.bad; least = least } where
-  least : (other : Place) → IsEarlier other (bad_row n rule) → IsBad files dir other → ⊥
+  least : (other : BadPlace) → IsEarlier other (bad_row n rule) → IsBad files dir other → ⊥
   least no_index earlier bad = first.least no_index earlier bad
   least (bad_row m other) earlier bad = first.least (bad_row m other) earlier bad
   least (missing_log row) earlier bad = no_log_before 1 (n ∷ index_rank rule ∷ []) row [] (omega arith) earlier
   least (bad_record row m other) earlier bad = no_log_before 1 (n ∷ index_rank rule ∷ []) row (m ∷ record_rank other ∷ []) (omega arith) earlier
-  least (too_many_segments row m) earlier bad = no_log_before 1 (n ∷ index_rank rule ∷ []) row (m ∷ 20 ∷ []) (omega arith) earlier
+  least (too_many_segments row m) earlier bad = no_log_before 1 (n ∷ index_rank rule ∷ []) row (m ∷ last_rank ∷ []) (omega arith) earlier
 
 -- a fault of the index tells the folder's first bad place
 pub index_told : (files : Files) (dir : List ℕ) (refusal : IndexAnswer) → (refusal ≡ answer.NoIndex → IsFirstBadIndexPlace files dir no_index)

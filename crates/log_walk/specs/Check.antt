@@ -15,7 +15,7 @@ use Rattle.race_model.specs.Segment.{segment_count}
 use Rattle.log_walk.specs.Rules.{BreaksNone, BreaksFirst}
 use Rattle.log_walk.specs.declared.check.LogFault.{LogFault}
 use Rattle.log_walk.specs.declared.check.LogFault.TheVariants as fault
-use Rattle.race_model.specs.Place.{record_rank}
+use Rattle.race_model.specs.BadPlace.{record_rank, last_rank}
 
 -- no record breaks a rule after those before it
 pub record KeepsLogRules (task : LogTask) (records : List Record) : Type 0 where
@@ -58,7 +58,7 @@ pub record NothingBefore (bytes : List ℕ) (task : LogTask) (opened n rank : �
 -- a log is refused at this place
 abbrev pub IsLogRefused : List ℕ → LogTask → ℕ → LogFault → Type 0
 IsLogRefused bytes task opened (fault.Bad n rule) = IsLogFault bytes task n rule × NothingBefore bytes task opened n (record_rank rule)
-IsLogRefused bytes task opened (fault.TooMany n) = OpensTooMany bytes task.records opened n × NothingBefore bytes task opened n 20
+IsLogRefused bytes task opened (fault.TooMany n) = OpensTooMany bytes task.records opened n × NothingBefore bytes task opened n last_rank
 IsLogRefused bytes task opened fault.Memory = Unit {0}
 
 -- a log is good: these are its records, and with it and the earlier logs there are so many segments

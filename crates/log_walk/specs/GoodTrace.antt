@@ -25,9 +25,9 @@ pub record FollowsTeam (earlier : Trace) (path : List Step) (barriers : ℕ) : T
   pub counted : barriers ≡ barrier_count first.records
 
 -- the barriers that a task's log must have
-abbrev pub IsTeam : Trace → List Step → Option ℕ → Type 0
-IsTeam earlier path None = LeadsTeam path
-IsTeam earlier path (Some barriers) = FollowsTeam earlier path barriers
+abbrev pub AreTeamBarriers : Trace → List Step → Option ℕ → Type 0
+AreTeamBarriers earlier path None = LeadsTeam path
+AreTeamBarriers earlier path (Some barriers) = FollowsTeam earlier path barriers
 
 -- the first lane of the task's team, where the task is a lane from 1 on, is one of these tasks
 abbrev pub HasFirst : Trace → List Step → Type 0
@@ -36,16 +36,16 @@ HasFirst earlier path = (above : List Step) (step : Step) → path ≡ above ++ 
 
 -- a task with this many records, seen by the rules
 abbrev pub log_task : TaskLog → List ℕ → Option ℕ → LogTask
-log_task task spans team = record { path = task.path; records = length task.records; spans = spans; team = team }
+log_task task spans team = record { path = task.path; records = length task.records; spans = spans; due_barriers = team }
 
 -- the log of a task after others keeps the rules
 pub record IsGoodTask (rows : List Row) (earlier : Trace) (task : TaskLog) : Type 0 where
   pub spans : List ℕ
   pub has_spans : ListsSpans rows task.path spans
-  pub team : Option ℕ
-  pub has_team : IsTeam earlier task.path team
+  pub due_barriers : Option ℕ
+  pub has_team : AreTeamBarriers earlier task.path due_barriers
   pub tabled : All IsTabled task.records
-  pub keeps : KeepsLogRules (log_task task spans team) task.records
+  pub keeps : KeepsLogRules (log_task task spans due_barriers) task.records
 
 -- the tasks are those of the first rows, and their logs keep the rules
 pub record IsGoodTrace (rows : List Row) (trace : Trace) : Type 0 where

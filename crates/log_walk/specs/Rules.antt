@@ -8,12 +8,12 @@ use Rattle.mutex_set.specs.Held.{IsInnermost}
 use Rattle.race_model.specs.declared.why.RecordWhy.{RecordWhy}
 use Rattle.race_model.specs.declared.why.RecordWhy.TheVariants as log
 use Rattle.race_model.specs.LogFault.{LogTask, Breaks}
-use Rattle.race_model.specs.Place.{record_rank}
+use Rattle.race_model.specs.BadPlace.{record_rank}
 use Rattle.log_walk.specs.declared.task.Task.{Task}
 
 -- a task, as the rules see it
 abbrev pub log_task_of : Task → LogTask
-log_task_of task = record { path = task.path; records = task.records; spans = task.spans.items; team = task.team }
+log_task_of task = record { path = task.path; records = task.records; spans = task.spans.items; due_barriers = task.due_barriers }
 
 -- the record breaks none
 abbrev pub BreaksNone : LogTask → List Record → Record → Type 0
@@ -80,11 +80,11 @@ CantFork held spans region span _ = ⊥
 pub record MayEnd (held : List ℕ) (task : LogTask) (regions barriers : ℕ) : Type 0 where
   pub free : held ≡ []
   pub all : length task.spans ≤ regions
-  pub together : (others : ℕ) → task.team ≡ Some others → barriers ≡ others
+  pub together : (others : ℕ) → task.due_barriers ≡ Some others → barriers ≡ others
 
 abbrev pub CantEnd : List ℕ → LogTask → ℕ → ℕ → RecordWhy → Type 0
 CantEnd held task regions barriers log.LockOpen = held ≢ []
 CantEnd held task regions barriers log.RegionRows = (held ≡ []) × (regions < length task.spans)
 CantEnd held task regions barriers log.BarrierCount =
-    (held ≡ []) × (length task.spans ≤ regions) × ((others : ℕ) × (task.team ≡ Some others) × (barriers ≢ others))
+    (held ≡ []) × (length task.spans ≤ regions) × ((others : ℕ) × (task.due_barriers ≡ Some others) × (barriers ≢ others))
 CantEnd held task regions barriers _ = ⊥

@@ -17,8 +17,8 @@ pub record IsStateAfter (state : State) (opened : ℕ) (before : List Record) : 
   pub segments : state.segments ≡ opened + segment_count before
 
 -- a state after one record more, but for its mutexes
-abbrev pub counted : State → Kind → State
-counted state kind = record {
+abbrev pub with_counted : State → Kind → State
+with_counted state kind = record {
   held = state.held;
   regions = state.regions + cond (is_region_kind kind) 1 0;
   barriers = state.barriers + cond (is_barrier_kind kind) 1 0;

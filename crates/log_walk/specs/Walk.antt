@@ -13,11 +13,11 @@ use Rattle.race_model.specs.IndexFault.{IsIndex}
 use Rattle.race_model.specs.Trace.{Trace}
 use Rattle.race_model.specs.LogFault.{RowAt, LogTask, ListsSpans, max_segments}
 use Rattle.race_model.specs.Segment.{segment_count}
-use Rattle.race_model.specs.Place.{Place, no_index, bad_row, missing_log, bad_record, too_many_segments}
+use Rattle.race_model.specs.BadPlace.{BadPlace, no_index, bad_row, missing_log, bad_record, too_many_segments}
 use Rattle.race_model.specs.FirstBad.{HoldsLogs, IsFirstBad, segments_in}
 use Rattle.log_segment.specs.declared.segment.TaskRecords.{TaskRecords}
 use Rattle.log_segment.specs.Intervals.{task_of}
-use Rattle.log_walk.specs.GoodTrace.{IsGoodTask, IsGoodTrace, IsTeam}
+use Rattle.log_walk.specs.GoodTrace.{IsGoodTask, IsGoodTrace, AreTeamBarriers}
 use Rattle.log_walk.specs.declared.check.LogFault.{LogFault}
 use Rattle.log_walk.specs.declared.check.LogFault.TheVariants as log_fault
 use Rattle.log_walk.specs.declared.fault.WalkFault.{WalkFault}
@@ -51,7 +51,7 @@ pub record IsLogRow (files : Files) (dir : List ℕ) (path : List Step) (row : �
   pub path_is : task.path ≡ path
 
 -- the folder's first bad place is in the log of this task
-pub record IsFirstIn (files : Files) (dir : List ℕ) (path : List Step) (place : ℕ → Place) : Type 0 where
+pub record IsFirstIn (files : Files) (dir : List ℕ) (path : List Step) (place : ℕ → BadPlace) : Type 0 where
   pub row : ℕ
   pub is_row : IsLogRow files dir path row
   pub first : IsFirstBad files dir (place row)
@@ -84,7 +84,7 @@ pub record IsTaskOf (rows : List Row) (earlier : Trace) (row : Row) (task : LogT
   pub path : task.path ≡ row.path
   pub records : task.records ≡ row.records
   pub spans : ListsSpans rows row.path task.spans
-  pub team : IsTeam earlier row.path task.team
+  pub team : AreTeamBarriers earlier row.path task.due_barriers
 
 -- the log of the row after a trace is good: these are its records, and then there are so many segments
 pub record IsNextTask (rows : List Row) (earlier : Trace) (row : Row) (records : List Record) (segments : ℕ) : Type 0 where

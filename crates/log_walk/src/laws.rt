@@ -1,13 +1,13 @@
 ghost use Rattle.std.specs.Prelude.{◌≡◌, ℕ, List};
 ghost use Rattle.sw_base.specs.declared.path.Step.{Step};
 ghost use Rattle.sw_base.specs.Environment.{Files};
-ghost use Rattle.race_model.specs.Place.{Place};
+ghost use Rattle.race_model.specs.BadPlace.{BadPlace};
 ghost use Rattle.race_model.specs.FirstBad.{IsFirstBad};
 ghost use Rattle.log_walk.specs.Walk.{IsLogRow};
 
 /// A folder has at most one first bad place.
 pub fn first_bad_place_is_unique()
-    ensures { (files : Files) (dir : List ℕ) (place other : Place) → IsFirstBad files dir place → IsFirstBad files dir other → place ≡ other }
+    ensures { (files : Files) (dir : List ℕ) (place other : BadPlace) → IsFirstBad files dir place → IsFirstBad files dir other → place ≡ other }
 {}
 
 /// The number of a row tells the path of its task.

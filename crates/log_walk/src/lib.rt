@@ -7,7 +7,7 @@
 //! `walk` answers the trace's barrier intervals with their labels in place of the trace.
 #![tactic(auto)]
 
-mod below;
+mod last_step;
 mod check;
 mod fault;
 mod laws;

@@ -64,7 +64,7 @@ fn task_at(
         path: row.path.copy(),
         records: row.records,
         spans: spans_of(alloc, rows, index)?,
-        team: team_barriers(trace, &row.path),
+        due_barriers: team_barriers(trace, &row.path),
     })
 }
 

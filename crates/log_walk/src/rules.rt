@@ -77,7 +77,7 @@ pub fn end(held: &Held, task: &Task, regions: u32, barriers: u32) -> Option<Reco
     if task.spans.len() > regions as usize {
         return Some(RecordWhy::RegionRows);
     }
-    match task.team {
+    match task.due_barriers {
         Some(others) if others != barriers as usize => Some(RecordWhy::BarrierCount),
         _ => None,
     }

@@ -6,7 +6,7 @@ ghost use Rattle.race_model.specs.Listing.{lane_of};
 ghost use Rattle.race_model.specs.LogFault.{ListsSpans};
 ghost use Rattle.race_model.specs.IndexFault.{AreRows};
 
-use crate::below::step_below;
+use crate::last_step::step_below;
 use log_index::Row as IndexRow;
 use std::alloc::Global;
 use sw_base::{Memory, Path};

@@ -4,7 +4,7 @@ ghost use Rattle.log_format.specs.Table.{IsTabled};
 ghost use Rattle.race_model.specs.Race.{held_after};
 ghost use Rattle.log_walk.specs.Check.{opens_by};
 ghost use Rattle.log_walk.specs.Rules.{log_task_of, BreaksNone, BreaksFirst};
-ghost use Rattle.log_walk.specs.State.{IsStateAfter, counted};
+ghost use Rattle.log_walk.specs.State.{IsStateAfter, with_counted};
 ghost use Rattle.race_model.specs.LogFault.{max_segments};
 
 use crate::rules;
@@ -89,7 +89,7 @@ impl State {
         requires segments { self.old.segments ≤ max_segments }
         requires regions { self.old.regions < 2 ^ 32 - 1 }
         requires barriers { self.old.barriers < 2 ^ 32 - 1 }
-        ensures counted { IsTrue result → self.new ≡ counted self.old kind }
+        ensures with_counted { IsTrue result → self.new ≡ with_counted self.old kind }
         ensures limit { self.new.segments ≤ max_segments }
         ensures full { IsFalse result → (self.old.segments ≡ max_segments) × (opens_by kind self.old.is_open ≡ 1) }
     {

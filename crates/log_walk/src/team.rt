@@ -2,10 +2,10 @@
 ghost use Rattle.std.specs.Prelude.{◌≡◌, ◌<◌, IsTrue, ◌↔◌};
 ghost use Rattle.race_model.specs.Listing.{lane_of};
 ghost use Rattle.race_model.specs.Trace.{is_barrier_kind, barrier_count};
-ghost use Rattle.log_walk.specs.GoodTrace.{IsTeam, HasFirst};
+ghost use Rattle.log_walk.specs.GoodTrace.{AreTeamBarriers, HasFirst};
 ghost use Rattle.log_walk.specs.Walk.{trace_of};
 
-use crate::below::step_below;
+use crate::last_step::step_below;
 use log_format::{Kind, Record};
 use log_segment::TaskRecords;
 use sw_base::{Path, Step};
@@ -38,7 +38,7 @@ fn leads(path: &Path, above: &[Step], lane: &Step) -> bool
 /// How many barriers lane 0 of the task's team passed, for a lane from 1 on. It is one of the tasks before.
 pub fn team_barriers(trace: &[TaskRecords], path: &Path) -> Option<usize>
     requires { HasFirst (trace_of trace.now) path.now }
-    ensures { IsTeam (trace_of trace.now) path.now result }
+    ensures { AreTeamBarriers (trace_of trace.now) path.now result }
 {
     let (lane, above) = path.steps().split_last()?;
     if lane.lane == 0 {

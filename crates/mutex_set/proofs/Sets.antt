@@ -16,9 +16,9 @@ all_last P [] y each = each.0
 all_last P (x ∷ xs) y each = all_last P xs y each.1
 
 -- and of those before
-all_front : (P : ℕ → Type 0) (xs : List ℕ) (y : ℕ) → AllByRecursion P (xs ++ y ∷ []) → AllByRecursion P xs
-all_front P [] y each = each.1
-all_front P (x ∷ xs) y each = (each.0, all_front P xs y each.1)
+all_prefix : (P : ℕ → Type 0) (xs : List ℕ) (y : ℕ) → AllByRecursion P (xs ++ y ∷ []) → AllByRecursion P xs
+all_prefix P [] y each = each.1
+all_prefix P (x ∷ xs) y each = (each.0, all_prefix P xs y each.1)
 
 -- no numbers are distinct
 pub distinct_none : IsDistinct nat_eq []
@@ -35,21 +35,21 @@ distinct_more (x ∷ xs) y distinct fresh = (
 )
 
 -- the numbers before the last of distinct ones are distinct
-pub distinct_front : (xs : List ℕ) (y : ℕ) → IsDistinct nat_eq (xs ++ y ∷ []) → IsDistinct nat_eq xs
+pub distinct_prefix : (xs : List ℕ) (y : ℕ) → IsDistinct nat_eq (xs ++ y ∷ []) → IsDistinct nat_eq xs
 unfolding IsDistinct
-distinct_front [] y distinct = distinct.1
-distinct_front (x ∷ xs) y distinct = (all_front _ xs y distinct.0, distinct_front xs y distinct.1)
+distinct_prefix [] y distinct = distinct.1
+distinct_prefix (x ∷ xs) y distinct = (all_prefix _ xs y distinct.0, distinct_prefix xs y distinct.1)
 
 eqb_self : (n : ℕ) → nat_eq n n ≡ true
 eqb_self n = grind arith
 
 -- and they are all that differ from it
-pub others_front : (xs : List ℕ) (y : ℕ) → IsDistinct nat_eq (xs ++ y ∷ []) → filter (λ other. not (other == y)) (xs ++ y ∷ []) ≡ xs
+pub others_prefix : (xs : List ℕ) (y : ℕ) → IsDistinct nat_eq (xs ++ y ∷ []) → filter (λ other. not (other == y)) (xs ++ y ∷ []) ≡ xs
 unfolding IsDistinct
-others_front [] y distinct = rw (eqb_self y) refl
-others_front (x ∷ xs) y distinct =
+others_prefix [] y distinct = rw (eqb_self y) refl
+others_prefix (x ∷ xs) y distinct =
     let differs : nat_eq x y ≡ false = all_last (λ z. nat_eq x z ≡ false) xs y distinct.0 in
-    rw differs (ap (λ (zs : List ℕ). x ∷ zs) (others_front xs y distinct.1))
+    rw differs (ap (λ (zs : List ℕ). x ∷ zs) (others_prefix xs y distinct.1))
 
 -- lists with a number in common aren't disjoint
 pub not_disjoint : (xs ys : List ℕ) (i : ℕ) → i < length xs → Contains ys (get_or xs i 0) → AreDisjoint xs ys → ⊥

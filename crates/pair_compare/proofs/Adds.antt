@@ -81,8 +81,8 @@ AddsSome-after k0 k1 k2 P Q R first then p_r q_r = record {
   ];
 }
 
-in_front : {X : Type 0} (xs : List X) (i : ℕ) (x : X) → Contains (take i xs) x → Contains xs x
-in_front {X} xs i x h = subst (λ (ys : List X). Contains ys x) (take-append-drop i xs) (Contains-append_left (take i xs) (drop i xs) x h)
+in_prefix : {X : Type 0} (xs : List X) (i : ℕ) (x : X) → Contains (take i xs) x → Contains xs x
+in_prefix {X} xs i x h = subst (λ (ys : List X). Contains ys x) (take-append-drop i xs) (Contains-append_left (take i xs) (drop i xs) x h)
 
 in_turn : {X : Type 0} (xs : List X) (i : ℕ) (x : X) → i < length xs → x ≡ get_or xs i x → Contains xs x
 in_turn {X} xs i x within is = subst (λ (z : X). Contains xs z) (sym is) (Contains-get_or xs i x within)
@@ -96,7 +96,7 @@ pub AddsSome-next_right : (k0 k1 k2 : List (ℕ × ℕ)) (xs ys : List Access) (
     → AddsSome k1 k2 (IsConflictPair xs (y ∷ [])) → AddsSome k0 k2 (IsConflictPair xs ys)
 AddsSome-next_right k0 k1 k2 xs ys i y within is first then =
     AddsSome-after k0 k1 k2 (IsConflictPair xs (take i ys)) (IsConflictPair xs (y ∷ [])) (IsConflictPair xs ys) first then
-    (λ p h. record { a = h.a; b = h.b; a_in = h.a_in; b_in = in_front ys i h.b h.b_in; conflict = h.conflict; lines = h.lines })
+    (λ p h. record { a = h.a; b = h.b; a_in = h.a_in; b_in = in_prefix ys i h.b h.b_in; conflict = h.conflict; lines = h.lines })
     (λ p h. record { a = h.a; b = h.b; a_in = h.a_in; b_in = one_in ys y h.b (in_turn ys i y within is) h.b_in; conflict = h.conflict; lines = h.lines })
 
 -- a refusal at one access of the first list
@@ -104,5 +104,5 @@ pub AddsSome-next_left : (k0 k1 k2 : List (ℕ × ℕ)) (xs ys : List Access) (i
     → AddsSome k1 k2 (IsConflictPair (x ∷ []) ys) → AddsSome k0 k2 (IsConflictPair xs ys)
 AddsSome-next_left k0 k1 k2 xs ys i x within is first then =
     AddsSome-after k0 k1 k2 (IsConflictPair (take i xs) ys) (IsConflictPair (x ∷ []) ys) (IsConflictPair xs ys) first then
-    (λ p h. record { a = h.a; b = h.b; a_in = in_front xs i h.a h.a_in; b_in = h.b_in; conflict = h.conflict; lines = h.lines })
+    (λ p h. record { a = h.a; b = h.b; a_in = in_prefix xs i h.a h.a_in; b_in = h.b_in; conflict = h.conflict; lines = h.lines })
     (λ p h. record { a = h.a; b = h.b; a_in = one_in xs x h.a (in_turn xs i x within is) h.a_in; b_in = h.b_in; conflict = h.conflict; lines = h.lines })

@@ -13,8 +13,8 @@ use Rattle.race_model.proofs.Counts.{there}
 use Rattle.race_model.proofs.LabelPlace.{is_region}
 use Rattle.race_model.proofs.ProgramOrder.{node, happens_before_trans, happens_before_edge, program_order}
 
-slice_get_last : {X : Type 0} (xs front : List X) (x : X) → xs ≡ front ++ x ∷ [] → slice_get xs (length front) ≡ Some x
-slice_get_last xs front x e = rw e (slice_get-get_or (front ++ x ∷ []) (length front) x (let more = length_push front x in omega arith) ∙ ap Some (get_or_push front x x (length front) refl))
+slice_get_last : {X : Type 0} (xs prefix : List X) (x : X) → xs ≡ prefix ++ x ∷ [] → slice_get xs (length prefix) ≡ Some x
+slice_get_last xs prefix x e = rw e (slice_get-get_or (prefix ++ x ∷ []) (length prefix) x (let more = length_push prefix x in omega arith) ∙ ap Some (get_or_push prefix x x (length prefix) refl))
 
 -- the last record of a task
 record LastOf (logs : Logs) (path : List Step) : Type 0 where
@@ -24,9 +24,9 @@ record LastOf (logs : Logs) (path : List Step) : Type 0 where
 
 last_of : (logs : Logs) (path : List Step) → EndsOnce (logs path) → LastOf logs path
 last_of logs path e = record {
-  index = length e.front;
-  is_end = record { event = e.last; found = slice_get_last (logs path) e.front e.last e.parts; kind_is = e.ends };
-  last = ap length e.parts ∙ length_push e.front e.last;
+  index = length e.prefix;
+  is_end = record { event = e.last; found = slice_get_last (logs path) e.prefix e.last e.parts; kind_is = e.ends };
+  last = ap length e.parts ∙ length_push e.prefix e.last;
 }
 
 ended : (logs : Logs) (x : Node) → IsForkJoin logs → IsThere logs x → LastOf logs x.path

@@ -21,9 +21,9 @@ at_most_trans i j k x y z (inr before) (inl e) = inr (subst (λ (w : List Triple
 at_most_trans i j k x y z (inr before) (inr after) = inr (label_before_trans x y z before after)
 
 -- labels that part at their last triple, or earlier
-parts_here : (front : List Triple) (t u : Triple) (ts us : List Triple) → IsTripleBefore t u → IsLabelBefore (front ++ t ∷ ts) (front ++ u ∷ us)
-parts_here front t u ts us before =
-    label_before_below front (t ∷ ts) (u ∷ us) (IsLabelBefore.differ t u ts us (λ e. not_earlier t u e before.earlier) before)
+parts_here : (prefix : List Triple) (t u : Triple) (ts us : List Triple) → IsTripleBefore t u → IsLabelBefore (prefix ++ t ∷ ts) (prefix ++ u ∷ us)
+parts_here prefix t u ts us before =
+    label_before_below prefix (t ∷ ts) (u ∷ us) (IsLabelBefore.differ t u ts us (λ e. not_earlier t u e before.earlier) before)
 
 le_cases : (a b : ℕ) → a ≤ b → (a < b) ⊎ (a ≡ b)
 le_cases a b h = grind arith
@@ -51,17 +51,17 @@ triple_at_most s o p b c residue barriers offsets = at (le_cases o p offsets) (l
 
 -- the labels of two records of one log differ in their last triples alone
 record SameLog (logs : Logs) (x y : Node) : Type 0 where
-  front : List Triple
+  prefix : List Triple
   mine : Triple
   yours : Triple
-  my_label : IsLabel logs x (front ++ mine ∷ [])
-  your_label : IsLabel logs y (front ++ yours ∷ [])
+  my_label : IsLabel logs x (prefix ++ mine ∷ [])
+  your_label : IsLabel logs y (prefix ++ yours ∷ [])
   at_most : (mine ≡ yours) ⊎ IsTripleBefore mine yours
   strict : regions_before logs x < regions_before logs y → IsTripleBefore mine yours
 
 same_log : (logs : Logs) (x y : Node) (l : List Triple) → IsLabel logs x l → x.path ≡ y.path → x.index ≤ y.index → SameLog logs x y
 same_log logs x y _ (IsLabel.root x1 e) same le = record {
-  front = [];
+  prefix = [];
   mine = triple (regions_before logs x) 1 0;
   yours = triple (regions_before logs y) 1 0;
   my_label = IsLabel.root x e;
@@ -74,7 +74,7 @@ same_log logs x y _ (IsLabel.lane fork x1 n s above h up) same le =
     offset_residue n s (regions_before logs x) h.in_span ∙ sym (offset_residue n s (regions_before logs y) h.in_span) in
     let barriers = barriers_up logs x y same le in
     record {
-      front = above;
+      prefix = above;
       mine = lane_triple logs x n s;
       yours = lane_triple logs y n s;
       my_label = IsLabel.lane fork x n s above h up;
@@ -90,14 +90,14 @@ record NewLabel (logs : Logs) (x y : Node) (l : List Triple) : Type 0 where
 
 from_same_log : (logs : Logs) (x y : Node) → SameLog logs x y → x.index ≤ y.index → (l : List Triple) → IsLabel logs x l → NewLabel logs x y l
 from_same_log logs x y s le l is_l = record {
-  label = s.front ++ s.yours ∷ [];
+  label = s.prefix ++ s.yours ∷ [];
   is_label = s.your_label;
-  at_most = subst (λ (w : List Triple). AtMost x.index y.index w (s.front ++ s.yours ∷ [])) (label_unique logs x _ l s.my_label is_l) (at s.at_most);
+  at_most = subst (λ (w : List Triple). AtMost x.index y.index w (s.prefix ++ s.yours ∷ [])) (label_unique logs x _ l s.my_label is_l) (at s.at_most);
 }
   where
-    at : (s.mine ≡ s.yours) ⊎ IsTripleBefore s.mine s.yours → AtMost x.index y.index (s.front ++ s.mine ∷ []) (s.front ++ s.yours ∷ [])
-    at (inl e) = inl (ap (λ (t : Triple). s.front ++ t ∷ []) e, le)
-    at (inr before) = inr (parts_here s.front s.mine s.yours [] [] before)
+    at : (s.mine ≡ s.yours) ⊎ IsTripleBefore s.mine s.yours → AtMost x.index y.index (s.prefix ++ s.mine ∷ []) (s.prefix ++ s.yours ∷ [])
+    at (inl e) = inl (ap (λ (t : Triple). s.prefix ++ t ∷ []) e, le)
+    at (inr before) = inr (parts_here s.prefix s.mine s.yours [] [] before)
 
 along_next : (logs : Logs) (x y : Node) (l : List Triple) → IsNext x y → IsLabel logs x l → NewLabel logs x y l
 along_next logs x y l next is_l = from_same_log logs x y (same_log logs x y l is_l (sym next.same_log) (omega arith)) (omega arith) l is_l
@@ -117,12 +117,12 @@ along_join logs x y l tree join is_l =
     let s = same_log logs join.fork y up.label up.is_label (sym next.same_log) (omega arith) in
     let more = regions_after logs join.fork y region (sym next.same_log) (omega arith) in
     let last = lane_triple logs x join.lane join.span in
-    let mine : l ≡ (s.front ++ s.mine ∷ []) ++ last ∷ [] = label_unique logs x _ _ is_l (IsLabel.lane join.fork x join.lane join.span _ join.forked s.my_label) in
+    let mine : l ≡ (s.prefix ++ s.mine ∷ []) ++ last ∷ [] = label_unique logs x _ _ is_l (IsLabel.lane join.fork x join.lane join.span _ join.forked s.my_label) in
     record {
-      label = s.front ++ s.yours ∷ [];
+      label = s.prefix ++ s.yours ∷ [];
       is_label = s.your_label;
-      at_most = inr (subst (λ (w : List Triple). IsLabelBefore w (s.front ++ s.yours ∷ [])) (sym (mine ∙ append_assoc s.front (s.mine ∷ []) (last ∷ [])))
-          (parts_here s.front s.mine s.yours (last ∷ []) [] (s.strict more)));
+      at_most = inr (subst (λ (w : List Triple). IsLabelBefore w (s.prefix ++ s.yours ∷ [])) (sym (mine ∙ append_assoc s.prefix (s.mine ∷ []) (last ∷ [])))
+          (parts_here s.prefix s.mine s.yours (last ∷ []) [] (s.strict more)));
     }
 
 along_barrier : (logs : Logs) (x y : Node) (l : List Triple) → IsForkJoin logs → IsBarrierEdge logs x y → IsLabel logs x l → NewLabel logs x y l

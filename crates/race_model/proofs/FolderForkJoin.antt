@@ -19,7 +19,7 @@ use Rattle.race_model.specs.IndexFault.{IsRow, IsStep, AreRows}
 use Rattle.race_model.specs.LogFault.{Breaks, ListsSpans}
 use Rattle.race_model.specs.FirstBad.{row_of, rows_of}
 use Rattle.race_model.specs.KeepsRules.{KnowsTeam, TaskKeepsRules, KeepsRules}
-use Rattle.race_model.specs.ForkJoin.{EndsOnce, IsTask, IsForked, IsForkJoin}
+use Rattle.race_model.specs.ForkJoin.{EndsOnce, IsTask, WasForked, IsForkJoin}
 use Rattle.race_model.proofs.Counts.{count_finds, Counted}
 use Rattle.race_model.proofs.LabelPlace.{has_last, HasLast}
 use Rattle.race_model.proofs.Listed.{above_listed, beside_listed, root_listed}
@@ -57,14 +57,14 @@ not_not_same m n h = at (same_or_not m n) where
   at (inr ne) = absurd (h ne)
 
 -- the last element of a list
-last_at : {X : Type 0} (front : List X) (last : X) → slice_get (front ++ last ∷ []) (length front) ≡ Some last
+last_at : {X : Type 0} (prefix : List X) (last : X) → slice_get (prefix ++ last ∷ []) (length prefix) ≡ Some last
 last_at [] last = refl
-last_at (x ∷ front) last = last_at front last
+last_at (x ∷ prefix) last = last_at prefix last
 
-front_at : {X : Type 0} (front : List X) (last : X) (k : ℕ) (x : X) → slice_get front k ≡ Some x → slice_get (front ++ last ∷ []) k ≡ Some x
-front_at [] last k x found = cc
-front_at (y ∷ front) last zero x found = found
-front_at (y ∷ front) last (suc k) x found = front_at front last k x found
+prefix_at : {X : Type 0} (prefix : List X) (last : X) (k : ℕ) (x : X) → slice_get prefix k ≡ Some x → slice_get (prefix ++ last ∷ []) k ≡ Some x
+prefix_at [] last k x found = cc
+prefix_at (y ∷ prefix) last zero x found = found
+prefix_at (y ∷ prefix) last (suc k) x found = prefix_at prefix last k x found
 
 abbrev NotEnd : Record → Type 0
 NotEnd r = r.kind ≡ End → ⊥
@@ -76,18 +76,18 @@ ends_once : (records : List Record) → 1 ≤ length records
     → EndsOnce records
 ends_once records some early missing = at (has_last records)
   where
-    build : (front : List Record) (last : Record) → records ≡ front ++ last ∷ [] → EndsOnce records
-    build front last parts =
-        let long : length records ≡ length front + 1 = ap length parts ∙ (let n : length (front ++ last ∷ []) ≡ length front + 1 = grind (arith, length_more) in n) in
-        let here : slice_get records (length front) ≡ Some last = subst (λ (rs : List Record). slice_get rs (length front) ≡ Some last) (sym parts) (last_at front last) in
+    build : (prefix : List Record) (last : Record) → records ≡ prefix ++ last ∷ [] → EndsOnce records
+    build prefix last parts =
+        let long : length records ≡ length prefix + 1 = ap length parts ∙ (let n : length (prefix ++ last ∷ []) ≡ length prefix + 1 = grind (arith, length_more) in n) in
+        let here : slice_get records (length prefix) ≡ Some last = subst (λ (rs : List Record). slice_get rs (length prefix) ≡ Some last) (sym parts) (last_at prefix last) in
         record {
-          front = front;
+          prefix = prefix;
           last = last;
           parts = parts;
-          ends = decide (is_end last.kind) (λ ne. missing (length front) last here ne (sym long));
-          once = All-from_get_or NotEnd front last
-              (λ k within e. early k (get_or front k last)
-              (subst (λ (rs : List Record). slice_get rs k ≡ Some (get_or front k last)) (sym parts) (front_at front last k (get_or front k last) (slice_get-get_or front k last within)))
+          ends = decide (is_end last.kind) (λ ne. missing (length prefix) last here ne (sym long));
+          once = All-from_get_or NotEnd prefix last
+              (λ k within e. early k (get_or prefix k last)
+              (subst (λ (rs : List Record). slice_get rs k ≡ Some (get_or prefix k last)) (sym parts) (prefix_at prefix last k (get_or prefix k last) (slice_get-get_or prefix k last within)))
               e (omega arith));
         }
       where
@@ -101,7 +101,7 @@ ends_once records some early missing = at (has_last records)
 
     at : (records ≡ []) ⊎ HasLast records → EndsOnce records
     at (inl e) = let none : length records ≡ 0 = ap length e in absurd (omega arith)
-    at (inr l) = build l.front l.last l.parts
+    at (inr l) = build l.prefix l.last l.parts
 
 -- what is known of a task that is found: no record breaks a rule
 record Known (trace : Trace) (path : List Step) (records : List Record) : Type 0 where
@@ -111,7 +111,7 @@ record Known (trace : Trace) (path : List Step) (records : List Record) : Type 0
   row_is : IsRow (record { path = path; records = length records })
   team : Option ℕ
   knows_team : KnowsTeam trace path team
-  keeps : (k : ℕ) (r : Record) → slice_get records k ≡ Some r → (rule : RecordWhy) → Breaks (record { path = path; records = length records; spans = spans; team = team }) (take k records) r rule → ⊥
+  keeps : (k : ℕ) (r : Record) → slice_get records k ≡ Some r → (rule : RecordWhy) → Breaks (record { path = path; records = length records; spans = spans; due_barriers = team }) (take k records) r rule → ⊥
 
 pub path_at : (trace : Trace) (index : ℕ) (task : TaskLog) → slice_get trace index ≡ Some task → Contains (map (λ (row : Row). row.path) (rows_of trace)) task.path
 path_at [] index task found = cc
@@ -149,7 +149,7 @@ module _ (trace : Trace) (good : KeepsRules trace) where
         lists = keeps.has_spans;
         listed = path_at trace index task found;
         row_is = row_all trace index task good.rows.each found;
-        team = keeps.team;
+        team = keeps.due_barriers;
         knows_team = keeps.knows_team;
         keeps = keeps.keeps;
       }
@@ -184,11 +184,11 @@ module _ (trace : Trace) (good : KeepsRules trace) where
   ending path begun =
       let e = ended path begun in
       record {
-        place = length e.front;
+        place = length e.prefix;
         last = e.last;
-        found = subst (λ (rs : List Record). slice_get rs (length e.front) ≡ Some e.last) (sym e.parts) (last_at e.front e.last);
+        found = subst (λ (rs : List Record). slice_get rs (length e.prefix) ≡ Some e.last) (sym e.parts) (last_at e.prefix e.last);
         is_last = e.ends;
-        parts = e.parts ∙ ap (λ (rs : List Record). rs ++ e.last ∷ []) (sym (take_at e.front (e.last ∷ []) (length e.front) refl) ∙ ap (λ (rs : List Record). take (length e.front) rs) (sym e.parts));
+        parts = e.parts ∙ ap (λ (rs : List Record). rs ++ e.last ∷ []) (sym (take_at e.prefix (e.last ∷ []) (length e.prefix) refl) ∙ ap (λ (rs : List Record). take (length e.prefix) rs) (sym e.parts));
       }
 
   -- a region of a task has the span that is listed
@@ -210,7 +210,7 @@ module _ (trace : Trace) (good : KeepsRules trace) where
       at None e = absurd (never (λ also. none-some r.value (sym e ∙ also)))
       at (Some span) e = e ∙ ap (λ (n : ℕ). Some n) (sym (span_listed path k place r found is span e))
 
-  forked : (path : List Step) (step : Step) → IsTask (logs_of trace) (path ++ step ∷ []) → IsForked (logs_of trace) path step
+  forked : (path : List Step) (step : Step) → IsTask (logs_of trace) (path ++ step ∷ []) → WasForked (logs_of trace) path step
   forked path step begun = go (known path above) (ending path above)
     where
       below : Known trace (path ++ step ∷ []) (logs_of trace (path ++ step ∷ []))
@@ -225,7 +225,7 @@ module _ (trace : Trace) (good : KeepsRules trace) where
       spans_are : (k : Known trace path (logs_of trace path)) → slice_get k.spans step.region ≡ Some step.span
       spans_are k = (k.lists step.region step.span).0 (region_of (rows_of trace) path step below.listed)
 
-      build : Known trace path (logs_of trace path) → Counted (λ (r : Record). is_region_kind r.kind) (logs_of trace path) step.region → IsForked (logs_of trace) path step
+      build : Known trace path (logs_of trace path) → Counted (λ (r : Record). is_region_kind r.kind) (logs_of trace path) step.region → WasForked (logs_of trace) path step
       build k c =
           let is_region : c.item.kind ≡ Region = is_region_from c.item.kind c.counts in
           let value : c.item.value ≡ step.span =
@@ -243,7 +243,7 @@ module _ (trace : Trace) (good : KeepsRules trace) where
             };
           }
 
-      go : Known trace path (logs_of trace path) → Ending path → IsForked (logs_of trace) path step
+      go : Known trace path (logs_of trace path) → Ending path → WasForked (logs_of trace) path step
       go k e =
           let within : step.region < length k.spans = slice_get_within k.spans step.region step.span (spans_are k) in
           let all : region_count (take e.place (logs_of trace path)) < length k.spans → ⊥ =

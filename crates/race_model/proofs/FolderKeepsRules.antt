@@ -10,7 +10,7 @@ use Rattle.race_model.specs.Row.{Row}
 use Rattle.race_model.specs.Listing.{lane_of}
 use Rattle.race_model.specs.Trace.{TaskLog, Trace, logs_of, barrier_count}
 use Rattle.race_model.specs.IndexFault.{IsStep}
-use Rattle.race_model.specs.LogFault.{IsWholeLog, HasTeam}
+use Rattle.race_model.specs.LogFault.{IsWholeLog, HasTeamBarriers}
 use Rattle.race_model.specs.FirstBad.{HoldsTrace, rows_of}
 use Rattle.race_model.specs.WellFormed.{IsWellFormed}
 use Rattle.race_model.specs.KeepsRules.{KnowsTeam, TaskKeepsRules, KeepsRules}
@@ -25,7 +25,7 @@ use Rattle.race_model.proofs.FolderForkJoin.{path_at, row_all, has_begun}
 record Team (files : Files) (dir : List ℕ) (trace : Trace) (path : List Step) : Type 0 where
   team : Option ℕ
   knows : KnowsTeam trace path team
-  has : (barriers : ℕ) → team ≡ Some barriers → HasTeam files dir path barriers
+  has : (barriers : ℕ) → team ≡ Some barriers → HasTeamBarriers files dir path barriers
 
 module _ (files : Files) (dir : List ℕ) (trace : Trace) (holds : HoldsTrace files dir trace) (good : IsWellFormed files dir) where
   no_team : (path : List Step) → ((above : List Step) (step : Step) → path ≡ above ++ step ∷ [] → 0 < step.lane → ⊥) → Team files dir trace path
@@ -59,7 +59,7 @@ module _ (files : Files) (dir : List ℕ) (trace : Trace) (holds : HoldsTrace fi
 
   team_of : (path : List Step) → All IsStep path → Contains (map (λ (row : Row). row.path) (rows_of trace)) path → (path ≡ []) ⊎ HasLast path → Team files dir trace path
   team_of path steps listed (inl e) = no_team path (λ above step same from. not_both_empty path above step e same)
-  team_of path steps listed (inr l) = lane_team path l.front l.last l.parts steps listed l.last.lane refl
+  team_of path steps listed (inr l) = lane_team path l.prefix l.last l.parts steps listed l.last.lane refl
 
   task_keeps : (index : ℕ) (task : TaskLog) → slice_get trace index ≡ Some task → TaskKeepsRules trace task
   task_keeps index task found =
@@ -72,7 +72,7 @@ module _ (files : Files) (dir : List ℕ) (trace : Trace) (holds : HoldsTrace fi
         tabled = log.tabled;
         spans = has.spans;
         has_spans = lists_spans (rows_of trace) task.path has.spans has.are;
-        team = team.team;
+        due_barriers = team.team;
         knows_team = team.knows;
         keeps = kept files dir trace holds good index task found has.spans has.are team.team team.has;
       }

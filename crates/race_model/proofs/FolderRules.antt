@@ -18,8 +18,8 @@ use Rattle.race_model.specs.declared.why.RecordWhy.TheVariants as log
 use Rattle.race_model.specs.Row.{Row}
 use Rattle.race_model.specs.Listing.{lane_of}
 use Rattle.race_model.specs.Trace.{TaskLog, Trace}
-use Rattle.race_model.specs.Place.{bad_record}
-use Rattle.race_model.specs.LogFault.{LogTask, Breaks, IsBroken, IsLogFault, IsWholeLog, HasTeam, ListsSpans, ListsRegion, IsRecord}
+use Rattle.race_model.specs.BadPlace.{bad_record}
+use Rattle.race_model.specs.LogFault.{LogTask, Breaks, IsBroken, IsLogFault, IsWholeLog, HasTeamBarriers, ListsSpans, ListsRegion, IsRecord}
 use Rattle.race_model.specs.FirstBad.{HoldsTrace, row_of, rows_of}
 use Rattle.race_model.specs.WellFormed.{IsWellFormed}
 use Rattle.race_model.proofs.Listed.{AreSpans}
@@ -100,11 +100,11 @@ region_of rows path step listed = at (row_listed rows (path ++ step ∷ []) list
 
 -- what the rules of a task's log stand on
 abbrev pub log_task : TaskLog → List ℕ → Option ℕ → LogTask
-log_task task spans team = record { path = task.path; records = length task.records; spans = spans; team = team }
+log_task task spans team = record { path = task.path; records = length task.records; spans = spans; due_barriers = team }
 
 pub kept : (files : Files) (dir : List ℕ) (trace : Trace) → HoldsTrace files dir trace → IsWellFormed files dir → (index : ℕ) (task : TaskLog) → slice_get trace index ≡ Some task
     → (spans : List ℕ) → AreSpans (map (λ (row : Row). row.path) (rows_of trace)) task.path spans
-    → (team : Option ℕ) → ((barriers : ℕ) → team ≡ Some barriers → HasTeam files dir task.path barriers)
+    → (team : Option ℕ) → ((barriers : ℕ) → team ≡ Some barriers → HasTeamBarriers files dir task.path barriers)
     → (k : ℕ) (r : Record) → slice_get task.records k ≡ Some r → (rule : RecordWhy) → Breaks (log_task task spans team) (take k task.records) r rule → ⊥
 kept files dir trace holds good index task listed spans are team has_team k r found rule breaks =
     let whole : IsWholeLog files dir task.path task.records = all_at (λ (t : TaskLog). IsWholeLog files dir t.path t.records) trace index task holds.logs listed in
@@ -119,7 +119,7 @@ kept files dir trace holds good index task listed spans are team has_team k r fo
         there = whole.there;
         spans = spans;
         has_spans = lists_spans (rows_of trace) task.path spans are;
-        team = team;
+        due_barriers = team;
         has_team = has_team;
         fault = broken_fault (log_bytes LOG_HEADER task.records) (log_task task spans team) (k + 1) rule
             (record { before = take k task.records; r = r; at = record_there task.records k r whole.tabled found; breaks = breaks });

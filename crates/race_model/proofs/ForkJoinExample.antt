@@ -11,7 +11,7 @@ use Rattle.log_format.specs.declared.record.Kind.{Kind}
 use Rattle.log_format.specs.declared.record.Kind.TheVariants.{Read, Write, Barrier, Region, End}
 use Rattle.race_model.specs.Trace.{Trace, Logs, Node, logs_of, step_eq, path_eq, barrier_count}
 use Rattle.race_model.specs.Order.{IsLane, lane_path}
-use Rattle.race_model.specs.ForkJoin.{IsForkJoin, IsTask, EndsOnce, IsForked}
+use Rattle.race_model.specs.ForkJoin.{IsForkJoin, IsTask, EndsOnce, WasForked}
 use Rattle.race_model.proofs.LabelPlace.{not_both_empty, same_node}
 
 -- what holds of each task of a trace holds of each path with a record
@@ -29,11 +29,11 @@ same_number m n e = grind arith
 
 step_is : (a b : Step) → step_eq a b ≡ true → a ≡ b
 step_is a b e =
-    let front = both_true ((a.region == b.region) && (a.lane == b.lane)) (a.span == b.span) e in
-    let two = both_true (a.region == b.region) (a.lane == b.lane) front.0 in
+    let prefix = both_true ((a.region == b.region) && (a.lane == b.lane)) (a.span == b.span) e in
+    let two = both_true (a.region == b.region) (a.lane == b.lane) prefix.0 in
     let region = same_number a.region b.region two.0 in
     let lane = same_number a.lane b.lane two.1 in
-    let span = same_number a.span b.span front.1 in
+    let span = same_number a.span b.span prefix.1 in
     λ i. record { region = region i; lane = lane i; span = span i }
 
 pub path_is : (p q : List Step) → path_eq p q ≡ true → p ≡ q
@@ -91,16 +91,16 @@ barrier_last r not_end = All-cons NotEnd r (made Barrier 0 ∷ []) not_end (All-
 
 root_ends : EndsOnce (made Region 2 ∷ made End 0 ∷ [])
 unfolding NotEnd
-root_ends = record { front = made Region 2 ∷ []; last = made End 0; parts = refl; ends = refl; once = region_only }
+root_ends = record { prefix = made Region 2 ∷ []; last = made End 0; parts = refl; ends = refl; once = region_only }
 
 writer_ends : EndsOnce (lane_log 0)
 unfolding NotEnd
-writer_ends = record { front = access Write 8 5 100 ∷ made Barrier 0 ∷ []; last = made End 0; parts = refl; ends = refl; once = barrier_last (access Write 8 5 100) (λ e. cc) }
+writer_ends = record { prefix = access Write 8 5 100 ∷ made Barrier 0 ∷ []; last = made End 0; parts = refl; ends = refl; once = barrier_last (access Write 8 5 100) (λ e. cc) }
 
 reader_ends : EndsOnce (lane_log 1)
 unfolding NotEnd
 reader_ends = record {
-  front = access Read 1 6 107 ∷ made Barrier 0 ∷ access Read 1 7 100 ∷ [];
+  prefix = access Read 1 6 107 ∷ made Barrier 0 ∷ access Read 1 7 100 ∷ [];
   last = made End 0;
   parts = refl;
   ends = refl;
@@ -113,13 +113,13 @@ pub is_lane : (n : ℕ) → n < 2 → IsLane logs root_forks n 2 (lane_of n)
 is_lane n h = record { event = made Region 2; found = refl; region = refl; spans = refl; in_span = h; child = refl }
 
 Forked : List Step → List Record → Type 0
-Forked p records = (path : List Step) (step : Step) → p ≡ path ++ step ∷ [] → IsForked logs path step
+Forked p records = (path : List Step) (step : Step) → p ≡ path ++ step ∷ [] → WasForked logs path step
 
 lane_forked : (n : ℕ) → n < 2 → Forked (lane_of n) (lane_log n)
 unfolding Forked
 lane_forked n h path step e =
     let parts = same_from_push [] path (record { region = 0; lane = n; span = 2 }) step e in
-    subst₂ (λ (p : List Step) (s : Step). IsForked logs p s) parts.0 parts.1 (record { fork = root_forks; above = refl; lane = is_lane n h })
+    subst₂ (λ (p : List Step) (s : Step). WasForked logs p s) parts.0 parts.1 (record { fork = root_forks; above = refl; lane = is_lane n h })
 
 root_forked : Forked [] (made Region 2 ∷ made End 0 ∷ [])
 unfolding Forked

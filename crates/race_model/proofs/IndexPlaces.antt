@@ -15,10 +15,10 @@ use Rattle.sw_base.specs.Environment.{Files}
 use Rattle.sw_base.specs.Names.{index_name}
 use Rattle.race_model.specs.declared.why.IndexWhy.{IndexWhy}
 use Rattle.race_model.specs.declared.why.IndexWhy.TheVariants.{Header, TooMany, Cut, Depth, Span, Lane, Order, Records}
-use Rattle.race_model.specs.Place.{Place, no_index, bad_row, missing_log, bad_record, too_many_segments, index_rank, IsEarlier}
-use Rattle.race_model.specs.Row.{Row, RawRow, StepFits, Fits, row_spelling, used, unused, no_step, raw_of, index_bytes}
+use Rattle.race_model.specs.BadPlace.{BadPlace, no_index, bad_row, missing_log, bad_record, too_many_segments, index_rank, IsEarlier}
+use Rattle.race_model.specs.Row.{Row, RawRow, StepFits, RowFits, row_spelling, used, unused, no_step, raw_of, index_bytes}
 use Rattle.race_model.specs.Listing.{IsListing, BeginsListing}
-use Rattle.race_model.specs.IndexFault.{HasSpan, HasLane, HasDepth, Passes, FailsTest, Fails, FailsFirst, IsAtRow, HasFault, IsBadRow, HoldsBadRow, IsBadIndexPlace, IsFirstBadIndexPlace, IsStep, IsRow, AreFirstRows, AreRows, IsIndex}
+use Rattle.race_model.specs.IndexFault.{HasRegionSpan, HasLaneInSpan, HasDepth, RowPasses, FailsTest, Fails, FailsIndexFirst, IsAtRow, HasRowFault, IsBadRow, HoldsBadRow, IsBadIndexPlace, IsFirstBadIndexPlace, IsStep, IsRow, AreFirstRows, AreRows, IsIndex}
 use Rattle.race_model.proofs.Listings.{begins_shorter, lists_begins, lists_some}
 use Rattle.race_model.proofs.RowSpelling.{length-row, SameRow, same_row, GoesOn, goes_on}
 
@@ -49,7 +49,7 @@ no_step_fits : StepFits no_step
 no_step_fits = record { region = omega arith; lane = omega arith; span = omega arith }
 
 -- a row of an index has fields below their widths
-pub raw_fits : (row : Row) → IsRow row → Fits (raw_of row)
+pub raw_fits : (row : Row) → IsRow row → RowFits (raw_of row)
 raw_fits row is = record {
   depth = omega (arith, is.depth);
   reserved = omega arith;
@@ -58,8 +58,8 @@ raw_fits row is = record {
   records = omega (arith, is.records.limit);
 }
 
-pub raws_fit : (rows : List Row) → All IsRow rows → All Fits (map raw_of rows)
-raws_fit rows each = All-map Fits raw_of rows (All-weaker IsRow (λ row. Fits (raw_of row)) raw_fits rows each)
+pub raws_fit : (rows : List Row) → All IsRow rows → All RowFits (map raw_of rows)
+raws_fit rows each = All-map RowFits raw_of rows (All-weaker IsRow (λ row. RowFits (raw_of row)) raw_fits rows each)
 
 has_depth : (row : Row) → IsRow row → HasDepth (raw_of row)
 has_depth row is = record {
@@ -69,15 +69,15 @@ has_depth row is = record {
 }
 
 -- a row of an index passes each test
-pub row_passes : (before : List Row) (row : Row) → IsRow row → BeginsListing (map path_of (before ++ row ∷ [])) → (why : IndexWhy) → Passes (map raw_of before) (raw_of row) why
+pub row_passes : (before : List Row) (row : Row) → IsRow row → BeginsListing (map path_of (before ++ row ∷ [])) → (why : IndexWhy) → RowPasses (map raw_of before) (raw_of row) why
 row_passes before row is begins Header = tt
 row_passes before row is begins TooMany = tt
 row_passes before row is begins Cut = tt
 row_passes before row is begins Depth = has_depth row is
 row_passes before row is begins Span =
-    subst (λ (steps : List Step). All HasSpan steps) (sym (used-raw_of row)) (All-weaker IsStep HasSpan (λ step good. good.span) row.path is.steps)
+    subst (λ (steps : List Step). All HasRegionSpan steps) (sym (used-raw_of row)) (All-weaker IsStep HasRegionSpan (λ step good. good.span) row.path is.steps)
 row_passes before row is begins Lane =
-    subst (λ (steps : List Step). All HasLane steps) (sym (used-raw_of row)) (All-weaker IsStep HasLane (λ step good. good.lane) row.path is.steps)
+    subst (λ (steps : List Step). All HasLaneInSpan steps) (sym (used-raw_of row)) (All-weaker IsStep HasLaneInSpan (λ step good. good.lane) row.path is.steps)
 row_passes before row is begins Order =
     subst (λ (paths : List (List Step)). BeginsListing paths) (sym (used-raws_of (before ++ row ∷ [])) ∙ ap (λ (raws : List RawRow). map used raws) (raws-append before row)) begins where
       raws-append : (before : List Row) (row : Row) → map raw_of (before ++ row ∷ []) ≡ map raw_of before ++ raw_of row ∷ []
@@ -90,7 +90,7 @@ module _ (before : List Row) (row : Row) (x : List ℕ) (is : IsRow row) (begins
   test_passed : (why : IndexWhy) → FailsTest (map raw_of before) (row_spelling (raw_of row) ++ x) why → ⊥
   test_passed why test =
       let same : SameRow (raw_of row) test.row x test.more = same_row (raw_of row) test.row x test.more (raw_fits row is) test.fits test.spelled in
-      test.fails (subst (λ (raw : RawRow). Passes (map raw_of before) raw why) same.row (row_passes before row is begins why))
+      test.fails (subst (λ (raw : RawRow). RowPasses (map raw_of before) raw why) same.row (row_passes before row is begins why))
 
   bytes_there : length (row_spelling (raw_of row) ++ x) ≡ 48 + length x
   bytes_there = omega (arith, length-append (row_spelling (raw_of row)) x, length-row (raw_of row) (raw_fits row is).four)
@@ -112,43 +112,43 @@ same_parts same = (cc, cc)
 
 -- where rows of the file begin some rows of an index, the next row is one of these
 record IsSplit (rows : List Row) (before : List RawRow) (next : RawRow) : Type 0 where
-  front : List Row
+  prefix : List Row
   row : Row
   back : List Row
-  parts : rows ≡ front ++ row ∷ back
-  front_is : before ≡ map raw_of front
+  parts : rows ≡ prefix ++ row ∷ back
+  prefix_is : before ≡ map raw_of prefix
   row_is : next ≡ raw_of row
 
 split : (rows : List Row) (before : List RawRow) (next : RawRow) (more : List RawRow) → map raw_of rows ≡ before ++ next ∷ more → IsSplit rows before next
 split [] [] next more same = absurd (omega (arith, ap length same))
 split [] (raw ∷ before) next more same = absurd (omega (arith, ap length same))
-split (row ∷ rows) [] next more same = record { front = []; row = row; back = rows; parts = refl; front_is = refl; row_is = sym (same_parts same).0 }
+split (row ∷ rows) [] next more same = record { prefix = []; row = row; back = rows; parts = refl; prefix_is = refl; row_is = sym (same_parts same).0 }
 split (row ∷ rows) (raw ∷ before) next more same =
     let both : (raw_of row ≡ raw) × (map raw_of rows ≡ before ++ next ∷ more) = same_parts same in
     let it : IsSplit rows before next = split rows before next more both.1 in
     record {
-      front = row ∷ it.front;
+      prefix = row ∷ it.prefix;
       row = it.row;
       back = it.back;
       parts = ap (λ (rs : List Row). row ∷ rs) it.parts;
-      front_is = ap (λ (r : RawRow). r ∷ before) (sym both.0) ∙ ap (λ (rs : List RawRow). raw_of row ∷ rs) it.front_is;
+      prefix_is = ap (λ (r : RawRow). r ∷ before) (sym both.0) ∙ ap (λ (rs : List RawRow). raw_of row ∷ rs) it.prefix_is;
       row_is = it.row_is;
     }
 
 -- a row in the middle of the first rows of an index
-record IsMiddle (front : List Row) (row : Row) : Type 0 where
+record IsMiddle (prefix : List Row) (row : Row) : Type 0 where
   is_row : IsRow row
-  begins : BeginsListing (map path_of (front ++ row ∷ []))
-  room : length front < 65536
+  begins : BeginsListing (map path_of (prefix ++ row ∷ []))
+  room : length prefix < 65536
 
-middle : (front : List Row) (row : Row) (back : List Row) → AreFirstRows (front ++ row ∷ back) → IsMiddle front row
-middle front row back good =
-    let count : length (front ++ row ∷ back) ≡ length front + (1 + length back) = omega (arith, length-append front (row ∷ back)) in
-    let paths : map path_of (front ++ row ∷ back) ≡ map path_of (front ++ row ∷ []) ++ map path_of back =
-    ap (λ (rs : List Row). map path_of rs) (sym (append_assoc front (row ∷ []) back)) ∙ map-append path_of (front ++ row ∷ []) back in
+middle : (prefix : List Row) (row : Row) (back : List Row) → AreFirstRows (prefix ++ row ∷ back) → IsMiddle prefix row
+middle prefix row back good =
+    let count : length (prefix ++ row ∷ back) ≡ length prefix + (1 + length back) = omega (arith, length-append prefix (row ∷ back)) in
+    let paths : map path_of (prefix ++ row ∷ back) ≡ map path_of (prefix ++ row ∷ []) ++ map path_of back =
+    ap (λ (rs : List Row). map path_of rs) (sym (append_assoc prefix (row ∷ []) back)) ∙ map-append path_of (prefix ++ row ∷ []) back in
     record {
-      is_row = subst (λ (r : Row). IsRow r) (get_or-append_seam front row back row) (good.each (length front) row (omega arith));
-      begins = begins_shorter (map path_of (front ++ row ∷ [])) (map path_of back) (subst (λ (ps : List (List Step)). BeginsListing ps) paths good.begins);
+      is_row = subst (λ (r : Row). IsRow r) (get_or-append_seam prefix row back row) (good.each (length prefix) row (omega arith));
+      begins = begins_shorter (map path_of (prefix ++ row ∷ [])) (map path_of back) (subst (λ (ps : List (List Step)). BeginsListing ps) paths good.begins);
       room = omega (arith, good.limit);
     }
 
@@ -164,7 +164,7 @@ module _ (bytes : List ℕ) (rows : List Row) (rest : List ℕ) (good : AreFirst
   has_header = ap (λ (bs : List ℕ). take 8 bs) (parts ∙ append_assoc INDEX_HEADER (flat_map row_spelling (map raw_of rows)) rest) ∙ take-append_seam INDEX_HEADER (flat_map row_spelling (map raw_of rows) ++ rest)
 
   -- none of them is bad
-  earlier_good : (n : ℕ) (why : IndexWhy) → n ≤ length rows → HasFault bytes n why → ⊥
+  earlier_good : (n : ℕ) (why : IndexWhy) → n ≤ length rows → HasRowFault bytes n why → ⊥
   earlier_good n why within fault = by_more on.more on.rows on.rest where
     on : GoesOn fault.before (map raw_of rows) fault.rest rest
     on = goes_on fault.before (map raw_of rows) fault.rest rest fault.at_row.fit (raws_fit rows good.each) (omega (arith, fault.at_row.number, length-map rows raw_of)) (after_header fault.before fault.rest fault.at_row.parts)
@@ -173,14 +173,14 @@ module _ (bytes : List ℕ) (rows : List Row) (rest : List ℕ) (good : AreFirst
     by_more [] same left = absurd (omega (arith, fault.at_row.number, ap length same, length-map rows raw_of, length-append fault.before (let none : List RawRow = [] in none)))
     by_more (next ∷ more) same left =
         let at : IsSplit rows fault.before next = split rows fault.before next more same in
-        let here : IsMiddle at.front at.row = middle at.front at.row at.back (subst (λ (rs : List Row). AreFirstRows rs) at.parts good) in
+        let here : IsMiddle at.prefix at.row = middle at.prefix at.row at.back (subst (λ (rs : List Row). AreFirstRows rs) at.parts good) in
         let left_is : fault.rest ≡ row_spelling (raw_of at.row) ++ (flat_map row_spelling more ++ rest) =
         left ∙ append_assoc (row_spelling next) (flat_map row_spelling more) rest ∙ ap (λ (r : RawRow). row_spelling r ++ (flat_map row_spelling more ++ rest)) at.row_is in
-        no_fault at.front at.row (flat_map row_spelling more ++ rest) here.is_row here.begins here.room why
-        (subst (λ (bs : List ℕ). Fails (map raw_of at.front) bs why) left_is (subst (λ (raws : List RawRow). Fails raws fault.rest why) at.front_is fault.fails))
+        no_fault at.prefix at.row (flat_map row_spelling more ++ rest) here.is_row here.begins here.room why
+        (subst (λ (bs : List ℕ). Fails (map raw_of at.prefix) bs why) left_is (subst (λ (raws : List RawRow). Fails raws fault.rest why) at.prefix_is fault.fails))
 
   -- the next one has the faults of the bytes that are left
-  next_fault : (why : IndexWhy) → HasFault bytes (length rows + 1) why → Fails (map raw_of rows) rest why
+  next_fault : (why : IndexWhy) → HasRowFault bytes (length rows + 1) why → Fails (map raw_of rows) rest why
   next_fault why fault = by_more on.more on.rows on.rest where
     on : GoesOn fault.before (map raw_of rows) fault.rest rest
     on = goes_on fault.before (map raw_of rows) fault.rest rest fault.at_row.fit (raws_fit rows good.each) (omega (arith, fault.at_row.number, length-map rows raw_of)) (after_header fault.before fault.rest fault.at_row.parts)
@@ -192,15 +192,15 @@ module _ (bytes : List ℕ) (rows : List Row) (rest : List ℕ) (good : AreFirst
     by_more (next ∷ more) same left = absurd (omega (arith, fault.at_row.number, ap length same, length-map rows raw_of, length-append fault.before (next ∷ more)))
 
   -- and none further on is there where no byte is left
-  later_none : (n : ℕ) (why : IndexWhy) → length rows + 1 < n → rest ≡ [] → HasFault bytes n why → ⊥
+  later_none : (n : ℕ) (why : IndexWhy) → length rows + 1 < n → rest ≡ [] → HasRowFault bytes n why → ⊥
   later_none n why after none fault = by_more on.more on.rows on.fit on.rest where
     on : GoesOn (map raw_of rows) fault.before rest fault.rest
     on = goes_on (map raw_of rows) fault.before rest fault.rest (raws_fit rows good.each) fault.at_row.fit (omega (arith, fault.at_row.number, length-map rows raw_of)) (sym (after_header fault.before fault.rest fault.at_row.parts))
 
-    by_more : (more : List RawRow) → fault.before ≡ map raw_of rows ++ more → All Fits more → rest ≡ flat_map row_spelling more ++ fault.rest → ⊥
+    by_more : (more : List RawRow) → fault.before ≡ map raw_of rows ++ more → All RowFits more → rest ≡ flat_map row_spelling more ++ fault.rest → ⊥
     by_more [] same fit left = absurd (omega (arith, fault.at_row.number, ap length same, length-map rows raw_of, length-append (map raw_of rows) (let nothing : List RawRow = [] in nothing)))
     by_more (next ∷ more) same fit left =
-        absurd (omega (arith, ap length none, ap length left, length-append (row_spelling next ++ flat_map row_spelling more) fault.rest, length-append (row_spelling next) (flat_map row_spelling more), length-row next (All-head Fits next more fit).four))
+        absurd (omega (arith, ap length none, ap length left, length-append (row_spelling next ++ flat_map row_spelling more) fault.rest, length-append (row_spelling next) (flat_map row_spelling more), length-row next (All-head RowFits next more fit).four))
 
   no_bad_row : (n : ℕ) (why : IndexWhy) → n ≤ length rows → IsBadRow bytes n why → ⊥
   no_bad_row n Header within bad = bad.1 has_header
@@ -265,7 +265,7 @@ not_both held bytes there none = cc
 -- a folder without an index has its first bad place there
 pub no_index_first : (files : Files) (dir : List ℕ) → files (index_name dir) ≡ None → IsFirstBadIndexPlace files dir no_index
 no_index_first files dir none = record { bad = none; least = least } where
-  least : (q : Place) → IsEarlier q no_index → IsBadIndexPlace files dir q → ⊥
+  least : (q : BadPlace) → IsEarlier q no_index → IsBadIndexPlace files dir q → ⊥
   least no_index earlier bad = cc
   least (bad_row n why) earlier bad = cc
   least (missing_log row) earlier bad = bad
@@ -280,7 +280,7 @@ module _ (files : Files) (dir : List ℕ) (bytes : List ℕ) (held : files (inde
     by_order n why (inl less) = omega arith
     by_order n why (inr less) = omega (arith, less.1)
 
-    least : (q : Place) → IsEarlier q (bad_row 0 Header) → IsBadIndexPlace files dir q → ⊥
+    least : (q : BadPlace) → IsEarlier q (bad_row 0 Header) → IsBadIndexPlace files dir q → ⊥
     least no_index earlier bad = not_both (files (index_name dir)) bytes held bad
     least (bad_row n why) earlier bad = by_order n why (bad_rows_order n 0 why Header earlier)
     least (missing_log row) earlier bad = bad
@@ -292,14 +292,14 @@ module _ (files : Files) (dir : List ℕ) (bytes : List ℕ) (held : files (inde
     bad_row_here n why bad = subst (λ (bs : List ℕ). IsBadRow bs n why) (same_bytes (files (index_name dir)) bytes bad.bytes held bad.held) bad.bad
 
     -- and after good rows the first fault of the bytes that are left
-    pub row_first : (why : IndexWhy) → FailsFirst (map raw_of rows) rest why → IsFirstBadIndexPlace files dir (bad_row (length rows + 1) why)
+    pub row_first : (why : IndexWhy) → FailsIndexFirst (map raw_of rows) rest why → IsFirstBadIndexPlace files dir (bad_row (length rows + 1) why)
     row_first why first = record { bad = record { bytes = bytes; held = held; bad = bad_next_row bytes rows rest good parts why first.fails }; least = least } where
       by_order : (n : ℕ) (other : IndexWhy) → IsBadRow bytes n other → (n < length rows + 1) ⊎ ((n ≡ length rows + 1) × (index_rank other < index_rank why)) → ⊥
       by_order n other bad (inl less) = no_bad_row bytes rows rest good parts n other (omega arith) bad
       by_order n other bad (inr less) =
           first.least other less.1 (next_bad_row bytes rows rest good parts other (subst (λ (m : ℕ). IsBadRow bytes m other) less.0 bad))
 
-      least : (q : Place) → IsEarlier q (bad_row (length rows + 1) why) → IsBadIndexPlace files dir q → ⊥
+      least : (q : BadPlace) → IsEarlier q (bad_row (length rows + 1) why) → IsBadIndexPlace files dir q → ⊥
       least no_index earlier bad = not_both (files (index_name dir)) bytes held bad
       least (bad_row n other) earlier bad = by_order n other (bad_row_here n other bad) (bad_rows_order n (length rows + 1) other why earlier)
       least (missing_log row) earlier bad = bad
@@ -333,7 +333,7 @@ module _ (rows : List Row) (good : AreRows rows) where
   first_rows = record { begins = lists_begins (map path_of rows) good.lists; each = good.each; limit = good.limit }
 
 -- a well-formed index has no bad place
-pub index_good : (files : Files) (dir : List ℕ) (rows : List Row) (place : Place) → IsIndex files dir rows → IsBadIndexPlace files dir place → ⊥
+pub index_good : (files : Files) (dir : List ℕ) (rows : List Row) (place : BadPlace) → IsIndex files dir rows → IsBadIndexPlace files dir place → ⊥
 index_good files dir rows place is = by_place place where
   bytes : List ℕ
   bytes = index_bytes rows
@@ -359,7 +359,7 @@ index_good files dir rows place is = by_place place where
   by_number n why bad (inr (inl less)) = no_bad_row (index_bytes rows) rows [] good parts n why (omega arith) bad
   by_number n why bad (inr (inr more)) = later n why more bad
 
-  by_place : (q : Place) → IsBadIndexPlace files dir q → ⊥
+  by_place : (q : BadPlace) → IsBadIndexPlace files dir q → ⊥
   by_place no_index bad = not_both (files (index_name dir)) (index_bytes rows) is.held bad
   by_place (bad_row n why) bad =
       by_number n why (bad_row_here files dir (index_bytes rows) is.held rows [] good parts n why bad) (cases_order n (length rows + 1))
@@ -391,7 +391,7 @@ rule_of-rank Order = refl
 rule_of-rank Records = refl
 
 -- an index has at most one first bad place
-pub first_once : (files : Files) (dir : List ℕ) (p q : Place) → IsFirstBadIndexPlace files dir p → IsFirstBadIndexPlace files dir q → p ≡ q
+pub first_once : (files : Files) (dir : List ℕ) (p q : BadPlace) → IsFirstBadIndexPlace files dir p → IsFirstBadIndexPlace files dir q → p ≡ q
 first_once files dir no_index no_index one other = refl
 first_once files dir no_index (bad_row n w) one other = absurd (not_both (files (index_name dir)) other.bad.bytes other.bad.held one.bad)
 first_once files dir (bad_row m v) no_index one other = absurd (not_both (files (index_name dir)) one.bad.bytes one.bad.held other.bad)

@@ -11,7 +11,7 @@ use Rattle.sw_base.specs.declared.path.Step.{Step}
 use Rattle.sw_base.specs.declared.files.TheConstants.{INDEX_HEADER}
 use Rattle.sw_base.specs.Environment.{Files, with_file}
 use Rattle.sw_base.specs.Names.{index_name}
-use Rattle.race_model.specs.Row.{Row, RawRow, Fits, row_spelling, used, raw_of, index_bytes}
+use Rattle.race_model.specs.Row.{Row, RawRow, RowFits, row_spelling, used, raw_of, index_bytes}
 use Rattle.race_model.specs.IndexFault.{AreRows, IsIndex}
 use Rattle.race_model.proofs.RowSpelling.{GoesOn, goes_on, length-row}
 use Rattle.race_model.proofs.IndexPlaces.{used-raw_of, raws_fit}
@@ -35,12 +35,12 @@ raws-injective (r ∷ rows) (o ∷ others) same =
     let parts : (raw_of r ≡ raw_of o) × (map raw_of rows ≡ map raw_of others) = both_parts same in
     ap (λ (x : Row). x ∷ rows) (raw_of-injective r o parts.0) ∙ ap (λ (xs : List Row). o ∷ xs) (raws-injective rows others parts.1)
 
-no_more : (more : List RawRow) → All Fits more → [] ≡ flat_map row_spelling more ++ [] → more ≡ []
+no_more : (more : List RawRow) → All RowFits more → [] ≡ flat_map row_spelling more ++ [] → more ≡ []
 no_more [] fit none = refl
 no_more (raw ∷ more) fit none =
-    absurd (omega (arith, ap length none, length-append (row_spelling raw ++ flat_map row_spelling more) (let nothing : List ℕ = [] in nothing), length-append (row_spelling raw) (flat_map row_spelling more), length-row raw (All-head Fits raw more fit).four))
+    absurd (omega (arith, ap length none, length-append (row_spelling raw ++ flat_map row_spelling more) (let nothing : List ℕ = [] in nothing), length-append (row_spelling raw) (flat_map row_spelling more), length-row raw (All-head RowFits raw more fit).four))
 
-raws_from_bytes : (rs ss : List RawRow) → All Fits rs → All Fits ss → length rs ≤ length ss → flat_map row_spelling rs ≡ flat_map row_spelling ss → rs ≡ ss
+raws_from_bytes : (rs ss : List RawRow) → All RowFits rs → All RowFits ss → length rs ≤ length ss → flat_map row_spelling rs ≡ flat_map row_spelling ss → rs ≡ ss
 raws_from_bytes rs ss rs_fit ss_fit shorter same =
     let on : GoesOn rs ss [] [] = goes_on rs ss [] [] rs_fit ss_fit shorter (append-nil (flat_map row_spelling rs) ∙ same ∙ sym (append-nil (flat_map row_spelling ss))) in
     sym (on.rows ∙ ap (λ (more : List RawRow). rs ++ more) (no_more on.more on.fit on.rest) ∙ append-nil rs)

@@ -60,9 +60,9 @@ not_after i j a b up e = grind arith
 goes_on_before : (logs : Logs) (x y : Node) (l m : List Triple) → IsForkJoin logs → IsThere logs x → IsThere logs y → IsLabel logs x l → IsLabel logs y m → GoesOn l m → HappensBefore logs x y
 goes_on_before logs x y l m tree x_there y_there is_l is_m g =
     let last = label_last logs x l is_l in
-    let parts : m ≡ last.front ++ last.last ∷ (g.next ∷ g.rest) =
-    g.parts ∙ (ap (λ (k : List Triple). k ++ g.next ∷ g.rest) last.parts ∙ append_assoc last.front (last.last ∷ []) (g.next ∷ g.rest)) in
-    let a = ancestor logs y m is_m last.front last.last (g.next ∷ g.rest) parts in
+    let parts : m ≡ last.prefix ++ last.last ∷ (g.next ∷ g.rest) =
+    g.parts ∙ (ap (λ (k : List Triple). k ++ g.next ∷ g.rest) last.parts ∙ append_assoc last.prefix (last.last ∷ []) (g.next ∷ g.rest)) in
+    let a = ancestor logs y m is_m last.prefix last.last (g.next ∷ g.rest) parts in
     let place = same_place logs x a.above l _ is_l a.is_label last.parts in
     at a.above place.same_log place.same_regions a.place
   where
@@ -110,11 +110,11 @@ one_team_before logs x y a b tree x_there y_there a_x b_y team =
 
 parts_before : (logs : Logs) (x y : Node) (l m : List Triple) → IsForkJoin logs → IsThere logs x → IsThere logs y → IsLabel logs x l → IsLabel logs y m → PartsAfter l m → HappensBefore logs x y
 parts_before logs x y l m tree x_there y_there is_l is_m p =
-    let a = ancestor logs x l is_l p.front p.mine p.my_rest p.my_parts in
-    let b = ancestor logs y m is_m p.front p.yours p.your_rest p.your_parts in
+    let a = ancestor logs x l is_l p.prefix p.mine p.my_rest p.my_parts in
+    let b = ancestor logs y m is_m p.prefix p.yours p.your_rest p.your_parts in
     let a_x = place_under logs a.above x p.my_rest a.place in
     let b_y = place_under logs b.above y p.your_rest b.place in
-    at a.above b.above a_x b_y (parting logs a.above b.above _ _ p.front p.mine p.yours a.is_label b.is_label refl refl p.before)
+    at a.above b.above a_x b_y (parting logs a.above b.above _ _ p.prefix p.mine p.yours a.is_label b.is_label refl refl p.before)
   where
     at : (a b : Node) → Under logs a x → Under logs b y → InOneTask logs a b ⊎ InOneTeam logs a b → HappensBefore logs x y
     at a b a_x b_y (inl task) = one_task_before logs x y a b tree x_there y_there a_x b_y task
@@ -177,14 +177,14 @@ no_barriers logs x tree e =
     let none_there : barrier_count (logs x.path) ≡ 0 = ap (λ (path : List Step). barrier_count (logs path)) e ∙ tree.ends.no_root_barrier in
     omega arith
 
-last_barrier : (logs : Logs) (x : Node) (l front : List Triple) (t : Triple) → IsForkJoin logs → IsLabel logs x l → l ≡ front ++ t ∷ [] → barriers_before logs x ≡ t.barrier
-last_barrier logs x _ front t tree (IsLabel.root x1 e) same = no_barriers logs x tree e ∙ ap (λ (u : Triple). u.barrier) (same_from_push [] front _ t same).1
-last_barrier logs x _ front t tree (IsLabel.lane fork x1 n s above h up) same = ap (λ (u : Triple). u.barrier) (same_from_push above front (lane_triple logs x n s) t same).1
+last_barrier : (logs : Logs) (x : Node) (l prefix : List Triple) (t : Triple) → IsForkJoin logs → IsLabel logs x l → l ≡ prefix ++ t ∷ [] → barriers_before logs x ≡ t.barrier
+last_barrier logs x _ prefix t tree (IsLabel.root x1 e) same = no_barriers logs x tree e ∙ ap (λ (u : Triple). u.barrier) (same_from_push [] prefix _ t same).1
+last_barrier logs x _ prefix t tree (IsLabel.lane fork x1 n s above h up) same = ap (λ (u : Triple). u.barrier) (same_from_push above prefix (lane_triple logs x n s) t same).1
 
 pub same_label_barriers : (logs : Logs) (x y : Node) (l m : List Triple) → IsForkJoin logs → IsLabel logs x l → IsLabel logs y m → l ≡ m → barriers_before logs x ≡ barriers_before logs y
 same_label_barriers logs x y l m tree is_l is_m e =
     let last = label_last logs x l is_l in
-    last_barrier logs x l last.front last.last tree is_l last.parts ∙ sym (last_barrier logs y m last.front last.last tree is_m (sym e ∙ last.parts))
+    last_barrier logs x l last.prefix last.last tree is_l last.parts ∙ sym (last_barrier logs y m last.prefix last.last tree is_m (sym e ∙ last.parts))
 
 pub same_label_from_place : (logs : Logs) (x y : Node) (l m : List Triple) → IsLabel logs x l → IsLabel logs y m
     → x.path ≡ y.path → regions_before logs x ≡ regions_before logs y → barriers_before logs x ≡ barriers_before logs y → l ≡ m
@@ -193,14 +193,6 @@ same_label_from_place logs x y _ m (IsLabel.root x1 e) is_m same regions barrier
 same_label_from_place logs x y _ m (IsLabel.lane fork x1 n s above h up) is_m same regions barriers =
     let equal : above ++ lane_triple logs x n s ∷ [] ≡ above ++ lane_triple logs y n s ∷ [] = cc in
     equal ∙ label_unique logs y _ m (IsLabel.lane fork y n s above (subst (λ (path : List Step). IsLane logs fork n s path) same h) up) is_m
-
--- where labels are the same, happens-before is the order of the log
-pub same_label_index : (logs : Logs) (x y : Node) (l m : List Triple) → IsForkJoin logs → IsLabel logs x l → IsLabel logs y m → l ≡ m → HappensBefore logs x y → x.index ≤ y.index
-same_label_index logs x y l m tree is_l is_m e before = at (happens_before_labels logs x y before tree l m is_l is_m)
-  where
-    at : AtMost x.index y.index l m → x.index ≤ y.index
-    at (inl same) = same.1
-    at (inr less) = absurd (label_not_before_itself l m e less)
 
 -- happens-before is a partial order
 pub happens_before_antisym : (logs : Logs) (x y : Node) → IsForkJoin logs → IsThere logs x → IsThere logs y → HappensBefore logs x y → HappensBefore logs y x → x ≡ y

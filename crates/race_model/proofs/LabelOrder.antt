@@ -1,4 +1,4 @@
--- Precedence of labels is transitive, and is decided after a common front.
+-- Precedence of labels is transitive, and is decided after a common prefix.
 use Rattle.std.proofs.Common.{◌≡◌, ◌⊎◌, ◌<◌, ◌%◌, List, [], ◌∷◌, ◌++◌, refl, ap, arith, ◌∙◌, inl, inr}
 use Rattle.race_model.specs.Label.{Triple, IsTripleBefore, IsLabelBefore}
 
@@ -41,36 +41,36 @@ pub label_before_rest : (x y : Triple) (xs ys : List Triple) → x ≡ y → IsL
 label_before_rest _ _ _ _ e (IsLabelBefore.same x xs ys before) = before
 label_before_rest _ _ _ _ e (IsLabelBefore.differ x y xs ys apart before) = absurd (apart e)
 
--- below a common front
-pub label_before_below : (front xs ys : List Triple) → IsLabelBefore xs ys → IsLabelBefore (front ++ xs) (front ++ ys)
+-- below a common prefix
+pub label_before_below : (prefix xs ys : List Triple) → IsLabelBefore xs ys → IsLabelBefore (prefix ++ xs) (prefix ++ ys)
 label_before_below [] xs ys before = before
-label_before_below (t ∷ front) xs ys before = IsLabelBefore.same t (front ++ xs) (front ++ ys) (label_before_below front xs ys before)
+label_before_below (t ∷ prefix) xs ys before = IsLabelBefore.same t (prefix ++ xs) (prefix ++ ys) (label_before_below prefix xs ys before)
 
 -- what goes on from a label is after it
-pub label_before_longer : (front : List Triple) (t : Triple) (ts : List Triple) → IsLabelBefore front (front ++ t ∷ ts)
+pub label_before_longer : (prefix : List Triple) (t : Triple) (ts : List Triple) → IsLabelBefore prefix (prefix ++ t ∷ ts)
 label_before_longer [] t ts = IsLabelBefore.prefix t ts
-label_before_longer (u ∷ front) t ts = IsLabelBefore.same u front (front ++ t ∷ ts) (label_before_longer front t ts)
+label_before_longer (u ∷ prefix) t ts = IsLabelBefore.same u prefix (prefix ++ t ∷ ts) (label_before_longer prefix t ts)
 
--- how one label comes before another: it goes on, or parts after a common front
+-- how one label comes before another: it goes on, or parts after a common prefix
 pub record GoesOn (x y : List Triple) : Type 0 where
   pub next : Triple
   pub rest : List Triple
   pub parts : y ≡ x ++ next ∷ rest
 
 pub record PartsAfter (x y : List Triple) : Type 0 where
-  pub front : List Triple
+  pub prefix : List Triple
   pub mine : Triple
   pub yours : Triple
   pub my_rest : List Triple
   pub your_rest : List Triple
-  pub my_parts : x ≡ front ++ mine ∷ my_rest
-  pub your_parts : y ≡ front ++ yours ∷ your_rest
+  pub my_parts : x ≡ prefix ++ mine ∷ my_rest
+  pub your_parts : y ≡ prefix ++ yours ∷ your_rest
   pub before : IsTripleBefore mine yours
 
 below_first : (t : Triple) (xs ys : List Triple) → GoesOn xs ys ⊎ PartsAfter xs ys → GoesOn (t ∷ xs) (t ∷ ys) ⊎ PartsAfter (t ∷ xs) (t ∷ ys)
 below_first t xs ys (inl g) = inl (record { next = g.next; rest = g.rest; parts = ap (λ l. t ∷ l) g.parts })
 below_first t xs ys (inr p) = inr (record {
-  front = t ∷ p.front;
+  prefix = t ∷ p.prefix;
   mine = p.mine;
   yours = p.yours;
   my_rest = p.my_rest;
@@ -84,4 +84,4 @@ pub how_before : (x y : List Triple) → IsLabelBefore x y → GoesOn x y ⊎ Pa
 how_before _ _ (IsLabelBefore.prefix y ys) = inl (record { next = y; rest = ys; parts = refl })
 how_before _ _ (IsLabelBefore.same x xs ys before) = below_first x xs ys (how_before xs ys before)
 how_before _ _ (IsLabelBefore.differ x y xs ys apart before) =
-    inr (record { front = []; mine = x; yours = y; my_rest = xs; your_rest = ys; my_parts = refl; your_parts = refl; before = before })
+    inr (record { prefix = []; mine = x; yours = y; my_rest = xs; your_rest = ys; my_parts = refl; your_parts = refl; before = before })

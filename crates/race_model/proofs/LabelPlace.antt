@@ -12,13 +12,13 @@ use Rattle.race_model.proofs.Counts.{regions_after, there}
 
 -- a list is empty or has a last element
 pub record HasLast {X : Type 0} (xs : List X) : Type 0 where
-  pub front : List X
+  pub prefix : List X
   pub last : X
-  pub parts : xs ≡ front ++ last ∷ []
+  pub parts : xs ≡ prefix ++ last ∷ []
 
 last_after : {X : Type 0} (x : X) (xs : List X) → (xs ≡ []) ⊎ HasLast xs → HasLast (x ∷ xs)
-last_after x xs (inl e) = record { front = []; last = x; parts = ap (λ ys. x ∷ ys) e }
-last_after x xs (inr l) = record { front = x ∷ l.front; last = l.last; parts = ap (λ ys. x ∷ ys) l.parts }
+last_after x xs (inl e) = record { prefix = []; last = x; parts = ap (λ ys. x ∷ ys) e }
+last_after x xs (inr l) = record { prefix = x ∷ l.prefix; last = l.last; parts = ap (λ ys. x ∷ ys) l.parts }
 
 pub has_last : {X : Type 0} (xs : List X) → (xs ≡ []) ⊎ HasLast xs
 has_last [] = inl refl
@@ -95,12 +95,12 @@ labels logs tree (suc d) x h here = at (has_last x.path) (labels logs tree d)
     at (inl e) rec = record { label = _; is_label = IsLabel.root x e }
     at (inr l) rec =
         let begun : IsTask logs x.path = omega arith in
-        let forked = tree.tasks.forked l.front l.last (subst (λ (path : List Step). IsTask logs path) l.parts begun) in
+        let forked = tree.tasks.forked l.prefix l.last (subst (λ (path : List Step). IsTask logs path) l.parts begun) in
         let lane : IsLane logs forked.fork l.last.lane l.last.span x.path =
         subst (λ (path : List Step). IsLane logs forked.fork l.last.lane l.last.span path) (sym l.parts) forked.lane in
         let shorter : length forked.fork.path < d =
-        let more : length x.path ≡ length l.front + 1 = ap length l.parts ∙ length_push l.front l.last in
-        let same : length forked.fork.path ≡ length l.front = ap length forked.above in
+        let more : length x.path ≡ length l.prefix + 1 = ap length l.parts ∙ length_push l.prefix l.last in
+        let same : length forked.fork.path ≡ length l.prefix = ap length forked.above in
         omega arith in
         below forked.fork l.last.lane l.last.span lane
         (rec forked.fork shorter (there logs forked.fork Region (is_region logs forked.fork l.last.lane l.last.span x.path lane)))
@@ -134,15 +134,15 @@ pub record SamePlace (logs : Logs) (x y : Node) : Type 0 where
 
 -- a label isn't empty
 pub label_last : (logs : Logs) (x : Node) (l : List Triple) → IsLabel logs x l → HasLast l
-label_last logs x _ (IsLabel.root x1 e) = record { front = []; last = _; parts = refl }
-label_last logs x _ (IsLabel.lane fork x1 n s above h up) = record { front = above; last = _; parts = refl }
+label_last logs x _ (IsLabel.root x1 e) = record { prefix = []; last = _; parts = refl }
+label_last logs x _ (IsLabel.lane fork x1 n s above h up) = record { prefix = above; last = _; parts = refl }
 
 not_one : (logs : Logs) (fork : Node) (above : List Triple) (t u : Triple) → IsLabel logs fork above → t ∷ [] ≡ above ++ u ∷ [] → ⊥
 not_one logs fork above t u up e =
     let last = label_last logs fork above up in
     let lengths : 1 ≡ length (above ++ u ∷ []) = ap length e in
     let more = length_push above u in
-    let long : length above ≡ length last.front + 1 = ap length last.parts ∙ length_push last.front last.last in
+    let long : length above ≡ length last.prefix + 1 = ap length last.parts ∙ length_push last.prefix last.last in
     omega arith
 
 pub same_place : (logs : Logs) (x y : Node) (l m : List Triple) → IsLabel logs x l → IsLabel logs y m → l ≡ m → SamePlace logs x y

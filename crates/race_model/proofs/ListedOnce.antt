@@ -15,7 +15,7 @@ use Rattle.race_model.specs.Trace.{TaskLog, Trace, logs_of, path_eq}
 use Rattle.race_model.proofs.Listings.{IsChain, lists_begins, chain_of_begins, begins_at_root}
 use Rattle.race_model.proofs.TraceLogs.{path_is, path_itself}
 
--- the next path is a front of this one, and a step
+-- the next path is a prefix of this one, and a step
 pub record NextShape (path next : List Step) : Type 0 where
   pub depth : ℕ
   pub step : Step

@@ -1,4 +1,4 @@
--- A list of paths is a listing of a tree of tasks, or the front of one, exactly where each path is the next after the one before.
+-- A list of paths is a listing of a tree of tasks, or the prefix of one, exactly where each path is the next after the one before.
 use Rattle.std.proofs.Common.{◌≡◌, ◌⊎◌, inl, inr, ℕ, zero, suc, ◌+◌, ◌-◌, ◌<◌, ◌≤◌, List, [], ◌∷◌, ◌++◌, All, refl, sym, ap, subst, ◌∙◌, arith, append_assoc}
 use Rattle.std.proofs.lemmas.List.{append-nil}
 use Rattle.std.proofs.lemmas.List.Elements.{All-nil, All-cons, All-head, All-tail}
@@ -15,7 +15,7 @@ abbrev pub EndsIn : (List Step → Type 0) → List Step → List (List Step) �
 EndsIn P path [] = P path
 EndsIn P path (next ∷ paths) = IsNextPath path next × EndsIn P next paths
 
--- a common front doesn't matter to what is next
+-- a common prefix doesn't matter to what is next
 along : (path below : List Step) (step : Step) → IsNextPath below (step ∷ []) → IsNextPath (path ++ below) (path ++ step ∷ [])
 along [] below step next = next
 along (p ∷ []) below step next = (refl, next)
@@ -243,17 +243,17 @@ next_within (step ∷ below) (next ∷ more ∷ deeper) goes within =
     (subst (λ (s : Step). IsWithin s) goes.0 (All-head IsWithin step below within))
     (next_within below (more ∷ deeper) goes.1 (All-tail IsWithin step below within))
 
--- every chain is a front of what may be ahead of its first path
-record Front (path : List Step) (paths : List (List Step)) : Type 0 where
+-- every chain is a prefix of what may be ahead of its first path
+record Prefix (path : List Step) (paths : List (List Step)) : Type 0 where
   future : Future
   is_for : IsFor path future
   rest : List (List Step)
   lists : ahead [] path future ≡ paths ++ rest
 
-front : (path : List Step) (paths : List (List Step)) → All IsWithin path → IsChain path paths → Front path paths
-front path [] within chain = record { future = spare path; is_for = spare_for path within; rest = ahead [] path (spare path); lists = refl }
-front path (next ∷ paths) within (goes, more) =
-    let after : Front next paths = front next paths (next_within path next goes within) more in
+prefix : (path : List Step) (paths : List (List Step)) → All IsWithin path → IsChain path paths → Prefix path paths
+prefix path [] within chain = record { future = spare path; is_for = spare_for path within; rest = ahead [] path (spare path); lists = refl }
+prefix path (next ∷ paths) within (goes, more) =
+    let after : Prefix next paths = prefix next paths (next_within path next goes within) more in
     let was : Before [] path next after.future = before [] path next after.future goes after.is_for in
     record { future = was.was; is_for = was.was_for; rest = after.rest; lists = was.lists ∙ ap (λ (ps : List (List Step)). next ∷ ps) after.lists }
 
@@ -276,28 +276,28 @@ chain_of_listing paths is =
       ends n last (starts is_zero is_path) = subst (λ (p : List Step). All IsLastLane p) (sym is_path) (All-nil IsLastLane)
       ends n last (closed step below is_path here lasts number) = subst (λ (p : List Step). All IsLastLane p) (sym is_path) (All-cons IsLastLane step below here lasts)
 
--- the front of a listing is the root, and then a chain
+-- a prefix of a -- is the root, and then a chain
 pub begins_of_chain : (paths : List (List Step)) → IsChain [] paths → BeginsListing ([] ∷ paths)
-begins_of_chain paths chain = of_front (front [] paths (All-nil IsWithin) chain) where
+begins_of_chain paths chain = of_prefix (prefix [] paths (All-nil IsWithin) chain) where
   of_future : (future : Future) (rest : List (List Step)) → IsFor [] future → ahead [] [] future ≡ paths ++ rest → BeginsListing ([] ∷ paths)
   of_future (Below task) rest is_for lists = record { root = task; rest = rest; lists = ap (λ (ps : List (List Step)). [] ∷ ps) lists }
   of_future (Beside inside others after) rest is_for lists = absurd is_for
 
-  of_front : Front [] paths → BeginsListing ([] ∷ paths)
-  of_front all = of_future all.future all.rest all.is_for all.lists
+  of_prefix : Prefix [] paths → BeginsListing ([] ∷ paths)
+  of_prefix all = of_future all.future all.rest all.is_for all.lists
 
-chain_front : (path : List Step) (paths rest : List (List Step)) → EndsIn (λ _. Unit {0}) path (paths ++ rest) → IsChain path paths
-chain_front path [] rest chain = tt
-chain_front path (next ∷ paths) rest (goes, more) = (goes, chain_front next paths rest more)
+chain_prefix : (path : List Step) (paths rest : List (List Step)) → EndsIn (λ _. Unit {0}) path (paths ++ rest) → IsChain path paths
+chain_prefix path [] rest chain = tt
+chain_prefix path (next ∷ paths) rest (goes, more) = (goes, chain_prefix next paths rest more)
 
 pub chain_of_begins : (paths : List (List Step)) → BeginsListing ([] ∷ paths) → IsChain [] paths
 chain_of_begins paths is =
     let lists : under [] 0 is.root ++ [] ≡ paths ++ is.rest = append-nil (under [] 0 is.root) ∙ cc (is.lists) in
-    chain_front [] paths is.rest
+    chain_prefix [] paths is.rest
     (subst (λ (ps : List (List Step)). EndsIn (λ _. Unit {0}) [] ps) lists
     (under_chain (λ _. Unit {0}) is.root [] 0 [] [] (starts refl refl) (λ n last done. tt)))
 
--- the front of a listing begins with the root
+-- a prefix of a -- begins with the root
 pub begins_at_root : (path : List Step) (paths : List (List Step)) → BeginsListing (path ∷ paths) → path ≡ []
 begins_at_root path paths is = cc (is.lists)
 
@@ -327,7 +327,7 @@ ends_less P first (p ∷ paths) path (goes, more) =
     let rest : IsChain p (paths ++ path ∷ []) × P path = ends_less P p paths path more in
     ((goes, rest.0), rest.1)
 
--- a front of a listing goes on with the next path after its last, and with no other
+-- a prefix of a listing goes on with the next path after its last, and with no other
 pub begins_less : (paths : List (List Step)) (path next : List Step) → BeginsListing (paths ++ path ∷ next ∷ []) → BeginsListing (paths ++ path ∷ []) × IsNextPath path next
 begins_less [] path next is =
     let root : path ≡ [] = begins_at_root path (next ∷ []) is in

@@ -13,9 +13,9 @@ use Rattle.log_format.specs.Table.{IsTabled, Spells, IsFirstFault}
 use Rattle.log_format.proofs.Records.{length-spelling, spelled_no_fault}
 use Rattle.race_model.specs.declared.why.RecordWhy.{RecordWhy}
 use Rattle.race_model.specs.declared.why.RecordWhy.TheVariants as log
-use Rattle.race_model.specs.Place.{record_rank}
-use Rattle.race_model.specs.LogFault.{LogTask, Breaks, IsRead, IsCut, IsUntabled, IsRecord, IsBroken, IsExtra, IsLogFault}
-use Rattle.race_model.proofs.LogReading.{same_first, read_front, is_next}
+use Rattle.race_model.specs.BadPlace.{record_rank}
+use Rattle.race_model.specs.LogFault.{LogTask, Breaks, IsRead, IsCutRecord, IsUntabled, IsRecord, IsBroken, IsExtra, IsLogFault}
+use Rattle.race_model.proofs.LogReading.{same_first, read_prefix, is_next}
 
 -- the element at a place, and what comes from there on
 pub record Found {X : Type 0} (xs : List X) (k : ℕ) : Type 0 where
@@ -32,7 +32,7 @@ find (x ∷ xs) (suc k) within = let at = find xs k (omega arith) in record { it
 pub record Stands (records before : List Record) (more : List ℕ) : Type 0 where
   pub r : Record
   pub found : slice_get records (length before) ≡ Some r
-  pub front : before ≡ take (length before) records
+  pub prefix : before ≡ take (length before) records
   pub tabled : IsTabled r
   pub after : List ℕ
   pub begins : more ≡ spelling r ++ after
@@ -40,15 +40,15 @@ pub record Stands (records before : List Record) (more : List ℕ) : Type 0 wher
 pub stands : (bytes : List ℕ) (records before : List Record) (rest more : List ℕ) → IsRead bytes records rest → IsRead bytes before more
     → length before < length records → Stands records before more
 stands bytes records before rest more one other within =
-    let front = read_front bytes records before rest more one other (omega arith) in
+    let prefix = read_prefix bytes records before rest more one other (omega arith) in
     let at = find records (length before) within in
     record {
       r = at.item;
       found = at.found;
-      front = front.front;
+      prefix = prefix.prefix;
       tabled = subst (λ (x : Record). IsTabled x) (get_or_from_slice_get records (length before) at.item at.item at.found) (one.tabled (length before) at.item within);
       after = flat_map spelling (drop (suc (length before)) records) ++ rest;
-      begins = front.left ∙ ap (λ (xs : List Record). flat_map spelling xs ++ rest) at.rest ∙ append_assoc (spelling at.item) _ rest;
+      begins = prefix.left ∙ ap (λ (xs : List Record). flat_map spelling xs ++ rest) at.rest ∙ append_assoc (spelling at.item) _ rest;
     }
 
 long_enough : (r : Record) (after : List ℕ) → 24 ≤ length (spelling r ++ after)
@@ -65,7 +65,7 @@ not_untabled more r after w begins tabled fault =
     let spells : Spells (take 24 more) r = record { tabled = tabled; spelled = bytes } in
     spelled_no_fault (take 24 more) r w spells fault
 
-no_cut_in : (bytes : List ℕ) (task : LogTask) (records : List Record) (rest : List ℕ) (n : ℕ) → IsRead bytes records rest → n ≤ length records → IsCut bytes task.records n → ⊥
+no_cut_in : (bytes : List ℕ) (task : LogTask) (records : List Record) (rest : List ℕ) (n : ℕ) → IsRead bytes records rest → n ≤ length records → IsCutRecord bytes task.records n → ⊥
 no_cut_in bytes task records rest n read within fault =
     let at = stands bytes records fault.before rest fault.rest read fault.at.read (omega (arith, fault.at.number)) in
     not_cut fault.rest at.r at.after at.begins fault.short
@@ -81,7 +81,7 @@ pub same_record : (bytes : List ℕ) (count n : ℕ) (records : List Record) (re
 same_record bytes count n records rest before r read within told =
     let at = stands bytes records before rest (spelling r ++ told.rest) read told.at.read (omega (arith, told.at.number)) in
     let same = same_first r at.r told.rest at.after told.tabled at.tabled at.begins in
-    (at.found ∙ ap (λ (x : Record). Some x) (sym same.0), at.front)
+    (at.found ∙ ap (λ (x : Record). Some x) (sym same.0), at.prefix)
 
 -- no record breaks a rule after those before it
 abbrev pub KeepsEach : LogTask → List Record → Type 0
@@ -141,10 +141,10 @@ no_fault_whole bytes task records n rule read keeps counted fault = elim (cases_
 
 -- the same task with another team
 abbrev pub with_team : LogTask → Option ℕ → LogTask
-with_team task team = record { path = task.path; records = task.records; spans = task.spans; team = team }
+with_team task team = record { path = task.path; records = task.records; spans = task.spans; due_barriers = team }
 
 -- a fault stands on the team only by the rule of barrier counts
-pub other_team : (bytes : List ℕ) (task : LogTask) (team : Option ℕ) (n : ℕ) (rule : RecordWhy) → ((barriers : ℕ) → task.team ≡ Some barriers → team ≡ Some barriers)
+pub other_team : (bytes : List ℕ) (task : LogTask) (team : Option ℕ) (n : ℕ) (rule : RecordWhy) → ((barriers : ℕ) → task.due_barriers ≡ Some barriers → team ≡ Some barriers)
     → IsLogFault bytes task n rule → IsLogFault bytes (with_team task team) n rule
 other_team bytes task team n log.Header same fault = fault
 other_team bytes task team n log.Cut same fault = fault

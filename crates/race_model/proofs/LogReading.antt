@@ -1,4 +1,4 @@
--- Bytes spell one list of records: what is read of a log is a front of what it holds.
+-- Bytes spell one list of records: what is read of a log is a prefix of what it holds.
 use Rattle.std.proofs.Common.{◌≡◌, ℕ, suc, ◌≤◌, List, [], ◌∷◌, ◌++◌, length, take, drop, refl, sym, ap, ◌∙◌, arith, append_assoc, All}
 use Rattle.std.specs.List.{flat_map}
 use Rattle.std.proofs.lemmas.List.{append-nil, append_cancel_left, take_at, drop_at, take_all, drop_all}
@@ -22,29 +22,29 @@ same_first r s more other r_tabled s_tabled same = (
 )
 
 -- what a shorter list of records leaves of the bytes
-pub record IsFront (records before : List Record) (rest more : List ℕ) : Type 0 where
-  pub front : before ≡ take (length before) records
+pub record IsPrefix (records before : List Record) (rest more : List ℕ) : Type 0 where
+  pub prefix : before ≡ take (length before) records
   pub left : more ≡ flat_map spelling (drop (length before) records) ++ rest
 
-pub is_front : (records before : List Record) (rest more : List ℕ) → All IsTabled records → All IsTabled before → length before ≤ length records
-    → flat_map spelling records ++ rest ≡ flat_map spelling before ++ more → IsFront records before rest more
-is_front records [] rest more tabled before_tabled within same = record { front = refl; left = sym same }
-is_front [] (b ∷ before) rest more tabled before_tabled within same = absurd (omega arith)
-is_front (r ∷ records) (b ∷ before) rest more tabled before_tabled within same =
+pub is_prefix : (records before : List Record) (rest more : List ℕ) → All IsTabled records → All IsTabled before → length before ≤ length records
+    → flat_map spelling records ++ rest ≡ flat_map spelling before ++ more → IsPrefix records before rest more
+is_prefix records [] rest more tabled before_tabled within same = record { prefix = refl; left = sym same }
+is_prefix [] (b ∷ before) rest more tabled before_tabled within same = absurd (omega arith)
+is_prefix (r ∷ records) (b ∷ before) rest more tabled before_tabled within same =
     let regrouped : spelling r ++ (flat_map spelling records ++ rest) ≡ spelling b ++ (flat_map spelling before ++ more)
     = sym (append_assoc (spelling r) (flat_map spelling records) rest) ∙ same ∙ append_assoc (spelling b) (flat_map spelling before) more in
     let first = same_first r b _ _ (tabled 0 r (omega arith)) (before_tabled 0 b (omega arith)) regrouped in
-    let rest_is = is_front records before rest more (all_tail IsTabled r records tabled) (all_tail IsTabled b before before_tabled) (omega arith) first.1 in
+    let rest_is = is_prefix records before rest more (all_tail IsTabled r records tabled) (all_tail IsTabled b before before_tabled) (omega arith) first.1 in
     record {
-      front = ap (λ (x : Record). x ∷ before) (sym first.0) ∙ ap (λ (xs : List Record). r ∷ xs) rest_is.front;
+      prefix = ap (λ (x : Record). x ∷ before) (sym first.0) ∙ ap (λ (xs : List Record). r ∷ xs) rest_is.prefix;
       left = rest_is.left;
     }
 
--- a log that was read to the end of some records has the fewer ones as its front
-pub read_front : (bytes : List ℕ) (records before : List Record) (rest more : List ℕ) → IsRead bytes records rest → IsRead bytes before more
-    → length before ≤ length records → IsFront records before rest more
-read_front bytes records before rest more one other within =
-    is_front records before rest more one.tabled other.tabled within
+-- a log that was read to the end of some records has the fewer ones as its prefix
+pub read_prefix : (bytes : List ℕ) (records before : List Record) (rest more : List ℕ) → IsRead bytes records rest → IsRead bytes before more
+    → length before ≤ length records → IsPrefix records before rest more
+read_prefix bytes records before rest more one other within =
+    is_prefix records before rest more one.tabled other.tabled within
     (append_cancel_left LOG_HEADER _ _
     (sym (append_assoc LOG_HEADER (flat_map spelling records) rest) ∙ sym one.parts ∙ other.parts ∙ append_assoc LOG_HEADER (flat_map spelling before) more))
 
@@ -56,10 +56,10 @@ pub record IsNext (records before : List Record) (rest more : List ℕ) : Type 0
 pub is_next : (bytes : List ℕ) (records before : List Record) (rest more : List ℕ) → IsRead bytes records rest → IsRead bytes before more
     → length before ≡ length records → IsNext records before rest more
 is_next bytes records before rest more one other same =
-    let front = read_front bytes records before rest more one other (omega arith) in
+    let prefix = read_prefix bytes records before rest more one other (omega arith) in
     record {
-      before_is = front.front ∙ take_all (length before) records (omega arith);
-      more_is = front.left ∙ ap (λ (xs : List Record). flat_map spelling xs ++ rest) (drop_all (length before) records (omega arith));
+      before_is = prefix.prefix ∙ take_all (length before) records (omega arith);
+      more_is = prefix.left ∙ ap (λ (xs : List Record). flat_map spelling xs ++ rest) (drop_all (length before) records (omega arith));
     }
 
 -- a whole log is read to its end

@@ -9,47 +9,47 @@ use Rattle.race_model.proofs.LabelOrder.{Earlier}
 use Rattle.race_model.proofs.LabelPlace.{HasLast, has_last, not_both_empty, label_last, same_place, same_region, is_region, offset_residue}
 use Rattle.race_model.proofs.Chains.{IsBelow}
 
--- the record whose label is a front of x's: x itself, or the region that x stands below
-pub record Ancestor (logs : Logs) (x : Node) (front : List Triple) (t : Triple) (rest : List Triple) : Type 0 where
+-- the record whose label is a prefix of x's: x itself, or the region that x stands below
+pub record Ancestor (logs : Logs) (x : Node) (prefix : List Triple) (t : Triple) (rest : List Triple) : Type 0 where
   pub above : Node
-  pub is_label : IsLabel logs above (front ++ t ∷ [])
+  pub is_label : IsLabel logs above (prefix ++ t ∷ [])
   pub place : ((above ≡ x) × (rest ≡ [])) ⊎ IsBelow logs above x.path
 
-itself : (logs : Logs) (x : Node) (l front : List Triple) (t : Triple) (rest : List Triple) → IsLabel logs x l → l ≡ front ++ t ∷ rest → rest ≡ [] → Ancestor logs x front t rest
-itself logs x l front t rest is_l e none_left = record {
+itself : (logs : Logs) (x : Node) (l prefix : List Triple) (t : Triple) (rest : List Triple) → IsLabel logs x l → l ≡ prefix ++ t ∷ rest → rest ≡ [] → Ancestor logs x prefix t rest
+itself logs x l prefix t rest is_l e none_left = record {
   above = x;
-  is_label = subst (λ (m : List Triple). IsLabel logs x m) (e ∙ ap (λ (r : List Triple). front ++ t ∷ r) none_left) is_l;
+  is_label = subst (λ (m : List Triple). IsLabel logs x m) (e ∙ ap (λ (r : List Triple). prefix ++ t ∷ r) none_left) is_l;
   place = inl (refl, none_left);
 }
 
-below_fork : (logs : Logs) (fork x : Node) (n s : ℕ) (front : List Triple) (t : Triple) (shorter rest : List Triple) → IsLane logs fork n s x.path
-    → Ancestor logs fork front t shorter → Ancestor logs x front t rest
-below_fork logs fork x n s front t shorter rest lane a = record { above = a.above; is_label = a.is_label; place = inr (at a.place) }
+below_fork : (logs : Logs) (fork x : Node) (n s : ℕ) (prefix : List Triple) (t : Triple) (shorter rest : List Triple) → IsLane logs fork n s x.path
+    → Ancestor logs fork prefix t shorter → Ancestor logs x prefix t rest
+below_fork logs fork x n s prefix t shorter rest lane a = record { above = a.above; is_label = a.is_label; place = inr (at a.place) }
   where
     at : ((a.above ≡ fork) × (shorter ≡ [])) ⊎ IsBelow logs a.above fork.path → IsBelow logs a.above x.path
     at (inl here) = IsBelow.child n s x.path (subst (λ (w : Node). IsLane logs w n s x.path) (sym here.0) lane)
     at (inr below) = IsBelow.deeper fork n s x.path lane below
 
 -- without its last triple
-shorter_front : (above front : List Triple) (t u v : Triple) (rest shorter : List Triple) → above ++ u ∷ [] ≡ front ++ t ∷ rest → rest ≡ shorter ++ v ∷ [] → above ≡ front ++ t ∷ shorter
-shorter_front above front t u v rest shorter e f =
-    (same_from_push above (front ++ t ∷ shorter) u v (e ∙ (ap (λ (r : List Triple). front ++ t ∷ r) f ∙ sym (append_assoc front (t ∷ shorter) (v ∷ []))))).0
+shorter_prefix : (above prefix : List Triple) (t u v : Triple) (rest shorter : List Triple) → above ++ u ∷ [] ≡ prefix ++ t ∷ rest → rest ≡ shorter ++ v ∷ [] → above ≡ prefix ++ t ∷ shorter
+shorter_prefix above prefix t u v rest shorter e f =
+    (same_from_push above (prefix ++ t ∷ shorter) u v (e ∙ (ap (λ (r : List Triple). prefix ++ t ∷ r) f ∙ sym (append_assoc prefix (t ∷ shorter) (v ∷ []))))).0
 
-length_front : (front : List Triple) (t : Triple) (rest : List Triple) → 0 < length (front ++ t ∷ rest)
-length_front [] t rest = omega arith
-length_front (u ∷ front) t rest = omega arith
+length_prefix : (prefix : List Triple) (t : Triple) (rest : List Triple) → 0 < length (prefix ++ t ∷ rest)
+length_prefix [] t rest = omega arith
+length_prefix (u ∷ prefix) t rest = omega arith
 
-pub ancestor : (logs : Logs) (x : Node) (l : List Triple) → IsLabel logs x l → (front : List Triple) (t : Triple) (rest : List Triple) → l ≡ front ++ t ∷ rest → Ancestor logs x front t rest
-ancestor logs x l (IsLabel.root x1 e) front t rest same = at (has_last rest)
+pub ancestor : (logs : Logs) (x : Node) (l : List Triple) → IsLabel logs x l → (prefix : List Triple) (t : Triple) (rest : List Triple) → l ≡ prefix ++ t ∷ rest → Ancestor logs x prefix t rest
+ancestor logs x l (IsLabel.root x1 e) prefix t rest same = at (has_last rest)
   where
-    at : (rest ≡ []) ⊎ HasLast rest → Ancestor logs x front t rest
-    at (inl none_left) = itself logs x _ front t rest (IsLabel.root x e) same none_left
-    at (inr last) = absurd (let short = ap length (shorter_front [] front t _ last.last rest last.front same last.parts) in let long = length_front front t last.front in omega arith)
-ancestor logs x l (IsLabel.lane fork x1 n s above h up) front t rest same = at (has_last rest) (ancestor logs fork above up)
+    at : (rest ≡ []) ⊎ HasLast rest → Ancestor logs x prefix t rest
+    at (inl none_left) = itself logs x _ prefix t rest (IsLabel.root x e) same none_left
+    at (inr last) = absurd (let short = ap length (shorter_prefix [] prefix t _ last.last rest last.prefix same last.parts) in let long = length_prefix prefix t last.prefix in omega arith)
+ancestor logs x l (IsLabel.lane fork x1 n s above h up) prefix t rest same = at (has_last rest) (ancestor logs fork above up)
   where
-    at : (rest ≡ []) ⊎ HasLast rest → ((f : List Triple) (u : Triple) (r : List Triple) → above ≡ f ++ u ∷ r → Ancestor logs fork f u r) → Ancestor logs x front t rest
-    at (inl none_left) rec = itself logs x _ front t rest (IsLabel.lane fork x n s above h up) same none_left
-    at (inr last) rec = below_fork logs fork x n s front t last.front rest h (rec front t last.front (shorter_front above front t _ last.last rest last.front same last.parts))
+    at : (rest ≡ []) ⊎ HasLast rest → ((f : List Triple) (u : Triple) (r : List Triple) → above ≡ f ++ u ∷ r → Ancestor logs fork f u r) → Ancestor logs x prefix t rest
+    at (inl none_left) rec = itself logs x _ prefix t rest (IsLabel.lane fork x n s above h up) same none_left
+    at (inr last) rec = below_fork logs fork x n s prefix t last.prefix rest h (rec prefix t last.prefix (shorter_prefix above prefix t _ last.last rest last.prefix same last.parts))
 
 -- how two records whose labels part at the last triple stand to each other
 pub record InOneTask (logs : Logs) (a b : Node) : Type 0 where
@@ -82,26 +82,26 @@ lane_parts logs a b f n m s h k (inr less) =
       fewer_regions = lt_of_mul-lt-mul_left s products;
     })
 
-only_root : (logs : Logs) (g : Node) (beside front : List Triple) (t u v w : Triple) → IsLabel logs g beside → t ∷ [] ≡ front ++ u ∷ [] → beside ++ v ∷ [] ≡ front ++ w ∷ [] → ⊥
-only_root logs g beside front t u v w also l_is m_is =
+only_root : (logs : Logs) (g : Node) (beside prefix : List Triple) (t u v w : Triple) → IsLabel logs g beside → t ∷ [] ≡ prefix ++ u ∷ [] → beside ++ v ∷ [] ≡ prefix ++ w ∷ [] → ⊥
+only_root logs g beside prefix t u v w also l_is m_is =
     let last = label_last logs g beside also in
-    let empty : beside ≡ [] = (same_from_push beside front v w m_is).0 ∙ sym (same_from_push [] front t u l_is).0 in
-    not_both_empty beside last.front last.last empty last.parts
+    let empty : beside ≡ [] = (same_from_push beside prefix v w m_is).0 ∙ sym (same_from_push [] prefix t u l_is).0 in
+    not_both_empty beside last.prefix last.last empty last.parts
 
-pub parting : (logs : Logs) (a b : Node) (l m front : List Triple) (t u : Triple) → IsLabel logs a l → IsLabel logs b m → l ≡ front ++ t ∷ [] → m ≡ front ++ u ∷ [] → IsTripleBefore t u
+pub parting : (logs : Logs) (a b : Node) (l m prefix : List Triple) (t u : Triple) → IsLabel logs a l → IsLabel logs b m → l ≡ prefix ++ t ∷ [] → m ≡ prefix ++ u ∷ [] → IsTripleBefore t u
     → InOneTask logs a b ⊎ InOneTeam logs a b
-parting logs a b _ _ front t u (IsLabel.root a1 e) (IsLabel.root b1 f) l_is m_is before =
-    let mine = (same_from_push [] front (record { offset = regions_before logs a; span = 1; barrier = 0 }) t l_is).1 in
-    let yours = (same_from_push [] front (record { offset = regions_before logs b; span = 1; barrier = 0 }) u m_is).1 in
+parting logs a b _ _ prefix t u (IsLabel.root a1 e) (IsLabel.root b1 f) l_is m_is before =
+    let mine = (same_from_push [] prefix (record { offset = regions_before logs a; span = 1; barrier = 0 }) t l_is).1 in
+    let yours = (same_from_push [] prefix (record { offset = regions_before logs b; span = 1; barrier = 0 }) u m_is).1 in
     root_parts logs a b t u e f (sym (ap (λ (v : Triple). v.offset) mine)) (sym (ap (λ (v : Triple). v.offset) yours))
     (sym (ap (λ (v : Triple). v.barrier) mine)) (sym (ap (λ (v : Triple). v.barrier) yours)) before.earlier
-parting logs a b _ _ front t u (IsLabel.root a1 e) (IsLabel.lane g b1 m s beside k also) l_is m_is before =
-    absurd (only_root logs g beside front _ t _ u also l_is m_is)
-parting logs a b _ _ front t u (IsLabel.lane f a1 n s above h up) (IsLabel.root b1 e) l_is m_is before =
-    absurd (only_root logs f above front _ u _ t up m_is l_is)
-parting logs a b _ _ front t u (IsLabel.lane f a1 n s above h up) (IsLabel.lane g b1 m r beside k also) l_is m_is before =
-    let mine = same_from_push above front (lane_triple logs a n s) t l_is in
-    let yours = same_from_push beside front (lane_triple logs b m r) u m_is in
+parting logs a b _ _ prefix t u (IsLabel.root a1 e) (IsLabel.lane g b1 m s beside k also) l_is m_is before =
+    absurd (only_root logs g beside prefix _ t _ u also l_is m_is)
+parting logs a b _ _ prefix t u (IsLabel.lane f a1 n s above h up) (IsLabel.root b1 e) l_is m_is before =
+    absurd (only_root logs f above prefix _ u _ t up m_is l_is)
+parting logs a b _ _ prefix t u (IsLabel.lane f a1 n s above h up) (IsLabel.lane g b1 m r beside k also) l_is m_is before =
+    let mine = same_from_push above prefix (lane_triple logs a n s) t l_is in
+    let yours = same_from_push beside prefix (lane_triple logs b m r) u m_is in
     let place = same_place logs f g above beside up also (mine.0 ∙ sym yours.0) in
     let fork : f ≡ g = same_region logs f g (is_region logs f n s a.path h) (is_region logs g m r b.path k) place.same_log place.same_regions in
     let span : s ≡ r = ap (λ (v : Triple). v.span) mine.1 ∙ (before.same_span ∙ sym (ap (λ (v : Triple). v.span) yours.1)) in

@@ -4,7 +4,7 @@ use Rattle.std.proofs.Common.{◌≡◌, [], ◌∷◌, refl}
 use Rattle.std.specs.Prelude.{map}
 use Rattle.race_model.specs.declared.why.IndexWhy.TheVariants as index
 use Rattle.race_model.specs.declared.why.RecordWhy.TheVariants as log
-use Rattle.race_model.specs.Place.{no_index, bad_row, missing_log, bad_record, too_many_segments, IsEarlier, index_rank, record_rank}
+use Rattle.race_model.specs.BadPlace.{no_index, bad_row, missing_log, bad_record, too_many_segments, IsEarlier, index_rank, record_rank}
 
 pub no_index_first : IsEarlier no_index (bad_row 0 index.Header)
 no_index_first = refl

@@ -6,7 +6,7 @@ use Rattle.std.proofs.lemmas.List.Elements.{All-head, All-tail}
 use Rattle.std.proofs.lemmas.Nat.{from_be_bytes-to_be_bytes_2, from_be_bytes-to_be_bytes_4, from_be_bytes-to_be_bytes_8}
 use Rattle.std.proofs.Math.Seq.{take-append_seam, drop-append_seam}
 use Rattle.sw_base.specs.declared.path.Step.{Step}
-use Rattle.race_model.specs.Row.{RawRow, StepFits, Fits, step_spelling, row_spelling}
+use Rattle.race_model.specs.Row.{RawRow, StepFits, RowFits, step_spelling, row_spelling}
 
 -- the step that eight bytes tell
 step_from : List ℕ → Step
@@ -31,7 +31,7 @@ fields_from bytes = record {
   records = from_be_bytes w64 (take 8 (drop 40 bytes));
 }
 
-four_from-spelling : (depth reserved : ℕ) (a b c d : Step) (records : ℕ) → Fits (record { depth = depth; reserved = reserved; steps = a ∷ b ∷ c ∷ d ∷ []; records = records })
+four_from-spelling : (depth reserved : ℕ) (a b c d : Step) (records : ℕ) → RowFits (record { depth = depth; reserved = reserved; steps = a ∷ b ∷ c ∷ d ∷ []; records = records })
     → fields_from (row_spelling (record { depth = depth; reserved = reserved; steps = a ∷ b ∷ c ∷ d ∷ []; records = records })) ≡ record { depth = depth; reserved = reserved; steps = a ∷ b ∷ c ∷ d ∷ []; records = records }
 unfolding fields_from row_spelling step_spelling
 four_from-spelling depth reserved a b c d records fits =
@@ -51,14 +51,14 @@ four_from-spelling depth reserved a b c d records fits =
     ∙ ap (λ (s : Step). row depth reserved a b c s (from_be_bytes w64 (to_be_bytes w64 records))) d_is
     ∙ ap (λ (n : ℕ). row depth reserved a b c d n) records_is
 
-fields_from-spelling : (row : RawRow) → Fits row → fields_from (row_spelling row) ≡ row
+fields_from-spelling : (row : RawRow) → RowFits row → fields_from (row_spelling row) ≡ row
 fields_from-spelling row fits = of_steps row.steps fits.four refl where
   of_steps : (steps : List Step) → length steps ≡ 4 → row.steps ≡ steps → fields_from (row_spelling row) ≡ row
   of_steps (a ∷ b ∷ c ∷ d ∷ []) four is =
       let whole : record { depth = row.depth; reserved = row.reserved; steps = a ∷ b ∷ c ∷ d ∷ []; records = row.records } ≡ row =
       ap (λ (ss : List Step). let it : RawRow = record { depth = row.depth; reserved = row.reserved; steps = ss; records = row.records } in it) (sym is) in
       subst (λ (r : RawRow). fields_from (row_spelling r) ≡ r) whole
-      (four_from-spelling row.depth row.reserved a b c d row.records (subst (λ (r : RawRow). Fits r) (sym whole) fits))
+      (four_from-spelling row.depth row.reserved a b c d row.records (subst (λ (r : RawRow). RowFits r) (sym whole) fits))
   of_steps _ four is = absurd (omega arith)
 
 length-step : (step : Step) → length (step_spelling step) ≡ 8
@@ -76,7 +76,7 @@ length-row row four =
     omega (arith, four, length-steps row.steps, length-append (to_be_bytes w32 row.depth ++ to_be_bytes w32 row.reserved ++ flat_map step_spelling row.steps) (to_be_bytes w64 row.records), length-append (to_be_bytes w32 row.depth ++ to_be_bytes w32 row.reserved) (flat_map step_spelling row.steps))
 
 -- rows that fit are spelled differently
-pub row_spelling-injective : (r s : RawRow) → Fits r → Fits s → row_spelling r ≡ row_spelling s → r ≡ s
+pub row_spelling-injective : (r s : RawRow) → RowFits r → RowFits s → row_spelling r ≡ row_spelling s → r ≡ s
 row_spelling-injective r s r_fits s_fits same = sym (fields_from-spelling r r_fits) ∙ ap fields_from same ∙ fields_from-spelling s s_fits
 
 -- bytes begin with one row at most, and so what follows it is told too
@@ -84,13 +84,13 @@ pub record SameRow (r s : RawRow) (x y : List ℕ) : Type 0 where
   pub row : r ≡ s
   pub rest : x ≡ y
 
-first_bytes : (r : RawRow) (x : List ℕ) → Fits r → take 48 (row_spelling r ++ x) ≡ row_spelling r
+first_bytes : (r : RawRow) (x : List ℕ) → RowFits r → take 48 (row_spelling r ++ x) ≡ row_spelling r
 first_bytes r x fits = ap (λ (n : ℕ). take n (row_spelling r ++ x)) (sym (length-row r fits.four)) ∙ take-append_seam (row_spelling r) x
 
-pub rest_bytes : (r : RawRow) (x : List ℕ) → Fits r → drop 48 (row_spelling r ++ x) ≡ x
+pub rest_bytes : (r : RawRow) (x : List ℕ) → RowFits r → drop 48 (row_spelling r ++ x) ≡ x
 rest_bytes r x fits = ap (λ (n : ℕ). drop n (row_spelling r ++ x)) (sym (length-row r fits.four)) ∙ drop-append_seam (row_spelling r) x
 
-pub same_row : (r s : RawRow) (x y : List ℕ) → Fits r → Fits s → row_spelling r ++ x ≡ row_spelling s ++ y → SameRow r s x y
+pub same_row : (r s : RawRow) (x y : List ℕ) → RowFits r → RowFits s → row_spelling r ++ x ≡ row_spelling s ++ y → SameRow r s x y
 same_row r s x y r_fits s_fits same = record {
   row = row_spelling-injective r s r_fits s_fits (sym (first_bytes r x r_fits) ∙ ap (λ (bs : List ℕ). take 48 bs) same ∙ first_bytes s y s_fits);
   rest = sym (rest_bytes r x r_fits) ∙ ap (λ (bs : List ℕ). drop 48 bs) same ∙ rest_bytes s y s_fits;
@@ -100,14 +100,14 @@ same_row r s x y r_fits s_fits same = record {
 pub record GoesOn (rs ss : List RawRow) (x y : List ℕ) : Type 0 where
   pub more : List RawRow
   pub rows : ss ≡ rs ++ more
-  pub fit : All Fits more
+  pub fit : All RowFits more
   pub rest : x ≡ flat_map row_spelling more ++ y
 
-pub goes_on : (rs ss : List RawRow) (x y : List ℕ) → All Fits rs → All Fits ss → length rs ≤ length ss → flat_map row_spelling rs ++ x ≡ flat_map row_spelling ss ++ y → GoesOn rs ss x y
+pub goes_on : (rs ss : List RawRow) (x y : List ℕ) → All RowFits rs → All RowFits ss → length rs ≤ length ss → flat_map row_spelling rs ++ x ≡ flat_map row_spelling ss ++ y → GoesOn rs ss x y
 goes_on [] ss x y rs_fit ss_fit shorter same = record { more = ss; rows = refl; fit = ss_fit; rest = same }
 goes_on (r ∷ rs) [] x y rs_fit ss_fit shorter same = absurd (omega arith)
 goes_on (r ∷ rs) (s ∷ ss) x y rs_fit ss_fit shorter same =
-    let one : SameRow r s (flat_map row_spelling rs ++ x) (flat_map row_spelling ss ++ y) = same_row r s (flat_map row_spelling rs ++ x) (flat_map row_spelling ss ++ y) (All-head Fits r rs rs_fit) (All-head Fits s ss ss_fit)
+    let one : SameRow r s (flat_map row_spelling rs ++ x) (flat_map row_spelling ss ++ y) = same_row r s (flat_map row_spelling rs ++ x) (flat_map row_spelling ss ++ y) (All-head RowFits r rs rs_fit) (All-head RowFits s ss ss_fit)
     (sym (append_assoc (row_spelling r) (flat_map row_spelling rs) x) ∙ same ∙ append_assoc (row_spelling s) (flat_map row_spelling ss) y) in
-    let others : GoesOn rs ss x y = goes_on rs ss x y (All-tail Fits r rs rs_fit) (All-tail Fits s ss ss_fit) (omega arith) one.rest in
+    let others : GoesOn rs ss x y = goes_on rs ss x y (All-tail RowFits r rs rs_fit) (All-tail RowFits s ss ss_fit) (omega arith) one.rest in
     record { more = others.more; rows = ap (λ (t : RawRow). t ∷ ss) (sym one.row) ∙ ap (λ (ts : List RawRow). r ∷ ts) others.rows; fit = others.fit; rest = others.rest }

@@ -8,21 +8,21 @@ use Rattle.sw_base.specs.declared.path.Step.{Step}
 use Rattle.log_format.specs.declared.record.Record.{Record}
 use Rattle.log_format.specs.declared.record.Kind.TheVariants.{Write, Region}
 use Rattle.race_model.specs.Trace.{Trace, logs_of}
-use Rattle.race_model.specs.ForkJoin.{IsForked, IsForkJoin, IsTreeTrace, ListsTask}
+use Rattle.race_model.specs.ForkJoin.{WasForked, IsForkJoin, IsTreeTrace, ListsTask}
 use Rattle.race_model.proofs.LabelPlace.{not_both_empty}
 use Rattle.race_model.proofs.ForkJoinExample.{made, access, lane_of}
 
 abbrev stopped : Trace
 stopped = record { path = []; records = made Region 2 ∷ [] } ∷ record { path = lane_of 0; records = access Write 8 5 100 ∷ [] } ∷ record { path = lane_of 1; records = [] } ∷ []
 
-forked_lane : (n : ℕ) → n < 2 → (path : List Step) (step : Step) → lane_of n ≡ path ++ step ∷ [] → IsForked (logs_of stopped) path step
+forked_lane : (n : ℕ) → n < 2 → (path : List Step) (step : Step) → lane_of n ≡ path ++ step ∷ [] → WasForked (logs_of stopped) path step
 forked_lane n h path step same =
     let parts = same_from_push [] path (record { region = 0; lane = n; span = 2 }) step same in
-    subst (λ (s : Step). IsForked (logs_of stopped) path s) parts.1
-    (subst (λ (p : List Step). IsForked (logs_of stopped) p (record { region = 0; lane = n; span = 2 })) parts.0
+    subst (λ (s : Step). WasForked (logs_of stopped) path s) parts.1
+    (subst (λ (p : List Step). WasForked (logs_of stopped) p (record { region = 0; lane = n; span = 2 })) parts.0
     (record { fork = record { path = []; index = 0 }; above = refl; lane = record { event = made Region 2; found = refl; region = refl; spans = refl; in_span = h; child = refl } }))
 
-forked_task : (path : List Step) (step : Step) → ListsTask stopped (path ++ step ∷ []) → IsForked (logs_of stopped) path step
+forked_task : (path : List Step) (step : Step) → ListsTask stopped (path ++ step ∷ []) → WasForked (logs_of stopped) path step
 forked_task path step (zero, within, is) = absurd (not_both_empty [] path step refl is)
 forked_task path step (suc zero, within, is) = forked_lane 0 (omega arith) path step is
 forked_task path step (suc (suc zero), within, is) = forked_lane 1 (omega arith) path step is
@@ -42,7 +42,7 @@ misspanned = record { path = []; records = made Region 2 ∷ [] } ∷ record { p
 
 pub misspanned_is_no_tree : IsTreeTrace misspanned → ⊥
 misspanned_is_no_tree tree = go (tree.forked [] (record { region = 0; lane = 0; span = 3 }) (1, omega arith, refl)) where
-  go : IsForked (logs_of misspanned) [] (record { region = 0; lane = 0; span = 3 }) → ⊥
+  go : WasForked (logs_of misspanned) [] (record { region = 0; lane = 0; span = 3 }) → ⊥
   go f = at f.fork.path f.fork.index f.above f.lane.event f.lane.found f.lane.spans where
     at : (path : List Step) (index : ℕ) → path ≡ [] → (event : Record) → slice_get (logs_of misspanned path) index ≡ Some event → event.value ≡ 3 → ⊥
     at path index above event found spans = by_index index event (subst (λ (p : List Step). slice_get (logs_of misspanned p) index ≡ Some event) above found) spans where

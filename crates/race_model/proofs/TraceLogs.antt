@@ -23,11 +23,11 @@ number_itself n = grind arith
 
 step_is : (a b : Step) → step_eq a b ≡ true → a ≡ b
 step_is a b e =
-    let front = both_true ((a.region == b.region) && (a.lane == b.lane)) (a.span == b.span) e in
-    let two = both_true (a.region == b.region) (a.lane == b.lane) front.0 in
+    let prefix = both_true ((a.region == b.region) && (a.lane == b.lane)) (a.span == b.span) e in
+    let two = both_true (a.region == b.region) (a.lane == b.lane) prefix.0 in
     let region = same_number a.region b.region two.0 in
     let lane = same_number a.lane b.lane two.1 in
-    let span = same_number a.span b.span front.1 in
+    let span = same_number a.span b.span prefix.1 in
     λ i. record { region = region i; lane = lane i; span = span i }
 
 -- paths are told apart exactly

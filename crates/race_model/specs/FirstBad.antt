@@ -6,7 +6,7 @@ use Rattle.race_model.specs.Row.{Row}
 use Rattle.race_model.specs.IndexFault.{IsIndex, IsBadIndexPlace}
 use Rattle.race_model.specs.Trace.{TaskLog, Trace}
 use Rattle.race_model.specs.Segment.{segment_count}
-use Rattle.race_model.specs.Place.{Place, no_index, bad_row, missing_log, bad_record, too_many_segments, IsEarlier}
+use Rattle.race_model.specs.BadPlace.{BadPlace, no_index, bad_row, missing_log, bad_record, too_many_segments, IsEarlier}
 use Rattle.race_model.specs.LogFault.{IsWholeLog, RowAt, OpensTooMany, IsMissingLog, IsBadRecord}
 
 abbrev pub row_of : TaskLog → Row
@@ -45,7 +45,7 @@ abbrev pub AtRows : Files → List ℕ → (List Row → Type 0) → Type 0
 AtRows files dir P = (rows : List Row) × IsIndex files dir rows × P rows
 
 -- the folder is bad at this place
-abbrev pub IsBad : Files → List ℕ → Place → Type 0
+abbrev pub IsBad : Files → List ℕ → BadPlace → Type 0
 IsBad files dir no_index = IsBadIndexPlace files dir no_index
 IsBad files dir (bad_row n rule) = IsBadIndexPlace files dir (bad_row n rule)
 IsBad files dir (missing_log row) = AtRows files dir (λ (rows : List Row). IsMissingLog files dir rows row)
@@ -53,6 +53,6 @@ IsBad files dir (bad_record row n rule) = AtRows files dir (λ (rows : List Row)
 IsBad files dir (too_many_segments row n) = AtRows files dir (λ (rows : List Row). IsOneTooMany files dir rows row n)
 
 -- the folder is bad at this place, and at no earlier one
-pub record IsFirstBad (files : Files) (dir : List ℕ) (place : Place) : Type 0 where
+pub record IsFirstBad (files : Files) (dir : List ℕ) (place : BadPlace) : Type 0 where
   pub bad : IsBad files dir place
-  pub least : (other : Place) → IsEarlier other place → IsBad files dir other → ⊥
+  pub least : (other : BadPlace) → IsEarlier other place → IsBad files dir other → ⊥

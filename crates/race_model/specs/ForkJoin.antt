@@ -8,18 +8,18 @@ use Rattle.race_model.specs.Order.{IsLane}
 
 -- the log ends with End, which stands nowhere else
 pub record EndsOnce (records : List Record) : Type 0 where
-  pub front : List Record
+  pub prefix : List Record
   pub last : Record
-  pub parts : records ≡ front ++ last ∷ []
+  pub parts : records ≡ prefix ++ last ∷ []
   pub ends : last.kind ≡ End
-  pub once : All (λ r. r.kind ≡ End → ⊥) front
+  pub once : All (λ r. r.kind ≡ End → ⊥) prefix
 
 -- there is a task with this path: it has a record
 abbrev pub IsTask : Logs → List Step → Type 0
 IsTask logs path = IsThere logs (record { path = path; index = 0 })
 
 -- the Region record that forked the task of this path and step
-pub record IsForked (logs : Logs) (path : List Step) (step : Step) : Type 0 where
+pub record WasForked (logs : Logs) (path : List Step) (step : Step) : Type 0 where
   pub fork : Node
   pub above : fork.path ≡ path
   pub lane : IsLane logs fork step.lane step.span (path ++ step ∷ [])
@@ -28,7 +28,7 @@ pub record IsForked (logs : Logs) (path : List Step) (step : Step) : Type 0 wher
 -- The lanes of a region may be missing, and a task of a run that stopped may have no record yet.
 pub record IsTaskTree (IsOne : List Step → Type 0) (logs : Logs) : Type 0 where
   pub root : IsOne []
-  pub forked : (path : List Step) (step : Step) → IsOne (path ++ step ∷ []) → IsForked logs path step
+  pub forked : (path : List Step) (step : Step) → IsOne (path ++ step ∷ []) → WasForked logs path step
 
 -- the trace lists a task of this path, perhaps with no record
 abbrev pub ListsTask : Trace → List Step → Type 0

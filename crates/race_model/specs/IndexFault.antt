@@ -7,18 +7,18 @@ use Rattle.sw_base.specs.Environment.{Files}
 use Rattle.sw_base.specs.Names.{index_name}
 use Rattle.race_model.specs.declared.why.IndexWhy.{IndexWhy}
 use Rattle.race_model.specs.declared.why.IndexWhy.TheVariants.{Header, TooMany, Cut, Depth, Span, Lane, Order, Records}
-use Rattle.race_model.specs.Place.{Place, no_index, bad_row, missing_log, bad_record, too_many_segments, index_rank, IsEarlier}
-use Rattle.race_model.specs.Row.{Row, RawRow, Fits, row_spelling, used, unused, no_step, index_bytes}
+use Rattle.race_model.specs.BadPlace.{BadPlace, no_index, bad_row, missing_log, bad_record, too_many_segments, index_rank, IsEarlier}
+use Rattle.race_model.specs.Row.{Row, RawRow, RowFits, row_spelling, used, unused, no_step, index_bytes}
 use Rattle.race_model.specs.Listing.{IsListing, BeginsListing}
 
 -- a region has 1 to 64 lanes
-pub record HasSpan (step : Step) : Type 0 where
+pub record HasRegionSpan (step : Step) : Type 0 where
   pub some : 1 ≤ step.span
   pub limit : step.span ≤ 64
 
 -- the lanes of a region are numbered from 0
-abbrev pub HasLane : Step → Type 0
-HasLane step = step.lane < step.span
+abbrev pub HasLaneInSpan : Step → Type 0
+HasLaneInSpan step = step.lane < step.span
 
 -- a path has at most four steps, and the fields past its end are zero
 pub record HasDepth (row : RawRow) : Type 0 where
@@ -39,21 +39,21 @@ pub record HasRecords (records : ℕ) : Type 0 where
   pub limit : records ≤ max_records
 
 -- a row after others passes the test that the fault names
-abbrev pub Passes : List RawRow → RawRow → IndexWhy → Type 0
-Passes before row Depth = HasDepth row
-Passes before row Span = All HasSpan (used row)
-Passes before row Lane = All HasLane (used row)
-Passes before row Order = BeginsListing (map used (before ++ row ∷ []))
-Passes before row Records = HasRecords row.records
-Passes before row _ = Unit {0}
+abbrev pub RowPasses : List RawRow → RawRow → IndexWhy → Type 0
+RowPasses before row Depth = HasDepth row
+RowPasses before row Span = All HasRegionSpan (used row)
+RowPasses before row Lane = All HasLaneInSpan (used row)
+RowPasses before row Order = BeginsListing (map used (before ++ row ∷ []))
+RowPasses before row Records = HasRecords row.records
+RowPasses before row _ = Unit {0}
 
 -- a whole row is next, and it fails the test
 pub record FailsTest (before : List RawRow) (rest : List ℕ) (why : IndexWhy) : Type 0 where
   pub row : RawRow
   pub more : List ℕ
-  pub fits : Fits row
+  pub fits : RowFits row
   pub spelled : rest ≡ row_spelling row ++ more
-  pub fails : Passes before row why → ⊥
+  pub fails : RowPasses before row why → ⊥
 
 -- after these rows, the bytes that are left have this fault
 abbrev pub Fails : List RawRow → List ℕ → IndexWhy → Type 0
@@ -64,18 +64,18 @@ Fails before rest Order = FailsTest before rest Order ⊎ ((rest ≡ []) × (IsL
 Fails before rest why = FailsTest before rest why
 
 -- and none of the faults that are tried before
-pub record FailsFirst (before : List RawRow) (rest : List ℕ) (why : IndexWhy) : Type 0 where
+pub record FailsIndexFirst (before : List RawRow) (rest : List ℕ) (why : IndexWhy) : Type 0 where
   pub fails : Fails before rest why
   pub least : (other : IndexWhy) → index_rank other < index_rank why → Fails before rest other → ⊥
 
 -- the bytes are the header, the rows before the n-th, which are as many as there must be, and the rest
 pub record IsAtRow (bytes : List ℕ) (n : ℕ) (before : List RawRow) (rest : List ℕ) : Type 0 where
   pub number : n ≡ length before + 1
-  pub fit : All Fits before
+  pub fit : All RowFits before
   pub parts : bytes ≡ INDEX_HEADER ++ flat_map row_spelling before ++ rest
 
 -- the n-th row has this fault
-pub record HasFault (bytes : List ℕ) (n : ℕ) (why : IndexWhy) : Type 0 where
+pub record HasRowFault (bytes : List ℕ) (n : ℕ) (why : IndexWhy) : Type 0 where
   pub before : List RawRow
   pub rest : List ℕ
   pub at_row : IsAtRow bytes n before rest
@@ -84,7 +84,7 @@ pub record HasFault (bytes : List ℕ) (n : ℕ) (why : IndexWhy) : Type 0 where
 -- row n of these bytes is bad, rows numbered from 1; row 0 is the header
 abbrev pub IsBadRow : List ℕ → ℕ → IndexWhy → Type 0
 IsBadRow bytes n Header = (n ≡ 0) × (take 8 bytes ≢ INDEX_HEADER)
-IsBadRow bytes n why = HasFault bytes n why
+IsBadRow bytes n why = HasRowFault bytes n why
 
 -- the folder's index has this bad row
 pub record HoldsBadRow (files : Files) (dir : List ℕ) (n : ℕ) (why : IndexWhy) : Type 0 where
@@ -93,7 +93,7 @@ pub record HoldsBadRow (files : Files) (dir : List ℕ) (n : ℕ) (why : IndexWh
   pub bad : IsBadRow bytes n why
 
 -- a place of the index at which the folder is bad
-abbrev pub IsBadIndexPlace : Files → List ℕ → Place → Type 0
+abbrev pub IsBadIndexPlace : Files → List ℕ → BadPlace → Type 0
 IsBadIndexPlace files dir no_index = files (index_name dir) ≡ None
 IsBadIndexPlace files dir (bad_row n why) = HoldsBadRow files dir n why
 IsBadIndexPlace files dir (missing_log row) = ⊥
@@ -101,15 +101,15 @@ IsBadIndexPlace files dir (bad_record row n why) = ⊥
 IsBadIndexPlace files dir (too_many_segments row n) = ⊥
 
 -- the first of them
-pub record IsFirstBadIndexPlace (files : Files) (dir : List ℕ) (place : Place) : Type 0 where
+pub record IsFirstBadIndexPlace (files : Files) (dir : List ℕ) (place : BadPlace) : Type 0 where
   pub bad : IsBadIndexPlace files dir place
-  pub least : (q : Place) → IsEarlier q place → IsBadIndexPlace files dir q → ⊥
+  pub least : (q : BadPlace) → IsEarlier q place → IsBadIndexPlace files dir q → ⊥
 
 -- a step of a path
 pub record IsStep (step : Step) : Type 0 where
   pub region : step.region < 2 ^ 32
-  pub span : HasSpan step
-  pub lane : HasLane step
+  pub span : HasRegionSpan step
+  pub lane : HasLaneInSpan step
 
 -- a row of an index
 pub record IsRow (row : Row) : Type 0 where

@@ -20,10 +20,10 @@ pub record TaskKeepsRules (trace : Trace) (task : TaskLog) : Type 0 where
   pub tabled : All IsTabled task.records
   pub spans : List ℕ
   pub has_spans : ListsSpans (rows_of trace) task.path spans
-  pub team : Option ℕ
-  pub knows_team : KnowsTeam trace task.path team
+  pub due_barriers : Option ℕ
+  pub knows_team : KnowsTeam trace task.path due_barriers
   pub keeps : (k : ℕ) (r : Record) → slice_get task.records k ≡ Some r → (rule : RecordWhy)
-      → Breaks (record { path = task.path; records = length task.records; spans = spans; team = team }) (take k task.records) r rule → ⊥
+      → Breaks (record { path = task.path; records = length task.records; spans = spans; due_barriers = due_barriers }) (take k task.records) r rule → ⊥
 
 -- the rows are those of a well-formed index, and each task keeps the rules
 pub record KeepsRules (trace : Trace) : Type 0 where

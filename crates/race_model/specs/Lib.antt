@@ -7,7 +7,7 @@ pub mod Listing
 pub mod LogFault
 pub mod Mutexes
 pub mod Order
-pub mod Place
+pub mod BadPlace
 pub mod Race
 pub mod Row
 pub mod Segment

@@ -38,7 +38,7 @@ pub record LogTask : Type 0 where
   pub path : List Step
   pub records : ℕ
   pub spans : List ℕ
-  pub team : Option ℕ
+  pub due_barriers : Option ℕ
 
 -- a record that comes after these records of its log breaks this rule
 abbrev pub Breaks : LogTask → List Record → Record → RecordWhy → Type 0
@@ -54,7 +54,7 @@ Breaks task before r log.LockOpen = (r.kind ≡ End) × (held_after [] before �
 Breaks task before r log.RegionRows =
     ((r.kind ≡ Region) × (slice_get task.spans (region_count before) ≢ Some r.value))
     ⊎ ((r.kind ≡ End) × (region_count before < length task.spans))
-Breaks task before r log.BarrierCount = (r.kind ≡ End) × ((barriers : ℕ) × (task.team ≡ Some barriers) × (barrier_count before ≢ barriers))
+Breaks task before r log.BarrierCount = (r.kind ≡ End) × ((barriers : ℕ) × (task.due_barriers ≡ Some barriers) × (barrier_count before ≢ barriers))
 Breaks task before r _ = ⊥
 
 -- the bytes are a log's header, these records of the table, and a rest
@@ -69,7 +69,7 @@ pub record IsAt (bytes : List ℕ) (count n : ℕ) (before : List Record) (rest 
   pub counted : n ≤ count
 
 -- the bytes of record n aren't all there
-pub record IsCut (bytes : List ℕ) (count n : ℕ) : Type 0 where
+pub record IsCutRecord (bytes : List ℕ) (count n : ℕ) : Type 0 where
   pub before : List Record
   pub rest : List ℕ
   pub at : IsAt bytes count n before rest
@@ -116,7 +116,7 @@ pub record OpensTooMany (bytes : List ℕ) (count opened n : ℕ) : Type 0 where
 -- the log of these bytes is bad at record n by this rule
 abbrev pub IsLogFault : List ℕ → LogTask → ℕ → RecordWhy → Type 0
 IsLogFault bytes task n log.Header = (n ≡ 0) × ((rest : List ℕ) → bytes ≢ LOG_HEADER ++ rest)
-IsLogFault bytes task n log.Cut = IsCut bytes task.records n
+IsLogFault bytes task n log.Cut = IsCutRecord bytes task.records n
 IsLogFault bytes task n log.Kind = IsUntabled bytes task.records n why.Kind
 IsLogFault bytes task n log.Size = IsUntabled bytes task.records n why.Size
 IsLogFault bytes task n log.LineZero = IsUntabled bytes task.records n why.LineZero
@@ -132,7 +132,7 @@ pub record IsWholeLog (files : Files) (dir : List ℕ) (path : List Step) (recor
   pub tabled : All IsTabled records
 
 -- a lane from 1 on, whose team's lane 0 has a whole log with this many barriers
-pub record HasTeam (files : Files) (dir : List ℕ) (path : List Step) (barriers : ℕ) : Type 0 where
+pub record HasTeamBarriers (files : Files) (dir : List ℕ) (path : List Step) (barriers : ℕ) : Type 0 where
   pub above : List Step
   pub step : Step
   pub path_is : path ≡ above ++ step ∷ []
@@ -161,6 +161,6 @@ pub record IsBadRecord (files : Files) (dir : List ℕ) (rows : List Row) (row n
   pub there : files (log_name dir task.path) ≡ Some bytes
   pub spans : List ℕ
   pub has_spans : ListsSpans rows task.path spans
-  pub team : Option ℕ
-  pub has_team : (barriers : ℕ) → team ≡ Some barriers → HasTeam files dir task.path barriers
-  pub fault : IsLogFault bytes (record { path = task.path; records = task.records; spans = spans; team = team }) n rule
+  pub due_barriers : Option ℕ
+  pub has_team : (barriers : ℕ) → due_barriers ≡ Some barriers → HasTeamBarriers files dir task.path barriers
+  pub fault : IsLogFault bytes (record { path = task.path; records = task.records; spans = spans; due_barriers = due_barriers }) n rule

@@ -24,7 +24,7 @@ pub record StepFits (step : Step) : Type 0 where
   pub span : step.span < 2 ^ 16
 
 -- each field of a row is below its width, and there are four steps
-pub record Fits (row : RawRow) : Type 0 where
+pub record RowFits (row : RawRow) : Type 0 where
   pub depth : row.depth < 2 ^ 32
   pub reserved : row.reserved < 2 ^ 32
   pub four : length row.steps ≡ 4

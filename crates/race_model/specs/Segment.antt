@@ -27,21 +27,21 @@ is_access Read = true
 is_access Write = true
 is_access _ = false
 
--- puts an event at the front of the first run
+-- puts an event at the start of the first run
 abbrev pub in_first : Event → List (List Event) → List (List Event)
 in_first e [] = (e ∷ []) ∷ []
 in_first e (run ∷ runs) = (e ∷ run) ∷ runs
 
 -- an event before the runs behind it: a Region or Barrier parts them, and stands in none
-abbrev pub joined : Kind → Event → List (List Event) → List (List Event)
-joined Region e runs = [] ∷ runs
-joined Barrier e runs = [] ∷ runs
-joined _ e runs = in_first e runs
+abbrev pub with_event : Kind → Event → List (List Event) → List (List Event)
+with_event Region e runs = [] ∷ runs
+with_event Barrier e runs = [] ∷ runs
+with_event _ e runs = in_first e runs
 
 -- the events, parted at each Region and Barrier
 abbrev pub runs_of : List Event → List (List Event)
 runs_of [] = [] ∷ []
-runs_of (e ∷ es) = joined e.event.kind e (runs_of es)
+runs_of (e ∷ es) = with_event e.event.kind e (runs_of es)
 
 abbrev pub is_access_event : Event → Bool
 is_access_event e = is_access e.event.kind

@@ -3,7 +3,7 @@ ghost use Rattle.sw_base.specs.Environment.{Files};
 ghost use Rattle.race_model.specs.FirstBad.{HoldsTrace, IsBad};
 ghost use Rattle.race_model.specs.WellFormed.{IsWellFormed};
 ghost use Rattle.race_model.specs.KeepsRules.{KeepsRules};
-ghost use Rattle.race_model.specs.Place.{Place, IsTooMany};
+ghost use Rattle.race_model.specs.BadPlace.{BadPlace, IsTooMany};
 ghost use Rattle.race_model.specs.Trace.{Trace, logs_of};
 ghost use Rattle.race_model.specs.ForkJoin.{IsForkJoin};
 
@@ -21,5 +21,5 @@ pub fn folder_tells_its_trace()
 /// A folder that holds a trace which keeps every rule is bad at most where a segment is one too many.
 pub fn kept_rules_leave_no_bad_place()
     ensures { (files : Files) (dir : List ℕ) (trace : Trace) → KeepsRules trace → HoldsTrace files dir trace →
-        (place : Place) → IsBad files dir place → IsTooMany place }
+        (place : BadPlace) → IsBad files dir place → IsTooMany place }
 {}

@@ -1,19 +1,19 @@
 ghost use Rattle.std.specs.Prelude.{◌≡◌, ℕ, List};
 ghost use Rattle.sw_base.specs.Environment.{Files, with_file};
 ghost use Rattle.sw_base.specs.Names.{index_name};
-ghost use Rattle.race_model.specs.Place.{Place};
+ghost use Rattle.race_model.specs.BadPlace.{BadPlace};
 ghost use Rattle.race_model.specs.Row.{Row, index_bytes};
 ghost use Rattle.race_model.specs.IndexFault.{AreRows, IsIndex, IsBadIndexPlace, IsFirstBadIndexPlace};
 
 /// A folder with a well-formed index is bad at no place of the index.
 pub fn well_formed_index_has_no_bad_place()
-    ensures { (files : Files) (dir : List ℕ) (rows : List Row) (place : Place) →
+    ensures { (files : Files) (dir : List ℕ) (rows : List Row) (place : BadPlace) →
         IsIndex files dir rows → IsBadIndexPlace files dir place → ⊥ }
 {}
 
 /// An index has at most one first bad place.
 pub fn first_bad_index_place_is_unique()
-    ensures { (files : Files) (dir : List ℕ) (place other : Place) →
+    ensures { (files : Files) (dir : List ℕ) (place other : BadPlace) →
         IsFirstBadIndexPlace files dir place → IsFirstBadIndexPlace files dir other → place ≡ other }
 {}
 

@@ -2,7 +2,7 @@ ghost use Rattle.std.specs.Prelude.{◌≡◌, ◌↔◌, List, [], ◌∷◌, �
 ghost use Rattle.sw_base.specs.declared.path.Step.{Step};
 ghost use Rattle.race_model.specs.Listing.{IsListing, BeginsListing, IsLastLane, IsNextPath};
 
-/// A list of paths is the front of a listing of a tree of tasks exactly where its first path is the root's and each further
+/// A list of paths is a prefix of a // of a tree of tasks exactly where its first path is the root's and each further
 /// one is the next after the one before. It is a whole listing exactly where its last path is one of last lanes, too.
 pub fn listing_by_next_paths()
     ensures none { BeginsListing [] }

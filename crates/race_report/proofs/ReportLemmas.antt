@@ -1,8 +1,8 @@
 use Rattle.std.proofs.Common.{Bor, map, ◌≡◌, ℕ, List, [], ◌∷◌, ◌++◌, length, Option, ap, sym, subst, ◌∙◌, append_assoc, flat_map}
 use Rattle.std.proofs.lemmas.Grind.{flat_map-append}
 use Rattle.std.proofs.lemmas.List.{append-nil, map-append}
-use Rattle.sw_base.specs.Environment.{GainsFront, gained}
-use Rattle.sw_base.proofs.Gains.{gained-gained, GainsFront-append, GainsFront-after}
+use Rattle.sw_base.specs.Environment.{GainsPrefix, gained}
+use Rattle.sw_base.proofs.Gains.{gained-gained, GainsPrefix-append, GainsPrefix-after}
 use Rattle.race_report.specs.Report.{race_line, count_line, report_text}
 
 -- the text of a report, parted before one of its pairs
@@ -13,14 +13,14 @@ report_text-parts done pair rest count =
     ∙ append_assoc (flat_map race_line done) (flat_map race_line (pair ∷ rest)) (count_line count)
     ∙ ap (λ t. flat_map race_line done ++ t) (append_assoc (race_line pair) (flat_map race_line rest) (count_line count))
 
--- a pair's line that was refused leaves a front of the report
-pub GainsFront-report : (old between new : Option (List ℕ)) (done : List (ℕ × ℕ)) (pair : ℕ × ℕ) (rest all : List (ℕ × ℕ)) → all ≡ done ++ pair ∷ rest
-    → between ≡ gained old (flat_map race_line done) → GainsFront between new (race_line pair) → GainsFront old new (report_text all)
-GainsFront-report old between new done pair rest all parts first front =
-    let P : List ℕ → Type 0 = GainsFront old new in
+-- a pair's line that was refused leaves a prefix of the report
+pub GainsPrefix-report : (old between new : Option (List ℕ)) (done : List (ℕ × ℕ)) (pair : ℕ × ℕ) (rest all : List (ℕ × ℕ)) → all ≡ done ++ pair ∷ rest
+    → between ≡ gained old (flat_map race_line done) → GainsPrefix between new (race_line pair) → GainsPrefix old new (report_text all)
+GainsPrefix-report old between new done pair rest all parts first prefix =
+    let P : List ℕ → Type 0 = GainsPrefix old new in
     subst P (sym (ap report_text parts ∙ report_text-parts done pair rest (length (done ++ pair ∷ rest))))
-    (GainsFront-after old between new (flat_map race_line done) (race_line pair ++ (flat_map race_line rest ++ count_line (length (done ++ pair ∷ rest)))) first
-    (GainsFront-append between new (race_line pair) (flat_map race_line rest ++ count_line (length (done ++ pair ∷ rest))) front))
+    (GainsPrefix-after old between new (flat_map race_line done) (race_line pair ++ (flat_map race_line rest ++ count_line (length (done ++ pair ∷ rest)))) first
+    (GainsPrefix-append between new (race_line pair) (flat_map race_line rest ++ count_line (length (done ++ pair ∷ rest))) prefix))
 
 -- one more item of a turn
 pub map-now-push : (pairs : List (Bor (ℕ × ℕ))) (pair : Bor (ℕ × ℕ)) → map (λ (p : Bor (ℕ × ℕ)). p.now) (pairs ++ pair ∷ []) ≡ map (λ (p : Bor (ℕ × ℕ)). p.now) pairs ++ pair.now ∷ []
@@ -38,10 +38,10 @@ written-step old between new shown pair first then =
     ∙ ap (gained old) (ap (λ l. flat_map race_line shown ++ l) (sym (append-nil (race_line pair))) ∙ sym (flat_map-append race_line shown (pair ∷ [])))
 
 -- where no pair is left, the lines are those of all, and the count makes them the report
-pub GainsFront-count : (old between new : Option (List ℕ)) (shown left all : List (ℕ × ℕ)) (count : ℕ) → shown ++ left ≡ all → left ≡ [] → count ≡ length all
-    → between ≡ gained old (flat_map race_line shown) → GainsFront between new (count_line count) → GainsFront old new (report_text all)
-GainsFront-count old between new shown left all count whole none counts first front =
+pub GainsPrefix-count : (old between new : Option (List ℕ)) (shown left all : List (ℕ × ℕ)) (count : ℕ) → shown ++ left ≡ all → left ≡ [] → count ≡ length all
+    → between ≡ gained old (flat_map race_line shown) → GainsPrefix between new (count_line count) → GainsPrefix old new (report_text all)
+GainsPrefix-count old between new shown left all count whole none counts first prefix =
     let same : shown ≡ all = sym (append-nil shown) ∙ ap (λ l. shown ++ l) (sym none) ∙ whole in
-    let P : List ℕ → Type 0 = GainsFront old new in
+    let P : List ℕ → Type 0 = GainsPrefix old new in
     subst P (ap (λ l. flat_map race_line l ++ count_line count) same ∙ ap (λ n. flat_map race_line all ++ count_line n) counts)
-    (GainsFront-after old between new (flat_map race_line shown) (count_line count) first front)
+    (GainsPrefix-after old between new (flat_map race_line shown) (count_line count) first prefix)

@@ -30,17 +30,17 @@ fn pairs_are_in_order_and_counted(rt: HostRuntime) -> Result<(), Fail> {
 fn each_line_is_one_write(rt: HostRuntime) -> Result<(), Fail> {
     let alloc = rt.alloc();
     let pairs = three_pairs(alloc)?;
-    let fronts: [(u64, &[u8]); 4] = [
+    let prefixes: [(u64, &[u8]); 4] = [
         (1, b"race"),
         (2, b"race 5 5\nrace"),
         (3, b"race 5 5\nrace 5 6\nrace "),
         (4, b"race 5 5\nrace 5 6\nrace 12 17\nrace"),
     ];
-    for (call, front) in fronts {
+    for (call, prefix) in prefixes {
         let mut out = MemOut::new(alloc)?;
         out.fail(&[call])?;
         assert_eq!(rt; report(alloc, &mut out, &pairs), Err(Trouble::Failed));
-        assert_eq!(rt; out.written(), front);
+        assert_eq!(rt; out.written(), prefix);
     }
     let mut out = MemOut::new(alloc)?;
     out.fail(&[5])?;

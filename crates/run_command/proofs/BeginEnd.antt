@@ -7,8 +7,8 @@ use Rattle.run_command.specs.declared.beginning.Refusal.{Refusal}
 use Rattle.run_command.specs.declared.beginning.Refusal.TheVariants.{NoKernel, NotBuilt, IndexThere, ReadFault, Memory}
 use Rattle.command_answer.specs.Answer.{IsFailure, Tries}
 use Rattle.run_command.specs.Begins.{IsRefusal, RefusalDue}
-use Rattle.run_command.specs.Ends.{EndDue, Ends}
-use Rattle.run_command.specs.Ends as end
+use Rattle.run_command.specs.EndsRun.{EndDue, EndsRun}
+use Rattle.run_command.specs.EndsRun as end
 use Rattle.run_command.specs.Run.{HoldsKernel, LeavesPart, RunDue}
 use Rattle.run_command.specs.Run as run
 use Rattle.command_answer.proofs.Answering.{Tries-weaker}
@@ -34,9 +34,9 @@ module _ (rose : Type 0) (kernel dir : List ℕ) (size : ℕ) (old new : Content
     end_due status text (end.ran is ran) = run.ran program holds fresh is ran
 
     -- and so is its answer
-    pub ended_run : (before after : Option (List ℕ)) (status : ℕ) → Ends rose program dir size old before after status new → Tries (RunDue rose kernel dir size old new) before after status
+    pub ended_run : (before after : Option (List ℕ)) (status : ℕ) → EndsRun rose program dir size old before after status new → Tries (RunDue rose kernel dir size old new) before after status
     ended_run before after status ends = Tries-weaker (EndDue rose program dir size old new) (RunDue rose kernel dir size old new) before after status end_due ends.answers
 
     -- what it leaves where it could not give its answer is what `run` leaves
-    pub ended_part : (before after : Option (List ℕ)) (status : ℕ) → Ends rose program dir size old before after status new → IsFailure status → LeavesPart rose kernel dir size old new
+    pub ended_part : (before after : Option (List ℕ)) (status : ℕ) → EndsRun rose program dir size old before after status new → IsFailure status → LeavesPart rose kernel dir size old new
     ended_part before after status ends failure = run.began program holds fresh (ends.leaves failure)

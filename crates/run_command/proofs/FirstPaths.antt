@@ -13,7 +13,7 @@ use Rattle.kernel_model.specs.State.{Fork, put, reads_of, chunks_of}
 use Rattle.kernel_model.specs.Trace.{Start, run, task}
 use Rattle.kernel_model.specs.Folder.{lane_start, own_trace, root_start, start_at, start_below}
 use Rattle.kernel_model.proofs.FirstKindFolder.{no_forks}
-use Rattle.team_runner.specs.Answer.{lane_path, task_paths}
+use Rattle.team_runner.specs.Answer.{first_region_lane, task_paths}
 
 -- the path of a lane
 pub record IsLanePath (span : ℕ) (path : List Step) : Type 0 where
@@ -100,13 +100,13 @@ path_of_code program _ one logs step steps some = absurd one
 
 -- the lanes in the list of paths
 lanes_at : (program : Program) (k : ℕ) (d : List Step) → k < region_span program.main.body →
-    get_or (map (lane_path program) (range_with_len 0 (region_span program.main.body))) k d ≡ lane_path program k
-lanes_at program k d within = get_or-map-range_with_len (lane_path program) 0 (region_span program.main.body) k k d within (omega arith)
+    get_or (map (first_region_lane program) (range_with_len 0 (region_span program.main.body))) k d ≡ first_region_lane program k
+lanes_at program k d within = get_or-map-range_with_len (first_region_lane program) 0 (region_span program.main.body) k k d within (omega arith)
 
 -- each lane is listed
 lane_listed : (program : Program) (path : List Step) → IsLanePath (region_span program.main.body) path → Contains (task_paths program) path
 lane_listed program path is =
-    let count = length-map-range_with_len (lane_path program) 0 (region_span program.main.body) in
+    let count = length-map-range_with_len (first_region_lane program) 0 (region_span program.main.body) in
     let within = is.within in
     (suc is.lane, omega arith, lanes_at program is.lane path is.within ∙ sym is.is)
 
@@ -119,6 +119,6 @@ first_paths program first logs (step ∷ steps) some = lane_listed program (step
 pub listed_path : (program : Program) (path : List Step) → Contains (task_paths program) path → (path ≡ []) ⊎ IsLanePath (region_span program.main.body) path
 listed_path program path (zero, within, is) = inl (sym is)
 listed_path program path (suc k, within, is) =
-    let count = length-map-range_with_len (lane_path program) 0 (region_span program.main.body) in
+    let count = length-map-range_with_len (first_region_lane program) 0 (region_span program.main.body) in
     let below : k < region_span program.main.body = omega arith in
     inr (record { lane = k; within = below; is = sym is ∙ lanes_at program k path below })

@@ -5,7 +5,7 @@ use Rattle.sw_base.specs.declared.path.Step.{Step}
 use Rattle.sw_base.specs.Names.{index_name, log_name}
 use Rattle.sw_base.proofs.AfterPut.{with_file-elsewhere}
 use Rattle.sw_base.proofs.NameLaws.{log_name-not_index}
-use Rattle.run_command.specs.Run.{SealedLog, SealsFront, between, torn, with_sealed}
+use Rattle.run_command.specs.Run.{SealedLog, SealsPrefix, between, torn, with_sealed}
 
 index_apart : (dir : List ℕ) (path : List Step) → index_name dir ≢ log_name dir path
 index_apart dir path same = log_name-not_index dir path (sym same)
@@ -18,9 +18,9 @@ index_kept dir (log ∷ logs) content =
     ∙ with_file-elsewhere (log_name dir log.path) log.bytes content.held (index_name dir) (index_apart dir log.path)
 
 -- also where it was broken off
-pub front_keeps_index : (dir : List ℕ) (logs : List SealedLog) (old new : Content) → SealsFront dir logs old new → new.held (index_name dir) ≡ old.held (index_name dir)
-front_keeps_index dir logs old new (between first rest parts leaves) = ap (λ (c : Content). c.held (index_name dir)) leaves ∙ index_kept dir first old
-front_keeps_index dir logs old new (torn first next rest parts front behind bytes leaves) =
+pub prefix_keeps_index : (dir : List ℕ) (logs : List SealedLog) (old new : Content) → SealsPrefix dir logs old new → new.held (index_name dir) ≡ old.held (index_name dir)
+prefix_keeps_index dir logs old new (between first rest parts leaves) = ap (λ (c : Content). c.held (index_name dir)) leaves ∙ index_kept dir first old
+prefix_keeps_index dir logs old new (torn first next rest parts prefix behind bytes leaves) =
     ap (λ (c : Content). c.held (index_name dir)) leaves
-    ∙ with_file-elsewhere (log_name dir next.path) front (with_sealed dir first old).held (index_name dir) (index_apart dir next.path)
+    ∙ with_file-elsewhere (log_name dir next.path) prefix (with_sealed dir first old).held (index_name dir) (index_apart dir next.path)
     ∙ index_kept dir first old

@@ -24,18 +24,18 @@ use Rattle.kernel_model.specs.Trace.{Ended, Ending, Stopped}
 use Rattle.team_runner.specs.declared.stop.Stop.{Stop}
 use Rattle.team_runner.specs.declared.stop.Stop.TheVariants.{DivZero, Index, LogFull}
 use Rattle.team_runner.specs.declared.stop.Stop.TheVariants as stop
-use Rattle.team_runner.specs.Answer.{HasRun, HasStop, HasStoppedRun, HasTask, HasFaulty, HasFront, IsAhead, IsOwnLog, IsRun, Logged, whole_log, logged_entry}
+use Rattle.team_runner.specs.Answer.{HasRun, HasStop, HasStoppedRun, HasTask, HasFaulty, HasPrefix, IsAhead, IsOwnLog, IsRun, Logged, whole_log, logged_entry}
 use Rattle.team_runner.specs.Answer as answered
 use Rattle.team_runner.specs.Stops.{StopsSo}
 use Rattle.command_answer.specs.declared.status.TheConstants.{DONE, KERNEL_STOPPED, NO_MEMORY}
 use Rattle.command_answer.specs.Answer.{IsFailure, Prints, Tries, silent}
 use Rattle.run_command.specs.Ends.{EndDue, EndsSo, ran, stop_of, stopped}
-use Rattle.run_command.specs.Run.{AreStopped, EndLeaves, Ran, SealedLog, SealsFront, StoppedRun, ended, index, logs, sealed_log, with_sealed}
+use Rattle.run_command.specs.Run.{AreStopped, EndLeaves, EndedRun, SealedLog, SealsPrefix, StoppedRun, ended, index, logs, sealed_log, with_sealed}
 use Rattle.run_command.specs.Run as kinds
 use Rattle.run_command.specs.RunTexts.{run_text, stopped_text}
-use Rattle.run_command.specs.Seals.{AllTell, SealsAll, StoresAll, StoresFront, StoresPart, all_logged, all_sealed, front, part, row_of_entry, rows_of_logs, sealed_of, tasks_of, with_index}
+use Rattle.run_command.specs.Seals.{AllTell, SealsAll, StoresAll, StoresPrefix, StoresPart, all_logged, all_sealed, prefix, part, row_of_entry, rows_of_logs, sealed_of, tasks_of, with_index}
 use Rattle.command_answer.proofs.Answering.{Tries-from_prints}
-use Rattle.run_command.proofs.IndexKept.{front_keeps_index}
+use Rattle.run_command.proofs.IndexKept.{prefix_keeps_index}
 use Rattle.run_command.proofs.RunFolder.{left_by, run_well_formed}
 use Rattle.run_command.proofs.StoredRun.{rows-logged}
 
@@ -59,9 +59,6 @@ whole_sealed dir size root tasks = map-map sealed_of (whole_log dir size (Some r
 
 whole_rows : (dir : List ℕ) (size : ℕ) (root : Option Text) (tasks : Trace) → rows_of_logs (map (whole_log dir size root) tasks) ≡ rows_of tasks
 whole_rows dir size root tasks = map-map (λ (log : Logged). record { path = log.task; records = log.count }) (whole_log dir size root) tasks
-
-whole_tasks : (dir : List ℕ) (size : ℕ) (root : Option Text) (tasks : Trace) → tasks_of (map (whole_log dir size root) tasks) ≡ paths_of tasks
-whole_tasks dir size root tasks = map-map (λ (log : Logged). log.task) (whole_log dir size root) tasks
 
 -- each is of the folder and tells what it holds
 whole_tell : (dir : List ℕ) (size : ℕ) (root : Text) (tasks : Trace) → AllTell dir (map (whole_log dir size (Some root)) tasks)
@@ -88,19 +85,19 @@ module _ (rose : Type 0) (program : Program) (first : IsFirstKind program) (dir 
 
   -- what is left where storing the run was refused
   part_left : (old new : Content) → StoresPart dir run_logs old new → EndLeaves rose program dir size old new
-  part_left old new (part sealed) = logs (all_sealed run_logs) (ended tasks run (whole_sealed dir size root tasks)) sealed (front_keeps_index dir (all_sealed run_logs) old new sealed)
-  part_left old new (front bytes rest parts leaves) =
+  part_left old new (part sealed) = logs (all_sealed run_logs) (ended tasks run (whole_sealed dir size root tasks)) sealed (prefix_keeps_index dir (all_sealed run_logs) old new sealed)
+  part_left old new (prefix bytes rest parts leaves) =
       index tasks run bytes rest (ap index_bytes (sym (whole_rows dir size (Some root) tasks)) ∙ parts) (leaves ∙ with_index-is bytes old)
 
   -- storing the run was refused
-  refused_ends : (old new : Option Content) (status : ℕ) (written : Option (List ℕ)) → StoresFront dir run_logs old new → IsFailure status → EndsSo rose program dir size old new written written status
+  refused_ends : (old new : Option Content) (status : ℕ) (written : Option (List ℕ)) → StoresPrefix dir run_logs old new → IsFailure status → EndsSo rose program dir size old new written written status
   refused_ends old new status written stores failure content is =
       let left = stores content (whole_tell dir size root tasks) is in
       record { content = left.content; is = left.is; holds = record { answers = silent failure refl; leaves = λ _. part_left content left.content left.holds } }
 
   -- what is due where it was stored
   has_ran : (old new : Content) (values : List ℕ) → new ≡ left_by program first dir size tasks run old → length values ≡ elements program.arrays
-      → Ran program dir size old new (run_text tasks program.arrays values)
+      → EndedRun program dir size old new (run_text tasks program.arrays values)
   has_ran old new values leaves all = record {
     tasks = tasks;
     run = run;
@@ -129,9 +126,9 @@ module _ (rose : Type 0) (program : Program) (first : IsFirstKind program) (dir 
 -- the same of the logs that a run answered
 module _ (rose : Type 0) (program : Program) (first : IsFirstKind program) (dir : List ℕ) (size : ℕ) (root : Text) (all : List Logged) (has : HasRun program dir size (Some root) all) where
   -- storing them was refused
-  pub run_refused : (old new : Option Content) (status : ℕ) (written : Option (List ℕ)) → StoresFront dir all old new → IsFailure status → EndsSo rose program dir size old new written written status
+  pub run_refused : (old new : Option Content) (status : ℕ) (written : Option (List ℕ)) → StoresPrefix dir all old new → IsFailure status → EndsSo rose program dir size old new written written status
   run_refused old new status written stores failure =
-      refused_ends rose program first dir size root has.tasks has.run old new status written (subst (λ (ls : List Logged). StoresFront dir ls old new) has.logs_are stores) failure
+      refused_ends rose program first dir size root has.tasks has.run old new status written (subst (λ (ls : List Logged). StoresPrefix dir ls old new) has.logs_are stores) failure
 
   -- they were stored
   pub run_stored : (old new : Option Content) (status : ℕ) (before after : Option (List ℕ)) (values : List ℕ) (made : Result (String Global) Memory) → StoresAll dir all old new
@@ -183,12 +180,12 @@ module _ (program : Program) (dir : List ℕ) (size : ℕ) (root : Text) (all : 
 
   module _ (HasPart HasPart' : TaskLog → Type 0) (part : (task : TaskLog) → HasPart task → HasPart' task) where
     -- so are the first records of one that waits
-    front_sealed : (path : List Step) (barriers : ℕ) → HasFront program HasPart path barriers → HasFront program HasPart' path barriers
-    front_sealed path barriers has = record {
+    prefix_sealed : (path : List Step) (barriers : ℕ) → HasPrefix program HasPart path barriers → HasPrefix program HasPart' path barriers
+    prefix_sealed path barriers has = record {
       start = has.start;
       starts = has.starts;
       records = has.records;
-      front = has.front;
+      prefix = has.prefix;
       passed = has.passed;
       logged = part (record { path = path; records = has.records }) has.logged;
     }
@@ -198,7 +195,7 @@ module _ (program : Program) (dir : List ℕ) (size : ℕ) (root : Text) (all : 
         → IsAhead program (λ task. Contains (all_sealed all) (sealed_log size task)) HasPart' path barriers
     unfolding task_sealed
     ahead_sealed path barriers (answered.ended task few) = answered.ended (task_sealed path Ended task) few
-    ahead_sealed path barriers (answered.waits has) = answered.waits (front_sealed path barriers has)
+    ahead_sealed path barriers (answered.waits has) = answered.waits (prefix_sealed path barriers has)
 
     -- the logs of a stop are
     stop_sealed : (path : List Step) (kind : model.Stop) (line : ℕ) → HasStop program (λ task. Contains all (whole_log dir size (Some root) task)) HasPart path kind line
@@ -210,7 +207,7 @@ module _ (program : Program) (dir : List ℕ) (size : ℕ) (root : Text) (all : 
       path_is = has.path_is;
       stopped = task_sealed path (Stopped kind line) has.stopped;
       before = λ other below. ahead_sealed _ (barrier_count has.stopped.records) (has.before other below);
-      reached = λ other barriers below fewer. front_sealed _ barriers (has.reached other barriers below fewer);
+      reached = λ other barriers below fewer. prefix_sealed _ barriers (has.reached other barriers below fewer);
     }
 
   -- a log that is there is sealed, and a fault of one makes the count rise
@@ -226,8 +223,8 @@ module _ (program : Program) (dir : List ℕ) (size : ℕ) (root : Text) (all : 
     are_stopped = record { all = sealed_paths dir all tell ∙ has.all; stop = stop_sealed _ _ (part_sealed faults rose rises) path kind line has.stop }
 
     -- what is left where sealing was broken off
-    left_logs : (old new : Content) → SealsFront dir (all_sealed all) old new → EndLeaves rose program dir size old new
-    left_logs old new sealed = logs (all_sealed all) (kinds.stopped path kind line are_stopped) sealed (front_keeps_index dir (all_sealed all) old new sealed)
+    left_logs : (old new : Content) → SealsPrefix dir (all_sealed all) old new → EndLeaves rose program dir size old new
+    left_logs old new sealed = logs (all_sealed all) (kinds.stopped path kind line are_stopped) sealed (prefix_keeps_index dir (all_sealed all) old new sealed)
 
     -- all logs were sealed
     pub stop_ends : (old new : Option Content) (status : ℕ) (before after : Option (List ℕ)) (made : Result (String Global) Memory) → SealsAll all (Ok tt) old new
@@ -249,7 +246,7 @@ module _ (program : Program) (dir : List ℕ) (size : ℕ) (root : Text) (all : 
           is = now.is;
           holds = record {
             answers = printed_made (EndDue rose program dir size content now.content) KERNEL_STOPPED (stopped_text path line kind) made before after status (stopped refl due) same prints none;
-            leaves = λ _. left_logs content now.content now.holds.front;
+            leaves = λ _. left_logs content now.content now.holds.prefix;
           };
         }
 
@@ -263,6 +260,6 @@ module _ (program : Program) (dir : List ℕ) (size : ℕ) (root : Text) (all : 
           is = now.is;
           holds = record {
             answers = silent failure refl;
-            leaves = λ _. left_logs content now.content now.holds.front;
+            leaves = λ _. left_logs content now.content now.holds.prefix;
           };
         }

@@ -11,7 +11,7 @@ use Rattle.sw_base.proofs.AfterPut.{with_file-elsewhere, with_file-here}
 use Rattle.sw_base.proofs.NameLaws.{HasPlace, log_name-not_index, log_name-places, place}
 use Rattle.race_model.specs.FirstBad.{HoldsLogs, HoldsTrace, IsBad, row_of, rows_of}
 use Rattle.race_model.specs.IndexFault.{IsRow, IsStep}
-use Rattle.race_model.specs.Place.{IsTooMany, Place}
+use Rattle.race_model.specs.BadPlace.{IsTooMany, BadPlace}
 use Rattle.race_model.specs.Row.{index_bytes}
 use Rattle.race_model.specs.Trace.{TaskLog, Trace, logs_of, path_eq}
 use Rattle.race_model.proofs.IndexRows.{put_is_index}
@@ -151,5 +151,5 @@ module _ (program : Program) (first : IsFirstKind program) (dir : List ℕ) (siz
   run_held old = record { index = put_is_index (with_sealed dir (map (sealed_log size) tasks) old).held dir (rows_of tasks) run.rules.rows; logs = logs_held old }
 
   -- and is bad at most where a segment is one too many
-  pub run_well_formed : (old : Content) (place : Place) → IsBad (left_by old).held dir place → IsTooMany place
+  pub run_well_formed : (old : Content) (place : BadPlace) → IsBad (left_by old).held dir place → IsTooMany place
   run_well_formed old = kept_bad (left_by old).held dir tasks run.rules (run_held old)

@@ -5,11 +5,11 @@ use Rattle.std.proofs.lemmas.List.{append_assoc, map-append}
 use Rattle.std.proofs.lemmas.List.Elements.{All-pop, Contains-push_cases}
 use Rattle.sw_base.specs.declared.path.Step.{Step}
 use Rattle.sw_base.specs.declared.trouble.Trouble.{Trouble}
-use Rattle.sw_base.specs.Environment.{Content, LeavesFront, Text, WhereTold, with_log, with_put}
+use Rattle.sw_base.specs.Environment.{Content, LeavesPrefix, Text, WhereTold, with_log, with_put}
 use Rattle.sw_base.specs.Names.{log_name}
 use Rattle.team_runner.specs.Answer.{HasFaulty, IsOwnLog, Logged, outline, logged_entry}
-use Rattle.run_command.specs.Run.{SealedLog, SealsFront, between, torn, with_sealed}
-use Rattle.run_command.specs.Seals.{Seals, SealsAll, Tells, all_logged, all_sealed, sealed_of}
+use Rattle.run_command.specs.Run.{SealedLog, SealsPrefix, between, torn, with_sealed}
+use Rattle.run_command.specs.Seals.{Seals, SealsAll, TellsSuch, all_logged, all_sealed, sealed_of}
 
 -- a folder after one log was sealed
 abbrev pub with_one : List ℕ → SealedLog → Content → Content
@@ -38,7 +38,7 @@ all_sealed-push logs log = map-append sealed_of logs (log ∷ [])
 
 -- nothing was sealed yet
 seals_none : (dir : List ℕ) (content : Content) → Seals dir [] (Ok tt) content content
-seals_none dir content = record { done = refl; front = between [] [] refl refl }
+seals_none dir content = record { done = refl; prefix = between [] [] refl refl }
 
 module _ (dir : List ℕ) (logs : List Logged) (log : Logged) (old mid : Content) (own : IsOwnLog dir true log) where
   -- a log was sealed
@@ -48,25 +48,25 @@ module _ (dir : List ℕ) (logs : List Logged) (log : Logged) (old mid : Content
       ap (with_log (log_name log.dir log.path) text) before.done
       ∙ sealed_text dir log text (with_sealed dir (all_sealed logs) old) own told
       ∙ sym (with_sealed-push dir logs log old) in
-      record { done = done; front = between (all_sealed (logs ++ log ∷ [])) [] (sym (append-nil (all_sealed (logs ++ log ∷ [])))) done }
+      record { done = done; prefix = between (all_sealed (logs ++ log ∷ [])) [] (sym (append-nil (all_sealed (logs ++ log ∷ [])))) done }
 
   -- a log was refused
   seals_refused : (text : Text) (trouble : Trouble) (new : Option Content) → log.told ≡ outline (Some text) → Seals dir logs (Ok tt) old mid
-      → LeavesFront (Some mid) new (log_name log.dir log.path) text.bytes → Tells new (Seals dir (logs ++ log ∷ []) (Err trouble) old)
+      → LeavesPrefix (Some mid) new (log_name log.dir log.path) text.bytes → TellsSuch new (Seals dir (logs ++ log ∷ []) (Err trouble) old)
   seals_refused text trouble new told before left =
       ⊎_elim
-      (λ same. let it : Tells new (Seals dir (logs ++ log ∷ []) (Err trouble) old) = record {
+      (λ same. let it : TellsSuch new (Seals dir (logs ++ log ∷ []) (Err trouble) old) = record {
         content = mid;
         is = same;
-        holds = record { done = tt; front = between (all_sealed logs) (sealed_of log ∷ []) (all_sealed-push logs log) before.done };
+        holds = record { done = tt; prefix = between (all_sealed logs) (sealed_of log ∷ []) (all_sealed-push logs log) before.done };
       } in it)
       (λ put. record {
-        content = with_put (log_name log.dir log.path) left.front mid;
+        content = with_put (log_name log.dir log.path) left.prefix mid;
         is = put;
         holds = record {
           done = tt;
-          front = torn (all_sealed logs) (sealed_of log) [] (all_sealed-push logs log) left.front left.rest (bytes_are ∙ left.parts)
-              (rw (own.dir_is) (ap (with_put (log_name dir log.path) left.front) before.done));
+          prefix = torn (all_sealed logs) (sealed_of log) [] (all_sealed-push logs log) left.prefix left.rest (bytes_are ∙ left.parts)
+              (rw (own.dir_is) (ap (with_put (log_name dir log.path) left.prefix) before.done));
         };
       })
       left.leaves where
@@ -75,20 +75,20 @@ module _ (dir : List ℕ) (logs : List Logged) (log : Logged) (old mid : Content
 
   -- an earlier one was
   seals_given_up : (trouble : Trouble) → Seals dir logs (Err trouble) old mid → Seals dir (logs ++ log ∷ []) (Err trouble) old mid
-  seals_given_up trouble before = record { done = tt; front = longer before.front } where
-    longer : SealsFront dir (all_sealed logs) old mid → SealsFront dir (all_sealed (logs ++ log ∷ [])) old mid
+  seals_given_up trouble before = record { done = tt; prefix = longer before.prefix } where
+    longer : SealsPrefix dir (all_sealed logs) old mid → SealsPrefix dir (all_sealed (logs ++ log ∷ [])) old mid
     longer (between first rest parts leaves) =
         between first (rest ++ sealed_of log ∷ [])
         (all_sealed-push logs log ∙ ap (λ (ls : List SealedLog). ls ++ sealed_of log ∷ []) parts ∙ append_assoc first rest (sealed_of log ∷ [])) leaves
-    longer (torn first next rest parts front behind bytes leaves) =
+    longer (torn first next rest parts prefix behind bytes leaves) =
         torn first next (rest ++ sealed_of log ∷ [])
-        (all_sealed-push logs log ∙ ap (λ (ls : List SealedLog). ls ++ sealed_of log ∷ []) parts ∙ append_assoc first (next ∷ rest) (sealed_of log ∷ [])) front behind bytes leaves
+        (all_sealed-push logs log ∙ ap (λ (ls : List SealedLog). ls ++ sealed_of log ∷ []) parts ∙ append_assoc first (next ∷ rest) (sealed_of log ∷ [])) prefix behind bytes leaves
 
   -- one more log was sealed or refused
   seals_next : (text : Option Text) (r : Result (Unit {0}) Trouble) (new : Option Content) → log.told ≡ outline text → Seals dir logs (Ok tt) old mid
       → OnOk r (WhereTold text (λ t. new ≡ option_map (with_log (log_name log.dir log.path) t) (Some mid)))
-      → OnErr r (WhereTold text (λ t. LeavesFront (Some mid) new (log_name log.dir log.path) t.bytes))
-      → Tells new (Seals dir (logs ++ log ∷ []) r old)
+      → OnErr r (WhereTold text (λ t. LeavesPrefix (Some mid) new (log_name log.dir log.path) t.bytes))
+      → TellsSuch new (Seals dir (logs ++ log ∷ []) r old)
   seals_next None r new told before done refused = let tells = own.tells_so in absurd (cc)
   seals_next (Some text) (Ok _) new told before done refused = record { content = _; is = done text refl; holds = seals_push text told before }
   seals_next (Some text) (Err trouble) new told before done refused = seals_refused text trouble new told before (refused text refl)
@@ -100,14 +100,14 @@ seals_all_none told dir content tell is = record { content = content; is = is; h
 -- one more log
 seals_all_next : (logs : List Logged) (log : Logged) (text : Option Text) (so_far r : Result (Unit {0}) Trouble) (old mid new : Option Content) → log.told ≡ outline text → SealsAll logs so_far old mid
     → OnOk so_far (OnOk r (WhereTold text (λ t. new ≡ option_map (with_log (log_name log.dir log.path) t) mid)))
-    → OnOk so_far (OnErr r (WhereTold text (λ t. LeavesFront mid new (log_name log.dir log.path) t.bytes)))
+    → OnOk so_far (OnErr r (WhereTold text (λ t. LeavesPrefix mid new (log_name log.dir log.path) t.bytes)))
     → OnErr so_far ((r ≡ so_far) × (new ≡ mid)) → SealsAll (logs ++ log ∷ []) r old new
 seals_all_next logs log text (Ok _) r old mid new told before done refused given_up dir content tell is =
     let both = All-pop (IsOwnLog dir true) (logs ++ log ∷ []) logs (Some log) refl tell in
     let now = before dir content both.0 is in
     seals_next dir logs log content now.content both.1 text r new told now.holds
     (subst (λ (m : Option Content). OnOk r (WhereTold text (λ t. new ≡ option_map (with_log (log_name log.dir log.path) t) m))) now.is done)
-    (subst (λ (m : Option Content). OnErr r (WhereTold text (λ t. LeavesFront m new (log_name log.dir log.path) t.bytes))) now.is refused)
+    (subst (λ (m : Option Content). OnErr r (WhereTold text (λ t. LeavesPrefix m new (log_name log.dir log.path) t.bytes))) now.is refused)
 seals_all_next logs log text (Err trouble) r old mid new told before done refused given_up dir content tell is =
     let both = All-pop (IsOwnLog dir true) (logs ++ log ∷ []) logs (Some log) refl tell in
     let now = before dir content both.0 is in
@@ -121,7 +121,7 @@ seals_all_next logs log text (Err trouble) r old mid new told before done refuse
 pub seals_all_push : {L : Type 0} (dir_of : L → List ℕ) (path_of : L → List Step) (text_of : L → Option Text) (entries : List (List Step × L × ℕ)) (path : List Step) (log : L) (count : ℕ)
     (so_far r : Result (Unit {0}) Trouble) (old mid new : Option Content) → SealsAll (all_logged dir_of path_of text_of entries) so_far old mid
     → OnOk so_far (OnOk r (WhereTold (text_of log) (λ t. new ≡ option_map (with_log (log_name (dir_of log) (path_of log)) t) mid)))
-    → OnOk so_far (OnErr r (WhereTold (text_of log) (λ t. LeavesFront mid new (log_name (dir_of log) (path_of log)) t.bytes)))
+    → OnOk so_far (OnErr r (WhereTold (text_of log) (λ t. LeavesPrefix mid new (log_name (dir_of log) (path_of log)) t.bytes)))
     → OnErr so_far ((r ≡ so_far) × (new ≡ mid)) → SealsAll (all_logged dir_of path_of text_of (entries ++ (path, log, count) ∷ [])) r old new
 seals_all_push dir_of path_of text_of entries path log count so_far r old mid new before done refused given_up =
     subst (λ (logs : List Logged). SealsAll logs r old new) (sym (map-append (logged_entry dir_of path_of text_of) entries ((path, log, count) ∷ [])))

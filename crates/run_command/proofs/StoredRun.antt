@@ -4,12 +4,12 @@ use Rattle.std.specs.Option.{option_map}
 use Rattle.std.proofs.lemmas.Simd.{map-map}
 use Rattle.sw_base.specs.declared.path.Step.{Step}
 use Rattle.sw_base.specs.declared.trouble.Trouble.{Trouble}
-use Rattle.sw_base.specs.Environment.{Content, LeavesFront, Text, with_put}
+use Rattle.sw_base.specs.Environment.{Content, LeavesPrefix, Text, with_put}
 use Rattle.sw_base.specs.Names.{index_name}
 use Rattle.race_model.specs.Row.{index_bytes}
 use Rattle.team_runner.specs.Answer.{Logged, logged_entry}
 use Rattle.run_command.specs.Run.{between}
-use Rattle.run_command.specs.Seals.{SealsAll, StoresAll, StoresFront, StoresPart, Tells, all_logged, all_sealed, front, part, row_of_entry, rows_of_logs, with_index}
+use Rattle.run_command.specs.Seals.{SealsAll, StoresAll, StoresPrefix, StoresPart, TellsSuch, all_logged, all_sealed, prefix, part, row_of_entry, rows_of_logs, with_index}
 
 -- the rows of a run's logs
 pub rows-logged : {L : Type 0} (dir_of : L → List ℕ) (path_of : L → List Step) (text_of : L → Option Text) (entries : List (List Step × L × ℕ)) →
@@ -17,14 +17,14 @@ pub rows-logged : {L : Type 0} (dir_of : L → List ℕ) (path_of : L → List S
 rows-logged dir_of path_of text_of entries = map-map (λ (log : Logged). record { path = log.task; records = log.count }) (logged_entry dir_of path_of text_of) entries
 
 -- no log was sealed
-pub stores_none : (dir : List ℕ) (logs : List Logged) (old new : Option Content) → new ≡ old → StoresFront dir logs old new
+pub stores_none : (dir : List ℕ) (logs : List Logged) (old new : Option Content) → new ≡ old → StoresPrefix dir logs old new
 stores_none dir logs old new same content tell is = record { content = content; is = same ∙ is; holds = part (between [] (all_sealed logs) refl refl) }
 
 -- a log was refused
-pub stores_part : (dir : List ℕ) (logs : List Logged) (trouble : Trouble) (old new : Option Content) → SealsAll logs (Err trouble) old new → StoresFront dir logs old new
+pub stores_part : (dir : List ℕ) (logs : List Logged) (trouble : Trouble) (old new : Option Content) → SealsAll logs (Err trouble) old new → StoresPrefix dir logs old new
 stores_part dir logs trouble old new seals content tell is =
     let now = seals dir content tell is in
-    record { content = now.content; is = now.is; holds = part now.holds.front }
+    record { content = now.content; is = now.is; holds = part now.holds.prefix }
 
 module _ (dir : List ℕ) (logs : List Logged) (old mid new : Option Content) (seals : SealsAll logs (Ok tt) old mid) where
   -- all logs and the index are there
@@ -34,14 +34,14 @@ module _ (dir : List ℕ) (logs : List Logged) (old mid new : Option Content) (s
       put ∙ ap (option_map (with_put (index_name dir) (index_bytes (rows_of_logs logs)))) (now.is ∙ ap Some now.holds.done)
 
   -- the index was refused
-  pub stores_front : LeavesFront mid new (index_name dir) (index_bytes (rows_of_logs logs)) → StoresFront dir logs old new
-  stores_front left content tell is =
+  pub stores_prefix : LeavesPrefix mid new (index_name dir) (index_bytes (rows_of_logs logs)) → StoresPrefix dir logs old new
+  stores_prefix left content tell is =
       let now = seals dir content tell is in
       ⊎_elim
-      (λ same. let it : Tells new (StoresPart dir logs content) = record { content = now.content; is = same ∙ now.is; holds = part now.holds.front } in it)
+      (λ same. let it : TellsSuch new (StoresPart dir logs content) = record { content = now.content; is = same ∙ now.is; holds = part now.holds.prefix } in it)
       (λ put. record {
-        content = with_index dir logs left.front content;
-        is = put ∙ ap (option_map (with_put (index_name dir) left.front)) (now.is ∙ ap Some now.holds.done);
-        holds = front left.front left.rest left.parts refl;
+        content = with_index dir logs left.prefix content;
+        is = put ∙ ap (option_map (with_put (index_name dir) left.prefix)) (now.is ∙ ap Some now.holds.done);
+        holds = prefix left.prefix left.rest left.parts refl;
       })
       left.leaves

@@ -7,23 +7,23 @@ use Rattle.team_runner.specs.declared.stop.Stop.{Stop}
 use Rattle.team_runner.specs.declared.stop.Stop.TheVariants.{DivZero, Index, LogFull, Trouble}
 use Rattle.command_answer.specs.declared.status.TheConstants.{DONE, KERNEL_STOPPED}
 use Rattle.command_answer.specs.Answer.{IsFailure, Tries}
-use Rattle.run_command.specs.Run.{EndLeaves, Ran, StoppedRun}
+use Rattle.run_command.specs.Run.{EndLeaves, EndedRun, StoppedRun}
 use Rattle.run_command.specs.RunTexts.{stop_name}
-use Rattle.run_command.specs.Seals.{Tells}
+use Rattle.run_command.specs.Seals.{TellsSuch}
 
 -- where the kernel stopped, or the counts and sums of the run
 pub data EndDue (rose : Type 0) (program : Program) (dir : List ℕ) (size : ℕ) (old new : Content) (status : ℕ) (text : List ℕ) : Type 0 where
   stopped : status ≡ KERNEL_STOPPED → StoppedRun rose program dir size old new text → EndDue rose program dir size old new status text
-  ran : status ≡ DONE → Ran program dir size old new text → EndDue rose program dir size old new status text
+  ran : status ≡ DONE → EndedRun program dir size old new text → EndDue rose program dir size old new status text
 
 -- an answer that is due, or none and what is left then
-pub record Ends (rose : Type 0) (program : Program) (dir : List ℕ) (size : ℕ) (old : Content) (before after : Option (List ℕ)) (status : ℕ) (new : Content) : Type 0 where
+pub record EndsRun (rose : Type 0) (program : Program) (dir : List ℕ) (size : ℕ) (old : Content) (before after : Option (List ℕ)) (status : ℕ) (new : Content) : Type 0 where
   pub answers : Tries (EndDue rose program dir size old new) before after status
   pub leaves : IsFailure status → EndLeaves rose program dir size old new
 
 -- the same of a folder that may tell
 abbrev pub EndsSo : Type 0 → Program → List ℕ → ℕ → Option Content → Option Content → Option (List ℕ) → Option (List ℕ) → ℕ → Type 0
-EndsSo rose program dir size old new before after status = (c : Content) → old ≡ Some c → Tells new (Ends rose program dir size c before after status)
+EndsSo rose program dir size old new before after status = (c : Content) → old ≡ Some c → TellsSuch new (EndsRun rose program dir size c before after status)
 
 -- a stop that the kernel itself makes
 abbrev pub stop_of : Stop → Option (model.Stop × ℕ)

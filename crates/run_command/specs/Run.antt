@@ -5,7 +5,7 @@ use Rattle.sw_base.specs.declared.files.TheConstants.{LOG_HEADER}
 use Rattle.sw_base.specs.Environment.{Files, Content, with_file, with_put}
 use Rattle.sw_base.specs.Names.{index_name, log_name}
 use Rattle.log_format.specs.Spelling.{log_bytes}
-use Rattle.race_model.specs.Place.{Place, IsTooMany}
+use Rattle.race_model.specs.BadPlace.{BadPlace, IsTooMany}
 use Rattle.race_model.specs.FirstBad.{IsBad, rows_of}
 use Rattle.race_model.specs.Row.{index_bytes}
 use Rattle.race_model.specs.Trace.{TaskLog, Trace}
@@ -51,19 +51,19 @@ with_sealed dir (log ∷ logs) content =
       sealed = content.sealed ++ record { name = log_name dir log.path; lengths = log.lengths } ∷ [];
     })
 
--- Sealing these logs was broken off: the first of them are sealed, and a front of the next may stand under its name.
-pub data SealsFront (dir : List ℕ) (logs : List SealedLog) (old new : Content) : Type 0 where
-  between : (first rest : List SealedLog) → logs ≡ first ++ rest → new ≡ with_sealed dir first old → SealsFront dir logs old new
-  torn : (first : List SealedLog) (next : SealedLog) (rest : List SealedLog) → logs ≡ first ++ next ∷ rest → (front behind : List ℕ)
-      → next.bytes ≡ front ++ behind → new ≡ with_put (log_name dir next.path) front (with_sealed dir first old) → SealsFront dir logs old new
+-- Sealing these logs was broken off: the first of them are sealed, and a prefix of the next may stand under its name.
+pub data SealsPrefix (dir : List ℕ) (logs : List SealedLog) (old new : Content) : Type 0 where
+  between : (first rest : List SealedLog) → logs ≡ first ++ rest → new ≡ with_sealed dir first old → SealsPrefix dir logs old new
+  torn : (first : List SealedLog) (next : SealedLog) (rest : List SealedLog) → logs ≡ first ++ next ∷ rest → (prefix behind : List ℕ)
+      → next.bytes ≡ prefix ++ behind → new ≡ with_put (log_name dir next.path) prefix (with_sealed dir first old) → SealsPrefix dir logs old new
 
 -- The run ended: its logs and its index are there, and nothing else changed. Its folder has no bad place, but it may have too
 -- many segments.
-pub record Ran (program : Program) (dir : List ℕ) (size : ℕ) (old new : Content) (text : List ℕ) : Type 0 where
+pub record EndedRun (program : Program) (dir : List ℕ) (size : ℕ) (old new : Content) (text : List ℕ) : Type 0 where
   pub tasks : Trace
   pub run : IsRun program tasks
   pub leaves : new ≡ with_put (index_name dir) (index_bytes (rows_of tasks)) (with_sealed dir (map (sealed_log size) tasks) old)
-  pub well_formed : (place : Place) → IsBad new.held dir place → IsTooMany place
+  pub well_formed : (place : BadPlace) → IsBad new.held dir place → IsTooMany place
   pub values : List ℕ
   pub values_are : length values ≡ elements program.arrays
   pub text_is : text ≡ run_text tasks program.arrays values
@@ -96,21 +96,21 @@ pub data RunDue (rose : Type 0) (kernel dir : List ℕ) (size : ℕ) (old new : 
   stopped : (program : Program) → HoldsKernel old.held kernel program → old.held (index_name dir) ≡ None → status ≡ KERNEL_STOPPED
       → StoppedRun rose program dir size old new text → RunDue rose kernel dir size old new status text
   ran : (program : Program) → HoldsKernel old.held kernel program → old.held (index_name dir) ≡ None → status ≡ DONE
-      → Ran program dir size old new text → RunDue rose kernel dir size old new status text
+      → EndedRun program dir size old new text → RunDue rose kernel dir size old new status text
 
 -- the logs of a run that ended, or of one that stopped
-pub data AreLogs (rose : Type 0) (program : Program) (size : ℕ) (logs : List SealedLog) : Type 0 where
-  ended : (tasks : Trace) → IsRun program tasks → logs ≡ map (sealed_log size) tasks → AreLogs rose program size logs
-  stopped : (path : List Step) (why : model.Stop) (line : ℕ) → AreStopped rose program size logs path why line → AreLogs rose program size logs
+pub data AreRunLogs (rose : Type 0) (program : Program) (size : ℕ) (logs : List SealedLog) : Type 0 where
+  ended : (tasks : Trace) → IsRun program tasks → logs ≡ map (sealed_log size) tasks → AreRunLogs rose program size logs
+  stopped : (path : List Step) (why : model.Stop) (line : ℕ) → AreStopped rose program size logs path why line → AreRunLogs rose program size logs
 
 -- What a run leaves that began and could not give its answer: the folder as it was; or the first of its logs, and under the
--- index's name what was there; or the logs of a whole run, and a front of its index.
+-- index's name what was there; or the logs of a whole run, and a prefix of its index.
 pub data EndLeaves (rose : Type 0) (program : Program) (dir : List ℕ) (size : ℕ) (old new : Content) : Type 0 where
   nothing : new ≡ old → EndLeaves rose program dir size old new
-  logs : (logs : List SealedLog) → AreLogs rose program size logs → SealsFront dir logs old new → new.held (index_name dir) ≡ old.held (index_name dir)
+  logs : (logs : List SealedLog) → AreRunLogs rose program size logs → SealsPrefix dir logs old new → new.held (index_name dir) ≡ old.held (index_name dir)
       → EndLeaves rose program dir size old new
-  index : (tasks : Trace) → IsRun program tasks → (front rest : List ℕ) → index_bytes (rows_of tasks) ≡ front ++ rest
-      → new ≡ with_put (index_name dir) front (with_sealed dir (map (sealed_log size) tasks) old) → EndLeaves rose program dir size old new
+  index : (tasks : Trace) → IsRun program tasks → (prefix rest : List ℕ) → index_bytes (rows_of tasks) ≡ prefix ++ rest
+      → new ≡ with_put (index_name dir) prefix (with_sealed dir (map (sealed_log size) tasks) old) → EndLeaves rose program dir size old new
 
 -- What `run` leaves that could not give its answer: the folder as it was; or, of a kernel that the file holds and a folder that had
 -- no index, what its run leaves.

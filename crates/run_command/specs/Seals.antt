@@ -6,7 +6,7 @@ use Rattle.sw_base.specs.Environment.{Content, Text, with_put}
 use Rattle.sw_base.specs.Names.{index_name}
 use Rattle.race_model.specs.Row.{Row, index_bytes}
 use Rattle.team_runner.specs.Answer.{IsOwnLog, Logged, logged_entry}
-use Rattle.run_command.specs.Run.{SealedLog, SealsFront, with_sealed}
+use Rattle.run_command.specs.Run.{SealedLog, SealsPrefix, with_sealed}
 
 -- the logs of a run, each beside its task and its number of records, as they are answered
 abbrev pub all_logged : {L : Type 0} → (L → List ℕ) → (L → List Step) → (L → Option Text) → List (List Step × L × ℕ) → List Logged
@@ -31,7 +31,7 @@ abbrev pub rows_of_logs : List Logged → List Row
 rows_of_logs logs = map (λ (log : Logged). record { path = log.task; records = log.count }) logs
 
 -- what a folder tells, and a fact about it
-pub record Tells (told : Option Content) (P : Content → Type 0) : Type 0 where
+pub record TellsSuch (told : Option Content) (P : Content → Type 0) : Type 0 where
   pub content : Content
   pub is : told ≡ Some content
   pub holds : P content
@@ -39,7 +39,7 @@ pub record Tells (told : Option Content) (P : Content → Type 0) : Type 0 where
 -- The logs were sealed one after another; or one was refused, and then the first of them are sealed.
 pub record Seals (dir : List ℕ) (logs : List Logged) (result : Result (Unit {0}) Trouble) (old new : Content) : Type 0 where
   pub done : OnOk result (new ≡ with_sealed dir (all_sealed logs) old)
-  pub front : SealsFront dir (all_sealed logs) old new
+  pub prefix : SealsPrefix dir (all_sealed logs) old new
 
 -- the logs are of the folder, and tell what they hold
 abbrev pub AllTell : List ℕ → List Logged → Type 0
@@ -48,16 +48,16 @@ AllTell dir logs = All (IsOwnLog dir true) logs
 -- the same of a folder that may tell
 abbrev pub SealsAll : List Logged → Result (Unit {0}) Trouble → Option Content → Option Content → Type 0
 SealsAll logs result old new =
-    (dir : List ℕ) (c : Content) → AllTell dir logs → old ≡ Some c → Tells new (Seals dir logs result c)
+    (dir : List ℕ) (c : Content) → AllTell dir logs → old ≡ Some c → TellsSuch new (Seals dir logs result c)
 
 -- a folder after the logs were sealed and these bytes were put under the index's name
 abbrev pub with_index : List ℕ → List Logged → List ℕ → Content → Content
 with_index dir logs bytes content = with_put (index_name dir) bytes (with_sealed dir (all_sealed logs) content)
 
--- Storing a run was refused: the first of its logs are sealed; or all are, and a front of the index is there.
+-- Storing a run was refused: the first of its logs are sealed; or all are, and a prefix of the index is there.
 pub data StoresPart (dir : List ℕ) (logs : List Logged) (old new : Content) : Type 0 where
-  part : SealsFront dir (all_sealed logs) old new → StoresPart dir logs old new
-  front : (front rest : List ℕ) → index_bytes (rows_of_logs logs) ≡ front ++ rest → new ≡ with_index dir logs front old → StoresPart dir logs old new
+  part : SealsPrefix dir (all_sealed logs) old new → StoresPart dir logs old new
+  prefix : (prefix rest : List ℕ) → index_bytes (rows_of_logs logs) ≡ prefix ++ rest → new ≡ with_index dir logs prefix old → StoresPart dir logs old new
 
 -- a run was stored in a folder that may tell
 abbrev pub StoresAll : List ℕ → List Logged → Option Content → Option Content → Type 0
@@ -65,5 +65,5 @@ StoresAll dir logs old new =
     (c : Content) → AllTell dir logs → old ≡ Some c → new ≡ Some (with_index dir logs (index_bytes (rows_of_logs logs)) c)
 
 -- or refused
-abbrev pub StoresFront : List ℕ → List Logged → Option Content → Option Content → Type 0
-StoresFront dir logs old new = (c : Content) → AllTell dir logs → old ≡ Some c → Tells new (StoresPart dir logs c)
+abbrev pub StoresPrefix : List ℕ → List Logged → Option Content → Option Content → Type 0
+StoresPrefix dir logs old new = (c : Content) → AllTell dir logs → old ≡ Some c → TellsSuch new (StoresPart dir logs c)

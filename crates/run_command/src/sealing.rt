@@ -1,13 +1,13 @@
 //! The logs of a run are sealed and their index is written, or they are given up.
 ghost use Rattle.std.specs.Prelude.{◌≡◌, ◌⊎◌, ◌≤◌, List, map, is_some, IfOk, OnOk, OnErr, IsErrOf};
 ghost use Rattle.std.specs.Option.{option_map};
-ghost use Rattle.sw_base.specs.Environment.{WhereTold, Rose, HasCause, TakesFaults, LeavesFront, with_log};
+ghost use Rattle.sw_base.specs.Environment.{WhereTold, Rose, HasCause, TakesFaults, LeavesPrefix, with_log};
 ghost use Rattle.sw_base.specs.Names.{log_name};
 ghost use Rattle.sw_base.specs.declared.path.Step.{Step};
 ghost use Rattle.race_model.specs.IndexFault.{AreRows};
 ghost use Rattle.team_runner.specs.Answer.{HasFaulty};
 ghost use Rattle.log_index.specs.Rows.{rows_of};
-ghost use Rattle.run_command.specs.Seals.{SealsAll, StoresAll, StoresFront, all_logged, row_of_entry};
+ghost use Rattle.run_command.specs.Seals.{SealsAll, StoresAll, StoresPrefix, all_logged, row_of_entry};
 
 use log_index::{Row, write_index};
 use std::alloc::{AllocError, Global};
@@ -18,7 +18,7 @@ fn seal_one<F: Folder>(alloc: Global, place: &mut F, log: F::Log) -> Result<(), 
     ensures done { OnOk result (WhereTold (F.Log.text log) (λ text.
         F.content place.new ≡ option_map (with_log (log_name (F.Log.dir log) (F.Log.path log)) text) (F.content place.old))) }
     ensures refused { OnErr result (WhereTold (F.Log.text log) (λ text.
-        LeavesFront (F.content place.old) (F.content place.new) (log_name (F.Log.dir log) (F.Log.path log)) text.bytes)) }
+        LeavesPrefix (F.content place.old) (F.content place.new) (log_name (F.Log.dir log) (F.Log.path log)) text.bytes)) }
     ensures tells { is_some (F.content place.new) ≡ is_some (F.content place.old) }
     ensures log_faults { TakesFaults (F.Log.faults log) (F.write_faults place.old) (F.write_faults place.new) }
     ensures cause { HasCause (F.write_faults place.old) (F.write_faults place.new) result }
@@ -42,7 +42,7 @@ fn seal_next<F: Folder>(
     ensures sealed { OnOk so_far (OnOk result (WhereTold (F.Log.text log) (λ text.
         F.content place.new ≡ option_map (with_log (log_name (F.Log.dir log) (F.Log.path log)) text) (F.content place.old)))) }
     ensures refused { OnOk so_far (OnErr result (WhereTold (F.Log.text log) (λ text.
-        LeavesFront (F.content place.old) (F.content place.new) (log_name (F.Log.dir log) (F.Log.path log)) text.bytes))) }
+        LeavesPrefix (F.content place.old) (F.content place.new) (log_name (F.Log.dir log) (F.Log.path log)) text.bytes))) }
     ensures given_up { OnErr so_far ((result ≡ so_far) × (F.content place.new ≡ F.content place.old)) }
     ensures tells { is_some (F.content place.new) ≡ is_some (F.content place.old) }
     ensures log_faults { TakesFaults (F.Log.faults log) (F.write_faults place.old) (F.write_faults place.new) }
@@ -112,7 +112,7 @@ pub fn store<F: Folder>(
     requires { AreRows (map row_of_entry logs.items) }
     ensures rows { IfOk result (λ rows. rows_of rows.items ≡ map row_of_entry logs.items) }
     ensures stored { OnOk result (StoresAll dir.now (all_logged F.Log.dir F.Log.path F.Log.text logs.items) (F.content place.old) (F.content place.new)) }
-    ensures refused { OnErr result (StoresFront dir.now (all_logged F.Log.dir F.Log.path F.Log.text logs.items) (F.content place.old) (F.content place.new)) }
+    ensures refused { OnErr result (StoresPrefix dir.now (all_logged F.Log.dir F.Log.path F.Log.text logs.items) (F.content place.old) (F.content place.new)) }
     ensures tells { is_some (F.content place.new) ≡ is_some (F.content place.old) }
     ensures faulty { (path : List Step) → HasFaulty (map (λ e. (e.0, F.Log.faults e.1)) logs.items) path
         → Rose (F.write_faults place.old) (F.write_faults place.new) }

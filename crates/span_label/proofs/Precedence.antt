@@ -5,12 +5,6 @@ use Rattle.std.proofs.lemmas.Bool.Decides.{eqb_tells}
 use Rattle.race_model.specs.Label.{Triple, IsTripleBefore, IsLabelBefore}
 use Rattle.span_label.specs.Levels.{HasLane, own_level}
 
--- nothing is before the empty list
-pub none_before_nothing : (xs ys : List Triple) → ys ≡ [] → IsLabelBefore xs ys → ⊥
-none_before_nothing _ _ e (IsLabelBefore.prefix y ys) = cc
-none_before_nothing _ _ e (IsLabelBefore.same x xs ys before) = cc
-none_before_nothing _ _ e (IsLabelBefore.differ x y xs ys apart before) = cc
-
 -- what is before another is so after one more triple
 pub one_more_same : (x y : Triple) (xs ys : List Triple) → x ≡ y → IsLabelBefore xs ys → IsLabelBefore (x ∷ xs) (y ∷ ys)
 one_more_same x y xs ys same before = subst (λ (z : Triple). IsLabelBefore (x ∷ xs) (z ∷ ys)) same (IsLabelBefore.same x xs ys before)
@@ -23,10 +17,6 @@ rest_before_from x y xs ys _ _ p q same (IsLabelBefore.same z us vs before) =
     subst (λ (zs : List Triple). IsLabelBefore zs ys) left (subst (λ (zs : List Triple). IsLabelBefore us zs) right before)
 rest_before_from x y xs ys _ _ p q same (IsLabelBefore.differ z w us vs apart before) =
     let equal : z ≡ w = cc in absurd (apart equal)
-
--- after a triple in common the rests decide
-pub rest_before : (x y : Triple) (xs ys : List Triple) → x ≡ y → IsLabelBefore (x ∷ xs) (y ∷ ys) → IsLabelBefore xs ys
-rest_before x y xs ys same before = rest_before_from x y xs ys _ _ refl refl same before
 
 triple_before_from : (x y : Triple) (xs ys us vs : List Triple) → us ≡ x ∷ xs → vs ≡ y ∷ ys → (x ≡ y → ⊥) → IsLabelBefore us vs → IsTripleBefore x y
 triple_before_from x y xs ys _ _ p q apart (IsLabelBefore.prefix z zs) = absurd (cc)
@@ -104,9 +94,6 @@ nothing_before y (u ∷ us) vs ys none vs_is = absurd (omega arith)
 pub all_rest : (x : Triple) (xs us : List Triple) → us ≡ x ∷ xs → All HasLane us → All HasLane xs
 all_rest x xs us as_is all = λ k d h. (subst (λ (zs : List Triple). All HasLane zs) as_is all) (suc k) d (omega arith)
 
-pub first_of_all : (x : Triple) (xs us : List Triple) → us ≡ x ∷ xs → All HasLane us → HasLane x
-first_of_all x xs us as_is all = (subst (λ (zs : List Triple). All HasLane zs) as_is all) 0 x (omega arith)
-
 -- the last triple of a label and what is above it
 pub last_is : (xs ys : List Triple) (x y : Triple) → xs ++ x ∷ [] ≡ ys ++ y ∷ [] → (xs ≡ ys) × (x ≡ y)
 last_is [] [] x y same = (refl, cc)
@@ -124,9 +111,3 @@ below_first u v rest =
     let more : suc (suc (length rest)) - 1 ≡ suc (length rest) = omega arith in
     let fewer : suc (length rest) - 1 ≡ length rest = omega arith in
     ap (λ (n : ℕ). slice_get (u ∷ v ∷ rest) n) more ∙ sym (ap (λ (n : ℕ). slice_get (v ∷ rest) n) fewer)
-
--- a label's own level is the triple at its end
-pub own_level-append : (above : List Triple) (t : Triple) → own_level (above ++ t ∷ []) ≡ Some t
-own_level-append [] t = refl
-own_level-append (u ∷ []) t = refl
-own_level-append (u ∷ v ∷ above) t = below_first u v (above ++ t ∷ []) ∙ own_level-append (v ∷ above) t

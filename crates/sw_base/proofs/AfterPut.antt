@@ -1,9 +1,9 @@
 -- What a folder holds after a file was put or a log was sealed.
-use Rattle.std.proofs.Common.{◌≡◌, ◌≢◌, ℕ, List, Option, Some, refl, sym, ⊎_elim, true, false}
+use Rattle.std.proofs.Common.{◌≡◌, ◌≢◌, ℕ, List, Some, refl, sym, true, false}
 use Rattle.std.proofs.lemmas.Bool.{false_from_ne_true}
 use Rattle.std.proofs.lemmas.Slice.Eq.{bytes_eq-Decides}
 use Rattle.std.specs.Str.{bytes_eq}
-use Rattle.sw_base.specs.Environment.{Content, Files, LeavesFront, with_file, with_put}
+use Rattle.sw_base.specs.Environment.{Content, Files, with_file}
 
 -- the name holds the bytes
 pub with_file-here : (name bytes : List ℕ) (files : Files) → with_file name bytes files name ≡ Some bytes
@@ -19,10 +19,3 @@ with_file-elsewhere name bytes files other apart =
 pub record KeepsOthers (name : List ℕ) (old new : Content) : Type 0 where
   pub sealed : new.sealed ≡ old.sealed
   pub others : (other : List ℕ) → other ≢ name → new.held other ≡ old.held other
-
-pub leaves_front_others : (old : Content) (new : Option Content) (name bytes : List ℕ) → LeavesFront (Some old) new name bytes → (after : Content) × (new ≡ Some after) × KeepsOthers name old after
-leaves_front_others old new name bytes left =
-    ⊎_elim
-    (λ same. (old, same, record { sealed = refl; others = λ _ _. refl }))
-    (λ put. (with_put name left.front old, put, record { sealed = refl; others = with_file-elsewhere name left.front old.held }))
-    left.leaves

@@ -1,6 +1,6 @@
-pub mod Fronts
+pub mod Prefixes
 pub mod Gains
-pub mod ReadFronts
+pub mod ReadPrefixes
 pub mod HeldFiles
 pub mod Paths
 pub mod NameLaws

@@ -29,7 +29,7 @@ split (a ∷ ds) (b ∷ es) c d xs ys left right low mark same =
     let head : a ≡ b = cc in
     let tail : ds ++ c ∷ xs ≡ es ++ d ∷ ys = cc in
     let rest = split ds es c d xs ys left.1 right.1 low mark tail in
-    (let front : ds ≡ es = rest.0 in cc, rest.1)
+    (let prefix : ds ≡ es = rest.0 in cc, rest.1)
 
 -- where a step lies: its region and its lane
 abbrev pub place : Step → ℕ × ℕ

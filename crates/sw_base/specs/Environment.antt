@@ -61,17 +61,17 @@ with_log name text content = record {
   sealed = content.sealed ++ record { name = name; lengths = map length text.pieces } ∷ [];
 }
 
--- the name is as before or holds a front of the bytes, and nothing else changed
-pub record LeavesFront (old new : Option Content) (name bytes : List ℕ) : Type 0 where
-  pub front : List ℕ
+-- the name is as before or holds a prefix of the bytes, and nothing else changed
+pub record LeavesPrefix (old new : Option Content) (name bytes : List ℕ) : Type 0 where
+  pub prefix : List ℕ
   pub rest : List ℕ
-  pub parts : bytes ≡ front ++ rest
-  pub leaves : (new ≡ old) ⊎ (new ≡ option_map (with_put name front) old)
+  pub parts : bytes ≡ prefix ++ rest
+  pub leaves : (new ≡ old) ⊎ (new ≡ option_map (with_put name prefix) old)
 
--- n bytes of the file from `at` on stand at the front of `into`, and none only where there is no room or no byte
+-- n bytes of the file from `at` on stand at the start of `into`, and none only where there is no room or no byte
 pub record Reads (file : List ℕ) (at n : ℕ) (into : List ℕ) : Type 0 where
   pub within : n ≤ length file - at
-  pub front : take n into ≡ take n (drop at file)
+  pub prefix : take n into ≡ take n (drop at file)
   pub some : 0 < length into → at < length file → 0 < n
 
 -- a log without a byte
@@ -84,22 +84,22 @@ with_piece piece text = record { bytes = text.bytes ++ piece; pieces = text.piec
 
 -- a log after an `append` that failed with these bytes written
 abbrev pub with_torn : List ℕ → Text → Text
-with_torn front text = record { bytes = text.bytes ++ front; pieces = text.pieces }
+with_torn prefix text = record { bytes = text.bytes ++ prefix; pieces = text.pieces }
 
--- a front of the piece may stand at the end of the bytes, and the pieces are as before
+-- a prefix of the piece may stand at the end of the bytes, and the pieces are as before
 pub record TearsPiece (old new : Option Text) (piece : List ℕ) : Type 0 where
-  pub front : List ℕ
+  pub prefix : List ℕ
   pub rest : List ℕ
-  pub parts : piece ≡ front ++ rest
-  pub tears : new ≡ option_map (with_torn front) old
+  pub parts : piece ≡ prefix ++ rest
+  pub tears : new ≡ option_map (with_torn prefix) old
 
 -- what was written, and this piece
 abbrev pub gained : Option (List ℕ) → List ℕ → Option (List ℕ)
 gained written piece = option_map (λ bytes. bytes ++ piece) written
 
--- a front of the piece may have been written
-pub record GainsFront (old new : Option (List ℕ)) (piece : List ℕ) : Type 0 where
-  pub front : List ℕ
+-- a prefix of the piece may have been written
+pub record GainsPrefix (old new : Option (List ℕ)) (piece : List ℕ) : Type 0 where
+  pub prefix : List ℕ
   pub rest : List ℕ
-  pub parts : piece ≡ front ++ rest
-  pub gains : new ≡ gained old front
+  pub parts : piece ≡ prefix ++ rest
+  pub gains : new ≡ gained old prefix

@@ -1,11 +1,11 @@
 -- What is seen of a folder in memory.
-use Rattle.std.specs.Prelude.{ℕ, List, map, Option, Some, Contains, Vec, string_bytes}
+use Rattle.std.specs.Prelude.{◌≡◌, ◌↔◌, ℕ, List, map, Option, Some, Vec, Contains, string_bytes}
 use Rattle.std.specs.declared.alloc.Global.{Global}
 use Rattle.std.specs.declared.string.String.{String}
 use Rattle.std.specs.BTreeMap.{BTreeMap, get_by_text}
 use Rattle.std.specs.Option.{option_map}
 use Rattle.sw_base.specs.Environment.{Content, Files, Sealed}
-use Rattle.sw_base.specs.InMemory.{next_count}
+use Rattle.sw_base.specs.InMemory.{next_count, Counted, CountsCall}
 use Rattle.sw_base.specs.Plans.{Plan, plans_by}
 use Rattle.sw_base.specs.declared.in_memory.folder.MemFolder.{MemFolder}
 use Rattle.sw_base.specs.declared.in_memory.folder.SealedLog.{SealedLog}
@@ -50,6 +50,38 @@ failing_of folder = folder.calls.failing.items
 abbrev pub plans_of : MemFolder → List Plan
 plans_of folder = plans_by folder.plans
 
--- the next call is to fail
-abbrev pub IsNextToFail : MemFolder → Type 0
-IsNextToFail folder = Contains (failing_of folder) (next_count (calls_of folder))
+-- its calls, with the faults of those that read
+abbrev pub reads_of : MemFolder → Counted
+reads_of folder = record { calls = calls_of folder; failing = failing_of folder; faults = read_faults_of folder }
+
+-- the same with the faults of the others
+abbrev pub writes_of : MemFolder → Counted
+writes_of folder = record { calls = calls_of folder; failing = failing_of folder; faults = write_faults_of folder }
+
+-- no call is counted, and none is a fault
+pub record IsUncounted (old new : MemFolder) : Type 0 where
+  pub reads : read_faults_of new ≡ read_faults_of old
+  pub writes : write_faults_of new ≡ write_faults_of old
+  pub calls : calls_of new ≡ calls_of old
+  pub same_plans : plans_of new ≡ plans_of old
+
+-- a call that reads, and whether it failed
+pub record CountsRead (failed : Type 0) (old new : MemFolder) : Type 0 where
+  pub counts : CountsCall failed (reads_of old) (reads_of new)
+  pub same_writes : write_faults_of new ≡ write_faults_of old
+  pub same_plans : plans_of new ≡ plans_of old
+
+-- another call, and whether it failed
+pub record CountsWrite (failed : Type 0) (old new : MemFolder) : Type 0 where
+  pub counts : CountsCall failed (writes_of old) (writes_of new)
+  pub same_reads : read_faults_of new ≡ read_faults_of old
+  pub same_plans : plans_of new ≡ plans_of old
+
+-- a call that seals, and whether it failed; a log without a fault brings none
+pub record CountsSeal (faultless failed : Type 0) (old new : MemFolder) : Type 0 where
+  pub call : calls_of new ≡ next_count (calls_of old)
+  pub fails : failed ↔ Contains (failing_of old) (next_count (calls_of old))
+  pub no_fault : (failed → ⊥) → faultless → write_faults_of new ≡ write_faults_of old
+  pub same_reads : read_faults_of new ≡ read_faults_of old
+  pub same_failing : failing_of new ≡ failing_of old
+  pub same_plans : plans_of new ≡ plans_of old

@@ -1,7 +1,7 @@
 -- What is seen of a log in memory.
-use Rattle.std.specs.Prelude.{ℕ, List, map, Option, Some, Contains, string_bytes}
+use Rattle.std.specs.Prelude.{◌≡◌, ℕ, List, map, Option, Some, string_bytes}
 use Rattle.sw_base.specs.Environment.{Text}
-use Rattle.sw_base.specs.InMemory.{next_count}
+use Rattle.sw_base.specs.InMemory.{Counted, CountsCall}
 use Rattle.sw_base.specs.Plans.{Plan, plans_by}
 use Rattle.sw_base.specs.declared.in_memory.log.MemLog.{MemLog}
 use Rattle.sw_base.specs.declared.path.Step.{Step}
@@ -42,6 +42,11 @@ failing_of log = log.calls.failing.items
 abbrev pub plans_of : MemLog → List Plan
 plans_of log = plans_by log.plans
 
--- the next call is to fail
-abbrev pub IsNextToFail : MemLog → Type 0
-IsNextToFail log = Contains (failing_of log) (next_count (calls_of log))
+-- its calls
+abbrev pub counted_of : MemLog → Counted
+counted_of log = record { calls = calls_of log; failing = failing_of log; faults = faults_of log }
+
+-- one call more, and whether it failed
+pub record CountsLogCall (failed : Type 0) (old new : MemLog) : Type 0 where
+  pub counts : CountsCall failed (counted_of old) (counted_of new)
+  pub same_plans : plans_of new ≡ plans_of old

@@ -1,6 +1,6 @@
 -- What is seen of an `Out` in memory.
-use Rattle.std.specs.Prelude.{ℕ, List, Option, Some, Contains}
-use Rattle.sw_base.specs.InMemory.{next_count}
+use Rattle.std.specs.Prelude.{ℕ, List, Option, Some}
+use Rattle.sw_base.specs.InMemory.{Counted}
 use Rattle.sw_base.specs.declared.in_memory.out.MemOut.{MemOut}
 
 -- the bytes that were written
@@ -23,6 +23,6 @@ calls_of out = out.calls.made
 abbrev pub failing_of : MemOut → List ℕ
 failing_of out = out.calls.failing.items
 
--- the next call is to fail
-abbrev pub IsNextToFail : MemOut → Type 0
-IsNextToFail out = Contains (failing_of out) (next_count (calls_of out))
+-- its calls
+abbrev pub counted_of : MemOut → Counted
+counted_of out = record { calls = calls_of out; failing = failing_of out; faults = faults_of out }

@@ -6,16 +6,16 @@
 //! The versions in memory meet them, and can be told which of their calls are to fail.
 #![tactic(auto)]
 
+mod environment;
 mod files;
 mod in_memory;
-mod outside;
 mod path;
 mod reading;
 mod trouble;
 
+pub use environment::{Folder, Gate, Log, NoGate, Out};
 pub use files::{INDEX_HEADER, LOG_HEADER, index_name};
 pub use in_memory::{MemFolder, MemLog, MemOut};
-pub use outside::{Folder, Gate, Log, NoGate, Out};
 pub use path::{Path, Step};
 pub use reading::read_file;
 pub use trouble::{Memory, Trouble};

@@ -2,7 +2,7 @@
 ghost use Rattle.std.specs.Prelude.{◌≡◌, Some, None, IfOk, MatchOption};
 ghost use Rattle.sw_base.specs.Environment.{WhereTold, HasCause};
 
-use crate::outside::Folder;
+use crate::environment::Folder;
 use crate::trouble::Trouble;
 use std::alloc::Global;
 

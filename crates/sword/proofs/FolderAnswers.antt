@@ -6,7 +6,7 @@ use Rattle.race_model.specs.FirstBad.{HoldsTrace}
 use Rattle.race_model.specs.WellFormed.{IsWellFormed}
 use Rattle.command_answer.specs.Answer.{Tries}
 use Rattle.command_answer.proofs.Answering.{Tries-weaker}
-use Rattle.sword.specs.Check.{FolderDue, refused, answered, IsRefused}
+use Rattle.sword.specs.Check.{FolderDue, refused, answered, IsRefusedFolder}
 use Rattle.sword.specs.Words.{UsageDue}
 
 -- the answer for the run of a folder is the folder's
@@ -15,9 +15,9 @@ pub answered_of : (answer : Trace → ℕ → List ℕ → Type 0) (files : File
 answered_of answer files dir trace good holds old new result = Tries-weaker (answer trace) (FolderDue answer files dir) old new result (λ status text is. answered trace good holds is)
 
 -- the answer for its first bad place is the folder's
-pub refused_of : (answer : Trace → ℕ → List ℕ → Type 0) (files : Files) (dir : List ℕ) (old new : Option (List ℕ)) (result : ℕ) → Tries (IsRefused files dir) old new result
+pub refused_of : (answer : Trace → ℕ → List ℕ → Type 0) (files : Files) (dir : List ℕ) (old new : Option (List ℕ)) (result : ℕ) → Tries (IsRefusedFolder files dir) old new result
     → Tries (FolderDue answer files dir) old new result
-refused_of answer files dir old new result = Tries-weaker (IsRefused files dir) (FolderDue answer files dir) old new result (λ status text is. refused is)
+refused_of answer files dir old new result = Tries-weaker (IsRefusedFolder files dir) (FolderDue answer files dir) old new result (λ status text is. refused is)
 
 pub usage_once : (s r : ℕ) (t u : List ℕ) → UsageDue s t → UsageDue r u → t ≡ u
 usage_once s r t u a b = a.1 ∙ sym b.1

@@ -7,14 +7,14 @@ use Rattle.std.specs.List.Sorted.{IsStrictlySortedBy}
 use Rattle.std.proofs.lemmas.List.Elements.{Contains-append_cases, Contains-push_cases}
 use Rattle.sw_base.specs.declared.path.Step.{Step}
 use Rattle.sw_base.specs.Environment.{Files}
-use Rattle.race_model.specs.Place.{Place, no_index, bad_row, missing_log, bad_record, too_many_segments}
+use Rattle.race_model.specs.BadPlace.{BadPlace, no_index, bad_row, missing_log, bad_record, too_many_segments}
 use Rattle.race_model.specs.Trace.{Trace, logs_of}
 use Rattle.race_model.specs.Race.{IsRacePair, Lists, pair_cmp}
 use Rattle.race_model.proofs.FolderTrace.{trace_once}
 use Rattle.race_report.specs.Report.{report_text}
 use Rattle.log_walk.proofs.FirstOnce.{first_bad_once, row_task_once}
 use Rattle.pair_compare.proofs.Inserts.{pair_total}
-use Rattle.sword.specs.Check.{NamesLog, IsPlaceText, IsRefused, FolderDue, refused, answered, HasReport}
+use Rattle.sword.specs.Check.{NamesLog, IsPlaceText, IsRefusedFolder, FolderDue, refused, answered, HasReport}
 use Rattle.sword.specs.Show.{ShowsRecords}
 
 not_in_nothing : (p : ℕ × ℕ) → Contains [] p → ⊥
@@ -76,16 +76,16 @@ Lists-once P ps qs one other = same_lists ps qs one.ascending other.ascending (�
 names_once : (files : Files) (dir : List ℕ) (row : ℕ) (text_of : List Step → List ℕ) (t u : List ℕ) → NamesLog files dir row text_of t → NamesLog files dir row text_of u → t ≡ u
 names_once files dir row text_of t u (p, is_p, t_is) (q, is_q, u_is) = t_is ∙ ap text_of (row_task_once files dir p q row is_p is_q) ∙ sym u_is
 
-place_text_once : (files : Files) (dir : List ℕ) (place : Place) (t u : List ℕ) → IsPlaceText files dir place t → IsPlaceText files dir place u → t ≡ u
+place_text_once : (files : Files) (dir : List ℕ) (place : BadPlace) (t u : List ℕ) → IsPlaceText files dir place t → IsPlaceText files dir place u → t ≡ u
 place_text_once files dir no_index t u a b = a ∙ sym b
 place_text_once files dir (bad_row n why) t u a b = a ∙ sym b
 place_text_once files dir (missing_log row) t u a b = names_once files dir row _ t u a b
 place_text_once files dir (bad_record row n why) t u a b = names_once files dir row _ t u a b
 place_text_once files dir (too_many_segments row n) t u a b = names_once files dir row _ t u a b
 
-refused_once : (files : Files) (dir : List ℕ) (s r : ℕ) (t u : List ℕ) → IsRefused files dir s t → IsRefused files dir r u → t ≡ u
+refused_once : (files : Files) (dir : List ℕ) (s r : ℕ) (t u : List ℕ) → IsRefusedFolder files dir s t → IsRefusedFolder files dir r u → t ≡ u
 refused_once files dir s r t u a b =
-    place_text_once files dir b.place t u (subst (λ (p : Place). IsPlaceText files dir p t) (first_bad_once files dir a.place b.place a.first b.first) a.names) b.names
+    place_text_once files dir b.place t u (subst (λ (p : BadPlace). IsPlaceText files dir p t) (first_bad_once files dir a.place b.place a.first b.first) a.names) b.names
 
 -- where the answer for a run is one, the answer for a folder is
 due_once : (answer : Trace → ℕ → List ℕ → Type 0) → ((trace : Trace) (s r : ℕ) (t u : List ℕ) → answer trace s t → answer trace r u → t ≡ u)

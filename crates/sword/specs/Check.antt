@@ -2,7 +2,7 @@
 use Rattle.std.specs.Prelude.{◌≡◌, ℕ, List, [], ◌∷◌}
 use Rattle.sw_base.specs.declared.path.Step.{Step}
 use Rattle.sw_base.specs.Environment.{Files}
-use Rattle.race_model.specs.Place.{Place, no_index, bad_row, missing_log, bad_record, too_many_segments}
+use Rattle.race_model.specs.BadPlace.{BadPlace, no_index, bad_row, missing_log, bad_record, too_many_segments}
 use Rattle.race_model.specs.FirstBad.{IsFirstBad, HoldsTrace}
 use Rattle.race_model.specs.WellFormed.{IsWellFormed}
 use Rattle.race_model.specs.Race.{IsRacePair, Lists}
@@ -22,7 +22,7 @@ abbrev pub NamesLog : Files → List ℕ → ℕ → (List Step → List ℕ) �
 NamesLog files dir row text_of text = (path : List Step) × IsLogRow files dir path row × (text ≡ text_of path)
 
 -- the text for a bad place
-abbrev pub IsPlaceText : Files → List ℕ → Place → List ℕ → Type 0
+abbrev pub IsPlaceText : Files → List ℕ → BadPlace → List ℕ → Type 0
 IsPlaceText files dir no_index text = text ≡ no_index_text
 IsPlaceText files dir (bad_row n why) text = text ≡ bad_row_text n why
 IsPlaceText files dir (missing_log row) text = NamesLog files dir row missing_log_text text
@@ -30,15 +30,15 @@ IsPlaceText files dir (bad_record row n why) text = NamesLog files dir row (λ p
 IsPlaceText files dir (too_many_segments row n) text = NamesLog files dir row (λ path. too_many_segments_text path n) text
 
 -- the folder is refused at its first bad place
-pub record IsRefused (files : Files) (dir : List ℕ) (status : ℕ) (text : List ℕ) : Type 0 where
-  pub place : Place
+pub record IsRefusedFolder (files : Files) (dir : List ℕ) (status : ℕ) (text : List ℕ) : Type 0 where
+  pub place : BadPlace
   pub first : IsFirstBad files dir place
   pub names : IsPlaceText files dir place text
   pub status_is : status ≡ FOLDER_REFUSED
 
 -- what is due of a command that reads the run of a folder: the first bad place, or the command's answer for the run
 pub data FolderDue (answer : Trace → ℕ → List ℕ → Type 0) (files : Files) (dir : List ℕ) (status : ℕ) (text : List ℕ) : Type 0 where
-  refused : IsRefused files dir status text → FolderDue answer files dir status text
+  refused : IsRefusedFolder files dir status text → FolderDue answer files dir status text
   answered : (trace : Trace) → IsWellFormed files dir → HoldsTrace files dir trace → answer trace status text → FolderDue answer files dir status text
 
 -- the report of the race pairs of a run

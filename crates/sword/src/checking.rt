@@ -7,7 +7,7 @@ ghost use Rattle.log_segment.specs.Intervals.{AreSegments, task_of};
 ghost use Rattle.log_walk.specs.Walk.{TellsFirstBad};
 ghost use Rattle.log_walk.specs.declared.fault.WalkFault.TheVariants as fault;
 ghost use Rattle.command_answer.specs.Answer.{Answers, Tries};
-ghost use Rattle.sword.specs.Check.{FolderDue, IsRefused, HasReport};
+ghost use Rattle.sword.specs.Check.{FolderDue, IsRefusedFolder, HasReport};
 ghost use Rattle.sword.specs.Show.{ShowsRecords};
 ghost use Rattle.command_answer.specs.declared.status.TheConstants.{USAGE, FOLDER_REFUSED, READ_FAULT, WRITE_FAULT};
 
@@ -53,7 +53,7 @@ fn show_run<O: Out>(alloc: Global, out: &mut O, trace: &[TaskRecords]) -> u8
 /// The text of the first bad place, where the fault tells one.
 fn place_text(alloc: Global, refused: &WalkFault) -> Result<Option<String>, Memory>
     ensures place { IfOk result (λ found. IfSome found (λ text. (files : Files) (dir : List ℕ) → TellsFirstBad files dir refused.now
-        → IsRefused files dir FOLDER_REFUSED (string_bytes text))) }
+        → IsRefusedFolder files dir FOLDER_REFUSED (string_bytes text))) }
     ensures none { IfOk result (λ found. (found ≡ None) ↔ ((refused.now ≡ fault.ReadFault) ⊎ (refused.now ≡ fault.Memory))) }
 {
     Ok(Some(match refused {
@@ -78,7 +78,7 @@ fn is_read_fault(refused: &WalkFault) -> bool
 
 /// Prints why a folder is refused.
 fn refuse<O: Out>(alloc: Global, out: &mut O, refused: WalkFault) -> u8
-    ensures answers { (files : Files) (dir : List ℕ) → TellsFirstBad files dir refused → Tries (IsRefused files dir) (O.written out.old) (O.written out.new) result }
+    ensures answers { (files : Files) (dir : List ℕ) → TellsFirstBad files dir refused → Tries (IsRefusedFolder files dir) (O.written out.old) (O.written out.new) result }
     ensures later { O.faults out.old ≤ O.faults out.new }
     ensures write_fault { result ≡ WRITE_FAULT → Rose (O.faults out.old) (O.faults out.new) }
     ensures read_fault { (result ≡ READ_FAULT) ↔ (refused ≡ fault.ReadFault) }

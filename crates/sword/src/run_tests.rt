@@ -238,9 +238,9 @@ fn each_call_of_a_run_may_fail(rt: HostRuntime) -> Result<(), Fail> {
         let status = if call < 4 { READ_FAULT } else { WRITE_FAULT };
         let run = ["run", "k", "d", "4096"];
         answers(&rt, alloc, &mut place, &run, status, "")?;
-        let front = place.file(INDEX).unwrap_or(b"");
+        let prefix = place.file(INDEX).unwrap_or(b"");
         assert!(rt; call == 8 || place.file(INDEX).is_none());
-        assert!(rt; index.starts_with(front) && front.len() < index.len());
+        assert!(rt; index.starts_with(prefix) && prefix.len() < index.len());
     }
     let mut place = holding(alloc, COUNT)?;
     place.fail(&[9])?;

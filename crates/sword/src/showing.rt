@@ -1,6 +1,6 @@
 //! `show` prints every record of a folder.
 ghost use Rattle.std.specs.Prelude.{◌≡◌, map, IfOk, OnOk, OnErr, string_bytes};
-ghost use Rattle.sw_base.specs.Environment.{HasCause, GainsFront, gained};
+ghost use Rattle.sw_base.specs.Environment.{HasCause, GainsPrefix, gained};
 ghost use Rattle.log_segment.specs.Intervals.{task_of};
 ghost use Rattle.sword.specs.Show.{place_text, access_text, record_text, record_line, log_line, log_text, records_text, show_text};
 
@@ -67,7 +67,7 @@ fn print_record<O: Out>(
     r: &Record,
 ) -> Result<(), Trouble>
     ensures done { OnOk result (O.written out.new ≡ gained (O.written out.old) (record_line number r.now)) }
-    ensures refused { OnErr result (GainsFront (O.written out.old) (O.written out.new) (record_line number r.now)) }
+    ensures refused { OnErr result (GainsPrefix (O.written out.old) (O.written out.new) (record_line number r.now)) }
     ensures cause { HasCause (O.faults out.old) (O.faults out.new) result }
 {
     let line = line_of_record(alloc, number, r)?;
@@ -76,7 +76,7 @@ fn print_record<O: Out>(
 
 fn print_log<O: Out>(alloc: Global, out: &mut O, path: &Path, count: usize) -> Result<(), Trouble>
     ensures done { OnOk result (O.written out.new ≡ gained (O.written out.old) (log_line path.now count)) }
-    ensures refused { OnErr result (GainsFront (O.written out.old) (O.written out.new) (log_line path.now count)) }
+    ensures refused { OnErr result (GainsPrefix (O.written out.old) (O.written out.new) (log_line path.now count)) }
     ensures cause { HasCause (O.faults out.old) (O.faults out.new) result }
 {
     let line = line_of_log(alloc, path, count)?;
@@ -85,7 +85,7 @@ fn print_log<O: Out>(alloc: Global, out: &mut O, path: &Path, count: usize) -> R
 
 fn print_records<O: Out>(alloc: Global, out: &mut O, records: &[Record]) -> Result<(), Trouble>
     ensures done { OnOk result (O.written out.new ≡ gained (O.written out.old) (records_text records.now)) }
-    ensures refused { OnErr result (GainsFront (O.written out.old) (O.written out.new) (records_text records.now)) }
+    ensures refused { OnErr result (GainsPrefix (O.written out.old) (O.written out.new) (records_text records.now)) }
     ensures cause { HasCause (O.faults out.old) (O.faults out.new) result }
 {
     for (i, r) in records.iter().enumerate() {
@@ -101,7 +101,7 @@ fn print_task<O: Out>(
     records: &[Record],
 ) -> Result<(), Trouble>
     ensures done { OnOk result (O.written out.new ≡ gained (O.written out.old) (log_text path.now records.now)) }
-    ensures refused { OnErr result (GainsFront (O.written out.old) (O.written out.new) (log_text path.now records.now)) }
+    ensures refused { OnErr result (GainsPrefix (O.written out.old) (O.written out.new) (log_text path.now records.now)) }
     ensures cause { HasCause (O.faults out.old) (O.faults out.new) result }
 {
     print_log(alloc, out, path, records.len())?;
@@ -111,7 +111,7 @@ fn print_task<O: Out>(
 /// Prints each log of a run, and each of its records, as a line.
 pub fn print_trace<O: Out>(alloc: Global, out: &mut O, tasks: &[TaskRecords]) -> Result<(), Trouble>
     ensures done { OnOk result (O.written out.new ≡ gained (O.written out.old) (show_text (map task_of tasks.now))) }
-    ensures refused { OnErr result (GainsFront (O.written out.old) (O.written out.new) (show_text (map task_of tasks.now))) }
+    ensures refused { OnErr result (GainsPrefix (O.written out.old) (O.written out.new) (show_text (map task_of tasks.now))) }
     ensures cause { HasCause (O.faults out.old) (O.faults out.new) result }
 {
     for task in tasks {

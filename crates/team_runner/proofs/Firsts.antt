@@ -20,24 +20,11 @@ use Rattle.kernel_syntax.specs.FirstKind.{AreStores, IsStatic, IsOneLoop, IsOneR
 use Rattle.kernel_model.specs.FirstTeam.{first_team}
 use Rattle.team_runner.specs.Ready.{HasChunks, IsChunked}
 
-pub loop_is_there : (stmts : List Stmt) → IsOneLoop (code_of stmts) → 0 < length stmts
-loop_is_there [] one = absurd one
-loop_is_there (s ∷ rest) one = omega arith
-
-pub team_is_there : (stmts : List Stmt) → IsOneRegion (code_of stmts) → 0 < length stmts
-team_is_there [] one = absurd one
-team_is_there (s ∷ rest) one = omega arith
-
 -- nothing follows the loop
 pub loop_alone : (slot : ℕ) (from to : Term) (schedule : Schedule) (nowait : Bool) (line end : ℕ) (body rest : Code) →
     IsOneLoop (tree.For slot from to schedule nowait line end body rest) → (rest ≡ tree.Done) × IsStatic schedule × AreStores body
 loop_alone slot from to schedule nowait line end body tree.Done one = (refl, one.0, one.1)
 loop_alone slot from to schedule nowait line end body _ one = absurd one
-
--- nor the region
-pub team_alone : (span line end : ℕ) (body rest : Code) → IsOneRegion (tree.Parallel span line end body rest) → (rest ≡ tree.Done) × IsOneLoop body
-team_alone span line end body tree.Done one = (refl, one)
-team_alone span line end body _ one = absurd one
 
 -- such a statement is a store
 module _ (s : Stmt) (rest : Code) (h : AreStores (stmt_code s rest)) (other : (array : ℕ) (index value : Expr) (line site : ℕ) → s ≡ variant.Store array index value line site → ⊥) where

@@ -4,12 +4,12 @@ use Rattle.std.proofs.lemmas.List.{map-append}
 use Rattle.std.proofs.lemmas.List.Elements.{All-nil, All-cons, All-append, Contains-append_left, Contains-append_right}
 use Rattle.team_runner.specs.declared.lane.Lane.{Lane}
 use Rattle.team_runner.specs.Written.{Written}
-use Rattle.team_runner.specs.Team.{Handed, handed, path_of, all_logs, AreLogs}
+use Rattle.team_runner.specs.Team.{Handed, handed, lane_task, all_logs, AreLogs}
 
 -- one lane more
 pub all_logs_more : {X : Type 0} (root : Written) (lanes : List (Lane X)) (lane : Lane X) →
-    all_logs root (lanes ++ lane ∷ []) ≡ all_logs root lanes ++ handed (path_of lane) lane.recorder ∷ []
-all_logs_more root lanes lane = ap (λ l. handed [] root ∷ l) (map-append (λ lane. handed (path_of lane) lane.recorder) lanes (lane ∷ []))
+    all_logs root (lanes ++ lane ∷ []) ≡ all_logs root lanes ++ handed (lane_task lane) lane.recorder ∷ []
+all_logs_more root lanes lane = ap (λ l. handed [] root ∷ l) (map-append (λ lane. handed (lane_task lane) lane.recorder) lanes (lane ∷ []))
 
 -- with one log more in all
 among_more : (all logs : List Handed) (log : Handed) → All (Contains all) logs → All (Contains (all ++ log ∷ [])) logs

@@ -9,7 +9,7 @@ use Rattle.kernel_syntax.specs.Tree.{TeamTree}
 use Rattle.team_runner.specs.declared.lane.Lane.{Lane}
 use Rattle.team_runner.specs.Answer.{IsOwnLog, outline, whole_outline, whole_log}
 use Rattle.team_runner.specs.Ready.{IsBufferSize}
-use Rattle.team_runner.specs.Team.{IsForked, IsFreshLane, KeepsLane, Handed, handed, logged, path_of, lane_step}
+use Rattle.team_runner.specs.Team.{IsForkedLane, IsFreshLane, KeepsLane, Handed, handed, logged, lane_task, lane_step}
 use Rattle.team_runner.specs.Written.{Written}
 
 -- whether a log tells
@@ -35,14 +35,14 @@ logged_same h task dir path told count is_task is_dir is_path is_told is_count =
 
 -- a lane that was forked from this root, and what became of it
 module _ {X : Type 0} (root : Written) (span slots size : ℕ) (at_root : root.path ≡ []) (number : ℕ) (old new : Lane X)
-    (forked : IsForked root span slots size number old) (same : KeepsLane old new) where
+    (forked : IsForkedLane root span slots size number old) (same : KeepsLane old new) where
   -- its log has its path
   log_path : new.recorder.path ≡ lane_step number span ∷ []
   log_path =
       same.log.path ∙ ap (λ (w : Written). w.path) forked.log ∙ ap (λ (p : List Step). p ++ lane_step number span ∷ []) at_root
 
   -- so has its task
-  pub task_path : path_of new ≡ lane_step number span ∷ []
+  pub task_path : lane_task new ≡ lane_step number span ∷ []
   task_path =
       ap (λ n. lane_step n new.frame.span ∷ []) (same.lane ∙ forked.lane_is)
       ∙ ap (λ n. lane_step number n ∷ []) (same.span ∙ forked.span_is)
@@ -61,16 +61,16 @@ module _ {X : Type 0} (root : Written) (span slots size : ℕ) (at_root : root.p
       tells_mapped _ new.recorder.text ∙ same.log.tells ∙ ap is_some text_is ∙ tells_mapped (λ _. empty_text) root.text
 
   -- its log is its own
-  pub own_lane : IsOwnLog root.dir (is_some root.text) (logged (handed (path_of new) new.recorder))
+  pub own_lane : IsOwnLog root.dir (is_some root.text) (logged (handed (lane_task new) new.recorder))
   own_lane = record { dir_is = log_dir; path_is = log_path ∙ sym task_path; tells_so = log_tells }
 
   -- its log is a whole log of these records
   pub whole_lane : (records : List Record) → outline new.recorder.text ≡ option_map (λ _. whole_outline new.recorder.size records) old.recorder.text →
       new.recorder.count ≡ length records →
-      logged (handed (path_of new) new.recorder) ≡ whole_log root.dir size root.text (record { path = lane_step number span ∷ []; records = records })
+      logged (handed (lane_task new) new.recorder) ≡ whole_log root.dir size root.text (record { path = lane_step number span ∷ []; records = records })
   whole_lane records told count =
       let size_is : new.recorder.size ≡ size = same.log.size ∙ ap (λ (w : Written). w.size) forked.log in
-      logged_same (handed (path_of new) new.recorder) (lane_step number span ∷ []) root.dir (lane_step number span ∷ [])
+      logged_same (handed (lane_task new) new.recorder) (lane_step number span ∷ []) root.dir (lane_step number span ∷ [])
       (option_map (λ _. whole_outline size records) root.text) (length records) task_path log_dir log_path
       (told ∙ ap (λ (o : Option Text). option_map (λ _. whole_outline new.recorder.size records) o) text_is
       ∙ mapped_twice empty_text (whole_outline new.recorder.size records) root.text

@@ -83,27 +83,27 @@ module _ (at : Site) (slots : List ℤ) where
   pub statements_none : (w : Written) → MadePart (run at (code_of [])) slots w w slots (Returned tt)
   statements_none w = record { added = []; adds_records = adds_nothing w; makes = makes-Done at slots (log_limit - w.count) }
 
-  module _ (front : List Stmt) (stmt : Stmt) (old mid new : Written) (size : mid.size ≡ old.size)
-      (before : MadePart (run at (code_of front)) slots old mid slots (Returned tt)) where
+  module _ (prefix : List Stmt) (stmt : Stmt) (old mid new : Written) (size : mid.size ≡ old.size)
+      (before : MadePart (run at (code_of prefix)) slots old mid slots (Returned tt)) where
     -- one statement more
     pub statements_next : MadePart (run at (stmt_code stmt tree.Done)) slots mid new slots (Returned tt) →
-        MadePart (run at (code_of (front ++ stmt ∷ []))) slots old new slots (Returned tt)
+        MadePart (run at (code_of (prefix ++ stmt ∷ []))) slots old new slots (Returned tt)
     statements_next m =
-        part_same (λ s. after (run at (code_of front) s) (run at (stmt_code stmt tree.Done))) (run at (code_of (front ++ stmt ∷ []))) slots slots old new (Returned tt)
-        (λ s. ap (λ c. run at c s) (stmts_code-append front (stmt ∷ []) tree.Done) ∙ run-stmts at front (stmt_code stmt tree.Done) s)
-        (part_after (run at (code_of front)) (run at (stmt_code stmt tree.Done)) slots slots slots old mid new (Returned tt) size before m)
+        part_same (λ s. after (run at (code_of prefix) s) (run at (stmt_code stmt tree.Done))) (run at (code_of (prefix ++ stmt ∷ []))) slots slots old new (Returned tt)
+        (λ s. ap (λ c. run at c s) (stmts_code-append prefix (stmt ∷ []) tree.Done) ∙ run-stmts at prefix (stmt_code stmt tree.Done) s)
+        (part_after (run at (code_of prefix)) (run at (stmt_code stmt tree.Done)) slots slots slots old mid new (Returned tt) size before m)
 
     -- the next one stops
     pub statements_halt : (rest : List Stmt) (why : Stop) → Finishes (MadePart (run at (stmt_code stmt tree.Done)) slots mid new slots) new (Err why) →
-        Finishes (MadePart (run at (code_of (front ++ stmt ∷ rest))) slots old new slots) new (Err why)
+        Finishes (MadePart (run at (code_of (prefix ++ stmt ∷ rest))) slots old new slots) new (Err why)
     statements_halt rest why m =
         finishes_weaker
         (MadePart (λ s. after (run at (stmt_code stmt tree.Done) s) (run at (code_of rest))) slots mid new slots)
-        (MadePart (run at (code_of (front ++ stmt ∷ rest))) slots old new slots) new (Err why)
+        (MadePart (run at (code_of (prefix ++ stmt ∷ rest))) slots old new slots) new (Err why)
         (λ finish n.
-        part_same (λ s. after (run at (code_of front) s) (run at (stmt_code stmt (code_of rest)))) (run at (code_of (front ++ stmt ∷ rest))) slots slots old new finish
-        (λ s. ap (λ c. run at c s) (stmts_code-append front (stmt ∷ rest) tree.Done) ∙ run-stmts at front (stmt_code stmt (code_of rest)) s)
-        (part_after (run at (code_of front)) (run at (stmt_code stmt (code_of rest))) slots slots slots old mid new finish size before
+        part_same (λ s. after (run at (code_of prefix) s) (run at (stmt_code stmt (code_of rest)))) (run at (code_of (prefix ++ stmt ∷ rest))) slots slots old new finish
+        (λ s. ap (λ c. run at c s) (stmts_code-append prefix (stmt ∷ rest) tree.Done) ∙ run-stmts at prefix (stmt_code stmt (code_of rest)) s)
+        (part_after (run at (code_of prefix)) (run at (stmt_code stmt (code_of rest))) slots slots slots old mid new finish size before
         (part_same (λ s. after (run at (stmt_code stmt tree.Done) s) (run at (code_of rest))) (run at (stmt_code stmt (code_of rest))) slots slots mid new finish
         (run-first at stmt (code_of rest)) n)))
         (part_halts (run at (stmt_code stmt tree.Done)) (run at (code_of rest)) slots slots mid new why m)
@@ -196,15 +196,6 @@ module _ (at : Site) (body : Code) (slot : ℕ) (a : ℤ) where
   abbrev a_turn : ℕ → Part
   a_turn = turn at body slot a
 
-  -- one turn, after its number is assigned
-  pub turn_made : (i : ℕ) (v : ℤ) (slots slots' : List ℤ) (old new : Written) (finish : Finish (Unit {0})) → v ≡ a +ℤ pos i →
-      MadePart (run at body) (slice_set slots slot v) old new slots' finish → MadePart (a_turn i) slots old new slots' finish
-  turn_made i v slots slots' old new finish is m = record {
-    added = m.added;
-    adds_records = m.adds_records;
-    makes =
-        makes-assign (run at body) slot (a +ℤ pos i) slots (log_limit - old.count) (adds slots' m.added) finish
-        (subst (λ w. Makes (run at body) (slice_set slots slot w) (log_limit - old.count) (adds slots' m.added) finish) is m.makes);
   }
 
   pub turns_none : (slots : List ℤ) (w : Written) → MadePart (each [] a_turn) slots w w slots (Returned tt)

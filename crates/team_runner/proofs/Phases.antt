@@ -8,8 +8,8 @@ use Rattle.team_runner.specs.declared.lane.Pass.TheVariants.{Whole, First, Last,
 use Rattle.team_runner.specs.declared.stop.Stop.{Stop}
 use Rattle.team_runner.specs.declared.stop.Stop.TheVariants as stop
 use Rattle.team_runner.specs.declared.team.Halt.{Halt}
-use Rattle.team_runner.specs.Lane.{EndsTask, HasFrontLog, barriers_of}
-use Rattle.team_runner.specs.Team.{PairsBelow, IsFreshLane, IsLaneOf, KeepsLane, LaneEnds, Passed, Ran, IsNoWant, StopsFirst, AllPassed, AllRan, IsAfterClosing, path_of, start_of, lane_step}
+use Rattle.team_runner.specs.Lane.{EndsTask, HasPrefixLog, barriers_of}
+use Rattle.team_runner.specs.Team.{PairsBelow, IsFreshLane, IsLaneOf, KeepsLane, LaneEnds, Passed, Ran, IsNoWant, StopsFirst, AllPassed, AllRan, IsAfterClosing, lane_task, start_of, lane_step}
 use Rattle.team_runner.proofs.Putting.{keeps_chain}
 use Rattle.team_runner.proofs.Tasks.{body_ends, body_reaches, body_waits, runs_whole, shut_stops}
 
@@ -21,7 +21,7 @@ keeps_lane_chain a b c one more = record {
   log = keeps_chain a.recorder b.recorder c.recorder one.log more.log;
 }
 
-kept_path : {X : Type 0} (a b : Lane X) → KeepsLane a b → path_of b ≡ path_of a
+kept_path : {X : Type 0} (a b : Lane X) → KeepsLane a b → lane_task b ≡ lane_task a
 kept_path a b kept = ap (λ n. lane_step n b.frame.span ∷ []) kept.lane ∙ ap (λ n. lane_step a.frame.lane n ∷ []) kept.span
 
 pub keeps_all : {X : Type 0} (n : ℕ) (olds mids news : List (Lane X)) → PairsBelow n KeepsLane olds mids → PairsBelow n KeepsLane mids news → PairsBelow n KeepsLane olds news
@@ -52,7 +52,7 @@ all_follows One More olds mids news n goes (Some halt) stops =
     }
 
 -- the same for one lane
-ends_follows : {X : Type 0} (One More : Result (Unit {0}) Stop → Type 0) (a b : Lane X) → path_of b ≡ path_of a → ((r : Result (Unit {0}) Stop) → One r → More r) →
+ends_follows : {X : Type 0} (One More : Result (Unit {0}) Stop → Type 0) (a b : Lane X) → lane_task b ≡ lane_task a → ((r : Result (Unit {0}) Stop) → One r → More r) →
     (o : Option Halt) → LaneEnds One b o → LaneEnds More a o
 ends_follows One More a b same goes None is = goes (Ok tt) is
 ends_follows One More a b same goes (Some halt) is = record { path_is = is.path_is ∙ same; stopped = goes (Err halt.why) is.stopped }
@@ -67,7 +67,7 @@ module _ {X : Type 0} (arrays : List Array) (team : TeamTree) (olds : List (Lane
   -- the lanes ran to the end of their last phase
   last_phase : (news : List (Lane X)) → (0 < barriers_of team.body → (k : ℕ) (d e : Lane X) (o : Option Halt) → k < length olds → IsNoWant o →
       Ran arrays team (barriers_of team.body) (get_or olds k d) (get_or news k e) o →
-      HasFrontLog arrays (start_of team (get_or olds k d)) (barriers_of team.body) (get_or olds k d).recorder (get_or news k e).recorder) →
+      HasPrefixLog arrays (start_of team (get_or olds k d)) (barriers_of team.body) (get_or olds k d).recorder (get_or news k e).recorder) →
       (outcome : Option Halt) → AllPassed (Ran arrays team (barriers_of team.body)) olds news (length olds) outcome → AllRan arrays team olds news (length olds) outcome
   last_phase news reaches None all = all
   last_phase news reaches (Some halt) stops =
@@ -108,7 +108,7 @@ module _ {X : Type 0} (arrays : List Array) (team : TeamTree) (olds : List (Lane
         let is = fresh k d lt in
         let same = kept k d d lt in
         reaches_so (EndsTask arrays (start_of team old) (barriers_of team.body) old.recorder (get_or news k e).recorder) old
-        (HasFrontLog arrays (start_of team old) (barriers_of team.body) old.recorder (get_or news k e).recorder)
+        (HasPrefixLog arrays (start_of team old) (barriers_of team.body) old.recorder (get_or news k e).recorder)
         (body_reaches arrays (start_of team old) old.recorder mid.recorder (get_or news k e).recorder is.fresh is.size.least (began k d d lt) same.log.size) o no_want ran)
         outcome
         (all_follows (Passed Last arrays team) (Ran arrays team (barriers_of team.body)) olds mids news (length olds)

@@ -12,22 +12,6 @@ use Rattle.log_format.specs.declared.record.Record.{Record}
 use Rattle.log_format.specs.Spelling.{spelling}
 use Rattle.team_runner.specs.Written.{Written, Adds, Keeps, HasFault, held}
 
--- whether a log tells is the same after an append
-same_tells : (old : Option Text) (f : Text → Text) → is_some (option_map f old) ≡ is_some old
-same_tells None f = refl
-same_tells (Some t) f = refl
-
-pub tells_after : (r : Result (Unit {0}) Trouble) (old new : Option Text) (piece : List ℕ) → OnOk r (new ≡ option_map (with_piece piece) old) →
-    OnErr r (TearsPiece old new piece) → is_some new ≡ is_some old
-tells_after (Ok v) old new piece done refused = ap is_some done ∙ same_tells old (with_piece piece)
-tells_after (Err e) old new piece done refused = ap is_some refused.tears ∙ same_tells old (with_torn refused.front)
-
--- what failed has its fault counted
-pub fault_counted : (r : Result (Unit {0}) Trouble) (before : ℕ) (w : Written) → HasCause before w.faults r → IfErr r (λ t. HasFault t w)
-fault_counted (Ok v) before w cause = tt
-fault_counted (Err trouble.Memory) before w cause = tt
-fault_counted (Err trouble.Failed) before w cause = let rose = cause.failed refl in omega arith
-
 pub keeps_chain : (a b c : Written) → Keeps a b → Keeps b c → Keeps a c
 keeps_chain a b c one more = record {
   dir = more.dir ∙ one.dir;

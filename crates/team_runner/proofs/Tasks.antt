@@ -20,9 +20,9 @@ use Rattle.race_model.specs.Trace.{barrier_count}
 use Rattle.team_runner.specs.declared.stop.Stop.{Stop}
 use Rattle.team_runner.specs.declared.stop.Stop.TheVariants.{DivZero, Index, LogFull, Trouble}
 use Rattle.team_runner.specs.Written.{Written, Adds, Begun, Closed, HasFault}
-use Rattle.team_runner.specs.Answer.{IsFrontOf, whole_outline}
-use Rattle.team_runner.specs.Stops.{Finishes, Closes, Ends, Puts}
-use Rattle.team_runner.specs.Lane.{HasTrace, HasFrontLog, HasPassed, IsLogOf, EndsTask, IsFresh, MadeBody, ClosedBody, Begins, EndsWith, Runs, IsShut, barriers_of, end_of, site, ending_of}
+use Rattle.team_runner.specs.Answer.{IsPrefixOf, whole_outline}
+use Rattle.team_runner.specs.Stops.{Finishes, Closes, EndsPart, Puts}
+use Rattle.team_runner.specs.Lane.{HasTrace, HasPrefixLog, HasPassed, IsLogOf, EndsTask, IsFresh, MadeBody, ClosedBody, BeginsTask, EndsWith, Runs, IsShut, barriers_of, end_of, site, ending_of}
 use Rattle.team_runner.specs.Lane as lane
 use Rattle.team_runner.proofs.Putting.{adds_chain, adds_same}
 use Rattle.team_runner.proofs.WholeLog.{whole_told, whole_count}
@@ -104,26 +104,12 @@ module _ (P Q : Finish (Unit {0}) → Type 0) (old new : Written) where
 
   -- a fact about the outcome, and one about the answer once the log is closed
   pub ends_weaker : (outcome result : Result (Unit {0}) Stop) → ((finish : Finish (Unit {0})) → P finish → Closed old new → Q finish) →
-      Ends outcome old new result → Finishes P old outcome → Finishes Q new result
+      EndsPart outcome old new result → Finishes P old outcome → Finishes Q new result
   ends_weaker (Ok v) result goes e p = closes_weaker (Ok v) result goes e p
   ends_weaker (Err (DivZero line)) result goes e p = closes_weaker (Err (DivZero line)) result goes e p
   ends_weaker (Err (Index line)) result goes e p = closes_weaker (Err (Index line)) result goes e p
   ends_weaker (Err (LogFull line)) result goes e p = closes_weaker (Err (LogFull line)) result goes e p
   ends_weaker (Err (Trouble trouble)) result goes e p = subst (Finishes Q new) (sym e.0) (subst (HasFault trouble) (sym e.1) p)
-
--- what the recorder says of a body that stopped
-no_ok : (why : Stop) (v : Unit {0}) (old new : Written) → Ends (Err why) old new (Ok v) → ⊥
-no_ok (DivZero line) v old new e = let is = e.0 in cc
-no_ok (Index line) v old new e = let is = e.0 in cc
-no_ok (LogFull line) v old new e = let is = e.0 in cc
-no_ok (Trouble trouble) v old new e = let is = e.0 in cc
-
-pub stop_closed : (arrays : List Array) (start : Start) (old last new : Written) (why : Stop) (result : Result (Unit {0}) Stop) → last.size ≡ old.size → new.size ≡ last.size →
-    Finishes (MadeBody arrays start old last) last (Err why) → Ends (Err why) last new result → Begins arrays start old new result
-stop_closed arrays start old last new why (Ok v) size size_now made ends = absurd (no_ok why v last new ends)
-stop_closed arrays start old last new why (Err e) size size_now made ends =
-    ends_weaker (MadeBody arrays start old last) (ClosedBody arrays start old new) last new (Err why) (Err e)
-    (λ finish m closed. record { last = last; made = m; size = size; size_now = size_now; closed = closed }) ends made
 
 -- ---- a body that ended
 
@@ -197,9 +183,9 @@ module _ (arrays : List Array) (start : Start) (old mid new : Written) (fresh : 
       e.ends (put_end e.last e.outcome e.puts)
 
   -- its records are the first of its trace
-  front_of : (program : Program) → program.arrays ≡ arrays → (b : Bool) → nat_lt (length m.made.added) log_limit ≡ b → IsFrontOf program start m.made.added
-  front_of program is true lt = record { rest = end_of start ∷ []; ending = Ended; traced = ended program is (grind (arith, nat_tests)) }
-  front_of program is false ge = record {
+  prefix_of : (program : Program) → program.arrays ≡ arrays → (b : Bool) → nat_lt (length m.made.added) log_limit ≡ b → IsPrefixOf program start m.made.added
+  prefix_of program is true lt = record { rest = end_of start ∷ []; ending = Ended; traced = ended program is (grind (arith, nat_tests)) }
+  prefix_of program is false ge = record {
     rest = [];
     ending = Stopped model.LogFull start.team.end;
     traced =
@@ -208,10 +194,10 @@ module _ (arrays : List Array) (start : Start) (old mid new : Written) (fresh : 
   }
 
   -- the task waits, and its log is closed
-  pub body_waits : IsShut mid new → HasFrontLog arrays start barriers old new
+  pub body_waits : IsShut mid new → HasPrefixLog arrays start barriers old new
   body_waits shut = record {
     records = m.made.added;
-    front = λ program is. front_of program is (nat_lt (length m.made.added) log_limit) refl;
+    prefix = λ program is. prefix_of program is (nat_lt (length m.made.added) log_limit) refl;
     passed = body_passed;
     logged = closed_or shut.closed;
   }
@@ -221,24 +207,24 @@ module _ (arrays : List Array) (start : Start) (old mid new : Written) (fresh : 
       closed_or (inr faulty) = inr faulty
 
   -- a task that ended or stopped so has the first records of its trace
-  whole_front : (ending : Ending) → HasTrace arrays start barriers old new ending → HasFrontLog arrays start barriers old new
-  whole_front ending has = record {
+  whole_prefix : (ending : Ending) → HasTrace arrays start barriers old new ending → HasPrefixLog arrays start barriers old new
+  whole_prefix ending has = record {
     records = has.records;
-    front = λ program is. record { rest = []; ending = ending; traced = subst (λ rs. IsTracedTo program start rs ending) (sym (append-nil has.records)) (has.traced program is) };
+    prefix = λ program is. record { rest = []; ending = ending; traced = subst (λ rs. IsTracedTo program start rs ending) (sym (append-nil has.records)) (has.traced program is) };
     passed = has.passed;
     logged = inl has.logged;
   }
 
   -- however it ended, it passed its barriers
-  pub body_reaches : (result : Result (Unit {0}) Stop) → (result ≢ Err (Trouble trouble.Memory)) → EndsTask arrays start barriers old new result → HasFrontLog arrays start barriers old new
-  body_reaches (Ok v) other has = whole_front Ended has
-  body_reaches (Err (DivZero line)) other has = whole_front (Stopped model.DivZero line) has
-  body_reaches (Err (Index line)) other has = whole_front (Stopped model.Index line) has
-  body_reaches (Err (LogFull line)) other has = whole_front (Stopped model.LogFull line) has
+  pub body_reaches : (result : Result (Unit {0}) Stop) → (result ≢ Err (Trouble trouble.Memory)) → EndsTask arrays start barriers old new result → HasPrefixLog arrays start barriers old new
+  body_reaches (Ok v) other has = whole_prefix Ended has
+  body_reaches (Err (DivZero line)) other has = whole_prefix (Stopped model.DivZero line) has
+  body_reaches (Err (Index line)) other has = whole_prefix (Stopped model.Index line) has
+  body_reaches (Err (LogFull line)) other has = whole_prefix (Stopped model.LogFull line) has
   body_reaches (Err (Trouble trouble.Memory)) other has = absurd (other refl)
   body_reaches (Err (Trouble trouble.Failed)) other has = record {
     records = m.made.added;
-    front = λ program is. front_of program is (nat_lt (length m.made.added) log_limit) refl;
+    prefix = λ program is. prefix_of program is (nat_lt (length m.made.added) log_limit) refl;
     passed = body_passed;
     logged = inr has;
   }

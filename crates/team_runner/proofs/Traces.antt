@@ -10,9 +10,9 @@ use Rattle.kernel_model.specs.Trace.{Start, Ending, Ended}
 use Rattle.kernel_model.specs.FirstTeam.{first_team}
 use Rattle.kernel_model.proofs.FirstKindFolder.{first_lane, first_lanes}
 use Rattle.team_runner.specs.declared.lane.Lane.{Lane}
-use Rattle.team_runner.specs.Answer.{IsFrontOf, Logged, whole_log}
-use Rattle.team_runner.specs.Lane.{HasTrace, HasFrontLog, HasPassed, IsLogOf}
-use Rattle.team_runner.specs.Team.{IsForked, KeepsLane, handed, logged, path_of, start_of, lane_step}
+use Rattle.team_runner.specs.Answer.{IsPrefixOf, Logged, whole_log}
+use Rattle.team_runner.specs.Lane.{HasTrace, HasPrefixLog, HasPassed, IsLogOf}
+use Rattle.team_runner.specs.Team.{IsForkedLane, KeepsLane, handed, logged, lane_task, start_of, lane_step}
 use Rattle.team_runner.specs.Written.{Written}
 use Rattle.team_runner.proofs.OneLane.{whole_lane}
 
@@ -30,15 +30,15 @@ pub record TracedLane {X : Type 0} (program : Program) (root : Written) (size ba
   pub records : List Record
   pub traced : IsTracedTo program (first_lane program number) records ending
   pub passed : HasPassed program.arrays (first_team program.main.body) barriers records
-  pub log : logged (handed (path_of lane) lane.recorder)
+  pub log : logged (handed (lane_task lane) lane.recorder)
       ≡ whole_log root.dir size root.text (record { path = lane_step number (span_of program) ∷ []; records = records })
 
 -- the lane waits after so many barriers: its log is a whole log of the first records of its trace, or it counts a fault
-pub record FrontLane {X : Type 0} (program : Program) (root : Written) (size barriers number : ℕ) (lane : Lane X) : Type 0 where
+pub record PrefixLane {X : Type 0} (program : Program) (root : Written) (size barriers number : ℕ) (lane : Lane X) : Type 0 where
   pub records : List Record
-  pub front : IsFrontOf program (first_lane program number) records
+  pub prefix : IsPrefixOf program (first_lane program number) records
   pub passed : HasPassed program.arrays (first_team program.main.body) barriers records
-  pub log : (logged (handed (path_of lane) lane.recorder)
+  pub log : (logged (handed (lane_task lane) lane.recorder)
       ≡ whole_log root.dir size root.text (record { path = lane_step number (span_of program) ∷ []; records = records })) ⊎ (0 < lane.recorder.faults)
 
 -- the first trace and those after it
@@ -52,12 +52,12 @@ first_trace program i (suc l) d r rs n lt here rest =
 
 module _ {X : Type 0} (program : Program) (root : Written) (size : ℕ) (at_root : root.path ≡ []) where
   -- how such a lane starts
-  lane_start : (number : ℕ) (old : Lane X) → IsForked root (span_of program) program.slots size number old → start_of (first_team program.main.body) old ≡ first_lane program number
+  lane_start : (number : ℕ) (old : Lane X) → IsForkedLane root (span_of program) program.slots size number old → start_of (first_team program.main.body) old ≡ first_lane program number
   lane_start number old forked =
       ap (λ n. record { team = first_team program.main.body; lane = n; slots = old.frame.locals.items }) forked.lane_is
       ∙ ap (λ slots. record { team = first_team program.main.body; lane = number; slots = slots }) forked.locals
 
-  module _ (number barriers : ℕ) (old new : Lane X) (forked : IsForked root (span_of program) program.slots size number old) (same : KeepsLane old new) where
+  module _ (number barriers : ℕ) (old new : Lane X) (forked : IsForkedLane root (span_of program) program.slots size number old) (same : KeepsLane old new) where
     -- a lane whose log is that of its trace, numbered in the kernel
     pub traced_lane : (ending : Ending) → HasTrace program.arrays (start_of (first_team program.main.body) old) barriers old.recorder new.recorder ending →
         TracedLane program root size barriers ending number new
@@ -69,16 +69,16 @@ module _ {X : Type 0} (program : Program) (root : Written) (size : ℕ) (at_root
     }
 
     -- and one that waits
-    pub front_lane : HasFrontLog program.arrays (start_of (first_team program.main.body) old) barriers old.recorder new.recorder → FrontLane program root size barriers number new
-    front_lane has = record {
+    pub prefix_lane : HasPrefixLog program.arrays (start_of (first_team program.main.body) old) barriers old.recorder new.recorder → PrefixLane program root size barriers number new
+    prefix_lane has = record {
       records = has.records;
-      front = subst (λ (s : Start). IsFrontOf program s has.records) (lane_start number old forked) (has.front program refl);
+      prefix = subst (λ (s : Start). IsPrefixOf program s has.records) (lane_start number old forked) (has.prefix program refl);
       passed = has.passed;
       log = log_or has.logged;
     }
       where
         log_or : IsLogOf old.recorder new.recorder has.records ⊎ (0 < new.recorder.faults) →
-            (logged (handed (path_of new) new.recorder)
+            (logged (handed (lane_task new) new.recorder)
             ≡ whole_log root.dir size root.text (record { path = lane_step number (span_of program) ∷ []; records = has.records })) ⊎ (0 < new.recorder.faults)
         log_or (inl log) = inl (whole_lane root (span_of program) program.slots size at_root number old new forked same has.records log.told log.count)
         log_or (inr faulty) = inr faulty
@@ -88,7 +88,7 @@ module _ {X : Type 0} (program : Program) (root : Written) (size : ℕ) (at_root
     pub records : List (List Record)
     pub count : length records ≡ length lanes
     pub traced : (l : ℕ) (d : List Record) → l < length lanes → IsTraced program (first_lane program (i + l)) (get_or records l d)
-    pub logs : map logged (map (λ lane. handed (path_of lane) lane.recorder) lanes) ≡ map (whole_log root.dir size root.text) (first_lanes (span_of program) i records)
+    pub logs : map logged (map (λ lane. handed (lane_task lane) lane.recorder) lanes) ≡ map (whole_log root.dir size root.text) (first_lanes (span_of program) i records)
 
   -- each lane has its own
   pub has_traces : (barriers i : ℕ) (lanes : List (Lane X)) → ((l : ℕ) (e : Lane X) → l < length lanes → TracedLane program root size barriers Ended (i + l) (get_or lanes l e)) → HasTraces i lanes
@@ -104,20 +104,20 @@ module _ {X : Type 0} (program : Program) (root : Written) (size : ℕ) (at_root
         count = ap suc rest.count;
         traced = λ l d lt. first_trace program i l d here.records rest.records (length lanes) lt here.traced rest.traced;
         logs =
-            ap (λ (log : Logged). log ∷ map logged (map (λ lane. handed (path_of lane) lane.recorder) lanes)) here.log
+            ap (λ (log : Logged). log ∷ map logged (map (λ lane. handed (lane_task lane) lane.recorder) lanes)) here.log
             ∙ ap (λ (logs : List Logged). whole_log root.dir size root.text (record { path = lane_step i (span_of program) ∷ []; records = here.records }) ∷ logs) rest.logs;
       }
 
   -- the paths of some lanes from a number on
-  pub lane_paths : (i : ℕ) (lanes : List (Lane X)) → ((l : ℕ) (e : Lane X) → l < length lanes → path_of (get_or lanes l e) ≡ lane_step (i + l) (span_of program) ∷ []) →
-      map (λ (log : Logged). log.task) (map logged (map (λ lane. handed (path_of lane) lane.recorder) lanes))
+  pub lane_paths : (i : ℕ) (lanes : List (Lane X)) → ((l : ℕ) (e : Lane X) → l < length lanes → lane_task (get_or lanes l e) ≡ lane_step (i + l) (span_of program) ∷ []) →
+      map (λ (log : Logged). log.task) (map logged (map (λ lane. handed (lane_task lane) lane.recorder) lanes))
       ≡ map (λ l. lane_step l (span_of program) ∷ []) (range_with_len i (length lanes))
   lane_paths i [] each = refl
   lane_paths i (lane ∷ lanes) each =
       let at : i + 0 ≡ i = omega arith in
-      let here : path_of lane ≡ lane_step i (span_of program) ∷ [] = each 0 lane (omega arith) ∙ ap (λ k. lane_step k (span_of program) ∷ []) at in
+      let here : lane_task lane ≡ lane_step i (span_of program) ∷ [] = each 0 lane (omega arith) ∙ ap (λ k. lane_step k (span_of program) ∷ []) at in
       let rest = lane_paths (i + 1) lanes (λ l e lt.
       let next : i + suc l ≡ i + 1 + l = omega arith in
       each (suc l) e (omega arith) ∙ ap (λ k. lane_step k (span_of program) ∷ []) next) in
-      ap (λ p. p ∷ map (λ (log : Logged). log.task) (map logged (map (λ lane. handed (path_of lane) lane.recorder) lanes))) here
+      ap (λ p. p ∷ map (λ (log : Logged). log.task) (map logged (map (λ lane. handed (lane_task lane) lane.recorder) lanes))) here
       ∙ ap (λ ps. (lane_step i (span_of program) ∷ []) ∷ ps) rest

@@ -27,14 +27,14 @@ use Rattle.team_runner.specs.declared.stop.Stop.{Stop}
 use Rattle.team_runner.specs.declared.stop.Stop.TheVariants.{DivZero, Index, LogFull}
 use Rattle.team_runner.specs.declared.stop.Stop.TheVariants as stop
 use Rattle.team_runner.specs.declared.team.Halt.{Halt}
-use Rattle.team_runner.specs.Answer.{Logged, AreFirst, IsOwnLog, HasRun, HasTask, HasFront, HasStop, IsAhead, ended, waits, HasStoppedRun, HasFaulty, whole_outline, whole_log, lane_path, task_paths}
-use Rattle.team_runner.specs.Lane.{HasTrace, HasFrontLog, HasPassed, EndsTask, IsFresh, barriers_of, ending_of}
+use Rattle.team_runner.specs.Answer.{Logged, AreFirst, IsOwnLog, HasRun, HasTask, HasPrefix, HasStop, IsAhead, ended, waits, HasStoppedRun, HasFaulty, whole_outline, whole_log, first_region_lane, task_paths}
+use Rattle.team_runner.specs.Lane.{HasTrace, HasPrefixLog, HasPassed, EndsTask, IsFresh, barriers_of, ending_of}
 use Rattle.team_runner.specs.Ready.{IsReady, IsBufferSize}
 use Rattle.team_runner.specs.Stops.{StopsSo, Finishes}
-use Rattle.team_runner.specs.Team.{EachAt, PairsBelow, IsForked, IsFreshLane, KeepsLane, IsAheadLane, AllRan, IsFirstStop, HasTeam, HasRunTeam, HasPut, ClosesWith, region_record, Handed, handed, all_logs, logged, faulty, path_of, start_of, lane_step}
+use Rattle.team_runner.specs.Team.{EachAt, PairsBelow, IsForkedLane, IsFreshLane, KeepsLane, IsAheadLane, AllRan, IsFirstStop, HasTeam, HasRunTeam, HasPut, ClosesWith, region_record, Handed, handed, all_logs, logged, faulty, lane_task, start_of, lane_step}
 use Rattle.team_runner.specs.Written.{Written, Keeps, HasFault}
 use Rattle.team_runner.proofs.OneLane.{task_path, own_lane, fresh_lane, logged_same, tells_mapped}
-use Rattle.team_runner.proofs.Traces.{span_of, region_span_is, TracedLane, FrontLane, traced_lane, front_lane, has_traces, lane_paths}
+use Rattle.team_runner.proofs.Traces.{span_of, region_span_is, TracedLane, PrefixLane, traced_lane, prefix_lane, has_traces, lane_paths}
 use Rattle.team_runner.proofs.Firsts.{team_loop, team_bounded}
 use Rattle.race_model.specs.Trace.{TaskLog, barrier_count}
 use Rattle.team_runner.proofs.Putting.{adds_chain}
@@ -77,19 +77,15 @@ cause_after Q halt result (inl same) cause failed = subst (λ (h : Halt). h.why 
 cause_after Q halt result (inr memory) cause failed =
     let other : stop.Trouble trouble.Memory ≡ stop.Trouble trouble.Failed = sym memory ∙ failed in absurd (cc)
 
--- the root's log alone is the first
-pub first_root_log : {X : Type 0} (program : Program) (root : Written) (lanes : List (Lane X)) → lanes ≡ [] → AreFirst program (map logged (all_logs root lanes))
-first_root_log program root lanes none = rw none refl
-
 -- a lane that did nothing
 same_lane : {X : Type 0} (lane : Lane X) → KeepsLane lane lane
 same_lane lane = record { lane = refl; span = refl; log = record { dir = refl; path = refl; size = refl; tells = refl } }
 
 module _ {X : Type 0} (program : Program) (root : Written) (size : ℕ) (team : TeamTree) (olds : List (Lane X)) (team_is : team ≡ first_team program.main.body)
-    (forked : EachAt (IsForked root team.span program.slots size) olds) (few : length olds ≤ team.span) where
+    (forked : EachAt (IsForkedLane root team.span program.slots size) olds) (few : length olds ≤ team.span) where
   -- they were forked for the kernel's team
-  forked_so : EachAt (IsForked root (span_of program) program.slots size) olds
-  forked_so = subst (λ (t : TeamTree). EachAt (IsForked root t.span program.slots size) olds) team_is forked
+  forked_so : EachAt (IsForkedLane root (span_of program) program.slots size) olds
+  forked_so = subst (λ (t : TeamTree). EachAt (IsForkedLane root t.span program.slots size) olds) team_is forked
 
   few_so : length olds ≤ span_of program
   few_so = subst (λ (t : TeamTree). length olds ≤ t.span) team_is few
@@ -139,19 +135,19 @@ module _ {X : Type 0} (program : Program) (root : Written) (size : ℕ) (team : 
 
 module _ {X : Type 0} (program : Program) (root : Written) (size : ℕ) (at_root : root.path ≡ []) (news : List (Lane X)) (team : HasTeam program root size news) where
   -- the path of a lane
-  path_at : (k : ℕ) (e : Lane X) → k < length news → path_of (get_or news k e) ≡ lane_step k (span_of program) ∷ []
+  path_at : (k : ℕ) (e : Lane X) → k < length news → lane_task (get_or news k e) ≡ lane_step k (span_of program) ∷ []
   path_at k e lt =
       let within : k < length team.forked = omega arith in
       task_path root (span_of program) program.slots size at_root k (get_or team.forked k e) (get_or news k e) (team.are_forked k e within) (team.same k e e within)
 
   -- which it had before
-  kept_path : (k : ℕ) (e : Lane X) → k < length news → path_of (get_or news k e) ≡ path_of (get_or team.forked k e)
+  kept_path : (k : ℕ) (e : Lane X) → k < length news → lane_task (get_or news k e) ≡ lane_task (get_or team.forked k e)
   kept_path k e lt =
       let kept = team.same k e e (omega arith) in
       ap (λ n. lane_step n (get_or news k e).frame.span ∷ []) kept.lane ∙ ap (λ n. lane_step (get_or team.forked k e).frame.lane n ∷ []) kept.span
 
   -- the log of a lane is its own
-  own_at : (k : ℕ) (e : Lane X) → k < length news → IsOwnLog root.dir (is_some root.text) (logged (handed (path_of (get_or news k e)) (get_or news k e).recorder))
+  own_at : (k : ℕ) (e : Lane X) → k < length news → IsOwnLog root.dir (is_some root.text) (logged (handed (lane_task (get_or news k e)) (get_or news k e).recorder))
   own_at k e lt =
       let within : k < length team.forked = omega arith in
       own_lane root (span_of program) program.slots size at_root k (get_or team.forked k e) (get_or news k e) (team.are_forked k e within) (team.same k e e within)
@@ -159,28 +155,28 @@ module _ {X : Type 0} (program : Program) (root : Written) (size : ℕ) (at_root
   -- each log is that of its task
   pub own_logs : (now : Written) → Keeps root now → All (λ h. IsOwnLog root.dir (is_some root.text) (logged h)) (all_logs now news)
   own_logs now keeps =
-      All-cons (λ h. IsOwnLog root.dir (is_some root.text) (logged h)) (handed [] now) (map (λ lane. handed (path_of lane) lane.recorder) news)
+      All-cons (λ h. IsOwnLog root.dir (is_some root.text) (logged h)) (handed [] now) (map (λ lane. handed (lane_task lane) lane.recorder) news)
       (record { dir_is = keeps.dir; path_is = keeps.path ∙ at_root; tells_so = tells_mapped _ now.text ∙ keeps.tells })
-      (All-map (λ h. IsOwnLog root.dir (is_some root.text) (logged h)) (λ (lane : Lane X). handed (path_of lane) lane.recorder) news own_at)
+      (All-map (λ h. IsOwnLog root.dir (is_some root.text) (logged h)) (λ (lane : Lane X). handed (lane_task lane) lane.recorder) news own_at)
 
   -- the logs are those of the first tasks
   pub first_logs : (now : Written) → AreFirst program (map logged (all_logs now news))
   first_logs now =
-      let lane_log = λ (lane : Lane X). handed (path_of lane) lane.recorder in
+      let lane_log = λ (lane : Lane X). handed (lane_task lane) lane.recorder in
       let span_is = region_span_is program.main.body in
       let few : length news ≤ region_span program.main.body = omega (arith, team.few, team.same_length) in
       let count : length (map logged (map lane_log news)) ≡ length news = length-map (map lane_log news) logged ∙ length-map news lane_log in
       ap (λ (paths : List (List Step)). [] ∷ paths)
       (lane_paths program root size at_root 0 news (λ l e lt. path_at l e lt ∙ ap (λ n. lane_step n (span_of program) ∷ []) (omega arith))
       ∙ ap (λ n. map (λ l. lane_step l n ∷ []) (below (length news))) (sym span_is)
-      ∙ sym (take-map-range_with_len (lane_path program) 0 (region_span program.main.body) (length news) few)
-      ∙ ap (λ n. take n (map (lane_path program) (below (region_span program.main.body)))) (sym count))
+      ∙ sym (take-map-range_with_len (first_region_lane program) 0 (region_span program.main.body) (length news) few)
+      ∙ ap (λ n. take n (map (first_region_lane program) (below (region_span program.main.body)))) (sym count))
 
   -- what is seen of a lane's log stands among what is seen of all logs
   lane_seen : {B : Type 0} (f : Handed → B) (now : Written) (k : ℕ) (e : Lane X) (b : B) → k < length news →
-      f (handed (path_of (get_or news k e)) (get_or news k e).recorder) ≡ b → Contains (map f (all_logs now news)) b
+      f (handed (lane_task (get_or news k e)) (get_or news k e).recorder) ≡ b → Contains (map f (all_logs now news)) b
   lane_seen f now k e b lt is =
-      let lane_log = λ (lane : Lane X). handed (path_of lane) lane.recorder in
+      let lane_log = λ (lane : Lane X). handed (lane_task lane) lane.recorder in
       let d : Handed = handed [] now in
       contains_later b (f (handed [] now)) (map f (map lane_log news))
       (contains_mapped f (map lane_log news) k d b (omega (arith, length-map news lane_log)) (ap f (get_or-map lane_log news k e d lt) ∙ is))
@@ -195,7 +191,7 @@ module _ {X : Type 0} (program : Program) (root : Written) (size : ℕ) (at_root
       let old : Lane X = get_or team.forked first.lane e in
       let new : Lane X = get_or news first.lane e in
       let halts = first.halts e e in
-      let path : path_of new ≡ halt.path = kept_path first.lane e within ∙ sym halts.path_is in
+      let path : lane_task new ≡ halt.path = kept_path first.lane e within ∙ sym halts.path_is in
       record {
         count = new.recorder.faults;
         logged = lane_seen faulty now first.lane e (halt.path, new.recorder.faults) within (ap (λ (p : List Step). (p, new.recorder.faults)) path);
@@ -218,12 +214,12 @@ module _ {X : Type 0} (program : Program) (root : Written) (size : ℕ) (at_root
         traced_lane program root size at_root k barriers (get_or team.forked k d) (get_or news k e) (team.are_forked k d within) (team.same k d e within) ending has
 
     -- or it waits
-    front_at : (k barriers : ℕ) (d e : Lane X) → k < length news →
-        HasFrontLog program.arrays (start_of (first_team program.main.body) (get_or team.forked k d)) barriers (get_or team.forked k d).recorder (get_or news k e).recorder →
-        FrontLane program root size barriers k (get_or news k e)
-    front_at k barriers d e lt has =
+    prefix_at : (k barriers : ℕ) (d e : Lane X) → k < length news →
+        HasPrefixLog program.arrays (start_of (first_team program.main.body) (get_or team.forked k d)) barriers (get_or team.forked k d).recorder (get_or news k e).recorder →
+        PrefixLane program root size barriers k (get_or news k e)
+    prefix_at k barriers d e lt has =
         let within : k < length team.forked = omega arith in
-        front_lane program root size at_root k barriers (get_or team.forked k d) (get_or news k e) (team.are_forked k d within) (team.same k d e within) has
+        prefix_lane program root size at_root k barriers (get_or team.forked k d) (get_or news k e) (team.are_forked k d within) (team.same k d e within) has
 
     -- so many of its records are barriers
     passed_is : (barriers : ℕ) (records : List Record) → HasPassed program.arrays (first_team program.main.body) barriers records → barrier_count records ≡ barriers
@@ -245,7 +241,7 @@ module _ {X : Type 0} (program : Program) (root : Written) (size : ℕ) (at_root
 
       -- a lane's task has its log
       has_task : (k barriers : ℕ) (e : Lane X) (ending : Ending) → k < length news → TracedLane program root size barriers ending k (get_or news k e) →
-          Counted (lane_path program k) ending barriers
+          Counted (first_region_lane program k) ending barriers
       has_task k barriers e ending lt lane =
           subst (λ n. Counted (lane_step k n ∷ []) ending barriers) (sym (region_span_is program.main.body)) (
             record {
@@ -260,21 +256,21 @@ module _ {X : Type 0} (program : Program) (root : Written) (size : ℕ) (at_root
           )
 
       -- that of a lane that waits, or a fault is counted
-      has_front : (k barriers passed : ℕ) (e : Lane X) → k < length news → barriers < passed → FrontLane program root size passed k (get_or news k e) →
-          HasFront program HasPart (lane_path program k) barriers
-      has_front k barriers passed e lt more lane =
+      has_prefix : (k barriers passed : ℕ) (e : Lane X) → k < length news → barriers < passed → PrefixLane program root size passed k (get_or news k e) →
+          HasPrefix program HasPart (first_region_lane program k) barriers
+      has_prefix k barriers passed e lt more lane =
           let count = passed_is passed lane.records lane.passed in
-          subst (λ n. HasFront program HasPart (lane_step k n ∷ []) barriers) (sym (region_span_is program.main.body))
+          subst (λ n. HasPrefix program HasPart (lane_step k n ∷ []) barriers) (sym (region_span_is program.main.body))
           (record {
             start = first_lane program k;
             starts = λ logs. first_starts program ready.first logs k (omega arith);
             records = lane.records;
-            front = lane.front;
+            prefix = lane.prefix;
             passed = omega (arith, count, more);
             logged = log_or lane.log;
           })
         where
-          log_or : (logged (handed (path_of (get_or news k e)) (get_or news k e).recorder)
+          log_or : (logged (handed (lane_task (get_or news k e)) (get_or news k e).recorder)
               ≡ whole_log root.dir size root.text (record { path = lane_step k (span_of program) ∷ []; records = lane.records })) ⊎ (0 < (get_or news k e).recorder.faults) →
               HasPart (record { path = lane_step k (span_of program) ∷ []; records = lane.records })
           log_or (inl log) = inl (lane_seen logged now k e (whole_log root.dir size root.text (record { path = lane_step k (span_of program) ∷ []; records = lane.records })) lt log)
@@ -289,19 +285,19 @@ module _ {X : Type 0} (program : Program) (root : Written) (size : ℕ) (at_root
       -- a lane that is ahead of a stop
       is_ahead : (k barriers : ℕ) (d e : Lane X) → k < length news →
           IsAheadLane program.arrays (first_team program.main.body) barriers (get_or team.forked k d) (get_or news k e) →
-          IsAhead program HasLog HasPart (lane_path program k) barriers
+          IsAhead program HasLog HasPart (first_region_lane program k) barriers
       is_ahead k barriers d e lt (inl (le, ran)) =
           let passed = barriers_of (first_team program.main.body).body in
           let task = has_task k passed e Ended lt (traced_at k passed d e Ended lt ran) in
           ended task.0 (omega (arith, le, task.1))
       is_ahead k barriers d e lt (inr (more, has)) =
           let passed = barriers_of (first_team program.main.body).body in
-          waits (has_front k barriers passed e lt more (front_at k passed d e lt has))
+          waits (has_prefix k barriers passed e lt more (prefix_at k passed d e lt has))
 
       -- a lane that stopped so, and each before it is ahead of it
-      has_stop : (k barriers : ℕ) (path : List Step) (m : model.Stop) (line : ℕ) → k < region_span program.main.body → path ≡ lane_path program k →
-          Counted (lane_path program k) (Stopped m line) barriers → ((other : ℕ) → other < k → IsAhead program HasLog HasPart (lane_path program other) barriers) →
-          ((other n : ℕ) → other < region_span program.main.body → n < barriers → HasFront program HasPart (lane_path program other) n) →
+      has_stop : (k barriers : ℕ) (path : List Step) (m : model.Stop) (line : ℕ) → k < region_span program.main.body → path ≡ first_region_lane program k →
+          Counted (first_region_lane program k) (Stopped m line) barriers → ((other : ℕ) → other < k → IsAhead program HasLog HasPart (first_region_lane program other) barriers) →
+          ((other n : ℕ) → other < region_span program.main.body → n < barriers → HasPrefix program HasPart (first_region_lane program other) n) →
           HasStop program HasLog HasPart path m line
       has_stop k barriers path m line within is task before reached =
           subst (λ p. HasStop program HasLog HasPart p m line) (sym is)
@@ -310,7 +306,7 @@ module _ {X : Type 0} (program : Program) (root : Written) (size : ℕ) (at_root
             within = within;
             path_is = refl;
             stopped = task.0;
-            before = λ other lt. subst (λ n. IsAhead program HasLog HasPart (lane_path program other) n) (sym task.1) (before other lt);
+            before = λ other lt. subst (λ n. IsAhead program HasLog HasPart (first_region_lane program other) n) (sym task.1) (before other lt);
             reached = λ other n lt fewer. reached other n lt (omega (arith, fewer, task.1));
           })
 
@@ -332,7 +328,7 @@ module _ {X : Type 0} (program : Program) (root : Written) (size : ℕ) (at_root
         let halts = first.halts e e in
         let span_is = region_span_is program.main.body in
         let lane_span : first.lane < region_span program.main.body = omega arith in
-        let path : halt.path ≡ lane_path program first.lane =
+        let path : halt.path ≡ first_region_lane program first.lane =
         halts.path_is ∙ sym (kept_path first.lane e within) ∙ path_at first.lane e within
         ∙ ap (λ n. lane_step first.lane n ∷ []) (sym span_is) in
         at_stop (HasStoppedRun program root.dir size root.text (map faulty (all_logs now news)) (map logged (all_logs now news)) halt.path)
@@ -340,7 +336,7 @@ module _ {X : Type 0} (program : Program) (root : Written) (size : ℕ) (at_root
         (get_or news first.lane e).recorder
         (PairsBelow first.lane (IsAheadLane program.arrays (first_team program.main.body) stops.barriers) team.forked news
         × (0 < stops.barriers → PairsBelow (length team.forked)
-        (λ old new. HasFrontLog program.arrays (start_of (first_team program.main.body) old) stops.barriers old.recorder new.recorder) team.forked news))
+        (λ old new. HasPrefixLog program.arrays (start_of (first_team program.main.body) old) stops.barriers old.recorder new.recorder) team.forked news))
         halt.why halts.stopped (λ other. (first.before other, stops.reached other))
         (λ m line has before. record {
           all = all_paths now;
@@ -350,8 +346,8 @@ module _ {X : Type 0} (program : Program) (root : Written) (size : ℕ) (at_root
               (λ other lt. is_ahead now other stops.barriers e e (omega arith) (before.0 other e e lt))
               (λ other n lt fewer.
               let within_other : other < length news = omega arith in
-              has_front now other n stops.barriers e within_other fewer
-              (front_at other stops.barriers e e within_other (before.1 (omega (arith, fewer)) other e e (omega arith))));
+              has_prefix now other n stops.barriers e within_other fewer
+              (prefix_at other stops.barriers e e within_other (before.1 (omega (arith, fewer)) other e e (omega arith))));
         })
 
     -- the root's log is that of its two records
@@ -395,6 +391,6 @@ module _ {X : Type 0} (program : Program) (root : Written) (size : ℕ) (at_root
                 first_kind_rules program ready.first ready.bounded (elements program.arrays) (bounded_arrays_are_placed program ready.bounded) traces.records count traced;
           };
           logs_are =
-              ap (λ (log : Logged). log ∷ map logged (map (λ lane. handed (path_of lane) lane.recorder) news)) (root_log put now fresh room size_is kept keeps has closes)
+              ap (λ (log : Logged). log ∷ map logged (map (λ lane. handed (lane_task lane) lane.recorder) news)) (root_log put now fresh room size_is kept keeps has closes)
               ∙ ap (λ (logs : List Logged). whole_log root.dir size root.text (record { path = []; records = first_root program }) ∷ logs) traces.logs;
         }

@@ -58,12 +58,12 @@ pub record HasRun (program : Program) (dir : List ℕ) (size : ℕ) (root : Opti
   pub logs_are : logs ≡ map (whole_log dir size root) tasks
 
 -- the path of a lane of the one region
-abbrev pub lane_path : Program → ℕ → List Step
-lane_path program lane = record { region = 0; lane = lane; span = region_span program.main.body } ∷ []
+abbrev pub first_region_lane : Program → ℕ → List Step
+first_region_lane program lane = record { region = 0; lane = lane; span = region_span program.main.body } ∷ []
 
 -- the root and the lanes of the one region, in the order of their paths
 abbrev pub task_paths : Program → List (List Step)
-task_paths program = [] ∷ map (lane_path program) (below (region_span program.main.body))
+task_paths program = [] ∷ map (first_region_lane program) (below (region_span program.main.body))
 
 -- the logs are those of the first tasks, in the order of their paths
 abbrev pub AreFirst : Program → List Logged → Type 0
@@ -78,18 +78,18 @@ pub record HasTask (program : Program) (HasLog : TaskLog → Type 0) (path : Lis
   pub logged : HasLog (record { path = path; records = records })
 
 -- the records are the first of the task's trace
-pub record IsFrontOf (program : Program) (start : Start) (records : List Record) : Type 0 where
+pub record IsPrefixOf (program : Program) (start : Start) (records : List Record) : Type 0 where
   pub rest : List Record
   pub ending : Ending
   pub traced : IsTracedTo program start (records ++ rest) ending
 
 -- the task that the kernel forks at this path passed more than so many barriers, and its records up to there are the first of
 -- its trace
-pub record HasFront (program : Program) (HasPart : TaskLog → Type 0) (path : List Step) (barriers : ℕ) : Type 0 where
+pub record HasPrefix (program : Program) (HasPart : TaskLog → Type 0) (path : List Step) (barriers : ℕ) : Type 0 where
   pub start : Start
   pub starts : (logs : Logs) → start_at program logs path ≡ Some start
   pub records : List Record
-  pub front : IsFrontOf program start records
+  pub prefix : IsPrefixOf program start records
   pub passed : barriers < barrier_count records
   pub logged : HasPart (record { path = path; records = records })
 
@@ -97,18 +97,18 @@ pub record HasFront (program : Program) (HasPart : TaskLog → Type 0) (path : L
 -- more and waits.
 pub data IsAhead (program : Program) (HasLog HasPart : TaskLog → Type 0) (path : List Step) (barriers : ℕ) : Type 0 where
   ended : (task : HasTask program HasLog path Ended) → barrier_count task.records ≤ barriers → IsAhead program HasLog HasPart path barriers
-  waits : HasFront program HasPart path barriers → IsAhead program HasLog HasPart path barriers
+  waits : HasPrefix program HasPart path barriers → IsAhead program HasLog HasPart path barriers
 
 -- The lane of this path stopped so, after all its records. Each lane before it is ahead of the stop, and all lanes passed the
 -- barriers that it passed.
 pub record HasStop (program : Program) (HasLog HasPart : TaskLog → Type 0) (path : List Step) (why : model.Stop) (line : ℕ) : Type 0 where
   pub lane : ℕ
   pub within : lane < region_span program.main.body
-  pub path_is : path ≡ lane_path program lane
+  pub path_is : path ≡ first_region_lane program lane
   pub stopped : HasTask program HasLog path (Stopped why line)
-  pub before : (other : ℕ) → other < lane → IsAhead program HasLog HasPart (lane_path program other) (barrier_count stopped.records)
+  pub before : (other : ℕ) → other < lane → IsAhead program HasLog HasPart (first_region_lane program other) (barrier_count stopped.records)
   pub reached : (other barriers : ℕ) → other < region_span program.main.body → barriers < barrier_count stopped.records →
-      HasFront program HasPart (lane_path program other) barriers
+      HasPrefix program HasPart (first_region_lane program other) barriers
 
 -- the log of this task counts a fault
 pub record HasFaulty (faults : List (List Step × ℕ)) (path : List Step) : Type 0 where

@@ -14,8 +14,8 @@ use Rattle.kernel_model.specs.Effect.{Finish, Returned, Halted, Makes, MakesValu
 use Rattle.team_runner.specs.declared.stop.Stop.{Stop}
 use Rattle.team_runner.specs.declared.stop.Stop.TheVariants.{DivZero, Index, LogFull, Trouble}
 use Rattle.team_runner.specs.Written.{Written, Adds, Begun, Closed, HasFault}
-use Rattle.team_runner.specs.Stops.{Finishes, Puts, Ends}
-use Rattle.team_runner.specs.Answer.{IsFrontOf, outline, whole_outline}
+use Rattle.team_runner.specs.Stops.{Finishes, Puts, EndsPart}
+use Rattle.team_runner.specs.Answer.{IsPrefixOf, outline, whole_outline}
 use Rattle.sw_base.specs.declared.files.TheConstants.{LOG_HEADER}
 use Rattle.sw_base.specs.Environment.{WhereTold, empty_text}
 use Rattle.std.specs.Option.{option_map}
@@ -125,9 +125,9 @@ pub record HasTrace (arrays : List Array) (start : Start) (barriers : ℕ) (old 
   pub logged : IsLogOf old new records
 
 -- the task waits after so many barriers: the log is that of the first records of its trace, or it counts a fault
-pub record HasFrontLog (arrays : List Array) (start : Start) (barriers : ℕ) (old new : Written) : Type 0 where
+pub record HasPrefixLog (arrays : List Array) (start : Start) (barriers : ℕ) (old new : Written) : Type 0 where
   pub records : List Record
-  pub front : (program : Program) → program.arrays ≡ arrays → IsFrontOf program start records
+  pub prefix : (program : Program) → program.arrays ≡ arrays → IsPrefixOf program start records
   pub passed : HasPassed arrays start.team barriers records
   pub logged : IsLogOf old new records ⊎ (0 < new.faults)
 
@@ -154,9 +154,9 @@ pub record ClosedBody (arrays : List Array) (start : Start) (old new : Written) 
   pub closed : Closed last new
 
 -- the body ended, or it stopped so and the log was closed
-abbrev pub Begins : List Array → Start → Written → Written → Result (Unit {0}) Stop → Type 0
-Begins arrays start old new (Ok _) = MadeBody arrays start old new (Returned tt)
-Begins arrays start old new (Err why) = Finishes (ClosedBody arrays start old new) new (Err why)
+abbrev pub BeginsTask : List Array → Start → Written → Written → Result (Unit {0}) Stop → Type 0
+BeginsTask arrays start old new (Ok _) = MadeBody arrays start old new (Returned tt)
+BeginsTask arrays start old new (Err why) = Finishes (ClosedBody arrays start old new) new (Err why)
 
 -- the record was put where there was room, and the log was closed, but not after trouble
 pub record EndsWith (event : Record) (old new : Written) (result : Result (Unit {0}) Stop) : Type 0 where
@@ -165,7 +165,7 @@ pub record EndsWith (event : Record) (old new : Written) (result : Result (Unit 
   pub puts : Puts event old last outcome
   pub size : last.size ≡ old.size
   pub size_now : new.size ≡ last.size
-  pub ends : Ends outcome last new result
+  pub ends : EndsPart outcome last new result
 
 -- the End record of a lane
 abbrev pub end_of : Start → Record
@@ -173,8 +173,8 @@ end_of start = event kind.End start.team.end 0 0
 
 -- the body stopped, or it ended and the End record was put
 pub data Runs (arrays : List Array) (start : Start) (old new : Written) (result : Result (Unit {0}) Stop) : Type 0 where
-  stops : (why : Stop) → result ≡ Err why → Begins arrays start old new (Err why) → Runs arrays start old new result
-  ends : (mid : Written) → mid.size ≡ old.size → Begins arrays start old mid (Ok tt) → EndsWith (end_of start) mid new result
+  stops : (why : Stop) → result ≡ Err why → BeginsTask arrays start old new (Err why) → Runs arrays start old new result
+  ends : (mid : Written) → mid.size ≡ old.size → BeginsTask arrays start old mid (Ok tt) → EndsWith (end_of start) mid new result
       → Runs arrays start old new result
 
 -- the log was closed, or it counts a fault; a log that was closed stays as it is
@@ -190,6 +190,6 @@ Shuts old new (Err why) = why ≡ Trouble trouble.Memory
 
 abbrev pub Does : Pass → List Array → Start → Written → Written → Result (Unit {0}) Stop → Type 0
 Does Whole arrays start old new result = Runs arrays start old new result
-Does First arrays start old new result = Begins arrays start old new result
+Does First arrays start old new result = BeginsTask arrays start old new result
 Does Last arrays start old new result = EndsWith (end_of start) old new result
 Does Shut arrays start old new result = Shuts old new result

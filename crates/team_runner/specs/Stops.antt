@@ -39,9 +39,9 @@ abbrev pub Closes : Result (Unit {0}) Stop → Written → Written → Result (U
 Closes outcome old new result = Finishes (λ _. (result ≡ outcome) × Closed old new) new result
 
 -- Trouble is handed on, and nothing else is done. After each other outcome the log is closed.
-abbrev pub Ends : Result (Unit {0}) Stop → Written → Written → Result (Unit {0}) Stop → Type 0
-Ends (Err (Trouble trouble)) old new result = (result ≡ Err (Trouble trouble)) × (new ≡ old)
-Ends outcome old new result = Closes outcome old new result
+abbrev pub EndsPart : Result (Unit {0}) Stop → Written → Written → Result (Unit {0}) Stop → Type 0
+EndsPart (Err (Trouble trouble)) old new result = (result ≡ Err (Trouble trouble)) × (new ≡ old)
+EndsPart outcome old new result = Closes outcome old new result
 
 -- a fact about a stop that the kernel itself makes
 abbrev pub StopsSo : (model.Stop → ℕ → Type 0) → Stop → Type 0

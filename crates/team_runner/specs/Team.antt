@@ -20,7 +20,7 @@ use Rattle.team_runner.specs.Written.{Written, Adds, Begun, Closed, Keeps}
 use Rattle.team_runner.specs.Ready.{IsBufferSize}
 use Rattle.team_runner.specs.declared.lane.Pass.{Pass}
 use Rattle.team_runner.specs.declared.stop.Stop.{Stop}
-use Rattle.team_runner.specs.Lane.{IsFresh, EndsTask, Does, HasFrontLog, barriers_of}
+use Rattle.team_runner.specs.Lane.{IsFresh, EndsTask, Does, HasPrefixLog, barriers_of}
 use Rattle.team_runner.specs.Answer.{Logged, outline}
 
 -- a fact about each element of a list and its place
@@ -48,7 +48,7 @@ fresh_log root size span lane = record {
 }
 
 -- a lane as it is forked: it has its number, all its locals are 0, and its log is empty
-pub record IsForked {X : Type 0} (root : Written) (span slots size number : ℕ) (lane : Lane X) : Type 0 where
+pub record IsForkedLane {X : Type 0} (root : Written) (span slots size number : ℕ) (lane : Lane X) : Type 0 where
   pub lane_is : lane.frame.lane ≡ number
   pub span_is : lane.frame.span ≡ span
   pub locals : lane.frame.locals.items ≡ replicate slots (pos 0)
@@ -71,8 +71,8 @@ pub record KeepsLane {X : Type 0} (old new : Lane X) : Type 0 where
   pub span : new.frame.span ≡ old.frame.span
   pub log : Keeps old.recorder new.recorder
 
-abbrev pub path_of : {X : Type 0} → Lane X → List Step
-path_of lane = lane_step lane.frame.lane lane.frame.span ∷ []
+abbrev pub lane_task : {X : Type 0} → Lane X → List Step
+lane_task lane = lane_step lane.frame.lane lane.frame.span ∷ []
 
 -- how a lane's task starts
 abbrev pub start_of : {X : Type 0} → TeamTree → Lane X → Start
@@ -80,7 +80,7 @@ start_of team lane = record { team = team; lane = lane.frame.lane; slots = lane.
 
 -- the lane made this stop
 pub record Halts {X : Type 0} (Ends : Result (Unit {0}) Stop → Type 0) (lane : Lane X) (halt : Halt) : Type 0 where
-  pub path_is : halt.path ≡ path_of lane
+  pub path_is : halt.path ≡ lane_task lane
   pub stopped : Ends (Err halt.why)
 
 -- a fact about how a lane ended, or about the stop that it made
@@ -123,14 +123,14 @@ AllPassed Ended olds news n (Some halt) = StopsFirst Ended olds news n halt
 abbrev pub IsAheadLane : {X : Type 0} → List Array → TeamTree → ℕ → Lane X → Lane X → Type 0
 IsAheadLane arrays team barriers old new =
     ((barriers_of team.body ≤ barriers) × Ran arrays team (barriers_of team.body) old new None)
-    ⊎ ((barriers < barriers_of team.body) × HasFrontLog arrays (start_of team old) (barriers_of team.body) old.recorder new.recorder)
+    ⊎ ((barriers < barriers_of team.body) × HasPrefixLog arrays (start_of team old) (barriers_of team.body) old.recorder new.recorder)
 
 -- one of the first n lanes made this stop, each lane before it is ahead of it, and all passed the barriers that it passed
 pub record IsFirstStop {X : Type 0} (arrays : List Array) (team : TeamTree) (olds news : List (Lane X)) (n : ℕ) (halt : Halt) : Type 0 where
   pub barriers : ℕ
   pub first : IsFirst (Ran arrays team barriers) (IsAheadLane arrays team barriers) olds news n halt
   pub reached : halt.why ≢ stop.Trouble trouble.Memory → 0 < barriers →
-      PairsBelow n (λ old new. HasFrontLog arrays (start_of team old) barriers old.recorder new.recorder) olds news
+      PairsBelow n (λ old new. HasPrefixLog arrays (start_of team old) barriers old.recorder new.recorder) olds news
 
 -- the first n lanes ended, or made this stop first
 abbrev pub AllRan : {X : Type 0} → List Array → TeamTree → List (Lane X) → List (Lane X) → ℕ → Option Halt → Type 0
@@ -141,7 +141,7 @@ AllRan arrays team olds news n (Some halt) = IsFirstStop arrays team olds news n
 pub record HasTeam {X : Type 0} (program : Program) (root : Written) (size : ℕ) (lanes : List (Lane X)) : Type 0 where
   pub forked : List (Lane X)
   pub few : length forked ≤ (first_team program.main.body).span
-  pub are_forked : EachAt (IsForked root (first_team program.main.body).span program.slots size) forked
+  pub are_forked : EachAt (IsForkedLane root (first_team program.main.body).span program.slots size) forked
   pub same_length : length lanes ≡ length forked
   pub same : PairsBelow (length forked) KeepsLane forked lanes
 
@@ -200,7 +200,7 @@ entry dir path text faults e = record { task = e.0; dir = dir e.1; path = path e
 
 -- the logs of all tasks, in the order of their paths
 abbrev pub all_logs : {X : Type 0} → Written → List (Lane X) → List Handed
-all_logs root lanes = handed [] root ∷ map (λ lane. handed (path_of lane) lane.recorder) lanes
+all_logs root lanes = handed [] root ∷ map (λ lane. handed (lane_task lane) lane.recorder) lanes
 
 -- these are some of all logs; `whole` tells whether none was dropped
 pub record AreLogs (all logs : List Handed) (whole : Bool) : Type 0 where

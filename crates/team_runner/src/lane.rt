@@ -8,7 +8,7 @@ ghost use Rattle.kernel_model.specs.State as state;
 ghost use Rattle.log_format.specs.declared.record.Kind.TheVariants as kind;
 ghost use Rattle.kernel_syntax.specs.Tree.{Done};
 ghost use Rattle.team_runner.specs.Stops.{Finishes, Puts};
-ghost use Rattle.team_runner.specs.Lane.{Begins, Does, EndsWith, MadeBody, MadePart, Runs, Shuts, Stores, site, turn};
+ghost use Rattle.team_runner.specs.Lane.{BeginsTask, Does, EndsWith, MadeBody, MadePart, Runs, Shuts, Stores, site, turn};
 ghost use Rattle.kernel_syntax.specs.Layout.{ArePlaced};
 ghost use Rattle.team_runner.specs.Written.{Keeps};
 ghost use Rattle.team_runner.specs.Ready.{IsChunked, HasChunks};
@@ -361,7 +361,7 @@ impl<L: Log> Lane<L> {
         }
     }
 
-    /// Begins the log, and executes what the team's lanes execute.
+    /// BeginsTask the log, and executes what the team's lanes execute.
     fn body<G: Gate>(
         &mut self,
         alloc: Global,
@@ -401,7 +401,7 @@ impl<L: Log> Lane<L> {
         requires one { IsOneLoop (team_of team.now).body }
         requires chunked { HasChunks (team_of team.now).body }
         requires span { self.old.frame.span ≡ team.now.span }
-        ensures begins { Begins arrays.now (record { team = team_of team.now; lane = self.old.frame.lane; slots = self.old.frame.locals.items })
+        ensures begins { BeginsTask arrays.now (record { team = team_of team.now; lane = self.old.frame.lane; slots = self.old.frame.locals.items })
             self.old.recorder self.new.recorder result }
         ensures same { Keeps self.old.recorder self.new.recorder }
         ensures lane { self.new.frame.lane ≡ self.old.frame.lane }

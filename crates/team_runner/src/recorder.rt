@@ -3,7 +3,7 @@ ghost use Rattle.std.specs.Prelude.{◌≡◌, ◌+◌, ◌-◌, ◌<◌, ◌≤
 ghost use Rattle.std.specs.Option.{option_map};
 ghost use Rattle.log_format.specs.Spelling.{spelling};
 ghost use Rattle.team_runner.specs.Written.{Keeps, Begun, Flushed, Closed, HasFault};
-ghost use Rattle.team_runner.specs.Stops.{Ends, Puts};
+ghost use Rattle.team_runner.specs.Stops.{EndsPart, Puts};
 ghost use Rattle.kernel_model.specs.Trace.{log_limit};
 ghost use Rattle.sw_base.specs.Environment.{empty_text};
 
@@ -150,7 +150,7 @@ impl<L: Log> Recorder<L> {
 
     /// Hands the last records to the log after the task ended so, but not after trouble.
     pub fn finish(&mut self, alloc: Global, outcome: Result<(), Stop>) -> Result<(), Stop>
-        ensures ends { Ends outcome self.old self.new result }
+        ensures ends { EndsPart outcome self.old self.new result }
         ensures same { Keeps self.old self.new }
     {
         if let Err(Stop::Trouble(trouble)) = outcome {

@@ -10,7 +10,7 @@ ghost use Rattle.team_runner.specs.Answer.{AreFirst, HasRun, HasStoppedRun, IsOw
 ghost use Rattle.team_runner.specs.Lane.{IsFresh};
 ghost use Rattle.team_runner.specs.Ready.{IsBufferSize, IsReady};
 ghost use Rattle.team_runner.specs.Stops.{StopsSo};
-ghost use Rattle.team_runner.specs.Team.{EachAt, IsForked, HasTeam, HasRunTeam, HasPut, ClosesWith, region_record, all_logs, entry, AreLogs, handed, logged, faulty};
+ghost use Rattle.team_runner.specs.Team.{EachAt, IsForkedLane, HasTeam, HasRunTeam, HasPut, ClosesWith, region_record, all_logs, entry, AreLogs, handed, logged, faulty};
 ghost use Rattle.team_runner.specs.Written.{Adds, HasFault, Keeps};
 ghost use Rattle.team_runner.specs.declared.stop.Stop.TheVariants as stop;
 ghost use Rattle.sw_base.specs.declared.trouble.Trouble.TheVariants as trouble;
@@ -94,7 +94,7 @@ impl<L: Log> Run<L> {
         requires none { self.old.lanes.items ≡ [] }
         ensures words { self.new.words ≡ self.old.words }
         ensures same { Keeps self.old.root self.new.root }
-        ensures forked { EachAt (IsForked self.old.root team.now.span slots size) self.new.lanes.items }
+        ensures forked { EachAt (IsForkedLane self.old.root team.now.span slots size) self.new.lanes.items }
         ensures few { length self.new.lanes.items ≤ team.now.span }
         ensures all { OnOk result (length self.new.lanes.items ≡ team.now.span) }
         ensures put { OnOk result (HasPut self.old.root self.new.root (event kind.Region team.now.line 0 team.now.span ∷ [])) }

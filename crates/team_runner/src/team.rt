@@ -5,7 +5,7 @@ ghost use Rattle.kernel_syntax.specs.Program.{team_of};
 ghost use Rattle.kernel_syntax.specs.Layout.{ArePlaced};
 ghost use Rattle.team_runner.specs.Ready.{HasChunks};
 ghost use Rattle.team_runner.specs.Lane.{barriers_of};
-ghost use Rattle.team_runner.specs.Team.{EachAt, PairsBelow, IsForked, IsFreshLane, IsLaneOf, KeepsLane, Passed, AllPassed, AllRan, IsAfterClosing, IsFirstOf};
+ghost use Rattle.team_runner.specs.Team.{EachAt, PairsBelow, IsForkedLane, IsFreshLane, IsLaneOf, KeepsLane, Passed, AllPassed, AllRan, IsAfterClosing, IsFirstOf};
 ghost use Rattle.team_runner.specs.Written.{HasFault};
 ghost use Rattle.team_runner.specs.declared.stop.Stop.TheVariants as stop;
 ghost use Rattle.sw_base.specs.declared.trouble.Trouble.TheVariants as trouble;
@@ -65,7 +65,7 @@ fn fork_lane<L: Log>(
     size: usize,
 ) -> Result<Lane<L>, Trouble>
     requires { root.old.path ≡ [] }
-    ensures forked { IfOk result (IsForked root.old span slots size lane) }
+    ensures forked { IfOk result (IsForkedLane root.old span slots size lane) }
     ensures same { root.new ≡ record root.old { faults = root.new.faults } }
     ensures fault { IfErr result (λ trouble. HasFault trouble root.new) }
 {
@@ -88,7 +88,7 @@ pub fn fork<L: Log>(
 ) -> Result<(), Trouble>
     requires root { root.old.path ≡ [] }
     requires none { lanes.old.items ≡ [] }
-    ensures forked { EachAt (IsForked root.old span slots size) lanes.new.items }
+    ensures forked { EachAt (IsForkedLane root.old span slots size) lanes.new.items }
     ensures few { length lanes.new.items ≤ span }
     ensures all { OnOk result (length lanes.new.items ≡ span) }
     ensures same { root.new ≡ record root.old { faults = root.new.faults } }

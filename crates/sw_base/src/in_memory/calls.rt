@@ -1,6 +1,7 @@
 //! Which calls of an object in memory are to fail, and what a call that fails leaves of a piece.
-ghost use Rattle.std.specs.Prelude.{◌≡◌, ◌-◌, ◌↔◌, [], OnOk, OnErr, IsTrue, Contains};
-ghost use Rattle.sw_base.specs.InMemory.{next_count, TornEnd};
+ghost use Rattle.std.specs.Prelude.{◌≡◌, ◌-◌, ◌≤◌, [], OnOk, OnErr, IsTrue};
+ghost use Rattle.sw_base.specs.Environment.{Rose};
+ghost use Rattle.sw_base.specs.InMemory.{CountsCall, TornEnd};
 
 use crate::trouble::Memory;
 use std::alloc::Global;
@@ -32,14 +33,19 @@ impl Calls {
         Calls { made: 0, failing }
     }
 
-    /// Counts one more call, and tells whether it is to fail.
-    pub fn next(&mut self) -> bool
-        ensures made { self.new.made ≡ next_count self.old.made }
-        ensures fails { IsTrue result ↔ Contains self.old.failing.items (next_count self.old.made) }
-        ensures failing { self.new.failing.items ≡ self.old.failing.items }
+    /// Counts one more call, and tells whether it is to fail, which is a fault.
+    pub fn fails(&mut self, faults: &mut u64) -> bool
+        ensures counts { CountsCall (IsTrue result) (record { calls = self.old.made; failing = self.old.failing.items; faults = faults.old })
+            (record { calls = self.new.made; failing = self.new.failing.items; faults = faults.new }) }
+        ensures later { faults.old ≤ faults.new }
+        ensures rose { IsTrue result → Rose faults.old faults.new }
     {
         self.made = self.made.saturating_add(1);
-        self.failing.contains(&self.made)
+        let fails = self.failing.contains(&self.made);
+        if fails {
+            *faults = faults.saturating_add(1);
+        }
+        fails
     }
 
     /// Sets the numbers of the calls that are to fail.
@@ -54,7 +60,7 @@ impl Calls {
 }
 
 /// Appends the first half of a piece, or nothing where there is no memory: what is left of a write that failed.
-#[tactic(auto, using(crate::proofs::Fronts::torn_end_half))]
+#[tactic(auto, using(crate::proofs::Prefixes::torn_end_half))]
 pub fn tear(bytes: &mut Vec<u8>, piece: &[u8])
     ensures { TornEnd bytes.old.items bytes.new.items piece.now }
 {

@@ -34,7 +34,7 @@ pub fn store(files: &mut Held, alloc: Global, name: &str, bytes: &[u8]) -> Resul
     Ok(())
 }
 
-/// Copies the file's bytes from `at` on to the front of `into`, as many as there are and fit. The rest of `into` is kept.
+/// Copies the file's bytes from `at` on to the start of `into`, as many as there are and fit. The rest of `into` is kept.
 pub fn copy_from(file: &[u8], at: u64, into: &mut [u8]) -> usize
     ensures fits { result ≤ length into.old }
     ensures reads { Reads file.now at result into.new }

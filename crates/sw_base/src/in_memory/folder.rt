@@ -2,18 +2,17 @@
 ghost use Rattle.std.specs.Prelude.{◌≡◌, ◌<◌, ◌≤◌, ◌↔◌, [], ◌∷◌, ◌++◌, length, drop, unwrap_or, is_some, IfOk, IfErr, OnOk, OnErr, IsErrOf, IsErrAnd, IsTrue, slice_get};
 ghost use Rattle.std.specs.Bool.{OnFalse};
 ghost use Rattle.std.specs.Option.{option_copied, option_map};
-ghost use Rattle.sw_base.specs.Environment.{HasCause, LeavesFront, Reads, Rose, TakesFaults, WhereTold, empty_text, no_files, with_file, with_log, with_put};
-ghost use Rattle.sw_base.specs.InMemory.{next_count};
-ghost use Rattle.sw_base.specs.MemFolder.{content_of, held_of, sealed_of, read_faults_of, write_faults_of, calls_of, failing_of, plans_of, IsNextToFail};
+ghost use Rattle.sw_base.specs.Environment.{HasCause, LeavesPrefix, Reads, Rose, TakesFaults, WhereTold, empty_text, no_files, with_file, with_log, with_put};
+ghost use Rattle.sw_base.specs.MemFolder.{content_of, held_of, sealed_of, read_faults_of, write_faults_of, calls_of, failing_of, plans_of, CountsRead, CountsSeal, CountsWrite, IsUncounted};
 ghost use Rattle.sw_base.specs.MemLog.{dir_of, path_of, text_of, faults_of, bytes_of, pieces_of, failing_of as log_failing_of, plans_of as log_plans_of};
 ghost use Rattle.sw_base.specs.Names.{log_name};
 ghost use Rattle.sw_base.specs.Plans.{FailsAsPlanned};
 
+use crate::environment::Folder;
 use crate::in_memory::calls::Calls;
 use crate::in_memory::files::{Held, copy_from, find, store};
 use crate::in_memory::log::MemLog;
 use crate::in_memory::plans::Plans;
-use crate::outside::Folder;
 use crate::path::Path;
 use crate::trouble::{Memory, Trouble};
 use std::alloc::Global;
@@ -68,10 +67,7 @@ impl MemFolder {
         ensures err { OnErr result (failing_of self.new ≡ failing_of self.old) }
         ensures same_held { held_of self.new ≡ held_of self.old }
         ensures same_sealed { sealed_of self.new ≡ sealed_of self.old }
-        ensures same_reads { read_faults_of self.new ≡ read_faults_of self.old }
-        ensures same_writes { write_faults_of self.new ≡ write_faults_of self.old }
-        ensures same_calls { calls_of self.new ≡ calls_of self.old }
-        ensures same_plans { plans_of self.new ≡ plans_of self.old }
+        ensures uncounted { IsUncounted self.old self.new }
     {
         self.calls.fail(calls)
     }
@@ -96,11 +92,8 @@ impl MemFolder {
         ensures ok { OnOk result (held_of self.new ≡ with_file name.now bytes.now (held_of self.old)) }
         ensures err { OnErr result (held_of self.new ≡ held_of self.old) }
         ensures same_sealed { sealed_of self.new ≡ sealed_of self.old }
-        ensures same_reads { read_faults_of self.new ≡ read_faults_of self.old }
-        ensures same_writes { write_faults_of self.new ≡ write_faults_of self.old }
-        ensures same_calls { calls_of self.new ≡ calls_of self.old }
+        ensures uncounted { IsUncounted self.old self.new }
         ensures same_failing { failing_of self.new ≡ failing_of self.old }
-        ensures same_plans { plans_of self.new ≡ plans_of self.old }
     {
         store(&mut self.files, self.alloc, name, bytes)
     }
@@ -134,52 +127,11 @@ impl MemFolder {
 }
 
 impl MemFolder {
-    // Counts a call that reads, and tells whether it is to fail, which is a fault.
-    fn fails_to_read(&mut self) -> bool
-        ensures fails { IsTrue result ↔ IsNextToFail self.old }
-        ensures fault { IsTrue result → read_faults_of self.new ≡ next_count (read_faults_of self.old) }
-        ensures no_fault { OnFalse result (read_faults_of self.new ≡ read_faults_of self.old) }
-        ensures later { read_faults_of self.old ≤ read_faults_of self.new }
-        ensures same_writes { write_faults_of self.new ≡ write_faults_of self.old }
-        ensures same { content_of self.new ≡ content_of self.old }
-        ensures counts_call { calls_of self.new ≡ next_count (calls_of self.old) }
-        ensures same_failing { failing_of self.new ≡ failing_of self.old }
-        ensures same_plans { plans_of self.new ≡ plans_of self.old }
-    {
-        let fails = self.calls.next();
-        if fails {
-            self.read_faults = self.read_faults.saturating_add(1);
-        }
-        fails
-    }
-
-    // Counts another call, and tells whether it is to fail, which is a fault.
-    fn fails_to_write(&mut self) -> bool
-        ensures fails { IsTrue result ↔ IsNextToFail self.old }
-        ensures fault { IsTrue result → write_faults_of self.new ≡ next_count (write_faults_of self.old) }
-        ensures no_fault { OnFalse result (write_faults_of self.new ≡ write_faults_of self.old) }
-        ensures later { write_faults_of self.old ≤ write_faults_of self.new }
-        ensures same_reads { read_faults_of self.new ≡ read_faults_of self.old }
-        ensures same { content_of self.new ≡ content_of self.old }
-        ensures counts_call { calls_of self.new ≡ next_count (calls_of self.old) }
-        ensures same_failing { failing_of self.new ≡ failing_of self.old }
-        ensures same_plans { plans_of self.new ≡ plans_of self.old }
-    {
-        let fails = self.calls.next();
-        if fails {
-            self.write_faults = self.write_faults.saturating_add(1);
-        }
-        fails
-    }
-
     // What a call that failed leaves: the name holds the first half of the bytes, or all is as before.
     fn tear_file(&mut self, name: &str, bytes: &[u8])
-        ensures torn { LeavesFront (content_of self.old) (content_of self.new) name.now bytes.now }
-        ensures same_reads { read_faults_of self.new ≡ read_faults_of self.old }
-        ensures same_writes { write_faults_of self.new ≡ write_faults_of self.old }
-        ensures same_calls { calls_of self.new ≡ calls_of self.old }
+        ensures torn { LeavesPrefix (content_of self.old) (content_of self.new) name.now bytes.now }
+        ensures uncounted { IsUncounted self.old self.new }
         ensures same_failing { failing_of self.new ≡ failing_of self.old }
-        ensures same_plans { plans_of self.new ≡ plans_of self.old }
     {
         let half = bytes.len() / 2;
         let _ = self.hold(name, &bytes[..half]);
@@ -190,11 +142,8 @@ impl MemFolder {
         ensures ok { OnOk result (content_of self.new
             ≡ option_map (with_log (log_name (dir_of log.now) (path_of log.now)) (record { bytes = bytes_of log.now; pieces = pieces_of log.now })) (content_of self.old)) }
         ensures err { OnErr result (content_of self.new ≡ content_of self.old) }
-        ensures same_reads { read_faults_of self.new ≡ read_faults_of self.old }
-        ensures same_writes { write_faults_of self.new ≡ write_faults_of self.old }
-        ensures same_calls { calls_of self.new ≡ calls_of self.old }
+        ensures uncounted { IsUncounted self.old self.new }
         ensures same_failing { failing_of self.new ≡ failing_of self.old }
-        ensures same_plans { plans_of self.new ≡ plans_of self.old }
     {
         let name = log.name(alloc)?;
         let lengths = log.lengths().to_vec(alloc)?;
@@ -236,16 +185,10 @@ impl Folder for MemFolder {
         ensures cause { HasCause (read_faults_of self.old) (read_faults_of self.new) result }
         ensures same_writes { write_faults_of self.new ≡ write_faults_of self.old }
 
-        ensures fails { IsErrOf result Trouble.Failed ↔ IsNextToFail self.old }
+        ensures counts { CountsRead (IsErrOf result Trouble.Failed) self.old self.new }
         ensures no_memory { IsErrOf result Trouble.Memory → ⊥ }
-        ensures counts_call { calls_of self.new ≡ next_count (calls_of self.old) }
-        ensures counts_fault { IsErrOf result Trouble.Failed → read_faults_of self.new ≡ next_count (read_faults_of self.old) }
-        ensures no_fault { (IsErrOf result Trouble.Failed → ⊥) → read_faults_of self.new ≡ read_faults_of self.old }
-        ensures none_to_fail { failing_of self.old ≡ [] → read_faults_of self.new ≡ read_faults_of self.old }
-        ensures same_failing { failing_of self.new ≡ failing_of self.old }
-        ensures same_plans { plans_of self.new ≡ plans_of self.old }
     {
-        if self.fails_to_read() {
+        if self.calls.fails(&mut self.read_faults) {
             return Err(Trouble::Failed);
         }
         Ok(find(&self.files, name).map(|bytes| bytes.len() as u64))
@@ -267,16 +210,10 @@ impl Folder for MemFolder {
         ensures cause { HasCause (read_faults_of self.old) (read_faults_of self.new) result }
         ensures same_writes { write_faults_of self.new ≡ write_faults_of self.old }
 
-        ensures fails { IsErrOf result Trouble.Failed ↔ IsNextToFail self.old }
+        ensures counts { CountsRead (IsErrOf result Trouble.Failed) self.old self.new }
         ensures no_memory { IsErrOf result Trouble.Memory → ⊥ }
-        ensures counts_call { calls_of self.new ≡ next_count (calls_of self.old) }
-        ensures counts_fault { IsErrOf result Trouble.Failed → read_faults_of self.new ≡ next_count (read_faults_of self.old) }
-        ensures no_fault { (IsErrOf result Trouble.Failed → ⊥) → read_faults_of self.new ≡ read_faults_of self.old }
-        ensures none_to_fail { failing_of self.old ≡ [] → read_faults_of self.new ≡ read_faults_of self.old }
-        ensures same_failing { failing_of self.new ≡ failing_of self.old }
-        ensures same_plans { plans_of self.new ≡ plans_of self.old }
     {
-        if self.fails_to_read() {
+        if self.calls.fails(&mut self.read_faults) {
             return Err(Trouble::Failed);
         }
         let Some(bytes) = find(&self.files, name) else {
@@ -287,21 +224,15 @@ impl Folder for MemFolder {
 
     fn put(&mut self, _alloc: Global, name: &str, bytes: &[u8]) -> Result<(), Trouble>
         ensures done { OnOk result (content_of self.new ≡ option_map (with_put name.now bytes.now) (content_of self.old)) }
-        ensures refused { OnErr result (LeavesFront (content_of self.old) (content_of self.new) name.now bytes.now) }
+        ensures refused { OnErr result (LeavesPrefix (content_of self.old) (content_of self.new) name.now bytes.now) }
         ensures memory { IsErrOf result Trouble.Memory → content_of self.new ≡ content_of self.old }
 
         ensures cause { HasCause (write_faults_of self.old) (write_faults_of self.new) result }
         ensures same_reads { read_faults_of self.new ≡ read_faults_of self.old }
 
-        ensures fails { IsErrOf result Trouble.Failed ↔ IsNextToFail self.old }
-        ensures counts_call { calls_of self.new ≡ next_count (calls_of self.old) }
-        ensures counts_fault { IsErrOf result Trouble.Failed → write_faults_of self.new ≡ next_count (write_faults_of self.old) }
-        ensures no_fault { (IsErrOf result Trouble.Failed → ⊥) → write_faults_of self.new ≡ write_faults_of self.old }
-        ensures none_to_fail { failing_of self.old ≡ [] → write_faults_of self.new ≡ write_faults_of self.old }
-        ensures same_failing { failing_of self.new ≡ failing_of self.old }
-        ensures same_plans { plans_of self.new ≡ plans_of self.old }
+        ensures counts { CountsWrite (IsErrOf result Trouble.Failed) self.old self.new }
     {
-        if self.fails_to_write() {
+        if self.calls.fails(&mut self.write_faults) {
             self.tear_file(name, bytes);
             return Err(Trouble::Failed);
         }
@@ -321,15 +252,9 @@ impl Folder for MemFolder {
         ensures cause { HasCause (write_faults_of self.old) (write_faults_of self.new) result }
         ensures same_reads { read_faults_of self.new ≡ read_faults_of self.old }
 
-        ensures fails { IsErrOf result Trouble.Failed ↔ IsNextToFail self.old }
-        ensures counts_call { calls_of self.new ≡ next_count (calls_of self.old) }
-        ensures counts_fault { IsErrOf result Trouble.Failed → write_faults_of self.new ≡ next_count (write_faults_of self.old) }
-        ensures no_fault { (IsErrOf result Trouble.Failed → ⊥) → write_faults_of self.new ≡ write_faults_of self.old }
-        ensures none_to_fail { failing_of self.old ≡ [] → write_faults_of self.new ≡ write_faults_of self.old }
-        ensures same_failing { failing_of self.new ≡ failing_of self.old }
-        ensures same_plans { plans_of self.new ≡ plans_of self.old }
+        ensures counts { CountsWrite (IsErrOf result Trouble.Failed) self.old self.new }
     {
-        if self.fails_to_write() {
+        if self.calls.fails(&mut self.write_faults) {
             return Err(Trouble::Failed);
         }
         Ok(MemLog::planned(alloc, dir, Path::root(), &self.plans)?)
@@ -339,7 +264,7 @@ impl Folder for MemFolder {
         ensures done { OnOk result (WhereTold (text_of log) (λ text.
             content_of self.new ≡ option_map (with_log (log_name (dir_of log) (path_of log)) text) (content_of self.old))) }
         ensures refused { OnErr result (WhereTold (text_of log) (λ text.
-            LeavesFront (content_of self.old) (content_of self.new) (log_name (dir_of log) (path_of log)) text.bytes)) }
+            LeavesPrefix (content_of self.old) (content_of self.new) (log_name (dir_of log) (path_of log)) text.bytes)) }
         ensures memory { IsErrAnd result (λ error. error.0 ≡ Trouble.Memory) → content_of self.new ≡ content_of self.old }
         ensures tells { is_some (content_of self.new) ≡ is_some (content_of self.old) }
         ensures given_back { IfErr result (λ error. error.1 ≡ log) }
@@ -348,15 +273,10 @@ impl Folder for MemFolder {
         ensures cause { IfErr result (λ error. error.0 ≡ Trouble.Failed → Rose (write_faults_of self.old) (write_faults_of self.new)) }
         ensures same_reads { read_faults_of self.new ≡ read_faults_of self.old }
 
-        ensures fails { IsErrAnd result (λ error. error.0 ≡ Trouble.Failed) ↔ IsNextToFail self.old }
-        ensures counts_call { calls_of self.new ≡ next_count (calls_of self.old) }
-        ensures no_fault { (IsErrAnd result (λ error. error.0 ≡ Trouble.Failed) → ⊥) → faults_of log ≡ 0 → write_faults_of self.new ≡ write_faults_of self.old }
-        ensures none_to_fail { failing_of self.old ≡ [] → faults_of log ≡ 0 → write_faults_of self.new ≡ write_faults_of self.old }
-        ensures same_failing { failing_of self.new ≡ failing_of self.old }
-        ensures same_plans { plans_of self.new ≡ plans_of self.old }
+        ensures counts { CountsSeal (faults_of log ≡ 0) (IsErrAnd result (λ error. error.0 ≡ Trouble.Failed)) self.old self.new }
     {
         self.take_faults(&log);
-        if self.fails_to_write() {
+        if self.calls.fails(&mut self.write_faults) {
             if let Ok(name) = log.name(alloc) {
                 self.tear_file(name.as_str(), log.bytes());
             }

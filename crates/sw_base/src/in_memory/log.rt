@@ -2,13 +2,12 @@
 ghost use Rattle.std.specs.Prelude.{◌≡◌, ◌<◌, ◌↔◌, [], ◌∷◌, ◌++◌, length, map, string_bytes, IfOk, OnOk, OnErr, IsErrOf};
 ghost use Rattle.std.specs.Option.{option_map};
 ghost use Rattle.sw_base.specs.Environment.{HasCause, TearsPiece, empty_text, with_piece};
-ghost use Rattle.sw_base.specs.InMemory.{next_count};
 ghost use Rattle.sw_base.specs.Names.{log_name};
 ghost use Rattle.sw_base.specs.Plans.{plans_by, FailsAsPlanned};
 
+use crate::environment::Log;
 use crate::in_memory::calls::{Calls, tear};
 use crate::in_memory::plans::Plans;
-use crate::outside::Log;
 use crate::path::Path;
 use crate::trouble::{Memory, Trouble};
 use std::alloc::Global;
@@ -141,7 +140,7 @@ impl MemLog {
 }
 
 impl Log for MemLog {
-    ghost use Rattle.sw_base.specs.MemLog.{dir_of, path_of, text_of, faults_of, calls_of, failing_of, plans_of, IsNextToFail};
+    ghost use Rattle.sw_base.specs.MemLog.{dir_of, path_of, text_of, faults_of, calls_of, failing_of, plans_of, CountsLogCall};
 
     ghost dir = { dir_of };
 
@@ -167,23 +166,16 @@ impl Log for MemLog {
         ensures same_text { text_of self.new ≡ text_of self.old }
         ensures cause { HasCause (faults_of self.old) (faults_of self.new) result }
 
-        ensures fails { IsErrOf result Trouble.Failed ↔ IsNextToFail self.old }
-        ensures counts_call { calls_of self.new ≡ next_count (calls_of self.old) }
-        ensures counts_fault { IsErrOf result Trouble.Failed → faults_of self.new ≡ next_count (faults_of self.old) }
-        ensures no_fault { (IsErrOf result Trouble.Failed → ⊥) → faults_of self.new ≡ faults_of self.old }
-        ensures none_to_fail { failing_of self.old ≡ [] → faults_of self.new ≡ faults_of self.old }
-        ensures same_failing { failing_of self.new ≡ failing_of self.old }
-        ensures same_plans { plans_of self.new ≡ plans_of self.old }
+        ensures counts { CountsLogCall (IsErrOf result Trouble.Failed) self.old self.new }
     {
-        if self.calls.next() {
-            self.faults = self.faults.saturating_add(1);
+        if self.calls.fails(&mut self.faults) {
             return Err(Trouble::Failed);
         }
         let path = self.path.child(region, lane, span);
         Ok(MemLog::planned(alloc, self.dir.as_str(), path, &self.plans)?)
     }
 
-    #[tactic(auto, using(crate::proofs::Fronts::tears_piece_same))]
+    #[tactic(auto, using(crate::proofs::Prefixes::tears_piece_same))]
     fn append(&mut self, alloc: Global, piece: &[u8]) -> Result<(), Trouble>
         ensures done { OnOk result (text_of self.new ≡ option_map (with_piece piece.now) (text_of self.old)) }
         ensures refused { OnErr result (TearsPiece (text_of self.old) (text_of self.new) piece.now) }
@@ -194,16 +186,9 @@ impl Log for MemLog {
         ensures same_path { path_of self.new ≡ path_of self.old }
         ensures cause { HasCause (faults_of self.old) (faults_of self.new) result }
 
-        ensures fails { IsErrOf result Trouble.Failed ↔ IsNextToFail self.old }
-        ensures counts_call { calls_of self.new ≡ next_count (calls_of self.old) }
-        ensures counts_fault { IsErrOf result Trouble.Failed → faults_of self.new ≡ next_count (faults_of self.old) }
-        ensures no_fault { (IsErrOf result Trouble.Failed → ⊥) → faults_of self.new ≡ faults_of self.old }
-        ensures none_to_fail { failing_of self.old ≡ [] → faults_of self.new ≡ faults_of self.old }
-        ensures same_failing { failing_of self.new ≡ failing_of self.old }
-        ensures same_plans { plans_of self.new ≡ plans_of self.old }
+        ensures counts { CountsLogCall (IsErrOf result Trouble.Failed) self.old self.new }
     {
-        if self.calls.next() {
-            self.faults = self.faults.saturating_add(1);
+        if self.calls.fails(&mut self.faults) {
             tear(&mut self.bytes, piece);
             return Err(Trouble::Failed);
         }

@@ -1,11 +1,11 @@
 //! What is printed, kept in memory.
 ghost use Rattle.std.specs.Prelude.{◌≡◌, ◌↔◌, [], IfOk, OnOk, OnErr, IsErrOf};
-ghost use Rattle.sw_base.specs.Environment.{HasCause, GainsFront, gained};
-ghost use Rattle.sw_base.specs.InMemory.{next_count};
-ghost use Rattle.sw_base.specs.MemOut.{bytes_of, written_of, faults_of, calls_of, failing_of, IsNextToFail};
+ghost use Rattle.sw_base.specs.Environment.{HasCause, GainsPrefix, gained};
+ghost use Rattle.sw_base.specs.InMemory.{CountsCall};
+ghost use Rattle.sw_base.specs.MemOut.{bytes_of, written_of, faults_of, calls_of, failing_of, counted_of};
 
+use crate::environment::Out;
 use crate::in_memory::calls::{Calls, tear};
-use crate::outside::Out;
 use crate::trouble::{Memory, Trouble};
 use std::alloc::Global;
 
@@ -56,22 +56,16 @@ impl Out for MemOut {
 
     ghost faults = { faults_of };
 
-    #[tactic(auto, using(crate::proofs::Fronts::gains_front_same))]
+    #[tactic(auto, using(crate::proofs::Prefixes::gains_prefix_same))]
     fn append(&mut self, _alloc: Global, piece: &[u8]) -> Result<(), Trouble>
         ensures done { OnOk result (written_of self.new ≡ gained (written_of self.old) piece.now) }
-        ensures refused { OnErr result (GainsFront (written_of self.old) (written_of self.new) piece.now) }
+        ensures refused { OnErr result (GainsPrefix (written_of self.old) (written_of self.new) piece.now) }
         ensures memory { IsErrOf result Trouble.Memory → written_of self.new ≡ written_of self.old }
         ensures cause { HasCause (faults_of self.old) (faults_of self.new) result }
 
-        ensures fails { IsErrOf result Trouble.Failed ↔ IsNextToFail self.old }
-        ensures counts_call { calls_of self.new ≡ next_count (calls_of self.old) }
-        ensures counts_fault { IsErrOf result Trouble.Failed → faults_of self.new ≡ next_count (faults_of self.old) }
-        ensures no_fault { (IsErrOf result Trouble.Failed → ⊥) → faults_of self.new ≡ faults_of self.old }
-        ensures none_to_fail { failing_of self.old ≡ [] → faults_of self.new ≡ faults_of self.old }
-        ensures same_failing { failing_of self.new ≡ failing_of self.old }
+        ensures counts { CountsCall (IsErrOf result Trouble.Failed) (counted_of self.old) (counted_of self.new) }
     {
-        if self.calls.next() {
-            self.faults = self.faults.saturating_add(1);
+        if self.calls.fails(&mut self.faults) {
             tear(&mut self.written, piece);
             return Err(Trouble::Failed);
         }

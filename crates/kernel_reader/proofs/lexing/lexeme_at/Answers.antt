@@ -1,4 +1,4 @@
-use Rattle.kernel_reader.proofs.Fronts.{name_is_ascii, digits_are_digits}
+use Rattle.kernel_reader.proofs.Prefixes.{name_is_ascii, digits_are_digits}
 use Rattle.kernel_reader.proofs.lexing.lexeme_at.Goals as goal
 
 pub name_lexeme-requires : goal.name_lexeme-requires

@@ -1,7 +1,7 @@
 use Rattle.std.proofs.Common.{◌≡◌, true, false, sym, ap, ◌∙◌}
 use Rattle.std.specs.Prelude.{is_some}
 use Rattle.std.proofs.lemmas.Str.{IsUtf8-from_ascii}
-use Rattle.kernel_reader.proofs.Fronts.{no_error}
+use Rattle.kernel_reader.proofs.Prefixes.{no_error}
 use Rattle.kernel_reader.proofs.lexing.name_lexeme.Goals as goal
 
 pub returns-in_err-text : goal.returns-in_err-text

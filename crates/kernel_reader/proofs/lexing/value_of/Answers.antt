@@ -1,5 +1,5 @@
 use Rattle.std.proofs.Common.{sym, arith}
-use Rattle.kernel_reader.proofs.Fronts.{too_large_so_far}
+use Rattle.kernel_reader.proofs.Prefixes.{too_large_so_far}
 use Rattle.kernel_reader.proofs.lexing.value_of.Goals as goal
 
 pub returns-then-value : goal.returns-then-value

@@ -10,7 +10,7 @@ use Rattle.race_model.proofs.TraceLogs.{all_at}
 use Rattle.race_model.specs.KeepsRules.{TaskKeepsRules}
 use Rattle.log_segment.specs.Intervals.{task_of}
 use Rattle.log_segment.proofs.Stacks.{Reached}
-use Rattle.log_segment.specs.Walking.{IsLogOf}
+use Rattle.log_segment.specs.Walking.{IsTaskLogFrom}
 use Rattle.log_segment.proofs.Ancestors.{first_is, forked, log_is, reached_next}
 use Rattle.log_segment.proofs.Stacks.{may_all}
 use Rattle.log_segment.proofs.Tasks.{all_tasks, in_order_next, model_at}
@@ -52,7 +52,7 @@ tasks-preserved c =
     let reached = subst (λ (fs : List (Vec (List Triple))). Reached (map task_of c.args.trace.now) c.tasks.task-index fs) (sym c.deref.ensures.value) c.tasks.invariant.reached in
     let first = first_is (map task_of c.args.trace.now) c.requires c.tasks.task-index (task_of c.task-item.result) c.deref.result.now c.first_label-label.result found reached
     c.first_label-label.ensures.root c.first_label-label.ensures.lane in
-    let log : IsLogOf (logs_of (map task_of c.args.trace.now)) c.task-item.result c.first_label-label.result =
+    let log : IsTaskLogFrom (logs_of (map task_of c.args.trace.now)) c.task-item.result c.first_label-label.result =
     record { fork_join = fork_join (map task_of c.args.trace.now) c.requires; records = log_is (map task_of c.args.trace.now) c.requires c.tasks.task-index (task_of c.task-item.result) found; first = first.0 } in
     let stack = reached_next (map task_of c.args.trace.now) c.requires c.tasks.task-index (task_of c.task-item.result) c.tasks.forks.items c.in_ok-add_task.field-0 found c.tasks.invariant.reached
     (c.in_ok-add_task.ensures.forks (logs_of (map task_of c.args.trace.now)) log) in

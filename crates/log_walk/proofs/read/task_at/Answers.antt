@@ -2,7 +2,7 @@ use Rattle.std.proofs.Common.{◌≡◌, sym, subst, ap, ◌∙◌}
 use Rattle.std.proofs.lemmas.Option.{same_Some}
 use Rattle.race_model.specs.Row.{Row}
 use Rattle.log_index.specs.Rows.{row_of}
-use Rattle.log_walk.specs.GoodTrace.{IsTeam}
+use Rattle.log_walk.specs.GoodTrace.{AreTeamBarriers}
 use Rattle.log_walk.specs.Walk.{trace_of}
 use Rattle.log_walk.proofs.RowReads.{row_read}
 use Rattle.log_walk.proofs.read.task_at.Goals as goal
@@ -21,6 +21,6 @@ returns c =
             path = c.copy.ensures.same ∙ ap (λ (r : Row). r.path) same;
             records = ap (λ (r : Row). r.records) same;
             spans = c.in_ok-spans_of.ensures row told;
-            team = subst (λ (r : Row). IsTeam (trace_of c.args.trace.now) r.path c.team_barriers.result) same c.team_barriers.ensures;
+            team = subst (λ (r : Row). AreTeamBarriers (trace_of c.args.trace.now) r.path c.team_barriers.result) same c.team_barriers.ensures;
           };
     }

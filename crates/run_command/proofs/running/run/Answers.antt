@@ -2,7 +2,7 @@ use Rattle.std.proofs.Common.{sym, ◌∙◌, subst}
 use Rattle.std.proofs.lemmas.Option.{same_Some}
 use Rattle.sw_base.specs.Environment.{Content, Rose}
 use Rattle.kernel_syntax.specs.Program.{program_of}
-use Rattle.run_command.specs.Ends.{Ends, EndsSo}
+use Rattle.run_command.specs.EndsRun.{EndsRun, EndsSo}
 use Rattle.run_command.proofs.BeginEnd.{ended_part, ended_run, refused_run}
 use Rattle.run_command.proofs.running.run.Goals as goal
 
@@ -13,7 +13,7 @@ returns-in-Ok-clause-answers g c = λ old is new now.
     let left =
     subst (λ n. EndsSo (Rose n (g.F.Folder.write_faults c.execute.new.place)) program c.args.dir.now c.args.size (g.F.Folder.content c.begin.new.place) (g.F.Folder.content c.execute.new.place) (g.O.Out.written c.args.out.now) (g.O.Out.written c.execute.new.out) c.execute.result)
     c.begin.ensures.same_writes c.execute.ensures.ends old (c.begin.ensures.same ∙ is) in
-    let ends = subst (λ (d : Content). Ends rose program c.args.dir.now c.args.size old (g.O.Out.written c.args.out.now) (g.O.Out.written c.execute.new.out) c.execute.result d) (same_Some left.content new (sym left.is ∙ now)) left.holds in
+    let ends = subst (λ (d : Content). EndsRun rose program c.args.dir.now c.args.size old (g.O.Out.written c.args.out.now) (g.O.Out.written c.execute.new.out) c.execute.result d) (same_Some left.content new (sym left.is ∙ now)) left.holds in
     ended_run rose c.args.kernel.now c.args.dir.now c.args.size old new program (c.in-Ok.ensures.kernel old is) (c.in-Ok.ensures.fresh old is) _ _ _ ends
 
 pub returns-in-Ok-clause-leaves : goal.returns-in-Ok-clause-leaves
@@ -23,7 +23,7 @@ returns-in-Ok-clause-leaves g c = λ old is new now failure.
     let left =
     subst (λ n. EndsSo (Rose n (g.F.Folder.write_faults c.execute.new.place)) program c.args.dir.now c.args.size (g.F.Folder.content c.begin.new.place) (g.F.Folder.content c.execute.new.place) (g.O.Out.written c.args.out.now) (g.O.Out.written c.execute.new.out) c.execute.result)
     c.begin.ensures.same_writes c.execute.ensures.ends old (c.begin.ensures.same ∙ is) in
-    let ends = subst (λ (d : Content). Ends rose program c.args.dir.now c.args.size old (g.O.Out.written c.args.out.now) (g.O.Out.written c.execute.new.out) c.execute.result d) (same_Some left.content new (sym left.is ∙ now)) left.holds in
+    let ends = subst (λ (d : Content). EndsRun rose program c.args.dir.now c.args.size old (g.O.Out.written c.args.out.now) (g.O.Out.written c.execute.new.out) c.execute.result d) (same_Some left.content new (sym left.is ∙ now)) left.holds in
     ended_part rose c.args.kernel.now c.args.dir.now c.args.size old new program (c.in-Ok.ensures.kernel old is) (c.in-Ok.ensures.fresh old is) _ _ _ ends failure
 
 pub returns-in-Err-clause-answers : goal.returns-in-Err-clause-answers

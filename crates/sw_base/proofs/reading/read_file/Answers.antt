@@ -1,7 +1,7 @@
 use Rattle.std.proofs.Common.{rules, ◌≡◌, sym, subst, ◌∙◌, List, ℕ, [], ◌++◌, length, take}
 use Rattle.std.specs.Prelude.{unwrap_or}
 use Rattle.sw_base.specs.Environment.{WhereTold, Reads}
-use Rattle.sw_base.proofs.ReadFronts.{ToldFront, told_none, told_more}
+use Rattle.sw_base.proofs.ReadPrefixes.{ToldPrefix, told_none, told_more}
 use Rattle.sw_base.proofs.reading.read_file.Goals as goal
 
 pub windows-init : goal.windows-init
@@ -9,7 +9,7 @@ windows-init g c = record {
   same = search rules;
   later = search rules;
   same_writes = search rules;
-  front = subst (λ (bs : List ℕ). ToldFront (g.F.Folder.content c.args.place.now) c.args.name.now bs) (sym c.new-bytes.ensures.items) (told_none _ _);
+  prefix = subst (λ (bs : List ℕ). ToldPrefix (g.F.Folder.content c.args.place.now) c.args.name.now bs) (sym c.new-bytes.ensures.items) (told_none _ _);
 }
 
 pub windows-preserved : goal.windows-preserved
@@ -17,10 +17,10 @@ windows-preserved g c =
     let len : c.len-in-windows.result ≡ length c.windows.bytes.items = search rules in
     let reads : WhereTold (g.F.Folder.content c.args.place.now) (λ x. Reads (unwrap_or (x.held c.args.name.now) []) (length c.windows.bytes.items) c.in_ok-count.count c.read.new.into) =
     λ x is. subst (λ (n : ℕ). Reads (unwrap_or (x.held c.args.name.now) []) n c.in_ok-count.count c.read.new.into) len (c.in_ok-count.ensures.bytes x (c.windows.invariant.same ∙ is)) in
-    let more : ToldFront (g.F.Folder.content c.args.place.now) c.args.name.now (c.windows.bytes.items ++ take c.in_ok-count.count c.read.new.into) = told_more _ _ _ _ _ c.windows.invariant.front reads in
+    let more : ToldPrefix (g.F.Folder.content c.args.place.now) c.args.name.now (c.windows.bytes.items ++ take c.in_ok-count.count c.read.new.into) = told_more _ _ _ _ _ c.windows.invariant.prefix reads in
     record {
       same = search rules;
       later = search rules;
       same_writes = search rules;
-      front = search rules;
+      prefix = search rules;
     }

@@ -1,5 +1,5 @@
 use Rattle.std.proofs.Common.{◌≡◌, ◌-◌, ◌≤◌, length}
-use Rattle.sw_base.proofs.ReadFronts.{ToldFront}
+use Rattle.sw_base.proofs.ReadPrefixes.{ToldPrefix}
 use Rattle.sw_base.proofs.reading.read_file.Given as goal
 
 abbrev pub invariant-windows : goal.invariant-windows
@@ -7,7 +7,7 @@ invariant-windows g l = record {
   same : g.F.Folder.content l.place ≡ g.F.Folder.content l.fn.place;
   later : g.F.Folder.read_faults l.fn.place ≤ g.F.Folder.read_faults l.place;
   same_writes : g.F.Folder.write_faults l.place ≡ g.F.Folder.write_faults l.fn.place;
-  front : ToldFront (g.F.Folder.content l.fn.place) l.name l.bytes.items;
+  prefix : ToldPrefix (g.F.Folder.content l.fn.place) l.name l.bytes.items;
 }
 
 abbrev pub decreases-windows : goal.decreases-windows

@@ -3,7 +3,7 @@ use Rattle.std.proofs.lemmas.Result.{err_from_is_err_and}
 use Rattle.race_model.specs.Trace.{TaskLog}
 use Rattle.log_segment.specs.Intervals.{task_of}
 use Rattle.sword.specs.Show.{log_text}
-use Rattle.sword.proofs.Lines.{written-next_text, GainsFront-text}
+use Rattle.sword.proofs.Lines.{written-next_text, GainsPrefix-text}
 use Rattle.sword.proofs.showing.print_trace.Goals as goal
 
 pub loop-task-preserved : goal.loop-task-preserved
@@ -16,5 +16,5 @@ loop-task-preserved g c = record {
 pub returns-in_err-print_task-clause-refused : goal.returns-in_err-print_task-clause-refused
 returns-in_err-print_task-clause-refused g c =
     let p = err_from_is_err_and c.from_residual.result c.from_residual.ensures.1 in
-    rw (p.1) (GainsFront-text task_of (λ (task : TaskLog). log_text task.path task.records) c.args.tasks.now c.loop-task.task-index c.task-item.result c.loop-task-test.true c.task-item.is _ _ _
+    rw (p.1) (GainsPrefix-text task_of (λ (task : TaskLog). log_text task.path task.records) c.args.tasks.now c.loop-task.task-index c.task-item.result c.loop-task-test.true c.task-item.is _ _ _
     c.loop-task.invariant.written (rw c.as_slice.ensures.value at c.in_err-print_task.ensures.refused))

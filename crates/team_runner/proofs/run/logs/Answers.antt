@@ -3,7 +3,7 @@ use Rattle.std.proofs.lemmas.List.{map-id}
 use Rattle.std.proofs.lemmas.Iterator.Adapters.{YieldsList-from_vec}
 use Rattle.std.proofs.lemmas.Iterator.Consumers.{YieldsList-end}
 use Rattle.sw_base.specs.declared.path.Step.{Step}
-use Rattle.team_runner.specs.Team.{all_logs, entry, AreLogs, handed, path_of}
+use Rattle.team_runner.specs.Team.{all_logs, entry, AreLogs, handed, lane_task}
 use Rattle.team_runner.proofs.Logs.{all_logs_more, are_logs_more, no_logs}
 use Rattle.team_runner.proofs.run.logs.Goals as goal
 
@@ -17,9 +17,9 @@ loop-lane-init g c =
 pub loop-lane-preserved : goal.loop-lane-preserved
 loop-lane-preserved g c =
     let entries = map (entry g.L.Log.dir g.L.Log.path g.L.Log.text g.L.Log.faults) in
-    let path : c.child-path.result ≡ path_of c.in-Some.lane = c.child-path.ensures ∙ ap (λ (path : List Step). path ++ path_of c.in-Some.lane) c.root-in-loop-lane.ensures in
+    let path : c.child-path.result ≡ lane_task c.in-Some.lane = c.child-path.ensures ∙ ap (λ (path : List Step). path ++ lane_task c.in-Some.lane) c.root-in-loop-lane.ensures in
     subst (λ all. AreLogs all (entries c.add_log-whole-in-loop-lane.new.logs.items) (c.loop-lane.whole && c.add_log-whole-in-loop-lane.result)) (sym (all_logs_more c.args.root c.loop-lane.yielded c.in-Some.lane))
-    (are_logs_more (all_logs c.args.root c.loop-lane.yielded) (entries c.loop-lane.logs.items) (entries c.add_log-whole-in-loop-lane.new.logs.items) (handed (path_of c.in-Some.lane) c.in-Some.lane.recorder) c.loop-lane.whole c.add_log-whole-in-loop-lane.result c.loop-lane.invariant
+    (are_logs_more (all_logs c.args.root c.loop-lane.yielded) (entries c.loop-lane.logs.items) (entries c.add_log-whole-in-loop-lane.new.logs.items) (handed (lane_task c.in-Some.lane) c.in-Some.lane.recorder) c.loop-lane.whole c.add_log-whole-in-loop-lane.result c.loop-lane.invariant
     (λ is. c.add_log-whole-in-loop-lane.ensures.added is ∙ ap (λ (path : List Step). entries c.loop-lane.logs.items ++ handed path c.in-Some.lane.recorder ∷ []) path)
     (λ is. ap entries (c.add_log-whole-in-loop-lane.ensures.dropped is)))
 

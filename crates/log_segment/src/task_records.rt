@@ -5,11 +5,11 @@ ghost use Rattle.race_model.specs.Race.{held_after_kind};
 ghost use Rattle.race_model.specs.Segment.{Event, task_segments};
 ghost use Rattle.race_model.specs.Trace.{Logs};
 ghost use Rattle.log_segment.specs.Intervals.{task_of};
-ghost use Rattle.log_segment.specs.Walking.{Adds, AreForks, Follows, IsLogOf, IsNextOf, IsOwnAfter, MayAllCome, MayCome, begun_after, ended_by, event_after};
+ghost use Rattle.log_segment.specs.Walking.{AddsSegments, AreForks, Follows, IsTaskLogFrom, IsNextOf, IsOwnAfter, MayAllCome, MayCome, begun_after, ended_by, event_after};
 ghost use Rattle.race_model.specs.IndexFault.{max_records};
 
 use crate::segment::{Segment, TaskRecords};
-use crate::walk::Walk;
+use crate::open_interval::Walk;
 use log_format::{Kind, Record};
 use span_label::Label;
 use std::alloc::Global;
@@ -35,7 +35,7 @@ fn step(
         → OnOk result (Follows logs path.now (before ++ next.now ∷ []) walk.new (begun_after next.now.kind (event_after before next.now) begun)) }
     ensures adds { (logs : Logs) (before : List Record) (begun : List Event) → IsNextOf logs path.now before next.now → number ≡ length before + 1
         → Follows logs path.now before walk.old begun
-        → OnOk result (Adds logs (ended_by path.now next.now.kind begun) found.old.items found.new.items) }
+        → OnOk result (AddsSegments logs (ended_by path.now next.now.kind begun) found.old.items found.new.items) }
 {
     match next.kind {
         Kind::Read | Kind::Write => walk.access(next)?,
@@ -54,7 +54,7 @@ fn step(
     Ok(())
 }
 
-/// Adds the segments of a task whose first record has this label. The answer is the label of each of its forks.
+/// AddsSegments the segments of a task whose first record has this label. The answer is the label of each of its forks.
 pub fn add_task(
     alloc: Global,
     task: &TaskRecords,
@@ -64,8 +64,8 @@ pub fn add_task(
     requires records { length task.now.records.items ≤ max_records }
     requires own { IsOwnAfter label 1 }
     requires may { MayAllCome task.now.records.items }
-    ensures forks { (logs : Logs) → IsLogOf logs task.now label → IfOk result (λ forks. AreForks logs task.now.path (length task.now.records.items) forks.items) }
-    ensures adds { (logs : Logs) → IsLogOf logs task.now label → OnOk result (Adds logs (task_segments (task_of task.now)) found.old.items found.new.items) }
+    ensures forks { (logs : Logs) → IsTaskLogFrom logs task.now label → IfOk result (λ forks. AreForks logs task.now.path (length task.now.records.items) forks.items) }
+    ensures adds { (logs : Logs) → IsTaskLogFrom logs task.now label → OnOk result (AddsSegments logs (task_segments (task_of task.now)) found.old.items found.new.items) }
 {
     let mut walk = Walk::new(alloc, label);
     'records: for (index, next) in task.records.iter().enumerate() {

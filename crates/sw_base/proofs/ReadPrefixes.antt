@@ -12,8 +12,8 @@ pub record BeginsWith (file bytes : List ℕ) : Type 0 where
   pub parts : file ≡ bytes ++ rest
 
 -- a folder's file begins with these bytes, where the folder tells
-pub record ToldFront (told : Option Content) (name bytes : List ℕ) : Type 0 where
-  pub front : (c : Content) → told ≡ Some c → BeginsWith (unwrap_or (c.held name) []) bytes
+pub record ToldPrefix (told : Option Content) (name bytes : List ℕ) : Type 0 where
+  pub prefix : (c : Content) → told ≡ Some c → BeginsWith (unwrap_or (c.held name) []) bytes
 
 begins_with_more : (file bytes window : List ℕ) (n : ℕ) → BeginsWith file bytes → Reads file (length bytes) n window → BeginsWith file (bytes ++ take n window)
 begins_with_more file bytes window n begins reads = record {
@@ -27,17 +27,17 @@ begins_with_more file bytes window n begins reads = record {
   after = ap (λ (bs : List ℕ). drop (length bytes) bs) begins.parts ∙ drop_at bytes begins.rest (length bytes) refl
 
   is : take n window ≡ take n begins.rest
-  is = reads.front ∙ ap (λ (bs : List ℕ). take n bs) after
+  is = reads.prefix ∙ ap (λ (bs : List ℕ). take n bs) after
 
 -- nothing was read yet
-pub told_none : (told : Option Content) (name : List ℕ) → ToldFront told name []
-told_none told name = record { front = λ c is. record { rest = unwrap_or (c.held name) []; parts = refl } }
+pub told_none : (told : Option Content) (name : List ℕ) → ToldPrefix told name []
+told_none told name = record { prefix = λ c is. record { rest = unwrap_or (c.held name) []; parts = refl } }
 
 -- one piece more was read
-pub told_more : (told : Option Content) (name bytes window : List ℕ) (n : ℕ) → ToldFront told name bytes
-    → WhereTold told (λ c. Reads (unwrap_or (c.held name) []) (length bytes) n window) → ToldFront told name (bytes ++ take n window)
+pub told_more : (told : Option Content) (name bytes window : List ℕ) (n : ℕ) → ToldPrefix told name bytes
+    → WhereTold told (λ c. Reads (unwrap_or (c.held name) []) (length bytes) n window) → ToldPrefix told name (bytes ++ take n window)
 told_more told name bytes window n begins reads =
-    record { front = λ c is. begins_with_more (unwrap_or (c.held name) []) bytes window n (begins.front c is) (reads c is) }
+    record { prefix = λ c is. begins_with_more (unwrap_or (c.held name) []) bytes window n (begins.prefix c is) (reads c is) }
 
 whole : (file bytes : List ℕ) → BeginsWith file bytes → length file ≤ length bytes → file ≡ bytes
 whole file bytes begins enough = at begins.rest begins.parts
@@ -53,18 +53,12 @@ held_whole (Some file) bytes size sized begins enough =
     let same : length file ≡ size = ap (λ (n : Option ℕ). unwrap_or n 0) (sym sized) in
     ap Some (whole file bytes begins (enough same))
 
--- as many bytes as the file has were read
-pub told_all : (told : Option Content) (name bytes : List ℕ) (size : ℕ) → ToldFront told name bytes
-    → WhereTold told (λ c. Some size ≡ option_map length (c.held name)) → size ≤ length bytes → WhereTold told (λ c. c.held name ≡ Some bytes)
-told_all told name bytes size begins sized enough =
-    λ c is. held_whole (c.held name) bytes size (sized c is) (begins.front c is) (λ same. omega arith)
-
 -- no more bytes came
-pub told_stop : (told : Option Content) (name bytes window : List ℕ) (size : ℕ) → ToldFront told name bytes
+pub told_stop : (told : Option Content) (name bytes window : List ℕ) (size : ℕ) → ToldPrefix told name bytes
     → WhereTold told (λ c. Some size ≡ option_map length (c.held name)) → 0 < length window
     → WhereTold told (λ c. Reads (unwrap_or (c.held name) []) (length bytes) 0 window) → WhereTold told (λ c. c.held name ≡ Some bytes)
 told_stop told name bytes window size begins sized room reads =
-    λ c is. held_whole (c.held name) bytes size (sized c is) (begins.front c is)
+    λ c is. held_whole (c.held name) bytes size (sized c is) (begins.prefix c is)
     (λ same. elim (cases_lt (length bytes) (length (unwrap_or (c.held name) []))) [
       | inl more ↦ let none = (reads c is).some room more in omega arith
       | inr enough ↦ enough

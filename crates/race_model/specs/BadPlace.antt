@@ -10,12 +10,12 @@ use Rattle.race_model.specs.declared.why.RecordWhy.{RecordWhy}
 use Rattle.race_model.specs.declared.why.RecordWhy.TheVariants as log
 
 -- rows and records are numbered from 1; row 0 and record 0 are the headers
-pub data Place : Type 0 where
-  no_index : Place
-  bad_row : ℕ → IndexWhy → Place
-  missing_log : ℕ → Place
-  bad_record : ℕ → ℕ → RecordWhy → Place
-  too_many_segments : ℕ → ℕ → Place
+pub data BadPlace : Type 0 where
+  no_index : BadPlace
+  bad_row : ℕ → IndexWhy → BadPlace
+  missing_log : ℕ → BadPlace
+  bad_record : ℕ → ℕ → RecordWhy → BadPlace
+  too_many_segments : ℕ → ℕ → BadPlace
 
 -- the order in which the rules of one row are tried
 abbrev pub index_rank : IndexWhy → ℕ
@@ -51,18 +51,22 @@ record_rank log.RegionRows = 17
 record_rank log.BarrierCount = 18
 record_rank log.Extra = 19
 
+-- the rank of a segment that is one too many: after every rule of its record
+abbrev pub last_rank : ℕ
+last_rank = 20
+
 -- the index, or a log by its row; then the row or the record by number; then the rule
-abbrev pub place_key : Place → List ℕ
+abbrev pub place_key : BadPlace → List ℕ
 place_key no_index = 0 ∷ []
 place_key (bad_row n why) = 1 ∷ n ∷ index_rank why ∷ []
 place_key (missing_log row) = 2 ∷ row ∷ []
 place_key (bad_record row n why) = 2 ∷ row ∷ n ∷ record_rank why ∷ []
-place_key (too_many_segments row n) = 2 ∷ row ∷ n ∷ 20 ∷ []
+place_key (too_many_segments row n) = 2 ∷ row ∷ n ∷ last_rank ∷ []
 
-abbrev pub IsEarlier : Place → Place → Type 0
+abbrev pub IsEarlier : BadPlace → BadPlace → Type 0
 IsEarlier p q = slice_cmp nat_cmp (place_key p) (place_key q) ≡ Less
 
 -- the place is where a segment is one too many
-abbrev pub IsTooMany : Place → Type 0
+abbrev pub IsTooMany : BadPlace → Type 0
 IsTooMany (too_many_segments row n) = Unit {0}
 IsTooMany _ = ⊥

@@ -5,7 +5,7 @@ use Rattle.log_segment.specs.Intervals.{task_of}
 use Rattle.log_segment.specs.Walking.{IsOwnAfter}
 use Rattle.log_segment.proofs.Following.{adds_ended}
 use Rattle.log_segment.proofs.Passing.{going_begins, going_next, going_ends, going_whole, held_more, may_at, record_is}
-use Rattle.log_segment.proofs.going.add_task.Goals as goal
+use Rattle.log_segment.proofs.task_records.add_task.Goals as goal
 
 pub records-init : goal.records-init
 records-init c = record {

@@ -4,7 +4,7 @@
 //! says what holds where the object tells it. Counts of faults are always there, and never fall.
 ghost use Rattle.std.specs.Prelude.{◌≡◌, ◌+◌, ◌<◌, ◌≤◌, ℕ, List, [], ◌∷◌, ◌++◌, length, Option, unwrap_or, is_some, IfOk, IfErr, OnOk, OnErr, IsErrOf};
 ghost use Rattle.std.specs.Option.{option_map};
-ghost use Rattle.sw_base.specs.Environment.{Content, Text, WhereTold, Rose, HasCause, TakesFaults, Reads, LeavesFront, TearsPiece, GainsFront, with_put, with_log, with_piece, empty_text, gained};
+ghost use Rattle.sw_base.specs.Environment.{Content, Text, WhereTold, Rose, HasCause, TakesFaults, Reads, LeavesPrefix, TearsPiece, GainsPrefix, with_put, with_log, with_piece, empty_text, gained};
 ghost use Rattle.sw_base.specs.Names.{log_name};
 ghost use Rattle.sw_base.specs.declared.path.Step.{Step};
 
@@ -35,7 +35,7 @@ pub trait Out {
     /// Writes the piece after what was written.
     fn append(&mut self, alloc: Global, piece: &[u8]) -> Result<(), Trouble>
         ensures done { OnOk result (written self.new ≡ gained (written self.old) piece.now) }
-        ensures refused { OnErr result (GainsFront (written self.old) (written self.new) piece.now) }
+        ensures refused { OnErr result (GainsPrefix (written self.old) (written self.new) piece.now) }
         ensures memory { IsErrOf result Trouble.Memory → written self.new ≡ written self.old }
         ensures cause { HasCause (faults self.old) (faults self.new) result };
 }
@@ -101,7 +101,7 @@ pub trait Folder {
         ensures cause { HasCause (read_faults self.old) (read_faults self.new) result }
         ensures same_writes { write_faults self.new ≡ write_faults self.old };
 
-    /// Reads bytes of the named file, from the place `at` on, into the front of `into`, and answers how many. A file that
+    /// Reads bytes of the named file, from the place `at` on, into the start of `into`, and answers how many. A file that
     /// isn't there is read as one without a byte. Fewer may come than `into` has room for, but none only at the end or where
     /// there is no room. Behind them, and after an error, `into` may hold anything.
     fn read(
@@ -121,7 +121,7 @@ pub trait Folder {
     /// Makes the named file hold these bytes.
     fn put(&mut self, alloc: Global, name: &str, bytes: &[u8]) -> Result<(), Trouble>
         ensures done { OnOk result (content self.new ≡ option_map (with_put name.now bytes.now) (content self.old)) }
-        ensures refused { OnErr result (LeavesFront (content self.old) (content self.new) name.now bytes.now) }
+        ensures refused { OnErr result (LeavesPrefix (content self.old) (content self.new) name.now bytes.now) }
 
         ensures cause { HasCause (write_faults self.old) (write_faults self.new) result }
         ensures same_reads { read_faults self.new ≡ read_faults self.old };
@@ -142,7 +142,7 @@ pub trait Folder {
         ensures done { OnOk result (WhereTold (Self.Log.text log) (λ text.
             content self.new ≡ option_map (with_log (log_name (Self.Log.dir log) (Self.Log.path log)) text) (content self.old))) }
         ensures refused { OnErr result (WhereTold (Self.Log.text log) (λ text.
-            LeavesFront (content self.old) (content self.new) (log_name (Self.Log.dir log) (Self.Log.path log)) text.bytes)) }
+            LeavesPrefix (content self.old) (content self.new) (log_name (Self.Log.dir log) (Self.Log.path log)) text.bytes)) }
         ensures tells { is_some (content self.new) ≡ is_some (content self.old) }
         ensures given_back { IfErr result (λ error. error.1 ≡ log) }
 

@@ -4,12 +4,12 @@ use Rattle.log_format.specs.declared.record.Kind.TheVariants.{Lock, Unlock}
 use Rattle.log_format.specs.declared.record.Record.{Record}
 use Rattle.log_format.specs.declared.record.Why.TheVariants as why
 use Rattle.log_format.specs.Table.{HasAddress}
-use Rattle.log_segment.specs.declared.walk.Walk.{Walk}
-use Rattle.log_segment.specs.Walking.{Adds}
+use Rattle.log_segment.specs.declared.open_interval.Walk.{Walk}
+use Rattle.log_segment.specs.Walking.{AddsSegments}
 use Rattle.race_model.specs.Segment.{Segment as Interval}
 use Rattle.log_segment.proofs.Following.{follows_access, follows_lock, follows_unlock, follows_other, closed_region, closed_barrier, ends_region, ends_barrier, adds_ended}
 use Rattle.log_segment.proofs.OwnLevel.{own_raised, own_passed}
-use Rattle.log_segment.proofs.going.step.Goals as goal
+use Rattle.log_segment.proofs.task_records.step.Goals as goal
 
 small_lock : (k : Kind) (r : Record) → k ≡ Lock → HasAddress k r → r.addr < 2 ^ 16
 small_lock k r is has = subst (λ (x : Kind). HasAddress x r) is has
@@ -58,7 +58,7 @@ pub returns-in_ok-fork-in-Region-clause-adds : goal.returns-in_ok-fork-in-Region
 returns-in_ok-fork-in-Region-clause-adds c = λ logs before begun next number f.
     let k = c.in_ok-close-in-Region.ensures in
     let last : c.args.number - 1 ≡ length before = omega arith in
-    subst (λ (is : List Interval). Adds logs is c.args.found.now.items c.close.new.found.items) (ends_region c.args.next.now.kind c.args.path.now begun c.in-Region.is)
+    subst (λ (is : List Interval). AddsSegments logs is c.args.found.now.items c.close.new.found.items) (ends_region c.args.next.now.kind c.args.path.now begun c.in-Region.is)
     (adds_ended logs c.args.path.now before c.args.walk.now begun (c.args.number - 1) c.args.found.now.items c.close.new.found.items last k.empty k.added f)
 
 pub returns-in_ok-close-in-Barrier-clause-own : goal.returns-in_ok-close-in-Barrier-clause-own
@@ -79,5 +79,5 @@ pub returns-in_ok-close-in-Barrier-clause-adds : goal.returns-in_ok-close-in-Bar
 returns-in_ok-close-in-Barrier-clause-adds c = λ logs before begun next number f.
     let k = c.in_ok-close-in-Barrier.ensures in
     let last : c.args.number - 1 ≡ length before = omega arith in
-    subst (λ (is : List Interval). Adds logs is c.args.found.now.items c.close-in-Barrier.new.found.items) (ends_barrier c.args.next.now.kind c.args.path.now begun c.in-Barrier.is)
+    subst (λ (is : List Interval). AddsSegments logs is c.args.found.now.items c.close-in-Barrier.new.found.items) (ends_barrier c.args.next.now.kind c.args.path.now begun c.in-Barrier.is)
     (adds_ended logs c.args.path.now before c.args.walk.now begun (c.args.number - 1) c.args.found.now.items c.close-in-Barrier.new.found.items last k.empty k.added f)

@@ -14,8 +14,8 @@ fn are_same(steps: &[Step], others: &[Step]) -> bool
 pub fn step_below(path: &[Step], above: &[Step]) -> Option<Step>
     ensures { MatchOption result ((step : PathStep) → path.now ≡ above.now ++ step ∷ [] → ⊥) (λ step. path.now ≡ above.now ++ step ∷ []) }
 {
-    let (last, front) = path.split_last()?;
-    if are_same(front, above) {
+    let (last, prefix) = path.split_last()?;
+    if are_same(prefix, above) {
         Some(*last)
     } else {
         None

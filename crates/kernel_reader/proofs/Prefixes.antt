@@ -1,4 +1,4 @@
--- Lemmas on the front of a text, and on numbers.
+-- Lemmas on a prefix of a --, and on numbers.
 use Rattle.std.proofs.Common.{◌≡◌, ℕ, ◌+◌, ◌-◌, ◌*◌, ◌<◌, ◌≤◌, true, List, [], ◌∷◌, length, get_or, take, drop, None, Result, Ok, Err, refl, sym, ap, ◌∙◌, arith, inl, inr, length-take}
 use Rattle.std.specs.Prelude.{IsAscii, MatchResult, is_ok}
 use Rattle.std.specs.Char.{is_ascii_digit}
