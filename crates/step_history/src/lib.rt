@@ -2,5 +2,7 @@
 #![tactic(auto)]
 
 mod item;
+mod mutexes;
 
 pub use item::{Deed, Item};
+pub use mutexes::critical_sections_exclude_each_other;
