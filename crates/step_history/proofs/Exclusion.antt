@@ -5,7 +5,7 @@ use Rattle.step_history.specs.declared.item.Item.{Item}
 use Rattle.step_history.specs.declared.item.Deed.{Deed}
 use Rattle.step_history.specs.declared.item.Deed.TheVariants.{Read, Write, Lock, Unlock, Split, Home}
 use Rattle.step_history.specs.History.{Name, item, holder, holder_after, Fits, FitsDeed, LegalAfter, Legal}
-use Rattle.step_history.proofs.Folds.{holder_from-append, legal_after-rest}
+use Rattle.step_history.proofs.Folds.{holder_from-append, legal_rest}
 
 -- the mutex that it has stays with a hand over a deed that fits, unless it unlocks it
 data Keeps (mutex : ℕ) (owner : Name) (name : Name) (deed : Deed) : Type 0 where
@@ -61,7 +61,7 @@ unlocked_between mutex owner second before (x ∷ mid) after has legal =
 pub exclusion : (before mid after : List Item) (first second : Name) (mutex : ℕ)
     → Legal (before ++ item first (Lock mutex) ∷ (mid ++ item second (Lock mutex) ∷ after)) → Contains mid (item first (Unlock mutex))
 exclusion before mid after first second mutex legal =
-    let rest = legal_after-rest [] before (item first (Lock mutex) ∷ (mid ++ item second (Lock mutex) ∷ after)) legal in
+    let rest = legal_rest [] before (item first (Lock mutex) ∷ (mid ++ item second (Lock mutex) ∷ after)) legal in
     let is_mutex : (mutex == mutex) ≡ true = eq-eqb mutex mutex refl in
     let now : holder mutex (before ++ item first (Lock mutex) ∷ []) ≡ Some first =
         holder_from-append mutex before (item first (Lock mutex) ∷ []) None ∙ ap (λ (b : Bool). cond b (Some first) (holder mutex before)) is_mutex in

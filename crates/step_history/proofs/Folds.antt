@@ -1,23 +1,64 @@
--- The folds of a history, at a list put behind another.
-use Rattle.std.proofs.Common.{◌≡◌, refl, sym, ap, ◌∙◌, subst, ℕ, Bool, true, false, cond, not, ◌&&◌, List, [], ◌∷◌, ◌++◌, Option, Some, None}
+-- The folds of a history at one more step, and at a list put behind another.
+use Rattle.std.proofs.Common.{◌≡◌, refl, sym, ap, ◌∙◌, subst, ℕ, Bool, true, false, cond, List, [], ◌∷◌, ◌++◌, Option, Some, None}
+use Rattle.std.specs.Prelude.{◌&&◌, ◌||◌, not, filter}
+use Rattle.std.specs.List.{list_any}
 use Rattle.std.proofs.lemmas.List.{append-nil, append_assoc}
+use Rattle.std.proofs.lemmas.List.Elements.{filter-append}
+use Rattle.std.proofs.lemmas.List.Folds.{list_any-append}
 use Rattle.step_history.specs.declared.item.Item.{Item}
 use Rattle.step_history.specs.declared.item.Deed.{Deed}
-use Rattle.step_history.specs.History.{Name, of, value_at, value_from, value_after, holder, holder_from, holder_after, Fits, LegalAfter, Legal}
+use Rattle.step_history.specs.History.{Name, name_eq, item, of, value_at, value_from, value_after, holder, holder_from, holder_after, is_split, is_home, was_split, came_home, is_out, Fits, LegalAfter, Legal}
+use Rattle.step_history.proofs.Names.{is_same_name, other_name}
 
-pub value_from-append : (word : ℕ) (xs ys : List Item) (value : ℕ)
-    → value_from word (xs ++ ys) value ≡ value_from word ys (value_from word xs value)
+value_from-append : (word : ℕ) (xs ys : List Item) (value : ℕ) → value_from word (xs ++ ys) value ≡ value_from word ys (value_from word xs value)
 value_from-append word [] ys value = refl
 value_from-append word (x ∷ xs) ys value = value_from-append word xs ys (value_after word x.deed value)
 
-pub holder_from-append : (mutex : ℕ) (xs ys : List Item) (owner : Option Name)
-    → holder_from mutex (xs ++ ys) owner ≡ holder_from mutex ys (holder_from mutex xs owner)
+pub value_more : (word : ℕ) (log : List Item) (x : Item) → value_at word (log ++ x ∷ []) ≡ value_after word x.deed (value_at word log)
+value_more word log x = value_from-append word log (x ∷ []) 0
+
+pub holder_from-append : (mutex : ℕ) (xs ys : List Item) (owner : Option Name) → holder_from mutex (xs ++ ys) owner ≡ holder_from mutex ys (holder_from mutex xs owner)
 holder_from-append mutex [] ys owner = refl
 holder_from-append mutex (x ∷ xs) ys owner = holder_from-append mutex xs ys (holder_after mutex x.name x.deed owner)
 
--- what is legal after xs and begins with ys, goes on legally after both
-pub legal_after-rest : (before xs ys : List Item) → LegalAfter before (xs ++ ys) → LegalAfter (before ++ xs) ys
-legal_after-rest before [] ys legal = let P : List Item → Type 0 = λ h. LegalAfter h ys in subst P (sym (append-nil before)) legal
-legal_after-rest before (x ∷ xs) ys legal = 
+pub holder_more : (mutex : ℕ) (log : List Item) (x : Item) → holder mutex (log ++ x ∷ []) ≡ holder_after mutex x.name x.deed (holder mutex log)
+holder_more mutex log x = holder_from-append mutex log (x ∷ []) None
+
+-- what is legal after a list and begins with xs, goes on legally after both
+pub legal_rest : (before xs ys : List Item) → LegalAfter before (xs ++ ys) → LegalAfter (before ++ xs) ys
+legal_rest before [] ys legal = let P : List Item → Type 0 = λ h. LegalAfter h ys in subst P (sym (append-nil before)) legal
+legal_rest before (x ∷ xs) ys legal =
     let P : List Item → Type 0 = λ h. LegalAfter h ys in
-    subst P (append_assoc before (x ∷ []) xs) (legal_after-rest (before ++ x ∷ []) xs ys legal.1)
+    subst P (append_assoc before (x ∷ []) xs) (legal_rest (before ++ x ∷ []) xs ys legal.1)
+
+legal_after_more : (before xs : List Item) (x : Item) → LegalAfter before xs → Fits (before ++ xs) x → LegalAfter before (xs ++ x ∷ [])
+legal_after_more before [] x legal fits = let P : List Item → Type 0 = λ h. Fits h x in (subst P (append-nil before) fits, tt)
+legal_after_more before (y ∷ ys) x legal fits =
+    let P : List Item → Type 0 = λ h. Fits h x in
+    (legal.0, legal_after_more (before ++ y ∷ []) ys x legal.1 (subst P (sym (append_assoc before (y ∷ []) ys)) fits))
+
+pub legal_more : (log : List Item) (x : Item) → Legal log → Fits log x → Legal (log ++ x ∷ [])
+legal_more log x legal fits = legal_after_more [] log x legal fits
+
+pub of-append : (name : Name) (xs ys : List Item) → of name (xs ++ ys) ≡ of name xs ++ of name ys
+of-append name xs ys = filter-append (λ (x : Item). name_eq x.name name) xs ys
+
+pub of_own : (name : Name) (deed : Deed) → of name (item name deed ∷ []) ≡ item name deed ∷ []
+of_own name deed = ap (λ (b : Bool). cond b (item name deed ∷ []) []) (is_same_name name)
+
+pub of_other : (name other : Name) (deed : Deed) → (other ≡ name → ⊥) → of name (item other deed ∷ []) ≡ []
+of_other name other deed apart = ap (λ (b : Bool). cond b (item other deed ∷ []) []) (other_name other name apart)
+
+or_false : (b : Bool) → (b || false) ≡ b
+or_false true = refl
+or_false false = refl
+
+pub was_split_more : (p : Name) (k : ℕ) (log : List Item) (x : Item) → was_split p k (log ++ x ∷ []) ≡ (was_split p k log || (name_eq x.name p && is_split k x.deed))
+was_split_more p k log x =
+    list_any-append (λ (y : Item). name_eq y.name p && is_split k y.deed) log (x ∷ [])
+    ∙ ap (λ (b : Bool). was_split p k log || b) (or_false (name_eq x.name p && is_split k x.deed))
+
+pub came_home_more : (p : Name) (k : ℕ) (log : List Item) (x : Item) → came_home p k (log ++ x ∷ []) ≡ (came_home p k log || (name_eq x.name p && is_home k x.deed))
+came_home_more p k log x =
+    list_any-append (λ (y : Item). name_eq y.name p && is_home k y.deed) log (x ∷ [])
+    ∙ ap (λ (b : Bool). came_home p k log || b) (or_false (name_eq x.name p && is_home k x.deed))
