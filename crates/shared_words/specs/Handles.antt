@@ -1,0 +1,32 @@
+-- What a contract sees of the words and of a hand.
+use Rattle.std.specs.Prelude.{◌≡◌, ℕ, Bool, true, false, List, [], ◌∷◌}
+use Rattle.atomic_table.specs.Seated.{TableId}
+use Rattle.shared_words.specs.declared.view.View.{View}
+use Rattle.shared_words.specs.Views.{IsAtRest, spent}
+
+-- its table, whether it is there, and what it knows
+pub record HandValue : Type 0 where
+  pub table : TableId
+  pub there : Bool
+  pub view : View
+
+abbrev pub is_there : List View → Bool
+is_there [] = false
+is_there (v ∷ vs) = true
+
+abbrev pub view_in : List View → View
+view_in [] = spent
+view_in (v ∷ vs) = v
+
+-- at most one view, of a hand that isn't in the middle of a call
+abbrev pub ThereAtRest : List View → Type 0
+ThereAtRest [] = Unit {0}
+ThereAtRest (v ∷ []) = IsAtRest v
+ThereAtRest (v ∷ w ∷ vs) = ⊥
+
+abbrev pub hand_with : TableId → View → HandValue
+hand_with table view = record { table = table; there = true; view = view }
+
+-- the same hand with another view
+abbrev pub with_view : HandValue → View → HandValue
+with_view hand view = hand_with hand.table view
