@@ -2,7 +2,7 @@
 use Rattle.std.specs.Prelude.{◌≡◌, ℕ, Bool, true, false, List, [], ◌∷◌}
 use Rattle.atomic_table.specs.Seated.{TableId}
 use Rattle.shared_words.specs.declared.view.View.{View}
-use Rattle.shared_words.specs.Views.{IsAtRest, spent}
+use Rattle.shared_words.specs.Views.{IsAtRest, spent, number_of}
 
 -- its table, whether it is there, and what it knows
 pub record HandValue : Type 0 where
@@ -30,3 +30,20 @@ hand_with table view = record { table = table; there = true; view = view }
 -- the same hand with another view
 abbrev pub with_view : HandValue → View → HandValue
 with_view hand view = hand_with hand.table view
+
+-- which table it is, and how many elements and mutexes it has
+pub record WordsValue : Type 0 where
+  pub table : TableId
+  pub elements : ℕ
+  pub locks : ℕ
+
+-- the hand is there, and was made with the words or split from a hand that belongs to them
+pub record Belongs (hand : HandValue) (words : WordsValue) : Type 0 where
+  pub table : hand.table ≡ words.table
+  pub there : hand.there ≡ true
+
+-- the other hand was split from this one and not joined, holds no mutex, and all that were split from it are joined
+pub record IsHome (hand other : HandValue) : Type 0 where
+  pub split : other.view.name ≡ number_of other.view.name ∷ hand.view.name
+  pub holds_none : other.view.held ≡ []
+  pub none_out : other.view.out ≡ []

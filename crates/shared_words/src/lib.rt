@@ -4,6 +4,8 @@
 mod hand;
 mod rule;
 mod view;
+mod words;
 
 pub use hand::Hand;
 pub use view::View;
+pub use words::{Closed, Words};

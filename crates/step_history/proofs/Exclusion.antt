@@ -5,7 +5,7 @@ use Rattle.step_history.specs.declared.item.Item.{Item}
 use Rattle.step_history.specs.declared.item.Deed.{Deed}
 use Rattle.step_history.specs.declared.item.Deed.TheVariants.{Read, Write, Lock, Unlock, Split, Home}
 use Rattle.step_history.specs.History.{Name, item, holder, holder_after, Fits, FitsDeed, LegalAfter, Legal}
-use Rattle.step_history.proofs.Folds.{holder_from-append, legal_rest}
+use Rattle.step_history.proofs.Folds.{holder_more, legal_rest}
 
 -- the mutex that it has stays with a hand over a deed that fits, unless it unlocks it
 data Keeps (mutex : ℕ) (owner : Name) (name : Name) (deed : Deed) : Type 0 where
@@ -53,7 +53,7 @@ unlocked_between mutex owner second before (x ∷ mid) after has legal =
     let fits = legal.0 in
     elim (kept mutex owner x.name before has x.deed fits.fits) [
       | stays same ↦
-          let now : holder mutex (before ++ x ∷ []) ≡ Some owner = holder_from-append mutex before (x ∷ []) None ∙ (ap (holder_after mutex x.name x.deed) has ∙ same) in
+          let now : holder mutex (before ++ x ∷ []) ≡ Some owner = holder_more mutex before x ∙ (ap (holder_after mutex x.name x.deed) has ∙ same) in
           later x mid (item owner (Unlock mutex)) (unlocked_between mutex owner second (before ++ x ∷ []) mid after now legal.1)
       | leaves is ↦ here x mid (item owner (Unlock mutex)) is
     ]
@@ -64,5 +64,13 @@ exclusion before mid after first second mutex legal =
     let rest = legal_rest [] before (item first (Lock mutex) ∷ (mid ++ item second (Lock mutex) ∷ after)) legal in
     let is_mutex : (mutex == mutex) ≡ true = eq-eqb mutex mutex refl in
     let now : holder mutex (before ++ item first (Lock mutex) ∷ []) ≡ Some first =
-        holder_from-append mutex before (item first (Lock mutex) ∷ []) None ∙ ap (λ (b : Bool). cond b (Some first) (holder mutex before)) is_mutex in
+        holder_more mutex before (item first (Lock mutex)) ∙ ap (λ (b : Bool). cond b (Some first) (holder mutex before)) is_mutex in
     unlocked_between mutex first second (before ++ item first (Lock mutex) ∷ []) mid after now rest.1
+
+-- who holds a mutex holds it over another's step
+pub holder_stays : (mutex : ℕ) (owner : Name) (log : List Item) (x : Item) → holder mutex log ≡ Some owner → FitsDeed log x.name x.deed
+    → (x.name ≡ owner → ⊥) → holder mutex (log ++ x ∷ []) ≡ Some owner
+holder_stays mutex owner log x has fits apart = holder_more mutex log x ∙ (ap (holder_after mutex x.name x.deed) has ∙ elim (kept mutex owner x.name log has x.deed fits) [
+  | stays same ↦ same
+  | leaves is ↦ absurd (apart (ap (λ (y : Item). y.name) is))
+])
