@@ -1,2 +1,4 @@
 pub mod Advance
 pub mod Seats
+pub mod Steps
+pub mod WordList

@@ -37,7 +37,7 @@ impl Hand {
         requires { self.old.there ≡ true }
         ensures table { result.table_id ≡ self.old.table }
         ensures view { result.me ≡ (self.old.view, []) }
-        ensures rests { IsAtRest self.old.view }
+        ensures rests { IsAtRest result.me.0 }
     {
         mem::replace(&mut self.badge, Badge::blank()).into_seat()
     }

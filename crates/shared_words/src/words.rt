@@ -44,7 +44,7 @@ impl Model for Words {
 
     ghost view = { λ w. record { table = w.table.shared.table_id; elements = vec_len w.room; locks = w.locks } };
 
-    ghost invariant = { λ w. (w.table.shared.table_id.words ≡ ELEMENTS + vec_len w.room) × (w.table.shared.key ≡ vec_len w.room) × (w.locks ≤ 64) × (vec_len w.room ≤ 1048576) };
+    ghost invariant = { λ w. (w.table.shared.table_id.words ≡ ELEMENTS + vec_len w.room) × (w.table.shared.key ≡ vec_len w.room) × (w.table.shared.table_id.slots ≡ 0) × (w.locks ≤ 64) × (vec_len w.room ≤ 1048576) };
 }
 
 impl Words {
