@@ -1,4 +1,7 @@
 pub mod Advance
+pub mod Beginning
+pub mod Joining
 pub mod Seats
+pub mod Splitting
 pub mod Steps
 pub mod WordList

@@ -1,0 +1,1 @@
+-- How a table begins, and how it ends.

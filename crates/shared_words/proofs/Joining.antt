@@ -1,0 +1,1 @@
+-- A homecoming keeps the rule.
