@@ -1,5 +1,6 @@
 pub mod Advance
 pub mod Beginning
+pub mod Ending
 pub mod Joining
 pub mod Seats
 pub mod Splitting

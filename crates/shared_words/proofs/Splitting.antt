@@ -156,7 +156,7 @@ and_true : (a b : Bool) → a ≡ true → b ≡ true → (a && b) ≡ true
 and_true true b one other = other
 and_true false b one other = cc
 
-not_itself : (k : ℕ) (p : Name) → p ≡ k ∷ p → ⊥
+pub not_itself : (k : ℕ) (p : Name) → p ≡ k ∷ p → ⊥
 not_itself k p same = let longer : length p ≡ length (k ∷ p) = ap length same in omega arith
 
 never_home : (n : Name) → (name_eq n n && false) ≡ false

@@ -1,5 +1,6 @@
 //! Shared words, on one table.
-ghost use Rattle.std.specs.Prelude.{◌≡◌, ◌+◌, ◌<◌, ◌≤◌, ◌∷◌, [], length, Contains, IfOk, vec_len};
+ghost use Rattle.std.specs.Prelude.{◌≡◌, ◌+◌, ◌<◌, ◌≤◌, ◌∷◌, [], length, slice_index, Contains, EachIndex, IfOk, vec_len};
+ghost use Rattle.core.specs.Mem.Slots.{slots_items, slots_len, IsFull};
 ghost use Rattle.step_history.specs.History.{HasHistory};
 ghost use Rattle.step_history.specs.declared.item.Deed.TheVariants.{Read, Write};
 ghost use Rattle.shared_words.specs.Handles.{WordsValue, Belongs, IsHome, hand_with, with_view};
@@ -31,6 +32,17 @@ pub struct Words {
     // Where the values go at the end.
     room: Vec<u64>,
     locks: usize,
+}
+
+// The values of the elements.
+fn copy_elements(closed: &atomic_table::Closed<(), Global>, room: &mut [u64])
+    requires full { IsFull closed.now.words }
+    requires long { ELEMENTS + length room.old ≤ slots_len closed.now.words }
+    ensures { EachIndex room.new (λ k. slice_index room.new k ≡ slice_index (slots_items closed.now.words) (ELEMENTS + k)) }
+{
+    for (i, word) in room.iter_mut().enumerate() {
+        *word = closed.word(FIRST_ELEMENT + i);
+    }
 }
 
 /// What the words were at the end.
@@ -153,9 +165,7 @@ impl Words {
             locks: _,
         } = self;
         let closed = table.close_with(hand.take());
-        for (i, word) in room.iter_mut().enumerate() {
-            *word = closed.word(FIRST_ELEMENT + i);
-        }
+        copy_elements(&closed, &mut room);
         closed.free();
         Closed { words: room }
     }
