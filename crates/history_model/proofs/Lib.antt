@@ -1,3 +1,4 @@
 pub mod Counting
 pub mod Labelled
 pub mod LabelledWork
+pub mod WorkNames
