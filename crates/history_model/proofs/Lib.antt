@@ -1,4 +1,6 @@
 pub mod Counting
 pub mod Labelled
 pub mod LabelledWork
+pub mod TimedWork
+pub mod Windows
 pub mod WorkNames
