@@ -88,24 +88,25 @@ module _ (history : List Marked) where
     pub began : done name start ≤ length before
     pub ended : length before + length (labelled_of name items) ≤ done name end
 
-  pub record Halves (name : Name) (k first second : ℕ) (one other before after : List Marked) (start end : ℕ) : Type 0 where
+  pub record Halves (name : Name) (k next first second : ℕ) (one other before after : List Marked) (start end : ℕ) : Type 0 where
     pub middle : ℕ
     pub left : Window name k first one before (labelled_of name other ++ after) start middle
-    pub right : Window name (k + first) second other (before ++ labelled_of name one) after middle end
+    pub right : Window name next second other (before ++ labelled_of name one) after middle end
     pub number : done name middle ≡ length before + length (labelled_of name one)
 
   -- a window falls into two where its items do
-  pub halves : (name : Name) (k first second : ℕ) (one other before after : List Marked) (start end : ℕ) → Window name k (first + second) (one ++ other) before after start end
-      → SplitsBelow name (labelled_of name one) (k + first)
-      → ((pre : Name) (j : ℕ) → j < k + first → labelled_of (pre ++ j ∷ name) other ≡ [])
-      → ((pre : Name) (j : ℕ) → k + first ≤ j → labelled_of (pre ++ j ∷ name) one ≡ [])
-      → Halves name k first second one other before after start end
-  halves name k first second one other before after start end w mine_below none_later none_before = record {
+  pub halves : (name : Name) (k next first second count : ℕ) (one other before after : List Marked) (start end : ℕ) → k + first ≡ next → first + second ≡ count
+      → Window name k count (one ++ other) before after start end
+      → SplitsBelow name (labelled_of name one) next
+      → ((pre : Name) (j : ℕ) → j < next → labelled_of (pre ++ j ∷ name) other ≡ [])
+      → ((pre : Name) (j : ℕ) → next ≤ j → labelled_of (pre ++ j ∷ name) one ≡ [])
+      → Halves name k next first second one other before after start end
+  halves name k next first second count one other before after start end next_is count_is w mine_below none_later none_before = record {
     middle = c.place;
     left = record {
       own = w.own ∙ ap (λ (xs : List Marked). before ++ xs) (ap (λ (xs : List Marked). xs ++ after) parts ∙ append_assoc (labelled_of name one) (labelled_of name other) after);
       below = λ pre j low high. w.below pre j low (omega arith) ∙ of_append (pre ++ j ∷ name) one other
-          ∙ ap (λ (xs : List Marked). labelled_of (pre ++ j ∷ name) one ++ xs) (none_later pre j high) ∙ append-nil (labelled_of (pre ++ j ∷ name) one);
+          ∙ ap (λ (xs : List Marked). labelled_of (pre ++ j ∷ name) one ++ xs) (none_later pre j (omega arith)) ∙ append-nil (labelled_of (pre ++ j ∷ name) one);
       fresh = w.fresh;
       ordered = c.after;
       began = w.began;
@@ -117,7 +118,7 @@ module _ (history : List Marked) where
           ∙ sym (append_assoc before (labelled_of name one) (labelled_of name other ++ after));
       below = λ pre j low high. w.below pre j (omega arith) (omega arith) ∙ of_append (pre ++ j ∷ name) one other
           ∙ ap (λ (xs : List Marked). xs ++ labelled_of (pre ++ j ∷ name) other) (none_before pre j low);
-      fresh = splits_below-append name before (labelled_of name one) (k + first) (splits_below-up name before k (k + first) (omega arith) w.fresh) mine_below;
+      fresh = splits_below-append name before (labelled_of name one) next (splits_below-up name before k next (omega arith) w.fresh) mine_below;
       ordered = c.before;
       began = omega (arith, c.number, length-append before (labelled_of name one));
       ended = omega (arith, w.ended, lengths, length-append before (labelled_of name one));

@@ -46,7 +46,7 @@ splits_none name m k lane span (Beside work others) apart =
     of_none name m (Split k lane span) [] (splits_marked name (suc k) (suc lane) span others) apart ∙ splits_none name m (suc k) (suc lane) span others apart
 
 -- no hand has a name of its own below it, and hands of two numbers share no name below them
-longer : (name pre : Name) (k : ℕ) → name ≡ pre ++ k ∷ name → ⊥
+pub longer : (name pre : Name) (k : ℕ) → name ≡ pre ++ k ∷ name → ⊥
 longer name pre k same = absurd (omega (arith, ap length same, length-append pre (k ∷ name)))
 
 deeper : (name pre : Name) (k : ℕ) → pre ++ k ∷ name ≡ (pre ++ k ∷ []) ++ name

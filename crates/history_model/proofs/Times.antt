@@ -1,0 +1,206 @@
+-- A history of what the hands of a tree did gives the tree its times.
+use Rattle.std.proofs.Common.{◌≡◌, ◌⊎◌, inl, inr, refl, sym, ap, ap₂, ◌∙◌, subst, ℕ, zero, suc, ◌+◌, ◌<◌, ◌≤◌, Bool, true, false, List, [], ◌∷◌, ◌++◌, length, map, Option, Some, None, arith}
+use Rattle.std.specs.Prelude.{filter, slice_get}
+use Rattle.std.specs.Option.{option_map}
+use Rattle.std.proofs.lemmas.Bool.{cases_lt}
+use Rattle.std.proofs.lemmas.List.{append-nil, append_assoc, length-append}
+use Rattle.std.proofs.lemmas.Option.{slice_get-map, slice_get_within, same_Some}
+use Rattle.sw_base.specs.declared.path.Step.{Step}
+use Rattle.log_format.specs.declared.record.Record.{Record}
+use Rattle.log_format.specs.declared.record.Kind.{Kind}
+use Rattle.log_format.specs.declared.record.Kind.TheVariants as kind
+use Rattle.race_model.specs.Listing.{lane_of}
+use Rattle.race_model.specs.History.{Entry, entry_of}
+use Rattle.step_history.specs.declared.item.Item.{Item}
+use Rattle.step_history.specs.declared.item.Deed.{Deed}
+use Rattle.step_history.specs.declared.item.Deed.TheVariants.{Read, Write, Lock, Unlock, Split, Home}
+use Rattle.step_history.specs.History.{Name, name_eq, item, Legal}
+use Rattle.step_history.proofs.Names.{is_same_name, same_name}
+use Rattle.step_history.proofs.Order.{split_before, home_after, SplitBefore}
+use Rattle.history_model.specs.Work.{Work, Rest, Put, Fork, Phases, NoPhase, Phase, TeamWork, NoWork, Beside}
+use Rattle.history_model.specs.Did.{deeds_of, lane_count_of, phase_splits, split_count}
+use Rattle.history_model.proofs.Labelled.{labelled_of, items_of}
+use Rattle.history_model.proofs.Counting.{counted, counted_all, counted_up, counted_past, counted_over, at_count, Stands, stands}
+use Rattle.history_model.proofs.LabelledWork.{Marked, marked, entry, records_at, regions_at, splits_marked, put_marked, did_marked, phases_marked, team_marked}
+use Rattle.history_model.proofs.WorkNames.{of_append, of_none, homes_marked, splits_own, put_none, put_own, not_below, outside, phases_outside, team_outside, team_own, longer}
+use Rattle.history_model.proofs.TimedWork.{TimedWork, TimedRest, TimedPut, TimedFork, TimedPhases, TimedNone, TimedPhase, TimedTeam, TimedEmpty, TimedBeside, plain, plain_phases, plain_team, labels_of, Happened, Timing, PhasesTiming, TeamTiming, ArePhasesTimed}
+use Rattle.history_model.proofs.Windows.{There, there, get_left, get_right, get_either, SplitsBelow, splits_below-append, splits_below-up, named, done, item_at, ItemAt, at_item, Window, Halves, halves, InWindow, in_window}
+
+-- a record has no deed, and no entry; or it has one of each, and its deed is no split
+pub record OneDeed (word : ℕ → ℕ) (kind : Kind) (r : Record) (e : Entry) : Type 0 where
+  pub deed : Deed
+  pub deeds_are : deeds_of word kind r ≡ deed ∷ []
+  pub entry_is : entry_of kind e ≡ e ∷ []
+  pub no_split : (j lane span : ℕ) → deed ≡ Split j lane span → ⊥
+
+pub deed_or_none : (word : ℕ → ℕ) (kind : Kind) (r : Record) (e : Entry) → ((deeds_of word kind r ≡ []) × (entry_of kind e ≡ [])) ⊎ OneDeed word kind r e
+deed_or_none word kind.Read r e = inr (record { deed = Read (word r.addr) r.value; deeds_are = refl; entry_is = refl; no_split = λ j lane span is. cc })
+deed_or_none word kind.Write r e = inr (record { deed = Write (word r.addr) r.value; deeds_are = refl; entry_is = refl; no_split = λ j lane span is. cc })
+deed_or_none word kind.Lock r e = inr (record { deed = Lock r.addr; deeds_are = refl; entry_is = refl; no_split = λ j lane span is. cc })
+deed_or_none word kind.Unlock r e = inr (record { deed = Unlock r.addr; deeds_are = refl; entry_is = refl; no_split = λ j lane span is. cc })
+deed_or_none word kind.Barrier r e = inl (refl, refl)
+deed_or_none word kind.Region r e = inl (refl, refl)
+deed_or_none word kind.Chunk r e = inl (refl, refl)
+deed_or_none word kind.End r e = inl (refl, refl)
+
+-- the splits and joins of a phase by their numbers
+splits_length : (name : Name) (k lane span : ℕ) (team : TeamWork) → length (splits_marked name k lane span team) ≡ lane_count_of team
+splits_length name k lane span NoWork = refl
+splits_length name k lane span (Beside work others) = ap (λ (n : ℕ). suc n) (splits_length name (suc k) (suc lane) span others)
+
+homes_length : (name : Name) (k : ℕ) (team : TeamWork) → length (homes_marked name k team) ≡ lane_count_of team
+homes_length name k NoWork = refl
+homes_length name k (Beside work others) = ap (λ (n : ℕ). suc n) (homes_length name (suc k) others)
+
+split_at : (name : Name) (k lane span : ℕ) (team : TeamWork) → SplitsBelow name (splits_marked name k lane span team) (k + lane_count_of team)
+split_at name k lane span NoWork n x found j other all is = cc
+split_at name k lane span (Beside work others) zero x found j other all is =
+    let same : item name (Split k lane span) ≡ item name (Split j other all) = ap (λ (y : Marked). y.step) (same_Some (marked name (Split k lane span) []) x found) ∙ is in
+    let deeds : Split k lane span ≡ Split j other all = ap (λ (y : Item). y.deed) same in
+    let number : k ≡ j = cc in
+    omega arith
+split_at name k lane span (Beside work others) (suc n) x found j other all is = let less = split_at name (suc k) (suc lane) span others n x found j other all is in omega arith
+
+homes_no_split : (name : Name) (k : ℕ) (team : TeamWork) (l : ℕ) → SplitsBelow name (homes_marked name k team) l
+homes_no_split name k NoWork l n x found j lane span is = cc
+homes_no_split name k (Beside work others) l zero x found j lane span is =
+    let same : item name (Home k) ≡ item name (Split j lane span) = ap (λ (y : Marked). y.step) (same_Some (marked name (Home k) []) x found) ∙ is in
+    let deeds : Home k ≡ Split j lane span = ap (λ (y : Item). y.deed) same in
+    cc
+homes_no_split name k (Beside work others) l (suc n) x found j lane span is = homes_no_split name (suc k) others l n x found j lane span is
+
+home_at : (name : Name) (k : ℕ) (team : TeamWork) (n : ℕ) → n < lane_count_of team → slice_get (homes_marked name k team) n ≡ Some (marked name (Home (k + n)) [])
+home_at name k NoWork n less = absurd (omega arith)
+home_at name k (Beside work others) zero less = ap (λ (m : ℕ). Some (marked name (Home m) [])) (let e : k ≡ k + 0 = omega arith in e)
+home_at name k (Beside work others) (suc n) less = home_at name (suc k) others n (omega arith) ∙ ap (λ (m : ℕ). Some (marked name (Home m) [])) (let e : suc k + n ≡ k + suc n = omega arith in e)
+
+module _ (word : ℕ → ℕ) where
+  -- a hand's own items of a phase: its splits, then its joins
+  team_items_own : (name : Name) (k : ℕ) (path : List Step) (g span : ℕ) (put forked : ℕ → ℕ) (team : TeamWork)
+      → labelled_of name (splits_marked name k 0 span team ++ team_marked word name k path g span put forked 0 team) ≡ splits_marked name k 0 span team ++ homes_marked name k team
+  team_items_own name k path g span put forked team =
+      of_append name (splits_marked name k 0 span team) (team_marked word name k path g span put forked 0 team)
+      ∙ ap₂ (λ (xs ys : List Marked). xs ++ ys) (splits_own name k 0 span team) (team_own word name k path g span put forked 0 team)
+
+  phases_splits : (name : Name) (k : ℕ) (path : List Step) (g span : ℕ) (put forked : ℕ → ℕ) (phases : Phases) → SplitsBelow name (labelled_of name (phases_marked word name k path g span put forked phases)) (k + phase_splits phases)
+  phases_splits name k path g span put forked NoPhase = λ n x found j lane all is. cc
+  phases_splits name k path g span put forked (Phase team later) =
+      subst (λ (xs : List Marked). SplitsBelow name xs (k + phase_splits (Phase team later)))
+      (sym (of_append name (splits_marked name k 0 span team ++ team_marked word name k path g span put forked 0 team)
+      (phases_marked word name (k + lane_count_of team) path g span (λ lane. put lane + records_at lane team) (λ lane. forked lane + regions_at lane team) later)))
+      (splits_below-append name _ _ (k + phase_splits (Phase team later))
+      (subst (λ (xs : List Marked). SplitsBelow name xs (k + phase_splits (Phase team later))) (sym (team_items_own name k path g span put forked team))
+      (splits_below-append name (splits_marked name k 0 span team) (homes_marked name k team) (k + phase_splits (Phase team later))
+      (splits_below-up name (splits_marked name k 0 span team) (k + lane_count_of team) (k + phase_splits (Phase team later)) (omega arith) (split_at name k 0 span team))
+      (homes_no_split name k team (k + phase_splits (Phase team later)))))
+      (splits_below-up name _ (k + lane_count_of team + phase_splits later) (k + phase_splits (Phase team later)) (omega arith)
+      (phases_splits name (k + lane_count_of team) path g span (λ lane. put lane + records_at lane team) (λ lane. forked lane + regions_at lane team) later)))
+
+  put_no_split : (name : Name) (path : List Step) (i : ℕ) (r : Record) (k : ℕ) → SplitsBelow name (labelled_of name (put_marked word name path i r)) k
+  put_no_split name path i r k = subst (λ (xs : List Marked). SplitsBelow name xs k) (sym (put_own word name path i r)) (at (deed_or_none word r.kind r (entry path i r))) where
+    at : ((deeds_of word r.kind r ≡ []) × (entry_of r.kind (entry path i r) ≡ [])) ⊎ OneDeed word r.kind r (entry path i r) → SplitsBelow name (put_marked word name path i r) k
+    at (inl none) = subst (λ (ds : List Deed). SplitsBelow name (map (λ (d : Deed). marked name d (entry path i r ∷ [])) ds) k) (sym none.0) (λ n x found j lane span is. cc)
+    at (inr one) = subst (λ (ds : List Deed). SplitsBelow name (map (λ (d : Deed). marked name d (entry path i r ∷ [])) ds) k) (sym one.deeds_are) only
+      where
+        only : SplitsBelow name (marked name one.deed (entry path i r ∷ []) ∷ []) k
+        only zero x found j lane span is =
+            let same : one.deed ≡ Split j lane span = ap (λ (y : Item). y.deed) (ap (λ (y : Marked). y.step) (same_Some (marked name one.deed (entry path i r ∷ [])) x found) ∙ is) in
+            absurd (one.no_split j lane span same)
+        only (suc n) x found j lane span is = cc
+
+  module _ (history : List Marked) (legal : Legal (items_of history)) where
+    -- the splits from the number k on are made from `start` on, and the joins of these numbers before `end`
+    SplitsSince : Name → ℕ → ℕ → Type 0
+    SplitsSince name k start = (n j lane span : ℕ) → k ≤ j → slice_get (items_of history) n ≡ Some (item name (Split j lane span)) → start ≤ n
+
+    HomesBy : Name → ℕ → ℕ → ℕ → Type 0
+    HomesBy name k count end = (j : ℕ) → k ≤ j → j < k + count → (n : ℕ) × (n < end) × (slice_get (items_of history) n ≡ Some (item name (Home j)))
+
+    named_is : (name : Name) (x : Marked) → named history name x ≡ true → x.step.name ≡ name
+    named_is name x is = same_name x.step.name name is
+
+    -- a hand did nothing before its split, and all before its homecoming
+    nothing_before : (name : Name) (k start : ℕ) → SplitsSince name k start → done history (k ∷ name) start ≤ 0
+    unfolding SplitsSince
+    nothing_before name k start since = by_count (cases_lt 0 (done history (k ∷ name) start)) where
+      some : 0 < done history (k ∷ name) start → ⊥
+      some more = at (there (labelled_of (k ∷ name) history) 0 (omega (arith, most (named history (k ∷ name)) start history)))
+        where
+          most : {X : Type 0} (test : X → Bool) (n : ℕ) (xs : List X) → counted test n xs ≤ length (filter test xs)
+          most test zero xs = omega arith
+          most test (suc n) [] = omega arith
+          most {X} test (suc n) (x ∷ xs) = by_test (test x) refl (most test n xs) where
+            by_test : (b : Bool) → test x ≡ b → counted test n xs ≤ length (filter test xs) → counted test (suc n) (x ∷ xs) ≤ length (filter test (x ∷ xs))
+            by_test true is rest = rw is (omega arith)
+            by_test false is rest = rw is (omega arith)
+
+          at : There (labelled_of (k ∷ name) history) 0 → ⊥
+          at first = by_stand (stands (named history (k ∷ name)) history 0 first.x first.found) where
+            by_stand : Stands (named history (k ∷ name)) history 0 first.x → ⊥
+            by_stand s =
+                let split = split_before (items_of history) s.place first.x.step name k legal (item_at history s.place first.x s.found) (named_is (k ∷ name) first.x s.passes) in
+                let late : start ≤ split.place = since split.place k split.lane split.span (omega arith) split.found in
+                let none = counted_up (named history (k ∷ name)) start s.place history (omega (arith, split.before)) in
+                omega (arith, s.number)
+
+      by_count : (0 < done history (k ∷ name) start) ⊎ (done history (k ∷ name) start ≤ 0) → done history (k ∷ name) start ≤ 0
+      by_count (inl more) = absurd (some more)
+      by_count (inr none) = none
+
+    all_by : (name : Name) (k end n : ℕ) → n < end → slice_get (items_of history) n ≡ Some (item name (Home k)) → length (labelled_of (k ∷ name) history) ≤ done history (k ∷ name) end
+    all_by name k end n less home = by_count (cases_lt (done history (k ∷ name) end) (length (labelled_of (k ∷ name) history))) where
+      later : done history (k ∷ name) end < length (labelled_of (k ∷ name) history) → ⊥
+      later more = at (there (labelled_of (k ∷ name) history) (done history (k ∷ name) end) more) where
+        at : There (labelled_of (k ∷ name) history) (done history (k ∷ name) end) → ⊥
+        at t = by_stand (stands (named history (k ∷ name)) history (done history (k ∷ name) end) t.x t.found) where
+          by_stand : Stands (named history (k ∷ name)) history (done history (k ∷ name) end) t.x → ⊥
+          by_stand s =
+              let before : s.place < n = home_after (items_of history) s.place t.x.step name k legal (item_at history s.place t.x s.found) (named_is (k ∷ name) t.x s.passes) n home in
+              let over = counted_over (named history (k ∷ name)) s.place end history t.x s.found s.passes (omega arith) in
+              omega (arith, s.number)
+
+      by_count : (done history (k ∷ name) end < length (labelled_of (k ∷ name) history)) ⊎ (length (labelled_of (k ∷ name) history) ≤ done history (k ∷ name) end)
+          → length (labelled_of (k ∷ name) history) ≤ done history (k ∷ name) end
+      by_count (inl more) = absurd (later more)
+      by_count (inr le) = le
+
+    -- a record's own window
+    put_timing : (name : Name) (k : ℕ) (path : List Step) (i g : ℕ) (r : Record) (more : Work) (before after : List Marked) (start end : ℕ)
+        → Window history name k (split_count more) (put_marked word name path i r ++ did_marked word name k path (i + 1) g more) before after start end
+        → ((middle : ℕ) → Window history name k (split_count more) (did_marked word name k path (i + 1) g more) (before ++ labelled_of name (put_marked word name path i r)) after middle end
+        → Timing history path (i + 1) g middle end more)
+        → Timing history path i g start end (Put r more)
+    put_timing name k path i g r more before after start end w later = by_deed (deed_or_none word r.kind r (entry path i r))
+      where
+        h : Halves history name k k 0 (split_count more) (put_marked word name path i r) (did_marked word name k path (i + 1) g more) before after start end
+        h = halves history name k k 0 (split_count more) (split_count more) (put_marked word name path i r) (did_marked word name k path (i + 1) g more) before after start end (omega arith) (omega arith) w
+            (put_no_split name path i r k)
+            (λ pre j less. outside word name pre j k path (i + 1) g more (inl less))
+            (λ pre j le. put_none word name (pre ++ j ∷ name) path i r (λ e. longer name pre j (sym e)))
+
+        rest : Timing history path (i + 1) g h.middle end more
+        rest = later h.middle h.right
+
+        by_deed : ((deeds_of word r.kind r ≡ []) × (entry_of r.kind (entry path i r) ≡ [])) ⊎ OneDeed word r.kind r (entry path i r) → Timing history path i g start end (Put r more)
+        by_deed (inl none) = record {
+          tree = TimedPut r start start rest.tree;
+          plain_is = ap (λ (t : Work). Put r t) rest.plain_is;
+          timed = (h.middle, omega arith, subst (λ (es : List Entry). Happened history es start start) (sym none.1) (omega arith), h.left.ordered, rest.timed);
+        }
+        by_deed (inr one) = at (in_window history name k 0 (put_marked word name path i r) before (labelled_of name (did_marked word name k path (i + 1) g more) ++ after) start h.middle 0
+            (marked name one.deed (entry path i r ∷ [])) h.left first)
+          where
+            first : slice_get (labelled_of name (put_marked word name path i r)) 0 ≡ Some (marked name one.deed (entry path i r ∷ []))
+            first =
+                ap (λ (xs : List Marked). slice_get xs 0) (put_own word name path i r)
+                ∙ ap (λ (ds : List Deed). slice_get (map (λ (d : Deed). marked name d (entry path i r ∷ [])) ds) 0) one.deeds_are
+
+            at : InWindow history name start h.middle (length before + 0) (marked name one.deed (entry path i r ∷ [])) → Timing history path i g start end (Put r more)
+            at s = record {
+              tree = TimedPut r s.place (suc s.place) rest.tree;
+              plain_is = ap (λ (t : Work). Put r t) rest.plain_is;
+              timed = (h.middle, s.since, subst (λ (es : List Entry). Happened history es s.place (suc s.place)) (sym one.entry_is) (refl, label), omega (arith, s.by), rest.timed);
+            }
+              where
+                label : slice_get (labels_of history) s.place ≡ Some (entry path i r ∷ [])
+                label = slice_get-map (λ (y : Marked). y.label) history s.place ∙ ap (λ (o : Option Marked). option_map (λ (y : Marked). y.label) o) s.found
