@@ -1,5 +1,5 @@
 -- A history of what the hands of a tree did gives the tree its times.
-use Rattle.std.proofs.Common.{◌≡◌, ◌⊎◌, inl, inr, refl, sym, ap, ap₂, ◌∙◌, subst, ℕ, zero, suc, ◌+◌, ◌<◌, ◌≤◌, Bool, true, false, List, [], ◌∷◌, ◌++◌, length, map, Option, Some, None, arith}
+use Rattle.std.proofs.Common.{◌≡◌, ◌⊎◌, inl, inr, refl, sym, ap, ap₂, ◌∙◌, subst, ℕ, zero, suc, ◌+◌, ◌-◌, ◌<◌, ◌≤◌, Bool, true, false, List, [], ◌∷◌, ◌++◌, length, map, Option, Some, None, arith}
 use Rattle.std.specs.Prelude.{filter, slice_get}
 use Rattle.std.specs.Option.{option_map}
 use Rattle.std.proofs.lemmas.Bool.{cases_lt}
@@ -22,7 +22,7 @@ use Rattle.history_model.specs.Did.{deeds_of, lane_count_of, phase_splits, split
 use Rattle.history_model.proofs.Labelled.{labelled_of, items_of}
 use Rattle.history_model.proofs.Counting.{counted, counted_all, counted_up, counted_past, counted_over, at_count, Stands, stands}
 use Rattle.history_model.proofs.LabelledWork.{Marked, marked, entry, records_at, regions_at, splits_marked, put_marked, did_marked, phases_marked, team_marked}
-use Rattle.history_model.proofs.WorkNames.{of_append, of_none, homes_marked, splits_own, put_none, put_own, not_below, outside, phases_outside, team_outside, team_own, longer}
+use Rattle.history_model.proofs.WorkNames.{of_append, of_none, homes_marked, splits_own, put_none, put_own, not_below, outside, phases_outside, team_outside, team_own, longer, splits_none, apart_below, both_empty}
 use Rattle.history_model.proofs.TimedWork.{TimedWork, TimedRest, TimedPut, TimedFork, TimedPhases, TimedNone, TimedPhase, TimedTeam, TimedEmpty, TimedBeside, plain, plain_phases, plain_team, labels_of, Happened, Timing, PhasesTiming, TeamTiming, ArePhasesTimed}
 use Rattle.history_model.proofs.Windows.{There, there, get_left, get_right, get_either, SplitsBelow, splits_below-append, splits_below-up, named, done, item_at, ItemAt, at_item, Window, Halves, halves, InWindow, in_window}
 
@@ -204,3 +204,102 @@ module _ (word : ℕ → ℕ) where
               where
                 label : slice_get (labels_of history) s.place ≡ Some (entry path i r ∷ [])
                 label = slice_get-map (λ (y : Marked). y.label) history s.place ∙ ap (λ (o : Option Marked). option_map (λ (y : Marked). y.label) o) s.found
+
+    -- what is known of the lanes of a phase, from the number k on
+    record TeamWindow (name : Name) (k count : ℕ) (items : List Marked) (start end : ℕ) : Type 0 where
+      since : SplitsSince name k start
+      homes : HomesBy name k count end
+      below : (pre : Name) (j : ℕ) → k ≤ j → j < k + count → labelled_of (pre ++ j ∷ name) history ≡ labelled_of (pre ++ j ∷ name) items
+      ordered : start ≤ end
+
+    splits_since : (name : Name) (k count : ℕ) (items before after : List Marked) (start end : ℕ) → Window history name k count items before after start end → SplitsSince name k start
+    unfolding SplitsSince
+    splits_since name k count items before after start end w n j lane span le found = by_order (cases_lt n start) where
+      early : n < start → ⊥
+      early less = at (at_item history n (item name (Split j lane span)) found) where
+        at : ItemAt history n (item name (Split j lane span)) → ⊥
+        at i =
+            let is_named : named history name i.x ≡ true = ap (λ (y : Item). name_eq y.name name) i.step_is ∙ is_same_name name in
+            let over = counted_over (named history name) n start history i.x i.found is_named less in
+            let there_too : slice_get (before ++ (labelled_of name items ++ after)) (done history name n) ≡ Some i.x
+            = ap (λ (xs : List Marked). slice_get xs (done history name n)) (sym w.own) ∙ at_count (named history name) n history i.x i.found is_named in
+            let here : slice_get before (done history name n) ≡ Some i.x = get_left before (labelled_of name items ++ after) (done history name n) i.x (omega (arith, w.began)) there_too in
+            let less_too = w.fresh (done history name n) i.x here j lane span i.step_is in
+            omega arith
+
+      by_order : (n < start) ⊎ (start ≤ n) → start ≤ n
+      by_order (inl less) = absurd (early less)
+      by_order (inr le_too) = le_too
+
+    homes_by : (name : Name) (k : ℕ) (path : List Step) (g span : ℕ) (put forked : ℕ → ℕ) (team : TeamWork) (before after : List Marked) (start end : ℕ)
+        → Window history name k (lane_count_of team) (splits_marked name k 0 span team ++ team_marked word name k path g span put forked 0 team) before after start end
+        → HomesBy name k (lane_count_of team) end
+    unfolding HomesBy
+    homes_by name k path g span put forked team before after start end w j low high =
+        at (in_window history name k (lane_count_of team) items before after start end (lane_count_of team + (j - k)) (marked name (Home j) []) w found)
+      where
+        items : List Marked
+        items = splits_marked name k 0 span team ++ team_marked word name k path g span put forked 0 team
+
+        found : slice_get (labelled_of name items) (lane_count_of team + (j - k)) ≡ Some (marked name (Home j) [])
+        found =
+            ap (λ (xs : List Marked). slice_get xs (lane_count_of team + (j - k))) (team_items_own name k path g span put forked team)
+            ∙ ap (λ (n : ℕ). slice_get (splits_marked name k 0 span team ++ homes_marked name k team) (n + (j - k))) (sym (splits_length name k 0 span team))
+            ∙ get_right (splits_marked name k 0 span team) (homes_marked name k team) (j - k)
+            ∙ home_at name k team (j - k) (omega arith)
+            ∙ ap (λ (n : ℕ). Some (marked name (Home n) [])) (let e : k + (j - k) ≡ j = omega arith in e)
+
+        at : InWindow history name start end (length before + (lane_count_of team + (j - k))) (marked name (Home j) []) → (n : ℕ) × (n < end) × (slice_get (items_of history) n ≡ Some (item name (Home j)))
+        at s = (s.place, s.by, item_at history s.place (marked name (Home j) []) s.found)
+
+    -- the window of the first lane, and what is known of the others
+    module _ (name : Name) (k : ℕ) (path : List Step) (g span : ℕ) (put forked : ℕ → ℕ) (lane : ℕ) (work : Work) (others : TeamWork) (start end : ℕ)
+             (w : TeamWindow name k (lane_count_of (Beside work others)) (team_marked word name k path g span put forked lane (Beside work others)) start end) where
+      own_items : List Marked
+      own_items = did_marked word (k ∷ name) 0 (lane_of path g lane span) (put lane) (forked lane) work
+
+      other_items : List Marked
+      other_items = team_marked word name (suc k) path g span put forked (suc lane) others
+
+      -- the items of the first lane's hands, and of the others'
+      first_own : (pre : Name) → labelled_of (pre ++ k ∷ name) history ≡ labelled_of (pre ++ k ∷ name) own_items
+      unfolding own_items
+      first_own pre =
+          w.below pre k (omega arith) (omega arith)
+          ∙ of_append (pre ++ k ∷ name) own_items (marked name (Home k) [] ∷ team_marked word name (suc k) path g span put forked (suc lane) others)
+          ∙ ap (λ (xs : List Marked). labelled_of (pre ++ k ∷ name) own_items ++ xs)
+          (of_none name (pre ++ k ∷ name) (Home k) [] (team_marked word name (suc k) path g span put forked (suc lane) others) (λ e. longer name pre k (sym e))
+          ∙ team_outside word name pre k (suc k) path g span put forked (suc lane) others (inl (omega arith)))
+          ∙ append-nil (labelled_of (pre ++ k ∷ name) own_items)
+
+      others_own : (pre : Name) (j : ℕ) → suc k ≤ j → j < suc k + lane_count_of others → labelled_of (pre ++ j ∷ name) history ≡ labelled_of (pre ++ j ∷ name) other_items
+      unfolding own_items other_items
+      others_own pre j low high =
+          w.below pre j (omega arith) (omega arith)
+          ∙ of_append (pre ++ j ∷ name) own_items (marked name (Home k) [] ∷ other_items)
+          ∙ ap₂ (λ (xs ys : List Marked). xs ++ ys)
+          (not_below word (pre ++ j ∷ name) (k ∷ name) 0 (lane_of path g lane span) (put lane) (forked lane) work (λ other same. apart_below name pre other j k (λ e. absurd (omega arith)) same))
+          (of_none name (pre ++ j ∷ name) (Home k) [] other_items (λ e. longer name pre j (sym e)))
+
+      first_window : Window history (k ∷ name) 0 (split_count work) (did_marked word (k ∷ name) 0 (lane_of path g lane span) (put lane) (forked lane) work) [] [] start end
+      unfolding own_items HomesBy SplitsSince
+      first_window = record {
+        own = first_own [] ∙ sym (append-nil (labelled_of (k ∷ name) own_items));
+        below = λ pre j low high.
+            subst (λ (m : Name). labelled_of m history ≡ labelled_of m own_items) (append_assoc pre (j ∷ []) (k ∷ name)) (first_own (pre ++ j ∷ []));
+        fresh = λ n x found j l s is. cc;
+        ordered = w.ordered;
+        began = nothing_before name k start w.since;
+        ended = ended (w.homes k (omega arith) (omega arith));
+      } where
+        ended : (n : ℕ) × (n < end) × (slice_get (items_of history) n ≡ Some (item name (Home k))) → 0 + length (labelled_of (k ∷ name) own_items) ≤ done history (k ∷ name) end
+        ended (n, less, home) = let all = all_by name k end n less home in let same : length (labelled_of (k ∷ name) history) ≡ length (labelled_of (k ∷ name) own_items) = ap length (first_own []) in omega arith
+
+      others_window : TeamWindow name (suc k) (lane_count_of others) (team_marked word name (suc k) path g span put forked (suc lane) others) start end
+      unfolding other_items HomesBy SplitsSince
+      others_window = record {
+        since = λ n j l s le found. w.since n j l s (omega arith) found;
+        homes = λ j low high. w.homes j (omega arith) (omega arith);
+        below = others_own;
+        ordered = w.ordered;
+      }

@@ -26,7 +26,7 @@ of_one name d label xs = filter_yes (λ (x : Marked). name_eq x.step.name name) 
 pub of_none : (name m : Name) (d : Deed) (label : List Entry) (xs : List Marked) → (m ≡ name → ⊥) → labelled_of m (marked name d label ∷ xs) ≡ labelled_of m xs
 of_none name m d label xs apart = filter_no (λ (x : Marked). name_eq x.step.name m) (marked name d label) xs (other_name name m (λ e. apart (sym e)))
 
-both_empty : (m : Name) (xs ys : List Marked) → labelled_of m xs ≡ [] → labelled_of m ys ≡ [] → labelled_of m (xs ++ ys) ≡ []
+pub both_empty : (m : Name) (xs ys : List Marked) → labelled_of m xs ≡ [] → labelled_of m ys ≡ [] → labelled_of m (xs ++ ys) ≡ []
 both_empty m xs ys left right = of_append m xs ys ∙ ap₂ (λ (one other : List Marked). one ++ other) left right
 
 -- the joins of a phase
@@ -40,7 +40,7 @@ splits_own name k lane span (Beside work others) =
     of_one name (Split k lane span) [] (splits_marked name (suc k) (suc lane) span others)
     ∙ ap (λ (xs : List Marked). marked name (Split k lane span) [] ∷ xs) (splits_own name (suc k) (suc lane) span others)
 
-splits_none : (name m : Name) (k lane span : ℕ) (team : TeamWork) → (m ≡ name → ⊥) → labelled_of m (splits_marked name k lane span team) ≡ []
+pub splits_none : (name m : Name) (k lane span : ℕ) (team : TeamWork) → (m ≡ name → ⊥) → labelled_of m (splits_marked name k lane span team) ≡ []
 splits_none name m k lane span NoWork apart = refl
 splits_none name m k lane span (Beside work others) apart =
     of_none name m (Split k lane span) [] (splits_marked name (suc k) (suc lane) span others) apart ∙ splits_none name m (suc k) (suc lane) span others apart
@@ -52,7 +52,7 @@ longer name pre k same = absurd (omega (arith, ap length same, length-append pre
 deeper : (name pre : Name) (k : ℕ) → pre ++ k ∷ name ≡ (pre ++ k ∷ []) ++ name
 deeper name pre k = sym (append_assoc pre (k ∷ []) name)
 
-apart_below : (name pre other : Name) (j k : ℕ) → (j ≡ k → ⊥) → pre ++ j ∷ name ≡ other ++ k ∷ name → ⊥
+pub apart_below : (name pre other : Name) (j k : ℕ) → (j ≡ k → ⊥) → pre ++ j ∷ name ≡ other ++ k ∷ name → ⊥
 apart_below name pre other j k apart same =
     apart (same_from_push pre other j k (append_cancel_right (pre ++ j ∷ []) (other ++ k ∷ []) name (sym (deeper name pre j) ∙ same ∙ deeper name other k))).1
 
