@@ -303,3 +303,97 @@ module _ (word : ℕ → ℕ) where
         below = others_own;
         ordered = w.ordered;
       }
+
+    -- a phase: its window, and what is known of its lanes
+    module _ (name : Name) (k : ℕ) (path : List Step) (g span : ℕ) (put forked : ℕ → ℕ) (team : TeamWork) (later : Phases) (before after : List Marked) (start end : ℕ)
+             (w : Window history name k (phase_splits (Phase team later)) (phases_marked word name k path g span put forked (Phase team later)) before after start end) where
+      team_items : List Marked
+      team_items = splits_marked name k 0 span team ++ team_marked word name k path g span put forked 0 team
+
+      abbrev later_items : List Marked
+      later_items = phases_marked word name (k + lane_count_of team) path g span (λ lane. put lane + records_at lane team) (λ lane. forked lane + regions_at lane team) later
+
+      phase_halves : Halves history name k (k + lane_count_of team) (lane_count_of team) (phase_splits later) team_items later_items before after start end
+      unfolding team_items
+      phase_halves = halves history name k (k + lane_count_of team) (lane_count_of team) (phase_splits later) (phase_splits (Phase team later)) team_items later_items before after start end refl refl w
+          (subst (λ (xs : List Marked). SplitsBelow name xs (k + lane_count_of team)) (sym (team_items_own name k path g span put forked team))
+          (splits_below-append name (splits_marked name k 0 span team) (homes_marked name k team) (k + lane_count_of team) (split_at name k 0 span team) (homes_no_split name k team (k + lane_count_of team))))
+          (λ pre j less. phases_outside word name pre j (k + lane_count_of team) path g span _ _ later (inl less))
+          (λ pre j le. both_empty (pre ++ j ∷ name) (splits_marked name k 0 span team) (team_marked word name k path g span put forked 0 team) (splits_none name (pre ++ j ∷ name) k 0 span team (λ e. longer name pre j (sym e)))
+          (team_outside word name pre j k path g span put forked 0 team (inr le)))
+
+      team_window : TeamWindow name k (lane_count_of team) (team_marked word name k path g span put forked 0 team) start phase_halves.middle
+      unfolding team_items
+      team_window = record {
+        since = splits_since name k (lane_count_of team) team_items before (labelled_of name later_items ++ after) start phase_halves.middle phase_halves.left;
+        homes = homes_by name k path g span put forked team before (labelled_of name later_items ++ after) start phase_halves.middle phase_halves.left;
+        below = λ pre j low high. phase_halves.left.below pre j low high
+            ∙ of_append (pre ++ j ∷ name) (splits_marked name k 0 span team) (team_marked word name k path g span put forked 0 team)
+            ∙ ap (λ (xs : List Marked). xs ++ labelled_of (pre ++ j ∷ name) (team_marked word name k path g span put forked 0 team)) (splits_none name (pre ++ j ∷ name) k 0 span team (λ e. longer name pre j (sym e)));
+        ordered = phase_halves.left.ordered;
+      }
+
+      phase_timing : TeamTiming history path g span put forked 0 start phase_halves.middle team
+          → PhasesTiming history path g span (λ lane. put lane + records_at lane team) (λ lane. forked lane + regions_at lane team) phase_halves.middle end later
+          → PhasesTiming history path g span put forked start end (Phase team later)
+      phase_timing first rest = record {
+        tree = TimedPhase first.tree rest.tree;
+        plain_is = ap₂ (λ (t : TeamWork) (p : Phases). Phase t p) first.plain_is rest.plain_is;
+        timed = (phase_halves.middle, first.timed,
+            subst (λ (t : TeamWork). ArePhasesTimed history path g span (λ lane. put lane + records_at lane t) (λ lane. forked lane + regions_at lane t) phase_halves.middle end rest.tree) (sym first.plain_is) rest.timed);
+      }
+
+    -- a fork: its phases, and what comes after them
+    module _ (name : Name) (k : ℕ) (path : List Step) (i g line span : ℕ) (phases : Phases) (more : Work) (before after : List Marked) (start end : ℕ)
+             (w : Window history name k (split_count (Fork line span phases more)) (did_marked word name k path i g (Fork line span phases more)) before after start end) where
+      fork_halves : Halves history name k (k + phase_splits phases) (phase_splits phases) (split_count more)
+          (phases_marked word name k path g span (λ lane. 0) (λ lane. 0) phases) (did_marked word name (k + phase_splits phases) path (i + 1) (g + 1) more) before after start end
+      fork_halves = halves history name k (k + phase_splits phases) (phase_splits phases) (split_count more) (split_count (Fork line span phases more))
+          (phases_marked word name k path g span (λ lane. 0) (λ lane. 0) phases) (did_marked word name (k + phase_splits phases) path (i + 1) (g + 1) more) before after start end refl refl w
+          (phases_splits name k path g span (λ lane. 0) (λ lane. 0) phases)
+          (λ pre j less. outside word name pre j (k + phase_splits phases) path (i + 1) (g + 1) more (inl less))
+          (λ pre j le. phases_outside word name pre j k path g span (λ lane. 0) (λ lane. 0) phases (inr le))
+
+      fork_timing : PhasesTiming history path g span (λ lane. 0) (λ lane. 0) start fork_halves.middle phases → Timing history path (i + 1) (g + 1) fork_halves.middle end more
+          → Timing history path i g start end (Fork line span phases more)
+      fork_timing first rest = record {
+        tree = TimedFork line span start fork_halves.middle first.tree rest.tree;
+        plain_is = ap₂ (λ (p : Phases) (t : Work). Fork line span p t) first.plain_is rest.plain_is;
+        timed = (omega arith, first.timed, rest.timed);
+      }
+
+    -- each part of the tree has times within its window
+    mutual
+      pub times : (name : Name) (k : ℕ) (path : List Step) (i g : ℕ) (work : Work) (before after : List Marked) (start end : ℕ)
+          → Window history name k (split_count work) (did_marked word name k path i g work) before after start end → Timing history path i g start end work
+      times name k path i g Rest before after start end w = record { tree = TimedRest; plain_is = refl; timed = w.ordered }
+      times name k path i g (Put r more) before after start end w =
+          put_timing name k path i g r more before after start end w
+          (λ middle right. times name k path (i + 1) g more (before ++ labelled_of name (put_marked word name path i r)) after middle end right)
+      times name k path i g (Fork line span phases more) before after start end w =
+          let h = fork_halves name k path i g line span phases more before after start end w in
+          fork_timing name k path i g line span phases more before after start end w
+          (phases_times name k path g span (λ lane. 0) (λ lane. 0) phases before (labelled_of name (did_marked word name (k + phase_splits phases) path (i + 1) (g + 1) more) ++ after) start h.middle h.left)
+          (times name (k + phase_splits phases) path (i + 1) (g + 1) more (before ++ labelled_of name (phases_marked word name k path g span (λ lane. 0) (λ lane. 0) phases)) after h.middle end h.right)
+
+      phases_times : (name : Name) (k : ℕ) (path : List Step) (g span : ℕ) (put forked : ℕ → ℕ) (phases : Phases) (before after : List Marked) (start end : ℕ)
+          → Window history name k (phase_splits phases) (phases_marked word name k path g span put forked phases) before after start end → PhasesTiming history path g span put forked start end phases
+      phases_times name k path g span put forked NoPhase before after start end w = record { tree = TimedNone; plain_is = refl; timed = w.ordered }
+      phases_times name k path g span put forked (Phase team later) before after start end w =
+          let h = phase_halves name k path g span put forked team later before after start end w in
+          phase_timing name k path g span put forked team later before after start end w
+          (team_times name k path g span put forked 0 team start h.middle (team_window name k path g span put forked team later before after start end w))
+          (phases_times name (k + lane_count_of team) path g span (λ lane. put lane + records_at lane team) (λ lane. forked lane + regions_at lane team) later
+          (before ++ labelled_of name (team_items name k path g span put forked team later before after start end w)) after h.middle end h.right)
+
+      team_times : (name : Name) (k : ℕ) (path : List Step) (g span : ℕ) (put forked : ℕ → ℕ) (lane : ℕ) (team : TeamWork) (start end : ℕ)
+          → TeamWindow name k (lane_count_of team) (team_marked word name k path g span put forked lane team) start end → TeamTiming history path g span put forked lane start end team
+      team_times name k path g span put forked lane NoWork start end w = record { tree = TimedEmpty; plain_is = refl; timed = w.ordered }
+      team_times name k path g span put forked lane (Beside work others) start end w =
+          let first = times (k ∷ name) 0 (lane_of path g lane span) (put lane) (forked lane) work [] [] start end (first_window name k path g span put forked lane work others start end w) in
+          let rest = team_times name (suc k) path g span put forked (suc lane) others start end (others_window name k path g span put forked lane work others start end w) in
+          record {
+            tree = TimedBeside first.tree rest.tree;
+            plain_is = ap₂ (λ (t : Work) (o : TeamWork). Beside t o) first.plain_is rest.plain_is;
+            timed = (first.timed, rest.timed);
+          }
