@@ -6,6 +6,7 @@ use Rattle.sw_base.specs.declared.path.Step.{Step}
 use Rattle.log_format.specs.declared.record.Record.{Record}
 use Rattle.race_model.specs.Listing.{lane_of}
 use Rattle.race_model.specs.History.{Entry, entry_of}
+use Rattle.step_history.specs.History.{Name}
 use Rattle.history_model.specs.Work.{Work, Rest, Put, Fork, Phases, NoPhase, Phase, TeamWork, NoWork, Beside}
 use Rattle.history_model.proofs.LabelledWork.{Marked, entry, records_at, regions_at}
 
@@ -38,14 +39,22 @@ abbrev mutual
   plain_team TimedEmpty = NoWork
   plain_team (TimedBeside work others) = Beside (plain work) (plain_team others)
 
-abbrev pub labels_of : List Marked → List (List Entry)
-labels_of history = map (λ (x : Marked). x.label) history
-
 module _ (history : List Marked) where
+  -- all that the hand of this name records is of the task of this path
+  abbrev pub IsHandOf : Name → List Step → Type 0
+  IsHandOf name path = (n : ℕ) (x : Marked) → slice_get history n ≡ Some x → x.step.name ≡ name → (e : Entry) → x.label ≡ e ∷ [] → e.node.path ≡ path
+
+  -- one deed, with its entry and by a hand of its task
+  pub record StandsAt (e : Entry) (place : ℕ) : Type 0 where
+    pub x : Marked
+    pub found : slice_get history place ≡ Some x
+    pub label : x.label ≡ e ∷ []
+    pub hand : IsHandOf x.step.name e.node.path
+
   -- what was done in one step stands there, and what is no deed takes no time
   abbrev pub Happened : List Entry → ℕ → ℕ → Type 0
   Happened [] from until = from ≤ until
-  Happened (e ∷ more) from until = (until ≡ suc from) × (slice_get (labels_of history) from ≡ Some (e ∷ []))
+  Happened (e ∷ more) from until = (until ≡ suc from) × StandsAt e from
 
   -- the work is done in this time, with its records in their order, its phases in their order, and each lane within its phase
   abbrev mutual

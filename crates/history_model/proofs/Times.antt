@@ -23,7 +23,7 @@ use Rattle.history_model.proofs.Labelled.{labelled_of, items_of}
 use Rattle.history_model.proofs.Counting.{counted, counted_all, counted_up, counted_past, counted_over, at_count, Stands, stands}
 use Rattle.history_model.proofs.LabelledWork.{Marked, marked, entry, records_at, regions_at, splits_marked, put_marked, did_marked, phases_marked, team_marked}
 use Rattle.history_model.proofs.WorkNames.{of_append, of_none, homes_marked, splits_own, put_none, put_own, not_below, outside, phases_outside, team_outside, team_own, longer, splits_none, apart_below, both_empty}
-use Rattle.history_model.proofs.TimedWork.{TimedWork, TimedRest, TimedPut, TimedFork, TimedPhases, TimedNone, TimedPhase, TimedTeam, TimedEmpty, TimedBeside, plain, plain_phases, plain_team, labels_of, Happened, Timing, PhasesTiming, TeamTiming, ArePhasesTimed}
+use Rattle.history_model.proofs.TimedWork.{TimedWork, TimedRest, TimedPut, TimedFork, TimedPhases, TimedNone, TimedPhase, TimedTeam, TimedEmpty, TimedBeside, plain, plain_phases, plain_team, IsHandOf, StandsAt, Happened, Timing, PhasesTiming, TeamTiming, ArePhasesTimed}
 use Rattle.history_model.proofs.Windows.{There, there, get_left, get_right, get_either, SplitsBelow, splits_below-append, splits_below-up, named, done, item_at, ItemAt, at_item, Window, Halves, halves, InWindow, in_window}
 
 -- a record has no deed, and no entry; or it has one of each, and its deed is no split
@@ -74,6 +74,28 @@ home_at name k NoWork n less = absurd (omega arith)
 home_at name k (Beside work others) zero less = ap (λ (m : ℕ). Some (marked name (Home m) [])) (let e : k ≡ k + 0 = omega arith in e)
 home_at name k (Beside work others) (suc n) less = home_at name (suc k) others n (omega arith) ∙ ap (λ (m : ℕ). Some (marked name (Home m) [])) (let e : suc k + n ≡ k + suc n = omega arith in e)
 
+-- all entries of these items are of the path
+abbrev pub OfPath : List Marked → List Step → Type 0
+OfPath items path = (n : ℕ) (x : Marked) → slice_get items n ≡ Some x → (e : Entry) → x.label ≡ e ∷ [] → e.node.path ≡ path
+
+of_path-append : (xs ys : List Marked) (path : List Step) → OfPath xs path → OfPath ys path → OfPath (xs ++ ys) path
+of_path-append xs ys path left right n x found e label = at (get_either xs ys n x found) where
+  at : (slice_get xs n ≡ Some x) ⊎ ((m : ℕ) × (n ≡ length xs + m) × (slice_get ys m ≡ Some x)) → e.node.path ≡ path
+  at (inl here) = left n x here e label
+  at (inr (m, same, later)) = right m x later e label
+
+splits_path : (name : Name) (k lane span : ℕ) (team : TeamWork) (path : List Step) → OfPath (splits_marked name k lane span team) path
+splits_path name k lane span NoWork path n x found e label = cc
+splits_path name k lane span (Beside work others) path zero x found e label =
+    let none : [] ≡ e ∷ [] = ap (λ (y : Marked). y.label) (same_Some (marked name (Split k lane span) []) x found) ∙ label in cc
+splits_path name k lane span (Beside work others) path (suc n) x found e label = splits_path name (suc k) (suc lane) span others path n x found e label
+
+homes_path : (name : Name) (k : ℕ) (team : TeamWork) (path : List Step) → OfPath (homes_marked name k team) path
+homes_path name k NoWork path n x found e label = cc
+homes_path name k (Beside work others) path zero x found e label =
+    let none : [] ≡ e ∷ [] = ap (λ (y : Marked). y.label) (same_Some (marked name (Home k) []) x found) ∙ label in cc
+homes_path name k (Beside work others) path (suc n) x found e label = homes_path name (suc k) others path n x found e label
+
 module _ (word : ℕ → ℕ) where
   -- a hand's own items of a phase: its splits, then its joins
   team_items_own : (name : Name) (k : ℕ) (path : List Step) (g span : ℕ) (put forked : ℕ → ℕ) (team : TeamWork)
@@ -95,6 +117,36 @@ module _ (word : ℕ → ℕ) where
       (homes_no_split name k team (k + phase_splits (Phase team later)))))
       (splits_below-up name _ (k + lane_count_of team + phase_splits later) (k + phase_splits (Phase team later)) (omega arith)
       (phases_splits name (k + lane_count_of team) path g span (λ lane. put lane + records_at lane team) (λ lane. forked lane + regions_at lane team) later)))
+
+  -- all entries of a hand's own items are of its path
+  put_path : (name : Name) (path : List Step) (i : ℕ) (r : Record) (ds : List Deed) → OfPath (map (λ (d : Deed). marked name d (entry path i r ∷ [])) ds) path
+  put_path name path i r [] n x found e label = cc
+  put_path name path i r (d ∷ ds) zero x found e label =
+      let same : entry path i r ∷ [] ≡ e ∷ [] = ap (λ (y : Marked). y.label) (same_Some (marked name d (entry path i r ∷ [])) x found) ∙ label in
+      let entries : entry path i r ≡ e = cc in
+      ap (λ (y : Entry). y.node.path) (sym entries)
+  put_path name path i r (d ∷ ds) (suc n) x found e label = put_path name path i r ds n x found e label
+
+  phases_path : (name : Name) (k : ℕ) (path above : List Step) (g span : ℕ) (put forked : ℕ → ℕ) (phases : Phases) → OfPath (labelled_of name (phases_marked word name k path g span put forked phases)) above
+  phases_path name k path above g span put forked NoPhase = λ n x found e label. cc
+  phases_path name k path above g span put forked (Phase team later) =
+      subst (λ (xs : List Marked). OfPath xs above)
+      (sym (of_append name (splits_marked name k 0 span team ++ team_marked word name k path g span put forked 0 team)
+      (phases_marked word name (k + lane_count_of team) path g span (λ lane. put lane + records_at lane team) (λ lane. forked lane + regions_at lane team) later)))
+      (of_path-append _ _ above
+      (subst (λ (xs : List Marked). OfPath xs above) (sym (team_items_own name k path g span put forked team))
+      (of_path-append (splits_marked name k 0 span team) (homes_marked name k team) above (splits_path name k 0 span team above) (homes_path name k team above)))
+      (phases_path name (k + lane_count_of team) path above g span (λ lane. put lane + records_at lane team) (λ lane. forked lane + regions_at lane team) later))
+
+  pub own_path : (name : Name) (k : ℕ) (path : List Step) (i g : ℕ) (work : Work) → OfPath (labelled_of name (did_marked word name k path i g work)) path
+  own_path name k path i g Rest = λ n x found e label. cc
+  own_path name k path i g (Put r more) =
+      subst (λ (xs : List Marked). OfPath xs path) (sym (of_append name (put_marked word name path i r) (did_marked word name k path (i + 1) g more)))
+      (of_path-append _ _ path (subst (λ (xs : List Marked). OfPath xs path) (sym (put_own word name path i r)) (put_path name path i r (deeds_of word r.kind r))) (own_path name k path (i + 1) g more))
+  own_path name k path i g (Fork line span phases more) =
+      subst (λ (xs : List Marked). OfPath xs path)
+      (sym (of_append name (phases_marked word name k path g span (λ lane. 0) (λ lane. 0) phases) (did_marked word name (k + phase_splits phases) path (i + 1) (g + 1) more)))
+      (of_path-append _ _ path (phases_path name k path path g span (λ lane. 0) (λ lane. 0) phases) (own_path name (k + phase_splits phases) path (i + 1) (g + 1) more))
 
   put_no_split : (name : Name) (path : List Step) (i : ℕ) (r : Record) (k : ℕ) → SplitsBelow name (labelled_of name (put_marked word name path i r)) k
   put_no_split name path i r k = subst (λ (xs : List Marked). SplitsBelow name xs k) (sym (put_own word name path i r)) (at (deed_or_none word r.kind r (entry path i r))) where
@@ -165,12 +217,12 @@ module _ (word : ℕ → ℕ) where
       by_count (inr le) = le
 
     -- a record's own window
-    put_timing : (name : Name) (k : ℕ) (path : List Step) (i g : ℕ) (r : Record) (more : Work) (before after : List Marked) (start end : ℕ)
+    put_timing : (name : Name) (k : ℕ) (path : List Step) (i g : ℕ) (r : Record) (more : Work) (before after : List Marked) (start end : ℕ) → IsHandOf history name path
         → Window history name k (split_count more) (put_marked word name path i r ++ did_marked word name k path (i + 1) g more) before after start end
         → ((middle : ℕ) → Window history name k (split_count more) (did_marked word name k path (i + 1) g more) (before ++ labelled_of name (put_marked word name path i r)) after middle end
         → Timing history path (i + 1) g middle end more)
         → Timing history path i g start end (Put r more)
-    put_timing name k path i g r more before after start end w later = by_deed (deed_or_none word r.kind r (entry path i r))
+    put_timing name k path i g r more before after start end hand w later = by_deed (deed_or_none word r.kind r (entry path i r))
       where
         h : Halves history name k k 0 (split_count more) (put_marked word name path i r) (did_marked word name k path (i + 1) g more) before after start end
         h = halves history name k k 0 (split_count more) (split_count more) (put_marked word name path i r) (did_marked word name k path (i + 1) g more) before after start end (omega arith) (omega arith) w
@@ -199,11 +251,17 @@ module _ (word : ℕ → ℕ) where
             at s = record {
               tree = TimedPut r s.place (suc s.place) rest.tree;
               plain_is = ap (λ (t : Work). Put r t) rest.plain_is;
-              timed = (h.middle, s.since, subst (λ (es : List Entry). Happened history es s.place (suc s.place)) (sym one.entry_is) (refl, label), omega (arith, s.by), rest.timed);
+              timed = (h.middle, s.since, subst (λ (es : List Entry). Happened history es s.place (suc s.place)) (sym one.entry_is) (refl, stands_there), omega (arith, s.by), rest.timed);
             }
               where
-                label : slice_get (labels_of history) s.place ≡ Some (entry path i r ∷ [])
-                label = slice_get-map (λ (y : Marked). y.label) history s.place ∙ ap (λ (o : Option Marked). option_map (λ (y : Marked). y.label) o) s.found
+                stands_there : StandsAt history (entry path i r) s.place
+                stands_there = record { x = marked name one.deed (entry path i r ∷ []); found = s.found; label = refl; hand = hand }
+
+    -- a hand whose items are these records for the task of their path
+    pub hand_of : (name : Name) (path : List Step) (items : List Marked) → labelled_of name history ≡ labelled_of name items → OfPath (labelled_of name items) path → IsHandOf history name path
+    hand_of name path items same own n x found named_so e label =
+        let passes : named history name x ≡ true = ap (λ (m : Name). name_eq m name) named_so ∙ is_same_name name in
+        own (done history name n) x (ap (λ (xs : List Marked). slice_get xs (done history name n)) (sym same) ∙ at_count (named history name) n history x found passes) e label
 
     -- what is known of the lanes of a phase, from the number k on
     record TeamWindow (name : Name) (k count : ℕ) (items : List Marked) (start end : ℕ) : Type 0 where
@@ -295,6 +353,11 @@ module _ (word : ℕ → ℕ) where
         ended : (n : ℕ) × (n < end) × (slice_get (items_of history) n ≡ Some (item name (Home k))) → 0 + length (labelled_of (k ∷ name) own_items) ≤ done history (k ∷ name) end
         ended (n, less, home) = let all = all_by name k end n less home in let same : length (labelled_of (k ∷ name) history) ≡ length (labelled_of (k ∷ name) own_items) = ap length (first_own []) in omega arith
 
+      first_hand : IsHandOf history (k ∷ name) (lane_of path g lane span)
+      unfolding own_items
+      first_hand = hand_of (k ∷ name) (lane_of path g lane span) own_items (first_own [])
+          (own_path (k ∷ name) 0 (lane_of path g lane span) (put lane) (forked lane) work)
+
       others_window : TeamWindow name (suc k) (lane_count_of others) (team_marked word name (suc k) path g span put forked (suc lane) others) start end
       unfolding other_items HomesBy SplitsSince
       others_window = record {
@@ -364,17 +427,17 @@ module _ (word : ℕ → ℕ) where
 
     -- each part of the tree has times within its window
     mutual
-      pub times : (name : Name) (k : ℕ) (path : List Step) (i g : ℕ) (work : Work) (before after : List Marked) (start end : ℕ)
+      pub times : (name : Name) (k : ℕ) (path : List Step) (i g : ℕ) (work : Work) (before after : List Marked) (start end : ℕ) → IsHandOf history name path
           → Window history name k (split_count work) (did_marked word name k path i g work) before after start end → Timing history path i g start end work
-      times name k path i g Rest before after start end w = record { tree = TimedRest; plain_is = refl; timed = w.ordered }
-      times name k path i g (Put r more) before after start end w =
-          put_timing name k path i g r more before after start end w
-          (λ middle right. times name k path (i + 1) g more (before ++ labelled_of name (put_marked word name path i r)) after middle end right)
-      times name k path i g (Fork line span phases more) before after start end w =
+      times name k path i g Rest before after start end hand w = record { tree = TimedRest; plain_is = refl; timed = w.ordered }
+      times name k path i g (Put r more) before after start end hand w =
+          put_timing name k path i g r more before after start end hand w
+          (λ middle right. times name k path (i + 1) g more (before ++ labelled_of name (put_marked word name path i r)) after middle end hand right)
+      times name k path i g (Fork line span phases more) before after start end hand w =
           let h = fork_halves name k path i g line span phases more before after start end w in
           fork_timing name k path i g line span phases more before after start end w
           (phases_times name k path g span (λ lane. 0) (λ lane. 0) phases before (labelled_of name (did_marked word name (k + phase_splits phases) path (i + 1) (g + 1) more) ++ after) start h.middle h.left)
-          (times name (k + phase_splits phases) path (i + 1) (g + 1) more (before ++ labelled_of name (phases_marked word name k path g span (λ lane. 0) (λ lane. 0) phases)) after h.middle end h.right)
+          (times name (k + phase_splits phases) path (i + 1) (g + 1) more (before ++ labelled_of name (phases_marked word name k path g span (λ lane. 0) (λ lane. 0) phases)) after h.middle end hand h.right)
 
       phases_times : (name : Name) (k : ℕ) (path : List Step) (g span : ℕ) (put forked : ℕ → ℕ) (phases : Phases) (before after : List Marked) (start end : ℕ)
           → Window history name k (phase_splits phases) (phases_marked word name k path g span put forked phases) before after start end → PhasesTiming history path g span put forked start end phases
@@ -390,7 +453,7 @@ module _ (word : ℕ → ℕ) where
           → TeamWindow name k (lane_count_of team) (team_marked word name k path g span put forked lane team) start end → TeamTiming history path g span put forked lane start end team
       team_times name k path g span put forked lane NoWork start end w = record { tree = TimedEmpty; plain_is = refl; timed = w.ordered }
       team_times name k path g span put forked lane (Beside work others) start end w =
-          let first = times (k ∷ name) 0 (lane_of path g lane span) (put lane) (forked lane) work [] [] start end (first_window name k path g span put forked lane work others start end w) in
+          let first = times (k ∷ name) 0 (lane_of path g lane span) (put lane) (forked lane) work [] [] start end (first_hand name k path g span put forked lane work others start end w) (first_window name k path g span put forked lane work others start end w) in
           let rest = team_times name (suc k) path g span put forked (suc lane) others start end (others_window name k path g span put forked lane work others start end w) in
           record {
             tree = TimedBeside first.tree rest.tree;
