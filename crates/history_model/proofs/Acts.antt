@@ -155,7 +155,7 @@ module _ (history : List Marked) where
   acts_timed path i g start end (TimedFork line span from until phases more) (le, phased, timed) = (le, phased, acts_timed path (i + 1) (g + 1) until end more timed)
 
   -- time doesn't run back
-  happened_on : (es : List Entry) (from until : ℕ) → Happened history es from until → from ≤ until
+  pub happened_on : (es : List Entry) (from until : ℕ) → Happened history es from until → from ≤ until
   happened_on [] from until h = h
   happened_on (e ∷ es) from until h = omega (arith, h.0)
 

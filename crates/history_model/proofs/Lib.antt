@@ -1,4 +1,5 @@
 pub mod Acts
+pub mod ActsOrder
 pub mod Counting
 pub mod Labelled
 pub mod LabelledWork
