@@ -88,7 +88,7 @@ pub record Agree (acts : List Act) (works : List Work) : Type 0 where
   pub records : map act_record acts ≡ flat_map work_records works
   pub regions : map plain_region (act_regions acts) ≡ flat_map work_regions works
 
-records_of : (work : TimedWork) → map act_record (acts_of work) ≡ work_records (plain work)
+pub records_of : (work : TimedWork) → map act_record (acts_of work) ≡ work_records (plain work)
 records_of TimedRest = refl
 records_of (TimedPut r from until more) = ap (λ (rs : List Record). r ∷ rs) (records_of more)
 records_of (TimedFork line span from until phases more) = ap (λ (rs : List Record). region_record line span ∷ rs) (records_of more)

@@ -1,5 +1,6 @@
 pub mod Acts
 pub mod ActsOrder
+pub mod Barriers
 pub mod Counting
 pub mod Labelled
 pub mod LabelledWork
