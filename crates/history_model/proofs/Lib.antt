@@ -5,6 +5,7 @@ pub mod Counting
 pub mod Edges
 pub mod Labelled
 pub mod LabelledWork
+pub mod LaneEntries
 pub mod TaskEntries
 pub mod TimedWork
 pub mod Times

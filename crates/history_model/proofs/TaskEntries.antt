@@ -12,7 +12,7 @@ use Rattle.log_format.specs.declared.record.Kind.TheVariants as kind
 use Rattle.race_model.specs.Listing.{lane_of}
 use Rattle.race_model.specs.Trace.{path_eq, step_eq}
 use Rattle.race_model.specs.History.{Entry, entry_of, entries_from, task_entries}
-use Rattle.race_model.proofs.ForkJoinExample.{path_is}
+use Rattle.race_model.proofs.TraceLogs.{path_is}
 use Rattle.step_history.specs.declared.item.Deed.{Deed}
 use Rattle.step_history.specs.declared.item.Deed.TheVariants.{Home}
 use Rattle.step_history.specs.History.{Name}
@@ -47,13 +47,13 @@ path_other p q apart = at (path_eq p q) refl where
 pub entries_append : (q : List Step) (xs ys : List Entry) → task_entries q (xs ++ ys) ≡ task_entries q xs ++ task_entries q ys
 entries_append q xs ys = filter-append (λ (e : Entry). path_eq e.node.path q) xs ys
 
-none_of_both : (q : List Step) (xs ys : List Entry) → task_entries q xs ≡ [] → task_entries q ys ≡ [] → task_entries q (xs ++ ys) ≡ []
+pub none_of_both : (q : List Step) (xs ys : List Entry) → task_entries q xs ≡ [] → task_entries q ys ≡ [] → task_entries q (xs ++ ys) ≡ []
 none_of_both q xs ys left right = entries_append q xs ys ∙ ap₂ (λ (one other : List Entry). one ++ other) left right
 
-none_before : (q : List Step) (xs ys : List Entry) → task_entries q xs ≡ [] → task_entries q (xs ++ ys) ≡ task_entries q ys
+pub none_before : (q : List Step) (xs ys : List Entry) → task_entries q xs ≡ [] → task_entries q (xs ++ ys) ≡ task_entries q ys
 none_before q xs ys none = entries_append q xs ys ∙ ap (λ (es : List Entry). es ++ task_entries q ys) none
 
-none_after : (q : List Step) (xs ys : List Entry) → task_entries q ys ≡ [] → task_entries q (xs ++ ys) ≡ task_entries q xs
+pub none_after : (q : List Step) (xs ys : List Entry) → task_entries q ys ≡ [] → task_entries q (xs ++ ys) ≡ task_entries q xs
 none_after q xs ys none = entries_append q xs ys ∙ ap (λ (es : List Entry). task_entries q xs ++ es) none ∙ append-nil (task_entries q xs)
 
 pub one_or_none : (k : Kind) (e : Entry) → (entry_of k e ≡ []) ⊎ (entry_of k e ≡ e ∷ [])
@@ -66,7 +66,7 @@ one_or_none kind.Region e = inl refl
 one_or_none kind.Chunk e = inl refl
 one_or_none kind.End e = inl refl
 
-entry_other : (q : List Step) (k : Kind) (e : Entry) → (e.node.path ≡ q → ⊥) → task_entries q (entry_of k e) ≡ []
+pub entry_other : (q : List Step) (k : Kind) (e : Entry) → (e.node.path ≡ q → ⊥) → task_entries q (entry_of k e) ≡ []
 entry_other q k e apart = at (one_or_none k e) where
   at : (entry_of k e ≡ []) ⊎ (entry_of k e ≡ e ∷ []) → task_entries q (entry_of k e) ≡ []
   at (inl none) = ap (λ (es : List Entry). task_entries q es) none
@@ -141,7 +141,7 @@ module _ (word : ℕ → ℕ) where
         ∙ ap₂ (λ (xs ys : List Entry). xs ++ ys) (did_entries (k ∷ name) 0 (lane_of path g lane span) (put lane) (forked lane) work) (did_team_entries name (suc k) path g span put forked (suc lane) others)
 
 -- a path that isn't under another
-abbrev Apart : List Step → List Step → Type 0
+abbrev pub Apart : List Step → List Step → Type 0
 Apart q path = (rest : List Step) → q ≡ path ++ rest → ⊥
 
 apart_child : (q path : List Step) (g lane span : ℕ) → Apart q path → Apart q (lane_of path g lane span)
@@ -152,7 +152,7 @@ apart_own q path apart same = apart [] (sym same ∙ sym (append-nil path))
 
 -- nothing is recorded there for a path that isn't under its own
 mutual
-  apart_none : (q path : List Step) (i g : ℕ) (work : Work) → Apart q path → task_entries q (entries_in path i g work) ≡ []
+  pub apart_none : (q path : List Step) (i g : ℕ) (work : Work) → Apart q path → task_entries q (entries_in path i g work) ≡ []
   apart_none q path i g Rest apart = refl
   apart_none q path i g (Put r more) apart =
       none_of_both q (entry_of r.kind (entry path i r)) (entries_in path (i + 1) g more) (entry_other q r.kind (entry path i r) (apart_own q path apart)) (apart_none q path (i + 1) g more apart)
@@ -160,14 +160,14 @@ mutual
       none_of_both q (phases_entries path g span (λ lane. 0) (λ lane. 0) phases) (entries_in path (i + 1) (g + 1) more)
       (lanes_none q path g span (λ lane. 0) (λ lane. 0) phases (λ lane. apart_child q path g lane span apart)) (apart_none q path (i + 1) (g + 1) more apart)
 
-  lanes_none : (q path : List Step) (g span : ℕ) (put forked : ℕ → ℕ) (phases : Phases) → ((lane : ℕ) → Apart q (lane_of path g lane span)) → task_entries q (phases_entries path g span put forked phases) ≡ []
+  pub lanes_none : (q path : List Step) (g span : ℕ) (put forked : ℕ → ℕ) (phases : Phases) → ((lane : ℕ) → Apart q (lane_of path g lane span)) → task_entries q (phases_entries path g span put forked phases) ≡ []
   lanes_none q path g span put forked NoPhase apart = refl
   lanes_none q path g span put forked (Phase team later) apart =
       none_of_both q (team_entries path g span put forked 0 team) (phases_entries path g span (λ lane. put lane + records_at lane team) (λ lane. forked lane + regions_at lane team) later)
       (team_none q path g span put forked 0 team (λ lane le. apart lane))
       (lanes_none q path g span (λ lane. put lane + records_at lane team) (λ lane. forked lane + regions_at lane team) later apart)
 
-  team_none : (q path : List Step) (g span : ℕ) (put forked : ℕ → ℕ) (first : ℕ) (team : TeamWork) → ((lane : ℕ) → first ≤ lane → Apart q (lane_of path g lane span)) → task_entries q (team_entries path g span put forked first team) ≡ []
+  pub team_none : (q path : List Step) (g span : ℕ) (put forked : ℕ → ℕ) (first : ℕ) (team : TeamWork) → ((lane : ℕ) → first ≤ lane → Apart q (lane_of path g lane span)) → task_entries q (team_entries path g span put forked first team) ≡ []
   team_none q path g span put forked first NoWork apart = refl
   team_none q path g span put forked first (Beside work others) apart =
       none_of_both q (entries_in (lane_of path g first span) (put first) (forked first) work) (team_entries path g span put forked (suc first) others)
@@ -175,17 +175,17 @@ mutual
       (team_none q path g span put forked (suc first) others (λ lane le. apart lane (omega arith)))
 
 -- a lane is on the way to a path only where its step is the path's
-same_step : (path rest other : List Step) (step : Step) (g lane span : ℕ) → path ++ step ∷ rest ≡ lane_of path g lane span ++ other → step ≡ record { region = g; lane = lane; span = span }
+pub same_step : (path rest other : List Step) (step : Step) (g lane span : ℕ) → path ++ step ∷ rest ≡ lane_of path g lane span ++ other → step ≡ record { region = g; lane = lane; span = span }
 same_step path rest other step g lane span same =
     let tails : step ∷ rest ≡ record { region = g; lane = lane; span = span } ∷ other
     = append_cancel_left path (step ∷ rest) (record { region = g; lane = lane; span = span } ∷ other) (same ∙ append_assoc path (record { region = g; lane = lane; span = span } ∷ []) other) in
     cc
 
-longer_path : (path rest : List Step) (step : Step) → path ≡ path ++ step ∷ rest → ⊥
+pub longer_path : (path rest : List Step) (step : Step) → path ≡ path ++ step ∷ rest → ⊥
 longer_path path rest step same = absurd (omega (arith, ap length same, length-append path (step ∷ rest)))
 
 -- what the task itself records
-own_entries : (path : List Step) (i g : ℕ) (work : Work) → task_entries path (entries_in path i g work) ≡ entries_from path i (work_records work)
+pub own_entries : (path : List Step) (i g : ℕ) (work : Work) → task_entries path (entries_in path i g work) ≡ entries_from path i (work_records work)
 own_entries path i g Rest = refl
 own_entries path i g (Put r more) =
     entries_append path (entry_of r.kind (entry path i r)) (entries_in path (i + 1) g more)
@@ -197,11 +197,11 @@ own_entries path i g (Fork line span phases more) =
     ∙ own_entries path (i + 1) (g + 1) more
 
 -- works one after another as one
-abbrev joined : List Work → Work
+abbrev pub joined : List Work → Work
 joined [] = Rest
 joined (work ∷ works) = then_work work (joined works)
 
-then_rest : (work : Work) → then_work work Rest ≡ work
+pub then_rest : (work : Work) → then_work work Rest ≡ work
 then_rest Rest = refl
 then_rest (Put r more) = ap (λ (w : Work). Put r w) (then_rest more)
 then_rest (Fork line span phases more) = ap (λ (w : Work). Fork line span phases w) (then_rest more)
@@ -216,7 +216,7 @@ then_regions Rest other = refl
 then_regions (Put r more) other = then_regions more other
 then_regions (Fork line span phases more) other = ap (λ (rs : List RegionWork). record { span = span; phases = phases } ∷ rs) (then_regions more other)
 
-then_entries : (path : List Step) (i g : ℕ) (work other : Work)
+pub then_entries : (path : List Step) (i g : ℕ) (work other : Work)
     → entries_in path i g (then_work work other) ≡ entries_in path i g work ++ entries_in path (i + length (work_records work)) (g + length (work_regions work)) other
 then_entries path i g Rest other = ap₂ (λ (m n : ℕ). entries_in path m n other) (let e : i ≡ i + 0 = omega arith in e) (let e : g ≡ g + 0 = omega arith in e)
 then_entries path i g (Put r more) other =
@@ -229,10 +229,10 @@ then_entries path i g (Fork line span phases more) other =
     ∙ ap₂ (λ (m n : ℕ). (phases_entries path g span (λ lane. 0) (λ lane. 0) phases ++ entries_in path (i + 1) (g + 1) more) ++ entries_in path m n other)
     (let e : i + 1 + length (work_records more) ≡ i + suc (length (work_records more)) = omega arith in e) (let e : g + 1 + length (work_regions more) ≡ g + suc (length (work_regions more)) = omega arith in e)
 
-joined_records : (works : List Work) → work_records (joined works) ≡ flat_map work_records works
+pub joined_records : (works : List Work) → work_records (joined works) ≡ flat_map work_records works
 joined_records [] = refl
 joined_records (work ∷ works) = then_records work (joined works) ∙ ap (λ (rs : List Record). work_records work ++ rs) (joined_records works)
 
-joined_regions : (works : List Work) → work_regions (joined works) ≡ flat_map work_regions works
+pub joined_regions : (works : List Work) → work_regions (joined works) ≡ flat_map work_regions works
 joined_regions [] = refl
 joined_regions (work ∷ works) = then_regions work (joined works) ∙ ap (λ (rs : List RegionWork). work_regions work ++ rs) (joined_regions works)
