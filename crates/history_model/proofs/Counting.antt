@@ -41,6 +41,14 @@ module _ {X : Type 0} (test : X → Bool) where
     by_test true is rest = let here = counted_yes n x xs is in let next = counted_yes (suc n) x xs is in omega arith
     by_test false is rest = let here = counted_no n x xs is in let next = counted_no (suc n) x xs is in omega arith
 
+  pub counted_most : (n : ℕ) (xs : List X) → counted n xs ≤ length (filter test xs)
+  counted_most zero xs = omega arith
+  counted_most (suc n) [] = omega arith
+  counted_most (suc n) (x ∷ xs) = by_test (test x) refl (counted_most n xs) where
+    by_test : (b : Bool) → test x ≡ b → counted n xs ≤ length (filter test xs) → counted (suc n) (x ∷ xs) ≤ length (filter test (x ∷ xs))
+    by_test true is rest = rw is (omega arith)
+    by_test false is rest = rw is (omega arith)
+
   pub counted_up : (m n : ℕ) (xs : List X) → m ≤ n → counted m xs ≤ counted n xs
   counted_up zero n xs le = omega arith
   counted_up (suc m) zero xs le = absurd (omega arith)
@@ -119,3 +127,20 @@ module _ {X : Type 0} (test : X → Bool) where
           let c = earlier (omega arith) (not_after less) in
           record { place = c.place; after = c.after; before = omega (arith, c.before); number = c.number }
       by_order (inr same) earlier = record { place = suc until; after = le; before = omega arith; number = omega arith }
+
+  -- an element that passes is the only one where at most one does
+  pub only_one : (xs : List X) (m n : ℕ) (x y : X) → length (filter test xs) ≤ 1 → slice_get xs m ≡ Some x → slice_get xs n ≡ Some y → test x ≡ true → test y ≡ true → m ≡ n
+  only_one xs m n x y one here there is also = by_order (cases_lt m n) where
+    apart : (i j : ℕ) (v w : X) → slice_get xs i ≡ Some v → slice_get xs j ≡ Some w → test v ≡ true → test w ≡ true → i < j → ⊥
+    apart i j v w first second passed too less =
+        let over = counted_over i j xs v first passed less in
+        let past = counted_past j xs w second too in
+        let most = counted_most (suc j) xs in
+        omega arith
+
+    by_order : (m < n) ⊎ (n ≤ m) → m ≡ n
+    by_order (inl less) = absurd (apart m n x y here there is also less)
+    by_order (inr le) = by_other (cases_lt n m) where
+      by_other : (n < m) ⊎ (m ≤ n) → m ≡ n
+      by_other (inl less) = absurd (apart n m y x there here also is less)
+      by_other (inr ge) = omega arith

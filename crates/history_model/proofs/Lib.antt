@@ -6,6 +6,7 @@ pub mod Edges
 pub mod Labelled
 pub mod LabelledWork
 pub mod LaneEntries
+pub mod Members
 pub mod TaskEntries
 pub mod TimedWork
 pub mod Times

@@ -20,7 +20,7 @@ use Rattle.step_history.proofs.Order.{split_before, home_after, SplitBefore}
 use Rattle.history_model.specs.Work.{Work, Rest, Put, Fork, Phases, NoPhase, Phase, TeamWork, NoWork, Beside}
 use Rattle.history_model.specs.Did.{deeds_of, lane_count_of, phase_splits, split_count}
 use Rattle.history_model.proofs.Labelled.{labelled_of, items_of}
-use Rattle.history_model.proofs.Counting.{counted, counted_all, counted_up, counted_past, counted_over, at_count, Stands, stands}
+use Rattle.history_model.proofs.Counting.{counted, counted_all, counted_up, counted_past, counted_over, counted_most, at_count, Stands, stands}
 use Rattle.history_model.proofs.LabelledWork.{Marked, marked, entry, records_at, regions_at, splits_marked, put_marked, did_marked, phases_marked, team_marked}
 use Rattle.history_model.proofs.WorkNames.{of_append, of_none, homes_marked, splits_own, put_none, put_own, not_below, outside, phases_outside, team_outside, team_own, longer, splits_none, apart_below, both_empty}
 use Rattle.history_model.proofs.TimedWork.{TimedWork, TimedRest, TimedPut, TimedFork, TimedPhases, TimedNone, TimedPhase, TimedTeam, TimedEmpty, TimedBeside, plain, plain_phases, plain_team, IsHandOf, StandsAt, Happened, Timing, PhasesTiming, TeamTiming, ArePhasesTimed}
@@ -176,16 +176,8 @@ module _ (word : ℕ → ℕ) where
     unfolding SplitsSince
     nothing_before name k start since = by_count (cases_lt 0 (done history (k ∷ name) start)) where
       some : 0 < done history (k ∷ name) start → ⊥
-      some more = at (there (labelled_of (k ∷ name) history) 0 (omega (arith, most (named history (k ∷ name)) start history)))
+      some more = at (there (labelled_of (k ∷ name) history) 0 (omega (arith, counted_most (named history (k ∷ name)) start history)))
         where
-          most : {X : Type 0} (test : X → Bool) (n : ℕ) (xs : List X) → counted test n xs ≤ length (filter test xs)
-          most test zero xs = omega arith
-          most test (suc n) [] = omega arith
-          most {X} test (suc n) (x ∷ xs) = by_test (test x) refl (most test n xs) where
-            by_test : (b : Bool) → test x ≡ b → counted test n xs ≤ length (filter test xs) → counted test (suc n) (x ∷ xs) ≤ length (filter test (x ∷ xs))
-            by_test true is rest = rw is (omega arith)
-            by_test false is rest = rw is (omega arith)
-
           at : There (labelled_of (k ∷ name) history) 0 → ⊥
           at first = by_stand (stands (named history (k ∷ name)) history 0 first.x first.found) where
             by_stand : Stands (named history (k ∷ name)) history 0 first.x → ⊥
