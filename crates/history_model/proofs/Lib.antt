@@ -7,6 +7,7 @@ pub mod Labelled
 pub mod LabelledWork
 pub mod LaneEntries
 pub mod Members
+pub mod Ordered
 pub mod TaskEntries
 pub mod TimedWork
 pub mod Times
