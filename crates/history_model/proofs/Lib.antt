@@ -3,9 +3,11 @@ pub mod ActsOrder
 pub mod Barriers
 pub mod Counting
 pub mod Edges
+pub mod GoodItems
 pub mod Labelled
 pub mod LabelledWork
 pub mod LaneEntries
+pub mod Legality
 pub mod Members
 pub mod Ordered
 pub mod TaskEntries
