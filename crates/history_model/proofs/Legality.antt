@@ -1,7 +1,7 @@
 -- The entries of a legal history of steps are a legal history of records, with the same last values.
 use Rattle.std.proofs.Common.{◌≡◌, ◌⊎◌, inl, inr, refl, sym, ap, ap₂, ◌∙◌, subst, ℕ, zero, suc, ◌+◌, Bool, true, false, cond, List, [], ◌∷◌, ◌++◌, length, Option, Some, None, arith}
 use Rattle.std.specs.Prelude.{slice_get, ◌==◌, if◌then◌else◌}
-use Rattle.std.proofs.lemmas.List.{append-nil, append_assoc, map-append}
+use Rattle.std.proofs.lemmas.List.{append-nil, append_assoc, map-append, length-append}
 use Rattle.sw_base.specs.declared.path.Step.{Step}
 use Rattle.log_format.specs.declared.record.Record.{Record}
 use Rattle.log_format.specs.declared.record.Kind.{Kind}
@@ -17,6 +17,7 @@ use Rattle.history_model.specs.Sound.{WordLayout}
 use Rattle.history_model.proofs.Labelled.{items_of}
 use Rattle.history_model.proofs.LabelledWork.{Marked}
 use Rattle.history_model.proofs.TaskEntries.{entries_of, entries_of-append}
+use Rattle.history_model.proofs.Windows.{get_either}
 use Rattle.history_model.proofs.GoodItems.{IsSilent, IsDeedOf, IsGood, AreGood}
 
 module _ (layout : WordLayout) where
@@ -165,3 +166,46 @@ module _ (layout : WordLayout) (history : List Marked) (good : AreGood layout hi
   fits_kind kind.Region r d path name before deeds element all_good is hand fits = tt
   fits_kind kind.Chunk r d path name before deeds element all_good is hand fits = tt
   fits_kind kind.End r d path name before deeds element all_good is hand fits = tt
+
+  good_from : (start : ℕ) (xs : List Marked) → IsFrom start xs → AreGood layout xs
+  good_from start xs is n x found = good (start + n) x (is n x found)
+
+  entries_more : (before : List Marked) (x : Marked) → entries_of (before ++ x ∷ []) ≡ entries_of before ++ x.label
+  entries_more before x = entries_of-append before (x ∷ []) ∙ ap (λ (es : List Entry). entries_of before ++ es) (append-nil x.label)
+
+  items_more : (before : List Marked) (x : Marked) → items_of (before ++ x ∷ []) ≡ items_of before ++ x.step ∷ []
+  items_more before x = map-append (λ (y : Marked). y.step) before (x ∷ [])
+
+  -- what is legal after some steps is legal after their records
+  legal_after : (before xs : List Marked) → IsFrom 0 before → IsFrom (length before) xs → IsFrom 0 (before ++ xs) → LegalAfter (items_of before) (items_of xs) → IsLegalAfter (entries_of before) (entries_of xs)
+  legal_after before [] front is all legal = tt
+  legal_after before (x ∷ xs) front is all legal =
+      at (good (length before) x here)
+      (legal_after (before ++ x ∷ []) xs front_more (λ n y found. ap (λ (k : ℕ). slice_get history k) (let e : length (before ++ x ∷ []) + n ≡ length before + suc n = omega (arith, length-append before (x ∷ [])) in e) ∙ is (suc n) y found)
+      (subst (λ (zs : List Marked). IsFrom 0 zs) (sym (append_assoc before (x ∷ []) xs)) all)
+      (subst (λ (items : List Item). LegalAfter items (items_of xs)) (sym (items_more before x)) legal.1))
+    where
+      here : slice_get history (length before) ≡ Some x
+      here = from_first (length before) x xs is
+
+      front_more : IsFrom 0 (before ++ x ∷ [])
+      front_more n y found = by_place (get_either before (x ∷ []) n y found) where
+        by_place : (slice_get before n ≡ Some y) ⊎ ((m : ℕ) × (n ≡ length before + m) × (slice_get (x ∷ []) m ≡ Some y)) → slice_get history (0 + n) ≡ Some y
+        by_place (inl earlier) = front n y earlier
+        by_place (inr (zero, same, last)) =
+            ap (λ (k : ℕ). slice_get history k) (let e : 0 + n ≡ length before = omega arith in e) ∙ here ∙ last
+        by_place (inr (suc m, same, last)) = cc
+
+      at : IsGood layout x → IsLegalAfter (entries_of (before ++ x ∷ [])) (entries_of xs) → IsLegalAfter (entries_of before) (entries_of (x ∷ xs))
+      at (inl silent) rest =
+          subst (λ (es : List Entry). IsLegalAfter (entries_of before) (es ++ entries_of xs)) (sym silent.0)
+          (subst (λ (es : List Entry). IsLegalAfter es (entries_of xs)) (entries_more before x ∙ ap (λ (es : List Entry). entries_of before ++ es) silent.0 ∙ append-nil (entries_of before)) rest)
+      at (inr d) rest =
+          subst (λ (es : List Entry). IsLegalAfter (entries_of before) (es ++ entries_of xs)) (sym d.label)
+          (fits_kind d.e.event.kind d.e.event x.step.deed d.e.node.path x.step.name before d.deeds_are d.element (good_from 0 before front) front
+          (record { place = length before; x = x; e = d.e; found = here; label = d.label; name_is = refl; path_is = refl }) legal.0.fits,
+          subst (λ (es : List Entry). IsLegalAfter es (entries_of xs)) (entries_more before x ∙ ap (λ (es : List Entry). entries_of before ++ es) d.label) rest)
+
+  pub legal_records : LegalAfter [] (items_of history) → IsLegalAfter [] (entries_of history)
+  legal_records legal = legal_after [] history (λ n x found. cc) (λ n x found. ap (λ (k : ℕ). slice_get history k) (let e : 0 + n ≡ n = omega arith in e) ∙ found)
+      (λ n x found. ap (λ (k : ℕ). slice_get history k) (let e : 0 + n ≡ n = omega arith in e) ∙ found) legal

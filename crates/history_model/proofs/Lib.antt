@@ -8,10 +8,12 @@ pub mod Labelled
 pub mod LabelledWork
 pub mod LaneEntries
 pub mod Legality
+pub mod LongerLogs
 pub mod Members
 pub mod Ordered
 pub mod TaskEntries
 pub mod TimedWork
 pub mod Times
+pub mod TreeHistory
 pub mod Windows
 pub mod WorkNames

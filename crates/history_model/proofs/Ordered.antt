@@ -92,6 +92,16 @@ marks_most x (y ∷ items) = by_label y.label refl (marks_most x items) where
         let all = ap length (filter_no (λ (z : Marked). marks x z.label) y items (ap (λ (fs : List Entry). marks x fs) is ∙ fails)) in
         omega (arith, parts)
 
+-- both lists have the same items
+pub across : (xs ys : List Marked) → ((name : Name) → labelled_of name xs ≡ labelled_of name ys) → (n : ℕ) (x : Marked) → slice_get xs n ≡ Some x → Member ys x
+across xs ys same n x found = at (stands (λ (y : Marked). name_eq y.step.name x.step.name) ys (counted (λ (y : Marked). name_eq y.step.name x.step.name) n xs) x there) where
+  there : slice_get (labelled_of x.step.name ys) (counted (λ (y : Marked). name_eq y.step.name x.step.name) n xs) ≡ Some x
+  there = ap (λ (zs : List Marked). slice_get zs (counted (λ (y : Marked). name_eq y.step.name x.step.name) n xs)) (sym (same x.step.name))
+      ∙ at_count (λ (y : Marked). name_eq y.step.name x.step.name) n xs x found (is_same_name x.step.name)
+
+  at : Stands (λ (y : Marked). name_eq y.step.name x.step.name) ys (counted (λ (y : Marked). name_eq y.step.name x.step.name) n xs) x → Member ys x
+  at s = record { place = s.place; found = s.found }
+
 module _ (items history : List Marked) (layout : WordLayout) (tree : TimedWork) (sound : IsSound layout (plain tree)) (start end : ℕ) (timed : IsTimed history [] 0 0 start end tree)
          (each : (name : Name) → labelled_of name history ≡ labelled_of name items)
          (counts : (test : Marked → Bool) → length (filter test history) ≡ length (filter test items))
@@ -105,16 +115,6 @@ module _ (items history : List Marked) (layout : WordLayout) (tree : TimedWork) 
 
   abbrev IsAct : Act → Node → Type 0
   IsAct = IsActOf history layout tree sound start end timed
-
-  -- both lists have the same items
-  across : (xs ys : List Marked) → ((name : Name) → labelled_of name xs ≡ labelled_of name ys) → (n : ℕ) (x : Marked) → slice_get xs n ≡ Some x → Member ys x
-  across xs ys same n x found = at (stands (λ (y : Marked). name_eq y.step.name x.step.name) ys (counted (λ (y : Marked). name_eq y.step.name x.step.name) n xs) x there) where
-    there : slice_get (labelled_of x.step.name ys) (counted (λ (y : Marked). name_eq y.step.name x.step.name) n xs) ≡ Some x
-    there = ap (λ (zs : List Marked). slice_get zs (counted (λ (y : Marked). name_eq y.step.name x.step.name) n xs)) (sym (same x.step.name))
-        ∙ at_count (λ (y : Marked). name_eq y.step.name x.step.name) n xs x found (is_same_name x.step.name)
-
-    at : Stands (λ (y : Marked). name_eq y.step.name x.step.name) ys (counted (λ (y : Marked). name_eq y.step.name x.step.name) n xs) x → Member ys x
-    at s = record { place = s.place; found = s.found }
 
   pub all_single : AreSingle history
   all_single n x found = let m = across history items each n x found in single m.place x m.found
