@@ -1,17 +1,16 @@
 -- The timed records of a task: its phases one after another.
-use Rattle.std.proofs.Common.{◌≡◌, ◌⊎◌, inl, inr, refl, sym, ap, ap₂, ◌∙◌, subst, ℕ, zero, suc, ◌+◌, ◌<◌, ◌≤◌, Bool, true, false, cond, List, [], ◌∷◌, ◌++◌, length, map, Option, Some, None, arith}
+use Rattle.std.proofs.Common.{◌≡◌, refl, sym, ap, ap₂, ◌∙◌, subst, ℕ, zero, suc, ◌+◌, ◌≤◌, Bool, true, false, List, [], ◌∷◌, ◌++◌, length, map, Option, Some, None, arith}
 use Rattle.std.specs.Prelude.{slice_get, if◌then◌else◌, ◌==◌}
 use Rattle.std.specs.Option.{option_map}
 use Rattle.std.specs.List.{flat_map}
-use Rattle.std.proofs.lemmas.List.{append-nil, append_assoc, length-append, map-append, length-map}
+use Rattle.std.proofs.lemmas.List.{append-nil, map-append, length-map}
 use Rattle.std.proofs.lemmas.Grind.{flat_map-append}
-use Rattle.std.proofs.lemmas.Option.{slice_get-map, same_Some}
+use Rattle.std.proofs.lemmas.Option.{slice_get-map}
 use Rattle.sw_base.specs.declared.path.Step.{Step}
 use Rattle.log_format.specs.declared.record.Record.{Record}
 use Rattle.race_model.specs.Listing.{lane_of}
-use Rattle.race_model.specs.Trace.{Logs}
 use Rattle.race_model.specs.History.{Entry, entry_of}
-use Rattle.history_model.specs.Work.{Work, Rest, Put, Fork, Phases, NoPhase, Phase, TeamWork, NoWork, Beside, RegionWork, region_record, work_records, work_regions, work_at, lane_works, works_at_region, works_at_step, works_under, works_of, task_logs}
+use Rattle.history_model.specs.Work.{Work, RegionWork, region_record, work_records, work_regions, work_at, lane_works, works_at_region, works_at_step, works_under, task_logs}
 use Rattle.history_model.proofs.LabelledWork.{Marked, entry, records_at, regions_at}
 use Rattle.history_model.proofs.TimedWork.{TimedWork, TimedRest, TimedPut, TimedFork, TimedPhases, TimedNone, TimedPhase, TimedTeam, TimedEmpty, TimedBeside, plain, plain_phases, plain_team, Happened, IsTimed, ArePhasesTimed, IsTeamTimed}
 
@@ -196,10 +195,13 @@ module _ (history : List Marked) where
       earlier (Forks line span from until phases ∷ zs) (le, phased, timed) = (omega arith, phased, timed)
   acts_both path i g start mid end (Plain r from until ∷ xs) ys (later, le, happened, by, timed) right =
       (later, le, happened, by, acts_both path (i + 1) g later mid end xs ys timed (subst (λ (n : ℕ). AreActsTimed path n (g + length (act_regions xs)) mid end ys) (let e : i + suc (length xs) ≡ i + 1 + length xs = omega arith in e) right))
-  acts_both path i g start mid end (Forks line span from until phases ∷ xs) ys (le, phased, timed) right =
-      (le, phased, acts_both path (i + 1) (g + 1) until mid end xs ys timed
-      (subst (λ (n : ℕ). AreActsTimed path n (g + 1 + length (act_regions xs)) mid end ys) (let e : i + suc (length xs) ≡ i + 1 + length xs = omega arith in e)
-      (subst (λ (n : ℕ). AreActsTimed path (i + suc (length xs)) n mid end ys) (let e : g + suc (length (act_regions xs)) ≡ g + 1 + length (act_regions xs) = omega arith in e) right)))
+  acts_both path i g start mid end (Forks line span from until phases ∷ xs) ys (le, phased, timed) right = (
+    le,
+    phased,
+    acts_both path (i + 1) (g + 1) until mid end xs ys timed
+        (subst (λ (n : ℕ). AreActsTimed path n (g + 1 + length (act_regions xs)) mid end ys) (let e : i + suc (length xs) ≡ i + 1 + length xs = omega arith in e)
+        (subst (λ (n : ℕ). AreActsTimed path (i + suc (length xs)) n mid end ys) (let e : g + suc (length (act_regions xs)) ≡ g + 1 + length (act_regions xs) = omega arith in e) right)),
+  )
 
   -- the acts of a lane
   team_acts : (path : List Step) (g span : ℕ) (put forked : ℕ → ℕ) (lane other start end : ℕ) (team : TimedTeam) → IsTeamTimed history path g span put forked lane start end team

@@ -1,5 +1,5 @@
 -- The records of a task stand in the order of their times, and each lane within the time of its fork.
-use Rattle.std.proofs.Common.{◌≡◌, ◌⊎◌, inl, inr, refl, sym, ap, ap₂, ◌∙◌, subst, ℕ, zero, suc, ◌+◌, ◌<◌, ◌≤◌, Bool, true, false, cond, List, [], ◌∷◌, ◌++◌, length, map, take, Option, Some, None, arith}
+use Rattle.std.proofs.Common.{◌≡◌, refl, sym, ap, ap₂, subst, ℕ, zero, suc, ◌+◌, ◌<◌, ◌≤◌, Bool, true, false, cond, List, [], ◌∷◌, ◌++◌, map, take, Option, Some, None, arith}
 use Rattle.std.specs.Prelude.{slice_get, if◌then◌else◌, ◌==◌, count_by}
 use Rattle.std.proofs.lemmas.List.{append-nil, append_assoc}
 use Rattle.std.proofs.lemmas.List.Sums.{sum_by-append}
@@ -7,15 +7,14 @@ use Rattle.std.proofs.lemmas.Option.{same_Some}
 use Rattle.sw_base.specs.declared.path.Step.{Step}
 use Rattle.log_format.specs.declared.record.Record.{Record}
 use Rattle.log_format.specs.declared.record.Kind.{Kind}
-use Rattle.log_format.specs.declared.record.Kind.TheVariants.{Read, Write, Lock, Unlock, Barrier, Region, Chunk, End}
+use Rattle.log_format.specs.declared.record.Kind.TheVariants.{Region}
 use Rattle.race_model.specs.Listing.{lane_of}
 use Rattle.race_model.specs.Trace.{region_count, is_region_kind}
-use Rattle.race_model.specs.History.{Entry, entry_of}
-use Rattle.history_model.specs.Work.{Work, Rest, Put, Fork, Phases, NoPhase, Phase, TeamWork, NoWork, Beside}
+use Rattle.race_model.specs.History.{entry_of}
 use Rattle.history_model.specs.Sound.{WordLayout, IsSoundRecord, IsSound, ArePhasesSound, IsTeamSound}
 use Rattle.history_model.proofs.LabelledWork.{Marked, entry}
-use Rattle.history_model.proofs.TimedWork.{TimedWork, TimedRest, TimedPut, TimedFork, TimedPhases, TimedNone, TimedPhase, TimedTeam, TimedEmpty, TimedBeside, plain, plain_phases, plain_team, Happened, ArePhasesTimed}
-use Rattle.history_model.proofs.Acts.{Act, Plain, Forks, act_record, act_from, act_until, act_lead, acts_of, TimedRegion, act_regions, acts_at, lane_acts, acts_at_region, acts_at_step, acts_under, AreActsTimed, phases_on, acts_on, happened_on, lane_timed}
+use Rattle.history_model.proofs.TimedWork.{TimedWork, TimedRest, TimedPut, TimedFork, TimedPhases, TimedNone, TimedPhase, TimedTeam, TimedEmpty, TimedBeside, plain, plain_phases, plain_team, ArePhasesTimed}
+use Rattle.history_model.proofs.Acts.{Act, Plain, Forks, act_record, act_from, act_until, acts_of, TimedRegion, act_regions, acts_at, lane_acts, acts_at_region, acts_at_step, acts_under, AreActsTimed, phases_on, acts_on, happened_on, lane_timed}
 
 pub count_cons : {X : Type 0} (test : X → Bool) (x : X) (xs : List X) → count_by test (x ∷ xs) ≡ count_by test (x ∷ []) + count_by test xs
 count_cons {X} test x xs = sum_by-append (λ (y : X). cond (test y) 1 0) (x ∷ []) xs
@@ -161,9 +160,12 @@ module _ (history : List Marked) where
       → (from : ℕ) × (until : ℕ) × ArePhasesTimed history path (g + r) region.span (λ lane. 0) (λ lane. 0) from until region.phases
   region_times path i g start end [] r region timed found = cc
   region_times path i g start end (Plain q from until ∷ acts) r region (later, le, happened, by, timed) found = region_times path (i + 1) g later end acts r region timed found
-  region_times path i g start end (Forks line span from until phases ∷ acts) zero region (le, phased, timed) found =
-      (from, until, subst (λ (t : TimedRegion). ArePhasesTimed history path (g + 0) t.span (λ lane. 0) (λ lane. 0) from until t.phases) (same_Some (record { span = span; phases = phases }) region found)
-      (subst (λ (m : ℕ). ArePhasesTimed history path m span (λ lane. 0) (λ lane. 0) from until phases) (let e : g ≡ g + 0 = omega arith in e) phased))
+  region_times path i g start end (Forks line span from until phases ∷ acts) zero region (le, phased, timed) found = (
+    from,
+    until,
+    subst (λ (t : TimedRegion). ArePhasesTimed history path (g + 0) t.span (λ lane. 0) (λ lane. 0) from until t.phases) (same_Some (record { span = span; phases = phases }) region found)
+        (subst (λ (m : ℕ). ArePhasesTimed history path m span (λ lane. 0) (λ lane. 0) from until phases) (let e : g ≡ g + 0 = omega arith in e) phased),
+  )
   region_times path i g start end (Forks line span from until phases ∷ acts) (suc r) region (le, phased, timed) found =
       at (region_times path (i + 1) (g + 1) until end acts r region timed found)
     where

@@ -1,6 +1,6 @@
 -- Where two lanes of a team pass barriers of one number, what comes after one begins when the other is reached.
-use Rattle.std.proofs.Common.{◌≡◌, ◌⊎◌, inl, inr, refl, sym, ap, ap₂, ◌∙◌, subst, ℕ, zero, suc, ◌+◌, ◌<◌, ◌≤◌, Bool, true, false, cond, List, [], ◌∷◌, ◌++◌, length, map, take, Option, Some, None, arith}
-use Rattle.std.specs.Prelude.{slice_get, count_by}
+use Rattle.std.proofs.Common.{◌≡◌, ◌⊎◌, inl, inr, refl, sym, ap, ◌∙◌, ℕ, zero, suc, ◌+◌, ◌<◌, ◌≤◌, cond, List, [], ◌∷◌, ◌++◌, length, map, take, Some, arith}
+use Rattle.std.specs.Prelude.{slice_get}
 use Rattle.std.proofs.lemmas.List.{map-append, take-append-le, take-map}
 use Rattle.std.proofs.lemmas.List.Sums.{sum_by-append}
 use Rattle.std.proofs.lemmas.Option.{same_Some, slice_get_within}
@@ -10,14 +10,14 @@ use Rattle.log_format.specs.declared.record.Kind.{Kind}
 use Rattle.log_format.specs.declared.record.Kind.TheVariants.{Barrier, Region}
 use Rattle.race_model.specs.Listing.{lane_of}
 use Rattle.race_model.specs.Trace.{barrier_count, is_barrier_kind}
-use Rattle.history_model.specs.Work.{Work, Rest, Put, Fork, Phases, NoPhase, Phase, TeamWork, NoWork, Beside, work_records}
+use Rattle.history_model.specs.Work.{Rest, NoPhase}
 use Rattle.history_model.specs.Did.{lane_count_of}
-use Rattle.history_model.specs.Sound.{WordLayout, IsSoundRecord, IsSound, ArePhasesSound, IsTeamSound, PassesBarrier}
+use Rattle.history_model.specs.Sound.{WordLayout, IsSound, ArePhasesSound, IsTeamSound, PassesBarrier}
 use Rattle.history_model.proofs.LabelledWork.{Marked, records_at, regions_at}
 use Rattle.history_model.proofs.TimedWork.{TimedWork, TimedRest, TimedPut, TimedFork, TimedPhases, TimedNone, TimedPhase, TimedTeam, TimedEmpty, TimedBeside, plain, plain_phases, plain_team, ArePhasesTimed}
-use Rattle.history_model.proofs.Windows.{get_left, get_right, get_either}
-use Rattle.history_model.proofs.Acts.{Act, Plain, Forks, act_record, act_from, act_until, acts_of, acts_at, lane_acts, AreActsTimed, phase_acts, lane_timed, records_of}
-use Rattle.history_model.proofs.ActsOrder.{Within, within}
+use Rattle.history_model.proofs.Windows.{get_right, get_either}
+use Rattle.history_model.proofs.Acts.{Act, Plain, Forks, act_record, act_from, act_until, acts_of, acts_at, lane_acts, phase_acts, lane_timed, records_of}
+use Rattle.history_model.proofs.ActsOrder.{within}
 
 abbrev barriers_in : List Act → ℕ
 barriers_in acts = barrier_count (map act_record acts)
@@ -83,7 +83,7 @@ module _ (history : List Marked) (layout : WordLayout) where
     other_in_team : other < span
 
   module _ (path : List Step) (g span : ℕ) (put forked : ℕ → ℕ) (start end : ℕ) (team : TimedTeam) (later : TimedPhases) (lane other : ℕ)
-           (timed : ArePhasesTimed history path g span put forked start end (TimedPhase team later)) (sound : ArePhasesSound layout span (plain_phases (TimedPhase team later))) where
+      (timed : ArePhasesTimed history path g span put forked start end (TimedPhase team later)) (sound : ArePhasesSound layout span (plain_phases (TimedPhase team later))) where
     met_at : ℕ
     met_at = timed.0
 

@@ -1,22 +1,21 @@
 -- What happens before a record is done before the record begins.
-use Rattle.std.proofs.Common.{◌≡◌, ◌⊎◌, inl, inr, refl, sym, ap, ap₂, ◌∙◌, subst, ℕ, zero, suc, ◌+◌, ◌<◌, ◌≤◌, Bool, true, false, cond, List, [], ◌∷◌, ◌++◌, length, map, take, Option, Some, None, arith}
+use Rattle.std.proofs.Common.{◌≡◌, ◌⊎◌, inl, inr, refl, sym, ap, ◌∙◌, subst, ℕ, zero, suc, ◌<◌, ◌≤◌, Bool, true, List, [], ◌∷◌, length, map, take, Option, Some, arith}
 use Rattle.std.specs.Prelude.{slice_get, if◌then◌else◌, ◌==◌}
 use Rattle.std.specs.Option.{option_map}
 use Rattle.std.proofs.lemmas.Option.{slice_get-map, slice_get_within, same_Some}
 use Rattle.std.proofs.lemmas.List.{length-map}
 use Rattle.sw_base.specs.declared.path.Step.{Step}
 use Rattle.log_format.specs.declared.record.Record.{Record}
-use Rattle.log_format.specs.declared.record.Kind.{Kind}
-use Rattle.log_format.specs.declared.record.Kind.TheVariants.{Barrier, Region}
+use Rattle.log_format.specs.declared.record.Kind.TheVariants.{Barrier}
 use Rattle.race_model.specs.Listing.{lane_of}
-use Rattle.race_model.specs.Trace.{Logs, Node, IsThere, HasKind, record_at, regions_before, barriers_before, region_count, barrier_count}
-use Rattle.race_model.specs.Order.{IsLane, IsNext, IsForkEdge, IsJoinEdge, IsBarrierEdge, Edge, HasEdge, HappensBefore}
-use Rattle.history_model.specs.Work.{Work, region_record, task_logs}
+use Rattle.race_model.specs.Trace.{Logs, Node, IsThere, record_at, regions_before, region_count, barrier_count}
+use Rattle.race_model.specs.Order.{IsLane, IsNext, IsForkEdge, IsJoinEdge, IsBarrierEdge, Edge, HappensBefore}
+use Rattle.history_model.specs.Work.{task_logs}
 use Rattle.history_model.specs.Sound.{WordLayout, IsSoundRecord, IsSound, ArePhasesSound}
 use Rattle.history_model.proofs.LabelledWork.{Marked}
 use Rattle.history_model.proofs.TimedWork.{TimedWork, TimedPhases, plain, plain_phases, IsTimed}
 use Rattle.history_model.proofs.Windows.{There, there}
-use Rattle.history_model.proofs.Acts.{Act, Plain, Forks, act_record, act_from, act_until, act_lead, acts_of, TimedRegion, act_regions, lane_acts, acts_at_region, acts_at_step, acts_under, acts_under-append, acts_log, AreActsTimed, acts_timed, lane_timed}
+use Rattle.history_model.proofs.Acts.{Act, Plain, Forks, act_record, act_from, act_until, act_lead, acts_of, TimedRegion, act_regions, lane_acts, acts_at_region, acts_under, acts_under-append, acts_log, acts_timed, lane_timed}
 use Rattle.history_model.proofs.ActsOrder.{AreSoundActs, sound_acts, sound_under, region_at, Within, within, in_order, PhasedAt, phased_at, HasTimes, times_under}
 use Rattle.history_model.proofs.Barriers.{barrier_order}
 

@@ -1,24 +1,18 @@
 -- What the hands of a tree of work did, each deed with the entry of its record in a history.
-use Rattle.std.proofs.Common.{◌≡◌, ◌⊎◌, inl, inr, refl, sym, ap, ap₂, ◌∙◌, subst, ℕ, zero, suc, ◌+◌, ◌<◌, ◌≤◌, Bool, true, false, cond, List, [], ◌∷◌, ◌++◌, length, map, arith}
-use Rattle.std.specs.Prelude.{filter}
+use Rattle.std.proofs.Common.{◌≡◌, refl, ap, ap₂, ◌∙◌, ℕ, suc, ◌+◌, List, [], ◌∷◌, ◌++◌, length, map}
 use Rattle.std.specs.List.{flat_map}
-use Rattle.std.proofs.lemmas.List.{map-append, append-nil, append_assoc, append_cancel_right, same_from_push, length-append}
-use Rattle.std.proofs.lemmas.List.Elements.{filter-append}
+use Rattle.std.proofs.lemmas.List.{map-append}
 use Rattle.sw_base.specs.declared.path.Step.{Step}
 use Rattle.log_format.specs.declared.record.Record.{Record}
-use Rattle.log_format.specs.declared.record.Kind.{Kind}
-use Rattle.race_model.specs.Trace.{Node}
 use Rattle.race_model.specs.Listing.{lane_of}
 use Rattle.race_model.specs.History.{Entry}
 use Rattle.step_history.specs.declared.item.Item.{Item}
 use Rattle.step_history.specs.declared.item.Deed.{Deed}
 use Rattle.step_history.specs.declared.item.Deed.TheVariants.{Split, Home}
-use Rattle.step_history.specs.History.{Name, name_eq, item}
-use Rattle.step_history.proofs.Names.{is_same_name, other_name}
+use Rattle.step_history.specs.History.{Name, item}
 use Rattle.history_model.specs.Work.{Work, Rest, Put, Fork, Phases, NoPhase, Phase, TeamWork, NoWork, Beside, work_records, work_regions, work_at}
-use Rattle.history_model.specs.Did.{deeds_of, lane_count_of, phase_splits, split_count, splits_of, did, did_phases, did_team}
-use Rattle.history_model.proofs.Labelled.{Labelled, labelled_of, items_of}
-use Rattle.history_model.proofs.Counting.{filter_yes, filter_no}
+use Rattle.history_model.specs.Did.{deeds_of, lane_count_of, phase_splits, splits_of, did, did_phases, did_team}
+use Rattle.history_model.proofs.Labelled.{Labelled, items_of}
 
 -- an item with the entry of its record, if it has one
 abbrev pub Marked : Type 0

@@ -1,5 +1,5 @@
 -- What a tree of work records for a task is what the works of the task record.
-use Rattle.std.proofs.Common.{◌≡◌, ◌≢◌, ◌⊎◌, inl, inr, refl, sym, ap, ap₂, ◌∙◌, subst, ℕ, zero, suc, ◌+◌, ◌<◌, ◌≤◌, Bool, true, false, cond, List, [], ◌∷◌, ◌++◌, length, Option, Some, None, arith}
+use Rattle.std.proofs.Common.{◌≡◌, refl, sym, ap, ap₂, ◌∙◌, subst, ℕ, zero, suc, ◌+◌, ◌<◌, Bool, true, false, List, [], ◌∷◌, ◌++◌, length, Some, arith}
 use Rattle.std.specs.Prelude.{slice_get, if◌then◌else◌, ◌==◌}
 use Rattle.std.specs.List.{flat_map}
 use Rattle.std.proofs.lemmas.List.{append-nil, append_assoc}
@@ -7,7 +7,7 @@ use Rattle.sw_base.specs.declared.path.Step.{Step}
 use Rattle.log_format.specs.declared.record.Record.{Record}
 use Rattle.race_model.specs.Listing.{lane_of}
 use Rattle.race_model.specs.History.{Entry, entry_of, entries_from, task_entries}
-use Rattle.history_model.specs.Work.{Work, Rest, Put, Fork, Phases, NoPhase, Phase, TeamWork, NoWork, Beside, RegionWork, work_records, work_regions, work_at, lane_works, works_at_region, works_at_step, works_under, works_of, task_logs, then_work}
+use Rattle.history_model.specs.Work.{Work, Rest, Put, Fork, Phases, NoPhase, Phase, TeamWork, NoWork, Beside, RegionWork, work_records, work_regions, work_at, lane_works, works_at_region, works_at_step, works_under, task_logs, then_work}
 use Rattle.history_model.proofs.LabelledWork.{entry, records_at, regions_at}
 use Rattle.history_model.proofs.TaskEntries.{entries_append, none_of_both, none_before, none_after, entry_other, entries_in, phases_entries, team_entries, Apart, apart_none, lanes_none, team_none, same_step, longer_path, own_entries, joined, then_rest, then_entries, joined_records, joined_regions}
 

@@ -1,24 +1,23 @@
 -- The entries of a legal history of steps are a legal history of records, with the same last values.
-use Rattle.std.proofs.Common.{◌≡◌, ◌⊎◌, inl, inr, refl, sym, ap, ap₂, ◌∙◌, subst, ℕ, zero, suc, ◌+◌, Bool, true, false, cond, List, [], ◌∷◌, ◌++◌, length, Option, Some, None, arith}
+use Rattle.std.proofs.Common.{◌≡◌, ◌⊎◌, inl, inr, refl, sym, ap, ◌∙◌, subst, ℕ, zero, suc, ◌+◌, Bool, true, false, List, [], ◌∷◌, ◌++◌, length, Option, Some, None, arith}
 use Rattle.std.specs.Prelude.{slice_get, ◌==◌, if◌then◌else◌}
 use Rattle.std.proofs.lemmas.List.{append-nil, append_assoc, map-append, length-append}
 use Rattle.sw_base.specs.declared.path.Step.{Step}
 use Rattle.log_format.specs.declared.record.Record.{Record}
 use Rattle.log_format.specs.declared.record.Kind.{Kind}
 use Rattle.log_format.specs.declared.record.Kind.TheVariants as kind
-use Rattle.race_model.specs.Race.{IsAccess}
-use Rattle.race_model.specs.History.{Entry, stored_after, stored_from, stored_value, owner_after, owner_from, mutex_owner, FitsKind, IsLegalAfter}
+use Rattle.race_model.specs.History.{Entry, stored_after, stored_from, owner_after, owner_from, mutex_owner, FitsKind, IsLegalAfter}
 use Rattle.step_history.specs.declared.item.Item.{Item}
 use Rattle.step_history.specs.declared.item.Deed.{Deed}
-use Rattle.step_history.specs.declared.item.Deed.TheVariants.{Read, Write, Lock, Unlock, Split, Home}
-use Rattle.step_history.specs.History.{Name, item, value_after, value_from, value_at, holder_after, holder_from, holder, FitsDeed, Fits, LegalAfter}
+use Rattle.step_history.specs.declared.item.Deed.TheVariants.{Read, Write, Lock, Unlock}
+use Rattle.step_history.specs.History.{Name, value_after, value_from, value_at, holder_after, holder_from, holder, FitsDeed, LegalAfter}
 use Rattle.history_model.specs.Did.{deeds_of}
 use Rattle.history_model.specs.Sound.{WordLayout}
 use Rattle.history_model.proofs.Labelled.{items_of}
 use Rattle.history_model.proofs.LabelledWork.{Marked}
 use Rattle.history_model.proofs.TaskEntries.{entries_of, entries_of-append}
 use Rattle.history_model.proofs.Windows.{get_either}
-use Rattle.history_model.proofs.GoodItems.{IsSilent, IsDeedOf, IsGood, AreGood}
+use Rattle.history_model.proofs.GoodItems.{IsSilent, IsGood, AreGood}
 
 module _ (layout : WordLayout) where
   -- two addresses of words are the same where their words are
@@ -69,7 +68,7 @@ module _ (layout : WordLayout) where
         ∙ ap (λ (v : ℕ). value_from (layout.word addr) (items_of xs) v) (value_step d.e.event.kind d.e.event x.step.deed addr value d.deeds_are d.element at_word)
 
 module _ (layout : WordLayout) (history : List Marked) (good : AreGood layout history)
-         (one_task : (m n : ℕ) (x y : Marked) (e f : Entry) → slice_get history m ≡ Some x → slice_get history n ≡ Some y → x.label ≡ e ∷ [] → y.label ≡ f ∷ [] → y.step.name ≡ x.step.name → f.node.path ≡ e.node.path) where
+    (one_task : (m n : ℕ) (x y : Marked) (e f : Entry) → slice_get history m ≡ Some x → slice_get history n ≡ Some y → x.label ≡ e ∷ [] → y.label ≡ f ∷ [] → y.step.name ≡ x.step.name → f.node.path ≡ e.node.path) where
   -- a task and a hand of it
   record Hand (path : List Step) (name : Name) : Type 0 where
     place : ℕ
@@ -201,10 +200,11 @@ module _ (layout : WordLayout) (history : List Marked) (good : AreGood layout hi
           subst (λ (es : List Entry). IsLegalAfter (entries_of before) (es ++ entries_of xs)) (sym silent.0)
           (subst (λ (es : List Entry). IsLegalAfter es (entries_of xs)) (entries_more before x ∙ ap (λ (es : List Entry). entries_of before ++ es) silent.0 ∙ append-nil (entries_of before)) rest)
       at (inr d) rest =
-          subst (λ (es : List Entry). IsLegalAfter (entries_of before) (es ++ entries_of xs)) (sym d.label)
-          (fits_kind d.e.event.kind d.e.event x.step.deed d.e.node.path x.step.name before d.deeds_are d.element (good_from 0 before front) front
-          (record { place = length before; x = x; e = d.e; found = here; label = d.label; name_is = refl; path_is = refl }) legal.0.fits,
-          subst (λ (es : List Entry). IsLegalAfter es (entries_of xs)) (entries_more before x ∙ ap (λ (es : List Entry). entries_of before ++ es) d.label) rest)
+          subst (λ (es : List Entry). IsLegalAfter (entries_of before) (es ++ entries_of xs)) (sym d.label) (
+            fits_kind d.e.event.kind d.e.event x.step.deed d.e.node.path x.step.name before d.deeds_are d.element (good_from 0 before front) front
+                (record { place = length before; x = x; e = d.e; found = here; label = d.label; name_is = refl; path_is = refl }) legal.0.fits,
+            subst (λ (es : List Entry). IsLegalAfter es (entries_of xs)) (entries_more before x ∙ ap (λ (es : List Entry). entries_of before ++ es) d.label) rest,
+          )
 
   pub legal_records : LegalAfter [] (items_of history) → IsLegalAfter [] (entries_of history)
   legal_records legal = legal_after [] history (λ n x found. cc) (λ n x found. ap (λ (k : ℕ). slice_get history k) (let e : 0 + n ≡ n = omega arith in e) ∙ found)

@@ -1,5 +1,5 @@
 -- What happens before a record by logs does so by longer ones.
-use Rattle.std.proofs.Common.{◌≡◌, ◌⊎◌, inl, inr, refl, sym, ap, ◌∙◌, subst, ℕ, zero, suc, ◌+◌, ◌<◌, ◌≤◌, List, [], ◌∷◌, ◌++◌, length, take, Option, Some, arith, length-append}
+use Rattle.std.proofs.Common.{◌≡◌, ◌⊎◌, inl, inr, sym, ap, ◌∙◌, ℕ, zero, suc, ◌≤◌, List, [], ◌∷◌, ◌++◌, length, take, Some, arith, length-append}
 use Rattle.std.specs.Prelude.{slice_get, map, reverse}
 use Rattle.std.proofs.lemmas.List.{append-nil, take-append-le}
 use Rattle.std.proofs.lemmas.Option.{slice_get_within}
@@ -7,8 +7,8 @@ use Rattle.sw_base.specs.declared.path.Step.{Step}
 use Rattle.log_format.specs.declared.record.Record.{Record}
 use Rattle.log_format.specs.declared.record.Kind.{Kind}
 use Rattle.race_model.specs.Listing.{lane_of}
-use Rattle.race_model.specs.Trace.{Logs, Node, IsThere, HasKind, record_at, regions_before, barriers_before, region_count, barrier_count}
-use Rattle.race_model.specs.Order.{IsLane, IsNext, IsForkEdge, IsJoinEdge, IsBarrierEdge, Edge, HasEdge, HappensBefore}
+use Rattle.race_model.specs.Trace.{Logs, Node, IsThere, HasKind, record_at, region_count, barrier_count}
+use Rattle.race_model.specs.Order.{IsLane, Edge, HappensBefore}
 use Rattle.race_model.specs.History.{IsReleased, released, release}
 use Rattle.race_model.specs.Race.{held_after}
 

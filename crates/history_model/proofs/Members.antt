@@ -1,16 +1,14 @@
 -- Members of lists, lists in ascending order, and the entries of labelled items one by one.
-use Rattle.std.proofs.Common.{◌≡◌, ◌⊎◌, inl, inr, refl, sym, ap, ap₂, ◌∙◌, subst, ℕ, zero, suc, ◌+◌, ◌<◌, ◌≤◌, Bool, true, false, cond, List, [], ◌∷◌, ◌++◌, length, drop, Option, Some, None, arith}
-use Rattle.std.specs.Prelude.{slice_get, filter, ◌==◌, ◌&&◌}
+use Rattle.std.proofs.Common.{◌≡◌, ◌⊎◌, inl, inr, refl, sym, ap, ap₂, ◌∙◌, subst, ℕ, zero, suc, ◌+◌, ◌<◌, ◌≤◌, Bool, true, false, List, [], ◌∷◌, ◌++◌, length, drop, Some, arith}
+use Rattle.std.specs.Prelude.{slice_get, filter, ◌==◌}
 use Rattle.std.proofs.lemmas.Option.{same_Some}
 use Rattle.sw_base.specs.declared.path.Step.{Step}
 use Rattle.log_format.specs.declared.record.Record.{Record}
-use Rattle.race_model.specs.Trace.{path_eq}
-use Rattle.race_model.specs.History.{Entry, entry_of, entries_from, task_entries}
-use Rattle.race_model.proofs.TraceLogs.{path_is}
+use Rattle.race_model.specs.History.{Entry, entry_of, entries_from}
 use Rattle.history_model.proofs.LabelledWork.{Marked, entry}
-use Rattle.history_model.proofs.Counting.{filter_yes, filter_no, counted, at_count, Stands, stands}
-use Rattle.history_model.proofs.TaskEntries.{path_same, path_other, one_or_none, entries_of}
-use Rattle.history_model.proofs.Windows.{get_right, get_either}
+use Rattle.history_model.proofs.Counting.{filter_yes, filter_no}
+use Rattle.history_model.proofs.TaskEntries.{one_or_none, entries_of}
+use Rattle.history_model.proofs.Windows.{get_right}
 
 pub record Member {X : Type 0} (xs : List X) (x : X) : Type 0 where
   pub place : ℕ

@@ -1,17 +1,15 @@
 -- The entries of a history of a tree: each record's once and at its time, each task's in the order of its log, and none before
 -- what happens before it.
-use Rattle.std.proofs.Common.{◌≡◌, ◌⊎◌, inl, inr, refl, sym, ap, ap₂, ◌∙◌, subst, ℕ, zero, suc, ◌+◌, ◌<◌, ◌≤◌, Bool, true, false, cond, List, [], ◌∷◌, ◌++◌, length, drop, Option, Some, None, arith, length-append}
+use Rattle.std.proofs.Common.{◌≡◌, ◌⊎◌, inl, inr, refl, sym, ap, ap₂, ◌∙◌, subst, ℕ, zero, suc, ◌+◌, ◌<◌, ◌≤◌, Bool, true, false, List, [], ◌∷◌, ◌++◌, length, drop, Some, arith, length-append}
 use Rattle.std.specs.Prelude.{slice_get, filter, ◌==◌, ◌&&◌}
 use Rattle.std.proofs.lemmas.Bool.{cases_lt}
-use Rattle.std.proofs.lemmas.List.{append-nil}
 use Rattle.std.proofs.lemmas.List.Elements.{filter-append}
 use Rattle.std.proofs.lemmas.Option.{same_Some}
 use Rattle.sw_base.specs.declared.path.Step.{Step}
 use Rattle.log_format.specs.declared.record.Record.{Record}
 use Rattle.log_format.specs.declared.record.Kind.{Kind}
 use Rattle.log_format.specs.declared.record.Kind.TheVariants.{Region}
-use Rattle.race_model.specs.Trace.{Node, Logs, path_eq, record_at}
-use Rattle.race_model.specs.Order.{HappensBefore}
+use Rattle.race_model.specs.Trace.{Node, Logs, path_eq}
 use Rattle.race_model.specs.History.{Entry, entry_of, entries_from, task_entries, RespectsOrder}
 use Rattle.race_model.proofs.TraceLogs.{path_is}
 use Rattle.step_history.specs.History.{Name, name_eq}
@@ -20,12 +18,11 @@ use Rattle.history_model.specs.Sound.{WordLayout, IsSound}
 use Rattle.history_model.proofs.Labelled.{labelled_of}
 use Rattle.history_model.proofs.Counting.{counted, at_count, Stands, stands, filter_yes, filter_no, only_one}
 use Rattle.history_model.proofs.LabelledWork.{Marked, entry}
-use Rattle.history_model.proofs.TimedWork.{TimedWork, plain, IsTimed, IsHandOf, StandsAt, Happened}
-use Rattle.history_model.proofs.TaskEntries.{path_same, path_other, entries_of, entries_append}
+use Rattle.history_model.proofs.TimedWork.{TimedWork, plain, IsTimed, IsHandOf, Happened}
+use Rattle.history_model.proofs.TaskEntries.{path_same, entries_of}
 use Rattle.history_model.proofs.Acts.{Act, Plain, Forks, act_record, act_from, act_until, act_lead, AreActsTimed}
-use Rattle.history_model.proofs.ActsOrder.{HasTimes}
 use Rattle.history_model.proofs.Edges.{acts, logs, has_times, IsActOf, act_of_record, node_order, Leads, before_order}
-use Rattle.history_model.proofs.Members.{Member, first_member, later_member, Ascends, same_ascending, log_ascends, OfLog, of_log, one_index, IsSingle, AreSingle, entry_member, EntryItem, entry_item, member_item}
+use Rattle.history_model.proofs.Members.{Member, Ascends, same_ascending, log_ascends, OfLog, of_log, one_index, IsSingle, AreSingle, entry_member, EntryItem, entry_item, member_item}
 
 -- a record's act happened at its time
 act_happened : (history : List Marked) (path : List Step) (i g start end : ℕ) (as_acts : List Act) (n : ℕ) (r : Record) (from until : ℕ) → AreActsTimed history path i g start end as_acts
@@ -103,10 +100,10 @@ across xs ys same n x found = at (stands (λ (y : Marked). name_eq y.step.name x
   at s = record { place = s.place; found = s.found }
 
 module _ (items history : List Marked) (layout : WordLayout) (tree : TimedWork) (sound : IsSound layout (plain tree)) (start end : ℕ) (timed : IsTimed history [] 0 0 start end tree)
-         (each : (name : Name) → labelled_of name history ≡ labelled_of name items)
-         (counts : (test : Marked → Bool) → length (filter test history) ≡ length (filter test items))
-         (single : AreSingle items)
-         (known : (path : List Step) → task_entries path (entries_of items) ≡ entries_from path 0 (logs history layout tree sound start end timed path)) where
+    (each : (name : Name) → labelled_of name history ≡ labelled_of name items)
+    (counts : (test : Marked → Bool) → length (filter test history) ≡ length (filter test items))
+    (single : AreSingle items)
+    (known : (path : List Step) → task_entries path (entries_of items) ≡ entries_from path 0 (logs history layout tree sound start end timed path)) where
   abbrev tree_logs : Logs
   tree_logs = logs history layout tree sound start end timed
 

@@ -1,10 +1,9 @@
 -- A history of what the hands of a tree did gives the tree its times.
-use Rattle.std.proofs.Common.{◌≡◌, ◌⊎◌, inl, inr, refl, sym, ap, ap₂, ◌∙◌, subst, ℕ, zero, suc, ◌+◌, ◌-◌, ◌<◌, ◌≤◌, Bool, true, false, List, [], ◌∷◌, ◌++◌, length, map, Option, Some, None, arith}
-use Rattle.std.specs.Prelude.{filter, slice_get}
-use Rattle.std.specs.Option.{option_map}
+use Rattle.std.proofs.Common.{◌≡◌, ◌⊎◌, inl, inr, refl, sym, ap, ap₂, ◌∙◌, subst, ℕ, zero, suc, ◌+◌, ◌-◌, ◌<◌, ◌≤◌, true, List, [], ◌∷◌, ◌++◌, length, map, Some, arith}
+use Rattle.std.specs.Prelude.{slice_get}
 use Rattle.std.proofs.lemmas.Bool.{cases_lt}
-use Rattle.std.proofs.lemmas.List.{append-nil, append_assoc, length-append}
-use Rattle.std.proofs.lemmas.Option.{slice_get-map, slice_get_within, same_Some}
+use Rattle.std.proofs.lemmas.List.{append-nil, append_assoc}
+use Rattle.std.proofs.lemmas.Option.{same_Some}
 use Rattle.sw_base.specs.declared.path.Step.{Step}
 use Rattle.log_format.specs.declared.record.Record.{Record}
 use Rattle.log_format.specs.declared.record.Kind.{Kind}
@@ -16,14 +15,14 @@ use Rattle.step_history.specs.declared.item.Deed.{Deed}
 use Rattle.step_history.specs.declared.item.Deed.TheVariants.{Read, Write, Lock, Unlock, Split, Home}
 use Rattle.step_history.specs.History.{Name, name_eq, item, Legal}
 use Rattle.step_history.proofs.Names.{is_same_name, same_name}
-use Rattle.step_history.proofs.Order.{split_before, home_after, SplitBefore}
+use Rattle.step_history.proofs.Order.{split_before, home_after}
 use Rattle.history_model.specs.Work.{Work, Rest, Put, Fork, Phases, NoPhase, Phase, TeamWork, NoWork, Beside}
 use Rattle.history_model.specs.Did.{deeds_of, lane_count_of, phase_splits, split_count}
 use Rattle.history_model.proofs.Labelled.{labelled_of, items_of}
-use Rattle.history_model.proofs.Counting.{counted, counted_all, counted_up, counted_past, counted_over, counted_most, at_count, Stands, stands}
+use Rattle.history_model.proofs.Counting.{counted_up, counted_over, counted_most, at_count, Stands, stands}
 use Rattle.history_model.proofs.LabelledWork.{Marked, marked, entry, records_at, regions_at, splits_marked, put_marked, did_marked, phases_marked, team_marked}
 use Rattle.history_model.proofs.WorkNames.{of_append, of_none, homes_marked, splits_own, put_none, put_own, not_below, outside, phases_outside, team_outside, team_own, longer, splits_none, apart_below, both_empty}
-use Rattle.history_model.proofs.TimedWork.{TimedWork, TimedRest, TimedPut, TimedFork, TimedPhases, TimedNone, TimedPhase, TimedTeam, TimedEmpty, TimedBeside, plain, plain_phases, plain_team, IsHandOf, StandsAt, Happened, Timing, PhasesTiming, TeamTiming, ArePhasesTimed}
+use Rattle.history_model.proofs.TimedWork.{TimedRest, TimedPut, TimedFork, TimedNone, TimedPhase, TimedEmpty, TimedBeside, IsHandOf, StandsAt, Happened, Timing, PhasesTiming, TeamTiming, ArePhasesTimed}
 use Rattle.history_model.proofs.Windows.{There, there, get_left, get_right, get_either, SplitsBelow, splits_below-append, splits_below-up, named, done, item_at, ItemAt, at_item, Window, Halves, halves, InWindow, in_window}
 
 -- a record has no deed, and no entry; or it has one of each, and its deed is no split
@@ -304,7 +303,7 @@ module _ (word : ℕ → ℕ) where
 
     -- the window of the first lane, and what is known of the others
     module _ (name : Name) (k : ℕ) (path : List Step) (g span : ℕ) (put forked : ℕ → ℕ) (lane : ℕ) (work : Work) (others : TeamWork) (start end : ℕ)
-             (w : TeamWindow name k (lane_count_of (Beside work others)) (team_marked word name k path g span put forked lane (Beside work others)) start end) where
+        (w : TeamWindow name k (lane_count_of (Beside work others)) (team_marked word name k path g span put forked lane (Beside work others)) start end) where
       own_items : List Marked
       own_items = did_marked word (k ∷ name) 0 (lane_of path g lane span) (put lane) (forked lane) work
 
@@ -361,7 +360,7 @@ module _ (word : ℕ → ℕ) where
 
     -- a phase: its window, and what is known of its lanes
     module _ (name : Name) (k : ℕ) (path : List Step) (g span : ℕ) (put forked : ℕ → ℕ) (team : TeamWork) (later : Phases) (before after : List Marked) (start end : ℕ)
-             (w : Window history name k (phase_splits (Phase team later)) (phases_marked word name k path g span put forked (Phase team later)) before after start end) where
+        (w : Window history name k (phase_splits (Phase team later)) (phases_marked word name k path g span put forked (Phase team later)) before after start end) where
       team_items : List Marked
       team_items = splits_marked name k 0 span team ++ team_marked word name k path g span put forked 0 team
 
@@ -394,13 +393,16 @@ module _ (word : ℕ → ℕ) where
       phase_timing first rest = record {
         tree = TimedPhase first.tree rest.tree;
         plain_is = ap₂ (λ (t : TeamWork) (p : Phases). Phase t p) first.plain_is rest.plain_is;
-        timed = (phase_halves.middle, first.timed,
-            subst (λ (t : TeamWork). ArePhasesTimed history path g span (λ lane. put lane + records_at lane t) (λ lane. forked lane + regions_at lane t) phase_halves.middle end rest.tree) (sym first.plain_is) rest.timed);
+        timed = (
+          phase_halves.middle,
+          first.timed,
+          subst (λ (t : TeamWork). ArePhasesTimed history path g span (λ lane. put lane + records_at lane t) (λ lane. forked lane + regions_at lane t) phase_halves.middle end rest.tree) (sym first.plain_is) rest.timed,
+        );
       }
 
     -- a fork: its phases, and what comes after them
     module _ (name : Name) (k : ℕ) (path : List Step) (i g line span : ℕ) (phases : Phases) (more : Work) (before after : List Marked) (start end : ℕ)
-             (w : Window history name k (split_count (Fork line span phases more)) (did_marked word name k path i g (Fork line span phases more)) before after start end) where
+        (w : Window history name k (split_count (Fork line span phases more)) (did_marked word name k path i g (Fork line span phases more)) before after start end) where
       fork_halves : Halves history name k (k + phase_splits phases) (phase_splits phases) (split_count more)
           (phases_marked word name k path g span (λ lane. 0) (λ lane. 0) phases) (did_marked word name (k + phase_splits phases) path (i + 1) (g + 1) more) before after start end
       fork_halves = halves history name k (k + phase_splits phases) (phase_splits phases) (split_count more) (split_count (Fork line span phases more))

@@ -1,16 +1,16 @@
 -- The logs of a tree of work have a legal history where its hands have one.
-use Rattle.std.proofs.Common.{◌≡◌, ◌⊎◌, inl, inr, refl, sym, ap, ap₂, ◌∙◌, subst, ℕ, zero, suc, ◌+◌, ◌<◌, ◌≤◌, Bool, true, false, cond, List, [], ◌∷◌, ◌++◌, length, map, Option, Some, None, arith}
+use Rattle.std.proofs.Common.{◌≡◌, refl, sym, ap, ◌∙◌, subst, ℕ, ◌<◌, Bool, true, false, List, [], ◌∷◌, ◌++◌, length, Some, arith}
 use Rattle.std.specs.Prelude.{slice_get, slice_index, filter}
-use Rattle.std.proofs.lemmas.List.{append-nil, length-map}
+use Rattle.std.proofs.lemmas.List.{append-nil}
 use Rattle.sw_base.specs.declared.path.Step.{Step}
 use Rattle.race_model.specs.Trace.{Logs}
 use Rattle.race_model.specs.Order.{HappensBefore}
-use Rattle.race_model.specs.History.{Entry, entries_from, task_entries, IsReleased, IsHistory, HasLegalHistory, stored_value}
+use Rattle.race_model.specs.History.{Entry, entries_from, task_entries, IsReleased, HasLegalHistory, stored_value}
 use Rattle.step_history.specs.declared.item.Item.{Item}
 use Rattle.step_history.specs.History.{Name, name_eq, of, Legal, value_at, HasHistory}
 use Rattle.history_model.specs.Work.{Work, task_logs}
 use Rattle.history_model.specs.Did.{did, split_count}
-use Rattle.history_model.specs.Sound.{WordLayout, IsSound}
+use Rattle.history_model.specs.Sound.{WordLayout, IsSound, HasAddresses}
 use Rattle.history_model.proofs.Labelled.{labelled_of, items_of, IsLabelling, labelling}
 use Rattle.history_model.proofs.Counting.{counted_all, filter_yes, filter_no}
 use Rattle.history_model.proofs.LabelledWork.{Marked, did_marked, marked_items}
@@ -38,7 +38,7 @@ of_items name (x ∷ items) = at (name_eq x.step.name name) refl (of_items name 
       ∙ ap (λ (ys : List Marked). items_of ys) (sym (filter_no (λ (y : Marked). name_eq y.step.name name) x items other))
 
 module _ (layout : WordLayout) (root : Work) (sound : IsSound layout root) (words : List ℕ)
-         (addresses : (word : ℕ) → word < length words → layout.word (layout.address word) ≡ word) (has : HasHistory (did layout.word [] 0 root) words) where
+    (addresses : HasAddresses layout words) (has : HasHistory (did layout.word [] 0 root) words) where
   pub items : List Marked
   items = did_marked layout.word [] 0 [] 0 0 root
 

@@ -1,18 +1,15 @@
 -- The window of a history in which a part of a hand's work was done.
-use Rattle.std.proofs.Common.{◌≡◌, ◌⊎◌, inl, inr, refl, sym, ap, ap₂, ◌∙◌, subst, ℕ, zero, suc, ◌+◌, ◌<◌, ◌≤◌, Bool, true, false, List, [], ◌∷◌, ◌++◌, length, map, Option, Some, None, arith}
-use Rattle.std.specs.Prelude.{filter, slice_get}
+use Rattle.std.proofs.Common.{◌≡◌, ◌⊎◌, inl, inr, refl, sym, ap, ◌∙◌, ℕ, zero, suc, ◌+◌, ◌<◌, ◌≤◌, Bool, List, [], ◌∷◌, ◌++◌, length, Option, Some, None, arith}
+use Rattle.std.specs.Prelude.{slice_get}
 use Rattle.std.specs.Option.{option_map}
 use Rattle.std.proofs.lemmas.Bool.{cases_lt}
 use Rattle.std.proofs.lemmas.List.{append-nil, append_assoc, length-append}
 use Rattle.std.proofs.lemmas.Option.{slice_get-map, slice_get_within, same_Some}
 use Rattle.step_history.specs.declared.item.Item.{Item}
-use Rattle.step_history.specs.declared.item.Deed.{Deed}
-use Rattle.step_history.specs.declared.item.Deed.TheVariants.{Split, Home}
-use Rattle.step_history.specs.History.{Name, name_eq, item, Legal}
-use Rattle.step_history.proofs.Names.{is_same_name, same_name}
-use Rattle.step_history.proofs.Order.{split_before, home_after, SplitBefore}
+use Rattle.step_history.specs.declared.item.Deed.TheVariants.{Split}
+use Rattle.step_history.specs.History.{Name, name_eq, item}
 use Rattle.history_model.proofs.Labelled.{labelled_of, items_of}
-use Rattle.history_model.proofs.Counting.{counted, counted_all, counted_up, counted_past, counted_over, at_count, Stands, stands, Cut, cut}
+use Rattle.history_model.proofs.Counting.{counted, counted_up, counted_over, Stands, stands, Cut, cut}
 use Rattle.history_model.proofs.LabelledWork.{Marked}
 use Rattle.history_model.proofs.WorkNames.{of_append}
 

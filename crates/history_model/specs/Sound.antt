@@ -1,7 +1,7 @@
 -- When a tree of work is that of a fork-join run.
-use Rattle.std.specs.Prelude.{◌≡◌, ◌⊎◌, ℕ}
+use Rattle.std.specs.Prelude.{◌≡◌, ◌⊎◌, ℕ, ◌<◌, List, length}
 use Rattle.log_format.specs.declared.record.Record.{Record}
-use Rattle.log_format.specs.declared.record.Kind.TheVariants.{Read, Write, Barrier, Region}
+use Rattle.log_format.specs.declared.record.Kind.TheVariants.{Barrier, Region}
 use Rattle.race_model.specs.Trace.{barrier_count}
 use Rattle.race_model.specs.Race.{IsAccess}
 use Rattle.history_model.specs.Work.{Work, Rest, Put, Fork, Phases, NoPhase, Phase, TeamWork, NoWork, Beside, work_records}
@@ -11,6 +11,10 @@ use Rattle.history_model.specs.Did.{lane_count_of}
 pub record WordLayout : Type 0 where
   pub word : ℕ → ℕ
   pub address : ℕ → ℕ
+
+-- each of these words has an address
+abbrev pub HasAddresses : WordLayout → List ℕ → Type 0
+HasAddresses layout words = (word : ℕ) → word < length words → layout.word (layout.address word) ≡ word
 
 -- a record that a task puts forks no region, and an access is that of a word
 pub record IsSoundRecord (layout : WordLayout) (r : Record) : Type 0 where
