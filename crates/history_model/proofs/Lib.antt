@@ -17,3 +17,4 @@ pub mod Times
 pub mod TreeHistory
 pub mod Windows
 pub mod WorkNames
+pub mod WorkVectors
