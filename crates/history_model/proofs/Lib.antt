@@ -11,6 +11,7 @@ pub mod Legality
 pub mod LongerLogs
 pub mod Members
 pub mod Ordered
+pub mod Parts
 pub mod TaskEntries
 pub mod TimedWork
 pub mod Times

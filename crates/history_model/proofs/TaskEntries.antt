@@ -206,7 +206,7 @@ then_rest Rest = refl
 then_rest (Put r more) = ap (λ (w : Work). Put r w) (then_rest more)
 then_rest (Fork line span phases more) = ap (λ (w : Work). Fork line span phases w) (then_rest more)
 
-then_records : (work other : Work) → work_records (then_work work other) ≡ work_records work ++ work_records other
+pub then_records : (work other : Work) → work_records (then_work work other) ≡ work_records work ++ work_records other
 then_records Rest other = refl
 then_records (Put r more) other = ap (λ (rs : List Record). r ∷ rs) (then_records more other)
 then_records (Fork line span phases more) other = ap (λ (rs : List Record). region_record line span ∷ rs) (then_records more other)

@@ -26,6 +26,11 @@ abbrev pub PassesBarrier : TeamWork → Type 0
 PassesBarrier NoWork = Unit {0}
 PassesBarrier (Beside work others) = (barrier_count (work_records work) ≡ 1) × PassesBarrier others
 
+-- so in each of these phases
+abbrev pub PassAllBarriers : Phases → Type 0
+PassAllBarriers NoPhase = Unit {0}
+PassAllBarriers (Phase team later) = PassesBarrier team × PassAllBarriers later
+
 -- A barrier is the last that a task does in its phase. Each phase has all lanes of its team, and each but the last ends in
 -- one barrier of each lane.
 abbrev mutual

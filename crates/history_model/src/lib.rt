@@ -5,6 +5,8 @@
 //! depth and span; and so do the logs of a run that stopped, with the mutexes released that were held at the stop.
 #![tactic(auto)]
 
+mod composing;
 mod history;
 
+pub use composing::{phases_compose, works_compose};
 pub use history::{history_of_a_run, history_of_a_stopped_run};
