@@ -129,11 +129,43 @@ whole_has_history = record {
   ends = λ w less. first w less;
 } where
   legal : Legal steps
-  legal =
-      (record { out = refl; fits = tt }, (record { out = refl; fits = tt }, (record { out = refl; fits = tt }, (record { out = refl; fits = refl },
-      (record { out = refl; fits = refl }, (record { out = refl; fits = tt }, (record { out = refl; fits = tt }, (record { out = refl; fits = refl },
-      (record { out = refl; fits = tt }, (record { out = refl; fits = tt }, (record { out = refl; fits = refl }, (record { out = refl; fits = tt },
-      (record { out = refl; fits = refl }, (record { out = refl; fits = refl }, (record { out = refl; fits = refl }, tt)))))))))))))))
+  legal = (
+    record { out = refl; fits = tt },
+    (
+      record { out = refl; fits = tt },
+      (
+        record { out = refl; fits = tt },
+        (
+          record { out = refl; fits = refl },
+          (
+            record { out = refl; fits = refl },
+            (
+              record { out = refl; fits = tt },
+              (
+                record { out = refl; fits = tt },
+                (
+                  record { out = refl; fits = refl },
+                  (
+                    record { out = refl; fits = tt },
+                    (
+                      record { out = refl; fits = tt },
+                      (
+                        record { out = refl; fits = refl },
+                        (
+                          record { out = refl; fits = tt },
+                          (record { out = refl; fits = refl }, (record { out = refl; fits = refl }, (record { out = refl; fits = refl }, tt))),
+                        ),
+                      ),
+                    ),
+                  ),
+                ),
+              ),
+            ),
+          ),
+        ),
+      ),
+    ),
+  )
 
   first : (w : ℕ) → w < 1 → slice_index (2 ∷ []) w ≡ value_at w steps
   first zero less = refl

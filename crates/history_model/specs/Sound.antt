@@ -47,3 +47,13 @@ abbrev mutual
   pub IsTeamSound : WordLayout → TeamWork → Type 0
   IsTeamSound layout NoWork = Unit {0}
   IsTeamSound layout (Beside work others) = IsSound layout work × IsTeamSound layout others
+
+-- no lane of the last phase passes a barrier there
+abbrev pub PassesNone : TeamWork → Type 0
+PassesNone NoWork = Unit {0}
+PassesNone (Beside work others) = (barrier_count (work_records work) ≡ 0) × PassesNone others
+
+abbrev pub EndWithoutBarrier : Phases → Type 0
+EndWithoutBarrier NoPhase = Unit {0}
+EndWithoutBarrier (Phase team NoPhase) = PassesNone team
+EndWithoutBarrier (Phase team (Phase next later)) = EndWithoutBarrier (Phase next later)

@@ -90,12 +90,12 @@ abbrev pub phase_count : Phases → ℕ
 phase_count NoPhase = 0
 phase_count (Phase team later) = suc (phase_count later)
 
--- a last record for each lane of the last phase, as the End of its log
-abbrev pub end_team : (ℕ → Record) → ℕ → TeamWork → TeamWork
+-- what the lanes of the last phase do after it, as the End of a log that is put when all hands are home
+abbrev pub end_team : (ℕ → Work) → ℕ → TeamWork → TeamWork
 end_team last lane NoWork = NoWork
-end_team last lane (Beside work others) = Beside (then_work work (Put (last lane) Rest)) (end_team last (suc lane) others)
+end_team last lane (Beside work others) = Beside (then_work work (last lane)) (end_team last (suc lane) others)
 
-abbrev pub end_phases : (ℕ → Record) → Phases → Phases
+abbrev pub end_phases : (ℕ → Work) → Phases → Phases
 end_phases last NoPhase = NoPhase
 end_phases last (Phase team NoPhase) = Phase (end_team last 0 team) NoPhase
 end_phases last (Phase team (Phase next later)) = Phase team (end_phases last (Phase next later))

@@ -1,11 +1,10 @@
-ghost use Rattle.std.specs.Prelude.{◌≡◌, ℕ, ◌+◌, ◌*◌, ◌<◌, List, [], ◌∷◌, ◌++◌};
+ghost use Rattle.std.specs.Prelude.{◌≡◌, ◌≢◌, ℕ, ◌+◌, ◌*◌, ◌<◌, List, ◌++◌};
 ghost use Rattle.std.specs.List.{flat_map};
-ghost use Rattle.log_format.specs.declared.record.Record.{Record};
 ghost use Rattle.race_model.specs.Trace.{barrier_count};
 ghost use Rattle.step_history.specs.History.{Name};
-ghost use Rattle.history_model.specs.Work.{Work, Put, Rest, Phases, Phase, NoPhase, TeamWork, work_records, lane_works, then_work, then_phases, phase_count, end_phases};
-ghost use Rattle.history_model.specs.Did.{lane_count_of, phase_splits, split_count, did, did_phases};
-ghost use Rattle.history_model.specs.Sound.{WordLayout, IsSound, IsSoundRecord, ArePhasesSound, PassesBarrier, PassAllBarriers};
+ghost use Rattle.history_model.specs.Work.{Work, Phases, Phase, NoPhase, TeamWork, work_records, lane_works, then_work, then_phases, phase_count, end_phases};
+ghost use Rattle.history_model.specs.Did.{phase_splits, split_count, did, did_phases, DoesNothing};
+ghost use Rattle.history_model.specs.Sound.{WordLayout, IsSound, ArePhasesSound, PassesBarrier, PassAllBarriers, EndWithoutBarrier};
 
 /// One work after another: its records, its splits and what its hands did are those of both, and it is sound where both are
 /// and the first passes no barrier.
@@ -29,4 +28,16 @@ pub fn phases_compose()
         PassAllBarriers phases → ArePhasesSound layout span (then_phases phases later) }
     ensures passes { (phases : Phases) (team : TeamWork) → PassAllBarriers phases → PassesBarrier team → PassAllBarriers (then_phases phases (Phase team NoPhase)) }
     ensures count { (layout : WordLayout) (span : ℕ) (phases : Phases) → ArePhasesSound layout span phases → phase_splits phases ≡ phase_count phases * span }
+{}
+
+/// What the lanes of the last phase put when all hands are home, as the End of a log, changes no steps: it stands at the end of
+/// each lane's log.
+pub fn last_records_are_no_steps()
+    ensures steps { (word : ℕ → ℕ) (name : Name) (k span : ℕ) (last : ℕ → Work) (phases : Phases) → ((lane : ℕ) → DoesNothing word (last lane)) →
+        did_phases word name k span (end_phases last phases) ≡ did_phases word name k span phases }
+    ensures splits { (last : ℕ → Work) (phases : Phases) → phase_splits (end_phases last phases) ≡ phase_splits phases }
+    ensures logs { (layout : WordLayout) (span lane : ℕ) (last : ℕ → Work) (phases : Phases) → ArePhasesSound layout span phases → lane < span → (phases ≢ NoPhase) →
+        flat_map work_records (lane_works lane (end_phases last phases)) ≡ flat_map work_records (lane_works lane phases) ++ work_records (last lane) }
+    ensures sound { (layout : WordLayout) (span : ℕ) (last : ℕ → Work) (phases : Phases) → ArePhasesSound layout span phases → EndWithoutBarrier phases →
+        ((lane : ℕ) → IsSound layout (last lane)) → ArePhasesSound layout span (end_phases last phases) }
 {}

@@ -8,5 +8,5 @@
 mod composing;
 mod history;
 
-pub use composing::{phases_compose, works_compose};
+pub use composing::{last_records_are_no_steps, phases_compose, works_compose};
 pub use history::{history_of_a_run, history_of_a_stopped_run};
