@@ -79,26 +79,26 @@ impl From<Memory> for Refusal {
 /// The kernel that the named file holds, for a folder that has no index.
 pub fn begin<F: Folder>(
     alloc: Global,
-    place: &mut F,
+    folder: &mut F,
     kernel: &str,
     dir: &str,
 ) -> Result<Kernel, Refusal>
     ensures ready { IfOk result (λ k. IsReady (program_of k)) }
-    ensures kernel { IfOk result (λ k. WhereTold (F.content place.old) (λ c. HoldsKernel c.held kernel.now (program_of k))) }
-    ensures fresh { IfOk result (λ _. WhereTold (F.content place.old) (λ c. c.held (index_name dir.now) ≡ None)) }
-    ensures refused { IfErr result (λ why. WhereTold (F.content place.old) (λ c. IsRefusal c.held kernel.now dir.now why)) }
+    ensures kernel { IfOk result (λ k. WhereTold (F.content folder.old) (λ c. HoldsKernel c.held kernel.now (program_of k))) }
+    ensures fresh { IfOk result (λ _. WhereTold (F.content folder.old) (λ c. c.held (index_name dir.now) ≡ None)) }
+    ensures refused { IfErr result (λ why. WhereTold (F.content folder.old) (λ c. IsRefusal c.held kernel.now dir.now why)) }
 
-    ensures same { F.content place.new ≡ F.content place.old }
-    ensures same_writes { F.write_faults place.new ≡ F.write_faults place.old }
-    ensures later { F.read_faults place.old ≤ F.read_faults place.new }
-    ensures cause { IfErr result (λ why. why ≡ refusal.ReadFault → Rose (F.read_faults place.old) (F.read_faults place.new)) }
+    ensures same { F.content folder.new ≡ F.content folder.old }
+    ensures same_writes { F.write_faults folder.new ≡ F.write_faults folder.old }
+    ensures later { F.read_faults folder.old ≤ F.read_faults folder.new }
+    ensures cause { IfErr result (λ why. why ≡ refusal.ReadFault → Rose (F.read_faults folder.old) (F.read_faults folder.new)) }
 {
-    let Some(text) = read_file(alloc, place, kernel)? else {
+    let Some(text) = read_file(alloc, folder, kernel)? else {
         return Err(Refusal::NoKernel);
     };
     let kernel = read_kernel(alloc, &text)?;
     let index = index_name(alloc, dir)?;
-    match place.size(alloc, &index)? {
+    match folder.size(alloc, &index)? {
         Some(_) => Err(Refusal::IndexThere),
         None => Ok(kernel),
     }

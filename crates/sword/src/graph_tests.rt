@@ -359,8 +359,8 @@ fn races_are_those_of_a_search_of_the_graph(rt: HostRuntime) -> Result<(), Fail>
         }
         let pairs = race_pairs(alloc, &nodes)?;
         let text = report(alloc, &pairs)?;
-        let mut place = folder_of(alloc, &tasks)?;
-        answers(&rt, alloc, &mut place, &["check", "d", "2"], RACES, &text)?;
+        let mut folder = folder_of(alloc, &tasks)?;
+        answers(&rt, alloc, &mut folder, &["check", "d", "2"], RACES, &text)?;
     }
     Ok(())
 }

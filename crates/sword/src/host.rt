@@ -246,22 +246,22 @@ mod tests {
         let alloc = rt.alloc();
         let top = fresh(&rt, "pieces")?;
         let dir = format!(in alloc; "{top}/made/below")?;
-        let mut place = HostFolder::new(rt);
-        let mut root = place.root(alloc, &dir)?;
+        let mut folder = HostFolder::new(rt);
+        let mut root = folder.root(alloc, &dir)?;
         root.append(alloc, b"SWLOG001")?;
         let mut lane = root.child(alloc, 0, 1, 2)?;
         lane.append(alloc, b"one")?;
         root.append(alloc, b" and more")?;
         lane.append(alloc, b" two")?;
         let name = format!(in alloc; "{dir}/t.swl")?;
-        let whole = read_file(alloc, &mut place, &name)?.ok_or("a log")?;
+        let whole = read_file(alloc, &mut folder, &name)?.ok_or("a log")?;
         assert_eq!(rt; whole.as_slice(), b"SWLOG001 and more".as_slice());
         let name = format!(in alloc; "{dir}/t-0.1.swl")?;
-        let whole = read_file(alloc, &mut place, &name)?.ok_or("a log")?;
+        let whole = read_file(alloc, &mut folder, &name)?.ok_or("a log")?;
         assert_eq!(rt; whole.as_slice(), b"one two".as_slice());
-        place.discard(lane);
-        assert!(rt; place.seal(alloc, root).is_ok());
-        assert_eq!(rt; place.write_faults, 0);
+        folder.discard(lane);
+        assert!(rt; folder.seal(alloc, root).is_ok());
+        assert_eq!(rt; folder.write_faults, 0);
         fs::remove_dir_all(&rt, &top)?;
         Ok(())
     }
@@ -270,21 +270,21 @@ mod tests {
     fn what_can_not_be_written_is_a_fault(rt: HostRuntime) -> Result<(), Fail> {
         let alloc = rt.alloc();
         let dir = fresh(&rt, "faults")?;
-        let mut place = HostFolder::new(rt);
-        let mut root = place.root(alloc, &dir)?;
-        assert!(rt; place.put(alloc, &dir, b"bytes").is_err());
-        assert_eq!(rt; place.write_faults, 1);
-        assert!(rt; place.put(alloc, "/dev/full", b"bytes").is_err());
-        assert_eq!(rt; place.write_faults, 2);
+        let mut folder = HostFolder::new(rt);
+        let mut root = folder.root(alloc, &dir)?;
+        assert!(rt; folder.put(alloc, &dir, b"bytes").is_err());
+        assert_eq!(rt; folder.write_faults, 1);
+        assert!(rt; folder.put(alloc, "/dev/full", b"bytes").is_err());
+        assert_eq!(rt; folder.write_faults, 2);
         let name = format!(in alloc; "{dir}/t.swl")?;
         fs::remove_file(&rt, &name)?;
         fs::create_dir(&rt, &name)?;
         assert!(rt; root.append(alloc, b"bytes").is_err());
         assert_eq!(rt; root.faults, 1);
-        assert!(rt; read_file(alloc, &mut place, &name).is_err());
-        assert_eq!(rt; place.read_faults, 1);
-        place.discard(root);
-        assert_eq!(rt; place.write_faults, 3);
+        assert!(rt; read_file(alloc, &mut folder, &name).is_err());
+        assert_eq!(rt; folder.read_faults, 1);
+        folder.discard(root);
+        assert_eq!(rt; folder.write_faults, 3);
         fs::remove_dir_all(&rt, &dir)?;
         Ok(())
     }
