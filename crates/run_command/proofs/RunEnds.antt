@@ -24,13 +24,14 @@ use Rattle.kernel_model.specs.Trace.{Ended, Ending, Stopped}
 use Rattle.team_runner.specs.declared.stop.Stop.{Stop}
 use Rattle.team_runner.specs.declared.stop.Stop.TheVariants.{DivZero, Index, LogFull}
 use Rattle.team_runner.specs.declared.stop.Stop.TheVariants as stop
-use Rattle.team_runner.specs.Answer.{HasRun, HasStop, HasStoppedRun, HasTask, HasFaulty, HasPrefix, IsAhead, IsOwnLog, IsRun, Logged, whole_log, logged_entry}
+use Rattle.sw_base.specs.HandedLog.{IsOwnLog, HandedLog, handed_log, SealsPrefix, with_sealed}
+use Rattle.team_runner.specs.Answer.{HasRun, HasStop, HasStoppedRun, HasTask, HasFaulty, HasPrefix, IsAhead, IsRun, whole_log}
 use Rattle.team_runner.specs.Answer as answered
 use Rattle.team_runner.specs.Stops.{StopsSo}
 use Rattle.command_answer.specs.declared.status.TheConstants.{DONE, KERNEL_STOPPED, NO_MEMORY}
 use Rattle.command_answer.specs.Answer.{IsFailure, Prints, Tries, silent}
 use Rattle.run_command.specs.Ends.{EndDue, EndsSo, ran, stop_of, stopped}
-use Rattle.run_command.specs.Run.{AreStopped, EndLeaves, EndedRun, SealedLog, SealsPrefix, StoppedRun, ended, index, logs, sealed_log, with_sealed}
+use Rattle.run_command.specs.Run.{AreStopped, EndLeaves, EndedRun, StoppedRun, ended, index, logs, sealed_log}
 use Rattle.run_command.specs.Run as kinds
 use Rattle.run_command.specs.RunTexts.{run_text, stopped_text}
 use Rattle.run_command.specs.Seals.{AllTell, SealsAll, StoresAll, StoresPrefix, StoresPart, all_logged, all_sealed, prefix, part, row_of_entry, rows_of_logs, sealed_of, tasks_of, with_index}
@@ -58,7 +59,7 @@ whole_sealed : (dir : List ℕ) (size : ℕ) (root : Text) (tasks : Trace) → a
 whole_sealed dir size root tasks = map-map sealed_of (whole_log dir size (Some root)) tasks
 
 whole_rows : (dir : List ℕ) (size : ℕ) (root : Option Text) (tasks : Trace) → rows_of_logs (map (whole_log dir size root) tasks) ≡ rows_of tasks
-whole_rows dir size root tasks = map-map (λ (log : Logged). record { path = log.task; records = log.count }) (whole_log dir size root) tasks
+whole_rows dir size root tasks = map-map (λ (log : HandedLog). record { path = log.task; records = log.count }) (whole_log dir size root) tasks
 
 -- each is of the folder and tells what it holds
 whole_tell : (dir : List ℕ) (size : ℕ) (root : Text) (tasks : Trace) → AllTell dir (map (whole_log dir size (Some root)) tasks)
@@ -72,12 +73,12 @@ run_rows program dir size root dir_of path_of text_of entries has =
 
 module _ (rose : Type 0) (program : Program) (first : IsFirstKind program) (dir : List ℕ) (size : ℕ) (root : Text) (tasks : Trace) (run : IsRun program tasks) where
   -- the logs that the run answers
-  abbrev run_logs : List Logged
+  abbrev run_logs : List HandedLog
   run_logs = map (whole_log dir size (Some root)) tasks
 
   -- a folder with all logs and these bytes under the index's name
   with_index-is : (bytes : List ℕ) (old : Content) → with_index dir run_logs bytes old ≡ with_put (index_name dir) bytes (with_sealed dir (map (sealed_log size) tasks) old)
-  with_index-is bytes old = ap (λ (ls : List SealedLog). with_put (index_name dir) bytes (with_sealed dir ls old)) (whole_sealed dir size root tasks)
+  with_index-is bytes old = ap (λ (ls : List HandedLog). with_put (index_name dir) bytes (with_sealed dir ls old)) (whole_sealed dir size root tasks)
 
   -- and with the whole index
   all_left : (old : Content) → with_index dir run_logs (index_bytes (rows_of_logs run_logs)) old ≡ left_by program first dir size tasks run old
@@ -124,29 +125,29 @@ module _ (rose : Type 0) (program : Program) (first : IsFirstKind program) (dir 
       }
 
 -- the same of the logs that a run answered
-module _ (rose : Type 0) (program : Program) (first : IsFirstKind program) (dir : List ℕ) (size : ℕ) (root : Text) (all : List Logged) (has : HasRun program dir size (Some root) all) where
+module _ (rose : Type 0) (program : Program) (first : IsFirstKind program) (dir : List ℕ) (size : ℕ) (root : Text) (all : List HandedLog) (has : HasRun program dir size (Some root) all) where
   -- storing them was refused
   pub run_refused : (old new : Option Content) (status : ℕ) (written : Option (List ℕ)) → StoresPrefix dir all old new → IsFailure status → EndsSo rose program dir size old new written written status
   run_refused old new status written stores failure =
-      refused_ends rose program first dir size root has.tasks has.run old new status written (subst (λ (ls : List Logged). StoresPrefix dir ls old new) has.logs_are stores) failure
+      refused_ends rose program first dir size root has.tasks has.run old new status written (subst (λ (ls : List HandedLog). StoresPrefix dir ls old new) has.logs_are stores) failure
 
   -- they were stored
   pub run_stored : (old new : Option Content) (status : ℕ) (before after : Option (List ℕ)) (values : List ℕ) (made : Result (String Global) Memory) → StoresAll dir all old new
       → length values ≡ elements program.arrays → ((tasks : Trace) → rows_of tasks ≡ rows_of_logs all → IfOk made (λ m. string_bytes m ≡ run_text tasks program.arrays values))
       → IfOk made (λ m. Prints DONE (string_bytes m) before after status) → OnErr made ((status ≡ NO_MEMORY) × (after ≡ before)) → EndsSo rose program dir size old new before after status
   run_stored old new status before after values made stores values_are text prints none =
-      stored_ends rose program first dir size root has.tasks has.run old new status before after values made (subst (λ (ls : List Logged). StoresAll dir ls old new) has.logs_are stores) values_are
+      stored_ends rose program first dir size root has.tasks has.run old new status before after values made (subst (λ (ls : List HandedLog). StoresAll dir ls old new) has.logs_are stores) values_are
       (text has.tasks (sym (whole_rows dir size (Some root) has.tasks) ∙ ap rows_of_logs (sym has.logs_are))) prints none
 
 -- ---- a kernel that stopped
 
 -- the logs tell what they hold where the root's does
 pub all_tell : {L : Type 0} (dir_of : L → List ℕ) (path_of : L → List Step) (text_of : L → Option Text) (entries : List (List Step × L × ℕ)) (dir of_root : List ℕ) (told : Option Text) (root : Text)
-    → of_root ≡ dir → told ≡ Some root → All (λ entry. IsOwnLog of_root (is_some told) (logged_entry dir_of path_of text_of entry)) entries → AllTell dir (all_logged dir_of path_of text_of entries)
+    → of_root ≡ dir → told ≡ Some root → All (λ entry. IsOwnLog of_root (is_some told) (handed_log dir_of path_of text_of entry)) entries → AllTell dir (all_logged dir_of path_of text_of entries)
 all_tell dir_of path_of text_of entries dir of_root told root dir_is told_is own =
-    All-map (IsOwnLog dir true) (logged_entry dir_of path_of text_of) entries
-    (subst (λ (d : List ℕ). All (λ entry. IsOwnLog d true (logged_entry dir_of path_of text_of entry)) entries) dir_is
-    (subst (λ (t : Option Text). All (λ entry. IsOwnLog of_root (is_some t) (logged_entry dir_of path_of text_of entry)) entries) told_is own))
+    All-map (IsOwnLog dir true) (handed_log dir_of path_of text_of) entries
+    (subst (λ (d : List ℕ). All (λ entry. IsOwnLog d true (handed_log dir_of path_of text_of entry)) entries) dir_is
+    (subst (λ (t : Option Text). All (λ entry. IsOwnLog of_root (is_some t) (handed_log dir_of path_of text_of entry)) entries) told_is own))
 
 -- the kernel's own stop
 pub told_stop : (P : model.Stop → ℕ → Type 0) (why : Stop) (kind : model.Stop) (line : ℕ) → stop_of why ≡ Some (kind, line) → StopsSo P why → P kind line
@@ -156,7 +157,7 @@ told_stop P (LogFull at) kind line is stops = let both : (model.LogFull, at) ≡
 told_stop P (stop.Trouble trouble) kind line is stops = absurd (none-some (kind, line) is)
 
 -- what is sealed has the tasks' paths
-sealed_paths : (dir : List ℕ) (all : List Logged) → AllTell dir all → map (λ (log : SealedLog). log.path) (all_sealed all) ≡ tasks_of all
+sealed_paths : (dir : List ℕ) (all : List HandedLog) → AllTell dir all → map (λ (log : HandedLog). log.path) (all_sealed all) ≡ tasks_of all
 sealed_paths dir [] tell = refl
 sealed_paths dir (log ∷ all) tell =
     let own = All-head (IsOwnLog dir true) log all tell in
@@ -166,7 +167,7 @@ sealed_paths dir (log ∷ all) tell =
 contains_mapped : {A B : Type 0} (f : A → B) (xs : List A) (x : A) → Contains xs x → Contains (map f xs) (f x)
 contains_mapped f xs x (k, within, is) = (k, omega (arith, length-map xs f), get_or-map f xs k x (f x) within ∙ ap f is)
 
-module _ (program : Program) (dir : List ℕ) (size : ℕ) (root : Text) (all : List Logged) where
+module _ (program : Program) (dir : List ℕ) (size : ℕ) (root : Text) (all : List HandedLog) where
   -- a task's whole log is sealed as that
   task_sealed : (path : List Step) (ending : Ending) → HasTask program (λ task. Contains all (whole_log dir size (Some root) task)) path ending
       → HasTask program (λ task. Contains (all_sealed all) (sealed_log size task)) path ending

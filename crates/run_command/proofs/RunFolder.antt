@@ -22,31 +22,32 @@ use Rattle.kernel_syntax.specs.FirstKind.{IsFirstKind, region_span}
 use Rattle.kernel_model.specs.Folder.{IsTracedTask, paths_of}
 use Rattle.kernel_model.specs.Trace.{Start}
 use Rattle.team_runner.specs.Answer.{IsRun, task_paths}
-use Rattle.run_command.specs.Run.{SealedLog, sealed_log, with_sealed}
+use Rattle.sw_base.specs.HandedLog.{HandedLog, with_sealed}
+use Rattle.run_command.specs.Run.{sealed_log}
 use Rattle.run_command.proofs.SealedLogs.{with_one}
 use Rattle.run_command.proofs.FirstPaths.{IsLanePath, first_paths, listed_path}
 
 -- ---- names that were sealed
 
 -- no two of the logs have one name
-abbrev NamesApart : List ℕ → List SealedLog → Type 0
+abbrev NamesApart : List ℕ → List HandedLog → Type 0
 NamesApart dir [] = Unit {0}
-NamesApart dir (log ∷ logs) = All (λ (other : SealedLog). log_name dir log.path ≢ log_name dir other.path) logs × NamesApart dir logs
+NamesApart dir (log ∷ logs) = All (λ (other : HandedLog). log_name dir log.path ≢ log_name dir other.path) logs × NamesApart dir logs
 
 -- a name of none of the logs is as before
-sealed_elsewhere : (dir : List ℕ) (logs : List SealedLog) (content : Content) (name : List ℕ) → All (λ (log : SealedLog). name ≢ log_name dir log.path) logs
+sealed_elsewhere : (dir : List ℕ) (logs : List HandedLog) (content : Content) (name : List ℕ) → All (λ (log : HandedLog). name ≢ log_name dir log.path) logs
     → (with_sealed dir logs content).held name ≡ content.held name
 sealed_elsewhere dir [] content name apart = refl
 sealed_elsewhere dir (log ∷ logs) content name apart =
-    sealed_elsewhere dir logs (with_one dir log content) name (All-tail (λ (log : SealedLog). name ≢ log_name dir log.path) log logs apart)
-    ∙ with_file-elsewhere (log_name dir log.path) log.bytes content.held name (All-head (λ (log : SealedLog). name ≢ log_name dir log.path) log logs apart)
+    sealed_elsewhere dir logs (with_one dir log content) name (All-tail (λ (log : HandedLog). name ≢ log_name dir log.path) log logs apart)
+    ∙ with_file-elsewhere (log_name dir log.path) log.bytes content.held name (All-head (λ (log : HandedLog). name ≢ log_name dir log.path) log logs apart)
 
 -- the folder has the log
-abbrev HasLog : List ℕ → Files → SealedLog → Type 0
+abbrev HasLog : List ℕ → Files → HandedLog → Type 0
 HasLog dir files log = files (log_name dir log.path) ≡ Some log.bytes
 
 -- each log is there
-sealed_here : (dir : List ℕ) (logs : List SealedLog) (content : Content) → NamesApart dir logs → All (HasLog dir (with_sealed dir logs content).held) logs
+sealed_here : (dir : List ℕ) (logs : List HandedLog) (content : Content) → NamesApart dir logs → All (HasLog dir (with_sealed dir logs content).held) logs
 sealed_here dir [] content apart = All-nil (HasLog dir content.held)
 sealed_here dir (log ∷ logs) content apart =
     All-cons (HasLog dir (with_sealed dir (log ∷ logs) content).held) log logs
@@ -93,10 +94,10 @@ module _ (program : Program) (dir : List ℕ) where
 
   -- the first task's name is none of the others'
   apart_first : (size : ℕ) (first : TaskLog) (tasks : Trace) → IsNamed first.path → All (λ (task : TaskLog). IsNamed task.path) tasks
-      → AllByRecursion (λ p. path_eq first.path p ≡ false) (paths_of tasks) → All (λ (log : SealedLog). log_name dir first.path ≢ log_name dir log.path) (map (sealed_log size) tasks)
-  apart_first size first [] named all apart = All-nil (λ (log : SealedLog). log_name dir first.path ≢ log_name dir log.path)
+      → AllByRecursion (λ p. path_eq first.path p ≡ false) (paths_of tasks) → All (λ (log : HandedLog). log_name dir first.path ≢ log_name dir log.path) (map (sealed_log size) tasks)
+  apart_first size first [] named all apart = All-nil (λ (log : HandedLog). log_name dir first.path ≢ log_name dir log.path)
   apart_first size first (task ∷ tasks) named all apart =
-      All-cons (λ (log : SealedLog). log_name dir first.path ≢ log_name dir log.path) (sealed_log size task) (map (sealed_log size) tasks)
+      All-cons (λ (log : HandedLog). log_name dir first.path ≢ log_name dir log.path) (sealed_log size task) (map (sealed_log size) tasks)
       (names_differ first.path task.path named (All-head (λ (t : TaskLog). IsNamed t.path) task tasks all) (differ first.path task.path apart.0))
       (apart_first size first tasks named (All-tail (λ (t : TaskLog). IsNamed t.path) task tasks all) apart.1)
 

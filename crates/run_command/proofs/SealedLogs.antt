@@ -7,40 +7,40 @@ use Rattle.sw_base.specs.declared.path.Step.{Step}
 use Rattle.sw_base.specs.declared.trouble.Trouble.{Trouble}
 use Rattle.sw_base.specs.Environment.{Content, LeavesPrefix, Text, WhereTold, with_log, with_put}
 use Rattle.sw_base.specs.Names.{log_name}
-use Rattle.team_runner.specs.Answer.{HasFaulty, IsOwnLog, Logged, outline, logged_entry}
-use Rattle.run_command.specs.Run.{SealedLog, SealsPrefix, between, torn, with_sealed}
+use Rattle.sw_base.specs.HandedLog.{IsOwnLog, HandedLog, outline, handed_log, SealsPrefix, between, torn, with_sealed}
+use Rattle.team_runner.specs.Answer.{HasFaulty}
 use Rattle.run_command.specs.Seals.{Seals, SealsAll, TellsSuch, all_logged, all_sealed, sealed_of}
 
 -- a folder after one log was sealed
-abbrev pub with_one : List ℕ → SealedLog → Content → Content
+abbrev pub with_one : List ℕ → HandedLog → Content → Content
 with_one dir log content = with_sealed dir (log ∷ []) content
 
 -- some logs, and more after them
-with_sealed-append : (dir : List ℕ) (logs more : List SealedLog) (content : Content) → with_sealed dir (logs ++ more) content ≡ with_sealed dir more (with_sealed dir logs content)
+with_sealed-append : (dir : List ℕ) (logs more : List HandedLog) (content : Content) → with_sealed dir (logs ++ more) content ≡ with_sealed dir more (with_sealed dir logs content)
 with_sealed-append dir [] more content = refl
 with_sealed-append dir (log ∷ logs) more content = with_sealed-append dir logs more (with_one dir log content)
 
 -- one more log
-with_sealed-push : (dir : List ℕ) (logs : List Logged) (log : Logged) (content : Content) →
+with_sealed-push : (dir : List ℕ) (logs : List HandedLog) (log : HandedLog) (content : Content) →
     with_sealed dir (all_sealed (logs ++ log ∷ [])) content ≡ with_one dir (sealed_of log) (with_sealed dir (all_sealed logs) content)
 with_sealed-push dir logs log content =
-    ap (λ (all : List SealedLog). with_sealed dir all content) (map-append sealed_of logs (log ∷ []))
+    ap (λ (all : List HandedLog). with_sealed dir all content) (map-append sealed_of logs (log ∷ []))
     ∙ with_sealed-append dir (all_sealed logs) (sealed_of log ∷ []) content
 
 -- what a log tells is what is sealed of it
-sealed_text : (dir : List ℕ) (log : Logged) (text : Text) (content : Content) → IsOwnLog dir true log → log.told ≡ outline (Some text) →
+sealed_text : (dir : List ℕ) (log : HandedLog) (text : Text) (content : Content) → IsOwnLog dir true log → log.told ≡ outline (Some text) →
     with_log (log_name log.dir log.path) text content ≡ with_one dir (sealed_of log) content
 sealed_text dir log text content own told = rw (own.dir_is, told) refl
 
 -- what is sealed of one more log
-all_sealed-push : (logs : List Logged) (log : Logged) → all_sealed (logs ++ log ∷ []) ≡ all_sealed logs ++ sealed_of log ∷ []
+all_sealed-push : (logs : List HandedLog) (log : HandedLog) → all_sealed (logs ++ log ∷ []) ≡ all_sealed logs ++ sealed_of log ∷ []
 all_sealed-push logs log = map-append sealed_of logs (log ∷ [])
 
 -- nothing was sealed yet
 seals_none : (dir : List ℕ) (content : Content) → Seals dir [] (Ok tt) content content
 seals_none dir content = record { done = refl; prefix = between [] [] refl refl }
 
-module _ (dir : List ℕ) (logs : List Logged) (log : Logged) (old mid : Content) (own : IsOwnLog dir true log) where
+module _ (dir : List ℕ) (logs : List HandedLog) (log : HandedLog) (old mid : Content) (own : IsOwnLog dir true log) where
   -- a log was sealed
   seals_push : (text : Text) → log.told ≡ outline (Some text) → Seals dir logs (Ok tt) old mid → Seals dir (logs ++ log ∷ []) (Ok tt) old (with_log (log_name log.dir log.path) text mid)
   seals_push text told before =
@@ -79,10 +79,10 @@ module _ (dir : List ℕ) (logs : List Logged) (log : Logged) (old mid : Content
     longer : SealsPrefix dir (all_sealed logs) old mid → SealsPrefix dir (all_sealed (logs ++ log ∷ [])) old mid
     longer (between first rest parts leaves) =
         between first (rest ++ sealed_of log ∷ [])
-        (all_sealed-push logs log ∙ ap (λ (ls : List SealedLog). ls ++ sealed_of log ∷ []) parts ∙ append_assoc first rest (sealed_of log ∷ [])) leaves
+        (all_sealed-push logs log ∙ ap (λ (ls : List HandedLog). ls ++ sealed_of log ∷ []) parts ∙ append_assoc first rest (sealed_of log ∷ [])) leaves
     longer (torn first next rest parts prefix behind bytes leaves) =
         torn first next (rest ++ sealed_of log ∷ [])
-        (all_sealed-push logs log ∙ ap (λ (ls : List SealedLog). ls ++ sealed_of log ∷ []) parts ∙ append_assoc first (next ∷ rest) (sealed_of log ∷ [])) prefix behind bytes leaves
+        (all_sealed-push logs log ∙ ap (λ (ls : List HandedLog). ls ++ sealed_of log ∷ []) parts ∙ append_assoc first (next ∷ rest) (sealed_of log ∷ [])) prefix behind bytes leaves
 
   -- one more log was sealed or refused
   seals_next : (text : Option Text) (r : Result (Unit {0}) Trouble) (new : Option Content) → log.told ≡ outline text → Seals dir logs (Ok tt) old mid
@@ -98,7 +98,7 @@ pub seals_all_none : (told : Option Content) → SealsAll [] (Ok tt) told told
 seals_all_none told dir content tell is = record { content = content; is = is; holds = seals_none dir content }
 
 -- one more log
-seals_all_next : (logs : List Logged) (log : Logged) (text : Option Text) (so_far r : Result (Unit {0}) Trouble) (old mid new : Option Content) → log.told ≡ outline text → SealsAll logs so_far old mid
+seals_all_next : (logs : List HandedLog) (log : HandedLog) (text : Option Text) (so_far r : Result (Unit {0}) Trouble) (old mid new : Option Content) → log.told ≡ outline text → SealsAll logs so_far old mid
     → OnOk so_far (OnOk r (WhereTold text (λ t. new ≡ option_map (with_log (log_name log.dir log.path) t) mid)))
     → OnOk so_far (OnErr r (WhereTold text (λ t. LeavesPrefix mid new (log_name log.dir log.path) t.bytes)))
     → OnErr so_far ((r ≡ so_far) × (new ≡ mid)) → SealsAll (logs ++ log ∷ []) r old new
@@ -124,8 +124,8 @@ pub seals_all_push : {L : Type 0} (dir_of : L → List ℕ) (path_of : L → Lis
     → OnOk so_far (OnErr r (WhereTold (text_of log) (λ t. LeavesPrefix mid new (log_name (dir_of log) (path_of log)) t.bytes)))
     → OnErr so_far ((r ≡ so_far) × (new ≡ mid)) → SealsAll (all_logged dir_of path_of text_of (entries ++ (path, log, count) ∷ [])) r old new
 seals_all_push dir_of path_of text_of entries path log count so_far r old mid new before done refused given_up =
-    subst (λ (logs : List Logged). SealsAll logs r old new) (sym (map-append (logged_entry dir_of path_of text_of) entries ((path, log, count) ∷ [])))
-    (seals_all_next (all_logged dir_of path_of text_of entries) (logged_entry dir_of path_of text_of (path, log, count)) (text_of log) so_far r old mid new refl before done refused given_up)
+    subst (λ (logs : List HandedLog). SealsAll logs r old new) (sym (map-append (handed_log dir_of path_of text_of) entries ((path, log, count) ∷ [])))
+    (seals_all_next (all_logged dir_of path_of text_of entries) (handed_log dir_of path_of text_of (path, log, count)) (text_of log) so_far r old mid new refl before done refused given_up)
 
 -- ---- faults of logs
 
