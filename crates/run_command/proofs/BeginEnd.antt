@@ -7,8 +7,8 @@ use Rattle.run_command.specs.declared.beginning.Refusal.{Refusal}
 use Rattle.run_command.specs.declared.beginning.Refusal.TheVariants.{NoKernel, NotBuilt, IndexThere, ReadFault, Memory}
 use Rattle.command_answer.specs.Answer.{IsFailure, Tries}
 use Rattle.run_command.specs.Begins.{IsRefusal, RefusalDue}
-use Rattle.run_command.specs.EndsRun.{EndDue, EndsRun}
-use Rattle.run_command.specs.EndsRun as end
+use Rattle.run_command.specs.Ends.{EndDue, EndsRun}
+use Rattle.run_command.specs.Ends as end
 use Rattle.run_command.specs.Run.{HoldsKernel, LeavesPart, RunDue}
 use Rattle.run_command.specs.Run as run
 use Rattle.command_answer.proofs.Answering.{Tries-weaker}

@@ -8,7 +8,7 @@ use Rattle.sw_base.specs.Environment.{Content, LeavesPrefix, Text, with_put}
 use Rattle.sw_base.specs.Names.{index_name}
 use Rattle.race_model.specs.Row.{index_bytes}
 use Rattle.sw_base.specs.HandedLog.{HandedLog, handed_log, between}
-use Rattle.run_command.specs.Seals.{SealsAll, StoresAll, StoresPrefix, StoresPart, TellsSuch, all_logged, all_sealed, prefix, part, row_of_entry, rows_of_logs, with_index}
+use Rattle.run_command.specs.Seals.{SealsAll, StoresAll, StoresPrefix, StoresPart, TellsSuch, all_logged, prefix, part, row_of_entry, rows_of_logs, with_index}
 
 -- the rows of a run's logs
 pub rows-logged : {L : Type 0} (dir_of : L → List ℕ) (path_of : L → List Step) (text_of : L → Option Text) (entries : List (List Step × L × ℕ)) →
@@ -17,7 +17,7 @@ rows-logged dir_of path_of text_of entries = map-map (λ (log : HandedLog). reco
 
 -- no log was sealed
 pub stores_none : (dir : List ℕ) (logs : List HandedLog) (old new : Option Content) → new ≡ old → StoresPrefix dir logs old new
-stores_none dir logs old new same content tell is = record { content = content; is = same ∙ is; holds = part (between [] (all_sealed logs) refl refl) }
+stores_none dir logs old new same content tell is = record { content = content; is = same ∙ is; holds = part (between [] logs refl refl) }
 
 -- a log was refused
 pub stores_part : (dir : List ℕ) (logs : List HandedLog) (trouble : Trouble) (old new : Option Content) → SealsAll logs (Err trouble) old new → StoresPrefix dir logs old new

@@ -84,7 +84,7 @@ pub data AreRunLogs (rose : Type 0) (program : Program) (dir : List ℕ) (size :
 -- index's name what was there; or the logs of a whole run, and a prefix of its index.
 pub data EndLeaves (rose : Type 0) (program : Program) (dir : List ℕ) (size : ℕ) (old new : Content) : Type 0 where
   nothing : new ≡ old → EndLeaves rose program dir size old new
-  logs : (logs : List SealedLog) → AreRunLogs rose program dir size logs → SealsPrefix dir logs old new → new.held (index_name dir) ≡ old.held (index_name dir)
+  logs : (logs : List HandedLog) → AreRunLogs rose program dir size logs → SealsPrefix logs old new → new.held (index_name dir) ≡ old.held (index_name dir)
       → EndLeaves rose program dir size old new
   index : (tasks : Trace) → IsRun program tasks → (prefix rest : List ℕ) → index_bytes (rows_of tasks) ≡ prefix ++ rest
       → new ≡ with_put (index_name dir) prefix (with_sealed (map (told_log dir size) tasks) old) → EndLeaves rose program dir size old new

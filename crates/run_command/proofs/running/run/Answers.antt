@@ -2,7 +2,7 @@ use Rattle.std.proofs.Common.{sym, ◌∙◌, subst}
 use Rattle.std.proofs.lemmas.Option.{same_Some}
 use Rattle.sw_base.specs.Environment.{Content, Rose}
 use Rattle.kernel_syntax.specs.Program.{program_of}
-use Rattle.run_command.specs.EndsRun.{EndsRun, EndsSo}
+use Rattle.run_command.specs.Ends.{EndsRun, EndsSo}
 use Rattle.run_command.proofs.BeginEnd.{ended_part, ended_run, refused_run}
 use Rattle.run_command.proofs.running.run.Goals as goal
 
