@@ -17,7 +17,7 @@ use Rattle.race_model.specs.IndexFault.{HasRecords}
 use Rattle.race_model.specs.LogFault.{Breaks}
 use Rattle.race_model.specs.Race.{held_after, held_after_kind, IsAccess}
 use Rattle.race_model.specs.Trace.{barrier_count, is_barrier_kind}
-use Rattle.race_model.specs.WellFormed.{EndsOnce}
+use Rattle.race_model.specs.ForkJoin.{EndsOnce}
 use Rattle.race_model.proofs.TraceLogs.{all_at}
 use Rattle.kernel_syntax.specs.Bounds.{IsLine, IsSpan, IsBoundedCode}
 use Rattle.kernel_syntax.specs.FirstKind.{IsOneLoop}

@@ -12,7 +12,7 @@ use Rattle.race_model.specs.KeepsRules.{KeepsRules}
 use Rattle.race_model.specs.Label.{Triple, IsLabel}
 use Rattle.race_model.specs.Listing.{IsListing}
 use Rattle.race_model.specs.Trace.{TaskLog, Trace, Logs, logs_of}
-use Rattle.race_model.specs.WellFormed.{IsTask, IsForkJoin}
+use Rattle.race_model.specs.ForkJoin.{IsTask, IsForkJoin}
 use Rattle.race_model.proofs.FolderForkJoin.{fork_join, paths_same, row_all}
 use Rattle.race_model.proofs.LabelPlace.{has_last, HasLast, not_both_empty}
 use Rattle.race_model.proofs.ListedOnce.{NextShape, next_shape, next_path, first_path, logs_at}

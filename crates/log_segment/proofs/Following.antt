@@ -307,7 +307,7 @@ module _ (logs : Logs) (path : List Step) (before : List Record) (r : Record) (n
       not_root : path ≡ [] → ⊥
       not_root e =
           let total : barriers_before logs after ≤ barrier_count (logs path) = sum_by-take-le (λ (x : Record). cond (is_barrier_kind x.kind) 1 0) (logs path) (length before + 1) in
-          let none : barrier_count (logs path) ≡ 0 = ap (λ (p : List Step). barrier_count (logs p)) e ∙ next.fork_join.no_root_barrier in
+          let none : barrier_count (logs path) ≡ 0 = ap (λ (p : List Step). barrier_count (logs p)) e ∙ next.fork_join.ends.no_root_barrier in
           absurd (omega (arith, more_barriers, none, total))
 
       plus_none : (o s : ℕ) → o ≡ o + s * 0

@@ -13,7 +13,7 @@ use Rattle.race_model.specs.Trace.{Logs, Node}
 use Rattle.race_model.specs.Race.{held_after, held_after_kind}
 use Rattle.race_model.specs.Label.{Triple, IsLabel}
 use Rattle.race_model.specs.Segment.{Event, Segment as Interval, has_access, segment_of, runs_of, with_event, in_first, events_from, events, task_segments}
-use Rattle.race_model.specs.WellFormed.{IsForkJoin}
+use Rattle.race_model.specs.ForkJoin.{IsForkJoin}
 use Rattle.race_model.proofs.LabelPlace.{same_node}
 use Rattle.race_model.proofs.FolderRules.{parted}
 use Rattle.log_segment.specs.declared.segment.Segment.{Segment}

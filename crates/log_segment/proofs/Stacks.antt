@@ -15,7 +15,7 @@ use Rattle.race_model.specs.Label.{Triple, IsLabel}
 use Rattle.race_model.specs.Order.{IsLane}
 use Rattle.race_model.specs.Race.{held_after}
 use Rattle.race_model.specs.Trace.{TaskLog, Trace, Logs, Node, logs_of, regions_before}
-use Rattle.race_model.specs.WellFormed.{IsTask, WasForked, IsForkJoin}
+use Rattle.race_model.specs.ForkJoin.{IsTask, WasForked, IsForkJoin}
 use Rattle.race_model.proofs.LabelPlace.{has_last, HasLast, not_both_empty, is_region}
 use Rattle.race_model.proofs.TraceLogs.{all_at}
 use Rattle.log_segment.specs.Stack.{HasFork}
@@ -53,7 +53,7 @@ pub record Fork (logs : Logs) (above : List Step) (step : Step) (forks : List (V
 
 pub fork_there : (logs : Logs) (forks : List (Vec (List Triple))) (above : List Step) (step : Step) → IsForkJoin logs → IsTask logs (above ++ step ∷ []) → length (above ++ step ∷ []) ≤ 4
     → HasForks logs forks above (length above) → Fork logs above step forks
-fork_there logs forks above step tree begun deep h = go (tree.forked above step begun)
+fork_there logs forks above step tree begun deep h = go (tree.tasks.forked above step begun)
   where
     whole : take (length above) above ≡ above
     whole = take-all above where

@@ -13,7 +13,7 @@ use Rattle.race_model.specs.Trace.{Logs, Node, HasKind, regions_before}
 use Rattle.race_model.specs.Race.{held_after}
 use Rattle.race_model.specs.Label.{Triple, IsLabel}
 use Rattle.race_model.specs.Segment.{Event, Segment as Interval, is_access_event, has_access, segment_of}
-use Rattle.race_model.specs.WellFormed.{IsForkJoin}
+use Rattle.race_model.specs.ForkJoin.{IsForkJoin}
 use Rattle.log_segment.specs.Accesses.{access_of}
 use Rattle.log_segment.specs.Intervals.{IsSegmentOf}
 use Rattle.log_segment.specs.declared.segment.Segment.{Segment}

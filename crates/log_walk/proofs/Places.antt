@@ -26,7 +26,8 @@ use Rattle.race_model.specs.Segment.{segment_count}
 use Rattle.race_model.specs.Trace.{TaskLog, Trace, barrier_count}
 use Rattle.race_model.specs.BadPlace.{BadPlace, no_index, bad_row, missing_log, bad_record, too_many_segments, IsEarlier, place_key, record_rank}
 use Rattle.race_model.specs.LogFault.{LogTask, IsLogFault, OpensTooMany, IsWholeLog, HasTeamBarriers, RowAt, ListsSpans, IsMissingLog, IsBadRecord, max_segments}
-use Rattle.race_model.specs.FirstBad.{rows_of, row_of, segments_in, HoldsLogs, HoldsTrace, IsOneTooMany, IsBad, IsFirstBad, IsWellFormed}
+use Rattle.race_model.specs.FirstBad.{rows_of, row_of, segments_in, HoldsLogs, HoldsTrace, IsOneTooMany, IsBad, IsFirstBad}
+use Rattle.race_model.specs.WellFormed.{IsWellFormed}
 use Rattle.race_model.proofs.IndexPlaces.{index_good}
 use Rattle.log_walk.specs.Check.{NothingBefore}
 use Rattle.log_walk.specs.GoodTrace.{IsGoodTask, IsGoodTrace, AreTeamBarriers, FollowsTeam, log_task}

@@ -1,7 +1,7 @@
 //! The segments of a folder.
 ghost use Rattle.std.specs.Prelude.{◌≡◌, ◌≤◌, IfOk, IfErr, OnOk, IsErrOf};
 ghost use Rattle.sw_base.specs.Environment.{WhereTold, Rose};
-ghost use Rattle.race_model.specs.FirstBad.{IsWellFormed};
+ghost use Rattle.race_model.specs.WellFormed.{IsWellFormed};
 ghost use Rattle.log_walk.specs.Walk.{TellsFirstBad};
 ghost use Rattle.log_walk.specs.Segments.{AreOfFolder};
 

@@ -8,7 +8,7 @@ use Rattle.log_segment.specs.declared.segment.Segment.{Segment}
 use Rattle.log_segment.specs.Intervals.{IsAccessAt, HasAccess, AreSegments}
 use Rattle.race_model.specs.Trace.{Logs, Node, IsThere, record_at}
 use Rattle.race_model.specs.Race.{HasByte, IsRacePair, Lists, pair_cmp}
-use Rattle.race_model.specs.WellFormed.{IsForkJoin}
+use Rattle.race_model.specs.ForkJoin.{IsForkJoin}
 use Rattle.race_model.proofs.LabelLaw.{concurrent_unordered, unordered_concurrent}
 use Rattle.std.proofs.lemmas.Option.{slice_get_within}
 use Rattle.pair_compare.specs.Conflict.{Touches, IsConflict}

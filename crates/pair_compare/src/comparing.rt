@@ -2,7 +2,7 @@ ghost use Rattle.std.specs.Prelude.{[], IfOk, OnOk, OnErr};
 ghost use Rattle.std.specs.List.Sorted.{IsStrictlySortedBy};
 ghost use Rattle.race_model.specs.Race.{IsRacePair, Lists, pair_cmp};
 ghost use Rattle.race_model.specs.Trace.{Logs};
-ghost use Rattle.race_model.specs.WellFormed.{IsForkJoin};
+ghost use Rattle.race_model.specs.ForkJoin.{IsForkJoin};
 ghost use Rattle.log_segment.specs.Intervals.{AreSegments};
 ghost use Rattle.pair_compare.specs.Conflict.{AddsPairs, AddsSome};
 ghost use Rattle.pair_compare.specs.Compare.{AreCompared, IsRacingPair, IsRacingWith};

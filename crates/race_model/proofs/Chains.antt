@@ -8,7 +8,7 @@ use Rattle.log_format.specs.declared.record.Kind.{Kind}
 use Rattle.log_format.specs.declared.record.Kind.TheVariants.{Barrier, Region, End}
 use Rattle.race_model.specs.Trace.{Logs, Node, record_at, IsThere, HasKind, barriers_before}
 use Rattle.race_model.specs.Order.{IsLane, Edge, HappensBefore}
-use Rattle.race_model.specs.WellFormed.{IsForkJoin, EndsOnce}
+use Rattle.race_model.specs.ForkJoin.{IsForkJoin, EndsOnce}
 use Rattle.race_model.proofs.Counts.{there}
 use Rattle.race_model.proofs.LabelPlace.{is_region}
 use Rattle.race_model.proofs.ProgramOrder.{node, happens_before_trans, happens_before_edge, program_order}
@@ -30,7 +30,7 @@ last_of logs path e = record {
 }
 
 ended : (logs : Logs) (x : Node) → IsForkJoin logs → IsThere logs x → LastOf logs x.path
-ended logs x tree here = last_of logs x.path (tree.ended x.path (omega arith))
+ended logs x tree here = last_of logs x.path (tree.ends.ended x.path (omega arith))
 
 -- a record has one kind
 pub one_kind : (logs : Logs) (x y : Node) (k l : Kind) → x.path ≡ y.path → x.index ≡ y.index → HasKind logs x k → HasKind logs y l → k ≡ l

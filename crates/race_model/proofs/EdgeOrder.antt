@@ -5,7 +5,7 @@ use Rattle.log_format.specs.declared.record.Kind.TheVariants.{Region}
 use Rattle.race_model.specs.Trace.{Logs, Node, regions_before, barriers_before}
 use Rattle.race_model.specs.Order.{IsLane, IsNext, IsForkEdge, IsJoinEdge, IsBarrierEdge, Edge, HappensBefore}
 use Rattle.race_model.specs.Label.{Triple, IsTripleBefore, IsLabel, IsLabelBefore, lane_triple}
-use Rattle.race_model.specs.WellFormed.{IsForkJoin}
+use Rattle.race_model.specs.ForkJoin.{IsForkJoin}
 use Rattle.race_model.proofs.Counts.{regions_up, regions_after, barriers_up, barriers_after, there}
 use Rattle.race_model.proofs.LabelOrder.{not_earlier, label_before_below, label_before_longer, label_before_trans}
 use Rattle.race_model.proofs.LabelPlace.{is_region, label_unique, label_exists, offset_residue, offset_up}

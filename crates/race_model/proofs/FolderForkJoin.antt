@@ -19,7 +19,7 @@ use Rattle.race_model.specs.IndexFault.{IsRow, IsStep, AreRows}
 use Rattle.race_model.specs.LogFault.{Breaks, ListsSpans}
 use Rattle.race_model.specs.FirstBad.{row_of, rows_of}
 use Rattle.race_model.specs.KeepsRules.{KnowsTeam, TaskKeepsRules, KeepsRules}
-use Rattle.race_model.specs.WellFormed.{EndsOnce, IsTask, WasForked, IsForkJoin}
+use Rattle.race_model.specs.ForkJoin.{EndsOnce, IsTask, WasForked, IsForkJoin}
 use Rattle.race_model.proofs.Counts.{count_finds, Counted}
 use Rattle.race_model.proofs.LabelPlace.{has_last, HasLast}
 use Rattle.race_model.proofs.Listed.{above_listed, beside_listed, root_listed}
@@ -302,10 +302,11 @@ module _ (trace : Trace) (good : KeepsRules trace) where
 
   pub fork_join : IsForkJoin (logs_of trace)
   fork_join = record {
-    root = root_begun;
-    ended = ended;
-    forked = forked;
-    lanes = lanes_begun;
-    same_barriers = λ fork lane other span path beside mine yours. as_first fork lane span path mine ∙ sym (as_first fork other span beside yours);
-    no_root_barrier = none_in_root (barrier_count (logs_of trace [])) refl;
+    tasks = record { root = root_begun; forked = forked };
+    ends = record {
+      ended = ended;
+      lanes = lanes_begun;
+      same_barriers = λ fork lane other span path beside mine yours. as_first fork lane span path mine ∙ sym (as_first fork other span beside yours);
+      no_root_barrier = none_in_root (barrier_count (logs_of trace [])) refl;
+    };
   }

@@ -11,7 +11,8 @@ use Rattle.race_model.specs.Listing.{lane_of}
 use Rattle.race_model.specs.Trace.{TaskLog, Trace, logs_of, barrier_count}
 use Rattle.race_model.specs.IndexFault.{IsStep}
 use Rattle.race_model.specs.LogFault.{IsWholeLog, HasTeamBarriers}
-use Rattle.race_model.specs.FirstBad.{HoldsTrace, IsWellFormed, rows_of}
+use Rattle.race_model.specs.FirstBad.{HoldsTrace, rows_of}
+use Rattle.race_model.specs.WellFormed.{IsWellFormed}
 use Rattle.race_model.specs.KeepsRules.{KnowsTeam, TaskKeepsRules, KeepsRules}
 use Rattle.race_model.proofs.LabelPlace.{has_last, HasLast, not_both_empty}
 use Rattle.race_model.proofs.Listed.{beside_listed, spans_listed}

@@ -20,7 +20,8 @@ use Rattle.race_model.specs.Listing.{lane_of}
 use Rattle.race_model.specs.Trace.{TaskLog, Trace}
 use Rattle.race_model.specs.BadPlace.{bad_record}
 use Rattle.race_model.specs.LogFault.{LogTask, Breaks, IsBroken, IsLogFault, IsWholeLog, HasTeamBarriers, ListsSpans, ListsRegion, IsRecord}
-use Rattle.race_model.specs.FirstBad.{HoldsTrace, IsWellFormed, row_of, rows_of}
+use Rattle.race_model.specs.FirstBad.{HoldsTrace, row_of, rows_of}
+use Rattle.race_model.specs.WellFormed.{IsWellFormed}
 use Rattle.race_model.proofs.Listed.{AreSpans}
 use Rattle.race_model.proofs.TraceLogs.{all_at}
 

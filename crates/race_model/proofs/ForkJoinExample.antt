@@ -11,7 +11,7 @@ use Rattle.log_format.specs.declared.record.Kind.{Kind}
 use Rattle.log_format.specs.declared.record.Kind.TheVariants.{Read, Write, Barrier, Region, End}
 use Rattle.race_model.specs.Trace.{Trace, Logs, Node, logs_of, step_eq, path_eq, barrier_count}
 use Rattle.race_model.specs.Order.{IsLane, lane_path}
-use Rattle.race_model.specs.WellFormed.{IsForkJoin, IsTask, EndsOnce, WasForked}
+use Rattle.race_model.specs.ForkJoin.{IsForkJoin, IsTask, EndsOnce, WasForked}
 use Rattle.race_model.proofs.LabelPlace.{not_both_empty, same_node}
 
 -- what holds of each task of a trace holds of each path with a record
@@ -186,10 +186,14 @@ barriers_of_lane fork n s path lane =
 pub team_is_fork_join : IsForkJoin (logs_of team)
 unfolding Forked
 team_is_fork_join = record {
-  root = omega arith;
-  ended = λ path. at_task (λ _ records. EndsOnce records) team path (root_ends, (writer_ends, (reader_ends, tt)));
-  forked = λ path step begun. at_task Forked team (path ++ step ∷ []) (root_forked, (lane_forked 0 (omega arith), (lane_forked 1 (omega arith), tt))) begun path step refl;
-  lanes = λ fork n s path lane. let t = of_team fork n s path lane in subst (λ (p : List Step). IsTask logs p) (sym t.is_path) (begins n t.in_two);
-  same_barriers = λ fork n m s path beside lane other. barriers_of_lane fork n s path lane ∙ sym (barriers_of_lane fork m s beside other);
-  no_root_barrier = refl;
+  tasks = record {
+    root = omega arith;
+    forked = λ path step begun. at_task Forked team (path ++ step ∷ []) (root_forked, (lane_forked 0 (omega arith), (lane_forked 1 (omega arith), tt))) begun path step refl;
+  };
+  ends = record {
+    ended = λ path. at_task (λ _ records. EndsOnce records) team path (root_ends, (writer_ends, (reader_ends, tt)));
+    lanes = λ fork n s path lane. let t = of_team fork n s path lane in subst (λ (p : List Step). IsTask logs p) (sym t.is_path) (begins n t.in_two);
+    same_barriers = λ fork n m s path beside lane other. barriers_of_lane fork n s path lane ∙ sym (barriers_of_lane fork m s beside other);
+    no_root_barrier = refl;
+  };
 }

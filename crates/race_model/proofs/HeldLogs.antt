@@ -6,7 +6,7 @@ use Rattle.log_format.specs.declared.record.Record.{Record}
 use Rattle.race_model.specs.Trace.{TaskLog, Trace, logs_of}
 use Rattle.race_model.specs.LogFault.{IsWholeLog}
 use Rattle.race_model.specs.FirstBad.{HoldsTrace}
-use Rattle.race_model.specs.WellFormed.{IsTask}
+use Rattle.race_model.specs.ForkJoin.{IsTask}
 use Rattle.race_model.proofs.TraceLogs.{all_at, find_task}
 
 -- the records at a path are those of the log there

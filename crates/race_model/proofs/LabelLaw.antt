@@ -9,7 +9,7 @@ use Rattle.race_model.specs.Trace.{Logs, Node, IsThere, HasKind, regions_before,
 use Rattle.race_model.specs.Order.{IsLane, HappensBefore}
 use Rattle.race_model.specs.Race.{IsUnordered}
 use Rattle.race_model.specs.Label.{Triple, IsLabel, IsLabelBefore, IsConcurrent, lane_triple}
-use Rattle.race_model.specs.WellFormed.{IsForkJoin}
+use Rattle.race_model.specs.ForkJoin.{IsForkJoin}
 use Rattle.race_model.proofs.Counts.{regions_up, regions_after, barriers_up, barriers_after, there, barrier_at, BarrierAt}
 use Rattle.race_model.proofs.LabelOrder.{label_not_before_itself, label_before_trans, how_before, GoesOn, PartsAfter}
 use Rattle.race_model.proofs.LabelPlace.{same_node, label_exists, label_unique, label_last, same_place}
@@ -86,7 +86,7 @@ one_team_before : (logs : Logs) (x y a b : Node) → IsForkJoin logs → IsThere
 one_team_before logs x y a b tree x_there y_there a_x b_y team =
     let less : barriers_before logs a < barriers_before logs b = team.fewer_barriers in
     let total : barriers_before logs b ≤ barrier_count (logs b.path) = sum_by-take-le (λ r. cond (is_barrier_kind r.kind) 1 0) (logs b.path) b.index in
-    let same : barrier_count (logs a.path) ≡ barrier_count (logs b.path) = tree.same_barriers team.fork team.my_lane team.your_lane team.span a.path b.path team.mine team.yours in
+    let same : barrier_count (logs a.path) ≡ barrier_count (logs b.path) = tree.ends.same_barriers team.fork team.my_lane team.your_lane team.span a.path b.path team.mine team.yours in
     at (barrier_at logs a.path (barriers_before logs a) (omega arith)) (barrier_at logs b.path (barriers_before logs a) (omega arith))
   where
     at : BarrierAt logs a.path (barriers_before logs a) → BarrierAt logs b.path (barriers_before logs a) → HappensBefore logs x y
@@ -174,7 +174,7 @@ same_label_regions logs x y l m is_l is_m e = let place = same_place logs x y l 
 no_barriers : (logs : Logs) (x : Node) → IsForkJoin logs → x.path ≡ [] → barriers_before logs x ≡ 0
 no_barriers logs x tree e =
     let total : barriers_before logs x ≤ barrier_count (logs x.path) = sum_by-take-le (λ r. cond (is_barrier_kind r.kind) 1 0) (logs x.path) x.index in
-    let none_there : barrier_count (logs x.path) ≡ 0 = ap (λ (path : List Step). barrier_count (logs path)) e ∙ tree.no_root_barrier in
+    let none_there : barrier_count (logs x.path) ≡ 0 = ap (λ (path : List Step). barrier_count (logs path)) e ∙ tree.ends.no_root_barrier in
     omega arith
 
 last_barrier : (logs : Logs) (x : Node) (l prefix : List Triple) (t : Triple) → IsForkJoin logs → IsLabel logs x l → l ≡ prefix ++ t ∷ [] → barriers_before logs x ≡ t.barrier

@@ -7,7 +7,7 @@ use Rattle.log_format.specs.declared.record.Kind.TheVariants.{Region}
 use Rattle.race_model.specs.Trace.{Logs, Node, IsThere, HasKind, regions_before}
 use Rattle.race_model.specs.Order.{IsLane, lane_path}
 use Rattle.race_model.specs.Label.{Triple, IsLabel, lane_triple}
-use Rattle.race_model.specs.WellFormed.{IsForkJoin, IsTask}
+use Rattle.race_model.specs.ForkJoin.{IsForkJoin, IsTask}
 use Rattle.race_model.proofs.Counts.{regions_after, there}
 
 -- a list is empty or has a last element
@@ -95,7 +95,7 @@ labels logs tree (suc d) x h here = at (has_last x.path) (labels logs tree d)
     at (inl e) rec = record { label = _; is_label = IsLabel.root x e }
     at (inr l) rec =
         let begun : IsTask logs x.path = omega arith in
-        let forked = tree.forked l.prefix l.last (subst (λ (path : List Step). IsTask logs path) l.parts begun) in
+        let forked = tree.tasks.forked l.prefix l.last (subst (λ (path : List Step). IsTask logs path) l.parts begun) in
         let lane : IsLane logs forked.fork l.last.lane l.last.span x.path =
         subst (λ (path : List Step). IsLane logs forked.fork l.last.lane l.last.span path) (sym l.parts) forked.lane in
         let shorter : length forked.fork.path < d =

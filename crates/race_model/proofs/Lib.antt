@@ -1,5 +1,6 @@
 pub mod Chains
 pub mod Counts
+pub mod DrawVectors
 pub mod EdgeOrder
 pub mod FolderForkJoin
 pub mod FolderKeepsRules
@@ -8,6 +9,7 @@ pub mod FolderTrace
 pub mod ForkJoinExample
 pub mod HeldLogs
 pub mod HeldMutexes
+pub mod HistoryVectors
 pub mod IndexPlaces
 pub mod IndexRows
 pub mod IndexVectors
@@ -29,4 +31,5 @@ pub mod ProgramOrder
 pub mod RaceVectors
 pub mod RowSpelling
 pub mod SegmentVectors
+pub mod StoppedTree
 pub mod TraceLogs

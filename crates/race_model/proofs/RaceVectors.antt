@@ -17,7 +17,7 @@ use Rattle.race_model.proofs.LabelVectors.{triple, not_across}
 use Rattle.race_model.proofs.LabelLaw.{concurrent_unordered}
 
 -- the record of a lane with this index
-abbrev at : ℕ → ℕ → Node
+abbrev pub at : ℕ → ℕ → Node
 at lane index = record { path = lane_of lane; index = index }
 
 abbrev writes_first : Record

@@ -8,7 +8,7 @@ use Rattle.log_format.specs.declared.record.Record.{Record}
 use Rattle.race_model.specs.Row.{Row}
 use Rattle.race_model.specs.Trace.{TaskLog, Trace, logs_of, step_eq, path_eq}
 use Rattle.race_model.specs.FirstBad.{row_of, rows_of}
-use Rattle.race_model.specs.WellFormed.{IsTask}
+use Rattle.race_model.specs.ForkJoin.{IsTask}
 
 both_true : (a b : Bool) → (a && b) ≡ true → (a ≡ true) × (b ≡ true)
 both_true true true e = (refl, refl)

@@ -1,4 +1,4 @@
--- The first bad place of a folder, and the folder that has none.
+-- The first bad place of a folder.
 use Rattle.std.specs.Prelude.{◌≡◌, ℕ, List, length, take, map, sum_by, All, Some}
 use Rattle.sw_base.specs.Environment.{Files}
 use Rattle.sw_base.specs.Names.{log_name}
@@ -56,7 +56,3 @@ IsBad files dir (too_many_segments row n) = AtRows files dir (λ (rows : List Ro
 pub record IsFirstBad (files : Files) (dir : List ℕ) (place : BadPlace) : Type 0 where
   pub bad : IsBad files dir place
   pub least : (other : BadPlace) → IsEarlier other place → IsBad files dir other → ⊥
-
--- the folder is bad at no place
-abbrev pub IsWellFormed : Files → List ℕ → Type 0
-IsWellFormed files dir = (place : BadPlace) → IsBad files dir place → ⊥

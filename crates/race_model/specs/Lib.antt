@@ -1,4 +1,8 @@
+pub mod BadPlace
+pub mod Draws
 pub mod FirstBad
+pub mod ForkJoin
+pub mod History
 pub mod IndexFault
 pub mod KeepsRules
 pub mod Label
@@ -6,7 +10,6 @@ pub mod Listing
 pub mod LogFault
 pub mod Mutexes
 pub mod Order
-pub mod BadPlace
 pub mod Race
 pub mod Row
 pub mod Segment

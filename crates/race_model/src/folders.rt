@@ -1,10 +1,11 @@
 ghost use Rattle.std.specs.Prelude.{◌≡◌, List, ℕ};
 ghost use Rattle.sw_base.specs.Environment.{Files};
-ghost use Rattle.race_model.specs.FirstBad.{HoldsTrace, IsBad, IsWellFormed};
+ghost use Rattle.race_model.specs.FirstBad.{HoldsTrace, IsBad};
+ghost use Rattle.race_model.specs.WellFormed.{IsWellFormed};
 ghost use Rattle.race_model.specs.KeepsRules.{KeepsRules};
 ghost use Rattle.race_model.specs.BadPlace.{BadPlace, IsTooMany};
 ghost use Rattle.race_model.specs.Trace.{Trace, logs_of};
-ghost use Rattle.race_model.specs.WellFormed.{IsForkJoin};
+ghost use Rattle.race_model.specs.ForkJoin.{IsForkJoin};
 
 /// The trace that a folder without a bad place holds keeps every rule, and one that does is the trace of a fork-join run.
 pub fn well_formed_folder_is_fork_join()

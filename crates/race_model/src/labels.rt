@@ -3,7 +3,7 @@ ghost use Rattle.race_model.specs.Label.{Triple, IsLabel, IsLabelBefore, IsConcu
 ghost use Rattle.race_model.specs.Order.{HappensBefore};
 ghost use Rattle.race_model.specs.Race.{IsUnordered};
 ghost use Rattle.race_model.specs.Trace.{Logs, Node, IsThere, regions_before, barriers_before};
-ghost use Rattle.race_model.specs.WellFormed.{IsForkJoin};
+ghost use Rattle.race_model.specs.ForkJoin.{IsForkJoin};
 
 /// Offset-span labels with barrier numbers tell happens-before exactly (Mellor-Crummey 1991): each record of a fork-join run
 /// has one label, and a record happens before another exactly where its label is before the other's, or both have the same

@@ -1,5 +1,6 @@
 //! What the checker means, as definitions and laws: the records of a run, happens-before by forks, joins and barriers,
-//! the mutexes held at an access, data races and their line pairs, offset-span labels, and the first bad place of a folder.
+//! the mutexes held at an access, data races and their line pairs, offset-span labels, the first bad place of a folder,
+//! the sequentially consistent histories of a run, and the draws of its dynamic loops.
 //!
 //! The laws: happens-before is a partial order, and labels tell it; a folder that is bad nowhere holds at most one run, and
 //! that is a fork-join run; rows are a listing where each path is the next after the one before; the first bad place is one.

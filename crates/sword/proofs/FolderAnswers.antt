@@ -2,7 +2,8 @@
 use Rattle.std.proofs.Common.{◌≡◌, ℕ, List, Option, sym, ◌∙◌}
 use Rattle.sw_base.specs.Environment.{Files}
 use Rattle.race_model.specs.Trace.{Trace}
-use Rattle.race_model.specs.FirstBad.{IsWellFormed, HoldsTrace}
+use Rattle.race_model.specs.FirstBad.{HoldsTrace}
+use Rattle.race_model.specs.WellFormed.{IsWellFormed}
 use Rattle.command_answer.specs.Answer.{Tries}
 use Rattle.command_answer.proofs.Answering.{Tries-weaker}
 use Rattle.sword.specs.Check.{FolderDue, refused, answered, IsRefusedFolder}

@@ -3,7 +3,8 @@ use Rattle.std.specs.Prelude.{◌≡◌, ℕ, List, [], ◌∷◌}
 use Rattle.sw_base.specs.declared.path.Step.{Step}
 use Rattle.sw_base.specs.Environment.{Files}
 use Rattle.race_model.specs.BadPlace.{BadPlace, no_index, bad_row, missing_log, bad_record, too_many_segments}
-use Rattle.race_model.specs.FirstBad.{IsFirstBad, IsWellFormed, HoldsTrace}
+use Rattle.race_model.specs.FirstBad.{IsFirstBad, HoldsTrace}
+use Rattle.race_model.specs.WellFormed.{IsWellFormed}
 use Rattle.race_model.specs.Race.{IsRacePair, Lists}
 use Rattle.race_model.specs.Trace.{Trace, logs_of}
 use Rattle.race_report.specs.Report.{report_text}

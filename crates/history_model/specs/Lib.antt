@@ -1,0 +1,3 @@
+pub mod Did
+pub mod Sound
+pub mod Work

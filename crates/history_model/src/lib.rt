@@ -1,0 +1,2 @@
+//! One history of a run, as definitions and laws.
+#![tactic(auto)]

@@ -1,0 +1,4 @@
+pub mod Handles
+pub mod Rule
+pub mod Steps
+pub mod Views

@@ -1,0 +1,172 @@
+//! Shared words, on one table.
+ghost use Rattle.std.specs.Prelude.{◌≡◌, ◌+◌, ◌<◌, ◌≤◌, ◌∷◌, [], length, slice_index, Contains, EachIndex, IfOk, vec_len};
+ghost use Rattle.core.specs.Mem.Slots.{slots_items, slots_len, IsFull};
+ghost use Rattle.step_history.specs.History.{HasHistory};
+ghost use Rattle.step_history.specs.declared.item.Deed.TheVariants.{Read, Write};
+ghost use Rattle.shared_words.specs.Handles.{WordsValue, Belongs, IsHome, hand_with, with_view};
+ghost use Rattle.shared_words.specs.Rule.{ELEMENTS};
+ghost use Rattle.shared_words.specs.Views.{newcomer, did, locked, unlocked, rest, parted, child, met};
+
+use crate::hand::Hand;
+use crate::rule::{Announces, Law, Loads, Locks, Meets, Parts, Stores, Unlocks};
+use crate::view::View;
+use atomic_table::Table;
+use std::alloc::Global;
+use std::marker::Model;
+use std::sync::Wait;
+use sw_base::Memory;
+
+// The words of the mutexes come first, then one that is free, then the elements.
+const FREE: usize = 64;
+
+const FIRST_ELEMENT: usize = 65;
+
+const ELEMENT_LIMIT: usize = 1_048_576;
+
+const LOCK_LIMIT: usize = 64;
+
+/// Words and mutexes that threads share.
+#[derive(Drop)]
+pub struct Words {
+    table: Table<(), View, usize, Law, Global>,
+    // Where the values go at the end.
+    room: Vec<u64>,
+    locks: usize,
+}
+
+// The values of the elements.
+fn copy_elements(closed: &atomic_table::Closed<(), Global>, room: &mut [u64])
+    requires full { IsFull closed.now.words }
+    requires long { ELEMENTS + length room.old ≤ slots_len closed.now.words }
+    ensures { EachIndex room.new (λ k. slice_index room.new k ≡ slice_index (slots_items closed.now.words) (ELEMENTS + k)) }
+{
+    for (i, word) in room.iter_mut().enumerate() {
+        *word = closed.word(FIRST_ELEMENT + i);
+    }
+}
+
+/// What the words were at the end.
+#[derive(Drop)]
+pub struct Closed {
+    pub words: Vec<u64>,
+}
+
+impl Model for Words {
+    ghost Value = { WordsValue };
+
+    ghost view = { λ w. record { table = w.table.shared.table_id; elements = vec_len w.room; locks = w.locks } };
+
+    ghost invariant = { λ w. (w.table.shared.table_id.words ≡ ELEMENTS + vec_len w.room) × (w.table.shared.key ≡ vec_len w.room) × (w.table.shared.table_id.slots ≡ 0) × (w.locks ≤ 64) × (vec_len w.room ≤ 1048576) };
+}
+
+impl Words {
+    /// Each word is 0, and nobody holds a mutex.
+    pub fn new(alloc: Global, elements: usize, locks: usize) -> Result<(Words, Hand), Memory>
+        requires elements { elements ≤ 1048576 }
+        requires locks { locks ≤ 64 }
+        ensures counts { IfOk result (λ r. (r.0.elements ≡ elements) × (r.0.locks ≡ locks)) }
+        ensures hand { IfOk result (λ r. r.1 ≡ hand_with r.0.table (newcomer [])) }
+    {
+        let mut room = Vec::new(alloc);
+        room.resize(FIRST_ELEMENT + elements, 0u64)?;
+        let (table, seat) = Table::of_words(alloc, &room, &elements)?;
+        room.truncate(elements);
+        Ok((Words { table, room, locks }, Hand::of(seat)))
+    }
+
+    pub fn load(&self, hand: &mut Hand, word: usize) -> u64
+        requires hand { Belongs hand.old self.now }
+        requires word { word < self.now.elements }
+        ensures { hand.new ≡ with_view hand.old (did hand.old.view (Read word result)) }
+    {
+        let mut seat = hand.take();
+        let value = self.table.shared.load::<Loads>(&mut seat, FIRST_ELEMENT + word);
+        *hand = Hand::of(seat);
+        value
+    }
+
+    pub fn store(&self, hand: &mut Hand, word: usize, value: u64)
+        requires hand { Belongs hand.old self.now }
+        requires word { word < self.now.elements }
+        ensures { hand.new ≡ with_view hand.old (did hand.old.view (Write word value)) }
+    {
+        let mut seat = hand.take();
+        self.table.shared.store::<Stores>(&mut seat, FIRST_ELEMENT + word, value);
+        *hand = Hand::of(seat);
+    }
+
+    /// Waits until the mutex is won.
+    pub fn lock<R: Wait>(&self, rt: &R, hand: &mut Hand, mutex: usize)
+        requires hand { Belongs hand.old self.now }
+        requires mutex { mutex < self.now.locks }
+        requires not_held { Contains hand.old.view.held mutex → ⊥ }
+        ensures { hand.new ≡ with_view hand.old (locked hand.old.view mutex) }
+    {
+        let mut seat = hand.take();
+        for _ in rt.forever() {
+            if self.table.shared.compare_exchange::<Locks>(&mut seat, mutex, 0, 1) == 0 {
+                break;
+            }
+            self.table.shared.park(rt, mutex, 1);
+        }
+        *hand = Hand::of(seat);
+    }
+
+    /// Gives back the mutex that was won last, and wakes a thread that waits for it.
+    pub fn unlock(&self, hand: &mut Hand, mutex: usize)
+        requires hand { Belongs hand.old self.now }
+        requires mutex { mutex < self.now.locks }
+        requires innermost { hand.old.view.held ≡ mutex ∷ rest hand.old.view.held }
+        ensures { hand.new ≡ with_view hand.old (unlocked hand.old.view mutex) }
+    {
+        let mut seat = hand.take();
+        self.table.shared.store::<Unlocks>(&mut seat, mutex, 0);
+        self.table.shared.wake_one(mutex);
+        *hand = Hand::of(seat);
+    }
+
+    /// A new hand, for a lane of a team.
+    pub fn split(&self, hand: &mut Hand, lane: u16, span: u16) -> Hand
+        requires { Belongs hand.old self.now }
+        ensures kept { hand.new ≡ with_view hand.old (parted hand.old.view lane span) }
+        ensures given { result ≡ with_view hand.old (child hand.old.view) }
+    {
+        let mut seat = hand.take();
+        let shared = &self.table.shared;
+        shared.compare_exchange::<Announces>(&mut seat, FREE, lane as u64, span as u64);
+        let other = shared.split_seat::<Parts>(&mut seat);
+        *hand = Hand::of(seat);
+        Hand::of(other)
+    }
+
+    /// The other hand's part is done.
+    pub fn join(&self, hand: &mut Hand, mut other: Hand)
+        requires hand { Belongs hand.old self.now }
+        requires other { Belongs other self.now }
+        requires home { IsHome hand.old other }
+        ensures { hand.new ≡ with_view hand.old (met hand.old.view other.view) }
+    {
+        let mut seat = hand.take();
+        self.table.shared.join_seat::<Meets>(&mut seat, other.take());
+        *hand = Hand::of(seat);
+    }
+
+    /// The last values of the words. What all hands did has one history, which ends in them.
+    pub fn close(self, mut hand: Hand) -> Closed
+        requires hand { Belongs hand self }
+        requires first { hand.view.name ≡ [] }
+        requires none_out { hand.view.out ≡ [] }
+        ensures len { vec_len result.words ≡ self.elements }
+        ensures history { HasHistory hand.view.items result.words.items }
+    {
+        let Words {
+            table,
+            mut room,
+            locks: _,
+        } = self;
+        let closed = table.close_with(hand.take());
+        copy_elements(&closed, &mut room);
+        closed.free();
+        Closed { words: room }
+    }
+}

@@ -1,0 +1,3 @@
+pub mod Exclusion
+pub mod Folds
+pub mod Names

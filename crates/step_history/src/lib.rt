@@ -1,0 +1,8 @@
+//! Histories of shared words and mutexes, as definitions and a law: what the hands of one table did, each step in one order.
+#![tactic(auto)]
+
+mod item;
+mod mutexes;
+
+pub use item::{Deed, Item};
+pub use mutexes::critical_sections_exclude_each_other;
