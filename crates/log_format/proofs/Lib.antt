@@ -1,3 +1,4 @@
+pub mod Bytes
 pub mod Logs
 pub mod Records
 pub mod Vectors

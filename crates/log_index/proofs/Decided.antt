@@ -21,7 +21,8 @@ use Rattle.log_index.specs.Rows.{path_of, AddsRow, OneMore}
 use Rattle.log_index.proofs.Ends.{more_parts}
 use Rattle.log_index.proofs.Parsing.{row_from, adds_row}
 use Rattle.log_index.proofs.RowTests.{paths_same}
-use Rattle.log_index.proofs.Spelled.{four_at, two_at, eight_at, step_spelled, row_spelled, four_fit}
+use Rattle.log_format.proofs.Bytes.{two_at, four_at, eight_at}
+use Rattle.log_index.proofs.Spelled.{step_spelled, row_spelled, four_fit}
 
 -- whether a fact holds can be told
 abbrev Decided : Type 0 → Type 0
