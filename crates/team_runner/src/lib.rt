@@ -7,6 +7,7 @@
 mod element;
 mod frame;
 mod lane;
+mod parts;
 mod recorder;
 mod run;
 mod stop;
