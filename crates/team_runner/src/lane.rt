@@ -22,7 +22,7 @@ use crate::recorder::Recorder;
 use crate::stop::Stop;
 use crate::value::value;
 use kernel_syntax::{Array, Schedule, Stmt, Team, even_share, fit};
-use log_format::Kind;
+use log_format::{Kind, Record};
 use std::alloc::Global;
 use sw_base::{Gate, Log, Trouble};
 
