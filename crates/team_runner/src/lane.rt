@@ -17,7 +17,7 @@ ghost use Rattle.kernel_syntax.specs.Program.{code_of, stmt_code, team_of};
 
 use crate::element::find_element;
 use crate::frame::Frame;
-use crate::parts::{event, parted};
+use crate::shared::{event, parted};
 use crate::recorder::Recorder;
 use crate::stop::Stop;
 use crate::value::value;

@@ -7,7 +7,7 @@
 mod element;
 mod frame;
 mod lane;
-mod parts;
+mod shared;
 mod recorder;
 mod run;
 mod stop;

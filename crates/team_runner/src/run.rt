@@ -19,7 +19,7 @@ ghost use Rattle.sw_base.specs.Environment.{WhereTold, empty_text};
 ghost use Rattle.kernel_model.specs.FirstTeam.{first_team};
 
 use crate::lane::Lane;
-use crate::parts::{event, parted};
+use crate::shared::{event, parted};
 use crate::recorder::Recorder;
 use crate::stop::Stop;
 use crate::team::{Halt, fork, run_lanes};

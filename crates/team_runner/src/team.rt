@@ -12,7 +12,7 @@ ghost use Rattle.sw_base.specs.declared.trouble.Trouble.TheVariants as trouble;
 
 use crate::frame::Frame;
 use crate::lane::{Lane, Pass};
-use crate::parts::parted;
+use crate::shared::parted;
 use crate::recorder::Recorder;
 use crate::stop::Stop;
 use kernel_syntax::{Array, Stmt, Team};
