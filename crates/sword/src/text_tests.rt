@@ -1,6 +1,8 @@
 //! The texts of refusals and of records that no other test has, with the values that the formats give.
 
-use crate::tests::{BARRIER, END, ROOT, Rec, Task, answers, made_folder, lock, region, unlock, write};
+use crate::tests::{
+    BARRIER, END, ROOT, Rec, Task, answers, lock, made_folder, region, unlock, write,
+};
 use command_answer::{DONE, FOLDER_REFUSED};
 use std::alloc::Global;
 use std::process::Abort;

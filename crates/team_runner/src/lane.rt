@@ -17,8 +17,8 @@ ghost use Rattle.kernel_syntax.specs.Program.{code_of, stmt_code, team_of};
 
 use crate::element::find_element;
 use crate::frame::Frame;
-use crate::shared::{event, parted};
 use crate::recorder::Recorder;
+use crate::shared::{event, parted};
 use crate::stop::Stop;
 use crate::value::value;
 use kernel_syntax::{Array, Schedule, Stmt, Team, even_share, fit};

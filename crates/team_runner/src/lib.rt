@@ -7,9 +7,9 @@
 mod element;
 mod frame;
 mod lane;
-mod shared;
 mod recorder;
 mod run;
+mod shared;
 mod stop;
 mod team;
 mod value;

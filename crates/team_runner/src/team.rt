@@ -12,8 +12,8 @@ ghost use Rattle.sw_base.specs.declared.trouble.Trouble.TheVariants as trouble;
 
 use crate::frame::Frame;
 use crate::lane::{Lane, Pass};
-use crate::shared::parted;
 use crate::recorder::Recorder;
+use crate::shared::parted;
 use crate::stop::Stop;
 use kernel_syntax::{Array, Stmt, Team};
 use std::alloc::{AllocError, Global};
