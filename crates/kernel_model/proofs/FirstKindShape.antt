@@ -1,6 +1,6 @@
 -- What a lane of a kernel of the first kind records: accesses, the barrier at its loop's end unless there is none, and End.
 use Rattle.std.proofs.Common.{◌≡◌, refl, ap, sym, ◌∙◌, subst, inl, inr, ℕ, zero, suc, ◌+◌, ◌*◌, ◌^◌, ◌<◌, ◌≤◌, Bool, true, false, cond, List, [], ◌∷◌, ◌++◌, length, ℤ, pos, negsuc, ◌+ℤ◌, Option, Some, None, nat_lt, slice_get, IfSome, All, arith, append_assoc}
-use Rattle.std.proofs.Math.Facts.{RecordFits-of_z}
+use Rattle.std.proofs.Math.Facts.{Fits-of_z}
 use Rattle.std.proofs.lemmas.Bool.Decides.{nat_tests}
 use Rattle.std.proofs.lemmas.List.{append-nil}
 use Rattle.std.proofs.lemmas.List.Elements.{All-nil, All-cons, All-append}
@@ -89,7 +89,7 @@ module _ (e : Element) (site line : ℕ) (v : ℤ) (placed : IsPlacedElement e) 
     site = place.site_fits;
     line = place.line_is.fits;
     addr = let ends = placed.ends in omega arith;
-    value = (RecordFits-of_z (fitted_fits v e.width placed.width)).fits;
+    value = (Fits-of_z (fitted_fits v e.width placed.width)).fits;
   }
 
   read_tabled : IsTabledAccess (access kind.Read e site line (fitted v e.width))

@@ -9,6 +9,7 @@ use Rattle.log_format.specs.declared.record.Record.{Record}
 use Rattle.log_format.specs.declared.record.Why.{Why}
 use Rattle.log_format.specs.declared.record.Why.TheVariants as why
 use Rattle.log_format.specs.Spelling.{kind_code, spelling}
+use Rattle.log_format.proofs.Bytes.{two_at, four_at, eight_at, two_bytes, four_bytes, eight_bytes}
 use Rattle.log_format.specs.Table.{RecordFits, Spells, PassesTable, rank, IsFirstFailed, IsFirstFault}
 
 -- a record is spelled by 24 bytes
@@ -70,16 +71,6 @@ pub spells-injective : (bytes : List ℕ) (r s : Record) → Spells bytes r → 
 spells-injective bytes r s one other =
     spelling-injective r s one.tabled.fits other.tabled.fits (sym one.spelled ∙ other.spelled)
 
--- the elements from a place on
-abbrev two_at : List ℕ → ℕ → List ℕ
-two_at bs i = get_or bs i 0 ∷ get_or bs (i + 1) 0 ∷ []
-
-abbrev four_at : List ℕ → ℕ → List ℕ
-four_at bs i = get_or bs i 0 ∷ get_or bs (i + 1) 0 ∷ get_or bs (i + 2) 0 ∷ get_or bs (i + 3) 0 ∷ []
-
-abbrev eight_at : List ℕ → ℕ → List ℕ
-eight_at bs i = get_or bs i 0 ∷ get_or bs (i + 1) 0 ∷ get_or bs (i + 2) 0 ∷ get_or bs (i + 3) 0 ∷ get_or bs (i + 4) 0 ∷ get_or bs (i + 5) 0 ∷ get_or bs (i + 6) 0 ∷ get_or bs (i + 7) 0 ∷ []
-
 -- a list of 24 is its elements
 list_of_24 : (bs : List ℕ) → length bs ≡ 24
     → bs ≡ get_or bs 0 0 ∷ get_or bs 1 0 ∷ two_at bs 2 ++ four_at bs 4 ++ eight_at bs 8 ++ eight_at bs 16
@@ -95,30 +86,6 @@ rank-injective why.Address why.Address same = refl
 rank-injective why.Span why.Span same = refl
 rank-injective why.Reserved why.Reserved same = refl
 rank-injective _ _ same = absurd (omega arith)
-
--- every number of a list is a byte
-record AreBytes (xs : List ℕ) : Type 0 where
-  each : (i : ℕ) → get_or xs i 0 < 256
-
-no_bytes : AreBytes []
-no_bytes = record { each = λ i. omega arith }
-
-one_more : {x : ℕ} {xs : List ℕ} → x < 256 → AreBytes xs → AreBytes (x ∷ xs)
-one_more {x} {xs} small rest = record { each = each } where
-  each : (i : ℕ) → get_or (x ∷ xs) i 0 < 256
-  each zero = small
-  each (suc i) = rest.each i
-
-two_bytes : (bs : List ℕ) (i : ℕ) → ((i : ℕ) → get_or bs i 0 < 256) → AreBytes (two_at bs i)
-two_bytes bs i small = one_more (small i) (one_more (small (i + 1)) no_bytes)
-
-four_bytes : (bs : List ℕ) (i : ℕ) → ((i : ℕ) → get_or bs i 0 < 256) → AreBytes (four_at bs i)
-four_bytes bs i small = one_more (small i) (one_more (small (i + 1)) (one_more (small (i + 2)) (one_more (small (i + 3)) no_bytes)))
-
-eight_bytes : (bs : List ℕ) (i : ℕ) → ((i : ℕ) → get_or bs i 0 < 256) → AreBytes (eight_at bs i)
-eight_bytes bs i small =
-    one_more (small i) (one_more (small (i + 1)) (one_more (small (i + 2)) (one_more (small (i + 3))
-    (one_more (small (i + 4)) (one_more (small (i + 5)) (one_more (small (i + 6)) (one_more (small (i + 7)) no_bytes)))))))
 
 -- bytes spell the record that has their numbers as its fields
 pub spelled_by_fields : (bs : List ℕ) (r : Record) → length bs ≡ 24 → ((i : ℕ) → get_or bs i 0 < 256)

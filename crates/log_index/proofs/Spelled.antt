@@ -6,41 +6,8 @@ use Rattle.std.proofs.lemmas.List.{take-append-drop, get_or-drop}
 use Rattle.std.proofs.lemmas.List.Elements.{All-nil, All-cons}
 use Rattle.std.proofs.lemmas.Nat.{be_bytes_2, be_bytes_4, be_bytes_8}
 use Rattle.sw_base.specs.declared.path.Step.{Step}
+use Rattle.log_format.proofs.Bytes.{two_at, four_at, eight_at, two_bytes, four_bytes, eight_bytes}
 use Rattle.race_model.specs.Row.{RawRow, StepFits, step_spelling, row_spelling}
-
--- every number of a list is a byte
-record AreBytes (xs : List ℕ) : Type 0 where
-  each : (i : ℕ) → get_or xs i 0 < 256
-
-no_bytes : AreBytes []
-no_bytes = record { each = λ i. omega arith }
-
-one_more : {x : ℕ} {xs : List ℕ} → x < 256 → AreBytes xs → AreBytes (x ∷ xs)
-one_more {x} {xs} small rest = record { each = each } where
-  each : (i : ℕ) → get_or (x ∷ xs) i 0 < 256
-  each zero = small
-  each (suc i) = rest.each i
-
--- the elements from a place on
-abbrev pub two_at : List ℕ → ℕ → List ℕ
-two_at bs i = get_or bs i 0 ∷ get_or bs (i + 1) 0 ∷ []
-
-abbrev pub four_at : List ℕ → ℕ → List ℕ
-four_at bs i = get_or bs i 0 ∷ get_or bs (i + 1) 0 ∷ get_or bs (i + 2) 0 ∷ get_or bs (i + 3) 0 ∷ []
-
-abbrev pub eight_at : List ℕ → ℕ → List ℕ
-eight_at bs i = get_or bs i 0 ∷ get_or bs (i + 1) 0 ∷ get_or bs (i + 2) 0 ∷ get_or bs (i + 3) 0 ∷ get_or bs (i + 4) 0 ∷ get_or bs (i + 5) 0 ∷ get_or bs (i + 6) 0 ∷ get_or bs (i + 7) 0 ∷ []
-
-two_bytes : (bs : List ℕ) (i : ℕ) → ((i : ℕ) → get_or bs i 0 < 256) → AreBytes (two_at bs i)
-two_bytes bs i small = one_more (small i) (one_more (small (i + 1)) no_bytes)
-
-four_bytes : (bs : List ℕ) (i : ℕ) → ((i : ℕ) → get_or bs i 0 < 256) → AreBytes (four_at bs i)
-four_bytes bs i small = one_more (small i) (one_more (small (i + 1)) (one_more (small (i + 2)) (one_more (small (i + 3)) no_bytes)))
-
-eight_bytes : (bs : List ℕ) (i : ℕ) → ((i : ℕ) → get_or bs i 0 < 256) → AreBytes (eight_at bs i)
-eight_bytes bs i small =
-    one_more (small i) (one_more (small (i + 1)) (one_more (small (i + 2)) (one_more (small (i + 3))
-    (one_more (small (i + 4)) (one_more (small (i + 5)) (one_more (small (i + 6)) (one_more (small (i + 7)) no_bytes)))))))
 
 list_of_8 : (bs : List ℕ) → length bs ≡ 8 → bs ≡ eight_at bs 0
 list_of_8 (a ∷ b ∷ c ∷ d ∷ e ∷ f ∷ g ∷ h ∷ []) size = refl

@@ -17,22 +17,22 @@ use sw_base::{Folder, Trouble, index_name, read_file};
 /// The rows of the folder's index, or the first bad place of the index. The rows of every Ok are well formed.
 pub fn read_index<F: Folder>(
     alloc: Global,
-    place: &mut F,
+    folder: &mut F,
     dir: &str,
 ) -> Result<Vec<Row>, IndexAnswer>
     ensures rows { IfOk result (λ rows. AreRows (rows_of rows.items)) }
-    ensures found { IfOk result (λ rows. WhereTold (F.content place.old) (λ c. IsIndex c.held dir.now (rows_of rows.items))) }
-    ensures missing { IsErrOf result IndexAnswer.NoIndex → WhereTold (F.content place.old) (λ c. IsFirstBadIndexPlace c.held dir.now no_index) }
+    ensures found { IfOk result (λ rows. WhereTold (F.content folder.old) (λ c. IsIndex c.held dir.now (rows_of rows.items))) }
+    ensures missing { IsErrOf result IndexAnswer.NoIndex → WhereTold (F.content folder.old) (λ c. IsFirstBadIndexPlace c.held dir.now no_index) }
     ensures bad { (n : ℕ) (why : IndexWhy) → IsErrOf result (IndexAnswer.Bad n why) →
-        WhereTold (F.content place.old) (λ c. IsFirstBadIndexPlace c.held dir.now (bad_row n why)) }
+        WhereTold (F.content folder.old) (λ c. IsFirstBadIndexPlace c.held dir.now (bad_row n why)) }
 
-    ensures same { F.content place.new ≡ F.content place.old }
-    ensures later { F.read_faults place.old ≤ F.read_faults place.new }
-    ensures cause { IsErrOf result IndexAnswer.ReadFault → Rose (F.read_faults place.old) (F.read_faults place.new) }
-    ensures same_writes { F.write_faults place.new ≡ F.write_faults place.old }
+    ensures same { F.content folder.new ≡ F.content folder.old }
+    ensures later { F.read_faults folder.old ≤ F.read_faults folder.new }
+    ensures cause { IsErrOf result IndexAnswer.ReadFault → Rose (F.read_faults folder.old) (F.read_faults folder.new) }
+    ensures same_writes { F.write_faults folder.new ≡ F.write_faults folder.old }
 {
     let name = index_name(alloc, dir)?;
-    match read_file(alloc, place, &name) {
+    match read_file(alloc, folder, &name) {
         Ok(None) => Err(IndexAnswer::NoIndex),
         Ok(Some(bytes)) => read_rows(alloc, &bytes),
         Err(trouble) => Err(IndexAnswer::from(trouble)),
@@ -42,18 +42,18 @@ pub fn read_index<F: Folder>(
 /// Writes the index with these rows.
 pub fn write_index<F: Folder>(
     alloc: Global,
-    place: &mut F,
+    folder: &mut F,
     dir: &str,
     rows: &[Row],
 ) -> Result<(), Trouble>
     requires { AreRows (rows_of rows.now) }
-    ensures done { OnOk result (F.content place.new ≡ option_map (with_put (index_name dir.now) (index_bytes (rows_of rows.now))) (F.content place.old)) }
-    ensures refused { OnErr result (LeavesPrefix (F.content place.old) (F.content place.new) (index_name dir.now) (index_bytes (rows_of rows.now))) }
+    ensures done { OnOk result (F.content folder.new ≡ option_map (with_put (index_name dir.now) (index_bytes (rows_of rows.now))) (F.content folder.old)) }
+    ensures refused { OnErr result (LeavesPrefix (F.content folder.old) (F.content folder.new) (index_name dir.now) (index_bytes (rows_of rows.now))) }
 
-    ensures cause { HasCause (F.write_faults place.old) (F.write_faults place.new) result }
-    ensures same_reads { F.read_faults place.new ≡ F.read_faults place.old }
+    ensures cause { HasCause (F.write_faults folder.old) (F.write_faults folder.new) result }
+    ensures same_reads { F.read_faults folder.new ≡ F.read_faults folder.old }
 {
     let name = index_name(alloc, dir)?;
     let bytes = spell_rows(alloc, rows)?;
-    place.put(alloc, &name, &bytes)
+    folder.put(alloc, &name, &bytes)
 }

@@ -183,16 +183,6 @@ below_nine task before r log.RegionRows low broken = absurd (omega arith)
 below_nine task before r log.BarrierCount low broken = absurd (omega arith)
 below_nine task before r _ low broken = absurd broken
 
-}
-place_first task before r log.EndMissing out = record {
-  breaks = out;
-  least = λ other low broken.
-      let same = below_nine task before r other low broken in
-      let early = subst (λ (rule : RecordWhy). Breaks task before r rule) same broken in
-      out.0 early.0;
-}
-place_first task before r _ out = absurd out
-
 pub lock_first : (task : LogTask) (before : List Record) (r : Record) (held : List ℕ) → held ≡ held_after [] before → r.kind ≡ Lock → Placed task before r
     → (rule : RecordWhy) → CantLock held r.addr rule → BreaksFirst task before r rule
 lock_first task before r held is kind place log.LockTwice cant = record {

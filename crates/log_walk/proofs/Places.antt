@@ -435,5 +435,3 @@ good_next rows trace task good found good_task few = record {
             subst (λ (earlier : Trace). IsGoodTask rows earlier t) (sym (prefix k (omega arith) ∙ take_all k trace (omega arith)))
             (subst (λ (u : TaskLog). IsGoodTask rows trace u) task_is good_task)
       ]
-
-}

@@ -42,8 +42,6 @@ few : (bytes : List ℕ) (task : LogTask) (opened : ℕ) (state : State) (record
     → opened + segment_count records ≤ max_segments
 few bytes task opened state records rest index so = omega (arith, so.limit, so.follows.segments)
 
-}
-
 -- the rest begins with the next record
 begins : (rest next : List ℕ) (r : Record) → next ≡ take 24 rest → Spells next r → rest ≡ spelling r ++ drop 24 rest
 begins rest next r next_is spells = sym (take-append-drop 24 rest) ∙ ap (λ (bs : List ℕ). bs ++ drop 24 rest) (sym next_is ∙ spells.spelled)
@@ -185,8 +183,4 @@ extra_refused bytes task opened state records rest index so all more = (
   record { records = records; rest = rest; read = so.read; all = so.count ∙ all; number = refl; more = more },
   before_next bytes task opened (task.records + 1) 19 records rest so.read so.keeps (few bytes task opened state records rest index so) (omega (arith, so.count)) (omega (arith, so.count))
       (λ rule low told. past_end bytes task (task.records + 1) rule (omega arith) low told),
-)
-
-}
-
 )

@@ -30,8 +30,6 @@ pub record LogsRead (told : Option Content) (dir : List ℕ) (rows : List Row) (
   pub sum : segments ≡ segments_in (trace_of tasks)
   pub holds : WhereTold told (λ c. HoldsLogs c.held dir (trace_of tasks))
 
-})
-
 -- what is known where the index is a good one
 pub walked_so_far : (told : Option Content) (dir : List ℕ) (rows : List Row) (tasks : List TaskRecords) (segments index : ℕ) (content : Content) → LogsRead told dir rows tasks segments index → told ≡ Some content
     → IsIndex content.held dir rows → Walked content.held dir rows (trace_of tasks)

@@ -28,19 +28,19 @@ use sw_base::{Folder, Memory, Path, read_file};
 /// The bytes of a task's log.
 fn read_log<F: Folder>(
     alloc: Global,
-    place: &mut F,
+    folder: &mut F,
     dir: &str,
     path: &Path,
 ) -> Result<Vec<u8>, WalkFault>
-    ensures found { IfOk result (λ bytes. WhereTold (F.content place.old) (λ c. c.held (log_name dir.now path.now) ≡ Some bytes.items)) }
-    ensures unread { IfErr result (λ e. IsUnread (F.content place.old) dir.now path.now e) }
-    ensures same { F.content place.new ≡ F.content place.old }
-    ensures later { F.read_faults place.old ≤ F.read_faults place.new }
-    ensures cause { IsErrOf result WalkFault.ReadFault → Rose (F.read_faults place.old) (F.read_faults place.new) }
-    ensures same_writes { F.write_faults place.new ≡ F.write_faults place.old }
+    ensures found { IfOk result (λ bytes. WhereTold (F.content folder.old) (λ c. c.held (log_name dir.now path.now) ≡ Some bytes.items)) }
+    ensures unread { IfErr result (λ e. IsUnread (F.content folder.old) dir.now path.now e) }
+    ensures same { F.content folder.new ≡ F.content folder.old }
+    ensures later { F.read_faults folder.old ≤ F.read_faults folder.new }
+    ensures cause { IsErrOf result WalkFault.ReadFault → Rose (F.read_faults folder.old) (F.read_faults folder.new) }
+    ensures same_writes { F.write_faults folder.new ≡ F.write_faults folder.old }
 {
     let name = path.name(alloc, dir)?;
-    match read_file(alloc, place, &name) {
+    match read_file(alloc, folder, &name) {
         Ok(Some(bytes)) => Ok(bytes),
         Ok(None) => Err(WalkFault::MissingLog { path: path.copy() }),
         Err(trouble) => Err(WalkFault::from(trouble)),
@@ -89,7 +89,7 @@ fn fault_of(path: &Path, fault: LogFault) -> WalkFault
 /// The records of the log of this row, where it is good, and how many segments there are then.
 fn read_task<F: Folder>(
     alloc: Global,
-    place: &mut F,
+    folder: &mut F,
     dir: &str,
     rows: &[IndexRow],
     index: usize,
@@ -103,17 +103,17 @@ fn read_task<F: Folder>(
     requires opened { opened ≡ segments_in (trace_of trace.now) }
     ensures good { IfOk result (λ checked. (row : Row) → slice_get (rows_of rows.now) index ≡ Some row →
         IsNextTask (rows_of rows.now) (trace_of trace.now) row checked.records.items checked.segments) }
-    ensures whole { IfOk result (λ checked. WhereTold (F.content place.old) (λ c. (row : Row) → slice_get (rows_of rows.now) index ≡ Some row →
+    ensures whole { IfOk result (λ checked. WhereTold (F.content folder.old) (λ c. (row : Row) → slice_get (rows_of rows.now) index ≡ Some row →
         IsWholeLog c.held dir.now row.path checked.records.items)) }
-    ensures refused { IfErr result (λ e. WhereTold (F.content place.old) (λ c.
+    ensures refused { IfErr result (λ e. WhereTold (F.content folder.old) (λ c.
         Walked c.held dir.now (rows_of rows.now) (trace_of trace.now) → TellsFirstBad c.held dir.now e)) }
-    ensures same { F.content place.new ≡ F.content place.old }
-    ensures later { F.read_faults place.old ≤ F.read_faults place.new }
-    ensures cause { IsErrOf result WalkFault.ReadFault → Rose (F.read_faults place.old) (F.read_faults place.new) }
-    ensures same_writes { F.write_faults place.new ≡ F.write_faults place.old }
+    ensures same { F.content folder.new ≡ F.content folder.old }
+    ensures later { F.read_faults folder.old ≤ F.read_faults folder.new }
+    ensures cause { IsErrOf result WalkFault.ReadFault → Rose (F.read_faults folder.old) (F.read_faults folder.new) }
+    ensures same_writes { F.write_faults folder.new ≡ F.write_faults folder.old }
 {
     let row = &rows[index];
-    let bytes = read_log(alloc, place, dir, &row.path)?;
+    let bytes = read_log(alloc, folder, dir, &row.path)?;
     let task = task_at(alloc, rows, index, trace)?;
     match check_log(alloc, &bytes, &task, opened) {
         Ok(checked) => Ok(checked),
@@ -124,26 +124,26 @@ fn read_task<F: Folder>(
 /// The tasks of these rows with the records of their logs, where all are good.
 fn read_logs<F: Folder>(
     alloc: Global,
-    place: &mut F,
+    folder: &mut F,
     dir: &str,
     rows: &[IndexRow],
 ) -> Result<Vec<TaskRecords>, WalkFault>
     requires { AreRows (rows_of rows.now) }
     ensures good { IfOk result (λ trace. IsGoodTrace (rows_of rows.now) (trace_of trace.items)) }
     ensures all { IfOk result (λ trace. length trace.items ≡ length rows.now) }
-    ensures walked { IfOk result (λ trace. WhereTold (F.content place.old) (λ c.
+    ensures walked { IfOk result (λ trace. WhereTold (F.content folder.old) (λ c.
         IsIndex c.held dir.now (rows_of rows.now) → Walked c.held dir.now (rows_of rows.now) (trace_of trace.items))) }
-    ensures refused { IfErr result (λ e. WhereTold (F.content place.old) (λ c.
+    ensures refused { IfErr result (λ e. WhereTold (F.content folder.old) (λ c.
         IsIndex c.held dir.now (rows_of rows.now) → TellsFirstBad c.held dir.now e)) }
-    ensures same { F.content place.new ≡ F.content place.old }
-    ensures later { F.read_faults place.old ≤ F.read_faults place.new }
-    ensures cause { IsErrOf result WalkFault.ReadFault → Rose (F.read_faults place.old) (F.read_faults place.new) }
-    ensures same_writes { F.write_faults place.new ≡ F.write_faults place.old }
+    ensures same { F.content folder.new ≡ F.content folder.old }
+    ensures later { F.read_faults folder.old ≤ F.read_faults folder.new }
+    ensures cause { IsErrOf result WalkFault.ReadFault → Rose (F.read_faults folder.old) (F.read_faults folder.new) }
+    ensures same_writes { F.write_faults folder.new ≡ F.write_faults folder.old }
 {
     let mut trace = Vec::new(alloc);
     let mut segments = 0;
     'logs: for index in 0..rows.len() {
-        let checked = read_task(alloc, place, dir, rows, index, &trace, segments)?;
+        let checked = read_task(alloc, folder, dir, rows, index, &trace, segments)?;
         segments = checked.segments;
         let row = &rows[index];
         trace.push(TaskRecords {
@@ -158,21 +158,21 @@ fn read_logs<F: Folder>(
 /// they are the trace of a fork-join run. Else the folder's first bad place.
 pub fn read_trace<F: Folder>(
     alloc: Global,
-    place: &mut F,
+    folder: &mut F,
     dir: &str,
 ) -> Result<Vec<TaskRecords>, WalkFault>
     ensures keeps { IfOk result (λ trace. KeepsRules (trace_of trace.items)) }
     ensures fork_join { IfOk result (λ trace. IsForkJoin (logs_of (trace_of trace.items))) }
-    ensures holds { IfOk result (λ trace. WhereTold (F.content place.old) (λ c. HoldsTrace c.held dir.now (trace_of trace.items))) }
-    ensures well_formed { OnOk result (WhereTold (F.content place.old) (λ c. IsWellFormed c.held dir.now)) }
-    ensures refused { IfErr result (λ e. WhereTold (F.content place.old) (λ c. TellsFirstBad c.held dir.now e)) }
+    ensures holds { IfOk result (λ trace. WhereTold (F.content folder.old) (λ c. HoldsTrace c.held dir.now (trace_of trace.items))) }
+    ensures well_formed { OnOk result (WhereTold (F.content folder.old) (λ c. IsWellFormed c.held dir.now)) }
+    ensures refused { IfErr result (λ e. WhereTold (F.content folder.old) (λ c. TellsFirstBad c.held dir.now e)) }
 
-    ensures same { F.content place.new ≡ F.content place.old }
-    ensures later { F.read_faults place.old ≤ F.read_faults place.new }
-    ensures cause { IsErrOf result WalkFault.ReadFault → Rose (F.read_faults place.old) (F.read_faults place.new) }
-    ensures same_writes { F.write_faults place.new ≡ F.write_faults place.old }
+    ensures same { F.content folder.new ≡ F.content folder.old }
+    ensures later { F.read_faults folder.old ≤ F.read_faults folder.new }
+    ensures cause { IsErrOf result WalkFault.ReadFault → Rose (F.read_faults folder.old) (F.read_faults folder.new) }
+    ensures same_writes { F.write_faults folder.new ≡ F.write_faults folder.old }
 {
-    let rows = read_index(alloc, place, dir)?;
-    let trace = read_logs(alloc, place, dir, &rows)?;
+    let rows = read_index(alloc, folder, dir)?;
+    let trace = read_logs(alloc, folder, dir, &rows)?;
     Ok(trace)
 }

@@ -89,7 +89,7 @@ impl State {
         requires segments { self.old.segments ≤ max_segments }
         requires regions { self.old.regions < 2 ^ 32 - 1 }
         requires barriers { self.old.barriers < 2 ^ 32 - 1 }
-        ensures with_counted { IsTrue result → self.new ≡ with_counted self.old kind }
+        ensures counted { IsTrue result → self.new ≡ with_counted self.old kind }
         ensures limit { self.new.segments ≤ max_segments }
         ensures full { IsFalse result → (self.old.segments ≡ max_segments) × (opens_by kind self.old.is_open ≡ 1) }
     {

@@ -13,17 +13,17 @@ use sw_base::Folder;
 
 /// The barrier intervals of a folder's trace, in the order of its rows, and in each log by number, each with its label,
 /// where the folder is well formed. Else the folder's first bad place.
-pub fn walk<F: Folder>(alloc: Global, place: &mut F, dir: &str) -> Result<Vec<Segment>, WalkFault>
-    ensures segments { IfOk result (λ found. AreOfFolder (F.content place.old) dir.now found.items) }
-    ensures well_formed { OnOk result (WhereTold (F.content place.old) (λ c. IsWellFormed c.held dir.now)) }
-    ensures refused { IfErr result (λ e. WhereTold (F.content place.old) (λ c. TellsFirstBad c.held dir.now e)) }
+pub fn walk<F: Folder>(alloc: Global, folder: &mut F, dir: &str) -> Result<Vec<Segment>, WalkFault>
+    ensures segments { IfOk result (λ found. AreOfFolder (F.content folder.old) dir.now found.items) }
+    ensures well_formed { OnOk result (WhereTold (F.content folder.old) (λ c. IsWellFormed c.held dir.now)) }
+    ensures refused { IfErr result (λ e. WhereTold (F.content folder.old) (λ c. TellsFirstBad c.held dir.now e)) }
 
-    ensures same { F.content place.new ≡ F.content place.old }
-    ensures later { F.read_faults place.old ≤ F.read_faults place.new }
-    ensures cause { IsErrOf result WalkFault.ReadFault → Rose (F.read_faults place.old) (F.read_faults place.new) }
-    ensures same_writes { F.write_faults place.new ≡ F.write_faults place.old }
+    ensures same { F.content folder.new ≡ F.content folder.old }
+    ensures later { F.read_faults folder.old ≤ F.read_faults folder.new }
+    ensures cause { IsErrOf result WalkFault.ReadFault → Rose (F.read_faults folder.old) (F.read_faults folder.new) }
+    ensures same_writes { F.write_faults folder.new ≡ F.write_faults folder.old }
 {
-    let trace = read_trace(alloc, place, dir)?;
+    let trace = read_trace(alloc, folder, dir)?;
     let found = segments(alloc, &trace)?;
     Ok(found)
 }

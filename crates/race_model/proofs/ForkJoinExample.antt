@@ -13,36 +13,12 @@ use Rattle.race_model.specs.Trace.{Trace, Logs, Node, logs_of, step_eq, path_eq,
 use Rattle.race_model.specs.Order.{IsLane, lane_path}
 use Rattle.race_model.specs.ForkJoin.{IsForkJoin, IsTask, EndsOnce, WasForked}
 use Rattle.race_model.proofs.LabelPlace.{not_both_empty, same_node}
+use Rattle.race_model.proofs.TraceLogs.{path_is}
 
 -- what holds of each task of a trace holds of each path with a record
 abbrev pub EachTask : (List Step → List Record → Type 0) → Trace → Type 0
 EachTask P [] = Unit {0}
 EachTask P (task ∷ tasks) = P task.path task.records × EachTask P tasks
-
-both_true : (a b : Bool) → (a && b) ≡ true → (a ≡ true) × (b ≡ true)
-both_true true true e = (refl, refl)
-both_true true false e = cc
-both_true false b e = cc
-
-same_number : (m n : ℕ) → (m == n) ≡ true → m ≡ n
-same_number m n e = grind arith
-
-step_is : (a b : Step) → step_eq a b ≡ true → a ≡ b
-step_is a b e =
-    let prefix = both_true ((a.region == b.region) && (a.lane == b.lane)) (a.span == b.span) e in
-    let two = both_true (a.region == b.region) (a.lane == b.lane) prefix.0 in
-    let region = same_number a.region b.region two.0 in
-    let lane = same_number a.lane b.lane two.1 in
-    let span = same_number a.span b.span prefix.1 in
-    λ i. record { region = region i; lane = lane i; span = span i }
-
-pub path_is : (p q : List Step) → path_eq p q ≡ true → p ≡ q
-path_is [] [] e = refl
-path_is [] (t ∷ q) e = cc
-path_is (s ∷ p) [] e = cc
-path_is (s ∷ p) (t ∷ q) e =
-    let parts = both_true (step_eq s t) (path_eq p q) e in
-    ap₂ (λ (x : Step) (xs : List Step). x ∷ xs) (step_is s t parts.0) (path_is p q parts.1)
 
 pub at_task : (P : List Step → List Record → Type 0) (trace : Trace) (path : List Step) → EachTask P trace → IsTask (logs_of trace) path → P path (logs_of trace path)
 at_task P [] path each h = absurd (omega arith)

@@ -3,7 +3,7 @@ use Rattle.std.proofs.Common.{◌≡◌, refl, sym, ap, ap₂, subst, ◌∙◌,
 use Rattle.std.specs.Prelude.{All, is_some}
 use Rattle.std.specs.declared.alloc.Global.{Global}
 use Rattle.std.proofs.lemmas.List.{get_or-map, length-map}
-use Rattle.std.proofs.lemmas.List.Elements.{All-head, All-map, All-tail}
+use Rattle.std.proofs.lemmas.List.Elements.{All-map, All-weaker}
 use Rattle.std.proofs.lemmas.Option.{none-some, same_Some}
 use Rattle.std.proofs.lemmas.Simd.{map-map}
 use Rattle.sw_base.specs.declared.path.Step.{Step}
@@ -24,18 +24,19 @@ use Rattle.kernel_model.specs.Trace.{Ended, Ending, Stopped}
 use Rattle.team_runner.specs.declared.stop.Stop.{Stop}
 use Rattle.team_runner.specs.declared.stop.Stop.TheVariants.{DivZero, Index, LogFull}
 use Rattle.team_runner.specs.declared.stop.Stop.TheVariants as stop
-use Rattle.team_runner.specs.Answer.{HasRun, HasStop, HasStoppedRun, HasTask, HasFaulty, HasPrefix, IsAhead, IsOwnLog, IsRun, Logged, whole_log, logged_entry}
+use Rattle.sw_base.specs.HandedLog.{IsOwnLog, HandedLog, handed_log, SealsPrefix, with_sealed}
+use Rattle.team_runner.specs.Answer.{HasRun, HasStop, HasStoppedRun, HasTask, HasFaulty, HasPrefix, IsAhead, IsRun, whole_log}
 use Rattle.team_runner.specs.Answer as answered
 use Rattle.team_runner.specs.Stops.{StopsSo}
 use Rattle.command_answer.specs.declared.status.TheConstants.{DONE, KERNEL_STOPPED, NO_MEMORY}
 use Rattle.command_answer.specs.Answer.{IsFailure, Prints, Tries, silent}
 use Rattle.run_command.specs.Ends.{EndDue, EndsSo, ran, stop_of, stopped}
-use Rattle.run_command.specs.Run.{AreStopped, EndLeaves, EndedRun, SealedLog, SealsPrefix, StoppedRun, ended, index, logs, sealed_log, with_sealed}
+use Rattle.run_command.specs.Run.{AreStopped, EndLeaves, EndedRun, StoppedRun, ended, index, logs, told_log}
 use Rattle.run_command.specs.Run as kinds
 use Rattle.run_command.specs.RunTexts.{run_text, stopped_text}
-use Rattle.run_command.specs.Seals.{AllTell, SealsAll, StoresAll, StoresPrefix, StoresPart, all_logged, all_sealed, prefix, part, row_of_entry, rows_of_logs, sealed_of, tasks_of, with_index}
+use Rattle.run_command.specs.Seals.{AllTell, SealsAll, StoresAll, StoresPrefix, StoresPart, all_logged, prefix, part, row_of_entry, rows_of_logs, with_index}
 use Rattle.command_answer.proofs.Answering.{Tries-from_prints}
-use Rattle.run_command.proofs.IndexKept.{prefix_keeps_index}
+use Rattle.run_command.proofs.IndexKept.{IsOfFolder, prefix_keeps_index}
 use Rattle.run_command.proofs.RunFolder.{left_by, run_well_formed}
 use Rattle.run_command.proofs.StoredRun.{rows-logged}
 
@@ -53,16 +54,17 @@ rose_more before old new below rose = omega (arith, below, rose)
 
 -- ---- a run that ended
 
--- the logs of a whole run: what is sealed, their rows, their tasks
-whole_sealed : (dir : List ℕ) (size : ℕ) (root : Text) (tasks : Trace) → all_sealed (map (whole_log dir size (Some root)) tasks) ≡ map (sealed_log size) tasks
-whole_sealed dir size root tasks = map-map sealed_of (whole_log dir size (Some root)) tasks
-
+-- the rows of a whole run's logs
 whole_rows : (dir : List ℕ) (size : ℕ) (root : Option Text) (tasks : Trace) → rows_of_logs (map (whole_log dir size root) tasks) ≡ rows_of tasks
-whole_rows dir size root tasks = map-map (λ (log : Logged). record { path = log.task; records = log.count }) (whole_log dir size root) tasks
+whole_rows dir size root tasks = map-map (λ (log : HandedLog). record { path = log.task; records = log.count }) (whole_log dir size root) tasks
 
 -- each is of the folder and tells what it holds
 whole_tell : (dir : List ℕ) (size : ℕ) (root : Text) (tasks : Trace) → AllTell dir (map (whole_log dir size (Some root)) tasks)
 whole_tell dir size root tasks = All-map (IsOwnLog dir true) (whole_log dir size (Some root)) tasks (λ k d within. record { dir_is = refl; path_is = refl; tells_so = refl })
+
+-- logs that tell what they hold are of the folder
+own_dirs : (dir : List ℕ) (all : List HandedLog) → AllTell dir all → All (IsOfFolder dir) all
+own_dirs dir all tell = All-weaker (IsOwnLog dir true) (IsOfFolder dir) (λ log own. own.dir_is) all tell
 
 -- its rows are those of an index
 pub run_rows : {L : Type 0} (program : Program) (dir : List ℕ) (size : ℕ) (root : Option Text) (dir_of : L → List ℕ) (path_of : L → List Step) (text_of : L → Option Text) (entries : List (List Step × L × ℕ))
@@ -72,22 +74,18 @@ run_rows program dir size root dir_of path_of text_of entries has =
 
 module _ (rose : Type 0) (program : Program) (first : IsFirstKind program) (dir : List ℕ) (size : ℕ) (root : Text) (tasks : Trace) (run : IsRun program tasks) where
   -- the logs that the run answers
-  abbrev run_logs : List Logged
+  abbrev run_logs : List HandedLog
   run_logs = map (whole_log dir size (Some root)) tasks
 
-  -- a folder with all logs and these bytes under the index's name
-  with_index-is : (bytes : List ℕ) (old : Content) → with_index dir run_logs bytes old ≡ with_put (index_name dir) bytes (with_sealed dir (map (sealed_log size) tasks) old)
-  with_index-is bytes old = ap (λ (ls : List SealedLog). with_put (index_name dir) bytes (with_sealed dir ls old)) (whole_sealed dir size root tasks)
-
-  -- and with the whole index
+  -- a folder with all logs and the whole index
   all_left : (old : Content) → with_index dir run_logs (index_bytes (rows_of_logs run_logs)) old ≡ left_by program first dir size tasks run old
-  all_left old = ap (λ (rows : List Row). with_index dir run_logs (index_bytes rows) old) (whole_rows dir size (Some root) tasks) ∙ with_index-is (index_bytes (rows_of tasks)) old
+  all_left old = ap (λ (rows : List Row). with_index dir run_logs (index_bytes rows) old) (whole_rows dir size (Some root) tasks)
 
   -- what is left where storing the run was refused
   part_left : (old new : Content) → StoresPart dir run_logs old new → EndLeaves rose program dir size old new
-  part_left old new (part sealed) = logs (all_sealed run_logs) (ended tasks run (whole_sealed dir size root tasks)) sealed (prefix_keeps_index dir (all_sealed run_logs) old new sealed)
+  part_left old new (part sealed) = logs run_logs (ended tasks run refl) sealed (prefix_keeps_index dir run_logs old new (own_dirs dir run_logs (whole_tell dir size root tasks)) sealed)
   part_left old new (prefix bytes rest parts leaves) =
-      index tasks run bytes rest (ap index_bytes (sym (whole_rows dir size (Some root) tasks)) ∙ parts) (leaves ∙ with_index-is bytes old)
+      index tasks run bytes rest (ap index_bytes (sym (whole_rows dir size (Some root) tasks)) ∙ parts) leaves
 
   -- storing the run was refused
   refused_ends : (old new : Option Content) (status : ℕ) (written : Option (List ℕ)) → StoresPrefix dir run_logs old new → IsFailure status → EndsSo rose program dir size old new written written status
@@ -124,29 +122,29 @@ module _ (rose : Type 0) (program : Program) (first : IsFirstKind program) (dir 
       }
 
 -- the same of the logs that a run answered
-module _ (rose : Type 0) (program : Program) (first : IsFirstKind program) (dir : List ℕ) (size : ℕ) (root : Text) (all : List Logged) (has : HasRun program dir size (Some root) all) where
+module _ (rose : Type 0) (program : Program) (first : IsFirstKind program) (dir : List ℕ) (size : ℕ) (root : Text) (all : List HandedLog) (has : HasRun program dir size (Some root) all) where
   -- storing them was refused
   pub run_refused : (old new : Option Content) (status : ℕ) (written : Option (List ℕ)) → StoresPrefix dir all old new → IsFailure status → EndsSo rose program dir size old new written written status
   run_refused old new status written stores failure =
-      refused_ends rose program first dir size root has.tasks has.run old new status written (subst (λ (ls : List Logged). StoresPrefix dir ls old new) has.logs_are stores) failure
+      refused_ends rose program first dir size root has.tasks has.run old new status written (subst (λ (ls : List HandedLog). StoresPrefix dir ls old new) has.logs_are stores) failure
 
   -- they were stored
   pub run_stored : (old new : Option Content) (status : ℕ) (before after : Option (List ℕ)) (values : List ℕ) (made : Result (String Global) Memory) → StoresAll dir all old new
       → length values ≡ elements program.arrays → ((tasks : Trace) → rows_of tasks ≡ rows_of_logs all → IfOk made (λ m. string_bytes m ≡ run_text tasks program.arrays values))
       → IfOk made (λ m. Prints DONE (string_bytes m) before after status) → OnErr made ((status ≡ NO_MEMORY) × (after ≡ before)) → EndsSo rose program dir size old new before after status
   run_stored old new status before after values made stores values_are text prints none =
-      stored_ends rose program first dir size root has.tasks has.run old new status before after values made (subst (λ (ls : List Logged). StoresAll dir ls old new) has.logs_are stores) values_are
+      stored_ends rose program first dir size root has.tasks has.run old new status before after values made (subst (λ (ls : List HandedLog). StoresAll dir ls old new) has.logs_are stores) values_are
       (text has.tasks (sym (whole_rows dir size (Some root) has.tasks) ∙ ap rows_of_logs (sym has.logs_are))) prints none
 
 -- ---- a kernel that stopped
 
 -- the logs tell what they hold where the root's does
 pub all_tell : {L : Type 0} (dir_of : L → List ℕ) (path_of : L → List Step) (text_of : L → Option Text) (entries : List (List Step × L × ℕ)) (dir of_root : List ℕ) (told : Option Text) (root : Text)
-    → of_root ≡ dir → told ≡ Some root → All (λ entry. IsOwnLog of_root (is_some told) (logged_entry dir_of path_of text_of entry)) entries → AllTell dir (all_logged dir_of path_of text_of entries)
+    → of_root ≡ dir → told ≡ Some root → All (λ entry. IsOwnLog of_root (is_some told) (handed_log dir_of path_of text_of entry)) entries → AllTell dir (all_logged dir_of path_of text_of entries)
 all_tell dir_of path_of text_of entries dir of_root told root dir_is told_is own =
-    All-map (IsOwnLog dir true) (logged_entry dir_of path_of text_of) entries
-    (subst (λ (d : List ℕ). All (λ entry. IsOwnLog d true (logged_entry dir_of path_of text_of entry)) entries) dir_is
-    (subst (λ (t : Option Text). All (λ entry. IsOwnLog of_root (is_some t) (logged_entry dir_of path_of text_of entry)) entries) told_is own))
+    All-map (IsOwnLog dir true) (handed_log dir_of path_of text_of) entries
+    (subst (λ (d : List ℕ). All (λ entry. IsOwnLog d true (handed_log dir_of path_of text_of entry)) entries) dir_is
+    (subst (λ (t : Option Text). All (λ entry. IsOwnLog of_root (is_some t) (handed_log dir_of path_of text_of entry)) entries) told_is own))
 
 -- the kernel's own stop
 pub told_stop : (P : model.Stop → ℕ → Type 0) (why : Stop) (kind : model.Stop) (line : ℕ) → stop_of why ≡ Some (kind, line) → StopsSo P why → P kind line
@@ -155,33 +153,11 @@ told_stop P (Index at) kind line is stops = let both : (model.Index, at) ≡ (ki
 told_stop P (LogFull at) kind line is stops = let both : (model.LogFull, at) ≡ (kind, line) = same_Some (model.LogFull, at) (kind, line) is in subst (λ (s : model.Stop × ℕ). P s.0 s.1) both stops
 told_stop P (stop.Trouble trouble) kind line is stops = absurd (none-some (kind, line) is)
 
--- what is sealed has the tasks' paths
-sealed_paths : (dir : List ℕ) (all : List Logged) → AllTell dir all → map (λ (log : SealedLog). log.path) (all_sealed all) ≡ tasks_of all
-sealed_paths dir [] tell = refl
-sealed_paths dir (log ∷ all) tell =
-    let own = All-head (IsOwnLog dir true) log all tell in
-    ap₂ (λ (path : List Step) (paths : List (List Step)). path ∷ paths) own.path_is (sealed_paths dir all (All-tail (IsOwnLog dir true) log all tell))
-
--- an element of a list has its image in the list of images
-contains_mapped : {A B : Type 0} (f : A → B) (xs : List A) (x : A) → Contains xs x → Contains (map f xs) (f x)
-contains_mapped f xs x (k, within, is) = (k, omega (arith, length-map xs f), get_or-map f xs k x (f x) within ∙ ap f is)
-
-module _ (program : Program) (dir : List ℕ) (size : ℕ) (root : Text) (all : List Logged) where
-  -- a task's whole log is sealed as that
-  task_sealed : (path : List Step) (ending : Ending) → HasTask program (λ task. Contains all (whole_log dir size (Some root) task)) path ending
-      → HasTask program (λ task. Contains (all_sealed all) (sealed_log size task)) path ending
-  task_sealed path ending has = record {
-    start = has.start;
-    starts = has.starts;
-    records = has.records;
-    traced = has.traced;
-    logged = contains_mapped sealed_of all (whole_log dir size (Some root) (record { path = path; records = has.records })) has.logged;
-  }
-
-  module _ (HasPart HasPart' : TaskLog → Type 0) (part : (task : TaskLog) → HasPart task → HasPart' task) where
-    -- so are the first records of one that waits
-    prefix_sealed : (path : List Step) (barriers : ℕ) → HasPrefix program HasPart path barriers → HasPrefix program HasPart' path barriers
-    prefix_sealed path barriers has = record {
+module _ (program : Program) (dir : List ℕ) (size : ℕ) (root : Text) (all : List HandedLog) where
+  module _ (HasLog HasPart HasPart' : TaskLog → Type 0) (part : (task : TaskLog) → HasPart task → HasPart' task) where
+    -- the first records of a lane that waits
+    prefix_weaker : (path : List Step) (barriers : ℕ) → HasPrefix program HasPart path barriers → HasPrefix program HasPart' path barriers
+    prefix_weaker path barriers has = record {
       start = has.start;
       starts = has.starts;
       records = has.records;
@@ -190,41 +166,37 @@ module _ (program : Program) (dir : List ℕ) (size : ℕ) (root : Text) (all : 
       logged = part (record { path = path; records = has.records }) has.logged;
     }
 
-    -- and the log of a lane that is ahead of a stop
-    ahead_sealed : (path : List Step) (barriers : ℕ) → IsAhead program (λ task. Contains all (whole_log dir size (Some root) task)) HasPart path barriers
-        → IsAhead program (λ task. Contains (all_sealed all) (sealed_log size task)) HasPart' path barriers
-    unfolding task_sealed
-    ahead_sealed path barriers (answered.ended task few) = answered.ended (task_sealed path Ended task) few
-    ahead_sealed path barriers (answered.waits has) = answered.waits (prefix_sealed path barriers has)
+    -- the log of a lane that is ahead of a stop
+    ahead_weaker : (path : List Step) (barriers : ℕ) → IsAhead program HasLog HasPart path barriers → IsAhead program HasLog HasPart' path barriers
+    ahead_weaker path barriers (answered.ended task few) = answered.ended task few
+    ahead_weaker path barriers (answered.waits has) = answered.waits (prefix_weaker path barriers has)
 
-    -- the logs of a stop are
-    stop_sealed : (path : List Step) (kind : model.Stop) (line : ℕ) → HasStop program (λ task. Contains all (whole_log dir size (Some root) task)) HasPart path kind line
-        → HasStop program (λ task. Contains (all_sealed all) (sealed_log size task)) HasPart' path kind line
-    unfolding task_sealed
-    stop_sealed path kind line has = record {
+    -- the logs of a stop
+    stop_weaker : (path : List Step) (kind : model.Stop) (line : ℕ) → HasStop program HasLog HasPart path kind line → HasStop program HasLog HasPart' path kind line
+    stop_weaker path kind line has = record {
       lane = has.lane;
       within = has.within;
       path_is = has.path_is;
-      stopped = task_sealed path (Stopped kind line) has.stopped;
-      before = λ other below. ahead_sealed _ (barrier_count has.stopped.records) (has.before other below);
-      reached = λ other barriers below fewer. prefix_sealed _ barriers (has.reached other barriers below fewer);
+      stopped = has.stopped;
+      before = λ other below. ahead_weaker _ (barrier_count has.stopped.records) (has.before other below);
+      reached = λ other barriers below fewer. prefix_weaker _ barriers (has.reached other barriers below fewer);
     }
 
-  -- a log that is there is sealed, and a fault of one makes the count rise
-  part_sealed : (faults : List (List Step × ℕ)) (rose : Type 0) → ((path : List Step) → HasFaulty faults path → rose) → (task : TaskLog)
-      → Contains all (whole_log dir size (Some root) task) ⊎ HasFaulty faults task.path → Contains (all_sealed all) (sealed_log size task) ⊎ rose
-  part_sealed faults rose rises task (inl there) = inl (contains_mapped sealed_of all (whole_log dir size (Some root) task) there)
-  part_sealed faults rose rises task (inr faulty) = inr (rises task.path faulty)
+  -- a fault of a log makes the count rise
+  part_or_rose : (faults : List (List Step × ℕ)) (rose : Type 0) → ((path : List Step) → HasFaulty faults path → rose) → (task : TaskLog)
+      → Contains all (whole_log dir size (Some root) task) ⊎ HasFaulty faults task.path → Contains all (told_log dir size task) ⊎ rose
+  part_or_rose faults rose rises task (inl there) = inl there
+  part_or_rose faults rose rises task (inr faulty) = inr (rises task.path faulty)
 
   module _ (tell : AllTell dir all) (path : List Step) (kind : model.Stop) (line : ℕ) (faults : List (List Step × ℕ)) (has : HasStoppedRun program dir size (Some root) faults all path kind line)
       (rose : Type 0) (rises : (path : List Step) → HasFaulty faults path → rose) where
     -- what is sealed of them
-    are_stopped : AreStopped rose program size (all_sealed all) path kind line
-    are_stopped = record { all = sealed_paths dir all tell ∙ has.all; stop = stop_sealed _ _ (part_sealed faults rose rises) path kind line has.stop }
+    are_stopped : AreStopped rose program dir size all path kind line
+    are_stopped = record { all = has.all; stop = stop_weaker _ _ _ (part_or_rose faults rose rises) path kind line has.stop }
 
     -- what is left where sealing was broken off
-    left_logs : (old new : Content) → SealsPrefix dir (all_sealed all) old new → EndLeaves rose program dir size old new
-    left_logs old new sealed = logs (all_sealed all) (kinds.stopped path kind line are_stopped) sealed (prefix_keeps_index dir (all_sealed all) old new sealed)
+    left_logs : (old new : Content) → SealsPrefix all old new → EndLeaves rose program dir size old new
+    left_logs old new sealed = logs all (kinds.stopped path kind line are_stopped) sealed (prefix_keeps_index dir all old new (own_dirs dir all tell) sealed)
 
     -- all logs were sealed
     pub stop_ends : (old new : Option Content) (status : ℕ) (before after : Option (List ℕ)) (made : Result (String Global) Memory) → SealsAll all (Ok tt) old new
@@ -233,7 +205,7 @@ module _ (program : Program) (dir : List ℕ) (size : ℕ) (root : Text) (all : 
     stop_ends old new status before after made seals same prints none content is =
         let now = seals dir content tell is in
         let due : StoppedRun rose program dir size content now.content (stopped_text path line kind) = record {
-          logs = all_sealed all;
+          logs = all;
           path = path;
           why = kind;
           line = line;

@@ -1,11 +1,12 @@
 -- The folder that a run leaves holds the run's trace.
-use Rattle.std.proofs.Common.{◌≡◌, ◌≢◌, ◌⊎◌, inl, inr, refl, sym, ap, subst, ◌∙◌, ℕ, ◌<◌, true, false, List, [], ◌∷◌, map, length, get_or, Option, Some, IsSome, Contains, arith}
+use Rattle.std.proofs.Common.{◌≡◌, ◌≢◌, ◌⊎◌, inl, inr, refl, sym, ap, subst, ◌∙◌, ℕ, ◌<◌, true, false, List, [], ◌∷◌, map, length, get_or, Option, None, Some, IsSome, Contains, arith}
 use Rattle.std.specs.Prelude.{All}
 use Rattle.std.specs.List.{IsDistinct, AllByRecursion}
 use Rattle.std.proofs.lemmas.List.{get_or-map, length-map}
 use Rattle.std.proofs.lemmas.List.Elements.{All-nil, All-cons, All-head, All-tail, All-weaker}
 use Rattle.sw_base.specs.declared.path.Step.{Step}
-use Rattle.sw_base.specs.Environment.{Content, Files, with_put}
+use Rattle.sw_base.specs.Environment.{Content, Files, Outline, with_put}
+use Rattle.sw_base.specs.HandedLog.{HandedLog, sealed_name, with_sealed, with_told}
 use Rattle.sw_base.specs.Names.{index_name, log_name}
 use Rattle.sw_base.proofs.AfterPut.{with_file-elsewhere, with_file-here}
 use Rattle.sw_base.proofs.NameLaws.{HasPlace, log_name-not_index, log_name-places, place}
@@ -21,37 +22,46 @@ use Rattle.kernel_syntax.specs.Program.{Program}
 use Rattle.kernel_syntax.specs.FirstKind.{IsFirstKind, region_span}
 use Rattle.kernel_model.specs.Folder.{IsTracedTask, paths_of}
 use Rattle.kernel_model.specs.Trace.{Start}
-use Rattle.team_runner.specs.Answer.{IsRun, task_paths}
-use Rattle.run_command.specs.Run.{SealedLog, sealed_log, with_sealed}
-use Rattle.run_command.proofs.SealedLogs.{with_one}
+use Rattle.team_runner.specs.Answer.{IsRun, task_paths, whole_outline}
+use Rattle.run_command.specs.Run.{told_log}
 use Rattle.run_command.proofs.FirstPaths.{IsLanePath, first_paths, listed_path}
 
 -- ---- names that were sealed
 
 -- no two of the logs have one name
-abbrev NamesApart : List ℕ → List SealedLog → Type 0
-NamesApart dir [] = Unit {0}
-NamesApart dir (log ∷ logs) = All (λ (other : SealedLog). log_name dir log.path ≢ log_name dir other.path) logs × NamesApart dir logs
+abbrev NamesApart : List HandedLog → Type 0
+NamesApart [] = Unit {0}
+NamesApart (log ∷ logs) = All (λ (other : HandedLog). sealed_name log ≢ sealed_name other) logs × NamesApart logs
+
+-- sealing a log leaves another name as it is
+told_elsewhere : (log : HandedLog) (told : Option Outline) (content : Content) (name : List ℕ) → name ≢ sealed_name log → (with_told (sealed_name log) told content).held name ≡ content.held name
+told_elsewhere log None content name apart = refl
+told_elsewhere log (Some told) content name apart = with_file-elsewhere (sealed_name log) told.bytes content.held name apart
 
 -- a name of none of the logs is as before
-sealed_elsewhere : (dir : List ℕ) (logs : List SealedLog) (content : Content) (name : List ℕ) → All (λ (log : SealedLog). name ≢ log_name dir log.path) logs
-    → (with_sealed dir logs content).held name ≡ content.held name
-sealed_elsewhere dir [] content name apart = refl
-sealed_elsewhere dir (log ∷ logs) content name apart =
-    sealed_elsewhere dir logs (with_one dir log content) name (All-tail (λ (log : SealedLog). name ≢ log_name dir log.path) log logs apart)
-    ∙ with_file-elsewhere (log_name dir log.path) log.bytes content.held name (All-head (λ (log : SealedLog). name ≢ log_name dir log.path) log logs apart)
+sealed_elsewhere : (logs : List HandedLog) (content : Content) (name : List ℕ) → All (λ (log : HandedLog). name ≢ sealed_name log) logs
+    → (with_sealed logs content).held name ≡ content.held name
+sealed_elsewhere [] content name apart = refl
+sealed_elsewhere (log ∷ logs) content name apart =
+    sealed_elsewhere logs (with_told (sealed_name log) log.told content) name (All-tail (λ (log : HandedLog). name ≢ sealed_name log) log logs apart)
+    ∙ told_elsewhere log log.told content name (All-head (λ (log : HandedLog). name ≢ sealed_name log) log logs apart)
 
--- the folder has the log
-abbrev HasLog : List ℕ → Files → SealedLog → Type 0
-HasLog dir files log = files (log_name dir log.path) ≡ Some log.bytes
+-- the folder has the log's bytes
+abbrev HasLog : Files → HandedLog → Type 0
+HasLog files log = (told : Outline) → log.told ≡ Some told → files (sealed_name log) ≡ Some told.bytes
+
+-- a log that was sealed is there
+told_here : (log : HandedLog) (content : Content) → HasLog (with_told (sealed_name log) log.told content).held log
+told_here log content told is =
+    ap (λ (o : Option Outline). (with_told (sealed_name log) o content).held (sealed_name log)) is ∙ with_file-here (sealed_name log) told.bytes content.held
 
 -- each log is there
-sealed_here : (dir : List ℕ) (logs : List SealedLog) (content : Content) → NamesApart dir logs → All (HasLog dir (with_sealed dir logs content).held) logs
-sealed_here dir [] content apart = All-nil (HasLog dir content.held)
-sealed_here dir (log ∷ logs) content apart =
-    All-cons (HasLog dir (with_sealed dir (log ∷ logs) content).held) log logs
-    (sealed_elsewhere dir logs (with_one dir log content) (log_name dir log.path) apart.0 ∙ with_file-here (log_name dir log.path) log.bytes content.held)
-    (sealed_here dir logs (with_one dir log content) apart.1)
+sealed_here : (logs : List HandedLog) (content : Content) → NamesApart logs → All (HasLog (with_sealed logs content).held) logs
+sealed_here [] content apart = All-nil (HasLog content.held)
+sealed_here (log ∷ logs) content apart =
+    All-cons (HasLog (with_sealed (log ∷ logs) content).held) log logs
+    (λ told is. sealed_elsewhere logs (with_told (sealed_name log) log.told content) (sealed_name log) apart.0 ∙ told_here log content told is)
+    (sealed_here logs (with_told (sealed_name log) log.told content) apart.1)
 
 -- ---- names of tasks
 
@@ -93,15 +103,15 @@ module _ (program : Program) (dir : List ℕ) where
 
   -- the first task's name is none of the others'
   apart_first : (size : ℕ) (first : TaskLog) (tasks : Trace) → IsNamed first.path → All (λ (task : TaskLog). IsNamed task.path) tasks
-      → AllByRecursion (λ p. path_eq first.path p ≡ false) (paths_of tasks) → All (λ (log : SealedLog). log_name dir first.path ≢ log_name dir log.path) (map (sealed_log size) tasks)
-  apart_first size first [] named all apart = All-nil (λ (log : SealedLog). log_name dir first.path ≢ log_name dir log.path)
+      → AllByRecursion (λ p. path_eq first.path p ≡ false) (paths_of tasks) → All (λ (log : HandedLog). log_name dir first.path ≢ sealed_name log) (map (told_log dir size) tasks)
+  apart_first size first [] named all apart = All-nil (λ (log : HandedLog). log_name dir first.path ≢ sealed_name log)
   apart_first size first (task ∷ tasks) named all apart =
-      All-cons (λ (log : SealedLog). log_name dir first.path ≢ log_name dir log.path) (sealed_log size task) (map (sealed_log size) tasks)
+      All-cons (λ (log : HandedLog). log_name dir first.path ≢ sealed_name log) (told_log dir size task) (map (told_log dir size) tasks)
       (names_differ first.path task.path named (All-head (λ (t : TaskLog). IsNamed t.path) task tasks all) (differ first.path task.path apart.0))
       (apart_first size first tasks named (All-tail (λ (t : TaskLog). IsNamed t.path) task tasks all) apart.1)
 
   -- no two tasks have one name
-  tasks_apart : (size : ℕ) (tasks : Trace) → All (λ (task : TaskLog). IsNamed task.path) tasks → IsDistinct path_eq (paths_of tasks) → NamesApart dir (map (sealed_log size) tasks)
+  tasks_apart : (size : ℕ) (tasks : Trace) → All (λ (task : TaskLog). IsNamed task.path) tasks → IsDistinct path_eq (paths_of tasks) → NamesApart (map (told_log dir size) tasks)
   unfolding IsDistinct
   tasks_apart size [] all once = tt
   tasks_apart size (task ∷ tasks) all once = (
@@ -132,23 +142,25 @@ module _ (program : Program) (first : IsFirstKind program) (dir : List ℕ) (siz
 
   -- the folder after the run
   abbrev pub left_by : Content → Content
-  left_by old = with_put (index_name dir) (index_bytes (rows_of tasks)) (with_sealed dir (map (sealed_log size) tasks) old)
+  left_by old = with_put (index_name dir) (index_bytes (rows_of tasks)) (with_sealed (map (told_log dir size) tasks) old)
 
   -- each log is there and whole
   logs_held : (old : Content) → HoldsLogs (left_by old).held dir tasks
   logs_held old k d within =
-      let log = sealed_log size (get_or tasks k d) in
-      let sealed : (with_sealed dir (map (sealed_log size) tasks) old).held (log_name dir log.path) ≡ Some log.bytes
-      = subst (HasLog dir (with_sealed dir (map (sealed_log size) tasks) old).held) (get_or-map (sealed_log size) tasks k d log within)
-      (sealed_here dir (map (sealed_log size) tasks) old (tasks_apart program dir size tasks all_named run.traced.once) k log (omega (arith, length-map tasks (sealed_log size)))) in
+      let task = get_or tasks k d in
+      let log = told_log dir size task in
+      let after = with_sealed (map (told_log dir size) tasks) old in
+      let sealed : HasLog after.held log
+      = subst (HasLog after.held) (get_or-map (told_log dir size) tasks k d log within)
+      (sealed_here (map (told_log dir size) tasks) old (tasks_apart program dir size tasks all_named run.traced.once) k log (omega (arith, length-map tasks (told_log dir size)))) in
       record {
-        there = with_file-elsewhere (index_name dir) (index_bytes (rows_of tasks)) (with_sealed dir (map (sealed_log size) tasks) old).held (log_name dir log.path) (log_name-not_index dir log.path) ∙ sealed;
+        there = with_file-elsewhere (index_name dir) (index_bytes (rows_of tasks)) after.held (log_name dir task.path) (log_name-not_index dir task.path) ∙ sealed (whole_outline size task.records) refl;
         tabled = (run.rules.tasks k d within).tabled;
       }
 
   -- it holds the run's trace
   pub run_held : (old : Content) → HoldsTrace (left_by old).held dir tasks
-  run_held old = record { index = put_is_index (with_sealed dir (map (sealed_log size) tasks) old).held dir (rows_of tasks) run.rules.rows; logs = logs_held old }
+  run_held old = record { index = put_is_index (with_sealed (map (told_log dir size) tasks) old).held dir (rows_of tasks) run.rules.rows; logs = logs_held old }
 
   -- and is bad at most where a segment is one too many
   pub run_well_formed : (old : Content) (place : BadPlace) → IsBad (left_by old).held dir place → IsTooMany place

@@ -5,116 +5,95 @@ use Rattle.std.proofs.lemmas.List.{append_assoc, map-append}
 use Rattle.std.proofs.lemmas.List.Elements.{All-pop, Contains-push_cases}
 use Rattle.sw_base.specs.declared.path.Step.{Step}
 use Rattle.sw_base.specs.declared.trouble.Trouble.{Trouble}
-use Rattle.sw_base.specs.Environment.{Content, LeavesPrefix, Text, WhereTold, with_log, with_put}
+use Rattle.sw_base.specs.Environment.{Content, LeavesPrefix, Outline, Text, WhereTold, outline_of, with_log, with_put}
 use Rattle.sw_base.specs.Names.{log_name}
-use Rattle.team_runner.specs.Answer.{HasFaulty, IsOwnLog, Logged, outline, logged_entry}
-use Rattle.run_command.specs.Run.{SealedLog, SealsPrefix, between, torn, with_sealed}
-use Rattle.run_command.specs.Seals.{Seals, SealsAll, TellsSuch, all_logged, all_sealed, sealed_of}
-
--- a folder after one log was sealed
-abbrev pub with_one : List ℕ → SealedLog → Content → Content
-with_one dir log content = with_sealed dir (log ∷ []) content
+use Rattle.sw_base.specs.HandedLog.{HandedLog, IsOwnLog, SealsPrefix, between, handed_log, outline, sealed_name, torn, with_sealed, with_told}
+use Rattle.team_runner.specs.Answer.{HasFaulty}
+use Rattle.run_command.specs.Seals.{Seals, SealsAll, TellsSuch, all_logged}
 
 -- some logs, and more after them
-with_sealed-append : (dir : List ℕ) (logs more : List SealedLog) (content : Content) → with_sealed dir (logs ++ more) content ≡ with_sealed dir more (with_sealed dir logs content)
-with_sealed-append dir [] more content = refl
-with_sealed-append dir (log ∷ logs) more content = with_sealed-append dir logs more (with_one dir log content)
+with_sealed-append : (logs more : List HandedLog) (content : Content) → with_sealed (logs ++ more) content ≡ with_sealed more (with_sealed logs content)
+with_sealed-append [] more content = refl
+with_sealed-append (log ∷ logs) more content = with_sealed-append logs more (with_told (sealed_name log) log.told content)
 
--- one more log
-with_sealed-push : (dir : List ℕ) (logs : List Logged) (log : Logged) (content : Content) →
-    with_sealed dir (all_sealed (logs ++ log ∷ [])) content ≡ with_one dir (sealed_of log) (with_sealed dir (all_sealed logs) content)
-with_sealed-push dir logs log content =
-    ap (λ (all : List SealedLog). with_sealed dir all content) (map-append sealed_of logs (log ∷ []))
-    ∙ with_sealed-append dir (all_sealed logs) (sealed_of log ∷ []) content
-
--- what a log tells is what is sealed of it
-sealed_text : (dir : List ℕ) (log : Logged) (text : Text) (content : Content) → IsOwnLog dir true log → log.told ≡ outline (Some text) →
-    with_log (log_name log.dir log.path) text content ≡ with_one dir (sealed_of log) content
-sealed_text dir log text content own told = rw (own.dir_is, told) refl
-
--- what is sealed of one more log
-all_sealed-push : (logs : List Logged) (log : Logged) → all_sealed (logs ++ log ∷ []) ≡ all_sealed logs ++ sealed_of log ∷ []
-all_sealed-push logs log = map-append sealed_of logs (log ∷ [])
+-- one more log that tells its content
+with_sealed-push : (logs : List HandedLog) (log : HandedLog) (text : Text) (content : Content) → log.told ≡ outline (Some text)
+    → with_sealed (logs ++ log ∷ []) content ≡ with_log (sealed_name log) text (with_sealed logs content)
+with_sealed-push logs log text content told =
+    with_sealed-append logs (log ∷ []) content ∙ ap (λ (told : Option Outline). with_told (sealed_name log) told (with_sealed logs content)) told
 
 -- nothing was sealed yet
-seals_none : (dir : List ℕ) (content : Content) → Seals dir [] (Ok tt) content content
-seals_none dir content = record { done = refl; prefix = between [] [] refl refl }
+seals_none : (content : Content) → Seals [] (Ok tt) content content
+seals_none content = record { done = refl; prefix = between [] [] refl refl }
 
-module _ (dir : List ℕ) (logs : List Logged) (log : Logged) (old mid : Content) (own : IsOwnLog dir true log) where
+module _ (logs : List HandedLog) (log : HandedLog) (old mid : Content) where
   -- a log was sealed
-  seals_push : (text : Text) → log.told ≡ outline (Some text) → Seals dir logs (Ok tt) old mid → Seals dir (logs ++ log ∷ []) (Ok tt) old (with_log (log_name log.dir log.path) text mid)
+  seals_push : (text : Text) → log.told ≡ outline (Some text) → Seals logs (Ok tt) old mid → Seals (logs ++ log ∷ []) (Ok tt) old (with_log (sealed_name log) text mid)
   seals_push text told before =
-      let done : with_log (log_name log.dir log.path) text mid ≡ with_sealed dir (all_sealed (logs ++ log ∷ [])) old =
-      ap (with_log (log_name log.dir log.path) text) before.done
-      ∙ sealed_text dir log text (with_sealed dir (all_sealed logs) old) own told
-      ∙ sym (with_sealed-push dir logs log old) in
-      record { done = done; prefix = between (all_sealed (logs ++ log ∷ [])) [] (sym (append-nil (all_sealed (logs ++ log ∷ [])))) done }
+      let done : with_log (sealed_name log) text mid ≡ with_sealed (logs ++ log ∷ []) old =
+      ap (with_log (sealed_name log) text) before.done ∙ sym (with_sealed-push logs log text old told) in
+      record { done = done; prefix = between (logs ++ log ∷ []) [] (sym (append-nil (logs ++ log ∷ []))) done }
 
   -- a log was refused
-  seals_refused : (text : Text) (trouble : Trouble) (new : Option Content) → log.told ≡ outline (Some text) → Seals dir logs (Ok tt) old mid
-      → LeavesPrefix (Some mid) new (log_name log.dir log.path) text.bytes → TellsSuch new (Seals dir (logs ++ log ∷ []) (Err trouble) old)
+  seals_refused : (text : Text) (trouble : Trouble) (new : Option Content) → log.told ≡ outline (Some text) → Seals logs (Ok tt) old mid
+      → LeavesPrefix (Some mid) new (sealed_name log) text.bytes → TellsSuch new (Seals (logs ++ log ∷ []) (Err trouble) old)
   seals_refused text trouble new told before left =
       ⊎_elim
-      (λ same. let it : TellsSuch new (Seals dir (logs ++ log ∷ []) (Err trouble) old) = record {
+      (λ same. let it : TellsSuch new (Seals (logs ++ log ∷ []) (Err trouble) old) = record {
         content = mid;
         is = same;
-        holds = record { done = tt; prefix = between (all_sealed logs) (sealed_of log ∷ []) (all_sealed-push logs log) before.done };
+        holds = record { done = tt; prefix = between logs (log ∷ []) refl before.done };
       } in it)
       (λ put. record {
-        content = with_put (log_name log.dir log.path) left.prefix mid;
+        content = with_put (sealed_name log) left.prefix mid;
         is = put;
         holds = record {
           done = tt;
-          prefix = torn (all_sealed logs) (sealed_of log) [] (all_sealed-push logs log) left.prefix left.rest (bytes_are ∙ left.parts)
-              (rw (own.dir_is) (ap (with_put (log_name dir log.path) left.prefix) before.done));
+          prefix = torn logs log [] refl (outline_of text) told left.prefix left.rest left.parts (ap (with_put (sealed_name log) left.prefix) before.done);
         };
       })
-      left.leaves where
-        bytes_are : (sealed_of log).bytes ≡ text.bytes
-        bytes_are = rw (told) refl
+      left.leaves
 
   -- an earlier one was
-  seals_given_up : (trouble : Trouble) → Seals dir logs (Err trouble) old mid → Seals dir (logs ++ log ∷ []) (Err trouble) old mid
+  seals_given_up : (trouble : Trouble) → Seals logs (Err trouble) old mid → Seals (logs ++ log ∷ []) (Err trouble) old mid
   seals_given_up trouble before = record { done = tt; prefix = longer before.prefix } where
-    longer : SealsPrefix dir (all_sealed logs) old mid → SealsPrefix dir (all_sealed (logs ++ log ∷ [])) old mid
+    longer : SealsPrefix logs old mid → SealsPrefix (logs ++ log ∷ []) old mid
     longer (between first rest parts leaves) =
-        between first (rest ++ sealed_of log ∷ [])
-        (all_sealed-push logs log ∙ ap (λ (ls : List SealedLog). ls ++ sealed_of log ∷ []) parts ∙ append_assoc first rest (sealed_of log ∷ [])) leaves
-    longer (torn first next rest parts prefix behind bytes leaves) =
-        torn first next (rest ++ sealed_of log ∷ [])
-        (all_sealed-push logs log ∙ ap (λ (ls : List SealedLog). ls ++ sealed_of log ∷ []) parts ∙ append_assoc first (next ∷ rest) (sealed_of log ∷ [])) prefix behind bytes leaves
+        between first (rest ++ log ∷ []) (ap (λ (ls : List HandedLog). ls ++ log ∷ []) parts ∙ append_assoc first rest (log ∷ [])) leaves
+    longer (torn first next rest parts told is prefix behind bytes leaves) =
+        torn first next (rest ++ log ∷ []) (ap (λ (ls : List HandedLog). ls ++ log ∷ []) parts ∙ append_assoc first (next ∷ rest) (log ∷ [])) told is prefix behind bytes leaves
 
   -- one more log was sealed or refused
-  seals_next : (text : Option Text) (r : Result (Unit {0}) Trouble) (new : Option Content) → log.told ≡ outline text → Seals dir logs (Ok tt) old mid
-      → OnOk r (WhereTold text (λ t. new ≡ option_map (with_log (log_name log.dir log.path) t) (Some mid)))
-      → OnErr r (WhereTold text (λ t. LeavesPrefix (Some mid) new (log_name log.dir log.path) t.bytes))
-      → TellsSuch new (Seals dir (logs ++ log ∷ []) r old)
-  seals_next None r new told before done refused = let tells = own.tells_so in absurd (cc)
-  seals_next (Some text) (Ok _) new told before done refused = record { content = _; is = done text refl; holds = seals_push text told before }
-  seals_next (Some text) (Err trouble) new told before done refused = seals_refused text trouble new told before (refused text refl)
+  seals_next : (dir : List ℕ) → IsOwnLog dir true log → (text : Option Text) (r : Result (Unit {0}) Trouble) (new : Option Content) → log.told ≡ outline text → Seals logs (Ok tt) old mid
+      → OnOk r (WhereTold text (λ t. new ≡ option_map (with_log (sealed_name log) t) (Some mid)))
+      → OnErr r (WhereTold text (λ t. LeavesPrefix (Some mid) new (sealed_name log) t.bytes))
+      → TellsSuch new (Seals (logs ++ log ∷ []) r old)
+  seals_next dir own None r new told before done refused = let tells = own.tells_so in absurd (cc)
+  seals_next dir own (Some text) (Ok _) new told before done refused = record { content = _; is = done text refl; holds = seals_push text told before }
+  seals_next dir own (Some text) (Err trouble) new told before done refused = seals_refused text trouble new told before (refused text refl)
 
 -- no log yet
 pub seals_all_none : (told : Option Content) → SealsAll [] (Ok tt) told told
-seals_all_none told dir content tell is = record { content = content; is = is; holds = seals_none dir content }
+seals_all_none told dir content tell is = record { content = content; is = is; holds = seals_none content }
 
 -- one more log
-seals_all_next : (logs : List Logged) (log : Logged) (text : Option Text) (so_far r : Result (Unit {0}) Trouble) (old mid new : Option Content) → log.told ≡ outline text → SealsAll logs so_far old mid
-    → OnOk so_far (OnOk r (WhereTold text (λ t. new ≡ option_map (with_log (log_name log.dir log.path) t) mid)))
-    → OnOk so_far (OnErr r (WhereTold text (λ t. LeavesPrefix mid new (log_name log.dir log.path) t.bytes)))
+seals_all_next : (logs : List HandedLog) (log : HandedLog) (text : Option Text) (so_far r : Result (Unit {0}) Trouble) (old mid new : Option Content) → log.told ≡ outline text → SealsAll logs so_far old mid
+    → OnOk so_far (OnOk r (WhereTold text (λ t. new ≡ option_map (with_log (sealed_name log) t) mid)))
+    → OnOk so_far (OnErr r (WhereTold text (λ t. LeavesPrefix mid new (sealed_name log) t.bytes)))
     → OnErr so_far ((r ≡ so_far) × (new ≡ mid)) → SealsAll (logs ++ log ∷ []) r old new
 seals_all_next logs log text (Ok _) r old mid new told before done refused given_up dir content tell is =
     let both = All-pop (IsOwnLog dir true) (logs ++ log ∷ []) logs (Some log) refl tell in
     let now = before dir content both.0 is in
-    seals_next dir logs log content now.content both.1 text r new told now.holds
-    (subst (λ (m : Option Content). OnOk r (WhereTold text (λ t. new ≡ option_map (with_log (log_name log.dir log.path) t) m))) now.is done)
-    (subst (λ (m : Option Content). OnErr r (WhereTold text (λ t. LeavesPrefix m new (log_name log.dir log.path) t.bytes))) now.is refused)
+    seals_next logs log content now.content dir both.1 text r new told now.holds
+    (subst (λ (m : Option Content). OnOk r (WhereTold text (λ t. new ≡ option_map (with_log (sealed_name log) t) m))) now.is done)
+    (subst (λ (m : Option Content). OnErr r (WhereTold text (λ t. LeavesPrefix m new (sealed_name log) t.bytes))) now.is refused)
 seals_all_next logs log text (Err trouble) r old mid new told before done refused given_up dir content tell is =
     let both = All-pop (IsOwnLog dir true) (logs ++ log ∷ []) logs (Some log) refl tell in
     let now = before dir content both.0 is in
     record {
       content = now.content;
       is = given_up.1 ∙ now.is;
-      holds = subst (λ (e : Result (Unit {0}) Trouble). Seals dir (logs ++ log ∷ []) e content now.content) (sym given_up.0) (seals_given_up dir logs log content now.content both.1 trouble now.holds);
+      holds = subst (λ (e : Result (Unit {0}) Trouble). Seals (logs ++ log ∷ []) e content now.content) (sym given_up.0) (seals_given_up logs log content now.content trouble now.holds);
     }
 
 -- the same of the logs as they are answered
@@ -124,8 +103,8 @@ pub seals_all_push : {L : Type 0} (dir_of : L → List ℕ) (path_of : L → Lis
     → OnOk so_far (OnErr r (WhereTold (text_of log) (λ t. LeavesPrefix mid new (log_name (dir_of log) (path_of log)) t.bytes)))
     → OnErr so_far ((r ≡ so_far) × (new ≡ mid)) → SealsAll (all_logged dir_of path_of text_of (entries ++ (path, log, count) ∷ [])) r old new
 seals_all_push dir_of path_of text_of entries path log count so_far r old mid new before done refused given_up =
-    subst (λ (logs : List Logged). SealsAll logs r old new) (sym (map-append (logged_entry dir_of path_of text_of) entries ((path, log, count) ∷ [])))
-    (seals_all_next (all_logged dir_of path_of text_of entries) (logged_entry dir_of path_of text_of (path, log, count)) (text_of log) so_far r old mid new refl before done refused given_up)
+    subst (λ (logs : List HandedLog). SealsAll logs r old new) (sym (map-append (handed_log dir_of path_of text_of) entries ((path, log, count) ∷ [])))
+    (seals_all_next (all_logged dir_of path_of text_of entries) (handed_log dir_of path_of text_of (path, log, count)) (text_of log) so_far r old mid new refl before done refused given_up)
 
 -- ---- faults of logs
 

@@ -7,26 +7,25 @@ use Rattle.sw_base.specs.declared.trouble.Trouble.{Trouble}
 use Rattle.sw_base.specs.Environment.{Content, LeavesPrefix, Text, with_put}
 use Rattle.sw_base.specs.Names.{index_name}
 use Rattle.race_model.specs.Row.{index_bytes}
-use Rattle.team_runner.specs.Answer.{Logged, logged_entry}
-use Rattle.run_command.specs.Run.{between}
-use Rattle.run_command.specs.Seals.{SealsAll, StoresAll, StoresPrefix, StoresPart, TellsSuch, all_logged, all_sealed, prefix, part, row_of_entry, rows_of_logs, with_index}
+use Rattle.sw_base.specs.HandedLog.{HandedLog, handed_log, between}
+use Rattle.run_command.specs.Seals.{SealsAll, StoresAll, StoresPrefix, StoresPart, TellsSuch, all_logged, prefix, part, row_of_entry, rows_of_logs, with_index}
 
 -- the rows of a run's logs
 pub rows-logged : {L : Type 0} (dir_of : L → List ℕ) (path_of : L → List Step) (text_of : L → Option Text) (entries : List (List Step × L × ℕ)) →
     rows_of_logs (all_logged dir_of path_of text_of entries) ≡ map row_of_entry entries
-rows-logged dir_of path_of text_of entries = map-map (λ (log : Logged). record { path = log.task; records = log.count }) (logged_entry dir_of path_of text_of) entries
+rows-logged dir_of path_of text_of entries = map-map (λ (log : HandedLog). record { path = log.task; records = log.count }) (handed_log dir_of path_of text_of) entries
 
 -- no log was sealed
-pub stores_none : (dir : List ℕ) (logs : List Logged) (old new : Option Content) → new ≡ old → StoresPrefix dir logs old new
-stores_none dir logs old new same content tell is = record { content = content; is = same ∙ is; holds = part (between [] (all_sealed logs) refl refl) }
+pub stores_none : (dir : List ℕ) (logs : List HandedLog) (old new : Option Content) → new ≡ old → StoresPrefix dir logs old new
+stores_none dir logs old new same content tell is = record { content = content; is = same ∙ is; holds = part (between [] logs refl refl) }
 
 -- a log was refused
-pub stores_part : (dir : List ℕ) (logs : List Logged) (trouble : Trouble) (old new : Option Content) → SealsAll logs (Err trouble) old new → StoresPrefix dir logs old new
+pub stores_part : (dir : List ℕ) (logs : List HandedLog) (trouble : Trouble) (old new : Option Content) → SealsAll logs (Err trouble) old new → StoresPrefix dir logs old new
 stores_part dir logs trouble old new seals content tell is =
     let now = seals dir content tell is in
     record { content = now.content; is = now.is; holds = part now.holds.prefix }
 
-module _ (dir : List ℕ) (logs : List Logged) (old mid new : Option Content) (seals : SealsAll logs (Ok tt) old mid) where
+module _ (dir : List ℕ) (logs : List HandedLog) (old mid new : Option Content) (seals : SealsAll logs (Ok tt) old mid) where
   -- all logs and the index are there
   pub stores_all : new ≡ option_map (with_put (index_name dir) (index_bytes (rows_of_logs logs))) mid → StoresAll dir logs old new
   stores_all put content tell is =

@@ -1,10 +1,9 @@
 -- What `run` answers, and what it leaves in the folder.
 use Rattle.std.specs.Prelude.{◌≡◌, ◌⊎◌, ℕ, List, [], ◌∷◌, ◌++◌, length, map, None, Some, IsSome, Contains}
 use Rattle.sw_base.specs.declared.path.Step.{Step}
-use Rattle.sw_base.specs.declared.files.TheConstants.{LOG_HEADER}
-use Rattle.sw_base.specs.Environment.{Files, Content, with_file, with_put}
-use Rattle.sw_base.specs.Names.{index_name, log_name}
-use Rattle.log_format.specs.Spelling.{log_bytes}
+use Rattle.sw_base.specs.Environment.{Files, Content, empty_text, with_put}
+use Rattle.sw_base.specs.HandedLog.{HandedLog, SealsPrefix, with_sealed}
+use Rattle.sw_base.specs.Names.{index_name}
 use Rattle.race_model.specs.BadPlace.{BadPlace, IsTooMany}
 use Rattle.race_model.specs.FirstBad.{IsBad, rows_of}
 use Rattle.race_model.specs.Row.{index_bytes}
@@ -14,8 +13,7 @@ use Rattle.kernel_syntax.specs.Layout.{elements}
 use Rattle.kernel_syntax.specs.Program.{Program}
 use Rattle.kernel_model.specs.State as model
 use Rattle.kernel_reader.specs.KernelOf.{IsKernelOf}
-use Rattle.team_runner.specs.Answer.{IsRun, HasStop, task_paths}
-use Rattle.team_runner.specs.Written.{cut}
+use Rattle.team_runner.specs.Answer.{IsRun, HasStop, task_paths, whole_log}
 use Rattle.command_answer.specs.declared.status.TheConstants.{DONE, KERNEL_REFUSED, KERNEL_STOPPED, INDEX_THERE}
 use Rattle.run_command.specs.RunTexts.{no_kernel_text, not_built_text, index_exists_text, stopped_text, run_text}
 
@@ -32,37 +30,16 @@ pub record CanRun (files : Files) (kernel dir : List ℕ) : Type 0 where
   pub holds : HoldsKernel files kernel program
   pub fresh : files (index_name dir) ≡ None
 
--- a log that is sealed: its task, its bytes, and the lengths of its pieces
-pub record SealedLog : Type 0 where
-  pub path : List Step
-  pub bytes : List ℕ
-  pub lengths : List ℕ
-
--- the whole log of a task, from a buffer of this size
-abbrev pub sealed_log : ℕ → TaskLog → SealedLog
-sealed_log size task = record { path = task.path; bytes = log_bytes LOG_HEADER task.records; lengths = cut (length task.records) size }
-
--- a folder after these logs are sealed, one after another
-abbrev pub with_sealed : List ℕ → List SealedLog → Content → Content
-with_sealed dir [] content = content
-with_sealed dir (log ∷ logs) content =
-    with_sealed dir logs (record {
-      held = with_file (log_name dir log.path) log.bytes content.held;
-      sealed = content.sealed ++ record { name = log_name dir log.path; lengths = log.lengths } ∷ [];
-    })
-
--- Sealing these logs was broken off: the first of them are sealed, and a prefix of the next may stand under its name.
-pub data SealsPrefix (dir : List ℕ) (logs : List SealedLog) (old new : Content) : Type 0 where
-  between : (first rest : List SealedLog) → logs ≡ first ++ rest → new ≡ with_sealed dir first old → SealsPrefix dir logs old new
-  torn : (first : List SealedLog) (next : SealedLog) (rest : List SealedLog) → logs ≡ first ++ next ∷ rest → (prefix behind : List ℕ)
-      → next.bytes ≡ prefix ++ behind → new ≡ with_put (log_name dir next.path) prefix (with_sealed dir first old) → SealsPrefix dir logs old new
+-- the whole log of a task in the folder, from a buffer of this size
+abbrev pub told_log : List ℕ → ℕ → TaskLog → HandedLog
+told_log dir size task = whole_log dir size (Some empty_text) task
 
 -- The run ended: its logs and its index are there, and nothing else changed. Its folder has no bad place, but it may have too
 -- many segments.
 pub record EndedRun (program : Program) (dir : List ℕ) (size : ℕ) (old new : Content) (text : List ℕ) : Type 0 where
   pub tasks : Trace
   pub run : IsRun program tasks
-  pub leaves : new ≡ with_put (index_name dir) (index_bytes (rows_of tasks)) (with_sealed dir (map (sealed_log size) tasks) old)
+  pub leaves : new ≡ with_put (index_name dir) (index_bytes (rows_of tasks)) (with_sealed (map (told_log dir size) tasks) old)
   pub well_formed : (place : BadPlace) → IsBad new.held dir place → IsTooMany place
   pub values : List ℕ
   pub values_are : length values ≡ elements program.arrays
@@ -71,18 +48,18 @@ pub record EndedRun (program : Program) (dir : List ℕ) (size : ℕ) (old new :
 -- The logs of a kernel that stopped so: those of all its tasks, in the order of their paths. The log of the task that stopped has
 -- all its records. Those of the lanes before it are whole up to where they ended or wait; `rose` tells of a fault, with which the log of
 -- a lane that waits may be another.
-pub record AreStopped (rose : Type 0) (program : Program) (size : ℕ) (logs : List SealedLog) (path : List Step) (why : model.Stop) (line : ℕ) : Type 0 where
-  pub all : map (λ (log : SealedLog). log.path) logs ≡ task_paths program
-  pub stop : HasStop program (λ task. Contains logs (sealed_log size task)) (λ task. Contains logs (sealed_log size task) ⊎ rose) path why line
+pub record AreStopped (rose : Type 0) (program : Program) (dir : List ℕ) (size : ℕ) (logs : List HandedLog) (path : List Step) (why : model.Stop) (line : ℕ) : Type 0 where
+  pub all : map (λ (log : HandedLog). log.task) logs ≡ task_paths program
+  pub stop : HasStop program (λ task. Contains logs (told_log dir size task)) (λ task. Contains logs (told_log dir size task) ⊎ rose) path why line
 
 -- The kernel stopped so: its logs are there, and nothing else changed.
 pub record StoppedRun (rose : Type 0) (program : Program) (dir : List ℕ) (size : ℕ) (old new : Content) (text : List ℕ) : Type 0 where
-  pub logs : List SealedLog
+  pub logs : List HandedLog
   pub path : List Step
   pub why : model.Stop
   pub line : ℕ
-  pub stopped : AreStopped rose program size logs path why line
-  pub leaves : new ≡ with_sealed dir logs old
+  pub stopped : AreStopped rose program dir size logs path why line
+  pub leaves : new ≡ with_sealed logs old
   pub text_is : text ≡ stopped_text path line why
 
 -- What is due of `run`: there is no kernel, or none of the first kind; or the folder has an index; or the kernel stopped; or
@@ -99,18 +76,18 @@ pub data RunDue (rose : Type 0) (kernel dir : List ℕ) (size : ℕ) (old new : 
       → EndedRun program dir size old new text → RunDue rose kernel dir size old new status text
 
 -- the logs of a run that ended, or of one that stopped
-pub data AreRunLogs (rose : Type 0) (program : Program) (size : ℕ) (logs : List SealedLog) : Type 0 where
-  ended : (tasks : Trace) → IsRun program tasks → logs ≡ map (sealed_log size) tasks → AreRunLogs rose program size logs
-  stopped : (path : List Step) (why : model.Stop) (line : ℕ) → AreStopped rose program size logs path why line → AreRunLogs rose program size logs
+pub data AreRunLogs (rose : Type 0) (program : Program) (dir : List ℕ) (size : ℕ) (logs : List HandedLog) : Type 0 where
+  ended : (tasks : Trace) → IsRun program tasks → logs ≡ map (told_log dir size) tasks → AreRunLogs rose program dir size logs
+  stopped : (path : List Step) (why : model.Stop) (line : ℕ) → AreStopped rose program dir size logs path why line → AreRunLogs rose program dir size logs
 
 -- What a run leaves that began and could not give its answer: the folder as it was; or the first of its logs, and under the
 -- index's name what was there; or the logs of a whole run, and a prefix of its index.
 pub data EndLeaves (rose : Type 0) (program : Program) (dir : List ℕ) (size : ℕ) (old new : Content) : Type 0 where
   nothing : new ≡ old → EndLeaves rose program dir size old new
-  logs : (logs : List SealedLog) → AreRunLogs rose program size logs → SealsPrefix dir logs old new → new.held (index_name dir) ≡ old.held (index_name dir)
+  logs : (logs : List HandedLog) → AreRunLogs rose program dir size logs → SealsPrefix logs old new → new.held (index_name dir) ≡ old.held (index_name dir)
       → EndLeaves rose program dir size old new
   index : (tasks : Trace) → IsRun program tasks → (prefix rest : List ℕ) → index_bytes (rows_of tasks) ≡ prefix ++ rest
-      → new ≡ with_put (index_name dir) prefix (with_sealed dir (map (sealed_log size) tasks) old) → EndLeaves rose program dir size old new
+      → new ≡ with_put (index_name dir) prefix (with_sealed (map (told_log dir size) tasks) old) → EndLeaves rose program dir size old new
 
 -- What `run` leaves that could not give its answer: the folder as it was; or, of a kernel that the file holds and a folder that had
 -- no index, what its run leaves.

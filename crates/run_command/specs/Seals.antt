@@ -5,30 +5,22 @@ use Rattle.sw_base.specs.declared.trouble.Trouble.{Trouble}
 use Rattle.sw_base.specs.Environment.{Content, Text, with_put}
 use Rattle.sw_base.specs.Names.{index_name}
 use Rattle.race_model.specs.Row.{Row, index_bytes}
-use Rattle.team_runner.specs.Answer.{IsOwnLog, Logged, logged_entry}
-use Rattle.run_command.specs.Run.{SealedLog, SealsPrefix, with_sealed}
+use Rattle.sw_base.specs.HandedLog.{IsOwnLog, HandedLog, handed_log, SealsPrefix, with_sealed}
 
 -- the logs of a run, each beside its task and its number of records, as they are answered
-abbrev pub all_logged : {L : Type 0} → (L → List ℕ) → (L → List Step) → (L → Option Text) → List (List Step × L × ℕ) → List Logged
-all_logged dir_of path_of text_of entries = map (logged_entry dir_of path_of text_of) entries
-
--- a log as it is sealed: its bytes and the lengths of its pieces, as it tells them
-abbrev pub sealed_of : Logged → SealedLog
-sealed_of log = record { path = log.path; bytes = (unwrap_or log.told ([], [])).0; lengths = (unwrap_or log.told ([], [])).1 }
-
-abbrev pub all_sealed : List Logged → List SealedLog
-all_sealed logs = map sealed_of logs
+abbrev pub all_logged : {L : Type 0} → (L → List ℕ) → (L → List Step) → (L → Option Text) → List (List Step × L × ℕ) → List HandedLog
+all_logged dir_of path_of text_of entries = map (handed_log dir_of path_of text_of) entries
 
 -- the tasks of the logs
-abbrev pub tasks_of : List Logged → List (List Step)
-tasks_of logs = map (λ (log : Logged). log.task) logs
+abbrev pub tasks_of : List HandedLog → List (List Step)
+tasks_of logs = map (λ (log : HandedLog). log.task) logs
 
 -- the row of a log's task
 abbrev pub row_of_entry : {L : Type 0} → List Step × L × ℕ → Row
 row_of_entry entry = record { path = entry.0; records = entry.2 }
 
-abbrev pub rows_of_logs : List Logged → List Row
-rows_of_logs logs = map (λ (log : Logged). record { path = log.task; records = log.count }) logs
+abbrev pub rows_of_logs : List HandedLog → List Row
+rows_of_logs logs = map (λ (log : HandedLog). record { path = log.task; records = log.count }) logs
 
 -- what a folder tells, and a fact about it
 pub record TellsSuch (told : Option Content) (P : Content → Type 0) : Type 0 where
@@ -37,33 +29,33 @@ pub record TellsSuch (told : Option Content) (P : Content → Type 0) : Type 0 w
   pub holds : P content
 
 -- The logs were sealed one after another; or one was refused, and then the first of them are sealed.
-pub record Seals (dir : List ℕ) (logs : List Logged) (result : Result (Unit {0}) Trouble) (old new : Content) : Type 0 where
-  pub done : OnOk result (new ≡ with_sealed dir (all_sealed logs) old)
-  pub prefix : SealsPrefix dir (all_sealed logs) old new
+pub record Seals (logs : List HandedLog) (result : Result (Unit {0}) Trouble) (old new : Content) : Type 0 where
+  pub done : OnOk result (new ≡ with_sealed logs old)
+  pub prefix : SealsPrefix logs old new
 
 -- the logs are of the folder, and tell what they hold
-abbrev pub AllTell : List ℕ → List Logged → Type 0
+abbrev pub AllTell : List ℕ → List HandedLog → Type 0
 AllTell dir logs = All (IsOwnLog dir true) logs
 
 -- the same of a folder that may tell
-abbrev pub SealsAll : List Logged → Result (Unit {0}) Trouble → Option Content → Option Content → Type 0
+abbrev pub SealsAll : List HandedLog → Result (Unit {0}) Trouble → Option Content → Option Content → Type 0
 SealsAll logs result old new =
-    (dir : List ℕ) (c : Content) → AllTell dir logs → old ≡ Some c → TellsSuch new (Seals dir logs result c)
+    (dir : List ℕ) (c : Content) → AllTell dir logs → old ≡ Some c → TellsSuch new (Seals logs result c)
 
 -- a folder after the logs were sealed and these bytes were put under the index's name
-abbrev pub with_index : List ℕ → List Logged → List ℕ → Content → Content
-with_index dir logs bytes content = with_put (index_name dir) bytes (with_sealed dir (all_sealed logs) content)
+abbrev pub with_index : List ℕ → List HandedLog → List ℕ → Content → Content
+with_index dir logs bytes content = with_put (index_name dir) bytes (with_sealed logs content)
 
 -- Storing a run was refused: the first of its logs are sealed; or all are, and a prefix of the index is there.
-pub data StoresPart (dir : List ℕ) (logs : List Logged) (old new : Content) : Type 0 where
-  part : SealsPrefix dir (all_sealed logs) old new → StoresPart dir logs old new
+pub data StoresPart (dir : List ℕ) (logs : List HandedLog) (old new : Content) : Type 0 where
+  part : SealsPrefix logs old new → StoresPart dir logs old new
   prefix : (prefix rest : List ℕ) → index_bytes (rows_of_logs logs) ≡ prefix ++ rest → new ≡ with_index dir logs prefix old → StoresPart dir logs old new
 
 -- a run was stored in a folder that may tell
-abbrev pub StoresAll : List ℕ → List Logged → Option Content → Option Content → Type 0
+abbrev pub StoresAll : List ℕ → List HandedLog → Option Content → Option Content → Type 0
 StoresAll dir logs old new =
     (c : Content) → AllTell dir logs → old ≡ Some c → new ≡ Some (with_index dir logs (index_bytes (rows_of_logs logs)) c)
 
 -- or refused
-abbrev pub StoresPrefix : List ℕ → List Logged → Option Content → Option Content → Type 0
+abbrev pub StoresPrefix : List ℕ → List HandedLog → Option Content → Option Content → Type 0
 StoresPrefix dir logs old new = (c : Content) → AllTell dir logs → old ≡ Some c → TellsSuch new (StoresPart dir logs c)

@@ -8,6 +8,7 @@ ghost use Rattle.command_answer.specs.Answer.{Tries};
 ghost use Rattle.run_command.specs.Begins.{IsRefusal, RefusalDue};
 ghost use Rattle.run_command.specs.Run.{HoldsKernel};
 ghost use Rattle.run_command.specs.declared.beginning.Refusal.TheVariants as refusal;
+ghost use Rattle.sw_base.specs.declared.trouble.Trouble.TheVariants as trouble;
 ghost use Rattle.command_answer.specs.declared.status.TheConstants.{USAGE, READ_FAULT, WRITE_FAULT};
 
 use command_answer::{INDEX_THERE, KERNEL_REFUSED, NO_MEMORY, READ_FAULT, print};
@@ -31,23 +32,18 @@ pub enum Refusal {
     NotBuilt,
     /// The folder has an index.
     IndexThere,
-    /// A read failed.
-    ReadFault,
-    /// No memory was found.
-    Memory,
+    /// A read failed, or no memory was found.
+    Trouble(Trouble),
 }
 
 impl From<Trouble> for Refusal {
     ghost use Rattle.std.specs.Prelude.{◌≡◌};
-    ghost use Rattle.run_command.specs.Begins.{refusal_of};
+    ghost use Rattle.run_command.specs.declared.beginning.Refusal.TheVariants as refusal;
 
-    ghost from_gives = { λ trouble e. e ≡ refusal_of trouble };
+    ghost from_gives = { λ trouble e. e ≡ refusal.Trouble trouble };
 
     fn from(trouble: Trouble) -> Self {
-        match trouble {
-            Trouble::Memory => Refusal::Memory,
-            Trouble::Failed => Refusal::ReadFault,
-        }
+        Refusal::Trouble(trouble)
     }
 }
 
@@ -60,45 +56,46 @@ impl From<ReadKernelFault> for Refusal {
     fn from(fault: ReadKernelFault) -> Self {
         match fault {
             ReadKernelFault::NotBuilt => Refusal::NotBuilt,
-            ReadKernelFault::Memory => Refusal::Memory,
+            ReadKernelFault::Memory => Refusal::Trouble(Trouble::Memory),
         }
     }
 }
 
 impl From<Memory> for Refusal {
     ghost use Rattle.std.specs.Prelude.{◌≡◌};
+    ghost use Rattle.sw_base.specs.declared.trouble.Trouble.TheVariants as trouble;
     ghost use Rattle.run_command.specs.declared.beginning.Refusal.TheVariants as refusal;
 
-    ghost from_gives = { λ _ e. e ≡ refusal.Memory };
+    ghost from_gives = { λ _ e. e ≡ refusal.Trouble trouble.Memory };
 
     fn from(_: Memory) -> Self {
-        Refusal::Memory
+        Refusal::Trouble(Trouble::Memory)
     }
 }
 
 /// The kernel that the named file holds, for a folder that has no index.
 pub fn begin<F: Folder>(
     alloc: Global,
-    place: &mut F,
+    folder: &mut F,
     kernel: &str,
     dir: &str,
 ) -> Result<Kernel, Refusal>
     ensures ready { IfOk result (λ k. IsReady (program_of k)) }
-    ensures kernel { IfOk result (λ k. WhereTold (F.content place.old) (λ c. HoldsKernel c.held kernel.now (program_of k))) }
-    ensures fresh { IfOk result (λ _. WhereTold (F.content place.old) (λ c. c.held (index_name dir.now) ≡ None)) }
-    ensures refused { IfErr result (λ why. WhereTold (F.content place.old) (λ c. IsRefusal c.held kernel.now dir.now why)) }
+    ensures kernel { IfOk result (λ k. WhereTold (F.content folder.old) (λ c. HoldsKernel c.held kernel.now (program_of k))) }
+    ensures fresh { IfOk result (λ _. WhereTold (F.content folder.old) (λ c. c.held (index_name dir.now) ≡ None)) }
+    ensures refused { IfErr result (λ why. WhereTold (F.content folder.old) (λ c. IsRefusal c.held kernel.now dir.now why)) }
 
-    ensures same { F.content place.new ≡ F.content place.old }
-    ensures same_writes { F.write_faults place.new ≡ F.write_faults place.old }
-    ensures later { F.read_faults place.old ≤ F.read_faults place.new }
-    ensures cause { IfErr result (λ why. why ≡ refusal.ReadFault → Rose (F.read_faults place.old) (F.read_faults place.new)) }
+    ensures same { F.content folder.new ≡ F.content folder.old }
+    ensures same_writes { F.write_faults folder.new ≡ F.write_faults folder.old }
+    ensures later { F.read_faults folder.old ≤ F.read_faults folder.new }
+    ensures cause { IfErr result (λ why. why ≡ refusal.Trouble trouble.Failed → Rose (F.read_faults folder.old) (F.read_faults folder.new)) }
 {
-    let Some(text) = read_file(alloc, place, kernel)? else {
+    let Some(text) = read_file(alloc, folder, kernel)? else {
         return Err(Refusal::NoKernel);
     };
     let kernel = read_kernel(alloc, &text)?;
     let index = index_name(alloc, dir)?;
-    match place.size(alloc, &index)? {
+    match folder.size(alloc, &index)? {
         Some(_) => Err(Refusal::IndexThere),
         None => Ok(kernel),
     }
@@ -109,14 +106,14 @@ pub fn refuse<O: Out>(alloc: Global, out: &mut O, why: Refusal) -> u8
     ensures answers { Tries (RefusalDue why) (O.written out.old) (O.written out.new) result }
     ensures later { O.faults out.old ≤ O.faults out.new }
     ensures write_fault { result ≡ WRITE_FAULT → Rose (O.faults out.old) (O.faults out.new) }
-    ensures read_fault { (result ≡ READ_FAULT) ↔ (why ≡ refusal.ReadFault) }
+    ensures read_fault { (result ≡ READ_FAULT) ↔ (why ≡ refusal.Trouble trouble.Failed) }
     ensures no_usage { result ≡ USAGE → ⊥ }
 {
     match why {
         Refusal::NoKernel => print(alloc, out, NO_KERNEL, KERNEL_REFUSED),
         Refusal::NotBuilt => print(alloc, out, NOT_BUILT, KERNEL_REFUSED),
         Refusal::IndexThere => print(alloc, out, INDEX_EXISTS, INDEX_THERE),
-        Refusal::ReadFault => READ_FAULT,
-        Refusal::Memory => NO_MEMORY,
+        Refusal::Trouble(Trouble::Failed) => READ_FAULT,
+        Refusal::Trouble(Trouble::Memory) => NO_MEMORY,
     }
 }

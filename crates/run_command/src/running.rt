@@ -31,7 +31,7 @@ fn finish<F: Folder, O: Out>(
     kernel: &Kernel,
     dir: &str,
     finished: Finished<F::Log>,
-    place: &mut F,
+    folder: &mut F,
     out: &mut O,
 ) -> u8
     requires first { IsFirstKind (program_of kernel.now) }
@@ -39,14 +39,14 @@ fn finish<F: Folder, O: Out>(
     requires values { length finished.words.items ≡ elements kernel.now.arrays }
     requires placed { ArePlaced kernel.now.arrays (length finished.words.items) }
     ensures ends { (size before : ℕ) (root : Text) → HasRun (program_of kernel.now) dir.now size (Some root) (all_logged F.Log.dir F.Log.path F.Log.text finished.logs.items)
-        → EndsSo (Rose before (F.write_faults place.new)) (program_of kernel.now) dir.now size (F.content place.old) (F.content place.new) (O.written out.old) (O.written out.new) result }
-    ensures tells { is_some (F.content place.new) ≡ is_some (F.content place.old) }
-    ensures write_fault { result ≡ WRITE_FAULT → Rose (O.faults out.old) (O.faults out.new) ⊎ Rose (F.write_faults place.old) (F.write_faults place.new) }
+        → EndsSo (Rose before (F.write_faults folder.new)) (program_of kernel.now) dir.now size (F.content folder.old) (F.content folder.new) (O.written out.old) (O.written out.new) result }
+    ensures tells { is_some (F.content folder.new) ≡ is_some (F.content folder.old) }
+    ensures write_fault { result ≡ WRITE_FAULT → Rose (O.faults out.old) (O.faults out.new) ⊎ Rose (F.write_faults folder.old) (F.write_faults folder.new) }
     ensures no_read { result ≡ READ_FAULT → ⊥ }
     ensures no_usage { result ≡ USAGE → ⊥ }
 {
     let Finished { logs, words } = finished;
-    match store(alloc, place, dir, logs) {
+    match store(alloc, folder, dir, logs) {
         Ok(rows) => {
             let text = run_texts::ran(alloc, &rows, kernel.arrays.as_slice(), &words);
             print_made(alloc, out, text, DONE)
@@ -71,17 +71,17 @@ fn told(why: Stop) -> Result<(u32, &'static str), Trouble>
 fn stop<F: Folder, O: Out>(
     alloc: Global,
     stopped: Stopped<F::Log>,
-    place: &mut F,
+    folder: &mut F,
     out: &mut O,
 ) -> u8
-    ensures ends { (program : Program) (dir : List ℕ) (size before : ℕ) (root : Text) → before ≤ F.write_faults place.old
+    ensures ends { (program : Program) (dir : List ℕ) (size before : ℕ) (root : Text) → before ≤ F.write_faults folder.old
         → StopsSo (HasStoppedRun program dir size (Some root) (map (λ e. (e.0, F.Log.faults e.1)) stopped.logs.items)
         (all_logged F.Log.dir F.Log.path F.Log.text stopped.logs.items) stopped.path) stopped.why
         → AllTell dir (all_logged F.Log.dir F.Log.path F.Log.text stopped.logs.items)
-        → EndsSo (Rose before (F.write_faults place.new)) program dir size (F.content place.old) (F.content place.new) (O.written out.old) (O.written out.new) result }
-    ensures tells { is_some (F.content place.new) ≡ is_some (F.content place.old) }
+        → EndsSo (Rose before (F.write_faults folder.new)) program dir size (F.content folder.old) (F.content folder.new) (O.written out.old) (O.written out.new) result }
+    ensures tells { is_some (F.content folder.new) ≡ is_some (F.content folder.old) }
     ensures write_fault { (stopped.why ≡ stop.Trouble trouble.Failed → HasFaulty (map (λ e. (e.0, F.Log.faults e.1)) stopped.logs.items) stopped.path)
-        → result ≡ WRITE_FAULT → Rose (O.faults out.old) (O.faults out.new) ⊎ Rose (F.write_faults place.old) (F.write_faults place.new) }
+        → result ≡ WRITE_FAULT → Rose (O.faults out.old) (O.faults out.new) ⊎ Rose (F.write_faults folder.old) (F.write_faults folder.new) }
     ensures no_read { result ≡ READ_FAULT → ⊥ }
     ensures no_usage { result ≡ USAGE → ⊥ }
 {
@@ -94,11 +94,11 @@ fn stop<F: Folder, O: Out>(
     let (line, name) = match told(why) {
         Ok(told) => told,
         Err(trouble) => {
-            discard_all(place, logs);
+            discard_all(folder, logs);
             return failure(trouble);
         }
     };
-    match seal_all(alloc, place, logs) {
+    match seal_all(alloc, folder, logs) {
         Ok(()) => {
             let text = run_texts::stopped(alloc, &path, line, name);
             print_made(alloc, out, text, KERNEL_STOPPED)
@@ -114,25 +114,25 @@ fn execute<R, F: Folder, O: Out, G: Gate>(
     kernel: &Kernel,
     dir: &str,
     size: usize,
-    place: &mut F,
+    folder: &mut F,
     out: &mut O,
     gate: &G,
 ) -> u8
     requires ready { IsReady (program_of kernel.now) }
     requires size { IsBufferSize size }
-    ensures ends { EndsSo (Rose (F.write_faults place.old) (F.write_faults place.new)) (program_of kernel.now) dir.now size (F.content place.old) (F.content place.new) (O.written out.old) (O.written out.new) result }
-    ensures tells { is_some (F.content place.new) ≡ is_some (F.content place.old) }
-    ensures write_fault { result ≡ WRITE_FAULT → Rose (O.faults out.old) (O.faults out.new) ⊎ Rose (F.write_faults place.old) (F.write_faults place.new) }
+    ensures ends { EndsSo (Rose (F.write_faults folder.old) (F.write_faults folder.new)) (program_of kernel.now) dir.now size (F.content folder.old) (F.content folder.new) (O.written out.old) (O.written out.new) result }
+    ensures tells { is_some (F.content folder.new) ≡ is_some (F.content folder.old) }
+    ensures write_fault { result ≡ WRITE_FAULT → Rose (O.faults out.old) (O.faults out.new) ⊎ Rose (F.write_faults folder.old) (F.write_faults folder.new) }
     ensures no_read { result ≡ READ_FAULT → ⊥ }
     ensures no_usage { result ≡ USAGE → ⊥ }
 {
-    let root = match place.root(alloc, dir) {
+    let root = match folder.root(alloc, dir) {
         Ok(root) => root,
         Err(trouble) => return failure(trouble),
     };
     match run_kernel(rt, alloc, kernel, root, size, gate) {
-        Ok(finished) => finish(alloc, kernel, dir, finished, place, out),
-        Err(stopped) => stop(alloc, stopped, place, out),
+        Ok(finished) => finish(alloc, kernel, dir, finished, folder, out),
+        Err(stopped) => stop(alloc, stopped, folder, out),
     }
 }
 
@@ -144,27 +144,27 @@ pub fn run<R, F: Folder, O: Out, G: Gate>(
     kernel: &str,
     dir: &str,
     size: usize,
-    place: &mut F,
+    folder: &mut F,
     out: &mut O,
     gate: &G,
 ) -> u8
     requires { IsBufferSize size }
-    ensures answers { WhereTold (F.content place.old) (λ c. WhereTold (F.content place.new) (λ d.
-        Tries (RunDue (Rose (F.write_faults place.old) (F.write_faults place.new)) kernel.now dir.now size c d) (O.written out.old) (O.written out.new) result)) }
-    ensures leaves { WhereTold (F.content place.old) (λ c. WhereTold (F.content place.new) (λ d.
-        IsFailure result → LeavesPart (Rose (F.write_faults place.old) (F.write_faults place.new)) kernel.now dir.now size c d)) }
-    ensures reads { result ≡ READ_FAULT → F.content place.new ≡ F.content place.old }
-    ensures read_fault { result ≡ READ_FAULT → Rose (F.read_faults place.old) (F.read_faults place.new) }
-    ensures write_fault { result ≡ WRITE_FAULT → Rose (O.faults out.old) (O.faults out.new) ⊎ Rose (F.write_faults place.old) (F.write_faults place.new) }
-    ensures only_printed { WhereTold (F.content place.old) (λ c. (CanRun c.held kernel.now dir.now → ⊥) →
+    ensures answers { WhereTold (F.content folder.old) (λ c. WhereTold (F.content folder.new) (λ d.
+        Tries (RunDue (Rose (F.write_faults folder.old) (F.write_faults folder.new)) kernel.now dir.now size c d) (O.written out.old) (O.written out.new) result)) }
+    ensures leaves { WhereTold (F.content folder.old) (λ c. WhereTold (F.content folder.new) (λ d.
+        IsFailure result → LeavesPart (Rose (F.write_faults folder.old) (F.write_faults folder.new)) kernel.now dir.now size c d)) }
+    ensures reads { result ≡ READ_FAULT → F.content folder.new ≡ F.content folder.old }
+    ensures read_fault { result ≡ READ_FAULT → Rose (F.read_faults folder.old) (F.read_faults folder.new) }
+    ensures write_fault { result ≡ WRITE_FAULT → Rose (O.faults out.old) (O.faults out.new) ⊎ Rose (F.write_faults folder.old) (F.write_faults folder.new) }
+    ensures only_printed { WhereTold (F.content folder.old) (λ c. (CanRun c.held kernel.now dir.now → ⊥) →
         result ≡ WRITE_FAULT → Rose (O.faults out.old) (O.faults out.new)) }
-    ensures same_writes { WhereTold (F.content place.old) (λ c. (CanRun c.held kernel.now dir.now → ⊥) →
-        F.write_faults place.new ≡ F.write_faults place.old) }
-    ensures tells { is_some (F.content place.new) ≡ is_some (F.content place.old) }
+    ensures same_writes { WhereTold (F.content folder.old) (λ c. (CanRun c.held kernel.now dir.now → ⊥) →
+        F.write_faults folder.new ≡ F.write_faults folder.old) }
+    ensures tells { is_some (F.content folder.new) ≡ is_some (F.content folder.old) }
     ensures no_usage { result ≡ USAGE → ⊥ }
 {
-    match begin(alloc, place, kernel, dir) {
-        Ok(kernel) => execute(rt, alloc, &kernel, dir, size, place, out, gate),
+    match begin(alloc, folder, kernel, dir) {
+        Ok(kernel) => execute(rt, alloc, &kernel, dir, size, folder, out, gate),
         Err(why) => refuse(alloc, out, why),
     }
 }

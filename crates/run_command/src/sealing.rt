@@ -14,19 +14,19 @@ use std::alloc::{AllocError, Global};
 use sw_base::{Folder, Log, Path, Trouble};
 
 /// Seals a log. One that is refused is given up.
-fn seal_one<F: Folder>(alloc: Global, place: &mut F, log: F::Log) -> Result<(), Trouble>
+fn seal_one<F: Folder>(alloc: Global, folder: &mut F, log: F::Log) -> Result<(), Trouble>
     ensures done { OnOk result (WhereTold (F.Log.text log) (λ text.
-        F.content place.new ≡ option_map (with_log (log_name (F.Log.dir log) (F.Log.path log)) text) (F.content place.old))) }
+        F.content folder.new ≡ option_map (with_log (log_name (F.Log.dir log) (F.Log.path log)) text) (F.content folder.old))) }
     ensures refused { OnErr result (WhereTold (F.Log.text log) (λ text.
-        LeavesPrefix (F.content place.old) (F.content place.new) (log_name (F.Log.dir log) (F.Log.path log)) text.bytes)) }
-    ensures tells { is_some (F.content place.new) ≡ is_some (F.content place.old) }
-    ensures log_faults { TakesFaults (F.Log.faults log) (F.write_faults place.old) (F.write_faults place.new) }
-    ensures cause { HasCause (F.write_faults place.old) (F.write_faults place.new) result }
+        LeavesPrefix (F.content folder.old) (F.content folder.new) (log_name (F.Log.dir log) (F.Log.path log)) text.bytes)) }
+    ensures tells { is_some (F.content folder.new) ≡ is_some (F.content folder.old) }
+    ensures log_faults { TakesFaults (F.Log.faults log) (F.write_faults folder.old) (F.write_faults folder.new) }
+    ensures cause { HasCause (F.write_faults folder.old) (F.write_faults folder.new) result }
 {
-    match place.seal(alloc, log) {
+    match folder.seal(alloc, log) {
         Ok(()) => Ok(()),
         Err((trouble, log)) => {
-            place.discard(log);
+            folder.discard(log);
             Err(trouble)
         }
     }
@@ -35,23 +35,23 @@ fn seal_one<F: Folder>(alloc: Global, place: &mut F, log: F::Log) -> Result<(), 
 /// Seals one more log after others, unless one of them was refused: then it is given up.
 fn seal_next<F: Folder>(
     alloc: Global,
-    place: &mut F,
+    folder: &mut F,
     log: F::Log,
     so_far: Result<(), Trouble>,
 ) -> Result<(), Trouble>
     ensures sealed { OnOk so_far (OnOk result (WhereTold (F.Log.text log) (λ text.
-        F.content place.new ≡ option_map (with_log (log_name (F.Log.dir log) (F.Log.path log)) text) (F.content place.old)))) }
+        F.content folder.new ≡ option_map (with_log (log_name (F.Log.dir log) (F.Log.path log)) text) (F.content folder.old)))) }
     ensures refused { OnOk so_far (OnErr result (WhereTold (F.Log.text log) (λ text.
-        LeavesPrefix (F.content place.old) (F.content place.new) (log_name (F.Log.dir log) (F.Log.path log)) text.bytes))) }
-    ensures given_up { OnErr so_far ((result ≡ so_far) × (F.content place.new ≡ F.content place.old)) }
-    ensures tells { is_some (F.content place.new) ≡ is_some (F.content place.old) }
-    ensures log_faults { TakesFaults (F.Log.faults log) (F.write_faults place.old) (F.write_faults place.new) }
-    ensures cause { IsErrOf result Trouble.Failed → IsErrOf so_far Trouble.Failed ⊎ Rose (F.write_faults place.old) (F.write_faults place.new) }
+        LeavesPrefix (F.content folder.old) (F.content folder.new) (log_name (F.Log.dir log) (F.Log.path log)) text.bytes))) }
+    ensures given_up { OnErr so_far ((result ≡ so_far) × (F.content folder.new ≡ F.content folder.old)) }
+    ensures tells { is_some (F.content folder.new) ≡ is_some (F.content folder.old) }
+    ensures log_faults { TakesFaults (F.Log.faults log) (F.write_faults folder.old) (F.write_faults folder.new) }
+    ensures cause { IsErrOf result Trouble.Failed → IsErrOf so_far Trouble.Failed ⊎ Rose (F.write_faults folder.old) (F.write_faults folder.new) }
 {
     match so_far {
-        Ok(()) => seal_one(alloc, place, log),
+        Ok(()) => seal_one(alloc, folder, log),
         Err(trouble) => {
-            place.discard(log);
+            folder.discard(log);
             Err(trouble)
         }
     }
@@ -60,31 +60,31 @@ fn seal_next<F: Folder>(
 /// Seals logs one after another. Once one is refused, it and the rest are given up.
 pub fn seal_all<F: Folder>(
     alloc: Global,
-    place: &mut F,
+    folder: &mut F,
     logs: Vec<(Path, F::Log, u32)>,
 ) -> Result<(), Trouble>
-    ensures seals { SealsAll (all_logged F.Log.dir F.Log.path F.Log.text logs.items) result (F.content place.old) (F.content place.new) }
-    ensures tells { is_some (F.content place.new) ≡ is_some (F.content place.old) }
+    ensures seals { SealsAll (all_logged F.Log.dir F.Log.path F.Log.text logs.items) result (F.content folder.old) (F.content folder.new) }
+    ensures tells { is_some (F.content folder.new) ≡ is_some (F.content folder.old) }
     ensures faulty { (path : List Step) → HasFaulty (map (λ e. (e.0, F.Log.faults e.1)) logs.items) path
-        → Rose (F.write_faults place.old) (F.write_faults place.new) }
-    ensures cause { HasCause (F.write_faults place.old) (F.write_faults place.new) result }
+        → Rose (F.write_faults folder.old) (F.write_faults folder.new) }
+    ensures cause { HasCause (F.write_faults folder.old) (F.write_faults folder.new) result }
 {
     let mut outcome = Ok(());
     for (_, log, _) in logs {
-        outcome = seal_next(alloc, place, log, outcome);
+        outcome = seal_next(alloc, folder, log, outcome);
     }
     outcome
 }
 
 /// Gives up logs.
-pub fn discard_all<F: Folder>(place: &mut F, logs: Vec<(Path, F::Log, u32)>)
-    ensures same { F.content place.new ≡ F.content place.old }
-    ensures later { F.write_faults place.old ≤ F.write_faults place.new }
+pub fn discard_all<F: Folder>(folder: &mut F, logs: Vec<(Path, F::Log, u32)>)
+    ensures same { F.content folder.new ≡ F.content folder.old }
+    ensures later { F.write_faults folder.old ≤ F.write_faults folder.new }
     ensures faulty { (path : List Step) → HasFaulty (map (λ e. (e.0, F.Log.faults e.1)) logs.items) path
-        → Rose (F.write_faults place.old) (F.write_faults place.new) }
+        → Rose (F.write_faults folder.old) (F.write_faults folder.new) }
 {
     for (_, log, _) in logs {
-        place.discard(log);
+        folder.discard(log);
     }
 }
 
@@ -105,24 +105,24 @@ fn index_rows<L: Log>(alloc: Global, logs: &[(Path, L, u32)]) -> Result<Vec<Row>
 /// Seals the logs of a whole run, and then writes their index, whose rows are answered.
 pub fn store<F: Folder>(
     alloc: Global,
-    place: &mut F,
+    folder: &mut F,
     dir: &str,
     logs: Vec<(Path, F::Log, u32)>,
 ) -> Result<Vec<Row>, Trouble>
     requires { AreRows (map row_of_entry logs.items) }
     ensures rows { IfOk result (λ rows. rows_of rows.items ≡ map row_of_entry logs.items) }
-    ensures stored { OnOk result (StoresAll dir.now (all_logged F.Log.dir F.Log.path F.Log.text logs.items) (F.content place.old) (F.content place.new)) }
-    ensures refused { OnErr result (StoresPrefix dir.now (all_logged F.Log.dir F.Log.path F.Log.text logs.items) (F.content place.old) (F.content place.new)) }
-    ensures tells { is_some (F.content place.new) ≡ is_some (F.content place.old) }
+    ensures stored { OnOk result (StoresAll dir.now (all_logged F.Log.dir F.Log.path F.Log.text logs.items) (F.content folder.old) (F.content folder.new)) }
+    ensures refused { OnErr result (StoresPrefix dir.now (all_logged F.Log.dir F.Log.path F.Log.text logs.items) (F.content folder.old) (F.content folder.new)) }
+    ensures tells { is_some (F.content folder.new) ≡ is_some (F.content folder.old) }
     ensures faulty { (path : List Step) → HasFaulty (map (λ e. (e.0, F.Log.faults e.1)) logs.items) path
-        → Rose (F.write_faults place.old) (F.write_faults place.new) }
-    ensures cause { HasCause (F.write_faults place.old) (F.write_faults place.new) result }
+        → Rose (F.write_faults folder.old) (F.write_faults folder.new) }
+    ensures cause { HasCause (F.write_faults folder.old) (F.write_faults folder.new) result }
 {
     let Ok(rows) = index_rows(alloc, &logs) else {
-        discard_all(place, logs);
+        discard_all(folder, logs);
         return Err(Trouble::Memory);
     };
-    seal_all(alloc, place, logs)?;
-    write_index(alloc, place, dir, &rows)?;
+    seal_all(alloc, folder, logs)?;
+    write_index(alloc, folder, dir, &rows)?;
     Ok(rows)
 }

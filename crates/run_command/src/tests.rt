@@ -17,13 +17,13 @@ const INDEX: &str = "d/index.swi";
 fn answers<R: Abort>(
     rt: &R,
     alloc: Global,
-    place: &mut MemFolder,
+    folder: &mut MemFolder,
     status: u8,
     text: &str,
 ) -> Result<(), Fail> {
     let mut out = MemOut::new(alloc)?;
     assert_eq!(rt;
-        run(rt, alloc, "k", "d", 48, place, &mut out, &NoGate),
+        run(rt, alloc, "k", "d", 48, folder, &mut out, &NoGate),
         status
     );
     assert_eq!(rt; out.written(), text.as_bytes());
@@ -33,42 +33,42 @@ fn answers<R: Abort>(
 #[test]
 fn one_store_is_run(rt: HostRuntime) -> Result<(), Fail> {
     let alloc = rt.alloc();
-    let mut place = MemFolder::new(alloc)?;
-    place.hold("k", STORE.as_bytes())?;
+    let mut folder = MemFolder::new(alloc)?;
+    folder.hold("k", STORE.as_bytes())?;
     answers(
         &rt,
         alloc,
-        &mut place,
+        &mut folder,
         DONE,
         "tasks 2\nrecords 5\nsum a 7\n",
     )?;
-    assert_eq!(rt; place.sealed_name(0), Some("d/t.swl"));
-    assert_eq!(rt; place.sealed_lengths(0), Some([8, 48].as_slice()));
-    assert_eq!(rt; place.sealed_name(1), Some("d/t-0.0.swl"));
-    assert_eq!(rt; place.sealed_lengths(1), Some([8, 48, 24].as_slice()));
-    assert_eq!(rt; place.sealed_name(2), None);
-    assert_eq!(rt; place.file(INDEX).ok_or("an index")?.len(), 104);
+    assert_eq!(rt; folder.sealed_name(0), Some("d/t.swl"));
+    assert_eq!(rt; folder.sealed_lengths(0), Some([8, 48].as_slice()));
+    assert_eq!(rt; folder.sealed_name(1), Some("d/t-0.0.swl"));
+    assert_eq!(rt; folder.sealed_lengths(1), Some([8, 48, 24].as_slice()));
+    assert_eq!(rt; folder.sealed_name(2), None);
+    assert_eq!(rt; folder.file(INDEX).ok_or("an index")?.len(), 104);
 
-    answers(&rt, alloc, &mut place, INDEX_THERE, "index exists\n")?;
-    assert_eq!(rt; place.sealed_name(2), None);
+    answers(&rt, alloc, &mut folder, INDEX_THERE, "index exists\n")?;
+    assert_eq!(rt; folder.sealed_name(2), None);
     Ok(())
 }
 
 #[test]
 fn a_stop_is_told(rt: HostRuntime) -> Result<(), Fail> {
     let alloc = rt.alloc();
-    let mut place = MemFolder::new(alloc)?;
-    place.hold("k", BEYOND.as_bytes())?;
+    let mut folder = MemFolder::new(alloc)?;
+    folder.hold("k", BEYOND.as_bytes())?;
     answers(
         &rt,
         alloc,
-        &mut place,
+        &mut folder,
         KERNEL_STOPPED,
         "stopped t-0.0.swl line 3: Index\n",
     )?;
-    assert_eq!(rt; place.sealed_name(1), Some("d/t-0.0.swl"));
-    assert_eq!(rt; place.sealed_lengths(1), Some([8, 24].as_slice()));
-    assert_eq!(rt; place.sealed_name(2), None);
-    assert_eq!(rt; place.file(INDEX), None);
+    assert_eq!(rt; folder.sealed_name(1), Some("d/t-0.0.swl"));
+    assert_eq!(rt; folder.sealed_lengths(1), Some([8, 24].as_slice()));
+    assert_eq!(rt; folder.sealed_name(2), None);
+    assert_eq!(rt; folder.file(INDEX), None);
     Ok(())
 }

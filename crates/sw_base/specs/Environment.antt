@@ -54,12 +54,24 @@ with_file name bytes files = λ other. if bytes_eq name other then Some bytes el
 abbrev pub with_put : List ℕ → List ℕ → Content → Content
 with_put name bytes content = record { held = with_file name bytes content.held; sealed = content.sealed }
 
+-- what is kept of a log that is sealed: its bytes, and the lengths of its pieces
+pub record Outline : Type 0 where
+  pub bytes : List ℕ
+  pub lengths : List ℕ
+
+abbrev pub outline_of : Text → Outline
+outline_of text = record { bytes = text.bytes; lengths = map length text.pieces }
+
+-- a folder after a log with this name and outline was sealed
+abbrev pub with_outline : List ℕ → Outline → Content → Content
+with_outline name outline content = record {
+  held = with_file name outline.bytes content.held;
+  sealed = content.sealed ++ record { name = name; lengths = outline.lengths } ∷ [];
+}
+
 -- a folder after `seal` of a log with this name and text
 abbrev pub with_log : List ℕ → Text → Content → Content
-with_log name text content = record {
-  held = with_file name text.bytes content.held;
-  sealed = content.sealed ++ record { name = name; lengths = map length text.pieces } ∷ [];
-}
+with_log name text content = with_outline name (outline_of text) content
 
 -- the name is as before or holds a prefix of the bytes, and nothing else changed
 pub record LeavesPrefix (old new : Option Content) (name bytes : List ℕ) : Type 0 where

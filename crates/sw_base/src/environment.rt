@@ -14,14 +14,14 @@ use std::alloc::Global;
 /// Sees each lane of a region start a phase, and each worker of a comparison start. In the program it does nothing.
 pub trait Gate: Sync {
     /// The lane or worker of this number is here.
-    fn enter(&self, place: usize);
+    fn enter(&self, number: usize);
 }
 
 /// A gate that does nothing.
 pub struct NoGate;
 
 impl Gate for NoGate {
-    fn enter(&self, _place: usize) {}
+    fn enter(&self, _number: usize) {}
 }
 
 /// What is printed.

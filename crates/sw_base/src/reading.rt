@@ -12,23 +12,23 @@ const WINDOW: usize = 4096;
 /// The bytes of the named file. `None` where there is none.
 pub fn read_file<F: Folder>(
     alloc: Global,
-    place: &mut F,
+    folder: &mut F,
     name: &str,
 ) -> Result<Option<Vec<u8>>, Trouble>
-    ensures read { IfOk result (λ file. WhereTold (F.content place.old) (λ c.
+    ensures read { IfOk result (λ file. WhereTold (F.content folder.old) (λ c.
         MatchOption file (c.held name.now ≡ None) (λ bytes. c.held name.now ≡ Some bytes.items))) }
 
-    ensures same { F.content place.new ≡ F.content place.old }
-    ensures cause { HasCause (F.read_faults place.old) (F.read_faults place.new) result }
-    ensures same_writes { F.write_faults place.new ≡ F.write_faults place.old }
+    ensures same { F.content folder.new ≡ F.content folder.old }
+    ensures cause { HasCause (F.read_faults folder.old) (F.read_faults folder.new) result }
+    ensures same_writes { F.write_faults folder.new ≡ F.write_faults folder.old }
 {
-    let Some(size) = place.size(alloc, name)? else {
+    let Some(size) = folder.size(alloc, name)? else {
         return Ok(None);
     };
     let mut bytes = Vec::new(alloc);
     let mut window = [0; WINDOW];
     'windows: while (bytes.len() as u64) < size {
-        let count = place.read(alloc, name, bytes.len() as u64, &mut window)?;
+        let count = folder.read(alloc, name, bytes.len() as u64, &mut window)?;
         if count == 0 {
             break;
         }

@@ -1,4 +1,4 @@
--- The answer for a folder, by that for its run or its first bad place; and the one to words that ask for nothing.
+-- The answer for a folder, by that for its run or its first bad place; and the one to arguments that ask for nothing.
 use Rattle.std.proofs.Common.{◌≡◌, ℕ, List, Option, sym, ◌∙◌}
 use Rattle.sw_base.specs.Environment.{Files}
 use Rattle.race_model.specs.Trace.{Trace}
@@ -7,7 +7,7 @@ use Rattle.race_model.specs.WellFormed.{IsWellFormed}
 use Rattle.command_answer.specs.Answer.{Tries}
 use Rattle.command_answer.proofs.Answering.{Tries-weaker}
 use Rattle.sword.specs.Check.{FolderDue, refused, answered, IsRefusedFolder}
-use Rattle.sword.specs.Words.{UsageDue}
+use Rattle.sword.specs.Arguments.{UsageDue}
 
 -- the answer for the run of a folder is the folder's
 pub answered_of : (answer : Trace → ℕ → List ℕ → Type 0) (files : Files) (dir : List ℕ) (trace : Trace) → IsWellFormed files dir → HoldsTrace files dir trace

@@ -1,4 +1,4 @@
-pub mod WordLists
+pub mod ArgumentLists
 pub mod Lines
 pub mod FolderAnswers
 pub mod OneAnswer

@@ -1,7 +1,7 @@
 -- What a command asks for.
-use Rattle.sword.specs.declared.words.Command.{Command}
-use Rattle.sword.specs.declared.words.Command.TheVariants.{Check, Run, Show}
-use Rattle.sword.specs.Words.{Request, check, run, show}
+use Rattle.sword.specs.declared.arguments.Command.{Command}
+use Rattle.sword.specs.declared.arguments.Command.TheVariants.{Check, Run, Show}
+use Rattle.sword.specs.Arguments.{Request, check, run, show}
 
 abbrev pub request_of : Command → Request
 request_of (Check dir workers) = check dir.now workers

@@ -2,4 +2,4 @@ pub mod Check
 pub mod Commands
 pub mod Show
 pub mod Texts
-pub mod Words
+pub mod Arguments

@@ -11,12 +11,12 @@ use Rattle.race_model.specs.Trace.{TaskLog, Trace}
 use Rattle.command_answer.specs.declared.status.TheConstants.{DONE}
 
 -- the size of an access, and where it stands in the kernel
-abbrev pub place_text : Record → List ℕ
-place_text r = decimal r.size ++ codes " site " ++ decimal r.site ++ codes " line " ++ decimal r.line
+abbrev pub site_text : Record → List ℕ
+site_text r = decimal r.size ++ codes " site " ++ decimal r.site ++ codes " line " ++ decimal r.line
 
 -- an access with its address and its value, which is signed
 abbrev pub access_text : Record → List ℕ
-access_text r = place_text r ++ codes " addr " ++ decimal r.addr ++ codes " value " ++ signed_decimal (cast_signed w64 r.value)
+access_text r = site_text r ++ codes " addr " ++ decimal r.addr ++ codes " value " ++ signed_decimal (cast_signed w64 r.value)
 
 -- what a record of this kind is, after its number
 abbrev pub record_text : Kind → Record → List ℕ

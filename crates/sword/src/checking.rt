@@ -92,30 +92,30 @@ fn refuse<O: Out>(alloc: Global, out: &mut O, refused: WalkFault) -> u8
 }
 
 /// Walks through the folder and reports the race pairs of its run.
-pub fn check<F: Folder, O: Out>(alloc: Global, place: &mut F, out: &mut O, dir: &str) -> u8
-    ensures answers { WhereTold (F.content place.old) (λ c. Answers (FolderDue HasReport c.held dir.now) (O.written out.old) (O.written out.new) result) }
-    ensures read_fault { result ≡ READ_FAULT → Rose (F.read_faults place.old) (F.read_faults place.new) }
+pub fn check<F: Folder, O: Out>(alloc: Global, folder: &mut F, out: &mut O, dir: &str) -> u8
+    ensures answers { WhereTold (F.content folder.old) (λ c. Answers (FolderDue HasReport c.held dir.now) (O.written out.old) (O.written out.new) result) }
+    ensures read_fault { result ≡ READ_FAULT → Rose (F.read_faults folder.old) (F.read_faults folder.new) }
     ensures write_fault { result ≡ WRITE_FAULT → Rose (O.faults out.old) (O.faults out.new) }
-    ensures same { F.content place.new ≡ F.content place.old }
-    ensures same_writes { F.write_faults place.new ≡ F.write_faults place.old }
+    ensures same { F.content folder.new ≡ F.content folder.old }
+    ensures same_writes { F.write_faults folder.new ≡ F.write_faults folder.old }
     ensures no_usage { result ≡ USAGE → ⊥ }
 {
-    match walk(alloc, place, dir) {
+    match walk(alloc, folder, dir) {
         Ok(segments) => report_run(alloc, out, &segments),
         Err(refused) => refuse(alloc, out, refused),
     }
 }
 
 /// Reads the folder's run and prints its records.
-pub fn show<F: Folder, O: Out>(alloc: Global, place: &mut F, out: &mut O, dir: &str) -> u8
-    ensures answers { WhereTold (F.content place.old) (λ c. Answers (FolderDue ShowsRecords c.held dir.now) (O.written out.old) (O.written out.new) result) }
-    ensures read_fault { result ≡ READ_FAULT → Rose (F.read_faults place.old) (F.read_faults place.new) }
+pub fn show<F: Folder, O: Out>(alloc: Global, folder: &mut F, out: &mut O, dir: &str) -> u8
+    ensures answers { WhereTold (F.content folder.old) (λ c. Answers (FolderDue ShowsRecords c.held dir.now) (O.written out.old) (O.written out.new) result) }
+    ensures read_fault { result ≡ READ_FAULT → Rose (F.read_faults folder.old) (F.read_faults folder.new) }
     ensures write_fault { result ≡ WRITE_FAULT → Rose (O.faults out.old) (O.faults out.new) }
-    ensures same { F.content place.new ≡ F.content place.old }
-    ensures same_writes { F.write_faults place.new ≡ F.write_faults place.old }
+    ensures same { F.content folder.new ≡ F.content folder.old }
+    ensures same_writes { F.write_faults folder.new ≡ F.write_faults folder.old }
     ensures no_usage { result ≡ USAGE → ⊥ }
 {
-    match read_trace(alloc, place, dir) {
+    match read_trace(alloc, folder, dir) {
         Ok(trace) => show_run(alloc, out, &trace),
         Err(refused) => refuse(alloc, out, refused),
     }

@@ -1,6 +1,6 @@
 //! The kernels of `examples/`, and what the README says that the program prints of them.
 
-use crate::tests::{answers, words};
+use crate::tests::{answers, arguments};
 use crate::top::sword;
 use command_answer::{DONE, KERNEL_STOPPED, RACES};
 use std::test::Fail;
@@ -52,10 +52,10 @@ log t-0.0.swl records 10
 #[test]
 fn the_examples_print_what_the_readme_says(rt: HostRuntime) -> Result<(), Fail> {
     let alloc = rt.alloc();
-    let mut place = MemFolder::new(alloc)?;
-    place.hold("shift.kernel", SHIFT.as_bytes())?;
-    place.hold("count.kernel", COUNT.as_bytes())?;
-    place.hold("beyond.kernel", BEYOND.as_bytes())?;
+    let mut folder = MemFolder::new(alloc)?;
+    folder.hold("shift.kernel", SHIFT.as_bytes())?;
+    folder.hold("count.kernel", COUNT.as_bytes())?;
+    folder.hold("beyond.kernel", BEYOND.as_bytes())?;
     let table: &[(&[&str], u8, &str)] = &[
         (
             &["run", "shift.kernel", "logs", "4096"],
@@ -76,14 +76,14 @@ fn the_examples_print_what_the_readme_says(rt: HostRuntime) -> Result<(), Fail> 
         ),
     ];
     for (given, status, text) in table {
-        answers(&rt, alloc, &mut place, given, *status, text)?;
+        answers(&rt, alloc, &mut folder, given, *status, text)?;
     }
-    assert_eq!(rt; place.file("stopped/index.swi"), None);
+    assert_eq!(rt; folder.file("stopped/index.swi"), None);
 
     let mut out = MemOut::new(alloc)?;
-    let show = words(alloc, &["show", "logs"])?;
+    let show = arguments(alloc, &["show", "logs"])?;
     assert_eq!(rt;
-        sword(&rt, alloc, &show, &mut place, &mut out, &NoGate),
+        sword(&rt, alloc, &show, &mut folder, &mut out, &NoGate),
         DONE
     );
     assert!(rt; out.written().starts_with(FIRST_LINES.as_bytes()));

@@ -1,7 +1,7 @@
 //! The checker against a search of the graph of edges: small and slow on purpose, and written from the definition alone.
 ghost use Rattle.std.specs.Prelude.{◌<◌};
 
-use crate::tests::{Rec, Step, answers, folder};
+use crate::tests::{Rec, Step, answers, made_folder};
 use command_answer::RACES;
 use std::alloc::{AllocError, Global};
 use std::test::Fail;
@@ -166,7 +166,7 @@ fn folder_of(alloc: Global, tasks: &[Task]) -> Result<MemFolder, Fail> {
     for task in tasks {
         all.push((&task.steps, &task.records))?;
     }
-    folder(alloc, &all)
+    made_folder(alloc, &all)
 }
 
 /// A record of the run, by its log and its place there.
@@ -359,8 +359,8 @@ fn races_are_those_of_a_search_of_the_graph(rt: HostRuntime) -> Result<(), Fail>
         }
         let pairs = race_pairs(alloc, &nodes)?;
         let text = report(alloc, &pairs)?;
-        let mut place = folder_of(alloc, &tasks)?;
-        answers(&rt, alloc, &mut place, &["check", "d", "2"], RACES, &text)?;
+        let mut folder = folder_of(alloc, &tasks)?;
+        answers(&rt, alloc, &mut folder, &["check", "d", "2"], RACES, &text)?;
     }
     Ok(())
 }

@@ -4,13 +4,16 @@
 //! first bad place, and a run that ends leaves each task's whole trace under the values that it read.
 #![tactic(auto)]
 
+ghost use Rattle.std.specs.Prelude.{◌≡◌};
+ghost use Rattle.std.specs.Process.{exit_status};
+
+mod arguments;
 mod checking;
 mod host;
 mod printing;
 mod showing;
 mod texts;
 mod top;
-mod words;
 
 use command_answer::NO_MEMORY;
 use host::{HostFolder, HostOut};
@@ -24,30 +27,37 @@ use sw_base::NoGate;
 /// How many bytes the stack has. An expression may be nearly as deep as its kernel's text is long, and calls on it are as deep.
 const STACK: usize = 1 << 28;
 
-/// The words after the program's name. Where one of them isn't UTF-8 they ask for nothing, and so none is answered.
-fn given_words(rt: &HostRuntime) -> Result<Vec<String>, AllocError> {
-    let mut words = Vec::new(rt.alloc());
+/// The arguments after the program's name. Where one of them isn't UTF-8 they ask for nothing, and so none is answered.
+fn given_arguments(rt: &HostRuntime) -> Result<Vec<String>, AllocError> {
+    let mut arguments = Vec::new(rt.alloc());
     match env::args(rt) {
         Ok(given) => {
             for word in given.skip(1) {
-                words.push(word)?;
+                arguments.push(word)?;
             }
-            Ok(words)
+            Ok(arguments)
         }
         Err(error) if error.kind() == ErrorKind::OutOfMemory => Err(AllocError),
-        Err(_) => Ok(words),
+        Err(_) => Ok(arguments),
     }
 }
 
-/// Does what the words ask for.
+/// What the system is handed as the status.
+fn exit_code(status: u8) -> ExitCode
+    ensures { exit_status result ≡ status }
+{
+    ExitCode::from(status)
+}
+
+/// Does what the arguments ask for.
 fn work(rt: HostRuntime) -> ExitCode {
     let alloc = rt.alloc();
-    let Ok(words) = given_words(&rt) else {
-        return ExitCode::from(NO_MEMORY);
+    let Ok(arguments) = given_arguments(&rt) else {
+        return exit_code(NO_MEMORY);
     };
-    let mut place = HostFolder::new(rt);
+    let mut folder = HostFolder::new(rt);
     let mut out = HostOut::new(rt);
-    ExitCode::from(top::sword(&rt, alloc, &words, &mut place, &mut out, &NoGate))
+    exit_code(top::sword(&rt, alloc, &arguments, &mut folder, &mut out, &NoGate))
 }
 
 /// On a stack of its own, or on this one where no thread can be started.

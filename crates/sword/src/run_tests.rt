@@ -1,5 +1,5 @@
 use crate::STACK;
-use crate::tests::{answers, words};
+use crate::tests::{answers, arguments};
 use crate::top::sword;
 use command_answer::{
     DONE, INDEX_THERE, KERNEL_REFUSED, KERNEL_STOPPED, RACES, READ_FAULT, USAGE, WRITE_FAULT,
@@ -42,9 +42,9 @@ const LANE_0: &str = "d/t-0.0.swl";
 
 // A folder with this kernel.
 fn holding(alloc: Global, kernel: &str) -> Result<MemFolder, Fail> {
-    let mut place = MemFolder::new(alloc)?;
-    place.hold("k", kernel.as_bytes())?;
-    Ok(place)
+    let mut folder = MemFolder::new(alloc)?;
+    folder.hold("k", kernel.as_bytes())?;
+    Ok(folder)
 }
 
 // A folder in which this kernel ran and printed the text.
@@ -56,33 +56,33 @@ fn after<R: Abort>(
     status: u8,
     text: &str,
 ) -> Result<MemFolder, Fail> {
-    let mut place = holding(alloc, kernel)?;
+    let mut folder = holding(alloc, kernel)?;
     answers(
         rt,
         alloc,
-        &mut place,
+        &mut folder,
         &["run", "k", "d", size],
         status,
         text,
     )?;
-    Ok(place)
+    Ok(folder)
 }
 
-fn show<R: Abort>(rt: &R, alloc: Global, place: &mut MemFolder, text: &str) -> Result<(), Fail> {
-    answers(rt, alloc, place, &["show", "d"], DONE, text)
+fn show<R: Abort>(rt: &R, alloc: Global, folder: &mut MemFolder, text: &str) -> Result<(), Fail> {
+    answers(rt, alloc, folder, &["show", "d"], DONE, text)
 }
 
 #[test]
 fn two_lanes_count(rt: HostRuntime) -> Result<(), Fail> {
     let alloc = rt.alloc();
-    let mut place = after(&rt, alloc, COUNT, "4096", DONE, COUNTED)?;
-    assert_eq!(rt; place.file(INDEX).ok_or("an index")?.len(), 152);
+    let mut folder = after(&rt, alloc, COUNT, "4096", DONE, COUNTED)?;
+    assert_eq!(rt; folder.file(INDEX).ok_or("an index")?.len(), 152);
     let check = ["check", "d", "2"];
-    answers(&rt, alloc, &mut place, &check, DONE, "races 0\n")?;
+    answers(&rt, alloc, &mut folder, &check, DONE, "races 0\n")?;
     let mut out = MemOut::new(alloc)?;
-    let all = words(alloc, &["show", "d"])?;
+    let all = arguments(alloc, &["show", "d"])?;
     assert_eq!(rt;
-        sword(&rt, alloc, &all, &mut place, &mut out, &NoGate),
+        sword(&rt, alloc, &all, &mut folder, &mut out, &NoGate),
         DONE
     );
     assert!(rt;
@@ -107,13 +107,13 @@ fn pieces_fill_the_buffer(rt: HostRuntime) -> Result<(), Fail> {
         ("100", &[8, 96, 96, 48]),
         ("4194304", &[8, 240]),
     ] {
-        let place = after(&rt, alloc, COUNT, size, DONE, COUNTED)?;
-        assert_eq!(rt; place.file(LANE_0).ok_or("a log")?, log);
-        assert_eq!(rt; place.sealed_name(0).ok_or("a log")?, "d/t.swl");
-        assert_eq!(rt; place.sealed_name(1).ok_or("a log")?, LANE_0);
-        assert_eq!(rt; place.sealed_lengths(1).ok_or("a log")?, lengths);
-        assert_eq!(rt; place.sealed_name(2).ok_or("a log")?, "d/t-0.1.swl");
-        assert!(rt; place.sealed_name(3).is_none());
+        let folder = after(&rt, alloc, COUNT, size, DONE, COUNTED)?;
+        assert_eq!(rt; folder.file(LANE_0).ok_or("a log")?, log);
+        assert_eq!(rt; folder.sealed_name(0).ok_or("a log")?, "d/t.swl");
+        assert_eq!(rt; folder.sealed_name(1).ok_or("a log")?, LANE_0);
+        assert_eq!(rt; folder.sealed_lengths(1).ok_or("a log")?, lengths);
+        assert_eq!(rt; folder.sealed_name(2).ok_or("a log")?, "d/t-0.1.swl");
+        assert!(rt; folder.sealed_name(3).is_none());
     }
     Ok(())
 }
@@ -125,9 +125,16 @@ fn a_run_races_where_lanes_share_an_element(rt: HostRuntime) -> Result<(), Fail>
         (SHIFT, "tasks 3\nrecords 22\nsum a 0\n"),
         (SHIFT_ON, "tasks 3\nrecords 20\nsum a 0\n"),
     ] {
-        let mut place = after(&rt, alloc, kernel, "4096", DONE, text)?;
+        let mut folder = after(&rt, alloc, kernel, "4096", DONE, text)?;
         let check = ["check", "d", "2"];
-        answers(&rt, alloc, &mut place, &check, RACES, "race 3 3\nraces 1\n")?;
+        answers(
+            &rt,
+            alloc,
+            &mut folder,
+            &check,
+            RACES,
+            "race 3 3\nraces 1\n",
+        )?;
     }
     Ok(())
 }
@@ -166,13 +173,13 @@ fn sums_are_signed(rt: HostRuntime) -> Result<(), Fail> {
 #[test]
 fn an_index_is_kept(rt: HostRuntime) -> Result<(), Fail> {
     let alloc = rt.alloc();
-    let mut place = after(&rt, alloc, COUNT, "4096", DONE, COUNTED)?;
-    place.hold("k", SHIFT.as_bytes())?;
+    let mut folder = after(&rt, alloc, COUNT, "4096", DONE, COUNTED)?;
+    folder.hold("k", SHIFT.as_bytes())?;
     let run = ["run", "k", "d", "24"];
-    answers(&rt, alloc, &mut place, &run, INDEX_THERE, "index exists\n")?;
-    assert_eq!(rt; place.file(INDEX).ok_or("an index")?.len(), 152);
-    assert_eq!(rt; place.file(LANE_0).ok_or("a log")?.len(), 248);
-    assert!(rt; place.sealed_name(3).is_none());
+    answers(&rt, alloc, &mut folder, &run, INDEX_THERE, "index exists\n")?;
+    assert_eq!(rt; folder.file(INDEX).ok_or("an index")?.len(), 152);
+    assert_eq!(rt; folder.file(LANE_0).ok_or("a log")?.len(), 248);
+    assert!(rt; folder.sealed_name(3).is_none());
     Ok(())
 }
 
@@ -184,11 +191,11 @@ fn a_stop_names_the_least_lane(rt: HostRuntime) -> Result<(), Fail> {
         (BEYOND, "stopped t-0.1.swl line 3: Index\n", 128),
         (DIVIDE, "stopped t-0.0.swl line 3: DivZero\n", 32),
     ] {
-        let place = after(&rt, alloc, kernel, "4096", KERNEL_STOPPED, text)?;
-        assert!(rt; place.file(INDEX).is_none());
-        assert_eq!(rt; place.file(LANE_0).ok_or("a log")?.len(), bytes);
-        assert_eq!(rt; place.sealed_name(2).ok_or("a log")?, "d/t-0.1.swl");
-        assert!(rt; place.sealed_name(3).is_none());
+        let folder = after(&rt, alloc, kernel, "4096", KERNEL_STOPPED, text)?;
+        assert!(rt; folder.file(INDEX).is_none());
+        assert_eq!(rt; folder.file(LANE_0).ok_or("a log")?.len(), bytes);
+        assert_eq!(rt; folder.sealed_name(2).ok_or("a log")?, "d/t-0.1.swl");
+        assert!(rt; folder.sealed_name(3).is_none());
     }
     Ok(())
 }
@@ -196,12 +203,12 @@ fn a_stop_names_the_least_lane(rt: HostRuntime) -> Result<(), Fail> {
 #[test]
 fn other_sizes_are_usage(rt: HostRuntime) -> Result<(), Fail> {
     let alloc = rt.alloc();
-    let mut place = holding(alloc, COUNT)?;
+    let mut folder = holding(alloc, COUNT)?;
     for size in ["23", "4194305", "024"] {
         let mut out = MemOut::new(alloc)?;
-        let all = words(alloc, &["run", "k", "d", size])?;
+        let all = arguments(alloc, &["run", "k", "d", size])?;
         assert_eq!(rt;
-            sword(&rt, alloc, &all, &mut place, &mut out, &NoGate),
+            sword(&rt, alloc, &all, &mut folder, &mut out, &NoGate),
             USAGE
         );
         assert!(rt;
@@ -209,7 +216,7 @@ fn other_sizes_are_usage(rt: HostRuntime) -> Result<(), Fail> {
                 .starts_with(b"usage: sword check DIR W | run KERNEL DIR SIZE |")
         );
     }
-    assert!(rt; place.file("d/t.swl").is_none());
+    assert!(rt; folder.file("d/t.swl").is_none());
     Ok(())
 }
 
@@ -221,8 +228,8 @@ fn other_kernels_are_refused(rt: HostRuntime) -> Result<(), Fail> {
     answers(&rt, alloc, &mut empty, &run, KERNEL_REFUSED, "no kernel\n")?;
     let text = "kernel not built\n";
     for kernel in ["array a i64 4 main { a[0] = 1 }", "no kernel at all", ""] {
-        let place = after(&rt, alloc, kernel, "4096", KERNEL_REFUSED, text)?;
-        assert!(rt; place.file("d/t.swl").is_none());
+        let folder = after(&rt, alloc, kernel, "4096", KERNEL_REFUSED, text)?;
+        assert!(rt; folder.file("d/t.swl").is_none());
     }
     Ok(())
 }
@@ -233,19 +240,19 @@ fn each_call_of_a_run_may_fail(rt: HostRuntime) -> Result<(), Fail> {
     let whole = after(&rt, alloc, COUNT, "4096", DONE, COUNTED)?;
     let index = whole.file(INDEX).ok_or("an index")?;
     for call in 1..9 {
-        let mut place = holding(alloc, COUNT)?;
-        place.fail(&[call])?;
+        let mut folder = holding(alloc, COUNT)?;
+        folder.fail(&[call])?;
         let status = if call < 4 { READ_FAULT } else { WRITE_FAULT };
         let run = ["run", "k", "d", "4096"];
-        answers(&rt, alloc, &mut place, &run, status, "")?;
-        let prefix = place.file(INDEX).unwrap_or(b"");
-        assert!(rt; call == 8 || place.file(INDEX).is_none());
+        answers(&rt, alloc, &mut folder, &run, status, "")?;
+        let prefix = folder.file(INDEX).unwrap_or(b"");
+        assert!(rt; call == 8 || folder.file(INDEX).is_none());
         assert!(rt; index.starts_with(prefix) && prefix.len() < index.len());
     }
-    let mut place = holding(alloc, COUNT)?;
-    place.fail(&[9])?;
+    let mut folder = holding(alloc, COUNT)?;
+    folder.fail(&[9])?;
     let run = ["run", "k", "d", "4096"];
-    answers(&rt, alloc, &mut place, &run, DONE, COUNTED)
+    answers(&rt, alloc, &mut folder, &run, DONE, COUNTED)
 }
 
 #[test]
@@ -255,16 +262,16 @@ fn each_call_on_a_log_may_fail(rt: HostRuntime) -> Result<(), Fail> {
     let root = Path::root();
     for task in [root.copy(), root.child(0, 0, 2), root.child(0, 1, 2)] {
         for call in 1..6 {
-            let mut place = holding(alloc, COUNT)?;
-            place.fail_log(&task, &[call])?;
+            let mut folder = holding(alloc, COUNT)?;
+            folder.fail_log(&task, &[call])?;
             let run = ["run", "k", "d", "96"];
             if call == 5 {
-                answers(&rt, alloc, &mut place, &run, DONE, COUNTED)?;
+                answers(&rt, alloc, &mut folder, &run, DONE, COUNTED)?;
             } else {
-                answers(&rt, alloc, &mut place, &run, WRITE_FAULT, "")?;
+                answers(&rt, alloc, &mut folder, &run, WRITE_FAULT, "")?;
             }
-            assert_eq!(rt; place.file(INDEX).is_some(), call == 5);
-            assert_eq!(rt; place.file(LANE_0).is_some(), call == 5);
+            assert_eq!(rt; folder.file(INDEX).is_some(), call == 5);
+            assert_eq!(rt; folder.file(LANE_0).is_some(), call == 5);
         }
     }
     Ok(())
@@ -274,16 +281,16 @@ fn each_call_on_a_log_may_fail(rt: HostRuntime) -> Result<(), Fail> {
 fn each_text_of_a_run_may_fail(rt: HostRuntime) -> Result<(), Fail> {
     let alloc = rt.alloc();
     for kernel in [COUNT, BEYOND, "no kernel"] {
-        let mut place = holding(alloc, kernel)?;
+        let mut folder = holding(alloc, kernel)?;
         let mut out = MemOut::new(alloc)?;
         out.fail(&[1])?;
-        let all = words(alloc, &["run", "k", "d", "4096"])?;
+        let all = arguments(alloc, &["run", "k", "d", "4096"])?;
         assert_eq!(rt;
-            sword(&rt, alloc, &all, &mut place, &mut out, &NoGate),
+            sword(&rt, alloc, &all, &mut folder, &mut out, &NoGate),
             WRITE_FAULT
         );
         assert!(rt; out.written().len() < COUNTED.len());
-        assert_eq!(rt; place.file(INDEX).is_some(), kernel == COUNT);
+        assert_eq!(rt; folder.file(INDEX).is_some(), kernel == COUNT);
     }
     Ok(())
 }
@@ -297,11 +304,11 @@ fn long_sum_is_run(rt: HostRuntime) -> Option<bool> {
         kernel.push_str("+1").ok()?;
     }
     kernel.push_str(" } } }").ok()?;
-    let mut place = MemFolder::new(alloc).ok()?;
-    place.hold("k", kernel.as_bytes()).ok()?;
+    let mut folder = MemFolder::new(alloc).ok()?;
+    folder.hold("k", kernel.as_bytes()).ok()?;
     let mut out = MemOut::new(alloc).ok()?;
-    let all = words(alloc, &["run", "k", "d", "4096"]).ok()?;
-    let status = sword(&rt, alloc, &all, &mut place, &mut out, &NoGate);
+    let all = arguments(alloc, &["run", "k", "d", "4096"]).ok()?;
+    let status = sword(&rt, alloc, &all, &mut folder, &mut out, &NoGate);
     Some(status == DONE && out.written() == b"tasks 2\nrecords 5\nsum a 32001\n".as_slice())
 }
 

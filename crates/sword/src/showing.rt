@@ -2,15 +2,15 @@
 ghost use Rattle.std.specs.Prelude.{◌≡◌, map, IfOk, OnOk, OnErr, string_bytes};
 ghost use Rattle.sw_base.specs.Environment.{HasCause, GainsPrefix, gained};
 ghost use Rattle.log_segment.specs.Intervals.{task_of};
-ghost use Rattle.sword.specs.Show.{place_text, access_text, record_text, record_line, log_line, log_text, records_text, show_text};
+ghost use Rattle.sword.specs.Show.{site_text, access_text, record_text, record_line, log_line, log_text, records_text, show_text};
 
 use log_format::{Kind, Record};
 use log_segment::TaskRecords;
 use std::alloc::Global;
 use sw_base::{Memory, Out, Path, Trouble};
 
-fn place_words(alloc: Global, r: &Record) -> Result<String, Memory>
-    ensures { IfOk result (λ text. string_bytes text ≡ place_text r.now) }
+fn site_part(alloc: Global, r: &Record) -> Result<String, Memory>
+    ensures { IfOk result (λ text. string_bytes text ≡ site_text r.now) }
 {
     let size = r.size;
     let site = r.site;
@@ -18,24 +18,24 @@ fn place_words(alloc: Global, r: &Record) -> Result<String, Memory>
     Ok(format!(in alloc; "{size} site {site} line {line}")?)
 }
 
-fn access_words(alloc: Global, r: &Record) -> Result<String, Memory>
+fn access_part(alloc: Global, r: &Record) -> Result<String, Memory>
     ensures { IfOk result (λ text. string_bytes text ≡ access_text r.now) }
 {
-    let place = place_words(alloc, r)?;
+    let place = site_part(alloc, r)?;
     let addr = r.addr;
     let value = r.value.cast_signed();
     Ok(format!(in alloc; "{place} addr {addr} value {value}")?)
 }
 
-fn record_words(alloc: Global, r: &Record) -> Result<String, Memory>
+fn record_part(alloc: Global, r: &Record) -> Result<String, Memory>
     ensures { IfOk result (λ text. string_bytes text ≡ record_text r.now.kind r.now) }
 {
     let line = r.line;
     let addr = r.addr;
     let value = r.value;
     let text = match r.kind {
-        Kind::Read => format!(in alloc; "read {}", access_words(alloc, r)?)?,
-        Kind::Write => format!(in alloc; "write {}", access_words(alloc, r)?)?,
+        Kind::Read => format!(in alloc; "read {}", access_part(alloc, r)?)?,
+        Kind::Write => format!(in alloc; "write {}", access_part(alloc, r)?)?,
         Kind::Lock => format!(in alloc; "lock {addr} line {line}")?,
         Kind::Unlock => format!(in alloc; "unlock {addr} line {line}")?,
         Kind::Barrier => format!(in alloc; "barrier line {line}")?,
@@ -49,8 +49,8 @@ fn record_words(alloc: Global, r: &Record) -> Result<String, Memory>
 fn line_of_record(alloc: Global, number: usize, r: &Record) -> Result<String, Memory>
     ensures { IfOk result (λ text. string_bytes text ≡ record_line number r.now) }
 {
-    let words = record_words(alloc, r)?;
-    Ok(format!(in alloc; "{number} {words}\n")?)
+    let part = record_part(alloc, r)?;
+    Ok(format!(in alloc; "{number} {part}\n")?)
 }
 
 fn line_of_log(alloc: Global, path: &Path, count: usize) -> Result<String, Memory>

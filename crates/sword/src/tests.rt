@@ -69,22 +69,22 @@ fn log_name(alloc: Global, steps: &[Step]) -> Result<String, AllocError> {
 }
 
 /// The folder `d` with these tasks, and an index with their rows.
-pub fn folder(alloc: Global, tasks: &[Task<'_>]) -> Result<MemFolder, Fail> {
-    let mut place = MemFolder::new(alloc)?;
+pub fn made_folder(alloc: Global, tasks: &[Task<'_>]) -> Result<MemFolder, Fail> {
+    let mut folder = MemFolder::new(alloc)?;
     let mut index = b"SWIDX001".to_vec(alloc)?;
     for (steps, records) in tasks {
         let mut log = b"SWLOG001".to_vec(alloc)?;
         for record in records.iter() {
             spell(&mut log, record)?;
         }
-        place.hold(&log_name(alloc, steps)?, &log)?;
+        folder.hold(&log_name(alloc, steps)?, &log)?;
         spell_row(&mut index, steps, records.len())?;
     }
-    place.hold("d/index.swi", &index)?;
-    Ok(place)
+    folder.hold("d/index.swi", &index)?;
+    Ok(folder)
 }
 
-pub fn words(alloc: Global, given: &[&str]) -> Result<Vec<String>, AllocError> {
+pub fn arguments(alloc: Global, given: &[&str]) -> Result<Vec<String>, AllocError> {
     let mut all = Vec::new(alloc);
     for word in given {
         all.push(String::from_str(alloc, word)?)?;
@@ -95,14 +95,14 @@ pub fn words(alloc: Global, given: &[&str]) -> Result<Vec<String>, AllocError> {
 pub fn answers<R: Abort>(
     rt: &R,
     alloc: Global,
-    place: &mut MemFolder,
+    folder: &mut MemFolder,
     given: &[&str],
     status: u8,
     text: &str,
 ) -> Result<(), Fail> {
     let mut out = MemOut::new(alloc)?;
-    let all = words(alloc, given)?;
-    let answered = sword(rt, alloc, &all, place, &mut out, &NoGate);
+    let all = arguments(alloc, given)?;
+    let answered = sword(rt, alloc, &all, folder, &mut out, &NoGate);
     assert_eq!(rt; answered, status);
     assert_eq!(rt; out.written(), text.as_bytes());
     Ok(())
@@ -118,7 +118,7 @@ fn lanes_that_share_a_byte_race(rt: HostRuntime) -> Result<(), Fail> {
         (107, RACES, "race 5 6\nraces 1\n"),
         (108, DONE, "races 0\n"),
     ] {
-        let mut place = folder(
+        let mut folder = made_folder(
             alloc,
             &[
                 (&[], ROOT),
@@ -126,8 +126,8 @@ fn lanes_that_share_a_byte_race(rt: HostRuntime) -> Result<(), Fail> {
                 (&[(0, 1, 2)], &[(1, 1, 6, addr, 0), END]),
             ],
         )?;
-        answers(&rt, alloc, &mut place, &["check", "d", "1"], status, text)?;
-        answers(&rt, alloc, &mut place, &["check", "d", "64"], status, text)?;
+        answers(&rt, alloc, &mut folder, &["check", "d", "1"], status, text)?;
+        answers(&rt, alloc, &mut folder, &["check", "d", "64"], status, text)?;
     }
     Ok(())
 }
@@ -136,7 +136,7 @@ fn lanes_that_share_a_byte_race(rt: HostRuntime) -> Result<(), Fail> {
 fn only_a_common_mutex_excludes(rt: HostRuntime) -> Result<(), Fail> {
     let alloc = rt.alloc();
     for (other, status, text) in [(1, DONE, "races 0\n"), (2, RACES, "race 5 6\nraces 1\n")] {
-        let mut place = folder(
+        let mut folder = made_folder(
             alloc,
             &[
                 (&[], ROOT),
@@ -150,7 +150,7 @@ fn only_a_common_mutex_excludes(rt: HostRuntime) -> Result<(), Fail> {
                 ),
             ],
         )?;
-        answers(&rt, alloc, &mut place, &["check", "d", "2"], status, text)?;
+        answers(&rt, alloc, &mut folder, &["check", "d", "2"], status, text)?;
     }
     Ok(())
 }
@@ -182,8 +182,8 @@ fn a_barrier_orders_a_nested_region(rt: HostRuntime) -> Result<(), Fail> {
             (&[(0, 0, 2), (0, 1, 2)], inner_1),
             (&[(0, 1, 2)], second),
         ];
-        let mut place = folder(alloc, tasks)?;
-        answers(&rt, alloc, &mut place, &["check", "d", "1"], status, text)?;
+        let mut folder = made_folder(alloc, tasks)?;
+        answers(&rt, alloc, &mut folder, &["check", "d", "1"], status, text)?;
     }
     Ok(())
 }
@@ -201,7 +201,7 @@ fn eight_lanes(alloc: Global, records: &[Rec]) -> Result<MemFolder, Fail> {
         (&[(0, 6, 8)], records),
         (&[(0, 7, 8)], records),
     ];
-    folder(alloc, tasks)
+    made_folder(alloc, tasks)
 }
 
 #[test]
@@ -210,11 +210,11 @@ fn one_mutex_excludes_eight_lanes(rt: HostRuntime) -> Result<(), Fail> {
     let check = ["check", "d", "8"];
     let read = (1, 8, 4, 4096, 0);
     let locked = [lock(4, 1), read, write(4, 4096), unlock(4, 1), END];
-    let mut place = eight_lanes(alloc, &locked)?;
-    answers(&rt, alloc, &mut place, &check, DONE, "races 0\n")?;
-    let mut place = eight_lanes(alloc, &[read, write(4, 4096), END])?;
+    let mut folder = eight_lanes(alloc, &locked)?;
+    answers(&rt, alloc, &mut folder, &check, DONE, "races 0\n")?;
+    let mut folder = eight_lanes(alloc, &[read, write(4, 4096), END])?;
     let text = "race 4 4\nraces 1\n";
-    answers(&rt, alloc, &mut place, &check, RACES, text)
+    answers(&rt, alloc, &mut folder, &check, RACES, text)
 }
 
 // Lane 0 reads in its second loop what lane 1 writes in the first.
@@ -237,8 +237,8 @@ fn a_barrier_parts_two_loops(rt: HostRuntime) -> Result<(), Fail> {
     ];
     for (first, second, status, text) in table {
         let tasks: &[Task<'_>] = &[(&[], ROOT), (&[(0, 0, 2)], first), (&[(0, 1, 2)], second)];
-        let mut place = folder(alloc, tasks)?;
-        answers(&rt, alloc, &mut place, &["check", "d", "1"], status, text)?;
+        let mut folder = made_folder(alloc, tasks)?;
+        answers(&rt, alloc, &mut folder, &["check", "d", "1"], status, text)?;
     }
     Ok(())
 }
@@ -246,7 +246,7 @@ fn a_barrier_parts_two_loops(rt: HostRuntime) -> Result<(), Fail> {
 #[test]
 fn regions_in_turn_are_ordered(rt: HostRuntime) -> Result<(), Fail> {
     let alloc = rt.alloc();
-    let mut place = folder(
+    let mut folder = made_folder(
         alloc,
         &[
             (&[], &[region(3, 2), region(4, 2), END]),
@@ -259,7 +259,7 @@ fn regions_in_turn_are_ordered(rt: HostRuntime) -> Result<(), Fail> {
     answers(
         &rt,
         alloc,
-        &mut place,
+        &mut folder,
         &["check", "d", "1"],
         DONE,
         "races 0\n",
@@ -274,28 +274,42 @@ fn unequal_barriers_are_named(rt: HostRuntime) -> Result<(), Fail> {
         (&[(0, 0, 2)], &[BARRIER, END]),
         (&[(0, 1, 2)], &[END]),
     ];
-    let mut place = folder(alloc, tasks)?;
+    let mut folder = made_folder(alloc, tasks)?;
     let text = "bad log t-0.1.swl record 1: BarrierCount\n";
     let check = ["check", "d", "2"];
-    answers(&rt, alloc, &mut place, &check, FOLDER_REFUSED, text)?;
-    answers(&rt, alloc, &mut place, &["show", "d"], FOLDER_REFUSED, text)
+    answers(&rt, alloc, &mut folder, &check, FOLDER_REFUSED, text)?;
+    answers(
+        &rt,
+        alloc,
+        &mut folder,
+        &["show", "d"],
+        FOLDER_REFUSED,
+        text,
+    )
 }
 
 #[test]
 fn a_missing_or_empty_index_is_named(rt: HostRuntime) -> Result<(), Fail> {
     let alloc = rt.alloc();
     let check = ["check", "d", "2"];
-    let mut place = MemFolder::new(alloc)?;
-    answers(&rt, alloc, &mut place, &check, FOLDER_REFUSED, "no index\n")?;
-    place.hold("d/index.swi", b"SWIDX001")?;
+    let mut folder = MemFolder::new(alloc)?;
+    answers(
+        &rt,
+        alloc,
+        &mut folder,
+        &check,
+        FOLDER_REFUSED,
+        "no index\n",
+    )?;
+    folder.hold("d/index.swi", b"SWIDX001")?;
     let text = "bad index row 1: Cut\n";
-    answers(&rt, alloc, &mut place, &check, FOLDER_REFUSED, text)
+    answers(&rt, alloc, &mut folder, &check, FOLDER_REFUSED, text)
 }
 
 #[test]
 fn records_are_shown(rt: HostRuntime) -> Result<(), Fail> {
     let alloc = rt.alloc();
-    let mut place = folder(
+    let mut folder = made_folder(
         alloc,
         &[(
             &[],
@@ -309,7 +323,7 @@ fn records_are_shown(rt: HostRuntime) -> Result<(), Fail> {
     answers(
         &rt,
         alloc,
-        &mut place,
+        &mut folder,
         &["show", "d"],
         DONE,
         "log t.swl records 3\n1 write 8 site 0 line 1 addr 4096 value 1\n2 write 1 site 0 line 1 addr 4096 value -56\n3 end line 1\n",
@@ -317,37 +331,37 @@ fn records_are_shown(rt: HostRuntime) -> Result<(), Fail> {
 }
 
 #[test]
-fn other_words_are_a_usage_fault(rt: HostRuntime) -> Result<(), Fail> {
+fn other_arguments_are_a_usage_fault(rt: HostRuntime) -> Result<(), Fail> {
     let line =
         "usage: sword check DIR W | run KERNEL DIR SIZE | replay KERNEL DIR | show DIR | gen N W\n";
     let alloc = rt.alloc();
-    let mut place = MemFolder::new(alloc)?;
-    answers(&rt, alloc, &mut place, &[], USAGE, line)?;
-    answers(&rt, alloc, &mut place, &["--help"], USAGE, line)?;
-    answers(&rt, alloc, &mut place, &["check", "d", "0"], USAGE, line)?;
-    answers(&rt, alloc, &mut place, &["check", "d", "01"], USAGE, line)?;
-    answers(&rt, alloc, &mut place, &["check", "d", "65"], USAGE, line)?;
-    answers(&rt, alloc, &mut place, &["check", "", "1"], USAGE, line)
+    let mut folder = MemFolder::new(alloc)?;
+    answers(&rt, alloc, &mut folder, &[], USAGE, line)?;
+    answers(&rt, alloc, &mut folder, &["--help"], USAGE, line)?;
+    answers(&rt, alloc, &mut folder, &["check", "d", "0"], USAGE, line)?;
+    answers(&rt, alloc, &mut folder, &["check", "d", "01"], USAGE, line)?;
+    answers(&rt, alloc, &mut folder, &["check", "d", "65"], USAGE, line)?;
+    answers(&rt, alloc, &mut folder, &["check", "", "1"], USAGE, line)
 }
 
 #[test]
 fn each_call_of_a_check_may_fail(rt: HostRuntime) -> Result<(), Fail> {
     let alloc = rt.alloc();
-    let check = words(alloc, &["check", "d", "1"])?;
+    let check = arguments(alloc, &["check", "d", "1"])?;
     // The size and the bytes of the index and of the log.
     for call in 1..=4 {
-        let mut place = folder(alloc, &[(&[], &[END])])?;
-        place.fail(&[call])?;
+        let mut folder = made_folder(alloc, &[(&[], &[END])])?;
+        folder.fail(&[call])?;
         let mut out = MemOut::new(alloc)?;
-        let status = sword(&rt, alloc, &check, &mut place, &mut out, &NoGate);
+        let status = sword(&rt, alloc, &check, &mut folder, &mut out, &NoGate);
         assert_eq!(rt; status, READ_FAULT);
         assert_eq!(rt; out.written(), b"".as_slice());
     }
-    let mut place = folder(alloc, &[(&[], &[END])])?;
-    place.fail(&[5])?;
+    let mut folder = made_folder(alloc, &[(&[], &[END])])?;
+    folder.fail(&[5])?;
     let mut out = MemOut::new(alloc)?;
     out.fail(&[1])?;
-    let status = sword(&rt, alloc, &check, &mut place, &mut out, &NoGate);
+    let status = sword(&rt, alloc, &check, &mut folder, &mut out, &NoGate);
     assert_eq!(rt; status, WRITE_FAULT);
     assert_eq!(rt; out.written(), b"race".as_slice());
     Ok(())
@@ -356,12 +370,12 @@ fn each_call_of_a_check_may_fail(rt: HostRuntime) -> Result<(), Fail> {
 #[test]
 fn a_failed_write_ends_what_is_shown(rt: HostRuntime) -> Result<(), Fail> {
     let alloc = rt.alloc();
-    let mut place = folder(alloc, &[(&[], &[END])])?;
+    let mut folder = made_folder(alloc, &[(&[], &[END])])?;
     let mut out = MemOut::new(alloc)?;
     out.fail(&[2])?;
-    let all = words(alloc, &["show", "d"])?;
+    let all = arguments(alloc, &["show", "d"])?;
     assert_eq!(rt;
-        sword(&rt, alloc, &all, &mut place, &mut out, &NoGate),
+        sword(&rt, alloc, &all, &mut folder, &mut out, &NoGate),
         WRITE_FAULT
     );
     assert!(rt; out.written().starts_with(b"log t.swl records 1\n"));
@@ -371,14 +385,14 @@ fn a_failed_write_ends_what_is_shown(rt: HostRuntime) -> Result<(), Fail> {
 #[test]
 fn accesses_are_shown(rt: HostRuntime) -> Result<(), Fail> {
     let alloc = rt.alloc();
-    let mut place = folder(
+    let mut folder = made_folder(
         alloc,
         &[(&[], &[(1, 8, 5, 4096, 0), (2, 8, 5, 4096, 1), END])],
     )?;
     answers(
         &rt,
         alloc,
-        &mut place,
+        &mut folder,
         &["show", "d"],
         DONE,
         "log t.swl records 3\n1 read 8 site 1 line 5 addr 4096 value 0\n2 write 8 site 0 line 5 addr 4096 value 1\n3 end line 9\n",
@@ -393,7 +407,7 @@ fn barriers_order_at_every_depth(rt: HostRuntime) -> Result<(), Fail> {
     let one: &[Step] = &[step];
     let two: &[Step] = &[step, step];
     let three: &[Step] = &[step, step, step];
-    let mut place = folder(
+    let mut folder = made_folder(
         alloc,
         &[
             (&[], &[region(1, 1), END]),
@@ -413,7 +427,7 @@ fn barriers_order_at_every_depth(rt: HostRuntime) -> Result<(), Fail> {
     answers(
         &rt,
         alloc,
-        &mut place,
+        &mut folder,
         &["check", "d", "3"],
         RACES,
         "race 6 8\nraces 1\n",
@@ -423,19 +437,19 @@ fn barriers_order_at_every_depth(rt: HostRuntime) -> Result<(), Fail> {
 #[test]
 fn a_team_of_65_lanes_is_refused(rt: HostRuntime) -> Result<(), Fail> {
     let alloc = rt.alloc();
-    let mut place = folder(
+    let mut folder = made_folder(
         alloc,
         &[(&[], &[region(1, 65), END]), (&[(0, 0, 64)], &[END])],
     )?;
     answers(
         &rt,
         alloc,
-        &mut place,
+        &mut folder,
         &["check", "d", "1"],
         FOLDER_REFUSED,
         "bad index row 3: Order\n",
     )?;
-    let mut wide = folder(
+    let mut wide = made_folder(
         alloc,
         &[(&[], &[region(1, 65), END]), (&[(0, 0, 65)], &[END])],
     )?;

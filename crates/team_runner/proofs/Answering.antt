@@ -11,7 +11,8 @@ use Rattle.team_runner.specs.declared.stop.Stop.{Stop}
 use Rattle.team_runner.specs.declared.stop.Stop.TheVariants.{DivZero, Index, LogFull}
 use Rattle.team_runner.specs.declared.stop.Stop.TheVariants as stop
 use Rattle.team_runner.specs.declared.team.Halt.{Halt}
-use Rattle.team_runner.specs.Answer.{Logged, HasFaulty, outline}
+use Rattle.sw_base.specs.HandedLog.{HandedLog, outline}
+use Rattle.team_runner.specs.Answer.{HasFaulty}
 use Rattle.team_runner.specs.Stops.{StopsSo}
 use Rattle.team_runner.specs.Team.{Handed, entry, logged, faulty}
 
@@ -44,7 +45,7 @@ module _ {X : Type 0} (dir : X → List ℕ) (path : X → List Step) (text : X 
   pub logged_entries : (es : List (List Step × X × ℕ)) → map logged (map (entry dir path text faults) es)
       ≡ map (λ e. record { task = e.0; dir = dir e.1; path = path e.1; told = outline (text e.1); count = e.2 }) es
   logged_entries [] = refl
-  logged_entries (e ∷ es) = ap (λ (logs : List Logged). logged (entry dir path text faults e) ∷ logs) (logged_entries es)
+  logged_entries (e ∷ es) = ap (λ (logs : List HandedLog). logged (entry dir path text faults e) ∷ logs) (logged_entries es)
 
   -- and their counts of faults
   faulty_entries : (es : List (List Step × X × ℕ)) → map faulty (map (entry dir path text faults) es) ≡ map (λ e. (e.0, faults e.1)) es
@@ -52,7 +53,7 @@ module _ {X : Type 0} (dir : X → List ℕ) (path : X → List Step) (text : X 
   faulty_entries (e ∷ es) = ap (λ (counts : List (List Step × ℕ)). faulty (entry dir path text faults e) ∷ counts) (faulty_entries es)
 
   -- where the stop is another one than want of memory, these are all logs
-  pub stopped_entries : (P : List (List Step × ℕ) → List Logged → List Step → model.Stop → ℕ → Type 0) (all : List Handed) (es : List (List Step × X × ℕ)) (at : List Step)
+  pub stopped_entries : (P : List (List Step × ℕ) → List HandedLog → List Step → model.Stop → ℕ → Type 0) (all : List Handed) (es : List (List Step × X × ℕ)) (at : List Step)
       (why : Stop) → (why ≢ stop.Trouble trouble.Memory → StopsSo (P (map faulty all) (map logged all) at) why) →
       (why ≢ stop.Trouble trouble.Memory → map (entry dir path text faults) es ≡ all) →
       StopsSo (P (map (λ e. (e.0, faults e.1)) es) (map (λ e. record { task = e.0; dir = dir e.1; path = path e.1; told = outline (text e.1); count = e.2 }) es) at) why

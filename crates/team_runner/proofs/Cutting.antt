@@ -9,7 +9,8 @@ use Rattle.sw_base.specs.Environment.{Text, WhereTold, with_piece}
 use Rattle.log_format.specs.declared.record.Record.{Record}
 use Rattle.log_format.specs.Spelling.{spelling}
 use Rattle.log_format.proofs.Records.{length-spelling}
-use Rattle.team_runner.specs.Written.{Written, Adds, Flushed, held, records_in, full_pieces}
+use Rattle.sw_base.specs.Pieces.{records_in, full_pieces}
+use Rattle.team_runner.specs.Written.{Written, Adds, Flushed, held}
 
 -- one more, within a round of w
 within_round : (n w : ℕ) → n % w + 1 < w → ((n + 1) / w ≡ n / w) × ((n + 1) % w ≡ n % w + 1)

@@ -1,6 +1,6 @@
 -- How a log of ten records is cut by small and large buffers, worked out by hand.
 use Rattle.std.proofs.Common.{◌≡◌, refl, [], ◌∷◌}
-use Rattle.team_runner.specs.Written.{cut}
+use Rattle.sw_base.specs.Pieces.{cut}
 
 -- a buffer of one record, and one that has no room for a second
 one_record : cut 10 24 ≡ 8 ∷ 24 ∷ 24 ∷ 24 ∷ 24 ∷ 24 ∷ 24 ∷ 24 ∷ 24 ∷ 24 ∷ 24 ∷ []

@@ -3,11 +3,12 @@ use Rattle.std.proofs.Common.{◌≡◌, refl, ap, sym, ◌∙◌, subst, ℕ, �
 use Rattle.std.specs.Prelude.{is_some}
 use Rattle.std.specs.Option.{option_map}
 use Rattle.sw_base.specs.declared.path.Step.{Step}
-use Rattle.sw_base.specs.Environment.{Text, WhereTold, empty_text}
+use Rattle.sw_base.specs.Environment.{Text, WhereTold, empty_text, Outline}
 use Rattle.log_format.specs.declared.record.Record.{Record}
 use Rattle.kernel_syntax.specs.Tree.{TeamTree}
 use Rattle.team_runner.specs.declared.lane.Lane.{Lane}
-use Rattle.team_runner.specs.Answer.{IsOwnLog, outline, whole_outline, whole_log}
+use Rattle.sw_base.specs.HandedLog.{IsOwnLog, outline}
+use Rattle.team_runner.specs.Answer.{whole_outline, whole_log}
 use Rattle.team_runner.specs.Ready.{IsBufferSize}
 use Rattle.team_runner.specs.Team.{IsForkedLane, IsFreshLane, KeepsLane, Handed, handed, logged, lane_task, lane_step}
 use Rattle.team_runner.specs.Written.{Written}
@@ -28,10 +29,11 @@ empty_told None p is t told = absurd (cc)
 empty_told (Some s) p is t told = cc
 
 -- a log is another one's where its parts are
-pub logged_same : (h : Handed) (task : List Step) (dir : List ℕ) (path : List Step) (told : Option (List ℕ × List ℕ)) (count : ℕ) →
-    h.task ≡ task → h.dir ≡ dir → h.path ≡ path → outline h.text ≡ told → h.count ≡ count →
+pub logged_same : (h : Handed) (task : List Step) (dir : List ℕ) (path : List Step) (told : Option Outline) (count : ℕ) →
+    h.0.task ≡ task → h.0.dir ≡ dir → h.0.path ≡ path → h.0.told ≡ told → h.0.count ≡ count →
     logged h ≡ record { task = task; dir = dir; path = path; told = told; count = count }
-logged_same h task dir path told count is_task is_dir is_path is_told is_count = cc
+logged_same h task dir path told count is_task is_dir is_path is_told is_count =
+    λ i. record { task = is_task i; dir = is_dir i; path = is_path i; told = is_told i; count = is_count i }
 
 -- a lane that was forked from this root, and what became of it
 module _ {X : Type 0} (root : Written) (span slots size : ℕ) (at_root : root.path ≡ []) (number : ℕ) (old new : Lane X)

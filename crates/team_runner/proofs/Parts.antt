@@ -196,8 +196,6 @@ module _ (at : Site) (body : Code) (slot : ℕ) (a : ℤ) where
   abbrev a_turn : ℕ → Part
   a_turn = turn at body slot a
 
-  }
-
   pub turns_none : (slots : List ℤ) (w : Written) → MadePart (each [] a_turn) slots w w slots (Returned tt)
   turns_none slots w = record { added = []; adds_records = adds_nothing w; makes = makes-each_none a_turn slots (log_limit - w.count) }
 

@@ -10,7 +10,8 @@ use Rattle.kernel_model.specs.Trace.{Start, Ending, Ended}
 use Rattle.kernel_model.specs.FirstTeam.{first_team}
 use Rattle.kernel_model.proofs.FirstKindFolder.{first_lane, first_lanes}
 use Rattle.team_runner.specs.declared.lane.Lane.{Lane}
-use Rattle.team_runner.specs.Answer.{IsPrefixOf, Logged, whole_log}
+use Rattle.sw_base.specs.HandedLog.{HandedLog}
+use Rattle.team_runner.specs.Answer.{IsPrefixOf, whole_log}
 use Rattle.team_runner.specs.Lane.{HasTrace, HasPrefixLog, HasPassed, IsLogOf}
 use Rattle.team_runner.specs.Team.{IsForkedLane, KeepsLane, handed, logged, lane_task, start_of, lane_step}
 use Rattle.team_runner.specs.Written.{Written}
@@ -104,13 +105,13 @@ module _ {X : Type 0} (program : Program) (root : Written) (size : ℕ) (at_root
         count = ap suc rest.count;
         traced = λ l d lt. first_trace program i l d here.records rest.records (length lanes) lt here.traced rest.traced;
         logs =
-            ap (λ (log : Logged). log ∷ map logged (map (λ lane. handed (lane_task lane) lane.recorder) lanes)) here.log
-            ∙ ap (λ (logs : List Logged). whole_log root.dir size root.text (record { path = lane_step i (span_of program) ∷ []; records = here.records }) ∷ logs) rest.logs;
+            ap (λ (log : HandedLog). log ∷ map logged (map (λ lane. handed (lane_task lane) lane.recorder) lanes)) here.log
+            ∙ ap (λ (logs : List HandedLog). whole_log root.dir size root.text (record { path = lane_step i (span_of program) ∷ []; records = here.records }) ∷ logs) rest.logs;
       }
 
   -- the paths of some lanes from a number on
   pub lane_paths : (i : ℕ) (lanes : List (Lane X)) → ((l : ℕ) (e : Lane X) → l < length lanes → lane_task (get_or lanes l e) ≡ lane_step (i + l) (span_of program) ∷ []) →
-      map (λ (log : Logged). log.task) (map logged (map (λ lane. handed (lane_task lane) lane.recorder) lanes))
+      map (λ (log : HandedLog). log.task) (map logged (map (λ lane. handed (lane_task lane) lane.recorder) lanes))
       ≡ map (λ l. lane_step l (span_of program) ∷ []) (range_with_len i (length lanes))
   lane_paths i [] each = refl
   lane_paths i (lane ∷ lanes) each =
@@ -119,5 +120,5 @@ module _ {X : Type 0} (program : Program) (root : Written) (size : ℕ) (at_root
       let rest = lane_paths (i + 1) lanes (λ l e lt.
       let next : i + suc l ≡ i + 1 + l = omega arith in
       each (suc l) e (omega arith) ∙ ap (λ k. lane_step k (span_of program) ∷ []) next) in
-      ap (λ p. p ∷ map (λ (log : Logged). log.task) (map logged (map (λ lane. handed (lane_task lane) lane.recorder) lanes))) here
+      ap (λ p. p ∷ map (λ (log : HandedLog). log.task) (map logged (map (λ lane. handed (lane_task lane) lane.recorder) lanes))) here
       ∙ ap (λ ps. (lane_step i (span_of program) ∷ []) ∷ ps) rest

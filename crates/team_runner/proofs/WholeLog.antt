@@ -5,22 +5,27 @@ use Rattle.std.specs.List.{flat_map}
 use Rattle.std.proofs.Math.Nat.{zero-div, zero-mod}
 use Rattle.std.proofs.lemmas.List.{append-nil}
 use Rattle.sw_base.specs.declared.files.TheConstants.{LOG_HEADER}
-use Rattle.sw_base.specs.Environment.{Text, WhereTold, with_piece, empty_text}
+use Rattle.sw_base.specs.Environment.{Text, WhereTold, with_piece, empty_text, Outline}
 use Rattle.log_format.specs.declared.record.Record.{Record}
 use Rattle.log_format.specs.Spelling.{spelling, log_bytes}
-use Rattle.team_runner.specs.Written.{Written, Adds, Begun, Closed, IsCut, held, cut, full_pieces, records_in}
+use Rattle.sw_base.specs.Pieces.{cut, full_pieces, records_in}
+use Rattle.team_runner.specs.Written.{Written, Adds, Begun, Closed, IsCut, held}
 use Rattle.team_runner.specs.Lane.{IsFresh}
-use Rattle.team_runner.specs.Answer.{outline, whole_outline}
+use Rattle.sw_base.specs.HandedLog.{outline}
+use Rattle.team_runner.specs.Answer.{whole_outline}
 
 -- the bytes and pieces of a log, where it tells them
 outline_is : (n o : Option Text) (bytes lengths : List ℕ) → option_map (λ (t : Text). t.bytes) n ≡ option_map (λ _. bytes) o →
-    WhereTold n (λ t. map length t.pieces ≡ lengths) → outline n ≡ option_map (λ _. (bytes, lengths)) o
+    WhereTold n (λ t. map length t.pieces ≡ lengths) → outline n ≡ option_map (λ _. record { bytes = bytes; lengths = lengths }) o
 outline_is None None bytes lengths same told = refl
 outline_is None (Some u) bytes lengths same told = absurd (cc)
 outline_is (Some t) None bytes lengths same told = absurd (cc)
 outline_is (Some t) (Some u) bytes lengths same told =
     let is : t.bytes ≡ bytes = cc in
-    ap (λ (b : List ℕ). Some (b, map length t.pieces)) is ∙ ap (λ (l : List ℕ). Some (bytes, l)) (told t refl)
+    ap (λ (b : List ℕ). Some (made b (map length t.pieces))) is ∙ ap (λ (l : List ℕ). Some (made bytes l)) (told t refl)
+  where
+    made : List ℕ → List ℕ → Outline
+    made bytes lengths = record { bytes = bytes; lengths = lengths }
 
 -- after the header
 header_held : (o : Option Text) (header : List ℕ) → WhereTold o (λ t. t ≡ empty_text) →

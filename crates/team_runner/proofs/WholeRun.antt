@@ -27,7 +27,8 @@ use Rattle.team_runner.specs.declared.stop.Stop.{Stop}
 use Rattle.team_runner.specs.declared.stop.Stop.TheVariants.{DivZero, Index, LogFull}
 use Rattle.team_runner.specs.declared.stop.Stop.TheVariants as stop
 use Rattle.team_runner.specs.declared.team.Halt.{Halt}
-use Rattle.team_runner.specs.Answer.{Logged, AreFirst, IsOwnLog, HasRun, HasTask, HasPrefix, HasStop, IsAhead, ended, waits, HasStoppedRun, HasFaulty, whole_outline, whole_log, first_region_lane, task_paths}
+use Rattle.sw_base.specs.HandedLog.{HandedLog, IsOwnLog}
+use Rattle.team_runner.specs.Answer.{AreFirst, HasRun, HasTask, HasPrefix, HasStop, IsAhead, ended, waits, HasStoppedRun, HasFaulty, whole_outline, whole_log, first_region_lane, task_paths}
 use Rattle.team_runner.specs.Lane.{HasTrace, HasPrefixLog, HasPassed, EndsTask, IsFresh, barriers_of, ending_of}
 use Rattle.team_runner.specs.Ready.{IsReady, IsBufferSize}
 use Rattle.team_runner.specs.Stops.{StopsSo, Finishes}
@@ -311,7 +312,7 @@ module _ {X : Type 0} (program : Program) (root : Written) (size : ℕ) (at_root
           })
 
     -- the logs are those of all tasks
-    all_paths : (now : Written) → map (λ (log : Logged). log.task) (map logged (all_logs now news)) ≡ task_paths program
+    all_paths : (now : Written) → map (λ (log : HandedLog). log.task) (map logged (all_logs now news)) ≡ task_paths program
     all_paths now =
         ap (λ (paths : List (List Step)). [] ∷ paths)
         (lane_paths program root size at_root 0 news (λ l e lt. path_at l e lt ∙ ap (λ n. lane_step n (span_of program) ∷ []) (omega arith))
@@ -391,6 +392,6 @@ module _ {X : Type 0} (program : Program) (root : Written) (size : ℕ) (at_root
                 first_kind_rules program ready.first ready.bounded (elements program.arrays) (bounded_arrays_are_placed program ready.bounded) traces.records count traced;
           };
           logs_are =
-              ap (λ (log : Logged). log ∷ map logged (map (λ lane. handed (lane_task lane) lane.recorder) news)) (root_log put now fresh room size_is kept keeps has closes)
-              ∙ ap (λ (logs : List Logged). whole_log root.dir size root.text (record { path = []; records = first_root program }) ∷ logs) traces.logs;
+              ap (λ (log : HandedLog). log ∷ map logged (map (λ lane. handed (lane_task lane) lane.recorder) news)) (root_log put now fresh room size_is kept keeps has closes)
+              ∙ ap (λ (logs : List HandedLog). whole_log root.dir size root.text (record { path = []; records = first_root program }) ∷ logs) traces.logs;
         }

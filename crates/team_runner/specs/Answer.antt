@@ -3,7 +3,8 @@ use Rattle.std.specs.Prelude.{◌≡◌, ◌⊎◌, ℕ, ◌<◌, ◌≤◌, Lis
 use Rattle.std.specs.Option.{option_map}
 use Rattle.sw_base.specs.declared.path.Step.{Step}
 use Rattle.sw_base.specs.declared.files.TheConstants.{LOG_HEADER}
-use Rattle.sw_base.specs.Environment.{Text}
+use Rattle.sw_base.specs.Environment.{Outline, Text}
+use Rattle.sw_base.specs.HandedLog.{HandedLog}
 use Rattle.log_format.specs.declared.record.Record.{Record}
 use Rattle.log_format.specs.Spelling.{log_bytes}
 use Rattle.race_model.specs.KeepsRules.{KeepsRules}
@@ -14,30 +15,14 @@ use Rattle.kernel_model.specs.State as model
 use Rattle.kernel_model.specs.Trace.{Start, Ending, Ended, Stopped}
 use Rattle.kernel_model.specs.Folder.{IsTracedFolder, IsTracedTo, start_at}
 use Rattle.kernel_model.specs.Iterations.{below}
-use Rattle.team_runner.specs.Written.{cut}
-
--- a log's bytes and the lengths of its pieces, where the log tells them
-abbrev pub outline : Option Text → Option (List ℕ × List ℕ)
-outline text = option_map (λ (t : Text). (t.bytes, map length t.pieces)) text
-
--- a task's log as it is answered: the task, the log's folder and path, what it tells, and how many records were put
-pub record Logged : Type 0 where
-  pub task : List Step
-  pub dir : List ℕ
-  pub path : List Step
-  pub told : Option (List ℕ × List ℕ)
-  pub count : ℕ
-
--- the same of a log beside its task and its number of records, by what is seen of a log
-abbrev pub logged_entry : {L : Type 0} → (L → List ℕ) → (L → List Step) → (L → Option Text) → List Step × L × ℕ → Logged
-logged_entry dir path text entry = record { task = entry.0; dir = dir entry.1; path = path entry.1; told = outline (text entry.1); count = entry.2 }
+use Rattle.sw_base.specs.Pieces.{cut}
 
 -- the bytes of a whole log and the lengths of its pieces, from a buffer of this size
-abbrev pub whole_outline : ℕ → List Record → List ℕ × List ℕ
-whole_outline size records = (log_bytes LOG_HEADER records, cut (length records) size)
+abbrev pub whole_outline : ℕ → List Record → Outline
+whole_outline size records = record { bytes = log_bytes LOG_HEADER records; lengths = cut (length records) size }
 
 -- the whole log of a task, in the folder `dir`; it tells its content where the root's log, `root`, does
-abbrev pub whole_log : List ℕ → ℕ → Option Text → TaskLog → Logged
+abbrev pub whole_log : List ℕ → ℕ → Option Text → TaskLog → HandedLog
 whole_log dir size root task = record {
   task = task.path;
   dir = dir;
@@ -52,7 +37,7 @@ pub record IsRun (program : Program) (tasks : Trace) : Type 0 where
   pub rules : KeepsRules tasks
 
 -- the logs are those of a whole run, in the order of their paths
-pub record HasRun (program : Program) (dir : List ℕ) (size : ℕ) (root : Option Text) (logs : List Logged) : Type 0 where
+pub record HasRun (program : Program) (dir : List ℕ) (size : ℕ) (root : Option Text) (logs : List HandedLog) : Type 0 where
   pub tasks : Trace
   pub run : IsRun program tasks
   pub logs_are : logs ≡ map (whole_log dir size root) tasks
@@ -66,8 +51,8 @@ abbrev pub task_paths : Program → List (List Step)
 task_paths program = [] ∷ map (first_region_lane program) (below (region_span program.main.body))
 
 -- the logs are those of the first tasks, in the order of their paths
-abbrev pub AreFirst : Program → List Logged → Type 0
-AreFirst program logs = map (λ (log : Logged). log.task) logs ≡ take (length logs) (task_paths program)
+abbrev pub AreFirst : Program → List HandedLog → Type 0
+AreFirst program logs = map (λ (log : HandedLog). log.task) logs ≡ take (length logs) (task_paths program)
 
 -- the task that the kernel forks at this path has a log of its trace, which ends so
 pub record HasTask (program : Program) (HasLog : TaskLog → Type 0) (path : List Step) (ending : Ending) : Type 0 where
@@ -118,14 +103,8 @@ pub record HasFaulty (faults : List (List Step × ℕ)) (path : List Step) : Typ
 
 -- the logs of a run that stopped so: those of all tasks, in the order of their paths; that of a lane that waits is whole so far,
 -- unless it counts a fault
-pub record HasStoppedRun (program : Program) (dir : List ℕ) (size : ℕ) (root : Option Text) (faults : List (List Step × ℕ)) (logs : List Logged) (path : List Step)
+pub record HasStoppedRun (program : Program) (dir : List ℕ) (size : ℕ) (root : Option Text) (faults : List (List Step × ℕ)) (logs : List HandedLog) (path : List Step)
     (why : model.Stop) (line : ℕ) : Type 0 where
-  pub all : map (λ (log : Logged). log.task) logs ≡ task_paths program
+  pub all : map (λ (log : HandedLog). log.task) logs ≡ task_paths program
   pub stop : HasStop program (λ task. Contains logs (whole_log dir size root task))
       (λ task. Contains logs (whole_log dir size root task) ⊎ HasFaulty faults task.path) path why line
-
--- the log of its task, in the folder `dir`, tells its content where the root's does
-pub record IsOwnLog (dir : List ℕ) (tells : Bool) (log : Logged) : Type 0 where
-  pub dir_is : log.dir ≡ dir
-  pub path_is : log.path ≡ log.task
-  pub tells_so : is_some log.told ≡ tells

@@ -15,7 +15,8 @@ use Rattle.team_runner.specs.declared.stop.Stop.{Stop}
 use Rattle.team_runner.specs.declared.stop.Stop.TheVariants.{DivZero, Index, LogFull, Trouble}
 use Rattle.team_runner.specs.Written.{Written, Adds, Begun, Closed, HasFault}
 use Rattle.team_runner.specs.Stops.{Finishes, Puts, EndsPart}
-use Rattle.team_runner.specs.Answer.{IsPrefixOf, outline, whole_outline}
+use Rattle.sw_base.specs.HandedLog.{outline}
+use Rattle.team_runner.specs.Answer.{IsPrefixOf, whole_outline}
 use Rattle.sw_base.specs.declared.files.TheConstants.{LOG_HEADER}
 use Rattle.sw_base.specs.Environment.{WhereTold, empty_text}
 use Rattle.std.specs.Option.{option_map}

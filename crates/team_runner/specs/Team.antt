@@ -21,7 +21,7 @@ use Rattle.team_runner.specs.Ready.{IsBufferSize}
 use Rattle.team_runner.specs.declared.lane.Pass.{Pass}
 use Rattle.team_runner.specs.declared.stop.Stop.{Stop}
 use Rattle.team_runner.specs.Lane.{IsFresh, EndsTask, Does, HasPrefixLog, barriers_of}
-use Rattle.team_runner.specs.Answer.{Logged, outline}
+use Rattle.sw_base.specs.HandedLog.{HandedLog, handed_log, outline}
 
 -- a fact about each element of a list and its place
 abbrev pub EachAt : {X : Type 0} → (ℕ → X → Type 0) → List X → Type 0
@@ -182,21 +182,16 @@ pub record ClosesWith (old new : Written) (records : List Record) : Type 0 where
   pub size : last.size ≡ old.size
   pub closed : Closed last new
 
--- a task's log, as it is handed on
-pub record Handed : Type 0 where
-  pub task : List Step
-  pub dir : List ℕ
-  pub path : List Step
-  pub text : Option Text
-  pub faults : ℕ
-  pub count : ℕ
+-- a task's log, and how many faults it counts
+abbrev pub Handed : Type 0
+Handed = HandedLog × ℕ
 
 abbrev pub handed : List Step → Written → Handed
-handed task w = record { task = task; dir = w.dir; path = w.path; text = w.text; faults = w.faults; count = w.count }
+handed task w = (record { task = task; dir = w.dir; path = w.path; told = outline w.text; count = w.count }, w.faults)
 
 -- the same of what is answered, by what is seen of a log
 abbrev pub entry : {X : Type 0} → (X → List ℕ) → (X → List Step) → (X → Option Text) → (X → ℕ) → List Step × X × ℕ → Handed
-entry dir path text faults e = record { task = e.0; dir = dir e.1; path = path e.1; text = text e.1; faults = faults e.1; count = e.2 }
+entry dir path text faults e = (handed_log dir path text e, faults e.1)
 
 -- the logs of all tasks, in the order of their paths
 abbrev pub all_logs : {X : Type 0} → Written → List (Lane X) → List Handed
@@ -208,8 +203,8 @@ pub record AreLogs (all logs : List Handed) (whole : Bool) : Type 0 where
   pub among : All (Contains all) logs
 
 -- what is answered of a log
-abbrev pub logged : Handed → Logged
-logged h = record { task = h.task; dir = h.dir; path = h.path; told = outline h.text; count = h.count }
+abbrev pub logged : Handed → HandedLog
+logged h = h.0
 
 abbrev pub faulty : Handed → List Step × ℕ
-faulty h = (h.task, h.faults)
+faulty h = (h.0.task, h.1)

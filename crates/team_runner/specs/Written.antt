@@ -5,6 +5,7 @@ use Rattle.std.specs.List.{flat_map}
 use Rattle.sw_base.specs.declared.path.Step.{Step}
 use Rattle.sw_base.specs.declared.trouble.Trouble.{Trouble}
 use Rattle.sw_base.specs.declared.trouble.Trouble.TheVariants as trouble
+use Rattle.sw_base.specs.Pieces.{records_in, full_pieces, cut}
 use Rattle.sw_base.specs.Environment.{Text, WhereTold, with_piece}
 use Rattle.log_format.specs.declared.record.Record.{Record}
 use Rattle.log_format.specs.Spelling.{spelling}
@@ -19,23 +20,6 @@ pub record Written : Type 0 where
   pub buffer : List ℕ
   pub size : ℕ
   pub count : ℕ
-
--- how many records a buffer of this size holds
-abbrev pub records_in : ℕ → ℕ
-records_in size = size / 24
-
--- the piece of the records that are left, where there are some
-abbrev pub rest_piece : ℕ → List ℕ
-rest_piece zero = []
-rest_piece (suc n) = 24 * suc n ∷ []
-
--- the header, and pieces of as many records as the buffer holds
-abbrev pub full_pieces : ℕ → ℕ → List ℕ
-full_pieces n size = 8 ∷ replicate (n / records_in size) (24 * records_in size)
-
--- the lengths of the pieces of a log of n records
-abbrev pub cut : ℕ → ℕ → List ℕ
-cut n size = full_pieces n size ++ rest_piece (n % records_in size)
 
 -- all bytes that were put, where the log tells them
 abbrev pub held : Written → Option (List ℕ)

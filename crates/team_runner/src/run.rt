@@ -6,7 +6,8 @@ ghost use Rattle.kernel_syntax.specs.Layout.{ArePlaced, elements};
 ghost use Rattle.kernel_syntax.specs.Program.{program_of, team_of};
 ghost use Rattle.kernel_model.specs.State.{event};
 ghost use Rattle.kernel_model.specs.Trace.{log_limit};
-ghost use Rattle.team_runner.specs.Answer.{AreFirst, HasRun, HasStoppedRun, IsOwnLog, HasFaulty, logged_entry};
+ghost use Rattle.sw_base.specs.HandedLog.{IsOwnLog, handed_log};
+ghost use Rattle.team_runner.specs.Answer.{AreFirst, HasRun, HasStoppedRun, HasFaulty};
 ghost use Rattle.team_runner.specs.Lane.{IsFresh};
 ghost use Rattle.team_runner.specs.Ready.{IsBufferSize, IsReady};
 ghost use Rattle.team_runner.specs.Stops.{StopsSo};
@@ -17,8 +18,9 @@ ghost use Rattle.sw_base.specs.declared.trouble.Trouble.TheVariants as trouble;
 ghost use Rattle.sw_base.specs.Environment.{WhereTold, empty_text};
 ghost use Rattle.kernel_model.specs.FirstTeam.{first_team};
 
-use crate::lane::{Lane, event, parted};
+use crate::lane::Lane;
 use crate::recorder::Recorder;
+use crate::shared::{event, parted};
 use crate::stop::Stop;
 use crate::team::{Halt, fork, run_lanes};
 use kernel_syntax::{Array, Kernel, Stmt, Team};
@@ -293,19 +295,19 @@ pub fn run_kernel<R, L: Log, G: Gate>(
 
     // A run that ended: the logs are those of the kernel's tasks, each with its whole trace under what it read, cut into pieces
     // that fill the buffer; and each element has a value.
-    ensures finished { IfOk result (λ f. HasRun (program_of kernel.now) (L.dir root) size (L.text root) (map (logged_entry L.dir L.path L.text) f.logs.items)) }
+    ensures finished { IfOk result (λ f. HasRun (program_of kernel.now) (L.dir root) size (L.text root) (map (handed_log L.dir L.path L.text) f.logs.items)) }
     ensures values { IfOk result (λ f. length f.words.items ≡ elements kernel.now.arrays) }
 
     // A stop of the kernel is that of the least lane that stopped in the first phase in which one did. Its log has its whole trace up
     // to the stop.
     ensures stopped { IfErr result (λ s. StopsSo
         (HasStoppedRun (program_of kernel.now) (L.dir root) size (L.text root) (map (λ e. (e.0, L.faults e.1)) s.logs.items)
-        (map (logged_entry L.dir L.path L.text) s.logs.items) s.path) s.why) }
+        (map (handed_log L.dir L.path L.text) s.logs.items) s.path) s.why) }
 
     // Whatever the stop, each log is its task's. Where memory was found they are those of the first tasks, in order, and each element
     // has a value; else there may be no values.
-    ensures own_logs { IfErr result (λ s. All (λ e. IsOwnLog (L.dir root) (is_some (L.text root)) (logged_entry L.dir L.path L.text e)) s.logs.items) }
-    ensures left_logs { IfErr result (λ s. (s.why ≢ stop.Trouble trouble.Memory) → AreFirst (program_of kernel.now) (map (logged_entry L.dir L.path L.text) s.logs.items)) }
+    ensures own_logs { IfErr result (λ s. All (λ e. IsOwnLog (L.dir root) (is_some (L.text root)) (handed_log L.dir L.path L.text e)) s.logs.items) }
+    ensures left_logs { IfErr result (λ s. (s.why ≢ stop.Trouble trouble.Memory) → AreFirst (program_of kernel.now) (map (handed_log L.dir L.path L.text) s.logs.items)) }
     ensures left { IfErr result (λ s. (s.why ≢ stop.Trouble trouble.Memory) → length s.words.items ≡ elements kernel.now.arrays) }
     ensures left_none { IfErr result (λ s. (s.words.items ≡ []) ⊎ (length s.words.items ≡ elements kernel.now.arrays)) }
 

@@ -14,7 +14,7 @@ returns-in_err-checked-clause-refused g c =
     rw (p.1, p.2) (λ content told index.
     c.in_err-checked.ensures.refused content (c.logs.invariant.same ∙ told)
     (subst (λ (tasks : List TaskRecords). Walked content.held c.args.dir.now (rows_of c.args.rows.now) (trace_of tasks)) (sym c.deref.ensures.value)
-    (walked_so_far (g.F.Folder.content c.args.place.now) c.args.dir.now (rows_of c.args.rows.now) c.logs.trace.items c.logs.segments c.logs.index content c.logs.invariant.read told index)))
+    (walked_so_far (g.F.Folder.content c.args.folder.now) c.args.dir.now (rows_of c.args.rows.now) c.logs.trace.items c.logs.segments c.logs.index content c.logs.invariant.read told index)))
 
 pub logs-preserved : goal.logs-preserved
 logs-preserved g c =
@@ -23,7 +23,7 @@ logs-preserved g c =
     let good = subst (λ (tasks : List TaskRecords). IsNextTask (rows_of c.args.rows.now) (trace_of tasks) (row_of c.index-rows-index.result) c.in_ok-checked.checked.records.items c.in_ok-checked.checked.segments) c.deref.ensures.value
     (c.in_ok-checked.ensures.good (row_of c.index-rows-index.result) found) in
     record {
-      read = logs_next (g.F.Folder.content c.args.place.now) c.args.dir.now (rows_of c.args.rows.now) c.logs.trace.items c.push.new.self.items c.logs.segments c.logs.index c.in_ok-checked.checked.segments
+      read = logs_next (g.F.Folder.content c.args.folder.now) c.args.dir.now (rows_of c.args.rows.now) c.logs.trace.items c.push.new.self.items c.logs.segments c.logs.index c.in_ok-checked.checked.segments
           (row_of c.index-rows-index.result) (record { path = c.copy.result; records = c.in_ok-checked.checked.records }) c.logs.invariant.read after c.copy.ensures.same good
           (λ content told. c.in_ok-checked.ensures.whole content (c.logs.invariant.same ∙ told) (row_of c.index-rows-index.result) found) c.in_ok-push.ensures.items;
       same = c.in_ok-checked.ensures.same ∙ c.logs.invariant.same;
@@ -33,4 +33,4 @@ logs-preserved g c =
 
 pub returns-clause-walked : goal.returns-clause-walked
 returns-clause-walked g c = λ content told index.
-    walked_so_far (g.F.Folder.content c.args.place.now) c.args.dir.now (rows_of c.args.rows.now) c.logs.trace.items c.logs.segments c.logs.index content c.logs.invariant.read told index
+    walked_so_far (g.F.Folder.content c.args.folder.now) c.args.dir.now (rows_of c.args.rows.now) c.logs.trace.items c.logs.segments c.logs.index content c.logs.invariant.read told index

@@ -18,7 +18,7 @@ returns-in_err-bytes-clause-refused g c =
     let p = err_from_is_err_and c.from_residual.result c.from_residual.ensures.1 in
     let found = row_read c.args.rows.now c.args.index c.index-rows-index.result c.requires.within c.index-rows-index.is in
     rw (p.1, p.2) (λ content told walked.
-    unread_told (g.F.Folder.content c.args.place.now) content c.args.dir.now (rows_of c.args.rows.now) (trace_of c.args.trace.now) (row_of c.index-rows-index.result) c.in_err-bytes.field-0.0 told walked
+    unread_told (g.F.Folder.content c.args.folder.now) content c.args.dir.now (rows_of c.args.rows.now) (trace_of c.args.trace.now) (row_of c.index-rows-index.result) c.in_err-bytes.field-0.0 told walked
     (row_after c.args.trace.now (rows_of c.args.rows.now) c.args.index (row_of c.index-rows-index.result) c.requires.read found) c.in_err-bytes.ensures.unread)
 
 pub task_at-requires-clause-first : goal.task_at-requires-clause-first

@@ -25,7 +25,7 @@ returns-in-Ok-run_kernel-clause-ends g c = λ content is.
     let told : g.F.Log.Log.text c.in-Ok.root ≡ Some empty_text = c.in-Ok.ensures.log_text ∙ ap (option_map (λ _. empty_text)) is in
     let here = subst (λ (dir : List ℕ). HasRun program dir c.args.size (g.F.Log.Log.text c.in-Ok.root) logs) c.in-Ok.ensures.log_dir c.in-Ok-run_kernel.ensures.finished in
     let has = subst (λ (text : Option Text). HasRun program c.args.dir.now c.args.size text logs) told here in
-    c.finish.ensures.ends c.args.size (g.F.Folder.write_faults c.args.place.now) empty_text has content (c.root.ensures.same ∙ is)
+    c.finish.ensures.ends c.args.size (g.F.Folder.write_faults c.args.folder.now) empty_text has content (c.root.ensures.same ∙ is)
 
 pub returns-in-Err-run_kernel-clause-ends : goal.returns-in-Err-run_kernel-clause-ends
 returns-in-Err-run_kernel-clause-ends g c = λ content is.
@@ -37,4 +37,4 @@ returns-in-Err-run_kernel-clause-ends g c = λ content is.
     let here = subst (λ (dir : List ℕ). StopsSo (HasStoppedRun program dir c.args.size (g.F.Log.Log.text c.in-Ok.root) faults logs stopped.path) stopped.why) c.in-Ok.ensures.log_dir c.in-Err-run_kernel.ensures.stopped in
     let stops = subst (λ (text : Option Text). StopsSo (HasStoppedRun program c.args.dir.now c.args.size text faults logs stopped.path) stopped.why) told here in
     let tell = all_tell g.F.Log.Log.dir g.F.Log.Log.path g.F.Log.Log.text stopped.logs.items c.args.dir.now _ _ empty_text c.in-Ok.ensures.log_dir told c.in-Err-run_kernel.ensures.own_logs in
-    c.stop.ensures.ends program c.args.dir.now c.args.size (g.F.Folder.write_faults c.args.place.now) empty_text c.root.ensures.cause.later stops tell content (c.root.ensures.same ∙ is)
+    c.stop.ensures.ends program c.args.dir.now c.args.size (g.F.Folder.write_faults c.args.folder.now) empty_text c.root.ensures.cause.later stops tell content (c.root.ensures.same ∙ is)

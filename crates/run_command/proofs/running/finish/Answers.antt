@@ -13,10 +13,10 @@ returns-in-Ok-clause-ends g c = λ size before root has.
     let rows : rows_of_logs logs ≡ rows_of c.deref.result.now =
     rw c.deref.ensures.value (rows-logged g.F.Log.Log.dir g.F.Log.Log.path g.F.Log.Log.text c.args.finished.logs.items ∙ sym c.in-Ok.ensures.rows) in
     let said = rw (c.deref-in-Ok.ensures.value, c.as_slice.ensures) at c.ran-text.ensures in
-    run_stored (Rose before (g.F.Folder.write_faults c.store.new.place)) (program_of c.args.kernel.now) c.requires.first c.args.dir.now size root logs has _ _ _ _ _ c.args.finished.words.items c.ran-text.result c.in-Ok.ensures.stored c.requires.values
+    run_stored (Rose before (g.F.Folder.write_faults c.store.new.folder)) (program_of c.args.kernel.now) c.requires.first c.args.dir.now size root logs has _ _ _ _ _ c.args.finished.words.items c.ran-text.result c.in-Ok.ensures.stored c.requires.values
     (λ tasks same. said tasks (same ∙ rows)) c.print_made.ensures.prints c.print_made.ensures.silent
 
 pub returns-clause-ends : goal.returns-clause-ends
 returns-clause-ends g c = λ size before root has.
     let logs = all_logged g.F.Log.Log.dir g.F.Log.Log.path g.F.Log.Log.text c.args.finished.logs.items in
-    run_refused (Rose before (g.F.Folder.write_faults c.store.new.place)) (program_of c.args.kernel.now) c.requires.first c.args.dir.now size root logs has _ _ _ _ c.in-Err.ensures.refused c.failure.ensures.failure
+    run_refused (Rose before (g.F.Folder.write_faults c.store.new.folder)) (program_of c.args.kernel.now) c.requires.first c.args.dir.now size root logs has _ _ _ _ c.in-Err.ensures.refused c.failure.ensures.failure

@@ -23,7 +23,7 @@ returns-in-Ok-seal_all-clause-ends g c = λ program dir size before root below s
     let told = c.in-Ok.ensures in
     let has = told_stop (λ (kind : model.Stop) (at : ℕ). HasStoppedRun program dir size (Some root) faults logs path kind at) c.args.stopped.why told.stop line told.is stops in
     let text = subst (λ (name : List ℕ). IfOk c.stopped-text.result (λ m. string_bytes m ≡ stop_line path line name)) told.name_is c.stopped-text.ensures in
-    stop_ends program dir size root logs tell path told.stop line faults has (Rose before (g.F.Folder.write_faults c.seal_all.new.place))
+    stop_ends program dir size root logs tell path told.stop line faults has (Rose before (g.F.Folder.write_faults c.seal_all.new.folder))
     (λ at faulty. rose_more before _ _ below (c.in-Ok-seal_all.ensures.faulty at faulty)) _ _ _ _ _ c.stopped-text.result c.in-Ok-seal_all.ensures.seals text c.print_made.ensures.prints c.print_made.ensures.silent
 
 pub returns-clause-ends : goal.returns-clause-ends
@@ -33,5 +33,5 @@ returns-clause-ends g c = λ program dir size before root below stops tell.
     let path = c.args.stopped.path in
     let told = c.in-Ok.ensures in
     let has = told_stop (λ (kind : model.Stop) (at : ℕ). HasStoppedRun program dir size (Some root) faults logs path kind at) c.args.stopped.why told.stop c.in-Ok.told.0 told.is stops in
-    stop_refused program dir size root logs tell path told.stop c.in-Ok.told.0 faults has (Rose before (g.F.Folder.write_faults c.seal_all.new.place))
+    stop_refused program dir size root logs tell path told.stop c.in-Ok.told.0 faults has (Rose before (g.F.Folder.write_faults c.seal_all.new.folder))
     (λ at faulty. rose_more before _ _ below (c.in-Err-seal_all.ensures.faulty at faulty)) _ _ _ _ c.in-Err-seal_all.trouble c.in-Err-seal_all.ensures.seals c.failure-in-Err-seal_all.ensures.failure

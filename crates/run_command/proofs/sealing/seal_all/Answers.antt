@@ -7,7 +7,7 @@ use Rattle.run_command.proofs.sealing.seal_all.Goals as goal
 
 pub loop-log-init : goal.loop-log-init
 loop-log-init g c = record {
-  seals = seals_all_none (g.F.Folder.content c.args.place.now);
+  seals = seals_all_none (g.F.Folder.content c.args.folder.now);
   tells = refl;
   later = omega arith;
   faulty = λ path has. absurd (faulty_none path has);
@@ -16,7 +16,7 @@ loop-log-init g c = record {
 
 pub loop-log-preserved : goal.loop-log-preserved
 loop-log-preserved g c = record {
-  seals = seals_all_push _ _ _ c.loop-log.yielded c.in-Some.field-0-0 c.in-Some.log c.in-Some.field-0-2 c.loop-log.outcome c.seal_next-outcome.result _ (g.F.Folder.content c.loop-log.place) _
+  seals = seals_all_push _ _ _ c.loop-log.yielded c.in-Some.field-0-0 c.in-Some.log c.in-Some.field-0-2 c.loop-log.outcome c.seal_next-outcome.result _ (g.F.Folder.content c.loop-log.folder) _
       c.loop-log.invariant.seals c.seal_next-outcome.ensures.sealed c.seal_next-outcome.ensures.refused c.seal_next-outcome.ensures.given_up;
   tells = cc;
   later = let taken = c.seal_next-outcome.ensures.log_faults in omega arith;

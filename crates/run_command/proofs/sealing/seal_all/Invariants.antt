@@ -8,10 +8,10 @@ use Rattle.run_command.proofs.sealing.seal_all.Given as goal
 
 abbrev pub invariant-loop-log : goal.invariant-loop-log
 invariant-loop-log g l = record {
-  seals : SealsAll (all_logged g.F.Log.Log.dir g.F.Log.Log.path g.F.Log.Log.text l.yielded) l.outcome (g.F.Folder.content l.initial.place) (g.F.Folder.content l.place);
-  tells : is_some (g.F.Folder.content l.place) ≡ is_some (g.F.Folder.content l.initial.place);
-  later : g.F.Folder.write_faults l.initial.place ≤ g.F.Folder.write_faults l.place;
+  seals : SealsAll (all_logged g.F.Log.Log.dir g.F.Log.Log.path g.F.Log.Log.text l.yielded) l.outcome (g.F.Folder.content l.initial.folder) (g.F.Folder.content l.folder);
+  tells : is_some (g.F.Folder.content l.folder) ≡ is_some (g.F.Folder.content l.initial.folder);
+  later : g.F.Folder.write_faults l.initial.folder ≤ g.F.Folder.write_faults l.folder;
   faulty : (path : List Step) → HasFaulty (map (λ e. (e.0, g.F.Log.Log.faults e.1)) l.yielded) path
-      → Rose (g.F.Folder.write_faults l.initial.place) (g.F.Folder.write_faults l.place);
-  cause : IsErrOf l.outcome trouble.Failed → Rose (g.F.Folder.write_faults l.initial.place) (g.F.Folder.write_faults l.place);
+      → Rose (g.F.Folder.write_faults l.initial.folder) (g.F.Folder.write_faults l.folder);
+  cause : IsErrOf l.outcome trouble.Failed → Rose (g.F.Folder.write_faults l.initial.folder) (g.F.Folder.write_faults l.folder);
 }

@@ -9,15 +9,15 @@ windows-init g c = record {
   same = search rules;
   later = search rules;
   same_writes = search rules;
-  prefix = subst (λ (bs : List ℕ). ToldPrefix (g.F.Folder.content c.args.place.now) c.args.name.now bs) (sym c.new-bytes.ensures.items) (told_none _ _);
+  prefix = subst (λ (bs : List ℕ). ToldPrefix (g.F.Folder.content c.args.folder.now) c.args.name.now bs) (sym c.new-bytes.ensures.items) (told_none _ _);
 }
 
 pub windows-preserved : goal.windows-preserved
 windows-preserved g c =
     let len : c.len-in-windows.result ≡ length c.windows.bytes.items = search rules in
-    let reads : WhereTold (g.F.Folder.content c.args.place.now) (λ x. Reads (unwrap_or (x.held c.args.name.now) []) (length c.windows.bytes.items) c.in_ok-count.count c.read.new.into) =
+    let reads : WhereTold (g.F.Folder.content c.args.folder.now) (λ x. Reads (unwrap_or (x.held c.args.name.now) []) (length c.windows.bytes.items) c.in_ok-count.count c.read.new.into) =
     λ x is. subst (λ (n : ℕ). Reads (unwrap_or (x.held c.args.name.now) []) n c.in_ok-count.count c.read.new.into) len (c.in_ok-count.ensures.bytes x (c.windows.invariant.same ∙ is)) in
-    let more : ToldPrefix (g.F.Folder.content c.args.place.now) c.args.name.now (c.windows.bytes.items ++ take c.in_ok-count.count c.read.new.into) = told_more _ _ _ _ _ c.windows.invariant.prefix reads in
+    let more : ToldPrefix (g.F.Folder.content c.args.folder.now) c.args.name.now (c.windows.bytes.items ++ take c.in_ok-count.count c.read.new.into) = told_more _ _ _ _ _ c.windows.invariant.prefix reads in
     record {
       same = search rules;
       later = search rules;

@@ -4,10 +4,10 @@ use Rattle.sw_base.proofs.reading.read_file.Given as goal
 
 abbrev pub invariant-windows : goal.invariant-windows
 invariant-windows g l = record {
-  same : g.F.Folder.content l.place ≡ g.F.Folder.content l.fn.place;
-  later : g.F.Folder.read_faults l.fn.place ≤ g.F.Folder.read_faults l.place;
-  same_writes : g.F.Folder.write_faults l.place ≡ g.F.Folder.write_faults l.fn.place;
-  prefix : ToldPrefix (g.F.Folder.content l.fn.place) l.name l.bytes.items;
+  same : g.F.Folder.content l.folder ≡ g.F.Folder.content l.fn.folder;
+  later : g.F.Folder.read_faults l.fn.folder ≤ g.F.Folder.read_faults l.folder;
+  same_writes : g.F.Folder.write_faults l.folder ≡ g.F.Folder.write_faults l.fn.folder;
+  prefix : ToldPrefix (g.F.Folder.content l.fn.folder) l.name l.bytes.items;
 }
 
 abbrev pub decreases-windows : goal.decreases-windows

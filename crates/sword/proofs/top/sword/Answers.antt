@@ -5,9 +5,9 @@ use Rattle.command_answer.proofs.Answering.{Answers-of, Tries-from_prints}
 use Rattle.sword.specs.Check.{FolderDue, HasReport}
 use Rattle.run_command.specs.Run.{LeavesPart, RunDue}
 use Rattle.sword.specs.Show.{ShowsRecords}
-use Rattle.sword.specs.Words.{UsageDue, check, run, show, texts}
+use Rattle.sword.specs.Arguments.{UsageDue, check, run, show, texts}
 use Rattle.sword.proofs.FolderAnswers.{usage_once}
-use Rattle.sword.proofs.WordLists.{same_check, same_run, same_show}
+use Rattle.sword.proofs.ArgumentLists.{same_check, same_run, same_show}
 use Rattle.sword.proofs.top.sword.Goals as goal
 
 pub returns-in-Ok-None-clause-usage : goal.returns-in-Ok-None-clause-usage
@@ -37,13 +37,13 @@ returns-in-Ok-None-clause-run g c = λ kernel dir size says. let usage = rw c.in
 pub returns-in-Ok-Some-Run-clause-run : goal.returns-in-Ok-Some-Run-clause-run
 returns-in-Ok-Some-Run-clause-run g c = λ kernel dir size says old is new now.
     let said = rw (c.in-Ok-Some-Run.field-0-is, c.in-Ok-Some-Run.field-0-0-is) at c.in-Ok-Some-Run.ensures.said in
-    same_run (λ (k d : List ℕ) (n : ℕ). Tries (RunDue (Rose (g.F.Folder.write_faults c.args.place.now) (g.F.Folder.write_faults c.run.new.place)) k d n old new) (g.O.Out.written c.args.out.now) (g.O.Out.written c.run.new.out) c.run.result) (texts c.args.words.now) _ _ kernel dir _ size
+    same_run (λ (k d : List ℕ) (n : ℕ). Tries (RunDue (Rose (g.F.Folder.write_faults c.args.folder.now) (g.F.Folder.write_faults c.run.new.folder)) k d n old new) (g.O.Out.written c.args.out.now) (g.O.Out.written c.run.new.out) c.run.result) (texts c.args.arguments.now) _ _ kernel dir _ size
     said says (c.run.ensures.answers old is new now)
 
 pub returns-in-Ok-Some-Run-clause-run_leaves : goal.returns-in-Ok-Some-Run-clause-run_leaves
 returns-in-Ok-Some-Run-clause-run_leaves g c = λ kernel dir size says old is new now failure.
     let said = rw (c.in-Ok-Some-Run.field-0-is, c.in-Ok-Some-Run.field-0-0-is) at c.in-Ok-Some-Run.ensures.said in
-    same_run (λ (k d : List ℕ) (n : ℕ). LeavesPart (Rose (g.F.Folder.write_faults c.args.place.now) (g.F.Folder.write_faults c.run.new.place)) k d n old new) (texts c.args.words.now) _ _ kernel dir _ size said says (c.run.ensures.leaves old is new now failure)
+    same_run (λ (k d : List ℕ) (n : ℕ). LeavesPart (Rose (g.F.Folder.write_faults c.args.folder.now) (g.F.Folder.write_faults c.run.new.folder)) k d n old new) (texts c.args.arguments.now) _ _ kernel dir _ size said says (c.run.ensures.leaves old is new now failure)
 
 pub returns-in-Ok-Some-Run-clause-only_printed : goal.returns-in-Ok-Some-Run-clause-only_printed
 returns-in-Ok-Some-Run-clause-only_printed g c = λ old is none.

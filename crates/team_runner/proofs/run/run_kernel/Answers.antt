@@ -6,7 +6,8 @@ use Rattle.kernel_syntax.specs.Program.{program_of}
 use Rattle.team_runner.specs.declared.run.Stopped.{Stopped}
 use Rattle.team_runner.specs.declared.stop.Stop.TheVariants as stop
 use Rattle.team_runner.specs.declared.team.Halt.{Halt}
-use Rattle.team_runner.specs.Answer.{AreFirst, HasRun, HasStoppedRun, HasFaulty, IsOwnLog, outline}
+use Rattle.sw_base.specs.HandedLog.{IsOwnLog, outline}
+use Rattle.team_runner.specs.Answer.{AreFirst, HasRun, HasStoppedRun, HasFaulty}
 use Rattle.team_runner.specs.Stops.{StopsSo}
 use Rattle.team_runner.specs.Team.{Handed, all_logs, entry, logged, faulty}
 use Rattle.team_runner.specs.Written.{Written}

@@ -1,6 +1,6 @@
-//! The words of a command line.
+//! The arguments of a command line.
 ghost use Rattle.std.specs.Prelude.{◌≡◌, ◌<◌, ◌≤◌, ◌^◌, ◌↔◌, ℕ, [], ◌∷◌, codes, decimal, length, IsTrue, IfOk, IfSome, IfNone};
-ghost use Rattle.sword.specs.Words.{IsName, IsNumber, IsUsage, Says, texts};
+ghost use Rattle.sword.specs.Arguments.{IsName, IsNumber, IsUsage, Says, texts};
 ghost use Rattle.sword.specs.Commands.{request_of};
 
 use std::alloc::{AllocError, Global};
@@ -25,24 +25,27 @@ pub enum Command<'a> {
     },
 }
 
-/// What the words ask for. `None` where they ask for nothing.
-pub fn read_words<'a>(alloc: Global, words: &'a [String]) -> Result<Option<Command<'a>>, AllocError>
-    ensures said { IfOk result (λ asked. IfSome asked (λ c. Says (texts words.now) (request_of c))) }
-    ensures usage { IfOk result (λ asked. IfNone asked (IsUsage (texts words.now))) }
+/// What the arguments ask for. `None` where they ask for nothing.
+pub fn read_arguments<'a>(
+    alloc: Global,
+    arguments: &'a [String],
+) -> Result<Option<Command<'a>>, AllocError>
+    ensures said { IfOk result (λ asked. IfSome asked (λ c. Says (texts arguments.now) (request_of c))) }
+    ensures usage { IfOk result (λ asked. IfNone asked (IsUsage (texts arguments.now))) }
 {
-    match words {
+    match arguments {
         [name, dir, workers] if name.as_str() == "check" => {
-            check_words(alloc, dir.as_str(), workers.as_str())
+            check_arguments(alloc, dir.as_str(), workers.as_str())
         }
         [name, kernel, dir, size] if name.as_str() == "run" => {
-            run_words(alloc, kernel.as_str(), dir.as_str(), size.as_str())
+            run_arguments(alloc, kernel.as_str(), dir.as_str(), size.as_str())
         }
-        [name, dir] if name.as_str() == "show" => Ok(show_words(dir.as_str())),
+        [name, dir] if name.as_str() == "show" => Ok(show_arguments(dir.as_str())),
         _ => Ok(None),
     }
 }
 
-fn show_words<'a>(dir: &'a str) -> Option<Command<'a>>
+fn show_arguments<'a>(dir: &'a str) -> Option<Command<'a>>
     ensures said { IfSome result (λ c. Says (codes "show" ∷ dir.now ∷ []) (request_of c)) }
     ensures usage { IfNone result (IsUsage (codes "show" ∷ dir.now ∷ [])) }
 {
@@ -52,7 +55,7 @@ fn show_words<'a>(dir: &'a str) -> Option<Command<'a>>
     Some(Command::Show { dir })
 }
 
-fn check_words<'a>(
+fn check_arguments<'a>(
     alloc: Global,
     dir: &'a str,
     workers: &str,
@@ -67,7 +70,7 @@ fn check_words<'a>(
     Ok(workers.map(|workers| Command::Check { dir, workers }))
 }
 
-fn run_words<'a>(
+fn run_arguments<'a>(
     alloc: Global,
     kernel: &'a str,
     dir: &'a str,

@@ -1,4 +1,4 @@
--- The words of a command line, what they ask for, and what is answered where they ask for nothing.
+-- The arguments of a command line, what they ask for, and what is answered where they ask for nothing.
 use Rattle.std.specs.Prelude.{◌≡◌, ℕ, ◌≤◌, List, [], ◌∷◌, length, map, String, string_bytes, codes, decimal}
 use Rattle.std.specs.declared.alloc.Global.{Global}
 use Rattle.sw_base.specs.Environment.{Files}
@@ -6,7 +6,7 @@ use Rattle.command_answer.specs.declared.status.TheConstants.{USAGE}
 use Rattle.run_command.specs.Run.{CanRun}
 use Rattle.sword.specs.Texts.{usage_text}
 
--- what the words after the program's name may ask for
+-- what the arguments after the program's name may ask for
 pub data Request : Type 0 where
   check : (dir : List ℕ) → (workers : ℕ) → Request
   run : (kernel dir : List ℕ) → (size : ℕ) → Request
@@ -23,52 +23,52 @@ pub record IsNumber (word : List ℕ) (low high n : ℕ) : Type 0 where
   pub least : low ≤ n
   pub most : n ≤ high
 
-pub record SaysCheck (words : List (List ℕ)) (dir : List ℕ) (workers : ℕ) : Type 0 where
+pub record SaysCheck (arguments : List (List ℕ)) (dir : List ℕ) (workers : ℕ) : Type 0 where
   pub number : List ℕ
-  pub are : words ≡ codes "check" ∷ dir ∷ number ∷ []
+  pub are : arguments ≡ codes "check" ∷ dir ∷ number ∷ []
   pub dir_is : IsName dir
   pub workers_are : IsNumber number 1 64 workers
 
-pub record SaysRun (words : List (List ℕ)) (kernel dir : List ℕ) (size : ℕ) : Type 0 where
+pub record SaysRun (arguments : List (List ℕ)) (kernel dir : List ℕ) (size : ℕ) : Type 0 where
   pub number : List ℕ
-  pub are : words ≡ codes "run" ∷ kernel ∷ dir ∷ number ∷ []
+  pub are : arguments ≡ codes "run" ∷ kernel ∷ dir ∷ number ∷ []
   pub kernel_is : IsName kernel
   pub dir_is : IsName dir
   pub size_is : IsNumber number 24 4194304 size
 
--- the words ask for a run
-pub record AsksRun (words : List (List ℕ)) : Type 0 where
+-- the arguments ask for a run
+pub record AsksRun (arguments : List (List ℕ)) : Type 0 where
   pub kernel : List ℕ
   pub dir : List ℕ
   pub size : ℕ
-  pub says : SaysRun words kernel dir size
+  pub says : SaysRun arguments kernel dir size
 
--- the words ask for a run, and it can begin
-pub record BeginsRun (words : List (List ℕ)) (files : Files) : Type 0 where
+-- the arguments ask for a run, and it can begin
+pub record BeginsRun (arguments : List (List ℕ)) (files : Files) : Type 0 where
   pub kernel : List ℕ
   pub dir : List ℕ
   pub size : ℕ
-  pub says : SaysRun words kernel dir size
+  pub says : SaysRun arguments kernel dir size
   pub can : CanRun files kernel dir
 
-pub record SaysShow (words : List (List ℕ)) (dir : List ℕ) : Type 0 where
-  pub are : words ≡ codes "show" ∷ dir ∷ []
+pub record SaysShow (arguments : List (List ℕ)) (dir : List ℕ) : Type 0 where
+  pub are : arguments ≡ codes "show" ∷ dir ∷ []
   pub dir_is : IsName dir
 
--- the words ask for it
+-- the arguments ask for it
 abbrev pub Says : List (List ℕ) → Request → Type 0
-Says words (check dir workers) = SaysCheck words dir workers
-Says words (run kernel dir size) = SaysRun words kernel dir size
-Says words (show dir) = SaysShow words dir
+Says arguments (check dir workers) = SaysCheck arguments dir workers
+Says arguments (run kernel dir size) = SaysRun arguments kernel dir size
+Says arguments (show dir) = SaysShow arguments dir
 
--- the words ask for nothing
+-- the arguments ask for nothing
 abbrev pub IsUsage : List (List ℕ) → Type 0
-IsUsage words = (request : Request) → Says words request → ⊥
+IsUsage arguments = (request : Request) → Says arguments request → ⊥
 
 -- the bytes of each word
 abbrev pub texts : List (String Global) → List (List ℕ)
-texts words = map string_bytes words
+texts arguments = map string_bytes arguments
 
--- the one answer to words that ask for nothing
+-- the one answer to arguments that ask for nothing
 abbrev pub UsageDue : ℕ → List ℕ → Type 0
 UsageDue status text = (status ≡ USAGE) × (text ≡ usage_text)

@@ -1,35 +1,35 @@
--- The bytes of a few words.
+-- The bytes of a few arguments.
 use Rattle.std.proofs.Common.{◌≡◌, ℕ, ◌≤◌, ◌<◌, List, [], ◌∷◌, length, String, string_bytes, get_or, sym, subst, ◌∙◌, arith}
 use Rattle.std.specs.declared.alloc.Global.{Global}
 use Rattle.std.proofs.lemmas.Fmt.{decimal_injective}
-use Rattle.sword.specs.Words.{texts, SaysCheck, SaysRun, SaysShow}
+use Rattle.sword.specs.Arguments.{texts, SaysCheck, SaysRun, SaysShow}
 
-pub texts-three : (words : List (String Global)) (a b c : String Global) → 3 ≤ length words → length words < 4 → a ≡ get_or words 0 a → b ≡ get_or words 1 b → c ≡ get_or words 2 c
-    → texts words ≡ string_bytes a ∷ string_bytes b ∷ string_bytes c ∷ []
+pub texts-three : (arguments : List (String Global)) (a b c : String Global) → 3 ≤ length arguments → length arguments < 4 → a ≡ get_or arguments 0 a → b ≡ get_or arguments 1 b → c ≡ get_or arguments 2 c
+    → texts arguments ≡ string_bytes a ∷ string_bytes b ∷ string_bytes c ∷ []
 texts-three [] a b c least most ea eb ec = absurd (omega arith)
 texts-three (x ∷ []) a b c least most ea eb ec = absurd (omega arith)
 texts-three (x ∷ y ∷ []) a b c least most ea eb ec = absurd (omega arith)
 texts-three (x ∷ y ∷ z ∷ []) a b c least most ea eb ec = λ i. string_bytes (sym ea i) ∷ string_bytes (sym eb i) ∷ string_bytes (sym ec i) ∷ []
 texts-three (x ∷ y ∷ z ∷ w ∷ more) a b c least most ea eb ec = absurd (omega arith)
 
-pub texts-two : (words : List (String Global)) (a b : String Global) → 2 ≤ length words → length words < 3 → a ≡ get_or words 0 a → b ≡ get_or words 1 b
-    → texts words ≡ string_bytes a ∷ string_bytes b ∷ []
+pub texts-two : (arguments : List (String Global)) (a b : String Global) → 2 ≤ length arguments → length arguments < 3 → a ≡ get_or arguments 0 a → b ≡ get_or arguments 1 b
+    → texts arguments ≡ string_bytes a ∷ string_bytes b ∷ []
 texts-two [] a b least most ea eb = absurd (omega arith)
 texts-two (x ∷ []) a b least most ea eb = absurd (omega arith)
 texts-two (x ∷ y ∷ []) a b least most ea eb = λ i. string_bytes (sym ea i) ∷ string_bytes (sym eb i) ∷ []
 texts-two (x ∷ y ∷ z ∷ more) a b least most ea eb = absurd (omega arith)
 
--- words that ask for a check name one folder
-pub same_check : (words : List (List ℕ)) (one other : List ℕ) (n m : ℕ) → SaysCheck words one n → SaysCheck words other m → one ≡ other
-same_check words one other n m a b = let both = sym a.are ∙ b.are in cc both
+-- arguments that ask for a check name one folder
+pub same_check : (arguments : List (List ℕ)) (one other : List ℕ) (n m : ℕ) → SaysCheck arguments one n → SaysCheck arguments other m → one ≡ other
+same_check arguments one other n m a b = let both = sym a.are ∙ b.are in cc both
 
 -- and so do those that ask to show it
-pub same_show : (words : List (List ℕ)) (one other : List ℕ) → SaysShow words one → SaysShow words other → one ≡ other
-same_show words one other a b = let both = sym a.are ∙ b.are in cc both
+pub same_show : (arguments : List (List ℕ)) (one other : List ℕ) → SaysShow arguments one → SaysShow arguments other → one ≡ other
+same_show arguments one other a b = let both = sym a.are ∙ b.are in cc both
 
--- the bytes of four words
-pub texts-four : (words : List (String Global)) (a b c d : String Global) → 4 ≤ length words → length words < 5 → a ≡ get_or words 0 a → b ≡ get_or words 1 b → c ≡ get_or words 2 c → d ≡ get_or words 3 d
-    → texts words ≡ string_bytes a ∷ string_bytes b ∷ string_bytes c ∷ string_bytes d ∷ []
+-- the bytes of four arguments
+pub texts-four : (arguments : List (String Global)) (a b c d : String Global) → 4 ≤ length arguments → length arguments < 5 → a ≡ get_or arguments 0 a → b ≡ get_or arguments 1 b → c ≡ get_or arguments 2 c → d ≡ get_or arguments 3 d
+    → texts arguments ≡ string_bytes a ∷ string_bytes b ∷ string_bytes c ∷ string_bytes d ∷ []
 texts-four [] a b c d least most ea eb ec ed = absurd (omega arith)
 texts-four (x ∷ []) a b c d least most ea eb ec ed = absurd (omega arith)
 texts-four (x ∷ y ∷ []) a b c d least most ea eb ec ed = absurd (omega arith)
@@ -37,10 +37,10 @@ texts-four (x ∷ y ∷ z ∷ []) a b c d least most ea eb ec ed = absurd (omega
 texts-four (x ∷ y ∷ z ∷ w ∷ []) a b c d least most ea eb ec ed = λ i. string_bytes (sym ea i) ∷ string_bytes (sym eb i) ∷ string_bytes (sym ec i) ∷ string_bytes (sym ed i) ∷ []
 texts-four (x ∷ y ∷ z ∷ w ∷ v ∷ more) a b c d least most ea eb ec ed = absurd (omega arith)
 
--- words that ask for a run ask for one
-pub same_run : (P : List ℕ → List ℕ → ℕ → Type 0) (words : List (List ℕ)) (kernel dir other_kernel other_dir : List ℕ) (size other_size : ℕ)
-    → SaysRun words kernel dir size → SaysRun words other_kernel other_dir other_size → P kernel dir size → P other_kernel other_dir other_size
-same_run P words kernel dir other_kernel other_dir size other_size a b holds =
+-- arguments that ask for a run ask for one
+pub same_run : (P : List ℕ → List ℕ → ℕ → Type 0) (arguments : List (List ℕ)) (kernel dir other_kernel other_dir : List ℕ) (size other_size : ℕ)
+    → SaysRun arguments kernel dir size → SaysRun arguments other_kernel other_dir other_size → P kernel dir size → P other_kernel other_dir other_size
+same_run P arguments kernel dir other_kernel other_dir size other_size a b holds =
     let both = sym a.are ∙ b.are in
     let number : a.number ≡ b.number = cc both in
     let most = a.size_is.most in
