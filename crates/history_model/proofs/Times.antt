@@ -15,7 +15,7 @@ use Rattle.step_history.specs.declared.item.Deed.{Deed}
 use Rattle.step_history.specs.declared.item.Deed.TheVariants.{Read, Write, Lock, Unlock, Split, Home}
 use Rattle.step_history.specs.History.{Name, name_eq, item, Legal}
 use Rattle.step_history.proofs.Names.{is_same_name, same_name}
-use Rattle.step_history.proofs.Order.{split_before, home_after}
+use Rattle.step_history.proofs.SplitsAndHomes.{split_before, home_after}
 use Rattle.history_model.specs.Work.{Work, Rest, Put, Fork, Phases, NoPhase, Phase, TeamWork, NoWork, Beside}
 use Rattle.history_model.specs.Did.{deeds_of, lane_count_of, phase_splits, split_count}
 use Rattle.history_model.proofs.Labelled.{labelled_of, items_of}

@@ -1,4 +1,4 @@
 pub mod Exclusion
 pub mod Folds
 pub mod Names
-pub mod Order
+pub mod SplitsAndHomes

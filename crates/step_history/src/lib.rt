@@ -3,6 +3,8 @@
 
 mod item;
 mod mutexes;
+mod order;
 
 pub use item::{Deed, Item};
 pub use mutexes::critical_sections_exclude_each_other;
+pub use order::hands_work_between_split_and_home;
