@@ -10,11 +10,14 @@ use Rattle.shared_words.specs.Views.{newcomer}
 use Rattle.shared_words.specs.Rule.{ELEMENTS, Lives, Sits, Keeps, Kept}
 use Rattle.shared_words.proofs.Seats.{At}
 
-length-zeros : (n : ℕ) → length (replicate n 0) ≡ n
+abbrev pub zeros : ℕ → List ℕ
+zeros n = replicate n 0
+
+length-zeros : (n : ℕ) → length (zeros n) ≡ n
 length-zeros zero = refl
 length-zeros (suc n) = ap suc (length-zeros n)
 
-zero_word : (n word : ℕ) → get_or (replicate n 0) word 0 ≡ 0
+zero_word : (n word : ℕ) → get_or (zeros n) word 0 ≡ 0
 zero_word zero word = refl
 zero_word (suc n) zero = refl
 zero_word (suc n) (suc word) = zero_word n word
@@ -37,7 +40,7 @@ each_first : (id : ℕ) (v : View) → At (newcomer [] ∷ []) id v → Sits [] 
 each_first zero v there = let P : View → Type 0 = λ u. Sits [] (λ _. 0) (newcomer [] ∷ []) 0 u in subst P (some-injective (newcomer []) v there) first_sits
 each_first (suc id) v there = absurd (some-ne-none v (sym there))
 
-pub begins : (elements : ℕ) → Kept elements (opening (replicate (ELEMENTS + elements) 0) [] (newcomer []))
+pub begins : (elements : ℕ) → Kept elements (opening (zeros (ELEMENTS + elements)) [] (newcomer []))
 begins elements = record {
   log = [];
   seat = λ _. 0;

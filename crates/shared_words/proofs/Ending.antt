@@ -42,7 +42,7 @@ module _ (elements : ℕ) (log : List Item) (seat : Name → ℕ) (words : List 
   whole_at name u there false is =
       let sits = keeps.each (seat name) u there in
       let nothing : of name log ≡ [] =
-          sym (sits.shown name ∙ ap (λ (b : Bool). cond b (of name log) []) (eq-eqb (seat name) (seat name) refl)) ∙ ap (of name) (sits.rests is) in
+      sym (sits.shown name ∙ ap (λ (b : Bool). cond b (of name log) []) (eq-eqb (seat name) (seat name) refl)) ∙ ap (of name) (sits.rests is) in
       sym ((keeps.each id v here).shown name ∙ at_first name (seat name == id) refl nothing)
 
   whole : (name : Name) → of name log ≡ of name v.items
@@ -51,9 +51,9 @@ module _ (elements : ℕ) (log : List Item) (seat : Name → ℕ) (words : List 
       whole_at name there.0 there.1 there.0.live refl
 
 -- the last words are those of the elements
-pub ends : (elements id : ℕ) (v : View) (last values : List ℕ) → Final (Seen (Kept elements) id v) last [] → v.live ≡ true → v.name ≡ [] → v.out ≡ []
+pub ends : (elements id : ℕ) (v : View) (last values : List ℕ) (at_home : List (Unit {0})) → Final (Seen (Kept elements) id v) last at_home → v.live ≡ true → v.name ≡ [] → v.out ≡ []
     → length values ≡ elements → ((word : ℕ) → word < elements → get_or values word 0 ≡ get_or last (ELEMENTS + word) 0) → HasHistory v.items values
-ends elements id v last values (s, seen, same, rest) live first none_out long copied =
+ends elements id v last values at_home (s, seen, same, slots, rest) live first none_out long copied =
     let kept = seen.0 in
     record {
       log = kept.log;

@@ -67,50 +67,50 @@ module _ (log : List Item) (seat : Name → ℕ) (views : List View) (id : ℕ) 
   out_moves : (l : ℕ) (q : Name) → HasOut seat views l q → (l ∷ q ≡ w.name → ⊥) → HasOut (moved seat from id) after l q
   out_moves l q has differs = dite (ℕ_discrete (seat q) from)
       (λ here.
-        let P : ℕ → Type 0 = λ j. At views j has.view in
-        let same : has.view ≡ w = same_at views from has.view w (subst P here has.there) m.from_at in
-        let out : Contains (has.view.out) l = has.out in
-        let Q : List ℕ → Type 0 = λ ks. Contains ks l in
-        let none_left : Contains [] l = subst Q (ap (λ (u : View). u.out) same ∙ m.none_out) out in
-        let within = none_left.1 in
-        absurd (omega arith))
+      let P : ℕ → Type 0 = λ j. At views j has.view in
+      let same : has.view ≡ w = same_at views from has.view w (subst P here has.there) m.from_at in
+      let out : Contains (has.view.out) l = has.out in
+      let Q : List ℕ → Type 0 = λ ks. Contains ks l in
+      let none_left : Contains [] l = subst Q (ap (λ (u : View). u.out) same ∙ m.none_out) out in
+      let within = none_left.1 in
+      absurd (omega arith))
       (λ away. dite (ℕ_discrete (seat q) id)
-          (λ own.
-            let P : ℕ → Type 0 = λ j. At views j has.view in
-            let Q : ℕ → Type 0 = λ j. At after j (met v w) in
-            let R : View → Type 0 = λ u. Contains u.out l in
-            let same : has.view ≡ v = same_at views id has.view v (subst P own has.there) m.at in
-            let named : v.name ≡ q = ap (λ (u : View). u.name) (sym same) ∙ has.named in
-            record {
-              view = met v w;
-              there = subst Q (sym (not_moved seat from id q away ∙ own)) met_there;
-              live = m.live;
-              named = named;
-              out = contains_without number l v.out (subst R same has.out) (λ is. differs (ap₂ (λ (k : ℕ) (n : Name). k ∷ n) is (sym named) ∙ sym m.child));
-            })
-          (λ else.
-            let Q : ℕ → Type 0 = λ j. At after j has.view in
-            record {
-              view = has.view;
-              there = subst Q (sym (not_moved seat from id q away))
-                  (set_else (set views id (met v w)) from (seat q) spent away ∙ (set_else views id (seat q) (met v w) else ∙ has.there));
-              live = has.live;
-              named = has.named;
-              out = has.out;
-            }))
+      (λ own.
+      let P : ℕ → Type 0 = λ j. At views j has.view in
+      let Q : ℕ → Type 0 = λ j. At after j (met v w) in
+      let R : View → Type 0 = λ u. Contains u.out l in
+      let same : has.view ≡ v = same_at views id has.view v (subst P own has.there) m.at in
+      let named : v.name ≡ q = ap (λ (u : View). u.name) (sym same) ∙ has.named in
+      record {
+        view = met v w;
+        there = subst Q (sym (not_moved seat from id q away ∙ own)) met_there;
+        live = m.live;
+        named = named;
+        out = contains_without number l v.out (subst R same has.out) (λ is. differs (ap₂ (λ (k : ℕ) (n : Name). k ∷ n) is (sym named) ∙ sym m.child));
+      })
+      (λ else.
+      let Q : ℕ → Type 0 = λ j. At after j has.view in
+      record {
+        view = has.view;
+        there = subst Q (sym (not_moved seat from id q away))
+            (set_else (set views id (met v w)) from (seat q) spent away ∙ (set_else views id (seat q) (met v w) else ∙ has.there));
+        live = has.live;
+        named = has.named;
+        out = has.out;
+      }))
 
   both_shown : (name : Name) → of name v.items ≡ cond (seat name == id) (of name log) [] → of name w.items ≡ cond (seat name == from) (of name log) []
       → of name (v.items ++ w.items) ≡ cond (moved seat from id name == id) (of name log) []
   both_shown name one other =
       of-append name v.items w.items ∙ (ap₂ (λ (a b : List Item). a ++ b) one other ∙ dite (ℕ_discrete (seat name) from)
-          (λ here. 
-            ap₂ (λ (a b : Bool). cond a (of name log) [] ++ cond b (of name log) [])
-                (ne_eqb (seat name) id (λ own. m.apart (sym here ∙ own))) (eq-eqb (seat name) from here)
-            ∙ ap (λ (b : Bool). cond b (of name log) []) (sym (eq-eqb (moved seat from id name) id (moved_there seat from id name here))))
-          (λ away.
-            ap (λ (b : Bool). cond (seat name == id) (of name log) [] ++ cond b (of name log) []) (ne_eqb (seat name) from away)
-            ∙ (append-nil (cond (seat name == id) (of name log) [])
-              ∙ ap (λ (n : ℕ). cond (n == id) (of name log) []) (sym (not_moved seat from id name away)))))
+      (λ here.
+      ap₂ (λ (a b : Bool). cond a (of name log) [] ++ cond b (of name log) [])
+      (ne_eqb (seat name) id (λ own. m.apart (sym here ∙ own))) (eq-eqb (seat name) from here)
+      ∙ ap (λ (b : Bool). cond b (of name log) []) (sym (eq-eqb (moved seat from id name) id (moved_there seat from id name here))))
+      (λ away.
+      ap (λ (b : Bool). cond (seat name == id) (of name log) [] ++ cond b (of name log) []) (ne_eqb (seat name) from away)
+      ∙ (append-nil (cond (seat name == id) (of name log) [])
+      ∙ ap (λ (n : ℕ). cond (n == id) (of name log) []) (sym (not_moved seat from id name away)))))
 
   met_lives : Lives (log ++ x ∷ []) (moved seat from id) after id (met v w)
   met_lives = record {
@@ -183,9 +183,9 @@ module _ (log : List Item) (seat : Name → ℕ) (views : List View) (id : ℕ) 
   } where
     same : (name : Name) → cond (seat name == j) (of name log) [] ≡ cond (moved seat from id name == j) (of name log) []
     same name = dite (ℕ_discrete (seat name) from)
-        (λ here. 
-          ap (λ (b : Bool). cond b (of name log) []) (ne_eqb (seat name) j (λ is. not_from (sym is ∙ here)))
-          ∙ ap (λ (b : Bool). cond b (of name log) []) (sym (ne_eqb (moved seat from id name) j (λ is. not_id (sym is ∙ moved_there seat from id name here)))))
+        (λ here.
+        ap (λ (b : Bool). cond b (of name log) []) (ne_eqb (seat name) j (λ is. not_from (sym is ∙ here)))
+        ∙ ap (λ (b : Bool). cond b (of name log) []) (sym (ne_eqb (moved seat from id name) j (λ is. not_id (sym is ∙ moved_there seat from id name here)))))
         (λ away. ap (λ (n : ℕ). cond (n == j) (of name log) []) (sym (not_moved seat from id name away)))
 
   meets : (elements : ℕ) (words : List ℕ) → Keeps elements log seat words views → Keeps elements (log ++ x ∷ []) (moved seat from id) words after

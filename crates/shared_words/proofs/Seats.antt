@@ -41,16 +41,16 @@ pub has_out_stays : (seat : Name → ℕ) (views : List View) (id : ℕ) (v w : 
     → (Contains v.out k → Contains w.out k) → HasOut seat views k p → HasOut seat (set views id w) k p
 has_out_stays seat views id v w k p at live named out has = dite (ℕ_discrete (seat p) id)
     (λ here.
-      let P : ℕ → Type 0 = λ j. At (set views id w) j w in
-      let Q : ℕ → Type 0 = λ j. At views j has.view in
-      let same : has.view ≡ v = same_at views id has.view v (subst Q here has.there) at in
-      record {
-        view = w;
-        there = subst P (sym here) (set_here views id w (at_within views id v at));
-        live = live;
-        named = named ∙ (ap (λ (x : View). x.name) (sym same) ∙ has.named);
-        out = out (let R : View → Type 0 = λ x. Contains x.out k in subst R same has.out);
-      })
+    let P : ℕ → Type 0 = λ j. At (set views id w) j w in
+    let Q : ℕ → Type 0 = λ j. At views j has.view in
+    let same : has.view ≡ v = same_at views id has.view v (subst Q here has.there) at in
+    record {
+      view = w;
+      there = subst P (sym here) (set_here views id w (at_within views id v at));
+      live = live;
+      named = named ∙ (ap (λ (x : View). x.name) (sym same) ∙ has.named);
+      out = out (let R : View → Type 0 = λ x. Contains x.out k in subst R same has.out);
+    })
     (λ elsewhere. record {
       view = has.view;
       there = set_else views id (seat p) w elsewhere ∙ has.there;
@@ -66,7 +66,7 @@ pub shown_own : (seat : Name → ℕ) (id : ℕ) (own : Name) (deed : Deed) (log
 shown_own seat id own deed log items name sits shown =
     of-append name items (item own deed ∷ [])
     ∙ (ap (λ (l : List Item). l ++ of name (item own deed ∷ [])) shown
-      ∙ (at (name_eq own name) refl ∙ ap (λ (l : List Item). cond (seat name == id) l []) (sym (of-append name log (item own deed ∷ [])))))
+    ∙ (at (name_eq own name) refl ∙ ap (λ (l : List Item). cond (seat name == id) l []) (sym (of-append name log (item own deed ∷ [])))))
   where
     here : (b : Bool) (xs ys : List Item) → b ≡ true → cond b xs [] ++ ys ≡ cond b (xs ++ ys) []
     here true xs ys is = refl

@@ -202,7 +202,7 @@ splits_allowed elements id v live s kept at =
     let fresh = lives.fresh v.splits (omega arith) in
     let own : name_eq v.name v.name ≡ true = is_same_name v.name in
     let next = advance elements kept.log kept.seat s.words s.views id v (Split v.splits v.lane v.span) (parts v) s.words kept.keeps at live
-        (split_takes kept.log kept.seat s.views id v lives live) refl kept.keeps.values kept.keeps.mutexes in
+    (split_takes kept.log kept.seat s.views id v lives live) refl kept.keeps.values kept.keeps.mutexes in
     let sits = lives.sits in
     let P : ℕ → Type 0 = λ j. At (set s.views id (parts v)) j (parts v) in
     record {

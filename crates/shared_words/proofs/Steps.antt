@@ -55,7 +55,7 @@ loads_allowed elements slots id me word live within s kept same_slots at small =
     let v : View = me.0 in
     let lives = (kept.keeps.each id v at).lives live in
     let takes : Takes kept.log v (Read word found) (did v (Read word found)) =
-        plain_takes kept.log kept.seat s.views id v (Read word found) lives live (kept.keeps.values word within) (λ k. (refl, refl)) (λ mutex. refl) in
+    plain_takes kept.log kept.seat s.views id v (Read word found) lives live (kept.keeps.values word within) (λ k. (refl, refl)) (λ mutex. refl) in
     let words = set-get_or s.words (ELEMENTS + word) 0 in (
       did v (Read word found),
       keeps,
@@ -78,7 +78,7 @@ stores_allowed elements slots id me word value live within s kept same_slots at 
     let log = kept.log in
     let lives = (kept.keeps.each id v at).lives live in
     let takes : Takes kept.log v (Write word value) (did v (Write word value)) =
-        plain_takes kept.log kept.seat s.views id v (Write word value) lives live tt (λ k. (refl, refl)) (λ mutex. refl) in
+    plain_takes kept.log kept.seat s.views id v (Write word value) lives live tt (λ k. (refl, refl)) (λ mutex. refl) in
     let long = kept.keeps.wide in (
       did v (Write word value),
       keeps,
@@ -89,9 +89,9 @@ stores_allowed elements slots id me word value live within s kept same_slots at 
         keeps = advance elements kept.log kept.seat s.words s.views id v (Write word value) (did v (Write word value)) (set s.words (ELEMENTS + word) value)
             kept.keeps at live takes (length-set s.words (ELEMENTS + word) value)
             (λ w inside. dite (ℕ_discrete word w)
-                (λ here. word_here s.words (ELEMENTS + word) (ELEMENTS + w) value (omega arith) (omega arith) ∙ ap (λ (b : Bool). cond b value (value_at w kept.log)) (sym (eq-eqb word w here)))
-                (λ apart. word_else s.words (ELEMENTS + word) (ELEMENTS + w) value (omega arith)
-                    ∙ (kept.keeps.values w inside ∙ ap (λ (b : Bool). cond b value (value_at w kept.log)) (sym (ne_eqb word w apart)))))
+            (λ here. word_here s.words (ELEMENTS + word) (ELEMENTS + w) value (omega arith) (omega arith) ∙ ap (λ (b : Bool). cond b value (value_at w kept.log)) (sym (eq-eqb word w here)))
+            (λ apart. word_else s.words (ELEMENTS + word) (ELEMENTS + w) value (omega arith)
+            ∙ (kept.keeps.values w inside ∙ ap (λ (b : Bool). cond b value (value_at w kept.log)) (sym (ne_eqb word w apart)))))
             (λ mutex inside. word_else s.words (ELEMENTS + word) mutex value (omega arith) ∙ kept.keeps.mutexes mutex inside);
       },
       ap (λ (k : ℕ). (did v (Write k value), me.1)) (sym (element_of word)),
@@ -108,8 +108,8 @@ unmoved elements id me i s kept at = record {
   log = kept.log;
   seat = kept.seat;
   keeps =
-    let P : List ℕ × List View → Type 0 = λ z. Keeps elements kept.log kept.seat z.0 z.1 in
-    subst P (λ k. (sym (set-get_or s.words i 0) k, sym (set_again s.views id me.0 at) k)) kept.keeps;
+      let P : List ℕ × List View → Type 0 = λ z. Keeps elements kept.log kept.seat z.0 z.1 in
+      subst P (λ k. (sym (set-get_or s.words i 0) k, sym (set_again s.views id me.0 at) k)) kept.keeps;
 }
 
 lock_takes : (log : List Item) (seat : Name → ℕ) (views : List View) (id : ℕ) (v : View) (mutex : ℕ) → Lives log seat views id v → v.live ≡ true
@@ -143,9 +143,9 @@ lock_wins elements id v mutex s live within kept at unheld =
           kept.keeps at live (lock_takes kept.log kept.seat s.views id v mutex lives live nobody) (length-set s.words mutex 1)
           (λ w inside. word_else s.words mutex (ELEMENTS + w) 1 (omega arith) ∙ kept.keeps.values w inside)
           (λ m inside. dite (ℕ_discrete mutex m)
-              (λ here. word_here s.words mutex m 1 here (omega arith) ∙ ap (λ (b : Bool). mutex_word (cond b (Some v.name) (holder m kept.log))) (sym (eq-eqb mutex m here)))
-              (λ apart. word_else s.words mutex m 1 apart
-                  ∙ (kept.keeps.mutexes m inside ∙ ap (λ (b : Bool). mutex_word (cond b (Some v.name) (holder m kept.log))) (sym (ne_eqb mutex m apart)))));
+          (λ here. word_here s.words mutex m 1 here (omega arith) ∙ ap (λ (b : Bool). mutex_word (cond b (Some v.name) (holder m kept.log))) (sym (eq-eqb mutex m here)))
+          (λ apart. word_else s.words mutex m 1 apart
+          ∙ (kept.keeps.mutexes m inside ∙ ap (λ (b : Bool). mutex_word (cond b (Some v.name) (holder m kept.log))) (sym (ne_eqb mutex m apart)))));
     }
 
 pub locks_allowed : (elements slots id : ℕ) (me : Seen) (mutex : ℕ) → me.0.live ≡ true → mutex < MUTEXES
@@ -153,22 +153,22 @@ pub locks_allowed : (elements slots id : ℕ) (me : Seen) (mutex : ℕ) → me.0
 locks_allowed elements slots id me mutex live within s kept same_slots at small =
     let found : ℕ = get_or s.words mutex 0 in
     dite (ℕ_discrete found 0)
-        (λ free. (
-          locked me.0 mutex,
-          keeps,
-          tt,
-          subst (λ (b : Bool). Kept elements (record { words = set s.words mutex (either b 1 found); homes = s.homes; views = set s.views id (locked me.0 mutex) }))
-              (sym (eq-eqb found 0 free)) (lock_wins elements id me.0 mutex s live within kept at free),
-          record { won = λ _. refl; lost = λ not. absurd (not free) },
-        ))
-        (λ taken. (
-          me.0,
-          keeps,
-          tt,
-          subst (λ (b : Bool). Kept elements (record { words = set s.words mutex (either b 1 found); homes = s.homes; views = set s.views id me.0 }))
-              (sym (ne_eqb found 0 taken)) (unmoved elements id me mutex s kept at),
-          record { won = λ is. absurd (taken is); lost = λ _. refl },
-        ))
+    (λ free. (
+      locked me.0 mutex,
+      keeps,
+      tt,
+      subst (λ (b : Bool). Kept elements (record { words = set s.words mutex (either b 1 found); homes = s.homes; views = set s.views id (locked me.0 mutex) }))
+          (sym (eq-eqb found 0 free)) (lock_wins elements id me.0 mutex s live within kept at free),
+      record { won = λ _. refl; lost = λ not. absurd (not free) },
+    ))
+    (λ taken. (
+      me.0,
+      keeps,
+      tt,
+      subst (λ (b : Bool). Kept elements (record { words = set s.words mutex (either b 1 found); homes = s.homes; views = set s.views id me.0 }))
+          (sym (ne_eqb found 0 taken)) (unmoved elements id me mutex s kept at),
+      record { won = λ is. absurd (taken is); lost = λ _. refl },
+    ))
 
 once_rest : (held : List ℕ) → Once held → Once (rest held)
 once_rest [] once = tt
@@ -217,9 +217,9 @@ unlocks_allowed elements slots id me mutex live within innermost s kept same_slo
             kept.keeps at live (unlock_takes kept.log kept.seat s.views id v mutex lives live innermost) (length-set s.words mutex 0)
             (λ w inside. word_else s.words mutex (ELEMENTS + w) 0 (omega arith) ∙ kept.keeps.values w inside)
             (λ m inside. dite (ℕ_discrete mutex m)
-                (λ here. word_here s.words mutex m 0 here (omega arith) ∙ ap (λ (b : Bool). mutex_word (cond b None (holder m kept.log))) (sym (eq-eqb mutex m here)))
-                (λ apart. word_else s.words mutex m 0 apart
-                    ∙ (kept.keeps.mutexes m inside ∙ ap (λ (b : Bool). mutex_word (cond b None (holder m kept.log))) (sym (ne_eqb mutex m apart)))));
+            (λ here. word_here s.words mutex m 0 here (omega arith) ∙ ap (λ (b : Bool). mutex_word (cond b None (holder m kept.log))) (sym (eq-eqb mutex m here)))
+            (λ apart. word_else s.words mutex m 0 apart
+            ∙ (kept.keeps.mutexes m inside ∙ ap (λ (b : Bool). mutex_word (cond b None (holder m kept.log))) (sym (ne_eqb mutex m apart)))));
       },
       refl,
     )

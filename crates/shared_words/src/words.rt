@@ -21,10 +21,6 @@ const FREE: usize = 64;
 
 const FIRST_ELEMENT: usize = 65;
 
-const ELEMENT_LIMIT: usize = 1_048_576;
-
-const LOCK_LIMIT: usize = 64;
-
 /// Words and mutexes that threads share.
 #[derive(Drop)]
 pub struct Words {
@@ -35,10 +31,11 @@ pub struct Words {
 }
 
 // The values of the elements.
-fn copy_elements(closed: &atomic_table::Closed<(), Global>, room: &mut [u64])
+fn copy_elements(closed: &atomic_table::Closed<(), Global>, room: &mut Vec<u64>)
     requires full { IsFull closed.now.words }
-    requires long { ELEMENTS + length room.old ≤ slots_len closed.now.words }
-    ensures { EachIndex room.new (λ k. slice_index room.new k ≡ slice_index (slots_items closed.now.words) (ELEMENTS + k)) }
+    requires long { ELEMENTS + vec_len room.old ≤ slots_len closed.now.words }
+    ensures len { vec_len room.new ≡ vec_len room.old }
+    ensures values { EachIndex room.new.items (λ k. slice_index room.new.items k ≡ slice_index (slots_items closed.now.words) (ELEMENTS + k)) }
 {
     for (i, word) in room.iter_mut().enumerate() {
         *word = closed.word(FIRST_ELEMENT + i);
@@ -80,7 +77,10 @@ impl Words {
         ensures { hand.new ≡ with_view hand.old (did hand.old.view (Read word result)) }
     {
         let mut seat = hand.take();
-        let value = self.table.shared.load::<Loads>(&mut seat, FIRST_ELEMENT + word);
+        let value = self
+            .table
+            .shared
+            .load::<Loads>(&mut seat, FIRST_ELEMENT + word);
         *hand = Hand::of(seat);
         value
     }
@@ -91,7 +91,9 @@ impl Words {
         ensures { hand.new ≡ with_view hand.old (did hand.old.view (Write word value)) }
     {
         let mut seat = hand.take();
-        self.table.shared.store::<Stores>(&mut seat, FIRST_ELEMENT + word, value);
+        self.table
+            .shared
+            .store::<Stores>(&mut seat, FIRST_ELEMENT + word, value);
         *hand = Hand::of(seat);
     }
 
@@ -104,7 +106,12 @@ impl Words {
     {
         let mut seat = hand.take();
         for _ in rt.forever() {
-            if self.table.shared.compare_exchange::<Locks>(&mut seat, mutex, 0, 1) == 0 {
+            if self
+                .table
+                .shared
+                .compare_exchange::<Locks>(&mut seat, mutex, 0, 1)
+                == 0
+            {
                 break;
             }
             self.table.shared.park(rt, mutex, 1);
@@ -147,7 +154,9 @@ impl Words {
         ensures { hand.new ≡ with_view hand.old (met hand.old.view other.view) }
     {
         let mut seat = hand.take();
-        self.table.shared.join_seat::<Meets>(&mut seat, other.take());
+        self.table
+            .shared
+            .join_seat::<Meets>(&mut seat, other.take());
         *hand = Hand::of(seat);
     }
 
