@@ -1,6 +1,6 @@
 -- The folds of a history at one more step, and at a list put behind another.
-use Rattle.std.proofs.Common.{◌≡◌, refl, sym, ap, ap₂, ◌∙◌, subst, ℕ, Bool, true, false, cond, List, [], ◌∷◌, ◌++◌, Option, Some, None}
-use Rattle.std.specs.Prelude.{◌&&◌, ◌||◌, not, filter}
+use Rattle.std.proofs.Common.{◌≡◌, refl, sym, ap, ap₂, ◌∙◌, subst, ℕ, Bool, true, false, cond, List, [], ◌∷◌, ◌++◌, Option, None}
+use Rattle.std.specs.Prelude.{◌&&◌, ◌||◌, not}
 use Rattle.std.specs.List.{list_any}
 use Rattle.std.proofs.lemmas.List.{append-nil, append_assoc}
 use Rattle.std.proofs.lemmas.List.Elements.{filter-append}
@@ -89,8 +89,8 @@ pub out_at_split : (p : Name) (k : ℕ) (log : List Item) (x : Item) → (name_e
     → (name_eq x.name p && is_home k x.deed) ≡ false → came_home p k log ≡ false → is_out (k ∷ p) (log ++ x ∷ []) ≡ true
 out_at_split p k log x splits stays none =
     ap₂ (λ (a b : Bool). a && not b)
-        (was_split_more p k log x ∙ (ap (λ (b : Bool). was_split p k log || b) splits ∙ or_true (was_split p k log)))
-        (came_home_more p k log x ∙ ap₂ (λ (a b : Bool). a || b) none stays)
+    (was_split_more p k log x ∙ (ap (λ (b : Bool). was_split p k log || b) splits ∙ or_true (was_split p k log)))
+    (came_home_more p k log x ∙ ap₂ (λ (a b : Bool). a || b) none stays)
   where
     or_true : (b : Bool) → (b || true) ≡ true
     or_true true = refl
