@@ -72,7 +72,7 @@ impl Words {
     }
 
     pub fn load(&self, hand: &mut Hand, word: usize) -> u64
-        requires hand { Belongs hand.old self.now }
+        requires hand { Belongs hand.old self.now.table }
         requires word { word < self.now.elements }
         ensures { hand.new ≡ with_view hand.old (did hand.old.view (Read word result)) }
     {
@@ -86,7 +86,7 @@ impl Words {
     }
 
     pub fn store(&self, hand: &mut Hand, word: usize, value: u64)
-        requires hand { Belongs hand.old self.now }
+        requires hand { Belongs hand.old self.now.table }
         requires word { word < self.now.elements }
         ensures { hand.new ≡ with_view hand.old (did hand.old.view (Write word value)) }
     {
@@ -99,7 +99,7 @@ impl Words {
 
     /// Waits until the mutex is won.
     pub fn lock<R: Wait>(&self, rt: &R, hand: &mut Hand, mutex: usize)
-        requires hand { Belongs hand.old self.now }
+        requires hand { Belongs hand.old self.now.table }
         requires mutex { mutex < self.now.locks }
         requires not_held { Contains hand.old.view.held mutex → ⊥ }
         ensures { hand.new ≡ with_view hand.old (locked hand.old.view mutex) }
@@ -121,7 +121,7 @@ impl Words {
 
     /// Gives back the mutex that was won last, and wakes a thread that waits for it.
     pub fn unlock(&self, hand: &mut Hand, mutex: usize)
-        requires hand { Belongs hand.old self.now }
+        requires hand { Belongs hand.old self.now.table }
         requires mutex { mutex < self.now.locks }
         requires innermost { hand.old.view.held ≡ mutex ∷ rest hand.old.view.held }
         ensures { hand.new ≡ with_view hand.old (unlocked hand.old.view mutex) }
@@ -134,7 +134,7 @@ impl Words {
 
     /// A new hand, for a lane of a team.
     pub fn split(&self, hand: &mut Hand, lane: u16, span: u16) -> Hand
-        requires { Belongs hand.old self.now }
+        requires { Belongs hand.old self.now.table }
         ensures kept { hand.new ≡ with_view hand.old (parted hand.old.view lane span) }
         ensures given { result ≡ with_view hand.old (child hand.old.view) }
     {
@@ -148,8 +148,8 @@ impl Words {
 
     /// The other hand's part is done.
     pub fn join(&self, hand: &mut Hand, mut other: Hand)
-        requires hand { Belongs hand.old self.now }
-        requires other { Belongs other self.now }
+        requires hand { Belongs hand.old self.now.table }
+        requires other { Belongs other self.now.table }
         requires home { IsHome hand.old other }
         ensures { hand.new ≡ with_view hand.old (met hand.old.view other.view) }
     {
@@ -162,7 +162,7 @@ impl Words {
 
     /// The last values of the words. What all hands did has one history, which ends in them.
     pub fn close(self, mut hand: Hand) -> Closed
-        requires hand { Belongs hand self }
+        requires hand { Belongs hand self.table }
         requires first { hand.view.name ≡ [] }
         requires none_out { hand.view.out ≡ [] }
         ensures len { vec_len result.words ≡ self.elements }
