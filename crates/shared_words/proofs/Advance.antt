@@ -1,14 +1,14 @@
 -- A step of a live hand keeps the rule, where it isn't a homecoming.
-use Rattle.std.proofs.Common.{◌≡◌, ◌≢◌, ◌⊎◌, refl, sym, ap, ap₂, ◌∙◌, subst, ℕ, ◌+◌, ◌<◌, ◌≤◌, Bool, true, false, cond, List, [], ◌∷◌, ◌++◌, length, length-set, get_or, set, Option, Some, None, arith, inl, inr}
-use Rattle.std.specs.Prelude.{◌&&◌, ◌||◌, ◌==◌, Contains}
+use Rattle.std.proofs.Common.{◌≡◌, refl, sym, ap, ap₂, ◌∙◌, subst, ℕ, ◌+◌, ◌<◌, ◌≤◌, Bool, true, false, List, [], ◌∷◌, ◌++◌, length, length-set, get_or, set, Some, arith, inl, inr}
+use Rattle.std.specs.Prelude.{◌&&◌, ◌||◌, Contains}
 use Rattle.step_history.specs.declared.item.Item.{Item}
 use Rattle.step_history.specs.declared.item.Deed.{Deed}
-use Rattle.step_history.specs.History.{Name, name_eq, item, of, value_at, value_after, holder, holder_after, is_split, is_home, was_split, came_home, is_out, Fits, FitsDeed, Legal}
+use Rattle.step_history.specs.History.{Name, name_eq, item, of, value_at, value_after, holder, holder_after, is_split, is_home, was_split, came_home, is_out, FitsDeed}
 use Rattle.step_history.proofs.Folds.{value_more, holder_more, legal_more, out_stays, unborn_more, others_split, was_split_more, came_home_more}
 use Rattle.step_history.proofs.Exclusion.{holder_stays}
 use Rattle.atomic_table.proofs.Lists.{at_set}
 use Rattle.shared_words.specs.declared.view.View.{View}
-use Rattle.shared_words.specs.Rule.{ELEMENTS, MUTEXES, mutex_word, Once, HasOut, Lives, Sits, Keeps}
+use Rattle.shared_words.specs.Rule.{ELEMENTS, MUTEXES, mutex_word, Once, Lives, Sits, Keeps}
 use Rattle.shared_words.proofs.Seats.{At, names_apart, has_out_stays, shown_own, shown_other}
 
 -- what the step does to the hand's view

@@ -1,23 +1,21 @@
 -- The rule holds of a new table.
-use Rattle.std.proofs.Common.{◌≡◌, refl, sym, ap, ◌∙◌, subst, ℕ, zero, suc, ◌+◌, ◌<◌, Bool, true, false, cond, List, [], ◌∷◌, length, get_or, arith}
-use Rattle.std.specs.Prelude.{replicate, ◌==◌, Contains}
-use mathlib.Core.Option.{some, some-injective, some-ne-none}
+use Rattle.std.proofs.Common.{◌≡◌, refl, sym, ap, subst, ℕ, zero, suc, ◌+◌, List, [], ◌∷◌, length, get_or, arith}
+use Rattle.std.specs.Prelude.{replicate}
+use mathlib.Core.Option.{some-injective, some-ne-none}
 use Rattle.atomic_table.specs.Table.{opening}
-use Rattle.step_history.specs.declared.item.Item.{Item}
-use Rattle.step_history.specs.History.{Name, of}
 use Rattle.shared_words.specs.declared.view.View.{View}
 use Rattle.shared_words.specs.Views.{newcomer}
-use Rattle.shared_words.specs.Rule.{ELEMENTS, Lives, Sits, Keeps, Kept}
+use Rattle.shared_words.specs.Rule.{ELEMENTS, Sits, Kept}
 use Rattle.shared_words.proofs.Seats.{At}
 
 abbrev pub zeros : ℕ → List ℕ
 zeros n = replicate n 0
 
-length-zeros : (n : ℕ) → length (zeros n) ≡ n
+pub length-zeros : (n : ℕ) → length (zeros n) ≡ n
 length-zeros zero = refl
 length-zeros (suc n) = ap suc (length-zeros n)
 
-zero_word : (n word : ℕ) → get_or (zeros n) word 0 ≡ 0
+pub zero_word : (n word : ℕ) → get_or (zeros n) word 0 ≡ 0
 zero_word zero word = refl
 zero_word (suc n) zero = refl
 zero_word (suc n) (suc word) = zero_word n word

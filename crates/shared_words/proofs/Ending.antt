@@ -1,11 +1,11 @@
 -- Where only the first hand is left, its items have one history, which ends in the words.
-use Rattle.std.proofs.Common.{◌≡◌, refl, sym, ap, ◌∙◌, subst, ℕ, zero, suc, ◌+◌, ◌<◌, Bool, true, false, cond, eq-eqb, List, [], ◌∷◌, length, get_or, arith}
+use Rattle.std.proofs.Common.{◌≡◌, refl, sym, ap, ◌∙◌, subst, ℕ, ◌+◌, ◌<◌, Bool, true, false, cond, eq-eqb, List, [], ◌∷◌, length, get_or, arith}
 use Rattle.std.specs.Prelude.{◌==◌, Contains}
-use Rattle.atomic_table.specs.Table.{State, Final, Seen}
+use Rattle.atomic_table.specs.Table.{Final, Seen}
 use Rattle.step_history.specs.declared.item.Item.{Item}
 use Rattle.step_history.specs.History.{Name, of, HasHistory}
 use Rattle.shared_words.specs.declared.view.View.{View}
-use Rattle.shared_words.specs.Rule.{ELEMENTS, HasOut, Lives, Sits, Keeps, Kept}
+use Rattle.shared_words.specs.Rule.{ELEMENTS, Lives, Keeps, Kept}
 use Rattle.shared_words.proofs.Seats.{At, at_some, same_at}
 
 module _ (elements : ℕ) (log : List Item) (seat : Name → ℕ) (words : List ℕ) (views : List View) (keeps : Keeps elements log seat words views)

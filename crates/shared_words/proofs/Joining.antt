@@ -1,21 +1,19 @@
 -- A homecoming keeps the rule: the names of the hand that comes home sit with the hand that it joins.
-use Rattle.std.proofs.Common.{◌≡◌, ◌≢◌, ◌⊎◌, refl, sym, ap, ap₂, ◌∙◌, subst, ℕ, zero, suc, ◌+◌, ◌<◌, ◌≤◌, Bool, true, false, cond, eq-eqb, ne_eqb, eqb-true, List, [], ◌∷◌, ◌++◌, length, length-set, get_or, set, Option, Some, None, arith, inl, inr}
+use Rattle.std.proofs.Common.{◌≡◌, refl, sym, ap, ap₂, ◌∙◌, subst, ℕ, ◌<◌, ◌≤◌, Bool, true, false, cond, eq-eqb, ne_eqb, eqb-true, List, [], ◌∷◌, ◌++◌, length, length-set, set, arith, inl, inr}
 use Rattle.std.specs.Prelude.{◌==◌, ◌&&◌, ◌||◌, Contains}
 use Rattle.std.proofs.lemmas.Bool.{false≢true}
 use Rattle.std.proofs.lemmas.List.{append-nil}
 use mathlib.Core.Logic.{dite}
-use mathlib.Core.Option.{some}
 use native.Mathlib.Decide.{ℕ_discrete}
-use lib.ListN.{get_elem?}
-use Rattle.atomic_table.specs.Table.{State, Joins}
+use Rattle.atomic_table.specs.Table.{Joins}
 use Rattle.atomic_table.proofs.Lists.{at_set, set_here, set_else}
 use Rattle.step_history.specs.declared.item.Item.{Item}
 use Rattle.step_history.specs.declared.item.Deed.TheVariants.{Home}
-use Rattle.step_history.specs.History.{Name, name_eq, item, of, was_split, came_home, is_out, is_split, is_home}
-use Rattle.step_history.proofs.Names.{same_name, is_same_name, other_name, apart_names}
+use Rattle.step_history.specs.History.{Name, name_eq, item, of, was_split, is_out, is_home}
+use Rattle.step_history.proofs.Names.{same_name, is_same_name, other_name}
 use Rattle.step_history.proofs.Folds.{of-append, value_more, holder_more, legal_more, out_stays, out_is_split, unborn_more, others_split, was_split_more, came_home_more}
 use Rattle.shared_words.specs.declared.view.View.{View}
-use Rattle.shared_words.specs.Views.{met, spent, number_of, without}
+use Rattle.shared_words.specs.Views.{met, spent, number_of}
 use Rattle.shared_words.specs.Rule.{mutex_word, HasOut, Lives, Sits, Keeps, Kept}
 use Rattle.shared_words.proofs.Seats.{At, at_within, same_at, names_apart, shown_own, shown_other}
 use Rattle.shared_words.proofs.Splitting.{not_itself}

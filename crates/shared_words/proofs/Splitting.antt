@@ -1,33 +1,22 @@
 -- A split keeps the rule: the hand that splits takes a step, and a new seat gets the new name.
-use Rattle.std.proofs.Common.{◌≡◌, ◌≢◌, ◌⊎◌, refl, sym, ap, ap₂, ◌∙◌, subst, ℕ, zero, suc, ◌+◌, ◌<◌, ◌≤◌, Bool, true, false, cond, eq-eqb, ne_eqb, List, [], ◌∷◌, ◌++◌, length, length-set, length-append, get_or, set, Option, Some, None, arith, inl, inr}
-use Rattle.std.specs.Prelude.{◌==◌, ◌&&◌, Contains}
+use Rattle.std.proofs.Common.{◌≡◌, refl, sym, ap, ap₂, ◌∙◌, subst, ℕ, ◌<◌, Bool, true, false, cond, eq-eqb, ne_eqb, List, [], ◌∷◌, ◌++◌, length, length-append, set, arith, inl, inr}
+use Rattle.std.specs.Prelude.{◌==◌, ◌&&◌}
 use Rattle.std.proofs.lemmas.Bool.{false≢true}
-use mathlib.Core.Option.{some, some-injective, some-ne-none}
-use lib.ListN.{get_elem?}
-use Rattle.atomic_table.specs.Table.{State, Splits}
+use Rattle.atomic_table.specs.Table.{Splits}
 use Rattle.atomic_table.proofs.Lists.{at_set, at_last, at_longer}
 use Rattle.step_history.specs.declared.item.Item.{Item}
 use Rattle.step_history.specs.declared.item.Deed.TheVariants.{Split}
-use Rattle.step_history.specs.History.{Name, name_eq, item, of, was_split, came_home, is_out, is_split}
+use Rattle.step_history.specs.History.{Name, name_eq, item, of, is_out}
 use Rattle.step_history.proofs.Names.{same_name, is_same_name, other_name, apart_names}
 use Rattle.step_history.proofs.Folds.{of-append, of_other, out_is_split, out_at_split, nothing_split}
 use Rattle.shared_words.specs.declared.view.View.{View}
-use Rattle.shared_words.specs.Views.{newcomer, parted, child}
+use Rattle.shared_words.specs.Views.{newcomer, child}
 use Rattle.shared_words.specs.Steps.{parts}
 use Rattle.shared_words.specs.Rule.{HasOut, Lives, Sits, Keeps, Kept}
 use Rattle.shared_words.proofs.Seats.{At, at_within}
 use Rattle.shared_words.proofs.Advance.{Takes, advance}
+use Rattle.shared_words.proofs.Views.{at_end}
 use Rattle.shared_words.proofs.WordList.{contains_here, contains_later}
-
--- a view of a longer list is one of the shorter, or the last
-at_end : (views : List View) (w : View) (j : ℕ) (u : View) → At (views ++ w ∷ []) j u → (At views j u) ⊎ ((j ≡ length views) × (u ≡ w))
-at_end [] w zero u there = inr (refl, sym (some-injective w u there))
-at_end [] w (suc j) u there = absurd (some-ne-none u (sym there))
-at_end (x ∷ xs) w zero u there = inl there
-at_end (x ∷ xs) w (suc j) u there = elim (at_end xs w j u there) [
-  | inl old ↦ inl old
-  | inr last ↦ inr (let is = last.0 in omega arith, last.1)
-]
 
 -- the seats, where the name c sits in the seat n
 abbrev seated_at : (Name → ℕ) → Name → ℕ → Name → ℕ

@@ -1,22 +1,22 @@
 -- Each step on the words keeps the rule, and tells what it did.
-use Rattle.std.proofs.Common.{◌≡◌, ◌≢◌, ◌⊎◌, refl, sym, ap, ap₂, ◌∙◌, subst, ℕ, ◌+◌, ◌-◌, ◌<◌, ◌≤◌, Bool, true, false, cond, List, [], ◌∷◌, ◌++◌, length, length-set, get_or, set, eq-eqb, ne_eqb, eqb-true, Option, Some, None, arith, inl, inr}
+use Rattle.std.proofs.Common.{◌≡◌, refl, sym, ap, ◌∙◌, subst, ℕ, ◌+◌, ◌-◌, ◌<◌, Bool, true, false, cond, List, [], ◌∷◌, ◌++◌, length-set, get_or, set, eq-eqb, ne_eqb, eqb-true, Option, Some, None, arith, inl, inr}
 use Rattle.std.specs.Prelude.{◌==◌, Contains}
 use Rattle.std.proofs.lemmas.Bool.{eqb-false}
 use Rattle.std.proofs.lemmas.List.{set-get_or}
 use mathlib.Core.Logic.{dite}
-use mathlib.Core.Option.{none, some}
+use mathlib.Core.Option.{none}
 use native.Mathlib.Decide.{ℕ_discrete}
 use prog.Atomic.{either}
 use Rattle.atomic_table.specs.Table.{State, Me, step, keeps, Allows}
-use Rattle.atomic_table.proofs.Lists.{at_set, set_again, exchanged}
+use Rattle.atomic_table.proofs.Lists.{at_set, set_again}
 use Rattle.step_history.specs.declared.item.Item.{Item}
 use Rattle.step_history.specs.declared.item.Deed.{Deed}
 use Rattle.step_history.specs.declared.item.Deed.TheVariants.{Read, Write, Lock, Unlock}
 use Rattle.step_history.specs.History.{Name, item, value_at, value_after, holder, holder_after}
 use Rattle.shared_words.specs.declared.view.View.{View}
 use Rattle.shared_words.specs.Views.{did, locked, unlocked, announced, rest}
-use Rattle.shared_words.specs.Rule.{ELEMENTS, MUTEXES, FREE, mutex_word, Once, HasOut, Lives, Sits, Keeps, Kept}
-use Rattle.shared_words.specs.Steps.{loads, stores, locks, Locking, unlocks, announces}
+use Rattle.shared_words.specs.Rule.{ELEMENTS, MUTEXES, FREE, mutex_word, Once, Lives, Sits, Keeps, Kept}
+use Rattle.shared_words.specs.Steps.{loads, stores, locks, unlocks, announces}
 use Rattle.shared_words.proofs.Seats.{At, has_out_stays}
 use Rattle.shared_words.proofs.Advance.{Takes, advance}
 use Rattle.shared_words.proofs.WordList.{word_else, word_here, here_or_later, contains_here, contains_later}

@@ -1,5 +1,5 @@
 -- What one step on the words tells of the view: before it, the number found or stored, and after it.
-use Rattle.std.specs.Prelude.{◌≡◌, ◌≢◌, ℕ, ◌-◌, List}
+use Rattle.std.specs.Prelude.{◌≡◌, ◌≢◌, ℕ, ◌-◌}
 use Rattle.atomic_table.specs.Table.{Me, Step}
 use Rattle.step_history.specs.declared.item.Deed.TheVariants.{Read, Write}
 use Rattle.shared_words.specs.declared.view.View.{View}

@@ -1,6 +1,5 @@
 -- What each call does to the view of a hand.
-use Rattle.std.specs.Prelude.{◌≡◌, ℕ, ◌+◌, ◌<◌, Bool, true, false, not, ◌==◌, List, [], ◌∷◌, ◌++◌, filter}
-use Rattle.step_history.specs.declared.item.Item.{Item}
+use Rattle.std.specs.Prelude.{◌≡◌, ℕ, ◌+◌, true, false, not, ◌==◌, List, [], ◌∷◌, ◌++◌, filter}
 use Rattle.step_history.specs.declared.item.Deed.{Deed}
 use Rattle.step_history.specs.declared.item.Deed.TheVariants.{Lock, Unlock, Split, Home}
 use Rattle.step_history.specs.History.{Name, item}

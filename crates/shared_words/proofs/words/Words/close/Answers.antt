@@ -1,4 +1,4 @@
-use Rattle.std.proofs.Common.{◌≡◌, ap, sym, ◌∙◌, subst, ℕ, ◌<◌, List, vec_len, arith}
+use Rattle.std.proofs.Common.{◌≡◌, ap, ◌∙◌, subst, vec_len, arith}
 use Rattle.atomic_table.specs.Table.{Me}
 use Rattle.step_history.specs.History.{HasHistory}
 use Rattle.shared_words.specs.declared.view.View.{View}

@@ -1,4 +1,4 @@
-use Rattle.std.proofs.Common.{◌≡◌, ℕ, ◌+◌, ◌-◌, refl, sym, ap, ap₂, ◌∙◌, subst, List, [], ◌++◌, take, vec_len, arith}
+use Rattle.std.proofs.Common.{◌≡◌, ℕ, ◌+◌, ◌-◌, sym, ap, ap₂, ◌∙◌, subst, List, [], ◌++◌, take, vec_len, arith}
 use Rattle.std.proofs.Math.Seq.{take-nil}
 use Rattle.shared_words.specs.Views.{newcomer}
 use Rattle.shared_words.specs.Rule.{ELEMENTS, Kept}
