@@ -53,3 +53,8 @@ pub record IsHome (hand other : HandValue View) : Type 0 where
   pub split : other.view.name ≡ number_of other.view.name ∷ hand.view.name
   pub holds_none : other.view.held ≡ []
   pub none_out : other.view.out ≡ []
+
+-- the hand belongs to the table and holds no mutex
+pub record IsFree (hand : HandValue View) (table : TableId) : Type 0 where
+  pub belongs : Belongs hand table
+  pub holds_none : hand.view.held ≡ []

@@ -7,6 +7,8 @@ mod chunks;
 mod hand;
 mod rule;
 mod share;
+#[cfg(test)]
+mod tests;
 mod view;
 mod words;
 
