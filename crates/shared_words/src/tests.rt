@@ -1,13 +1,17 @@
-ghost use Rattle.std.specs.Prelude.{◌≡◌, ◌<◌, []};
+ghost use Rattle.std.specs.Prelude.{◌≡◌, ◌<◌, [], IfOk};
 ghost use denote.Param.Send.{IsSync};
 ghost use Rattle.shared_words.specs.Handles.{Belongs, IsFree};
+ghost use Rattle.shared_words.specs.Draws.{whole_share};
 
 use crate::{ChunkHand, Chunks, Hand, Words};
+use std::alloc::{AllocError, Global};
 use std::sync::Wait;
 use std::test::Fail;
 use std::thread::{Threads, join};
 
 const ROUNDS: u64 = 1000;
+
+const CHUNKS: u64 = 10_000;
 
 // Adds 1 to word 0.
 fn add(words: &Words, hand: &mut Hand)
@@ -90,6 +94,29 @@ fn add_in_threads<R: Threads + Wait + Sync>(
     hand
 }
 
+// Draws until there is no chunk left, and keeps the numbers.
+fn draw_chunks(
+    alloc: Global,
+    chunks: &Chunks,
+    mut hand: ChunkHand,
+) -> Result<(ChunkHand, Vec<u64>), AllocError>
+    requires hand { Belongs hand chunks.now.table }
+    requires loops { 0 < chunks.now.loops }
+    requires left { 10000 < hand.view.left }
+    ensures hand { IfOk result (λ r. Belongs r.0 chunks.now.table) }
+    ensures first { IfOk result (λ r. r.0.view.first ≡ hand.view.first) }
+{
+    let mut drawn = Vec::new(alloc);
+    for _round in 0..=CHUNKS {
+        let number = chunks.draw(&mut hand, 0);
+        if number >= CHUNKS {
+            break;
+        }
+        drawn.push(number)?;
+    }
+    Ok((hand, drawn))
+}
+
 #[test]
 fn one_hand_finds_what_it_stored(rt: HostRuntime) -> Result<(), Fail> {
     let (words, mut hand) = Words::new(rt.alloc(), 4, 1)?;
@@ -151,6 +178,83 @@ fn without_a_mutex_a_sum_may_be_lost(rt: HostRuntime) -> Result<(), Fail> {
         panic!(rt; "there is one word")
     };
     assert!(rt; 1 < *sum && *sum <= 8 * ROUNDS);
+    Ok(())
+}
+
+fn draw_in_two<R: Threads + Sync>(
+    rt: &R,
+    alloc: Global,
+    chunks: &Chunks,
+    one: ChunkHand,
+    two: ChunkHand,
+) -> Result<(ChunkHand, ChunkHand, Vec<u64>), AllocError>
+    requires one { Belongs one chunks.now.table }
+    requires two { Belongs two chunks.now.table }
+    requires loops { 0 < chunks.now.loops }
+    requires left_one { 10000 < one.view.left }
+    requires left_two { 10000 < two.view.left }
+    ensures one { IfOk result (λ r. Belongs r.0 chunks.now.table) }
+    ensures two { IfOk result (λ r. Belongs r.1 chunks.now.table) }
+    ensures first_one { IfOk result (λ r. r.0.view.first ≡ one.view.first) }
+    ensures first_two { IfOk result (λ r. r.1.view.first ≡ two.view.first) }
+{
+    let (front, back) = join(
+        rt,
+        || -> Result<(ChunkHand, Vec<u64>), AllocError>
+            requires { Belongs one chunks.now.table × (0 < chunks.now.loops) × (10000 < one.view.left) }
+            ensures { IfOk result (λ r. Belongs r.0 chunks.entry.now.table × (r.0.view.first ≡ one.view.first)) }
+        { draw_chunks(alloc, chunks, one) },
+        || -> Result<(ChunkHand, Vec<u64>), AllocError>
+            requires { Belongs two chunks.now.table × (0 < chunks.now.loops) × (10000 < two.view.left) }
+            ensures { IfOk result (λ r. Belongs r.0 chunks.entry.now.table × (r.0.view.first ≡ two.view.first)) }
+        { draw_chunks(alloc, chunks, two) },
+    );
+    let (one, mut drawn) = front?;
+    let (two, more) = back?;
+    drawn.extend_from_slice(more.as_slice())?;
+    Ok((one, two, drawn))
+}
+
+// Four threads draw, and the hand that was made with the counters gets back what the others drew.
+fn draw_in_four<R: Threads + Sync>(
+    rt: &R,
+    alloc: Global,
+    chunks: &Chunks,
+    mut hand: ChunkHand,
+) -> Result<Vec<u64>, AllocError>
+    requires hand { Belongs hand chunks.now.table }
+    requires loops { 0 < chunks.now.loops }
+    requires new { hand.view ≡ whole_share }
+{
+    let one = chunks.split(&mut hand);
+    let two = chunks.split(&mut hand);
+    let three = chunks.split(&mut hand);
+    let (front, back) = join(
+        rt,
+        || -> Result<(ChunkHand, ChunkHand, Vec<u64>), AllocError>
+            requires { IsSync R.row × Belongs hand chunks.now.table × Belongs one chunks.now.table × (0 < chunks.now.loops) × (10000 < hand.view.left) × (10000 < one.view.left) }
+            ensures { IfOk result (λ r. Belongs r.0 chunks.entry.now.table × Belongs r.1 chunks.entry.now.table × (r.0.view.first ≡ hand.view.first) × (r.1.view.first ≡ one.view.first)) }
+        { draw_in_two(rt, alloc, chunks, hand, one) },
+        || -> Result<(ChunkHand, ChunkHand, Vec<u64>), AllocError>
+            requires { IsSync R.row × Belongs two chunks.now.table × Belongs three chunks.now.table × (0 < chunks.now.loops) × (10000 < two.view.left) × (10000 < three.view.left) }
+            ensures { IfOk result (λ r. Belongs r.0 chunks.entry.now.table × Belongs r.1 chunks.entry.now.table × (r.0.view.first ≡ two.view.first) × (r.1.view.first ≡ three.view.first)) }
+        { draw_in_two(rt, alloc, chunks, two, three) },
+    );
+    let (mut hand, one, mut drawn) = front?;
+    let (two, three, more) = back?;
+    drawn.extend_from_slice(more.as_slice())?;
+    chunks.join(&mut hand, one);
+    chunks.join(&mut hand, two);
+    chunks.join(&mut hand, three);
+    Ok(drawn)
+}
+
+#[test]
+fn four_threads_draw_each_chunk_once(rt: HostRuntime) -> Result<(), Fail> {
+    let (chunks, hand) = Chunks::new(rt.alloc(), 1)?;
+    let mut drawn = draw_in_four(&rt, rt.alloc(), &chunks, hand)?;
+    drawn.sort()?;
+    assert!(rt; drawn.iter().copied().eq(0..CHUNKS));
     Ok(())
 }
 
