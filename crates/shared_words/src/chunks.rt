@@ -52,11 +52,9 @@ impl Chunks {
         ensures drawn { hand.new ≡ with_view hand.old (drew hand.old.view which result) }
         ensures all { HasAll hand.new.view → DrewEachOnce hand.new.view }
     {
+        let shared = &self.table.shared;
         let mut seat = hand.take();
-        let number = self
-            .table
-            .shared
-            .fetch_add::<Draws>(&mut seat, FIRST_COUNTER + which, 1);
+        let number = shared.fetch_add::<Draws>(&mut seat, FIRST_COUNTER + which, 1);
         *hand = ChunkHand::of(seat);
         number
     }
@@ -68,8 +66,9 @@ impl Chunks {
         ensures kept { hand.new ≡ with_view hand.old (lent hand.old.view) }
         ensures given { result ≡ with_view hand.old lent_share }
     {
+        let shared = &self.table.shared;
         let mut seat = hand.take();
-        let other = self.table.shared.split_seat::<Lends>(&mut seat);
+        let other = shared.split_seat::<Lends>(&mut seat);
         *hand = ChunkHand::of(seat);
         ChunkHand::of(other)
     }
@@ -83,8 +82,8 @@ impl Chunks {
         ensures both { hand.new ≡ with_view hand.old (regained hand.old.view other.view) }
         ensures all { HasAll hand.new.view → DrewEachOnce hand.new.view }
     {
-        let mut seat = hand.take();
         let shared = &self.table.shared;
+        let mut seat = hand.take();
         shared.join_seat::<Regains>(&mut seat, other.take());
         shared.load::<Looks>(&mut seat, 0);
         *hand = ChunkHand::of(seat);

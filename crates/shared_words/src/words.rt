@@ -76,11 +76,9 @@ impl Words {
         requires word { word < self.now.elements }
         ensures { hand.new ≡ with_view hand.old (did hand.old.view (Read word result)) }
     {
+        let shared = &self.table.shared;
         let mut seat = hand.take();
-        let value = self
-            .table
-            .shared
-            .load::<Loads>(&mut seat, FIRST_ELEMENT + word);
+        let value = shared.load::<Loads>(&mut seat, FIRST_ELEMENT + word);
         *hand = Hand::of(seat);
         value
     }
@@ -90,10 +88,9 @@ impl Words {
         requires word { word < self.now.elements }
         ensures { hand.new ≡ with_view hand.old (did hand.old.view (Write word value)) }
     {
+        let shared = &self.table.shared;
         let mut seat = hand.take();
-        self.table
-            .shared
-            .store::<Stores>(&mut seat, FIRST_ELEMENT + word, value);
+        shared.store::<Stores>(&mut seat, FIRST_ELEMENT + word, value);
         *hand = Hand::of(seat);
     }
 
@@ -104,17 +101,14 @@ impl Words {
         requires not_held { Contains hand.old.view.held mutex → ⊥ }
         ensures { hand.new ≡ with_view hand.old (locked hand.old.view mutex) }
     {
+        let shared = &self.table.shared;
         let mut seat = hand.take();
         for _ in rt.forever() {
-            if self
-                .table
-                .shared
-                .compare_exchange::<Locks>(&mut seat, mutex, 0, 1)
-                == 0
-            {
+            let found = shared.compare_exchange::<Locks>(&mut seat, mutex, 0, 1);
+            if found == 0 {
                 break;
             }
-            self.table.shared.park(rt, mutex, 1);
+            shared.park(rt, mutex, 1);
         }
         *hand = Hand::of(seat);
     }
@@ -126,9 +120,10 @@ impl Words {
         requires innermost { hand.old.view.held ≡ mutex ∷ rest hand.old.view.held }
         ensures { hand.new ≡ with_view hand.old (unlocked hand.old.view mutex) }
     {
+        let shared = &self.table.shared;
         let mut seat = hand.take();
-        self.table.shared.store::<Unlocks>(&mut seat, mutex, 0);
-        self.table.shared.wake_one(mutex);
+        shared.store::<Unlocks>(&mut seat, mutex, 0);
+        shared.wake_one(mutex);
         *hand = Hand::of(seat);
     }
 
@@ -138,8 +133,8 @@ impl Words {
         ensures kept { hand.new ≡ with_view hand.old (parted hand.old.view lane span) }
         ensures given { result ≡ with_view hand.old (child hand.old.view) }
     {
-        let mut seat = hand.take();
         let shared = &self.table.shared;
+        let mut seat = hand.take();
         shared.compare_exchange::<Announces>(&mut seat, FREE, lane as u64, span as u64);
         let other = shared.split_seat::<Parts>(&mut seat);
         *hand = Hand::of(seat);
@@ -153,10 +148,9 @@ impl Words {
         requires home { IsHome hand.old other }
         ensures { hand.new ≡ with_view hand.old (met hand.old.view other.view) }
     {
+        let shared = &self.table.shared;
         let mut seat = hand.take();
-        self.table
-            .shared
-            .join_seat::<Meets>(&mut seat, other.take());
+        shared.join_seat::<Meets>(&mut seat, other.take());
         *hand = Hand::of(seat);
     }
 
