@@ -47,6 +47,7 @@ begins elements = record {
     legal = tt;
     values = λ word within. zero_word (ELEMENTS + elements) (ELEMENTS + word);
     mutexes = λ mutex within. zero_word (ELEMENTS + elements) mutex;
+    owners = λ mutex name is. cc;
     unborn = λ k p none_yet. refl;
     seated = λ name. omega arith;
     each = each_first;

@@ -25,7 +25,7 @@ module _ (elements : ℕ) (log : List Item) (seat : Name → ℕ) (words : List 
       let P : ℕ → Type 0 = λ n. At views n parent.view in
       let same : parent.view ≡ v = same_at views id parent.view v (subst P (ap seat top ∙ first_sits) parent.there) here in
       let Q : List ℕ → Type 0 = λ ks. Contains ks k in
-      let nowhere : Contains [] k = subst Q (ap (λ (x : View). x.out) same ∙ none_out) parent.out in
+      let nowhere : Contains [] k = subst Q (ap (λ (x : View). x.out) same ∙ none_out) parent.has in
       let within = nowhere.1 in
       absurd (omega arith)
 

@@ -1,5 +1,5 @@
 -- Each step on the words keeps the rule, and tells what it did.
-use Rattle.std.proofs.Common.{◌≡◌, refl, sym, ap, ◌∙◌, subst, ℕ, ◌+◌, ◌-◌, ◌<◌, Bool, true, false, cond, List, [], ◌∷◌, ◌++◌, length-set, get_or, set, eq-eqb, ne_eqb, eqb-true, Option, Some, None, arith, inl, inr}
+use Rattle.std.proofs.Common.{◌≡◌, ◌⊎◌, refl, sym, ap, ◌∙◌, subst, ℕ, ◌+◌, ◌-◌, ◌<◌, Bool, true, false, cond, List, [], ◌∷◌, ◌++◌, length-set, get_or, set, eq-eqb, ne_eqb, eqb-true, Option, Some, None, arith, inl, inr}
 use Rattle.std.specs.Prelude.{◌==◌, Contains}
 use Rattle.std.proofs.lemmas.Bool.{eqb-false}
 use Rattle.std.proofs.lemmas.List.{set-get_or}
@@ -17,7 +17,7 @@ use Rattle.shared_words.specs.declared.view.View.{View}
 use Rattle.shared_words.specs.Views.{did, locked, unlocked, announced, rest}
 use Rattle.shared_words.specs.Rule.{ELEMENTS, MUTEXES, FREE, mutex_word, Once, Lives, Sits, Keeps, Kept}
 use Rattle.shared_words.specs.Steps.{loads, stores, locks, unlocks, announces}
-use Rattle.shared_words.proofs.Seats.{At, has_out_stays}
+use Rattle.shared_words.proofs.Seats.{At, live_stays}
 use Rattle.shared_words.proofs.Advance.{Takes, advance}
 use Rattle.shared_words.proofs.WordList.{word_else, word_here, here_or_later, contains_here, contains_later}
 
@@ -46,6 +46,7 @@ plain_takes log seat views id v deed lives live fits plain same = record {
   holds = λ mutex held. same mutex ∙ lives.holds mutex held;
   once = lives.once;
   out = λ k is. is;
+  gains = λ mutex name is. inl (sym (same mutex) ∙ is, λ held. held);
 }
 
 pub loads_allowed : (elements slots id : ℕ) (me : Seen) (word : ℕ) → me.0.live ≡ true → word < elements
@@ -112,6 +113,9 @@ unmoved elements id me i s kept at = record {
       subst P (λ k. (sym (set-get_or s.words i 0) k, sym (set_again s.views id me.0 at) k)) kept.keeps;
 }
 
+one_name : (m n : Name) → Some m ≡ Some n → m ≡ n
+one_name m n same = cc
+
 lock_takes : (log : List Item) (seat : Name → ℕ) (views : List View) (id : ℕ) (v : View) (mutex : ℕ) → Lives log seat views id v → v.live ≡ true
     → holder mutex log ≡ None → Takes log v (Lock mutex) (locked v mutex)
 lock_takes log seat views id v mutex lives live nobody = record {
@@ -124,7 +128,17 @@ lock_takes log seat views id v mutex lives live nobody = record {
   holds = λ m held. at m (mutex == m) refl held;
   once = (λ held. let no : Some v.name ≡ None = sym (lives.holds mutex held) ∙ nobody in cc, lives.once);
   out = λ k is. is;
+  gains = λ m name is. gains m name (mutex == m) refl is;
 } where
+  gains : (m : ℕ) (name : Name) (b : Bool) → (mutex == m) ≡ b → cond (mutex == m) (Some v.name) (holder m log) ≡ Some name
+      → ((holder m log ≡ Some name) × (Contains v.held m → Contains (mutex ∷ v.held) m)) ⊎ ((name ≡ v.name) × Contains (mutex ∷ v.held) m)
+  gains m name true same is =
+      let P : ℕ → Type 0 = λ k. Contains (mutex ∷ v.held) k in
+      let mine : Some v.name ≡ Some name = ap (λ (b : Bool). cond b (Some v.name) (holder m log)) (sym same) ∙ is in
+      inr (one_name name v.name (sym mine), subst P (eqb-true mutex m same) (contains_here mutex v.held))
+  gains m name false apart is =
+      inl (ap (λ (b : Bool). cond b (Some v.name) (holder m log)) (sym apart) ∙ is, λ held. contains_later mutex m v.held held)
+
   at : (m : ℕ) (b : Bool) → (mutex == m) ≡ b → Contains (mutex ∷ v.held) m → cond (mutex == m) (Some v.name) (holder m log) ≡ Some v.name
   at m true is held = ap (λ (b : Bool). cond b (Some v.name) (holder m log)) is
   at m false is held =
@@ -190,7 +204,20 @@ unlock_takes log seat views id v mutex lives live innermost = record {
   holds = λ m held. at m (mutex == m) refl held;
   once = once_rest v.held lives.once;
   out = λ k is. is;
+  gains = λ m name is. gains m name (mutex == m) refl is;
 } where
+  after_first : (held : List ℕ) (m : ℕ) → held ≡ mutex ∷ rest held → (mutex ≡ m → ⊥) → Contains held m → Contains (rest held) m
+  after_first held m first apart has =
+      let P : List ℕ → Type 0 = λ ks. Contains ks m in
+      here_or_later mutex m (rest held) (subst P first has) apart
+
+  gains : (m : ℕ) (name : Name) (b : Bool) → (mutex == m) ≡ b → cond (mutex == m) None (holder m log) ≡ Some name
+      → ((holder m log ≡ Some name) × (Contains v.held m → Contains (rest v.held) m)) ⊎ ((name ≡ v.name) × Contains (rest v.held) m)
+  gains m name true same is =
+      let nobody : None ≡ Some name = ap (λ (b : Bool). cond b None (holder m log)) (sym same) ∙ is in cc
+  gains m name false apart is =
+      inl (ap (λ (b : Bool). cond b None (holder m log)) (sym apart) ∙ is, after_first v.held m innermost (eqb-false mutex m apart))
+
   Has : List ℕ → Type 0
   Has held = Contains held mutex
 
@@ -233,7 +260,7 @@ announced_lives log seat views id v w j u at live named out lives = record {
   fresh = lives.fresh;
   holds = lives.holds;
   once = lives.once;
-  parent = λ k p is. has_out_stays seat views id v w k p at live named (let P : List ℕ → Type 0 = λ l. Contains l k in subst P (sym out)) (lives.parent k p is);
+  parent = λ k p is. live_stays seat views id v w p (λ (x : View). Contains x.out k) at live named (let P : List ℕ → Type 0 = λ l. Contains l k in subst P (sym out)) (lives.parent k p is);
 }
 
 pub announces_allowed : (elements slots id : ℕ) (me : Seen) (lane span : ℕ) → me.0.live ≡ true
@@ -254,6 +281,7 @@ announces_allowed elements slots id me lane span live s kept same_slots at small
           legal = kept.keeps.legal;
           values = λ word inside. word_else s.words FREE (ELEMENTS + word) new (omega arith) ∙ kept.keeps.values word inside;
           mutexes = λ mutex inside. word_else s.words FREE mutex new (omega arith) ∙ kept.keeps.mutexes mutex inside;
+          owners = λ mutex name is. live_stays kept.seat s.views id v w name (λ (x : View). Contains x.held mutex) at live refl (λ held. held) (kept.keeps.owners mutex name is);
           unborn = kept.keeps.unborn;
           seated = λ name. let within = kept.keeps.seated name in omega (arith, length-set s.views id w);
           each = λ j u there. elim (at_set s.views id j w u there) [

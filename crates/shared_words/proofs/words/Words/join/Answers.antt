@@ -15,5 +15,6 @@ join_seat-requires c =
       search rules,
       search rules,
       joins_allowed c.self.inside.table.shared.key _ _ _ _ c.take-seat.ensures.rests.live c.take.ensures.rests.live
-          (ap (λ (x : View). x.name) w ∙ (home.split ∙ ap₂ (λ (x y : View). number_of x.name ∷ y.name) (sym w) (sym v))) (ap (λ (x : View). x.out) w ∙ home.none_out),
+          (ap (λ (x : View). x.name) w ∙ (home.split ∙ ap₂ (λ (x y : View). number_of x.name ∷ y.name) (sym w) (sym v))) (ap (λ (x : View). x.out) w ∙ home.none_out)
+          (ap (λ (x : View). x.held) w ∙ home.holds_none),
     )
