@@ -1,4 +1,13 @@
-//! Words and mutexes that threads share.
+//! Words, mutexes and counters that threads share, each kind on one table under a rule that every step keeps.
+//!
+//! `Words` has 64-bit words and mutexes. A thread uses them with a `Hand`, which is split for a lane of a team and joined after it.
+//! Each call is an equation on what its hand knows: its name, its mutexes, the hands out, and all that it did and learned.
+//! `Words::close` promises that all this has one legal history, as `step_history` has it: every hand's steps are in it, in their
+//! order, each load finds the last value, a mutex is won while nobody holds it, and the words end as the history does. So between
+//! two locks of a mutex its holder unlocks, and what a split hand did stands between its split and its homecoming.
+//!
+//! `Chunks` has counters. What the hands draw from one of them are numbers below its value, each once, and where no other hand is
+//! out the first one has them all. `lock` alone waits, and for as long as the mutex is held; no call but `new` takes memory.
 #![tactic(auto)]
 
 mod chunk_hand;

@@ -10,8 +10,8 @@ ghost use Rattle.shared_words.specs.Views.{newcomer, did, locked, unlocked, rest
 use crate::hand::Hand;
 use crate::rule::{Announces, Law, Loads, Locks, Meets, Parts, Stores, Unlocks};
 use crate::view::View;
-use atomic_table::Table;
-use std::alloc::Global;
+use atomic_table::{Seat, Table};
+use std::alloc::{AllocError, Global};
 use std::marker::Model;
 use std::sync::Wait;
 use sw_base::Memory;
@@ -21,10 +21,12 @@ const FREE: usize = 64;
 
 const FIRST_ELEMENT: usize = 65;
 
+type Shared = Table<(), View, usize, Law, Global>;
+
 /// Words and mutexes that threads share.
 #[derive(Drop)]
 pub struct Words {
-    table: Table<(), View, usize, Law, Global>,
+    table: Shared,
     // Where the values go at the end.
     room: Vec<u64>,
     locks: usize,
@@ -56,6 +58,25 @@ impl Model for Words {
     ghost invariant = { λ w. (w.table.shared.table_id.words ≡ ELEMENTS + vec_len w.room) × (w.table.shared.key ≡ vec_len w.room) × (w.table.shared.table_id.slots ≡ 0) × (w.locks ≤ 64) × (vec_len w.room ≤ 1048576) };
 }
 
+// A table whose words are 0, its first seat, and room for the elements.
+fn new_table(
+    alloc: Global,
+    elements: usize,
+) -> Result<(Shared, Seat<(), View>, Vec<u64>), AllocError>
+    requires { elements ≤ 1048576 }
+    ensures words { IfOk result (λ r. r.0.shared.table_id.words ≡ ELEMENTS + elements) }
+    ensures slots { IfOk result (λ r. r.0.shared.table_id.slots ≡ 0) }
+    ensures key { IfOk result (λ r. r.0.shared.key ≡ elements) }
+    ensures seat { IfOk result (λ r. (r.1.table_id ≡ r.0.shared.table_id) × (r.1.me ≡ (newcomer [], []))) }
+    ensures room { IfOk result (λ r. vec_len r.2 ≡ elements) }
+{
+    let mut room = Vec::new(alloc);
+    room.resize(FIRST_ELEMENT + elements, 0u64)?;
+    let (table, seat) = Table::of_words(alloc, &room, &elements)?;
+    room.truncate(elements);
+    Ok((table, seat, room))
+}
+
 impl Words {
     /// Each word is 0, and nobody holds a mutex.
     pub fn new(alloc: Global, elements: usize, locks: usize) -> Result<(Words, Hand), Memory>
@@ -64,10 +85,7 @@ impl Words {
         ensures counts { IfOk result (λ r. (r.0.elements ≡ elements) × (r.0.locks ≡ locks)) }
         ensures hand { IfOk result (λ r. r.1 ≡ hand_with r.0.table (newcomer [])) }
     {
-        let mut room = Vec::new(alloc);
-        room.resize(FIRST_ELEMENT + elements, 0u64)?;
-        let (table, seat) = Table::of_words(alloc, &room, &elements)?;
-        room.truncate(elements);
+        let (table, seat, room) = new_table(alloc, elements)?;
         Ok((Words { table, room, locks }, Hand::of(seat)))
     }
 

@@ -4,7 +4,7 @@ use Rattle.shared_words.specs.Views.{newcomer}
 use Rattle.shared_words.specs.Rule.{ELEMENTS, Kept}
 use Rattle.atomic_table.specs.Table.{opening}
 use Rattle.shared_words.proofs.Beginning.{zeros, begins}
-use Rattle.shared_words.proofs.words.Words.new.Goals as goal
+use Rattle.shared_words.proofs.words.new_table.Goals as goal
 
 pub of_words-requires : goal.of_words-requires
 of_words-requires c =
