@@ -6,8 +6,8 @@
 //! order, each load finds the last value, a mutex is won while nobody holds it, and the words end as the history does. So between
 //! two locks of a mutex its holder unlocks, and what a split hand did stands between its split and its homecoming.
 //!
-//! `Chunks` has counters. What the hands draw from one of them are numbers below its value, each once, and where no other hand is
-//! out the first one has them all. `lock` alone waits, and for as long as the mutex is held; no call but `new` takes memory.
+//! `Chunks` has a counter for each loop. Where all other hands are joined, the numbers that the first one has of a loop are those
+//! below some number, each once. `lock` alone waits, and no call but the two `new` takes memory.
 #![tactic(auto)]
 
 mod chunk_hand;
