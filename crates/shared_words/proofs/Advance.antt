@@ -8,7 +8,7 @@ use Rattle.step_history.proofs.Folds.{value_more, holder_more, legal_more, out_s
 use Rattle.step_history.proofs.Exclusion.{holder_stays}
 use Rattle.atomic_table.proofs.Lists.{at_set, set_here}
 use Rattle.shared_words.specs.declared.view.View.{View}
-use Rattle.shared_words.specs.Rule.{ELEMENTS, MUTEXES, mutex_word, Once, Lives, Sits, Keeps}
+use Rattle.shared_words.specs.Rule.{ELEMENTS, MUTEXES, mutex_word, Once, Lives, Sits, Explains}
 use Rattle.shared_words.proofs.Seats.{At, at_within, names_apart, live_stays, shown_own, shown_other}
 
 -- what the step does to the hand's view
@@ -94,10 +94,10 @@ other_sits log seat views id v deed w j u at lives takes sits apart = record {
 }
 
 pub advance : (elements : ℕ) (log : List Item) (seat : Name → ℕ) (words : List ℕ) (views : List View) (id : ℕ) (v : View) (deed : Deed) (w : View) (new : List ℕ)
-    → Keeps elements log seat words views → At views id v → v.live ≡ true → Takes log v deed w → length new ≡ length words
+    → Explains elements log seat words views → At views id v → v.live ≡ true → Takes log v deed w → length new ≡ length words
     → ((word : ℕ) → word < elements → get_or new (ELEMENTS + word) 0 ≡ value_after word deed (value_at word log))
     → ((mutex : ℕ) → mutex < MUTEXES → get_or new mutex 0 ≡ mutex_word (holder_after mutex v.name deed (holder mutex log)))
-    → Keeps elements (log ++ item v.name deed ∷ []) seat new (set views id w)
+    → Explains elements (log ++ item v.name deed ∷ []) seat new (set views id w)
 advance elements log seat words views id v deed w new keeps at live takes wide values mutexes =
     let sits = keeps.each id v at in
     let lives = sits.lives live in

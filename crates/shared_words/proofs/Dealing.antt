@@ -11,7 +11,7 @@ use lib.ListN.{get_elem?}
 use Rattle.atomic_table.specs.Table.{State, Me, step, keeps, opening, Allows, Splits, Joins}
 use Rattle.atomic_table.proofs.Lists.{at_set, set_again, set_here}
 use Rattle.shared_words.specs.declared.share.Share.{Share}
-use Rattle.shared_words.specs.Draws.{SPLITS, numbers, times, once_below, whole_share, lent_share, used_up, drew, lent, regained, HasAll, DrewEachOnce, draws, looks, weight, is_lent, drawn_times, draw_count, budget, Holds, Dealt}
+use Rattle.shared_words.specs.Draws.{SPLITS, Drawing, Looking, numbers, times, once_below, whole_share, lent_share, used_up, drew, lent, regained, HasAll, DrewEachOnce, one_if, is_lent, drawn_times, draw_count, budget, Holds, Dealt}
 use Rattle.shared_words.proofs.Views.{at_end, sum_set, sum_part, sum_parts, sum_alone, sum_below, sum_more}
 use Rattle.shared_words.proofs.Beginning.{zeros, length-zeros, zero_word}
 use Rattle.shared_words.proofs.WordList.{word_else, word_here}
@@ -26,7 +26,7 @@ abbrev At : List Share → ℕ → Share → Type 0
 At views id v = get_elem? views id ≡ some v
 
 abbrev firsts : Share → ℕ
-firsts v = weight v.first
+firsts v = one_if v.first
 
 times-append : (x : ℕ) (xs ys : List ℕ) → times x (xs ++ ys) ≡ times x xs + times x ys
 times-append x xs ys = sum_by-append (λ (y : ℕ). cond (y == x) 1 0) xs ys
@@ -63,8 +63,8 @@ sum_same f views id v w at same = let changed = sum_set f views id v w at in ome
 other_first : (views : List Share) (id j : ℕ) (v u : Share) → sum_by firsts views ≡ 1 → At views id v → v.first ≡ true → At views j u → (j ≡ id → ⊥) → u.first ≡ true → ⊥
 other_first views id j v u one at first there apart other =
     let both = sum_parts firsts views id j v u at there apart in
-    let here : firsts v ≡ 1 = ap weight first in
-    let too : firsts u ≡ 1 = ap weight other in
+    let here : firsts v ≡ 1 = ap one_if first in
+    let too : firsts u ≡ 1 = ap one_if other in
     omega arith
 
 not_true : (b : Bool) → (b ≡ true → ⊥) → b ≡ false
@@ -80,7 +80,7 @@ has_all loops s id v dealt at all loop = record {
   lent_none : sum_by is_lent s.views ≡ 0
   lent_none = ((dealt.each id v at).counted all.first).0 ∙ all.none_out
 
-  idle : (b c : Bool) → b ≡ false → cond b 0 (weight c) ≡ 0 → c ≡ false
+  idle : (b c : Bool) → b ≡ false → cond b 0 (one_if c) ≡ 0 → c ≡ false
   idle true c is none_left = cc
   idle false true is none_left = cc
   idle false false is none_left = refl
@@ -196,7 +196,7 @@ loop_of : (which : ℕ) → 1 + which - 1 ≡ which
 loop_of which = omega arith
 
 pub draws_allowed : (loops slots id : ℕ) (me : Seen) (which : ℕ) → me.0.live ≡ true → 0 < me.0.left → which < loops
-    → Allows (Dealt loops) slots id me (1 + which) (λ n. (n + 1) % 2 ^ 64) (draws (step slots (1 + which) 1 0 none) me)
+    → Allows (Dealt loops) slots id me (1 + which) (λ n. (n + 1) % 2 ^ 64) (Drawing (step slots (1 + which) 1 0 none) me)
 draws_allowed loops slots id me which live left within s dealt same_slots at small =
     let v : Share = me.0 in
     let n : ℕ = get_or s.words (1 + which) 0 in
@@ -221,7 +221,7 @@ draws_allowed loops slots id me which live left within s dealt same_slots at sma
     inside (x ∷ xs) zero u there = omega arith
     inside (x ∷ xs) (suc i) u there = let rest = inside xs i u there in omega arith
 
-pub looks_allowed : (loops slots id : ℕ) (me : Seen) → Allows (Dealt loops) slots id me 0 (λ n. n) (looks (step slots 0 0 0 none) me)
+pub looks_allowed : (loops slots id : ℕ) (me : Seen) → Allows (Dealt loops) slots id me 0 (λ n. n) (Looking (step slots 0 0 0 none) me)
 looks_allowed loops slots id me s dealt same_slots at small =
     let P : List ℕ × List Share → Type 0 = λ z. Dealt loops (record { words = z.0; homes = s.homes; views = z.1 }) in (
       me.0,
@@ -292,7 +292,7 @@ regains_allowed loops id v from w live first other_live not_first s dealt at apa
       short = let longer = long in let short = dealt.short in omega arith;
       one_first =
           let sum = total firsts in
-          let gone : firsts w ≡ 0 = ap weight not_first in
+          let gone : firsts w ≡ 0 = ap one_if not_first in
           let before = dealt.one_first in omega arith;
       each = λ j u there. elim (at_set (set s.views id r) from j used_up u there) [
         | inl here ↦
@@ -332,9 +332,9 @@ regains_allowed loops id v from w live first other_live not_first s dealt at apa
     lent_now : sum_by is_lent after ≡ v.out - 1
     lent_now =
         let sum = total is_lent in
-        let none_v : is_lent v ≡ 0 = ap (λ (b : Bool). cond b 0 (weight v.live)) first in
-        let none_r : is_lent r ≡ 0 = ap (λ (b : Bool). cond b 0 (weight v.live)) first in
-        let one_w : is_lent w ≡ 1 = ap₂ (λ (a b : Bool). cond a 0 (weight b)) not_first other_live in
+        let none_v : is_lent v ≡ 0 = ap (λ (b : Bool). cond b 0 (one_if v.live)) first in
+        let none_r : is_lent r ≡ 0 = ap (λ (b : Bool). cond b 0 (one_if v.live)) first in
+        let one_w : is_lent w ≡ 1 = ap₂ (λ (a b : Bool). cond a 0 (one_if b)) not_first other_live in
         let count = ((dealt.each id v at).counted first).0 in
         omega arith
 

@@ -5,10 +5,10 @@ use Rattle.atomic_table.specs.Table.{Final, Seen}
 use Rattle.step_history.specs.declared.item.Item.{Item}
 use Rattle.step_history.specs.History.{Name, of, HasHistory}
 use Rattle.shared_words.specs.declared.view.View.{View}
-use Rattle.shared_words.specs.Rule.{ELEMENTS, Lives, Keeps, Kept}
+use Rattle.shared_words.specs.Rule.{ELEMENTS, Lives, Explains, Kept}
 use Rattle.shared_words.proofs.Seats.{At, at_some, same_at}
 
-module _ (elements : ℕ) (log : List Item) (seat : Name → ℕ) (words : List ℕ) (views : List View) (keeps : Keeps elements log seat words views)
+module _ (elements : ℕ) (log : List Item) (seat : Name → ℕ) (words : List ℕ) (views : List View) (keeps : Explains elements log seat words views)
     (id : ℕ) (v : View) (here : At views id v) (live : v.live ≡ true) (first : v.name ≡ []) (none_out : v.out ≡ []) where
   lives : Lives log seat views id v
   lives = (keeps.each id v here).lives live

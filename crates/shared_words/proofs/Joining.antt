@@ -13,8 +13,8 @@ use Rattle.step_history.specs.History.{Name, name_eq, item, of, was_split, is_ou
 use Rattle.step_history.proofs.Names.{same_name, is_same_name, other_name}
 use Rattle.step_history.proofs.Folds.{of-append, value_more, holder_more, legal_more, out_stays, out_is_split, unborn_more, others_split, was_split_more, came_home_more}
 use Rattle.shared_words.specs.declared.view.View.{View}
-use Rattle.shared_words.specs.Views.{met, spent, number_of}
-use Rattle.shared_words.specs.Rule.{mutex_word, HasLive, HasOut, Lives, Sits, Keeps, Kept}
+use Rattle.shared_words.specs.Views.{met, spent, split_number}
+use Rattle.shared_words.specs.Rule.{mutex_word, HasLive, HasOut, Lives, Sits, Explains, Kept}
 use Rattle.shared_words.proofs.Seats.{At, at_within, same_at, names_apart, shown_own, shown_other}
 use Rattle.shared_words.proofs.Splitting.{not_itself}
 use Rattle.shared_words.proofs.WordList.{contains_without}
@@ -37,13 +37,13 @@ record Meeting (log : List Item) (seat : Name → ℕ) (views : List View) (id :
   from_at : At views from w
   comes : Lives log seat views from w
   apart : from ≡ id → ⊥
-  child : w.name ≡ number_of w.name ∷ v.name
+  child : w.name ≡ split_number w.name ∷ v.name
   none_out : w.out ≡ []
   holds_none : w.held ≡ []
 
 module _ (log : List Item) (seat : Name → ℕ) (views : List View) (id : ℕ) (v : View) (from : ℕ) (w : View) (m : Meeting log seat views id v from w) where
   abbrev number : ℕ
-  number = number_of w.name
+  number = split_number w.name
 
   abbrev x : Item
   x = item v.name (Home number)
@@ -193,7 +193,7 @@ module _ (log : List Item) (seat : Name → ℕ) (views : List View) (id : ℕ) 
         ∙ ap (λ (b : Bool). cond b (of name log) []) (sym (ne_eqb (moved seat from id name) j (λ is. not_id (sym is ∙ moved_there seat from id name here)))))
         (λ away. ap (λ (n : ℕ). cond (n == j) (of name log) []) (sym (not_moved seat from id name away)))
 
-  meets : (elements : ℕ) (words : List ℕ) → Keeps elements log seat words views → Keeps elements (log ++ x ∷ []) (moved seat from id) words after
+  meets : (elements : ℕ) (words : List ℕ) → Explains elements log seat words views → Explains elements (log ++ x ∷ []) (moved seat from id) words after
   meets elements words keeps = record {
     wide = keeps.wide;
     legal = legal_more log x keeps.legal (record { out = m.lives.out; fits = let P : Name → Type 0 = λ n. is_out n log ≡ true in subst P m.child m.comes.out });
@@ -222,7 +222,7 @@ module _ (log : List Item) (seat : Name → ℕ) (views : List View) (id : ℕ) 
     at name true = let within = at_within views id v m.at in let same = long in omega arith
     at name false = let within = keeps.seated name in let same = long in omega arith
 
-pub joins_allowed : (elements id : ℕ) (v : View) (from : ℕ) (w : View) → v.live ≡ true → w.live ≡ true → w.name ≡ number_of w.name ∷ v.name → w.out ≡ [] → w.held ≡ []
+pub joins_allowed : (elements id : ℕ) (v : View) (from : ℕ) (w : View) → v.live ≡ true → w.live ≡ true → w.name ≡ split_number w.name ∷ v.name → w.out ≡ [] → w.held ≡ []
     → Joins (Kept elements) id v from w (met v w) spent
 joins_allowed elements id v from w live other_live child none_out holds_none s kept at apart other_at =
     let from_at : At s.views from w = sym (set_else s.views id from (met v w) apart) ∙ other_at in
@@ -238,7 +238,7 @@ joins_allowed elements id v from w live other_live child none_out holds_none s k
       holds_none = holds_none;
     } in
     record {
-      log = kept.log ++ item v.name (Home (number_of w.name)) ∷ [];
+      log = kept.log ++ item v.name (Home (split_number w.name)) ∷ [];
       seat = moved kept.seat from id;
       keeps = meets kept.log kept.seat s.views id v from w m elements s.words kept.keeps;
     }

@@ -12,7 +12,7 @@ use Rattle.step_history.proofs.Folds.{of-append, of_other, out_is_split, out_at_
 use Rattle.shared_words.specs.declared.view.View.{View}
 use Rattle.shared_words.specs.Views.{newcomer, child}
 use Rattle.shared_words.specs.Steps.{parts}
-use Rattle.shared_words.specs.Rule.{HasLive, HasOut, Lives, Sits, Keeps, Kept}
+use Rattle.shared_words.specs.Rule.{HasLive, HasOut, Lives, Sits, Explains, Kept}
 use Rattle.shared_words.proofs.Seats.{At, at_within}
 use Rattle.shared_words.proofs.Advance.{Takes, advance}
 use Rattle.shared_words.proofs.Views.{at_end}
@@ -121,8 +121,8 @@ new_sits log seat views k p adopts seated = record {
       ap (λ (b : Bool). cond b (of name log) []) (ne_eqb (seated_at seat (k ∷ p) (length views) name) (length views) (λ same. let no : seat name ≡ length views = sym before ∙ same in omega arith))
 
 adopt : (elements : ℕ) (log : List Item) (seat : Name → ℕ) (words : List ℕ) (views : List View) (k : ℕ) (p : Name)
-    → Keeps elements log seat words views → Adopts log seat views k p
-    → Keeps elements log (seated_at seat (k ∷ p) (length views)) words (views ++ newcomer (k ∷ p) ∷ [])
+    → Explains elements log seat words views → Adopts log seat views k p
+    → Explains elements log (seated_at seat (k ∷ p) (length views)) words (views ++ newcomer (k ∷ p) ∷ [])
 adopt elements log seat words views k p keeps adopts = record {
   wide = keeps.wide;
   legal = keeps.legal;
@@ -172,7 +172,7 @@ split_takes log seat views id v lives live = record {
 }
 
 -- nobody has the name of the next hand to be split off
-none_yet : (elements : ℕ) (log : List Item) (seat : Name → ℕ) (words : List ℕ) (views : List View) (id : ℕ) (v : View) → Keeps elements log seat words views
+none_yet : (elements : ℕ) (log : List Item) (seat : Name → ℕ) (words : List ℕ) (views : List View) (id : ℕ) (v : View) → Explains elements log seat words views
     → Lives log seat views id v → (j : ℕ) (u : View) → At (set views id (parts v)) j u → u.live ≡ true → u.name ≡ v.splits ∷ v.name → ⊥
 none_yet elements log seat words views id v keeps lives j u there live named = elim (at_set views id j (parts v) u there) [
   | inl here ↦ not_itself v.splits v.name (ap (λ (x : View). x.name) here.1 ∙ named)

@@ -15,8 +15,8 @@ use Rattle.step_history.specs.declared.item.Deed.TheVariants.{Read, Write, Lock,
 use Rattle.step_history.specs.History.{Name, item, value_at, value_after, holder, holder_after}
 use Rattle.shared_words.specs.declared.view.View.{View}
 use Rattle.shared_words.specs.Views.{did, locked, unlocked, announced, rest}
-use Rattle.shared_words.specs.Rule.{ELEMENTS, MUTEXES, FREE, mutex_word, Once, Lives, Sits, Keeps, Kept}
-use Rattle.shared_words.specs.Steps.{loads, stores, locks, unlocks, announces}
+use Rattle.shared_words.specs.Rule.{ELEMENTS, MUTEXES, FREE, mutex_word, Once, Lives, Sits, Explains, Kept}
+use Rattle.shared_words.specs.Steps.{loads, stores, Locking, unlocks, announces}
 use Rattle.shared_words.proofs.Seats.{At, live_stays}
 use Rattle.shared_words.proofs.Advance.{Takes, advance}
 use Rattle.shared_words.proofs.WordList.{word_else, word_here, here_or_later, contains_here, contains_later}
@@ -109,7 +109,7 @@ unmoved elements id me i s kept at = record {
   log = kept.log;
   seat = kept.seat;
   keeps =
-      let P : List ℕ × List View → Type 0 = λ z. Keeps elements kept.log kept.seat z.0 z.1 in
+      let P : List ℕ × List View → Type 0 = λ z. Explains elements kept.log kept.seat z.0 z.1 in
       subst P (λ k. (sym (set-get_or s.words i 0) k, sym (set_again s.views id me.0 at) k)) kept.keeps;
 }
 
@@ -163,7 +163,7 @@ lock_wins elements id v mutex s live within kept at unheld =
     }
 
 pub locks_allowed : (elements slots id : ℕ) (me : Seen) (mutex : ℕ) → me.0.live ≡ true → mutex < MUTEXES
-    → Allows (Kept elements) slots id me mutex (λ n. either (n == 0) 1 n) (locks (step slots mutex 0 1 none) me)
+    → Allows (Kept elements) slots id me mutex (λ n. either (n == 0) 1 n) (Locking (step slots mutex 0 1 none) me)
 locks_allowed elements slots id me mutex live within s kept same_slots at small =
     let found : ℕ = get_or s.words mutex 0 in
     dite (ℕ_discrete found 0)

@@ -73,19 +73,13 @@ pub record Looking (step : Step (Unit {0})) (me : Seen) (found : ℕ) (after : S
   pub same : after ≡ me
   pub all : HasAll me.0 → DrewEachOnce me.0
 
-abbrev pub draws : Step (Unit {0}) → Seen → ℕ → Seen → Type 0
-draws = Drawing
-
-abbrev pub looks : Step (Unit {0}) → Seen → ℕ → Seen → Type 0
-looks = Looking
-
-abbrev pub weight : Bool → ℕ
-weight true = 1
-weight false = 0
+abbrev pub one_if : Bool → ℕ
+one_if true = 1
+one_if false = 0
 
 -- 1 for a hand that was split off and isn't joined
 abbrev pub is_lent : Share → ℕ
-is_lent v = if v.first then 0 else weight v.live
+is_lent v = if v.first then 0 else one_if v.live
 
 -- how often the number was drawn for the loop
 abbrev pub drawn_times : ℕ → ℕ → Share → ℕ
@@ -111,5 +105,5 @@ pub record Dealt (loops : ℕ) (s : State (Unit {0}) Share) : Type 0 where
   pub bounded : (loop : ℕ) → slice_index s.words (1 + loop) ≤ sum_by draw_count s.views
   pub allowed : sum_by budget s.views ≤ DRAWS * length s.views
   pub short : length s.views ≤ SPLITS + 1
-  pub one_first : sum_by (λ (v : Share). weight v.first) s.views ≡ 1
+  pub one_first : sum_by (λ (v : Share). one_if v.first) s.views ≡ 1
   pub each : (id : ℕ) (v : Share) → get_elem? s.views id ≡ some v → Holds s.views v

@@ -2,7 +2,7 @@
 use Rattle.std.specs.Prelude.{◌≡◌, ℕ, Bool, true, false, List, [], ◌∷◌}
 use Rattle.atomic_table.specs.Seated.{TableId}
 use Rattle.shared_words.specs.declared.view.View.{View}
-use Rattle.shared_words.specs.Views.{number_of}
+use Rattle.shared_words.specs.Views.{split_number}
 
 -- its table, whether it is there, and what it knows
 pub record HandValue (V : Type 0) : Type 0 where
@@ -50,7 +50,7 @@ pub record ChunksValue : Type 0 where
 
 -- the other hand was split from this one and not joined, holds no mutex, and all that were split from it are joined
 pub record IsHome (hand other : HandValue View) : Type 0 where
-  pub split : other.view.name ≡ number_of other.view.name ∷ hand.view.name
+  pub split : other.view.name ≡ split_number other.view.name ∷ hand.view.name
   pub holds_none : other.view.held ≡ []
   pub none_out : other.view.out ≡ []
 

@@ -59,7 +59,7 @@ pub record Sits (log : List Item) (seat : Name → ℕ) (views : List View) (id 
   pub rests : v.live ≡ false → v.items ≡ []
 
 -- the rule, for this history and these seats
-pub record Keeps (elements : ℕ) (log : List Item) (seat : Name → ℕ) (words : List ℕ) (views : List View) : Type 0 where
+pub record Explains (elements : ℕ) (log : List Item) (seat : Name → ℕ) (words : List ℕ) (views : List View) : Type 0 where
   pub wide : length words ≡ ELEMENTS + elements
   pub legal : Legal log
   pub values : (word : ℕ) → word < elements → slice_index words (ELEMENTS + word) ≡ value_at word log
@@ -72,4 +72,4 @@ pub record Keeps (elements : ℕ) (log : List Item) (seat : Name → ℕ) (words
 pub record Kept (elements : ℕ) (s : State (Unit {0}) View) : Type 0 where
   pub log : List Item
   pub seat : Name → ℕ
-  pub keeps : Keeps elements log seat s.words s.views
+  pub keeps : Explains elements log seat s.words s.views

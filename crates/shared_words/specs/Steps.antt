@@ -20,9 +20,6 @@ pub record Locking (step : Step (Unit {0})) (me : Seen) (found : ℕ) (after : S
   pub won : found ≡ 0 → after ≡ (locked me.0 step.word, me.1)
   pub lost : found ≢ 0 → after ≡ me
 
-abbrev pub locks : Step (Unit {0}) → Seen → ℕ → Seen → Type 0
-locks = Locking
-
 abbrev pub unlocks : Step (Unit {0}) → Seen → ℕ → Seen → Type 0
 unlocks step me stored after = after ≡ (unlocked me.0 step.word, me.1)
 

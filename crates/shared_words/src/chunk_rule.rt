@@ -15,17 +15,17 @@ impl TableRule<(), Share, usize> for Deal {
 pub(crate) struct Draws;
 
 impl Play<(), Share> for Draws {
-    ghost use Rattle.shared_words.specs.Draws.{draws};
+    ghost use Rattle.shared_words.specs.Draws.{Drawing};
 
-    ghost then = { draws };
+    ghost then = { Drawing };
 }
 
 pub(crate) struct Looks;
 
 impl Play<(), Share> for Looks {
-    ghost use Rattle.shared_words.specs.Draws.{looks};
+    ghost use Rattle.shared_words.specs.Draws.{Looking};
 
-    ghost then = { looks };
+    ghost then = { Looking };
 }
 
 pub(crate) struct Lends;
