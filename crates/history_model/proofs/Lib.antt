@@ -2,6 +2,7 @@ pub mod Acts
 pub mod ActsOrder
 pub mod Barriers
 pub mod Counting
+pub mod DrawnNumbers
 pub mod Edges
 pub mod GoodItems
 pub mod Labelled

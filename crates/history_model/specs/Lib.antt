@@ -1,3 +1,4 @@
 pub mod Did
+pub mod Drawn
 pub mod Sound
 pub mod Work
