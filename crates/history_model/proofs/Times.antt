@@ -47,10 +47,6 @@ splits_length : (name : Name) (k lane span : ℕ) (team : TeamWork) → length (
 splits_length name k lane span NoWork = refl
 splits_length name k lane span (Beside work others) = ap (λ (n : ℕ). suc n) (splits_length name (suc k) (suc lane) span others)
 
-homes_length : (name : Name) (k : ℕ) (team : TeamWork) → length (homes_marked name k team) ≡ lane_count_of team
-homes_length name k NoWork = refl
-homes_length name k (Beside work others) = ap (λ (n : ℕ). suc n) (homes_length name (suc k) others)
-
 split_at : (name : Name) (k lane span : ℕ) (team : TeamWork) → SplitsBelow name (splits_marked name k lane span team) (k + lane_count_of team)
 split_at name k lane span NoWork n x found j other all is = cc
 split_at name k lane span (Beside work others) zero x found j other all is =

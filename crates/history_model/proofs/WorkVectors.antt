@@ -10,7 +10,7 @@ use Rattle.race_model.specs.History.{released}
 use Rattle.step_history.specs.declared.item.Item.{Item}
 use Rattle.step_history.specs.declared.item.Deed.TheVariants as deed
 use Rattle.step_history.specs.History.{item, Legal, HasHistory, value_at}
-use Rattle.history_model.specs.Work.{Work, Rest, Put, Fork, Phases, NoPhase, Phase, TeamWork, NoWork, Beside, region_record, task_logs}
+use Rattle.history_model.specs.Work.{Work, Rest, Put, Fork, Phases, NoPhase, Phase, TeamWork, NoWork, Beside, fork_record, task_logs}
 use Rattle.history_model.specs.Did.{did}
 use Rattle.history_model.specs.Sound.{WordLayout, IsSoundRecord, IsSound, ArePhasesSound, PassesBarrier}
 
@@ -48,13 +48,13 @@ abbrev step : ℕ → ℕ → ℕ → Step
 step region lane span = record { region = region; lane = lane; span = span }
 
 -- each task's log has its phases in their order
-pub root_log : task_logs whole [] ≡ region_record 3 2 ∷ mark End ∷ []
+pub root_log : task_logs whole [] ≡ fork_record 3 2 ∷ mark End ∷ []
 root_log = refl
 
 pub writer_log : task_logs whole (step 0 0 2 ∷ []) ≡ word_access Write 1 ∷ mark Barrier ∷ mark End ∷ []
 writer_log = refl
 
-pub forker_log : task_logs whole (step 0 1 2 ∷ []) ≡ mark Barrier ∷ region_record 4 1 ∷ mark End ∷ []
+pub forker_log : task_logs whole (step 0 1 2 ∷ []) ≡ mark Barrier ∷ fork_record 4 1 ∷ mark End ∷ []
 forker_log = refl
 
 pub inner_log : task_logs whole (step 0 1 2 ∷ step 0 0 1 ∷ []) ≡ word_access Write 2 ∷ mark Barrier ∷ word_access Read 2 ∷ mark End ∷ []
