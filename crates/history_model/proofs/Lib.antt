@@ -14,6 +14,7 @@ pub mod Members
 pub mod Ordered
 pub mod Parts
 pub mod TaskEntries
+pub mod TaskTree
 pub mod TimedWork
 pub mod Times
 pub mod TreeHistory

@@ -211,7 +211,7 @@ then_records Rest other = refl
 then_records (Put r more) other = ap (λ (rs : List Record). r ∷ rs) (then_records more other)
 then_records (Fork line span phases more) other = ap (λ (rs : List Record). fork_record line span ∷ rs) (then_records more other)
 
-then_regions : (work other : Work) → work_regions (then_work work other) ≡ work_regions work ++ work_regions other
+pub then_regions : (work other : Work) → work_regions (then_work work other) ≡ work_regions work ++ work_regions other
 then_regions Rest other = refl
 then_regions (Put r more) other = then_regions more other
 then_regions (Fork line span phases more) other = ap (λ (rs : List RegionWork). record { span = span; phases = phases } ∷ rs) (then_regions more other)

@@ -8,7 +8,9 @@
 mod composing;
 mod draws;
 mod history;
+mod tasks;
 
 pub use composing::{last_records_are_no_steps, phases_compose, works_compose};
 pub use draws::{draws_compose, lanes_draw_each_chunk_once};
 pub use history::{history_of_a_run, history_of_a_stopped_run};
+pub use tasks::tasks_of_a_tree_of_work;

@@ -1,0 +1,221 @@
+-- The tasks of a tree of work.
+use Rattle.std.proofs.Common.{◌≡◌, ◌⊎◌, inl, inr, refl, sym, ap, ap₂, ◌∙◌, subst, ℕ, zero, suc, ◌+◌, ◌-◌, ◌<◌, ◌≤◌, Bool, true, false, cond, List, [], ◌∷◌, ◌++◌, length, map, take, Option, Some, None, arith}
+use Rattle.std.specs.Prelude.{slice_get, if◌then◌else◌, ◌==◌, Contains, count_by, get_or}
+use Rattle.std.specs.List.{flat_map}
+use Rattle.std.proofs.lemmas.Bool.{cases_lt}
+use Rattle.std.proofs.lemmas.List.{append-nil, append_assoc, append_cancel_left, same_from_push}
+use Rattle.std.proofs.lemmas.Option.{same_Some}
+use Rattle.sw_base.specs.declared.path.Step.{Step}
+use Rattle.log_format.specs.declared.record.Record.{Record}
+use Rattle.log_format.specs.declared.record.Kind.{Kind}
+use Rattle.log_format.specs.declared.record.Kind.TheVariants.{Region}
+use Rattle.race_model.specs.Trace.{TaskLog, Trace, Logs, Node, logs_of, path_eq, region_count, is_region_kind}
+use Rattle.race_model.specs.Listing.{lane_of}
+use Rattle.race_model.specs.Order.{IsLane}
+use Rattle.race_model.specs.ForkJoin.{IsTask, WasForked, ListsTask, IsTreeTrace}
+use Rattle.race_model.proofs.TraceLogs.{path_is}
+use Rattle.race_model.proofs.LabelPlace.{not_both_empty}
+use Rattle.history_model.specs.Work.{Work, Rest, Put, Fork, Phases, NoPhase, Phase, TeamWork, NoWork, Beside, RegionWork, fork_record, work_records, work_regions, work_at, lane_works, works_at_region, works_at_step, works_under, works_of, task_logs, then_work}
+use Rattle.history_model.specs.Did.{lane_count_of}
+use Rattle.history_model.specs.Sound.{WordLayout, IsSound, ArePhasesSound, IsTeamSound}
+use Rattle.history_model.specs.Tasks.{lane_tasks, region_tasks, tasks_from, tasks_of}
+use Rattle.history_model.proofs.ActsOrder.{count_cons}
+use Rattle.history_model.proofs.Members.{Member, first_member, later_member}
+use Rattle.history_model.proofs.Windows.{get_either}
+use Rattle.history_model.proofs.TaskEntries.{joined, then_records, then_regions, joined_records, joined_regions, path_same}
+
+-- the step is that of a lane of a region of these works
+record IsForkedLane (works : List Work) (step : Step) : Type 0 where
+  region : RegionWork
+  found : slice_get (flat_map work_regions works) step.region ≡ Some region
+  span_is : region.span ≡ step.span
+  within : step.lane < step.span
+
+-- each step of the path is one
+abbrev AreForked : List Work → List Step → Type 0
+AreForked works [] = Unit {0}
+AreForked works (step ∷ path) = IsForkedLane works step × AreForked (works_at_step step works) path
+
+-- a task is under the path, with the records of its works
+record IsUnder (bound : ℕ) (path : List Step) (works : List Work) (task : TaskLog) : Type 0 where
+  rest : List Step
+  short : length rest < bound
+  path_is : task.path ≡ path ++ rest
+  records_are : task.records ≡ flat_map work_records (works_under works rest)
+  forked : AreForked works rest
+
+member_either : {X : Type 0} (xs ys : List X) (x : X) → Member (xs ++ ys) x → Member xs x ⊎ Member ys x
+member_either {X} xs ys x m = at (get_either xs ys m.place x m.found) where
+  at : (slice_get xs m.place ≡ Some x) ⊎ ((k : ℕ) × (m.place ≡ length xs + k) × (slice_get ys k ≡ Some x)) → Member xs x ⊎ Member ys x
+  at (inl here) = inl (record { place = m.place; found = here })
+  at (inr (k, same, there)) = inr (record { place = k; found = there })
+
+number_same : (m : ℕ) → (m == m) ≡ true
+number_same m = grind arith
+
+-- the works of a lane
+lane_is : (works : List Work) (region : RegionWork) (g lane : ℕ) → slice_get (flat_map work_regions works) g ≡ Some region
+    → works_at_step (record { region = g; lane = lane; span = region.span }) works ≡ lane_works lane region.phases
+lane_is works region g lane found =
+    ap (λ (o : Option RegionWork). works_at_region (record { region = g; lane = lane; span = region.span }) o) found
+    ∙ ap (λ (b : Bool). if b then lane_works lane region.phases else []) (number_same region.span)
+
+-- what is under a lane is under its task
+lane_under : (bound : ℕ) (path : List Step) (works : List Work) (region : RegionWork) (g lane : ℕ) (task : TaskLog) → slice_get (flat_map work_regions works) g ≡ Some region → lane < region.span
+    → IsUnder bound (lane_of path g lane region.span) (lane_works lane region.phases) task → IsUnder (suc bound) path works task
+lane_under bound path works region g lane task found less u = record {
+  short = omega (arith, u.short);
+  rest = record { region = g; lane = lane; span = region.span } ∷ u.rest;
+  path_is = u.path_is ∙ append_assoc path (record { region = g; lane = lane; span = region.span } ∷ []) u.rest;
+  records_are = u.records_are ∙ ap (λ (ws : List Work). flat_map work_records (works_under ws u.rest)) (sym (lane_is works region g lane found));
+  forked = (record { region = region; found = found; span_is = refl; within = less }, subst (λ (ws : List Work). AreForked ws u.rest) (sym (lane_is works region g lane found)) u.forked);
+}
+
+module _ (bound : ℕ) (below : List Step → List Work → Trace) (sound_below : (path : List Step) (works : List Work) (task : TaskLog) → Member (below path works) task → IsUnder bound path works task) where
+  lanes_under : (path : List Step) (works : List Work) (region : RegionWork) (g lane left : ℕ) (task : TaskLog) → slice_get (flat_map work_regions works) g ≡ Some region → lane + left ≡ region.span
+      → Member (lane_tasks below path g region.span region.phases lane left) task → IsUnder (suc bound) path works task
+  lanes_under path works region g lane zero task found sum m = let none = m.found in cc
+  lanes_under path works region g lane (suc left) task found sum m =
+      at (member_either (below (lane_of path g lane region.span) (lane_works lane region.phases)) (lane_tasks below path g region.span region.phases (suc lane) left) task m)
+      (λ (later : Member (lane_tasks below path g region.span region.phases (suc lane) left) task). lanes_under path works region g (suc lane) left task found (omega arith) later)
+    where
+      at : Member (below (lane_of path g lane region.span) (lane_works lane region.phases)) task ⊎ Member (lane_tasks below path g region.span region.phases (suc lane) left) task
+          → (Member (lane_tasks below path g region.span region.phases (suc lane) left) task → IsUnder (suc bound) path works task) → IsUnder (suc bound) path works task
+      at (inl here) rest = lane_under bound path works region g lane task found (omega arith) (sound_below (lane_of path g lane region.span) (lane_works lane region.phases) task here)
+      at (inr later) rest = rest later
+
+  regions_under : (path : List Step) (works : List Work) (g : ℕ) (regions : List RegionWork) (task : TaskLog) → ((n : ℕ) (region : RegionWork) → slice_get regions n ≡ Some region → slice_get (flat_map work_regions works) (g + n) ≡ Some region)
+      → Member (region_tasks below path g regions) task → IsUnder (suc bound) path works task
+  regions_under path works g [] task all m = let none = m.found in cc
+  regions_under path works g (region ∷ regions) task all m =
+      at (member_either (lane_tasks below path g region.span region.phases 0 region.span) (region_tasks below path (g + 1) regions) task m)
+      (λ (later : Member (region_tasks below path (g + 1) regions) task). regions_under path works (g + 1) regions task
+      (λ n r found. ap (λ (k : ℕ). slice_get (flat_map work_regions works) k) (let e : g + 1 + n ≡ g + suc n = omega arith in e) ∙ all (suc n) r found) later)
+    where
+      at : Member (lane_tasks below path g region.span region.phases 0 region.span) task ⊎ Member (region_tasks below path (g + 1) regions) task
+          → (Member (region_tasks below path (g + 1) regions) task → IsUnder (suc bound) path works task) → IsUnder (suc bound) path works task
+      at (inl here) rest =
+          lanes_under path works region g 0 region.span task (ap (λ (k : ℕ). slice_get (flat_map work_regions works) k) (let e : g ≡ g + 0 = omega arith in e) ∙ all 0 region refl) (omega arith) here
+      at (inr later) rest = rest later
+
+tasks_under : (depth : ℕ) (path : List Step) (works : List Work) (task : TaskLog) → Member (tasks_from depth path works) task → IsUnder depth path works task
+tasks_under zero path works task m = let none = m.found in cc
+tasks_under (suc depth) path works task m = at m.place m.found (λ (p : List Step) (ws : List Work) (t : TaskLog) (k : Member (tasks_from depth p ws) t). tasks_under depth p ws t k) where
+  at : (n : ℕ) → slice_get (tasks_from (suc depth) path works) n ≡ Some task → ((p : List Step) (ws : List Work) (t : TaskLog) → Member (tasks_from depth p ws) t → IsUnder depth p ws t) → IsUnder (suc depth) path works task
+  at zero found rest =
+      subst (λ (t : TaskLog). IsUnder (suc depth) path works t) (same_Some (record { path = path; records = flat_map work_records works }) task found)
+      (record { rest = []; short = omega arith; path_is = sym (append-nil path); records_are = refl; forked = tt })
+  at (suc n) found rest =
+      regions_under depth (tasks_from depth) rest path works 0 (flat_map work_regions works) task
+      (λ k region there. ap (λ (j : ℕ). slice_get (flat_map work_regions works) j) (let e : 0 + k ≡ k = omega arith in e) ∙ there) (record { place = n; found = found })
+
+-- a listed path has the log of its works
+log_listed : (trace : Trace) (logs : Logs) (path : List Step) → ((task : TaskLog) → Member trace task → task.records ≡ logs task.path) → ListsTask trace path → logs_of trace path ≡ logs path
+log_listed [] logs path same (k, within, is) = absurd (omega arith)
+log_listed (t ∷ trace) logs path same (k, within, is) = at (path_eq t.path path) refl (log_listed trace logs path (λ task m. same task (record { place = suc m.place; found = m.found })))
+  where
+    at : (b : Bool) → path_eq t.path path ≡ b → (ListsTask trace path → logs_of trace path ≡ logs path) → logs_of (t ∷ trace) path ≡ logs path
+    at true e rest =
+        let here : logs_of (t ∷ trace) path ≡ t.records = rw e refl in
+        here ∙ same t (record { place = 0; found = refl }) ∙ ap logs (path_is t.path path e)
+    at false e rest =
+        let there : logs_of (t ∷ trace) path ≡ logs_of trace path = rw e refl in
+        there ∙ rest (by_place k within is)
+      where
+        by_place : (n : ℕ) → n < length (map (λ (task : TaskLog). task.path) (t ∷ trace)) → get_or (map (λ (task : TaskLog). task.path) (t ∷ trace)) n path ≡ path → ListsTask trace path
+        by_place zero less same_path = let own : path_eq t.path path ≡ true = ap (λ (p : List Step). path_eq p path) same_path ∙ path_same path in cc
+        by_place (suc n) less same_path = (n, omega arith, same_path)
+
+task_records : (depth : ℕ) (root : Work) (task : TaskLog) → Member (tasks_of depth root) task → task.records ≡ task_logs root task.path
+task_records depth root task m = let u = tasks_under (suc depth) [] (root ∷ []) task m in u.records_are ∙ ap (λ (p : List Step). task_logs root p) (sym u.path_is)
+
+pub logs_listed : (depth : ℕ) (root : Work) (path : List Step) → ListsTask (tasks_of depth root) path → logs_of (tasks_of depth root) path ≡ task_logs root path
+logs_listed depth root path lists = log_listed (tasks_of depth root) (task_logs root) path (task_records depth root) lists
+
+-- the task of a listed path
+listed_member : (trace : Trace) (path : List Step) → ListsTask trace path → (task : TaskLog) × Member trace task × (task.path ≡ path)
+listed_member [] path (k, within, is) = absurd (omega arith)
+listed_member (t ∷ trace) path (zero, within, is) = (t, record { place = 0; found = refl }, is)
+listed_member (t ∷ trace) path (suc k, within, is) = at (listed_member trace path (k, omega arith, is)) where
+  at : (task : TaskLog) × Member trace task × (task.path ≡ path) → (task : TaskLog) × Member (t ∷ trace) task × (task.path ≡ path)
+  at (task, m, same) = (task, record { place = suc m.place; found = m.found }, same)
+
+member_listed : (trace : Trace) (task : TaskLog) → Member trace task → ListsTask trace task.path
+member_listed [] task m = let none = m.found in cc
+member_listed (t ∷ trace) task m = at m.place m.found (λ (n : ℕ) found. member_listed trace task (record { place = n; found = found })) where
+  at : (n : ℕ) → slice_get (t ∷ trace) n ≡ Some task → ((k : ℕ) → slice_get trace k ≡ Some task → ListsTask trace task.path) → ListsTask (t ∷ trace) task.path
+  at zero found rest = (0, omega arith, ap (λ (x : TaskLog). x.path) (same_Some t task found))
+  at (suc n) found rest = more (rest n found) where
+    more : ListsTask trace task.path → ListsTask (t ∷ trace) task.path
+    more (k, within, is) = (suc k, omega arith, is)
+
+pub regions_later : (below : List Step → List Work → Trace) (path : List Step) (g : ℕ) (regions more : List RegionWork)
+    → region_tasks below path g (regions ++ more) ≡ region_tasks below path g regions ++ region_tasks below path (g + length regions) more
+regions_later below path g [] more = ap (λ (n : ℕ). region_tasks below path n more) (let e : g ≡ g + 0 = omega arith in e)
+regions_later below path g (region ∷ regions) more =
+    ap (λ (ts : Trace). lane_tasks below path g region.span region.phases 0 region.span ++ ts) (regions_later below path (g + 1) regions more)
+    ∙ sym (append_assoc (lane_tasks below path g region.span region.phases 0 region.span) (region_tasks below path (g + 1) regions) (region_tasks below path (g + 1 + length regions) more))
+    ∙ ap (λ (n : ℕ). (lane_tasks below path g region.span region.phases 0 region.span ++ region_tasks below path (g + 1) regions) ++ region_tasks below path n more)
+    (let e : g + 1 + length regions ≡ g + suc (length regions) = omega arith in e)
+
+-- each forked path is listed
+lane_member : (below : List Step → List Work → Trace) (path : List Step) (g span : ℕ) (phases : Phases) (lane d left : ℕ) (task : TaskLog) → d < left
+    → Member (below (lane_of path g (lane + d) span) (lane_works (lane + d) phases)) task → Member (lane_tasks below path g span phases lane left) task
+lane_member below path g span phases lane d zero task less m = absurd (omega arith)
+lane_member below path g span phases lane zero (suc left) task less m =
+    first_member (below (lane_of path g lane span) (lane_works lane phases)) (lane_tasks below path g span phases (suc lane) left) task
+    (subst (λ (l : ℕ). Member (below (lane_of path g l span) (lane_works l phases)) task) (let e : lane + 0 ≡ lane = omega arith in e) m)
+lane_member below path g span phases lane (suc d) (suc left) task less m =
+    later_member (below (lane_of path g lane span) (lane_works lane phases)) (lane_tasks below path g span phases (suc lane) left) task
+    (lane_member below path g span phases (suc lane) d left task (omega arith) (subst (λ (l : ℕ). Member (below (lane_of path g l span) (lane_works l phases)) task) (let e : lane + suc d ≡ suc lane + d = omega arith in e) m))
+
+region_member : (below : List Step → List Work → Trace) (path : List Step) (g n : ℕ) (regions : List RegionWork) (region : RegionWork) (task : TaskLog) → slice_get regions n ≡ Some region
+    → Member (lane_tasks below path (g + n) region.span region.phases 0 region.span) task → Member (region_tasks below path g regions) task
+region_member below path g n [] region task found m = cc
+region_member below path g zero (r ∷ regions) region task found m =
+    first_member (lane_tasks below path g r.span r.phases 0 r.span) (region_tasks below path (g + 1) regions) task
+    (subst (λ (x : RegionWork). Member (lane_tasks below path g x.span x.phases 0 x.span) task) (sym (same_Some r region found))
+    (subst (λ (k : ℕ). Member (lane_tasks below path k region.span region.phases 0 region.span) task) (let e : g + 0 ≡ g = omega arith in e) m))
+region_member below path g (suc n) (r ∷ regions) region task found m =
+    later_member (lane_tasks below path g r.span r.phases 0 r.span) (region_tasks below path (g + 1) regions) task
+    (region_member below path (g + 1) n regions region task found (subst (λ (k : ℕ). Member (lane_tasks below path k region.span region.phases 0 region.span) task) (let e : g + suc n ≡ g + 1 + n = omega arith in e) m))
+
+abbrev under_task : List Step → List Work → List Step → TaskLog
+under_task path works rest = record { path = path ++ rest; records = flat_map work_records (works_under works rest) }
+
+forked_listed : (depth : ℕ) (path : List Step) (works : List Work) (rest : List Step) → AreForked works rest → length rest < depth → Member (tasks_from depth path works) (under_task path works rest)
+forked_listed zero path works rest forked less = absurd (omega arith)
+forked_listed (suc depth) path works [] forked less =
+    record { place = 0; found = ap (λ (p : List Step). Some (record { path = p; records = flat_map work_records works })) (sym (append-nil path)) }
+forked_listed (suc depth) path works (step ∷ rest) forked less = at (forked_listed depth (path ++ step ∷ []) (works_at_step step works) rest forked.1 (omega arith))
+  where
+    region : RegionWork
+    region = forked.0.region
+
+    step_is : record { region = step.region; lane = step.lane; span = forked.0.region.span } ≡ step
+    step_is = λ i. record { region = step.region; lane = step.lane; span = forked.0.span_is i }
+
+    same_works : works_at_step step works ≡ lane_works step.lane forked.0.region.phases
+    same_works = ap (λ (s : Step). works_at_step s works) (sym step_is) ∙ lane_is works forked.0.region step.region step.lane forked.0.found
+
+    at : Member (tasks_from depth (path ++ step ∷ []) (works_at_step step works)) (under_task (path ++ step ∷ []) (works_at_step step works) rest) → Member (tasks_from (suc depth) path works) (under_task path works (step ∷ rest))
+    at m = record { place = suc in_regions.place; found = in_regions.found }
+      where
+        there : Member (tasks_from depth (lane_of path step.region step.lane forked.0.region.span) (lane_works step.lane forked.0.region.phases)) (under_task path works (step ∷ rest))
+        there =
+            subst (λ (ws : List Work). Member (tasks_from depth (lane_of path step.region step.lane forked.0.region.span) ws) (under_task path works (step ∷ rest))) same_works
+            (subst (λ (s : Step). Member (tasks_from depth (path ++ s ∷ []) (works_at_step step works)) (under_task path works (step ∷ rest))) (sym step_is)
+            (subst (λ (p : List Step). Member (tasks_from depth (path ++ step ∷ []) (works_at_step step works)) (record { path = p; records = flat_map work_records (works_under (works_at_step step works) rest) }))
+            (append_assoc path (step ∷ []) rest) m))
+
+        in_regions : Member (region_tasks (tasks_from depth) path 0 (flat_map work_regions works)) (under_task path works (step ∷ rest))
+        in_regions =
+            region_member (tasks_from depth) path 0 step.region (flat_map work_regions works) forked.0.region (under_task path works (step ∷ rest)) forked.0.found
+            (lane_member (tasks_from depth) path (0 + step.region) forked.0.region.span forked.0.region.phases 0 step.lane forked.0.region.span (under_task path works (step ∷ rest))
+            (omega (arith, forked.0.within, forked.0.span_is))
+            (subst (λ (k : ℕ). Member (tasks_from depth (lane_of path k (0 + step.lane) forked.0.region.span) (lane_works (0 + step.lane) forked.0.region.phases)) (under_task path works (step ∷ rest)))
+            (let e : step.region ≡ 0 + step.region = omega arith in e)
+            (subst (λ (l : ℕ). Member (tasks_from depth (lane_of path step.region l forked.0.region.span) (lane_works l forked.0.region.phases)) (under_task path works (step ∷ rest))) (let e : step.lane ≡ 0 + step.lane = omega arith in e) there)))
+
+listed_of : (depth : ℕ) (root : Work) (path : List Step) → AreForked (root ∷ []) path → length path ≤ depth → ListsTask (tasks_of depth root) path
+listed_of depth root path forked le = member_listed (tasks_of depth root) (under_task [] (root ∷ []) path) (forked_listed (suc depth) [] (root ∷ []) path forked (omega arith))
