@@ -3,7 +3,7 @@ use Rattle.std.proofs.Common.{◌≡◌, ◌⊎◌, inl, inr, refl, sym, ap, ap�
 use Rattle.std.specs.Prelude.{slice_get, if◌then◌else◌, ◌==◌, Contains, count_by, get_or}
 use Rattle.std.specs.List.{flat_map}
 use Rattle.std.proofs.lemmas.Bool.{cases_lt}
-use Rattle.std.proofs.lemmas.List.{append-nil, append_assoc, append_cancel_left, same_from_push}
+use Rattle.std.proofs.lemmas.List.{append-nil, append_assoc, length-append}
 use Rattle.std.proofs.lemmas.Option.{same_Some}
 use Rattle.sw_base.specs.declared.path.Step.{Step}
 use Rattle.log_format.specs.declared.record.Record.{Record}
@@ -189,9 +189,6 @@ forked_listed (suc depth) path works [] forked less =
     record { place = 0; found = ap (λ (p : List Step). Some (record { path = p; records = flat_map work_records works })) (sym (append-nil path)) }
 forked_listed (suc depth) path works (step ∷ rest) forked less = at (forked_listed depth (path ++ step ∷ []) (works_at_step step works) rest forked.1 (omega arith))
   where
-    region : RegionWork
-    region = forked.0.region
-
     step_is : record { region = step.region; lane = step.lane; span = forked.0.region.span } ≡ step
     step_is = λ i. record { region = step.region; lane = step.lane; span = forked.0.span_is i }
 
@@ -219,3 +216,187 @@ forked_listed (suc depth) path works (step ∷ rest) forked less = at (forked_li
 
 listed_of : (depth : ℕ) (root : Work) (path : List Step) → AreForked (root ∷ []) path → length path ≤ depth → ListsTask (tasks_of depth root) path
 listed_of depth root path forked le = member_listed (tasks_of depth root) (under_task [] (root ∷ []) path) (forked_listed (suc depth) [] (root ∷ []) path forked (omega arith))
+
+-- works of a sound tree
+abbrev AreSound : WordLayout → List Work → Type 0
+AreSound layout [] = Unit {0}
+AreSound layout (work ∷ works) = IsSound layout work × AreSound layout works
+
+sound_append : (layout : WordLayout) (xs ys : List Work) → AreSound layout xs → AreSound layout ys → AreSound layout (xs ++ ys)
+sound_append layout [] ys left right = right
+sound_append layout (x ∷ xs) ys left right = (left.0, sound_append layout xs ys left.1 right)
+
+sound_work_region : (layout : WordLayout) (work : Work) (r : ℕ) (region : RegionWork) → IsSound layout work → slice_get (work_regions work) r ≡ Some region → ArePhasesSound layout region.span region.phases
+sound_work_region layout Rest r region sound found = cc
+sound_work_region layout (Put q more) r region sound found = sound_work_region layout more r region sound.2 found
+sound_work_region layout (Fork line span phases more) zero region sound found =
+    subst (λ (x : RegionWork). ArePhasesSound layout x.span x.phases) (same_Some (record { span = span; phases = phases }) region found) sound.0
+sound_work_region layout (Fork line span phases more) (suc r) region sound found = sound_work_region layout more r region sound.1 found
+
+sound_regions : (layout : WordLayout) (works : List Work) (r : ℕ) (region : RegionWork) → AreSound layout works → slice_get (flat_map work_regions works) r ≡ Some region → ArePhasesSound layout region.span region.phases
+sound_regions layout [] r region sound found = cc
+sound_regions layout (work ∷ works) r region sound found =
+    at (get_either (work_regions work) (flat_map work_regions works) r region found) (λ (k : ℕ) there. sound_regions layout works k region sound.1 there)
+  where
+    at : (slice_get (work_regions work) r ≡ Some region) ⊎ ((m : ℕ) × (r ≡ length (work_regions work) + m) × (slice_get (flat_map work_regions works) m ≡ Some region))
+        → ((k : ℕ) → slice_get (flat_map work_regions works) k ≡ Some region → ArePhasesSound layout region.span region.phases) → ArePhasesSound layout region.span region.phases
+    at (inl here) rest = sound_work_region layout work r region sound.0 here
+    at (inr (m, same, there)) rest = rest m there
+
+sound_team_at : (layout : WordLayout) (lane : ℕ) (team : TeamWork) → IsTeamSound layout team → AreSound layout (work_at lane team)
+sound_team_at layout lane NoWork sound = tt
+sound_team_at layout zero (Beside work others) sound = (sound.0, tt)
+sound_team_at layout (suc lane) (Beside work others) sound = sound_team_at layout lane others sound.1
+
+sound_lane_works : (layout : WordLayout) (span lane : ℕ) (phases : Phases) → ArePhasesSound layout span phases → AreSound layout (lane_works lane phases)
+sound_lane_works layout span lane NoPhase sound = tt
+sound_lane_works layout span lane (Phase team later) sound = sound_append layout (work_at lane team) (lane_works lane later) (sound_team_at layout lane team sound.1) (sound_lane_works layout span lane later sound.3)
+
+sound_at_step : (layout : WordLayout) (step : Step) (works : List Work) → AreSound layout works → AreSound layout (works_at_step step works)
+sound_at_step layout step works sound = at (slice_get (flat_map work_regions works) step.region) refl where
+  at : (o : Option RegionWork) → slice_get (flat_map work_regions works) step.region ≡ o → AreSound layout (works_at_region step o)
+  at None e = tt
+  at (Some region) e = by_span (region.span == step.span) where
+    by_span : (b : Bool) → AreSound layout (if b then lane_works step.lane region.phases else [])
+    by_span true = sound_lane_works layout region.span step.lane region.phases (sound_regions layout works step.region region sound e)
+    by_span false = tt
+
+sound_works_under : (layout : WordLayout) (works : List Work) (path : List Step) → AreSound layout works → AreSound layout (works_under works path)
+sound_works_under layout works [] sound = sound
+sound_works_under layout works (step ∷ path) sound = sound_works_under layout (works_at_step step works) path (sound_at_step layout step works sound)
+
+-- where there are records, the path was forked
+no_works_under : (path : List Step) → works_under [] path ≡ []
+no_works_under [] = refl
+no_works_under (step ∷ path) = no_works_under path
+
+no_work_at : (lane : ℕ) (team : TeamWork) → lane_count_of team ≤ lane → work_at lane team ≡ []
+no_work_at lane NoWork le = refl
+no_work_at zero (Beside work others) le = absurd (omega arith)
+no_work_at (suc lane) (Beside work others) le = no_work_at lane others (omega arith)
+
+no_lane_works : (layout : WordLayout) (span lane : ℕ) (phases : Phases) → ArePhasesSound layout span phases → span ≤ lane → lane_works lane phases ≡ []
+no_lane_works layout span lane NoPhase sound le = refl
+no_lane_works layout span lane (Phase team later) sound le =
+    ap₂ (λ (xs ys : List Work). xs ++ ys) (no_work_at lane team (omega (arith, sound.0))) (no_lane_works layout span lane later sound.3 le)
+
+span_same : (m n : ℕ) → (m == n) ≡ true → m ≡ n
+span_same m n e = grind arith
+
+records_forked : (layout : WordLayout) (works : List Work) (path : List Step) → AreSound layout works → 0 < length (flat_map work_records (works_under works path)) → AreForked works path
+records_forked layout works [] sound some = tt
+records_forked layout works (step ∷ path) sound some =
+    (at (slice_get (flat_map work_regions works) step.region) refl, records_forked layout (works_at_step step works) path (sound_at_step layout step works sound) some)
+  where
+    none : works_at_step step works ≡ [] → ⊥
+    none empty =
+        let size : length (flat_map work_records (works_under (works_at_step step works) path)) ≡ 0
+        = ap (λ (ws : List Work). length (flat_map work_records (works_under ws path))) empty ∙ ap (λ (ws : List Work). length (flat_map work_records ws)) (no_works_under path) in
+        omega arith
+
+    at : (o : Option RegionWork) → slice_get (flat_map work_regions works) step.region ≡ o → IsForkedLane works step
+    at None e = absurd (none (ap (λ (o : Option RegionWork). works_at_region step o) e))
+    at (Some region) e = by_span (region.span == step.span) refl where
+      works_are : (b : Bool) → (region.span == step.span) ≡ b → works_at_step step works ≡ (if b then lane_works step.lane region.phases else [])
+      works_are b same = ap (λ (o : Option RegionWork). works_at_region step o) e ∙ ap (λ (c : Bool). if c then lane_works step.lane region.phases else []) same
+
+      by_span : (b : Bool) → (region.span == step.span) ≡ b → IsForkedLane works step
+      by_span false same = absurd (none (works_are false same))
+      by_span true same =
+          let span_is : region.span ≡ step.span = span_same region.span step.span same in
+          record { region = region; found = e; span_is = span_is; within = by_lane span_is (cases_lt step.lane step.span) }
+        where
+          by_lane : region.span ≡ step.span → (step.lane < step.span) ⊎ (step.span ≤ step.lane) → step.lane < step.span
+          by_lane span_is (inl less) = less
+          by_lane span_is (inr le) =
+              absurd (none (works_are true same ∙ no_lane_works layout region.span step.lane region.phases (sound_regions layout works step.region region sound e) (omega arith)))
+
+pub all_listed : (layout : WordLayout) (depth : ℕ) (root : Work) (path : List Step) → IsSound layout root → length path ≤ depth → IsTask (task_logs root) path → ListsTask (tasks_of depth root) path
+all_listed layout depth root path sound le some = listed_of depth root path (records_forked layout (root ∷ []) path (sound, tt) some) le
+
+-- the record of a region
+abbrev PutsNoRegion : Work → Type 0
+PutsNoRegion Rest = Unit {0}
+PutsNoRegion (Put r more) = (r.kind ≡ Region → ⊥) × PutsNoRegion more
+PutsNoRegion (Fork line span phases more) = PutsNoRegion more
+
+sound_puts : (layout : WordLayout) (work : Work) → IsSound layout work → PutsNoRegion work
+sound_puts layout Rest sound = tt
+sound_puts layout (Put r more) sound = (sound.0.no_region, sound_puts layout more sound.2)
+sound_puts layout (Fork line span phases more) sound = sound_puts layout more sound.1
+
+then_puts : (work other : Work) → PutsNoRegion work → PutsNoRegion other → PutsNoRegion (then_work work other)
+then_puts Rest other mine yours = yours
+then_puts (Put r more) other mine yours = (mine.0, then_puts more other mine.1 yours)
+then_puts (Fork line span phases more) other mine yours = then_puts more other mine yours
+
+joined_puts : (layout : WordLayout) (works : List Work) → AreSound layout works → PutsNoRegion (joined works)
+joined_puts layout [] sound = tt
+joined_puts layout (work ∷ works) sound = then_puts work (joined works) (sound_puts layout work sound.0) (joined_puts layout works sound.1)
+
+record RegionRecord (records : List Record) (number span : ℕ) : Type 0 where
+  place : ℕ
+  line : ℕ
+  found : slice_get records place ≡ Some (fork_record line span)
+  before : region_count (take place records) ≡ number
+
+other_kind : (k : Kind) → (k ≡ Region → ⊥) → is_region_kind k ≡ false
+other_kind Region other = absurd (other refl)
+other_kind _ other = refl
+
+region_record_at : (work : Work) (r : ℕ) (region : RegionWork) → PutsNoRegion work → slice_get (work_regions work) r ≡ Some region → RegionRecord (work_records work) r region.span
+region_record_at Rest r region puts found = cc
+region_record_at (Put q more) r region puts found =
+    let rest = region_record_at more r region puts.1 found in
+    let none : region_count (q ∷ []) ≡ 0 = ap (λ (b : Bool). 0 + cond b 1 0) (other_kind q.kind puts.0) in
+    let count = count_cons (λ (x : Record). is_region_kind x.kind) q (take rest.place (work_records more)) in
+    record { place = suc rest.place; line = rest.line; found = rest.found; before = omega (arith, rest.before) }
+region_record_at (Fork line span phases more) zero region puts found =
+    record { place = 0; line = line; found = ap (λ (x : RegionWork). Some (fork_record line x.span)) (same_Some (record { span = span; phases = phases }) region found); before = refl }
+region_record_at (Fork line span phases more) (suc r) region puts found =
+    let rest = region_record_at more r region puts found in
+    let count = count_cons (λ (x : Record). is_region_kind x.kind) (fork_record line span) (take rest.place (work_records more)) in
+    record { place = suc rest.place; line = rest.line; found = rest.found; before = omega (arith, rest.before) }
+
+region_of_works : (layout : WordLayout) (works : List Work) (r : ℕ) (region : RegionWork) → AreSound layout works → slice_get (flat_map work_regions works) r ≡ Some region → RegionRecord (flat_map work_records works) r region.span
+region_of_works layout works r region sound found =
+    subst (λ (rs : List Record). RegionRecord rs r region.span) (joined_records works)
+    (region_record_at (joined works) r region (joined_puts layout works sound) (ap (λ (regions : List RegionWork). slice_get regions r) (joined_regions works) ∙ found))
+
+-- of a forked path the path above, and its last step
+forked_last : (works : List Work) (path : List Step) (step : Step) → AreForked works (path ++ step ∷ []) → AreForked works path × IsForkedLane (works_under works path) step
+forked_last works [] step forked = (tt, forked.0)
+forked_last works (s ∷ path) step forked = let rest = forked_last (works_at_step s works) path step forked.1 in ((forked.0, rest.0), rest.1)
+
+pub tree_of_tasks : (layout : WordLayout) (depth : ℕ) (root : Work) → IsSound layout root → IsTreeTrace (tasks_of depth root)
+tree_of_tasks layout depth root sound = record { root = (0, omega arith, refl); forked = λ path step lists. at path step (listed_member (tasks_of depth root) (path ++ step ∷ []) lists) }
+  where
+    at : (path : List Step) (step : Step) → (task : TaskLog) × Member (tasks_of depth root) task × (task.path ≡ path ++ step ∷ []) → WasForked (logs_of (tasks_of depth root)) path step
+    at path step (task, m, same) = of_task (tasks_under (suc depth) [] (root ∷ []) task m)
+      where
+        of_task : IsUnder (suc depth) [] (root ∷ []) task → WasForked (logs_of (tasks_of depth root)) path step
+        of_task u = of_parts (forked_last (root ∷ []) path step (subst (λ (p : List Step). AreForked (root ∷ []) p) (sym u.path_is ∙ same) u.forked))
+          where
+            size : length path + 1 ≤ depth
+            size = let sizes : length u.rest ≡ length path + 1 = ap length (sym u.path_is ∙ same) ∙ length-append path (step ∷ []) in omega (arith, u.short)
+
+            of_parts : AreForked (root ∷ []) path × IsForkedLane (works_under (root ∷ []) path) step → WasForked (logs_of (tasks_of depth root)) path step
+            of_parts (above, last) =
+                with_record (region_of_works layout (works_under (root ∷ []) path) step.region last.region (sound_works_under layout (root ∷ []) path (sound, tt)) last.found)
+              where
+                log_is : logs_of (tasks_of depth root) path ≡ flat_map work_records (works_under (root ∷ []) path)
+                log_is = logs_listed depth root path (listed_of depth root path above (omega (arith, size)))
+
+                with_record : RegionRecord (flat_map work_records (works_under (root ∷ []) path)) step.region last.region.span → WasForked (logs_of (tasks_of depth root)) path step
+                with_record r = record {
+                  fork = record { path = path; index = r.place };
+                  above = refl;
+                  lane = record {
+                    event = fork_record r.line last.region.span;
+                    found = ap (λ (rs : List Record). slice_get rs r.place) log_is ∙ r.found;
+                    region = refl;
+                    spans = last.span_is;
+                    in_span = last.within;
+                    child = ap (λ (n : ℕ). path ++ record { region = n; lane = step.lane; span = step.span } ∷ []) (sym (ap (λ (rs : List Record). region_count (take r.place rs)) log_is ∙ r.before));
+                  };
+                }

@@ -11,7 +11,10 @@ use Rattle.step_history.specs.declared.item.Item.{Item}
 use Rattle.step_history.specs.declared.item.Deed.TheVariants as deed
 use Rattle.step_history.specs.History.{item, Legal, HasHistory, value_at}
 use Rattle.history_model.specs.Work.{Work, Rest, Put, Fork, Phases, NoPhase, Phase, TeamWork, NoWork, Beside, fork_record, task_logs}
+use Rattle.race_model.specs.Draws.{draws_by_loop}
 use Rattle.history_model.specs.Did.{did}
+use Rattle.history_model.specs.Drawn.{then_loops}
+use Rattle.history_model.specs.Tasks.{tasks_of}
 use Rattle.history_model.specs.Sound.{WordLayout, IsSoundRecord, IsSound, ArePhasesSound, PassesBarrier}
 
 -- one word at each address
@@ -181,3 +184,25 @@ stopping = Fork 3 2 (Phase (two_lanes (adding 0 (Put (mutex_step Unlock 6) (Put 
 -- what the second lane releases isn't in its log
 pub stopped_log : task_logs stopping (step 0 1 2 ∷ []) ≡ released (mutex_step Lock 5 ∷ word_access Read 1 ∷ word_access Write 2 ∷ [])
 stopped_log = refl
+
+-- the tasks in the order of an index: each lane, and then what is under it
+pub whole_tasks : tasks_of 4 whole ≡
+    record { path = []; records = fork_record 3 2 ∷ mark End ∷ [] }
+    ∷ record { path = step 0 0 2 ∷ []; records = word_access Write 1 ∷ mark Barrier ∷ mark End ∷ [] }
+    ∷ record { path = step 0 1 2 ∷ []; records = mark Barrier ∷ fork_record 4 1 ∷ mark End ∷ [] }
+    ∷ record { path = step 0 1 2 ∷ step 0 0 1 ∷ []; records = word_access Write 2 ∷ mark Barrier ∷ word_access Read 2 ∷ mark End ∷ [] }
+    ∷ []
+whole_tasks = refl
+
+pub root_alone : tasks_of 0 whole ≡ record { path = []; records = fork_record 3 2 ∷ mark End ∷ [] } ∷ []
+root_alone = refl
+
+-- a log that goes on within a loop, and past its end
+abbrev chunk_record : ℕ → ℕ → Record
+chunk_record number count = record { kind = Chunk; size = 0; site = 0; line = 3; addr = number; value = count }
+
+pub within_a_loop : then_loops (draws_by_loop (chunk_record 0 3 ∷ [])) (draws_by_loop (chunk_record 2 3 ∷ chunk_record 3 3 ∷ [])) ≡ (0 ∷ 2 ∷ []) ∷ [] ∷ []
+within_a_loop = refl
+
+pub past_a_loop : then_loops (draws_by_loop (chunk_record 3 3 ∷ [])) (draws_by_loop (chunk_record 0 1 ∷ [])) ≡ [] ∷ (0 ∷ []) ∷ []
+past_a_loop = refl
