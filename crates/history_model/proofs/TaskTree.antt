@@ -18,7 +18,7 @@ use Rattle.race_model.proofs.LabelPlace.{not_both_empty}
 use Rattle.history_model.specs.Work.{Work, Rest, Put, Fork, Phases, NoPhase, Phase, TeamWork, NoWork, Beside, RegionWork, fork_record, work_records, work_regions, work_at, lane_works, works_at_region, works_at_step, works_under, works_of, task_logs, then_work}
 use Rattle.history_model.specs.Did.{lane_count_of}
 use Rattle.history_model.specs.Sound.{WordLayout, IsSound, ArePhasesSound, IsTeamSound}
-use Rattle.history_model.specs.Tasks.{lane_tasks, region_tasks, tasks_from, tasks_of}
+use Rattle.history_model.specs.Tasks.{lane_tasks, region_tasks, tasks_from, tree_tasks}
 use Rattle.history_model.proofs.ActsOrder.{count_cons}
 use Rattle.history_model.proofs.Members.{Member, first_member, later_member}
 use Rattle.history_model.proofs.Windows.{get_either}
@@ -126,11 +126,11 @@ log_listed (t ∷ trace) logs path same (k, within, is) = at (path_eq t.path pat
         by_place zero less same_path = let own : path_eq t.path path ≡ true = ap (λ (p : List Step). path_eq p path) same_path ∙ path_same path in cc
         by_place (suc n) less same_path = (n, omega arith, same_path)
 
-task_records : (depth : ℕ) (root : Work) (task : TaskLog) → Member (tasks_of depth root) task → task.records ≡ task_logs root task.path
+task_records : (depth : ℕ) (root : Work) (task : TaskLog) → Member (tree_tasks depth root) task → task.records ≡ task_logs root task.path
 task_records depth root task m = let u = tasks_under (suc depth) [] (root ∷ []) task m in u.records_are ∙ ap (λ (p : List Step). task_logs root p) (sym u.path_is)
 
-pub logs_listed : (depth : ℕ) (root : Work) (path : List Step) → ListsTask (tasks_of depth root) path → logs_of (tasks_of depth root) path ≡ task_logs root path
-logs_listed depth root path lists = log_listed (tasks_of depth root) (task_logs root) path (task_records depth root) lists
+pub logs_listed : (depth : ℕ) (root : Work) (path : List Step) → ListsTask (tree_tasks depth root) path → logs_of (tree_tasks depth root) path ≡ task_logs root path
+logs_listed depth root path lists = log_listed (tree_tasks depth root) (task_logs root) path (task_records depth root) lists
 
 -- the task of a listed path
 listed_member : (trace : Trace) (path : List Step) → ListsTask trace path → (task : TaskLog) × Member trace task × (task.path ≡ path)
@@ -214,8 +214,8 @@ forked_listed (suc depth) path works (step ∷ rest) forked less = at (forked_li
             (let e : step.region ≡ 0 + step.region = omega arith in e)
             (subst (λ (l : ℕ). Member (tasks_from depth (lane_of path step.region l forked.0.region.span) (lane_works l forked.0.region.phases)) (under_task path works (step ∷ rest))) (let e : step.lane ≡ 0 + step.lane = omega arith in e) there)))
 
-listed_of : (depth : ℕ) (root : Work) (path : List Step) → AreForked (root ∷ []) path → length path ≤ depth → ListsTask (tasks_of depth root) path
-listed_of depth root path forked le = member_listed (tasks_of depth root) (under_task [] (root ∷ []) path) (forked_listed (suc depth) [] (root ∷ []) path forked (omega arith))
+listed_of : (depth : ℕ) (root : Work) (path : List Step) → AreForked (root ∷ []) path → length path ≤ depth → ListsTask (tree_tasks depth root) path
+listed_of depth root path forked le = member_listed (tree_tasks depth root) (under_task [] (root ∷ []) path) (forked_listed (suc depth) [] (root ∷ []) path forked (omega arith))
 
 -- works of a sound tree
 abbrev AreSound : WordLayout → List Work → Type 0
@@ -311,7 +311,7 @@ records_forked layout works (step ∷ path) sound some =
           by_lane span_is (inr le) =
               absurd (none (works_are true same ∙ no_lane_works layout region.span step.lane region.phases (sound_regions layout works step.region region sound e) (omega arith)))
 
-pub all_listed : (layout : WordLayout) (depth : ℕ) (root : Work) (path : List Step) → IsSound layout root → length path ≤ depth → IsTask (task_logs root) path → ListsTask (tasks_of depth root) path
+pub all_listed : (layout : WordLayout) (depth : ℕ) (root : Work) (path : List Step) → IsSound layout root → length path ≤ depth → IsTask (task_logs root) path → ListsTask (tree_tasks depth root) path
 all_listed layout depth root path sound le some = listed_of depth root path (records_forked layout (root ∷ []) path (sound, tt) some) le
 
 -- the record of a region
@@ -368,26 +368,26 @@ forked_last : (works : List Work) (path : List Step) (step : Step) → AreForked
 forked_last works [] step forked = (tt, forked.0)
 forked_last works (s ∷ path) step forked = let rest = forked_last (works_at_step s works) path step forked.1 in ((forked.0, rest.0), rest.1)
 
-pub tree_of_tasks : (layout : WordLayout) (depth : ℕ) (root : Work) → IsSound layout root → IsTreeTrace (tasks_of depth root)
-tree_of_tasks layout depth root sound = record { root = (0, omega arith, refl); forked = λ path step lists. at path step (listed_member (tasks_of depth root) (path ++ step ∷ []) lists) }
+pub tree_of_tasks : (layout : WordLayout) (depth : ℕ) (root : Work) → IsSound layout root → IsTreeTrace (tree_tasks depth root)
+tree_of_tasks layout depth root sound = record { root = (0, omega arith, refl); forked = λ path step lists. at path step (listed_member (tree_tasks depth root) (path ++ step ∷ []) lists) }
   where
-    at : (path : List Step) (step : Step) → (task : TaskLog) × Member (tasks_of depth root) task × (task.path ≡ path ++ step ∷ []) → WasForked (logs_of (tasks_of depth root)) path step
+    at : (path : List Step) (step : Step) → (task : TaskLog) × Member (tree_tasks depth root) task × (task.path ≡ path ++ step ∷ []) → WasForked (logs_of (tree_tasks depth root)) path step
     at path step (task, m, same) = of_task (tasks_under (suc depth) [] (root ∷ []) task m)
       where
-        of_task : IsUnder (suc depth) [] (root ∷ []) task → WasForked (logs_of (tasks_of depth root)) path step
+        of_task : IsUnder (suc depth) [] (root ∷ []) task → WasForked (logs_of (tree_tasks depth root)) path step
         of_task u = of_parts (forked_last (root ∷ []) path step (subst (λ (p : List Step). AreForked (root ∷ []) p) (sym u.path_is ∙ same) u.forked))
           where
             size : length path + 1 ≤ depth
             size = let sizes : length u.rest ≡ length path + 1 = ap length (sym u.path_is ∙ same) ∙ length-append path (step ∷ []) in omega (arith, u.short)
 
-            of_parts : AreForked (root ∷ []) path × IsForkedLane (works_under (root ∷ []) path) step → WasForked (logs_of (tasks_of depth root)) path step
+            of_parts : AreForked (root ∷ []) path × IsForkedLane (works_under (root ∷ []) path) step → WasForked (logs_of (tree_tasks depth root)) path step
             of_parts (above, last) =
                 with_record (region_of_works layout (works_under (root ∷ []) path) step.region last.region (sound_works_under layout (root ∷ []) path (sound, tt)) last.found)
               where
-                log_is : logs_of (tasks_of depth root) path ≡ flat_map work_records (works_under (root ∷ []) path)
+                log_is : logs_of (tree_tasks depth root) path ≡ flat_map work_records (works_under (root ∷ []) path)
                 log_is = logs_listed depth root path (listed_of depth root path above (omega (arith, size)))
 
-                with_record : RegionRecord (flat_map work_records (works_under (root ∷ []) path)) step.region last.region.span → WasForked (logs_of (tasks_of depth root)) path step
+                with_record : RegionRecord (flat_map work_records (works_under (root ∷ []) path)) step.region last.region.span → WasForked (logs_of (tree_tasks depth root)) path step
                 with_record r = record {
                   fork = record { path = path; index = r.place };
                   above = refl;

@@ -14,7 +14,7 @@ use Rattle.history_model.specs.Work.{Work, Rest, Put, Fork, Phases, NoPhase, Pha
 use Rattle.race_model.specs.Draws.{draws_by_loop}
 use Rattle.history_model.specs.Did.{did}
 use Rattle.history_model.specs.Drawn.{then_loops}
-use Rattle.history_model.specs.Tasks.{tasks_of}
+use Rattle.history_model.specs.Tasks.{tree_tasks}
 use Rattle.history_model.specs.Sound.{WordLayout, IsSoundRecord, IsSound, ArePhasesSound, PassesBarrier}
 
 -- one word at each address
@@ -186,7 +186,7 @@ pub stopped_log : task_logs stopping (step 0 1 2 ∷ []) ≡ released (mutex_ste
 stopped_log = refl
 
 -- the tasks in the order of an index: each lane, and then what is under it
-pub whole_tasks : tasks_of 4 whole ≡
+pub whole_tasks : tree_tasks 4 whole ≡
     record { path = []; records = fork_record 3 2 ∷ mark End ∷ [] }
     ∷ record { path = step 0 0 2 ∷ []; records = word_access Write 1 ∷ mark Barrier ∷ mark End ∷ [] }
     ∷ record { path = step 0 1 2 ∷ []; records = mark Barrier ∷ fork_record 4 1 ∷ mark End ∷ [] }
@@ -194,7 +194,7 @@ pub whole_tasks : tasks_of 4 whole ≡
     ∷ []
 whole_tasks = refl
 
-pub root_alone : tasks_of 0 whole ≡ record { path = []; records = fork_record 3 2 ∷ mark End ∷ [] } ∷ []
+pub root_alone : tree_tasks 0 whole ≡ record { path = []; records = fork_record 3 2 ∷ mark End ∷ [] } ∷ []
 root_alone = refl
 
 -- a log that goes on within a loop, and past its end

@@ -22,5 +22,5 @@ tasks_from zero path works = []
 tasks_from (suc depth) path works = record { path = path; records = flat_map work_records works } ∷ region_tasks (tasks_from depth) path 0 (flat_map work_regions works)
 
 -- the tasks of a tree whose paths have at most so many steps
-abbrev pub tasks_of : ℕ → Work → Trace
-tasks_of depth root = tasks_from (suc depth) [] (root ∷ [])
+abbrev pub tree_tasks : ℕ → Work → Trace
+tree_tasks depth root = tasks_from (suc depth) [] (root ∷ [])
