@@ -2,4 +2,5 @@ pub mod Exclusion
 pub mod Folds
 pub mod HistoryCases
 pub mod Names
+pub mod PrefixesOfHistories
 pub mod SplitsAndHomes

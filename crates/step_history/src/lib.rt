@@ -6,13 +6,16 @@
 //! each name, just that name's items in their order, and each word is the last value stored there.
 //!
 //! The laws here: between two locks of one mutex, whoever locked it first unlocks it; and what a hand does stands after its split
-//! and before its homecoming, so that all of a hand that comes home before another is split off stands before all of the other.
+//! and before its homecoming, so that all of a hand that comes home before another is split off stands before all of the other,
+//! and a prefix has all that leads to what it has.
 #![tactic(auto)]
 
 mod item;
 mod mutexes;
 mod order;
+mod prefixes;
 
 pub use item::{Deed, Item};
 pub use mutexes::critical_sections_exclude_each_other;
 pub use order::hands_work_between_split_and_home;
+pub use prefixes::prefixes_have_what_leads_to_them;
