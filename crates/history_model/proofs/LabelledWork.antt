@@ -12,7 +12,7 @@ use Rattle.step_history.specs.declared.item.Deed.TheVariants.{Split, Home}
 use Rattle.step_history.specs.History.{Name, item}
 use Rattle.history_model.specs.Work.{Work, Rest, Put, Fork, Phases, NoPhase, Phase, TeamWork, NoWork, Beside, work_records, work_regions, work_at}
 use Rattle.history_model.specs.Did.{deeds_of, lane_count_of, phase_splits, splits_of, did, did_phases, did_team}
-use Rattle.history_model.proofs.Labelled.{Labelled, items_of}
+use Rattle.step_history.specs.Labels.{Labelled, items_of}
 
 -- an item with the entry of its record, if it has one
 abbrev pub Marked : Type 0

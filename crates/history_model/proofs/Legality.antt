@@ -13,7 +13,7 @@ use Rattle.step_history.specs.declared.item.Deed.TheVariants.{Read, Write, Lock,
 use Rattle.step_history.specs.History.{Name, value_after, value_from, value_at, holder_after, holder_from, holder, FitsDeed, LegalAfter}
 use Rattle.history_model.specs.Did.{deeds_of}
 use Rattle.history_model.specs.Sound.{WordLayout}
-use Rattle.history_model.proofs.Labelled.{items_of}
+use Rattle.step_history.specs.Labels.{items_of}
 use Rattle.history_model.proofs.LabelledWork.{Marked}
 use Rattle.history_model.proofs.TaskEntries.{entries_of, entries_of-append}
 use Rattle.history_model.proofs.Windows.{get_either}

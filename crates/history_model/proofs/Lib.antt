@@ -5,7 +5,6 @@ pub mod Counting
 pub mod DrawnNumbers
 pub mod Edges
 pub mod GoodItems
-pub mod Labelled
 pub mod LabelledWork
 pub mod LaneEntries
 pub mod Legality

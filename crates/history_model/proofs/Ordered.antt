@@ -15,7 +15,7 @@ use Rattle.race_model.proofs.TraceLogs.{path_is}
 use Rattle.step_history.specs.History.{Name, name_eq}
 use Rattle.step_history.proofs.Names.{is_same_name}
 use Rattle.history_model.specs.Sound.{WordLayout, IsSound}
-use Rattle.history_model.proofs.Labelled.{labelled_of}
+use Rattle.step_history.specs.Labels.{labelled_of}
 use Rattle.history_model.proofs.Counting.{counted, at_count, Stands, stands, filter_yes, filter_no, only_one}
 use Rattle.history_model.proofs.LabelledWork.{Marked, entry}
 use Rattle.history_model.proofs.TimedWork.{TimedWork, plain, IsTimed, IsHandOf, Happened}

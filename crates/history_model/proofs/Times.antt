@@ -18,7 +18,7 @@ use Rattle.step_history.proofs.Names.{is_same_name, same_name}
 use Rattle.step_history.proofs.SplitsAndHomes.{split_before, home_after}
 use Rattle.history_model.specs.Work.{Work, Rest, Put, Fork, Phases, NoPhase, Phase, TeamWork, NoWork, Beside}
 use Rattle.history_model.specs.Did.{deeds_of, lane_count_of, phase_splits, split_count}
-use Rattle.history_model.proofs.Labelled.{labelled_of, items_of}
+use Rattle.step_history.specs.Labels.{labelled_of, items_of}
 use Rattle.history_model.proofs.Counting.{counted_up, counted_over, counted_most, at_count, Stands, stands}
 use Rattle.history_model.proofs.LabelledWork.{Marked, marked, entry, records_at, regions_at, splits_marked, put_marked, did_marked, phases_marked, team_marked}
 use Rattle.history_model.proofs.WorkNames.{of_append, of_none, homes_marked, splits_own, put_none, put_own, not_below, outside, phases_outside, team_outside, team_own, longer, splits_none, apart_below, both_empty}

@@ -11,7 +11,8 @@ use Rattle.step_history.specs.History.{Name, name_eq, of, Legal, value_at, HasHi
 use Rattle.history_model.specs.Work.{Work, task_logs}
 use Rattle.history_model.specs.Did.{did, split_count}
 use Rattle.history_model.specs.Sound.{WordLayout, IsSound, HasAddresses}
-use Rattle.history_model.proofs.Labelled.{labelled_of, items_of, IsLabelling, labelling}
+use Rattle.step_history.specs.Labels.{labelled_of, items_of, IsLabelling}
+use Rattle.step_history.proofs.Labelled.{labelling}
 use Rattle.history_model.proofs.Counting.{counted_all, filter_yes, filter_no}
 use Rattle.history_model.proofs.LabelledWork.{Marked, did_marked, marked_items}
 use Rattle.history_model.proofs.TimedWork.{TimedWork, plain, IsTimed, IsHandOf, Timing}

@@ -8,7 +8,7 @@ use Rattle.std.proofs.lemmas.Option.{slice_get-map, slice_get_within, same_Some}
 use Rattle.step_history.specs.declared.item.Item.{Item}
 use Rattle.step_history.specs.declared.item.Deed.TheVariants.{Split}
 use Rattle.step_history.specs.History.{Name, name_eq, item}
-use Rattle.history_model.proofs.Labelled.{labelled_of, items_of}
+use Rattle.step_history.specs.Labels.{labelled_of, items_of}
 use Rattle.history_model.proofs.Counting.{counted, counted_up, counted_over, Stands, stands, Cut, cut}
 use Rattle.history_model.proofs.LabelledWork.{Marked}
 use Rattle.history_model.proofs.WorkNames.{of_append}

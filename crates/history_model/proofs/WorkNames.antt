@@ -12,7 +12,7 @@ use Rattle.step_history.specs.History.{Name, name_eq}
 use Rattle.step_history.proofs.Names.{is_same_name, other_name}
 use Rattle.history_model.specs.Work.{Work, Rest, Put, Fork, Phases, NoPhase, Phase, TeamWork, NoWork, Beside}
 use Rattle.history_model.specs.Did.{deeds_of, lane_count_of, phase_splits, split_count}
-use Rattle.history_model.proofs.Labelled.{labelled_of}
+use Rattle.step_history.specs.Labels.{labelled_of}
 use Rattle.history_model.proofs.Counting.{filter_yes, filter_no}
 use Rattle.history_model.proofs.LabelledWork.{Marked, marked, entry, records_at, regions_at, splits_marked, put_marked, did_marked, phases_marked, team_marked}
 

@@ -11,11 +11,13 @@
 #![tactic(auto)]
 
 mod item;
+mod labels;
 mod mutexes;
 mod order;
 mod prefixes;
 
 pub use item::{Deed, Item};
+pub use labels::histories_take_labels;
 pub use mutexes::critical_sections_exclude_each_other;
 pub use order::hands_work_between_split_and_home;
 pub use prefixes::prefixes_have_what_leads_to_them;

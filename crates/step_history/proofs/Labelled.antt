@@ -1,22 +1,12 @@
 -- Items with labels: where the items of each name have labels, the history of all names has them too.
-use Rattle.std.proofs.Common.{◌≡◌, refl, sym, ap, ap₂, ◌∙◌, subst, ◌+◌, Bool, true, false, cond, List, [], ◌∷◌, ◌++◌, length, map, arith}
+use Rattle.std.proofs.Common.{◌≡◌, refl, sym, ap, ap₂, ◌∙◌, subst, ◌+◌, Bool, true, false, cond, List, [], ◌∷◌, ◌++◌, length, arith}
 use Rattle.std.specs.Prelude.{filter}
 use Rattle.std.proofs.lemmas.List.{length-append}
 use Rattle.std.proofs.lemmas.List.Elements.{filter-append}
 use Rattle.step_history.specs.declared.item.Item.{Item}
 use Rattle.step_history.specs.History.{Name, name_eq, of}
+use Rattle.step_history.specs.Labels.{Labelled, labelled_of, items_of, IsLabelling}
 use Rattle.step_history.proofs.Names.{same_name, is_same_name}
-
-pub record Labelled (X : Type 0) : Type 0 where
-  pub step : Item
-  pub label : X
-
--- the labelled items of one name
-abbrev pub labelled_of : {X : Type 0} → Name → List (Labelled X) → List (Labelled X)
-labelled_of {X} name items = filter (λ (x : Labelled X). name_eq x.step.name name) items
-
-abbrev pub items_of : {X : Type 0} → List (Labelled X) → List Item
-items_of {X} labelled = map (λ (x : Labelled X). x.step) labelled
 
 -- the first element that passes a test, in its list
 record Picked {X : Type 0} (test : X → Bool) (xs : List X) (x : X) (rest : List X) : Type 0 where
@@ -47,13 +37,6 @@ pick {X} test (y ∷ ys) x rest same = by_test (test y) refl (pick test ys x res
           passes = p.passes;
           others = p.others;
         }
-
--- a history of all names with the labels of each
-pub record IsLabelling {X : Type 0} (log : List Item) (items : List (Labelled X)) : Type 0 where
-  pub history : List (Labelled X)
-  pub steps : items_of history ≡ log
-  pub each : (name : Name) → labelled_of name history ≡ labelled_of name items
-  pub counts : (test : Labelled X → Bool) → length (filter test history) ≡ length (filter test items)
 
 -- a test of a name, at one more element
 filter_yes : {X : Type 0} (test : X → Bool) (x : X) (xs : List X) → test x ≡ true → filter test (x ∷ xs) ≡ x ∷ filter test xs
