@@ -17,7 +17,7 @@ use Rattle.history_model.proofs.TimedWork.{TimedWork, TimedPhases, plain, plain_
 use Rattle.history_model.proofs.Windows.{There, there}
 use Rattle.history_model.proofs.Acts.{Act, Plain, Forks, act_record, act_from, act_until, act_lead, acts_of, TimedRegion, act_regions, lane_acts, acts_at_region, acts_under, acts_under-append, acts_log, acts_timed, lane_timed}
 use Rattle.history_model.proofs.ActsOrder.{AreSoundActs, sound_acts, sound_under, region_at, Within, within, in_order, PhasedAt, phased_at, HasTimes, times_under}
-use Rattle.history_model.proofs.Barriers.{barrier_order}
+use Rattle.history_model.proofs.TeamBarriers.{barrier_order}
 
 sound_plain : (layout : WordLayout) (acts : List Act) (n : ℕ) (r : Record) (from until : ℕ) → AreSoundActs layout acts → slice_get acts n ≡ Some (Plain r from until) → IsSoundRecord layout r
 sound_plain layout [] n r from until sound found = cc

@@ -1,6 +1,5 @@
 pub mod Acts
 pub mod ActsOrder
-pub mod Barriers
 pub mod Counting
 pub mod DrawnNumbers
 pub mod Edges
@@ -10,10 +9,12 @@ pub mod LaneEntries
 pub mod Legality
 pub mod LongerLogs
 pub mod Members
+pub mod MetBarriers
 pub mod Ordered
 pub mod Parts
 pub mod TaskEntries
 pub mod TaskTree
+pub mod TeamBarriers
 pub mod TimedWork
 pub mod Times
 pub mod TreeHistory

@@ -1,6 +1,6 @@
 -- The tasks of a tree of work.
-use Rattle.std.proofs.Common.{◌≡◌, ◌⊎◌, inl, inr, refl, sym, ap, ap₂, ◌∙◌, subst, ℕ, zero, suc, ◌+◌, ◌-◌, ◌<◌, ◌≤◌, Bool, true, false, cond, List, [], ◌∷◌, ◌++◌, length, map, take, Option, Some, None, arith}
-use Rattle.std.specs.Prelude.{slice_get, if◌then◌else◌, ◌==◌, Contains, count_by, get_or}
+use Rattle.std.proofs.Common.{◌≡◌, ◌⊎◌, inl, inr, refl, sym, ap, ap₂, ◌∙◌, subst, ℕ, zero, suc, ◌+◌, ◌<◌, ◌≤◌, Bool, true, false, cond, List, [], ◌∷◌, ◌++◌, length, map, take, Option, Some, None, arith}
+use Rattle.std.specs.Prelude.{slice_get, if◌then◌else◌, ◌==◌, get_or}
 use Rattle.std.specs.List.{flat_map}
 use Rattle.std.proofs.lemmas.Bool.{cases_lt}
 use Rattle.std.proofs.lemmas.List.{append-nil, append_assoc, length-append}
@@ -9,20 +9,18 @@ use Rattle.sw_base.specs.declared.path.Step.{Step}
 use Rattle.log_format.specs.declared.record.Record.{Record}
 use Rattle.log_format.specs.declared.record.Kind.{Kind}
 use Rattle.log_format.specs.declared.record.Kind.TheVariants.{Region}
-use Rattle.race_model.specs.Trace.{TaskLog, Trace, Logs, Node, logs_of, path_eq, region_count, is_region_kind}
+use Rattle.race_model.specs.Trace.{TaskLog, Trace, Logs, logs_of, path_eq, region_count, is_region_kind}
 use Rattle.race_model.specs.Listing.{lane_of}
-use Rattle.race_model.specs.Order.{IsLane}
 use Rattle.race_model.specs.ForkJoin.{IsTask, WasForked, ListsTask, IsTreeTrace}
 use Rattle.race_model.proofs.TraceLogs.{path_is}
-use Rattle.race_model.proofs.LabelPlace.{not_both_empty}
-use Rattle.history_model.specs.Work.{Work, Rest, Put, Fork, Phases, NoPhase, Phase, TeamWork, NoWork, Beside, RegionWork, fork_record, work_records, work_regions, work_at, lane_works, works_at_region, works_at_step, works_under, works_of, task_logs, then_work}
+use Rattle.history_model.specs.Work.{Work, Rest, Put, Fork, Phases, NoPhase, Phase, TeamWork, NoWork, Beside, RegionWork, fork_record, work_records, work_regions, work_at, lane_works, works_at_region, works_at_step, works_under, task_logs, then_work}
 use Rattle.history_model.specs.Did.{lane_count_of}
 use Rattle.history_model.specs.Sound.{WordLayout, IsSound, ArePhasesSound, IsTeamSound}
 use Rattle.history_model.specs.Tasks.{lane_tasks, region_tasks, tasks_from, tree_tasks}
 use Rattle.history_model.proofs.ActsOrder.{count_cons}
 use Rattle.history_model.proofs.Members.{Member, first_member, later_member}
 use Rattle.history_model.proofs.Windows.{get_either}
-use Rattle.history_model.proofs.TaskEntries.{joined, then_records, then_regions, joined_records, joined_regions, path_same}
+use Rattle.history_model.proofs.TaskEntries.{joined, joined_records, joined_regions, path_same}
 
 -- the step is that of a lane of a region of these works
 record IsForkedLane (works : List Work) (step : Step) : Type 0 where
@@ -218,7 +216,7 @@ listed_of : (depth : ℕ) (root : Work) (path : List Step) → AreForked (root �
 listed_of depth root path forked le = member_listed (tree_tasks depth root) (under_task [] (root ∷ []) path) (forked_listed (suc depth) [] (root ∷ []) path forked (omega arith))
 
 -- works of a sound tree
-abbrev AreSound : WordLayout → List Work → Type 0
+abbrev pub AreSound : WordLayout → List Work → Type 0
 AreSound layout [] = Unit {0}
 AreSound layout (work ∷ works) = IsSound layout work × AreSound layout works
 
@@ -233,7 +231,7 @@ sound_work_region layout (Fork line span phases more) zero region sound found =
     subst (λ (x : RegionWork). ArePhasesSound layout x.span x.phases) (same_Some (record { span = span; phases = phases }) region found) sound.0
 sound_work_region layout (Fork line span phases more) (suc r) region sound found = sound_work_region layout more r region sound.1 found
 
-sound_regions : (layout : WordLayout) (works : List Work) (r : ℕ) (region : RegionWork) → AreSound layout works → slice_get (flat_map work_regions works) r ≡ Some region → ArePhasesSound layout region.span region.phases
+pub sound_regions : (layout : WordLayout) (works : List Work) (r : ℕ) (region : RegionWork) → AreSound layout works → slice_get (flat_map work_regions works) r ≡ Some region → ArePhasesSound layout region.span region.phases
 sound_regions layout [] r region sound found = cc
 sound_regions layout (work ∷ works) r region sound found =
     at (get_either (work_regions work) (flat_map work_regions works) r region found) (λ (k : ℕ) there. sound_regions layout works k region sound.1 there)
@@ -261,7 +259,7 @@ sound_at_step layout step works sound = at (slice_get (flat_map work_regions wor
     by_span true = sound_lane_works layout region.span step.lane region.phases (sound_regions layout works step.region region sound e)
     by_span false = tt
 
-sound_works_under : (layout : WordLayout) (works : List Work) (path : List Step) → AreSound layout works → AreSound layout (works_under works path)
+pub sound_works_under : (layout : WordLayout) (works : List Work) (path : List Step) → AreSound layout works → AreSound layout (works_under works path)
 sound_works_under layout works [] sound = sound
 sound_works_under layout works (step ∷ path) sound = sound_works_under layout (works_at_step step works) path (sound_at_step layout step works sound)
 

@@ -35,7 +35,7 @@ last_of (y ∷ []) zero x found last = ap (λ (z : _). z ∷ []) (same_Some y x 
 last_of (y ∷ z ∷ xs) zero x found last = absurd (omega arith)
 last_of (y ∷ xs) (suc n) x found last = ap (λ (zs : _). y ∷ zs) (last_of xs n x found (omega arith))
 
-take_past : {X : Type 0} (xs ys : List X) (n : ℕ) → take (length xs + n) (xs ++ ys) ≡ xs ++ take n ys
+pub take_past : {X : Type 0} (xs ys : List X) (n : ℕ) → take (length xs + n) (xs ++ ys) ≡ xs ++ take n ys
 take_past [] ys n = ap (λ (k : ℕ). take k ys) (let e : 0 + n ≡ n = omega arith in e)
 take_past (x ∷ xs) ys n = ap (λ (k : ℕ). take k (x ∷ xs ++ ys)) (let e : suc (length xs) + n ≡ suc (length xs + n) = omega arith in e) ∙ ap (λ (zs : _). x ∷ zs) (take_past xs ys n)
 
