@@ -6,10 +6,11 @@ use Rattle.sw_base.specs.declared.path.Step.{Step}
 use Rattle.log_format.specs.declared.record.Record.{Record}
 use Rattle.log_format.specs.declared.record.Kind.{Kind}
 use Rattle.log_format.specs.declared.record.Kind.TheVariants.{Read, Write, Lock, Unlock, Barrier, Region, End, Chunk}
-use Rattle.race_model.specs.History.{released}
+use Rattle.race_model.specs.History.{released, HasLegalHistory}
 use Rattle.step_history.specs.declared.item.Item.{Item}
 use Rattle.step_history.specs.declared.item.Deed.TheVariants as deed
 use Rattle.step_history.specs.History.{item, Legal, HasHistory, value_at}
+use Rattle.history_model.proofs.TreeHistory.{tree_history}
 use Rattle.history_model.specs.Work.{Work, Rest, Put, Fork, Phases, NoPhase, Phase, TeamWork, NoWork, Beside, fork_record, task_logs}
 use Rattle.race_model.specs.Draws.{draws_by_loop}
 use Rattle.history_model.specs.Did.{did}
@@ -184,6 +185,44 @@ stopping = Fork 3 2 (Phase (two_lanes (adding 0 (Put (mutex_step Unlock 6) (Put 
 -- what the second lane releases isn't in its log
 pub stopped_log : task_logs stopping (step 0 1 2 ∷ []) ≡ released (mutex_step Lock 5 ∷ word_access Read 1 ∷ word_access Write 2 ∷ [])
 stopped_log = refl
+
+-- so the tree has a history of its records
+pub whole_has_legal_history : HasLegalHistory (task_logs whole) plain_layout.address (2 ∷ [])
+whole_has_legal_history = tree_history plain_layout whole whole_is_sound (2 ∷ []) (λ w less. refl) whole_has_history (task_logs whole) (λ path. inl refl)
+
+-- and so has the tree that stops, in which the second lane finds what the first left
+pub stopping_has_history : HasHistory (did (λ address. address) [] 0 stopping) (2 ∷ [])
+stopping_has_history = record { log = did (λ address. address) [] 0 stopping; legal = legal; whole = λ name. refl; ends = λ w less. first w less } where
+  legal : Legal (did (λ address. address) [] 0 stopping)
+  legal = (
+    record { out = refl; fits = tt },
+    (
+      record { out = refl; fits = tt },
+      (
+        record { out = refl; fits = refl },
+        (
+          record { out = refl; fits = refl },
+          (
+            record { out = refl; fits = tt },
+            (
+              record { out = refl; fits = refl },
+              (
+                record { out = refl; fits = refl },
+                (
+                  record { out = refl; fits = refl },
+                  (record { out = refl; fits = refl }, (record { out = refl; fits = tt }, (record { out = refl; fits = refl }, (record { out = refl; fits = refl }, tt)))),
+                ),
+              ),
+            ),
+          ),
+        ),
+      ),
+    ),
+  )
+
+  first : (w : ℕ) → w < 1 → slice_index (2 ∷ []) w ≡ value_at w (did (λ address. address) [] 0 stopping)
+  first zero less = refl
+  first (suc w) less = absurd (omega arith)
 
 -- the tasks in the order of an index: each lane, and then what is under it
 pub whole_tasks : tree_tasks 4 whole ≡
