@@ -3,6 +3,7 @@ pub mod ActsOrder
 pub mod Counting
 pub mod DrawnNumbers
 pub mod Edges
+pub mod EndedLanes
 pub mod GoodItems
 pub mod LabelledWork
 pub mod LaneEntries

@@ -20,7 +20,7 @@ use Rattle.history_model.proofs.ActsOrder.{count_cons}
 use Rattle.history_model.proofs.TeamBarriers.{take_past}
 use Rattle.history_model.proofs.TaskTree.{sound_regions, sound_works_under}
 
-barriers_both : (xs ys : List Record) → barrier_count (xs ++ ys) ≡ barrier_count xs + barrier_count ys
+pub barriers_both : (xs ys : List Record) → barrier_count (xs ++ ys) ≡ barrier_count xs + barrier_count ys
 barriers_both xs ys = sum_by-append (λ (r : Record). cond (is_barrier_kind r.kind) 1 0) xs ys
 
 other_kind : (k : Kind) → (k ≡ Barrier → ⊥) → is_barrier_kind k ≡ false
@@ -32,7 +32,7 @@ is_barrier_or_not Barrier = inl refl
 is_barrier_or_not _ = inr refl
 
 -- no barrier stands before the last record of a work
-none_before_last : (layout : WordLayout) (work : Work) (i : ℕ) → IsSound layout work → i < length (work_records work) → barrier_count (take i (work_records work)) ≡ 0
+pub none_before_last : (layout : WordLayout) (work : Work) (i : ℕ) → IsSound layout work → i < length (work_records work) → barrier_count (take i (work_records work)) ≡ 0
 none_before_last layout work zero sound less = refl
 none_before_last layout Rest (suc i) sound less = absurd (omega arith)
 none_before_last layout (Put r more) (suc i) sound less =
@@ -55,7 +55,7 @@ team_before_last layout zero (Beside work others) i sound less =
     subst (λ (rs : List Record). i < length rs → barrier_count (take i rs) ≡ 0) (sym (append-nil (work_records work))) (none_before_last layout work i sound.0) less
 team_before_last layout (suc lane) (Beside work others) i sound less = team_before_last layout lane others i sound.1 less
 
-team_passes : (lane : ℕ) (team : TeamWork) → lane < lane_count_of team → PassesBarrier team → barrier_count (flat_map work_records (work_at lane team)) ≡ 1
+pub team_passes : (lane : ℕ) (team : TeamWork) → lane < lane_count_of team → PassesBarrier team → barrier_count (flat_map work_records (work_at lane team)) ≡ 1
 team_passes lane NoWork less passes = absurd (omega arith)
 team_passes zero (Beside work others) less passes = ap (λ (rs : List Record). barrier_count rs) (append-nil (work_records work)) ∙ passes.0
 team_passes (suc lane) (Beside work others) less passes = team_passes lane others (omega arith) passes.1
@@ -115,7 +115,7 @@ met_in_phases layout span lane other (Phase team later) i sound less other_less 
             omega (arith, my_all, yours_all)
 
 -- the works of a lane of a region
-works_lane : (root : Work) (path : List Step) (step : Step) → works_of root (path ++ step ∷ []) ≡ works_at_step step (works_of root path)
+pub works_lane : (root : Work) (path : List Step) (step : Step) → works_of root (path ++ step ∷ []) ≡ works_at_step step (works_of root path)
 works_lane root path step = under (root ∷ []) path where
   under : (works : List Work) (p : List Step) → works_under works (p ++ step ∷ []) ≡ works_at_step step (works_under works p)
   under works [] = refl

@@ -52,7 +52,7 @@ number_same : (m : ℕ) → (m == m) ≡ true
 number_same m = grind arith
 
 -- the works of a lane
-lane_is : (works : List Work) (region : RegionWork) (g lane : ℕ) → slice_get (flat_map work_regions works) g ≡ Some region
+pub lane_is : (works : List Work) (region : RegionWork) (g lane : ℕ) → slice_get (flat_map work_regions works) g ≡ Some region
     → works_at_step (record { region = g; lane = lane; span = region.span }) works ≡ lane_works lane region.phases
 lane_is works region g lane found =
     ap (λ (o : Option RegionWork). works_at_region (record { region = g; lane = lane; span = region.span }) o) found
@@ -250,7 +250,7 @@ sound_lane_works : (layout : WordLayout) (span lane : ℕ) (phases : Phases) →
 sound_lane_works layout span lane NoPhase sound = tt
 sound_lane_works layout span lane (Phase team later) sound = sound_append layout (work_at lane team) (lane_works lane later) (sound_team_at layout lane team sound.1) (sound_lane_works layout span lane later sound.3)
 
-sound_at_step : (layout : WordLayout) (step : Step) (works : List Work) → AreSound layout works → AreSound layout (works_at_step step works)
+pub sound_at_step : (layout : WordLayout) (step : Step) (works : List Work) → AreSound layout works → AreSound layout (works_at_step step works)
 sound_at_step layout step works sound = at (slice_get (flat_map work_regions works) step.region) refl where
   at : (o : Option RegionWork) → slice_get (flat_map work_regions works) step.region ≡ o → AreSound layout (works_at_region step o)
   at None e = tt
@@ -273,7 +273,7 @@ no_work_at lane NoWork le = refl
 no_work_at zero (Beside work others) le = absurd (omega arith)
 no_work_at (suc lane) (Beside work others) le = no_work_at lane others (omega arith)
 
-no_lane_works : (layout : WordLayout) (span lane : ℕ) (phases : Phases) → ArePhasesSound layout span phases → span ≤ lane → lane_works lane phases ≡ []
+pub no_lane_works : (layout : WordLayout) (span lane : ℕ) (phases : Phases) → ArePhasesSound layout span phases → span ≤ lane → lane_works lane phases ≡ []
 no_lane_works layout span lane NoPhase sound le = refl
 no_lane_works layout span lane (Phase team later) sound le =
     ap₂ (λ (xs ys : List Work). xs ++ ys) (no_work_at lane team (omega (arith, sound.0))) (no_lane_works layout span lane later sound.3 le)
@@ -338,7 +338,7 @@ record RegionRecord (records : List Record) (number span : ℕ) : Type 0 where
   found : slice_get records place ≡ Some (fork_record line span)
   before : region_count (take place records) ≡ number
 
-other_kind : (k : Kind) → (k ≡ Region → ⊥) → is_region_kind k ≡ false
+pub other_kind : (k : Kind) → (k ≡ Region → ⊥) → is_region_kind k ≡ false
 other_kind Region other = absurd (other refl)
 other_kind _ other = refl
 

@@ -29,7 +29,7 @@ one_barrier : (a : Act) → (act_record a).kind ≡ Barrier → barriers_in (a �
 one_barrier a is = ap (λ (k : Kind). 0 + cond (is_barrier_kind k) 1 0) is
 
 -- the last of a list, and what is taken of two lists
-last_of : {X : Type 0} (xs : List X) (n : ℕ) (x : X) → slice_get xs n ≡ Some x → suc n ≡ length xs → xs ≡ take n xs ++ x ∷ []
+pub last_of : {X : Type 0} (xs : List X) (n : ℕ) (x : X) → slice_get xs n ≡ Some x → suc n ≡ length xs → xs ≡ take n xs ++ x ∷ []
 last_of [] n x found last = cc
 last_of (y ∷ []) zero x found last = ap (λ (z : _). z ∷ []) (same_Some y x found)
 last_of (y ∷ z ∷ xs) zero x found last = absurd (omega arith)
