@@ -10,15 +10,16 @@ use Rattle.race_model.specs.declared.why.IndexWhy.TheVariants.{Header, TooMany, 
 use Rattle.race_model.specs.BadPlace.{index_rank, bad_row}
 use Rattle.race_model.specs.Row.{Row, RawRow, row_spelling, raw_of}
 use Rattle.race_model.specs.Listing.{IsListing}
-use Rattle.race_model.specs.IndexFault.{FailsTest, Fails as HasFault, FailsIndexFirst, AreFirstRows, AreRows, IsFirstBadIndexPlace}
+use Rattle.race_model.specs.IndexFault.{FailsTest, Fails as HasFault, FailsIndexFirst, AreFirstRows, IsFirstBadIndexPlace}
 use Rattle.race_model.proofs.Listings.{begins_none}
 use Rattle.race_model.proofs.RowSpelling.{length-row}
-use Rattle.race_model.proofs.IndexPlaces.{used-raws_of, header_first, row_first}
+use Rattle.race_model.proofs.IndexPlaces.{used-raws_of, row_first}
 use Rattle.log_index.specs.declared.row.IndexAnswer.TheVariants.{Bad}
-use Rattle.log_index.specs.Rows.{path_of, OneMore, StopsAt, SpellsFirstRows, SpellsRows, IsFirstBadRow}
+use Rattle.log_index.specs.Rows.{OneMore, StopsAt, SpellsFirstRows, IsFirstBadRow}
+use Rattle.race_model.specs.Row.{row_path}
 
 -- the end of rows that are no whole listing
-pub end_fails : (rows : List Row) → (rows ≢ []) → (IsListing (map path_of rows) → ⊥) → FailsIndexFirst (map raw_of rows) [] Order
+pub end_fails : (rows : List Row) → (rows ≢ []) → (IsListing (map row_path rows) → ⊥) → FailsIndexFirst (map raw_of rows) [] Order
 end_fails rows some not = record { fails = inr (refl, λ is. not (subst (λ (paths : List (List Step)). IsListing paths) (used-raws_of rows) is)); least = least } where
   none : map raw_of rows ≡ [] → rows ≡ []
   none is = by_rows rows refl where

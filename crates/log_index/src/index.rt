@@ -6,7 +6,6 @@ ghost use Rattle.race_model.specs.declared.why.IndexWhy.{IndexWhy};
 ghost use Rattle.race_model.specs.BadPlace.{no_index, bad_row};
 ghost use Rattle.race_model.specs.Row.{index_bytes};
 ghost use Rattle.race_model.specs.IndexFault.{AreRows, IsIndex, IsFirstBadIndexPlace};
-ghost use Rattle.log_index.specs.Rows.{rows_of};
 
 use crate::row::{IndexAnswer, Row};
 use crate::rows::read_rows;
@@ -20,8 +19,8 @@ pub fn read_index<F: Folder>(
     folder: &mut F,
     dir: &str,
 ) -> Result<Vec<Row>, IndexAnswer>
-    ensures rows { IfOk result (λ rows. AreRows (rows_of rows.items)) }
-    ensures found { IfOk result (λ rows. WhereTold (F.content folder.old) (λ c. IsIndex c.held dir.now (rows_of rows.items))) }
+    ensures rows { IfOk result (λ rows. AreRows rows.items) }
+    ensures found { IfOk result (λ rows. WhereTold (F.content folder.old) (λ c. IsIndex c.held dir.now rows.items)) }
     ensures missing { IsErrOf result IndexAnswer.NoIndex → WhereTold (F.content folder.old) (λ c. IsFirstBadIndexPlace c.held dir.now no_index) }
     ensures bad { (n : ℕ) (why : IndexWhy) → IsErrOf result (IndexAnswer.Bad n why) →
         WhereTold (F.content folder.old) (λ c. IsFirstBadIndexPlace c.held dir.now (bad_row n why)) }
@@ -46,9 +45,9 @@ pub fn write_index<F: Folder>(
     dir: &str,
     rows: &[Row],
 ) -> Result<(), Trouble>
-    requires { AreRows (rows_of rows.now) }
-    ensures done { OnOk result (F.content folder.new ≡ option_map (with_put (index_name dir.now) (index_bytes (rows_of rows.now))) (F.content folder.old)) }
-    ensures refused { OnErr result (LeavesPrefix (F.content folder.old) (F.content folder.new) (index_name dir.now) (index_bytes (rows_of rows.now))) }
+    requires { AreRows rows.now }
+    ensures done { OnOk result (F.content folder.new ≡ option_map (with_put (index_name dir.now) (index_bytes rows.now)) (F.content folder.old)) }
+    ensures refused { OnErr result (LeavesPrefix (F.content folder.old) (F.content folder.new) (index_name dir.now) (index_bytes rows.now)) }
 
     ensures cause { HasCause (F.write_faults folder.old) (F.write_faults folder.new) result }
     ensures same_reads { F.read_faults folder.new ≡ F.read_faults folder.old }

@@ -3,7 +3,7 @@ ghost use Rattle.race_model.specs.declared.why.IndexWhy.{IndexWhy};
 ghost use Rattle.race_model.specs.Row.{raw_of, used};
 ghost use Rattle.race_model.specs.IndexFault.{HasDepth, HasRecords, AreFirstRows, AreRows, FailsIndexFirst, max_rows};
 ghost use Rattle.log_index.specs.Answers.{IsOfBytes};
-ghost use Rattle.log_index.specs.Rows.{row_of, rows_of, raw_of_fields, AddsRow, OneMore, StopsAt, SpellsFirstRows, SpellsRows, IsFirstBadRow};
+ghost use Rattle.log_index.specs.Rows.{raw_of_fields, AddsRow, OneMore, StopsAt, SpellsFirstRows, SpellsRows, IsFirstBadRow};
 
 use crate::fields::{Fields, fields_of, path_of};
 use crate::listing::is_whole;
@@ -34,10 +34,10 @@ fn row_of_fields(fields: &Fields) -> Row
 
 /// The row that stands at the start of the bytes that are left, or the first rule that it breaks.
 fn next_row(before: &[Row], rest: &[u8]) -> Result<Row, IndexWhy>
-    requires good { AreFirstRows (rows_of before.now) }
+    requires good { AreFirstRows before.now }
     requires some { rest.now ≢ [] }
-    ensures adds { IfOk result (λ row. AddsRow (rows_of before.now) (row_of row) rest.now) }
-    ensures fails { IfErr result (λ why. FailsIndexFirst (map raw_of (rows_of before.now)) rest.now why) }
+    ensures adds { IfOk result (λ row. AddsRow before.now row rest.now) }
+    ensures fails { IfErr result (λ why. FailsIndexFirst (map raw_of before.now) rest.now why) }
 {
     if before.len() == MAX_ROWS {
         return Err(IndexWhy::TooMany);
@@ -54,11 +54,11 @@ fn next_row(before: &[Row], rest: &[u8]) -> Result<Row, IndexWhy>
 
 /// Reads the row that stands at the start of the bytes that are left.
 fn add_row(rows: &mut Vec<Row>, rest: &[u8]) -> Result<(), IndexAnswer>
-    requires good { AreFirstRows (rows_of rows.old.items) }
+    requires good { AreFirstRows rows.old.items }
     requires some { rest.now ≢ [] }
-    ensures adds { OnOk result (OneMore (rows_of rows.old.items) (rows_of rows.new.items) rest.now) }
+    ensures adds { OnOk result (OneMore rows.old.items rows.new.items rest.now) }
     ensures bad { IfErr result (λ answer. (n : ℕ) (why : IndexWhy) → answer ≡ IndexAnswer.Bad n why →
-        (n ≡ length rows.old.items + 1) × FailsIndexFirst (map raw_of (rows_of rows.old.items)) rest.now why) }
+        (n ≡ length rows.old.items + 1) × FailsIndexFirst (map raw_of rows.old.items) rest.now why) }
     ensures only { IfErr result IsOfBytes }
 {
     match next_row(rows, rest) {
@@ -83,7 +83,7 @@ fn bad_row(rows: &[Row], why: IndexWhy) -> IndexAnswer
 
 /// Reads rows until no byte is left.
 fn first_rows(alloc: Global, bytes: &[u8]) -> Result<Vec<Row>, IndexAnswer>
-    ensures rows { IfOk result (λ rows. SpellsFirstRows bytes.now (rows_of rows.items)) }
+    ensures rows { IfOk result (λ rows. SpellsFirstRows bytes.now rows.items) }
     ensures bad { IfErr result (λ answer. (n : ℕ) (why : IndexWhy) → answer ≡ IndexAnswer.Bad n why → StopsAt bytes.now n why) }
     ensures only { IfErr result IsOfBytes }
 {
@@ -98,9 +98,9 @@ fn first_rows(alloc: Global, bytes: &[u8]) -> Result<Vec<Row>, IndexAnswer>
 
 /// Where no byte is left, the rows are all, or the first rule that the end breaks.
 fn check_end(rows: &[Row]) -> Result<(), IndexWhy>
-    requires { AreFirstRows (rows_of rows.now) }
-    ensures whole { OnOk result (AreRows (rows_of rows.now)) }
-    ensures fails { IfErr result (λ why. FailsIndexFirst (map raw_of (rows_of rows.now)) [] why) }
+    requires { AreFirstRows rows.now }
+    ensures whole { OnOk result (AreRows rows.now) }
+    ensures fails { IfErr result (λ why. FailsIndexFirst (map raw_of rows.now) [] why) }
 {
     if rows.is_empty() {
         return Err(IndexWhy::Cut);
@@ -126,7 +126,7 @@ fn after_header(bytes: &[u8]) -> Option<&[u8]>
 
 /// The rows that the bytes of an index spell, or the first bad row.
 pub fn read_rows(alloc: Global, bytes: &[u8]) -> Result<Vec<Row>, IndexAnswer>
-    ensures rows { IfOk result (λ rows. SpellsRows bytes.now (rows_of rows.items)) }
+    ensures rows { IfOk result (λ rows. SpellsRows bytes.now rows.items) }
     ensures bad { IfErr result (λ answer. (n : ℕ) (why : IndexWhy) → answer ≡ IndexAnswer.Bad n why → IsFirstBadRow bytes.now n why) }
     ensures only { IfErr result IsOfBytes }
 {

@@ -7,9 +7,9 @@
 //! `walk` answers the trace's barrier intervals with their labels in place of the trace.
 #![tactic(auto)]
 
-mod last_step;
 mod check;
 mod fault;
+mod last_step;
 mod laws;
 mod read;
 mod rules;
