@@ -3,6 +3,7 @@ use Rattle.std.specs.Prelude.{◌≡◌, ℕ, ◌+◌, ◌<◌, ◌≤◌, List,
 use Rattle.std.specs.List.{flat_map}
 use Rattle.sw_base.specs.Environment.{Files}
 use Rattle.sw_base.specs.Names.{index_name}
+use Rattle.sw_base.specs.Window.{Window, Shows}
 use Rattle.race_model.specs.declared.why.IndexWhy.{IndexWhy}
 use Rattle.race_model.specs.BadPlace.{bad_row, index_rank}
 use Rattle.race_model.specs.Row.{Row, RawRow, row_spelling, raw_of, index_bytes}
@@ -42,6 +43,17 @@ pub record OneMore (before now : List Row) (rest : List ℕ) : Type 0 where
   pub row : Row
   pub rows : now ≡ before ++ row ∷ []
   pub adds : AddsRow before row rest
+
+-- the window went on by a row
+pub record Grows (before now : List Row) (old new : Window) : Type 0 where
+  pub good : AreFirstRows now
+  pub count : length now ≡ length before + 1
+  pub place : new.place ≡ old.place + 48
+
+-- that of this file
+pub record ReadsRow (file : List ℕ) (before now : List Row) (old new : Window) : Type 0 where
+  pub shows : Shows new file
+  pub more : OneMore before now (drop old.place file)
 
 -- these bytes spell the rows of a well-formed index
 pub record SpellsRows (bytes : List ℕ) (rows : List Row) : Type 0 where

@@ -11,7 +11,7 @@ use crate::row::{IndexAnswer, Row};
 use crate::rows::read_rows;
 use crate::spelling::spell_rows;
 use std::alloc::Global;
-use sw_base::{Folder, Trouble, index_name, read_file};
+use sw_base::{Folder, Trouble, index_name};
 
 /// The rows of the folder's index, or the first bad place of the index. The rows of every Ok are well formed.
 pub fn read_index<F: Folder>(
@@ -31,9 +31,9 @@ pub fn read_index<F: Folder>(
     ensures same_writes { F.write_faults folder.new ≡ F.write_faults folder.old }
 {
     let name = index_name(alloc, dir)?;
-    match read_file(alloc, folder, &name) {
+    match folder.size(alloc, &name) {
         Ok(None) => Err(IndexAnswer::NoIndex),
-        Ok(Some(bytes)) => read_rows(alloc, &bytes),
+        Ok(Some(_)) => read_rows(alloc, folder, &name),
         Err(trouble) => Err(IndexAnswer::from(trouble)),
     }
 }

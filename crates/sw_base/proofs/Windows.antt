@@ -1,10 +1,10 @@
 -- What is known of the bytes that were read ahead.
-use Rattle.std.proofs.Common.{◌≡◌, inl, inr, sym, ap, ◌∙◌, arith, ℕ, ◌+◌, ◌<◌, ◌≤◌, List, ◌++◌, length, take, drop, length-append, length-take, length-drop}
+use Rattle.std.proofs.Common.{◌≡◌, inl, inr, sym, ap, ◌∙◌, arith, ℕ, ◌+◌, ◌-◌, ◌<◌, ◌≤◌, List, ◌++◌, length, take, drop, length-append, length-take, length-drop}
 use Rattle.std.proofs.Math.Seq.{take-add}
 use Rattle.std.proofs.lemmas.Bool.{cases_lt}
-use Rattle.std.proofs.lemmas.List.{take_all, take-take, drop-drop}
+use Rattle.std.proofs.lemmas.List.{take_all, take-take, drop-drop, drop-take}
 use Rattle.sw_base.specs.Environment.{Reads}
-use Rattle.sw_base.specs.Window.{Shows}
+use Rattle.sw_base.specs.Window.{Window, Shows, skipped}
 
 module _ (place : ℕ) (bytes file : List ℕ) (shows : bytes ≡ take (length bytes) (drop place file)) where
   -- one read more
@@ -33,3 +33,13 @@ module _ (place : ℕ) (bytes file : List ℕ) (shows : bytes ≡ take (length b
   shows_all count chunk reads room = ap (λ (bs : List ℕ). take count bs) (shows ∙ take_all (length bytes) (drop place file) (omega (arith, length-drop place file, ended))) where
     ended : length file ≤ place + length bytes
     ended = elim (cases_lt (place + length bytes) (length file)) [ inl more ↦ let some = reads.some room more in absurd (omega arith) | inr over ↦ over ]
+
+-- bytes were passed
+pub shows_skipped : (window : Window) (file : List ℕ) (count : ℕ) → count ≤ length window.ahead → Shows window file → Shows (skipped count window) file
+shows_skipped window file count there shows =
+    let rest : ℕ = length window.ahead - count in
+    let parts : length window.ahead ≡ count + rest = omega (arith, there) in
+    ap (λ (bs : List ℕ). drop count bs) (shows ∙ ap (λ (n : ℕ). take n (drop window.place file)) parts)
+    ∙ drop-take count rest (drop window.place file)
+    ∙ ap (λ (bs : List ℕ). take rest bs) (drop-drop count window.place file)
+    ∙ ap (λ (n : ℕ). take n (drop (window.place + count) file)) (sym (length-drop count window.ahead))
