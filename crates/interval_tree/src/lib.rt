@@ -1,0 +1,10 @@
+//! A balanced interval tree over strided runs, which finds the runs that meet a range of bytes.
+#![tactic(auto)]
+
+mod steps;
+mod tree;
+mod visit;
+
+pub use steps::Steps;
+pub use tree::Tree;
+pub use visit::Visit;
