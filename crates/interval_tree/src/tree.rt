@@ -1,4 +1,7 @@
-ghost use Rattle.std.specs.Prelude.{◌≡◌, ℕ, ◌+◌, ◌<◌, ◌≤◌, ◌++◌, OnOk, OnErr, IfOk, map};
+ghost use Rattle.std.specs.Prelude.{◌≡◌, ℕ, ◌+◌, ◌^◌, ◌<◌, ◌≤◌, ◌++◌, length, OnOk, OnErr, IfOk, map};
+ghost use Rattle.std.specs.List.{flat_map};
+ghost use Rattle.interval_tree.specs.Order.{IsInOrder};
+ghost use Rattle.interval_tree.specs.Reaches.{AddsReaches, furthest};
 
 use std::alloc::Global;
 use std::marker::Model;
@@ -18,7 +21,11 @@ impl<'r> Model for Tree<'r> {
 
     ghost Value = { List Run };
 
+    ghost use Rattle.interval_tree.specs.Order.{IsTree};
+
     ghost view = { λ tree. map (λ run. run.now) tree.runs.items };
+
+    ghost invariant = { λ tree. IsTree (map (λ run. run.now) tree.runs.items) tree.reaches.items };
 }
 
 fn add_all<'r>(runs: &'r [Run], order: &mut Vec<&'r Run>) -> Result<(), Memory>
@@ -30,24 +37,33 @@ fn add_all<'r>(runs: &'r [Run], order: &mut Vec<&'r Run>) -> Result<(), Memory>
     Ok(())
 }
 
-fn push_reaches(runs: &[&Run], reaches: &mut Vec<u64>) -> Result<u64, Memory> {
-    if runs.is_empty() {
+fn push_reaches(runs: &[&Run], reaches: &mut Vec<u64>) -> Result<u64, Memory>
+    ensures furthest { IfOk result (λ reach. reach ≡ furthest (map (λ r. r.now) runs.now)) }
+    ensures pushed { OnOk result (AddsReaches reaches.old.items reaches.new.items (map (λ r. r.now) runs.now)) }
+{
+    let (left, rest) = runs.split_at(runs.len() / 2);
+    let Some((run, right)) = rest.split_first() else {
         return Ok(0);
-    }
-    let middle = runs.len() / 2;
-    let left = push_reaches(&runs[..middle], reaches)?;
-    let right = push_reaches(&runs[middle + 1..], reaches)?;
-    let reach = runs[middle].high().max(left).max(right);
+    };
+    let left_reach = push_reaches(left, reaches)?;
+    let right_reach = push_reaches(right, reaches)?;
+    let reach = run.high().max(left_reach).max(right_reach);
     reaches.push(reach)?;
     Ok(reach)
 }
 
 impl<'r> Tree<'r> {
-    pub fn build(alloc: Global, runs: &'r [Run]) -> Result<Tree<'r>, Memory> {
+    /// The tree of the runs.
+    pub fn build(alloc: Global, runs: &'r [Run]) -> Result<Tree<'r>, Memory>
+        ensures { IfOk result (λ tree. IsInOrder runs.now tree) }
+    {
         Tree::build_all(alloc, &[runs])
     }
 
-    pub fn build_all(alloc: Global, parts: &[&'r [Run]]) -> Result<Tree<'r>, Memory> {
+    /// The tree of the runs of all parts.
+    pub fn build_all(alloc: Global, parts: &[&'r [Run]]) -> Result<Tree<'r>, Memory>
+        ensures { IfOk result (λ tree. IsInOrder (flat_map (λ part. part.now) parts.now) tree) }
+    {
         let mut runs = Vec::new(alloc);
         for part in parts {
             add_all(part, &mut runs)?;

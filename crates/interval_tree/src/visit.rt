@@ -5,6 +5,8 @@ use sw_base::Memory;
 
 /// What is done with each run that a search finds.
 pub trait Visit {
+    ghost use Rattle.stride_summary.specs.declared.run.Run.{Run};
+
     // How the visitor stands after it took a run.
     ghost took: { Self → Run → Self → Type 0 };
 

@@ -1,0 +1,22 @@
+use Rattle.std.proofs.Common.{List, [], ◌∷◌, ◌++◌, ℕ, length, sym, ◌∙◌, ap, arith}
+use Rattle.std.proofs.lemmas.List.{length-map}
+use Rattle.stride_summary.specs.declared.run.Run.{Run}
+use denote.Ref.{Bor}
+use Rattle.interval_tree.specs.Reaches.{furthest, reaches_of}
+use Rattle.interval_tree.proofs.Halves.{IsCut, IsCut-from_split, furthest-cut, halves_fit, shown, pushed-cut, pushed-none}
+use Rattle.interval_tree.proofs.tree.+push_reaches.Goals as goal
+
+pub returns-clause-furthest : goal.returns-clause-furthest
+returns-clause-furthest t c =
+    let cut = IsCut-from_split c.args.runs.now c.split_at.result.0.now c.split_at.result.1.now c.in-Some.run'.now c.in-Some.right.now c.split_at.ensures.front c.split_at.ensures.back c.in-Some.ensures.cases.0 in
+    omega (arith, furthest-cut _ _ _ _ cut, c.in_ok-left_reach.ensures.furthest, c.in_ok-right_reach.ensures.furthest)
+
+pub returns-in_default-clause-pushed : goal.returns-in_default-clause-pushed
+returns-in_default-clause-pushed t c = pushed-none c.args.runs.now c.args.reaches.now.items (omega (arith, c.in_default.ensures.cases, c.split_at.ensures.back_len))
+
+pub returns-clause-pushed : goal.returns-clause-pushed
+returns-clause-pushed t c =
+    let cut = IsCut-from_split c.args.runs.now c.split_at.result.0.now c.split_at.result.1.now c.in-Some.run'.now c.in-Some.right.now c.split_at.ensures.front c.split_at.ensures.back c.in-Some.ensures.cases.0 in
+    let reach = returns-clause-furthest t c in
+    let pushed = pushed-cut _ _ _ _ _ _ _ cut c.in_ok-left_reach.ensures.pushed c.in_ok-right_reach.ensures.pushed in
+    (λ levels fits. c.in_ok-push.ensures.items ∙ ap (λ r. c.push_reaches-2.new.reaches.items ++ r ∷ []) reach ∙ pushed levels fits)
