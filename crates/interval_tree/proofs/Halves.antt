@@ -54,7 +54,7 @@ halves_fit xs left run right levels cut fits =
     let half = ap length cut.left_is ∙ length-take (length xs / 2) xs in
     (omega arith, omega arith)
 
-some_in_cut : (xs left : List Run) (run : Run) (right : List Run) → IsCut xs left run right → 0 < length xs
+pub some_in_cut : (xs left : List Run) (run : Run) (right : List Run) → IsCut xs left run right → 0 < length xs
 some_in_cut xs left run right cut = omega (arith, ap length cut.all ∙ length-append left (run ∷ right))
 
 -- the reaches of the halves, and then that of the middle

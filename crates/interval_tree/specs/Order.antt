@@ -1,7 +1,7 @@
 -- The order of a tree's runs, and those that a search finds.
 use Rattle.std.specs.Prelude.{ℕ, List, Bool, ◌&&◌, nat_le, filter}
 use Rattle.std.specs.Ordering.{nat_cmp}
-use Rattle.std.specs.List.Sorted.{IsPermutation, IsSortedByKey, IsStableByKey}
+use Rattle.std.specs.List.Sorted.{IsNonDecreasingBy, IsPermutation, IsSortedByKey, IsStableByKey}
 use Rattle.stride_summary.specs.declared.run.Run.{Run}
 use Rattle.stride_summary.specs.Run.{last_byte}
 use Rattle.interval_tree.specs.Reaches.{AreReaches}
@@ -17,7 +17,7 @@ pub record IsInOrder (runs ordered : List Run) : Type 0 where
 
 -- what a tree keeps of its runs, in order, and their reaches
 pub record IsTree (runs : List Run) (reaches : List ℕ) : Type 0 where
-  pub ascends : IsSortedByKey first_byte nat_cmp runs
+  pub ascends : IsNonDecreasingBy first_byte runs
   pub reached : AreReaches reaches runs
 
 -- the run's bytes, from its first to its last, and those from lo to hi have a common one

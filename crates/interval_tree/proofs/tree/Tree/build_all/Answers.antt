@@ -1,13 +1,14 @@
 use Rattle.std.proofs.Common.{◌∙◌, ap, arith, rules}
 use Rattle.std.specs.List.{flat_map}
 use Rattle.std.proofs.lemmas.List.{take_all}
-use Rattle.std.proofs.lemmas.List.Sorted.{answers_always}
+use Rattle.std.proofs.lemmas.List.Sorted.{IsNonDecreasingBy-from_sort, answers_always}
+use Rattle.interval_tree.specs.Order.{first_byte}
 use Rattle.interval_tree.proofs.Shown.{pointed_byte, AreReaches-from_nothing, ascends-shown, IsInOrder-shown}
 use Rattle.interval_tree.proofs.tree.Tree.build_all.Goals as goal
 
 pub invariant_of-result : goal.invariant_of-result
 invariant_of-result c = record {
-  ascends = ascends-shown c.sort_by_key.new.self.items (c.in_ok-sort_by_key.ensures.sorted pointed_byte (answers_always _ _ _ (λ f a r g h. search rules)));
+  ascends = IsNonDecreasingBy-from_sort first_byte _ (ascends-shown c.sort_by_key.new.self.items (c.in_ok-sort_by_key.ensures.sorted pointed_byte (answers_always _ _ _ (λ f a r g h. search rules))));
   reached = AreReaches-from_nothing _ _ _ _ c.new-reaches.ensures.items c.deref.ensures.value c.in_ok-push_reaches.ensures.pushed;
 }
 

@@ -1,0 +1,5 @@
+use Rattle.std.proofs.Common.{length}
+use Rattle.interval_tree.proofs.search.+search.Given as goal
+
+abbrev pub decreases-search : goal.decreases-search
+decreases-search g l = length l.runs.now
