@@ -1,5 +1,5 @@
 -- A list of runs as its middle and the halves beside it.
-use Rattle.std.proofs.Common.{◌≡◌, ℕ, zero, suc, ◌+◌, ◌*◌, ◌/◌, ◌^◌, ◌<◌, ◌≤◌, List, [], ◌∷◌, ◌++◌, length, map, take, drop, max, refl, sym, ◌∙◌, ap, arith, append_assoc, append-nil, length-append}
+use Rattle.std.proofs.Common.{◌≡◌, ℕ, zero, suc, ◌+◌, ◌-◌, ◌*◌, ◌/◌, ◌^◌, ◌<◌, ◌≤◌, List, [], ◌∷◌, ◌++◌, length, map, take, drop, max, refl, sym, ◌∙◌, ap, subst, arith, append_assoc, append-nil, length-append}
 use Rattle.std.proofs.lemmas.List.{take-append-drop, take-map, drop-map, drop-drop, length-take, map-append, length-map}
 use Rattle.stride_summary.specs.declared.run.Run.{Run}
 use Rattle.stride_summary.specs.Run.{last_byte}
@@ -67,3 +67,11 @@ pushed-cut xs left run right old half all cut by_left by_right (suc n) fits =
     ∙ ap (λ ys. ys ++ furthest xs ∷ []) (append_assoc old (reaches_of n left) (reaches_of n right))
     ∙ append_assoc old (reaches_of n left ++ reaches_of n right) (furthest xs ∷ [])
     ∙ ap (λ ys. old ++ ys) (ap (λ ys. reaches_of n ys ++ reaches_of n right ++ furthest xs ∷ []) cut.left_is ∙ ap (λ ys. reaches_of n (left_half xs) ++ reaches_of n ys ++ furthest xs ∷ []) cut.right_is ∙ sym node)
+
+-- a level less is enough for a half
+pub half_fits : (levels n half : ℕ) → 0 < n → n < 2 ^ levels → half ≤ n / 2 → (0 < levels) × (half < 2 ^ (levels - 1))
+half_fits zero n half some fits less = absurd (omega arith)
+half_fits (suc levels) n half some fits less =
+    let one : suc levels - 1 ≡ levels = omega arith in
+    let within : half < 2 ^ levels = omega arith in
+    (omega arith, subst (λ (k : ℕ). half < 2 ^ k) (sym one) within)

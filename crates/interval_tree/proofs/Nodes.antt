@@ -19,8 +19,9 @@ pub record IsSplit (runs left : List (Bor Run)) (run : Bor Run) (right : List (B
 pub cut_of : (runs left : List (Bor Run)) (run : Bor Run) (right : List (Bor Run)) → IsSplit runs left run right → IsCut (shown runs) (shown left) run.now (shown right)
 cut_of runs left run right split = IsCut-from_split runs left split.rest run right split.front split.back split.cut
 
-pub reaches_are_there : (runs left : List (Bor Run)) (run : Bor Run) (right : List (Bor Run)) (reaches : List ℕ) → IsSplit runs left run right → IsTree (shown runs) reaches → length reaches ≡ 0 → ⊥
-reaches_are_there runs left run right reaches split tree none =
+-- a node always has a reach
+pub met-no_reaches : (lo hi : ℕ) (runs left : List (Bor Run)) (run : Bor Run) (right : List (Bor Run)) (reaches : List ℕ) → IsSplit runs left run right → IsTree (shown runs) reaches → length reaches ≡ 0 → met lo hi (shown runs) ≡ []
+met-no_reaches lo hi runs left run right reaches split tree none =
     let n = length (shown runs) in
     absurd (omega (arith, ap length (tree.reached n (below_power n)), length-reaches_of n (shown runs) (below_power n), some_in_cut _ _ _ _ (cut_of runs left run right split)))
 

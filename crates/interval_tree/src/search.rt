@@ -1,4 +1,4 @@
-ghost use Rattle.std.specs.Prelude.{◌≤◌, [], ◌∷◌, map, OnOk, OnErr};
+ghost use Rattle.std.specs.Prelude.{◌^◌, ◌<◌, ◌≤◌, length, [], ◌∷◌, map, OnOk, OnErr};
 ghost use Rattle.interval_tree.specs.Order.{IsTree, met};
 ghost use Rattle.interval_tree.specs.Visits.{StepsWithin, Takes, TakesUpTo};
 
@@ -8,8 +8,10 @@ use std::sync::ledger::Ledger;
 use stride_summary::Run;
 use sw_base::Memory;
 
-/// Hands over the runs that the bytes from `lo` to `hi` meet. A step is a node in whose subtree a run reaches `lo`.
+/// Hands over the runs that the bytes from `lo` to `hi` meet, going down at most so many levels. A step is a node in whose
+/// subtree a run reaches `lo`.
 pub fn search<V: Visit, L: Ledger>(
+    levels: u32,
     runs: &[&Run],
     reaches: &[u64],
     lo: u64,
@@ -17,7 +19,8 @@ pub fn search<V: Visit, L: Ledger>(
     visit: &mut V,
     steps: &mut Steps<L>,
 ) -> Result<(), Memory>
-    requires { IsTree (map (λ r. r.now) runs.now) reaches.now }
+    requires tree { IsTree (map (λ r. r.now) runs.now) reaches.now }
+    requires levels { length runs.now < 2 ^ levels }
     ensures taken { OnOk result (Takes V.took visit.old (met lo hi (map (λ r. r.now) runs.now)) visit.new) }
     ensures refused { OnErr result (TakesUpTo V.took V.refused visit.old (met lo hi (map (λ r. r.now) runs.now)) visit.new) }
     ensures steps { StepsWithin steps.old steps.new lo hi (map (λ r. r.now) runs.now) }
@@ -34,12 +37,12 @@ pub fn search<V: Visit, L: Ledger>(
     }
     steps.tick();
     let (left_reaches, right_reaches) = parts.split_at(left.len());
-    search(left, left_reaches, lo, hi, visit, steps)?;
+    search(levels - 1, left, left_reaches, lo, hi, visit, steps)?;
     if run.low() > hi {
         return Ok(());
     }
     offer(run, lo, hi, visit)?;
-    search(right, right_reaches, lo, hi, visit, steps)
+    search(levels - 1, right, right_reaches, lo, hi, visit, steps)
 }
 
 fn offer<V: Visit>(run: &Run, lo: u64, hi: u64, visit: &mut V) -> Result<(), Memory>

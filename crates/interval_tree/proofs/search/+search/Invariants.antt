@@ -1,5 +1,4 @@
-use Rattle.std.proofs.Common.{length}
 use Rattle.interval_tree.proofs.search.+search.Given as goal
 
 abbrev pub decreases-search : goal.decreases-search
-decreases-search g l = length l.runs.now
+decreases-search g l = l.levels

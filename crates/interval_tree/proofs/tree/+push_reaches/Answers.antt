@@ -3,7 +3,7 @@ use Rattle.std.proofs.lemmas.List.{length-map}
 use Rattle.stride_summary.specs.declared.run.Run.{Run}
 use denote.Ref.{Bor}
 use Rattle.interval_tree.specs.Reaches.{furthest, reaches_of}
-use Rattle.interval_tree.proofs.Halves.{IsCut, IsCut-from_split, furthest-cut, halves_fit, shown, pushed-cut, pushed-none}
+use Rattle.interval_tree.proofs.Halves.{IsCut, IsCut-from_split, furthest-cut, halves_fit, half_fits, shown, pushed-cut, pushed-none}
 use Rattle.interval_tree.proofs.tree.+push_reaches.Goals as goal
 
 pub returns-clause-furthest : goal.returns-clause-furthest
@@ -20,3 +20,13 @@ returns-clause-pushed t c =
     let reach = returns-clause-furthest t c in
     let pushed = pushed-cut _ _ _ _ _ _ _ cut c.in_ok-left_reach.ensures.pushed c.in_ok-right_reach.ensures.pushed in
     (λ levels fits. c.in_ok-push.ensures.items ∙ ap (λ r. c.push_reaches-2.new.reaches.items ++ r ∷ []) reach ∙ pushed levels fits)
+
+pub push_reaches-requires : goal.push_reaches-requires
+push_reaches-requires t c =
+    let half = half_fits c.args.levels (length c.args.runs.now) (length c.split_at.result.0.now) (omega (arith, c.in-Some.ensures.cases.1, c.split_at.ensures.back_len)) c.requires (omega (arith, c.split_at.ensures.front_len)) in
+    (omega (arith, half.0, c.decreases), half.1)
+
+pub push_reaches-requires-2 : goal.push_reaches-requires-2
+push_reaches-requires-2 t c =
+    let half = half_fits c.args.levels (length c.args.runs.now) (length c.in-Some.right.now) (omega (arith, c.in-Some.ensures.cases.1, c.split_at.ensures.back_len)) c.requires (omega (arith, c.in-Some.ensures.cases.1, c.split_at.ensures.back_len)) in
+    (omega (arith, half.0, c.decreases), half.1)

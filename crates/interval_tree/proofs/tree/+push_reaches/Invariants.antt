@@ -1,5 +1,4 @@
-use Rattle.std.proofs.Common.{length}
 use Rattle.interval_tree.proofs.tree.+push_reaches.Given as goal
 
 abbrev pub decreases-push_reaches : goal.decreases-push_reaches
-decreases-push_reaches l = length l.runs.now
+decreases-push_reaches l = l.levels
