@@ -1,9 +1,8 @@
 -- A node of a tree: a slice of references and its reaches, taken apart.
-use Rattle.std.proofs.Common.{◌≡◌, ℕ, ◌+◌, ◌/◌, ◌<◌, ◌≤◌, List, [], ◌∷◌, ◌++◌, length, take, drop, refl, sym, ◌∙◌, ap, subst, arith}
-use Rattle.std.specs.List.{All}
+use Rattle.std.proofs.Common.{◌≡◌, ℕ, ◌/◌, ◌<◌, ◌≤◌, List, [], ◌∷◌, ◌++◌, length, take, drop, sym, ◌∙◌, ap, subst, arith}
 use Rattle.std.proofs.lemmas.List.{length-map, append-nil}
 use Rattle.stride_summary.specs.declared.run.Run.{Run}
-use Rattle.interval_tree.specs.Reaches.{AreReaches, furthest, reaches_of}
+use Rattle.interval_tree.specs.Reaches.{AreReaches}
 use Rattle.interval_tree.specs.Order.{IsTree, met}
 use Rattle.interval_tree.proofs.Halves.{IsCut, IsCut-from_split, shown, some_in_cut}
 use Rattle.interval_tree.proofs.Searching.{AreParts, AreParts-from_reaches, IsEntered, IsOrdered, IsOrdered-from_sorted, below_power, length-reaches_of, met-cut, met-past, met-past_one, met-short}

@@ -1,6 +1,6 @@
 -- What a search finds in the halves of a list and at its middle, and how many steps it takes.
-use Rattle.std.proofs.Common.{◌≡◌, ℕ, zero, suc, ◌+◌, ◌-◌, ◌*◌, ◌/◌, ◌^◌, ◌<◌, ◌≤◌, ◌⊎◌, inl, inr, Bool, true, false, cond, List, [], ◌∷◌, ◌++◌, length, get_or, take, drop, max, refl, sym, ◌∙◌, ap, subst, arith, length-append, append_assoc, length-drop}
-use Rattle.std.specs.List.{All, filter}
+use Rattle.std.proofs.Common.{◌≡◌, ℕ, zero, suc, ◌+◌, ◌-◌, ◌*◌, ◌/◌, ◌^◌, ◌<◌, ◌≤◌, inl, inr, true, false, cond, List, [], ◌∷◌, ◌++◌, length, get_or, take, drop, refl, sym, ◌∙◌, ap, subst, arith, length-append, append_assoc, length-drop}
+use Rattle.std.specs.List.{All}
 use Rattle.std.proofs.lemmas.Bool.Decides.{nat_tests}
 use Rattle.std.specs.List.Sorted.{IsNonDecreasingBy}
 use Rattle.std.proofs.Math.Nat.{mul-le-mul_right}
@@ -11,7 +11,7 @@ use Rattle.std.proofs.lemmas.List.Sorted.{IsNonDecreasingBy-take, IsNonDecreasin
 use Rattle.stride_summary.specs.declared.run.Run.{Run}
 use Rattle.stride_summary.specs.Run.{last_byte}
 use Rattle.interval_tree.specs.Reaches.{AreReaches, left_half, right_half, furthest, reaches_of}
-use Rattle.interval_tree.specs.Order.{IsTree, first_byte, met, reaches_into}
+use Rattle.interval_tree.specs.Order.{first_byte, met, reaches_into}
 use Rattle.interval_tree.specs.Visits.{StepsWithin}
 use Rattle.interval_tree.proofs.Halves.{IsCut, halves_fit, reaches_of-node, reaches_of-none, some_in_cut}
 
@@ -51,7 +51,7 @@ met-some lo hi (run ∷ runs) some reached inside = elim (cases_lt (last_byte ru
   | inl short ↦ subst (λ (rs : List Run). 1 ≤ length rs) (sym (ap (λ b. cond b (run ∷ met lo hi runs) (met lo hi runs)) (reaches_short lo hi run short)))
       (met-some lo hi runs (some_left lo run runs short reached) (omega arith) (λ k d within. inside (suc k) d (omega arith)))
   | inr far ↦ subst (λ (rs : List Run). 1 ≤ length rs) (sym (ap (λ b. cond b (run ∷ met lo hi runs) (met lo hi runs)) (reaches_yes lo hi run (inside 0 run (omega arith)) far))) (omega arith)
-  ]
+]
 
 pub below_power : (n : ℕ) → n < 2 ^ n
 below_power zero = omega arith

@@ -109,6 +109,14 @@ impl<'r> Tree<'r> {
         ensures refused { OnErr result (TakesUpTo V.took V.refused visit.old (met lo hi self.now) visit.new) }
         ensures cost { (digits : ℕ) → length self.now < 2 ^ digits → steps.new ≤ steps.old + (length (met lo hi self.now) + 1) * digits }
     {
-        search(self.levels(), &self.runs, &self.reaches, lo, hi, visit, steps)
+        search(
+            self.levels(),
+            &self.runs,
+            &self.reaches,
+            lo,
+            hi,
+            visit,
+            steps,
+        )
     }
 }

@@ -1,8 +1,7 @@
-use Rattle.std.proofs.Common.{◌≡◌, ℕ, ◌+◌, ◌/◌, ◌<◌, ◌≤◌, List, [], ◌∷◌, ◌++◌, length, refl, sym, ◌∙◌, ap, subst, arith, rules}
+use Rattle.std.proofs.Common.{ℕ, [], ◌∷◌, length, refl, subst, arith, rules}
 use Rattle.std.proofs.lemmas.Result.{on_ok_weaker, on_err_weaker}
-use Rattle.stride_summary.specs.declared.run.Run.{Run}
 use Rattle.interval_tree.specs.Order.{IsTree, met}
-use Rattle.interval_tree.specs.Visits.{StepsWithin, Takes, TakesUpTo}
+use Rattle.interval_tree.specs.Visits.{StepsWithin}
 use Rattle.interval_tree.proofs.Halves.{half_fits, shown}
 use Rattle.interval_tree.proofs.Searching.{StepsWithin-both, StepsWithin-left, met-cut}
 use Rattle.interval_tree.proofs.Nodes.{IsSplit, cut_of, entered_of, left_is_shorter, left_tree, met_left, none_met, ordered_of, parts_of, met-no_reaches, right_tree}

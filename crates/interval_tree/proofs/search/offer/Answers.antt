@@ -1,6 +1,5 @@
-use Rattle.std.proofs.Common.{◌≡◌, ◌∷◌, [], cond, true, sym, ap, subst, arith}
+use Rattle.std.proofs.Common.{arith}
 use Rattle.std.proofs.lemmas.Result.{on_err_weaker}
-use Rattle.interval_tree.specs.Visits.{TakesUpTo}
 use Rattle.interval_tree.proofs.Searching.{reaches_yes}
 use Rattle.interval_tree.proofs.Taking.{TakesUpTo-first}
 use Rattle.interval_tree.proofs.search.offer.Goals as goal

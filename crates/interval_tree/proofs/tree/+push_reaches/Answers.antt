@@ -1,9 +1,5 @@
-use Rattle.std.proofs.Common.{List, [], ◌∷◌, ◌++◌, ℕ, length, sym, ◌∙◌, ap, arith}
-use Rattle.std.proofs.lemmas.List.{length-map}
-use Rattle.stride_summary.specs.declared.run.Run.{Run}
-use denote.Ref.{Bor}
-use Rattle.interval_tree.specs.Reaches.{furthest, reaches_of}
-use Rattle.interval_tree.proofs.Halves.{IsCut, IsCut-from_split, furthest-cut, halves_fit, half_fits, shown, pushed-cut, pushed-none}
+use Rattle.std.proofs.Common.{[], ◌∷◌, ◌++◌, length, ◌∙◌, ap, arith}
+use Rattle.interval_tree.proofs.Halves.{IsCut-from_split, furthest-cut, half_fits, pushed-cut, pushed-none}
 use Rattle.interval_tree.proofs.tree.+push_reaches.Goals as goal
 
 pub returns-clause-furthest : goal.returns-clause-furthest

@@ -1,4 +1,4 @@
-use Rattle.std.proofs.Common.{◌≡◌, ◌-◌, ◌*◌, ◌+◌, ◌^◌, ◌<◌, ◌≤◌, ℕ, sym, subst, arith}
+use Rattle.std.proofs.Common.{◌*◌, ◌+◌, ◌^◌, ◌<◌, ◌≤◌, ℕ, subst, arith}
 use Rattle.std.proofs.lemmas.Nat.{leading_length}
 use Rattle.interval_tree.proofs.tree.levels_of.Goals as goal
 
