@@ -43,13 +43,6 @@ Meets-forth a m l h c r f i j step meets =
       },
     )
 
--- the first multiple of the stride from low on is the least, where it is in the window
-pub first_is_least : (a m l h f : ℕ) → f * a < l + a → (i j : ℕ) → Meets a m l h i j → f ≤ i
-first_is_least a m l h f first i j meets =
-    let less : f * a < (i + 1) * a = omega arith in
-    let below : f < i + 1 = factor-lt f (i + 1) a less in
-    omega arith
-
 -- the first place is below the other stride where the second is below the stride
 pub place_below : (a m l h i j : ℕ) → h < m → j < a → Meets a m l h i j → i < m
 place_below a m l h i j small second meets =

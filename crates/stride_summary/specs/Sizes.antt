@@ -10,5 +10,5 @@ apart_prop p q apart (inl a) (inr b) = absurd (apart a b)
 apart_prop p q apart (inr a) (inl b) = absurd (apart b a)
 apart_prop p q apart (inr a) (inr b) = ap inr (q a b)
 
-pub IsAccessSize-prop : (n : ℕ) → IsProp (IsAccessSize n)
-IsAccessSize-prop n = apart_prop (ℕ_set n 1) (apart_prop (ℕ_set n 2) (apart_prop (ℕ_set n 4) (ℕ_set n 8) (λ a b. cc)) (λ a b. elim b [ inl c ↦ cc | inr c ↦ cc ])) (λ a b. elim b [ inl c ↦ cc | inr c ↦ elim c [ inl d ↦ cc | inr d ↦ cc ] ])
+pub access_size_prop : (n : ℕ) → IsProp (IsAccessSize n)
+access_size_prop n = apart_prop (ℕ_set n 1) (apart_prop (ℕ_set n 2) (apart_prop (ℕ_set n 4) (ℕ_set n 8) (λ a b. cc)) (λ a b. elim b [ inl c ↦ cc | inr c ↦ cc ])) (λ a b. elim b [ inl c ↦ cc | inr c ↦ elim c [ inl d ↦ cc | inr d ↦ cc ] ])
