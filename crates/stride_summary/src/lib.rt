@@ -5,6 +5,7 @@
 #![tactic(auto)]
 
 mod access;
+mod cutting;
 mod key;
 mod run;
 
