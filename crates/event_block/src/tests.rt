@@ -1,0 +1,2 @@
+use crate::Block;
+use std::alloc::Global;
