@@ -1,16 +1,19 @@
 -- What a region owns is taken apart and put together again. Assumes `Logic`.
 --     apart, together      the bytes that are written, the room behind them, and the right to free
---     cleared      nothing is written any more
+--     fresh, cleared      nothing is written yet, or any more
 --     room_out, joined      room for a piece is taken from the rest, and the piece is put behind the bytes
-use Rattle.std.proofs.Common.{◌≡◌, ℕ, ◌+◌, ◌-◌, ◌*◌, ◌≤◌, List, [], ◌∷◌, ◌++◌, length, refl, sym, ap, ◌∙◌, arith, mul-one}
+use Rattle.std.proofs.Common.{◌≡◌, ℕ, ◌+◌, ◌-◌, ◌*◌, ◌^◌, ◌<◌, ◌≤◌, List, [], ◌∷◌, ◌++◌, length, refl, sym, ap, ◌∙◌, arith, mul-one}
 use seplogic.Ra.Ura.{Ura}
 use base.Fraction.{full_share}
 use base.Fml.{Fml, fsep, froom}
 use base.Logic.{ent, sep, guard, never, fst∗}
 use mir.Raw.{raw as bare}
 use mir.Syntax.{Ty, ty_int, ty_array, w8}
+use prog.Capped.{capped_is}
+use prog.Memory.{size, capped}
+use prog.RawLaws.{size-raw}
 use types.Logic.{Logic, sem}
-use types.Kit.{Item, Goal, Seq, Step, step, ‵, ◌⊛◌, given, ◌$◌, ◌∵◌, !, qed, use0, use1, use2, split, learn, check, move, rewrite, fsplit, fjoin, done}
+use types.Kit.{Item, Goal, Seq, Step, step, ‵, ◌⊛◌, given, ◌$◌, ◌∵◌, !, qed, by, use0, use1, use2, split, learn, check, move, rewrite, fsplit, fjoin, done}
 use denote.Array.{Array}
 use denote.Builtin.{u8}
 use denote.Index.{place_is, row as side_by_side}
@@ -39,6 +42,10 @@ module _ (Z : Al) where
   abbrev pub bytes : El
   bytes = record { row = u8; laws = byte_laws; al = Z }
 
+-- what an allocator is asked for
+pub row_size : (n : ℕ) → n < 2 ^ 64 → capped (size (bare (row n))) ≡ n
+row_size n small = ap capped (size-raw (row n) ∙ mul-one n) ∙ capped_is n small
+
 module _ {M : Type 1} {𝓤 : Ura M} {𝓛 : Logic 𝓤} {K : Type 0} {Γ : List (Item 𝓤)} {G : Goal 𝓤 𝓛.H} (t : Ty → Ptr → Fml) where
   pub apart : K → (p : Ptr) (size : ℕ) (xs : List ℕ)
       → ((b o : ℕ) → p ≡ block_ptr b o → Seq K 𝓛 (‵ (written xs b o) ∷ ‵ (spare (length xs) size b o) ∷ ‵ (t (bare (row size)) (block_ptr b o)) ∷ Γ) G)
@@ -55,14 +62,17 @@ module _ {M : Type 1} {𝓤 : Ura M} {𝓛 : Logic 𝓤} {K : Type 0} {Γ : List
       rewrite k 0 (λ r. ‵ (block_with_items t u8 r (length xs) size xs)) (sym at) refl $ s)
 
 module _ (Z : Al) {M : Type 1} {𝓤 : Ura M} (𝓛 : Logic 𝓤) where
+  pub fresh : (b o size : ℕ) → ent 𝓤 (sem 𝓛 (froom (row size) b o)) (sep 𝓤 (sem 𝓛 (written [] b o)) (sem 𝓛 (spare 0 size b o)))
+  fresh b o size =
+      let all : size ≡ size - 0 = omega arith in let from : o ≡ o + 0 * 1 = omega arith in
+      qed 𝓛 (‵ (froom (row size) b o) ∷ []) ∵ rewrite ! 0 (λ (k : ℕ × ℕ). ‵ (froom (row k.0) b k.1)) (λ i. (all i, from i)) refl $
+      use0 𝓛 (‵ (written [] b o)) (rows.empty (bytes Z) 𝓛 [] b o refl) $ done !
+
   pub cleared : (b o size : ℕ) (xs : List ℕ) → length xs ≤ size
       → ent 𝓤 (sep 𝓤 (sem 𝓛 (written xs b o)) (sem 𝓛 (spare (length xs) size b o))) (sep 𝓤 (sem 𝓛 (written [] b o)) (sem 𝓛 (spare 0 size b o)))
   cleared b o size xs le =
-      let all : size ≡ size - 0 = omega arith in let from : o ≡ o + 0 * 1 = omega arith in
       qed 𝓛 (‵ (written xs b o) ∷ ‵ (spare (length xs) size b o) ∷ []) ∵
-      use2 𝓛 (‵ (froom (row size) b o)) (rows.all_room (bytes Z) 𝓛 b o (length xs) size xs le) $
-      rewrite ! 0 (λ (k : ℕ × ℕ). ‵ (froom (row k.0) b k.1)) (λ i. (all i, from i)) refl $
-      use0 𝓛 (‵ (written [] b o)) (rows.empty (bytes Z) 𝓛 [] b o refl) $ done !
+      use2 𝓛 (‵ (froom (row size) b o)) (rows.all_room (bytes Z) 𝓛 b o (length xs) size xs le) $ by ! (fresh b o size)
 
   -- room for a piece, and what is left behind it
   pub room_out : (b o size n : ℕ) → n + 24 ≤ size → ent 𝓤 (sem 𝓛 (spare n size b o)) (sep 𝓤 (sem 𝓛 (froom (row 24) b (n + o))) (sem 𝓛 (spare (n + 24) size b o)))

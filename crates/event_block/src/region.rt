@@ -10,23 +10,10 @@ use std::marker::{Model, PhantomData, Send};
 use std::slice;
 
 /// Where the memory begins. It owns nothing.
+#[derive(Clone, Copy)]
 pub(crate) struct Start {
     at: *mut u8,
 }
-
-impl Clone for Start {
-    ghost use Rattle.std.specs.Prelude.{⊤, ◌≡◌};
-
-    ghost is_clone = { λ x y. y ≡ x };
-
-    ghost is_infallible = { λ _. ⊤ };
-
-    fn clone(&self) -> Result<Start, AllocError> {
-        Ok(*self)
-    }
-}
-
-impl Copy for Start {}
 
 unsafe impl Send for Start {}
 
@@ -94,6 +81,5 @@ impl<A: Allocator> Region<A> {
     /// Nothing is written any more.
     pub(crate) fn clear(&mut self)
         ensures { (self.new.at ≡ self.old.at) × (self.new.size ≡ self.old.size) × (self.new.items ≡ []) × (self.new.alloc ≡ self.old.alloc) }
-    {
-    }
+    {}
 }

@@ -2,7 +2,6 @@
 use mathlib.Core.List.{[]}
 use lib.ListN.{length}
 use base.Fraction.{full_share}
-
 use contract.BorrowLft.{meet_⊑_left}
 use denote.RattleType.{RattleType}
 use denote.Array.{Array, Array-row_laws}

@@ -1,5 +1,5 @@
 -- `bytes` shows what the memory lends. Assumes `Logic`.
-use Rattle.std.proofs.Common.{◌≡◌, ℕ, ◌*◌, ◌^◌, ◌<◌, List, [], ◌∷◌, ◌++◌, length, refl, sym, ap, ◌∙◌, arith, w64}
+use Rattle.std.proofs.Common.{◌≡◌, ◌*◌, ◌^◌, List, [], ◌∷◌, ◌++◌, length, refl, ap, ◌∙◌, arith, w64}
 use mir.Syntax.{Fn, Args, a_type, dcons, dnil}
 use mir.Val.{Val, vint, vptr}
 use mir.MapTy.{inst_fn}
@@ -10,7 +10,7 @@ use prog.Wp.{Env, WpFn}
 use contract.BorrowLft.{◌⊑◌}
 use contract.Monad.{fact, fact_i}
 use contract.Running.{tables}
-use types.Kit.{‵, raw, ◌⊛◌, prop, at_ret, ◌$◌, ◌∵◌, !, qed, by, move, keep, drop, use0, split, join, rewrite, regoal, fsplit, fjoin, feq_i, flt_i}
+use types.Kit.{‵, raw, ◌⊛◌, prop, at_ret, ◌$◌, ◌∵◌, !, qed, by, move, keep, drop, use0, split, rewrite, regoal, fsplit, fjoin, feq_i, flt_i}
 use types.Part.{whole, sub, agg}
 use types.Run.{stop, fld, of_opd, and_then, no_more, first, blocks, exec, returns, enter}
 use types.ByLocal.{alloc_all, pass_all, free_all, look_at, take_at, give_at, get, get_in, sets, sets_last, env}

@@ -1,5 +1,5 @@
 -- `clear` makes room of the bytes that are written. Assumes `Logic`.
-use Rattle.std.proofs.Common.{◌≡◌, ℕ, ◌≤◌, List, [], ◌∷◌, ◌++◌, length, refl, arith}
+use Rattle.std.proofs.Common.{◌≡◌, List, [], ◌∷◌, ◌++◌, refl, arith}
 use mir.Syntax.{Fn, Args, a_type, dcons, dnil}
 use mir.Val.{Val, vptr, vunit}
 use mir.MapTy.{inst_fn}

@@ -1,10 +1,10 @@
 -- `put` takes room for the piece from the rest, and writes it there. Assumes `Logic`.
-use Rattle.std.proofs.Common.{◌≡◌, ℕ, ◌+◌, ◌^◌, ◌<◌, ◌≤◌, List, [], ◌∷◌, ◌++◌, length, refl, sym, ap, ◌∙◌, arith, length-append, w8, w64}
-use mir.Syntax.{Fn, Args, a_type, dcons, dnil, ty_array, ty_int}
+use Rattle.std.proofs.Common.{◌≡◌, ℕ, ◌+◌, ◌≤◌, List, [], ◌∷◌, ◌++◌, length, refl, sym, ◌∙◌, arith, length-append, w64}
+use mir.Syntax.{Fn, Args, a_type, dcons, dnil}
 use mir.Val.{Val, vint, vptr, vunit}
 use mir.MapTy.{inst_fn}
 use base.Fraction.{full_share}
-use base.Logic.{SProp, emp, via}
+use base.Logic.{SProp, emp}
 use base.Fml.{ftrue, fat, froom, flft}
 use prog.Wp.{Env, WpFn}
 use contract.BorrowLft.{◌⊑◌}
@@ -16,7 +16,6 @@ use types.Run.{stop, fld, init, bin, unit_lit, of_opd, assigns_last, first, bloc
 use types.ByLocal.{alloc_all, pass_all, free_all, look_at, take_at, give_at, get, get_in, through, sets, env}
 use denote.Array.{Array}
 use denote.Builtin.{u8, usize, ArrayOf}
-use denote.Exit.{all_rest}
 use denote.Memory.{part_at}
 use denote.RattleType.{RattleType, owns}
 use denote.Param.{param, bounded, layout}
