@@ -14,3 +14,6 @@ mod laws;
 pub use buffer::Buffer;
 pub use fault::BufferFault;
 pub use laws::prefix_stands;
+
+#[cfg(test)]
+mod tests;
