@@ -1,3 +1,4 @@
 pub mod Exclusion
 pub mod Folds
+pub mod HistoryCases
 pub mod Names
