@@ -84,3 +84,18 @@ then_work (Fork line span phases more) other = Fork line span phases (then_work 
 abbrev pub then_phases : Phases → Phases → Phases
 then_phases NoPhase later = later
 then_phases (Phase team more) later = Phase team (then_phases more later)
+
+-- how many phases there are
+abbrev pub phase_count : Phases → ℕ
+phase_count NoPhase = 0
+phase_count (Phase team later) = suc (phase_count later)
+
+-- what the lanes of the last phase do after it, as the End of a log that is put when all hands are home
+abbrev pub end_team : (ℕ → Work) → ℕ → TeamWork → TeamWork
+end_team last lane NoWork = NoWork
+end_team last lane (Beside work others) = Beside (then_work work (last lane)) (end_team last (suc lane) others)
+
+abbrev pub end_phases : (ℕ → Work) → Phases → Phases
+end_phases last NoPhase = NoPhase
+end_phases last (Phase team NoPhase) = Phase (end_team last 0 team) NoPhase
+end_phases last (Phase team (Phase next later)) = Phase team (end_phases last (Phase next later))

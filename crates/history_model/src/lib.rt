@@ -1,2 +1,12 @@
-//! One history of a run, as definitions and laws.
+//! One history of a run: what the hands of nested teams did, as a tree of work, and what its tasks' logs say.
+//!
+//! The laws: where the steps of all hands have one legal history that ends in some words, the logs of all tasks have one that
+//! keeps each task's order and that of forks, joins and barriers, and ends in the same words (sequential consistency), at any
+//! depth and span; and so do the logs of a run that stopped, with the mutexes released that were held at the stop.
 #![tactic(auto)]
+
+mod composing;
+mod history;
+
+pub use composing::{last_records_are_no_steps, phases_compose, works_compose};
+pub use history::{history_of_a_run, history_of_a_stopped_run};
