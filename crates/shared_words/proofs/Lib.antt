@@ -1,5 +1,6 @@
 pub mod Advance
 pub mod Beginning
+pub mod Cases
 pub mod Dealing
 pub mod Ending
 pub mod Joining
