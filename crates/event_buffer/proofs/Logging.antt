@@ -1,5 +1,5 @@
 -- The calls of a buffer keep which records were put and what the log has of them.
-use Rattle.std.proofs.Common.{◌≡◌, refl, ap, sym, ◌∙◌, subst, ℕ, suc, ◌+◌, ◌-◌, ◌*◌, ◌/◌, ◌<◌, ◌≤◌, List, [], ◌∷◌, ◌++◌, length, map, replicate, Option, Some, None, Result, Ok, Err, append_assoc, arith}
+use Rattle.std.proofs.Common.{◌≡◌, refl, ap, sym, ◌∙◌, subst, ℕ, ◌+◌, ◌*◌, ◌<◌, ◌≤◌, List, [], ◌∷◌, ◌++◌, length, map, replicate, Option, Some, None, Result, Ok, Err, append_assoc, arith}
 use Rattle.std.specs.Prelude.{OnOk}
 use Rattle.std.specs.Option.{option_map}
 use Rattle.std.specs.List.{flat_map}
@@ -7,7 +7,7 @@ use Rattle.std.proofs.lemmas.Grind.{flat_map-append}
 use Rattle.std.proofs.lemmas.List.{append-nil, length-append, map-append, replicate_more}
 use Rattle.sw_base.specs.declared.trouble.Trouble.{Trouble}
 use Rattle.sw_base.specs.Environment.{Text, WhereTold, TearsPiece, with_piece, with_torn}
-use Rattle.sw_base.specs.Pieces.{records_in, cut, kept}
+use Rattle.sw_base.specs.Pieces.{records_in, kept}
 use Rattle.log_format.specs.declared.record.Record.{Record}
 use Rattle.log_format.specs.Spelling.{spelling, log_bytes}
 use Rattle.log_format.proofs.Records.{length-spelling}
@@ -162,3 +162,11 @@ module _ (header : List ℕ) (old : Buffered) (records : List Record) (h : Logs 
         ∙ ap (λ l. l ++ x.rest) (sym x.bytes);
     behind = omega (arith, h.count, f.count, f.most, ap kept (f.lengths t told), kept_full f.full (records_in old.size));
   }
+
+-- also after a piece was refused
+pub torn_has_prefix : (header : List ℕ) (old new : Buffered) (records : List Record) (trouble : Trouble) → Logs header old records → old.refused ≡ None → IsTornBy trouble old new
+    → WhereTold new.text (HasPrefix header records old.size)
+torn_has_prefix header old new records trouble h unrefused torn =
+    let same : new.size ≡ old.size = ap (λ (b : Buffered). b.size) torn.is in
+    subst (λ (size : ℕ). WhereTold new.text (HasPrefix header records size)) same
+    (has_prefix header new records (logs_torn header old records h unrefused new trouble torn))

@@ -1,5 +1,5 @@
 -- Which records were put into a buffer, and what its log has of them.
-use Rattle.std.specs.Prelude.{◌≡◌, ℕ, ◌+◌, ◌*◌, ◌≤◌, List, ◌∷◌, ◌++◌, length, map, replicate, Option, None}
+use Rattle.std.specs.Prelude.{◌≡◌, ℕ, ◌+◌, ◌*◌, ◌≤◌, List, ◌∷◌, ◌++◌, length, map, replicate, None}
 use Rattle.std.specs.List.{flat_map}
 use Rattle.sw_base.specs.Environment.{Text, WhereTold}
 use Rattle.sw_base.specs.Pieces.{records_in, cut, kept}

@@ -1,5 +1,5 @@
 //! A buffer before a task's log.
-ghost use Rattle.std.specs.Prelude.{◌≡◌, ◌+◌, ◌*◌, ◌<◌, ◌≤◌, ◌↔◌, [], ◌∷◌, ◌++◌, length, List, ℕ, Some, None, Err, IfOk, IfErr, OnOk, OnErr, IsErr, IsErrOf, IsTrue};
+ghost use Rattle.std.specs.Prelude.{◌≡◌, ◌+◌, ◌*◌, ◌<◌, ◌≤◌, ◌↔◌, [], ◌∷◌, ◌++◌, length, List, ℕ, Some, None, Err, is_some, IfOk, IfErr, OnOk, OnErr, IsErr, IsErrOf, IsTrue};
 ghost use Rattle.std.specs.Option.{option_map};
 ghost use Rattle.log_format.specs.declared.record.Record.{Record};
 ghost use Rattle.log_format.specs.Spelling.{spelling};
@@ -72,7 +72,7 @@ impl<L: Log> Buffer<L> {
 
         ensures given_back { IfErr result (λ error. (L.dir error.1 ≡ L.dir log) × (L.path error.1 ≡ L.path log)) }
         ensures torn { IfErr result (λ error. TearsPiece (L.text log) (L.text error.1) LOG_HEADER) }
-        ensures memory { IfErr result (λ error. error.0 ≡ Trouble.Memory → L.text error.1 ≡ L.text log) }
+        ensures memory { IfErr result (λ error. error.0 ≡ Trouble.Memory → (L.text error.1 ≡ L.text log) × (L.faults error.1 ≡ L.faults log)) }
         ensures fault { IfErr result (λ error. CountsFault error.0 (L.faults error.1)) }
     {
         let mut log = log;
@@ -101,6 +101,8 @@ impl<L: Log> Buffer<L> {
         ensures again { (trouble : Trouble) → self.old.refused ≡ Some trouble
             → IsErrOf result (BufferFault.Trouble trouble) × (self.new ≡ self.old) }
         ensures refused { (trouble : Trouble) → IsErrOf result (BufferFault.Trouble trouble) → self.new.refused ≡ Some trouble }
+        ensures torn { (trouble : Trouble) → self.old.refused ≡ None → IsErrOf result (BufferFault.Trouble trouble)
+            → IsTornBy trouble self.old self.new }
         ensures fault { IsErrOf result (BufferFault.Trouble Trouble.Failed) → 0 < self.new.faults }
         ensures cause { self.old.refused ≡ None → IsErrOf result (BufferFault.Trouble Trouble.Failed) → Rose self.old.faults self.new.faults }
 
@@ -173,6 +175,9 @@ impl<L: Log> Buffer<L> {
         ensures prefix { IfErr result (λ error. (header : List ℕ) (records : List Record) → Logs header self records
             → WhereTold (L.text error.1) (HasPrefix header records self.size)) }
 
+        ensures tells { IfOk result (λ log. is_some (L.text log) ≡ is_some self.text) }
+        ensures error_tells { IfErr result (λ error. is_some (L.text error.1) ≡ is_some self.text) }
+
         ensures again { (trouble : Trouble) → self.refused ≡ Some trouble
             → IsErr result × IfErr result (λ error. (error.0 ≡ trouble) × (L.text error.1 ≡ self.text)) }
         ensures fault { IfErr result (λ error. CountsFault error.0 (L.faults error.1)) }
@@ -217,8 +222,7 @@ impl<L: Log> Buffer<L> {
         ensures all { OnOk result ((header : List ℕ) (records : List Record) → Logs header self.old records
             → WhereTold self.new.text (HasAll header records self.old.size)) }
         ensures torn { IfErr result (λ trouble. IsTornBy trouble self.old self.new) }
-        ensures dir { self.new.dir ≡ self.old.dir }
-        ensures path { self.new.path ≡ self.old.path }
+        ensures still { IsStill self.old self.new }
         ensures cause { HasCause self.old.faults self.new.faults result }
     {
         if !self.is_waiting() {
