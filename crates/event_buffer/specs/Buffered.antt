@@ -27,7 +27,7 @@ abbrev pub HasRoom : Buffered → Type 0
 HasRoom b = length b.waiting + 24 ≤ b.size
 
 -- one more record may be put
-pub record IsReady (b : Buffered) : Type 0 where
+pub record MayPut (b : Buffered) : Type 0 where
   pub unrefused : b.refused ≡ None
   pub below : b.count < record_limit
   pub room : HasRoom b

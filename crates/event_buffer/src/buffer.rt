@@ -4,8 +4,8 @@ ghost use Rattle.std.specs.Option.{option_map};
 ghost use Rattle.log_format.specs.declared.record.Record.{Record};
 ghost use Rattle.log_format.specs.Spelling.{spelling};
 ghost use Rattle.sw_base.specs.Environment.{WhereTold, HasCause, Rose, TearsPiece, empty_text, with_piece};
-ghost use Rattle.event_buffer.specs.Buffered.{HasRoom, IsReady, IsFlushed, IsTornBy, IsStill, CountsFault, record_limit};
-ghost use Rattle.event_buffer.specs.Logged.{Logs, HasAll, HasPrefix};
+ghost use Rattle.event_buffer.specs.Buffered.{HasRoom, MayPut, IsFlushed, IsTornBy, IsStill, CountsFault, record_limit};
+ghost use Rattle.event_buffer.specs.Logged.{HoldsRecords, HasAll, KeepsPrefix};
 
 use crate::fault::BufferFault;
 use event_block::Block;
@@ -68,7 +68,7 @@ impl<L: Log> Buffer<L> {
           count = 0;
           refused = None;
         }) }
-        ensures logs { IfOk result (λ b. Logs LOG_HEADER b []) }
+        ensures records { IfOk result (λ b. HoldsRecords LOG_HEADER b []) }
 
         ensures given_back { IfErr result (λ error. (L.dir error.1 ≡ L.dir log) × (L.path error.1 ≡ L.path log)) }
         ensures torn { IfErr result (λ error. TearsPiece (L.text log) (L.text error.1) LOG_HEADER) }
@@ -92,7 +92,7 @@ impl<L: Log> Buffer<L> {
 
     /// Makes room for one record: hands the block to the log, where the record doesn't fit.
     pub fn ready(&mut self, alloc: Global) -> Result<(), BufferFault>
-        ensures ready { OnOk result (IsReady self.new) }
+        ensures ready { OnOk result (MayPut self.new) }
         ensures room { HasRoom self.old → self.new ≡ self.old }
         ensures flushed { (HasRoom self.old → ⊥) → OnOk result (IsFlushed self.old self.new) }
 
@@ -106,7 +106,7 @@ impl<L: Log> Buffer<L> {
         ensures fault { IsErrOf result (BufferFault.Trouble Trouble.Failed) → 0 < self.new.faults }
         ensures cause { self.old.refused ≡ None → IsErrOf result (BufferFault.Trouble Trouble.Failed) → Rose self.old.faults self.new.faults }
 
-        ensures logs { (header : List ℕ) (records : List Record) → Logs header self.old records → Logs header self.new records }
+        ensures records { (header : List ℕ) (records : List Record) → HoldsRecords header self.old records → HoldsRecords header self.new records }
         ensures still { IsStill self.old self.new }
     {
         if let Some(trouble) = self.refused {
@@ -124,10 +124,10 @@ impl<L: Log> Buffer<L> {
 
     /// Adds a record.
     pub fn put(&mut self, event: &Record)
-        requires { IsReady self.old }
+        requires { MayPut self.old }
         ensures put { self.new ≡ record self.old { waiting = self.old.waiting ++ spelling event.now; count = self.old.count + 1 } }
-        ensures logs { (header : List ℕ) (records : List Record) → Logs header self.old records
-            → Logs header self.new (records ++ event.now ∷ []) }
+        ensures records { (header : List ℕ) (records : List Record) → HoldsRecords header self.old records
+            → HoldsRecords header self.new (records ++ event.now ∷ []) }
     {
         let _fits = self.block.push(&encode(event));
         self.count += 1;
@@ -156,7 +156,7 @@ impl<L: Log> Buffer<L> {
         ensures refused { IfErr result (λ trouble. self.new.refused ≡ Some trouble) }
         ensures cause { HasCause self.old.faults self.new.faults result }
 
-        ensures logs { (header : List ℕ) (records : List Record) → Logs header self.old records → Logs header self.new records }
+        ensures records { (header : List ℕ) (records : List Record) → HoldsRecords header self.old records → HoldsRecords header self.new records }
     {
         let outcome = self.log.child(alloc, region, lane, span);
         if let Err(trouble) = outcome {
@@ -170,10 +170,10 @@ impl<L: Log> Buffer<L> {
         ensures dir { IfOk result (λ log. (L.dir log ≡ self.dir) × (L.path log ≡ self.path)) }
         ensures given_back { IfErr result (λ error. (L.dir error.1 ≡ self.dir) × (L.path error.1 ≡ self.path)) }
 
-        ensures closed { IfOk result (λ log. (header : List ℕ) (records : List Record) → Logs header self records
+        ensures closed { IfOk result (λ log. (header : List ℕ) (records : List Record) → HoldsRecords header self records
             → WhereTold (L.text log) (HasAll header records self.size)) }
-        ensures prefix { IfErr result (λ error. (header : List ℕ) (records : List Record) → Logs header self records
-            → WhereTold (L.text error.1) (HasPrefix header records self.size)) }
+        ensures prefix { IfErr result (λ error. (header : List ℕ) (records : List Record) → HoldsRecords header self records
+            → WhereTold (L.text error.1) (KeepsPrefix header records self.size)) }
 
         ensures tells { IfOk result (λ log. is_some (L.text log) ≡ is_some self.text) }
         ensures error_tells { IfErr result (λ error. is_some (L.text error.1) ≡ is_some self.text) }
@@ -219,7 +219,7 @@ impl<L: Log> Buffer<L> {
     fn hand_on(&mut self, alloc: Global) -> Result<(), Trouble>
         requires unrefused { self.old.refused ≡ None }
         requires large { 24 ≤ self.old.size }
-        ensures all { OnOk result ((header : List ℕ) (records : List Record) → Logs header self.old records
+        ensures all { OnOk result ((header : List ℕ) (records : List Record) → HoldsRecords header self.old records
             → WhereTold self.new.text (HasAll header records self.old.size)) }
         ensures torn { IfErr result (λ trouble. IsTornBy trouble self.old self.new) }
         ensures still { IsStill self.old self.new }
