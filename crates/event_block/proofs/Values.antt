@@ -31,10 +31,6 @@ start_told p vs s = s.1.0 ∙ (λ i. vstruct (of_list (s.1.1.0 i ++ [])) ∷ [])
 pub start_made : {M : Type 1} {𝓤 : Ura M} (𝓛 : Logic 𝓤) (p : Ptr) → ent 𝓤 (emp 𝓤) (sem 𝓛 (start_own p (start_val p ∷ [])))
 start_made 𝓛 p = makes_shadow 𝓛 (start_own p (start_val p ∷ [])) (λ _. (tt, (tt, tt))) ((ptr_val p ∷ [], tt), (refl, (refl, tt)))
 
-pub ptr_typed : (p : Ptr) → Good ty_ptr (ptr_val p)
-ptr_typed (block_ptr b o) = (tt, tt)
-ptr_typed null_ptr = (tt, record { fits = lit< tt })
-
 pub start_typed : (p : Ptr) → Good (ty_struct [] (tcons ty_ptr tnil)) (start_val p)
 start_typed (block_ptr b o) = (tt, (tt, tt))
 start_typed null_ptr = (tt, (record { fits = lit< tt }, tt))

@@ -1,12 +1,12 @@
 -- How pieces that fill a block are counted.
-use Rattle.std.proofs.Common.{◌≡◌, ◌⊎◌, inl, inr, refl, ap, sym, ◌∙◌, subst, ℕ, zero, suc, ◌+◌, ◌-◌, ◌*◌, ◌/◌, ◌%◌, ◌<◌, ◌≤◌, List, [], ◌∷◌, ◌++◌, length, replicate, arith}
+use Rattle.std.proofs.Common.{◌≡◌, ◌⊎◌, inl, inr, ap, sym, ◌∙◌, ℕ, zero, suc, ◌+◌, ◌*◌, ◌/◌, ◌%◌, ◌<◌, ◌≤◌, List, [], ◌∷◌, ◌++◌, replicate, arith}
 use Rattle.std.specs.List.{sum}
 use Rattle.std.proofs.Math.Nat.{suc-mul, mul_left_comm, eq-or-lt_of_le}
 use Rattle.std.proofs.lemmas.Nat.{div-mul-add, mod-mul-add}
 use Rattle.std.proofs.lemmas.List.{append-nil, replicate_more}
 use Rattle.std.proofs.lemmas.List.Folds.{sum_by-replicate}
 use Rattle.std.proofs.lemmas.List.Sums.{sum_by-cons}
-use Rattle.sw_base.specs.Pieces.{records_in, rest_piece, full_pieces, cut, kept}
+use Rattle.sw_base.specs.Pieces.{records_in, rest_piece, cut, kept}
 
 pub one_more : (n m : ℕ) → (n + 1) * m ≡ n * m + m
 one_more n m = let more : n + 1 ≡ suc n = omega arith in ap (λ k. k * m) more ∙ suc-mul n m

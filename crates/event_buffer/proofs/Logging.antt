@@ -1,5 +1,5 @@
 -- The calls of a buffer keep which records were put and what the log has of them.
-use Rattle.std.proofs.Common.{◌≡◌, refl, ap, sym, ◌∙◌, subst, ℕ, suc, ◌+◌, ◌-◌, ◌*◌, ◌/◌, ◌<◌, ◌≤◌, List, [], ◌∷◌, ◌++◌, length, map, replicate, Option, Some, None, Result, Ok, Err, append_assoc, arith}
+use Rattle.std.proofs.Common.{◌≡◌, refl, ap, sym, ◌∙◌, subst, ℕ, ◌+◌, ◌*◌, ◌<◌, ◌≤◌, List, [], ◌∷◌, ◌++◌, length, map, replicate, Option, Some, None, Result, Ok, Err, append_assoc, arith}
 use Rattle.std.specs.Prelude.{OnOk}
 use Rattle.std.specs.Option.{option_map}
 use Rattle.std.specs.List.{flat_map}
@@ -7,12 +7,12 @@ use Rattle.std.proofs.lemmas.Grind.{flat_map-append}
 use Rattle.std.proofs.lemmas.List.{append-nil, length-append, map-append, replicate_more}
 use Rattle.sw_base.specs.declared.trouble.Trouble.{Trouble}
 use Rattle.sw_base.specs.Environment.{Text, WhereTold, TearsPiece, with_piece, with_torn}
-use Rattle.sw_base.specs.Pieces.{records_in, cut, kept}
+use Rattle.sw_base.specs.Pieces.{records_in, kept}
 use Rattle.log_format.specs.declared.record.Record.{Record}
 use Rattle.log_format.specs.Spelling.{spelling, log_bytes}
 use Rattle.log_format.proofs.Records.{length-spelling}
 use Rattle.event_buffer.specs.Buffered.{Buffered, HasRoom, IsFlushed, IsTornBy}
-use Rattle.event_buffer.specs.Logged.{joined, IsTorn, IsFilled, Logs, HasAll, HasPrefix}
+use Rattle.event_buffer.specs.Logged.{joined, IsTorn, IsFilled, HoldsRecords, HasAll, KeepsPrefix}
 use Rattle.event_buffer.proofs.Cuts.{one_more, cut_is, cut_last, kept_full}
 
 -- what holds of a log that was changed so holds where it tells
@@ -36,8 +36,8 @@ one_more_record header records r =
     append_assoc header (flat_map spelling records) (spelling r)
     ∙ ap (λ l. header ++ l) (ap (λ l. flat_map spelling records ++ l) (sym (append-nil (spelling r))) ∙ sym (flat_map-append spelling records (r ∷ [])))
 
-put_logs : (header : List ℕ) (b : Buffered) (records : List Record) (r : Record) → HasRoom b → Logs header b records
-    → Logs header (record b { waiting = b.waiting ++ spelling r; count = b.count + 1 }) (records ++ r ∷ [])
+put_logs : (header : List ℕ) (b : Buffered) (records : List Record) (r : Record) → HasRoom b → HoldsRecords header b records
+    → HoldsRecords header (record b { waiting = b.waiting ++ spelling r; count = b.count + 1 }) (records ++ r ∷ [])
 put_logs header b records r room h = let f = h.filled in record {
   count = omega (arith, h.count, length-append records (r ∷ []));
   bytes = λ t told. sym (append_assoc (joined t.pieces) b.waiting (spelling r)) ∙ ap (λ l. l ++ spelling r) (h.bytes t told) ∙ one_more_record header records r;
@@ -59,10 +59,10 @@ put_logs header b records r room h = let f = h.filled in record {
 }
 
 pub logs_put : (header : List ℕ) (old new : Buffered) (records : List Record) (r : Record) → HasRoom old
-    → new ≡ record old { waiting = old.waiting ++ spelling r; count = old.count + 1 } → Logs header old records → Logs header new (records ++ r ∷ [])
-logs_put header old new records r room is h = subst (λ b. Logs header b (records ++ r ∷ [])) (sym is) (put_logs header old records r room h)
+    → new ≡ record old { waiting = old.waiting ++ spelling r; count = old.count + 1 } → HoldsRecords header old records → HoldsRecords header new (records ++ r ∷ [])
+logs_put header old new records r room is h = subst (λ b. HoldsRecords header b (records ++ r ∷ [])) (sym is) (put_logs header old records r room h)
 
-module _ (header : List ℕ) (old : Buffered) (records : List Record) (h : Logs header old records) where
+module _ (header : List ℕ) (old : Buffered) (records : List Record) (h : HoldsRecords header old records) where
   f : IsFilled old
   f = h.filled
 
@@ -81,7 +81,7 @@ module _ (header : List ℕ) (old : Buffered) (records : List Record) (h : Logs 
         ∙ (λ i. f.lengths s told i ++ f.waiting i ∷ [])
 
     flushed_logs : (HasRoom old → ⊥) → (faults : ℕ)
-        → Logs header (record old { text = option_map (with_piece old.waiting) old.text; faults = faults; waiting = [] }) records
+        → HoldsRecords header (record old { text = option_map (with_piece old.waiting) old.text; faults = faults; waiting = [] }) records
     flushed_logs none faults =
         let c = records_in old.size in
         let all : f.rest ≡ c = omega (arith, f.waiting, f.most, none) in
@@ -103,11 +103,11 @@ module _ (header : List ℕ) (old : Buffered) (records : List Record) (h : Logs 
           };
         }
 
-    pub logs_flushed : (new : Buffered) → (HasRoom old → ⊥) → IsFlushed old new → Logs header new records
-    logs_flushed new none is = subst (λ b. Logs header b records) (sym is) (flushed_logs none new.faults)
+    pub logs_flushed : (new : Buffered) → (HasRoom old → ⊥) → IsFlushed old new → HoldsRecords header new records
+    logs_flushed new none is = subst (λ b. HoldsRecords header b records) (sym is) (flushed_logs none new.faults)
 
     torn_logs : (text : Option Text) (faults : ℕ) (trouble : Trouble) → TearsPiece old.text text old.waiting
-        → Logs header (record old { text = text; faults = faults; refused = Some trouble }) records
+        → HoldsRecords header (record old { text = text; faults = faults; refused = Some trouble }) records
     torn_logs text faults trouble tears =
         let at = λ (P : Text → Type 0) (k : (s : Text) → old.text ≡ Some s → P (with_torn tears.prefix s)).
         subst (λ o. WhereTold o P) (sym tears.tears) (told_after old.text (with_torn tears.prefix) P k) in
@@ -127,8 +127,8 @@ module _ (header : List ℕ) (old : Buffered) (records : List Record) (h : Logs 
           };
         }
 
-    pub logs_torn : (new : Buffered) (trouble : Trouble) → IsTornBy trouble old new → Logs header new records
-    logs_torn new trouble is = subst (λ b. Logs header b records) (sym is.is) (torn_logs new.text new.faults trouble is.tears)
+    pub logs_torn : (new : Buffered) (trouble : Trouble) → IsTornBy trouble old new → HoldsRecords header new records
+    logs_torn new trouble is = subst (λ b. HoldsRecords header b records) (sym is.is) (torn_logs new.text new.faults trouble is.tears)
 
     -- the log has all records, where none waits and after what waited was handed on
     pub all_when_none_waits : 24 ≤ old.size → (0 < length old.waiting → ⊥) → WhereTold old.text (HasAll header records old.size)
@@ -152,7 +152,7 @@ module _ (header : List ℕ) (old : Buffered) (records : List Record) (h : Logs 
           lengths = piece_lengths s told ∙ cut_last (length records) f.full f.rest old.size (sym h.count ∙ f.count) (omega (arith, f.waiting, some)) f.most;
         }))
 
-  pub has_prefix : WhereTold old.text (HasPrefix header records old.size)
+  pub has_prefix : WhereTold old.text (KeepsPrefix header records old.size)
   has_prefix t told = let x = h.torn t told in record {
     torn = x.torn;
     missing = x.rest;
@@ -162,3 +162,11 @@ module _ (header : List ℕ) (old : Buffered) (records : List Record) (h : Logs 
         ∙ ap (λ l. l ++ x.rest) (sym x.bytes);
     behind = omega (arith, h.count, f.count, f.most, ap kept (f.lengths t told), kept_full f.full (records_in old.size));
   }
+
+-- also after a piece was refused
+pub torn_has_prefix : (header : List ℕ) (old new : Buffered) (records : List Record) (trouble : Trouble) → HoldsRecords header old records → old.refused ≡ None → IsTornBy trouble old new
+    → WhereTold new.text (KeepsPrefix header records old.size)
+torn_has_prefix header old new records trouble h unrefused torn =
+    let same : new.size ≡ old.size = ap (λ (b : Buffered). b.size) torn.is in
+    subst (λ (size : ℕ). WhereTold new.text (KeepsPrefix header records size)) same
+    (has_prefix header new records (logs_torn header old records h unrefused new trouble torn))

@@ -3,7 +3,7 @@ use Rattle.std.specs.Prelude.{◌≡◌, ℕ, ◌+◌, ◌<◌, ◌≤◌, List,
 use Rattle.std.specs.Option.{option_map}
 use Rattle.sw_base.specs.declared.path.Step.{Step}
 use Rattle.sw_base.specs.declared.trouble.Trouble.{Trouble}
-use Rattle.sw_base.specs.declared.trouble.Trouble.TheVariants.{Failed}
+use Rattle.sw_base.specs.declared.trouble.Trouble.TheVariants.{Failed, Memory}
 use Rattle.sw_base.specs.Environment.{Text, TearsPiece, with_piece}
 
 -- the log's folder, path, text and count of faults; how many bytes the block may hold, and those that wait in it; how many records
@@ -27,7 +27,7 @@ abbrev pub HasRoom : Buffered → Type 0
 HasRoom b = length b.waiting + 24 ≤ b.size
 
 -- one more record may be put
-pub record IsReady (b : Buffered) : Type 0 where
+pub record MayPut (b : Buffered) : Type 0 where
   pub unrefused : b.refused ≡ None
   pub below : b.count < record_limit
   pub room : HasRoom b
@@ -36,10 +36,11 @@ pub record IsReady (b : Buffered) : Type 0 where
 abbrev pub IsFlushed : Buffered → Buffered → Type 0
 IsFlushed old new = new ≡ record old { text = option_map (with_piece old.waiting) old.text; faults = new.faults; waiting = [] }
 
--- the log refused what waits, and may have a prefix of it
+-- the log refused what waits, and may have a prefix of it, or has nothing of it where no memory was found
 pub record IsTornBy (trouble : Trouble) (old new : Buffered) : Type 0 where
   pub is : new ≡ record old { text = new.text; faults = new.faults; refused = Some trouble }
   pub tears : TearsPiece old.text new.text old.waiting
+  pub memory : trouble ≡ Memory → new ≡ record old { refused = Some trouble }
 
 -- the same buffer, whatever its log took
 pub record IsStill (old new : Buffered) : Type 0 where

@@ -1,5 +1,5 @@
 -- Which records were put into a buffer, and what its log has of them.
-use Rattle.std.specs.Prelude.{◌≡◌, ℕ, ◌+◌, ◌*◌, ◌≤◌, List, ◌∷◌, ◌++◌, length, map, replicate, Option, None}
+use Rattle.std.specs.Prelude.{◌≡◌, ℕ, ◌+◌, ◌*◌, ◌≤◌, List, ◌∷◌, ◌++◌, length, map, replicate, None}
 use Rattle.std.specs.List.{flat_map}
 use Rattle.sw_base.specs.Environment.{Text, WhereTold}
 use Rattle.sw_base.specs.Pieces.{records_in, cut, kept}
@@ -29,7 +29,7 @@ pub record IsFilled (b : Buffered) : Type 0 where
 
 -- just these records were put: the pieces, and what waits behind them, are the header and the records, and unless a call was
 -- refused the pieces are all of the log
-pub record Logs (header : List ℕ) (b : Buffered) (records : List Record) : Type 0 where
+pub record HoldsRecords (header : List ℕ) (b : Buffered) (records : List Record) : Type 0 where
   pub count : b.count ≡ length records
   pub bytes : WhereTold b.text (λ text. joined text.pieces ++ b.waiting ≡ log_bytes header records)
   pub torn : WhereTold b.text (λ text. IsTorn text b.waiting)
@@ -44,7 +44,7 @@ pub record HasAll (header : List ℕ) (records : List Record) (size : ℕ) (text
 
 -- a log has its pieces, and perhaps a prefix of the next one, of a log of these records, and at most a block of records isn't in
 -- the pieces
-pub record HasPrefix (header : List ℕ) (records : List Record) (size : ℕ) (text : Text) : Type 0 where
+pub record KeepsPrefix (header : List ℕ) (records : List Record) (size : ℕ) (text : Text) : Type 0 where
   pub torn : List ℕ
   pub missing : List ℕ
   pub bytes : text.bytes ≡ joined text.pieces ++ torn

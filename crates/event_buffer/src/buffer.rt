@@ -1,11 +1,11 @@
 //! A buffer before a task's log.
-ghost use Rattle.std.specs.Prelude.{◌≡◌, ◌+◌, ◌*◌, ◌<◌, ◌≤◌, ◌↔◌, [], ◌∷◌, ◌++◌, length, List, ℕ, Some, None, Err, IfOk, IfErr, OnOk, OnErr, IsErr, IsErrOf, IsTrue};
+ghost use Rattle.std.specs.Prelude.{◌≡◌, ◌+◌, ◌*◌, ◌<◌, ◌≤◌, ◌↔◌, [], ◌∷◌, ◌++◌, length, List, ℕ, Some, None, Err, is_some, IfOk, IfErr, OnOk, OnErr, IsErr, IsErrOf, IsTrue};
 ghost use Rattle.std.specs.Option.{option_map};
 ghost use Rattle.log_format.specs.declared.record.Record.{Record};
 ghost use Rattle.log_format.specs.Spelling.{spelling};
 ghost use Rattle.sw_base.specs.Environment.{WhereTold, HasCause, Rose, TearsPiece, empty_text, with_piece};
-ghost use Rattle.event_buffer.specs.Buffered.{HasRoom, IsReady, IsFlushed, IsTornBy, IsStill, CountsFault, record_limit};
-ghost use Rattle.event_buffer.specs.Logged.{Logs, HasAll, HasPrefix};
+ghost use Rattle.event_buffer.specs.Buffered.{HasRoom, MayPut, IsFlushed, IsTornBy, IsStill, CountsFault, record_limit};
+ghost use Rattle.event_buffer.specs.Logged.{HoldsRecords, HasAll, KeepsPrefix};
 
 use crate::fault::BufferFault;
 use event_block::Block;
@@ -68,11 +68,11 @@ impl<L: Log> Buffer<L> {
           count = 0;
           refused = None;
         }) }
-        ensures logs { IfOk result (λ b. Logs LOG_HEADER b []) }
+        ensures records { IfOk result (λ b. HoldsRecords LOG_HEADER b []) }
 
         ensures given_back { IfErr result (λ error. (L.dir error.1 ≡ L.dir log) × (L.path error.1 ≡ L.path log)) }
         ensures torn { IfErr result (λ error. TearsPiece (L.text log) (L.text error.1) LOG_HEADER) }
-        ensures memory { IfErr result (λ error. error.0 ≡ Trouble.Memory → L.text error.1 ≡ L.text log) }
+        ensures memory { IfErr result (λ error. error.0 ≡ Trouble.Memory → (L.text error.1 ≡ L.text log) × (L.faults error.1 ≡ L.faults log)) }
         ensures fault { IfErr result (λ error. CountsFault error.0 (L.faults error.1)) }
     {
         let mut log = log;
@@ -92,7 +92,7 @@ impl<L: Log> Buffer<L> {
 
     /// Makes room for one record: hands the block to the log, where the record doesn't fit.
     pub fn ready(&mut self, alloc: Global) -> Result<(), BufferFault>
-        ensures ready { OnOk result (IsReady self.new) }
+        ensures ready { OnOk result (MayPut self.new) }
         ensures room { HasRoom self.old → self.new ≡ self.old }
         ensures flushed { (HasRoom self.old → ⊥) → OnOk result (IsFlushed self.old self.new) }
 
@@ -101,10 +101,12 @@ impl<L: Log> Buffer<L> {
         ensures again { (trouble : Trouble) → self.old.refused ≡ Some trouble
             → IsErrOf result (BufferFault.Trouble trouble) × (self.new ≡ self.old) }
         ensures refused { (trouble : Trouble) → IsErrOf result (BufferFault.Trouble trouble) → self.new.refused ≡ Some trouble }
+        ensures torn { (trouble : Trouble) → self.old.refused ≡ None → IsErrOf result (BufferFault.Trouble trouble)
+            → IsTornBy trouble self.old self.new }
         ensures fault { IsErrOf result (BufferFault.Trouble Trouble.Failed) → 0 < self.new.faults }
         ensures cause { self.old.refused ≡ None → IsErrOf result (BufferFault.Trouble Trouble.Failed) → Rose self.old.faults self.new.faults }
 
-        ensures logs { (header : List ℕ) (records : List Record) → Logs header self.old records → Logs header self.new records }
+        ensures records { (header : List ℕ) (records : List Record) → HoldsRecords header self.old records → HoldsRecords header self.new records }
         ensures still { IsStill self.old self.new }
     {
         if let Some(trouble) = self.refused {
@@ -122,10 +124,10 @@ impl<L: Log> Buffer<L> {
 
     /// Adds a record.
     pub fn put(&mut self, event: &Record)
-        requires { IsReady self.old }
+        requires { MayPut self.old }
         ensures put { self.new ≡ record self.old { waiting = self.old.waiting ++ spelling event.now; count = self.old.count + 1 } }
-        ensures logs { (header : List ℕ) (records : List Record) → Logs header self.old records
-            → Logs header self.new (records ++ event.now ∷ []) }
+        ensures records { (header : List ℕ) (records : List Record) → HoldsRecords header self.old records
+            → HoldsRecords header self.new (records ++ event.now ∷ []) }
     {
         let _fits = self.block.push(&encode(event));
         self.count += 1;
@@ -154,7 +156,7 @@ impl<L: Log> Buffer<L> {
         ensures refused { IfErr result (λ trouble. self.new.refused ≡ Some trouble) }
         ensures cause { HasCause self.old.faults self.new.faults result }
 
-        ensures logs { (header : List ℕ) (records : List Record) → Logs header self.old records → Logs header self.new records }
+        ensures records { (header : List ℕ) (records : List Record) → HoldsRecords header self.old records → HoldsRecords header self.new records }
     {
         let outcome = self.log.child(alloc, region, lane, span);
         if let Err(trouble) = outcome {
@@ -168,10 +170,13 @@ impl<L: Log> Buffer<L> {
         ensures dir { IfOk result (λ log. (L.dir log ≡ self.dir) × (L.path log ≡ self.path)) }
         ensures given_back { IfErr result (λ error. (L.dir error.1 ≡ self.dir) × (L.path error.1 ≡ self.path)) }
 
-        ensures closed { IfOk result (λ log. (header : List ℕ) (records : List Record) → Logs header self records
+        ensures closed { IfOk result (λ log. (header : List ℕ) (records : List Record) → HoldsRecords header self records
             → WhereTold (L.text log) (HasAll header records self.size)) }
-        ensures prefix { IfErr result (λ error. (header : List ℕ) (records : List Record) → Logs header self records
-            → WhereTold (L.text error.1) (HasPrefix header records self.size)) }
+        ensures prefix { IfErr result (λ error. (header : List ℕ) (records : List Record) → HoldsRecords header self records
+            → WhereTold (L.text error.1) (KeepsPrefix header records self.size)) }
+
+        ensures tells { IfOk result (λ log. is_some (L.text log) ≡ is_some self.text) }
+        ensures error_tells { IfErr result (λ error. is_some (L.text error.1) ≡ is_some self.text) }
 
         ensures again { (trouble : Trouble) → self.refused ≡ Some trouble
             → IsErr result × IfErr result (λ error. (error.0 ≡ trouble) × (L.text error.1 ≡ self.text)) }
@@ -214,11 +219,10 @@ impl<L: Log> Buffer<L> {
     fn hand_on(&mut self, alloc: Global) -> Result<(), Trouble>
         requires unrefused { self.old.refused ≡ None }
         requires large { 24 ≤ self.old.size }
-        ensures all { OnOk result ((header : List ℕ) (records : List Record) → Logs header self.old records
+        ensures all { OnOk result ((header : List ℕ) (records : List Record) → HoldsRecords header self.old records
             → WhereTold self.new.text (HasAll header records self.old.size)) }
         ensures torn { IfErr result (λ trouble. IsTornBy trouble self.old self.new) }
-        ensures dir { self.new.dir ≡ self.old.dir }
-        ensures path { self.new.path ≡ self.old.path }
+        ensures still { IsStill self.old self.new }
         ensures cause { HasCause self.old.faults self.new.faults result }
     {
         if !self.is_waiting() {

@@ -37,16 +37,12 @@ use Rattle.event_block.proofs.region.Region.bytes.Code as compiled
 
 pub bytes_spec : {M : Type 1} → statement M
 bytes_spec 𝓤 𝓛 𝓜 𝓡 wired A L g d dd met md =
-    let H = 𝓛.H in
-    let T = ended A g d dd in
-    let c = clauses A g d dd 𝓛 𝓜.mem 𝓡.returns in
-    let args : Args = bounded (a_type ∷ []) (A, tt) (dcons d (dcons dd dnil)) in
-    let fn : Fn = inst_fn args compiled.function in
+    let H = 𝓛.H in let T = ended A g d dd in let c = clauses A g d dd 𝓛 𝓜.mem 𝓡.returns in
+    let args : Args = bounded (a_type ∷ []) (A, tt) (dcons d (dcons dd dnil)) in let fn : Fn = inst_fn args compiled.function in
     let R : RattleType = region.the_row (param 0 A) g in
     let m = RefOf (0 ∷ []) tt (plain (λ _. R)) (λ _. tt) in let s = plain (λ _. start.the_row) in let n = plain (λ _. usize) in
     let hs : Stays T.signature.params T.kept = (stay_dropped m T.kept.0, (stay_dropped s T.kept.1.0, (stay_dropped n T.kept.1.1.0, tt))) in
-    let C = (tables 𝓤 H 𝓜 𝓡 𝓡.env).C in
-    let Λ = (tables 𝓤 H 𝓜 𝓡 𝓡.env).Λ in
+    let C = (tables 𝓤 H 𝓜 𝓡 𝓡.env).C in let Λ = (tables 𝓤 H 𝓜 𝓡 𝓡.env).Λ in
     proved_at 𝓛 T hs c 𝓜 𝓡 (Goes-dropped 𝓛 2 m T.kept.0 (λ κs x f. refl), (Goes-dropped 𝓛 2 s T.kept.1.0 (λ κs x f. refl), (Goes-dropped 𝓛 2 n T.kept.1.1.0 (λ κs x f. refl), tt)))
     (#self args) fn (compiled.unfolded 𝓤 H 𝓜 𝓡 wired (A, tt) d dd) (λ z are.
     let Post : Val → SProp 𝓤 = (walk_of 𝓛 T hs c).post z in

@@ -28,16 +28,12 @@ use Rattle.event_block.proofs.region.Region.clear.Code as compiled
 
 pub clear_spec : {M : Type 1} → statement M
 clear_spec 𝓤 𝓛 𝓜 𝓡 wired A L g d dd met md =
-    let H = 𝓛.H in
-    let T = ended A g d dd in
-    let c = clauses A g d dd 𝓛 𝓜.mem 𝓡.returns in
-    let args : Args = bounded (a_type ∷ []) (A, tt) (dcons d (dcons dd dnil)) in
-    let fn : Fn = inst_fn args compiled.function in
+    let H = 𝓛.H in let T = ended A g d dd in let c = clauses A g d dd 𝓛 𝓜.mem 𝓡.returns in
+    let args : Args = bounded (a_type ∷ []) (A, tt) (dcons d (dcons dd dnil)) in let fn : Fn = inst_fn args compiled.function in
     let R : RattleType = region.the_row (param 0 A) g in
     let Z : Al = record { row = A; laws = L; g = g; d = d; drops = dd } in
     let hs : Stays T.signature.params T.kept = (stay_ref (0 ∷ []) tt (plain (λ _. R)), tt) in
-    let C = (tables 𝓤 H 𝓜 𝓡 𝓡.env).C in
-    let Λ = (tables 𝓤 H 𝓜 𝓡 𝓡.env).Λ in
+    let C = (tables 𝓤 H 𝓜 𝓡 𝓡.env).C in let Λ = (tables 𝓤 H 𝓜 𝓡 𝓡.env).Λ in
     proved_at 𝓛 T hs c 𝓜 𝓡 (Goes-ref 𝓛 2 0 tt (plain (λ _. R)), tt) (#self args) fn (compiled.unfolded 𝓤 H 𝓜 𝓡 wired (A, tt) d dd) (λ z are.
     let Post : Val → SProp 𝓤 = (walk_of 𝓛 T hs c).post z in
     let κ = z.0.0.0 in let q = z.0.1.0 in

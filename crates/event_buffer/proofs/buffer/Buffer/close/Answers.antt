@@ -1,7 +1,6 @@
-use Rattle.std.proofs.Common.{sym, ap, subst, ◌∙◌, ℕ}
+use Rattle.std.proofs.Common.{sym, ap, ◌∙◌}
 use Rattle.event_buffer.specs.Buffered.{Buffered}
-use Rattle.event_buffer.specs.Logged.{HasPrefix}
-use Rattle.event_buffer.proofs.Logging.{logs_torn, has_prefix}
+use Rattle.event_buffer.proofs.Logging.{has_prefix, torn_has_prefix}
 use Rattle.event_buffer.proofs.buffer.Buffer.close.Goals as goal
 
 pub returns-in-Some-clause-prefix : goal.returns-in-Some-clause-prefix
@@ -12,7 +11,5 @@ returns-in-Ok-clause-closed g c = λ header records h t told. c.in-Ok.ensures.al
 
 pub returns-in-Err-clause-prefix : goal.returns-in-Err-clause-prefix
 returns-in-Err-clause-prefix g c = λ header records h t told.
-    let new = c.hand_on.new.self in let torn = c.in-Err.ensures.torn in
-    let after = logs_torn header c.args.self records h (sym (ap (λ (b : Buffered). b.refused) c.buffer.view_is) ∙ c.in_default.is) new c.in-Err.trouble torn in
-    subst (λ (size : ℕ). HasPrefix header records size t) (ap (λ (b : Buffered). b.size) torn.is)
-    (has_prefix header new records after t (sym c.into_log-in-Err.ensures.text ∙ told))
+    torn_has_prefix header c.args.self c.hand_on.new.self records c.in-Err.trouble h (sym (ap (λ (b : Buffered). b.refused) c.buffer.view_is) ∙ c.in_default.is) c.in-Err.ensures.torn t
+    (sym c.into_log-in-Err.ensures.text ∙ told)

@@ -4,8 +4,8 @@ use Rattle.event_buffer.specs.Buffered.{Buffered}
 use Rattle.event_buffer.proofs.Logging.{logs_put}
 use Rattle.event_buffer.proofs.buffer.Buffer.put.Goals as goal
 
-pub returns-clause-logs : goal.returns-clause-logs
-returns-clause-logs g c = λ header records h.
+pub returns-clause-records : goal.returns-clause-records
+returns-clause-records g c = λ header records h.
     let view = c.self.view_is in
     let block = c.self.inside.block in
     let fits : 24 ≤ block.size - length block.bytes = omega (arith, c.requires.room, ap (λ (b : Buffered). length b.waiting) view, ap (λ (b : Buffered). b.size) view) in
