@@ -10,7 +10,7 @@ use Rattle.sw_base.specs.declared.path.Step.{Step}
 use Rattle.log_format.specs.declared.record.Record.{Record}
 use Rattle.race_model.specs.Listing.{lane_of}
 use Rattle.race_model.specs.History.{Entry, entry_of}
-use Rattle.history_model.specs.Work.{Work, RegionWork, region_record, work_records, work_regions, work_at, lane_works, works_at_region, works_at_step, works_under, task_logs}
+use Rattle.history_model.specs.Work.{Work, RegionWork, fork_record, work_records, work_regions, work_at, lane_works, works_at_region, works_at_step, works_under, task_logs}
 use Rattle.history_model.proofs.LabelledWork.{Marked, entry, records_at, regions_at}
 use Rattle.history_model.proofs.TimedWork.{TimedWork, TimedRest, TimedPut, TimedFork, TimedPhases, TimedNone, TimedPhase, TimedTeam, TimedEmpty, TimedBeside, plain, plain_phases, plain_team, Happened, IsTimed, ArePhasesTimed, IsTeamTimed}
 
@@ -21,7 +21,7 @@ pub data Act : Type 0 where
 
 abbrev pub act_record : Act → Record
 act_record (Plain r from until) = r
-act_record (Forks line span from until phases) = region_record line span
+act_record (Forks line span from until phases) = fork_record line span
 
 abbrev pub act_from : Act → ℕ
 act_from (Plain r from until) = from
@@ -90,7 +90,7 @@ pub record Agree (acts : List Act) (works : List Work) : Type 0 where
 pub records_of : (work : TimedWork) → map act_record (acts_of work) ≡ work_records (plain work)
 records_of TimedRest = refl
 records_of (TimedPut r from until more) = ap (λ (rs : List Record). r ∷ rs) (records_of more)
-records_of (TimedFork line span from until phases more) = ap (λ (rs : List Record). region_record line span ∷ rs) (records_of more)
+records_of (TimedFork line span from until phases more) = ap (λ (rs : List Record). fork_record line span ∷ rs) (records_of more)
 
 regions_of_acts : (work : TimedWork) → map plain_region (act_regions (acts_of work)) ≡ work_regions (plain work)
 regions_of_acts TimedRest = refl

@@ -2,6 +2,7 @@ pub mod Acts
 pub mod ActsOrder
 pub mod Barriers
 pub mod Counting
+pub mod DrawnNumbers
 pub mod Edges
 pub mod GoodItems
 pub mod Labelled
@@ -13,6 +14,7 @@ pub mod Members
 pub mod Ordered
 pub mod Parts
 pub mod TaskEntries
+pub mod TaskTree
 pub mod TimedWork
 pub mod Times
 pub mod TreeHistory

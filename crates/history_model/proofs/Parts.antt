@@ -11,7 +11,7 @@ use Rattle.step_history.specs.declared.item.Item.{Item}
 use Rattle.step_history.specs.declared.item.Deed.{Deed}
 use Rattle.step_history.specs.declared.item.Deed.TheVariants.{Split, Home}
 use Rattle.step_history.specs.History.{Name, item}
-use Rattle.history_model.specs.Work.{Work, Rest, Put, Fork, Phases, NoPhase, Phase, TeamWork, NoWork, Beside, region_record, work_records, work_at, lane_works, then_work, then_phases, phase_count, end_team, end_phases}
+use Rattle.history_model.specs.Work.{Work, Rest, Put, Fork, Phases, NoPhase, Phase, TeamWork, NoWork, Beside, fork_record, work_records, work_at, lane_works, then_work, then_phases, phase_count, end_team, end_phases}
 use Rattle.history_model.specs.Did.{deeds_of, lane_count_of, phase_splits, split_count, splits_of, did, did_phases, did_team, DoesNothing}
 use Rattle.history_model.specs.Sound.{WordLayout, IsSound, ArePhasesSound, IsTeamSound, PassesBarrier, PassAllBarriers, PassesNone, EndWithoutBarrier}
 use Rattle.history_model.proofs.ActsOrder.{count_cons}
@@ -46,7 +46,7 @@ pub then_sound : (layout : WordLayout) (work other : Work) → IsSound layout wo
 then_sound layout Rest other sound also none = also
 then_sound layout (Put r more) other sound also none =
     (sound.0, (λ is. absurd (no_barrier_first r (work_records more) none is)), then_sound layout more other sound.2 also (no_barrier_later r (work_records more) none))
-then_sound layout (Fork line span phases more) other sound also none = (sound.0, then_sound layout more other sound.1 also (no_barrier_later (region_record line span) (work_records more) none))
+then_sound layout (Fork line span phases more) other sound also none = (sound.0, then_sound layout more other sound.1 also (no_barrier_later (fork_record line span) (work_records more) none))
 
 pub phases_splits_sum : (phases later : Phases) → phase_splits (then_phases phases later) ≡ phase_splits phases + phase_splits later
 phases_splits_sum NoPhase later = omega arith

@@ -16,7 +16,7 @@ use Rattle.race_model.proofs.TraceLogs.{path_is}
 use Rattle.step_history.specs.declared.item.Deed.{Deed}
 use Rattle.step_history.specs.declared.item.Deed.TheVariants.{Home}
 use Rattle.step_history.specs.History.{Name}
-use Rattle.history_model.specs.Work.{Work, Rest, Put, Fork, Phases, NoPhase, Phase, TeamWork, NoWork, Beside, RegionWork, region_record, work_records, work_regions, then_work}
+use Rattle.history_model.specs.Work.{Work, Rest, Put, Fork, Phases, NoPhase, Phase, TeamWork, NoWork, Beside, RegionWork, fork_record, work_records, work_regions, then_work}
 use Rattle.history_model.specs.Did.{deeds_of, lane_count_of, phase_splits}
 use Rattle.history_model.proofs.LabelledWork.{Marked, marked, entry, records_at, regions_at, splits_marked, put_marked, did_marked, phases_marked, team_marked}
 use Rattle.history_model.proofs.Times.{OneDeed, deed_or_none}
@@ -209,9 +209,9 @@ then_rest (Fork line span phases more) = ap (λ (w : Work). Fork line span phase
 pub then_records : (work other : Work) → work_records (then_work work other) ≡ work_records work ++ work_records other
 then_records Rest other = refl
 then_records (Put r more) other = ap (λ (rs : List Record). r ∷ rs) (then_records more other)
-then_records (Fork line span phases more) other = ap (λ (rs : List Record). region_record line span ∷ rs) (then_records more other)
+then_records (Fork line span phases more) other = ap (λ (rs : List Record). fork_record line span ∷ rs) (then_records more other)
 
-then_regions : (work other : Work) → work_regions (then_work work other) ≡ work_regions work ++ work_regions other
+pub then_regions : (work other : Work) → work_regions (then_work work other) ≡ work_regions work ++ work_regions other
 then_regions Rest other = refl
 then_regions (Put r more) other = then_regions more other
 then_regions (Fork line span phases more) other = ap (λ (rs : List RegionWork). record { span = span; phases = phases } ∷ rs) (then_regions more other)

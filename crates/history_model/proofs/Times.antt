@@ -15,7 +15,7 @@ use Rattle.step_history.specs.declared.item.Deed.{Deed}
 use Rattle.step_history.specs.declared.item.Deed.TheVariants.{Read, Write, Lock, Unlock, Split, Home}
 use Rattle.step_history.specs.History.{Name, name_eq, item, Legal}
 use Rattle.step_history.proofs.Names.{is_same_name, same_name}
-use Rattle.step_history.proofs.Order.{split_before, home_after}
+use Rattle.step_history.proofs.SplitsAndHomes.{split_before, home_after}
 use Rattle.history_model.specs.Work.{Work, Rest, Put, Fork, Phases, NoPhase, Phase, TeamWork, NoWork, Beside}
 use Rattle.history_model.specs.Did.{deeds_of, lane_count_of, phase_splits, split_count}
 use Rattle.history_model.proofs.Labelled.{labelled_of, items_of}
@@ -46,10 +46,6 @@ deed_or_none word kind.End r e = inl (refl, refl)
 splits_length : (name : Name) (k lane span : ℕ) (team : TeamWork) → length (splits_marked name k lane span team) ≡ lane_count_of team
 splits_length name k lane span NoWork = refl
 splits_length name k lane span (Beside work others) = ap (λ (n : ℕ). suc n) (splits_length name (suc k) (suc lane) span others)
-
-homes_length : (name : Name) (k : ℕ) (team : TeamWork) → length (homes_marked name k team) ≡ lane_count_of team
-homes_length name k NoWork = refl
-homes_length name k (Beside work others) = ap (λ (n : ℕ). suc n) (homes_length name (suc k) others)
 
 split_at : (name : Name) (k lane span : ℕ) (team : TeamWork) → SplitsBelow name (splits_marked name k lane span team) (k + lane_count_of team)
 split_at name k lane span NoWork n x found j other all is = cc

@@ -5,13 +5,16 @@ use Rattle.std.specs.Prelude.{slice_index}
 use Rattle.sw_base.specs.declared.path.Step.{Step}
 use Rattle.log_format.specs.declared.record.Record.{Record}
 use Rattle.log_format.specs.declared.record.Kind.{Kind}
-use Rattle.log_format.specs.declared.record.Kind.TheVariants.{Read, Write, Lock, Unlock, Barrier, Region, End}
+use Rattle.log_format.specs.declared.record.Kind.TheVariants.{Read, Write, Lock, Unlock, Barrier, Region, End, Chunk}
 use Rattle.race_model.specs.History.{released}
 use Rattle.step_history.specs.declared.item.Item.{Item}
 use Rattle.step_history.specs.declared.item.Deed.TheVariants as deed
 use Rattle.step_history.specs.History.{item, Legal, HasHistory, value_at}
-use Rattle.history_model.specs.Work.{Work, Rest, Put, Fork, Phases, NoPhase, Phase, TeamWork, NoWork, Beside, region_record, task_logs}
+use Rattle.history_model.specs.Work.{Work, Rest, Put, Fork, Phases, NoPhase, Phase, TeamWork, NoWork, Beside, fork_record, task_logs}
+use Rattle.race_model.specs.Draws.{draws_by_loop}
 use Rattle.history_model.specs.Did.{did}
+use Rattle.history_model.specs.Drawn.{then_loops}
+use Rattle.history_model.specs.Tasks.{tree_tasks}
 use Rattle.history_model.specs.Sound.{WordLayout, IsSoundRecord, IsSound, ArePhasesSound, PassesBarrier}
 
 -- one word at each address
@@ -48,13 +51,13 @@ abbrev step : ℕ → ℕ → ℕ → Step
 step region lane span = record { region = region; lane = lane; span = span }
 
 -- each task's log has its phases in their order
-pub root_log : task_logs whole [] ≡ region_record 3 2 ∷ mark End ∷ []
+pub root_log : task_logs whole [] ≡ fork_record 3 2 ∷ mark End ∷ []
 root_log = refl
 
 pub writer_log : task_logs whole (step 0 0 2 ∷ []) ≡ word_access Write 1 ∷ mark Barrier ∷ mark End ∷ []
 writer_log = refl
 
-pub forker_log : task_logs whole (step 0 1 2 ∷ []) ≡ mark Barrier ∷ region_record 4 1 ∷ mark End ∷ []
+pub forker_log : task_logs whole (step 0 1 2 ∷ []) ≡ mark Barrier ∷ fork_record 4 1 ∷ mark End ∷ []
 forker_log = refl
 
 pub inner_log : task_logs whole (step 0 1 2 ∷ step 0 0 1 ∷ []) ≡ word_access Write 2 ∷ mark Barrier ∷ word_access Read 2 ∷ mark End ∷ []
@@ -181,3 +184,25 @@ stopping = Fork 3 2 (Phase (two_lanes (adding 0 (Put (mutex_step Unlock 6) (Put 
 -- what the second lane releases isn't in its log
 pub stopped_log : task_logs stopping (step 0 1 2 ∷ []) ≡ released (mutex_step Lock 5 ∷ word_access Read 1 ∷ word_access Write 2 ∷ [])
 stopped_log = refl
+
+-- the tasks in the order of an index: each lane, and then what is under it
+pub whole_tasks : tree_tasks 4 whole ≡
+    record { path = []; records = fork_record 3 2 ∷ mark End ∷ [] }
+    ∷ record { path = step 0 0 2 ∷ []; records = word_access Write 1 ∷ mark Barrier ∷ mark End ∷ [] }
+    ∷ record { path = step 0 1 2 ∷ []; records = mark Barrier ∷ fork_record 4 1 ∷ mark End ∷ [] }
+    ∷ record { path = step 0 1 2 ∷ step 0 0 1 ∷ []; records = word_access Write 2 ∷ mark Barrier ∷ word_access Read 2 ∷ mark End ∷ [] }
+    ∷ []
+whole_tasks = refl
+
+pub root_alone : tree_tasks 0 whole ≡ record { path = []; records = fork_record 3 2 ∷ mark End ∷ [] } ∷ []
+root_alone = refl
+
+-- a log that goes on within a loop, and past its end
+abbrev chunk_record : ℕ → ℕ → Record
+chunk_record number count = record { kind = Chunk; size = 0; site = 0; line = 3; addr = number; value = count }
+
+pub within_a_loop : then_loops (draws_by_loop (chunk_record 0 3 ∷ [])) (draws_by_loop (chunk_record 2 3 ∷ chunk_record 3 3 ∷ [])) ≡ (0 ∷ 2 ∷ []) ∷ [] ∷ []
+within_a_loop = refl
+
+pub past_a_loop : then_loops (draws_by_loop (chunk_record 3 3 ∷ [])) (draws_by_loop (chunk_record 0 1 ∷ [])) ≡ [] ∷ (0 ∷ []) ∷ []
+past_a_loop = refl

@@ -23,14 +23,14 @@ mutual
     Beside : (work : Work) → (others : TeamWork) → TeamWork
 
 -- the record of a fork
-abbrev pub region_record : ℕ → ℕ → Record
-region_record line span = record { kind = Region; size = 0; site = 0; line = line; addr = 0; value = span }
+abbrev pub fork_record : ℕ → ℕ → Record
+fork_record line span = record { kind = Region; size = 0; site = 0; line = line; addr = 0; value = span }
 
 -- the records that the task itself puts
 abbrev pub work_records : Work → List Record
 work_records Rest = []
 work_records (Put r more) = r ∷ work_records more
-work_records (Fork line span phases more) = region_record line span ∷ work_records more
+work_records (Fork line span phases more) = fork_record line span ∷ work_records more
 
 -- a region that was forked: its span, and what its lanes did
 pub record RegionWork : Type 0 where

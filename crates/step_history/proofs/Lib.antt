@@ -2,4 +2,4 @@ pub mod Exclusion
 pub mod Folds
 pub mod HistoryCases
 pub mod Names
-pub mod Order
+pub mod SplitsAndHomes

@@ -137,3 +137,20 @@ module _ (log : List Item) (t : ℕ) (x : Item) (parent : Name) (k : ℕ) (legal
         by_place : (u < t) ⊎ (t ≤ u) → t < u
         by_place (inl less) = absurd (earlier less)
         by_place (inr ge) = absurd (same (omega arith))
+
+pub split_told : (log : List Item) (n : ℕ) (x : Item) (parent : Name) (k : ℕ) → Legal log → slice_get log n ≡ Some x → x.name ≡ k ∷ parent
+    → (place : ℕ) × (lane : ℕ) × (span : ℕ) × (place < n) × (slice_get log place ≡ Some (item parent (Split k lane span)))
+split_told log n x parent k legal found named =
+    let s = split_before log n x parent k legal found named in
+    (s.place, s.lane, s.span, s.before, s.found)
+
+-- of two hands of which one comes home before the other is split off, the first does all before the other
+pub one_after_other : (log : List Item) (m n place : ℕ) (x y : Item) (parent : Name) (j k : ℕ) → Legal log
+    → slice_get log m ≡ Some x → x.name ≡ j ∷ parent → slice_get log n ≡ Some y → y.name ≡ k ∷ parent
+    → slice_get log place ≡ Some (item parent (Home j))
+    → ((split lane span : ℕ) → slice_get log split ≡ Some (item parent (Split k lane span)) → place < split) → m < n
+one_after_other log m n place x y parent j k legal here mine there yours home later =
+    let before : m < place = home_after log m x parent j legal here mine place home in
+    let s = split_before log n y parent k legal there yours in
+    let after : place < s.place = later s.place s.lane s.span s.found in
+    omega (arith, s.before)
