@@ -1,3 +1,4 @@
 pub mod Even
 pub mod Sized
 pub mod Cuts
+pub mod Holding

@@ -8,6 +8,7 @@ mod access;
 mod cutting;
 mod key;
 mod run;
+mod stretch;
 
 pub use access::Access;
 pub use key::Key;
