@@ -2,3 +2,4 @@ pub mod Even
 pub mod Sized
 pub mod Cuts
 pub mod Holding
+pub mod Storing

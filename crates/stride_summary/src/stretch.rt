@@ -1,4 +1,4 @@
-ghost use Rattle.std.specs.Prelude.{◌≡◌, ◌↔◌, ◌⊎◌, ℕ, ◌+◌, ◌-◌, ◌*◌, ◌/◌, ◌^◌, ◌<◌, ◌≤◌, Contains, OnOk, OnErr, vec_len, vec_capacity};
+ghost use Rattle.std.specs.Prelude.{[], ◌≡◌, ◌↔◌, ◌⊎◌, ℕ, ◌+◌, ◌-◌, ◌*◌, ◌/◌, ◌^◌, ◌<◌, ◌≤◌, Contains, OnOk, OnErr, vec_len, vec_capacity};
 ghost use Rattle.std.specs.List.Sorted.{IsStrictlyIncreasing};
 ghost use Rattle.log_format.specs.Table.{IsAccessSize};
 ghost use Rattle.stride_summary.specs.Sizes.{access_size_prop};
@@ -7,6 +7,7 @@ ghost use Rattle.stride_summary.specs.Spread.{AddsStretch, EndsInTime};
 use crate::cutting::push_runs;
 use crate::key::Key;
 use crate::run::Run;
+use std::alloc::Global;
 use sw_base::Memory;
 
 /// How many addresses there are at least when they are put in order for the first time.
@@ -19,13 +20,25 @@ pub struct Stretch {
     pub addresses: Vec<u64>,
     /// How many addresses there were after they had been put in order.
     pub settled: usize,
-    /// The place of the key that came after this one.
-    pub next: usize,
     ghost sized: { IsAccessSize key.size } by { access_size_prop key.size },
     ghost ends: { EndsInTime key.size addresses.items },
 }
 
 impl Stretch {
+    /// No address so far.
+    pub fn new(alloc: Global, key: Key) -> Stretch
+        requires { IsAccessSize key.size }
+        ensures key { result.key ≡ key }
+        ensures none { result.addresses.items ≡ [] }
+        ensures empty { vec_len result.addresses ≡ 0 }
+    {
+        Stretch {
+            key,
+            addresses: Vec::new(alloc),
+            settled: 0,
+        }
+    }
+
     /// How many runs the addresses have at most.
     pub fn needed(&self) -> usize
         ensures { result ≡ (vec_len self.now.addresses + 1) / 2 }
@@ -36,7 +49,6 @@ impl Stretch {
     /// Puts the addresses in order, each once.
     pub fn settle(&mut self)
         ensures key { self.new.key ≡ self.old.key }
-        ensures next { self.new.next ≡ self.old.next }
         ensures ascending { IsStrictlyIncreasing self.new.addresses.items }
         ensures addresses { (address : ℕ) → Contains self.new.addresses.items address ↔ Contains self.old.addresses.items address }
         ensures fewer { vec_len self.new.addresses ≤ vec_len self.old.addresses }
@@ -50,7 +62,6 @@ impl Stretch {
     pub fn add(&mut self, address: u64) -> Result<(), Memory>
         requires { address + self.old.key.size ≤ 2 ^ 48 }
         ensures key { self.new.key ≡ self.old.key }
-        ensures next { self.new.next ≡ self.old.next }
         ensures added { OnOk result ((other : ℕ) → Contains self.new.addresses.items other ↔ (Contains self.old.addresses.items other ⊎ (address ≡ other))) }
         ensures refused { OnErr result ((other : ℕ) → Contains self.new.addresses.items other ↔ Contains self.old.addresses.items other) }
         ensures one_more { vec_len self.new.addresses ≤ vec_len self.old.addresses + 1 }
@@ -62,7 +73,6 @@ impl Stretch {
 
     fn settle_if_doubled(&mut self)
         ensures key { self.new.key ≡ self.old.key }
-        ensures next { self.new.next ≡ self.old.next }
         ensures addresses { (address : ℕ) → Contains self.new.addresses.items address ↔ Contains self.old.addresses.items address }
         ensures fewer { vec_len self.new.addresses ≤ vec_len self.old.addresses }
     {
