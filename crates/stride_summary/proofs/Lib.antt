@@ -3,3 +3,5 @@ pub mod Sized
 pub mod Cuts
 pub mod Holding
 pub mod Storing
+pub mod Rising
+pub mod Apart
