@@ -1,5 +1,5 @@
 -- A strided run: its addresses, its bytes and its key.
-use Rattle.std.specs.Prelude.{◌≡◌, ℕ, ◌+◌, ◌-◌, ◌*◌, ◌<◌, ◌≤◌, List, Contains}
+use Rattle.std.specs.Prelude.{◌≡◌, ℕ, ◌+◌, ◌-◌, ◌*◌, ◌<◌, ◌≤◌, List, Contains, AllPairs}
 use Rattle.stride_summary.specs.declared.access.Access.{Access}
 use Rattle.stride_summary.specs.declared.key.Key.{Key}
 use Rattle.stride_summary.specs.declared.run.Run.{Run}
@@ -44,3 +44,10 @@ pub record HasPair (runs : List Run) (key : Key) (address : ℕ) : Type 0 where
   pub listed : Contains runs run
   pub keyed : run_key run ≡ key
   pub addressed : HasRunAddress run address
+
+abbrev pub last_address : Run → ℕ
+last_address run = address_at run (run.count - 1)
+
+-- of two runs of one key the later one begins behind the last address of the other, so no address is in both
+abbrev pub AreApart : List Run → Type 0
+AreApart runs = AllPairs (λ one other. run_key one ≡ run_key other → last_address one < other.base) runs

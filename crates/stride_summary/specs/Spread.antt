@@ -1,6 +1,7 @@
 -- The addresses of runs, one by one and in order.
-use Rattle.std.specs.Prelude.{◌≡◌, ℕ, zero, suc, ◌+◌, ◌*◌, ◌^◌, ◌≤◌, List, [], ◌∷◌, ◌++◌, length, All}
+use Rattle.std.specs.Prelude.{◌≡◌, ℕ, zero, suc, ◌+◌, ◌*◌, ◌^◌, ◌≤◌, List, [], ◌∷◌, ◌++◌, length, All, Contains, ◌↔◌}
 use Rattle.std.specs.List.{flat_map}
+use Rattle.std.specs.List.Sorted.{IsStrictlyIncreasing}
 use Rattle.stride_summary.specs.declared.key.Key.{Key}
 use Rattle.stride_summary.specs.declared.run.Run.{Run}
 use Rattle.stride_summary.specs.Run.{run_key}
@@ -28,3 +29,10 @@ pub record AddsCuts (key : Key) (addresses : List ℕ) (old new : List Run) : Ty
   pub added : new ≡ old ++ cuts
   pub cut : AreCuts key addresses cuts
   pub few : 2 * length cuts ≤ length addresses + 1
+
+-- the new runs are the old ones and those of the addresses, of which some may stand more than once
+pub record AddsStretch (key : Key) (addresses : List ℕ) (old new : List Run) : Type 0 where
+  pub ascending : List ℕ
+  pub rising : IsStrictlyIncreasing ascending
+  pub same : (address : ℕ) → Contains ascending address ↔ Contains addresses address
+  pub cuts : AddsCuts key ascending old new

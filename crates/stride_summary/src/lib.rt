@@ -8,10 +8,13 @@ mod access;
 mod cutting;
 mod key;
 mod run;
+mod stretch;
+mod summary;
 
 pub use access::Access;
 pub use key::Key;
 pub use run::Run;
+pub use summary::Summary;
 
 #[cfg(test)]
 mod tests;
