@@ -17,7 +17,8 @@ use Rattle.race_model.specs.Listing.{BeginsListing, IsListing, IsLastLane, IsNex
 use Rattle.race_model.specs.IndexFault.{HasRegionSpan, HasLaneInSpan, RowPasses, FailsTest, Fails as HasFault, IsAtRow, IsBadRow, IsBadIndexPlace, AreFirstRows, IsIndex}
 use Rattle.race_model.proofs.Listings.{begins_none, begins_at_root, begins_one, begins_less, begins_more, lists_less, lists_more, lists_some}
 use Rattle.race_model.proofs.IndexPlaces.{used-raws_of, raws_fit}
-use Rattle.log_index.specs.Rows.{path_of, AddsRow, OneMore}
+use Rattle.log_index.specs.Rows.{AddsRow, OneMore}
+use Rattle.race_model.specs.Row.{row_path}
 use Rattle.log_index.proofs.Ends.{more_parts}
 use Rattle.log_index.proofs.Parsing.{row_from, adds_row}
 use Rattle.log_index.proofs.RowTests.{paths_same}
@@ -78,32 +79,32 @@ empty_path : (path : List Step) → Decided (path ≡ [])
 empty_path [] = inl refl
 empty_path (step ∷ path) = inr (λ none. absurd (omega (arith, ap length none)))
 
-goes_on : (rows : List Row) (path : List Step) → BeginsListing (map path_of rows) → Decided (BeginsListing (map path_of rows ++ path ∷ []))
+goes_on : (rows : List Row) (path : List Step) → BeginsListing (map row_path rows) → Decided (BeginsListing (map row_path rows ++ path ∷ []))
 goes_on rows path begins = by_view (view rows) where
-  by_view : View rows → Decided (BeginsListing (map path_of rows ++ path ∷ []))
+  by_view : View rows → Decided (BeginsListing (map row_path rows ++ path ∷ []))
   by_view (no_row is) =
-      subst (λ (rs : List Row). Decided (BeginsListing (map path_of rs ++ path ∷ []))) (sym is)
+      subst (λ (rs : List Row). Decided (BeginsListing (map row_path rs ++ path ∷ []))) (sym is)
       (through (begins_one path) (begins_at_root path []) (empty_path path))
   by_view (last prefix row is) =
-      let paths : map path_of rows ≡ map path_of prefix ++ row.path ∷ [] = ap (λ (rs : List Row). map path_of rs) is ∙ map-append path_of prefix (row ∷ []) in
-      let longer : map path_of rows ++ path ∷ [] ≡ map path_of prefix ++ row.path ∷ path ∷ [] =
-      ap (λ (ps : List (List Step)). ps ++ path ∷ []) paths ∙ append_assoc (map path_of prefix) (row.path ∷ []) (path ∷ []) in
+      let paths : map row_path rows ≡ map row_path prefix ++ row.path ∷ [] = ap (λ (rs : List Row). map row_path rs) is ∙ map-append row_path prefix (row ∷ []) in
+      let longer : map row_path rows ++ path ∷ [] ≡ map row_path prefix ++ row.path ∷ path ∷ [] =
+      ap (λ (ps : List (List Step)). ps ++ path ∷ []) paths ∙ append_assoc (map row_path prefix) (row.path ∷ []) (path ∷ []) in
       subst (λ (ps : List (List Step)). Decided (BeginsListing ps)) (sym longer)
-      (through (λ on. begins_more (map path_of prefix) row.path path (subst (λ (ps : List (List Step)). BeginsListing ps) paths begins) on)
-      (λ is_prefix. (begins_less (map path_of prefix) row.path path is_prefix).1) (next_path row.path path))
+      (through (λ on. begins_more (map row_path prefix) row.path path (subst (λ (ps : List (List Step)). BeginsListing ps) paths begins) on)
+      (λ is_prefix. (begins_less (map row_path prefix) row.path path is_prefix).1) (next_path row.path path))
 
-whole : (rows : List Row) → BeginsListing (map path_of rows) → Decided (IsListing (map path_of rows))
+whole : (rows : List Row) → BeginsListing (map row_path rows) → Decided (IsListing (map row_path rows))
 whole rows begins = by_view (view rows) where
-  by_view : View rows → Decided (IsListing (map path_of rows))
-  by_view (no_row is) = inr (λ lists. lists_some (subst (λ (rs : List Row). IsListing (map path_of rs)) is lists))
+  by_view : View rows → Decided (IsListing (map row_path rows))
+  by_view (no_row is) = inr (λ lists. lists_some (subst (λ (rs : List Row). IsListing (map row_path rs)) is lists))
   by_view (last prefix row is) =
-      let paths : map path_of rows ≡ map path_of prefix ++ row.path ∷ [] = ap (λ (rs : List Row). map path_of rs) is ∙ map-append path_of prefix (row ∷ []) in
+      let paths : map row_path rows ≡ map row_path prefix ++ row.path ∷ [] = ap (λ (rs : List Row). map row_path rs) is ∙ map-append row_path prefix (row ∷ []) in
       subst (λ (ps : List (List Step)). Decided (IsListing ps)) (sym paths)
-      (through (λ lasts. lists_more (map path_of prefix) row.path (subst (λ (ps : List (List Step)). BeginsListing ps) paths begins) lasts)
-      (lists_less (map path_of prefix) row.path) (all IsLastLane (λ s. equal (s.lane + 1) s.span) row.path))
+      (through (λ lasts. lists_more (map row_path prefix) row.path (subst (λ (ps : List (List Step)). BeginsListing ps) paths begins) lasts)
+      (lists_less (map row_path prefix) row.path) (all IsLastLane (λ s. equal (s.lane + 1) s.span) row.path))
 
 -- each test of a row can be told
-passes : (before : List Row) (raw : RawRow) → BeginsListing (map path_of before) → (why : IndexWhy) → Decided (RowPasses (map raw_of before) raw why)
+passes : (before : List Row) (raw : RawRow) → BeginsListing (map row_path before) → (why : IndexWhy) → Decided (RowPasses (map raw_of before) raw why)
 passes before raw begins Header = inl tt
 passes before raw begins TooMany = inl tt
 passes before raw begins Cut = inl tt
@@ -250,7 +251,7 @@ module _ (files : Files) (dir : List ℕ) (bytes : List ℕ) (held : files (inde
 
     at_end : rest ≡ [] → HasRows files dir
     at_end ended =
-        let lists : IsListing (map path_of rows) = stable (whole rows first.begins)
+        let lists : IsListing (map row_path rows) = stable (whole rows first.begins)
         (λ not. no_fault Order (inr (ended, λ lists. not (subst (λ (ps : List (List Step)). IsListing ps) (used-raws_of rows) lists)))) in
         let bytes_are : bytes ≡ index_bytes rows = parts ∙ ap (λ (bs : List ℕ). INDEX_HEADER ++ flat_map row_spelling (map raw_of rows) ++ bs) ended ∙ append-nil (index_bytes rows) in
         record {

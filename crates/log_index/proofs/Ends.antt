@@ -1,24 +1,26 @@
 -- How the reading of rows goes on and ends.
-use Rattle.std.proofs.Common.{◌≡◌, ◌≢◌, inl, inr, ℕ, ◌+◌, ◌-◌, ◌<◌, List, [], ◌∷◌, ◌++◌, length, take, drop, map, refl, sym, ap, subst, ◌∙◌, arith, append_assoc, length-append, length-drop}
+use Rattle.std.proofs.Common.{◌≡◌, ◌≢◌, inl, inr, ℕ, ◌+◌, ◌<◌, List, [], ◌∷◌, ◌++◌, length, drop, map, refl, sym, ap, subst, ◌∙◌, arith, append_assoc, length-append}
 use Rattle.std.specs.List.{flat_map}
 use Rattle.std.proofs.lemmas.Grind.{flat_map-append}
-use Rattle.std.proofs.lemmas.List.{append-nil, map-append, length-map, take_all}
+use Rattle.std.proofs.lemmas.List.{append-nil, map-append, length-map, drop-drop}
 use Rattle.sw_base.specs.declared.path.Step.{Step}
 use Rattle.sw_base.specs.declared.files.TheConstants.{INDEX_HEADER}
+use Rattle.sw_base.specs.Window.{Window, Shows}
 use Rattle.race_model.specs.declared.why.IndexWhy.{IndexWhy}
 use Rattle.race_model.specs.declared.why.IndexWhy.TheVariants.{Header, TooMany, Cut, Depth, Span, Lane, Order, Records}
 use Rattle.race_model.specs.BadPlace.{index_rank, bad_row}
 use Rattle.race_model.specs.Row.{Row, RawRow, row_spelling, raw_of}
 use Rattle.race_model.specs.Listing.{IsListing}
-use Rattle.race_model.specs.IndexFault.{FailsTest, Fails as HasFault, FailsIndexFirst, AreFirstRows, AreRows, IsFirstBadIndexPlace}
+use Rattle.race_model.specs.IndexFault.{FailsTest, Fails as HasFault, FailsIndexFirst, AreFirstRows, IsFirstBadIndexPlace}
 use Rattle.race_model.proofs.Listings.{begins_none}
 use Rattle.race_model.proofs.RowSpelling.{length-row}
-use Rattle.race_model.proofs.IndexPlaces.{used-raws_of, header_first, row_first}
+use Rattle.race_model.proofs.IndexPlaces.{used-raws_of, row_first}
 use Rattle.log_index.specs.declared.row.IndexAnswer.TheVariants.{Bad}
-use Rattle.log_index.specs.Rows.{path_of, OneMore, StopsAt, SpellsFirstRows, SpellsRows, IsFirstBadRow}
+use Rattle.log_index.specs.Rows.{OneMore, ReadsRow, StopsAt, SpellsFirstRows, IsFirstBadRow}
+use Rattle.race_model.specs.Row.{row_path}
 
 -- the end of rows that are no whole listing
-pub end_fails : (rows : List Row) → (rows ≢ []) → (IsListing (map path_of rows) → ⊥) → FailsIndexFirst (map raw_of rows) [] Order
+pub end_fails : (rows : List Row) → (rows ≢ []) → (IsListing (map row_path rows) → ⊥) → FailsIndexFirst (map raw_of rows) [] Order
 end_fails rows some not = record { fails = inr (refl, λ is. not (subst (λ (paths : List (List Step)). IsListing paths) (used-raws_of rows) is)); least = least } where
   none : map raw_of rows ≡ [] → rows ≡ []
   none is = by_rows rows refl where
@@ -40,9 +42,6 @@ end_fails rows some not = record { fails = inr (refl, λ is. not (subst (λ (pat
   least Order less fails = absurd (omega arith)
   least Records less fails = no_test Records fails
 
-pub more_good : (before now : List Row) (rest : List ℕ) → OneMore before now rest → AreFirstRows now
-more_good before now rest more = subst (λ (rows : List Row). AreFirstRows rows) (sym more.rows) more.adds.good
-
 spellings-more : (before : List Row) (row : Row) → flat_map row_spelling (map raw_of (before ++ row ∷ [])) ≡ flat_map row_spelling (map raw_of before) ++ row_spelling (raw_of row)
 spellings-more before row =
     ap (λ (raws : List RawRow). flat_map row_spelling raws) (map-append raw_of before (row ∷ []))
@@ -57,6 +56,38 @@ more_parts bytes before now rest parts more =
     ∙ sym (append_assoc (flat_map row_spelling (map raw_of before)) (row_spelling (raw_of more.row)) (drop 48 rest))
     ∙ ap (λ (bs : List ℕ). bs ++ drop 48 rest) (sym (spellings-more before more.row))
     ∙ ap (λ (rows : List Row). flat_map row_spelling (map raw_of rows) ++ drop 48 rest) (sym more.rows)
+
+-- these rows were read of the file, up to the window
+pub record IsReadTo (file : List ℕ) (rows : List Row) (window : Window) : Type 0 where
+  pub shows : Shows window file
+  pub parts : drop 8 file ≡ flat_map row_spelling (map raw_of rows) ++ drop window.place file
+
+-- no row is read yet
+pub read_none : (file : List ℕ) (rows : List Row) (window : Window) → rows ≡ [] → window.place ≡ 8 → Shows window file → IsReadTo file rows window
+read_none file rows window none start shows = record {
+  shows = shows;
+  parts = ap (λ (n : ℕ). drop n file) (sym start) ∙ ap (λ (rs : List Row). flat_map row_spelling (map raw_of rs) ++ drop window.place file) (sym none);
+}
+
+-- one row more is read
+pub read_more : (file : List ℕ) (before now : List Row) (old new : Window) → IsReadTo file before old → ReadsRow file before now old new → new.place ≡ old.place + 48 → IsReadTo file now new
+read_more file before now old new read reads place = record {
+  shows = reads.shows;
+  parts = more_parts (drop 8 file) before now (drop old.place file) read.parts reads.more
+      ∙ ap (λ (bs : List ℕ). flat_map row_spelling (map raw_of now) ++ bs) (drop-drop 48 old.place file ∙ ap (λ (n : ℕ). drop n file) (sym place));
+}
+
+-- no byte is left
+pub read_all : (file : List ℕ) (rows : List Row) (window : Window) → IsReadTo file rows window → AreFirstRows rows → drop window.place file ≡ [] → SpellsFirstRows (drop 8 file) rows
+read_all file rows window read good none = record {
+  spelled = read.parts ∙ ap (λ (bs : List ℕ). flat_map row_spelling (map raw_of rows) ++ bs) none ∙ append-nil (flat_map row_spelling (map raw_of rows));
+  good = good;
+}
+
+-- a fault comes next
+pub read_stops : (file : List ℕ) (rows : List Row) (window : Window) (n : ℕ) (why : IndexWhy) → IsReadTo file rows window → AreFirstRows rows → n ≡ length rows + 1
+    → FailsIndexFirst (map raw_of rows) (drop window.place file) why → StopsAt (drop 8 file) n why
+read_stops file rows window n why read good number first = record { before = rows; rest = drop window.place file; good = good; parts = read.parts; number = number; first = first }
 
 -- behind the header
 module _ (bytes rest : List ℕ) (parts : bytes ≡ INDEX_HEADER ++ rest) where
@@ -73,15 +104,9 @@ module _ (bytes rest : List ℕ) (parts : bytes ≡ INDEX_HEADER ++ rest) where
   end_first rows why first fails files dir held =
       row_first files dir bytes held rows [] first.good (whole_parts rows [] (first.spelled ∙ sym (append-nil (flat_map row_spelling (map raw_of rows))))) why fails
 
--- no row is read yet
+-- no row is good
 pub none_good : (rows : List Row) → rows ≡ [] → AreFirstRows rows
 none_good rows none = subst (λ (rs : List Row). AreFirstRows rs) (sym none) (record { begins = begins_none; each = λ k d h. absurd (omega arith); limit = omega arith })
-
-pub none_parts : (bytes : List ℕ) (rows : List Row) → rows ≡ [] → bytes ≡ flat_map row_spelling (map raw_of rows) ++ bytes
-none_parts bytes rows none = ap (λ (rs : List Row). flat_map row_spelling (map raw_of rs) ++ bytes) (sym none)
-
-pub after_row : (rest : List ℕ) → take (length rest - 48) (drop 48 rest) ≡ drop 48 rest
-after_row rest = take_all (length rest - 48) (drop 48 rest) (omega (arith, length-drop 48 rest))
 
 -- the answer at the end
 pub same_answer : {n m : ℕ} {v w : IndexWhy} → Bad n v ≡ Bad m w → (n ≡ m) × (v ≡ w)

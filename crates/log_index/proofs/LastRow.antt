@@ -3,13 +3,13 @@ use Rattle.std.proofs.Common.{◌≡◌, ℕ, suc, ◌-◌, List, [], ◌∷◌,
 use Rattle.std.proofs.lemmas.List.{map-append}
 use Rattle.sw_base.specs.declared.path.Step.{Step}
 use Rattle.race_model.specs.Listing.{BeginsListing, IsListing, IsLastLane, IsNextPath}
-use Rattle.race_model.proofs.Listings.{begins_at_root, begins_one, begins_less, begins_more, lists_less, lists_more, lists_some}
-use Rattle.log_index.specs.declared.row.Row.{Row}
-use Rattle.log_index.specs.Rows.{row_of, rows_of, path_of}
+use Rattle.race_model.proofs.Listings.{begins_at_root, begins_one, begins_less, begins_more, lists_less, lists_more}
+use Rattle.race_model.specs.Row.{Row}
+use Rattle.race_model.specs.Row.{row_path}
 
 -- the paths of rows
 abbrev paths_of : List Row → List (List Step)
-paths_of rows = map path_of (rows_of rows)
+paths_of rows = map row_path rows
 
 record IsLast (rows : List Row) (row : Row) : Type 0 where
   prefix : List Row
@@ -45,7 +45,7 @@ empty_told [] answer is = (λ _. refl, λ _. is)
 empty_told (step ∷ path) answer is = (λ told. absurd (grind (arith, sym told ∙ is)), λ none. absurd (omega (arith, ap length none)))
 
 paths_last : (prefix : List Row) (row : Row) → paths_of (prefix ++ row ∷ []) ≡ paths_of prefix ++ row.path ∷ []
-paths_last prefix row = ap (λ rows. map path_of rows) (map-append row_of prefix (row ∷ [])) ∙ map-append path_of (rows_of prefix) (row_of row ∷ [])
+paths_last prefix row = map-append row_path prefix (row ∷ [])
 
 pub first_goes_on : (rows : List Row) (path : List Step) → slice_get rows (length rows - 1) ≡ None
     → (path ≡ [] → BeginsListing (paths_of rows ++ path ∷ [])) × (BeginsListing (paths_of rows ++ path ∷ []) → path ≡ [])
@@ -87,6 +87,6 @@ last_whole rows row is begins = (to, from) where
   from : IsListing (paths_of rows) → All IsLastLane row.path
   from all = lists_less (paths_of last.prefix) row.path (subst (λ (ps : List (List Step)). IsListing ps) paths_are all)
 
-pub no_rows : (rows : List Row) → rows_of rows ≡ [] → (length rows == 0) ≡ true
+pub no_rows : (rows : List Row) → rows ≡ [] → (length rows == 0) ≡ true
 no_rows [] none = refl
 no_rows (row ∷ rows) none = absurd (omega (arith, ap length none))

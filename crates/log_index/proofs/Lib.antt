@@ -5,3 +5,4 @@ pub mod Parsing
 pub mod RowTests
 pub mod Spelled
 pub mod Written
+pub mod Windowed

@@ -10,7 +10,8 @@ use Rattle.race_model.specs.Row.{Row, RawRow, StepFits, RowFits, row_spelling, u
 use Rattle.race_model.specs.Listing.{BeginsListing}
 use Rattle.race_model.specs.IndexFault.{HasDepth, HasRegionSpan, HasLaneInSpan, HasRecords, RowPasses, FailsTest, Fails as HasFault, FailsIndexFirst, IsRow, AreFirstRows}
 use Rattle.race_model.proofs.RowSpelling.{SameRow, same_row, length-row}
-use Rattle.log_index.specs.Rows.{path_of, FailsTestFirst, AddsRow}
+use Rattle.log_index.specs.Rows.{FailsTestFirst, AddsRow}
+use Rattle.race_model.specs.Row.{row_path}
 use Rattle.log_index.proofs.RowTests.{paths_same}
 
 all_same : {X : Type 0} (xs : List X) (x : X) → All (λ y. y ≡ x) xs → xs ≡ replicate (length xs) x
@@ -53,7 +54,7 @@ pub adds_row : (before : List Row) (raw : RawRow) (rest : List ℕ) → AreFirst
     → ((why : IndexWhy) → RowPasses (map raw_of before) raw why) → AddsRow before (row_from raw) rest
 adds_row before raw rest good room fits spelled passes = record {
   good = record {
-    begins = subst (λ (paths : List (List Step)). BeginsListing paths) (paths_same before raw ∙ sym (map-append path_of before (row_from raw ∷ []))) (passes Order);
+    begins = subst (λ (paths : List (List Step)). BeginsListing paths) (paths_same before raw ∙ sym (map-append row_path before (row_from raw ∷ []))) (passes Order);
     each = All-push IsRow before (row_from raw) good.each (is_row raw fits (passes Depth) (passes Span) (passes Lane) (passes Records));
     limit = omega (arith, good.limit, room, length-append before (row_from raw ∷ []));
   };

@@ -9,17 +9,18 @@ use Rattle.race_model.specs.Row.{Row, RawRow, used, raw_of}
 use Rattle.race_model.specs.Listing.{BeginsListing}
 use Rattle.race_model.specs.IndexFault.{HasDepth, HasRegionSpan, HasLaneInSpan, HasRecords, RowPasses}
 use Rattle.race_model.proofs.IndexPlaces.{used-raws_of}
-use Rattle.log_index.specs.Rows.{path_of, FailsTestFirst}
+use Rattle.log_index.specs.Rows.{FailsTestFirst}
+use Rattle.race_model.specs.Row.{row_path}
 
 pub not_both : {b : Bool} → b ≡ true → b ≡ false → ⊥
 not_both one other = cc
 
 -- the paths up to a row, from the rows or as they stand in the file
-pub paths_same : (before : List Row) (row : RawRow) → map used (map raw_of before ++ row ∷ []) ≡ map path_of before ++ used row ∷ []
+pub paths_same : (before : List Row) (row : RawRow) → map used (map raw_of before ++ row ∷ []) ≡ map row_path before ++ used row ∷ []
 paths_same before row = map-append used (map raw_of before) (row ∷ []) ∙ ap (λ (paths : List (List Step)). paths ++ used row ∷ []) (used-raws_of before)
 
 module _ (before : List Row) (row : RawRow) (depth : HasDepth row) (spans : All HasRegionSpan (used row)) (lanes : All HasLaneInSpan (used row)) where
-  pub order_fails : (BeginsListing (map path_of before ++ used row ∷ []) → ⊥) → FailsTestFirst (map raw_of before) row Order
+  pub order_fails : (BeginsListing (map row_path before ++ used row ∷ []) → ⊥) → FailsTestFirst (map raw_of before) row Order
   order_fails not = record { fails = λ begins. not (subst (λ (paths : List (List Step)). BeginsListing paths) (paths_same before row) begins); passed = passed } where
     passed : (other : IndexWhy) → index_rank other < 6 → RowPasses (map raw_of before) row other
     passed Header less = tt
@@ -31,7 +32,7 @@ module _ (before : List Row) (row : RawRow) (depth : HasDepth row) (spans : All 
     passed Order less = absurd (omega arith)
     passed Records less = absurd (omega arith)
 
-  module _ (begins : BeginsListing (map path_of before ++ used row ∷ [])) where
+  module _ (begins : BeginsListing (map row_path before ++ used row ∷ [])) where
     order : BeginsListing (map used (map raw_of before ++ row ∷ []))
     order = subst (λ (paths : List (List Step)). BeginsListing paths) (sym (paths_same before row)) begins
 

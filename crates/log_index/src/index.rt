@@ -6,13 +6,12 @@ ghost use Rattle.race_model.specs.declared.why.IndexWhy.{IndexWhy};
 ghost use Rattle.race_model.specs.BadPlace.{no_index, bad_row};
 ghost use Rattle.race_model.specs.Row.{index_bytes};
 ghost use Rattle.race_model.specs.IndexFault.{AreRows, IsIndex, IsFirstBadIndexPlace};
-ghost use Rattle.log_index.specs.Rows.{rows_of};
 
 use crate::row::{IndexAnswer, Row};
 use crate::rows::read_rows;
 use crate::spelling::spell_rows;
 use std::alloc::Global;
-use sw_base::{Folder, Trouble, index_name, read_file};
+use sw_base::{Folder, Trouble, index_name};
 
 /// The rows of the folder's index, or the first bad place of the index. The rows of every Ok are well formed.
 pub fn read_index<F: Folder>(
@@ -20,8 +19,8 @@ pub fn read_index<F: Folder>(
     folder: &mut F,
     dir: &str,
 ) -> Result<Vec<Row>, IndexAnswer>
-    ensures rows { IfOk result (λ rows. AreRows (rows_of rows.items)) }
-    ensures found { IfOk result (λ rows. WhereTold (F.content folder.old) (λ c. IsIndex c.held dir.now (rows_of rows.items))) }
+    ensures rows { IfOk result (λ rows. AreRows rows.items) }
+    ensures found { IfOk result (λ rows. WhereTold (F.content folder.old) (λ c. IsIndex c.held dir.now rows.items)) }
     ensures missing { IsErrOf result IndexAnswer.NoIndex → WhereTold (F.content folder.old) (λ c. IsFirstBadIndexPlace c.held dir.now no_index) }
     ensures bad { (n : ℕ) (why : IndexWhy) → IsErrOf result (IndexAnswer.Bad n why) →
         WhereTold (F.content folder.old) (λ c. IsFirstBadIndexPlace c.held dir.now (bad_row n why)) }
@@ -32,9 +31,9 @@ pub fn read_index<F: Folder>(
     ensures same_writes { F.write_faults folder.new ≡ F.write_faults folder.old }
 {
     let name = index_name(alloc, dir)?;
-    match read_file(alloc, folder, &name) {
+    match folder.size(alloc, &name) {
         Ok(None) => Err(IndexAnswer::NoIndex),
-        Ok(Some(bytes)) => read_rows(alloc, &bytes),
+        Ok(Some(_)) => read_rows(alloc, folder, &name),
         Err(trouble) => Err(IndexAnswer::from(trouble)),
     }
 }
@@ -46,9 +45,9 @@ pub fn write_index<F: Folder>(
     dir: &str,
     rows: &[Row],
 ) -> Result<(), Trouble>
-    requires { AreRows (rows_of rows.now) }
-    ensures done { OnOk result (F.content folder.new ≡ option_map (with_put (index_name dir.now) (index_bytes (rows_of rows.now))) (F.content folder.old)) }
-    ensures refused { OnErr result (LeavesPrefix (F.content folder.old) (F.content folder.new) (index_name dir.now) (index_bytes (rows_of rows.now))) }
+    requires { AreRows rows.now }
+    ensures done { OnOk result (F.content folder.new ≡ option_map (with_put (index_name dir.now) (index_bytes rows.now)) (F.content folder.old)) }
+    ensures refused { OnErr result (LeavesPrefix (F.content folder.old) (F.content folder.new) (index_name dir.now) (index_bytes rows.now)) }
 
     ensures cause { HasCause (F.write_faults folder.old) (F.write_faults folder.new) result }
     ensures same_reads { F.read_faults folder.new ≡ F.read_faults folder.old }

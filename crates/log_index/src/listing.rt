@@ -1,6 +1,6 @@
 ghost use Rattle.std.specs.Prelude.{◌≡◌, ◌+◌, ◌<◌, ◌↔◌, [], ◌∷◌, ◌++◌, map, All, IsTrue};
 ghost use Rattle.race_model.specs.Listing.{BeginsListing, IsListing, IsLastLane, IsNextLane, IsFirstLane, IsNextRegion, IsNextPath};
-ghost use Rattle.log_index.specs.Rows.{rows_of, path_of};
+ghost use Rattle.race_model.specs.Row.{row_path};
 
 use crate::row::Row;
 use sw_base::Step;
@@ -59,22 +59,22 @@ fn is_next_path(path: &[Step], next: &[Step]) -> bool
 
 /// A row with this path may follow the rows.
 pub fn goes_on(before: &[Row], path: &[Step]) -> bool
-    requires { BeginsListing (map path_of (rows_of before.now)) }
-    ensures { IsTrue result ↔ BeginsListing (map path_of (rows_of before.now) ++ path.now ∷ []) }
+    requires { BeginsListing (map row_path before.now) }
+    ensures { IsTrue result ↔ BeginsListing (map row_path before.now ++ path.now ∷ []) }
 {
     match before.last() {
         None => path.is_empty(),
-        Some(row) => is_next_path(row.path.steps(), path),
+        Some(row) => is_next_path(row.steps(), path),
     }
 }
 
 /// The rows are all the tasks of a tree.
 pub fn is_whole(rows: &[Row]) -> bool
-    requires { BeginsListing (map path_of (rows_of rows.now)) }
-    ensures { IsTrue result ↔ IsListing (map path_of (rows_of rows.now)) }
+    requires { BeginsListing (map row_path rows.now) }
+    ensures { IsTrue result ↔ IsListing (map row_path rows.now) }
 {
     match rows.last() {
         None => false,
-        Some(row) => are_last_lanes(row.path.steps()),
+        Some(row) => are_last_lanes(row.steps()),
     }
 }

@@ -1,12 +1,33 @@
+ghost use Rattle.std.specs.Prelude.{◌≡◌, ◌≤◌, length};
+
 use race_model::IndexWhy;
 use std::alloc::{AllocError, AllocFailed};
-use sw_base::{Memory, Path, Trouble};
+use std::marker::Model;
+use sw_base::{Memory, Path, Step, Trouble};
 
 /// A task: its path, and how many records its log has.
 #[derive(Drop)]
 pub struct Row {
     pub path: Path,
     pub records: u32,
+}
+
+impl Model for Row {
+    ghost use Rattle.race_model.specs.Row.{Row as TaskRow};
+
+    ghost Value = { TaskRow };
+
+    ghost view = { λ row. record { path = row.path; records = row.records } };
+}
+
+impl Row {
+    /// The steps of the task's path.
+    pub fn steps(&self) -> &[Step]
+        ensures steps { result.now ≡ self.now.path }
+        ensures depth { length self.now.path ≤ 4 }
+    {
+        self.path.steps()
+    }
 }
 
 /// Why no rows were read.

@@ -1,9 +1,11 @@
-ghost use Rattle.std.specs.Prelude.{◌≡◌, ◌≢◌, ℕ, ◌+◌, ◌≤◌, [], ◌++◌, length, take, map, IfOk, IfErr, OnOk, MatchOption};
+ghost use Rattle.std.specs.Prelude.{◌≡◌, ◌≢◌, ℕ, ◌+◌, ◌*◌, ◌≤◌, [], length, drop, map, IsTrue, IsFalse, IfOk, IfErr, IsErrOf, OnOk};
+ghost use Rattle.sw_base.specs.Environment.{WhereTold, Rose};
+ghost use Rattle.sw_base.specs.Window.{Shows, file_of};
 ghost use Rattle.race_model.specs.declared.why.IndexWhy.{IndexWhy};
 ghost use Rattle.race_model.specs.Row.{raw_of, used};
 ghost use Rattle.race_model.specs.IndexFault.{HasDepth, HasRecords, AreFirstRows, AreRows, FailsIndexFirst, max_rows};
 ghost use Rattle.log_index.specs.Answers.{IsOfBytes};
-ghost use Rattle.log_index.specs.Rows.{row_of, rows_of, raw_of_fields, AddsRow, OneMore, StopsAt, SpellsFirstRows, SpellsRows, IsFirstBadRow};
+ghost use Rattle.log_index.specs.Rows.{raw_of_fields, AddsRow, OneMore, Grows, ReadsRow, StopsAt, SpellsFirstRows, SpellsRows, IsFirstBadRow};
 
 use crate::fields::{Fields, fields_of, path_of};
 use crate::listing::is_whole;
@@ -11,7 +13,7 @@ use crate::row::{IndexAnswer, Row};
 use crate::rules::check;
 use race_model::IndexWhy;
 use std::alloc::Global;
-use sw_base::INDEX_HEADER;
+use sw_base::{Folder, INDEX_HEADER, Window};
 
 /// The most rows that an index has.
 const MAX_ROWS: usize = 65_536;
@@ -34,10 +36,10 @@ fn row_of_fields(fields: &Fields) -> Row
 
 /// The row that stands at the start of the bytes that are left, or the first rule that it breaks.
 fn next_row(before: &[Row], rest: &[u8]) -> Result<Row, IndexWhy>
-    requires good { AreFirstRows (rows_of before.now) }
+    requires good { AreFirstRows before.now }
     requires some { rest.now ≢ [] }
-    ensures adds { IfOk result (λ row. AddsRow (rows_of before.now) (row_of row) rest.now) }
-    ensures fails { IfErr result (λ why. FailsIndexFirst (map raw_of (rows_of before.now)) rest.now why) }
+    ensures adds { IfOk result (λ row. AddsRow before.now row rest.now) }
+    ensures fails { IfErr result (λ why. FailsIndexFirst (map raw_of before.now) rest.now why) }
 {
     if before.len() == MAX_ROWS {
         return Err(IndexWhy::TooMany);
@@ -54,11 +56,11 @@ fn next_row(before: &[Row], rest: &[u8]) -> Result<Row, IndexWhy>
 
 /// Reads the row that stands at the start of the bytes that are left.
 fn add_row(rows: &mut Vec<Row>, rest: &[u8]) -> Result<(), IndexAnswer>
-    requires good { AreFirstRows (rows_of rows.old.items) }
+    requires good { AreFirstRows rows.old.items }
     requires some { rest.now ≢ [] }
-    ensures adds { OnOk result (OneMore (rows_of rows.old.items) (rows_of rows.new.items) rest.now) }
+    ensures adds { OnOk result (OneMore rows.old.items rows.new.items rest.now) }
     ensures bad { IfErr result (λ answer. (n : ℕ) (why : IndexWhy) → answer ≡ IndexAnswer.Bad n why →
-        (n ≡ length rows.old.items + 1) × FailsIndexFirst (map raw_of (rows_of rows.old.items)) rest.now why) }
+        (n ≡ length rows.old.items + 1) × FailsIndexFirst (map raw_of rows.old.items) rest.now why) }
     ensures only { IfErr result IsOfBytes }
 {
     match next_row(rows, rest) {
@@ -81,26 +83,73 @@ fn bad_row(rows: &[Row], why: IndexWhy) -> IndexAnswer
     }
 }
 
+/// Reads the row after these. False where no byte is left.
+fn read_row<F: Folder>(
+    alloc: Global,
+    folder: &mut F,
+    name: &str,
+    window: &mut Window,
+    rows: &mut Vec<Row>,
+) -> Result<bool, IndexAnswer>
+    requires good { AreFirstRows rows.old.items }
+    requires place { window.old.place ≡ 8 + 48 * length rows.old.items }
+    ensures grows { IfOk result (λ more. IsTrue more → Grows rows.old.items rows.new.items window.old window.new) }
+    ensures reads { IfOk result (λ more. IsTrue more → WhereTold (F.content folder.old) (λ c. Shows window.old (file_of c name.now)
+        → ReadsRow (file_of c name.now) rows.old.items rows.new.items window.old window.new)) }
+    ensures ends { IfOk result (λ more. IsFalse more → rows.new.items ≡ rows.old.items) }
+    ensures all { IfOk result (λ more. IsFalse more → WhereTold (F.content folder.old) (λ c. Shows window.old (file_of c name.now)
+        → drop window.old.place (file_of c name.now) ≡ [])) }
+    ensures bad { IfErr result (λ answer. (n : ℕ) (why : IndexWhy) → answer ≡ IndexAnswer.Bad n why → (n ≡ length rows.old.items + 1)
+        × WhereTold (F.content folder.old) (λ c. Shows window.old (file_of c name.now) → FailsIndexFirst (map raw_of rows.old.items) (drop window.old.place (file_of c name.now)) why)) }
+    ensures there { IsErrOf result IndexAnswer.NoIndex → ⊥ }
+
+    ensures same { F.content folder.new ≡ F.content folder.old }
+    ensures later { F.read_faults folder.old ≤ F.read_faults folder.new }
+    ensures cause { IsErrOf result IndexAnswer.ReadFault → Rose (F.read_faults folder.old) (F.read_faults folder.new) }
+    ensures same_writes { F.write_faults folder.new ≡ F.write_faults folder.old }
+{
+    window.fill(alloc, folder, name, ROW)?;
+    if window.ahead().is_empty() {
+        return Ok(false);
+    }
+    add_row(rows, window.ahead())?;
+    window.skip(ROW);
+    Ok(true)
+}
+
 /// Reads rows until no byte is left.
-fn first_rows(alloc: Global, bytes: &[u8]) -> Result<Vec<Row>, IndexAnswer>
-    ensures rows { IfOk result (λ rows. SpellsFirstRows bytes.now (rows_of rows.items)) }
-    ensures bad { IfErr result (λ answer. (n : ℕ) (why : IndexWhy) → answer ≡ IndexAnswer.Bad n why → StopsAt bytes.now n why) }
-    ensures only { IfErr result IsOfBytes }
+fn first_rows<F: Folder>(
+    alloc: Global,
+    folder: &mut F,
+    name: &str,
+    window: &mut Window,
+) -> Result<Vec<Row>, IndexAnswer>
+    requires place { window.old.place ≡ 8 }
+    ensures good { IfOk result (λ rows. AreFirstRows rows.items) }
+    ensures rows { IfOk result (λ rows. WhereTold (F.content folder.old) (λ c. Shows window.old (file_of c name.now)
+        → SpellsFirstRows (drop 8 (file_of c name.now)) rows.items)) }
+    ensures bad { IfErr result (λ answer. (n : ℕ) (why : IndexWhy) → answer ≡ IndexAnswer.Bad n why
+        → WhereTold (F.content folder.old) (λ c. Shows window.old (file_of c name.now) → StopsAt (drop 8 (file_of c name.now)) n why)) }
+    ensures there { IsErrOf result IndexAnswer.NoIndex → ⊥ }
+
+    ensures same { F.content folder.new ≡ F.content folder.old }
+    ensures later { F.read_faults folder.old ≤ F.read_faults folder.new }
+    ensures cause { IsErrOf result IndexAnswer.ReadFault → Rose (F.read_faults folder.old) (F.read_faults folder.new) }
+    ensures same_writes { F.write_faults folder.new ≡ F.write_faults folder.old }
 {
     let mut rows = Vec::new(alloc);
-    let mut rest = bytes;
-    'rows: while !rest.is_empty() {
-        add_row(&mut rows, rest)?;
-        rest = &rest[ROW..];
+    'rows: loop {
+        if !read_row(alloc, folder, name, window, &mut rows)? {
+            return Ok(rows);
+        }
     }
-    Ok(rows)
 }
 
 /// Where no byte is left, the rows are all, or the first rule that the end breaks.
 fn check_end(rows: &[Row]) -> Result<(), IndexWhy>
-    requires { AreFirstRows (rows_of rows.now) }
-    ensures whole { OnOk result (AreRows (rows_of rows.now)) }
-    ensures fails { IfErr result (λ why. FailsIndexFirst (map raw_of (rows_of rows.now)) [] why) }
+    requires { AreFirstRows rows.now }
+    ensures whole { OnOk result (AreRows rows.now) }
+    ensures fails { IfErr result (λ why. FailsIndexFirst (map raw_of rows.now) [] why) }
 {
     if rows.is_empty() {
         return Err(IndexWhy::Cut);
@@ -111,32 +160,31 @@ fn check_end(rows: &[Row]) -> Result<(), IndexWhy>
     Ok(())
 }
 
-/// What follows the header, where it is there.
-fn after_header(bytes: &[u8]) -> Option<&[u8]>
-    ensures { MatchOption result (take 8 bytes.now ≢ INDEX_HEADER) (λ rest. bytes.now ≡ INDEX_HEADER ++ rest.now) }
-{
-    let Some((header, rest)) = bytes.split_first_chunk::<8>() else {
-        return None;
-    };
-    if *header != INDEX_HEADER {
-        return None;
-    }
-    Some(rest)
-}
+/// The rows of the index under this name, or the first bad row.
+pub fn read_rows<F: Folder>(
+    alloc: Global,
+    folder: &mut F,
+    name: &str,
+) -> Result<Vec<Row>, IndexAnswer>
+    ensures good { IfOk result (λ rows. AreRows rows.items) }
+    ensures rows { IfOk result (λ rows. WhereTold (F.content folder.old) (λ c. SpellsRows (file_of c name.now) rows.items)) }
+    ensures bad { IfErr result (λ answer. (n : ℕ) (why : IndexWhy) → answer ≡ IndexAnswer.Bad n why
+        → WhereTold (F.content folder.old) (λ c. IsFirstBadRow (file_of c name.now) n why)) }
+    ensures there { IsErrOf result IndexAnswer.NoIndex → ⊥ }
 
-/// The rows that the bytes of an index spell, or the first bad row.
-pub fn read_rows(alloc: Global, bytes: &[u8]) -> Result<Vec<Row>, IndexAnswer>
-    ensures rows { IfOk result (λ rows. SpellsRows bytes.now (rows_of rows.items)) }
-    ensures bad { IfErr result (λ answer. (n : ℕ) (why : IndexWhy) → answer ≡ IndexAnswer.Bad n why → IsFirstBadRow bytes.now n why) }
-    ensures only { IfErr result IsOfBytes }
+    ensures same { F.content folder.new ≡ F.content folder.old }
+    ensures later { F.read_faults folder.old ≤ F.read_faults folder.new }
+    ensures cause { IsErrOf result IndexAnswer.ReadFault → Rose (F.read_faults folder.old) (F.read_faults folder.new) }
+    ensures same_writes { F.write_faults folder.new ≡ F.write_faults folder.old }
 {
-    let Some(rest) = after_header(bytes) else {
+    let mut window = Window::new(alloc, ROW)?;
+    if !window.pass_header(alloc, folder, name, &INDEX_HEADER)? {
         return Err(IndexAnswer::Bad {
             row: 0,
             why: IndexWhy::Header,
         });
-    };
-    let rows = first_rows(alloc, rest)?;
+    }
+    let rows = first_rows(alloc, folder, name, &mut window)?;
     match check_end(&rows) {
         Ok(()) => Ok(rows),
         Err(why) => Err(bad_row(&rows, why)),

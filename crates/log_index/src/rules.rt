@@ -4,7 +4,8 @@ ghost use Rattle.race_model.specs.declared.why.IndexWhy.{IndexWhy};
 ghost use Rattle.race_model.specs.Listing.{BeginsListing};
 ghost use Rattle.race_model.specs.Row.{raw_of, no_step};
 ghost use Rattle.race_model.specs.IndexFault.{HasRegionSpan, HasLaneInSpan, HasDepth, HasRecords, RowPasses};
-ghost use Rattle.log_index.specs.Rows.{rows_of, path_of, raw_of_fields, FailsTestFirst};
+ghost use Rattle.log_index.specs.Rows.{raw_of_fields, FailsTestFirst};
+ghost use Rattle.race_model.specs.Row.{row_path};
 
 use crate::fields::Fields;
 use crate::listing::goes_on;
@@ -47,9 +48,9 @@ fn has_records(records: u64) -> bool
 
 /// The first rule that a row after others breaks. A whole row is there, and there is room for it.
 pub fn check(before: &[Row], fields: &Fields) -> Result<(), IndexWhy>
-    requires { BeginsListing (map path_of (rows_of before.now)) }
-    ensures passes { OnOk result ((why : IndexWhy) → RowPasses (map raw_of (rows_of before.now)) (raw_of_fields fields.now) why) }
-    ensures fails { IfErr result (λ why. FailsTestFirst (map raw_of (rows_of before.now)) (raw_of_fields fields.now) why) }
+    requires { BeginsListing (map row_path before.now) }
+    ensures passes { OnOk result ((why : IndexWhy) → RowPasses (map raw_of before.now) (raw_of_fields fields.now) why) }
+    ensures fails { IfErr result (λ why. FailsTestFirst (map raw_of before.now) (raw_of_fields fields.now) why) }
 {
     if !has_depth(fields) {
         return Err(IndexWhy::Depth);

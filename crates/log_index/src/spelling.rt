@@ -2,7 +2,6 @@ ghost use Rattle.std.specs.Prelude.{◌≡◌, ◌++◌, IfOk, OnOk};
 ghost use Rattle.std.specs.List.{flat_map};
 ghost use Rattle.sw_base.specs.declared.path.Step.{Step};
 ghost use Rattle.race_model.specs.Row.{raw_of, step_spelling, row_spelling, index_bytes};
-ghost use Rattle.log_index.specs.Rows.{row_of, rows_of};
 
 use crate::row::Row;
 use std::alloc::{AllocError, Global};
@@ -34,9 +33,9 @@ fn push_steps(bytes: &mut Vec<u8>, steps: &[Step]) -> Result<(), AllocError>
 }
 
 fn push_row(bytes: &mut Vec<u8>, row: &Row) -> Result<(), AllocError>
-    ensures { OnOk result (bytes.new.items ≡ bytes.old.items ++ row_spelling (raw_of (row_of row.now))) }
+    ensures { OnOk result (bytes.new.items ≡ bytes.old.items ++ row_spelling (raw_of row.now)) }
 {
-    let steps = row.path.steps();
+    let steps = row.steps();
     bytes.extend_from_slice(&(steps.len() as u32).to_be_bytes())?;
     bytes.extend_from_slice(&[0; 4])?;
     push_steps(bytes, steps)?;
@@ -48,7 +47,7 @@ fn push_row(bytes: &mut Vec<u8>, row: &Row) -> Result<(), AllocError>
 
 /// The bytes of an index with these rows.
 pub fn spell_rows(alloc: Global, rows: &[Row]) -> Result<Vec<u8>, AllocError>
-    ensures { IfOk result (λ bytes. bytes.items ≡ index_bytes (rows_of rows.now)) }
+    ensures { IfOk result (λ bytes. bytes.items ≡ index_bytes rows.now) }
 {
     let mut bytes = Vec::from_slice(alloc, &INDEX_HEADER)?;
     for row in rows {

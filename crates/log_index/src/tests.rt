@@ -2,7 +2,6 @@
 
 ghost use Rattle.std.specs.Prelude.{IfOk};
 ghost use Rattle.race_model.specs.IndexFault.{AreRows};
-ghost use Rattle.log_index.specs.Rows.{rows_of};
 
 use crate::{IndexAnswer, IndexWhy, Row, read_index, write_index};
 use std::alloc::{AllocError, Global};
@@ -66,7 +65,7 @@ fn index(alloc: Global, rows: &[Spelled]) -> Result<Vec<u8>, AllocError> {
 }
 
 fn read(alloc: Global, bytes: &[u8]) -> Result<Vec<Row>, IndexAnswer>
-    ensures { IfOk result (λ rows. AreRows (rows_of rows.items)) }
+    ensures { IfOk result (λ rows. AreRows rows.items) }
 {
     let mut folder = MemFolder::new(alloc)?;
     folder.hold("d/index.swi", bytes)?;

@@ -13,7 +13,7 @@ use Rattle.race_model.specs.LogFault.{LogTask, Breaks}
 use Rattle.race_model.specs.BadPlace.{record_rank, last_rank}
 use Rattle.race_model.specs.Race.{held_after, held_after_kind}
 use Rattle.race_model.specs.Trace.{region_count, barrier_count}
-use Rattle.log_walk.specs.Rules.{BreaksNone, BreaksFirst, InPlace, OutOfPlace, Locks, CantLock, Unlocks, CantUnlock, MayPass, CantPass, MayFork, CantFork, MayEnd, CantEnd}
+use Rattle.log_walk.specs.Rules.{BreaksNone, BreaksFirst, InPlace, Locks, CantLock, Unlocks, CantUnlock, MayPass, CantPass, MayFork, CantFork, MayEnd, CantEnd}
 
 -- the mutexes after one record more
 pub held_after-push : (held : List ℕ) (records : List Record) (r : Record) → held_after held (records ++ r ∷ []) ≡ held_after_kind r.kind r.addr (held_after held records)

@@ -1,9 +1,7 @@
 -- A log that was read so far: what its next bytes say of it.
-use Rattle.std.proofs.Common.{◌≡◌, ◌⊎◌, inl, inr, ℕ, zero, suc, ◌+◌, ◌<◌, ◌≤◌, true, false, List, [], ◌∷◌, ◌++◌, length, take, drop, Some, refl, sym, ap, subst, ◌∙◌, arith, append_assoc, append-nil, All}
-use Rattle.std.specs.Prelude.{slice_get, nat_eq}
-use Rattle.std.specs.Cmp.Lexicographic.{same_text, other_text}
-use lib.Pointwise.{pointwise}
-use Rattle.std.proofs.lemmas.List.{length-append, take_at, take-append-drop, take-append-le, nil_from_length, get_or_append_left, get_or_push}
+use Rattle.std.proofs.Common.{◌≡◌, ◌⊎◌, inl, inr, ℕ, zero, suc, ◌+◌, ◌<◌, ◌≤◌, List, [], ◌∷◌, ◌++◌, length, take, drop, Some, refl, sym, ap, subst, ◌∙◌, arith, append_assoc, append-nil, All}
+use Rattle.std.specs.Prelude.{slice_get}
+use Rattle.std.proofs.lemmas.List.{length-append, take_at, take-append-drop, take-append-le, get_or_append_left, get_or_push}
 use Rattle.std.proofs.lemmas.Bool.{cases_order}
 use Rattle.std.proofs.lemmas.Option.{slice_get_within}
 use Rattle.sw_base.specs.declared.files.TheConstants.{LOG_HEADER}
@@ -20,7 +18,7 @@ use Rattle.race_model.specs.LogFault.{LogTask, Breaks, IsRead, IsRecord, IsLogFa
 use Rattle.log_walk.specs.declared.check.LogFault.{LogFault}
 use Rattle.log_walk.specs.declared.check.LogFault.TheVariants as fault
 use Rattle.log_walk.specs.declared.state.State.{State}
-use Rattle.log_walk.specs.Check.{KeepsLogRules, NothingBefore, of_why, IsLogRefused, IsGoodLog, IsNextRefused, IsGoodNext}
+use Rattle.log_walk.specs.Check.{KeepsLogRules, NothingBefore, of_why, IsLogRefused, IsNextRefused, IsGoodNext}
 use Rattle.log_walk.specs.Rules.{BreaksNone}
 use Rattle.log_walk.specs.State.{IsStateAfter}
 use Rattle.log_walk.proofs.Next.{next_cut, next_untabled, before_next, before_cut, before_untabled, before_broken}

@@ -20,7 +20,7 @@ use Rattle.log_index.specs.declared.row.IndexAnswer.{IndexAnswer}
 use Rattle.log_index.specs.declared.row.IndexAnswer.TheVariants as answer
 use Rattle.log_walk.specs.GoodTrace.{IsGoodTrace}
 use Rattle.log_walk.specs.Walk.{trace_of, of_index, Walked, IsNextTask, TellsFirstBad}
-use Rattle.log_walk.proofs.Places.{good_next, good_nothing, segments_push, cmp_first}
+use Rattle.log_walk.proofs.Places.{good_next, segments_push, cmp_first}
 use Rattle.race_model.specs.BadPlace.{last_rank}
 
 -- these logs were read, where the object tells what it holds

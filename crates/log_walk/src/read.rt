@@ -10,7 +10,6 @@ ghost use Rattle.race_model.specs.LogFault.{IsWholeLog};
 ghost use Rattle.race_model.specs.KeepsRules.{KeepsRules};
 ghost use Rattle.race_model.specs.Trace.{logs_of};
 ghost use Rattle.race_model.specs.ForkJoin.{IsForkJoin};
-ghost use Rattle.log_index.specs.Rows.{rows_of};
 ghost use Rattle.log_walk.specs.GoodTrace.{IsGoodTrace, HasFirst};
 ghost use Rattle.log_walk.specs.Rules.{log_task_of};
 ghost use Rattle.log_walk.specs.Walk.{trace_of, of_log, Walked, TellsFirstBad, IsUnread, IsTaskOf, IsNextTask};
@@ -54,10 +53,10 @@ fn task_at(
     index: usize,
     trace: &[TaskRecords],
 ) -> Result<Task, Memory>
-    requires rows { AreRows (rows_of rows.now) }
+    requires rows { AreRows rows.now }
     requires within { index < length rows.now }
-    requires first { (row : Row) → slice_get (rows_of rows.now) index ≡ Some row → HasFirst (trace_of trace.now) row.path }
-    ensures task { IfOk result (λ task. (row : Row) → slice_get (rows_of rows.now) index ≡ Some row → IsTaskOf (rows_of rows.now) (trace_of trace.now) row (log_task_of task)) }
+    requires first { (row : Row) → slice_get rows.now index ≡ Some row → HasFirst (trace_of trace.now) row.path }
+    ensures task { IfOk result (λ task. (row : Row) → slice_get rows.now index ≡ Some row → IsTaskOf rows.now (trace_of trace.now) row (log_task_of task)) }
 {
     let row = &rows[index];
     Ok(Task {
@@ -96,17 +95,17 @@ fn read_task<F: Folder>(
     trace: &[TaskRecords],
     opened: u32,
 ) -> Result<Checked, WalkFault>
-    requires rows { AreRows (rows_of rows.now) }
+    requires rows { AreRows rows.now }
     requires within { index < length rows.now }
-    requires trace { IsGoodTrace (rows_of rows.now) (trace_of trace.now) }
+    requires trace { IsGoodTrace rows.now (trace_of trace.now) }
     requires read { length trace.now ≡ index }
     requires opened { opened ≡ segments_in (trace_of trace.now) }
-    ensures good { IfOk result (λ checked. (row : Row) → slice_get (rows_of rows.now) index ≡ Some row →
-        IsNextTask (rows_of rows.now) (trace_of trace.now) row checked.records.items checked.segments) }
-    ensures whole { IfOk result (λ checked. WhereTold (F.content folder.old) (λ c. (row : Row) → slice_get (rows_of rows.now) index ≡ Some row →
+    ensures good { IfOk result (λ checked. (row : Row) → slice_get rows.now index ≡ Some row →
+        IsNextTask rows.now (trace_of trace.now) row checked.records.items checked.segments) }
+    ensures whole { IfOk result (λ checked. WhereTold (F.content folder.old) (λ c. (row : Row) → slice_get rows.now index ≡ Some row →
         IsWholeLog c.held dir.now row.path checked.records.items)) }
     ensures refused { IfErr result (λ e. WhereTold (F.content folder.old) (λ c.
-        Walked c.held dir.now (rows_of rows.now) (trace_of trace.now) → TellsFirstBad c.held dir.now e)) }
+        Walked c.held dir.now rows.now (trace_of trace.now) → TellsFirstBad c.held dir.now e)) }
     ensures same { F.content folder.new ≡ F.content folder.old }
     ensures later { F.read_faults folder.old ≤ F.read_faults folder.new }
     ensures cause { IsErrOf result WalkFault.ReadFault → Rose (F.read_faults folder.old) (F.read_faults folder.new) }
@@ -128,13 +127,13 @@ fn read_logs<F: Folder>(
     dir: &str,
     rows: &[IndexRow],
 ) -> Result<Vec<TaskRecords>, WalkFault>
-    requires { AreRows (rows_of rows.now) }
-    ensures good { IfOk result (λ trace. IsGoodTrace (rows_of rows.now) (trace_of trace.items)) }
+    requires { AreRows rows.now }
+    ensures good { IfOk result (λ trace. IsGoodTrace rows.now (trace_of trace.items)) }
     ensures all { IfOk result (λ trace. length trace.items ≡ length rows.now) }
     ensures walked { IfOk result (λ trace. WhereTold (F.content folder.old) (λ c.
-        IsIndex c.held dir.now (rows_of rows.now) → Walked c.held dir.now (rows_of rows.now) (trace_of trace.items))) }
+        IsIndex c.held dir.now rows.now → Walked c.held dir.now rows.now (trace_of trace.items))) }
     ensures refused { IfErr result (λ e. WhereTold (F.content folder.old) (λ c.
-        IsIndex c.held dir.now (rows_of rows.now) → TellsFirstBad c.held dir.now e)) }
+        IsIndex c.held dir.now rows.now → TellsFirstBad c.held dir.now e)) }
     ensures same { F.content folder.new ≡ F.content folder.old }
     ensures later { F.read_faults folder.old ≤ F.read_faults folder.new }
     ensures cause { IsErrOf result WalkFault.ReadFault → Rose (F.read_faults folder.old) (F.read_faults folder.new) }

@@ -1,6 +1,5 @@
 //! The spans of a task's regions, as the index lists them.
 ghost use Rattle.std.specs.Prelude.{◌≡◌, ◌<◌, ℕ, Some, length, slice_get, IfOk, MatchOption};
-ghost use Rattle.log_index.specs.Rows.{rows_of};
 ghost use Rattle.race_model.specs.Row.{Row};
 ghost use Rattle.race_model.specs.Listing.{lane_of};
 ghost use Rattle.race_model.specs.LogFault.{ListsSpans};
@@ -23,9 +22,9 @@ fn first_lane(path: &Path, task: &Path) -> Option<u16>
 
 /// The spans of the regions of the task of this row, by number. Its lanes and all under them follow it at once.
 pub fn spans_of(alloc: Global, rows: &[IndexRow], index: usize) -> Result<Vec<u16>, Memory>
-    requires rows { AreRows (rows_of rows.now) }
+    requires rows { AreRows rows.now }
     requires within { index < length rows.now }
-    ensures { IfOk result (λ spans. (task : Row) → slice_get (rows_of rows.now) index ≡ Some task → ListsSpans (rows_of rows.now) task.path spans.items) }
+    ensures { IfOk result (λ spans. (task : Row) → slice_get rows.now index ≡ Some task → ListsSpans rows.now task.path spans.items) }
 {
     let task = &rows[index];
     let mut spans = Vec::new(alloc);

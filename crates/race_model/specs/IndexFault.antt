@@ -8,7 +8,7 @@ use Rattle.sw_base.specs.Names.{index_name}
 use Rattle.race_model.specs.declared.why.IndexWhy.{IndexWhy}
 use Rattle.race_model.specs.declared.why.IndexWhy.TheVariants.{Header, TooMany, Cut, Depth, Span, Lane, Order, Records}
 use Rattle.race_model.specs.BadPlace.{BadPlace, no_index, bad_row, missing_log, bad_record, too_many_segments, index_rank, IsEarlier}
-use Rattle.race_model.specs.Row.{Row, RawRow, RowFits, row_spelling, used, unused, no_step, index_bytes}
+use Rattle.race_model.specs.Row.{Row, RawRow, RowFits, row_path, row_spelling, used, unused, no_step, index_bytes}
 use Rattle.race_model.specs.Listing.{IsListing, BeginsListing}
 
 -- a region has 1 to 64 lanes
@@ -119,13 +119,13 @@ pub record IsRow (row : Row) : Type 0 where
 
 -- the first rows of a well-formed index
 pub record AreFirstRows (rows : List Row) : Type 0 where
-  pub begins : BeginsListing (map (λ row. row.path) rows)
+  pub begins : BeginsListing (map row_path rows)
   pub each : All IsRow rows
   pub limit : length rows ≤ max_rows
 
 -- the rows of a well-formed index: a whole listing
 pub record AreRows (rows : List Row) : Type 0 where
-  pub lists : IsListing (map (λ row. row.path) rows)
+  pub lists : IsListing (map row_path rows)
   pub each : All IsRow rows
   pub limit : length rows ≤ max_rows
 

@@ -10,6 +10,9 @@ pub record Row : Type 0 where
   pub path : List Step
   pub records : ℕ
 
+abbrev pub row_path : Row → List Step
+row_path row = row.path
+
 -- the fields of a row in the file: of its four steps the first `depth` are used
 pub record RawRow : Type 0 where
   pub depth : ℕ

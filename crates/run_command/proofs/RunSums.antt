@@ -4,11 +4,9 @@ use Rattle.std.specs.Int.{w64, cast_signed}
 use Rattle.std.specs.List.{fold}
 use Rattle.std.proofs.lemmas.List.{at_drop_more, length-map}
 use Rattle.std.proofs.lemmas.List.Folds.{fold-map}
-use Rattle.race_model.specs.FirstBad.{row_of as row_of_task, rows_of as rows_of_tasks}
-use Rattle.race_model.specs.Row.{Row as TaskRow}
+use Rattle.race_model.specs.FirstBad.{row_of, rows_of}
+use Rattle.race_model.specs.Row.{Row}
 use Rattle.race_model.specs.Trace.{TaskLog, Trace}
-use Rattle.log_index.specs.declared.row.Row.{Row}
-use Rattle.log_index.specs.Rows.{row_of, rows_of}
 use Rattle.run_command.specs.RunTexts.{sum_of}
 
 -- the next value, and the rest
@@ -18,12 +16,12 @@ sum_of-drop values i within = at_drop_more sum_of values i 0 within
 -- ---- rows and tasks
 
 -- there are as many rows as tasks
-pub tasks_counted : (tasks : Trace) (rows : List Row) → rows_of_tasks tasks ≡ rows_of rows → length rows ≡ length tasks
-tasks_counted tasks rows same = sym (length-map rows row_of) ∙ ap length (sym same) ∙ length-map tasks row_of_task
+pub tasks_counted : (tasks : Trace) (rows : List Row) → rows_of tasks ≡ rows → length rows ≡ length tasks
+tasks_counted tasks rows same = ap length (sym same) ∙ length-map tasks row_of
 
 -- with as many records
-pub records_counted : (tasks : Trace) (rows : List Row) → rows_of_tasks tasks ≡ rows_of rows →
+pub records_counted : (tasks : Trace) (rows : List Row) → rows_of tasks ≡ rows →
     sum_by (λ (row : Row). row.records) rows ≡ sum_by (λ (task : TaskLog). length task.records) tasks
 records_counted tasks rows same =
-    let add : ℕ → TaskRow → ℕ = λ count row. count + row.records in
-    sym (fold-map add row_of 0 rows) ∙ ap (fold add 0) (sym same) ∙ fold-map add row_of_task 0 tasks
+    let add : ℕ → Row → ℕ = λ count row. count + row.records in
+    ap (fold add 0) (sym same) ∙ fold-map add row_of 0 tasks

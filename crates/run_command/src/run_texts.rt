@@ -1,10 +1,9 @@
 //! The texts of `run`.
 ghost use Rattle.std.specs.Prelude.{◌≡◌, ◌+◌, ◌^◌, ◌<◌, ◌≤◌, length, string_bytes, sum_by, IfOk};
 ghost use Rattle.sw_base.specs.Names.{bare_log_name};
-ghost use Rattle.race_model.specs.FirstBad.{rows_of as rows_of_tasks};
+ghost use Rattle.race_model.specs.FirstBad.{rows_of};
 ghost use Rattle.race_model.specs.Trace.{Trace};
 ghost use Rattle.kernel_syntax.specs.Layout.{ArePlaced};
-ghost use Rattle.log_index.specs.Rows.{rows_of};
 ghost use Rattle.run_command.specs.RunTexts.{count_lines, run_text, stop_line, sum_line, sum_of, values_of};
 
 use kernel_syntax::Array;
@@ -73,7 +72,7 @@ fn count_lines(alloc: Global, tasks: usize, records: u64) -> Result<String, Memo
 pub fn ran(alloc: Global, rows: &[Row], arrays: &[Array], words: &[u64]) -> Result<String, Memory>
     requires few { length rows.now < 2 ^ 32 }
     requires placed { ArePlaced arrays.now (length words.now) }
-    ensures { (tasks : Trace) → rows_of_tasks tasks ≡ rows_of rows.now → IfOk result (λ text. string_bytes text ≡ run_text tasks arrays.now words.now) }
+    ensures { (tasks : Trace) → rows_of tasks ≡ rows.now → IfOk result (λ text. string_bytes text ≡ run_text tasks arrays.now words.now) }
 {
     let mut text = count_lines(alloc, rows.len(), records_in(rows))?;
     for array in arrays {

@@ -6,7 +6,6 @@ ghost use Rattle.sw_base.specs.Names.{log_name};
 ghost use Rattle.sw_base.specs.declared.path.Step.{Step};
 ghost use Rattle.race_model.specs.IndexFault.{AreRows};
 ghost use Rattle.team_runner.specs.Answer.{HasFaulty};
-ghost use Rattle.log_index.specs.Rows.{rows_of};
 ghost use Rattle.run_command.specs.Seals.{SealsAll, StoresAll, StoresPrefix, all_logged, row_of_entry};
 
 use log_index::{Row, write_index};
@@ -90,7 +89,7 @@ pub fn discard_all<F: Folder>(folder: &mut F, logs: Vec<(Path, F::Log, u32)>)
 
 /// The rows of the index for these logs.
 fn index_rows<L: Log>(alloc: Global, logs: &[(Path, L, u32)]) -> Result<Vec<Row>, AllocError>
-    ensures { IfOk result (λ rows. rows_of rows.items ≡ map row_of_entry logs.now) }
+    ensures { IfOk result (λ rows. rows.items ≡ map row_of_entry logs.now) }
 {
     let mut rows = Vec::new(alloc);
     for (path, _, records) in logs {
@@ -110,7 +109,7 @@ pub fn store<F: Folder>(
     logs: Vec<(Path, F::Log, u32)>,
 ) -> Result<Vec<Row>, Trouble>
     requires { AreRows (map row_of_entry logs.items) }
-    ensures rows { IfOk result (λ rows. rows_of rows.items ≡ map row_of_entry logs.items) }
+    ensures rows { IfOk result (λ rows. rows.items ≡ map row_of_entry logs.items) }
     ensures stored { OnOk result (StoresAll dir.now (all_logged F.Log.dir F.Log.path F.Log.text logs.items) (F.content folder.old) (F.content folder.new)) }
     ensures refused { OnErr result (StoresPrefix dir.now (all_logged F.Log.dir F.Log.path F.Log.text logs.items) (F.content folder.old) (F.content folder.new)) }
     ensures tells { is_some (F.content folder.new) ≡ is_some (F.content folder.old) }

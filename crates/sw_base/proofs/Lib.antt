@@ -1,6 +1,7 @@
 pub mod Prefixes
 pub mod Gains
 pub mod ReadPrefixes
+pub mod Windows
 pub mod HeldFiles
 pub mod Paths
 pub mod NameLaws

@@ -8,3 +8,4 @@ pub mod Names
 pub mod PathOrder
 pub mod Pieces
 pub mod Plans
+pub mod Window

@@ -12,6 +12,7 @@ mod in_memory;
 mod path;
 mod reading;
 mod trouble;
+mod window;
 
 pub use environment::{Folder, Gate, Log, NoGate, Out};
 pub use files::{INDEX_HEADER, LOG_HEADER, index_name};
@@ -19,6 +20,7 @@ pub use in_memory::{MemFolder, MemLog, MemOut};
 pub use path::{Path, Step};
 pub use reading::read_file;
 pub use trouble::{Memory, Trouble};
+pub use window::Window;
 
 #[cfg(test)]
 mod tests;

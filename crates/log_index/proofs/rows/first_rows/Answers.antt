@@ -1,33 +1,28 @@
-use Rattle.std.proofs.Common.{◌+◌, ◌++◌, ℕ, List, map, ap, sym, ◌∙◌}
-use Rattle.std.proofs.lemmas.List.{length-map}
-use Rattle.std.proofs.lemmas.Result.{err_from_is_err_and}
-use Rattle.std.specs.List.{flat_map}
-use Rattle.race_model.specs.Row.{row_spelling, raw_of}
-use Rattle.log_index.specs.Rows.{row_of, rows_of}
-use Rattle.log_index.proofs.Ends.{more_good, more_parts, none_good, none_parts, after_row}
+use Rattle.std.proofs.Common.{rules, ◌∙◌}
+use Rattle.sw_base.specs.Window.{file_of}
+use Rattle.log_index.proofs.Ends.{none_good, read_none, read_more}
 use Rattle.log_index.proofs.rows.first_rows.Goals as goal
 
 pub rows-init : goal.rows-init
-rows-init c =
-    let none = ap rows_of c.new-rows.ensures.items in
-    record { good = none_good (rows_of c.new-rows.result.items) none; parts = none_parts c.args.bytes.now (rows_of c.new-rows.result.items) none }
-
-pub returns-in_err-add_row-clause-bad : goal.returns-in_err-add_row-clause-bad
-returns-in_err-add_row-clause-bad c =
-    let p = err_from_is_err_and c.from_residual.result c.from_residual.ensures.1 in
-    rw (p.1, p.2) (λ n why is. record {
-      before = rows_of c.rows.rows.items;
-      rest = c.rows.rest.now;
-      good = c.rows.invariant.good;
-      parts = c.rows.invariant.parts;
-      number = (c.in_err-add_row.ensures.bad n why is).0 ∙ ap (λ (m : ℕ). m + 1) (sym (length-map c.rows.rows.items row_of));
-      first = (c.in_err-add_row.ensures.bad n why is).1;
-    })
+rows-init g c = record {
+  good = none_good c.new-rows.result.items c.new-rows.ensures.items;
+  place = search rules;
+  told = λ x told shows. read_none (file_of x c.args.name.now) c.new-rows.result.items c.args.window.now c.new-rows.ensures.items c.requires.place shows;
+  same = search rules;
+  later = search rules;
+  same_writes = search rules;
+}
 
 pub rows-preserved : goal.rows-preserved
-rows-preserved c = record {
-  good = more_good (rows_of c.rows.rows.items) (rows_of c.add_row.new.rows.items) c.rows.rest.now c.in_ok-add_row.ensures.adds;
-  parts =
-      more_parts c.args.bytes.now (rows_of c.rows.rows.items) (rows_of c.add_row.new.rows.items) c.rows.rest.now c.rows.invariant.parts c.in_ok-add_row.ensures.adds
-      ∙ ap (λ (bs : List ℕ). flat_map row_spelling (map raw_of (rows_of c.add_row.new.rows.items)) ++ bs) (sym (after_row c.rows.rest.now));
+rows-preserved g c = record {
+  good = search rules;
+  place = search rules;
+  told = λ x told shows.
+      let before = c.rows.invariant.told x told shows in
+      let reads = c.in_ok-read_row.ensures.reads c.if-not-branch.false x (c.rows.invariant.same ∙ told) before.shows in
+      let grows = c.in_ok-read_row.ensures.grows c.if-not-branch.false in
+      read_more (file_of x c.args.name.now) c.rows.rows.items c.read_row.new.rows.items c.rows.window c.read_row.new.window before reads grows.place;
+  same = search rules;
+  later = search rules;
+  same_writes = search rules;
 }

@@ -1,15 +1,19 @@
-use Rattle.std.proofs.Common.{◌≡◌, ◌++◌, length, map}
-use Rattle.std.specs.List.{flat_map}
-use Rattle.race_model.specs.Row.{row_spelling, raw_of}
+use Rattle.std.proofs.Common.{◌≡◌, ◌+◌, ◌*◌, ◌-◌, ◌≤◌, length}
+use Rattle.sw_base.specs.Environment.{WhereTold}
+use Rattle.sw_base.specs.Window.{Shows, file_of}
 use Rattle.race_model.specs.IndexFault.{AreFirstRows}
-use Rattle.log_index.specs.Rows.{rows_of}
+use Rattle.log_index.proofs.Ends.{IsReadTo}
 use Rattle.log_index.proofs.rows.first_rows.Given as goal
 
 abbrev pub invariant-rows : goal.invariant-rows
-invariant-rows l = record {
-  good : AreFirstRows (rows_of l.rows.items);
-  parts : l.bytes ≡ flat_map row_spelling (map raw_of (rows_of l.rows.items)) ++ l.rest;
+invariant-rows g l = record {
+  good : AreFirstRows l.rows.items;
+  place : l.window.place ≡ 8 + 48 * length l.rows.items;
+  told : WhereTold (g.F.Folder.content l.fn.folder) (λ c. Shows l.fn.window (file_of c l.name) → IsReadTo (file_of c l.name) l.rows.items l.window);
+  same : g.F.Folder.content l.folder ≡ g.F.Folder.content l.fn.folder;
+  later : g.F.Folder.read_faults l.fn.folder ≤ g.F.Folder.read_faults l.folder;
+  same_writes : g.F.Folder.write_faults l.folder ≡ g.F.Folder.write_faults l.fn.folder;
 }
 
 abbrev pub decreases-rows : goal.decreases-rows
-decreases-rows l = length l.rest
+decreases-rows g l = 65536 - length l.rows.items

@@ -1,7 +1,5 @@
-use Rattle.std.proofs.Common.{◌≢◌, length, sym, ◌∙◌}
-use Rattle.std.proofs.lemmas.List.{length-map}
 use Rattle.race_model.specs.declared.why.IndexWhy.TheVariants.{Depth, Records}
-use Rattle.log_index.specs.Rows.{row_of, rows_of, raw_of_fields}
+use Rattle.log_index.specs.Rows.{raw_of_fields}
 use Rattle.log_index.proofs.Parsing.{adds_row_as, fails_first_as}
 use Rattle.log_index.proofs.rows.next_row.Goals as goal
 
@@ -13,12 +11,10 @@ row_of_fields-requires-clause-records c = c.in-Ok.ensures.passes Records
 
 pub returns-in-Ok-clause-adds : goal.returns-in-Ok-clause-adds
 returns-in-Ok-clause-adds c =
-    let room : length (rows_of c.args.before.now) ≢ 65536 = λ full. c.if-before-eq-MAX_ROWS.false (sym (length-map c.args.before.now row_of) ∙ full) in
-    adds_row_as (rows_of c.args.before.now) (raw_of_fields c.fields_of-fields.result) c.in-Some.bytes.now c.args.rest.now c.row_of_fields.result.path c.row_of_fields.result.records
-    c.requires.good room c.fields_of-fields.ensures.fits c.in-Some.ensures.cases.0 c.fields_of-fields.ensures.spelled c.in-Ok.ensures.passes c.row_of_fields.ensures.path c.row_of_fields.ensures.count
+    adds_row_as c.args.before.now (raw_of_fields c.fields_of-fields.result) c.in-Some.bytes.now c.args.rest.now c.row_of_fields.result.path c.row_of_fields.result.records
+    c.requires.good c.if-before-eq-MAX_ROWS.false c.fields_of-fields.ensures.fits c.in-Some.ensures.cases.0 c.fields_of-fields.ensures.spelled c.in-Ok.ensures.passes c.row_of_fields.ensures.path c.row_of_fields.ensures.count
 
 pub returns-in-Err-clause-fails : goal.returns-in-Err-clause-fails
 returns-in-Err-clause-fails c =
-    let room : length (rows_of c.args.before.now) ≢ 65536 = λ full. c.if-before-eq-MAX_ROWS.false (sym (length-map c.args.before.now row_of) ∙ full) in
-    fails_first_as (rows_of c.args.before.now) (raw_of_fields c.fields_of-fields.result) c.in-Some.bytes.now c.args.rest.now c.in-Err.why
-    room c.fields_of-fields.ensures.fits c.in-Some.ensures.cases.0 c.fields_of-fields.ensures.spelled c.in-Err.ensures.fails
+    fails_first_as c.args.before.now (raw_of_fields c.fields_of-fields.result) c.in-Some.bytes.now c.args.rest.now c.in-Err.why
+    c.if-before-eq-MAX_ROWS.false c.fields_of-fields.ensures.fits c.in-Some.ensures.cases.0 c.fields_of-fields.ensures.spelled c.in-Err.ensures.fails

@@ -1,28 +1,31 @@
-use Rattle.std.proofs.Common.{◌≡◌, ◌+◌, ℕ, List, [], length, map, ap, sym, subst, ◌∙◌}
-use Rattle.std.proofs.lemmas.List.{length-map}
+use Rattle.std.proofs.Common.{◌≡◌, ◌+◌, ℕ, List, [], length, map, drop, ap, sym, subst, ◌∙◌}
 use Rattle.std.proofs.lemmas.Result.{err_from_is_err_and}
+use Rattle.sw_base.specs.Window.{file_of}
 use Rattle.race_model.specs.declared.why.IndexWhy.{IndexWhy}
-use Rattle.race_model.specs.Row.{raw_of}
+use Rattle.race_model.specs.Row.{Row, raw_of}
 use Rattle.race_model.specs.IndexFault.{FailsIndexFirst}
-use Rattle.log_index.specs.declared.row.Row.{Row}
 use Rattle.log_index.specs.declared.row.IndexAnswer.TheVariants.{Bad}
-use Rattle.log_index.specs.Rows.{row_of, rows_of, IsFirstBadRow}
+use Rattle.log_index.specs.Rows.{IsFirstBadRow}
 use Rattle.log_index.proofs.Ends.{stops_first, end_first, same_answer}
 use Rattle.log_index.proofs.rows.read_rows.Goals as goal
 
 pub returns-in_err-rows-clause-bad : goal.returns-in_err-rows-clause-bad
-returns-in_err-rows-clause-bad c =
-    let p = err_from_is_err_and c.from_residual.result c.from_residual.ensures.1 in
-    rw (p.1, p.2) (λ n why is. stops_first c.args.bytes.now c.in-Some.rest.now c.in-Some.ensures n why (c.in_err-rows.ensures.bad n why is))
+returns-in_err-rows-clause-bad g c =
+    let p = err_from_is_err_and c.from_residual-in_err-rows.result c.from_residual-in_err-rows.ensures.1 in
+    rw (p.1, p.2) (λ n why is x told.
+    let file : List ℕ = file_of x c.args.name.now in
+    let passed = c.in_ok-pass_header.ensures.passed c.if-not-branch.false x told in
+    stops_first file (drop 8 file) passed.1 n why (c.in_err-rows.ensures.bad n why is x (c.in_ok-pass_header.ensures.same ∙ told) passed.0))
 
-pub returns-in-Err-clause-bad : goal.returns-in-Err-clause-bad
-returns-in-Err-clause-bad c n why is =
-    let told : Bad n why ≡ Bad (length c.deref-in-Err.result.now + 1) c.in-Err.why = sym is ∙ c.bad_row.ensures in
-    let parts : (n ≡ length c.deref-in-Err.result.now + 1) × (why ≡ c.in-Err.why) = same_answer told in
-    let number : n ≡ length (rows_of c.in_ok-rows.rows.items) + 1 =
-    parts.0 ∙ ap (λ (rows : List Row). length rows + 1) c.deref-in-Err.ensures.value ∙ ap (λ (m : ℕ). m + 1) (sym (length-map c.in_ok-rows.rows.items row_of)) in
-    let fails : FailsIndexFirst (map raw_of (rows_of c.in_ok-rows.rows.items)) [] c.in-Err.why =
-    subst (λ (rows : List Row). FailsIndexFirst (map raw_of (rows_of rows)) [] c.in-Err.why) c.deref.ensures.value c.in-Err.ensures.fails in
-    let first : IsFirstBadRow c.args.bytes.now (length (rows_of c.in_ok-rows.rows.items) + 1) c.in-Err.why =
-    end_first c.args.bytes.now c.in-Some.rest.now c.in-Some.ensures (rows_of c.in_ok-rows.rows.items) c.in-Err.why c.in_ok-rows.ensures.rows fails in
-    subst (λ (m : ℕ). IsFirstBadRow c.args.bytes.now m why) (sym number) (subst (λ (w : IndexWhy). IsFirstBadRow c.args.bytes.now (length (rows_of c.in_ok-rows.rows.items) + 1) w) (sym parts.1) first)
+pub returns-clause-bad : goal.returns-clause-bad
+returns-clause-bad g c = λ n why is x told.
+    let file : List ℕ = file_of x c.args.name.now in
+    let passed = c.in_ok-pass_header.ensures.passed c.if-not-branch.false x told in
+    let told_is : Bad n why ≡ Bad (length c.deref-in-Err.result.now + 1) c.in-Err.why = sym is ∙ c.bad_row.ensures in
+    let parts : (n ≡ length c.deref-in-Err.result.now + 1) × (why ≡ c.in-Err.why) = same_answer told_is in
+    let number : n ≡ length c.in_ok-rows.rows.items + 1 = parts.0 ∙ ap (λ (rows : List Row). length rows + 1) c.deref-in-Err.ensures.value in
+    let fails : FailsIndexFirst (map raw_of c.in_ok-rows.rows.items) [] c.in-Err.why =
+    subst (λ (rows : List Row). FailsIndexFirst (map raw_of rows) [] c.in-Err.why) c.deref.ensures.value c.in-Err.ensures.fails in
+    let first : IsFirstBadRow file (length c.in_ok-rows.rows.items + 1) c.in-Err.why =
+    end_first file (drop 8 file) passed.1 c.in_ok-rows.rows.items c.in-Err.why (c.in_ok-rows.ensures.rows x (c.in_ok-pass_header.ensures.same ∙ told) passed.0) fails in
+    subst (λ (m : ℕ). IsFirstBadRow file m why) (sym number) (subst (λ (w : IndexWhy). IsFirstBadRow file (length c.in_ok-rows.rows.items + 1) w) (sym parts.1) first)

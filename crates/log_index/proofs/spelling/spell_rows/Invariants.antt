@@ -1,7 +1,6 @@
 use Rattle.std.proofs.Common.{◌≡◌, take}
 use Rattle.race_model.specs.Row.{index_bytes}
-use Rattle.log_index.specs.Rows.{rows_of}
 use Rattle.log_index.proofs.spelling.spell_rows.Given as goal
 
 abbrev pub invariant-loop-row : goal.invariant-loop-row
-invariant-loop-row l = l.bytes.items ≡ index_bytes (rows_of (take l.row-index l.rows))
+invariant-loop-row l = l.bytes.items ≡ index_bytes ((take l.row-index l.rows))

@@ -4,7 +4,6 @@ use Rattle.std.proofs.lemmas.Result.{err_from_is_err_and}
 use Rattle.race_model.specs.Row.{Row}
 use Rattle.race_model.specs.IndexFault.{IsRow}
 use Rattle.race_model.specs.LogFault.{IsWholeLog}
-use Rattle.log_index.specs.Rows.{rows_of, row_of}
 use Rattle.log_walk.specs.declared.fault.WalkFault.{WalkFault}
 use Rattle.log_walk.specs.Rules.{log_task_of}
 use Rattle.log_walk.specs.Walk.{trace_of, TellsFirstBad}
@@ -16,43 +15,43 @@ use Rattle.log_walk.proofs.read.read_task.Goals as goal
 pub returns-in_err-bytes-clause-refused : goal.returns-in_err-bytes-clause-refused
 returns-in_err-bytes-clause-refused g c =
     let p = err_from_is_err_and c.from_residual.result c.from_residual.ensures.1 in
-    let found = row_read c.args.rows.now c.args.index c.index-rows-index.result c.requires.within c.index-rows-index.is in
+    let found = row_read c.args.rows.now c.args.index c.index-rows-index.result _ c.requires.within c.index-rows-index.is c.row.view_is in
     rw (p.1, p.2) (λ content told walked.
-    unread_told (g.F.Folder.content c.args.folder.now) content c.args.dir.now (rows_of c.args.rows.now) (trace_of c.args.trace.now) (row_of c.index-rows-index.result) c.in_err-bytes.field-0.0 told walked
-    (row_after c.args.trace.now (rows_of c.args.rows.now) c.args.index (row_of c.index-rows-index.result) c.requires.read found) c.in_err-bytes.ensures.unread)
+    unread_told (g.F.Folder.content c.args.folder.now) content c.args.dir.now c.args.rows.now (trace_of c.args.trace.now) (record { path = c.row.inside.path; records = c.row.inside.records }) c.in_err-bytes.field-0.0 told walked
+    (row_after c.args.trace.now c.args.rows.now c.args.index (record { path = c.row.inside.path; records = c.row.inside.records }) c.requires.read found) c.in_err-bytes.ensures.unread)
 
 pub task_at-requires-clause-first : goal.task_at-requires-clause-first
 task_at-requires-clause-first g c = λ row found.
-    has_first (rows_of c.args.rows.now) (trace_of c.args.trace.now) row c.requires.rows c.requires.trace (row_after c.args.trace.now (rows_of c.args.rows.now) c.args.index row c.requires.read found)
+    has_first c.args.rows.now (trace_of c.args.trace.now) row c.requires.rows c.requires.trace (row_after c.args.trace.now c.args.rows.now c.args.index row c.requires.read found)
 
 pub check_log-requires-clause-records : goal.check_log-requires-clause-records
 check_log-requires-clause-records g c =
-    let found = row_read c.args.rows.now c.args.index c.index-rows-index.result c.requires.within c.index-rows-index.is in
-    let is = c.in_ok-task.ensures.task (row_of c.index-rows-index.result) found in
-    let row_is : IsRow (row_of c.index-rows-index.result)
-    = subst (λ (row : Row). IsRow row) (get_or_from_slice_get (rows_of c.args.rows.now) c.args.index (row_of c.index-rows-index.result) (row_of c.index-rows-index.result) found)
-    (c.requires.rows.each c.args.index (row_of c.index-rows-index.result) (slice_get_within (rows_of c.args.rows.now) c.args.index (row_of c.index-rows-index.result) found)) in
+    let found = row_read c.args.rows.now c.args.index c.index-rows-index.result _ c.requires.within c.index-rows-index.is c.row.view_is in
+    let is = c.in_ok-task.ensures.task (record { path = c.row.inside.path; records = c.row.inside.records }) found in
+    let row_is : IsRow (record { path = c.row.inside.path; records = c.row.inside.records })
+    = subst (λ (row : Row). IsRow row) (get_or_from_slice_get c.args.rows.now c.args.index (record { path = c.row.inside.path; records = c.row.inside.records }) (record { path = c.row.inside.path; records = c.row.inside.records }) found)
+    (c.requires.rows.each c.args.index (record { path = c.row.inside.path; records = c.row.inside.records }) (slice_get_within c.args.rows.now c.args.index (record { path = c.row.inside.path; records = c.row.inside.records }) found)) in
     omega (arith, is.records, row_is.records.limit)
 
 pub returns-in-Ok-clause-good : goal.returns-in-Ok-clause-good
 returns-in-Ok-clause-good g c = λ row found.
-    next_task (rows_of c.args.rows.now) (trace_of c.args.trace.now) row (log_task_of c.in_ok-task.task) c.deref.result.now c.args.opened c.in-Ok.checked.records.items c.in-Ok.checked.segments
+    next_task c.args.rows.now (trace_of c.args.trace.now) row (log_task_of c.in_ok-task.task) c.deref.result.now c.args.opened c.in-Ok.checked.records.items c.in-Ok.checked.segments
     (c.in_ok-task.ensures.task row found) c.requires.opened c.in-Ok.ensures.good
 
 pub returns-in-Ok-clause-whole : goal.returns-in-Ok-clause-whole
 returns-in-Ok-clause-whole g c = λ content told row found.
-    let mine = row_read c.args.rows.now c.args.index c.index-rows-index.result c.requires.within c.index-rows-index.is in
-    let same : row_of c.index-rows-index.result ≡ row = same_Some _ row (sym mine ∙ found) in
+    let mine = row_read c.args.rows.now c.args.index c.index-rows-index.result _ c.requires.within c.index-rows-index.is c.row.view_is in
+    let same : (record { path = c.row.inside.path; records = c.row.inside.records }) ≡ row = same_Some _ row (sym mine ∙ found) in
     subst (λ (r : Row). IsWholeLog content.held c.args.dir.now r.path c.in-Ok.checked.records.items) same
-    (next_whole content.held c.args.dir.now (rows_of c.args.rows.now) (trace_of c.args.trace.now) (row_of c.index-rows-index.result) (log_task_of c.in_ok-task.task) c.deref.result.now c.args.opened
-    c.in-Ok.checked.records.items c.in-Ok.checked.segments (c.in_ok-task.ensures.task (row_of c.index-rows-index.result) mine)
+    (next_whole content.held c.args.dir.now c.args.rows.now (trace_of c.args.trace.now) (record { path = c.row.inside.path; records = c.row.inside.records }) (log_task_of c.in_ok-task.task) c.deref.result.now c.args.opened
+    c.in-Ok.checked.records.items c.in-Ok.checked.segments (c.in_ok-task.ensures.task (record { path = c.row.inside.path; records = c.row.inside.records }) mine)
     (c.in_ok-bytes.ensures.found content told ∙ ap (λ (bs : List ℕ). Some bs) (sym c.deref.ensures.value)) c.in-Ok.ensures.good)
 
 pub returns-clause-refused : goal.returns-clause-refused
 returns-clause-refused g c = λ content told walked.
-    let mine = row_read c.args.rows.now c.args.index c.index-rows-index.result c.requires.within c.index-rows-index.is in
+    let mine = row_read c.args.rows.now c.args.index c.index-rows-index.result _ c.requires.within c.index-rows-index.is c.row.view_is in
     subst (λ (e : WalkFault). TellsFirstBad content.held c.args.dir.now e) (sym c.fault_of.ensures)
-    (log_told content.held c.args.dir.now (rows_of c.args.rows.now) (trace_of c.args.trace.now) (row_of c.index-rows-index.result) (log_task_of c.in_ok-task.task) c.deref.result.now c.args.opened
-    c.in-Err.fault walked (row_after c.args.trace.now (rows_of c.args.rows.now) c.args.index (row_of c.index-rows-index.result) c.requires.read mine)
-    (c.in_ok-task.ensures.task (row_of c.index-rows-index.result) mine) (c.in_ok-bytes.ensures.found content told ∙ ap (λ (bs : List ℕ). Some bs) (sym c.deref.ensures.value)) c.requires.opened
+    (log_told content.held c.args.dir.now c.args.rows.now (trace_of c.args.trace.now) (record { path = c.row.inside.path; records = c.row.inside.records }) (log_task_of c.in_ok-task.task) c.deref.result.now c.args.opened
+    c.in-Err.fault walked (row_after c.args.trace.now c.args.rows.now c.args.index (record { path = c.row.inside.path; records = c.row.inside.records }) c.requires.read mine)
+    (c.in_ok-task.ensures.task (record { path = c.row.inside.path; records = c.row.inside.records }) mine) (c.in_ok-bytes.ensures.found content told ∙ ap (λ (bs : List ℕ). Some bs) (sym c.deref.ensures.value)) c.requires.opened
     c.in-Err.ensures.refused)

@@ -1,8 +1,7 @@
 use Rattle.std.proofs.Common.{◌≡◌, sym, subst, ap, ◌∙◌, arith, List}
 use Rattle.std.proofs.lemmas.List.{length-map}
 use Rattle.std.proofs.lemmas.Result.{err_from_is_err_and}
-use Rattle.log_index.specs.Rows.{rows_of, row_of}
-use Rattle.log_index.specs.declared.row.Row.{Row}
+use Rattle.race_model.specs.Row.{Row}
 use Rattle.std.specs.Prelude.{IsErrOf, Err, Result}
 use Rattle.race_model.specs.IndexFault.{AreRows, IsIndex}
 use Rattle.log_segment.specs.Intervals.{task_of}
@@ -24,23 +23,23 @@ returns-in_err-rows-clause-refused g c =
 
 pub returns-clause-keeps : goal.returns-clause-keeps
 returns-clause-keeps g c =
-    keeps_rules (rows_of c.deref.result.now) (trace_of c.in_ok-trace.trace.items) (subst (λ (rows : List Row). AreRows (rows_of rows)) (sym c.deref.ensures.value) c.in_ok-rows.ensures.rows)
-    c.in_ok-trace.ensures.good (omega (arith, length-map c.in_ok-trace.trace.items task_of, length-map c.deref.result.now row_of, c.in_ok-trace.ensures.all))
+    keeps_rules c.deref.result.now (trace_of c.in_ok-trace.trace.items) (subst (λ (rows : List Row). AreRows rows) (sym c.deref.ensures.value) c.in_ok-rows.ensures.rows)
+    c.in_ok-trace.ensures.good (omega (arith, length-map c.in_ok-trace.trace.items task_of, c.in_ok-trace.ensures.all))
 
 pub returns-clause-fork_join : goal.returns-clause-fork_join
 returns-clause-fork_join g c =
     fork_join (trace_of c.in_ok-trace.trace.items)
-    (keeps_rules (rows_of c.deref.result.now) (trace_of c.in_ok-trace.trace.items) (subst (λ (rows : List Row). AreRows (rows_of rows)) (sym c.deref.ensures.value) c.in_ok-rows.ensures.rows)
-    c.in_ok-trace.ensures.good (omega (arith, length-map c.in_ok-trace.trace.items task_of, length-map c.deref.result.now row_of, c.in_ok-trace.ensures.all)))
+    (keeps_rules c.deref.result.now (trace_of c.in_ok-trace.trace.items) (subst (λ (rows : List Row). AreRows rows) (sym c.deref.ensures.value) c.in_ok-rows.ensures.rows)
+    c.in_ok-trace.ensures.good (omega (arith, length-map c.in_ok-trace.trace.items task_of, c.in_ok-trace.ensures.all)))
 
 pub returns-clause-holds : goal.returns-clause-holds
 returns-clause-holds g c = λ content told.
-    holds_trace content.held c.args.dir.now (rows_of c.deref.result.now) (trace_of c.in_ok-trace.trace.items)
-    (c.in_ok-trace.ensures.walked content (c.in_ok-rows.ensures.same ∙ told) (subst (λ (rows : List Row). IsIndex content.held c.args.dir.now (rows_of rows)) (sym c.deref.ensures.value) (c.in_ok-rows.ensures.found content told)))
-    (omega (arith, length-map c.in_ok-trace.trace.items task_of, length-map c.deref.result.now row_of, c.in_ok-trace.ensures.all))
+    holds_trace content.held c.args.dir.now c.deref.result.now (trace_of c.in_ok-trace.trace.items)
+    (c.in_ok-trace.ensures.walked content (c.in_ok-rows.ensures.same ∙ told) (subst (λ (rows : List Row). IsIndex content.held c.args.dir.now rows) (sym c.deref.ensures.value) (c.in_ok-rows.ensures.found content told)))
+    (omega (arith, length-map c.in_ok-trace.trace.items task_of, c.in_ok-trace.ensures.all))
 
 pub returns-clause-well_formed : goal.returns-clause-well_formed
 returns-clause-well_formed g c = λ content told.
-    is_well_formed content.held c.args.dir.now (rows_of c.deref.result.now) (trace_of c.in_ok-trace.trace.items)
-    (c.in_ok-trace.ensures.walked content (c.in_ok-rows.ensures.same ∙ told) (subst (λ (rows : List Row). IsIndex content.held c.args.dir.now (rows_of rows)) (sym c.deref.ensures.value) (c.in_ok-rows.ensures.found content told)))
-    (omega (arith, length-map c.in_ok-trace.trace.items task_of, length-map c.deref.result.now row_of, c.in_ok-trace.ensures.all))
+    is_well_formed content.held c.args.dir.now c.deref.result.now (trace_of c.in_ok-trace.trace.items)
+    (c.in_ok-trace.ensures.walked content (c.in_ok-rows.ensures.same ∙ told) (subst (λ (rows : List Row). IsIndex content.held c.args.dir.now rows) (sym c.deref.ensures.value) (c.in_ok-rows.ensures.found content told)))
+    (omega (arith, length-map c.in_ok-trace.trace.items task_of, c.in_ok-trace.ensures.all))

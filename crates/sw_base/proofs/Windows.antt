@@ -1,0 +1,45 @@
+-- What is known of the bytes that were read ahead.
+use Rattle.std.proofs.Common.{◌≡◌, inl, inr, sym, ap, ◌∙◌, arith, ℕ, ◌+◌, ◌-◌, ◌<◌, ◌≤◌, List, ◌++◌, length, take, drop, length-append, length-take, length-drop}
+use Rattle.std.proofs.Math.Seq.{take-add}
+use Rattle.std.proofs.lemmas.Bool.{cases_lt}
+use Rattle.std.proofs.lemmas.List.{take_all, take-take, drop-drop, drop-take}
+use Rattle.sw_base.specs.Environment.{Reads}
+use Rattle.sw_base.specs.Window.{Window, Shows, skipped}
+
+module _ (place : ℕ) (bytes file : List ℕ) (shows : bytes ≡ take (length bytes) (drop place file)) where
+  -- one read more
+  pub shows_more : (chunk : List ℕ) (n : ℕ) → Reads file (place + length bytes) n chunk → Shows (record { place = place; ahead = bytes ++ take n chunk }) file
+  shows_more chunk n reads =
+      ap (λ (bs : List ℕ). bs ++ take n chunk) shows
+      ∙ ap (λ (bs : List ℕ). take (length bytes) (drop place file) ++ bs) next
+      ∙ sym (take-add (length bytes) n (drop place file))
+      ∙ ap (λ (m : ℕ). take m (drop place file)) (sym count)
+    where
+      next : take n chunk ≡ take n (drop (length bytes) (drop place file))
+      next = reads.prefix ∙ ap (λ (bs : List ℕ). take n bs) (sym (drop-drop (length bytes) place file))
+
+      taken : length (take n chunk) ≡ n
+      taken = ap length reads.prefix ∙ omega (arith, reads.within, length-take n (drop (place + length bytes) file), length-drop (place + length bytes) file)
+
+      count : length (bytes ++ take n chunk) ≡ length bytes + n
+      count = omega (arith, length-append bytes (take n chunk), taken)
+
+  -- so many bytes are there
+  pub shows_enough : (count : ℕ) → count ≤ length bytes → take count bytes ≡ take count (drop place file)
+  shows_enough count enough = ap (λ (bs : List ℕ). take count bs) shows ∙ take-take count (length bytes) (drop place file) enough
+
+  -- no byte is left
+  pub shows_all : (count : ℕ) (chunk : List ℕ) → Reads file (place + length bytes) 0 chunk → 0 < length chunk → take count bytes ≡ take count (drop place file)
+  shows_all count chunk reads room = ap (λ (bs : List ℕ). take count bs) (shows ∙ take_all (length bytes) (drop place file) (omega (arith, length-drop place file, ended))) where
+    ended : length file ≤ place + length bytes
+    ended = elim (cases_lt (place + length bytes) (length file)) [ inl more ↦ let some = reads.some room more in absurd (omega arith) | inr over ↦ over ]
+
+-- bytes were passed
+pub shows_skipped : (window : Window) (file : List ℕ) (count : ℕ) → count ≤ length window.ahead → Shows window file → Shows (skipped count window) file
+shows_skipped window file count there shows =
+    let rest : ℕ = length window.ahead - count in
+    let parts : length window.ahead ≡ count + rest = omega (arith, there) in
+    ap (λ (bs : List ℕ). drop count bs) (shows ∙ ap (λ (n : ℕ). take n (drop window.place file)) parts)
+    ∙ drop-take count rest (drop window.place file)
+    ∙ ap (λ (bs : List ℕ). take rest bs) (drop-drop count window.place file)
+    ∙ ap (λ (n : ℕ). take n (drop (window.place + count) file)) (sym (length-drop count window.ahead))
