@@ -1,6 +1,6 @@
 -- A worked tree: a team of two that meets at a barrier, in whose second phase one lane forks a region of two phases. Last, two
 -- lanes that count in one word under a mutex, of which one stops while it holds it.
-use Rattle.std.proofs.Common.{◌≡◌, ◌⊎◌, ℕ, zero, suc, ◌+◌, ◌<◌, List, [], ◌∷◌, refl, inl, inr, arith}
+use Rattle.std.proofs.Common.{◌≡◌, ◌⊎◌, ℕ, zero, suc, ◌+◌, ◌<◌, List, [], ◌∷◌, ◌++◌, refl, inl, inr, arith}
 use Rattle.std.specs.Prelude.{slice_index}
 use Rattle.sw_base.specs.declared.path.Step.{Step}
 use Rattle.log_format.specs.declared.record.Record.{Record}
@@ -15,6 +15,7 @@ use Rattle.history_model.specs.Work.{Work, Rest, Put, Fork, Phases, NoPhase, Pha
 use Rattle.race_model.specs.Draws.{draws_by_loop}
 use Rattle.history_model.specs.Did.{did}
 use Rattle.history_model.specs.Drawn.{then_loops}
+use Rattle.history_model.specs.Joined.{LastIsEnd, PhasesEnd, IsJoined}
 use Rattle.history_model.specs.Tasks.{tree_tasks}
 use Rattle.history_model.specs.Sound.{WordLayout, IsSoundRecord, IsSound, ArePhasesSound, PassesBarrier}
 
@@ -123,6 +124,29 @@ no_barrier_is_unsound sound = at sound.0.2 where
 
 pub past_a_barrier_is_unsound : IsSound plain_layout (Put (mark Barrier) (Put (word_access Read 2) Rest)) → ⊥
 past_a_barrier_is_unsound sound = let none : Put (word_access Read 2) Rest ≡ Rest = sound.1 refl in cc
+
+-- the root goes on once its lanes have ended, and so does the lane that forks
+end_last : (r : Record) → LastIsEnd (r ∷ mark End ∷ [])
+end_last r = record { prefix = r ∷ []; last = mark End; parts = refl; ends = refl }
+
+pub whole_is_joined : IsJoined whole
+whole_is_joined = (inr (just_end, (fork_then_end, tt)), ((tt, (tt, tt)), ((tt, ((inr (end_last (word_access Read 2), tt), ((tt, tt), ((tt, tt), tt)), tt), tt)), tt)), tt) where
+  just_end : LastIsEnd (mark End ∷ [])
+  just_end = record { prefix = []; last = mark End; parts = refl; ends = refl }
+
+  fork_then_end : LastIsEnd (fork_record 4 1 ∷ mark End ∷ [])
+  fork_then_end = end_last (fork_record 4 1)
+
+-- but not past a lane that has no End
+pub unended_lane_is_not_joined : IsJoined (Fork 3 1 (Phase (one_lane Rest) NoPhase) (Put (mark End) Rest)) → ⊥
+unended_lane_is_not_joined joined = at joined.0 where
+  no_end : (prefix : List Record) (last : Record) → [] ≡ prefix ++ last ∷ [] → ⊥
+  no_end [] last same = cc
+  no_end (r ∷ prefix) last same = cc
+
+  at : (Put (mark End) Rest ≡ Rest) ⊎ PhasesEnd (Phase (one_lane Rest) NoPhase) → ⊥
+  at (inl none) = cc
+  at (inr ends) = no_end ends.0.prefix ends.0.last ends.0.parts
 
 -- the steps of the tree have a history, in the order in which they stand
 pub whole_has_history : HasHistory (did (λ address. address) [] 0 whole) (2 ∷ [])
