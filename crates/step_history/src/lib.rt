@@ -5,11 +5,14 @@
 //! after it was split off and before it comes home. Items have a history that ends in given words where one legal list has, for
 //! each name, just that name's items in their order, and each word is the last value stored there.
 //!
-//! The law here: between two locks of one mutex, whoever locked it first unlocks it.
+//! The laws here: between two locks of one mutex, whoever locked it first unlocks it; and what a hand did that was split off stands
+//! after its split and before its homecoming.
 #![tactic(auto)]
 
+mod hands;
 mod item;
 mod mutexes;
 
+pub use hands::hands_work_between_split_and_homecoming;
 pub use item::{Deed, Item};
 pub use mutexes::critical_sections_exclude_each_other;
