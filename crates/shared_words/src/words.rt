@@ -21,27 +21,15 @@ const FREE: usize = 64;
 
 const FIRST_ELEMENT: usize = 65;
 
-type Shared = Table<(), View, usize, Law, Global>;
+type WordTable = Table<(), View, usize, Law, Global>;
 
 /// Words and mutexes that threads share.
 #[derive(Drop)]
 pub struct Words {
-    table: Shared,
+    table: WordTable,
     // Where the values go at the end.
     room: Vec<u64>,
     locks: usize,
-}
-
-// The values of the elements.
-fn copy_elements(closed: &atomic_table::Closed<(), Global>, room: &mut Vec<u64>)
-    requires full { IsFull closed.now.words }
-    requires long { ELEMENTS + vec_len room.old ≤ slots_len closed.now.words }
-    ensures len { vec_len room.new ≡ vec_len room.old }
-    ensures values { EachIndex room.new.items (λ k. slice_index room.new.items k ≡ slice_index (slots_items closed.now.words) (ELEMENTS + k)) }
-{
-    for (i, word) in room.iter_mut().enumerate() {
-        *word = closed.word(FIRST_ELEMENT + i);
-    }
 }
 
 /// What the words were at the end.
@@ -62,7 +50,7 @@ impl Model for Words {
 fn new_table(
     alloc: Global,
     elements: usize,
-) -> Result<(Shared, Seat<(), View>, Vec<u64>), AllocError>
+) -> Result<(WordTable, Seat<(), View>, Vec<u64>), AllocError>
     requires { elements ≤ 1048576 }
     ensures words { IfOk result (λ r. r.0.shared.table_id.words ≡ ELEMENTS + elements) }
     ensures slots { IfOk result (λ r. r.0.shared.table_id.slots ≡ 0) }
@@ -75,6 +63,18 @@ fn new_table(
     let (table, seat) = Table::of_words(alloc, &room, &elements)?;
     room.truncate(elements);
     Ok((table, seat, room))
+}
+
+// The values of the elements.
+fn copy_elements(closed: &atomic_table::Closed<(), Global>, room: &mut Vec<u64>)
+    requires full { IsFull closed.now.words }
+    requires long { ELEMENTS + vec_len room.old ≤ slots_len closed.now.words }
+    ensures len { vec_len room.new ≡ vec_len room.old }
+    ensures values { EachIndex room.new.items (λ k. slice_index room.new.items k ≡ slice_index (slots_items closed.now.words) (ELEMENTS + k)) }
+{
+    for (i, word) in room.iter_mut().enumerate() {
+        *word = closed.word(FIRST_ELEMENT + i);
+    }
 }
 
 impl Words {
