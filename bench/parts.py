@@ -1,5 +1,5 @@
 #!/usr/bin/env python3
-"""Measures the overlap of two strided runs, and the tree that finds the runs that meet a range of bytes.
+"""Measures the overlap of two strided runs, the tree that finds the runs that meet a range of bytes, and summaries.
 
 usage: parts.py, at the top of the repository. It writes a program that calls the two into a folder of its own, outside the
 repository, proves it there (a minute or two), and runs it.
@@ -23,7 +23,7 @@ use std::marker::Brand;
 use std::sync::ledger::{Blank, Ledger};
 use std::time::Instant;
 use stride_overlap::overlap;
-use stride_summary::Run;
+use stride_summary::{Access, Run, Summary};
 use sw_base::Memory;
 
 fn run_of(base: u64, stride: u64, count: u32) -> Option<Run> {
@@ -103,6 +103,24 @@ fn searches(tree: &Tree) -> u64 {
     searches_with::<Brand>(tree, Blank::new(1))
 }
 
+// So many writes at so many addresses in turn, with a multiplier that mixes their order.
+fn summed(alloc: Global, writes: u64, places: u64, mix: u64) -> Result<usize, Memory> {
+    let mut summary = Summary::new(alloc)?;
+    for number in 0..writes {
+        let place = number.wrapping_mul(mix) % places.clamp(1, 1 << 40);
+        let access = Access {
+            write: true,
+            size: 8,
+            site: 0,
+            line: 1,
+            addr: place * 8,
+            held: Held::none(),
+        };
+        summary.add(&access)?;
+    }
+    Ok(summary.finish().len())
+}
+
 fn main(rt: HostRuntime) -> anyhow::Result<()> {
     let alloc = rt.alloc();
     for (strides, unit) in [(16, 8), (1_000, 8), (1_000_000, 8), (1_000_000_000, 1)] {
@@ -111,6 +129,12 @@ fn main(rt: HostRuntime) -> anyhow::Result<()> {
         let found = overlaps(&runs);
         let nanos = start.elapsed(&rt)?.as_nanos() / 1_000_000;
         println!(rt; "overlap of 1,000,000 pairs, strides to {strides} times {unit}: {found} overlap, {nanos} ns each")?;
+    }
+    for (places, mix) in [(1, 1), (1_000, 1), (1_000, 7_919), (4_000_000, 1), (4_000_000, 7_919)] {
+        let start = Instant::now(&rt)?;
+        let runs = summed(alloc, 4_000_000, places, mix).map_err(|_| anyhow::anyhow!("no memory"))?;
+        let millis = start.elapsed(&rt)?.as_millis();
+        println!(rt; "4,000,000 accesses at {places} addresses, every {mix}: {runs} runs, {millis} ms")?;
     }
     let mut runs = Vec::new(alloc);
     for number in 0..100_000u64 {

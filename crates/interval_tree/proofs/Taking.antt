@@ -1,5 +1,5 @@
 -- A visitor that takes one list and then another.
-use Rattle.std.proofs.Common.{◌≡◌, Result, Ok, Err, OnErr, List, [], ◌∷◌, ◌++◌, refl, sym, ◌∙◌, ap, subst, append_assoc}
+use Rattle.std.proofs.Common.{◌≡◌, List, [], ◌∷◌, ◌++◌, refl, sym, ◌∙◌, ap, subst, append_assoc}
 use Rattle.stride_summary.specs.declared.run.Run.{Run}
 use Rattle.interval_tree.specs.Visits.{Takes, TakesUpTo}
 
@@ -49,7 +49,3 @@ refused_second took refused a b d xs ys zs all is first up =
 pub refused_third : {S : Type 0} (took refused : S → Run → S → Type 0) (a b c d : S) (xs ys zs all : List Run) → all ≡ (xs ++ ys) ++ zs → Takes took a xs b → Takes took b ys c → TakesUpTo took refused c zs d → TakesUpTo took refused a all d
 refused_third took refused a b c d xs ys zs all is first second up =
     subst (λ (rs : List Run). TakesUpTo took refused a rs d) (sym is) (TakesUpTo-behind took refused a c d (xs ++ ys) zs (Takes-append took a b c xs ys first second) up)
-
-pub on_err_from : {T E P : Type 0} (r : Result T E) → P → OnErr r P
-on_err_from (Ok x) p = tt
-on_err_from (Err e) p = p

@@ -1,5 +1,5 @@
 -- Numbers at equal distances.
-use Rattle.std.proofs.Common.{◌≡◌, ℕ, zero, suc, ◌+◌, ◌-◌, ◌*◌, ◌<◌, ◌≤◌, List, [], ◌∷◌, ◌++◌, length, get_or, take, drop, refl, sym, ◌∙◌, ap, arith, add-one, ◌^◌, ◌⊎◌, inl, inr}
+use Rattle.std.proofs.Common.{◌≡◌, ℕ, zero, suc, ◌+◌, ◌-◌, ◌*◌, ◌<◌, ◌≤◌, List, length, get_or, take, refl, sym, ◌∙◌, ap, arith, add-one, ◌^◌, inl, inr}
 use Rattle.std.specs.List.Sorted.{IsStrictlyIncreasing}
 use Rattle.std.proofs.lemmas.List.{same_lists, length-take-le, get_or-take, get_or_default}
 use Rattle.std.proofs.lemmas.Bool.{cases_lt}
@@ -27,7 +27,7 @@ even_at xs count rising within even (suc k) below =
 pub take-even : (xs : List ℕ) (count : ℕ) → IsStrictlyIncreasing xs → count ≤ length xs → AreEven xs count → evenly (get_or xs 0 0) (get_or xs 1 0 - get_or xs 0 0) count ≡ take count xs
 take-even xs count rising within even =
     same_lists _ _ (length-evenly _ _ count ∙ sym (length-take-le count xs within)) (λ k d below. same k d (omega (arith, length-evenly (get_or xs 0 0) (get_or xs 1 0 - get_or xs 0 0) count)))
-    where
+  where
     same : (k d : ℕ) → k < count → get_or (evenly (get_or xs 0 0) (get_or xs 1 0 - get_or xs 0 0) count) k d ≡ get_or (take count xs) k d
     same k d below =
         get_or-evenly (get_or xs 0 0) (get_or xs 1 0 - get_or xs 0 0) count k d below
@@ -49,10 +49,10 @@ pub run_ends : (xs : List ℕ) (count stride size : ℕ) → IsStrictlyIncreasin
 run_ends xs count stride size rising some within even is sized ends = elim (cases_lt count 2) [
   | inl one ↦ omega (arith, ends 0 0 (omega arith), ap (λ n. n * stride) (only (omega arith)))
   | inr two ↦ omega (arith, ends (count - 1) 0 (omega arith), even_at xs count rising within even (count - 1) (omega arith), ap (λ n. (count - 1) * n) (is.more two).1)
-  ]
+]
   where
-  only : count ≤ 1 → count - 1 ≡ 0
-  only less = omega arith
+    only : count ≤ 1 → count - 1 ≡ 0
+    only less = omega arith
 
 pub stride_single : (xs : List ℕ) (count stride : ℕ) → 1 ≤ count → IsStride xs count stride → (stride ≡ 0 → count ≡ 1) × (count ≡ 1 → stride ≡ 0)
 stride_single xs count stride some is = (λ none. elim (cases_lt count 2) [ inl one ↦ omega arith | inr two ↦ absurd (omega (arith, (is.more two).0)) ], is.one)

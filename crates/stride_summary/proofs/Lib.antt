@@ -5,3 +5,4 @@ pub mod Holding
 pub mod Storing
 pub mod Rising
 pub mod Apart
+pub mod Finishing

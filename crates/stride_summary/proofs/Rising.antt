@@ -1,14 +1,12 @@
 -- What ascending addresses that are those of runs say of the runs.
-use Rattle.std.proofs.Common.{◌≡◌, ◌⊎◌, ◌↔◌, ℕ, zero, suc, ◌+◌, ◌-◌, ◌*◌, ◌<◌, ◌≤◌, List, [], ◌∷◌, ◌++◌, length, get_or, Contains, inl, inr, refl, sym, ◌∙◌, ap, subst, arith, add-one, length-append}
-use Rattle.std.specs.List.{All, AllPairs, flat_map}
+use Rattle.std.proofs.Common.{◌≡◌, ◌⊎◌, ◌↔◌, ℕ, zero, suc, ◌+◌, ◌-◌, ◌<◌, List, [], ◌∷◌, ◌++◌, length, get_or, Contains, inl, inr, refl, sym, ◌∙◌, ap, subst, arith, length-append}
+use Rattle.std.specs.List.{flat_map}
 use Rattle.std.specs.List.Sorted.{IsStrictlyIncreasing}
-use Rattle.std.proofs.lemmas.Bool.{cases_lt}
 use Rattle.std.proofs.lemmas.List.{get_or_append_left, get_or-append-add, get_or_default}
 use Rattle.std.proofs.lemmas.List.Elements.{Contains-append_cases, Contains-append_left, Contains-append_right}
-use Rattle.stride_summary.specs.declared.key.Key.{Key}
 use Rattle.stride_summary.specs.declared.run.Run.{Run}
-use Rattle.stride_summary.specs.Run.{AreApart, HasRunAddress, address_at, last_address, run_key}
-use Rattle.stride_summary.specs.Spread.{addresses_of, evenly}
+use Rattle.stride_summary.specs.Run.{HasRunAddress, last_address}
+use Rattle.stride_summary.specs.Spread.{addresses_of}
 use Rattle.stride_summary.proofs.Even.{get_or-evenly, length-evenly}
 
 rising_far : (xs : List ℕ) → IsStrictlyIncreasing xs → (i n : ℕ) → i + suc n < length xs → get_or xs i 0 < get_or xs (i + suc n) 0
@@ -73,14 +71,14 @@ spread_has [] run address listed has = absurd (omega (arith, listed.1))
 spread_has (r ∷ rs) run address listed has = elim (contains_either r rs run listed) [
   | inl it ↦ Contains-append_left (addresses_of r) (flat_map addresses_of rs) address (subst (λ (s : Run). Contains (addresses_of s) address) (sym it) has)
   | inr later ↦ Contains-append_right (addresses_of r) (flat_map addresses_of rs) address (spread_has rs run address later has)
-  ]
+]
 
 pub spread_from : (runs : List Run) (address : ℕ) → Contains (flat_map addresses_of runs) address → (run : Run) × Contains runs run × Contains (addresses_of run) address
 spread_from [] address has = absurd (omega (arith, has.1))
 spread_from (r ∷ rs) address has = elim (Contains-append_cases (addresses_of r) (flat_map addresses_of rs) address has) [
   | inl here ↦ (r, contains_first r rs, here)
   | inr later ↦ let found = spread_from rs address later in (found.0, contains_later r rs found.0 found.1, found.2)
-  ]
+]
 
 -- runs whose addresses ascend are apart
 pub apart_from_rising : (runs : List Run) → IsStrictlyIncreasing (flat_map addresses_of runs) → (i j : ℕ) (d : Run) → i < j → j < length runs → last_address (get_or runs i d) < (get_or runs j d).base

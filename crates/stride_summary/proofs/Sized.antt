@@ -1,5 +1,5 @@
 -- The size of an access.
-use Rattle.std.proofs.Common.{◌≡◌, ℕ, ◌≤◌, ◌⊎◌, inl, inr, arith}
+use Rattle.std.proofs.Common.{ℕ, ◌≤◌, inl, inr, arith}
 use Rattle.log_format.specs.Table.{IsAccessSize}
 
 pub has_bytes : (n : ℕ) → IsAccessSize n → 1 ≤ n

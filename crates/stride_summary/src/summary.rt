@@ -1,7 +1,8 @@
 ghost use Rattle.std.specs.Prelude.{◌≡◌, ◌↔◌, ◌⊎◌, ℕ, ◌+◌, ◌^◌, ◌<◌, ◌≤◌, All, AllPairs, IfSome, IfNone, IfOk, OnOk, OnErr, sum_by, slice_index_or, vec_len, vec_capacity};
+ghost use Rattle.std.specs.List.Sorted.{IsNonDecreasingBy};
 ghost use Rattle.log_format.specs.Table.{IsAccessSize};
 ghost use Rattle.stride_summary.specs.declared.stretch.Stretch.{Stretch};
-ghost use Rattle.stride_summary.specs.Run.{access_key};
+ghost use Rattle.stride_summary.specs.Run.{AreApart, HasPair, access_key};
 ghost use Rattle.stride_summary.specs.Stretches.{Holds, HoldsOneMore, HoldsSame, IsPlaceOf, KeysDiffer, needed_of};
 
 use crate::access::Access;
@@ -78,6 +79,28 @@ impl Summary {
         self.add_at(place, access.addr)
     }
 
+    /// The runs of the accesses, in order of their first addresses: of each key the addresses, each once, cut where their
+    /// distance changes.
+    pub fn finish(self) -> Vec<Run>
+        ensures pairs { (key : Key) (address : ℕ) → HasPair result.items key address ↔ IsSummed self key address }
+        ensures apart { AreApart result.items }
+        ensures ascends { IsNonDecreasingBy (λ run. run.base) result.items }
+    {
+        let Summary {
+            mut stretches,
+            last: _,
+            followers: _,
+            room: _,
+            mut runs,
+            alloc: _,
+        } = self;
+        'keys: while let Some(stretch) = stretches.pop() {
+            stretch.push_into(&mut runs);
+        }
+        runs.sort_unstable_by_key(|run| run.low());
+        runs
+    }
+
     // The place of the access's key, which is a new one if need be.
     fn place_of(&mut self, access: &Access) -> Result<usize, Memory>
         requires { IsAccessSize access.now.size }
@@ -92,7 +115,8 @@ impl Summary {
         }
         let place = self.stretches.len();
         self.followers.push(0)?;
-        self.stretches.push(Stretch::new(self.alloc, Key::of(access)))?;
+        self.stretches
+            .push(Stretch::new(self.alloc, Key::of(access)))?;
         Ok(place)
     }
 

@@ -1,11 +1,12 @@
 use Rattle.std.proofs.Common.{ℕ, [], ◌∷◌, length, refl, subst, arith, rules}
 use Rattle.std.proofs.lemmas.Result.{on_ok_weaker, on_err_weaker}
+use Rattle.stride_summary.proofs.Holding.{on_err_from}
 use Rattle.interval_tree.specs.Order.{IsTree, met}
 use Rattle.interval_tree.specs.Visits.{StepsWithin}
 use Rattle.interval_tree.proofs.Halves.{half_fits, shown}
 use Rattle.interval_tree.proofs.Searching.{StepsWithin-both, StepsWithin-left, met-cut}
 use Rattle.interval_tree.proofs.Nodes.{IsSplit, cut_of, entered_of, left_is_shorter, left_tree, met_left, none_met, ordered_of, parts_of, met-no_reaches, right_tree}
-use Rattle.interval_tree.proofs.Taking.{on_err_from, refused_first, refused_second, refused_third, taken_in_turn}
+use Rattle.interval_tree.proofs.Taking.{refused_first, refused_second, refused_third, taken_in_turn}
 use Rattle.interval_tree.proofs.search.+search.Goals as goal
 
 pub returns-in_default-split_last-clause-taken : goal.returns-in_default-split_last-clause-taken

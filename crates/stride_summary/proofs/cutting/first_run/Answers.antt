@@ -1,5 +1,4 @@
-use Rattle.std.proofs.Common.{◌≡◌, ℕ, ◌≤◌, arith, rules}
-use Rattle.stride_summary.proofs.Even.{IsStride, run_ends, stride_single, take-run}
+use Rattle.stride_summary.proofs.Even.{run_ends, stride_single, take-run}
 use Rattle.stride_summary.proofs.Sized.{has_bytes}
 use Rattle.stride_summary.proofs.cutting.first_run.Goals as goal
 

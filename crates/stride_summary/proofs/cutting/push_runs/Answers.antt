@@ -1,5 +1,5 @@
-use Rattle.std.proofs.Common.{◌≡◌, ℕ, ◌≤◌, List, [], ◌∷◌, ◌++◌, length, min, arith, rules}
-use Rattle.stride_summary.proofs.Cuts.{IsCutting, IsCutting-step}
+use Rattle.std.proofs.Common.{arith, rules}
+use Rattle.stride_summary.proofs.Cuts.{IsCutting-step}
 use Rattle.stride_summary.proofs.cutting.push_runs.Goals as goal
 
 pub rest-preserved : goal.rest-preserved

@@ -1,4 +1,3 @@
-use Rattle.std.proofs.Common.{◌≡◌}
 use Rattle.stride_summary.proofs.Holding.{holds_one_more, holds_same, on_err_from}
 use Rattle.stride_summary.proofs.stretch.Stretch.add.Goals as goal
 

@@ -1,4 +1,4 @@
-use Rattle.std.proofs.Common.{◌≡◌, ℕ, List, subst}
+use Rattle.std.proofs.Common.{ℕ, List, subst}
 use Rattle.stride_summary.specs.declared.key.Key.{Key}
 use Rattle.stride_summary.specs.Spread.{AddsCuts}
 use Rattle.stride_summary.proofs.stretch.Stretch.push_into.Goals as goal

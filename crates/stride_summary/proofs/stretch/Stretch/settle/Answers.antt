@@ -1,5 +1,4 @@
-use Rattle.std.proofs.Common.{◌≡◌, ℕ, eqb, List, Contains, sym, subst, rules}
-use Rattle.std.specs.List.{dedup}
+use Rattle.std.proofs.Common.{ℕ, eqb, List, Contains, sym, subst}
 use Rattle.std.specs.List.Sorted.{IsStrictlyIncreasing}
 use Rattle.std.proofs.lemmas.List.Filters.{dedup_is}
 use Rattle.std.proofs.lemmas.List.Kept.{Contains-dedup_nat, Contains-from_dedup}
@@ -14,8 +13,9 @@ returns-clause-ascending c =
 
 pub returns-clause-addresses : goal.returns-clause-addresses
 returns-clause-addresses c address =
-    let is = dedup_is eqb c.sort_unstable.new.self.items c.dedup.new.self.items c.dedup.ensures.filtered in
-    (λ there. Contains-permutation c.sort_unstable.new.self.items c.args.self.now.addresses.items address (IsPermutation-sym c.args.self.now.addresses.items c.sort_unstable.new.self.items c.sort_unstable.ensures.permutation)
-        (Contains-from_dedup eqb c.sort_unstable.new.self.items address (subst (λ (xs : List ℕ). Contains xs address) is there)),
-     λ was. subst (λ (xs : List ℕ). Contains xs address) (sym is)
-        (Contains-dedup_nat c.sort_unstable.new.self.items address (Contains-permutation c.args.self.now.addresses.items c.sort_unstable.new.self.items address c.sort_unstable.ensures.permutation was)))
+    let is = dedup_is eqb c.sort_unstable.new.self.items c.dedup.new.self.items c.dedup.ensures.filtered in (
+      λ there. Contains-permutation c.sort_unstable.new.self.items c.args.self.now.addresses.items address (IsPermutation-sym c.args.self.now.addresses.items c.sort_unstable.new.self.items c.sort_unstable.ensures.permutation)
+          (Contains-from_dedup eqb c.sort_unstable.new.self.items address (subst (λ (xs : List ℕ). Contains xs address) is there)),
+      λ was. subst (λ (xs : List ℕ). Contains xs address) (sym is)
+          (Contains-dedup_nat c.sort_unstable.new.self.items address (Contains-permutation c.args.self.now.addresses.items c.sort_unstable.new.self.items address c.sort_unstable.ensures.permutation was)),
+    )
