@@ -1,12 +1,11 @@
 -- Items with labels: where the items of each name have labels, the history of all names has them too.
-use Rattle.std.proofs.Common.{◌≡◌, ◌⊎◌, inl, inr, refl, sym, ap, ap₂, ◌∙◌, subst, ℕ, zero, suc, ◌+◌, Bool, true, false, cond, List, [], ◌∷◌, ◌++◌, length, map, arith}
-use Rattle.std.specs.Prelude.{filter, count_by, sum_by}
-use Rattle.std.proofs.lemmas.List.{map-append}
+use Rattle.std.proofs.Common.{◌≡◌, refl, sym, ap, ap₂, ◌∙◌, subst, ◌+◌, Bool, true, false, cond, List, [], ◌∷◌, ◌++◌, length, map, arith}
+use Rattle.std.specs.Prelude.{filter}
+use Rattle.std.proofs.lemmas.List.{length-append}
 use Rattle.std.proofs.lemmas.List.Elements.{filter-append}
-use Rattle.std.proofs.lemmas.List.Sums.{sum_by-append}
 use Rattle.step_history.specs.declared.item.Item.{Item}
 use Rattle.step_history.specs.History.{Name, name_eq, of}
-use Rattle.step_history.proofs.Names.{same_name, is_same_name, other_name}
+use Rattle.step_history.proofs.Names.{same_name, is_same_name}
 
 pub record Labelled (X : Type 0) : Type 0 where
   pub step : Item
@@ -54,7 +53,7 @@ pub record IsLabelling {X : Type 0} (log : List Item) (items : List (Labelled X)
   pub history : List (Labelled X)
   pub steps : items_of history ≡ log
   pub each : (name : Name) → labelled_of name history ≡ labelled_of name items
-  pub counts : (test : Labelled X → Bool) → count_by test history ≡ count_by test items
+  pub counts : (test : Labelled X → Bool) → length (filter test history) ≡ length (filter test items)
 
 -- a test of a name, at one more element
 filter_yes : {X : Type 0} (test : X → Bool) (x : X) (xs : List X) → test x ≡ true → filter test (x ∷ xs) ≡ x ∷ filter test xs
@@ -138,12 +137,15 @@ labelling {X} (x ∷ log) items same = by_own (labelled_of x.name items) refl (�
                     ∙ sym (subst (λ (n : Name). labelled_of n items ≡ d ∷ rest) as_x is)
                 by_name name false e = filter_no (λ (y : Labelled X). name_eq y.step.name name) d l.history e ∙ l.each name ∙ elsewhere name e
 
-                count : (test : Labelled X → Bool) → count_by test (d ∷ l.history) ≡ count_by test items
+                count : (test : Labelled X → Bool) → length (filter test (d ∷ l.history)) ≡ length (filter test items)
                 count test =
-                    let now : count_by test l.history ≡ count_by test (p.before ++ p.after) = l.counts test in
-                    let parted : count_by test (p.before ++ p.after) ≡ count_by test p.before + count_by test p.after = sum_by-append (λ (y : Labelled X). cond (test y) 1 0) p.before p.after in
-                    let all : count_by test items ≡ count_by test p.before + count_by test (d ∷ p.after)
-                    = ap (λ (ys : List (Labelled X)). count_by test ys) p.parts ∙ sum_by-append (λ (y : Labelled X). cond (test y) 1 0) p.before (d ∷ p.after) in
-                    let mine : count_by test (d ∷ l.history) ≡ count_by test (d ∷ []) + count_by test l.history = sum_by-append (λ (y : Labelled X). cond (test y) 1 0) (d ∷ []) l.history in
-                    let yours : count_by test (d ∷ p.after) ≡ count_by test (d ∷ []) + count_by test p.after = sum_by-append (λ (y : Labelled X). cond (test y) 1 0) (d ∷ []) p.after in
+                    let now : length (filter test l.history) ≡ length (filter test (p.before ++ p.after)) = l.counts test in
+                    let parted : length (filter test (p.before ++ p.after)) ≡ length (filter test p.before) + length (filter test p.after)
+                    = ap length (filter-append test p.before p.after) ∙ length-append (filter test p.before) (filter test p.after) in
+                    let all : length (filter test items) ≡ length (filter test p.before) + length (filter test (d ∷ p.after))
+                    = ap (λ (ys : List (Labelled X)). length (filter test ys)) p.parts ∙ (ap length (filter-append test p.before (d ∷ p.after)) ∙ length-append (filter test p.before) (filter test (d ∷ p.after))) in
+                    let mine : length (filter test (d ∷ l.history)) ≡ length (filter test (d ∷ [])) + length (filter test l.history)
+                    = ap length (filter-append test (d ∷ []) l.history) ∙ length-append (filter test (d ∷ [])) (filter test l.history) in
+                    let yours : length (filter test (d ∷ p.after)) ≡ length (filter test (d ∷ [])) + length (filter test p.after)
+                    = ap length (filter-append test (d ∷ []) p.after) ∙ length-append (filter test (d ∷ [])) (filter test p.after) in
                     omega arith

@@ -1,5 +1,5 @@
 -- What the hands of a tree of work did: the items of a hand of the shared words, with those of all hands below it.
-use Rattle.std.specs.Prelude.{ℕ, zero, suc, ◌+◌, List, [], ◌∷◌, ◌++◌, map}
+use Rattle.std.specs.Prelude.{◌≡◌, ℕ, suc, ◌+◌, List, [], ◌∷◌, ◌++◌, map}
 use Rattle.log_format.specs.declared.record.Record.{Record}
 use Rattle.log_format.specs.declared.record.Kind.{Kind}
 use Rattle.log_format.specs.declared.record.Kind.TheVariants as kind
@@ -53,3 +53,9 @@ abbrev mutual
   pub did_team : (ℕ → ℕ) → Name → ℕ → TeamWork → List Item
   did_team word name k NoWork = []
   did_team word name k (Beside work others) = did word (k ∷ name) 0 work ++ item name (deed.Home k) ∷ did_team word name (suc k) others
+
+-- a work without a deed: its records are no accesses and no mutex steps
+abbrev pub DoesNothing : (ℕ → ℕ) → Work → Type 0
+DoesNothing word Rest = Unit {0}
+DoesNothing word (Put r more) = (deeds_of word r.kind r ≡ []) × DoesNothing word more
+DoesNothing word (Fork line span phases more) = ⊥

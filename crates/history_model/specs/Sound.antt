@@ -1,7 +1,7 @@
 -- When a tree of work is that of a fork-join run.
-use Rattle.std.specs.Prelude.{◌≡◌, ◌⊎◌, ℕ}
+use Rattle.std.specs.Prelude.{◌≡◌, ◌⊎◌, ℕ, ◌<◌, List, length}
 use Rattle.log_format.specs.declared.record.Record.{Record}
-use Rattle.log_format.specs.declared.record.Kind.TheVariants.{Read, Write, Barrier, Region}
+use Rattle.log_format.specs.declared.record.Kind.TheVariants.{Barrier, Region}
 use Rattle.race_model.specs.Trace.{barrier_count}
 use Rattle.race_model.specs.Race.{IsAccess}
 use Rattle.history_model.specs.Work.{Work, Rest, Put, Fork, Phases, NoPhase, Phase, TeamWork, NoWork, Beside, work_records}
@@ -12,6 +12,10 @@ pub record WordLayout : Type 0 where
   pub word : ℕ → ℕ
   pub address : ℕ → ℕ
 
+-- each of these words has an address
+abbrev pub HasAddresses : WordLayout → List ℕ → Type 0
+HasAddresses layout words = (word : ℕ) → word < length words → layout.word (layout.address word) ≡ word
+
 -- a record that a task puts forks no region, and an access is that of a word
 pub record IsSoundRecord (layout : WordLayout) (r : Record) : Type 0 where
   pub no_region : r.kind ≡ Region → ⊥
@@ -21,6 +25,11 @@ pub record IsSoundRecord (layout : WordLayout) (r : Record) : Type 0 where
 abbrev pub PassesBarrier : TeamWork → Type 0
 PassesBarrier NoWork = Unit {0}
 PassesBarrier (Beside work others) = (barrier_count (work_records work) ≡ 1) × PassesBarrier others
+
+-- so in each of these phases
+abbrev pub PassAllBarriers : Phases → Type 0
+PassAllBarriers NoPhase = Unit {0}
+PassAllBarriers (Phase team later) = PassesBarrier team × PassAllBarriers later
 
 -- A barrier is the last that a task does in its phase. Each phase has all lanes of its team, and each but the last ends in
 -- one barrier of each lane.
@@ -38,3 +47,13 @@ abbrev mutual
   pub IsTeamSound : WordLayout → TeamWork → Type 0
   IsTeamSound layout NoWork = Unit {0}
   IsTeamSound layout (Beside work others) = IsSound layout work × IsTeamSound layout others
+
+-- no lane of the last phase passes a barrier there
+abbrev pub PassesNone : TeamWork → Type 0
+PassesNone NoWork = Unit {0}
+PassesNone (Beside work others) = (barrier_count (work_records work) ≡ 0) × PassesNone others
+
+abbrev pub EndWithoutBarrier : Phases → Type 0
+EndWithoutBarrier NoPhase = Unit {0}
+EndWithoutBarrier (Phase team NoPhase) = PassesNone team
+EndWithoutBarrier (Phase team (Phase next later)) = EndWithoutBarrier (Phase next later)

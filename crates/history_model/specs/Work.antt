@@ -23,14 +23,14 @@ mutual
     Beside : (work : Work) → (others : TeamWork) → TeamWork
 
 -- the record of a fork
-abbrev pub region_record : ℕ → ℕ → Record
-region_record line span = record { kind = Region; size = 0; site = 0; line = line; addr = 0; value = span }
+abbrev pub fork_record : ℕ → ℕ → Record
+fork_record line span = record { kind = Region; size = 0; site = 0; line = line; addr = 0; value = span }
 
 -- the records that the task itself puts
 abbrev pub work_records : Work → List Record
 work_records Rest = []
 work_records (Put r more) = r ∷ work_records more
-work_records (Fork line span phases more) = region_record line span ∷ work_records more
+work_records (Fork line span phases more) = fork_record line span ∷ work_records more
 
 -- a region that was forked: its span, and what its lanes did
 pub record RegionWork : Type 0 where
@@ -84,3 +84,18 @@ then_work (Fork line span phases more) other = Fork line span phases (then_work 
 abbrev pub then_phases : Phases → Phases → Phases
 then_phases NoPhase later = later
 then_phases (Phase team more) later = Phase team (then_phases more later)
+
+-- how many phases there are
+abbrev pub phase_count : Phases → ℕ
+phase_count NoPhase = 0
+phase_count (Phase team later) = suc (phase_count later)
+
+-- what the lanes of the last phase do after it, as the End of a log that is put when all hands are home
+abbrev pub end_team : (ℕ → Work) → ℕ → TeamWork → TeamWork
+end_team last lane NoWork = NoWork
+end_team last lane (Beside work others) = Beside (then_work work (last lane)) (end_team last (suc lane) others)
+
+abbrev pub end_phases : (ℕ → Work) → Phases → Phases
+end_phases last NoPhase = NoPhase
+end_phases last (Phase team NoPhase) = Phase (end_team last 0 team) NoPhase
+end_phases last (Phase team (Phase next later)) = Phase team (end_phases last (Phase next later))

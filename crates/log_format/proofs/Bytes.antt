@@ -1,5 +1,6 @@
 -- The elements of a list from a place on, two, four or eight of them, and lists of bytes.
-use Rattle.std.proofs.Common.{◌≡◌, ℕ, zero, suc, ◌+◌, ◌<◌, List, [], ◌∷◌, get_or, arith}
+use Rattle.std.proofs.Common.{ℕ, zero, suc, ◌+◌, ◌^◌, ◌<◌, List, [], ◌∷◌, get_or, arith}
+use Rattle.std.specs.Int.{w16, w32, w64, from_be_bytes}
 
 -- the elements from a place on
 abbrev pub two_at : List ℕ → ℕ → List ℕ
@@ -34,3 +35,14 @@ pub eight_bytes : (bs : List ℕ) (i : ℕ) → ((i : ℕ) → get_or bs i 0 < 2
 eight_bytes bs i small =
     one_more (small i) (one_more (small (i + 1)) (one_more (small (i + 2)) (one_more (small (i + 3))
     (one_more (small (i + 4)) (one_more (small (i + 5)) (one_more (small (i + 6)) (one_more (small (i + 7)) no_bytes)))))))
+
+-- the numbers that bytes spell are below their widths
+pub two_bound : (a b : ℕ) → a < 256 → b < 256 → from_be_bytes w16 (a ∷ b ∷ []) < 2 ^ 16
+two_bound a b p q = omega arith
+
+pub four_bound : (a b c d : ℕ) → a < 256 → b < 256 → c < 256 → d < 256 → from_be_bytes w32 (a ∷ b ∷ c ∷ d ∷ []) < 2 ^ 32
+four_bound a b c d p q r s = omega arith
+
+pub eight_bound : (a b c d e f g h : ℕ) → a < 256 → b < 256 → c < 256 → d < 256 → e < 256 → f < 256 → g < 256 → h < 256
+    → from_be_bytes w64 (a ∷ b ∷ c ∷ d ∷ e ∷ f ∷ g ∷ h ∷ []) < 2 ^ 64
+eight_bound a b c d e f g h p q r s t u v w = omega arith

@@ -1,4 +1,6 @@
 pub mod Bytes
+pub mod DecidedRecords
+pub mod Deciding
 pub mod Logs
 pub mod Records
 pub mod Vectors

@@ -2,7 +2,7 @@
 use Rattle.std.proofs.Common.{◌≡◌, ◌≢◌, ◌⊎◌, inl, inr, ℕ, zero, suc, ◌+◌, ◌^◌, ◌<◌, ◌≤◌, List, [], ◌∷◌, ◌++◌, All, length, get_or, take, drop, map, Option, Some, None, refl, sym, ap, subst, ◌∙◌, arith, append_assoc, length-take, length-drop}
 use Rattle.std.specs.Int.{w16, w32, w64, from_be_bytes}
 use Rattle.std.specs.List.{flat_map}
-use Rattle.std.proofs.lemmas.Bool.{cases_order, cases_lt}
+use Rattle.std.proofs.lemmas.Bool.{cases_lt}
 use Rattle.std.proofs.lemmas.List.{append-nil, map-append, length-map, take-append-drop, get_or-drop}
 use Rattle.std.proofs.lemmas.List.Elements.{All-nil, All-cons, All-head, All-tail}
 use Rattle.sw_base.specs.declared.path.Step.{Step}
@@ -22,46 +22,9 @@ use Rattle.race_model.specs.Row.{row_path}
 use Rattle.log_index.proofs.Ends.{more_parts}
 use Rattle.log_index.proofs.Parsing.{row_from, adds_row}
 use Rattle.log_index.proofs.RowTests.{paths_same}
-use Rattle.log_format.proofs.Bytes.{two_at, four_at, eight_at}
+use Rattle.log_format.proofs.Bytes.{two_at, four_at, eight_at, two_bound, four_bound, eight_bound}
+use Rattle.log_format.proofs.Deciding.{Decided, stable, through, both, either, equal, at_most}
 use Rattle.log_index.proofs.Spelled.{step_spelled, row_spelled, four_fit}
-
--- whether a fact holds can be told
-abbrev Decided : Type 0 → Type 0
-Decided A = A ⊎ (A → ⊥)
-
-stable : {A : Type 0} → Decided A → ((A → ⊥) → ⊥) → A
-stable (inl holds) not_not = holds
-stable (inr fails) not_not = absurd (not_not fails)
-
-through : {A B : Type 0} → (A → B) → (B → A) → Decided A → Decided B
-through to from (inl holds) = inl (to holds)
-through to from (inr fails) = inr (λ holds. fails (from holds))
-
-both : {A B : Type 0} → Decided A → Decided B → Decided (A × B)
-both (inl a) (inl b) = inl (a, b)
-both (inl a) (inr b) = inr (λ p. b p.1)
-both (inr a) b = inr (λ p. a p.0)
-
-either : {A B : Type 0} → Decided A → Decided B → Decided (A ⊎ B)
-either (inl a) b = inl (inl a)
-either (inr a) (inl b) = inl (inr b)
-either {A} {B} (inr a) (inr b) = inr none where
-  none : A ⊎ B → ⊥
-  none (inl x) = a x
-  none (inr x) = b x
-
-equal : (m n : ℕ) → Decided (m ≡ n)
-equal m n = by_order (cases_order m n) where
-  by_order : (m ≡ n) ⊎ ((m < n) ⊎ (n < m)) → Decided (m ≡ n)
-  by_order (inl same) = inl same
-  by_order (inr (inl less)) = inr (λ same. omega arith)
-  by_order (inr (inr more)) = inr (λ same. omega arith)
-
-at_most : (m n : ℕ) → Decided (m ≤ n)
-at_most m n = by_order (cases_lt n m) where
-  by_order : (n < m) ⊎ (m ≤ n) → Decided (m ≤ n)
-  by_order (inl less) = inr (λ most. omega arith)
-  by_order (inr most) = inl most
 
 all : {X : Type 0} (P : X → Type 0) → ((x : X) → Decided (P x)) → (xs : List X) → Decided (All P xs)
 all P told [] = inl (All-nil P)
@@ -173,16 +136,6 @@ small_take (suc n) (b ∷ bs) small = small_cons b (take n bs) (small.each zero)
 
 small_drop : (n : ℕ) (bs : List ℕ) → Small bs → Small (drop n bs)
 small_drop n bs small = record { each = λ i. subst (λ (b : ℕ). b < 256) (sym (get_or-drop n bs i 0)) (small.each (n + i)) }
-
-two_bound : (a b : ℕ) → a < 256 → b < 256 → from_be_bytes w16 (a ∷ b ∷ []) < 2 ^ 16
-two_bound a b p q = omega arith
-
-four_bound : (a b c d : ℕ) → a < 256 → b < 256 → c < 256 → d < 256 → from_be_bytes w32 (a ∷ b ∷ c ∷ d ∷ []) < 2 ^ 32
-four_bound a b c d p q r s = omega arith
-
-eight_bound : (a b c d e f g h : ℕ) → a < 256 → b < 256 → c < 256 → d < 256 → e < 256 → f < 256 → g < 256 → h < 256
-    → from_be_bytes w64 (a ∷ b ∷ c ∷ d ∷ e ∷ f ∷ g ∷ h ∷ []) < 2 ^ 64
-eight_bound a b c d e f g h p q r s t u v w = omega arith
 
 -- the step that eight bytes spell
 step_of : List ℕ → Step

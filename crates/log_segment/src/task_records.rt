@@ -54,7 +54,7 @@ fn step(
     Ok(())
 }
 
-/// AddsSegments the segments of a task whose first record has this label. The answer is the label of each of its forks.
+/// Adds the segments of a task whose first record has this label. The answer is the label of each of its forks.
 pub fn add_task(
     alloc: Global,
     task: &TaskRecords,

@@ -1,5 +1,6 @@
 pub mod ByKind
 pub mod FirstOnce
+pub mod HeldRun
 pub mod Keeps
 pub mod Next
 pub mod NextTask

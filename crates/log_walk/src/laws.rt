@@ -1,8 +1,10 @@
-ghost use Rattle.std.specs.Prelude.{◌≡◌, ℕ, List};
+ghost use Rattle.std.specs.Prelude.{◌≡◌, ◌<◌, ℕ, List, Some, slice_index};
 ghost use Rattle.sw_base.specs.declared.path.Step.{Step};
 ghost use Rattle.sw_base.specs.Environment.{Files};
 ghost use Rattle.race_model.specs.BadPlace.{BadPlace};
-ghost use Rattle.race_model.specs.FirstBad.{IsFirstBad};
+ghost use Rattle.race_model.specs.FirstBad.{HoldsTrace, IsFirstBad};
+ghost use Rattle.race_model.specs.Trace.{Trace};
+ghost use Rattle.race_model.specs.WellFormed.{IsWellFormed};
 ghost use Rattle.log_walk.specs.Walk.{IsLogRow};
 
 /// A folder has at most one first bad place.
@@ -13,4 +15,11 @@ pub fn first_bad_place_is_unique()
 /// The number of a row tells the path of its task.
 pub fn row_tells_its_task()
     ensures { (files : Files) (dir : List ℕ) (path other : List Step) (row : ℕ) → IsLogRow files dir path row → IsLogRow files dir other row → path ≡ other }
+{}
+
+/// A folder that is bad nowhere, and whose files are made of bytes, holds a run.
+pub fn well_formed_folder_holds_a_run()
+    ensures { (files : Files) (dir : List ℕ) →
+        ((name bytes : List ℕ) → files name ≡ Some bytes → (i : ℕ) → slice_index bytes i < 256) →
+        IsWellFormed files dir → (trace : Trace) × HoldsTrace files dir trace }
 {}

@@ -20,7 +20,7 @@ mod team;
 mod walking;
 
 pub use fault::WalkFault;
-pub use laws::{first_bad_place_is_unique, row_tells_its_task};
+pub use laws::{first_bad_place_is_unique, row_tells_its_task, well_formed_folder_holds_a_run};
 pub use log_segment::{Segment, TaskRecords};
 pub use race_model::RecordWhy;
 pub use read::read_trace;

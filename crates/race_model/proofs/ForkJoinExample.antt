@@ -1,7 +1,7 @@
 -- A run of a root and a team of two that meets at a barrier, and that it is a fork-join run: lane 0 writes eight bytes, of
 -- which lane 1 reads the last before the barrier and the first after it.
-use Rattle.std.proofs.Common.{◌≡◌, ℕ, zero, suc, ◌<◌, Bool, true, false, ◌&&◌, List, [], ◌∷◌, ◌++◌, length, refl, sym, ap, subst, arith, ◌∙◌, Some, ap₂, subst₂}
-use Rattle.std.specs.Prelude.{slice_get, ◌==◌, All}
+use Rattle.std.proofs.Common.{◌≡◌, ℕ, zero, suc, ◌<◌, Bool, true, false, List, [], ◌∷◌, ◌++◌, length, refl, sym, ap, subst, arith, ◌∙◌, Some, ap₂, subst₂}
+use Rattle.std.specs.Prelude.{slice_get, All}
 use Rattle.std.proofs.lemmas.List.{same_from_push}
 use Rattle.std.proofs.lemmas.Option.{same_Some, slice_get_within}
 use Rattle.std.proofs.lemmas.List.Elements.{All-cons, All-nil}
@@ -9,7 +9,7 @@ use Rattle.sw_base.specs.declared.path.Step.{Step}
 use Rattle.log_format.specs.declared.record.Record.{Record}
 use Rattle.log_format.specs.declared.record.Kind.{Kind}
 use Rattle.log_format.specs.declared.record.Kind.TheVariants.{Read, Write, Barrier, Region, End}
-use Rattle.race_model.specs.Trace.{Trace, Logs, Node, logs_of, step_eq, path_eq, barrier_count}
+use Rattle.race_model.specs.Trace.{Trace, Logs, Node, logs_of, path_eq, barrier_count}
 use Rattle.race_model.specs.Order.{IsLane, lane_path}
 use Rattle.race_model.specs.ForkJoin.{IsForkJoin, IsTask, EndsOnce, WasForked}
 use Rattle.race_model.proofs.LabelPlace.{not_both_empty, same_node}

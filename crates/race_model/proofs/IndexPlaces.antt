@@ -1,5 +1,5 @@
 -- Laws of the bad places of an index.
-use Rattle.std.proofs.Common.{◌≡◌, ◌≢◌, ◌⊎◌, inl, inr, ℕ, ◌+◌, ◌-◌, ◌<◌, ◌≤◌, List, [], ◌∷◌, ◌++◌, All, length, take, drop, map, replicate, Option, Some, None, cond, ◌==◌, refl, sym, ap, subst, ◌∙◌, arith, append_assoc, length-append}
+use Rattle.std.proofs.Common.{◌≡◌, ◌⊎◌, inl, inr, ℕ, ◌+◌, ◌-◌, ◌<◌, ◌≤◌, List, [], ◌∷◌, ◌++◌, All, length, take, drop, map, replicate, Option, Some, None, cond, ◌==◌, refl, sym, ap, subst, ◌∙◌, arith, append_assoc, length-append}
 use Rattle.std.specs.List.{flat_map}
 use Rattle.std.proofs.lemmas.List.{append-nil, length-replicate, length-map, map-append}
 use Rattle.std.proofs.lemmas.List.Elements.{All-head, All-append, All-weaker, All-replicate, All-map}
@@ -273,20 +273,6 @@ no_index_first files dir none = record { bad = none; least = least } where
   least (too_many_segments row n) earlier bad = bad
 
 module _ (files : Files) (dir : List ℕ) (bytes : List ℕ) (held : files (index_name dir) ≡ Some bytes) where
-  -- so has one whose index begins otherwise
-  pub header_first : (take 8 bytes ≢ INDEX_HEADER) → IsFirstBadIndexPlace files dir (bad_row 0 Header)
-  header_first other = record { bad = record { bytes = bytes; held = held; bad = (refl, other) }; least = least } where
-    by_order : (n : ℕ) (why : IndexWhy) → (n < 0) ⊎ ((n ≡ 0) × (index_rank why < 0)) → ⊥
-    by_order n why (inl less) = omega arith
-    by_order n why (inr less) = omega (arith, less.1)
-
-    least : (q : BadPlace) → IsEarlier q (bad_row 0 Header) → IsBadIndexPlace files dir q → ⊥
-    least no_index earlier bad = not_both (files (index_name dir)) bytes held bad
-    least (bad_row n why) earlier bad = by_order n why (bad_rows_order n 0 why Header earlier)
-    least (missing_log row) earlier bad = bad
-    least (bad_record row n why) earlier bad = bad
-    least (too_many_segments row n) earlier bad = bad
-
   module _ (rows : List Row) (rest : List ℕ) (good : AreFirstRows rows) (parts : bytes ≡ INDEX_HEADER ++ flat_map row_spelling (map raw_of rows) ++ rest) where
     bad_row_here : (n : ℕ) (why : IndexWhy) → HoldsBadRow files dir n why → IsBadRow bytes n why
     bad_row_here n why bad = subst (λ (bs : List ℕ). IsBadRow bs n why) (same_bytes (files (index_name dir)) bytes bad.bytes held bad.held) bad.bad

@@ -4,7 +4,7 @@ use Rattle.sw_base.specs.Environment.{Content}
 use Rattle.sw_base.specs.Names.{index_name}
 use Rattle.kernel_syntax.specs.Program.{Program}
 use Rattle.run_command.specs.declared.beginning.Refusal.{Refusal}
-use Rattle.run_command.specs.declared.beginning.Refusal.TheVariants.{NoKernel, NotBuilt, IndexThere, ReadFault, Memory}
+use Rattle.run_command.specs.declared.beginning.Refusal.TheVariants.{NoKernel, NotBuilt, IndexThere, Trouble}
 use Rattle.command_answer.specs.Answer.{IsFailure, Tries}
 use Rattle.run_command.specs.Begins.{IsRefusal, RefusalDue}
 use Rattle.run_command.specs.Ends.{EndDue, EndsRun}
@@ -19,8 +19,7 @@ module _ (rose : Type 0) (kernel dir : List ℕ) (size : ℕ) (old new : Content
   refusal_due NoKernel told same status text due = run.no_kernel told due.0 due.1 same
   refusal_due NotBuilt told same status text due = run.not_built told.0 told.1 due.0 due.1 same
   refusal_due IndexThere told same status text due = run.index_there told.program told.holds told.there due.0 due.1 same
-  refusal_due ReadFault told same status text due = absurd due
-  refusal_due Memory told same status text due = absurd due
+  refusal_due (Trouble trouble) told same status text due = absurd due
 
   -- what was printed of a refusal is the answer of `run`
   pub refused_run : (why : Refusal) (before after : Option (List ℕ)) (status : ℕ) → IsRefusal old.held kernel dir why → new ≡ old → Tries (RefusalDue why) before after status

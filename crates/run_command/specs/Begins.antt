@@ -1,6 +1,5 @@
 -- Why `run` runs no kernel, and what it answers then.
 use Rattle.std.specs.Prelude.{◌≡◌, ℕ, List, None, IsSome}
-use Rattle.sw_base.specs.declared.trouble.Trouble.{Trouble}
 use Rattle.sw_base.specs.declared.trouble.Trouble.TheVariants as trouble
 use Rattle.sw_base.specs.Environment.{Files}
 use Rattle.sw_base.specs.Names.{index_name}
@@ -8,20 +7,15 @@ use Rattle.kernel_syntax.specs.Program.{Program}
 use Rattle.kernel_reader.specs.declared.fault.ReadKernelFault.{ReadKernelFault}
 use Rattle.kernel_reader.specs.declared.fault.ReadKernelFault.TheVariants as text
 use Rattle.run_command.specs.declared.beginning.Refusal.{Refusal}
-use Rattle.run_command.specs.declared.beginning.Refusal.TheVariants.{NoKernel, NotBuilt, IndexThere, ReadFault, Memory}
+use Rattle.run_command.specs.declared.beginning.Refusal.TheVariants.{NoKernel, NotBuilt, IndexThere, Trouble}
 use Rattle.command_answer.specs.declared.status.TheConstants.{INDEX_THERE, KERNEL_REFUSED}
 use Rattle.run_command.specs.Run.{HoldsKernel}
 use Rattle.run_command.specs.RunTexts.{index_exists_text, no_kernel_text, not_built_text}
 
--- what a call that failed is answered with
-abbrev pub refusal_of : Trouble → Refusal
-refusal_of trouble.Memory = Memory
-refusal_of trouble.Failed = ReadFault
-
--- and a text that is no kernel
+-- what a text that is no kernel is answered with
 abbrev pub refusal_of_text : ReadKernelFault → Refusal
 refusal_of_text text.NotBuilt = NotBuilt
-refusal_of_text text.Memory = Memory
+refusal_of_text text.Memory = Trouble trouble.Memory
 
 -- the folder has an index, and the named file a kernel
 pub record HasIndex (files : Files) (kernel dir : List ℕ) : Type 0 where
@@ -34,13 +28,11 @@ abbrev pub IsRefusal : Files → List ℕ → List ℕ → Refusal → Type 0
 IsRefusal files kernel dir NoKernel = files kernel ≡ None
 IsRefusal files kernel dir NotBuilt = IsSome (files kernel) × ((program : Program) → HoldsKernel files kernel program → ⊥)
 IsRefusal files kernel dir IndexThere = HasIndex files kernel dir
-IsRefusal files kernel dir ReadFault = Unit {0}
-IsRefusal files kernel dir Memory = Unit {0}
+IsRefusal files kernel dir (Trouble trouble) = Unit {0}
 
 -- the text that is due then
 abbrev pub RefusalDue : Refusal → ℕ → List ℕ → Type 0
 RefusalDue NoKernel status text = (status ≡ KERNEL_REFUSED) × (text ≡ no_kernel_text)
 RefusalDue NotBuilt status text = (status ≡ KERNEL_REFUSED) × (text ≡ not_built_text)
 RefusalDue IndexThere status text = (status ≡ INDEX_THERE) × (text ≡ index_exists_text)
-RefusalDue ReadFault status text = ⊥
-RefusalDue Memory status text = ⊥
+RefusalDue (Trouble trouble) status text = ⊥

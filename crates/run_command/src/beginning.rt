@@ -8,6 +8,7 @@ ghost use Rattle.command_answer.specs.Answer.{Tries};
 ghost use Rattle.run_command.specs.Begins.{IsRefusal, RefusalDue};
 ghost use Rattle.run_command.specs.Run.{HoldsKernel};
 ghost use Rattle.run_command.specs.declared.beginning.Refusal.TheVariants as refusal;
+ghost use Rattle.sw_base.specs.declared.trouble.Trouble.TheVariants as trouble;
 ghost use Rattle.command_answer.specs.declared.status.TheConstants.{USAGE, READ_FAULT, WRITE_FAULT};
 
 use command_answer::{INDEX_THERE, KERNEL_REFUSED, NO_MEMORY, READ_FAULT, print};
@@ -31,23 +32,18 @@ pub enum Refusal {
     NotBuilt,
     /// The folder has an index.
     IndexThere,
-    /// A read failed.
-    ReadFault,
-    /// No memory was found.
-    Memory,
+    /// A read failed, or no memory was found.
+    Trouble(Trouble),
 }
 
 impl From<Trouble> for Refusal {
     ghost use Rattle.std.specs.Prelude.{◌≡◌};
-    ghost use Rattle.run_command.specs.Begins.{refusal_of};
+    ghost use Rattle.run_command.specs.declared.beginning.Refusal.TheVariants as refusal;
 
-    ghost from_gives = { λ trouble e. e ≡ refusal_of trouble };
+    ghost from_gives = { λ trouble e. e ≡ refusal.Trouble trouble };
 
     fn from(trouble: Trouble) -> Self {
-        match trouble {
-            Trouble::Memory => Refusal::Memory,
-            Trouble::Failed => Refusal::ReadFault,
-        }
+        Refusal::Trouble(trouble)
     }
 }
 
@@ -60,19 +56,20 @@ impl From<ReadKernelFault> for Refusal {
     fn from(fault: ReadKernelFault) -> Self {
         match fault {
             ReadKernelFault::NotBuilt => Refusal::NotBuilt,
-            ReadKernelFault::Memory => Refusal::Memory,
+            ReadKernelFault::Memory => Refusal::Trouble(Trouble::Memory),
         }
     }
 }
 
 impl From<Memory> for Refusal {
     ghost use Rattle.std.specs.Prelude.{◌≡◌};
+    ghost use Rattle.sw_base.specs.declared.trouble.Trouble.TheVariants as trouble;
     ghost use Rattle.run_command.specs.declared.beginning.Refusal.TheVariants as refusal;
 
-    ghost from_gives = { λ _ e. e ≡ refusal.Memory };
+    ghost from_gives = { λ _ e. e ≡ refusal.Trouble trouble.Memory };
 
     fn from(_: Memory) -> Self {
-        Refusal::Memory
+        Refusal::Trouble(Trouble::Memory)
     }
 }
 
@@ -91,7 +88,7 @@ pub fn begin<F: Folder>(
     ensures same { F.content folder.new ≡ F.content folder.old }
     ensures same_writes { F.write_faults folder.new ≡ F.write_faults folder.old }
     ensures later { F.read_faults folder.old ≤ F.read_faults folder.new }
-    ensures cause { IfErr result (λ why. why ≡ refusal.ReadFault → Rose (F.read_faults folder.old) (F.read_faults folder.new)) }
+    ensures cause { IfErr result (λ why. why ≡ refusal.Trouble trouble.Failed → Rose (F.read_faults folder.old) (F.read_faults folder.new)) }
 {
     let Some(text) = read_file(alloc, folder, kernel)? else {
         return Err(Refusal::NoKernel);
@@ -109,14 +106,14 @@ pub fn refuse<O: Out>(alloc: Global, out: &mut O, why: Refusal) -> u8
     ensures answers { Tries (RefusalDue why) (O.written out.old) (O.written out.new) result }
     ensures later { O.faults out.old ≤ O.faults out.new }
     ensures write_fault { result ≡ WRITE_FAULT → Rose (O.faults out.old) (O.faults out.new) }
-    ensures read_fault { (result ≡ READ_FAULT) ↔ (why ≡ refusal.ReadFault) }
+    ensures read_fault { (result ≡ READ_FAULT) ↔ (why ≡ refusal.Trouble trouble.Failed) }
     ensures no_usage { result ≡ USAGE → ⊥ }
 {
     match why {
         Refusal::NoKernel => print(alloc, out, NO_KERNEL, KERNEL_REFUSED),
         Refusal::NotBuilt => print(alloc, out, NOT_BUILT, KERNEL_REFUSED),
         Refusal::IndexThere => print(alloc, out, INDEX_EXISTS, INDEX_THERE),
-        Refusal::ReadFault => READ_FAULT,
-        Refusal::Memory => NO_MEMORY,
+        Refusal::Trouble(Trouble::Failed) => READ_FAULT,
+        Refusal::Trouble(Trouble::Memory) => NO_MEMORY,
     }
 }

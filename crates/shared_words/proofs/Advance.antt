@@ -1,15 +1,15 @@
 -- A step of a live hand keeps the rule, where it isn't a homecoming.
-use Rattle.std.proofs.Common.{◌≡◌, ◌≢◌, ◌⊎◌, refl, sym, ap, ap₂, ◌∙◌, subst, ℕ, ◌+◌, ◌<◌, ◌≤◌, Bool, true, false, cond, List, [], ◌∷◌, ◌++◌, length, length-set, get_or, set, Option, Some, None, arith, inl, inr}
-use Rattle.std.specs.Prelude.{◌&&◌, ◌||◌, ◌==◌, Contains}
+use Rattle.std.proofs.Common.{◌≡◌, ◌⊎◌, refl, sym, ap, ap₂, ◌∙◌, subst, ℕ, ◌+◌, ◌<◌, ◌≤◌, Bool, true, false, List, [], ◌∷◌, ◌++◌, length, length-set, get_or, set, Some, arith, inl, inr}
+use Rattle.std.specs.Prelude.{◌&&◌, ◌||◌, Contains}
 use Rattle.step_history.specs.declared.item.Item.{Item}
 use Rattle.step_history.specs.declared.item.Deed.{Deed}
-use Rattle.step_history.specs.History.{Name, name_eq, item, of, value_at, value_after, holder, holder_after, is_split, is_home, was_split, came_home, is_out, Fits, FitsDeed, Legal}
+use Rattle.step_history.specs.History.{Name, name_eq, item, of, value_at, value_after, holder, holder_after, is_split, is_home, was_split, came_home, is_out, FitsDeed}
 use Rattle.step_history.proofs.Folds.{value_more, holder_more, legal_more, out_stays, unborn_more, others_split, was_split_more, came_home_more}
 use Rattle.step_history.proofs.Exclusion.{holder_stays}
-use Rattle.atomic_table.proofs.Lists.{at_set}
+use Rattle.atomic_table.proofs.Lists.{at_set, set_here}
 use Rattle.shared_words.specs.declared.view.View.{View}
-use Rattle.shared_words.specs.Rule.{ELEMENTS, MUTEXES, mutex_word, Once, HasOut, Lives, Sits, Keeps}
-use Rattle.shared_words.proofs.Seats.{At, names_apart, has_out_stays, shown_own, shown_other}
+use Rattle.shared_words.specs.Rule.{ELEMENTS, MUTEXES, mutex_word, Once, Lives, Sits, Explains}
+use Rattle.shared_words.proofs.Seats.{At, at_within, names_apart, live_stays, shown_own, shown_other}
 
 -- what the step does to the hand's view
 pub record Takes (log : List Item) (v : View) (deed : Deed) (w : View) : Type 0 where
@@ -22,6 +22,8 @@ pub record Takes (log : List Item) (v : View) (deed : Deed) (w : View) : Type 0 
   pub holds : (mutex : ℕ) → Contains w.held mutex → holder_after mutex v.name deed (holder mutex log) ≡ Some v.name
   pub once : Once w.held
   pub out : (k : ℕ) → Contains v.out k → Contains w.out k
+  pub gains : (mutex : ℕ) (name : Name) → holder_after mutex v.name deed (holder mutex log) ≡ Some name
+      → ((holder mutex log ≡ Some name) × (Contains v.held mutex → Contains w.held mutex)) ⊎ ((name ≡ v.name) × Contains w.held mutex)
 
 and_false : (a b : Bool) → b ≡ false → (a && b) ≡ false
 and_false true b is = is
@@ -53,7 +55,7 @@ own_lives log seat views id v deed w at lives takes =
           );
       holds = λ mutex held. holder_more mutex log (item v.name deed) ∙ (takes.holds mutex held ∙ ap Some same);
       once = takes.once;
-      parent = λ k p is. has_out_stays seat views id v w k p at takes.live takes.named (takes.out k) (lives.parent k p (same ∙ is));
+      parent = λ k p is. live_stays seat views id v w p (λ (x : View). Contains x.out k) at takes.live takes.named (takes.out k) (lives.parent k p (same ∙ is));
     }
 
 -- another live hand
@@ -70,7 +72,7 @@ other_lives log seat views id v deed w j u at lives takes other apart =
           (stays.0 ∙ old.0, stays.1 ∙ old.1);
       holds = λ mutex held. holder_stays mutex u.name log (item v.name deed) (other.holds mutex held) takes.fits differ;
       once = other.once;
-      parent = λ k p is. has_out_stays seat views id v w k p at takes.live takes.named (takes.out k) (other.parent k p is);
+      parent = λ k p is. live_stays seat views id v w p (λ (x : View). Contains x.out k) at takes.live takes.named (takes.out k) (other.parent k p is);
     }
 
 own_sits : (log : List Item) (seat : Name → ℕ) (views : List View) (id : ℕ) (v : View) (deed : Deed) (w : View) → At views id v → v.live ≡ true
@@ -92,10 +94,10 @@ other_sits log seat views id v deed w j u at lives takes sits apart = record {
 }
 
 pub advance : (elements : ℕ) (log : List Item) (seat : Name → ℕ) (words : List ℕ) (views : List View) (id : ℕ) (v : View) (deed : Deed) (w : View) (new : List ℕ)
-    → Keeps elements log seat words views → At views id v → v.live ≡ true → Takes log v deed w → length new ≡ length words
+    → Explains elements log seat words views → At views id v → v.live ≡ true → Takes log v deed w → length new ≡ length words
     → ((word : ℕ) → word < elements → get_or new (ELEMENTS + word) 0 ≡ value_after word deed (value_at word log))
     → ((mutex : ℕ) → mutex < MUTEXES → get_or new mutex 0 ≡ mutex_word (holder_after mutex v.name deed (holder mutex log)))
-    → Keeps elements (log ++ item v.name deed ∷ []) seat new (set views id w)
+    → Explains elements (log ++ item v.name deed ∷ []) seat new (set views id w)
 advance elements log seat words views id v deed w new keeps at live takes wide values mutexes =
     let sits = keeps.each id v at in
     let lives = sits.lives live in
@@ -104,6 +106,18 @@ advance elements log seat words views id v deed w new keeps at live takes wide v
       legal = legal_more log (item v.name deed) keeps.legal (record { out = lives.out; fits = takes.fits });
       values = λ word within. values word within ∙ sym (value_more word log (item v.name deed));
       mutexes = λ mutex within. mutexes mutex within ∙ ap mutex_word (sym (holder_more mutex log (item v.name deed)));
+      owners = λ mutex name is. elim (takes.gains mutex name (sym (holder_more mutex log (item v.name deed)) ∙ is)) [
+        | inl old ↦ live_stays seat views id v w name (λ (x : View). Contains x.held mutex) at takes.live takes.named old.1 (keeps.owners mutex name old.0)
+        | inr new ↦
+            let There : ℕ → Type 0 = λ j. At (set views id w) j w in
+            record {
+              view = w;
+              there = subst There (sym (ap seat new.0 ∙ lives.sits)) (set_here views id w (at_within views id v at));
+              live = takes.live;
+              named = takes.named ∙ sym new.0;
+              has = new.1;
+            }
+      ];
       unborn = unborn_more log (item v.name deed) lives.out keeps.unborn;
       seated = λ name. let within = keeps.seated name in omega (arith, length-set views id w);
       each = λ j u there. elim (at_set views id j w u there) [

@@ -1,20 +1,21 @@
 -- The rule holds of a new table.
-use Rattle.std.proofs.Common.{◌≡◌, refl, sym, ap, ◌∙◌, subst, ℕ, zero, suc, ◌+◌, ◌<◌, Bool, true, false, cond, List, [], ◌∷◌, length, get_or, arith}
-use Rattle.std.specs.Prelude.{replicate, ◌==◌, Contains}
-use mathlib.Core.Option.{some, some-injective, some-ne-none}
+use Rattle.std.proofs.Common.{◌≡◌, refl, sym, ap, subst, ℕ, zero, suc, ◌+◌, List, [], ◌∷◌, length, get_or, arith}
+use Rattle.std.specs.Prelude.{replicate}
+use mathlib.Core.Option.{some-injective, some-ne-none}
 use Rattle.atomic_table.specs.Table.{opening}
-use Rattle.step_history.specs.declared.item.Item.{Item}
-use Rattle.step_history.specs.History.{Name, of}
 use Rattle.shared_words.specs.declared.view.View.{View}
 use Rattle.shared_words.specs.Views.{newcomer}
-use Rattle.shared_words.specs.Rule.{ELEMENTS, Lives, Sits, Keeps, Kept}
+use Rattle.shared_words.specs.Rule.{ELEMENTS, Sits, Kept}
 use Rattle.shared_words.proofs.Seats.{At}
 
-length-zeros : (n : ℕ) → length (replicate n 0) ≡ n
+abbrev pub zeros : ℕ → List ℕ
+zeros n = replicate n 0
+
+pub length-zeros : (n : ℕ) → length (zeros n) ≡ n
 length-zeros zero = refl
 length-zeros (suc n) = ap suc (length-zeros n)
 
-zero_word : (n word : ℕ) → get_or (replicate n 0) word 0 ≡ 0
+pub zero_word : (n word : ℕ) → get_or (zeros n) word 0 ≡ 0
 zero_word zero word = refl
 zero_word (suc n) zero = refl
 zero_word (suc n) (suc word) = zero_word n word
@@ -37,7 +38,7 @@ each_first : (id : ℕ) (v : View) → At (newcomer [] ∷ []) id v → Sits [] 
 each_first zero v there = let P : View → Type 0 = λ u. Sits [] (λ _. 0) (newcomer [] ∷ []) 0 u in subst P (some-injective (newcomer []) v there) first_sits
 each_first (suc id) v there = absurd (some-ne-none v (sym there))
 
-pub begins : (elements : ℕ) → Kept elements (opening (replicate (ELEMENTS + elements) 0) [] (newcomer []))
+pub begins : (elements : ℕ) → Kept elements (opening (zeros (ELEMENTS + elements)) [] (newcomer []))
 begins elements = record {
   log = [];
   seat = λ _. 0;
@@ -46,6 +47,7 @@ begins elements = record {
     legal = tt;
     values = λ word within. zero_word (ELEMENTS + elements) (ELEMENTS + word);
     mutexes = λ mutex within. zero_word (ELEMENTS + elements) mutex;
+    owners = λ mutex name is. cc;
     unborn = λ k p none_yet. refl;
     seated = λ name. omega arith;
     each = each_first;

@@ -1,14 +1,14 @@
 -- Where only the first hand is left, its items have one history, which ends in the words.
-use Rattle.std.proofs.Common.{◌≡◌, refl, sym, ap, ◌∙◌, subst, ℕ, zero, suc, ◌+◌, ◌<◌, Bool, true, false, cond, eq-eqb, List, [], ◌∷◌, length, get_or, arith}
+use Rattle.std.proofs.Common.{◌≡◌, refl, sym, ap, ◌∙◌, subst, ℕ, ◌+◌, ◌<◌, Bool, true, false, cond, eq-eqb, List, [], ◌∷◌, length, get_or, arith}
 use Rattle.std.specs.Prelude.{◌==◌, Contains}
-use Rattle.atomic_table.specs.Table.{State, Final, Seen}
+use Rattle.atomic_table.specs.Table.{Final, Seen}
 use Rattle.step_history.specs.declared.item.Item.{Item}
 use Rattle.step_history.specs.History.{Name, of, HasHistory}
 use Rattle.shared_words.specs.declared.view.View.{View}
-use Rattle.shared_words.specs.Rule.{ELEMENTS, HasOut, Lives, Sits, Keeps, Kept}
+use Rattle.shared_words.specs.Rule.{ELEMENTS, Lives, Explains, Kept}
 use Rattle.shared_words.proofs.Seats.{At, at_some, same_at}
 
-module _ (elements : ℕ) (log : List Item) (seat : Name → ℕ) (words : List ℕ) (views : List View) (keeps : Keeps elements log seat words views)
+module _ (elements : ℕ) (log : List Item) (seat : Name → ℕ) (words : List ℕ) (views : List View) (keeps : Explains elements log seat words views)
     (id : ℕ) (v : View) (here : At views id v) (live : v.live ≡ true) (first : v.name ≡ []) (none_out : v.out ≡ []) where
   lives : Lives log seat views id v
   lives = (keeps.each id v here).lives live
@@ -25,7 +25,7 @@ module _ (elements : ℕ) (log : List Item) (seat : Name → ℕ) (words : List 
       let P : ℕ → Type 0 = λ n. At views n parent.view in
       let same : parent.view ≡ v = same_at views id parent.view v (subst P (ap seat top ∙ first_sits) parent.there) here in
       let Q : List ℕ → Type 0 = λ ks. Contains ks k in
-      let nowhere : Contains [] k = subst Q (ap (λ (x : View). x.out) same ∙ none_out) parent.out in
+      let nowhere : Contains [] k = subst Q (ap (λ (x : View). x.out) same ∙ none_out) parent.has in
       let within = nowhere.1 in
       absurd (omega arith)
 
@@ -42,7 +42,7 @@ module _ (elements : ℕ) (log : List Item) (seat : Name → ℕ) (words : List 
   whole_at name u there false is =
       let sits = keeps.each (seat name) u there in
       let nothing : of name log ≡ [] =
-          sym (sits.shown name ∙ ap (λ (b : Bool). cond b (of name log) []) (eq-eqb (seat name) (seat name) refl)) ∙ ap (of name) (sits.rests is) in
+      sym (sits.shown name ∙ ap (λ (b : Bool). cond b (of name log) []) (eq-eqb (seat name) (seat name) refl)) ∙ ap (of name) (sits.rests is) in
       sym ((keeps.each id v here).shown name ∙ at_first name (seat name == id) refl nothing)
 
   whole : (name : Name) → of name log ≡ of name v.items
@@ -51,9 +51,9 @@ module _ (elements : ℕ) (log : List Item) (seat : Name → ℕ) (words : List 
       whole_at name there.0 there.1 there.0.live refl
 
 -- the last words are those of the elements
-pub ends : (elements id : ℕ) (v : View) (last values : List ℕ) → Final (Seen (Kept elements) id v) last [] → v.live ≡ true → v.name ≡ [] → v.out ≡ []
+pub ends : (elements id : ℕ) (v : View) (last values : List ℕ) (at_home : List (Unit {0})) → Final (Seen (Kept elements) id v) last at_home → v.live ≡ true → v.name ≡ [] → v.out ≡ []
     → length values ≡ elements → ((word : ℕ) → word < elements → get_or values word 0 ≡ get_or last (ELEMENTS + word) 0) → HasHistory v.items values
-ends elements id v last values (s, seen, same, rest) live first none_out long copied =
+ends elements id v last values at_home (s, seen, same, slots, rest) live first none_out long copied =
     let kept = seen.0 in
     record {
       log = kept.log;

@@ -1,22 +1,20 @@
 -- A homecoming keeps the rule: the names of the hand that comes home sit with the hand that it joins.
-use Rattle.std.proofs.Common.{◌≡◌, ◌≢◌, ◌⊎◌, refl, sym, ap, ap₂, ◌∙◌, subst, ℕ, zero, suc, ◌+◌, ◌<◌, ◌≤◌, Bool, true, false, cond, eq-eqb, ne_eqb, eqb-true, List, [], ◌∷◌, ◌++◌, length, length-set, get_or, set, Option, Some, None, arith, inl, inr}
+use Rattle.std.proofs.Common.{◌≡◌, refl, sym, ap, ap₂, ◌∙◌, subst, ℕ, ◌<◌, ◌≤◌, Bool, true, false, cond, eq-eqb, ne_eqb, eqb-true, List, [], ◌∷◌, ◌++◌, length, length-set, set, arith, inl, inr}
 use Rattle.std.specs.Prelude.{◌==◌, ◌&&◌, ◌||◌, Contains}
 use Rattle.std.proofs.lemmas.Bool.{false≢true}
 use Rattle.std.proofs.lemmas.List.{append-nil}
 use mathlib.Core.Logic.{dite}
-use mathlib.Core.Option.{some}
 use native.Mathlib.Decide.{ℕ_discrete}
-use lib.ListN.{get_elem?}
-use Rattle.atomic_table.specs.Table.{State, Joins}
+use Rattle.atomic_table.specs.Table.{Joins}
 use Rattle.atomic_table.proofs.Lists.{at_set, set_here, set_else}
 use Rattle.step_history.specs.declared.item.Item.{Item}
 use Rattle.step_history.specs.declared.item.Deed.TheVariants.{Home}
-use Rattle.step_history.specs.History.{Name, name_eq, item, of, was_split, came_home, is_out, is_split, is_home}
-use Rattle.step_history.proofs.Names.{same_name, is_same_name, other_name, apart_names}
+use Rattle.step_history.specs.History.{Name, name_eq, item, of, was_split, is_out, is_home}
+use Rattle.step_history.proofs.Names.{same_name, is_same_name, other_name}
 use Rattle.step_history.proofs.Folds.{of-append, value_more, holder_more, legal_more, out_stays, out_is_split, unborn_more, others_split, was_split_more, came_home_more}
 use Rattle.shared_words.specs.declared.view.View.{View}
-use Rattle.shared_words.specs.Views.{met, spent, number_of, without}
-use Rattle.shared_words.specs.Rule.{mutex_word, HasOut, Lives, Sits, Keeps, Kept}
+use Rattle.shared_words.specs.Views.{met, spent, split_number}
+use Rattle.shared_words.specs.Rule.{mutex_word, HasLive, HasOut, Lives, Sits, Explains, Kept}
 use Rattle.shared_words.proofs.Seats.{At, at_within, same_at, names_apart, shown_own, shown_other}
 use Rattle.shared_words.proofs.Splitting.{not_itself}
 use Rattle.shared_words.proofs.WordList.{contains_without}
@@ -39,12 +37,13 @@ record Meeting (log : List Item) (seat : Name → ℕ) (views : List View) (id :
   from_at : At views from w
   comes : Lives log seat views from w
   apart : from ≡ id → ⊥
-  child : w.name ≡ number_of w.name ∷ v.name
+  child : w.name ≡ split_number w.name ∷ v.name
   none_out : w.out ≡ []
+  holds_none : w.held ≡ []
 
 module _ (log : List Item) (seat : Name → ℕ) (views : List View) (id : ℕ) (v : View) (from : ℕ) (w : View) (m : Meeting log seat views id v from w) where
   abbrev number : ℕ
-  number = number_of w.name
+  number = split_number w.name
 
   abbrev x : Item
   x = item v.name (Home number)
@@ -63,54 +62,60 @@ module _ (log : List Item) (seat : Name → ℕ) (views : List View) (id : ℕ) 
   was_number : was_split v.name number log ≡ true
   was_number = let P : Name → Type 0 = λ n. is_out n log ≡ true in out_is_split number v.name log (subst P m.child m.comes.out)
 
+  -- what a live hand has it has still, but for the one that comes home
+  live_moves : (q : Name) (P : View → Type 0) → HasLive seat views q P → (P w → ⊥) → (v.name ≡ q → P v → P (met v w)) → HasLive (moved seat from id) after q P
+  live_moves q P has nothing keeps = dite (ℕ_discrete (seat q) from)
+      (λ here.
+      let Was : ℕ → Type 0 = λ j. At views j has.view in
+      let same : has.view ≡ w = same_at views from has.view w (subst Was here has.there) m.from_at in
+      absurd (nothing (subst P same has.has)))
+      (λ away. dite (ℕ_discrete (seat q) id)
+      (λ own.
+      let Was : ℕ → Type 0 = λ j. At views j has.view in
+      let There : ℕ → Type 0 = λ j. At after j (met v w) in
+      let same : has.view ≡ v = same_at views id has.view v (subst Was own has.there) m.at in
+      let named : v.name ≡ q = ap (λ (u : View). u.name) (sym same) ∙ has.named in
+      record {
+        view = met v w;
+        there = subst There (sym (not_moved seat from id q away ∙ own)) met_there;
+        live = m.live;
+        named = named;
+        has = keeps named (subst P same has.has);
+      })
+      (λ else.
+      let There : ℕ → Type 0 = λ j. At after j has.view in
+      record {
+        view = has.view;
+        there = subst There (sym (not_moved seat from id q away))
+            (set_else (set views id (met v w)) from (seat q) spent away ∙ (set_else views id (seat q) (met v w) else ∙ has.there));
+        live = has.live;
+        named = has.named;
+        has = has.has;
+      }))
+
+  nowhere : (ks : List ℕ) (k : ℕ) → ks ≡ [] → Contains ks k → ⊥
+  nowhere ks k is has =
+      let P : List ℕ → Type 0 = λ l. Contains l k in
+      let none_left : Contains [] k = subst P is has in
+      let within = none_left.1 in omega arith
+
   -- a hand that is out, but the one that comes home, is out still
   out_moves : (l : ℕ) (q : Name) → HasOut seat views l q → (l ∷ q ≡ w.name → ⊥) → HasOut (moved seat from id) after l q
-  out_moves l q has differs = dite (ℕ_discrete (seat q) from)
-      (λ here.
-        let P : ℕ → Type 0 = λ j. At views j has.view in
-        let same : has.view ≡ w = same_at views from has.view w (subst P here has.there) m.from_at in
-        let out : Contains (has.view.out) l = has.out in
-        let Q : List ℕ → Type 0 = λ ks. Contains ks l in
-        let none_left : Contains [] l = subst Q (ap (λ (u : View). u.out) same ∙ m.none_out) out in
-        let within = none_left.1 in
-        absurd (omega arith))
-      (λ away. dite (ℕ_discrete (seat q) id)
-          (λ own.
-            let P : ℕ → Type 0 = λ j. At views j has.view in
-            let Q : ℕ → Type 0 = λ j. At after j (met v w) in
-            let R : View → Type 0 = λ u. Contains u.out l in
-            let same : has.view ≡ v = same_at views id has.view v (subst P own has.there) m.at in
-            let named : v.name ≡ q = ap (λ (u : View). u.name) (sym same) ∙ has.named in
-            record {
-              view = met v w;
-              there = subst Q (sym (not_moved seat from id q away ∙ own)) met_there;
-              live = m.live;
-              named = named;
-              out = contains_without number l v.out (subst R same has.out) (λ is. differs (ap₂ (λ (k : ℕ) (n : Name). k ∷ n) is (sym named) ∙ sym m.child));
-            })
-          (λ else.
-            let Q : ℕ → Type 0 = λ j. At after j has.view in
-            record {
-              view = has.view;
-              there = subst Q (sym (not_moved seat from id q away))
-                  (set_else (set views id (met v w)) from (seat q) spent away ∙ (set_else views id (seat q) (met v w) else ∙ has.there));
-              live = has.live;
-              named = has.named;
-              out = has.out;
-            }))
+  out_moves l q has differs = live_moves q (λ (u : View). Contains u.out l) has (nowhere w.out l m.none_out)
+      (λ named out. contains_without number l v.out out (λ is. differs (ap₂ (λ (k : ℕ) (n : Name). k ∷ n) is (sym named) ∙ sym m.child)))
 
   both_shown : (name : Name) → of name v.items ≡ cond (seat name == id) (of name log) [] → of name w.items ≡ cond (seat name == from) (of name log) []
       → of name (v.items ++ w.items) ≡ cond (moved seat from id name == id) (of name log) []
   both_shown name one other =
       of-append name v.items w.items ∙ (ap₂ (λ (a b : List Item). a ++ b) one other ∙ dite (ℕ_discrete (seat name) from)
-          (λ here. 
-            ap₂ (λ (a b : Bool). cond a (of name log) [] ++ cond b (of name log) [])
-                (ne_eqb (seat name) id (λ own. m.apart (sym here ∙ own))) (eq-eqb (seat name) from here)
-            ∙ ap (λ (b : Bool). cond b (of name log) []) (sym (eq-eqb (moved seat from id name) id (moved_there seat from id name here))))
-          (λ away.
-            ap (λ (b : Bool). cond (seat name == id) (of name log) [] ++ cond b (of name log) []) (ne_eqb (seat name) from away)
-            ∙ (append-nil (cond (seat name == id) (of name log) [])
-              ∙ ap (λ (n : ℕ). cond (n == id) (of name log) []) (sym (not_moved seat from id name away)))))
+      (λ here.
+      ap₂ (λ (a b : Bool). cond a (of name log) [] ++ cond b (of name log) [])
+      (ne_eqb (seat name) id (λ own. m.apart (sym here ∙ own))) (eq-eqb (seat name) from here)
+      ∙ ap (λ (b : Bool). cond b (of name log) []) (sym (eq-eqb (moved seat from id name) id (moved_there seat from id name here))))
+      (λ away.
+      ap (λ (b : Bool). cond (seat name == id) (of name log) [] ++ cond b (of name log) []) (ne_eqb (seat name) from away)
+      ∙ (append-nil (cond (seat name == id) (of name log) [])
+      ∙ ap (λ (n : ℕ). cond (n == id) (of name log) []) (sym (not_moved seat from id name away)))))
 
   met_lives : Lives (log ++ x ∷ []) (moved seat from id) after id (met v w)
   met_lives = record {
@@ -183,17 +188,19 @@ module _ (log : List Item) (seat : Name → ℕ) (views : List View) (id : ℕ) 
   } where
     same : (name : Name) → cond (seat name == j) (of name log) [] ≡ cond (moved seat from id name == j) (of name log) []
     same name = dite (ℕ_discrete (seat name) from)
-        (λ here. 
-          ap (λ (b : Bool). cond b (of name log) []) (ne_eqb (seat name) j (λ is. not_from (sym is ∙ here)))
-          ∙ ap (λ (b : Bool). cond b (of name log) []) (sym (ne_eqb (moved seat from id name) j (λ is. not_id (sym is ∙ moved_there seat from id name here)))))
+        (λ here.
+        ap (λ (b : Bool). cond b (of name log) []) (ne_eqb (seat name) j (λ is. not_from (sym is ∙ here)))
+        ∙ ap (λ (b : Bool). cond b (of name log) []) (sym (ne_eqb (moved seat from id name) j (λ is. not_id (sym is ∙ moved_there seat from id name here)))))
         (λ away. ap (λ (n : ℕ). cond (n == j) (of name log) []) (sym (not_moved seat from id name away)))
 
-  meets : (elements : ℕ) (words : List ℕ) → Keeps elements log seat words views → Keeps elements (log ++ x ∷ []) (moved seat from id) words after
+  meets : (elements : ℕ) (words : List ℕ) → Explains elements log seat words views → Explains elements (log ++ x ∷ []) (moved seat from id) words after
   meets elements words keeps = record {
     wide = keeps.wide;
     legal = legal_more log x keeps.legal (record { out = m.lives.out; fits = let P : Name → Type 0 = λ n. is_out n log ≡ true in subst P m.child m.comes.out });
     values = λ word within. keeps.values word within ∙ sym (value_more word log x);
     mutexes = λ mutex within. keeps.mutexes mutex within ∙ ap mutex_word (sym (holder_more mutex log x));
+    owners = λ mutex name is. live_moves name (λ (u : View). Contains u.held mutex) (keeps.owners mutex name (sym (holder_more mutex log x) ∙ is))
+        (nowhere w.held mutex m.holds_none) (λ named held. held);
     unborn = unborn_more log x m.lives.out keeps.unborn;
     seated = λ name. at name (seat name == from);
     each = λ j u there. elim (at_set (set views id (met v w)) from j spent u there) [
@@ -215,9 +222,9 @@ module _ (log : List Item) (seat : Name → ℕ) (views : List View) (id : ℕ) 
     at name true = let within = at_within views id v m.at in let same = long in omega arith
     at name false = let within = keeps.seated name in let same = long in omega arith
 
-pub joins_allowed : (elements id : ℕ) (v : View) (from : ℕ) (w : View) → v.live ≡ true → w.live ≡ true → w.name ≡ number_of w.name ∷ v.name → w.out ≡ []
+pub joins_allowed : (elements id : ℕ) (v : View) (from : ℕ) (w : View) → v.live ≡ true → w.live ≡ true → w.name ≡ split_number w.name ∷ v.name → w.out ≡ [] → w.held ≡ []
     → Joins (Kept elements) id v from w (met v w) spent
-joins_allowed elements id v from w live other_live child none_out s kept at apart other_at =
+joins_allowed elements id v from w live other_live child none_out holds_none s kept at apart other_at =
     let from_at : At s.views from w = sym (set_else s.views id from (met v w) apart) ∙ other_at in
     let m : Meeting kept.log kept.seat s.views id v from w = record {
       at = at;
@@ -228,9 +235,10 @@ joins_allowed elements id v from w live other_live child none_out s kept at apar
       apart = apart;
       child = child;
       none_out = none_out;
+      holds_none = holds_none;
     } in
     record {
-      log = kept.log ++ item v.name (Home (number_of w.name)) ∷ [];
+      log = kept.log ++ item v.name (Home (split_number w.name)) ∷ [];
       seat = moved kept.seat from id;
       keeps = meets kept.log kept.seat s.views id v from w m elements s.words kept.keeps;
     }

@@ -1,8 +1,11 @@
 pub mod Advance
 pub mod Beginning
+pub mod Cases
+pub mod Dealing
 pub mod Ending
 pub mod Joining
 pub mod Seats
 pub mod Splitting
 pub mod Steps
+pub mod Views
 pub mod WordList

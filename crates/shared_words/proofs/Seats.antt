@@ -1,6 +1,6 @@
 -- Which view is in which seat, and what was done under the names that sit there.
-use Rattle.std.proofs.Common.{◌≡◌, ◌≢◌, ◌⊎◌, refl, sym, ap, ap₂, ◌∙◌, subst, ℕ, zero, suc, ◌<◌, Bool, true, false, cond, eq-eqb, ne_eqb, List, [], ◌∷◌, ◌++◌, length, set, arith, inl, inr}
-use Rattle.std.specs.Prelude.{◌==◌, Contains}
+use Rattle.std.proofs.Common.{◌≡◌, refl, sym, ap, ◌∙◌, subst, ℕ, zero, suc, ◌<◌, Bool, true, false, cond, eq-eqb, ne_eqb, List, [], ◌∷◌, ◌++◌, length, set, arith}
+use Rattle.std.specs.Prelude.{◌==◌}
 use Rattle.std.proofs.lemmas.List.{append-nil}
 use mathlib.Core.Logic.{dite}
 use mathlib.Core.Option.{some, some-injective, some-ne-none}
@@ -13,7 +13,7 @@ use Rattle.step_history.specs.History.{Name, name_eq, item, of}
 use Rattle.step_history.proofs.Names.{same_name, apart_names}
 use Rattle.step_history.proofs.Folds.{of-append, of_other}
 use Rattle.shared_words.specs.declared.view.View.{View}
-use Rattle.shared_words.specs.Rule.{HasOut, Lives}
+use Rattle.shared_words.specs.Rule.{HasLive, Lives}
 
 abbrev pub At : List View → ℕ → View → Type 0
 At views id v = get_elem? views id ≡ some v
@@ -36,27 +36,27 @@ pub names_apart : (log : List Item) (seat : Name → ℕ) (views : List View) (i
     → Lives log seat views i u → Lives log seat views j v → (i ≡ j → ⊥) → u.name ≡ v.name → ⊥
 names_apart log seat views i j u v one other apart same = apart (sym one.sits ∙ (ap seat same ∙ other.sits))
 
--- a live hand with a new view still has the hands out that it had
-pub has_out_stays : (seat : Name → ℕ) (views : List View) (id : ℕ) (v w : View) (k : ℕ) (p : Name) → At views id v → w.live ≡ true → w.name ≡ v.name
-    → (Contains v.out k → Contains w.out k) → HasOut seat views k p → HasOut seat (set views id w) k p
-has_out_stays seat views id v w k p at live named out has = dite (ℕ_discrete (seat p) id)
+-- a live hand with a new view still has what it had
+pub live_stays : (seat : Name → ℕ) (views : List View) (id : ℕ) (v w : View) (p : Name) (P : View → Type 0) → At views id v → w.live ≡ true → w.name ≡ v.name
+    → (P v → P w) → HasLive seat views p P → HasLive seat (set views id w) p P
+live_stays seat views id v w p P at live named keeps has = dite (ℕ_discrete (seat p) id)
     (λ here.
-      let P : ℕ → Type 0 = λ j. At (set views id w) j w in
-      let Q : ℕ → Type 0 = λ j. At views j has.view in
-      let same : has.view ≡ v = same_at views id has.view v (subst Q here has.there) at in
-      record {
-        view = w;
-        there = subst P (sym here) (set_here views id w (at_within views id v at));
-        live = live;
-        named = named ∙ (ap (λ (x : View). x.name) (sym same) ∙ has.named);
-        out = out (let R : View → Type 0 = λ x. Contains x.out k in subst R same has.out);
-      })
+    let There : ℕ → Type 0 = λ j. At (set views id w) j w in
+    let Was : ℕ → Type 0 = λ j. At views j has.view in
+    let same : has.view ≡ v = same_at views id has.view v (subst Was here has.there) at in
+    record {
+      view = w;
+      there = subst There (sym here) (set_here views id w (at_within views id v at));
+      live = live;
+      named = named ∙ (ap (λ (x : View). x.name) (sym same) ∙ has.named);
+      has = keeps (subst P same has.has);
+    })
     (λ elsewhere. record {
       view = has.view;
       there = set_else views id (seat p) w elsewhere ∙ has.there;
       live = has.live;
       named = has.named;
-      out = has.out;
+      has = has.has;
     })
 
 -- what is shown under a name, when its seat's view and the history get one step more
@@ -66,7 +66,7 @@ pub shown_own : (seat : Name → ℕ) (id : ℕ) (own : Name) (deed : Deed) (log
 shown_own seat id own deed log items name sits shown =
     of-append name items (item own deed ∷ [])
     ∙ (ap (λ (l : List Item). l ++ of name (item own deed ∷ [])) shown
-      ∙ (at (name_eq own name) refl ∙ ap (λ (l : List Item). cond (seat name == id) l []) (sym (of-append name log (item own deed ∷ [])))))
+    ∙ (at (name_eq own name) refl ∙ ap (λ (l : List Item). cond (seat name == id) l []) (sym (of-append name log (item own deed ∷ [])))))
   where
     here : (b : Bool) (xs ys : List Item) → b ≡ true → cond b xs [] ++ ys ≡ cond b (xs ++ ys) []
     here true xs ys is = refl

@@ -1,33 +1,22 @@
 -- A split keeps the rule: the hand that splits takes a step, and a new seat gets the new name.
-use Rattle.std.proofs.Common.{◌≡◌, ◌≢◌, ◌⊎◌, refl, sym, ap, ap₂, ◌∙◌, subst, ℕ, zero, suc, ◌+◌, ◌<◌, ◌≤◌, Bool, true, false, cond, eq-eqb, ne_eqb, List, [], ◌∷◌, ◌++◌, length, length-set, length-append, get_or, set, Option, Some, None, arith, inl, inr}
-use Rattle.std.specs.Prelude.{◌==◌, ◌&&◌, Contains}
+use Rattle.std.proofs.Common.{◌≡◌, refl, sym, ap, ap₂, ◌∙◌, subst, ℕ, ◌<◌, Bool, true, false, cond, eq-eqb, ne_eqb, List, [], ◌∷◌, ◌++◌, length, length-append, set, arith, inl, inr}
+use Rattle.std.specs.Prelude.{Contains, ◌==◌, ◌&&◌}
 use Rattle.std.proofs.lemmas.Bool.{false≢true}
-use mathlib.Core.Option.{some, some-injective, some-ne-none}
-use lib.ListN.{get_elem?}
-use Rattle.atomic_table.specs.Table.{State, Splits}
+use Rattle.atomic_table.specs.Table.{Splits}
 use Rattle.atomic_table.proofs.Lists.{at_set, at_last, at_longer}
 use Rattle.step_history.specs.declared.item.Item.{Item}
 use Rattle.step_history.specs.declared.item.Deed.TheVariants.{Split}
-use Rattle.step_history.specs.History.{Name, name_eq, item, of, was_split, came_home, is_out, is_split}
+use Rattle.step_history.specs.History.{Name, name_eq, item, of, is_out}
 use Rattle.step_history.proofs.Names.{same_name, is_same_name, other_name, apart_names}
 use Rattle.step_history.proofs.Folds.{of-append, of_other, out_is_split, out_at_split, nothing_split}
 use Rattle.shared_words.specs.declared.view.View.{View}
-use Rattle.shared_words.specs.Views.{newcomer, parted, child}
+use Rattle.shared_words.specs.Views.{newcomer, child}
 use Rattle.shared_words.specs.Steps.{parts}
-use Rattle.shared_words.specs.Rule.{HasOut, Lives, Sits, Keeps, Kept}
+use Rattle.shared_words.specs.Rule.{HasLive, HasOut, Lives, Sits, Explains, Kept}
 use Rattle.shared_words.proofs.Seats.{At, at_within}
 use Rattle.shared_words.proofs.Advance.{Takes, advance}
+use Rattle.shared_words.proofs.Views.{at_end}
 use Rattle.shared_words.proofs.WordList.{contains_here, contains_later}
-
--- a view of a longer list is one of the shorter, or the last
-at_end : (views : List View) (w : View) (j : ℕ) (u : View) → At (views ++ w ∷ []) j u → (At views j u) ⊎ ((j ≡ length views) × (u ≡ w))
-at_end [] w zero u there = inr (refl, sym (some-injective w u there))
-at_end [] w (suc j) u there = absurd (some-ne-none u (sym there))
-at_end (x ∷ xs) w zero u there = inl there
-at_end (x ∷ xs) w (suc j) u there = elim (at_end xs w j u there) [
-  | inl old ↦ inl old
-  | inr last ↦ inr (let is = last.0 in omega arith, last.1)
-]
 
 -- the seats, where the name c sits in the seat n
 abbrev seated_at : (Name → ℕ) → Name → ℕ → Name → ℕ
@@ -46,18 +35,18 @@ record Adopts (log : List Item) (seat : Name → ℕ) (views : List View) (k : �
   pub parent : HasOut seat views k p
   pub new : (j : ℕ) (u : View) → At views j u → u.live ≡ true → u.name ≡ k ∷ p → ⊥
 
--- the hands out are those that were, and their owners sit where they sat
-still_out : (log : List Item) (seat : Name → ℕ) (views : List View) (k : ℕ) (p : Name) (w : View) (l : ℕ) (q : Name) → Adopts log seat views k p
-    → HasOut seat views l q → HasOut (seated_at seat (k ∷ p) (length views)) (views ++ w ∷ []) l q
-still_out log seat views k p w l q adopts has =
+-- live hands sit where they sat
+still_live : (log : List Item) (seat : Name → ℕ) (views : List View) (k : ℕ) (p : Name) (w : View) (q : Name) (P : View → Type 0) → Adopts log seat views k p
+    → HasLive seat views q P → HasLive (seated_at seat (k ∷ p) (length views)) (views ++ w ∷ []) q P
+still_live log seat views k p w q P adopts has =
     let apart : q ≡ k ∷ p → ⊥ = λ same. adopts.new (seat q) has.view has.there has.live (has.named ∙ same) in
-    let P : ℕ → Type 0 = λ j. At (views ++ w ∷ []) j has.view in
+    let There : ℕ → Type 0 = λ j. At (views ++ w ∷ []) j has.view in
     record {
       view = has.view;
-      there = subst P (sym (seated_before seat (k ∷ p) (length views) q apart)) (at_longer views (w ∷ []) (seat q) has.view has.there);
+      there = subst There (sym (seated_before seat (k ∷ p) (length views) q apart)) (at_longer views (w ∷ []) (seat q) has.view has.there);
       live = has.live;
       named = has.named;
-      out = has.out;
+      has = has.has;
     }
 
 old_shown : (elements : ℕ) (log : List Item) (seat : Name → ℕ) (words : List ℕ) (views : List View) (k : ℕ) (p : Name) (j : ℕ) (u : View) (name : Name)
@@ -89,7 +78,7 @@ old_sits elements log seat words views k p w j u adopts there sits = record {
         fresh = lives.fresh;
         holds = lives.holds;
         once = lives.once;
-        parent = λ l q is. still_out log seat views k p w l q adopts (lives.parent l q is);
+        parent = λ l q is. still_live log seat views k p w q (λ (x : View). Contains x.out l) adopts (lives.parent l q is);
       };
   rests = sits.rests;
 }
@@ -107,7 +96,7 @@ new_sits log seat views k p adopts seated = record {
     once = tt;
     parent = λ l q is.
         let P : ℕ × Name → Type 0 = λ z. HasOut (seated_at seat (k ∷ p) (length views)) (views ++ newcomer (k ∷ p) ∷ []) z.0 z.1 in
-        subst P (λ i. (head_is l q is i, tail_is l q is i)) (still_out log seat views k p (newcomer (k ∷ p)) k p adopts adopts.parent);
+        subst P (λ i. (head_is l q is i, tail_is l q is i)) (still_live log seat views k p (newcomer (k ∷ p)) p (λ (x : View). Contains x.out k) adopts adopts.parent);
   };
   rests = λ dead. cc;
 } where
@@ -132,13 +121,14 @@ new_sits log seat views k p adopts seated = record {
       ap (λ (b : Bool). cond b (of name log) []) (ne_eqb (seated_at seat (k ∷ p) (length views) name) (length views) (λ same. let no : seat name ≡ length views = sym before ∙ same in omega arith))
 
 adopt : (elements : ℕ) (log : List Item) (seat : Name → ℕ) (words : List ℕ) (views : List View) (k : ℕ) (p : Name)
-    → Keeps elements log seat words views → Adopts log seat views k p
-    → Keeps elements log (seated_at seat (k ∷ p) (length views)) words (views ++ newcomer (k ∷ p) ∷ [])
+    → Explains elements log seat words views → Adopts log seat views k p
+    → Explains elements log (seated_at seat (k ∷ p) (length views)) words (views ++ newcomer (k ∷ p) ∷ [])
 adopt elements log seat words views k p keeps adopts = record {
   wide = keeps.wide;
   legal = keeps.legal;
   values = keeps.values;
   mutexes = keeps.mutexes;
+  owners = λ mutex name is. still_live log seat views k p (newcomer (k ∷ p)) name (λ (x : View). Contains x.held mutex) adopts (keeps.owners mutex name is);
   unborn = keeps.unborn;
   seated = λ name. at name (name_eq name (k ∷ p));
   each = λ j u there. elim (at_end views (newcomer (k ∷ p)) j u there) [
@@ -178,10 +168,11 @@ split_takes log seat views id v lives live = record {
   holds = lives.holds;
   once = lives.once;
   out = λ k is. contains_later v.splits k v.out is;
+  gains = λ mutex name is. inl (is, λ held. held);
 }
 
 -- nobody has the name of the next hand to be split off
-none_yet : (elements : ℕ) (log : List Item) (seat : Name → ℕ) (words : List ℕ) (views : List View) (id : ℕ) (v : View) → Keeps elements log seat words views
+none_yet : (elements : ℕ) (log : List Item) (seat : Name → ℕ) (words : List ℕ) (views : List View) (id : ℕ) (v : View) → Explains elements log seat words views
     → Lives log seat views id v → (j : ℕ) (u : View) → At (set views id (parts v)) j u → u.live ≡ true → u.name ≡ v.splits ∷ v.name → ⊥
 none_yet elements log seat words views id v keeps lives j u there live named = elim (at_set views id j (parts v) u there) [
   | inl here ↦ not_itself v.splits v.name (ap (λ (x : View). x.name) here.1 ∙ named)
@@ -202,7 +193,7 @@ splits_allowed elements id v live s kept at =
     let fresh = lives.fresh v.splits (omega arith) in
     let own : name_eq v.name v.name ≡ true = is_same_name v.name in
     let next = advance elements kept.log kept.seat s.words s.views id v (Split v.splits v.lane v.span) (parts v) s.words kept.keeps at live
-        (split_takes kept.log kept.seat s.views id v lives live) refl kept.keeps.values kept.keeps.mutexes in
+    (split_takes kept.log kept.seat s.views id v lives live) refl kept.keeps.values kept.keeps.mutexes in
     let sits = lives.sits in
     let P : ℕ → Type 0 = λ j. At (set s.views id (parts v)) j (parts v) in
     record {
@@ -218,7 +209,7 @@ splits_allowed elements id v live s kept at =
           there = subst P (sym lives.sits) (Rattle.atomic_table.proofs.Lists.set_here s.views id (parts v) (at_within s.views id v at));
           live = live;
           named = refl;
-          out = contains_here v.splits v.out;
+          has = contains_here v.splits v.out;
         };
         new = none_yet elements kept.log kept.seat s.words s.views id v kept.keeps lives;
       });

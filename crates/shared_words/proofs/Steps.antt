@@ -1,23 +1,23 @@
 -- Each step on the words keeps the rule, and tells what it did.
-use Rattle.std.proofs.Common.{◌≡◌, ◌≢◌, ◌⊎◌, refl, sym, ap, ap₂, ◌∙◌, subst, ℕ, ◌+◌, ◌-◌, ◌<◌, ◌≤◌, Bool, true, false, cond, List, [], ◌∷◌, ◌++◌, length, length-set, get_or, set, eq-eqb, ne_eqb, eqb-true, Option, Some, None, arith, inl, inr}
+use Rattle.std.proofs.Common.{◌≡◌, ◌⊎◌, refl, sym, ap, ◌∙◌, subst, ℕ, ◌+◌, ◌-◌, ◌<◌, Bool, true, false, cond, List, [], ◌∷◌, ◌++◌, length-set, get_or, set, eq-eqb, ne_eqb, eqb-true, Option, Some, None, arith, inl, inr}
 use Rattle.std.specs.Prelude.{◌==◌, Contains}
 use Rattle.std.proofs.lemmas.Bool.{eqb-false}
 use Rattle.std.proofs.lemmas.List.{set-get_or}
 use mathlib.Core.Logic.{dite}
-use mathlib.Core.Option.{none, some}
+use mathlib.Core.Option.{none}
 use native.Mathlib.Decide.{ℕ_discrete}
 use prog.Atomic.{either}
 use Rattle.atomic_table.specs.Table.{State, Me, step, keeps, Allows}
-use Rattle.atomic_table.proofs.Lists.{at_set, set_again, exchanged}
+use Rattle.atomic_table.proofs.Lists.{at_set, set_again}
 use Rattle.step_history.specs.declared.item.Item.{Item}
 use Rattle.step_history.specs.declared.item.Deed.{Deed}
 use Rattle.step_history.specs.declared.item.Deed.TheVariants.{Read, Write, Lock, Unlock}
 use Rattle.step_history.specs.History.{Name, item, value_at, value_after, holder, holder_after}
 use Rattle.shared_words.specs.declared.view.View.{View}
 use Rattle.shared_words.specs.Views.{did, locked, unlocked, announced, rest}
-use Rattle.shared_words.specs.Rule.{ELEMENTS, MUTEXES, FREE, mutex_word, Once, HasOut, Lives, Sits, Keeps, Kept}
-use Rattle.shared_words.specs.Steps.{loads, stores, locks, Locking, unlocks, announces}
-use Rattle.shared_words.proofs.Seats.{At, has_out_stays}
+use Rattle.shared_words.specs.Rule.{ELEMENTS, MUTEXES, FREE, mutex_word, Once, Lives, Sits, Explains, Kept}
+use Rattle.shared_words.specs.Steps.{loads, stores, Locking, unlocks, announces}
+use Rattle.shared_words.proofs.Seats.{At, live_stays}
 use Rattle.shared_words.proofs.Advance.{Takes, advance}
 use Rattle.shared_words.proofs.WordList.{word_else, word_here, here_or_later, contains_here, contains_later}
 
@@ -46,6 +46,7 @@ plain_takes log seat views id v deed lives live fits plain same = record {
   holds = λ mutex held. same mutex ∙ lives.holds mutex held;
   once = lives.once;
   out = λ k is. is;
+  gains = λ mutex name is. inl (sym (same mutex) ∙ is, λ held. held);
 }
 
 pub loads_allowed : (elements slots id : ℕ) (me : Seen) (word : ℕ) → me.0.live ≡ true → word < elements
@@ -55,7 +56,7 @@ loads_allowed elements slots id me word live within s kept same_slots at small =
     let v : View = me.0 in
     let lives = (kept.keeps.each id v at).lives live in
     let takes : Takes kept.log v (Read word found) (did v (Read word found)) =
-        plain_takes kept.log kept.seat s.views id v (Read word found) lives live (kept.keeps.values word within) (λ k. (refl, refl)) (λ mutex. refl) in
+    plain_takes kept.log kept.seat s.views id v (Read word found) lives live (kept.keeps.values word within) (λ k. (refl, refl)) (λ mutex. refl) in
     let words = set-get_or s.words (ELEMENTS + word) 0 in (
       did v (Read word found),
       keeps,
@@ -78,7 +79,7 @@ stores_allowed elements slots id me word value live within s kept same_slots at 
     let log = kept.log in
     let lives = (kept.keeps.each id v at).lives live in
     let takes : Takes kept.log v (Write word value) (did v (Write word value)) =
-        plain_takes kept.log kept.seat s.views id v (Write word value) lives live tt (λ k. (refl, refl)) (λ mutex. refl) in
+    plain_takes kept.log kept.seat s.views id v (Write word value) lives live tt (λ k. (refl, refl)) (λ mutex. refl) in
     let long = kept.keeps.wide in (
       did v (Write word value),
       keeps,
@@ -89,9 +90,9 @@ stores_allowed elements slots id me word value live within s kept same_slots at 
         keeps = advance elements kept.log kept.seat s.words s.views id v (Write word value) (did v (Write word value)) (set s.words (ELEMENTS + word) value)
             kept.keeps at live takes (length-set s.words (ELEMENTS + word) value)
             (λ w inside. dite (ℕ_discrete word w)
-                (λ here. word_here s.words (ELEMENTS + word) (ELEMENTS + w) value (omega arith) (omega arith) ∙ ap (λ (b : Bool). cond b value (value_at w kept.log)) (sym (eq-eqb word w here)))
-                (λ apart. word_else s.words (ELEMENTS + word) (ELEMENTS + w) value (omega arith)
-                    ∙ (kept.keeps.values w inside ∙ ap (λ (b : Bool). cond b value (value_at w kept.log)) (sym (ne_eqb word w apart)))))
+            (λ here. word_here s.words (ELEMENTS + word) (ELEMENTS + w) value (omega arith) (omega arith) ∙ ap (λ (b : Bool). cond b value (value_at w kept.log)) (sym (eq-eqb word w here)))
+            (λ apart. word_else s.words (ELEMENTS + word) (ELEMENTS + w) value (omega arith)
+            ∙ (kept.keeps.values w inside ∙ ap (λ (b : Bool). cond b value (value_at w kept.log)) (sym (ne_eqb word w apart)))))
             (λ mutex inside. word_else s.words (ELEMENTS + word) mutex value (omega arith) ∙ kept.keeps.mutexes mutex inside);
       },
       ap (λ (k : ℕ). (did v (Write k value), me.1)) (sym (element_of word)),
@@ -108,9 +109,12 @@ unmoved elements id me i s kept at = record {
   log = kept.log;
   seat = kept.seat;
   keeps =
-    let P : List ℕ × List View → Type 0 = λ z. Keeps elements kept.log kept.seat z.0 z.1 in
-    subst P (λ k. (sym (set-get_or s.words i 0) k, sym (set_again s.views id me.0 at) k)) kept.keeps;
+      let P : List ℕ × List View → Type 0 = λ z. Explains elements kept.log kept.seat z.0 z.1 in
+      subst P (λ k. (sym (set-get_or s.words i 0) k, sym (set_again s.views id me.0 at) k)) kept.keeps;
 }
+
+one_name : (m n : Name) → Some m ≡ Some n → m ≡ n
+one_name m n same = cc
 
 lock_takes : (log : List Item) (seat : Name → ℕ) (views : List View) (id : ℕ) (v : View) (mutex : ℕ) → Lives log seat views id v → v.live ≡ true
     → holder mutex log ≡ None → Takes log v (Lock mutex) (locked v mutex)
@@ -124,7 +128,17 @@ lock_takes log seat views id v mutex lives live nobody = record {
   holds = λ m held. at m (mutex == m) refl held;
   once = (λ held. let no : Some v.name ≡ None = sym (lives.holds mutex held) ∙ nobody in cc, lives.once);
   out = λ k is. is;
+  gains = λ m name is. gains m name (mutex == m) refl is;
 } where
+  gains : (m : ℕ) (name : Name) (b : Bool) → (mutex == m) ≡ b → cond (mutex == m) (Some v.name) (holder m log) ≡ Some name
+      → ((holder m log ≡ Some name) × (Contains v.held m → Contains (mutex ∷ v.held) m)) ⊎ ((name ≡ v.name) × Contains (mutex ∷ v.held) m)
+  gains m name true same is =
+      let P : ℕ → Type 0 = λ k. Contains (mutex ∷ v.held) k in
+      let mine : Some v.name ≡ Some name = ap (λ (b : Bool). cond b (Some v.name) (holder m log)) (sym same) ∙ is in
+      inr (one_name name v.name (sym mine), subst P (eqb-true mutex m same) (contains_here mutex v.held))
+  gains m name false apart is =
+      inl (ap (λ (b : Bool). cond b (Some v.name) (holder m log)) (sym apart) ∙ is, λ held. contains_later mutex m v.held held)
+
   at : (m : ℕ) (b : Bool) → (mutex == m) ≡ b → Contains (mutex ∷ v.held) m → cond (mutex == m) (Some v.name) (holder m log) ≡ Some v.name
   at m true is held = ap (λ (b : Bool). cond b (Some v.name) (holder m log)) is
   at m false is held =
@@ -143,32 +157,32 @@ lock_wins elements id v mutex s live within kept at unheld =
           kept.keeps at live (lock_takes kept.log kept.seat s.views id v mutex lives live nobody) (length-set s.words mutex 1)
           (λ w inside. word_else s.words mutex (ELEMENTS + w) 1 (omega arith) ∙ kept.keeps.values w inside)
           (λ m inside. dite (ℕ_discrete mutex m)
-              (λ here. word_here s.words mutex m 1 here (omega arith) ∙ ap (λ (b : Bool). mutex_word (cond b (Some v.name) (holder m kept.log))) (sym (eq-eqb mutex m here)))
-              (λ apart. word_else s.words mutex m 1 apart
-                  ∙ (kept.keeps.mutexes m inside ∙ ap (λ (b : Bool). mutex_word (cond b (Some v.name) (holder m kept.log))) (sym (ne_eqb mutex m apart)))));
+          (λ here. word_here s.words mutex m 1 here (omega arith) ∙ ap (λ (b : Bool). mutex_word (cond b (Some v.name) (holder m kept.log))) (sym (eq-eqb mutex m here)))
+          (λ apart. word_else s.words mutex m 1 apart
+          ∙ (kept.keeps.mutexes m inside ∙ ap (λ (b : Bool). mutex_word (cond b (Some v.name) (holder m kept.log))) (sym (ne_eqb mutex m apart)))));
     }
 
 pub locks_allowed : (elements slots id : ℕ) (me : Seen) (mutex : ℕ) → me.0.live ≡ true → mutex < MUTEXES
-    → Allows (Kept elements) slots id me mutex (λ n. either (n == 0) 1 n) (locks (step slots mutex 0 1 none) me)
+    → Allows (Kept elements) slots id me mutex (λ n. either (n == 0) 1 n) (Locking (step slots mutex 0 1 none) me)
 locks_allowed elements slots id me mutex live within s kept same_slots at small =
     let found : ℕ = get_or s.words mutex 0 in
     dite (ℕ_discrete found 0)
-        (λ free. (
-          locked me.0 mutex,
-          keeps,
-          tt,
-          subst (λ (b : Bool). Kept elements (record { words = set s.words mutex (either b 1 found); homes = s.homes; views = set s.views id (locked me.0 mutex) }))
-              (sym (eq-eqb found 0 free)) (lock_wins elements id me.0 mutex s live within kept at free),
-          record { won = λ _. refl; lost = λ not. absurd (not free) },
-        ))
-        (λ taken. (
-          me.0,
-          keeps,
-          tt,
-          subst (λ (b : Bool). Kept elements (record { words = set s.words mutex (either b 1 found); homes = s.homes; views = set s.views id me.0 }))
-              (sym (ne_eqb found 0 taken)) (unmoved elements id me mutex s kept at),
-          record { won = λ is. absurd (taken is); lost = λ _. refl },
-        ))
+    (λ free. (
+      locked me.0 mutex,
+      keeps,
+      tt,
+      subst (λ (b : Bool). Kept elements (record { words = set s.words mutex (either b 1 found); homes = s.homes; views = set s.views id (locked me.0 mutex) }))
+          (sym (eq-eqb found 0 free)) (lock_wins elements id me.0 mutex s live within kept at free),
+      record { won = λ _. refl; lost = λ not. absurd (not free) },
+    ))
+    (λ taken. (
+      me.0,
+      keeps,
+      tt,
+      subst (λ (b : Bool). Kept elements (record { words = set s.words mutex (either b 1 found); homes = s.homes; views = set s.views id me.0 }))
+          (sym (ne_eqb found 0 taken)) (unmoved elements id me mutex s kept at),
+      record { won = λ is. absurd (taken is); lost = λ _. refl },
+    ))
 
 once_rest : (held : List ℕ) → Once held → Once (rest held)
 once_rest [] once = tt
@@ -190,7 +204,20 @@ unlock_takes log seat views id v mutex lives live innermost = record {
   holds = λ m held. at m (mutex == m) refl held;
   once = once_rest v.held lives.once;
   out = λ k is. is;
+  gains = λ m name is. gains m name (mutex == m) refl is;
 } where
+  after_first : (held : List ℕ) (m : ℕ) → held ≡ mutex ∷ rest held → (mutex ≡ m → ⊥) → Contains held m → Contains (rest held) m
+  after_first held m first apart has =
+      let P : List ℕ → Type 0 = λ ks. Contains ks m in
+      here_or_later mutex m (rest held) (subst P first has) apart
+
+  gains : (m : ℕ) (name : Name) (b : Bool) → (mutex == m) ≡ b → cond (mutex == m) None (holder m log) ≡ Some name
+      → ((holder m log ≡ Some name) × (Contains v.held m → Contains (rest v.held) m)) ⊎ ((name ≡ v.name) × Contains (rest v.held) m)
+  gains m name true same is =
+      let nobody : None ≡ Some name = ap (λ (b : Bool). cond b None (holder m log)) (sym same) ∙ is in cc
+  gains m name false apart is =
+      inl (ap (λ (b : Bool). cond b None (holder m log)) (sym apart) ∙ is, after_first v.held m innermost (eqb-false mutex m apart))
+
   Has : List ℕ → Type 0
   Has held = Contains held mutex
 
@@ -217,9 +244,9 @@ unlocks_allowed elements slots id me mutex live within innermost s kept same_slo
             kept.keeps at live (unlock_takes kept.log kept.seat s.views id v mutex lives live innermost) (length-set s.words mutex 0)
             (λ w inside. word_else s.words mutex (ELEMENTS + w) 0 (omega arith) ∙ kept.keeps.values w inside)
             (λ m inside. dite (ℕ_discrete mutex m)
-                (λ here. word_here s.words mutex m 0 here (omega arith) ∙ ap (λ (b : Bool). mutex_word (cond b None (holder m kept.log))) (sym (eq-eqb mutex m here)))
-                (λ apart. word_else s.words mutex m 0 apart
-                    ∙ (kept.keeps.mutexes m inside ∙ ap (λ (b : Bool). mutex_word (cond b None (holder m kept.log))) (sym (ne_eqb mutex m apart)))));
+            (λ here. word_here s.words mutex m 0 here (omega arith) ∙ ap (λ (b : Bool). mutex_word (cond b None (holder m kept.log))) (sym (eq-eqb mutex m here)))
+            (λ apart. word_else s.words mutex m 0 apart
+            ∙ (kept.keeps.mutexes m inside ∙ ap (λ (b : Bool). mutex_word (cond b None (holder m kept.log))) (sym (ne_eqb mutex m apart)))));
       },
       refl,
     )
@@ -233,7 +260,7 @@ announced_lives log seat views id v w j u at live named out lives = record {
   fresh = lives.fresh;
   holds = lives.holds;
   once = lives.once;
-  parent = λ k p is. has_out_stays seat views id v w k p at live named (let P : List ℕ → Type 0 = λ l. Contains l k in subst P (sym out)) (lives.parent k p is);
+  parent = λ k p is. live_stays seat views id v w p (λ (x : View). Contains x.out k) at live named (let P : List ℕ → Type 0 = λ l. Contains l k in subst P (sym out)) (lives.parent k p is);
 }
 
 pub announces_allowed : (elements slots id : ℕ) (me : Seen) (lane span : ℕ) → me.0.live ≡ true
@@ -254,6 +281,7 @@ announces_allowed elements slots id me lane span live s kept same_slots at small
           legal = kept.keeps.legal;
           values = λ word inside. word_else s.words FREE (ELEMENTS + word) new (omega arith) ∙ kept.keeps.values word inside;
           mutexes = λ mutex inside. word_else s.words FREE mutex new (omega arith) ∙ kept.keeps.mutexes mutex inside;
+          owners = λ mutex name is. live_stays kept.seat s.views id v w name (λ (x : View). Contains x.held mutex) at live refl (λ held. held) (kept.keeps.owners mutex name is);
           unborn = kept.keeps.unborn;
           seated = λ name. let within = kept.keeps.seated name in omega (arith, length-set s.views id w);
           each = λ j u there. elim (at_set s.views id j w u there) [

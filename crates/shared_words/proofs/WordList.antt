@@ -1,5 +1,5 @@
 -- The words, where one of them is set.
-use Rattle.std.proofs.Common.{◌≡◌, ◌≢◌, refl, sym, ap, ◌∙◌, ℕ, zero, suc, ◌+◌, ◌<◌, ◌≤◌, Bool, true, false, cond, List, [], ◌∷◌, length, length-set, get_or, set, get_or-set_same, get_or-set_other, eq-eqb, eqb-true, arith}
+use Rattle.std.proofs.Common.{◌≡◌, refl, sym, ap, ◌∙◌, ℕ, zero, suc, ◌<◌, Bool, true, false, cond, List, [], ◌∷◌, length, get_or, set, get_or-set_same, get_or-set_other, eqb-true, arith}
 use Rattle.std.specs.Prelude.{◌==◌, not, Contains}
 use Rattle.shared_words.specs.Views.{without}
 

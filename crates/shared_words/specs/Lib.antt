@@ -1,3 +1,4 @@
+pub mod Draws
 pub mod Handles
 pub mod Rule
 pub mod Steps

@@ -1,5 +1,5 @@
 -- What one step on the words tells of the view: before it, the number found or stored, and after it.
-use Rattle.std.specs.Prelude.{◌≡◌, ◌≢◌, ℕ, ◌-◌, List}
+use Rattle.std.specs.Prelude.{◌≡◌, ◌≢◌, ℕ, ◌-◌}
 use Rattle.atomic_table.specs.Table.{Me, Step}
 use Rattle.step_history.specs.declared.item.Deed.TheVariants.{Read, Write}
 use Rattle.shared_words.specs.declared.view.View.{View}
@@ -19,9 +19,6 @@ stores step me stored after = after ≡ (did me.0 (Write (step.word - ELEMENTS) 
 pub record Locking (step : Step (Unit {0})) (me : Seen) (found : ℕ) (after : Seen) : Type 0 where
   pub won : found ≡ 0 → after ≡ (locked me.0 step.word, me.1)
   pub lost : found ≢ 0 → after ≡ me
-
-abbrev pub locks : Step (Unit {0}) → Seen → ℕ → Seen → Type 0
-locks = Locking
 
 abbrev pub unlocks : Step (Unit {0}) → Seen → ℕ → Seen → Type 0
 unlocks step me stored after = after ≡ (unlocked me.0 step.word, me.1)

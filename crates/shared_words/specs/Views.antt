@@ -1,6 +1,5 @@
 -- What each call does to the view of a hand.
-use Rattle.std.specs.Prelude.{◌≡◌, ℕ, ◌+◌, ◌<◌, Bool, true, false, not, ◌==◌, List, [], ◌∷◌, ◌++◌, filter}
-use Rattle.step_history.specs.declared.item.Item.{Item}
+use Rattle.std.specs.Prelude.{◌≡◌, ℕ, ◌+◌, true, false, not, ◌==◌, List, [], ◌∷◌, ◌++◌, filter}
 use Rattle.step_history.specs.declared.item.Deed.{Deed}
 use Rattle.step_history.specs.declared.item.Deed.TheVariants.{Lock, Unlock, Split, Home}
 use Rattle.step_history.specs.History.{Name, item}
@@ -52,9 +51,9 @@ abbrev pub child : View → View
 child v = newcomer (v.splits ∷ v.name)
 
 -- the number of the split that made the hand of that name
-abbrev pub number_of : Name → ℕ
-number_of [] = 0
-number_of (k ∷ name) = k
+abbrev pub split_number : Name → ℕ
+split_number [] = 0
+split_number (k ∷ name) = k
 
 -- the list without that number
 abbrev pub without : ℕ → List ℕ → List ℕ
@@ -63,6 +62,6 @@ without number = filter (λ (k : ℕ). not (k == number))
 -- another hand was joined to it
 abbrev pub met : View → View → View
 met v w = record v {
-  out = without (number_of w.name) v.out;
-  items = v.items ++ w.items ++ item v.name (Home (number_of w.name)) ∷ [];
+  out = without (split_number w.name) v.out;
+  items = v.items ++ w.items ++ item v.name (Home (split_number w.name)) ∷ [];
 }

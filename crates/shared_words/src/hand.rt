@@ -1,7 +1,8 @@
 //! A thread's right to use the shared words.
 ghost use Rattle.std.specs.Prelude.{◌≡◌, true, false, [], ◌∷◌};
-ghost use Rattle.shared_words.specs.Views.{IsAtRest};
-ghost use Rattle.shared_words.specs.Handles.{HandValue, hand_with, is_there, view_in, ThereAtRest};
+ghost use Rattle.shared_words.specs.declared.view.View.{View};
+ghost use Rattle.shared_words.specs.Views.{IsAtRest, spent};
+ghost use Rattle.shared_words.specs.Handles.{HandValue, hand_with, is_there, view_or, AtMostOne};
 
 use crate::view::View;
 use atomic_table::{Badge, Seat};
@@ -15,11 +16,11 @@ pub struct Hand {
 }
 
 impl Model for Hand {
-    ghost Value = { HandValue };
+    ghost Value = { HandValue View };
 
-    ghost view = { λ h. record { table = h.badge.table_id; there = is_there h.badge.views; view = view_in h.badge.views } };
+    ghost view = { λ h. record { table = h.badge.table_id; there = is_there h.badge.views; view = view_or spent h.badge.views } };
 
-    ghost invariant = { λ h. ThereAtRest h.badge.views };
+    ghost invariant = { λ h. AtMostOne IsAtRest h.badge.views };
 }
 
 impl Hand {

@@ -33,9 +33,9 @@ impl Play<(), View> for Stores {
 pub(crate) struct Locks;
 
 impl Play<(), View> for Locks {
-    ghost use Rattle.shared_words.specs.Steps.{locks};
+    ghost use Rattle.shared_words.specs.Steps.{Locking};
 
-    ghost then = { locks };
+    ghost then = { Locking };
 }
 
 pub(crate) struct Unlocks;

@@ -10,8 +10,8 @@ ghost use Rattle.shared_words.specs.Views.{newcomer, did, locked, unlocked, rest
 use crate::hand::Hand;
 use crate::rule::{Announces, Law, Loads, Locks, Meets, Parts, Stores, Unlocks};
 use crate::view::View;
-use atomic_table::Table;
-use std::alloc::Global;
+use atomic_table::{Seat, Table};
+use std::alloc::{AllocError, Global};
 use std::marker::Model;
 use std::sync::Wait;
 use sw_base::Memory;
@@ -21,24 +21,23 @@ const FREE: usize = 64;
 
 const FIRST_ELEMENT: usize = 65;
 
-const ELEMENT_LIMIT: usize = 1_048_576;
-
-const LOCK_LIMIT: usize = 64;
+type Shared = Table<(), View, usize, Law, Global>;
 
 /// Words and mutexes that threads share.
 #[derive(Drop)]
 pub struct Words {
-    table: Table<(), View, usize, Law, Global>,
+    table: Shared,
     // Where the values go at the end.
     room: Vec<u64>,
     locks: usize,
 }
 
 // The values of the elements.
-fn copy_elements(closed: &atomic_table::Closed<(), Global>, room: &mut [u64])
+fn copy_elements(closed: &atomic_table::Closed<(), Global>, room: &mut Vec<u64>)
     requires full { IsFull closed.now.words }
-    requires long { ELEMENTS + length room.old ≤ slots_len closed.now.words }
-    ensures { EachIndex room.new (λ k. slice_index room.new k ≡ slice_index (slots_items closed.now.words) (ELEMENTS + k)) }
+    requires long { ELEMENTS + vec_len room.old ≤ slots_len closed.now.words }
+    ensures len { vec_len room.new ≡ vec_len room.old }
+    ensures values { EachIndex room.new.items (λ k. slice_index room.new.items k ≡ slice_index (slots_items closed.now.words) (ELEMENTS + k)) }
 {
     for (i, word) in room.iter_mut().enumerate() {
         *word = closed.word(FIRST_ELEMENT + i);
@@ -59,6 +58,25 @@ impl Model for Words {
     ghost invariant = { λ w. (w.table.shared.table_id.words ≡ ELEMENTS + vec_len w.room) × (w.table.shared.key ≡ vec_len w.room) × (w.table.shared.table_id.slots ≡ 0) × (w.locks ≤ 64) × (vec_len w.room ≤ 1048576) };
 }
 
+// A table whose words are 0, its first seat, and room for the elements.
+fn new_table(
+    alloc: Global,
+    elements: usize,
+) -> Result<(Shared, Seat<(), View>, Vec<u64>), AllocError>
+    requires { elements ≤ 1048576 }
+    ensures words { IfOk result (λ r. r.0.shared.table_id.words ≡ ELEMENTS + elements) }
+    ensures slots { IfOk result (λ r. r.0.shared.table_id.slots ≡ 0) }
+    ensures key { IfOk result (λ r. r.0.shared.key ≡ elements) }
+    ensures seat { IfOk result (λ r. (r.1.table_id ≡ r.0.shared.table_id) × (r.1.me ≡ (newcomer [], []))) }
+    ensures room { IfOk result (λ r. vec_len r.2 ≡ elements) }
+{
+    let mut room = Vec::new(alloc);
+    room.resize(FIRST_ELEMENT + elements, 0u64)?;
+    let (table, seat) = Table::of_words(alloc, &room, &elements)?;
+    room.truncate(elements);
+    Ok((table, seat, room))
+}
+
 impl Words {
     /// Each word is 0, and nobody holds a mutex.
     pub fn new(alloc: Global, elements: usize, locks: usize) -> Result<(Words, Hand), Memory>
@@ -67,72 +85,74 @@ impl Words {
         ensures counts { IfOk result (λ r. (r.0.elements ≡ elements) × (r.0.locks ≡ locks)) }
         ensures hand { IfOk result (λ r. r.1 ≡ hand_with r.0.table (newcomer [])) }
     {
-        let mut room = Vec::new(alloc);
-        room.resize(FIRST_ELEMENT + elements, 0u64)?;
-        let (table, seat) = Table::of_words(alloc, &room, &elements)?;
-        room.truncate(elements);
+        let (table, seat, room) = new_table(alloc, elements)?;
         Ok((Words { table, room, locks }, Hand::of(seat)))
     }
 
     pub fn load(&self, hand: &mut Hand, word: usize) -> u64
-        requires hand { Belongs hand.old self.now }
+        requires hand { Belongs hand.old self.now.table }
         requires word { word < self.now.elements }
         ensures { hand.new ≡ with_view hand.old (did hand.old.view (Read word result)) }
     {
+        let shared = &self.table.shared;
         let mut seat = hand.take();
-        let value = self.table.shared.load::<Loads>(&mut seat, FIRST_ELEMENT + word);
+        let value = shared.load::<Loads>(&mut seat, FIRST_ELEMENT + word);
         *hand = Hand::of(seat);
         value
     }
 
     pub fn store(&self, hand: &mut Hand, word: usize, value: u64)
-        requires hand { Belongs hand.old self.now }
+        requires hand { Belongs hand.old self.now.table }
         requires word { word < self.now.elements }
         ensures { hand.new ≡ with_view hand.old (did hand.old.view (Write word value)) }
     {
+        let shared = &self.table.shared;
         let mut seat = hand.take();
-        self.table.shared.store::<Stores>(&mut seat, FIRST_ELEMENT + word, value);
+        shared.store::<Stores>(&mut seat, FIRST_ELEMENT + word, value);
         *hand = Hand::of(seat);
     }
 
     /// Waits until the mutex is won.
     pub fn lock<R: Wait>(&self, rt: &R, hand: &mut Hand, mutex: usize)
-        requires hand { Belongs hand.old self.now }
+        requires hand { Belongs hand.old self.now.table }
         requires mutex { mutex < self.now.locks }
         requires not_held { Contains hand.old.view.held mutex → ⊥ }
         ensures { hand.new ≡ with_view hand.old (locked hand.old.view mutex) }
     {
+        let shared = &self.table.shared;
         let mut seat = hand.take();
         for _ in rt.forever() {
-            if self.table.shared.compare_exchange::<Locks>(&mut seat, mutex, 0, 1) == 0 {
+            let found = shared.compare_exchange::<Locks>(&mut seat, mutex, 0, 1);
+            if found == 0 {
                 break;
             }
-            self.table.shared.park(rt, mutex, 1);
+            shared.park(rt, mutex, 1);
         }
         *hand = Hand::of(seat);
     }
 
     /// Gives back the mutex that was won last, and wakes a thread that waits for it.
     pub fn unlock(&self, hand: &mut Hand, mutex: usize)
-        requires hand { Belongs hand.old self.now }
+        requires hand { Belongs hand.old self.now.table }
         requires mutex { mutex < self.now.locks }
         requires innermost { hand.old.view.held ≡ mutex ∷ rest hand.old.view.held }
         ensures { hand.new ≡ with_view hand.old (unlocked hand.old.view mutex) }
     {
+        let shared = &self.table.shared;
         let mut seat = hand.take();
-        self.table.shared.store::<Unlocks>(&mut seat, mutex, 0);
-        self.table.shared.wake_one(mutex);
+        shared.store::<Unlocks>(&mut seat, mutex, 0);
+        shared.wake_one(mutex);
         *hand = Hand::of(seat);
     }
 
     /// A new hand, for a lane of a team.
     pub fn split(&self, hand: &mut Hand, lane: u16, span: u16) -> Hand
-        requires { Belongs hand.old self.now }
+        requires { Belongs hand.old self.now.table }
         ensures kept { hand.new ≡ with_view hand.old (parted hand.old.view lane span) }
         ensures given { result ≡ with_view hand.old (child hand.old.view) }
     {
-        let mut seat = hand.take();
         let shared = &self.table.shared;
+        let mut seat = hand.take();
         shared.compare_exchange::<Announces>(&mut seat, FREE, lane as u64, span as u64);
         let other = shared.split_seat::<Parts>(&mut seat);
         *hand = Hand::of(seat);
@@ -141,19 +161,20 @@ impl Words {
 
     /// The other hand's part is done.
     pub fn join(&self, hand: &mut Hand, mut other: Hand)
-        requires hand { Belongs hand.old self.now }
-        requires other { Belongs other self.now }
+        requires hand { Belongs hand.old self.now.table }
+        requires other { Belongs other self.now.table }
         requires home { IsHome hand.old other }
         ensures { hand.new ≡ with_view hand.old (met hand.old.view other.view) }
     {
+        let shared = &self.table.shared;
         let mut seat = hand.take();
-        self.table.shared.join_seat::<Meets>(&mut seat, other.take());
+        shared.join_seat::<Meets>(&mut seat, other.take());
         *hand = Hand::of(seat);
     }
 
     /// The last values of the words. What all hands did has one history, which ends in them.
     pub fn close(self, mut hand: Hand) -> Closed
-        requires hand { Belongs hand self }
+        requires hand { Belongs hand self.table }
         requires first { hand.view.name ≡ [] }
         requires none_out { hand.view.out ≡ [] }
         ensures len { vec_len result.words ≡ self.elements }

@@ -1,10 +1,10 @@
 -- Between two locks of one mutex, whoever locked it first unlocks it.
-use Rattle.std.proofs.Common.{◌≡◌, refl, sym, ap, ◌∙◌, subst, ℕ, suc, ◌<◌, Bool, true, false, cond, ◌==◌, eqb, eqb-true, eq-eqb, List, [], ◌∷◌, ◌++◌, length, get_or, Option, Some, None, arith}
+use Rattle.std.proofs.Common.{◌≡◌, refl, sym, ap, ◌∙◌, subst, ℕ, suc, Bool, true, false, cond, ◌==◌, eqb-true, eq-eqb, List, [], ◌∷◌, ◌++◌, Some, None, arith}
 use Rattle.std.specs.Prelude.{Contains, ◌==◌}
 use Rattle.step_history.specs.declared.item.Item.{Item}
 use Rattle.step_history.specs.declared.item.Deed.{Deed}
 use Rattle.step_history.specs.declared.item.Deed.TheVariants.{Read, Write, Lock, Unlock, Split, Home}
-use Rattle.step_history.specs.History.{Name, item, holder, holder_after, Fits, FitsDeed, LegalAfter, Legal}
+use Rattle.step_history.specs.History.{Name, item, holder, holder_after, FitsDeed, LegalAfter, Legal}
 use Rattle.step_history.proofs.Folds.{holder_more, legal_rest}
 
 -- the mutex that it has stays with a hand over a deed that fits, unless it unlocks it
@@ -27,14 +27,14 @@ kept mutex owner name before has (Home k) fits = stays refl
 kept mutex owner name before has (Lock m) fits = at (m == mutex) refl
   where
     at : (b : Bool) → (m == mutex) ≡ b → Keeps mutex owner name (Lock m)
-    at true same = 
+    at true same =
         let P : ℕ → Type 0 = λ k. holder k before ≡ None in
         absurd (some_apart owner (sym has ∙ subst P (eqb-true m mutex same) fits))
     at false apart = stays (ap (λ (b : Bool). cond b (Some name) (Some owner)) apart)
 kept mutex owner name before has (Unlock m) fits = at (m == mutex) refl
   where
     at : (b : Bool) → (m == mutex) ≡ b → Keeps mutex owner name (Unlock m)
-    at true same = 
+    at true same =
         let P : ℕ → Type 0 = λ k. holder k before ≡ Some name in
         let whose : owner ≡ name = some_same owner name (sym has ∙ subst P (eqb-true m mutex same) fits) in
         leaves (ap (λ (n : Name). item n (Unlock m)) (sym whose) ∙ ap (λ (k : ℕ). item owner (Unlock k)) (eqb-true m mutex same))
@@ -64,7 +64,7 @@ exclusion before mid after first second mutex legal =
     let rest = legal_rest [] before (item first (Lock mutex) ∷ (mid ++ item second (Lock mutex) ∷ after)) legal in
     let is_mutex : (mutex == mutex) ≡ true = eq-eqb mutex mutex refl in
     let now : holder mutex (before ++ item first (Lock mutex) ∷ []) ≡ Some first =
-        holder_more mutex before (item first (Lock mutex)) ∙ ap (λ (b : Bool). cond b (Some first) (holder mutex before)) is_mutex in
+    holder_more mutex before (item first (Lock mutex)) ∙ ap (λ (b : Bool). cond b (Some first) (holder mutex before)) is_mutex in
     unlocked_between mutex first second (before ++ item first (Lock mutex) ∷ []) mid after now rest.1
 
 -- who holds a mutex holds it over another's step

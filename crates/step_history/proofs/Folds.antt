@@ -1,6 +1,6 @@
 -- The folds of a history at one more step, and at a list put behind another.
-use Rattle.std.proofs.Common.{◌≡◌, refl, sym, ap, ap₂, ◌∙◌, subst, ℕ, Bool, true, false, cond, List, [], ◌∷◌, ◌++◌, Option, Some, None}
-use Rattle.std.specs.Prelude.{◌&&◌, ◌||◌, not, filter}
+use Rattle.std.proofs.Common.{◌≡◌, refl, sym, ap, ap₂, ◌∙◌, subst, ℕ, Bool, true, false, cond, List, [], ◌∷◌, ◌++◌, Option, None}
+use Rattle.std.specs.Prelude.{◌&&◌, ◌||◌, not}
 use Rattle.std.specs.List.{list_any}
 use Rattle.std.proofs.lemmas.List.{append-nil, append_assoc}
 use Rattle.std.proofs.lemmas.List.Elements.{filter-append}
@@ -8,7 +8,7 @@ use Rattle.std.proofs.lemmas.List.Folds.{list_any-append}
 use Rattle.step_history.specs.declared.item.Item.{Item}
 use Rattle.step_history.specs.declared.item.Deed.{Deed}
 use Rattle.step_history.specs.History.{Name, name_eq, item, of, value_at, value_from, value_after, holder, holder_from, holder_after, is_split, is_home, was_split, came_home, is_out, Fits, LegalAfter, Legal}
-use Rattle.step_history.proofs.Names.{is_same_name, other_name}
+use Rattle.step_history.proofs.Names.{other_name}
 
 value_from-append : (word : ℕ) (xs ys : List Item) (value : ℕ) → value_from word (xs ++ ys) value ≡ value_from word ys (value_from word xs value)
 value_from-append word [] ys value = refl
@@ -42,9 +42,6 @@ legal_more log x legal fits = legal_after_more [] log x legal fits
 
 pub of-append : (name : Name) (xs ys : List Item) → of name (xs ++ ys) ≡ of name xs ++ of name ys
 of-append name xs ys = filter-append (λ (x : Item). name_eq x.name name) xs ys
-
-pub of_own : (name : Name) (deed : Deed) → of name (item name deed ∷ []) ≡ item name deed ∷ []
-of_own name deed = ap (λ (b : Bool). cond b (item name deed ∷ []) []) (is_same_name name)
 
 pub of_other : (name other : Name) (deed : Deed) → (other ≡ name → ⊥) → of name (item other deed ∷ []) ≡ []
 of_other name other deed apart = ap (λ (b : Bool). cond b (item other deed ∷ []) []) (other_name other name apart)
@@ -89,8 +86,8 @@ pub out_at_split : (p : Name) (k : ℕ) (log : List Item) (x : Item) → (name_e
     → (name_eq x.name p && is_home k x.deed) ≡ false → came_home p k log ≡ false → is_out (k ∷ p) (log ++ x ∷ []) ≡ true
 out_at_split p k log x splits stays none =
     ap₂ (λ (a b : Bool). a && not b)
-        (was_split_more p k log x ∙ (ap (λ (b : Bool). was_split p k log || b) splits ∙ or_true (was_split p k log)))
-        (came_home_more p k log x ∙ ap₂ (λ (a b : Bool). a || b) none stays)
+    (was_split_more p k log x ∙ (ap (λ (b : Bool). was_split p k log || b) splits ∙ or_true (was_split p k log)))
+    (came_home_more p k log x ∙ ap₂ (λ (a b : Bool). a || b) none stays)
   where
     or_true : (b : Bool) → (b || true) ≡ true
     or_true true = refl

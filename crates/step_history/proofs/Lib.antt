@@ -1,3 +1,5 @@
 pub mod Exclusion
 pub mod Folds
+pub mod HistoryCases
 pub mod Names
+pub mod SplitsAndHomes

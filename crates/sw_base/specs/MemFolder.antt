@@ -51,12 +51,12 @@ abbrev pub plans_of : MemFolder → List Plan
 plans_of folder = plans_by folder.plans
 
 -- its calls, with the faults of those that read
-abbrev pub reads_of : MemFolder → Counted
-reads_of folder = record { calls = calls_of folder; failing = failing_of folder; faults = read_faults_of folder }
+abbrev pub counted_reads : MemFolder → Counted
+counted_reads folder = record { calls = calls_of folder; failing = failing_of folder; faults = read_faults_of folder }
 
 -- the same with the faults of the others
-abbrev pub writes_of : MemFolder → Counted
-writes_of folder = record { calls = calls_of folder; failing = failing_of folder; faults = write_faults_of folder }
+abbrev pub counted_writes : MemFolder → Counted
+counted_writes folder = record { calls = calls_of folder; failing = failing_of folder; faults = write_faults_of folder }
 
 -- no call is counted, and none is a fault
 pub record IsUncounted (old new : MemFolder) : Type 0 where
@@ -67,13 +67,13 @@ pub record IsUncounted (old new : MemFolder) : Type 0 where
 
 -- a call that reads, and whether it failed
 pub record CountsRead (failed : Type 0) (old new : MemFolder) : Type 0 where
-  pub counts : CountsCall failed (reads_of old) (reads_of new)
+  pub counts : CountsCall failed (counted_reads old) (counted_reads new)
   pub same_writes : write_faults_of new ≡ write_faults_of old
   pub same_plans : plans_of new ≡ plans_of old
 
 -- another call, and whether it failed
 pub record CountsWrite (failed : Type 0) (old new : MemFolder) : Type 0 where
-  pub counts : CountsCall failed (writes_of old) (writes_of new)
+  pub counts : CountsCall failed (counted_writes old) (counted_writes new)
   pub same_reads : read_faults_of new ≡ read_faults_of old
   pub same_plans : plans_of new ≡ plans_of old
 

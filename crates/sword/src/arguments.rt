@@ -26,7 +26,10 @@ pub enum Command<'a> {
 }
 
 /// What the arguments ask for. `None` where they ask for nothing.
-pub fn read_arguments<'a>(alloc: Global, arguments: &'a [String]) -> Result<Option<Command<'a>>, AllocError>
+pub fn read_arguments<'a>(
+    alloc: Global,
+    arguments: &'a [String],
+) -> Result<Option<Command<'a>>, AllocError>
     ensures said { IfOk result (λ asked. IfSome asked (λ c. Says (texts arguments.now) (request_of c))) }
     ensures usage { IfOk result (λ asked. IfNone asked (IsUsage (texts arguments.now))) }
 {

@@ -1,7 +1,7 @@
 //! The checker against a search of the graph of edges: small and slow on purpose, and written from the definition alone.
 ghost use Rattle.std.specs.Prelude.{◌<◌};
 
-use crate::tests::{Rec, Step, answers, folder};
+use crate::tests::{Rec, Step, answers, made_folder};
 use command_answer::RACES;
 use std::alloc::{AllocError, Global};
 use std::test::Fail;
@@ -166,7 +166,7 @@ fn folder_of(alloc: Global, tasks: &[Task]) -> Result<MemFolder, Fail> {
     for task in tasks {
         all.push((&task.steps, &task.records))?;
     }
-    folder(alloc, &all)
+    made_folder(alloc, &all)
 }
 
 /// A record of the run, by its log and its place there.

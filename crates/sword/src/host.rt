@@ -1,6 +1,6 @@
 //! The environment on the host: real files and the standard output. These objects tell nothing of what they hold; their
 //! counts of faults rise at each error of the system but want of memory before anything was written.
-ghost use Rattle.std.specs.Prelude.{◌≡◌, ◌≤◌, ℕ, List, None, Option, string_bytes, length, IfOk};
+ghost use Rattle.std.specs.Prelude.{◌≡◌, ◌≤◌, ◌↔◌, ℕ, List, None, Option, string_bytes, length, IfOk, IsOk, IsErrOf};
 ghost use Rattle.sw_base.specs.Environment.{Rose, HasCause, Content, Text};
 ghost use Rattle.sw_base.specs.declared.path.Step.{Step};
 ghost use Rattle.sw_base.specs.declared.trouble.Trouble.TheVariants as trouble;
@@ -47,6 +47,19 @@ fn trouble(error: Error, faults: &mut u64) -> Trouble
     }
     *faults = faults.saturating_add(1);
     Trouble::Failed
+}
+
+// What a call of the system came to. An error is a fault that is counted, or want of memory; where there is none, none is counted.
+fn counted(outcome: io::Result<()>, faults: &mut u64) -> Result<(), Trouble>
+    ensures ok { IsOk result ↔ IsOk outcome }
+    ensures none { IsOk outcome → faults.new ≡ faults.old }
+    ensures cause { HasCause faults.old faults.new result }
+    ensures memory { IsErrOf result trouble.Memory → faults.new ≡ faults.old }
+{
+    match outcome {
+        Ok(()) => Ok(()),
+        Err(error) => Err(trouble(error, faults)),
+    }
 }
 
 fn is_missing(error: &Error) -> bool {
@@ -127,10 +140,7 @@ impl<R: Files + Clone + Drop + Send + 'static> Log for HostLog<R> {
 
     fn append(&mut self, alloc: Global, piece: &[u8]) -> Result<(), Trouble> {
         let name = self.path.name(alloc, self.dir.as_str())?;
-        match append_to(&self.rt, name.as_str(), piece) {
-            Ok(()) => Ok(()),
-            Err(error) => Err(trouble(error, &mut self.faults)),
-        }
+        counted(append_to(&self.rt, name.as_str(), piece), &mut self.faults)
     }
 }
 
@@ -166,10 +176,7 @@ impl<R: Files + Clone + Drop + Send + 'static> Folder for HostFolder<R> {
     }
 
     fn put(&mut self, _alloc: Global, name: &str, bytes: &[u8]) -> Result<(), Trouble> {
-        match fs::write(&self.rt, name, bytes) {
-            Ok(()) => Ok(()),
-            Err(error) => Err(trouble(error, &mut self.write_faults)),
-        }
+        counted(fs::write(&self.rt, name, bytes), &mut self.write_faults)
     }
 
     fn root(&mut self, alloc: Global, dir: &str) -> Result<HostLog<R>, Trouble> {
@@ -218,10 +225,10 @@ impl<R: Print> Out for HostOut<R> {
     ghost faults = { λ out. out.faults };
 
     fn append(&mut self, _alloc: Global, piece: &[u8]) -> Result<(), Trouble> {
-        match write_whole(&mut io::writer(&self.rt), piece) {
-            Ok(()) => Ok(()),
-            Err(error) => Err(trouble(error, &mut self.faults)),
-        }
+        counted(
+            write_whole(&mut io::writer(&self.rt), piece),
+            &mut self.faults,
+        )
     }
 }
 
@@ -251,7 +258,8 @@ mod tests {
         root.append(alloc, b"SWLOG001")?;
         let mut lane = root.child(alloc, 0, 1, 2)?;
         lane.append(alloc, b"one")?;
-        root.append(alloc, b" and more")?;
+        root.append(alloc, b" and")?;
+        root.append(alloc, b" more")?;
         lane.append(alloc, b" two")?;
         let name = format!(in alloc; "{dir}/t.swl")?;
         let whole = read_file(alloc, &mut folder, &name)?.ok_or("a log")?;
@@ -263,6 +271,79 @@ mod tests {
         assert!(rt; folder.seal(alloc, root).is_ok());
         assert_eq!(rt; folder.write_faults, 0);
         fs::remove_dir_all(&rt, &top)?;
+        Ok(())
+    }
+
+    // The file's bytes from a place on, as one call reads them.
+    fn part(
+        folder: &mut HostFolder<HostRuntime>,
+        alloc: Global,
+        name: &str,
+        at: u64,
+        room: usize,
+    ) -> Result<Vec<u8>, Fail> {
+        let mut into = Vec::new(alloc);
+        into.resize(room, 0)?;
+        let count = folder.read(alloc, name, at, &mut into)?;
+        into.truncate(count);
+        Ok(into)
+    }
+
+    #[test]
+    fn a_file_is_read_from_each_place(rt: HostRuntime) -> Result<(), Fail> {
+        let alloc = rt.alloc();
+        let dir = fresh(&rt, "places")?;
+        let mut folder = HostFolder::new(rt);
+        let root = folder.root(alloc, &dir)?;
+        let name = format!(in alloc; "{dir}/whole")?;
+        let mut bytes = Vec::new(alloc);
+        for i in 0..10_000_u32 {
+            bytes.push((i % 251) as u8)?;
+        }
+        folder.put(alloc, &name, &bytes)?;
+        assert_eq!(rt; folder.size(alloc, &name)?, Some(10_000));
+        let whole = read_file(alloc, &mut folder, &name)?.ok_or("a file")?;
+        assert!(rt; whole.as_slice() == bytes.as_slice());
+        for (at, room) in [
+            (0, 10),
+            (4_090, 20),
+            (4_097, 3),
+            (9_990, 10),
+            (9_995, 20),
+            (10_000, 5),
+            (70_000, 5),
+        ] {
+            let left = bytes.get(at..).unwrap_or(&[]);
+            let due = left.get(..room).unwrap_or(left);
+            let read = part(&mut folder, alloc, &name, at as u64, room)?;
+            assert!(rt; read.as_slice() == due);
+        }
+        folder.put(alloc, &name, b"short")?;
+        assert_eq!(rt; folder.size(alloc, &name)?, Some(5));
+        folder.discard(root);
+        assert_eq!(rt; (folder.read_faults, folder.write_faults), (0, 0));
+        fs::remove_dir_all(&rt, &dir)?;
+        Ok(())
+    }
+
+    #[test]
+    fn what_is_not_there_has_no_byte(rt: HostRuntime) -> Result<(), Fail> {
+        let alloc = rt.alloc();
+        let dir = fresh(&rt, "missing")?;
+        let mut folder = HostFolder::new(rt);
+        let root = folder.root(alloc, &dir)?;
+        let name = format!(in alloc; "{dir}/none")?;
+        let below = format!(in alloc; "{dir}/t.swl/none")?;
+        for missing in [name.as_str(), below.as_str()] {
+            assert_eq!(rt; folder.size(alloc, missing)?, None);
+            assert_eq!(rt; part(&mut folder, alloc, missing, 0, 8)?.len(), 0);
+        }
+        assert_eq!(rt; folder.read_faults, 0);
+        assert!(rt; folder.put(alloc, &below, b"bytes").is_err());
+        assert!(rt; folder.root(alloc, &below).is_err());
+        folder.discard(root);
+        assert_eq!(rt; folder.write_faults, 2);
+        fs::remove_dir_all(&rt, &dir)?;
         Ok(())
     }
 

@@ -4,13 +4,16 @@
 //! first bad place, and a run that ends leaves each task's whole trace under the values that it read.
 #![tactic(auto)]
 
+ghost use Rattle.std.specs.Prelude.{◌≡◌};
+ghost use Rattle.std.specs.Process.{exit_status};
+
+mod arguments;
 mod checking;
 mod host;
 mod printing;
 mod showing;
 mod texts;
 mod top;
-mod arguments;
 
 use command_answer::NO_MEMORY;
 use host::{HostFolder, HostOut};
@@ -39,15 +42,22 @@ fn given_arguments(rt: &HostRuntime) -> Result<Vec<String>, AllocError> {
     }
 }
 
+/// What the system is handed as the status.
+fn exit_code(status: u8) -> ExitCode
+    ensures { exit_status result ≡ status }
+{
+    ExitCode::from(status)
+}
+
 /// Does what the arguments ask for.
 fn work(rt: HostRuntime) -> ExitCode {
     let alloc = rt.alloc();
     let Ok(arguments) = given_arguments(&rt) else {
-        return ExitCode::from(NO_MEMORY);
+        return exit_code(NO_MEMORY);
     };
     let mut folder = HostFolder::new(rt);
     let mut out = HostOut::new(rt);
-    ExitCode::from(top::sword(&rt, alloc, &arguments, &mut folder, &mut out, &NoGate))
+    exit_code(top::sword(&rt, alloc, &arguments, &mut folder, &mut out, &NoGate))
 }
 
 /// On a stack of its own, or on this one where no thread can be started.

@@ -127,7 +127,14 @@ fn a_run_races_where_lanes_share_an_element(rt: HostRuntime) -> Result<(), Fail>
     ] {
         let mut folder = after(&rt, alloc, kernel, "4096", DONE, text)?;
         let check = ["check", "d", "2"];
-        answers(&rt, alloc, &mut folder, &check, RACES, "race 3 3\nraces 1\n")?;
+        answers(
+            &rt,
+            alloc,
+            &mut folder,
+            &check,
+            RACES,
+            "race 3 3\nraces 1\n",
+        )?;
     }
     Ok(())
 }

@@ -69,7 +69,7 @@ fn log_name(alloc: Global, steps: &[Step]) -> Result<String, AllocError> {
 }
 
 /// The folder `d` with these tasks, and an index with their rows.
-pub fn folder(alloc: Global, tasks: &[Task<'_>]) -> Result<MemFolder, Fail> {
+pub fn made_folder(alloc: Global, tasks: &[Task<'_>]) -> Result<MemFolder, Fail> {
     let mut folder = MemFolder::new(alloc)?;
     let mut index = b"SWIDX001".to_vec(alloc)?;
     for (steps, records) in tasks {
@@ -118,7 +118,7 @@ fn lanes_that_share_a_byte_race(rt: HostRuntime) -> Result<(), Fail> {
         (107, RACES, "race 5 6\nraces 1\n"),
         (108, DONE, "races 0\n"),
     ] {
-        let mut folder = folder(
+        let mut folder = made_folder(
             alloc,
             &[
                 (&[], ROOT),
@@ -136,7 +136,7 @@ fn lanes_that_share_a_byte_race(rt: HostRuntime) -> Result<(), Fail> {
 fn only_a_common_mutex_excludes(rt: HostRuntime) -> Result<(), Fail> {
     let alloc = rt.alloc();
     for (other, status, text) in [(1, DONE, "races 0\n"), (2, RACES, "race 5 6\nraces 1\n")] {
-        let mut folder = folder(
+        let mut folder = made_folder(
             alloc,
             &[
                 (&[], ROOT),
@@ -182,7 +182,7 @@ fn a_barrier_orders_a_nested_region(rt: HostRuntime) -> Result<(), Fail> {
             (&[(0, 0, 2), (0, 1, 2)], inner_1),
             (&[(0, 1, 2)], second),
         ];
-        let mut folder = folder(alloc, tasks)?;
+        let mut folder = made_folder(alloc, tasks)?;
         answers(&rt, alloc, &mut folder, &["check", "d", "1"], status, text)?;
     }
     Ok(())
@@ -201,7 +201,7 @@ fn eight_lanes(alloc: Global, records: &[Rec]) -> Result<MemFolder, Fail> {
         (&[(0, 6, 8)], records),
         (&[(0, 7, 8)], records),
     ];
-    folder(alloc, tasks)
+    made_folder(alloc, tasks)
 }
 
 #[test]
@@ -237,7 +237,7 @@ fn a_barrier_parts_two_loops(rt: HostRuntime) -> Result<(), Fail> {
     ];
     for (first, second, status, text) in table {
         let tasks: &[Task<'_>] = &[(&[], ROOT), (&[(0, 0, 2)], first), (&[(0, 1, 2)], second)];
-        let mut folder = folder(alloc, tasks)?;
+        let mut folder = made_folder(alloc, tasks)?;
         answers(&rt, alloc, &mut folder, &["check", "d", "1"], status, text)?;
     }
     Ok(())
@@ -246,7 +246,7 @@ fn a_barrier_parts_two_loops(rt: HostRuntime) -> Result<(), Fail> {
 #[test]
 fn regions_in_turn_are_ordered(rt: HostRuntime) -> Result<(), Fail> {
     let alloc = rt.alloc();
-    let mut folder = folder(
+    let mut folder = made_folder(
         alloc,
         &[
             (&[], &[region(3, 2), region(4, 2), END]),
@@ -274,11 +274,18 @@ fn unequal_barriers_are_named(rt: HostRuntime) -> Result<(), Fail> {
         (&[(0, 0, 2)], &[BARRIER, END]),
         (&[(0, 1, 2)], &[END]),
     ];
-    let mut folder = folder(alloc, tasks)?;
+    let mut folder = made_folder(alloc, tasks)?;
     let text = "bad log t-0.1.swl record 1: BarrierCount\n";
     let check = ["check", "d", "2"];
     answers(&rt, alloc, &mut folder, &check, FOLDER_REFUSED, text)?;
-    answers(&rt, alloc, &mut folder, &["show", "d"], FOLDER_REFUSED, text)
+    answers(
+        &rt,
+        alloc,
+        &mut folder,
+        &["show", "d"],
+        FOLDER_REFUSED,
+        text,
+    )
 }
 
 #[test]
@@ -286,7 +293,14 @@ fn a_missing_or_empty_index_is_named(rt: HostRuntime) -> Result<(), Fail> {
     let alloc = rt.alloc();
     let check = ["check", "d", "2"];
     let mut folder = MemFolder::new(alloc)?;
-    answers(&rt, alloc, &mut folder, &check, FOLDER_REFUSED, "no index\n")?;
+    answers(
+        &rt,
+        alloc,
+        &mut folder,
+        &check,
+        FOLDER_REFUSED,
+        "no index\n",
+    )?;
     folder.hold("d/index.swi", b"SWIDX001")?;
     let text = "bad index row 1: Cut\n";
     answers(&rt, alloc, &mut folder, &check, FOLDER_REFUSED, text)
@@ -295,7 +309,7 @@ fn a_missing_or_empty_index_is_named(rt: HostRuntime) -> Result<(), Fail> {
 #[test]
 fn records_are_shown(rt: HostRuntime) -> Result<(), Fail> {
     let alloc = rt.alloc();
-    let mut folder = folder(
+    let mut folder = made_folder(
         alloc,
         &[(
             &[],
@@ -336,14 +350,14 @@ fn each_call_of_a_check_may_fail(rt: HostRuntime) -> Result<(), Fail> {
     let check = arguments(alloc, &["check", "d", "1"])?;
     // The size of the index and its three reads, and the size of the log and its two.
     for call in 1..=7 {
-        let mut folder = folder(alloc, &[(&[], &[END])])?;
+        let mut folder = made_folder(alloc, &[(&[], &[END])])?;
         folder.fail(&[call])?;
         let mut out = MemOut::new(alloc)?;
         let status = sword(&rt, alloc, &check, &mut folder, &mut out, &NoGate);
         assert_eq!(rt; status, READ_FAULT);
         assert_eq!(rt; out.written(), b"".as_slice());
     }
-    let mut folder = folder(alloc, &[(&[], &[END])])?;
+    let mut folder = made_folder(alloc, &[(&[], &[END])])?;
     folder.fail(&[8])?;
     let mut out = MemOut::new(alloc)?;
     out.fail(&[1])?;
@@ -356,7 +370,7 @@ fn each_call_of_a_check_may_fail(rt: HostRuntime) -> Result<(), Fail> {
 #[test]
 fn a_failed_write_ends_what_is_shown(rt: HostRuntime) -> Result<(), Fail> {
     let alloc = rt.alloc();
-    let mut folder = folder(alloc, &[(&[], &[END])])?;
+    let mut folder = made_folder(alloc, &[(&[], &[END])])?;
     let mut out = MemOut::new(alloc)?;
     out.fail(&[2])?;
     let all = arguments(alloc, &["show", "d"])?;
@@ -371,7 +385,7 @@ fn a_failed_write_ends_what_is_shown(rt: HostRuntime) -> Result<(), Fail> {
 #[test]
 fn accesses_are_shown(rt: HostRuntime) -> Result<(), Fail> {
     let alloc = rt.alloc();
-    let mut folder = folder(
+    let mut folder = made_folder(
         alloc,
         &[(&[], &[(1, 8, 5, 4096, 0), (2, 8, 5, 4096, 1), END])],
     )?;
@@ -393,7 +407,7 @@ fn barriers_order_at_every_depth(rt: HostRuntime) -> Result<(), Fail> {
     let one: &[Step] = &[step];
     let two: &[Step] = &[step, step];
     let three: &[Step] = &[step, step, step];
-    let mut folder = folder(
+    let mut folder = made_folder(
         alloc,
         &[
             (&[], &[region(1, 1), END]),
@@ -423,7 +437,7 @@ fn barriers_order_at_every_depth(rt: HostRuntime) -> Result<(), Fail> {
 #[test]
 fn a_team_of_65_lanes_is_refused(rt: HostRuntime) -> Result<(), Fail> {
     let alloc = rt.alloc();
-    let mut folder = folder(
+    let mut folder = made_folder(
         alloc,
         &[(&[], &[region(1, 65), END]), (&[(0, 0, 64)], &[END])],
     )?;
@@ -435,7 +449,7 @@ fn a_team_of_65_lanes_is_refused(rt: HostRuntime) -> Result<(), Fail> {
         FOLDER_REFUSED,
         "bad index row 3: Order\n",
     )?;
-    let mut wide = folder(
+    let mut wide = made_folder(
         alloc,
         &[(&[], &[region(1, 65), END]), (&[(0, 0, 65)], &[END])],
     )?;

@@ -1,6 +1,8 @@
 //! The texts of refusals and of records that no other test has, with the values that the formats give.
 
-use crate::tests::{BARRIER, END, ROOT, Rec, Task, answers, folder, lock, region, unlock, write};
+use crate::tests::{
+    BARRIER, END, ROOT, Rec, Task, answers, lock, made_folder, region, unlock, write,
+};
 use command_answer::{DONE, FOLDER_REFUSED};
 use std::alloc::Global;
 use std::process::Abort;
@@ -9,7 +11,7 @@ use sw_base::MemFolder;
 
 // Of these tasks the folder is refused so.
 fn refused<R: Abort>(rt: &R, alloc: Global, tasks: &[Task<'_>], text: &str) -> Result<(), Fail> {
-    let mut folder = folder(alloc, tasks)?;
+    let mut folder = made_folder(alloc, tasks)?;
     let check = ["check", "d", "2"];
     answers(rt, alloc, &mut folder, &check, FOLDER_REFUSED, text)
 }
@@ -23,7 +25,7 @@ fn bad_rows_and_a_missing_log_are_named(rt: HostRuntime) -> Result<(), Fail> {
     let empty: Task<'_> = (&[], &[]);
     refused(&rt, alloc, &[empty], "bad index row 1: Records\n")?;
     let lane_0: Task<'_> = (&[(0, 0, 2)], &[END]);
-    let whole = folder(alloc, &[root, lane_0, lane_1])?;
+    let whole = made_folder(alloc, &[root, lane_0, lane_1])?;
     let mut folder = MemFolder::new(alloc)?;
     for name in ["d/index.swi", "d/t.swl", "d/t-0.0.swl"] {
         folder.hold(name, whole.file(name).ok_or("a file")?)?;
@@ -49,7 +51,7 @@ fn a_log_that_is_cut_is_named(rt: HostRuntime) -> Result<(), Fail> {
         END,
     ];
     let tasks: &[Task<'_>] = &[(&[], ROOT), (&[(0, 0, 2)], ten), (&[(0, 1, 2)], ten)];
-    let mut folder = folder(alloc, tasks)?;
+    let mut folder = made_folder(alloc, tasks)?;
     let mut log = folder.file("d/t-0.1.swl").ok_or("a log")?.to_vec(alloc)?;
     log.truncate(162);
     folder.hold("d/t-0.1.swl", &log)?;
@@ -88,7 +90,7 @@ fn a_segment_too_many_is_named(rt: HostRuntime) -> Result<(), Fail> {
 fn mutexes_and_chunks_are_shown(rt: HostRuntime) -> Result<(), Fail> {
     let alloc = rt.alloc();
     let records: &[Rec] = &[lock(5, 2), unlock(6, 2), (7, 0, 3, 1, 3), END];
-    let mut folder = folder(alloc, &[(&[], records)])?;
+    let mut folder = made_folder(alloc, &[(&[], records)])?;
     answers(
         &rt,
         alloc,

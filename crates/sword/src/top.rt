@@ -8,8 +8,8 @@ ghost use Rattle.sword.specs.Show.{ShowsRecords};
 ghost use Rattle.sword.specs.Arguments.{AsksRun, BeginsRun, IsUsage, SaysCheck, SaysRun, SaysShow, UsageDue, texts};
 ghost use Rattle.command_answer.specs.declared.status.TheConstants.{USAGE, READ_FAULT, WRITE_FAULT};
 
-use crate::checking::{check, show};
 use crate::arguments::{Command, read_arguments};
+use crate::checking::{check, show};
 use command_answer::{NO_MEMORY, USAGE, print};
 use run_command::run;
 use std::alloc::Global;

@@ -18,6 +18,7 @@ ghost use Rattle.kernel_syntax.specs.Program.{code_of, stmt_code, team_of};
 use crate::element::find_element;
 use crate::frame::Frame;
 use crate::recorder::Recorder;
+use crate::shared::{event, parted};
 use crate::stop::Stop;
 use crate::value::value;
 use kernel_syntax::{Array, Schedule, Stmt, Team, even_share, fit};
@@ -45,20 +46,6 @@ pub enum Pass {
     Shut,
 }
 
-/// A record of a kind that is no access.
-pub fn event(kind: Kind, line: u32, value: u64) -> Record
-    ensures { result ≡ record { kind = kind; size = 0; site = 0; line = line; addr = 0; value = value } }
-{
-    Record {
-        kind,
-        size: 0,
-        site: 0,
-        line,
-        addr: 0,
-        value,
-    }
-}
-
 /// Puts the record of a barrier.
 fn put_barrier<L: Log>(recorder: &mut Recorder<L>, alloc: Global, line: u32) -> Result<(), Stop>
     ensures puts { Puts (state.event kind.Barrier line 0 0) recorder.old recorder.new result }
@@ -80,17 +67,6 @@ fn total_of(from: i64, to: i64) -> u64
     ensures { result ≡ total_of from to }
 {
     if from < to { to.abs_diff(from) } else { 0 }
-}
-
-/// The first statement of a list, and the others.
-pub fn parted(stmts: &[Stmt]) -> (&Stmt, &[Stmt])
-    requires { 0 < length stmts.now }
-    ensures { stmts.now ≡ result.0.now ∷ result.1.now }
-{
-    match stmts.split_first() {
-        Some(parts) => parts,
-        None => unreachable!(),
-    }
 }
 
 impl<L: Log> Lane<L> {
@@ -361,7 +337,7 @@ impl<L: Log> Lane<L> {
         }
     }
 
-    /// BeginsTask the log, and executes what the team's lanes execute.
+    /// Begins the log, and executes what the team's lanes execute.
     fn body<G: Gate>(
         &mut self,
         alloc: Global,

@@ -9,6 +9,7 @@ mod frame;
 mod lane;
 mod recorder;
 mod run;
+mod shared;
 mod stop;
 mod team;
 mod value;

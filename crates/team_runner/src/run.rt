@@ -18,8 +18,9 @@ ghost use Rattle.sw_base.specs.declared.trouble.Trouble.TheVariants as trouble;
 ghost use Rattle.sw_base.specs.Environment.{WhereTold, empty_text};
 ghost use Rattle.kernel_model.specs.FirstTeam.{first_team};
 
-use crate::lane::{Lane, event, parted};
+use crate::lane::Lane;
 use crate::recorder::Recorder;
+use crate::shared::{event, parted};
 use crate::stop::Stop;
 use crate::team::{Halt, fork, run_lanes};
 use kernel_syntax::{Array, Kernel, Stmt, Team};

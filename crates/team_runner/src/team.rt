@@ -11,8 +11,9 @@ ghost use Rattle.team_runner.specs.declared.stop.Stop.TheVariants as stop;
 ghost use Rattle.sw_base.specs.declared.trouble.Trouble.TheVariants as trouble;
 
 use crate::frame::Frame;
-use crate::lane::{Lane, Pass, parted};
+use crate::lane::{Lane, Pass};
 use crate::recorder::Recorder;
+use crate::shared::parted;
 use crate::stop::Stop;
 use kernel_syntax::{Array, Stmt, Team};
 use std::alloc::{AllocError, Global};

@@ -1,7 +1,7 @@
 use Rattle.std.proofs.Common.{rules, ◌≡◌, ap, ap₂, sym, ◌∙◌, ◌∷◌}
 use Rattle.atomic_table.specs.Table.{Me}
 use Rattle.shared_words.specs.declared.view.View.{View}
-use Rattle.shared_words.specs.Views.{number_of}
+use Rattle.shared_words.specs.Views.{split_number}
 use Rattle.shared_words.proofs.Joining.{joins_allowed}
 use Rattle.shared_words.proofs.words.Words.join.Goals as goal
 
@@ -15,5 +15,6 @@ join_seat-requires c =
       search rules,
       search rules,
       joins_allowed c.self.inside.table.shared.key _ _ _ _ c.take-seat.ensures.rests.live c.take.ensures.rests.live
-          (ap (λ (x : View). x.name) w ∙ (home.split ∙ ap₂ (λ (x y : View). number_of x.name ∷ y.name) (sym w) (sym v))) (ap (λ (x : View). x.out) w ∙ home.none_out),
+          (ap (λ (x : View). x.name) w ∙ (home.split ∙ ap₂ (λ (x y : View). split_number x.name ∷ y.name) (sym w) (sym v))) (ap (λ (x : View). x.out) w ∙ home.none_out)
+          (ap (λ (x : View). x.held) w ∙ home.holds_none),
     )

@@ -1,4 +1,4 @@
-use Rattle.std.proofs.Common.{◌≡◌, true}
+use Rattle.std.proofs.Common.{◌≡◌}
 use Rattle.shared_words.proofs.words.Words.lock.Given as goal
 
 abbrev pub invariant-loop : goal.invariant-loop

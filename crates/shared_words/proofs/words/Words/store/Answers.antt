@@ -1,4 +1,4 @@
-use Rattle.std.proofs.Common.{rules, arith}
+use Rattle.std.proofs.Common.{rules}
 use Rattle.shared_words.proofs.Steps.{stores_allowed}
 use Rattle.shared_words.proofs.words.Words.store.Goals as goal
 

@@ -1,0 +1,4 @@
+pub mod Bytes
+pub mod Crosses
+pub mod Memory
+pub mod Values

@@ -1,0 +1,5 @@
+pub mod Halves
+pub mod Shown
+pub mod Searching
+pub mod Taking
+pub mod Nodes

@@ -1,0 +1,24 @@
+-- How a visitor's states follow one another, and how many steps a search takes.
+use Rattle.std.specs.Prelude.{◌≡◌, ℕ, ◌+◌, ◌*◌, ◌^◌, ◌<◌, ◌≤◌, List, [], ◌∷◌, ◌++◌, length, All}
+use Rattle.stride_summary.specs.declared.run.Run.{Run}
+use Rattle.interval_tree.specs.Order.{met}
+
+-- from one state to another by taking each of the runs in turn
+abbrev pub Takes : {S : Type 0} → (S → Run → S → Type 0) → S → List Run → S → Type 0
+Takes took before [] after = before ≡ after
+Takes {S} took before (run ∷ runs) after = (between : S) × took before run between × Takes took between runs after
+
+-- the first of the runs were taken, and the next was refused
+pub record TakesUpTo {S : Type 0} (took refused : S → Run → S → Type 0) (before : S) (runs : List Run) (after : S) : Type 0 where
+  pub taken : List Run
+  pub next : Run
+  pub later : List Run
+  pub all : runs ≡ taken ++ next ∷ later
+  pub between : S
+  pub takes : Takes took before taken between
+  pub refuses : refused between next after
+
+-- for each run that is met, and once more unless all runs begin by hi, a step at most for each binary digit of the runs' number
+pub record StepsWithin (old new lo hi : ℕ) (runs : List Run) : Type 0 where
+  pub most : (digits : ℕ) → length runs < 2 ^ digits → new ≤ old + (length (met lo hi runs) + 1) * digits
+  pub inside : All (λ run. run.base ≤ hi) runs → (digits : ℕ) → length runs < 2 ^ digits → new ≤ old + length (met lo hi runs) * digits

@@ -1,0 +1,170 @@
+ghost use Rattle.std.specs.Prelude.{◌≡◌, ◌+◌, ◌^◌, ◌<◌};
+
+use crate::{Steps, Tree, Visit};
+use mutex_set::Held;
+use std::alloc::{AllocError, Global};
+use std::marker::Brand;
+use std::sync::ledger::{Blank, Ledger};
+use std::test::Fail;
+use stride_summary::Run;
+use sw_base::Memory;
+
+// The lines of the runs taken, at most so many.
+struct Lines {
+    taken: Vec<u32>,
+    most: usize,
+}
+
+impl Visit for Lines {
+    ghost use Rattle.std.specs.Prelude.{◌≡◌, [], ◌∷◌, ◌++◌};
+
+    ghost took = { λ before run after. after.taken.items ≡ before.taken.items ++ run.line ∷ [] };
+
+    ghost refused = { λ before run after. after.taken.items ≡ before.taken.items };
+
+    fn take(&mut self, run: &Run) -> Result<(), Memory> {
+        if self.taken.len() >= self.most {
+            return Err(Memory);
+        }
+        self.taken.push(run.line)?;
+        Ok(())
+    }
+}
+
+// Four bytes at the base, and as many the stride above it.
+fn run(line: u32, base: u64, stride: u64) -> Run
+    requires { base + stride < 2 ^ 47 }
+{
+    Run {
+        base,
+        stride,
+        count: if stride == 0 { 1 } else { 2 },
+        size: 4,
+        write: false,
+        line,
+        site: 0,
+        held: Held::none(),
+    }
+}
+
+fn lines_with<L: Ledger>(
+    alloc: Global,
+    tree: &Tree,
+    bytes: (u64, u64),
+    most: usize,
+    blank: Blank,
+) -> (Vec<u32>, Result<(), Memory>)
+    requires name { blank.name ≡ L.name }
+    requires parts { blank.parts ≡ L.parts }
+    requires some { 0 < blank.parts }
+{
+    let mut lines = Lines {
+        taken: Vec::new(alloc),
+        most,
+    };
+    let mut steps = Steps::<L>::new(blank);
+    let answer = tree.meet(bytes.0, bytes.1, &mut lines, &mut steps);
+    let Lines { taken, most: _ } = lines;
+    (taken, answer)
+}
+
+fn lines_met(
+    alloc: Global,
+    tree: &Tree,
+    bytes: (u64, u64),
+    most: usize,
+) -> (Vec<u32>, Result<(), Memory>) {
+    lines_with::<Brand>(alloc, tree, bytes, most, Blank::new(1))
+}
+
+#[test]
+fn finds_the_runs_that_a_range_meets(rt: HostRuntime) -> Result<(), Fail> {
+    let alloc = rt.alloc();
+    let runs = [run(1, 0, 0), run(2, 10, 0), run(3, 20, 0)];
+    let tree = Tree::build(alloc, &runs)?;
+    assert_eq!(rt; tree.levels(), 2);
+    let (lines, answer) = lines_met(alloc, &tree, (2, 11), 9);
+    assert_eq!(rt; lines.as_slice(), [1, 2].as_slice());
+    assert!(rt; answer.is_ok());
+    Ok(())
+}
+
+#[test]
+fn a_tree_of_no_run_and_one_of_one(rt: HostRuntime) -> Result<(), Fail> {
+    let alloc = rt.alloc();
+    let none = Tree::build(alloc, &[])?;
+    assert_eq!(rt; none.levels(), 0);
+    let (lines, answer) = lines_met(alloc, &none, (0, u64::MAX), 9);
+    assert!(rt; lines.is_empty() && answer.is_ok());
+    let runs = [run(7, 100, 50)];
+    let one = Tree::build(alloc, &runs)?;
+    for (bytes, found) in [
+        ((0, 99), 0),
+        ((0, 100), 1),
+        ((153, 200), 1),
+        ((154, 200), 0),
+    ] {
+        let (lines, answer) = lines_met(alloc, &one, bytes, 9);
+        assert_eq!(rt; lines.len(), found);
+        assert!(rt; answer.is_ok());
+    }
+    Ok(())
+}
+
+// Runs by a fixed rule: many begin at one byte, and some hold others.
+fn drawn_runs(alloc: Global) -> Result<Vec<Run>, AllocError> {
+    let mut runs = Vec::new(alloc);
+    for number in 0..1000u64 {
+        let base = number * 7919 % 1500 / 2 * 8;
+        let stride = if number % 40 == 0 {
+            900
+        } else {
+            number * 31 % 23
+        };
+        runs.push(run(number as u32 + 1, base, stride))?;
+    }
+    Ok(runs)
+}
+
+fn lines_by_filter(alloc: Global, runs: &[Run], bytes: (u64, u64)) -> Result<Vec<u32>, AllocError> {
+    let mut found = Vec::new(alloc);
+    for run in runs {
+        if run.low() <= bytes.1 && run.high() >= bytes.0 {
+            found.push((run.low(), run.line))?;
+        }
+    }
+    found.sort()?;
+    found.iter().map(|(_, line)| *line).collect(alloc)
+}
+
+#[test]
+fn meets_what_a_filter_finds(rt: HostRuntime) -> Result<(), Fail> {
+    let alloc = rt.alloc();
+    let runs = drawn_runs(alloc)?;
+    let tree = Tree::build(alloc, &runs)?;
+    assert_eq!(rt; tree.levels(), 10);
+    for number in 0..500u64 {
+        let lo = number * 53 % 7000;
+        let bytes = (lo, lo + number % 7 * 11);
+        let (lines, answer) = lines_met(alloc, &tree, bytes, 1000);
+        assert!(rt; answer.is_ok());
+        assert_eq!(rt;
+            lines.as_slice(),
+            lines_by_filter(alloc, &runs, bytes)?.as_slice()
+        );
+    }
+    Ok(())
+}
+
+#[test]
+fn hands_over_nothing_after_a_refusal(rt: HostRuntime) -> Result<(), Fail> {
+    let alloc = rt.alloc();
+    let parts = [[run(1, 40, 0), run(2, 8, 0)], [run(3, 8, 0), run(4, 24, 0)]];
+    let tree = Tree::build_all(alloc, &[parts[0].as_slice(), parts[1].as_slice()])?;
+    for most in 0..6usize {
+        let (lines, answer) = lines_met(alloc, &tree, (0, 99), most);
+        assert_eq!(rt; lines.as_slice(), &[2, 3, 4, 1][..most.min(4)]);
+        assert_eq!(rt; answer.is_err(), most < 4);
+    }
+    Ok(())
+}

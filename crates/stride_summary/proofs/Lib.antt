@@ -1,0 +1,7 @@
+pub mod Even
+pub mod Sized
+pub mod Cuts
+pub mod Holding
+pub mod Storing
+pub mod Rising
+pub mod Apart

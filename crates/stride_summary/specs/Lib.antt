@@ -1,0 +1,5 @@
+pub mod Sizes
+pub mod Run
+pub mod Spread
+pub mod Stretches
+pub mod Summary

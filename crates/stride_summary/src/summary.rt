@@ -1,0 +1,121 @@
+ghost use Rattle.std.specs.Prelude.{◌≡◌, ◌↔◌, ◌⊎◌, ℕ, ◌+◌, ◌^◌, ◌<◌, ◌≤◌, All, AllPairs, IfSome, IfNone, IfOk, OnOk, OnErr, sum_by, slice_index_or, vec_len, vec_capacity};
+ghost use Rattle.log_format.specs.Table.{IsAccessSize};
+ghost use Rattle.stride_summary.specs.declared.stretch.Stretch.{Stretch};
+ghost use Rattle.stride_summary.specs.Run.{access_key};
+ghost use Rattle.stride_summary.specs.Stretches.{Holds, HoldsOneMore, HoldsSame, IsPlaceOf, KeysDiffer, needed_of};
+
+use crate::access::Access;
+use crate::key::Key;
+use crate::run::Run;
+use crate::stretch::Stretch;
+use std::alloc::Global;
+use sw_base::Memory;
+
+/// The accesses of a barrier interval: the addresses of each key. It grows with the number of different addresses of a key,
+/// and not with the number of accesses.
+#[derive(Drop)]
+pub struct Summary {
+    stretches: Vec<Stretch>,
+    /// The place of the key of the last access.
+    last: usize,
+    /// For each place, that of the key which came after it last time.
+    followers: Vec<usize>,
+    /// How many runs there are at most in the end.
+    room: usize,
+    /// No run so far, but room for as many.
+    runs: Vec<Run>,
+    alloc: Global,
+    ghost keys: { KeysDiffer stretches.items },
+    ghost counted: { room ≡ sum_by needed_of stretches.items },
+    ghost enough: { room ≤ vec_capacity runs },
+    ghost none: { vec_len runs ≡ 0 },
+}
+
+fn find(stretches: &[Stretch], guess: usize, access: &Access) -> Option<usize>
+    ensures found { IfSome result (λ place. IsPlaceOf stretches.now (access_key access.now) place) }
+    ensures missing { IfNone result (All (λ stretch. stretch.key ≡ access_key access.now → ⊥) stretches.now) }
+{
+    if guess < stretches.len() && stretches[guess].key.is_of(access) {
+        return Some(guess);
+    }
+    for (place, stretch) in stretches.iter().enumerate() {
+        if stretch.key.is_of(access) {
+            return Some(place);
+        }
+    }
+    None
+}
+
+impl Summary {
+    ghost use Rattle.std.specs.Prelude.{ℕ};
+    ghost use Rattle.stride_summary.specs.declared.key.Key.{Key};
+    ghost use Rattle.stride_summary.specs.Summary.{IsSummed, SumsOneMore, SumsSame};
+
+    /// Nothing so far.
+    pub fn new(alloc: Global) -> Result<Summary, Memory>
+        ensures { IfOk result (λ summary. (key : Key) (address : ℕ) → IsSummed summary key address → ⊥) }
+    {
+        Ok(Summary {
+            stretches: Vec::new(alloc),
+            last: 0,
+            followers: Vec::new(alloc),
+            room: 0,
+            runs: Vec::new(alloc),
+            alloc,
+        })
+    }
+
+    /// Adds an access. After an error the accesses are as before.
+    pub fn add(&mut self, access: &Access) -> Result<(), Memory>
+        requires size { IsAccessSize access.now.size }
+        requires end { access.now.addr + access.now.size ≤ 2 ^ 48 }
+        ensures added { OnOk result (SumsOneMore self.old self.new (access_key access.now) access.now.addr) }
+        ensures refused { OnErr result (SumsSame self.old self.new) }
+    {
+        self.runs.reserve(self.room + 1)?;
+        let place = self.place_of(access)?;
+        self.follow(place);
+        self.add_at(place, access.addr)
+    }
+
+    // The place of the access's key, which is a new one if need be.
+    fn place_of(&mut self, access: &Access) -> Result<usize, Memory>
+        requires { IsAccessSize access.now.size }
+        ensures found { IfOk result (λ place. IsPlaceOf self.new.stretches.items (access_key access.now) place) }
+        ensures same { HoldsSame self.old.stretches.items self.new.stretches.items }
+        ensures room { self.new.room ≡ self.old.room }
+        ensures capacity { vec_capacity self.new.runs ≡ vec_capacity self.old.runs }
+    {
+        let guess = self.followers.get(self.last).copied().unwrap_or(0);
+        if let Some(place) = find(&self.stretches, guess, access) {
+            return Ok(place);
+        }
+        let place = self.stretches.len();
+        self.followers.push(0)?;
+        self.stretches.push(Stretch::new(self.alloc, Key::of(access)))?;
+        Ok(place)
+    }
+
+    fn follow(&mut self, place: usize)
+        ensures { self.new ≡ record self.old { last = self.new.last; followers = self.new.followers } }
+    {
+        if self.last < self.followers.len() {
+            self.followers[self.last] = place;
+        }
+        self.last = place;
+    }
+
+    fn add_at(&mut self, place: usize, address: u64) -> Result<(), Memory>
+        requires place { place < vec_len self.old.stretches }
+        requires end { (d : Stretch) → address + (slice_index_or self.old.stretches.items place d).key.size ≤ 2 ^ 48 }
+        requires room { self.old.room < vec_capacity self.old.runs }
+        ensures added { OnOk result ((d : Stretch) → HoldsOneMore self.old.stretches.items self.new.stretches.items (slice_index_or self.old.stretches.items place d).key address) }
+        ensures refused { OnErr result (HoldsSame self.old.stretches.items self.new.stretches.items) }
+    {
+        let stretch = &mut self.stretches[place];
+        let before = stretch.needed();
+        let added = stretch.add(address);
+        self.room = self.room - before + stretch.needed();
+        added
+    }
+}
