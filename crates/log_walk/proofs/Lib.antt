@@ -9,6 +9,7 @@ pub mod Places
 pub mod RowOrder
 pub mod RowReads
 pub mod SoFar
+pub mod Left
 pub mod SpanOrder
 pub mod Steps
 pub mod TaskAt

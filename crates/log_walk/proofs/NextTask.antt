@@ -138,4 +138,5 @@ pub log_told : (files : Files) (dir : List ℕ) (rows : List Row) (trace : Trace
     → IsTaskOf rows trace row task → files (log_name dir row.path) ≡ Some bytes → opened ≡ segments_in trace → IsLogRefused bytes task opened refusal → TellsFirstBad files dir (of_log row.path refusal)
 log_told files dir rows trace row task bytes opened (log_fault.Bad n rule) walked found is there opened_is refused = record_told files dir rows trace row task bytes opened n rule walked found is there opened_is refused
 log_told files dir rows trace row task bytes opened (log_fault.TooMany n) walked found is there opened_is refused = over_told files dir rows trace row task bytes opened n walked found is there opened_is refused
+log_told files dir rows trace row task bytes opened log_fault.ReadFault walked found is there opened_is refused = tt
 log_told files dir rows trace row task bytes opened log_fault.Memory walked found is there opened_is refused = tt

@@ -5,6 +5,7 @@ use Rattle.std.proofs.lemmas.List.{length-append, take_at, take-append-drop, tak
 use Rattle.std.proofs.lemmas.Bool.{cases_order}
 use Rattle.std.proofs.lemmas.Option.{slice_get_within}
 use Rattle.sw_base.specs.declared.files.TheConstants.{LOG_HEADER}
+use Rattle.sw_base.specs.Window.{Window, Shows}
 use Rattle.log_format.specs.declared.record.Record.{Record}
 use Rattle.log_format.specs.declared.record.Why.{Why}
 use Rattle.log_format.specs.Spelling.{spelling, log_bytes}
@@ -18,7 +19,7 @@ use Rattle.race_model.specs.LogFault.{LogTask, Breaks, IsRead, IsRecord, IsLogFa
 use Rattle.log_walk.specs.declared.check.LogFault.{LogFault}
 use Rattle.log_walk.specs.declared.check.LogFault.TheVariants as fault
 use Rattle.log_walk.specs.declared.state.State.{State}
-use Rattle.log_walk.specs.Check.{KeepsLogRules, NothingBefore, of_why, IsLogRefused, IsNextRefused, IsGoodNext}
+use Rattle.log_walk.specs.Check.{KeepsLogRules, NothingBefore, of_why, IsLogRefused, IsNextRefused, IsLeftRefused, PassesRecord}
 use Rattle.log_walk.specs.Rules.{BreaksNone}
 use Rattle.log_walk.specs.State.{IsStateAfter}
 use Rattle.log_walk.proofs.Next.{next_cut, next_untabled, before_next, before_cut, before_untabled, before_broken}
@@ -41,7 +42,7 @@ few : (bytes : List ℕ) (task : LogTask) (opened : ℕ) (state : State) (record
 few bytes task opened state records rest index so = omega (arith, so.limit, so.follows.segments)
 
 -- the rest begins with the next record
-begins : (rest next : List ℕ) (r : Record) → next ≡ take 24 rest → Spells next r → rest ≡ spelling r ++ drop 24 rest
+pub begins : (rest next : List ℕ) (r : Record) → next ≡ take 24 rest → Spells next r → rest ≡ spelling r ++ drop 24 rest
 begins rest next r next_is spells = sym (take-append-drop 24 rest) ∙ ap (λ (bs : List ℕ). bs ++ drop 24 rest) (sym next_is ∙ spells.spelled)
 
 pub below_or_at : (j n : ℕ) → j < n + 1 → (j < n) ⊎ (j ≡ n)
@@ -83,23 +84,78 @@ keeps_push task records r keeps holds = record {
       ];
 }
 
--- one record more was read
-pub so_far_next : (bytes : List ℕ) (task : LogTask) (opened : ℕ) (state now : State) (records : List Record) (rest next : List ℕ) (index : ℕ) (r : Record)
-    → SoFar bytes task opened state records rest index → next ≡ take 24 rest → IsGoodNext next task records r → IsStateAfter now opened (records ++ r ∷ [])
-    → now.regions ≤ index + 1 → now.barriers ≤ index + 1 → now.segments ≤ max_segments → SoFar bytes task opened now (records ++ r ∷ []) (drop 24 rest) (index + 1)
-so_far_next bytes task opened state now records rest next index r so next_is good follows regions barriers limit = record {
-  read = record {
-    parts = so.read.parts ∙ ap (λ (bs : List ℕ). log_bytes LOG_HEADER records ++ bs) (begins rest next r next_is good.spells)
-        ∙ sym (append_assoc (log_bytes LOG_HEADER records) (spelling r) (drop 24 rest))
-        ∙ ap (λ (bs : List ℕ). bs ++ drop 24 rest) (sym (log_bytes-append LOG_HEADER records (r ∷ []) ∙ ap (λ (bs : List ℕ). log_bytes LOG_HEADER records ++ bs) (append-nil (spelling r))));
-    tabled = all_push IsTabled records r so.read.tabled good.spells.tabled;
-  };
-  keeps = keeps_push task records r so.keeps good.breaks;
-  follows = follows;
-  count = omega (arith, length-append records (r ∷ []), so.count);
-  regions = regions;
-  barriers = barriers;
-  limit = limit;
+-- what the check of a log keeps of these records, whatever bytes they were read from
+pub record Checks (task : LogTask) (opened : ℕ) (state : State) (records : List Record) (index : ℕ) : Type 0 where
+  pub tabled : All IsTabled records
+  pub keeps : KeepsLogRules task records
+  pub follows : IsStateAfter state opened records
+  pub count : length records ≡ index
+  pub regions : state.regions ≤ index
+  pub barriers : state.barriers ≤ index
+  pub limit : state.segments ≤ max_segments
+
+-- no record yet
+pub checks_none : (task : LogTask) (opened : ℕ) (state : State) (records : List Record) → records ≡ [] → IsStateAfter state opened [] → opened ≤ max_segments → Checks task opened state records 0
+checks_none task opened state records none follows limit =
+    subst (λ (rs : List Record). Checks task opened state rs 0) (sym none) (record {
+      tabled = λ k d h. absurd (omega arith);
+      keeps = record { each = λ k r found rule breaks. cc };
+      follows = follows;
+      count = refl;
+      regions = omega (arith, follows.regions);
+      barriers = omega (arith, follows.barriers);
+      limit = omega (arith, follows.segments, limit);
+    })
+
+-- one record more
+pub checks_next : (task : LogTask) (opened : ℕ) (state now : State) (records pushed : List Record) (index : ℕ) (r : Record) → Checks task opened state records index → IsTabled r → BreaksNone task records r
+    → IsStateAfter now opened (records ++ r ∷ []) → now.regions ≤ index + 1 → now.barriers ≤ index + 1 → now.segments ≤ max_segments → pushed ≡ records ++ r ∷ [] → Checks task opened now pushed (index + 1)
+checks_next task opened state now records pushed index r checks tabled breaks follows regions barriers limit is =
+    subst (λ (rs : List Record). Checks task opened now rs (index + 1)) (sym is) (record {
+      tabled = all_push IsTabled records r checks.tabled tabled;
+      keeps = keeps_push task records r checks.keeps breaks;
+      follows = follows;
+      count = omega (arith, length-append records (r ∷ []), checks.count);
+      regions = regions;
+      barriers = barriers;
+      limit = limit;
+    })
+
+log_bytes_none : (records : List Record) → records ≡ [] → log_bytes LOG_HEADER records ≡ LOG_HEADER
+log_bytes_none records none = ap (λ (rs : List Record). log_bytes LOG_HEADER rs) none ∙ append-nil LOG_HEADER
+
+-- these records were read of the file, up to the window
+pub record IsReadTo (file : List ℕ) (records : List Record) (window : Window) : Type 0 where
+  pub shows : Shows window file
+  pub parts : file ≡ log_bytes LOG_HEADER records ++ drop window.place file
+
+pub read_none : (file : List ℕ) (records : List Record) (window : Window) → records ≡ [] → window.place ≡ 8 → Shows window file → file ≡ LOG_HEADER ++ drop 8 file → IsReadTo file records window
+read_none file records window none place shows parts = record {
+  shows = shows;
+  parts = parts
+      ∙ ap (λ (bs : List ℕ). bs ++ drop 8 file) (sym (log_bytes_none records none))
+      ∙ ap (λ (n : ℕ). log_bytes LOG_HEADER records ++ drop n file) (sym place);
+}
+
+pub read_next : (file : List ℕ) (records pushed : List Record) (r : Record) (old new : Window) → IsReadTo file records old → PassesRecord file r old new → pushed ≡ records ++ r ∷ [] → IsReadTo file pushed new
+read_next file records pushed r old new read passes is =
+    subst (λ (rs : List Record). IsReadTo file rs new) (sym is) (record {
+      shows = passes.shows;
+      parts = read.parts ∙ ap (λ (bs : List ℕ). log_bytes LOG_HEADER records ++ bs) passes.parts
+          ∙ sym (append_assoc (log_bytes LOG_HEADER records) (spelling r) (drop new.place file))
+          ∙ ap (λ (bs : List ℕ). bs ++ drop new.place file) (sym (log_bytes-append LOG_HEADER records (r ∷ []) ∙ ap (λ (bs : List ℕ). log_bytes LOG_HEADER records ++ bs) (append-nil (spelling r))));
+    })
+
+pub so_far : (file : List ℕ) (task : LogTask) (opened : ℕ) (state : State) (records : List Record) (window : Window) (index : ℕ) → Checks task opened state records index → IsReadTo file records window
+    → SoFar file task opened state records (drop window.place file) index
+so_far file task opened state records window index checks read = record {
+  read = record { parts = read.parts; tabled = checks.tabled };
+  keeps = checks.keeps;
+  follows = checks.follows;
+  count = checks.count;
+  regions = checks.regions;
+  barriers = checks.barriers;
+  limit = checks.limit;
 }
 
 -- the next record is cut
@@ -172,7 +228,21 @@ next_refused bytes task opened state records rest index next (fault.TooMany n) s
       },
       nothing_before bytes task opened state records rest index next over.r last_rank so next_is over.spells within (λ rule low. over.breaks rule),
     )
+next_refused bytes task opened state records rest index next fault.ReadFault so whole next_is within refused = absurd refused
 next_refused bytes task opened state records rest index next fault.Memory so whole next_is within refused = absurd refused
+
+-- the bytes that are left begin with no good record
+pub left_refused : (bytes : List ℕ) (task : LogTask) (opened : ℕ) (state : State) (records : List Record) (rest : List ℕ) (index : ℕ) (refusal : LogFault) → SoFar bytes task opened state records rest index
+    → index < task.records → IsLeftRefused rest task opened records (index + 1) refusal → IsLogRefused bytes task opened refusal
+left_refused bytes task opened state records rest index (fault.Bad n rule) so within (inl (number, rule_is, short)) =
+    subst (λ (m : ℕ). IsLogRefused bytes task opened (fault.Bad m rule)) (sym number)
+    (subst (λ (w : RecordWhy). IsLogRefused bytes task opened (fault.Bad (index + 1) w)) (sym rule_is) (cut_refused bytes task opened state records rest index so short within))
+left_refused bytes task opened state records rest index (fault.Bad n rule) so within (inr (whole, refused)) =
+    next_refused bytes task opened state records rest index (take 24 rest) (fault.Bad n rule) so whole refl within refused
+left_refused bytes task opened state records rest index (fault.TooMany n) so within (whole, refused) =
+    next_refused bytes task opened state records rest index (take 24 rest) (fault.TooMany n) so whole refl within refused
+left_refused bytes task opened state records rest index fault.ReadFault so within refused = tt
+left_refused bytes task opened state records rest index fault.Memory so within refused = tt
 
 -- a byte follows the last record
 pub extra_refused : (bytes : List ℕ) (task : LogTask) (opened : ℕ) (state : State) (records : List Record) (rest : List ℕ) (index : ℕ) → SoFar bytes task opened state records rest index

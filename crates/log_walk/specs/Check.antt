@@ -1,5 +1,5 @@
 -- What the check of one log says of its records.
-use Rattle.std.specs.Prelude.{◌≡◌, ◌⊎◌, ℕ, ◌+◌, ◌<◌, ◌≤◌, Bool, true, false, cond, List, [], ◌∷◌, length, take, slice_get, All, Some}
+use Rattle.std.specs.Prelude.{◌≡◌, ◌⊎◌, ℕ, ◌+◌, ◌<◌, ◌≤◌, Bool, true, false, cond, List, [], ◌∷◌, ◌++◌, length, take, drop, slice_get, All, Some}
 use Rattle.log_format.specs.declared.record.Kind.{Kind}
 use Rattle.log_format.specs.declared.record.Kind.TheVariants.{Read, Write, Barrier, Region}
 use Rattle.log_format.specs.declared.record.Record.{Record}
@@ -7,9 +7,12 @@ use Rattle.log_format.specs.declared.record.Why.{Why}
 use Rattle.log_format.specs.declared.record.Why.TheVariants as why
 use Rattle.race_model.specs.declared.why.RecordWhy.{RecordWhy}
 use Rattle.race_model.specs.declared.why.RecordWhy.TheVariants as log
-use Rattle.log_format.specs.Spelling.{log_bytes}
+use Rattle.log_format.specs.Spelling.{spelling, log_bytes}
 use Rattle.log_format.specs.Table.{IsTabled, Spells, IsFirstFault}
 use Rattle.sw_base.specs.declared.files.TheConstants.{LOG_HEADER}
+use Rattle.sw_base.specs.declared.trouble.Trouble.{Trouble}
+use Rattle.sw_base.specs.declared.trouble.Trouble.TheVariants as trouble
+use Rattle.sw_base.specs.Window.{Window, Shows}
 use Rattle.race_model.specs.LogFault.{LogTask, Breaks, IsLogFault, OpensTooMany, max_segments}
 use Rattle.race_model.specs.Segment.{segment_count}
 use Rattle.log_walk.specs.Rules.{BreaksNone, BreaksFirst}
@@ -20,6 +23,11 @@ use Rattle.race_model.specs.BadPlace.{record_rank, last_rank}
 -- no record breaks a rule after those before it
 pub record KeepsLogRules (task : LogTask) (records : List Record) : Type 0 where
   pub each : (k : ℕ) (r : Record) → slice_get records k ≡ Some r → (rule : RecordWhy) → Breaks task (take k records) r rule → ⊥
+
+-- what a failed call of the environment is answered with
+abbrev pub log_fault_of : Trouble → LogFault
+log_fault_of trouble.Memory = fault.Memory
+log_fault_of trouble.Failed = fault.ReadFault
 
 -- the rule of a log that a fault of a record's bytes breaks
 abbrev pub of_why : Why → RecordWhy
@@ -59,6 +67,7 @@ pub record NothingBefore (bytes : List ℕ) (task : LogTask) (opened n rank : �
 abbrev pub IsLogRefused : List ℕ → LogTask → ℕ → LogFault → Type 0
 IsLogRefused bytes task opened (fault.Bad n rule) = IsLogFault bytes task n rule × NothingBefore bytes task opened n (record_rank rule)
 IsLogRefused bytes task opened (fault.TooMany n) = OpensTooMany bytes task.records opened n × NothingBefore bytes task opened n last_rank
+IsLogRefused bytes task opened fault.ReadFault = Unit {0}
 IsLogRefused bytes task opened fault.Memory = Unit {0}
 
 -- a log is good: these are its records, and with it and the earlier logs there are so many segments
@@ -94,7 +103,21 @@ pub record IsOverNext (bytes : List ℕ) (task : LogTask) (opened : ℕ) (before
 abbrev pub IsNextRefused : List ℕ → LogTask → ℕ → List Record → ℕ → LogFault → Type 0
 IsNextRefused bytes task opened before number (fault.Bad n rule) = (n ≡ number) × (IsNoRecord bytes rule ⊎ IsBadNext bytes task before rule)
 IsNextRefused bytes task opened before number (fault.TooMany n) = (n ≡ number) × IsOverNext bytes task opened before
+IsNextRefused bytes task opened before number fault.ReadFault = ⊥
 IsNextRefused bytes task opened before number fault.Memory = ⊥
+
+-- why the bytes that are left begin with no good record
+abbrev pub IsLeftRefused : List ℕ → LogTask → ℕ → List Record → ℕ → LogFault → Type 0
+IsLeftRefused rest task opened before number (fault.Bad n rule) =
+    ((n ≡ number) × (rule ≡ log.Cut) × (length rest < 24)) ⊎ ((24 ≤ length rest) × IsNextRefused (take 24 rest) task opened before number (fault.Bad n rule))
+IsLeftRefused rest task opened before number (fault.TooMany n) = (24 ≤ length rest) × IsNextRefused (take 24 rest) task opened before number (fault.TooMany n)
+IsLeftRefused rest task opened before number fault.ReadFault = Unit {0}
+IsLeftRefused rest task opened before number fault.Memory = Unit {0}
+
+-- the window went past this record of the file
+pub record PassesRecord (file : List ℕ) (r : Record) (old new : Window) : Type 0 where
+  pub shows : Shows new file
+  pub parts : drop old.place file ≡ spelling r ++ drop new.place file
 
 -- what the next record is where it isn't refused
 pub record IsGoodNext (bytes : List ℕ) (task : LogTask) (before : List Record) (r : Record) : Type 0 where

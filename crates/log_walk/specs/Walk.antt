@@ -36,6 +36,7 @@ of_index answer.Memory = fault.Memory
 abbrev pub of_log : List Step → LogFault → WalkFault
 of_log path (log_fault.Bad number why) = fault.BadRecord path number why
 of_log path (log_fault.TooMany number) = fault.TooManySegments path number
+of_log path log_fault.ReadFault = fault.ReadFault
 of_log path log_fault.Memory = fault.Memory
 
 -- the trace that was read

@@ -1,8 +1,12 @@
 //! The check of one log.
-ghost use Rattle.std.specs.Prelude.{◌≡◌, ◌+◌, ◌<◌, ◌≤◌, ℕ, List, [], ◌∷◌, ◌++◌, length, IfOk, IfErr, OnOk};
+ghost use Rattle.std.specs.Prelude.{◌≡◌, ◌+◌, ◌*◌, ◌<◌, ◌≤◌, ℕ, List, [], ◌∷◌, ◌++◌, length, drop, IfOk, IfErr, IsErrOf, OnOk};
+ghost use Rattle.sw_base.specs.Environment.{WhereTold, Rose};
+ghost use Rattle.sw_base.specs.Window.{Shows, file_of};
+ghost use Rattle.log_format.specs.Spelling.{log_bytes};
+ghost use Rattle.log_format.specs.Table.{IsTabled, Spells};
 ghost use Rattle.log_format.specs.declared.record.Record.{Record};
-ghost use Rattle.log_walk.specs.Check.{of_why, IsGoodNext, IsNextRefused, IsGoodLog, IsLogRefused};
-ghost use Rattle.log_walk.specs.Rules.{log_task_of};
+ghost use Rattle.log_walk.specs.Check.{of_why, IsGoodNext, IsNextRefused, IsLeftRefused, PassesRecord, IsGoodLog, IsLogRefused};
+ghost use Rattle.log_walk.specs.Rules.{log_task_of, BreaksNone};
 ghost use Rattle.log_walk.specs.State.{IsStateAfter};
 ghost use Rattle.race_model.specs.LogFault.{max_segments};
 ghost use Rattle.race_model.specs.IndexFault.{max_records};
@@ -12,7 +16,10 @@ use crate::task::Task;
 use log_format::{Record, Why, decode};
 use race_model::RecordWhy;
 use std::alloc::{AllocFailed, Global};
-use sw_base::LOG_HEADER;
+use sw_base::{Folder, LOG_HEADER, Trouble, Window};
+
+/// The bytes of a record.
+const RECORD: usize = 24;
 
 /// Why a log is refused.
 #[derive(Clone, Copy, Debug, PartialEq, Eq)]
@@ -21,8 +28,24 @@ pub enum LogFault {
     Bad { number: u32, why: RecordWhy },
     /// The record of this number opens one segment too many.
     TooMany { number: u32 },
+    /// A read failed.
+    ReadFault,
     /// No memory was found.
     Memory,
+}
+
+impl From<Trouble> for LogFault {
+    ghost use Rattle.std.specs.Prelude.{◌≡◌};
+    ghost use Rattle.log_walk.specs.Check.{log_fault_of};
+
+    ghost from_gives = { λ trouble e. e ≡ log_fault_of trouble };
+
+    fn from(trouble: Trouble) -> Self {
+        match trouble {
+            Trouble::Memory => LogFault::Memory,
+            Trouble::Failed => LogFault::ReadFault,
+        }
+    }
 }
 
 impl<T: Drop> From<AllocFailed<T>> for LogFault {
@@ -64,10 +87,12 @@ fn accept(state: &mut State, task: &Task, number: u32, bytes: &[u8; 24]) -> Resu
     requires barriers { state.old.barriers < number }
     ensures good { (opened : ℕ) (before : List Record) → IsStateAfter state.old opened before → number ≡ length before + 1
         → IfOk result (λ r. IsGoodNext bytes.now (log_task_of task.now) before r) }
+    ensures spells { IfOk result (λ r. Spells bytes.now r) }
     ensures follows { (opened : ℕ) (before : List Record) → IsStateAfter state.old opened before → number ≡ length before + 1
         → IfOk result (λ r. IsStateAfter state.new opened (before ++ r ∷ [])) }
     ensures refused { (opened : ℕ) (before : List Record) → IsStateAfter state.old opened before → number ≡ length before + 1
         → IfErr result (λ e. IsNextRefused bytes.now (log_task_of task.now) opened before number e) }
+    ensures read { IsErrOf result LogFault.ReadFault → ⊥ }
     ensures limit { OnOk result (state.new.segments ≤ max_segments) }
     ensures regions { OnOk result (state.new.regions ≤ number) }
     ensures barriers { OnOk result (state.new.barriers ≤ number) }
@@ -90,33 +115,87 @@ fn accept(state: &mut State, task: &Task, number: u32, bytes: &[u8; 24]) -> Resu
     Ok(record)
 }
 
-/// The records of a log, where it is good. Else the first place at which it isn't.
-pub fn check_log(alloc: Global, bytes: &[u8], task: &Task, opened: u32) -> Result<Checked, LogFault>
+/// The next record of a log, where it keeps the rules. So many records were read before.
+fn next_record<F: Folder>(
+    alloc: Global,
+    folder: &mut F,
+    name: &str,
+    window: &mut Window,
+    state: &mut State,
+    task: &Task,
+    index: u32,
+) -> Result<Record, LogFault>
+    requires index { index < max_records }
+    requires place { window.old.place ≡ 8 + 24 * index }
+    requires segments { state.old.segments ≤ max_segments }
+    requires regions { state.old.regions ≤ index }
+    requires barriers { state.old.barriers ≤ index }
+    ensures good { (opened : ℕ) (before : List Record) → IsStateAfter state.old opened before → index ≡ length before
+        → IfOk result (λ r. IsTabled r × BreaksNone (log_task_of task.now) before r) }
+    ensures follows { (opened : ℕ) (before : List Record) → IsStateAfter state.old opened before → index ≡ length before
+        → IfOk result (λ r. IsStateAfter state.new opened (before ++ r ∷ [])) }
+    ensures read { IfOk result (λ r. WhereTold (F.content folder.old) (λ c. Shows window.old (file_of c name.now) → PassesRecord (file_of c name.now) r window.old window.new)) }
+    ensures refused { (opened : ℕ) (before : List Record) → IsStateAfter state.old opened before → index ≡ length before
+        → IfErr result (λ e. WhereTold (F.content folder.old) (λ c. Shows window.old (file_of c name.now)
+        → IsLeftRefused (drop window.old.place (file_of c name.now)) (log_task_of task.now) opened before (index + 1) e)) }
+    ensures place { OnOk result (window.new.place ≡ window.old.place + 24) }
+    ensures limit { OnOk result (state.new.segments ≤ max_segments) }
+    ensures regions { OnOk result (state.new.regions ≤ index + 1) }
+    ensures barriers { OnOk result (state.new.barriers ≤ index + 1) }
+
+    ensures same { F.content folder.new ≡ F.content folder.old }
+    ensures later { F.read_faults folder.old ≤ F.read_faults folder.new }
+    ensures cause { IsErrOf result LogFault.ReadFault → Rose (F.read_faults folder.old) (F.read_faults folder.new) }
+    ensures same_writes { F.write_faults folder.new ≡ F.write_faults folder.old }
+{
+    let number = index + 1;
+    window.fill(alloc, folder, name, RECORD)?;
+    let Some((next, _)) = window.ahead().split_first_chunk::<RECORD>() else {
+        return Err(LogFault::Bad {
+            number,
+            why: RecordWhy::Cut,
+        });
+    };
+    let record = accept(state, task, number, next)?;
+    window.skip(RECORD);
+    Ok(record)
+}
+
+/// The records of the log under this name, where it is good. Else the first place at which it isn't.
+pub fn check_log<F: Folder>(
+    alloc: Global,
+    folder: &mut F,
+    name: &str,
+    window: &mut Window,
+    task: &Task,
+    opened: u32,
+) -> Result<Checked, LogFault>
     requires opened { opened ≤ max_segments }
     requires records { task.now.records ≤ max_records }
-    ensures good { IfOk result (λ c. IsGoodLog bytes.now (log_task_of task.now) opened c.records.items c.segments) }
-    ensures refused { IfErr result (λ e. IsLogRefused bytes.now (log_task_of task.now) opened e) }
+    ensures good { IfOk result (λ c. IsGoodLog (log_bytes LOG_HEADER c.records.items) (log_task_of task.now) opened c.records.items c.segments) }
+    ensures whole { IfOk result (λ c. WhereTold (F.content folder.old) (λ x. file_of x name.now ≡ log_bytes LOG_HEADER c.records.items)) }
+    ensures refused { IfErr result (λ e. WhereTold (F.content folder.old) (λ x. IsLogRefused (file_of x name.now) (log_task_of task.now) opened e)) }
+
+    ensures same { F.content folder.new ≡ F.content folder.old }
+    ensures later { F.read_faults folder.old ≤ F.read_faults folder.new }
+    ensures cause { IsErrOf result LogFault.ReadFault → Rose (F.read_faults folder.old) (F.read_faults folder.new) }
+    ensures same_writes { F.write_faults folder.new ≡ F.write_faults folder.old }
 {
-    let Some(mut rest) = bytes.strip_prefix(&LOG_HEADER) else {
+    window.restart();
+    if !window.pass_header(alloc, folder, name, &LOG_HEADER)? {
         return Err(LogFault::Bad {
             number: 0,
             why: RecordWhy::Header,
         });
-    };
+    }
     let mut state = State::new(opened);
     let mut records = Vec::new(alloc);
     'records: for index in 0..task.records {
-        let number = index + 1;
-        let Some((next, after)) = rest.split_first_chunk::<24>() else {
-            return Err(LogFault::Bad {
-                number,
-                why: RecordWhy::Cut,
-            });
-        };
-        records.push(accept(&mut state, task, number, next)?)?;
-        rest = after;
+        let next = next_record(alloc, folder, name, window, &mut state, task, index)?;
+        records.push(next)?;
     }
-    if !rest.is_empty() {
+    window.fill(alloc, folder, name, 1)?;
+    if !window.ahead().is_empty() {
         return Err(LogFault::Bad {
             number: task.records + 1,
             why: RecordWhy::Extra,

@@ -27,4 +27,6 @@ pub use read::read_trace;
 pub use walking::walk;
 
 #[cfg(test)]
+mod short_reads;
+#[cfg(test)]
 mod tests;

@@ -1,7 +1,8 @@
 //! Reads the logs of a folder.
-ghost use Rattle.std.specs.Prelude.{◌≡◌, ◌≤◌, ◌<◌, Some, length, slice_get, IfOk, IfErr, OnOk, IsErrOf};
+ghost use Rattle.std.specs.Prelude.{◌≡◌, ◌≤◌, ◌<◌, Some, length, slice_get, string_bytes, IfOk, IfErr, OnOk, IsErrOf};
 ghost use Rattle.sw_base.specs.Environment.{WhereTold, Rose};
 ghost use Rattle.sw_base.specs.Names.{log_name};
+ghost use Rattle.sw_base.specs.Window.{HoldsFile};
 ghost use Rattle.race_model.specs.Row.{Row};
 ghost use Rattle.race_model.specs.IndexFault.{AreRows, IsIndex};
 ghost use Rattle.race_model.specs.FirstBad.{segments_in, HoldsTrace};
@@ -22,16 +23,20 @@ use crate::team::team_barriers;
 use log_index::{Row as IndexRow, read_index};
 use log_segment::TaskRecords;
 use std::alloc::Global;
-use sw_base::{Folder, Memory, Path, read_file};
+use sw_base::{Folder, Memory, Path, Window};
 
-/// The bytes of a task's log.
-fn read_log<F: Folder>(
+/// How many bytes of a log are read at once: 2,730 records.
+const WINDOW: usize = 65_520;
+
+/// The name of a task's log, where the folder has it.
+fn find_log<F: Folder>(
     alloc: Global,
     folder: &mut F,
     dir: &str,
     path: &Path,
-) -> Result<Vec<u8>, WalkFault>
-    ensures found { IfOk result (λ bytes. WhereTold (F.content folder.old) (λ c. c.held (log_name dir.now path.now) ≡ Some bytes.items)) }
+) -> Result<String, WalkFault>
+    ensures name { IfOk result (λ name. string_bytes name ≡ log_name dir.now path.now) }
+    ensures found { OnOk result (WhereTold (F.content folder.old) (λ c. HoldsFile c (log_name dir.now path.now))) }
     ensures unread { IfErr result (λ e. IsUnread (F.content folder.old) dir.now path.now e) }
     ensures same { F.content folder.new ≡ F.content folder.old }
     ensures later { F.read_faults folder.old ≤ F.read_faults folder.new }
@@ -39,8 +44,8 @@ fn read_log<F: Folder>(
     ensures same_writes { F.write_faults folder.new ≡ F.write_faults folder.old }
 {
     let name = path.name(alloc, dir)?;
-    match read_file(alloc, folder, &name) {
-        Ok(Some(bytes)) => Ok(bytes),
+    match folder.size(alloc, &name) {
+        Ok(Some(_)) => Ok(name),
         Ok(None) => Err(WalkFault::MissingLog { path: path.copy() }),
         Err(trouble) => Err(WalkFault::from(trouble)),
     }
@@ -81,6 +86,7 @@ fn fault_of(path: &Path, fault: LogFault) -> WalkFault
             path: path.copy(),
             number,
         },
+        LogFault::ReadFault => WalkFault::ReadFault,
         LogFault::Memory => WalkFault::Memory,
     }
 }
@@ -93,6 +99,7 @@ fn read_task<F: Folder>(
     rows: &[IndexRow],
     index: usize,
     trace: &[TaskRecords],
+    window: &mut Window,
     opened: u32,
 ) -> Result<Checked, WalkFault>
     requires rows { AreRows rows.now }
@@ -112,9 +119,9 @@ fn read_task<F: Folder>(
     ensures same_writes { F.write_faults folder.new ≡ F.write_faults folder.old }
 {
     let row = &rows[index];
-    let bytes = read_log(alloc, folder, dir, &row.path)?;
+    let name = find_log(alloc, folder, dir, &row.path)?;
     let task = task_at(alloc, rows, index, trace)?;
-    match check_log(alloc, &bytes, &task, opened) {
+    match check_log(alloc, folder, &name, window, &task, opened) {
         Ok(checked) => Ok(checked),
         Err(fault) => Err(fault_of(&row.path, fault)),
     }
@@ -139,10 +146,20 @@ fn read_logs<F: Folder>(
     ensures cause { IsErrOf result WalkFault.ReadFault → Rose (F.read_faults folder.old) (F.read_faults folder.new) }
     ensures same_writes { F.write_faults folder.new ≡ F.write_faults folder.old }
 {
+    let mut window = Window::new(alloc, WINDOW)?;
     let mut trace = Vec::new(alloc);
     let mut segments = 0;
     'logs: for index in 0..rows.len() {
-        let checked = read_task(alloc, folder, dir, rows, index, &trace, segments)?;
+        let checked = read_task(
+            alloc,
+            folder,
+            dir,
+            rows,
+            index,
+            &trace,
+            &mut window,
+            segments,
+        )?;
         segments = checked.segments;
         let row = &rows[index];
         trace.push(TaskRecords {

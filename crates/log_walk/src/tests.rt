@@ -1,5 +1,6 @@
 //! Folders by hand with their first bad places, and each public call with ample memory.
 
+use crate::short_reads::ShortReads;
 use crate::{RecordWhy, TaskRecords, WalkFault, read_trace, walk};
 use race_model::IndexWhy;
 use span_label::Triple;
@@ -473,8 +474,8 @@ fn the_65537th_segment_is_one_too_many(rt: HostRuntime) -> Result<(), Fail> {
 #[test]
 fn each_read_that_fails_is_told(rt: HostRuntime) -> Result<(), Fail> {
     let alloc = rt.alloc();
-    // The size and the bytes of the index and of three logs.
-    for call in 1..9 {
+    // The size of the index and its five reads, and for each of three logs its size and two reads.
+    for call in 1..16 {
         let mut folder = folder(alloc, [2, 5, 5], &root(), &lane(4096), &lane(4104))?;
         folder.fail(&[call])?;
         assert_eq!(rt;
@@ -483,7 +484,64 @@ fn each_read_that_fails_is_told(rt: HostRuntime) -> Result<(), Fail> {
         );
     }
     let mut folder = folder(alloc, [2, 5, 5], &root(), &lane(4096), &lane(4104))?;
-    folder.fail(&[9])?;
+    folder.fail(&[16])?;
     assert_eq!(rt; answer_of(read_trace(alloc, &mut folder, "d")), Told::Good);
+    Ok(())
+}
+
+// What is told where lane 1's log has these bytes, and no read gives more than five bytes.
+fn lane_1_in_short_reads(alloc: Global, bytes: &[u8]) -> Result<Told, Memory> {
+    let mut folder = folder(alloc, [2, 5, 5], &root(), &lane(4096), &[])?;
+    folder.hold("d/t-0.1.swl", bytes)?;
+    Ok(answer_of(read_trace(alloc, &mut ShortReads { folder }, "d")))
+}
+
+#[test]
+fn a_short_read_is_gone_on_with(rt: HostRuntime) -> Result<(), Fail> {
+    let alloc = rt.alloc();
+    let whole = log(alloc, &lane(4104))?;
+    assert_eq!(rt; lane_1_in_short_reads(alloc, &whole)?, Told::Good);
+    assert_eq!(rt;
+        lane_1_in_short_reads(alloc, &[])?,
+        Told::Record(2, 0, RecordWhy::Header)
+    );
+    assert_eq!(rt;
+        lane_1_in_short_reads(alloc, &whole[1..])?,
+        Told::Record(2, 0, RecordWhy::Header)
+    );
+    assert_eq!(rt;
+        lane_1_in_short_reads(alloc, &whole[..79])?,
+        Told::Record(2, 3, RecordWhy::Cut)
+    );
+    let mut longer = whole.clone()?;
+    longer.push(0)?;
+    assert_eq!(rt;
+        lane_1_in_short_reads(alloc, &longer)?,
+        Told::Record(2, 6, RecordWhy::Extra)
+    );
+    let mut other = whole.clone()?;
+    other[8 + 24] = 0;
+    assert_eq!(rt;
+        lane_1_in_short_reads(alloc, &other)?,
+        Told::Record(2, 2, RecordWhy::Kind)
+    );
+    Ok(())
+}
+
+// A row may claim any number of records: what is read is what is there.
+#[test]
+fn a_row_that_claims_too_many_records_is_told(rt: HostRuntime) -> Result<(), Fail> {
+    let alloc = rt.alloc();
+    let mut folder = folder(
+        alloc,
+        [2, 5, 4_194_304],
+        &root(),
+        &lane(4096),
+        &lane(4104)[..4],
+    )?;
+    assert_eq!(rt;
+        answer_of(read_trace(alloc, &mut folder, "d")),
+        Told::Record(2, 5, RecordWhy::Cut)
+    );
     Ok(())
 }

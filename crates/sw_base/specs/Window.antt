@@ -1,5 +1,5 @@
 -- A file that is read through a window: where in it the next byte stands, and the bytes from there that were read ahead.
-use Rattle.std.specs.Prelude.{◌≡◌, ℕ, ◌+◌, List, [], length, take, drop, unwrap_or}
+use Rattle.std.specs.Prelude.{◌≡◌, ℕ, ◌+◌, List, [], length, take, drop, unwrap_or, Some}
 use Rattle.sw_base.specs.Environment.{Content}
 
 pub record Window : Type 0 where
@@ -17,6 +17,10 @@ skipped count window = record { place = window.place + count; ahead = drop count
 -- the bytes under the name; none where there is no file
 abbrev pub file_of : Content → List ℕ → List ℕ
 file_of content name = unwrap_or (content.held name) []
+
+-- there is a file of this name
+abbrev pub HoldsFile : Content → List ℕ → Type 0
+HoldsFile content name = content.held name ≡ Some (file_of content name)
 
 -- the bytes ahead are the file's
 abbrev pub Shows : Window → List ℕ → Type 0

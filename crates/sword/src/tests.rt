@@ -348,8 +348,8 @@ fn other_arguments_are_a_usage_fault(rt: HostRuntime) -> Result<(), Fail> {
 fn each_call_of_a_check_may_fail(rt: HostRuntime) -> Result<(), Fail> {
     let alloc = rt.alloc();
     let check = arguments(alloc, &["check", "d", "1"])?;
-    // The size and the bytes of the index and of the log.
-    for call in 1..=4 {
+    // The size of the index and its three reads, and the size of the log and its two.
+    for call in 1..=7 {
         let mut folder = made_folder(alloc, &[(&[], &[END])])?;
         folder.fail(&[call])?;
         let mut out = MemOut::new(alloc)?;
@@ -358,7 +358,7 @@ fn each_call_of_a_check_may_fail(rt: HostRuntime) -> Result<(), Fail> {
         assert_eq!(rt; out.written(), b"".as_slice());
     }
     let mut folder = made_folder(alloc, &[(&[], &[END])])?;
-    folder.fail(&[5])?;
+    folder.fail(&[8])?;
     let mut out = MemOut::new(alloc)?;
     out.fail(&[1])?;
     let status = sword(&rt, alloc, &check, &mut folder, &mut out, &NoGate);

@@ -9,7 +9,7 @@ use Rattle.log_walk.proofs.read.read_logs.Goals as goal
 
 pub returns-in_err-checked-clause-refused : goal.returns-in_err-checked-clause-refused
 returns-in_err-checked-clause-refused g c =
-    let p = err_from_is_err_and c.from_residual.result c.from_residual.ensures.1 in
+    let p = err_from_is_err_and c.from_residual-in_err-checked.result c.from_residual-in_err-checked.ensures.1 in
     rw (p.1, p.2) (λ content told index.
     c.in_err-checked.ensures.refused content (c.logs.invariant.same ∙ told)
     (subst (λ (tasks : List TaskRecords). Walked content.held c.args.dir.now c.args.rows.now (trace_of tasks)) (sym c.deref.ensures.value)

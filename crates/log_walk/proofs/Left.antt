@@ -1,0 +1,75 @@
+-- What the window shows of the bytes that are left of a log.
+use Rattle.std.proofs.Common.{◌≡◌, inr, ℕ, ◌+◌, ◌<◌, ◌≤◌, List, [], ◌∷◌, ◌++◌, length, take, drop, refl, sym, ap, subst, ◌∙◌, arith}
+use Rattle.std.proofs.lemmas.List.{append-nil, length-take, drop-drop}
+use Rattle.sw_base.specs.Window.{Window, Shows, skipped}
+use Rattle.sw_base.proofs.Windows.{shows_skipped}
+use Rattle.log_format.specs.declared.record.Record.{Record}
+use Rattle.log_format.specs.Spelling.{spelling, log_bytes}
+use Rattle.sw_base.specs.declared.files.TheConstants.{LOG_HEADER}
+use Rattle.race_model.specs.declared.why.RecordWhy.TheVariants as log
+use Rattle.log_walk.specs.declared.state.State.{State}
+use Rattle.log_format.specs.Table.{Spells}
+use Rattle.race_model.specs.LogFault.{LogTask}
+use Rattle.log_walk.specs.declared.check.LogFault.{LogFault}
+use Rattle.log_walk.specs.declared.check.LogFault.TheVariants as fault
+use Rattle.log_walk.specs.Check.{IsGoodLog, IsLogRefused, IsNextRefused, IsLeftRefused, PassesRecord}
+use Rattle.log_walk.proofs.SoFar.{begins, Checks, IsReadTo}
+
+-- fewer bytes are ahead, so fewer are left
+pub short_left : (ahead rest : List ℕ) → take 24 ahead ≡ take 24 rest → length ahead < 24 → length rest < 24
+short_left ahead rest same short = omega (arith, short, ap length same, length-take 24 ahead, length-take 24 rest)
+
+-- a whole record is ahead, so it is left
+pub whole_left : (ahead rest : List ℕ) → 24 ≤ length ahead → take 24 ahead ≡ take 24 rest → 24 ≤ length rest
+whole_left ahead rest whole same = omega (arith, whole, ap length same, length-take 24 ahead, length-take 24 rest)
+
+-- no byte is left
+pub none_left : (ahead rest : List ℕ) → take 1 ahead ≡ take 1 rest → length ahead ≡ 0 → rest ≡ []
+none_left ahead [] same none = refl
+none_left ahead (b ∷ rest) same none = absurd (omega (arith, none, ap length same, length-take 1 ahead, length-take 1 (b ∷ rest)))
+
+-- a byte is left
+pub some_left : (ahead rest : List ℕ) → take 1 ahead ≡ take 1 rest → 0 < length ahead → 0 < length rest
+some_left ahead rest same some = omega (arith, some, ap length same, length-take 1 ahead, length-take 1 rest)
+
+-- another header
+pub header_refused : (bytes : List ℕ) (task : LogTask) (opened : ℕ) → (take 8 bytes ≡ LOG_HEADER → ⊥) → IsLogRefused bytes task opened (fault.Bad 0 log.Header)
+header_refused bytes task opened other = (
+  (refl, λ rest is. other (ap (λ (bs : List ℕ). take 8 bs) is)),
+  record { earlier = λ m rule less bad. absurd (omega arith); here = λ rule less bad. absurd (omega arith); segments = λ m less over. absurd (omega arith) },
+)
+
+-- the records of a log that is good
+pub good_log : (task : LogTask) (opened : ℕ) (state : State) (records : List Record) (index : ℕ) → Checks task opened state records index → index ≡ task.records
+    → IsGoodLog (log_bytes LOG_HEADER records) task opened records state.segments
+good_log task opened state records index checks all = record {
+  whole = refl;
+  tabled = checks.tabled;
+  counted = checks.count ∙ all;
+  keeps = checks.keeps;
+  sum = checks.follows.segments;
+  limit = checks.limit;
+}
+
+-- its bytes
+pub whole_log : (file : List ℕ) (records : List Record) (window : Window) → IsReadTo file records window → drop window.place file ≡ [] → file ≡ log_bytes LOG_HEADER records
+whole_log file records window read none = read.parts ∙ ap (λ (bs : List ℕ). log_bytes LOG_HEADER records ++ bs) none ∙ append-nil (log_bytes LOG_HEADER records)
+
+-- its refusal is that of the bytes that are left
+pub refused_left : (next rest : List ℕ) (task : LogTask) (opened : ℕ) (before : List Record) (number : ℕ) (refusal : LogFault) → next ≡ take 24 rest → 24 ≤ length rest
+    → IsNextRefused next task opened before number refusal → IsLeftRefused rest task opened before number refusal
+refused_left next rest task opened before number (fault.Bad n rule) is whole refused = inr (whole, subst (λ (bs : List ℕ). IsNextRefused bs task opened before number (fault.Bad n rule)) is refused)
+refused_left next rest task opened before number (fault.TooMany n) is whole refused = (whole, subst (λ (bs : List ℕ). IsNextRefused bs task opened before number (fault.TooMany n)) is refused)
+refused_left next rest task opened before number fault.ReadFault is whole refused = tt
+refused_left next rest task opened before number fault.Memory is whole refused = tt
+
+-- the window goes past a record
+pub passes : (file next : List ℕ) (r : Record) (old filled new : Window) → Shows filled file → filled.place ≡ old.place → 24 ≤ length filled.ahead → new ≡ skipped 24 filled
+    → next ≡ take 24 (drop old.place file) → Spells next r → PassesRecord file r old new
+passes file next r old filled new shows place there is next_is spells = record {
+  shows = subst (λ (w : Window). Shows w file) (sym is) (shows_skipped filled file 24 there shows);
+  parts = begins (drop old.place file) next r next_is spells
+      ∙ ap (λ (bs : List ℕ). spelling r ++ bs) (drop-drop 24 old.place file ∙ ap (λ (n : ℕ). drop n file) (sym at));
+} where
+  at : new.place ≡ old.place + 24
+  at = ap (λ (w : Window). w.place) is ∙ ap (λ (n : ℕ). n + 24) place
