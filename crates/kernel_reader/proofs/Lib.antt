@@ -16,6 +16,7 @@ pub mod Lines
 pub mod Bounded
 pub mod Kernels
 pub mod Examples
+pub mod Wants
 pub mod Texts
 pub mod Levels
 pub mod RefusedTexts
