@@ -17,6 +17,9 @@ pub mod Bounded
 pub mod Kernels
 pub mod Examples
 pub mod Wants
+pub mod Running
+pub mod Completes
+pub mod CompleteKernels
 pub mod Texts
 pub mod Levels
 pub mod RefusedTexts
