@@ -20,6 +20,9 @@ pub mod Wants
 pub mod Running
 pub mod Completes
 pub mod CompleteKernels
+pub mod Grouping
+pub mod Filling
+pub mod Sounds
 pub mod Texts
 pub mod Levels
 pub mod RefusedTexts
