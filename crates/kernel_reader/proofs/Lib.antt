@@ -23,6 +23,7 @@ pub mod CompleteKernels
 pub mod Grouping
 pub mod Filling
 pub mod Sounds
+pub mod Judgement
 pub mod Texts
 pub mod Levels
 pub mod RefusedTexts

@@ -442,9 +442,11 @@ fn step(stack: &mut Vec<Want>, lexeme: &Lexeme) -> Result<Moved, AllocError>
     Ok(Moved::Fails)
 }
 
-/// What the tokens of a text are.
+/// What tokens are: a kernel by the grammar with at most 32 levels of blocks and in each
+/// expression; or they have a first token that no kernel goes on with, or a first that opens level
+/// 33, at this line; or they end before a kernel does.
 pub fn judge(alloc: Global, tokens: &[Token]) -> Result<Verdict, AllocError>
-    ensures { IfOk result (λ v. v ≡ judged (want.Kernel ∷ []) tokens.now) }
+    ensures { IfOk result (λ v. IsVerdict tokens.now v) }
 {
     let mut stack = Vec::new(alloc);
     stack.push(Want::Kernel)?;
