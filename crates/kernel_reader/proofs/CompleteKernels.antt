@@ -1,5 +1,5 @@
 -- Each kernel by the grammar is taken whole: its tokens open the levels that its tree tells, and leave nothing wanted.
-use Rattle.std.proofs.Common.{◌≡◌, ℕ, ◌+◌, true, List, [], ◌∷◌, ◌++◌, Option, Some, None, refl, sym, ap, ◌∙◌, append_assoc}
+use Rattle.std.proofs.Common.{◌≡◌, ℕ, ◌+◌, List, [], ◌∷◌, ◌++◌, Option, Some, None, refl, sym, ap, ◌∙◌, append_assoc}
 use Rattle.kernel_reader.specs.declared.token.Sign.TheVariants as sign
 use Rattle.kernel_reader.specs.declared.token.Word.TheVariants as word
 use Rattle.kernel_reader.specs.declared.token.Lexeme.{Lexeme}
@@ -8,9 +8,9 @@ use Rattle.kernel_reader.specs.declared.judging.Want.{Want}
 use Rattle.kernel_reader.specs.declared.judging.Want.TheVariants as want
 use Rattle.kernel_reader.specs.Grammar.{Tree, Derives, tree_tokens, expr, reserved, mark, ScheduleTree, Unsaid, Static, StaticBy, Dynamic, DynamicBy, schedule_tokens, nowait_tokens, Stmts, NoMore, Let, Assign, Store, If, IfElse, Loop, Parallel, For, Barrier, Critical, CriticalOf, block, stmts_tokens, StmtsDerive, Declaration, ArrayOf, MutexOf, declarations_tokens, KernelTree, kernel_tokens, IsKernel}
 use Rattle.kernel_reader.specs.Faults.{tree_levels, flat, block_levels, stmts_levels, kernel_levels}
-use Rattle.kernel_reader.specs.Judging.{Skips, schedule_move, chunk_move, nowait_move, step}
-use Rattle.kernel_reader.proofs.Running.{Trace, Ends, Halts, Next, run, through, through-append, run-skips, run-takes, run-joins}
-use Rattle.kernel_reader.proofs.Completes.{FirstIs, NoIndex, EndsExpr, NoElse, skips-else, Reads, reads}
+use Rattle.kernel_reader.specs.Judging.{Skips, schedule_move, chunk_move, step}
+use Rattle.kernel_reader.proofs.Running.{Trace, Ends, Next, run, through, through-append, run-skips, run-takes, run-joins}
+use Rattle.kernel_reader.proofs.Completes.{FirstIs, EndsExpr, NoElse, skips-else, reads}
 
 -- ---- what may follow
 

@@ -1,5 +1,5 @@
 -- Each expression by the grammar is taken where one is wanted, and opens the levels that its tree tells.
-use Rattle.std.proofs.Common.{◌≡◌, ℕ, ◌+◌, ◌<◌, ◌≤◌, Bool, true, false, List, [], ◌∷◌, ◌++◌, Option, Some, None, refl, sym, ap, ◌∙◌, append_assoc, arith}
+use Rattle.std.proofs.Common.{◌≡◌, ℕ, ◌+◌, ◌≤◌, Bool, true, false, List, [], ◌∷◌, ◌++◌, Some, None, refl, ap, ◌∙◌, arith}
 use Rattle.kernel_syntax.specs.declared.syntax.Op.{Op}
 use Rattle.kernel_syntax.specs.declared.syntax.Op.TheVariants.{Add, Sub, Mul, Div, Rem, Eq, Ne, Lt, Le, Gt, Ge}
 use Rattle.kernel_reader.specs.declared.token.Word.TheVariants as word
@@ -9,11 +9,11 @@ use Rattle.kernel_reader.specs.declared.token.Lexeme.TheVariants.{Named, Number,
 use Rattle.kernel_reader.specs.declared.token.Token.{Token}
 use Rattle.kernel_reader.specs.declared.judging.Want.{Want}
 use Rattle.kernel_reader.specs.declared.judging.Want.TheVariants as want
-use Rattle.kernel_reader.specs.Grammar.{Tree, NumberAt, NameAt, TidAt, SpanAt, Element, Group, Minus, Binary, Derives, tree_tokens, rank_of, left_rank, right_rank, sign_of, unary, expr, named, number, reserved, mark}
+use Rattle.kernel_reader.specs.Grammar.{Tree, NumberAt, NameAt, TidAt, SpanAt, Element, Group, Minus, Binary, Derives, tree_tokens, rank_of, left_rank, right_rank, sign_of, unary, expr, mark}
 use Rattle.kernel_reader.specs.Faults.{tree_levels}
-use Rattle.kernel_reader.specs.Judging.{Move, Fails, Skips, Takes, op_of, is_comparison, operator_move, operators_move, index_move, else_move, move, Step, Stops, Goes, step}
+use Rattle.kernel_reader.specs.Judging.{Skips, Takes, op_of, is_comparison, operator_move, operators_move, index_move, else_move, move, Step, step}
 use Rattle.kernel_reader.proofs.Operators.{ranks}
-use Rattle.kernel_reader.proofs.Running.{Trace, Ends, Halts, Next, run, through, through-append, run_after, run-skips, run-takes, run-joins}
+use Rattle.kernel_reader.proofs.Running.{Trace, Next, run, through, run_after, run-skips, run-takes, run-joins}
 
 -- ---- what may follow
 

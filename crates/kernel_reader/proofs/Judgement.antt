@@ -1,6 +1,6 @@
 -- What the judge answers is what the grammar says of the tokens.
-use Rattle.std.proofs.Common.{◌≡◌, ℕ, ◌+◌, ◌<◌, ◌≤◌, Bool, true, false, List, [], ◌∷◌, ◌++◌, length, take, zero, suc, Option, Some, None, refl, sym, ap, subst, ◌∙◌, append_assoc, append-nil, length-append, arith}
-use Rattle.std.specs.Prelude.{All, nat_lt, if◌then◌else◌}
+use Rattle.std.proofs.Common.{◌≡◌, ℕ, ◌<◌, ◌≤◌, Bool, true, false, List, [], ◌∷◌, ◌++◌, length, take, zero, suc, Option, Some, None, refl, sym, ap, subst, ◌∙◌, append_assoc, append-nil, length-append, arith}
+use Rattle.std.specs.Prelude.{nat_lt, if◌then◌else◌}
 use Rattle.std.specs.List.{AllByRecursion}
 use Rattle.std.proofs.lemmas.Bool.{ltb-true, ltb-false}
 use Rattle.std.proofs.lemmas.List.Elements.{All-from_recursion, recursion_from_All}
@@ -9,11 +9,11 @@ use Rattle.kernel_reader.specs.declared.judging.Want.{Want}
 use Rattle.kernel_reader.specs.declared.judging.Want.TheVariants as want
 use Rattle.kernel_reader.specs.declared.judging.Verdict.{Verdict}
 use Rattle.kernel_reader.specs.declared.judging.Verdict.TheVariants as verdict
-use Rattle.kernel_reader.specs.Grammar.{KernelTree, kernel_tokens, IsKernel, IsShallow}
-use Rattle.kernel_reader.specs.Faults.{kernel_levels, Begins, BeginsShallow, IsSyntaxFault, IsTooDeep, EndsEarly}
+use Rattle.kernel_reader.specs.Grammar.{KernelTree, kernel_tokens, IsKernel}
+use Rattle.kernel_reader.specs.Faults.{kernel_levels, BeginsShallow}
 use Rattle.kernel_reader.specs.Judging.{Step, Stops, Goes, step, judged, at_end, IsVerdict}
 use Rattle.kernel_reader.proofs.Levels.{shallow_is_low}
-use Rattle.kernel_reader.proofs.Wants.{verdict_after, judged-is}
+use Rattle.kernel_reader.proofs.Wants.{verdict_after}
 use Rattle.kernel_reader.proofs.Running.{Trace, Ends, Halts, Next, run, through, run_after, run-is}
 use Rattle.kernel_reader.proofs.CompleteKernels.{kernel-run}
 use Rattle.kernel_reader.proofs.Filling.{Fill, fill_tokens, fill_levels, least_fill}
@@ -158,33 +158,39 @@ judges ts _ (AtKernel p) =
     let k = r.fill.0.0 in
     let levels : kernel_levels k ≡ p.levels = sym (append-nil (kernel_levels k)) ∙ r.levels ∙ append-nil p.levels in
     (k, r.fill.0.1, (shallow_is_low k).1 (All-from_recursion (λ n. n ≤ 32) _ (subst AreLow (sym levels) p.low)), sym (append-nil (kernel_tokens k)) ∙ r.tokens ∙ append-nil ts)
-judges ts _ (AtSyntax good bad rest u parts p stops) =
-    (bad, record {
-      good = good;
-      rest = rest;
-      parts = parts;
-      begins = begins-passed good u p;
-      stops = λ b. never-ended (ended (kernel_levels b.0) p.levels Halts (kernel-as b.0 good (bad ∷ b.1) u p b.2 (b.3 ∙ append_assoc good (bad ∷ []) b.1) ∙ ap (through p.levels) (run-is u bad b.1 ∙ ap (λ (r : Step). run_after r b.1) stops)));
-    }, refl)
+judges ts _ (AtSyntax good bad rest u parts p stops) = (
+  bad,
+  record {
+    good = good;
+    rest = rest;
+    parts = parts;
+    begins = begins-passed good u p;
+    stops = λ b. never-ended (ended (kernel_levels b.0) p.levels Halts (kernel-as b.0 good (bad ∷ b.1) u p b.2 (b.3 ∙ append_assoc good (bad ∷ []) b.1) ∙ ap (through p.levels) (run-is u bad b.1 ∙ ap (λ (r : Step). run_after r b.1) stops)));
+  },
+  refl,
+)
 judges ts _ (AtDeep good bad rest u level wants parts p goes deep) =
     let f = least_fill wants in
     let inner = step-backs u bad level wants goes f in
     let outer = p.backs inner.fill in
-    let k = outer.fill.0.0 in
-    (bad, record {
-      good = good;
-      rest = rest;
-      parts = parts;
-      begins = begins-passed good u p;
-      goes_on = (k, fill_tokens wants f, outer.fill.0.1, sym (append-nil (kernel_tokens k)) ∙ outer.tokens ∙ ap (λ (r : List Token). good ++ r) inner.tokens ∙ sym (append_assoc good (bad ∷ []) (fill_tokens wants f)));
-      deep = λ b.
-          let same = kernel-as b.0 good (bad ∷ b.1) u p b.2 (b.3 ∙ append_assoc good (bad ∷ []) b.1) ∙ ap (through p.levels) (step-runs u bad level wants b.1 goes) in
-          let at : level_at (length p.levels) (through (kernel_levels b.0) (Ends [])) ≡ level = ap (level_at (length p.levels)) same ∙ level-through p.levels level (run wants b.1) in
-          let many = p.many in
-          let count : length (good ++ bad ∷ []) ≡ suc (length p.levels) = omega (arith, length-append good (bad ∷ [])) in
-          let low = subst (λ n. AreLow (take n (kernel_levels b.0))) count (recursion_from_All (λ n. n ≤ 32) _ b.4) in
-          omega (arith, low-through (kernel_levels b.0) (length p.levels) low);
-    }, refl)
+    let k = outer.fill.0.0 in (
+      bad,
+      record {
+        good = good;
+        rest = rest;
+        parts = parts;
+        begins = begins-passed good u p;
+        goes_on = (k, fill_tokens wants f, outer.fill.0.1, sym (append-nil (kernel_tokens k)) ∙ outer.tokens ∙ ap (λ (r : List Token). good ++ r) inner.tokens ∙ sym (append_assoc good (bad ∷ []) (fill_tokens wants f)));
+        deep = λ b.
+            let same = kernel-as b.0 good (bad ∷ b.1) u p b.2 (b.3 ∙ append_assoc good (bad ∷ []) b.1) ∙ ap (through p.levels) (step-runs u bad level wants b.1 goes) in
+            let at : level_at (length p.levels) (through (kernel_levels b.0) (Ends [])) ≡ level = ap (level_at (length p.levels)) same ∙ level-through p.levels level (run wants b.1) in
+            let many = p.many in
+            let count : length (good ++ bad ∷ []) ≡ suc (length p.levels) = omega (arith, length-append good (bad ∷ [])) in
+            let low = subst (λ n. AreLow (take n (kernel_levels b.0))) count (recursion_from_All (λ n. n ≤ 32) _ b.4) in
+            omega (arith, low-through (kernel_levels b.0) (length p.levels) low);
+      },
+      refl,
+    )
 judges ts _ (AtEarly w u p) =
     record {
       begins = begins-passed ts (w ∷ u) p;

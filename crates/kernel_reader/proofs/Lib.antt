@@ -24,6 +24,7 @@ pub mod Grouping
 pub mod Filling
 pub mod Sounds
 pub mod Judgement
+pub mod Refusing
 pub mod Texts
 pub mod Levels
 pub mod RefusedTexts

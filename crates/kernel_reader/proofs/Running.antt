@@ -1,10 +1,8 @@
 -- What tokens leave wanted, with the level that each opens.
-use Rattle.std.proofs.Common.{◌≡◌, ℕ, ◌+◌, List, [], ◌∷◌, ◌++◌, None, refl, sym, ap, ◌∙◌, append_assoc}
-use Rattle.kernel_reader.specs.declared.token.Lexeme.{Lexeme}
+use Rattle.std.proofs.Common.{◌≡◌, ℕ, List, [], ◌∷◌, ◌++◌, refl, sym, ap, ◌∙◌, append_assoc}
 use Rattle.kernel_reader.specs.declared.token.Token.{Token}
 use Rattle.kernel_reader.specs.declared.judging.Want.{Want}
-use Rattle.kernel_reader.specs.declared.judging.Want.TheVariants as want
-use Rattle.kernel_reader.specs.Judging.{Move, Fails, Skips, Takes, move, Step, Stops, Goes, onward, step}
+use Rattle.kernel_reader.specs.Judging.{Move, Skips, Takes, move, Step, Stops, Goes, onward, step}
 
 pub data Trace : Type 0 where
   Ends : (wants : List Want) → Trace

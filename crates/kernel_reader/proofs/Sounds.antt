@@ -13,7 +13,7 @@ use Rattle.kernel_reader.specs.Grammar.{NumberAt, NameAt, TidAt, SpanAt, Element
 use Rattle.kernel_reader.specs.Faults.{tree_levels, flat, stmts_levels}
 use Rattle.kernel_reader.specs.Judging.{Move, Fails, Skips, Takes, is_comparison, move, Step, Stops, Goes, onward, step}
 use Rattle.kernel_reader.proofs.Grouping.{Chain, Last, Then, chain_tokens, chain_levels, Allows, FitsChain, whole_of}
-use Rattle.kernel_reader.proofs.Filling.{Braced, Indexed, Plain, At, Value, braced_tokens, braced_levels, value_tokens, value_levels, Fill, fill_tokens, fill_levels}
+use Rattle.kernel_reader.proofs.Filling.{Indexed, Plain, At, Value, braced_tokens, braced_levels, value_tokens, value_levels, Fill, fill_tokens, fill_levels}
 
 -- ---- lists that are joined in another order
 
@@ -50,14 +50,14 @@ Backs w t (Takes level wants) = (s : List Want) (f : Fill (wants ++ s)) → Fill
 kernel-back : (line : ℕ) (x : Lexeme) → Backs want.Kernel (record { lexeme = x; line = line }) (move want.Kernel x)
 kernel-back line (Reserved word.Array) =
     λ s f.
-        let k = f.1.1.1.0.0 in
-        filled (want.Kernel ∷ s) ((record k { declarations = ArrayOf line f.0.0 f.0.1 f.1.0.0 f.1.0.1 f.1.1.0.0 f.1.1.0.1 ∷ k.declarations }, f.1.1.1.0.1), f.1.1.1.1) _ _ refl refl
+    let k = f.1.1.1.0.0 in
+    filled (want.Kernel ∷ s) ((record k { declarations = ArrayOf line f.0.0 f.0.1 f.1.0.0 f.1.0.1 f.1.1.0.0 f.1.1.0.1 ∷ k.declarations }, f.1.1.1.0.1), f.1.1.1.1) _ _ refl refl
 kernel-back line (Reserved word.Mutex) =
     λ s f. let k = f.1.0.0 in filled (want.Kernel ∷ s) ((record k { declarations = MutexOf line f.0.0 f.0.1 ∷ k.declarations }, f.1.0.1), f.1.1) _ _ refl refl
 kernel-back line (Reserved word.Main) =
     λ s f.
-        let b = f.0 in
-        filled (want.Kernel ∷ s) ((record { declarations = []; line = line; opened = b.opened; body = b.body; closed = b.closed }, b.derives), f.1) _ _ refl refl
+    let b = f.0 in
+    filled (want.Kernel ∷ s) ((record { declarations = []; line = line; opened = b.opened; body = b.body; closed = b.closed }, b.derives), f.1) _ _ refl refl
 kernel-back line (Reserved _) = tt
 kernel-back line (Named _) = tt
 kernel-back line (Number _) = tt
@@ -139,9 +139,9 @@ section_name-back line (Mark _) = (None, refl, refl)
 block-back : (n line : ℕ) (x : Lexeme) → Backs (want.Block n) (record { lexeme = x; line = line }) (move (want.Block n) x)
 block-back n line (Mark sign.OpenBrace) =
     λ s f.
-        filled (want.Block n ∷ s) (record { opened = line; body = f.0.0; closed = f.1.0; derives = f.0.1 }, f.1.1) _ _
-        (ap (λ (r : List Token). mark line sign.OpenBrace ∷ r) (append_assoc (stmts_tokens f.0.0) (mark f.1.0 sign.CloseBrace ∷ []) (fill_tokens s f.1.1)))
-        (ap (λ (r : List ℕ). (n + 1) ∷ r) (append_assoc (stmts_levels (n + 1) f.0.0) (0 ∷ []) (fill_levels s f.1.1)))
+    filled (want.Block n ∷ s) (record { opened = line; body = f.0.0; closed = f.1.0; derives = f.0.1 }, f.1.1) _ _
+    (ap (λ (r : List Token). mark line sign.OpenBrace ∷ r) (append_assoc (stmts_tokens f.0.0) (mark f.1.0 sign.CloseBrace ∷ []) (fill_tokens s f.1.1)))
+    (ap (λ (r : List ℕ). (n + 1) ∷ r) (append_assoc (stmts_levels (n + 1) f.0.0) (0 ∷ []) (fill_levels s f.1.1)))
 block-back n line (Reserved _) = tt
 block-back n line (Named _) = tt
 block-back n line (Number _) = tt
@@ -151,9 +151,9 @@ target-back : (line : ℕ) (x : Lexeme) → Backs want.Target (record { lexeme =
 target-back line (Mark sign.Assign) = λ s f. filled (want.Target ∷ s) (Plain line, f) _ _ refl refl
 target-back line (Mark sign.OpenBracket) =
     λ s f.
-        filled (want.Target ∷ s) (At (record { opened = line; index = f.0.0; closed = f.1.0; derives = f.0.1 }) f.1.1.0, f.1.1.1) _ _
-        (ap (λ (r : List Token). mark line sign.OpenBracket ∷ r) (append_assoc (tree_tokens f.0.0) (mark f.1.0 sign.CloseBracket ∷ mark f.1.1.0 sign.Assign ∷ []) (fill_tokens s f.1.1.1)))
-        (ap (λ (r : List ℕ). 0 ∷ r) (append_assoc (tree_levels 0 f.0.0) (0 ∷ 0 ∷ []) (fill_levels s f.1.1.1)))
+    filled (want.Target ∷ s) (At (record { opened = line; index = f.0.0; closed = f.1.0; derives = f.0.1 }) f.1.1.0, f.1.1.1) _ _
+    (ap (λ (r : List Token). mark line sign.OpenBracket ∷ r) (append_assoc (tree_tokens f.0.0) (mark f.1.0 sign.CloseBracket ∷ mark f.1.1.0 sign.Assign ∷ []) (fill_tokens s f.1.1.1)))
+    (ap (λ (r : List ℕ). 0 ∷ r) (append_assoc (tree_levels 0 f.0.0) (0 ∷ 0 ∷ []) (fill_levels s f.1.1.1)))
 target-back line (Reserved _) = tt
 target-back line (Named _) = tt
 target-back line (Number _) = tt
@@ -187,9 +187,9 @@ schedule-back line (Mark _) = (Unsaid, refl, refl)
 index-back : (n line : ℕ) (x : Lexeme) → Backs (want.Index n) (record { lexeme = x; line = line }) (move (want.Index n) x)
 index-back n line (Mark sign.OpenBracket) =
     λ s f.
-        filled (want.Index n ∷ s) (Some (record { opened = line; index = f.0.0; closed = f.1.0; derives = f.0.1 }), f.1.1) _ _
-        (ap (λ (r : List Token). mark line sign.OpenBracket ∷ r) (append_assoc (tree_tokens f.0.0) (mark f.1.0 sign.CloseBracket ∷ []) (fill_tokens s f.1.1)))
-        (ap (λ (r : List ℕ). (n + 1) ∷ r) (append_assoc (tree_levels (n + 1) f.0.0) (0 ∷ []) (fill_levels s f.1.1)))
+    filled (want.Index n ∷ s) (Some (record { opened = line; index = f.0.0; closed = f.1.0; derives = f.0.1 }), f.1.1) _ _
+    (ap (λ (r : List Token). mark line sign.OpenBracket ∷ r) (append_assoc (tree_tokens f.0.0) (mark f.1.0 sign.CloseBracket ∷ []) (fill_tokens s f.1.1)))
+    (ap (λ (r : List ℕ). (n + 1) ∷ r) (append_assoc (tree_levels (n + 1) f.0.0) (0 ∷ []) (fill_levels s f.1.1)))
 index-back n line (Reserved _) = (None, refl, refl)
 index-back n line (Named _) = (None, refl, refl)
 index-back n line (Number _) = (None, refl, refl)
@@ -208,9 +208,9 @@ operand-back n line (Reserved word.Span) = λ s f. filled (want.Operand n ∷ s)
 operand-back n line (Mark sign.Minus) = λ s f. filled (want.Operand n ∷ s) ((Minus line f.0.0, f.0.1), f.1) _ _ refl refl
 operand-back n line (Mark sign.OpenParen) =
     λ s f.
-        filled (want.Operand n ∷ s) ((Group line f.0.0 f.1.0, f.0.1), f.1.1) _ _
-        (ap (λ (r : List Token). mark line sign.OpenParen ∷ r) (append_assoc (tree_tokens f.0.0) (mark f.1.0 sign.CloseParen ∷ []) (fill_tokens s f.1.1)))
-        (ap (λ (r : List ℕ). (n + 1) ∷ r) (append_assoc (tree_levels (n + 1) f.0.0) (0 ∷ []) (fill_levels s f.1.1)))
+    filled (want.Operand n ∷ s) ((Group line f.0.0 f.1.0, f.0.1), f.1.1) _ _
+    (ap (λ (r : List Token). mark line sign.OpenParen ∷ r) (append_assoc (tree_tokens f.0.0) (mark f.1.0 sign.CloseParen ∷ []) (fill_tokens s f.1.1)))
+    (ap (λ (r : List ℕ). (n + 1) ∷ r) (append_assoc (tree_levels (n + 1) f.0.0) (0 ∷ []) (fill_levels s f.1.1)))
 operand-back n line (Reserved _) = tt
 operand-back n line (Mark _) = tt
 
@@ -303,53 +303,53 @@ stmts-back : (n line : ℕ) (x : Lexeme) → Backs (want.Stmts n) (record { lexe
 stmts-back n line (Named name) = λ s f. assign-back-stmt n line name s f
 stmts-back n line (Reserved word.Let) =
     λ s f.
-        let e = f.1.1.0 in
-        let r = f.1.1.1.0 in
-        let more = f.1.1.1.1 in
-        filled (want.Stmts n ∷ s) ((Let line f.0.0 f.0.1 f.1.0 e.0 r.0, (e.1, r.1)), more) _ _
-        (ap (λ (x : List Token). reserved line word.Let ∷ named f.0.0 f.0.1 ∷ mark f.1.0 sign.Assign ∷ x) (append_assoc (tree_tokens e.0) (stmts_tokens r.0) (fill_tokens s more)))
-        (ap (λ (x : List ℕ). 0 ∷ 0 ∷ 0 ∷ x) (append_assoc (tree_levels 0 e.0) (stmts_levels n r.0) (fill_levels s more)))
+    let e = f.1.1.0 in
+    let r = f.1.1.1.0 in
+    let more = f.1.1.1.1 in
+    filled (want.Stmts n ∷ s) ((Let line f.0.0 f.0.1 f.1.0 e.0 r.0, (e.1, r.1)), more) _ _
+    (ap (λ (x : List Token). reserved line word.Let ∷ named f.0.0 f.0.1 ∷ mark f.1.0 sign.Assign ∷ x) (append_assoc (tree_tokens e.0) (stmts_tokens r.0) (fill_tokens s more)))
+    (ap (λ (x : List ℕ). 0 ∷ 0 ∷ 0 ∷ x) (append_assoc (tree_levels 0 e.0) (stmts_levels n r.0) (fill_levels s more)))
 stmts-back n line (Reserved word.If) = λ s f. if-back n line s f
 stmts-back n line (Reserved word.Loop) =
     λ s f.
-        let name = f.0 in
-        let from = f.1.1.0 in
-        let to = f.1.1.1.1.0 in
-        let b = f.1.1.1.1.1.0 in
-        let r = f.1.1.1.1.1.1.0 in
-        let more = f.1.1.1.1.1.1.1 in
-        filled (want.Stmts n ∷ s) ((Loop line name.0 name.1 f.1.0 from.0 f.1.1.1.0 to.0 b.opened b.body b.closed r.0, (from.1, to.1, b.derives, r.1)), more) _ _
-        (ap (λ (x : List Token). reserved line word.Loop ∷ named name.0 name.1 ∷ reserved f.1.0 word.In ∷ x)
-        (ranged (tree_tokens from.0) (mark f.1.1.1.0 sign.Dots) (tree_tokens to.0) (braced_tokens b ++ stmts_tokens r.0) (fill_tokens s more)
-        ∙ ap (λ (x : List Token). tree_tokens from.0 ++ mark f.1.1.1.0 sign.Dots ∷ (tree_tokens to.0 ++ x)) (append_assoc (braced_tokens b) (stmts_tokens r.0) (fill_tokens s more))))
-        (ap (λ (x : List ℕ). 0 ∷ 0 ∷ 0 ∷ x)
-        (ranged (tree_levels 0 from.0) 0 (tree_levels 0 to.0) (braced_levels n b ++ stmts_levels n r.0) (fill_levels s more)
-        ∙ ap (λ (x : List ℕ). tree_levels 0 from.0 ++ 0 ∷ (tree_levels 0 to.0 ++ x)) (append_assoc (braced_levels n b) (stmts_levels n r.0) (fill_levels s more))))
+    let name = f.0 in
+    let from = f.1.1.0 in
+    let to = f.1.1.1.1.0 in
+    let b = f.1.1.1.1.1.0 in
+    let r = f.1.1.1.1.1.1.0 in
+    let more = f.1.1.1.1.1.1.1 in
+    filled (want.Stmts n ∷ s) ((Loop line name.0 name.1 f.1.0 from.0 f.1.1.1.0 to.0 b.opened b.body b.closed r.0, (from.1, to.1, b.derives, r.1)), more) _ _
+    (ap (λ (x : List Token). reserved line word.Loop ∷ named name.0 name.1 ∷ reserved f.1.0 word.In ∷ x)
+    (ranged (tree_tokens from.0) (mark f.1.1.1.0 sign.Dots) (tree_tokens to.0) (braced_tokens b ++ stmts_tokens r.0) (fill_tokens s more)
+    ∙ ap (λ (x : List Token). tree_tokens from.0 ++ mark f.1.1.1.0 sign.Dots ∷ (tree_tokens to.0 ++ x)) (append_assoc (braced_tokens b) (stmts_tokens r.0) (fill_tokens s more))))
+    (ap (λ (x : List ℕ). 0 ∷ 0 ∷ 0 ∷ x)
+    (ranged (tree_levels 0 from.0) 0 (tree_levels 0 to.0) (braced_levels n b ++ stmts_levels n r.0) (fill_levels s more)
+    ∙ ap (λ (x : List ℕ). tree_levels 0 from.0 ++ 0 ∷ (tree_levels 0 to.0 ++ x)) (append_assoc (braced_levels n b) (stmts_levels n r.0) (fill_levels s more))))
 stmts-back n line (Reserved word.Parallel) =
     λ s f.
-        let b = f.1.0 in
-        let r = f.1.1.0 in
-        let more = f.1.1.1 in
-        filled (want.Stmts n ∷ s) ((Parallel line f.0.0 f.0.1 b.opened b.body b.closed r.0, (b.derives, r.1)), more) _ _
-        (ap (λ (x : List Token). reserved line word.Parallel ∷ number f.0.0 f.0.1 ∷ x) (append_assoc (braced_tokens b) (stmts_tokens r.0) (fill_tokens s more)))
-        (ap (λ (x : List ℕ). 0 ∷ 0 ∷ x) (append_assoc (braced_levels n b) (stmts_levels n r.0) (fill_levels s more)))
+    let b = f.1.0 in
+    let r = f.1.1.0 in
+    let more = f.1.1.1 in
+    filled (want.Stmts n ∷ s) ((Parallel line f.0.0 f.0.1 b.opened b.body b.closed r.0, (b.derives, r.1)), more) _ _
+    (ap (λ (x : List Token). reserved line word.Parallel ∷ number f.0.0 f.0.1 ∷ x) (append_assoc (braced_tokens b) (stmts_tokens r.0) (fill_tokens s more)))
+    (ap (λ (x : List ℕ). 0 ∷ 0 ∷ x) (append_assoc (braced_levels n b) (stmts_levels n r.0) (fill_levels s more)))
 stmts-back n line (Reserved word.For) =
     λ s f.
-        let name = f.0 in
-        let from = f.1.1.0 in
-        let to = f.1.1.1.1.0 in
-        let said = f.1.1.1.1.1.0 in
-        let nowait = f.1.1.1.1.1.1.0 in
-        let b = f.1.1.1.1.1.1.1.0 in
-        let r = f.1.1.1.1.1.1.1.1.0 in
-        let more = f.1.1.1.1.1.1.1.1.1 in
-        filled (want.Stmts n ∷ s) ((For line name.0 name.1 f.1.0 from.0 f.1.1.1.0 to.0 said nowait b.opened b.body b.closed r.0, (from.1, to.1, b.derives, r.1)), more) _ _
-        (ap (λ (x : List Token). reserved line word.For ∷ named name.0 name.1 ∷ reserved f.1.0 word.In ∷ x)
-        (ranged (tree_tokens from.0) (mark f.1.1.1.0 sign.Dots) (tree_tokens to.0) (schedule_tokens said ++ (nowait_tokens nowait ++ (braced_tokens b ++ stmts_tokens r.0))) (fill_tokens s more)
-        ∙ ap (λ (x : List Token). tree_tokens from.0 ++ mark f.1.1.1.0 sign.Dots ∷ (tree_tokens to.0 ++ x)) (a4 (schedule_tokens said) (nowait_tokens nowait) (braced_tokens b) (stmts_tokens r.0) (fill_tokens s more))))
-        (ap (λ (x : List ℕ). 0 ∷ 0 ∷ 0 ∷ x)
-        (ranged (tree_levels 0 from.0) 0 (tree_levels 0 to.0) (flat (schedule_tokens said) ++ (flat (nowait_tokens nowait) ++ (braced_levels n b ++ stmts_levels n r.0))) (fill_levels s more)
-        ∙ ap (λ (x : List ℕ). tree_levels 0 from.0 ++ 0 ∷ (tree_levels 0 to.0 ++ x)) (a4 (flat (schedule_tokens said)) (flat (nowait_tokens nowait)) (braced_levels n b) (stmts_levels n r.0) (fill_levels s more))))
+    let name = f.0 in
+    let from = f.1.1.0 in
+    let to = f.1.1.1.1.0 in
+    let said = f.1.1.1.1.1.0 in
+    let nowait = f.1.1.1.1.1.1.0 in
+    let b = f.1.1.1.1.1.1.1.0 in
+    let r = f.1.1.1.1.1.1.1.1.0 in
+    let more = f.1.1.1.1.1.1.1.1.1 in
+    filled (want.Stmts n ∷ s) ((For line name.0 name.1 f.1.0 from.0 f.1.1.1.0 to.0 said nowait b.opened b.body b.closed r.0, (from.1, to.1, b.derives, r.1)), more) _ _
+    (ap (λ (x : List Token). reserved line word.For ∷ named name.0 name.1 ∷ reserved f.1.0 word.In ∷ x)
+    (ranged (tree_tokens from.0) (mark f.1.1.1.0 sign.Dots) (tree_tokens to.0) (schedule_tokens said ++ (nowait_tokens nowait ++ (braced_tokens b ++ stmts_tokens r.0))) (fill_tokens s more)
+    ∙ ap (λ (x : List Token). tree_tokens from.0 ++ mark f.1.1.1.0 sign.Dots ∷ (tree_tokens to.0 ++ x)) (a4 (schedule_tokens said) (nowait_tokens nowait) (braced_tokens b) (stmts_tokens r.0) (fill_tokens s more))))
+    (ap (λ (x : List ℕ). 0 ∷ 0 ∷ 0 ∷ x)
+    (ranged (tree_levels 0 from.0) 0 (tree_levels 0 to.0) (flat (schedule_tokens said) ++ (flat (nowait_tokens nowait) ++ (braced_levels n b ++ stmts_levels n r.0))) (fill_levels s more)
+    ∙ ap (λ (x : List ℕ). tree_levels 0 from.0 ++ 0 ∷ (tree_levels 0 to.0 ++ x)) (a4 (flat (schedule_tokens said)) (flat (nowait_tokens nowait)) (braced_levels n b) (stmts_levels n r.0) (fill_levels s more))))
 stmts-back n line (Reserved word.Barrier) = λ s f. filled (want.Stmts n ∷ s) ((Barrier line f.0.0, f.0.1), f.1) _ _ refl refl
 stmts-back n line (Reserved word.Critical) = λ s f. critical-back n line s f
 stmts-back n line (Reserved _) = ((NoMore, tt), refl, refl)
@@ -388,8 +388,8 @@ onward-back w s t Fails past b more = tt
 onward-back w s t Skips Stops b more = tt
 onward-back w s t Skips (Goes level wants) b more =
     λ f.
-        let r = more f in
-        filled (w ∷ s) (b.0, r.fill) _ _ (ap (λ (x : List Token). x ++ fill_tokens s r.fill) b.1 ∙ r.tokens) (ap (λ (x : List ℕ). x ++ fill_levels s r.fill) b.2 ∙ r.levels)
+    let r = more f in
+    filled (w ∷ s) (b.0, r.fill) _ _ (ap (λ (x : List Token). x ++ fill_tokens s r.fill) b.1 ∙ r.tokens) (ap (λ (x : List ℕ). x ++ fill_levels s r.fill) b.2 ∙ r.levels)
 onward-back w s t (Takes level wants) past b more = b s
 
 -- and so does each step

@@ -4,7 +4,6 @@ use Rattle.std.specs.Prelude.{◌≡◌, ℕ, ◌+◌, ◌≤◌, ◌<◌, Bool,
 use Rattle.kernel_syntax.specs.declared.syntax.Op.{Op}
 use Rattle.kernel_syntax.specs.declared.syntax.Op.TheVariants as op
 use Rattle.kernel_reader.specs.declared.token.Word.TheVariants as word
-use Rattle.kernel_reader.specs.declared.token.Sign.{Sign}
 use Rattle.kernel_reader.specs.declared.token.Sign.TheVariants as sign
 use Rattle.kernel_reader.specs.declared.token.Lexeme.{Lexeme}
 use Rattle.kernel_reader.specs.declared.token.Lexeme.TheVariants.{Named, Number, Reserved, Mark}

@@ -1,4 +1,4 @@
-use Rattle.std.proofs.Common.{◌≡◌, ◌<◌, length, vec_len, rules, arith, sym, ◌∙◌}
+use Rattle.std.proofs.Common.{◌≡◌, ◌<◌, length, vec_len, rules, sym, ◌∙◌}
 use Rattle.kernel_reader.specs.Judging.{stack_of}
 use Rattle.kernel_reader.proofs.Wants.{judged_goes, judged_deep, judged_stops, judged_early, judged_kernel}
 use Rattle.std.proofs.lemmas.List.{nil_from_length}

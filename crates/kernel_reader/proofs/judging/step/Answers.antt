@@ -1,4 +1,4 @@
-use Rattle.std.proofs.Common.{◌≡◌, ◌∷◌, ◌∙◌, [], length, ap, arith, rules}
+use Rattle.std.proofs.Common.{◌≡◌, ◌∙◌, length, ap, arith, rules}
 use Rattle.std.proofs.lemmas.List.{nil_from_length}
 use Rattle.kernel_reader.specs.Judging.{stack_of}
 use Rattle.kernel_reader.proofs.Wants.{stack_of-push, step_skips, step_fails, step_takes, step_deep, step_ends}
