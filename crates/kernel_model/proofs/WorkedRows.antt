@@ -225,6 +225,12 @@ pub locked-is : own_trace (program 1 3 5 Done) (lane_of locked 6) locked_records
 unfolding run value put read draw task wrapped
 locked-is = refl
 
+-- a critical section of several lines is left at the line of its closing brace
+pub left_at_brace : trace (program 1 1 8 Done) (lane_of (record { span = 1; line = 1; end = 8; body = tree.Critical 1 4 6 Done Done }) 0) [] []
+    ≡ whole (event Lock 4 1 0 ∷ event Unlock 6 1 0 ∷ event End 8 0 0 ∷ [])
+unfolding run value put read draw task wrapped
+left_at_brace = refl
+
 -- a loop of 2^63 turns that divides by 0 in its first
 pub long_loop : trace (program 1 1 1 Done)
     (lane_of

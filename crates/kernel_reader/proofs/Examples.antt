@@ -1,11 +1,13 @@
--- The definitions computed: tokens of texts, and the rule that each of twenty kernels breaks first, with its line.
+-- The definitions computed: tokens of texts, the rule that each of some kernels breaks first, with its line, and kernels that break none.
 use Rattle.std.proofs.Common.{◌≡◌, ℕ, List, [], ◌∷◌, ◌++◌, None, Ok, Err, refl}
 use Rattle.std.specs.Prelude.{pos, codes}
 use Rattle.kernel_reader.specs.declared.fault.KernelWhy.TheVariants as why
 use Rattle.kernel_reader.specs.declared.token.Sign.TheVariants as sign
 use Rattle.kernel_reader.specs.Tokens.{lexeme_at, tokens_from}
-use Rattle.kernel_reader.specs.Grammar.{Tree, NumberAt, NameAt, TidAt, number, mark, ScheduleTree, Unsaid, StaticBy, Stmts, NoMore, Let, Assign, Store, If, Loop, Parallel, For, Barrier, Critical, CriticalOf, Declaration, ArrayOf, KernelTree}
+use Rattle.kernel_reader.specs.Grammar.{Tree, NumberAt, NameAt, TidAt, number, mark, ScheduleTree, Unsaid, StaticBy, Stmts, NoMore, Let, Assign, Store, If, Loop, Parallel, For, Barrier, Critical, CriticalOf, Declaration, ArrayOf, MutexOf, KernelTree}
 use Rattle.kernel_reader.specs.Rules.{fault_at, kernel_faults}
+use Rattle.kernel_reader.specs.Resolve.{program}
+use Rattle.kernel_syntax.specs.Tree as kernel
 
 -- the tokens of bytes from line 1 on, or the line of the first that is none: `0..8`
 pub digits_end_before_dots : tokens_from 1 0 (codes "0..8") ≡ Ok (number 1 (pos 0) ∷ mark 1 sign.Dots ∷ number 1 (pos 8) ∷ [])
@@ -43,6 +45,10 @@ region span body = Parallel 2 2 (pos span) 2 body 8 NoMore
 
 abbrev pub store : List ℕ → Tree → Stmts
 store name value = Store 3 name 3 (NumberAt 3 (pos 0)) 3 3 value NoMore
+
+-- a loop of so many turns, from line 3 to line 5
+abbrev pub turns : ℕ → Stmts → Stmts → Stmts
+turns n body rest = Loop 3 3 (codes "j") 3 (NumberAt 3 (pos 0)) 3 (NumberAt 3 (pos n)) 3 body 5 rest
 
 abbrev pub work : Tree → ScheduleTree → Stmts → Stmts
 work to said body = For 3 3 (codes "i") 3 (NumberAt 3 (pos 0)) 3 to said None 3 body 4 NoMore
@@ -111,3 +117,46 @@ loop_variable_assigned = refl
 -- 65,536 turns of a barrier and one
 pub too_heavy : kernel_faults (with_array (region 2 (Loop 3 3 (codes "j") 3 (NumberAt 3 (pos 0)) 3 (NumberAt 3 (pos 65536)) 3 (Barrier 4 NoMore) 5 NoMore))) ≡ fault_at 8 why.Large
 too_heavy = refl
+
+-- ---- limits at their edges, and what an inner region begins anew
+
+-- 32,768 turns of a barrier and one
+pub heaviest : kernel_faults (with_array (region 2 (turns 32768 (Barrier 4 NoMore) NoMore))) ≡ []
+heaviest = refl
+
+pub heavier_by_one : kernel_faults (with_array (region 2 (turns 32768 (Barrier 4 NoMore) (Barrier 6 NoMore)))) ≡ fault_at 8 why.Large
+heavier_by_one = refl
+
+-- a loop whose barriers are all of an inner region weighs 1
+pub inner_barriers_weigh_nothing : kernel_faults (with_array (region 2 (turns 65537 (Parallel 4 4 (pos 2) 4 (Barrier 4 NoMore) 4 NoMore) NoMore))) ≡ []
+inner_barriers_weigh_nothing = refl
+
+-- a region inside an `if` begins evenly
+pub inner_region_is_even : kernel_faults (with_array (region 2 (If 3 (TidAt 3) 3 (Parallel 4 4 (pos 2) 4 (Barrier 4 NoMore) 4 NoMore) 5 NoMore))) ≡ []
+inner_region_is_even = refl
+
+pub barrier_in_critical : kernel_faults (with_array (region 2 (Critical 3 3 (Barrier 4 NoMore) 5 NoMore))) ≡ fault_at 4 why.BarrierHere
+barrier_in_critical = refl
+
+abbrev locks : List Declaration
+locks = MutexOf 1 1 (codes "b") ∷ MutexOf 1 1 (codes "c") ∷ MutexOf 1 1 (codes "d") ∷ MutexOf 1 1 (codes "e") ∷ MutexOf 1 1 (codes "f") ∷ MutexOf 1 1 (codes "g") ∷ MutexOf 1 1 (codes "h") ∷ MutexOf 1 1 (codes "i") ∷ []
+
+abbrev locked : ℕ → List ℕ → Stmts → Stmts
+locked line name body = CriticalOf line line name line body 8 NoMore
+
+-- seven mutexes inside the critical section without a name, and what is inside them
+abbrev eight_sections : Stmts → Stmts
+eight_sections inside =
+    Critical 3 3 (locked 3 (codes "b") (locked 3 (codes "c") (locked 3 (codes "d") (locked 3 (codes "e") (locked 3 (codes "f") (locked 3 (codes "g") (locked 3 (codes "h") inside))))))) 8 NoMore
+
+pub eight_nested_sections : kernel_faults (of locks (eight_sections NoMore)) ≡ []
+eight_nested_sections = refl
+
+pub ninth_nested_section : kernel_faults (of locks (eight_sections (locked 4 (codes "i") NoMore))) ≡ fault_at 4 why.Deep
+ninth_nested_section = refl
+
+-- ---- resolution
+
+-- a critical section keeps the line of its keyword and that of its closing brace
+pub section_lines : (program (with_array (Critical 3 4 (Barrier 5 NoMore) 6 NoMore))).main.body ≡ kernel.Critical 0 3 6 (kernel.Barrier 5 kernel.Done) kernel.Done
+section_lines = refl

@@ -3,8 +3,8 @@ use Rattle.std.proofs.Common.{◌≡◌, ℕ, List, Option, Some, None, Result, 
 use Rattle.std.specs.Prelude.{IfOk}
 use Rattle.kernel_syntax.specs.declared.syntax.Kernel.{Kernel}
 use Rattle.kernel_syntax.specs.Program.{Program, program_of}
-use Rattle.kernel_reader.specs.declared.fault.ReadKernelFault.{ReadKernelFault}
-use Rattle.kernel_reader.specs.declared.fault.ReadKernelFault.TheVariants.{NotBuilt}
+use Rattle.kernel_reader.specs.declared.fault.BuildFault.{BuildFault}
+use Rattle.kernel_reader.specs.declared.fault.BuildFault.TheVariants.{NotBuilt}
 use Rattle.kernel_reader.specs.Machine.{Gives}
 use Rattle.kernel_reader.specs.declared.token.Token.{Token}
 use Rattle.kernel_reader.specs.Tokens.{Refusal, tokens_of}
@@ -53,23 +53,23 @@ no_kernel text ts e none p k f =
     absurd cc
 
 -- what the code gives
-pub gives_kernel : (text : List ℕ) (ts : List Token) (r : Result Kernel ReadKernelFault) → tokens_of text ≡ Ok ts → Gives program_of r (kernel_at ts) → IfOk r (λ k. IsKernelOf text (program_of k))
+pub gives_kernel : (text : List ℕ) (ts : List Token) (r : Result Kernel BuildFault) → tokens_of text ≡ Ok ts → Gives program_of r (kernel_at ts) → IfOk r (λ k. IsKernelOf text (program_of k))
 gives_kernel text ts (Ok k) e given = is_kernel text ts (program_of k) e given
 gives_kernel text ts (Err f) e given = tt
 
-pub gives_bounded : (text : List ℕ) (ts : List Token) (r : Result Kernel ReadKernelFault) → tokens_of text ≡ Ok ts → Gives program_of r (kernel_at ts) → IfOk r (λ k. IsBounded (program_of k))
+pub gives_bounded : (text : List ℕ) (ts : List Token) (r : Result Kernel BuildFault) → tokens_of text ≡ Ok ts → Gives program_of r (kernel_at ts) → IfOk r (λ k. IsBounded (program_of k))
 gives_bounded text ts (Ok k) e given = kernels_are_bounded text (program_of k) (is_kernel text ts (program_of k) e given)
 gives_bounded text ts (Err f) e given = tt
 
-pub gives_first_kind : (ts : List Token) (r : Result Kernel ReadKernelFault) → Gives program_of r (kernel_at ts) → IfOk r (λ k. IsFirstKind (program_of k))
+pub gives_first_kind : (ts : List Token) (r : Result Kernel BuildFault) → Gives program_of r (kernel_at ts) → IfOk r (λ k. IsFirstKind (program_of k))
 gives_first_kind ts (Ok k) given = is_first_kind ts (program_of k) given
 gives_first_kind ts (Err f) given = tt
 
-pub gives_none : (text : List ℕ) (ts : List Token) (r : Result Kernel ReadKernelFault) → tokens_of text ≡ Ok ts → Gives program_of r (kernel_at ts) → r ≡ Err NotBuilt
+pub gives_none : (text : List ℕ) (ts : List Token) (r : Result Kernel BuildFault) → tokens_of text ≡ Ok ts → Gives program_of r (kernel_at ts) → r ≡ Err NotBuilt
     → (p : Program) → IsKernelOf text p → IsFirstKind p → ⊥
-gives_none text ts r e given none = no_kernel text ts e (subst (λ (r : Result Kernel ReadKernelFault). Gives program_of r (kernel_at ts)) none given)
+gives_none text ts r e given none = no_kernel text ts e (subst (λ (r : Result Kernel BuildFault). Gives program_of r (kernel_at ts)) none given)
 
-pub gives_only : (text : List ℕ) (ts : List Token) (r : Result Kernel ReadKernelFault) → tokens_of text ≡ Ok ts → Gives program_of r (kernel_at ts)
+pub gives_only : (text : List ℕ) (ts : List Token) (r : Result Kernel BuildFault) → tokens_of text ≡ Ok ts → Gives program_of r (kernel_at ts)
     → (p : Program) → IsKernelOf text p → IsFirstKind p → IfOk r (λ k. program_of k ≡ p)
 gives_only text ts (Ok k) e given p is f = some-is (program_of k) p (sym given ∙ is_read text ts e p is f)
 gives_only text ts (Err fault) e given p is f = tt

@@ -16,6 +16,15 @@ pub mod Lines
 pub mod Bounded
 pub mod Kernels
 pub mod Examples
+pub mod Wants
+pub mod Running
+pub mod Completes
+pub mod CompleteKernels
+pub mod Grouping
+pub mod Filling
+pub mod Sounds
+pub mod Judgement
+pub mod Refusing
 pub mod Texts
 pub mod Levels
 pub mod RefusedTexts

@@ -6,9 +6,9 @@ use Rattle.kernel_reader.specs.declared.expression.Frame.{Frame}
 use Rattle.std.proofs.lemmas.Bool.{lt-ltb, le-ltb}
 use Rattle.kernel_reader.specs.declared.token.Token.{Token}
 use Rattle.kernel_reader.specs.Grammar.{Tree}
-use Rattle.kernel_reader.specs.Machine.{Around, AfterMinus, AfterLeft, InGroup, InIndex, around_of, stack_of, opens, levels, wanted, finish, deeper, Step, Fails, Goes, Ends, step, expression_from, Makes, Refuses}
-use Rattle.kernel_reader.specs.declared.fault.ReadKernelFault.{ReadKernelFault}
-use Rattle.kernel_reader.specs.declared.fault.ReadKernelFault.TheVariants.{NotBuilt, Memory}
+use Rattle.kernel_reader.specs.Machine.{Around, AfterMinus, AfterLeft, InGroup, InIndex, around_of, stack_of, opens, levels, finish, deeper, Step, Fails, Goes, Ends, step, expression_from, Makes, Refuses}
+use Rattle.kernel_reader.specs.declared.fault.BuildFault.{BuildFault}
+use Rattle.kernel_reader.specs.declared.fault.BuildFault.TheVariants.{NotBuilt, Memory}
 
 -- the last of the code's frames is the innermost
 pub stack_of-push : (fs : List Frame) (f : Frame) → stack_of (fs ++ f ∷ []) ≡ around_of f ∷ stack_of fs
@@ -86,7 +86,7 @@ on_fails held s t ts rest total e fails so_far = sym so_far ∙ ap (expression_f
 pub on_none : (held : Option Tree) (s : List Around) (rest : List Token) (total : Option (Tree × List Token)) → rest ≡ [] → expression_from held s rest ≡ total → total ≡ None
 on_none held s rest total e so_far = sym so_far ∙ ap (expression_from held s) e ∙ expression-none held s
 
-pub on_refusal : (fault : ReadKernelFault) (fs : List Frame) (held : Option Tree) (s : List Around) (t : Token) (ts rest : List Token) (total : Option (Tree × List Token)) → rest ≡ t ∷ ts
+pub on_refusal : (fault : BuildFault) (fs : List Frame) (held : Option Tree) (s : List Around) (t : Token) (ts rest : List Token) (total : Option (Tree × List Token)) → rest ≡ t ∷ ts
     → Makes (Err fault) fs (step held s t) → expression_from held s rest ≡ total → Refuses fault total
 on_refusal NotBuilt fs held s t ts rest total e makes so_far = on_fails held s t ts rest total e makes so_far
 on_refusal Memory fs held s t ts rest total e makes so_far = tt

@@ -10,8 +10,8 @@ use Rattle.kernel_syntax.specs.Tree as kernel
 use Rattle.kernel_syntax.specs.Tree.{Code, Term}
 use Rattle.kernel_syntax.specs.Program.{stmts_code, stmt_code, in_sequence, term_of}
 use Rattle.kernel_syntax.proofs.Equations.{stmt_code-Store}
-use Rattle.kernel_reader.specs.declared.fault.ReadKernelFault.{ReadKernelFault}
-use Rattle.kernel_reader.specs.declared.fault.ReadKernelFault.TheVariants.{NotBuilt, Memory}
+use Rattle.kernel_reader.specs.declared.fault.BuildFault.{BuildFault}
+use Rattle.kernel_reader.specs.declared.fault.BuildFault.TheVariants.{NotBuilt, Memory}
 use Rattle.kernel_reader.specs.declared.token.Word.TheVariants as word
 use Rattle.kernel_reader.specs.declared.token.Token.{Token}
 use Rattle.kernel_reader.specs.Scope.{Names}
@@ -81,7 +81,7 @@ unfolding stores_at
 stores-none zero n site rest c e = refl
 stores-none (suc k) n site rest c e = rw (c, e) refl
 
-pub stores-fail : (fault : ReadKernelFault) (n : Names) (site : ℕ) (stmts : List Stmt) (rest : List Token) (whole : Option (Code × List Token)) → StoresKept n site stmts rest whole → closes rest ≡ false
+pub stores-fail : (fault : BuildFault) (n : Names) (site : ℕ) (stmts : List Stmt) (rest : List Token) (whole : Option (Code × List Token)) → StoresKept n site stmts rest whole → closes rest ≡ false
     → Refuses fault (read_store n site rest) → Refuses fault whole
 stores-fail NotBuilt n site stmts rest whole kept c e = sym kept.same ∙ ap (option_map (behind stmts)) (stores-none kept.turns n site rest c e)
 stores-fail Memory n site stmts rest whole kept c e = tt
@@ -120,7 +120,7 @@ unfolding arrays_at
 arrays-none zero arrays rest w e f = refl
 arrays-none (suc k) arrays rest w e f = arrays-more k arrays rest w e ∙ ap (λ (o : Option (Array × List Token)). o >>= λ d. arrays_at k (arrays ++ d.0 ∷ []) d.1) f
 
-pub arrays-fail : (fault : ReadKernelFault) (arrays : List Array) (rest : List Token) (w : ℕ × List Token) (whole : Option (List Array × List Token)) → ArraysKept arrays rest whole
+pub arrays-fail : (fault : BuildFault) (arrays : List Array) (rest : List Token) (w : ℕ × List Token) (whole : Option (List Array × List Token)) → ArraysKept arrays rest whole
     → word_at word.Array rest ≡ Some w → Refuses fault (declaration_at arrays w.1) → Refuses fault whole
 arrays-fail NotBuilt arrays rest w whole kept e f = sym kept.same ∙ arrays-none kept.turns arrays rest w e f
 arrays-fail Memory arrays rest w whole kept e f = tt

@@ -1,7 +1,10 @@
 -- The kernel of a text, or why it has none.
 use Rattle.std.specs.Prelude.{◌≡◌, ℕ, List, [], ◌∷◌, length, Ok, Err}
 use Rattle.kernel_syntax.specs.Program.{Program}
+use Rattle.kernel_syntax.specs.FirstKind.{IsFirstKind}
 use Rattle.kernel_reader.specs.declared.fault.KernelWhy.TheVariants as why
+use Rattle.kernel_reader.specs.declared.fault.ReadKernelFault.{ReadKernelFault}
+use Rattle.kernel_reader.specs.declared.fault.ReadKernelFault.TheVariants as read
 use Rattle.kernel_reader.specs.declared.token.Token.{Token}
 use Rattle.kernel_reader.specs.Tokens.{Refusal, line_at, tokens_of}
 use Rattle.kernel_reader.specs.Grammar.{KernelTree, kernel_tokens, IsKernel, IsShallow}
@@ -25,3 +28,15 @@ pub data IsRefused (text : List ℕ) (r : Refusal) : Type 0 where
   AtDepth : (ts : List Token) → (bad : Token) → tokens_of text ≡ Ok ts → IsTooDeep ts bad → r ≡ record { line = bad.line; why = why.Deep } → IsRefused text r
   AtEnd : (ts : List Token) → tokens_of text ≡ Ok ts → EndsEarly ts → r ≡ record { line = line_at text (length text); why = why.Syntax } → IsRefused text r
   AtRule : (tree : KernelTree) → (later : List Refusal) → tokens_of text ≡ Ok (kernel_tokens tree) → IsKernel tree → IsShallow tree → kernel_faults tree ≡ r ∷ later → IsRefused text r
+
+-- the fault is the one of the text's tokens and their grammar; or the tokens are a kernel's; or it is out of memory
+abbrev pub IsFaultOf : List ℕ → ReadKernelFault → Type 0
+IsFaultOf text (read.Refused line why) = IsRefused text (record { line = line; why = why })
+IsFaultOf text read.NotBuilt = (tree : KernelTree) × (tokens_of text ≡ Ok (kernel_tokens tree)) × IsKernel tree × IsShallow tree
+IsFaultOf text read.Memory = Unit {0}
+
+-- with it the text has no kernel, or none of the first kind
+abbrev pub HasNoKernel : List ℕ → ReadKernelFault → Type 0
+HasNoKernel text (read.Refused line why) = (p : Program) → IsKernelOf text p → ⊥
+HasNoKernel text read.NotBuilt = (p : Program) → IsKernelOf text p → IsFirstKind p → ⊥
+HasNoKernel text read.Memory = Unit {0}

@@ -5,5 +5,6 @@ pub mod Scope
 pub mod Rules
 pub mod Resolve
 pub mod KernelOf
+pub mod Judging
 pub mod Machine
 pub mod Reading

@@ -9,8 +9,8 @@ use Rattle.kernel_reader.specs.declared.token.Sign.TheVariants as sign
 use Rattle.kernel_reader.specs.declared.token.Lexeme.{Lexeme}
 use Rattle.kernel_reader.specs.declared.token.Lexeme.TheVariants.{Named, Number, Reserved, Mark}
 use Rattle.kernel_reader.specs.declared.token.Token.{Token}
-use Rattle.kernel_reader.specs.declared.fault.ReadKernelFault.{ReadKernelFault}
-use Rattle.kernel_reader.specs.declared.fault.ReadKernelFault.TheVariants as fault
+use Rattle.kernel_reader.specs.declared.fault.BuildFault.{BuildFault}
+use Rattle.kernel_reader.specs.declared.fault.BuildFault.TheVariants as fault
 use Rattle.kernel_reader.specs.declared.expression.Moved.{Moved}
 use Rattle.kernel_reader.specs.declared.expression.Moved.TheVariants as moved
 use Rattle.kernel_reader.specs.declared.tree.Tree as code
@@ -175,17 +175,17 @@ expression_from held s (t ∷ ts) = elim (step held s t) [
 -- ---- what a function of the code gives
 
 -- a refusal, unless memory ran out
-abbrev pub Refuses : {X : Type 0} → ReadKernelFault → Option X → Type 0
+abbrev pub Refuses : {X : Type 0} → BuildFault → Option X → Type 0
 Refuses fault.NotBuilt due = due ≡ None
 Refuses fault.Memory due = Unit {0}
 
 -- the value that is due, seen by view
-abbrev pub Gives : {X Y : Type 0} → (X → Y) → Result X ReadKernelFault → Option Y → Type 0
+abbrev pub Gives : {X Y : Type 0} → (X → Y) → Result X BuildFault → Option Y → Type 0
 Gives view (Ok x) due = due ≡ Some (view x)
 Gives view (Err e) due = Refuses e due
 
 -- a step of the code, which leaves these frames
-abbrev pub Makes : Result Moved ReadKernelFault → List frame.Frame → Step → Type 0
+abbrev pub Makes : Result Moved BuildFault → List frame.Frame → Step → Type 0
 Makes (Ok (moved.Goes held)) fs due = due ≡ Goes (option_map tree_of held) (stack_of fs)
 Makes (Ok (moved.Ends whole)) fs due = due ≡ Ends (tree_of whole)
 Makes (Err fault.NotBuilt) fs due = due ≡ Fails

@@ -2,14 +2,14 @@
 ghost use Rattle.std.specs.Prelude.{◌≡◌, ◌+◌, ◌<◌, ◌≤◌, length, bytes_eq, option_copied, [], IfSome, IfOk, IfErr, None, Some, if◌then◌else◌};
 ghost use Rattle.kernel_syntax.specs.Tree as kernel;
 ghost use Rattle.kernel_syntax.specs.Program.{term_of};
-ghost use Rattle.kernel_reader.specs.declared.fault.ReadKernelFault.TheVariants.{Memory};
+ghost use Rattle.kernel_reader.specs.declared.fault.BuildFault.TheVariants.{Memory};
 ghost use Rattle.kernel_reader.specs.Scope.{array_number, is_array, variable_of};
 ghost use Rattle.kernel_reader.specs.Resolve.{sites};
 ghost use Rattle.kernel_reader.specs.Rules.{is_unfit};
 ghost use Rattle.kernel_reader.specs.Machine.{Gives, tree_of};
 ghost use Rattle.kernel_reader.specs.Reading.{slot_in, array_in, bind};
 
-use crate::fault::ReadKernelFault;
+use crate::fault::BuildFault;
 use crate::tree::Tree;
 use kernel_syntax::{Array, Expr, Name, Op};
 use std::alloc::Global;
@@ -69,13 +69,7 @@ fn is_unfit(op: Op) -> bool
 }
 
 /// An element of an array.
-fn load(
-    alloc: Global,
-    array: u32,
-    index: Expr,
-    line: u32,
-    site: u16,
-) -> Result<Expr, ReadKernelFault>
+fn load(alloc: Global, array: u32, index: Expr, line: u32, site: u16) -> Result<Expr, BuildFault>
     ensures made { IfOk result (λ e. term_of e ≡ kernel.Load array (term_of index) line site) }
     ensures fault { IfErr result (λ e. e ≡ Memory) }
 {
@@ -89,13 +83,7 @@ fn load(
 }
 
 /// An operation on two expressions.
-fn binary(
-    alloc: Global,
-    op: Op,
-    line: u32,
-    left: Expr,
-    right: Expr,
-) -> Result<Expr, ReadKernelFault>
+fn binary(alloc: Global, op: Op, line: u32, left: Expr, right: Expr) -> Result<Expr, BuildFault>
     ensures made { IfOk result (λ e. term_of e ≡ kernel.Binary op line (term_of left) (term_of right)) }
     ensures fault { IfErr result (λ e. e ≡ Memory) }
 {
@@ -111,40 +99,40 @@ fn binary(
 
 impl Binder<'_> {
     /// The slot of a variable, which isn't assignable in a bound.
-    fn slot(&self, name: &Name) -> Result<u32, ReadKernelFault>
+    fn slot(&self, name: &Name) -> Result<u32, BuildFault>
         ensures { Gives (λ x. x) result (slot_in (record { arrays = []; scope = self.now.variables.now }) self.now.in_bound name.now) }
     {
-        let variable = variable_of(self.variables, name).ok_or(ReadKernelFault::NotBuilt)?;
+        let variable = variable_of(self.variables, name).ok_or(BuildFault::NotBuilt)?;
         if self.in_bound && variable.assignable {
-            return Err(ReadKernelFault::NotBuilt);
+            return Err(BuildFault::NotBuilt);
         }
         Ok(variable.slot)
     }
 
     /// The number of the array of a name, which doesn't stand in a bound.
-    pub fn array(&self, name: &Name) -> Result<u32, ReadKernelFault>
+    pub fn array(&self, name: &Name) -> Result<u32, BuildFault>
         requires { length self.now.arrays.now ≤ 64 }
         ensures { Gives (λ x. x) result (array_in (record { arrays = self.now.arrays.now; scope = [] }) self.now.in_bound name.now) }
     {
-        let number = array_number(self.arrays, name).ok_or(ReadKernelFault::NotBuilt)?;
+        let number = array_number(self.arrays, name).ok_or(BuildFault::NotBuilt)?;
         if self.in_bound {
-            return Err(ReadKernelFault::NotBuilt);
+            return Err(BuildFault::NotBuilt);
         }
         Ok(number as u32)
     }
 
     /// The lane's number, which doesn't stand in a bound.
-    fn tid(&self) -> Result<Expr, ReadKernelFault>
+    fn tid(&self) -> Result<Expr, BuildFault>
         ensures { Gives term_of result (if self.now.in_bound then None else Some kernel.Tid) }
     {
         if self.in_bound {
-            return Err(ReadKernelFault::NotBuilt);
+            return Err(BuildFault::NotBuilt);
         }
         Ok(Expr::Tid)
     }
 
     /// An expression with its names bound, and the next site.
-    pub fn bind(&self, site: u16, tree: &Tree) -> Result<(Expr, u16), ReadKernelFault>
+    pub fn bind(&self, site: u16, tree: &Tree) -> Result<(Expr, u16), BuildFault>
         requires few { length self.now.arrays.now ≤ 64 }
         requires room { site + sites (tree_of tree.now) < 65536 }
         ensures bound { Gives (λ x. (term_of x.0, x.1)) result (bind (record { arrays = self.now.arrays.now; scope = self.now.variables.now }) self.now.in_bound site (tree_of tree.now)) }
@@ -178,7 +166,7 @@ impl Binder<'_> {
             } => {
                 let (left, next) = self.bind(site, left)?;
                 if self.in_bound && is_unfit(*op) {
-                    return Err(ReadKernelFault::NotBuilt);
+                    return Err(BuildFault::NotBuilt);
                 }
                 let (right, next) = self.bind(next, right)?;
                 Ok((binary(self.alloc, *op, *line, left, right)?, next))

@@ -3,12 +3,12 @@
 //! What is still open around the place that is read stands on a stack, so nothing here calls
 //! itself.
 ghost use Rattle.std.specs.Prelude.{◌≡◌, ◌+◌, ◌*◌, ◌<◌, ◌≤◌, length, count_by, IfOk, IfErr, option_map, None, [], ◌∷◌};
-ghost use Rattle.kernel_reader.specs.declared.fault.ReadKernelFault.TheVariants.{Memory};
+ghost use Rattle.kernel_reader.specs.declared.fault.BuildFault.TheVariants.{Memory};
 ghost use Rattle.kernel_reader.specs.Grammar.{rank_of, left_rank, right_rank, expr};
 ghost use Rattle.kernel_reader.specs.Resolve.{sites};
 ghost use Rattle.kernel_reader.specs.Machine.{role_of, tree_of, around_of, stack_of, opens, levels, wanted, reduced, deeper, operand_step, open_index, close_group, close_index, take_left, finish, role_step, step, expression_from, Makes, Gives};
 
-use crate::fault::ReadKernelFault;
+use crate::fault::BuildFault;
 use crate::token::{Lexeme, Sign, Token, Word};
 use crate::tree::Tree;
 use kernel_syntax::{Name, Op};
@@ -144,18 +144,18 @@ fn wanted_by(frame: &Frame) -> u8
     }
 }
 
-fn deeper(frames: &mut Vec<Frame>, frame: Frame) -> Result<Moved, ReadKernelFault>
+fn deeper(frames: &mut Vec<Frame>, frame: Frame) -> Result<Moved, BuildFault>
     ensures { Makes result frames.new.items (deeper (around_of frame) (stack_of frames.old.items)) }
 {
     if levels(frames) >= MOST_LEVELS {
-        return Err(ReadKernelFault::NotBuilt);
+        return Err(BuildFault::NotBuilt);
     }
     frames.push(frame)?;
     Ok(Moved::Goes(None))
 }
 
 /// A token where an operand is wanted.
-fn operand_step(frames: &mut Vec<Frame>, token: &Token) -> Result<Moved, ReadKernelFault>
+fn operand_step(frames: &mut Vec<Frame>, token: &Token) -> Result<Moved, BuildFault>
     ensures { Makes result frames.new.items (operand_step (stack_of frames.old.items) token.now.line token.now.lexeme) }
 {
     let line = token.line;
@@ -172,7 +172,7 @@ fn operand_step(frames: &mut Vec<Frame>, token: &Token) -> Result<Moved, ReadKer
         Lexeme::Reserved(Word::Span) => Ok(Moved::Goes(Some(Tree::Span { line }))),
         Lexeme::Mark(Sign::Minus) => deeper(frames, Frame::Minus { line }),
         Lexeme::Mark(Sign::OpenParen) => deeper(frames, Frame::Group { opened: line }),
-        _ => Err(ReadKernelFault::NotBuilt),
+        _ => Err(BuildFault::NotBuilt),
     }
 }
 
@@ -182,7 +182,7 @@ fn reduced(
     frames: &mut Vec<Frame>,
     operand: Tree,
     rank: u8,
-) -> Result<Tree, ReadKernelFault>
+) -> Result<Tree, BuildFault>
     ensures made { IfOk result (λ t. reduced rank (tree_of operand) (stack_of frames.old.items) ≡ (tree_of t, stack_of frames.new.items)) }
     ensures fault { IfErr result (λ e. e ≡ Memory) }
 {
@@ -212,11 +212,11 @@ fn reduced(
     Ok(held)
 }
 
-fn open_index(frames: &mut Vec<Frame>, held: Tree, opened: u32) -> Result<Moved, ReadKernelFault>
+fn open_index(frames: &mut Vec<Frame>, held: Tree, opened: u32) -> Result<Moved, BuildFault>
     ensures { Makes result frames.new.items (open_index opened (tree_of held) (stack_of frames.old.items)) }
 {
     let Tree::Name { line, name } = held else {
-        return Err(ReadKernelFault::NotBuilt);
+        return Err(BuildFault::NotBuilt);
     };
     deeper(frames, Frame::Index { line, name, opened })
 }
@@ -226,7 +226,7 @@ fn close_group(
     frames: &mut Vec<Frame>,
     inside: Tree,
     closed: u32,
-) -> Result<Moved, ReadKernelFault>
+) -> Result<Moved, BuildFault>
     ensures { Makes result frames.new.items (close_group closed (tree_of inside) (stack_of frames.old.items)) }
 {
     match frames.pop() {
@@ -236,7 +236,7 @@ fn close_group(
             inside: Box::new(alloc, inside)?,
             closed,
         }))),
-        Some(_) => Err(ReadKernelFault::NotBuilt),
+        Some(_) => Err(BuildFault::NotBuilt),
     }
 }
 
@@ -245,7 +245,7 @@ fn close_index(
     frames: &mut Vec<Frame>,
     index: Tree,
     closed: u32,
-) -> Result<Moved, ReadKernelFault>
+) -> Result<Moved, BuildFault>
     ensures { Makes result frames.new.items (close_index closed (tree_of index) (stack_of frames.old.items)) }
 {
     let Some(frame) = frames.pop() else {
@@ -256,11 +256,11 @@ fn close_index(
 }
 
 /// The element behind its name and bracket.
-fn element(frame: Frame, index: Box<Tree>, closed: u32) -> Result<Moved, ReadKernelFault>
+fn element(frame: Frame, index: Box<Tree>, closed: u32) -> Result<Moved, BuildFault>
     ensures { Makes result [] (close_index closed (tree_of index.value) (around_of frame ∷ [])) }
 {
     let Frame::Index { line, name, opened } = frame else {
-        return Err(ReadKernelFault::NotBuilt);
+        return Err(BuildFault::NotBuilt);
     };
     Ok(Moved::Goes(Some(Tree::Element {
         line,
@@ -271,28 +271,23 @@ fn element(frame: Frame, index: Box<Tree>, closed: u32) -> Result<Moved, ReadKer
     })))
 }
 
-fn take_left(
-    frames: &mut Vec<Frame>,
-    left: Tree,
-    op: Op,
-    line: u32,
-) -> Result<Moved, ReadKernelFault>
+fn take_left(frames: &mut Vec<Frame>, left: Tree, op: Op, line: u32) -> Result<Moved, BuildFault>
     ensures { Makes result frames.new.items (take_left op line (tree_of left) (stack_of frames.old.items)) }
 {
     if rank_of(op) > wanted(frames) {
-        return Err(ReadKernelFault::NotBuilt);
+        return Err(BuildFault::NotBuilt);
     }
     frames.push(Frame::Left { left, op, line })?;
     Ok(Moved::Goes(None))
 }
 
-fn finish(frames: &[Frame], whole: Tree) -> Result<Moved, ReadKernelFault>
+fn finish(frames: &[Frame], whole: Tree) -> Result<Moved, BuildFault>
     ensures { Makes result frames.now (finish (tree_of whole) (stack_of frames.now)) }
 {
     if frames.is_empty() {
         Ok(Moved::Ends(whole))
     } else {
-        Err(ReadKernelFault::NotBuilt)
+        Err(BuildFault::NotBuilt)
     }
 }
 
@@ -303,7 +298,7 @@ fn role_step(
     held: Tree,
     line: u32,
     role: Role,
-) -> Result<Moved, ReadKernelFault>
+) -> Result<Moved, BuildFault>
     ensures { Makes result frames.new.items (role_step (tree_of held) (stack_of frames.old.items) line role) }
 {
     match role {
@@ -333,7 +328,7 @@ fn step(
     frames: &mut Vec<Frame>,
     held: Option<Tree>,
     token: &Token,
-) -> Result<Moved, ReadKernelFault>
+) -> Result<Moved, BuildFault>
     ensures { Makes result frames.new.items (step (option_map tree_of held) (stack_of frames.old.items) token.now) }
 {
     match held {
@@ -343,7 +338,7 @@ fn step(
 }
 
 /// The expression at the start of tokens, and the tokens behind it.
-pub fn expression(alloc: Global, tokens: &[Token]) -> Result<(Tree, &[Token]), ReadKernelFault>
+pub fn expression(alloc: Global, tokens: &[Token]) -> Result<(Tree, &[Token]), BuildFault>
     ensures read { Gives (λ x. (tree_of x.0, x.1.now)) result (expression_from None [] tokens.now) }
     ensures room { IfOk result (λ x. 3 * sites (tree_of x.0) + length x.1.now < length tokens.now) }
 {
@@ -357,5 +352,5 @@ pub fn expression(alloc: Global, tokens: &[Token]) -> Result<(Tree, &[Token]), R
         }
         rest = after;
     }
-    Err(ReadKernelFault::NotBuilt)
+    Err(BuildFault::NotBuilt)
 }

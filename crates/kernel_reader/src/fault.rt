@@ -64,7 +64,10 @@ impl<T: Drop> From<AllocFailed<T>> for TextFault {
 /// Why `read_kernel` answers none.
 #[derive(Clone, Copy, Debug, PartialEq, Eq)]
 pub enum ReadKernelFault {
-    /// The text has no kernel of the kind that is built so far.
+    /// The first place that is no token, that no kernel goes on with, or that is nested too deep;
+    /// lines are numbered from 1.
+    Refused { line: u32, why: KernelWhy },
+    /// The tokens are a kernel by the grammar, but not one of the kind that is built so far.
     NotBuilt,
     Memory,
 }
@@ -79,12 +82,30 @@ impl From<AllocError> for ReadKernelFault {
     }
 }
 
-impl<T: Drop> From<AllocFailed<T>> for ReadKernelFault {
-    ghost use Rattle.kernel_reader.specs.declared.fault.ReadKernelFault.TheVariants as read;
+/// Why no kernel of the first kind was built of tokens.
+#[derive(Clone, Copy, Debug, PartialEq, Eq)]
+pub enum BuildFault {
+    /// They are none.
+    NotBuilt,
+    Memory,
+}
+
+impl From<AllocError> for BuildFault {
+    ghost use Rattle.kernel_reader.specs.declared.fault.BuildFault.TheVariants as read;
 
     ghost from_gives = { λ _ e. e ≡ read.Memory };
 
-    fn from(_e: AllocFailed<T>) -> ReadKernelFault {
-        ReadKernelFault::Memory
+    fn from(_e: AllocError) -> BuildFault {
+        BuildFault::Memory
+    }
+}
+
+impl<T: Drop> From<AllocFailed<T>> for BuildFault {
+    ghost use Rattle.kernel_reader.specs.declared.fault.BuildFault.TheVariants as read;
+
+    ghost from_gives = { λ _ e. e ≡ read.Memory };
+
+    fn from(_e: AllocFailed<T>) -> BuildFault {
+        BuildFault::Memory
     }
 }

@@ -217,7 +217,7 @@ fn tokens_from(alloc: Global, bytes: &[u8]) -> Result<Vec<Token>, TextFault>
 }
 
 /// The line of the byte at an index, numbered from 1.
-fn line_at(bytes: &[u8], index: usize) -> u32
+pub fn line_at(bytes: &[u8], index: usize) -> u32
     requires short { length bytes.now ≤ 65536 }
     requires within { index ≤ length bytes.now }
     ensures { result ≡ line_at bytes.now index }

@@ -14,6 +14,7 @@
 mod binding;
 mod expression;
 mod fault;
+mod judging;
 mod kernel;
 mod lexing;
 mod nesting;
@@ -23,6 +24,7 @@ mod token;
 mod tree;
 
 pub use crate::fault::{KernelWhy, ReadKernelFault, TextFault};
+pub use crate::judging::Verdict;
 pub use crate::kernel::read_kernel;
 pub use crate::lexing::tokens;
 pub use crate::nesting::levels_tell_the_depth;

@@ -6,13 +6,13 @@ ghost use Rattle.kernel_syntax.specs.Tree.{Done};
 ghost use Rattle.kernel_syntax.specs.Tree as kernel;
 ghost use Rattle.kernel_reader.specs.Resolve.{sites};
 ghost use Rattle.kernel_reader.specs.Rules.{width_of};
-ghost use Rattle.kernel_reader.specs.declared.fault.ReadKernelFault.TheVariants.{Memory};
+ghost use Rattle.kernel_reader.specs.declared.fault.BuildFault.TheVariants.{Memory};
 ghost use Rattle.kernel_reader.specs.Machine.{Gives, tree_of};
 ghost use Rattle.kernel_reader.specs.Reading.{Finds, declaration_at, arrays_at, store_of, store_at, bind_store, bound_of, read_store, closes, stores_at, range_at, schedule_at, nowait_at, loop_at, region_at, kernel_at};
 
 use crate::binding::{Binder, Variable, is_array};
 use crate::expression::expression;
-use crate::fault::ReadKernelFault;
+use crate::fault::BuildFault;
 use crate::parsing::{counted, name_at, number_at, sign_at, word_at};
 use crate::token::{Sign, Token, Word};
 use crate::tree::Tree;
@@ -50,7 +50,7 @@ fn declaration_at<'a>(
     arrays: &[Array],
     total: u32,
     tokens: &'a [Token],
-) -> Result<(Array, &'a [Token]), ReadKernelFault>
+) -> Result<(Array, &'a [Token]), BuildFault>
     requires total { total ≡ elements arrays.now }
     requires small { total ≤ 1048576 }
     ensures found { Gives (λ x. (x.0, x.1.now)) result (declaration_at arrays.now tokens.now) }
@@ -58,19 +58,19 @@ fn declaration_at<'a>(
     ensures few { IfOk result (λ _. length arrays.now < 64) }
     ensures room { IfOk result (λ x. length x.1.now < length tokens.now) }
 {
-    let (name, _line, rest) = name_at(tokens).ok_or(ReadKernelFault::NotBuilt)?;
-    let (width_name, _line, rest) = name_at(rest).ok_or(ReadKernelFault::NotBuilt)?;
-    let (value, rest) = number_at(rest).ok_or(ReadKernelFault::NotBuilt)?;
-    let width = width_of(width_name).ok_or(ReadKernelFault::NotBuilt)?;
-    let count = counted(value, MOST_ELEMENTS).ok_or(ReadKernelFault::NotBuilt)?;
+    let (name, _line, rest) = name_at(tokens).ok_or(BuildFault::NotBuilt)?;
+    let (width_name, _line, rest) = name_at(rest).ok_or(BuildFault::NotBuilt)?;
+    let (value, rest) = number_at(rest).ok_or(BuildFault::NotBuilt)?;
+    let width = width_of(width_name).ok_or(BuildFault::NotBuilt)?;
+    let count = counted(value, MOST_ELEMENTS).ok_or(BuildFault::NotBuilt)?;
     if is_array(arrays, name) {
-        return Err(ReadKernelFault::NotBuilt);
+        return Err(BuildFault::NotBuilt);
     }
     if MOST_ARRAYS <= arrays.len() {
-        return Err(ReadKernelFault::NotBuilt);
+        return Err(BuildFault::NotBuilt);
     }
     if MOST_ELEMENTS < total + count {
-        return Err(ReadKernelFault::NotBuilt);
+        return Err(BuildFault::NotBuilt);
     }
     let array = Array {
         name: name.copy(),
@@ -83,7 +83,7 @@ fn declaration_at<'a>(
 }
 
 /// The arrays that are declared first, and the tokens behind them.
-fn arrays_at(alloc: Global, tokens: &[Token]) -> Result<(Arrays, &[Token]), ReadKernelFault>
+fn arrays_at(alloc: Global, tokens: &[Token]) -> Result<(Arrays, &[Token]), BuildFault>
     ensures found { Gives (λ x. (x.0, x.1.now)) result (arrays_at (suc (length tokens.now)) [] tokens.now) }
     ensures limits { IfOk result (λ x. IsWithinLimits x.0) }
     ensures room { IfOk result (λ x. length x.1.now ≤ length tokens.now) }
@@ -111,15 +111,15 @@ pub struct Store {
 
 /// A store, and the tokens behind it.
 #[tactic(auto, unfolding(crate::specs::Reading::store_at))]
-fn store_at(alloc: Global, tokens: &[Token]) -> Result<(Store, &[Token]), ReadKernelFault>
+fn store_at(alloc: Global, tokens: &[Token]) -> Result<(Store, &[Token]), BuildFault>
     ensures read { Gives (λ x. (store_of x.0, x.1.now)) result (store_at tokens.now) }
     ensures room { IfOk result (λ x. 3 * (1 + sites (tree_of x.0.index) + sites (tree_of x.0.value)) + length x.1.now ≤ length tokens.now) }
 {
-    let (name, line, rest) = name_at(tokens).ok_or(ReadKernelFault::NotBuilt)?;
-    let (_, rest) = sign_at(rest, Sign::OpenBracket).ok_or(ReadKernelFault::NotBuilt)?;
+    let (name, line, rest) = name_at(tokens).ok_or(BuildFault::NotBuilt)?;
+    let (_, rest) = sign_at(rest, Sign::OpenBracket).ok_or(BuildFault::NotBuilt)?;
     let (index, rest) = expression(alloc, rest)?;
-    let (_, rest) = sign_at(rest, Sign::CloseBracket).ok_or(ReadKernelFault::NotBuilt)?;
-    let (_, rest) = sign_at(rest, Sign::Assign).ok_or(ReadKernelFault::NotBuilt)?;
+    let (_, rest) = sign_at(rest, Sign::CloseBracket).ok_or(BuildFault::NotBuilt)?;
+    let (_, rest) = sign_at(rest, Sign::Assign).ok_or(BuildFault::NotBuilt)?;
     let (value, rest) = expression(alloc, rest)?;
     let name = name.copy();
     Ok((
@@ -141,7 +141,7 @@ fn bind_store(
     variables: &[Variable],
     site: u16,
     store: &Store,
-) -> Result<(u32, Expr, Expr, u16), ReadKernelFault>
+) -> Result<(u32, Expr, Expr, u16), BuildFault>
     requires few { length arrays.now ≤ 64 }
     requires room { site + 1 + sites (tree_of store.now.index) + sites (tree_of store.now.value) < 65536 }
     ensures bound { Gives (λ x. (x.0, term_of x.1, term_of x.2, x.3)) result (bind_store (record { arrays = arrays.now; scope = variables.now }) site (store_of store.now)) }
@@ -176,7 +176,7 @@ fn read_store<'a>(
     variables: &[Variable],
     site: u16,
     tokens: &'a [Token],
-) -> Result<(Bound, &'a [Token]), ReadKernelFault>
+) -> Result<(Bound, &'a [Token]), BuildFault>
     requires few { length arrays.now ≤ 64 }
     requires room { 3 * site + length tokens.now ≤ 65536 }
     ensures read { Gives (λ x. (bound_of x.0, x.1.now)) result (read_store (record { arrays = arrays.now; scope = variables.now }) site tokens.now) }
@@ -211,14 +211,14 @@ pub struct Range {
 }
 
 #[tactic(auto, unfolding(crate::specs::Reading::range_at))]
-fn range_at(alloc: Global, tokens: &[Token]) -> Result<(Range, &[Token]), ReadKernelFault>
+fn range_at(alloc: Global, tokens: &[Token]) -> Result<(Range, &[Token]), BuildFault>
     ensures read { Gives (λ x. ((x.0.name, tree_of x.0.from, tree_of x.0.to), x.1.now)) result (range_at tokens.now) }
     ensures room { IfOk result (λ x. 3 * (sites (tree_of x.0.from) + sites (tree_of x.0.to)) + length x.1.now ≤ length tokens.now) }
 {
-    let (name, _line, rest) = name_at(tokens).ok_or(ReadKernelFault::NotBuilt)?;
-    let (_, rest) = word_at(rest, Word::In).ok_or(ReadKernelFault::NotBuilt)?;
+    let (name, _line, rest) = name_at(tokens).ok_or(BuildFault::NotBuilt)?;
+    let (_, rest) = word_at(rest, Word::In).ok_or(BuildFault::NotBuilt)?;
     let (from, rest) = expression(alloc, rest)?;
-    let (_, rest) = sign_at(rest, Sign::Dots).ok_or(ReadKernelFault::NotBuilt)?;
+    let (_, rest) = sign_at(rest, Sign::Dots).ok_or(BuildFault::NotBuilt)?;
     let (to, rest) = expression(alloc, rest)?;
     let name = name.copy();
     Ok((Range { name, from, to }, rest))
@@ -258,7 +258,7 @@ fn stores_at<'a>(
     variables: &[Variable],
     site: u16,
     tokens: &'a [Token],
-) -> Result<(Body, &'a [Token]), ReadKernelFault>
+) -> Result<(Body, &'a [Token]), BuildFault>
     requires few { length arrays.now ≤ 64 }
     requires room { 3 * site + length tokens.now ≤ 65536 }
     ensures { Gives (λ x. (code_of x.0.stmts.items, x.1.now)) result (stores_at (suc (length tokens.now)) (record { arrays = arrays.now; scope = variables.now }) site tokens.now) }
@@ -294,18 +294,18 @@ fn loop_at<'a>(
     alloc: Global,
     arrays: &[Array],
     tokens: &'a [Token],
-) -> Result<(Stmt, &'a [Token]), ReadKernelFault>
+) -> Result<(Stmt, &'a [Token]), BuildFault>
     requires few { length arrays.now ≤ 64 }
     requires room { length tokens.now ≤ 65536 }
     ensures { Gives (λ x. (stmt_code x.0 Done, x.1.now)) result (loop_at arrays.now tokens.now) }
 {
-    let (line, rest) = word_at(tokens, Word::For).ok_or(ReadKernelFault::NotBuilt)?;
+    let (line, rest) = word_at(tokens, Word::For).ok_or(BuildFault::NotBuilt)?;
     let (range, rest) = range_at(alloc, rest)?;
-    let (schedule, rest) = schedule_at(rest).ok_or(ReadKernelFault::NotBuilt)?;
+    let (schedule, rest) = schedule_at(rest).ok_or(BuildFault::NotBuilt)?;
     let (nowait, rest) = nowait_at(rest);
-    let (_, rest) = sign_at(rest, Sign::OpenBrace).ok_or(ReadKernelFault::NotBuilt)?;
+    let (_, rest) = sign_at(rest, Sign::OpenBrace).ok_or(BuildFault::NotBuilt)?;
     if is_array(arrays, &range.name) {
-        return Err(ReadKernelFault::NotBuilt);
+        return Err(BuildFault::NotBuilt);
     }
     let binder = Binder {
         alloc,
@@ -321,7 +321,7 @@ fn loop_at<'a>(
         assignable: false,
     }];
     let (body, rest) = stores_at(alloc, arrays, &variables, site, rest)?;
-    let (end, rest) = sign_at(rest, Sign::CloseBrace).ok_or(ReadKernelFault::NotBuilt)?;
+    let (end, rest) = sign_at(rest, Sign::CloseBrace).ok_or(BuildFault::NotBuilt)?;
     let stmt = for_stmt(from, to, schedule, nowait, line, end, body);
     Ok((stmt, rest))
 }
@@ -356,17 +356,17 @@ fn region_at<'a>(
     alloc: Global,
     arrays: &[Array],
     tokens: &'a [Token],
-) -> Result<(Stmt, &'a [Token]), ReadKernelFault>
+) -> Result<(Stmt, &'a [Token]), BuildFault>
     requires few { length arrays.now ≤ 64 }
     requires room { length tokens.now ≤ 65536 }
     ensures { Gives (λ x. (stmt_code x.0 Done, x.1.now)) result (region_at arrays.now tokens.now) }
 {
-    let (line, rest) = word_at(tokens, Word::Parallel).ok_or(ReadKernelFault::NotBuilt)?;
-    let (value, rest) = number_at(rest).ok_or(ReadKernelFault::NotBuilt)?;
-    let span = counted(value, MOST_LANES).ok_or(ReadKernelFault::NotBuilt)?;
-    let (_, rest) = sign_at(rest, Sign::OpenBrace).ok_or(ReadKernelFault::NotBuilt)?;
+    let (line, rest) = word_at(tokens, Word::Parallel).ok_or(BuildFault::NotBuilt)?;
+    let (value, rest) = number_at(rest).ok_or(BuildFault::NotBuilt)?;
+    let span = counted(value, MOST_LANES).ok_or(BuildFault::NotBuilt)?;
+    let (_, rest) = sign_at(rest, Sign::OpenBrace).ok_or(BuildFault::NotBuilt)?;
     let (work, rest) = loop_at(alloc, arrays, rest)?;
-    let (end, rest) = sign_at(rest, Sign::CloseBrace).ok_or(ReadKernelFault::NotBuilt)?;
+    let (end, rest) = sign_at(rest, Sign::CloseBrace).ok_or(BuildFault::NotBuilt)?;
     let body = one(alloc, work)?;
     Ok((parallel_stmt(span as u16, line, end, body), rest))
 }
@@ -385,7 +385,7 @@ fn parallel_stmt(span: u16, line: u32, end: u32, body: Body) -> Stmt
 }
 
 /// A list of one statement.
-fn one(alloc: Global, stmt: Stmt) -> Result<Body, ReadKernelFault>
+fn one(alloc: Global, stmt: Stmt) -> Result<Body, BuildFault>
     ensures made { IfOk result (λ body. code_of body.stmts.items ≡ stmt_code stmt Done) }
     ensures fault { IfErr result (λ e. e ≡ Memory) }
 {
@@ -396,17 +396,17 @@ fn one(alloc: Global, stmt: Stmt) -> Result<Body, ReadKernelFault>
 
 /// A kernel of one such region, and no token behind it.
 #[tactic(auto, unfolding(crate::specs::Reading::kernel_at))]
-pub fn kernel_at(alloc: Global, tokens: &[Token]) -> Result<Kernel, ReadKernelFault>
+pub fn kernel_at(alloc: Global, tokens: &[Token]) -> Result<Kernel, BuildFault>
     requires { length tokens.now ≤ 65536 }
     ensures { Gives (λ k. program_of k) result (kernel_at tokens.now) }
 {
     let (arrays, rest) = arrays_at(alloc, tokens)?;
-    let (line, rest) = word_at(rest, Word::Main).ok_or(ReadKernelFault::NotBuilt)?;
-    let (_, rest) = sign_at(rest, Sign::OpenBrace).ok_or(ReadKernelFault::NotBuilt)?;
+    let (line, rest) = word_at(rest, Word::Main).ok_or(BuildFault::NotBuilt)?;
+    let (_, rest) = sign_at(rest, Sign::OpenBrace).ok_or(BuildFault::NotBuilt)?;
     let (region, rest) = region_at(alloc, arrays.as_slice(), rest)?;
-    let (end, rest) = sign_at(rest, Sign::CloseBrace).ok_or(ReadKernelFault::NotBuilt)?;
+    let (end, rest) = sign_at(rest, Sign::CloseBrace).ok_or(BuildFault::NotBuilt)?;
     if !rest.is_empty() {
-        return Err(ReadKernelFault::NotBuilt);
+        return Err(BuildFault::NotBuilt);
     }
     let mut kernel = Kernel {
         arrays,

@@ -131,20 +131,13 @@ fn a_text_has_at_most_65536_bytes(rt: HostRuntime) -> Result<(), Fail> {
     let largest = padded(rt.alloc(), TWO_LANES, 65536)?;
     assert!(rt; is_read(rt.alloc(), &largest));
     let larger = padded(rt.alloc(), TWO_LANES, 65537)?;
-    assert!(rt; is_not_built(rt.alloc(), &larger));
+    assert!(rt; is_refused(rt.alloc(), &larger, 1, KernelWhy::Large));
     Ok(())
 }
 
 #[test]
-fn refused_texts_are_not_built(rt: HostRuntime) {
-    let texts: [&[u8]; 20] = [
-        b"main {",
-        b"array a i64 4 main { parallel 2 { for i in 0 .. 4 { a[i] = 1 } } } }",
-        b"array a i64 4 main { parallel 2 { for i in 0 .. 4 { a[i] = 1 + } } }",
-        b"array a i64 4 main { parallel 2 { for i in 0 .. 4 { a[i] = 1 < 2 < 3 } } }",
-        b"array a i64 4 main { parallel 2 { for i in 0 .. 4 { a[i] = $ } } }",
-        b"array a i64 4 main { parallel 2 { for i in 0 .. 4 { a[i] = 9223372036854775808 } } }",
-        b"array a23456789012345678901234567890123 i64 4 main { parallel 2 { for i in 0 .. 4 { } } }",
+fn broken_rules_are_not_built(rt: HostRuntime) {
+    let texts: [&[u8]; 14] = [
         b"array a i64 4 main { parallel 2 { for i in 0 .. 4 { b[i] = 1 } } }",
         b"array a i64 4 main { parallel 2 { for i in 0 .. 4 { a[i] = j } } }",
         b"array a i64 4 array a i64 4 main { parallel 2 { for i in 0 .. 4 { a[i] = 1 } } }",
@@ -157,11 +150,112 @@ fn refused_texts_are_not_built(rt: HostRuntime) {
         b"array a i64 4 main { parallel 2 { for i in tid .. 4 { a[i] = 1 } } }",
         b"array a i64 4 main { parallel 2 { for i in 0 .. a[0] { a[i] = 1 } } }",
         b"array a i64 4 main { parallel 2 { for i in 0 .. 4 / 2 { a[i] = 1 } } }",
-        b"main { parallel 2 { for i in 0 .. ---------------------------------1 { } } }",
+        b"main { let x = 1 if x < 2 { x = 2 } else { barrier } loop k in 0 .. 3 { } }",
+        b"mutex m main { parallel 2 { critical m { } for i in 0 .. 1 dynamic 2 nowait { } } }",
     ];
     for text in texts {
         assert!(rt; is_not_built(rt.alloc(), text));
     }
+}
+
+// Whether a text is refused at this line for this reason.
+fn is_refused(alloc: Global, text: &[u8], line: u32, why: KernelWhy) -> bool {
+    match read_kernel(alloc, text) {
+        Err(
+            ReadKernelFault::Refused {
+                line: at,
+                why: told,
+            },
+        ) => at == line && told == why,
+        _ => false,
+    }
+}
+
+#[test]
+fn a_text_that_is_no_kernel_tells_its_line_and_why(rt: HostRuntime) {
+    let rows: [(&[u8], u32, KernelWhy); 20] = [
+        (b"", 1, KernelWhy::Syntax),
+        (b"main {\n", 2, KernelWhy::Syntax),
+        (b"main {\n}\n}", 3, KernelWhy::Syntax),
+        (b"array a i64\nmain { }", 2, KernelWhy::Syntax),
+        (b"main {\n1 }", 2, KernelWhy::Syntax),
+        (b"main {\nlet x\n1 }", 3, KernelWhy::Syntax),
+        (b"main { x = 1 +\n}", 2, KernelWhy::Syntax),
+        (b"main { x = 1 < 2\n< 3 }", 2, KernelWhy::Syntax),
+        (b"main { x = (1 < 2) <\n(2 < 3 }", 2, KernelWhy::Syntax),
+        (b"main { x = 1\n[0] = 2 }", 2, KernelWhy::Syntax),
+        (b"main { if 1 { }\nx = 1\nelse { } }", 3, KernelWhy::Syntax),
+        (
+            b"main { for i in 0 .. 1\nnowait\nstatic { } }",
+            3,
+            KernelWhy::Syntax,
+        ),
+        (
+            b"main { loop i in 0 .. 1\nstatic { } }",
+            2,
+            KernelWhy::Syntax,
+        ),
+        (b"main { critical\n1 { } }", 2, KernelWhy::Syntax),
+        (b"main { a[0] = 1 a[0]\n}", 2, KernelWhy::Syntax),
+        (b"main {\n$ } $", 2, KernelWhy::Token),
+        (b"main { }\n\xff", 2, KernelWhy::NotUtf8),
+        (
+            b"main { x =\n---------------------------------1 }",
+            2,
+            KernelWhy::Deep,
+        ),
+        (
+            b"main { x =\n((((((((((((((((a[((((((((((((((((1 }",
+            2,
+            KernelWhy::Deep,
+        ),
+        (
+            b"main {{\n---------------------------------1 }",
+            1,
+            KernelWhy::Syntax,
+        ),
+    ];
+    for (text, line, why) in rows {
+        assert!(rt; is_refused(rt.alloc(), text, line, why));
+    }
+}
+
+// So many times a text, with others before and behind.
+fn repeated(
+    alloc: Global,
+    before: &[u8],
+    text: &[u8],
+    count: usize,
+    behind: &[u8],
+) -> Result<Vec<u8>, AllocError> {
+    let mut bytes = Vec::from_slice(alloc, before)?;
+    for _ in 0..count {
+        bytes.extend_from_slice(text)?;
+    }
+    bytes.extend_from_slice(behind)?;
+    Ok(bytes)
+}
+
+#[test]
+fn at_most_32_levels_are_open(rt: HostRuntime) -> Result<(), Fail> {
+    let blocks = repeated(rt.alloc(), b"main {", b"critical {", 31, b"")?;
+    assert!(rt; is_refused(rt.alloc(), &blocks, 1, KernelWhy::Syntax));
+    let more = repeated(rt.alloc(), b"main {", b"critical\n{", 32, b"")?;
+    assert!(rt; is_refused(rt.alloc(), &more, 33, KernelWhy::Deep));
+    let signs = repeated(rt.alloc(), b"main { x = ", b"-", 32, b"1 }")?;
+    assert!(rt; is_not_built(rt.alloc(), &signs));
+    let brackets = repeated(rt.alloc(), b"main { x = ", b"\n(", 33, b"")?;
+    assert!(rt; is_refused(rt.alloc(), &brackets, 34, KernelWhy::Deep));
+    Ok(())
+}
+
+#[test]
+fn long_texts_are_judged(rt: HostRuntime) -> Result<(), Fail> {
+    let sum = repeated(rt.alloc(), b"main { x = 1", b"+1", 32000, b" }")?;
+    assert!(rt; is_not_built(rt.alloc(), &sum));
+    let stores = repeated(rt.alloc(), b"main { ", b"x=1 ", 10000, b"")?;
+    assert!(rt; is_refused(rt.alloc(), &stores, 1, KernelWhy::Syntax));
+    Ok(())
 }
 
 // Whether the tokens of a text are refused at this line for this reason.

@@ -14,6 +14,7 @@ use Rattle.run_command.specs.RunTexts.{index_exists_text, no_kernel_text, not_bu
 
 -- what a text that is no kernel is answered with
 abbrev pub refusal_of_text : ReadKernelFault → Refusal
+refusal_of_text (text.Refused line why) = NotBuilt
 refusal_of_text text.NotBuilt = NotBuilt
 refusal_of_text text.Memory = Trouble trouble.Memory
 

@@ -55,7 +55,7 @@ impl From<ReadKernelFault> for Refusal {
 
     fn from(fault: ReadKernelFault) -> Self {
         match fault {
-            ReadKernelFault::NotBuilt => Refusal::NotBuilt,
+            ReadKernelFault::Refused { .. } | ReadKernelFault::NotBuilt => Refusal::NotBuilt,
             ReadKernelFault::Memory => Refusal::Trouble(Trouble::Memory),
         }
     }
