@@ -4,7 +4,7 @@ use Rattle.std.specs.Prelude.{nat_lt}
 use Rattle.step_history.specs.declared.item.Deed.TheVariants.{Read, Split, Home}
 use Rattle.step_history.specs.History.{item}
 use Rattle.shared_words.specs.declared.view.View.{View}
-use Rattle.shared_words.specs.Views.{newcomer, did, locked, unlocked, parted, child, met, without}
+use Rattle.shared_words.specs.Views.{newcomer, did, locked, unlocked, parted, child, after_meeting, without}
 use Rattle.shared_words.specs.Rule.{mutex_word, Once}
 use Rattle.shared_words.specs.Draws.{numbers, times, once_below, AreEachOnce, whole_share, drew, lent, regained, is_lent, used_up, lent_share}
 
@@ -80,11 +80,11 @@ pub split_is_noted : once_parted.items ≡ item [] (Split 0 0 2) ∷ []
 split_is_noted = refl
 
 -- what the other learned stands behind the own, and then its homecoming
-pub learned_in_order : (met (did once_parted (Read 0 0)) (did (child (newcomer [])) (Read 1 0))).items
+pub learned_in_order : (after_meeting (did once_parted (Read 0 0)) (did (child (newcomer [])) (Read 1 0))).items
     ≡ item [] (Split 0 0 2) ∷ item [] (Read 0 0) ∷ item (0 ∷ []) (Read 1 0) ∷ item [] (Home 0) ∷ []
 learned_in_order = refl
 
-pub home_is_not_out : (met (parted once_parted 1 2) (child once_parted)).out ≡ 0 ∷ []
+pub home_is_not_out : (after_meeting (parted once_parted 1 2) (child once_parted)).out ≡ 0 ∷ []
 home_is_not_out = refl
 
 pub one_number_goes : without 1 (2 ∷ 1 ∷ 0 ∷ []) ≡ 2 ∷ 0 ∷ []

@@ -11,7 +11,7 @@ use lib.ListN.{get_elem?}
 use Rattle.atomic_table.specs.Table.{State, Me, step, keeps, opening, Allows, Splits, Joins}
 use Rattle.atomic_table.proofs.Lists.{at_set, set_again, set_here}
 use Rattle.shared_words.specs.declared.share.Share.{Share}
-use Rattle.shared_words.specs.Draws.{SPLITS, Drawing, Looking, numbers, times, once_below, whole_share, lent_share, used_up, drew, lent, regained, HasAll, DrewEachOnce, one_if, is_lent, drawn_times, draw_count, budget, Holds, Dealt}
+use Rattle.shared_words.specs.Draws.{SPLITS, Drawing, Looking, numbers, times, once_below, whole_share, lent_share, used_up, drew, lent, regained, IsFirstAlone, HasEachOnce, one_if, is_lent, drawn_times, draw_count, budget, KeepsShare, Dealt}
 use Rattle.shared_words.proofs.Views.{at_end, sum_set, sum_part, sum_parts, sum_alone, sum_below, sum_more}
 use Rattle.shared_words.proofs.Beginning.{zeros, length-zeros, zero_word}
 use Rattle.shared_words.proofs.WordList.{word_else, word_here}
@@ -72,7 +72,7 @@ not_true true no_way = absurd (no_way refl)
 not_true false no_way = refl
 
 -- who has all has drawn each number below the counters once
-has_all : (loops : ℕ) (s : St) (id : ℕ) (v : Share) → Dealt loops s → At s.views id v → HasAll v → DrewEachOnce v
+has_all : (loops : ℕ) (s : St) (id : ℕ) (v : Share) → Dealt loops s → At s.views id v → IsFirstAlone v → HasEachOnce v
 has_all loops s id v dealt at all loop = record {
   limit = get_or s.words (1 + loop) 0;
   once = λ x. sym (sum_alone (drawn_times loop x) s.views id v at (others x)) ∙ dealt.once loop x;
@@ -123,7 +123,7 @@ draw_deals loops s id v which dealt at live left within =
       one_first = sum_same firsts s.views id v w at refl ∙ dealt.one_first;
       each = λ j u there. elim (at_set s.views id j w u there) [
         | inl here ↦
-            let P : Share → Type 0 = λ x. Holds (set s.views id w) x in
+            let P : Share → Type 0 = λ x. KeepsShare (set s.views id w) x in
             subst P here.1 own
         | inr away ↦ kept j u away.1
       ];
@@ -174,7 +174,7 @@ draw_deals loops s id v which dealt at live left within =
         (λ here. let after = word_here s.words (1 + which) (1 + loop) (n + 1) (omega arith) (omega arith) in omega arith)
         (λ apart. let after = word_else s.words (1 + which) (1 + loop) (n + 1) (λ same. apart (omega arith)) in omega arith)
 
-    own : Holds (set s.views id w) w
+    own : KeepsShare (set s.views id w) w
     own =
         let old = dealt.each id v at in
         record {
@@ -183,7 +183,7 @@ draw_deals loops s id v which dealt at live left within =
           empty = λ dead. absurd (false≢true (sym dead ∙ live));
         }
 
-    kept : (j : ℕ) (u : Share) → At s.views j u → Holds (set s.views id w) u
+    kept : (j : ℕ) (u : Share) → At s.views j u → KeepsShare (set s.views id w) u
     kept j u there =
         let old = dealt.each j u there in
         record {
@@ -205,7 +205,7 @@ draws_allowed loops slots id me which live left within s dealt same_slots at sma
     let here : At (set s.views id w) id w = set_here s.views id w (inside s.views id v at) in
     let loop : which ≡ 1 + which - 1 = sym (loop_of which) in
     let P : ℕ → Type 0 = λ k. Dealt loops (drawn_state s which id k w) in
-    let Q : ℕ → Type 0 = λ k. DrewEachOnce (drew v k n) in (
+    let Q : ℕ → Type 0 = λ k. HasEachOnce (drew v k n) in (
       w,
       keeps,
       tt,
@@ -245,7 +245,7 @@ lends_allowed loops id v live first few s dealt at =
       each = λ j u there. elim (at_end (set s.views id (lent v)) lent_share j u there) [
         | inl before ↦ elim (at_set s.views id j (lent v) u before) [
           | inl here ↦
-              let P : Share → Type 0 = λ x. Holds (set s.views id (lent v) ++ lent_share ∷ []) x in
+              let P : Share → Type 0 = λ x. KeepsShare (set s.views id (lent v) ++ lent_share ∷ []) x in
               subst P here.1 (record {
                 counted = λ is. (let sum = total is_lent refl in let count = counted.0 in omega arith, let longer = long in let length_is = counted.1 in omega arith);
                 within = omega arith;
@@ -260,7 +260,7 @@ lends_allowed loops id v live first few s dealt at =
               }
         ]
         | inr last ↦
-            let P : Share → Type 0 = λ x. Holds (set s.views id (lent v) ++ lent_share ∷ []) x in
+            let P : Share → Type 0 = λ x. KeepsShare (set s.views id (lent v) ++ lent_share ∷ []) x in
             subst P (sym last.1) (record { counted = λ is. absurd (false≢true is); within = omega arith; empty = λ dead. absurd (false≢true (sym dead)) })
       ];
     }
@@ -296,11 +296,11 @@ regains_allowed loops id v from w live first other_live not_first s dealt at apa
           let before = dealt.one_first in omega arith;
       each = λ j u there. elim (at_set (set s.views id r) from j used_up u there) [
         | inl here ↦
-            let P : Share → Type 0 = λ x. Holds after x in
+            let P : Share → Type 0 = λ x. KeepsShare after x in
             subst P here.1 (record { counted = λ is. absurd (false≢true is); within = omega arith; empty = λ dead. (refl, refl) })
         | inr other ↦ elim (at_set s.views id j r u other.1) [
           | inl here ↦
-              let P : Share → Type 0 = λ x. Holds after x in
+              let P : Share → Type 0 = λ x. KeepsShare after x in
               subst P here.1 (record {
                 counted = λ is. (lent_now, let longer = long in let length_is = counted.1 in omega arith);
                 within = old.within;
@@ -351,9 +351,9 @@ deal_begins loops = record {
   one_first = refl;
   each = each_first;
 } where
-  first_holds : Holds (whole_share ∷ []) whole_share
+  first_holds : KeepsShare (whole_share ∷ []) whole_share
   first_holds = record { counted = λ is. (refl, refl); within = omega arith; empty = λ dead. absurd (false≢true (sym dead)) }
 
-  each_first : (id : ℕ) (v : Share) → At (whole_share ∷ []) id v → Holds (whole_share ∷ []) v
-  each_first zero v there = let P : Share → Type 0 = λ u. Holds (whole_share ∷ []) u in subst P (some-injective whole_share v there) first_holds
+  each_first : (id : ℕ) (v : Share) → At (whole_share ∷ []) id v → KeepsShare (whole_share ∷ []) v
+  each_first zero v there = let P : Share → Type 0 = λ u. KeepsShare (whole_share ∷ []) u in subst P (some-injective whole_share v there) first_holds
   each_first (suc id) v there = absurd (some-ne-none v (sym there))

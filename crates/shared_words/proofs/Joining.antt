@@ -13,7 +13,7 @@ use Rattle.step_history.specs.History.{Name, name_eq, item, of, was_split, is_ou
 use Rattle.step_history.proofs.Names.{same_name, is_same_name, other_name}
 use Rattle.step_history.proofs.Folds.{of-append, value_more, holder_more, legal_more, out_stays, out_is_split, unborn_more, others_split, was_split_more, came_home_more}
 use Rattle.shared_words.specs.declared.view.View.{View}
-use Rattle.shared_words.specs.Views.{met, spent, split_number}
+use Rattle.shared_words.specs.Views.{after_meeting, spent, split_number}
 use Rattle.shared_words.specs.Rule.{mutex_word, HasLive, HasOut, Lives, Sits, Explains, Kept}
 use Rattle.shared_words.proofs.Seats.{At, at_within, same_at, names_apart, shown_own, shown_other}
 use Rattle.shared_words.proofs.Splitting.{not_itself}
@@ -49,21 +49,21 @@ module _ (log : List Item) (seat : Name → ℕ) (views : List View) (id : ℕ) 
   x = item v.name (Home number)
 
   abbrev after : List View
-  after = set (set views id (met v w)) from spent
+  after = set (set views id (after_meeting v w)) from spent
 
   own_stays : moved seat from id v.name ≡ id
   own_stays = not_moved seat from id v.name (λ same. m.apart (sym same ∙ m.lives.sits)) ∙ m.lives.sits
 
-  met_there : At after id (met v w)
+  met_there : At after id (after_meeting v w)
   met_there =
-      set_else (set views id (met v w)) from id spent (λ same. m.apart (sym same))
-      ∙ set_here views id (met v w) (at_within views id v m.at)
+      set_else (set views id (after_meeting v w)) from id spent (λ same. m.apart (sym same))
+      ∙ set_here views id (after_meeting v w) (at_within views id v m.at)
 
   was_number : was_split v.name number log ≡ true
   was_number = let P : Name → Type 0 = λ n. is_out n log ≡ true in out_is_split number v.name log (subst P m.child m.comes.out)
 
   -- what a live hand has it has still, but for the one that comes home
-  live_moves : (q : Name) (P : View → Type 0) → HasLive seat views q P → (P w → ⊥) → (v.name ≡ q → P v → P (met v w)) → HasLive (moved seat from id) after q P
+  live_moves : (q : Name) (P : View → Type 0) → HasLive seat views q P → (P w → ⊥) → (v.name ≡ q → P v → P (after_meeting v w)) → HasLive (moved seat from id) after q P
   live_moves q P has nothing keeps = dite (ℕ_discrete (seat q) from)
       (λ here.
       let Was : ℕ → Type 0 = λ j. At views j has.view in
@@ -72,11 +72,11 @@ module _ (log : List Item) (seat : Name → ℕ) (views : List View) (id : ℕ) 
       (λ away. dite (ℕ_discrete (seat q) id)
       (λ own.
       let Was : ℕ → Type 0 = λ j. At views j has.view in
-      let There : ℕ → Type 0 = λ j. At after j (met v w) in
+      let There : ℕ → Type 0 = λ j. At after j (after_meeting v w) in
       let same : has.view ≡ v = same_at views id has.view v (subst Was own has.there) m.at in
       let named : v.name ≡ q = ap (λ (u : View). u.name) (sym same) ∙ has.named in
       record {
-        view = met v w;
+        view = after_meeting v w;
         there = subst There (sym (not_moved seat from id q away ∙ own)) met_there;
         live = m.live;
         named = named;
@@ -87,7 +87,7 @@ module _ (log : List Item) (seat : Name → ℕ) (views : List View) (id : ℕ) 
       record {
         view = has.view;
         there = subst There (sym (not_moved seat from id q away))
-            (set_else (set views id (met v w)) from (seat q) spent away ∙ (set_else views id (seat q) (met v w) else ∙ has.there));
+            (set_else (set views id (after_meeting v w)) from (seat q) spent away ∙ (set_else views id (seat q) (after_meeting v w) else ∙ has.there));
         live = has.live;
         named = has.named;
         has = has.has;
@@ -117,7 +117,7 @@ module _ (log : List Item) (seat : Name → ℕ) (views : List View) (id : ℕ) 
       ∙ (append-nil (cond (seat name == id) (of name log) [])
       ∙ ap (λ (n : ℕ). cond (n == id) (of name log) []) (sym (not_moved seat from id name away)))))
 
-  met_lives : Lives (log ++ x ∷ []) (moved seat from id) after id (met v w)
+  met_lives : Lives (log ++ x ∷ []) (moved seat from id) after id (after_meeting v w)
   met_lives = record {
     sits = own_stays;
     out = out_stays v.name log x m.lives.out (λ k p is. never k p is);
@@ -141,7 +141,7 @@ module _ (log : List Item) (seat : Name → ℕ) (views : List View) (id : ℕ) 
         let P : ℕ → Type 0 = λ k. v.splits ≤ k in
         false≢true (sym (m.lives.fresh number (subst P (sym same) late)).0 ∙ was_number)
 
-  met_sits : Sits log seat views id v → Sits log seat views from w → Sits (log ++ x ∷ []) (moved seat from id) after id (met v w)
+  met_sits : Sits log seat views id v → Sits log seat views from w → Sits (log ++ x ∷ []) (moved seat from id) after id (after_meeting v w)
   met_sits one other = record {
     shown = λ name. shown_own (moved seat from id) id v.name (Home number) log (v.items ++ w.items) name own_stays (both_shown name (one.shown name) (other.shown name));
     lives = λ live. met_lives;
@@ -203,11 +203,11 @@ module _ (log : List Item) (seat : Name → ℕ) (views : List View) (id : ℕ) 
         (nowhere w.held mutex m.holds_none) (λ named held. held);
     unborn = unborn_more log x m.lives.out keeps.unborn;
     seated = λ name. at name (seat name == from);
-    each = λ j u there. elim (at_set (set views id (met v w)) from j spent u there) [
+    each = λ j u there. elim (at_set (set views id (after_meeting v w)) from j spent u there) [
       | inl here ↦
           let P : ℕ × View → Type 0 = λ z. Sits (log ++ x ∷ []) (moved seat from id) after z.0 z.1 in
           subst P (λ i. (sym here.0 i, here.1 i)) spent_sits
-      | inr away ↦ elim (at_set views id j (met v w) u away.1) [
+      | inr away ↦ elim (at_set views id j (after_meeting v w) u away.1) [
         | inl here ↦
             let P : ℕ × View → Type 0 = λ z. Sits (log ++ x ∷ []) (moved seat from id) after z.0 z.1 in
             subst P (λ i. (sym here.0 i, here.1 i)) (met_sits (keeps.each id v m.at) (keeps.each from w m.from_at))
@@ -216,16 +216,16 @@ module _ (log : List Item) (seat : Name → ℕ) (views : List View) (id : ℕ) 
     ];
   } where
     long : length after ≡ length views
-    long = length-set (set views id (met v w)) from spent ∙ length-set views id (met v w)
+    long = length-set (set views id (after_meeting v w)) from spent ∙ length-set views id (after_meeting v w)
 
     at : (name : Name) (b : Bool) → cond b id (seat name) < length after
     at name true = let within = at_within views id v m.at in let same = long in omega arith
     at name false = let within = keeps.seated name in let same = long in omega arith
 
 pub joins_allowed : (elements id : ℕ) (v : View) (from : ℕ) (w : View) → v.live ≡ true → w.live ≡ true → w.name ≡ split_number w.name ∷ v.name → w.out ≡ [] → w.held ≡ []
-    → Joins (Kept elements) id v from w (met v w) spent
+    → Joins (Kept elements) id v from w (after_meeting v w) spent
 joins_allowed elements id v from w live other_live child none_out holds_none s kept at apart other_at =
-    let from_at : At s.views from w = sym (set_else s.views id from (met v w) apart) ∙ other_at in
+    let from_at : At s.views from w = sym (set_else s.views id from (after_meeting v w) apart) ∙ other_at in
     let m : Meeting kept.log kept.seat s.views id v from w = record {
       at = at;
       live = live;

@@ -52,13 +52,13 @@ abbrev pub regained : Share → Share → Share
 regained v w = record v { out = v.out - 1; drawn = v.drawn ++ w.drawn }
 
 -- it is the first hand, and all others are joined
-pub record HasAll (v : Share) : Type 0 where
+pub record IsFirstAlone (v : Share) : Type 0 where
   pub first : v.first ≡ true
   pub none_out : v.out ≡ 0
 
 -- of each loop the numbers below some number were drawn, each once
-abbrev pub DrewEachOnce : Share → Type 0
-DrewEachOnce v = (loop : ℕ) → AreEachOnce (numbers loop v.drawn)
+abbrev pub HasEachOnce : Share → Type 0
+HasEachOnce v = (loop : ℕ) → AreEachOnce (numbers loop v.drawn)
 
 abbrev Seen : Type 0
 Seen = Me (Unit {0}) Share
@@ -66,12 +66,12 @@ Seen = Me (Unit {0}) Share
 -- the number found was drawn for the word's loop
 pub record Drawing (step : Step (Unit {0})) (me : Seen) (found : ℕ) (after : Seen) : Type 0 where
   pub drawn : after ≡ (drew me.0 (step.word - 1) found, me.1)
-  pub all : HasAll me.0 → DrewEachOnce (drew me.0 (step.word - 1) found)
+  pub all : IsFirstAlone me.0 → HasEachOnce (drew me.0 (step.word - 1) found)
 
 -- nothing happened, and who has all knows it
 pub record Looking (step : Step (Unit {0})) (me : Seen) (found : ℕ) (after : Seen) : Type 0 where
   pub same : after ≡ me
-  pub all : HasAll me.0 → DrewEachOnce me.0
+  pub all : IsFirstAlone me.0 → HasEachOnce me.0
 
 abbrev pub one_if : Bool → ℕ
 one_if true = 1
@@ -92,7 +92,7 @@ abbrev pub budget : Share → ℕ
 budget v = length v.drawn + v.left
 
 -- the share of one seat
-pub record Holds (views : List Share) (v : Share) : Type 0 where
+pub record KeepsShare (views : List Share) (v : Share) : Type 0 where
   pub counted : v.first ≡ true → (sum_by is_lent views ≡ v.out) × (length views ≡ v.splits + 1)
   pub within : v.splits ≤ SPLITS
   pub empty : v.live ≡ false → (v.drawn ≡ []) × (v.first ≡ false)
@@ -106,4 +106,4 @@ pub record Dealt (loops : ℕ) (s : State (Unit {0}) Share) : Type 0 where
   pub allowed : sum_by budget s.views ≤ DRAWS * length s.views
   pub short : length s.views ≤ SPLITS + 1
   pub one_first : sum_by (λ (v : Share). one_if v.first) s.views ≡ 1
-  pub each : (id : ℕ) (v : Share) → get_elem? s.views id ≡ some v → Holds s.views v
+  pub each : (id : ℕ) (v : Share) → get_elem? s.views id ≡ some v → KeepsShare s.views v

@@ -60,8 +60,8 @@ abbrev pub without : ℕ → List ℕ → List ℕ
 without number = filter (λ (k : ℕ). not (k == number))
 
 -- another hand was joined to it
-abbrev pub met : View → View → View
-met v w = record v {
+abbrev pub after_meeting : View → View → View
+after_meeting v w = record v {
   out = without (split_number w.name) v.out;
   items = v.items ++ w.items ++ item v.name (Home (split_number w.name)) ∷ [];
 }

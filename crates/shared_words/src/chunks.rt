@@ -1,7 +1,7 @@
 //! Counters from which threads draw numbers.
 ghost use Rattle.std.specs.Prelude.{◌≡◌, ◌+◌, ◌<◌, ◌≤◌, true, false, IfOk};
 ghost use Rattle.shared_words.specs.Handles.{ChunksValue, Belongs, hand_with, with_view};
-ghost use Rattle.shared_words.specs.Draws.{SPLITS, whole_share, lent_share, drew, lent, regained, HasAll, DrewEachOnce};
+ghost use Rattle.shared_words.specs.Draws.{SPLITS, whole_share, lent_share, drew, lent, regained, IsFirstAlone, HasEachOnce};
 
 use crate::chunk_hand::ChunkHand;
 use crate::chunk_rule::{Deal, Draws, Lends, Looks, Regains};
@@ -50,7 +50,7 @@ impl Chunks {
         requires which { which < self.now.loops }
         requires left { 0 < hand.old.view.left }
         ensures drawn { hand.new ≡ with_view hand.old (drew hand.old.view which result) }
-        ensures all { HasAll hand.new.view → DrewEachOnce hand.new.view }
+        ensures all { IsFirstAlone hand.new.view → HasEachOnce hand.new.view }
     {
         let shared = &self.table.shared;
         let mut seat = hand.take();
@@ -80,7 +80,7 @@ impl Chunks {
         requires other { Belongs other self.now.table }
         requires split { other.view.first ≡ false }
         ensures both { hand.new ≡ with_view hand.old (regained hand.old.view other.view) }
-        ensures all { HasAll hand.new.view → DrewEachOnce hand.new.view }
+        ensures all { IsFirstAlone hand.new.view → HasEachOnce hand.new.view }
     {
         let shared = &self.table.shared;
         let mut seat = hand.take();

@@ -68,9 +68,9 @@ impl Split<View> for Parts {
 pub(crate) struct Meets;
 
 impl Join<View> for Meets {
-    ghost use Rattle.shared_words.specs.Views.{met, spent};
+    ghost use Rattle.shared_words.specs.Views.{after_meeting, spent};
 
-    ghost both = { met };
+    ghost both = { after_meeting };
 
     ghost spent = { spent };
 }

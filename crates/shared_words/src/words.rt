@@ -5,7 +5,7 @@ ghost use Rattle.step_history.specs.History.{HasHistory};
 ghost use Rattle.step_history.specs.declared.item.Deed.TheVariants.{Read, Write};
 ghost use Rattle.shared_words.specs.Handles.{WordsValue, Belongs, IsHome, hand_with, with_view};
 ghost use Rattle.shared_words.specs.Rule.{ELEMENTS};
-ghost use Rattle.shared_words.specs.Views.{newcomer, did, locked, unlocked, rest, parted, child, met};
+ghost use Rattle.shared_words.specs.Views.{newcomer, did, locked, unlocked, rest, parted, child, after_meeting};
 
 use crate::hand::Hand;
 use crate::rule::{Announces, Law, Loads, Locks, Meets, Parts, Stores, Unlocks};
@@ -164,7 +164,7 @@ impl Words {
         requires hand { Belongs hand.old self.now.table }
         requires other { Belongs other self.now.table }
         requires home { IsHome hand.old other }
-        ensures { hand.new ≡ with_view hand.old (met hand.old.view other.view) }
+        ensures { hand.new ≡ with_view hand.old (after_meeting hand.old.view other.view) }
     {
         let shared = &self.table.shared;
         let mut seat = hand.take();
