@@ -63,6 +63,14 @@ fn runs_meet_at_a_common_multiple_in_both(rt: HostRuntime) -> Result<(), Fail> {
 }
 
 #[test]
+fn eight_bytes_meet_their_last_and_not_the_next(rt: HostRuntime) -> Result<(), Fail> {
+    let eight = run_of(100, 0, 1, 8).ok_or("no run")?;
+    assert!(rt; overlap(&eight, &run_of(107, 0, 1, 1).ok_or("no run")?));
+    assert!(rt; !overlap(&eight, &run_of(108, 0, 1, 1).ok_or("no run")?));
+    Ok(())
+}
+
+#[test]
 fn long_runs_of_even_strides_meet_at_even_bytes(rt: HostRuntime) -> Result<(), Fail> {
     let long = run_of(0, 67_108_864, 4_194_304, 1).ok_or("no run")?;
     assert!(rt; !overlap(&long, &run_of(1, 67_108_862, 4_194_304, 1).ok_or("no run")?));
