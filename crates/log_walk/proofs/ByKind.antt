@@ -24,54 +24,37 @@ held_after-push held (s ∷ records) r = held_after-push (held_after_kind s.kind
 abbrev pub Placed : LogTask → List Record → Record → Type 0
 Placed task before r = InPlace r.kind (length before + 1) task.records
 
--- a record that only has its place
-read_below : (task : LogTask) (before : List Record) (r : Record) (n : ℕ) → r.kind ≡ Read → Placed task before r
-    → (rule : RecordWhy) → record_rank rule < n → Breaks task before r rule → ⊥
-read_below task before r n kind place log.EndEarly low broken = place.early broken.0 broken.1
-read_below task before r n kind place log.EndMissing low broken = place.missing broken.0 broken.1
-read_below task before r n kind place log.LockTwice low broken = cc (kind, broken.0)
-read_below task before r n kind place log.LocksDeep low broken = cc (kind, broken.0)
-read_below task before r n kind place log.UnlockOther low broken = cc (kind, broken.0)
-read_below task before r n kind place log.RootBarrier low broken = cc (kind, broken.0)
-read_below task before r n kind place log.BarrierLocked low broken = cc (kind, broken.0)
-read_below task before r n kind place log.RegionLocked low broken = cc (kind, broken.0)
-read_below task before r n kind place log.LockOpen low broken = cc (kind, broken.0)
-read_below task before r n kind place log.BarrierCount low broken = cc (kind, broken.0)
-read_below task before r n kind place log.RegionRows low (inl fork) = cc (kind, fork.0)
-read_below task before r n kind place log.RegionRows low (inr end_of) = cc (kind, end_of.0)
-read_below task before r n kind place _ low broken = absurd broken
+-- a kind of record that has no rule but its place
+abbrev IsPlain : Kind → Type 0
+IsPlain Read = Unit {0}
+IsPlain Write = Unit {0}
+IsPlain Chunk = Unit {0}
+IsPlain Lock = ⊥
+IsPlain Unlock = ⊥
+IsPlain Barrier = ⊥
+IsPlain Region = ⊥
+IsPlain End = ⊥
 
-write_below : (task : LogTask) (before : List Record) (r : Record) (n : ℕ) → r.kind ≡ Write → Placed task before r
-    → (rule : RecordWhy) → record_rank rule < n → Breaks task before r rule → ⊥
-write_below task before r n kind place log.EndEarly low broken = place.early broken.0 broken.1
-write_below task before r n kind place log.EndMissing low broken = place.missing broken.0 broken.1
-write_below task before r n kind place log.LockTwice low broken = cc (kind, broken.0)
-write_below task before r n kind place log.LocksDeep low broken = cc (kind, broken.0)
-write_below task before r n kind place log.UnlockOther low broken = cc (kind, broken.0)
-write_below task before r n kind place log.RootBarrier low broken = cc (kind, broken.0)
-write_below task before r n kind place log.BarrierLocked low broken = cc (kind, broken.0)
-write_below task before r n kind place log.RegionLocked low broken = cc (kind, broken.0)
-write_below task before r n kind place log.LockOpen low broken = cc (kind, broken.0)
-write_below task before r n kind place log.BarrierCount low broken = cc (kind, broken.0)
-write_below task before r n kind place log.RegionRows low (inl fork) = cc (kind, fork.0)
-write_below task before r n kind place log.RegionRows low (inr end_of) = cc (kind, end_of.0)
-write_below task before r n kind place _ low broken = absurd broken
+plain_of : (kind : Kind) → (kind ≡ Read) ⊎ ((kind ≡ Write) ⊎ (kind ≡ Chunk)) → IsPlain kind
+plain_of kind (inl is) = subst IsPlain (sym is) tt
+plain_of kind (inr (inl is)) = subst IsPlain (sym is) tt
+plain_of kind (inr (inr is)) = subst IsPlain (sym is) tt
 
-chunk_below : (task : LogTask) (before : List Record) (r : Record) (n : ℕ) → r.kind ≡ Chunk → Placed task before r
+plain_below : (task : LogTask) (before : List Record) (r : Record) (n : ℕ) → IsPlain r.kind → Placed task before r
     → (rule : RecordWhy) → record_rank rule < n → Breaks task before r rule → ⊥
-chunk_below task before r n kind place log.EndEarly low broken = place.early broken.0 broken.1
-chunk_below task before r n kind place log.EndMissing low broken = place.missing broken.0 broken.1
-chunk_below task before r n kind place log.LockTwice low broken = cc (kind, broken.0)
-chunk_below task before r n kind place log.LocksDeep low broken = cc (kind, broken.0)
-chunk_below task before r n kind place log.UnlockOther low broken = cc (kind, broken.0)
-chunk_below task before r n kind place log.RootBarrier low broken = cc (kind, broken.0)
-chunk_below task before r n kind place log.BarrierLocked low broken = cc (kind, broken.0)
-chunk_below task before r n kind place log.RegionLocked low broken = cc (kind, broken.0)
-chunk_below task before r n kind place log.LockOpen low broken = cc (kind, broken.0)
-chunk_below task before r n kind place log.BarrierCount low broken = cc (kind, broken.0)
-chunk_below task before r n kind place log.RegionRows low (inl fork) = cc (kind, fork.0)
-chunk_below task before r n kind place log.RegionRows low (inr end_of) = cc (kind, end_of.0)
-chunk_below task before r n kind place _ low broken = absurd broken
+plain_below task before r n plain place log.EndEarly low broken = place.early broken.0 broken.1
+plain_below task before r n plain place log.EndMissing low broken = place.missing broken.0 broken.1
+plain_below task before r n plain place log.LockTwice low broken = subst IsPlain broken.0 plain
+plain_below task before r n plain place log.LocksDeep low broken = subst IsPlain broken.0 plain
+plain_below task before r n plain place log.UnlockOther low broken = subst IsPlain broken.0 plain
+plain_below task before r n plain place log.RootBarrier low broken = subst IsPlain broken.0 plain
+plain_below task before r n plain place log.BarrierLocked low broken = subst IsPlain broken.0 plain
+plain_below task before r n plain place log.RegionLocked low broken = subst IsPlain broken.0 plain
+plain_below task before r n plain place log.LockOpen low broken = subst IsPlain broken.0 plain
+plain_below task before r n plain place log.BarrierCount low broken = subst IsPlain broken.0 plain
+plain_below task before r n plain place log.RegionRows low (inl fork) = subst IsPlain fork.0 plain
+plain_below task before r n plain place log.RegionRows low (inr end_of) = subst IsPlain end_of.0 plain
+plain_below task before r n plain place _ low broken = absurd broken
 
 -- a Lock
 lock_below : (task : LogTask) (before : List Record) (r : Record) (n : ℕ) → r.kind ≡ Lock → Placed task before r
@@ -256,15 +239,6 @@ kept : (before : List Record) (r : Record) (held now : List ℕ) (kind : Kind) �
 kept before r held now kind is_kind is now_is =
     now_is ∙ ap (λ (hs : List ℕ). held_after_kind kind r.addr hs) is ∙ ap (λ (k : Kind). held_after_kind k r.addr (held_after [] before)) (sym is_kind) ∙ sym (held_after-push [] before r)
 
-pub read_none : (task : LogTask) (before : List Record) (r : Record) (held : List ℕ) → held ≡ held_after [] before → r.kind ≡ Read → Placed task before r → BreaksNone task before r × Keeps before r held
-read_none task before r held is kind place = (none_of task before r (read_below task before r last_rank kind place), kept before r held held Read kind is refl)
-
-pub write_none : (task : LogTask) (before : List Record) (r : Record) (held : List ℕ) → held ≡ held_after [] before → r.kind ≡ Write → Placed task before r → BreaksNone task before r × Keeps before r held
-write_none task before r held is kind place = (none_of task before r (write_below task before r last_rank kind place), kept before r held held Write kind is refl)
-
-pub chunk_none : (task : LogTask) (before : List Record) (r : Record) (held : List ℕ) → held ≡ held_after [] before → r.kind ≡ Chunk → Placed task before r → BreaksNone task before r × Keeps before r held
-chunk_none task before r held is kind place = (none_of task before r (chunk_below task before r last_rank kind place), kept before r held held Chunk kind is refl)
-
 pub lock_none : (task : LogTask) (before : List Record) (r : Record) (held now : List ℕ) → held ≡ held_after [] before → r.kind ≡ Lock → Placed task before r
     → Locks held r.addr now → BreaksNone task before r × Keeps before r now
 lock_none task before r held now is kind place locks = (
@@ -339,8 +313,11 @@ end_told result task before r held regions barriers is count passed kind place t
     (subst (λ (n : ℕ). MatchOption result (MayEnd held task (region_count before) n) (CantEnd held task (region_count before) n)) passed
     (subst (λ (n : ℕ). MatchOption result (MayEnd held task n barriers) (CantEnd held task n barriers)) count told))
 
+plain_kept : (before : List Record) (r : Record) (held : List ℕ) → held ≡ held_after [] before → (r.kind ≡ Read) ⊎ ((r.kind ≡ Write) ⊎ (r.kind ≡ Chunk)) → Keeps before r held
+plain_kept before r held is (inl kind) = kept before r held held Read kind is refl
+plain_kept before r held is (inr (inl kind)) = kept before r held held Write kind is refl
+plain_kept before r held is (inr (inr kind)) = kept before r held held Chunk kind is refl
+
 pub other_told : (task : LogTask) (before : List Record) (r : Record) (held : List ℕ) → held ≡ held_after [] before → (r.kind ≡ Read) ⊎ ((r.kind ≡ Write) ⊎ (r.kind ≡ Chunk)) → Placed task before r
     → BreaksNone task before r × Keeps before r held
-other_told task before r held is (inl kind) place = read_none task before r held is kind place
-other_told task before r held is (inr (inl kind)) place = write_none task before r held is kind place
-other_told task before r held is (inr (inr kind)) place = chunk_none task before r held is kind place
+other_told task before r held is kinds place = (none_of task before r (plain_below task before r last_rank (plain_of r.kind kinds) place), plain_kept before r held is kinds)

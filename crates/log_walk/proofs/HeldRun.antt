@@ -1,12 +1,10 @@
 -- A folder of bytes that is bad nowhere holds a run.
-use Rattle.std.proofs.Common.{◌≡◌, ◌≢◌, ◌⊎◌, inl, inr, ℕ, zero, suc, ◌+◌, ◌<◌, ◌≤◌, List, [], ◌∷◌, ◌++◌, length, get_or, take, drop, map, Option, Some, None, refl, sym, ap, ap₂, subst, ◌∙◌, arith, append_assoc, length-take}
+use Rattle.std.proofs.Common.{◌≡◌, ◌⊎◌, inl, inr, ℕ, zero, suc, ◌+◌, ◌<◌, ◌≤◌, List, [], ◌∷◌, ◌++◌, length, get_or, take, drop, map, Option, Some, None, refl, sym, ap, ap₂, subst, ◌∙◌, arith, append_assoc, length-take}
 use Rattle.std.specs.Prelude.{slice_get, All, Contains}
-use Rattle.std.specs.List.{flat_map}
 use Rattle.std.proofs.lemmas.Bool.{cases_lt}
 use Rattle.std.proofs.lemmas.List.{append-nil, length-append, take-append-drop}
 use Rattle.std.proofs.lemmas.List.Elements.{All-nil, All-cons, All-push}
 use Rattle.std.proofs.lemmas.Option.{none-some, same_Some}
-use Rattle.sw_base.specs.declared.path.Step.{Step}
 use Rattle.sw_base.specs.declared.files.TheConstants.{LOG_HEADER}
 use Rattle.sw_base.specs.Environment.{Files}
 use Rattle.sw_base.specs.Names.{log_name}
@@ -16,13 +14,13 @@ use Rattle.log_format.specs.declared.record.Why.{Why}
 use Rattle.log_format.specs.declared.record.Why.TheVariants as why
 use Rattle.log_format.specs.Spelling.{spelling, log_bytes}
 use Rattle.log_format.specs.Table.{IsTabled, IsFirstFault}
-use Rattle.log_format.proofs.Deciding.{Decided, stable, equal, at_most}
+use Rattle.log_format.proofs.Deciding.{Decided, stable, equal}
 use Rattle.log_format.proofs.DecidedRecords.{SpellsSome, spells_some}
 use Rattle.log_format.proofs.Logs.{log_bytes-append}
 use Rattle.race_model.specs.declared.why.RecordWhy.{RecordWhy}
 use Rattle.race_model.specs.declared.why.RecordWhy.TheVariants as log
-use Rattle.race_model.specs.BadPlace.{BadPlace, bad_record, missing_log}
-use Rattle.race_model.specs.FirstBad.{HoldsLogs, HoldsTrace, row_of, rows_of}
+use Rattle.race_model.specs.BadPlace.{bad_record, missing_log}
+use Rattle.race_model.specs.FirstBad.{HoldsLogs, HoldsTrace, rows_of}
 use Rattle.race_model.specs.IndexFault.{IsIndex}
 use Rattle.race_model.specs.LogFault.{LogTask, IsAt, IsLogFault, IsRead, IsWholeLog}
 use Rattle.race_model.specs.Row.{Row}
