@@ -1,16 +1,14 @@
 -- What a run answers and leaves, by what its logs were stored or sealed to.
-use Rattle.std.proofs.Common.{◌≡◌, refl, sym, ap, ap₂, subst, ◌∙◌, inl, inr, ◌⊎◌, ℕ, ◌≤◌, List, [], ◌∷◌, map, length, Option, Some, Result, Ok, Err, IfOk, OnErr, String, string_bytes, true, Contains, append-nil, arith}
+use Rattle.std.proofs.Common.{◌≡◌, refl, sym, ap, subst, ◌∙◌, inl, inr, ◌⊎◌, ℕ, ◌≤◌, List, [], map, length, Option, Some, Result, Ok, Err, IfOk, OnErr, String, string_bytes, true, Contains, append-nil, arith}
 use Rattle.std.specs.Prelude.{All, is_some}
 use Rattle.std.specs.declared.alloc.Global.{Global}
-use Rattle.std.proofs.lemmas.List.{get_or-map, length-map}
 use Rattle.std.proofs.lemmas.List.Elements.{All-map, All-weaker}
 use Rattle.std.proofs.lemmas.Option.{none-some, same_Some}
 use Rattle.std.proofs.lemmas.Simd.{map-map}
 use Rattle.sw_base.specs.declared.path.Step.{Step}
 use Rattle.sw_base.specs.declared.trouble.Memory.{Memory}
 use Rattle.sw_base.specs.declared.trouble.Trouble.{Trouble}
-use Rattle.sw_base.specs.Environment.{Content, Rose, Text, with_put}
-use Rattle.sw_base.specs.Names.{index_name}
+use Rattle.sw_base.specs.Environment.{Content, Rose, Text}
 use Rattle.race_model.specs.FirstBad.{IsBad, rows_of}
 use Rattle.race_model.specs.IndexFault.{AreRows}
 use Rattle.race_model.specs.Row.{Row, index_bytes}
@@ -18,13 +16,11 @@ use Rattle.race_model.specs.Trace.{Trace, TaskLog, barrier_count}
 use Rattle.kernel_syntax.specs.FirstKind.{IsFirstKind}
 use Rattle.kernel_syntax.specs.Layout.{elements}
 use Rattle.kernel_syntax.specs.Program.{Program}
-use Rattle.kernel_model.specs.Folder.{paths_of}
 use Rattle.kernel_model.specs.State as model
-use Rattle.kernel_model.specs.Trace.{Ended, Ending, Stopped}
 use Rattle.team_runner.specs.declared.stop.Stop.{Stop}
 use Rattle.team_runner.specs.declared.stop.Stop.TheVariants.{DivZero, Index, LogFull}
 use Rattle.team_runner.specs.declared.stop.Stop.TheVariants as stop
-use Rattle.sw_base.specs.HandedLog.{IsOwnLog, HandedLog, handed_log, SealsPrefix, with_sealed}
+use Rattle.sw_base.specs.HandedLog.{IsOwnLog, HandedLog, handed_log, SealsPrefix}
 use Rattle.team_runner.specs.Answer.{HasRun, HasStop, HasStoppedRun, HasTask, HasFaulty, HasPrefix, IsAhead, IsRun, whole_log}
 use Rattle.team_runner.specs.Answer as answered
 use Rattle.team_runner.specs.Stops.{StopsSo}

@@ -1,5 +1,5 @@
 -- What `run` answers, and what it leaves in the folder.
-use Rattle.std.specs.Prelude.{◌≡◌, ◌⊎◌, ℕ, List, [], ◌∷◌, ◌++◌, length, map, None, Some, IsSome, Contains}
+use Rattle.std.specs.Prelude.{◌≡◌, ◌⊎◌, ℕ, List, ◌++◌, length, map, None, Some, IsSome, Contains}
 use Rattle.sw_base.specs.declared.path.Step.{Step}
 use Rattle.sw_base.specs.Environment.{Files, Content, empty_text, with_put}
 use Rattle.sw_base.specs.HandedLog.{HandedLog, SealsPrefix, with_sealed}

@@ -1,6 +1,6 @@
 use Rattle.std.proofs.Common.{refl}
 use Rattle.run_command.specs.Begins.{RefusalDue}
-use Rattle.run_command.specs.declared.beginning.Refusal.TheVariants.{NoKernel, Refused, NotBuilt, IndexThere}
+use Rattle.run_command.specs.declared.beginning.Refusal.TheVariants.{NoKernel, NotBuilt, IndexThere}
 use Rattle.command_answer.proofs.Answering.{Tries-from_prints}
 use Rattle.run_command.proofs.beginning.refuse.Goals as goal
 
