@@ -4,7 +4,7 @@ use Rattle.sw_base.specs.Environment.{Content}
 use Rattle.sw_base.specs.Names.{index_name}
 use Rattle.kernel_syntax.specs.Program.{Program}
 use Rattle.run_command.specs.declared.beginning.Refusal.{Refusal}
-use Rattle.run_command.specs.declared.beginning.Refusal.TheVariants.{NoKernel, NotBuilt, IndexThere, Trouble}
+use Rattle.run_command.specs.declared.beginning.Refusal.TheVariants.{NoKernel, Refused, NotBuilt, IndexThere, Trouble}
 use Rattle.command_answer.specs.Answer.{IsFailure, Tries}
 use Rattle.run_command.specs.Begins.{IsRefusal, RefusalDue}
 use Rattle.run_command.specs.Ends.{EndDue, EndsRun}
@@ -17,7 +17,8 @@ module _ (rose : Type 0) (kernel dir : List ℕ) (size : ℕ) (old new : Content
   -- a text that is due of a refusal is due of `run`
   refusal_due : (why : Refusal) → IsRefusal old.held kernel dir why → new ≡ old → (status : ℕ) (text : List ℕ) → RefusalDue why status text → RunDue rose kernel dir size old new status text
   refusal_due NoKernel told same status text due = run.no_kernel told due.0 due.1 same
-  refusal_due NotBuilt told same status text due = run.not_built told.0 told.1 due.0 due.1 same
+  refusal_due (Refused line why) told same status text due = run.refused line why told due.0 due.1 same
+  refusal_due NotBuilt told same status text due = run.not_built told due.0 due.1 same
   refusal_due IndexThere told same status text due = run.index_there told.program told.holds told.there due.0 due.1 same
   refusal_due (Trouble trouble) told same status text due = absurd due
 

@@ -12,10 +12,13 @@ use Rattle.kernel_syntax.specs.FirstKind.{IsFirstKind}
 use Rattle.kernel_syntax.specs.Layout.{elements}
 use Rattle.kernel_syntax.specs.Program.{Program}
 use Rattle.kernel_model.specs.State as model
-use Rattle.kernel_reader.specs.KernelOf.{IsKernelOf}
+use Rattle.kernel_reader.specs.declared.fault.KernelWhy.{KernelWhy}
+use Rattle.kernel_reader.specs.declared.fault.ReadKernelFault.{ReadKernelFault}
+use Rattle.kernel_reader.specs.declared.fault.ReadKernelFault.TheVariants as read
+use Rattle.kernel_reader.specs.KernelOf.{IsKernelOf, IsFaultOf, HasNoKernel}
 use Rattle.team_runner.specs.Answer.{IsRun, HasStop, task_paths, whole_log}
 use Rattle.command_answer.specs.declared.status.TheConstants.{DONE, KERNEL_REFUSED, KERNEL_STOPPED, INDEX_THERE}
-use Rattle.run_command.specs.RunTexts.{no_kernel_text, not_built_text, index_exists_text, stopped_text, run_text}
+use Rattle.run_command.specs.RunTexts.{no_kernel_text, not_built_text, refused_text, index_exists_text, stopped_text, run_text}
 
 -- the file of this name holds the text of a kernel of the first kind
 pub record HoldsKernel (files : Files) (name : List ℕ) (program : Program) : Type 0 where
@@ -23,6 +26,13 @@ pub record HoldsKernel (files : Files) (name : List ℕ) (program : Program) : T
   pub held : files name ≡ Some text
   pub kernel : IsKernelOf text program
   pub first : IsFirstKind program
+
+-- the file of this name holds a text that has this fault
+pub record HoldsFault (files : Files) (name : List ℕ) (fault : ReadKernelFault) : Type 0 where
+  pub text : List ℕ
+  pub held : files name ≡ Some text
+  pub fault_is : IsFaultOf text fault
+  pub none : HasNoKernel text fault
 
 -- the named file holds such a kernel, and the folder has no index
 pub record CanRun (files : Files) (kernel dir : List ℕ) : Type 0 where
@@ -62,12 +72,13 @@ pub record StoppedRun (rose : Type 0) (program : Program) (dir : List ℕ) (size
   pub leaves : new ≡ with_sealed logs old
   pub text_is : text ≡ stopped_text path line why
 
--- What is due of `run`: there is no kernel, or none of the first kind; or the folder has an index; or the kernel stopped; or
+-- What is due of `run`: there is no kernel, or the text is refused at a line, or it is a kernel by the grammar but none of the first kind; or the folder has an index; or the kernel stopped; or
 -- the run ended.
 pub data RunDue (rose : Type 0) (kernel dir : List ℕ) (size : ℕ) (old new : Content) (status : ℕ) (text : List ℕ) : Type 0 where
   no_kernel : old.held kernel ≡ None → status ≡ KERNEL_REFUSED → text ≡ no_kernel_text → new ≡ old → RunDue rose kernel dir size old new status text
-  not_built : IsSome (old.held kernel) → ((program : Program) → HoldsKernel old.held kernel program → ⊥) → status ≡ KERNEL_REFUSED
-      → text ≡ not_built_text → new ≡ old → RunDue rose kernel dir size old new status text
+  refused : (line : ℕ) (why : KernelWhy) → HoldsFault old.held kernel (read.Refused line why) → status ≡ KERNEL_REFUSED → text ≡ refused_text line why → new ≡ old
+      → RunDue rose kernel dir size old new status text
+  not_built : HoldsFault old.held kernel read.NotBuilt → status ≡ KERNEL_REFUSED → text ≡ not_built_text → new ≡ old → RunDue rose kernel dir size old new status text
   index_there : (program : Program) → HoldsKernel old.held kernel program → IsSome (old.held (index_name dir)) → status ≡ INDEX_THERE
       → text ≡ index_exists_text → new ≡ old → RunDue rose kernel dir size old new status text
   stopped : (program : Program) → HoldsKernel old.held kernel program → old.held (index_name dir) ≡ None → status ≡ KERNEL_STOPPED

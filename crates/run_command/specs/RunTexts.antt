@@ -6,6 +6,8 @@ use Rattle.sw_base.specs.declared.path.Step.{Step}
 use Rattle.sw_base.specs.Names.{bare_log_name}
 use Rattle.race_model.specs.Trace.{TaskLog, Trace}
 use Rattle.kernel_syntax.specs.declared.syntax.Array.{Array}
+use Rattle.kernel_reader.specs.declared.fault.KernelWhy.{KernelWhy}
+use Rattle.kernel_reader.specs.declared.fault.KernelWhy.TheVariants as why
 use Rattle.kernel_model.specs.State.{Stop, DivZero, Index, LogFull}
 
 abbrev pub no_kernel_text : List ℕ
@@ -13,6 +15,29 @@ no_kernel_text = codes "no kernel\n"
 
 abbrev pub not_built_text : List ℕ
 not_built_text = codes "kernel not built\n"
+
+abbrev pub why_name : KernelWhy → List ℕ
+why_name why.Token = codes "Token"
+why_name why.Syntax = codes "Syntax"
+why_name why.Unknown = codes "Unknown"
+why_name why.Twice = codes "Twice"
+why_name why.Width = codes "Width"
+why_name why.Count = codes "Count"
+why_name why.NotUniform = codes "NotUniform"
+why_name why.BarrierHere = codes "BarrierHere"
+why_name why.WorkHere = codes "WorkHere"
+why_name why.CriticalOrder = codes "CriticalOrder"
+why_name why.ParallelHere = codes "ParallelHere"
+why_name why.Deep = codes "Deep"
+why_name why.Large = codes "Large"
+why_name why.NotUtf8 = codes "NotUtf8"
+
+-- a kernel is refused for this reason at this line
+abbrev pub refused_line : ℕ → List ℕ → List ℕ
+refused_line line why = codes "kernel line " ++ (decimal line ++ (codes ": " ++ (why ++ codes "\n")))
+
+abbrev pub refused_text : ℕ → KernelWhy → List ℕ
+refused_text line why = refused_line line (why_name why)
 
 abbrev pub index_exists_text : List ℕ
 index_exists_text = codes "index exists\n"

@@ -11,8 +11,9 @@ ghost use Rattle.run_command.specs.declared.beginning.Refusal.TheVariants as ref
 ghost use Rattle.sw_base.specs.declared.trouble.Trouble.TheVariants as trouble;
 ghost use Rattle.command_answer.specs.declared.status.TheConstants.{USAGE, READ_FAULT, WRITE_FAULT};
 
+use crate::run_texts::{refused, why_name};
 use command_answer::{INDEX_THERE, KERNEL_REFUSED, NO_MEMORY, READ_FAULT, print};
-use kernel_reader::{ReadKernelFault, read_kernel};
+use kernel_reader::{KernelWhy, ReadKernelFault, read_kernel};
 use kernel_syntax::Kernel;
 use std::alloc::Global;
 use sw_base::{Folder, Memory, Out, Trouble, index_name, read_file};
@@ -28,7 +29,9 @@ const INDEX_EXISTS: &[u8] = b"index exists\n";
 pub enum Refusal {
     /// There is no file of this name.
     NoKernel,
-    /// The file holds no kernel of the first kind.
+    /// The file's text is no kernel, first for this reason at this line.
+    Refused { line: u32, why: KernelWhy },
+    /// It is a kernel by the grammar, but the file holds none of the first kind.
     NotBuilt,
     /// The folder has an index.
     IndexThere,
@@ -55,7 +58,8 @@ impl From<ReadKernelFault> for Refusal {
 
     fn from(fault: ReadKernelFault) -> Self {
         match fault {
-            ReadKernelFault::Refused { .. } | ReadKernelFault::NotBuilt => Refusal::NotBuilt,
+            ReadKernelFault::Refused { line, why } => Refusal::Refused { line, why },
+            ReadKernelFault::NotBuilt => Refusal::NotBuilt,
             ReadKernelFault::Memory => Refusal::Trouble(Trouble::Memory),
         }
     }
@@ -101,6 +105,20 @@ pub fn begin<F: Folder>(
     }
 }
 
+/// Prints where and why a text is no kernel.
+fn refuse_text<O: Out>(alloc: Global, out: &mut O, line: u32, why: KernelWhy) -> u8
+    ensures answers { Tries (RefusalDue (refusal.Refused line why)) (O.written out.old) (O.written out.new) result }
+    ensures later { O.faults out.old ≤ O.faults out.new }
+    ensures write_fault { result ≡ WRITE_FAULT → Rose (O.faults out.old) (O.faults out.new) }
+    ensures no_read { result ≡ READ_FAULT → ⊥ }
+    ensures no_usage { result ≡ USAGE → ⊥ }
+{
+    match refused(alloc, line, why_name(why)) {
+        Ok(text) => print(alloc, out, text.as_bytes(), KERNEL_REFUSED),
+        Err(_) => NO_MEMORY,
+    }
+}
+
 /// Prints why no kernel runs.
 pub fn refuse<O: Out>(alloc: Global, out: &mut O, why: Refusal) -> u8
     ensures answers { Tries (RefusalDue why) (O.written out.old) (O.written out.new) result }
@@ -111,6 +129,7 @@ pub fn refuse<O: Out>(alloc: Global, out: &mut O, why: Refusal) -> u8
 {
     match why {
         Refusal::NoKernel => print(alloc, out, NO_KERNEL, KERNEL_REFUSED),
+        Refusal::Refused { line, why } => refuse_text(alloc, out, line, why),
         Refusal::NotBuilt => print(alloc, out, NOT_BUILT, KERNEL_REFUSED),
         Refusal::IndexThere => print(alloc, out, INDEX_EXISTS, INDEX_THERE),
         Refusal::Trouble(Trouble::Failed) => READ_FAULT,

@@ -4,8 +4,9 @@ ghost use Rattle.sw_base.specs.Names.{bare_log_name};
 ghost use Rattle.race_model.specs.FirstBad.{rows_of};
 ghost use Rattle.race_model.specs.Trace.{Trace};
 ghost use Rattle.kernel_syntax.specs.Layout.{ArePlaced};
-ghost use Rattle.run_command.specs.RunTexts.{count_lines, run_text, stop_line, sum_line, sum_of, values_of};
+ghost use Rattle.run_command.specs.RunTexts.{count_lines, refused_line, run_text, stop_line, sum_line, sum_of, values_of, why_name};
 
+use kernel_reader::KernelWhy;
 use kernel_syntax::Array;
 use log_index::Row;
 use std::alloc::Global;
@@ -17,6 +18,35 @@ pub fn stopped(alloc: Global, path: &Path, line: u32, why: &str) -> Result<Strin
 {
     let name = path.bare_name(alloc)?;
     Ok(format!(in alloc; "stopped {name} line {line}: {why}\n")?)
+}
+
+/// The name of a reason.
+pub fn why_name(why: KernelWhy) -> &'static str
+    ensures { result.now ≡ why_name why }
+{
+    match why {
+        KernelWhy::Token => "Token",
+        KernelWhy::Syntax => "Syntax",
+        KernelWhy::Unknown => "Unknown",
+        KernelWhy::Twice => "Twice",
+        KernelWhy::Width => "Width",
+        KernelWhy::Count => "Count",
+        KernelWhy::NotUniform => "NotUniform",
+        KernelWhy::BarrierHere => "BarrierHere",
+        KernelWhy::WorkHere => "WorkHere",
+        KernelWhy::CriticalOrder => "CriticalOrder",
+        KernelWhy::ParallelHere => "ParallelHere",
+        KernelWhy::Deep => "Deep",
+        KernelWhy::Large => "Large",
+        KernelWhy::NotUtf8 => "NotUtf8",
+    }
+}
+
+/// Where and why a kernel is refused.
+pub fn refused(alloc: Global, line: u32, why: &str) -> Result<String, Memory>
+    ensures { IfOk result (λ text. string_bytes text ≡ refused_line line why.now) }
+{
+    Ok(format!(in alloc; "kernel line {line}: {why}\n")?)
 }
 
 /// How many records the logs have in all.

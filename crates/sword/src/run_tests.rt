@@ -226,8 +226,13 @@ fn other_kernels_are_refused(rt: HostRuntime) -> Result<(), Fail> {
     let mut empty = MemFolder::new(alloc)?;
     let run = ["run", "k", "d", "4096"];
     answers(&rt, alloc, &mut empty, &run, KERNEL_REFUSED, "no kernel\n")?;
-    let text = "kernel not built\n";
-    for kernel in ["array a i64 4 main { a[0] = 1 }", "no kernel at all", ""] {
+    let rows = [
+        ("array a i64 4 main { a[0] = 1 }", "kernel not built\n"),
+        ("no kernel at all", "kernel line 1: Syntax\n"),
+        ("main {\n}\n$", "kernel line 3: Token\n"),
+        ("", "kernel line 1: Syntax\n"),
+    ];
+    for (kernel, text) in rows {
         let folder = after(&rt, alloc, kernel, "4096", KERNEL_REFUSED, text)?;
         assert!(rt; folder.file("d/t.swl").is_none());
     }

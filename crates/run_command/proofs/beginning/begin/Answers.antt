@@ -7,9 +7,10 @@ use Rattle.run_command.proofs.beginning.begin.Goals as goal
 pub returns-in_err-kernel-clause-refused : goal.returns-in_err-kernel-clause-refused
 returns-in_err-kernel-clause-refused g c =
     let p = err_from_is_err_and c.from_residual-in_err-kernel.result c.from_residual-in_err-kernel.ensures.1 in
+    let is = c.in_err-kernel.ensures.fault in
     let none = c.in_err-kernel.ensures.none in
     let read = rw c.in-Some.is at c.in_ok-text.ensures.read in
     let fault : ReadKernelFault = c.in_err-kernel.field-0.0 in
     rw (p.1, p.2) (λ content told.
     let held : content.held c.args.kernel.now ≡ Some c.deref.result.now = rw c.deref.ensures.value (read content told) in
-    text_refused content.held c.args.kernel.now c.args.dir.now c.deref.result.now fault held none)
+    text_refused content.held c.args.kernel.now c.args.dir.now c.deref.result.now fault held is none)

@@ -12,3 +12,6 @@ returns-in-NotBuilt-clause-answers g c = rw c.in-NotBuilt.is (Tries-from_prints 
 
 pub returns-in-IndexThere-clause-answers : goal.returns-in-IndexThere-clause-answers
 returns-in-IndexThere-clause-answers g c = rw c.in-IndexThere.is (Tries-from_prints (RefusalDue IndexThere) _ _ _ _ _ (refl, refl) c.print-in-IndexThere.ensures.prints)
+
+pub returns-in-Refused-clause-answers : goal.returns-in-Refused-clause-answers
+returns-in-Refused-clause-answers g c = rw c.in-Refused.is c.refuse_text.ensures.answers
