@@ -14,3 +14,5 @@ pub use running::run;
 
 #[cfg(test)]
 mod tests;
+#[cfg(test)]
+mod team_tests;

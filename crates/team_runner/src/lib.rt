@@ -16,6 +16,3 @@ mod value;
 
 pub use run::{Finished, Stopped, run_kernel};
 pub use stop::Stop;
-
-#[cfg(test)]
-mod tests;

@@ -2,13 +2,13 @@
 //! the gate sees.
 ghost use Rattle.team_runner.specs.Ready.{IsBufferSize};
 
-use crate::{Finished, Stop, Stopped, run_kernel};
 use kernel_reader::read_kernel;
 use std::alloc::Global;
 use std::process::Abort;
 use std::sync::atomic::{AtomicU64, Ordering};
 use std::test::Fail;
 use sw_base::{Folder, Gate, MemFolder, MemLog, NoGate, Path, Trouble};
+use team_runner::{Finished, Stop, Stopped, run_kernel};
 
 // Each of two lanes adds 1 to every other element.
 const COUNTING: &str = "array a i64 8
