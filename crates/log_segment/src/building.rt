@@ -10,8 +10,8 @@ ghost use Rattle.race_model.specs.Trace.{logs_of};
 ghost use Rattle.log_segment.specs.Intervals.{IsSegmentOf, AreSegments, task_of};
 ghost use Rattle.log_segment.specs.Stack.{HasFork};
 
-use crate::task_records::add_task;
 use crate::segment::{Segment, TaskRecords};
+use crate::task_records::add_task;
 use span_label::Label;
 use std::alloc::Global;
 use sw_base::{Memory, Path};

@@ -4,9 +4,9 @@
 #![tactic(auto)]
 
 mod building;
-mod task_records;
-mod segment;
 mod open_interval;
+mod segment;
+mod task_records;
 
 pub use building::segments;
 pub use segment::{Segment, TaskRecords};

@@ -8,8 +8,8 @@ ghost use Rattle.log_segment.specs.Intervals.{task_of};
 ghost use Rattle.log_segment.specs.Walking.{AddsSegments, AreForks, Follows, IsTaskLogFrom, IsNextOf, IsOwnAfter, MayAllCome, MayCome, begun_after, ended_by, event_after};
 ghost use Rattle.race_model.specs.IndexFault.{max_records};
 
-use crate::segment::{Segment, TaskRecords};
 use crate::open_interval::Walk;
+use crate::segment::{Segment, TaskRecords};
 use log_format::{Kind, Record};
 use span_label::Label;
 use std::alloc::Global;

@@ -72,8 +72,8 @@ pub record StoppedRun (rose : Type 0) (program : Program) (dir : List ℕ) (size
   pub leaves : new ≡ with_sealed logs old
   pub text_is : text ≡ stopped_text path line why
 
--- What is due of `run`: there is no kernel, or the text is refused at a line, or it is a kernel by the grammar but none of the first kind; or the folder has an index; or the kernel stopped; or
--- the run ended.
+-- What is due of `run`: there is no file, or its text is refused at a line, or it is a kernel by the grammar and none of the first
+-- kind; or the folder has an index; or the kernel stopped; or the run ended.
 pub data RunDue (rose : Type 0) (kernel dir : List ℕ) (size : ℕ) (old new : Content) (status : ℕ) (text : List ℕ) : Type 0 where
   no_kernel : old.held kernel ≡ None → status ≡ KERNEL_REFUSED → text ≡ no_kernel_text → new ≡ old → RunDue rose kernel dir size old new status text
   refused : (line : ℕ) (why : KernelWhy) → HoldsFault old.held kernel (read.Refused line why) → status ≡ KERNEL_REFUSED → text ≡ refused_text line why → new ≡ old

@@ -13,6 +13,6 @@ mod sealing;
 pub use running::run;
 
 #[cfg(test)]
-mod tests;
-#[cfg(test)]
 mod team_tests;
+#[cfg(test)]
+mod tests;
