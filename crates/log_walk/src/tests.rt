@@ -500,6 +500,7 @@ fn lane_1_in_short_reads(alloc: Global, bytes: &[u8]) -> Result<Told, Memory> {
 fn a_short_read_is_gone_on_with(rt: HostRuntime) -> Result<(), Fail> {
     let alloc = rt.alloc();
     let whole = log(alloc, &lane(4104))?;
+    assert_eq!(rt; whole.len(), 128);
     assert_eq!(rt; lane_1_in_short_reads(alloc, &whole)?, Told::Good);
     assert_eq!(rt;
         lane_1_in_short_reads(alloc, &[])?,
@@ -520,6 +521,7 @@ fn a_short_read_is_gone_on_with(rt: HostRuntime) -> Result<(), Fail> {
         Told::Record(2, 6, RecordWhy::Extra)
     );
     let mut other = whole.clone()?;
+    assert_eq!(rt; other.len(), 128);
     other[8 + 24] = 0;
     assert_eq!(rt;
         lane_1_in_short_reads(alloc, &other)?,
