@@ -500,18 +500,17 @@ fn lane_1_in_short_reads(alloc: Global, bytes: &[u8]) -> Result<Told, Memory> {
 fn a_short_read_is_gone_on_with(rt: HostRuntime) -> Result<(), Fail> {
     let alloc = rt.alloc();
     let whole = log(alloc, &lane(4104))?;
-    assert_eq!(rt; whole.len(), 128);
     assert_eq!(rt; lane_1_in_short_reads(alloc, &whole)?, Told::Good);
     assert_eq!(rt;
         lane_1_in_short_reads(alloc, &[])?,
         Told::Record(2, 0, RecordWhy::Header)
     );
     assert_eq!(rt;
-        lane_1_in_short_reads(alloc, &whole[1..])?,
+        lane_1_in_short_reads(alloc, whole.get(1..).ok_or("bytes")?)?,
         Told::Record(2, 0, RecordWhy::Header)
     );
     assert_eq!(rt;
-        lane_1_in_short_reads(alloc, &whole[..79])?,
+        lane_1_in_short_reads(alloc, whole.get(..79).ok_or("bytes")?)?,
         Told::Record(2, 3, RecordWhy::Cut)
     );
     let mut longer = whole.clone()?;
