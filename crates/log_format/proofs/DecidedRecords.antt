@@ -1,6 +1,8 @@
 -- Of 24 bytes it can be told whether they spell a record of the table.
-use Rattle.std.proofs.Common.{◌≡◌, ◌≢◌, ◌⊎◌, inl, inr, ℕ, zero, suc, ◌+◌, ◌^◌, ◌<◌, List, length, get_or, refl, arith}
+use Rattle.std.proofs.Common.{◌≡◌, ◌≢◌, ◌⊎◌, inl, inr, ℕ, zero, suc, ◌+◌, ◌^◌, ◌<◌, ◌≤◌, List, length, get_or, refl, sym, subst, ◌∙◌, arith}
 use Rattle.std.specs.Int.{w16, w32, w64, from_be_bytes}
+use Rattle.log_format.specs.declared.format.Format.{Format}
+use Rattle.log_format.specs.Format.{last_code}
 use Rattle.log_format.specs.declared.record.Kind.{Kind}
 use Rattle.log_format.specs.declared.record.Kind.TheVariants.{Read, Write, Lock, Unlock, Barrier, Region, Chunk, End}
 use Rattle.log_format.specs.declared.record.Record.{Record}
@@ -102,25 +104,28 @@ has_nothing_else Region r = both (equal r.site 0) (equal r.addr 0)
 has_nothing_else Chunk r = both (equal r.site 0) (at_most r.addr r.value)
 has_nothing_else End r = three (equal r.site 0) (equal r.addr 0) (equal r.value 0)
 
-passes : (r : Record) (w : Why) → Decided (PassesTable r w)
-passes r why.Kind = inl tt
-passes r why.Size = has_size r.kind r.size
-passes r why.LineZero = at_most 1 r.line
-passes r why.Address = has_address r.kind r
-passes r why.Span = span_is_tabled r.kind r
-passes r why.Reserved = has_nothing_else r.kind r
+passes : (format : Format) (r : Record) (w : Why) → Decided (PassesTable format r w)
+passes format r why.Kind = at_most (kind_code r.kind) (last_code format)
+passes format r why.Size = has_size r.kind r.size
+passes format r why.LineZero = at_most 1 r.line
+passes format r why.Address = has_address r.kind r
+passes format r why.Span = span_is_tabled r.kind r
+passes format r why.Reserved = has_nothing_else r.kind r
 
 -- a record of which no test is the first that it fails passes all
-module _ (r : Record) (none : (w : Why) → IsFirstFailed r w → ⊥) where
+module _ (format : Format) (r : Record) (none : (w : Why) → IsFirstFailed format r w → ⊥) where
   -- so far
   abbrev PassesBelow : ℕ → Type 0
-  PassesBelow n = (v : Why) → rank v < n → PassesTable r v
+  PassesBelow n = (v : Why) → rank v < n → PassesTable format r v
 
-  here : (w : Why) → PassesBelow (rank w) → PassesTable r w
-  here w before = stable (passes r w) (λ fails. none w (record { fails = fails; before = before }))
+  here : (w : Why) → PassesBelow (rank w) → PassesTable format r w
+  here w before = stable (passes format r w) (λ fails. none w (record { fails = fails; before = before }))
+
+  below_0 : PassesBelow 0
+  below_0 v less = absurd (omega arith)
 
   below_1 : PassesBelow 1
-  below_1 why.Kind less = tt
+  below_1 why.Kind less = here why.Kind below_0
   below_1 why.Size less = absurd (omega arith)
   below_1 why.LineZero less = absurd (omega arith)
   below_1 why.Address less = absurd (omega arith)
@@ -128,7 +133,7 @@ module _ (r : Record) (none : (w : Why) → IsFirstFailed r w → ⊥) where
   below_1 why.Reserved less = absurd (omega arith)
 
   below_2 : PassesBelow 2
-  below_2 why.Kind less = tt
+  below_2 why.Kind less = here why.Kind below_0
   below_2 why.Size less = here why.Size below_1
   below_2 why.LineZero less = absurd (omega arith)
   below_2 why.Address less = absurd (omega arith)
@@ -137,7 +142,7 @@ module _ (r : Record) (none : (w : Why) → IsFirstFailed r w → ⊥) where
 
   below_3 : PassesBelow 3
   below_3 why.LineZero less = here why.LineZero below_2
-  below_3 why.Kind less = tt
+  below_3 why.Kind less = here why.Kind below_0
   below_3 why.Size less = here why.Size below_1
   below_3 why.Address less = absurd (omega arith)
   below_3 why.Span less = absurd (omega arith)
@@ -145,7 +150,7 @@ module _ (r : Record) (none : (w : Why) → IsFirstFailed r w → ⊥) where
 
   below_4 : PassesBelow 4
   below_4 why.Address less = here why.Address below_3
-  below_4 why.Kind less = tt
+  below_4 why.Kind less = here why.Kind below_0
   below_4 why.Size less = here why.Size below_1
   below_4 why.LineZero less = here why.LineZero below_2
   below_4 why.Span less = absurd (omega arith)
@@ -153,14 +158,14 @@ module _ (r : Record) (none : (w : Why) → IsFirstFailed r w → ⊥) where
 
   below_5 : PassesBelow 5
   below_5 why.Span less = here why.Span below_4
-  below_5 why.Kind less = tt
+  below_5 why.Kind less = here why.Kind below_0
   below_5 why.Size less = here why.Size below_1
   below_5 why.LineZero less = here why.LineZero below_2
   below_5 why.Address less = here why.Address below_3
   below_5 why.Reserved less = absurd (omega arith)
 
-  passes_all : (w : Why) → PassesTable r w
-  passes_all why.Kind = tt
+  passes_all : (w : Why) → PassesTable format r w
+  passes_all why.Kind = here why.Kind below_0
   passes_all why.Size = here why.Size below_1
   passes_all why.LineZero = here why.LineZero below_2
   passes_all why.Address = here why.Address below_3
@@ -170,9 +175,9 @@ module _ (r : Record) (none : (w : Why) → IsFirstFailed r w → ⊥) where
 -- ---- bytes
 
 -- the bytes spell a record of the table
-pub record SpellsSome (bytes : List ℕ) : Type 0 where
+pub record SpellsSome (format : Format) (bytes : List ℕ) : Type 0 where
   pub read : Record
-  pub spells : Spells bytes read
+  pub spells : Spells format bytes read
 
 -- the fields of the bytes
 fields : List ℕ → Kind → Record
@@ -186,9 +191,9 @@ fields bs kind = record {
 }
 
 -- bytes without a first fault do
-pub spells_some : (bs : List ℕ) → length bs ≡ 24 → ((i : ℕ) → get_or bs i 0 < 256) → ((w : Why) → IsFirstFault bs w → ⊥) → SpellsSome bs
+pub spells_some : (format : Format) (bs : List ℕ) → length bs ≡ 24 → ((i : ℕ) → get_or bs i 0 < 256) → ((w : Why) → IsFirstFault format bs w → ⊥) → SpellsSome format bs
 unfolding fields
-spells_some bs size small none = by_kind (kind_of_code (get_or bs 0 0)) where
+spells_some format bs size small none = by_kind (kind_of_code (get_or bs 0 0)) where
   fit : (kind : Kind) → RecordFits (fields bs kind)
   fit kind = record {
     size = small 1;
@@ -200,17 +205,17 @@ spells_some bs size small none = by_kind (kind_of_code (get_or bs 0 0)) where
         (small 16) (small 17) (small 18) (small 19) (small 20) (small 21) (small 22) (small 23);
   }
 
-  by_kind : HasCode (get_or bs 0 0) ⊎ ((k : Kind) → get_or bs 0 0 ≢ kind_code k) → SpellsSome bs
-  by_kind (inr other) = absurd (none why.Kind other)
+  by_kind : HasCode (get_or bs 0 0) ⊎ ((k : Kind) → get_or bs 0 0 ≢ kind_code k) → SpellsSome format bs
+  by_kind (inr other) = absurd (none why.Kind (λ k allowed. other k))
   by_kind (inl has) =
       let spelled = spelled_by_fields bs (fields bs has.kind) size small has.is refl refl refl refl refl in
       record {
         read = fields bs has.kind;
-        spells = record { tabled = record { fits = fit has.kind; passes = passes_all (fields bs has.kind) (fails spelled) }; spelled = spelled };
+        spells = record { tabled = record { fits = fit has.kind; passes = passes_all format (fields bs has.kind) (fails spelled) }; spelled = spelled };
       }
     where
-      fails : bs ≡ spelling (fields bs has.kind) → (w : Why) → IsFirstFailed (fields bs has.kind) w → ⊥
-      fails spelled why.Kind failed = failed.fails tt
+      fails : bs ≡ spelling (fields bs has.kind) → (w : Why) → IsFirstFailed format (fields bs has.kind) w → ⊥
+      fails spelled why.Kind failed = none why.Kind (λ k allowed same. failed.fails (subst (λ (n : ℕ). n ≤ last_code format) (sym same ∙ has.is) allowed))
       fails spelled why.Size failed = none why.Size (record { fields = fields bs has.kind; fits = fit has.kind; spelled = spelled; failed = failed })
       fails spelled why.LineZero failed = none why.LineZero (record { fields = fields bs has.kind; fits = fit has.kind; spelled = spelled; failed = failed })
       fails spelled why.Address failed = none why.Address (record { fields = fields bs has.kind; fits = fit has.kind; spelled = spelled; failed = failed })

@@ -1,8 +1,9 @@
 -- Laws of the bytes of a log: how they split, and that they tell the records.
-use Rattle.std.proofs.Common.{◌≡◌, ℕ, zero, suc, ◌+◌, ◌*◌, ◌<◌, List, [], ◌∷◌, ◌++◌, All, length, get_or, take, drop, refl, sym, ap, ◌∙◌, arith, append_assoc, length-append, drop-cons}
+use Rattle.std.proofs.Common.{◌≡◌, ℕ, zero, suc, ◌+◌, ◌*◌, List, [], ◌∷◌, ◌++◌, All, length, take, drop, refl, sym, ap, ◌∙◌, arith, append_assoc, length-append}
 use Rattle.std.specs.List.{flat_map}
 use Rattle.std.proofs.lemmas.Grind.{flat_map-append}
 use Rattle.std.proofs.Math.Seq.{take-append_seam, take-append-add, drop-append_seam, drop-append-add, take-nil, drop-nil}
+use Rattle.log_format.specs.declared.format.Format.{Format}
 use Rattle.log_format.specs.declared.record.Record.{Record}
 use Rattle.log_format.specs.Spelling.{spelling, log_bytes}
 use Rattle.log_format.specs.Table.{RecordFits, IsTabled}
@@ -61,7 +62,7 @@ spellings-injective (r ∷ rs) (s ∷ ss) rs_fit ss_fit same =
     ap (λ (x : Record). x ∷ rs) one ∙ ap (λ (xs : List Record). s ∷ xs) others
 
 -- and so does a log
-pub log_bytes-injective : (header : List ℕ) (rs ss : List Record) → All IsTabled rs → All IsTabled ss → log_bytes header rs ≡ log_bytes header ss → rs ≡ ss
+pub log_bytes-injective : {format : Format} (header : List ℕ) (rs ss : List Record) → All (IsTabled format) rs → All (IsTabled format) ss → log_bytes header rs ≡ log_bytes header ss → rs ≡ ss
 log_bytes-injective header rs ss rs_tabled ss_tabled same =
     spellings-injective rs ss (λ k d h. (rs_tabled k d h).fits) (λ k d h. (ss_tabled k d h).fits)
     (sym (drop-append_seam header (flat_map spelling rs)) ∙ ap (λ (bs : List ℕ). drop (length header) bs) same ∙ drop-append_seam header (flat_map spelling ss))

@@ -1,8 +1,10 @@
 -- Laws of spellings and of the table's tests.
-use Rattle.std.proofs.Common.{◌≡◌, ◌≢◌, inl, inr, zero, suc, ℕ, ◌<◌, ◌+◌, List, [], ◌∷◌, ◌++◌, length, get_or, take, drop, refl, sym, subst, ap, ◌∙◌, arith, cond, ◌==◌}
+use Rattle.std.proofs.Common.{◌≡◌, ◌≢◌, inl, inr, ℕ, ◌<◌, List, [], ◌∷◌, ◌++◌, length, get_or, take, drop, refl, sym, subst, ap, ◌∙◌, arith, cond, ◌==◌}
 use Rattle.std.specs.Int.{w16, w32, w64, to_be_bytes, from_be_bytes}
 use Rattle.std.proofs.lemmas.Nat.{from_be_bytes-to_be_bytes_2, from_be_bytes-to_be_bytes_4, from_be_bytes-to_be_bytes_8, be_bytes_2, be_bytes_4, be_bytes_8}
 use Rattle.std.proofs.lemmas.Bool.{cases_order}
+use Rattle.log_format.specs.declared.format.Format.{Format}
+use Rattle.log_format.specs.Format.{AllowsKind}
 use Rattle.log_format.specs.declared.record.Kind.{Kind}
 use Rattle.log_format.specs.declared.record.Kind.TheVariants.{Read, Write, Lock, Unlock, Barrier, Region, Chunk, End}
 use Rattle.log_format.specs.declared.record.Record.{Record}
@@ -67,8 +69,8 @@ pub spelling-injective : (r s : Record) → RecordFits r → RecordFits s → sp
 spelling-injective r s r_fits s_fits same = sym (fields_at-spelling r r_fits) ∙ ap fields_at same ∙ fields_at-spelling s s_fits
 
 -- bytes spell at most one record
-pub spells-injective : (bytes : List ℕ) (r s : Record) → Spells bytes r → Spells bytes s → r ≡ s
-spells-injective bytes r s one other =
+pub spells-injective : (format : Format) (bytes : List ℕ) (r s : Record) → Spells format bytes r → Spells format bytes s → r ≡ s
+spells-injective format bytes r s one other =
     spelling-injective r s one.tabled.fits other.tabled.fits (sym one.spelled ∙ other.spelled)
 
 -- a list of 24 is its elements
@@ -118,17 +120,23 @@ unfolding spelling
 pieces_spell r code site line addr value code_is site_is line_is addr_is value_is = rw (code_is, site_is, line_is, addr_is, value_is) refl
 
 -- bytes that name no kind spell no record
-pub no_kind : (bytes : List ℕ) → ((k : Kind) → get_or bytes 0 0 ≢ kind_code k) → (r : Record) → bytes ≡ spelling r → ⊥
-no_kind bytes none r spelled = none r.kind (ap (λ (bs : List ℕ). get_or bs 0 0) spelled ∙ spelling-kind r)
+pub no_kind : (format : Format) (bytes : List ℕ) → ((k : Kind) → AllowsKind format k → get_or bytes 0 0 ≢ kind_code k) → (r : Record)
+    → AllowsKind format r.kind → bytes ≡ spelling r → ⊥
+no_kind format bytes none r allowed spelled = none r.kind allowed (ap (λ (bs : List ℕ). get_or bs 0 0) spelled ∙ spelling-kind r)
 
 -- and that is their first fault
-pub kind_is_first : (bytes : List ℕ) → ((k : Kind) → get_or bytes 0 0 ≢ kind_code k) → (w : Why) → IsFirstFault bytes w → why.Kind ≡ w
-kind_is_first bytes none why.Kind fault = refl
-kind_is_first bytes none _ fault = absurd (no_kind bytes none fault.fields fault.spelled)
+pub kind_is_first : (format : Format) (bytes : List ℕ) → ((k : Kind) → AllowsKind format k → get_or bytes 0 0 ≢ kind_code k) → (w : Why)
+    → IsFirstFault format bytes w → why.Kind ≡ w
+kind_is_first format bytes none why.Kind fault = refl
+kind_is_first format bytes none why.Size fault = absurd (no_kind format bytes none fault.fields (fault.failed.before why.Kind (omega arith)) fault.spelled)
+kind_is_first format bytes none why.LineZero fault = absurd (no_kind format bytes none fault.fields (fault.failed.before why.Kind (omega arith)) fault.spelled)
+kind_is_first format bytes none why.Address fault = absurd (no_kind format bytes none fault.fields (fault.failed.before why.Kind (omega arith)) fault.spelled)
+kind_is_first format bytes none why.Span fault = absurd (no_kind format bytes none fault.fields (fault.failed.before why.Kind (omega arith)) fault.spelled)
+kind_is_first format bytes none why.Reserved fault = absurd (no_kind format bytes none fault.fields (fault.failed.before why.Kind (omega arith)) fault.spelled)
 
 -- a record fails at most one test first
-first_failed-unique : (r : Record) (v w : Why) → IsFirstFailed r v → IsFirstFailed r w → v ≡ w
-first_failed-unique r v w one other =
+first_failed-unique : (format : Format) (r : Record) (v w : Why) → IsFirstFailed format r v → IsFirstFailed format r w → v ≡ w
+first_failed-unique format r v w one other =
     elim (cases_order (rank v) (rank w)) [
       | inl same ↦ rank-injective v w same
       | inr either ↦ elim either [
@@ -138,20 +146,22 @@ first_failed-unique r v w one other =
     ]
 
 -- bytes whose fields fail a test have no other first fault
-pub first_fault-unique : (bytes : List ℕ) (r : Record) (v w : Why) → RecordFits r → bytes ≡ spelling r → IsFirstFailed r v → IsFirstFault bytes w → v ≡ w
-first_fault-unique bytes r v why.Kind fits spelled failed fault =
-    absurd (fault r.kind (ap (λ (bs : List ℕ). get_or bs 0 0) spelled ∙ spelling-kind r))
-first_fault-unique bytes r v _ fits spelled failed fault =
+pub first_fault-unique : (format : Format) (bytes : List ℕ) (r : Record) (v w : Why) → RecordFits r → AllowsKind format r.kind → bytes ≡ spelling r
+    → IsFirstFailed format r v → IsFirstFault format bytes w → v ≡ w
+first_fault-unique format bytes r v why.Kind fits allowed spelled failed fault =
+    absurd (no_kind format bytes fault r allowed spelled)
+first_fault-unique format bytes r v _ fits allowed spelled failed fault =
     let same : r ≡ fault.fields = spelling-injective _ _ fits fault.fits (sym spelled ∙ fault.spelled) in
-    first_failed-unique fault.fields v _ (subst (λ (s : Record). IsFirstFailed s v) same failed) fault.failed
+    first_failed-unique format fault.fields v _ (subst (λ (s : Record). IsFirstFailed format s v) same failed) fault.failed
 
 -- bytes whose fields fail a test spell no record
-pub failed_not_spelled : (bytes : List ℕ) (r s : Record) (v : Why) → RecordFits r → bytes ≡ spelling r → IsFirstFailed r v → Spells bytes s → ⊥
-failed_not_spelled bytes r s v fits spelled failed spells =
+pub failed_not_spelled : (format : Format) (bytes : List ℕ) (r s : Record) (v : Why) → RecordFits r → bytes ≡ spelling r → IsFirstFailed format r v
+    → Spells format bytes s → ⊥
+failed_not_spelled format bytes r s v fits spelled failed spells =
     let same : s ≡ r = spelling-injective _ _ spells.tabled.fits fits (sym spells.spelled ∙ spelled) in
-    failed.fails (subst (λ (t : Record). PassesTable t v) same (spells.tabled.passes v))
+    failed.fails (subst (λ (t : Record). PassesTable format t v) same (spells.tabled.passes v))
 
 -- bytes that spell a record have no fault
-pub spelled_no_fault : (bytes : List ℕ) (r : Record) (w : Why) → Spells bytes r → IsFirstFault bytes w → ⊥
-spelled_no_fault bytes r why.Kind spells fault = fault r.kind (ap (λ (bs : List ℕ). get_or bs 0 0) spells.spelled ∙ spelling-kind r)
-spelled_no_fault bytes r _ spells fault = failed_not_spelled bytes fault.fields r _ fault.fits fault.spelled fault.failed spells
+pub spelled_no_fault : (format : Format) (bytes : List ℕ) (r : Record) (w : Why) → Spells format bytes r → IsFirstFault format bytes w → ⊥
+spelled_no_fault format bytes r why.Kind spells fault = no_kind format bytes fault r (spells.tabled.passes why.Kind) spells.spelled
+spelled_no_fault format bytes r _ spells fault = failed_not_spelled format bytes fault.fields r _ fault.fits fault.spelled fault.failed spells

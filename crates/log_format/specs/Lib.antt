@@ -1,2 +1,4 @@
+pub mod Format
+pub mod Limit
 pub mod Spelling
 pub mod Table

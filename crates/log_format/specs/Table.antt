@@ -5,6 +5,8 @@ use Rattle.log_format.specs.declared.record.Kind.TheVariants.{Read, Write, Lock,
 use Rattle.log_format.specs.declared.record.Record.{Record}
 use Rattle.log_format.specs.declared.record.Why.{Why}
 use Rattle.log_format.specs.declared.record.Why.TheVariants as why
+use Rattle.log_format.specs.declared.format.Format.{Format}
+use Rattle.log_format.specs.Format.{AllowsKind}
 use Rattle.log_format.specs.Spelling.{kind_code, spelling}
 
 -- each field is below its width, as every field of a program's record is
@@ -23,7 +25,12 @@ IsAccessSize n = (n ≡ 1) ⊎ (n ≡ 2) ⊎ (n ≡ 4) ⊎ (n ≡ 8)
 abbrev pub HasSize : Kind → ℕ → Type 0
 HasSize Read n = IsAccessSize n
 HasSize Write n = IsAccessSize n
-HasSize _ n = n ≡ 0
+HasSize Lock n = n ≡ 0
+HasSize Unlock n = n ≡ 0
+HasSize Barrier n = n ≡ 0
+HasSize Region n = n ≡ 0
+HasSize Chunk n = n ≡ 0
+HasSize End n = n ≡ 0
 
 -- an access ends at 2^48 or before; a mutex's number is below 2^16
 abbrev pub HasAddress : Kind → Record → Type 0
@@ -31,12 +38,21 @@ HasAddress Read r = r.addr + r.size ≤ 2 ^ 48
 HasAddress Write r = r.addr + r.size ≤ 2 ^ 48
 HasAddress Lock r = r.addr < 2 ^ 16
 HasAddress Unlock r = r.addr < 2 ^ 16
-HasAddress _ r = Unit {0}
+HasAddress Barrier r = Unit {0}
+HasAddress Region r = Unit {0}
+HasAddress Chunk r = Unit {0}
+HasAddress End r = Unit {0}
 
 -- a region has 1 to 64 lanes
 abbrev pub SpanIsTabled : Kind → Record → Type 0
+SpanIsTabled Read r = Unit {0}
+SpanIsTabled Write r = Unit {0}
+SpanIsTabled Lock r = Unit {0}
+SpanIsTabled Unlock r = Unit {0}
+SpanIsTabled Barrier r = Unit {0}
 SpanIsTabled Region r = (1 ≤ r.value) × (r.value ≤ 64)
-SpanIsTabled _ r = Unit {0}
+SpanIsTabled Chunk r = Unit {0}
+SpanIsTabled End r = Unit {0}
 
 -- what a kind doesn't use is 0, and a chunk's number is at most how many there are
 abbrev pub HasNothingElse : Kind → Record → Type 0
@@ -50,18 +66,18 @@ HasNothingElse Chunk r = (r.site ≡ 0) × (r.addr ≤ r.value)
 HasNothingElse End r = (r.site ≡ 0) × (r.addr ≡ 0) × (r.value ≡ 0)
 
 -- a record passes the test that the fault names
-abbrev pub PassesTable : Record → Why → Type 0
-PassesTable r why.Kind = Unit {0}
-PassesTable r why.Size = HasSize r.kind r.size
-PassesTable r why.LineZero = 1 ≤ r.line
-PassesTable r why.Address = HasAddress r.kind r
-PassesTable r why.Span = SpanIsTabled r.kind r
-PassesTable r why.Reserved = HasNothingElse r.kind r
+abbrev pub PassesTable : Format → Record → Why → Type 0
+PassesTable format r why.Kind = AllowsKind format r.kind
+PassesTable format r why.Size = HasSize r.kind r.size
+PassesTable format r why.LineZero = 1 ≤ r.line
+PassesTable format r why.Address = HasAddress r.kind r
+PassesTable format r why.Span = SpanIsTabled r.kind r
+PassesTable format r why.Reserved = HasNothingElse r.kind r
 
--- a record of the table
-pub record IsTabled (r : Record) : Type 0 where
+-- a record of the format's table
+pub record IsTabled (format : Format) (r : Record) : Type 0 where
   pub fits : RecordFits r
-  pub passes : (w : Why) → PassesTable r w
+  pub passes : (w : Why) → PassesTable format r w
 
 -- the place of a test among the tests
 abbrev pub rank : Why → ℕ
@@ -73,23 +89,23 @@ rank why.Span = 4
 rank why.Reserved = 5
 
 -- the first test that a record fails
-pub record IsFirstFailed (r : Record) (w : Why) : Type 0 where
-  pub fails : PassesTable r w → ⊥
-  pub before : (v : Why) → rank v < rank w → PassesTable r v
+pub record IsFirstFailed (format : Format) (r : Record) (w : Why) : Type 0 where
+  pub fails : PassesTable format r w → ⊥
+  pub before : (v : Why) → rank v < rank w → PassesTable format r v
 
 -- bytes that spell a record of the table
-pub record Spells (bytes : List ℕ) (r : Record) : Type 0 where
-  pub tabled : IsTabled r
+pub record Spells (format : Format) (bytes : List ℕ) (r : Record) : Type 0 where
+  pub tabled : IsTabled format r
   pub spelled : bytes ≡ spelling r
 
 -- bytes whose fields make a record that fails this test first
-pub record FailsTableFirst (bytes : List ℕ) (w : Why) : Type 0 where
+pub record FailsTableFirst (format : Format) (bytes : List ℕ) (w : Why) : Type 0 where
   pub fields : Record
   pub fits : RecordFits fields
   pub spelled : bytes ≡ spelling fields
-  pub failed : IsFirstFailed fields w
+  pub failed : IsFirstFailed format fields w
 
--- the first fault of bytes: they name no kind, or their fields fail a test
-abbrev pub IsFirstFault : List ℕ → Why → Type 0
-IsFirstFault bytes why.Kind = (k : Kind) → slice_index bytes 0 ≢ kind_code k
-IsFirstFault bytes w = FailsTableFirst bytes w
+-- the first fault of bytes: they name no kind of the format, or their fields fail a test
+abbrev pub IsFirstFault : Format → List ℕ → Why → Type 0
+IsFirstFault format bytes why.Kind = (k : Kind) → AllowsKind format k → slice_index bytes 0 ≢ kind_code k
+IsFirstFault format bytes w = FailsTableFirst format bytes w

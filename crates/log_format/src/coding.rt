@@ -1,16 +1,20 @@
 ghost use Rattle.std.specs.Prelude.{◌≡◌, slice_index, IfOk, IfErr};
 ghost use Rattle.log_format.specs.declared.record.Record.{Record};
 ghost use Rattle.log_format.specs.declared.record.Why.{Why};
+ghost use Rattle.log_format.specs.declared.format.Format.{Format};
+ghost use Rattle.log_format.specs.declared.format.TheConstants.{FORMAT};
+ghost use Rattle.log_format.specs.Format.{AllowsKind};
 ghost use Rattle.log_format.specs.Spelling.{kind_code, spelling};
 ghost use Rattle.log_format.specs.Table.{RecordFits, IsTabled, Spells, IsFirstFault};
 
+use crate::format::{FORMAT, Format};
 use crate::record::{Kind, Record, Why};
 use crate::table::{check, code_of, kind_of};
 
 /// The 24 bytes of a record.
 pub fn encode(r: &Record) -> [u8; 24]
     ensures spelled { result ≡ spelling r.now }
-    ensures spells { IsTabled r.now → Spells result r.now }
+    ensures spells { (format : Format) → IsTabled format r.now → Spells format result r.now }
 {
     let site = r.site.to_be_bytes();
     let line = r.line.to_be_bytes();
@@ -63,18 +67,28 @@ fn fields(kind: Kind, bytes: &[u8; 24]) -> Record
     }
 }
 
-/// The record that these bytes spell, or the first test that they fail.
+/// The record that these bytes spell in the format that the program reads, or the first test that they fail.
 pub fn decode(bytes: &[u8; 24]) -> Result<Record, Why>
-    ensures found { IfOk result (λ r. Spells bytes.now r) }
-    ensures only { (r : Record) → Spells bytes.now r → result ≡ Ok r }
-    ensures fault { IfErr result (λ w. IsFirstFault bytes.now w) }
-    ensures told { (w : Why) → IsFirstFault bytes.now w → result ≡ Err w }
+    ensures found { IfOk result (λ r. Spells FORMAT bytes.now r) }
+    ensures only { (r : Record) → Spells FORMAT bytes.now r → result ≡ Ok r }
+    ensures fault { IfErr result (λ w. IsFirstFault FORMAT bytes.now w) }
+    ensures told { (w : Why) → IsFirstFault FORMAT bytes.now w → result ≡ Err w }
 {
-    let Some(kind) = kind_of(bytes[0]) else {
+    decode_as(FORMAT, bytes)
+}
+
+/// The record that these bytes spell in this format, or the first test that they fail.
+pub fn decode_as(format: Format, bytes: &[u8; 24]) -> Result<Record, Why>
+    ensures found { IfOk result (λ r. Spells format bytes.now r) }
+    ensures only { (r : Record) → Spells format bytes.now r → result ≡ Ok r }
+    ensures fault { IfErr result (λ w. IsFirstFault format bytes.now w) }
+    ensures told { (w : Why) → IsFirstFault format bytes.now w → result ≡ Err w }
+{
+    let Some(kind) = kind_of(format, bytes[0]) else {
         return Err(Why::Kind);
     };
     let record = fields(kind, bytes);
-    match check(&record) {
+    match check(format, &record) {
         Ok(()) => Ok(record),
         Err(why) => Err(why),
     }

@@ -1,17 +1,19 @@
 //! The records of a task's log, 24 bytes each.
 //!
-//! Each record that the table of records allows has one spelling. `encode` gives it, and `decode` answers
+//! Each record that the table of its format allows has one spelling. `encode` gives it, and `decode` answers
 //! exactly the record whose spelling it was given, or the first fault that the bytes have.
 #![tactic(auto)]
 
 mod coding;
+mod format;
 mod laws;
 mod record;
 mod table;
 
-pub use coding::{decode, encode};
+pub use coding::{decode, decode_as, encode};
+pub use format::{FORMAT, Format};
 pub use laws::{logged_once, spelled_once};
-pub use record::{Kind, Record, Why};
+pub use record::{Kind, RECORD_LIMIT, Record, Why};
 
 #[cfg(test)]
 mod tests;

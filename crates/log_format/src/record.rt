@@ -1,3 +1,6 @@
+/// How many records a log has at most.
+pub const RECORD_LIMIT: u32 = 4_194_304;
+
 /// What a task did.
 #[derive(Clone, Copy, Debug, PartialEq, Eq, Hash)]
 pub enum Kind {

@@ -1,9 +1,11 @@
 ghost use Rattle.std.specs.Prelude.{◌≡◌, ◌≢◌, ◌↔◌, IsTrue, OnOk, IfErr, MatchOption};
 ghost use Rattle.log_format.specs.declared.record.Kind.{Kind};
 ghost use Rattle.log_format.specs.declared.record.Why.{Why};
+ghost use Rattle.log_format.specs.Format.{AllowsKind};
 ghost use Rattle.log_format.specs.Spelling.{kind_code};
 ghost use Rattle.log_format.specs.Table.{HasSize, HasAddress, SpanIsTabled, HasNothingElse, PassesTable, IsFirstFailed};
 
+use crate::format::Format;
 use crate::record::{Kind, Record, Why};
 
 /// The number of a kind, its record's first byte.
@@ -22,10 +24,13 @@ pub fn code_of(kind: Kind) -> u8
     }
 }
 
-/// The kind of this number, if there is one.
-pub fn kind_of(code: u8) -> Option<Kind>
-    ensures { MatchOption result ((k : Kind) → code ≢ kind_code k) (λ k. code ≡ kind_code k) }
+/// The format's kind of this number, if it has one.
+pub fn kind_of(format: Format, code: u8) -> Option<Kind>
+    ensures { MatchOption result ((k : Kind) → AllowsKind format k → code ≢ kind_code k) (λ k. AllowsKind format k × (code ≡ kind_code k)) }
 {
+    if code > format.last_code() {
+        return None;
+    }
     match code {
         1 => Some(Kind::Read),
         2 => Some(Kind::Write),
@@ -50,7 +55,8 @@ fn has_size(kind: Kind, size: u8) -> bool
 {
     match kind {
         Kind::Read | Kind::Write => is_access_size(size),
-        _ => size == 0,
+        Kind::Lock | Kind::Unlock | Kind::Barrier | Kind::Region | Kind::Chunk | Kind::End => size
+            == 0,
     }
 }
 
@@ -61,7 +67,7 @@ fn has_address(r: &Record) -> bool
     match r.kind {
         Kind::Read | Kind::Write => r.addr <= (1 << 48) - u64::from(r.size),
         Kind::Lock | Kind::Unlock => r.addr < 1 << 16,
-        _ => true,
+        Kind::Barrier | Kind::Region | Kind::Chunk | Kind::End => true,
     }
 }
 
@@ -70,7 +76,13 @@ fn has_span(r: &Record) -> bool
 {
     match r.kind {
         Kind::Region => 1 <= r.value && r.value <= 64,
-        _ => true,
+        Kind::Read
+        | Kind::Write
+        | Kind::Lock
+        | Kind::Unlock
+        | Kind::Barrier
+        | Kind::Chunk
+        | Kind::End => true,
     }
 }
 
@@ -86,10 +98,11 @@ fn has_nothing_else(r: &Record) -> bool
     }
 }
 
-/// The first test of the table that the record fails, if there is one.
-pub fn check(r: &Record) -> Result<(), Why>
-    ensures passes { OnOk result ((w : Why) → PassesTable r.now w) }
-    ensures fails { IfErr result (λ w. IsFirstFailed r.now w) }
+/// The first test of the format's table that the record, of one of its kinds, fails, if there is one.
+pub fn check(format: Format, r: &Record) -> Result<(), Why>
+    requires { AllowsKind format r.now.kind }
+    ensures passes { OnOk result ((w : Why) → PassesTable format r.now w) }
+    ensures fails { IfErr result (λ w. IsFirstFailed format r.now w) }
 {
     if !has_size(r.kind, r.size) {
         return Err(Why::Size);

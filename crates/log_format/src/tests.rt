@@ -1,4 +1,4 @@
-use crate::{Kind, Record, Why, decode, encode};
+use crate::{FORMAT, Kind, Record, Why, decode, decode_as, encode};
 
 /// The bytes of three groups of eight.
 fn joined(groups: [u64; 3]) -> [u8; 24] {
@@ -52,7 +52,15 @@ fn vectors() -> [([u64; 3], Result<Record, Why>); 10] {
 fn decodes_the_vectors(rt: HostRuntime) {
     for (groups, want) in vectors() {
         assert_eq!(rt; decode(&joined(groups)), want);
+        assert_eq!(rt; decode_as(FORMAT, &joined(groups)), want);
     }
+}
+
+#[test]
+fn the_headers_tell_the_format(rt: HostRuntime) {
+    assert_eq!(rt; FORMAT.log_header(), *b"SWLOG001");
+    assert_eq!(rt; FORMAT.index_header(), *b"SWIDX001");
+    assert_eq!(rt; FORMAT.last_code(), 8);
 }
 
 #[test]

@@ -6,9 +6,10 @@ use Rattle.std.proofs.lemmas.Bool.{cases_lt}
 use Rattle.std.proofs.lemmas.List.{append-nil, map-append, length-map, take-append-drop, get_or-drop}
 use Rattle.std.proofs.lemmas.List.Elements.{All-nil, All-cons, All-head, All-tail}
 use Rattle.sw_base.specs.declared.path.Step.{Step}
-use Rattle.sw_base.specs.declared.files.TheConstants.{INDEX_HEADER}
 use Rattle.sw_base.specs.Environment.{Files}
 use Rattle.sw_base.specs.Names.{index_name}
+use Rattle.log_format.specs.declared.format.Format.{Format}
+use Rattle.log_format.specs.Format.{index_header}
 use Rattle.race_model.specs.declared.why.IndexWhy.{IndexWhy}
 use Rattle.race_model.specs.declared.why.IndexWhy.TheVariants.{Header, TooMany, Cut, Depth, Span, Lane, Order, Records}
 use Rattle.race_model.specs.BadPlace.{BadPlace, no_index, bad_row}
@@ -225,18 +226,18 @@ same_list (x ∷ xs) (y ∷ ys) =
       both_parts same = (cc, cc)
 
 -- the folder has a well-formed index
-pub record HasRows (files : Files) (dir : List ℕ) : Type 0 where
+pub record HasRows (format : Format) (files : Files) (dir : List ℕ) : Type 0 where
   pub rows : List Row
-  pub is_index : IsIndex files dir rows
+  pub is_index : IsIndex format files dir rows
 
-module _ (files : Files) (dir : List ℕ) (bytes : List ℕ) (held : files (index_name dir) ≡ Some bytes) (good : (place : BadPlace) → IsBadIndexPlace files dir place → ⊥) where
-  not_bad : (n : ℕ) (why : IndexWhy) → IsBadRow bytes n why → ⊥
+module _ (format : Format) (files : Files) (dir : List ℕ) (bytes : List ℕ) (held : files (index_name dir) ≡ Some bytes) (good : (place : BadPlace) → IsBadIndexPlace format files dir place → ⊥) where
+  not_bad : (n : ℕ) (why : IndexWhy) → IsBadRow format bytes n why → ⊥
   not_bad n why bad = good (bad_row n why) (record { bytes = bytes; held = held; bad = bad })
 
-  module _ (rows : List Row) (rest : List ℕ) (first : AreFirstRows rows) (parts : bytes ≡ INDEX_HEADER ++ flat_map row_spelling (map raw_of rows) ++ rest) where
+  module _ (rows : List Row) (rest : List ℕ) (first : AreFirstRows rows) (parts : bytes ≡ index_header format ++ flat_map row_spelling (map raw_of rows) ++ rest) where
     no_fault : (why : IndexWhy) → HasFault (map raw_of rows) rest why → ⊥
     no_fault why fault = by_why why fault where
-      at_row : IsAtRow bytes (length rows + 1) (map raw_of rows) rest
+      at_row : IsAtRow format bytes (length rows + 1) (map raw_of rows) rest
       at_row = record { number = omega (arith, length-map rows raw_of); fit = raws_fit rows first.each; parts = parts }
 
       by_why : (w : IndexWhy) → HasFault (map raw_of rows) rest w → ⊥
@@ -249,11 +250,11 @@ module _ (files : Files) (dir : List ℕ) (bytes : List ℕ) (held : files (inde
       by_why Order fails = not_bad (length rows + 1) Order (record { before = map raw_of rows; rest = rest; at_row = at_row; fails = fails })
       by_why Records fails = not_bad (length rows + 1) Records (record { before = map raw_of rows; rest = rest; at_row = at_row; fails = fails })
 
-    at_end : rest ≡ [] → HasRows files dir
+    at_end : rest ≡ [] → HasRows format files dir
     at_end ended =
         let lists : IsListing (map row_path rows) = stable (whole rows first.begins)
         (λ not. no_fault Order (inr (ended, λ lists. not (subst (λ (ps : List (List Step)). IsListing ps) (used-raws_of rows) lists)))) in
-        let bytes_are : bytes ≡ index_bytes rows = parts ∙ ap (λ (bs : List ℕ). INDEX_HEADER ++ flat_map row_spelling (map raw_of rows) ++ bs) ended ∙ append-nil (index_bytes rows) in
+        let bytes_are : bytes ≡ index_bytes format rows = parts ∙ ap (λ (bs : List ℕ). index_header format ++ flat_map row_spelling (map raw_of rows) ++ bs) ended ∙ append-nil (index_bytes format rows) in
         record {
           rows = rows;
           is_index = record { held = held ∙ ap (λ (bs : List ℕ). Some bs) bytes_are; rows_are = record { lists = lists; each = first.each; limit = first.limit } };
@@ -292,31 +293,31 @@ module _ (files : Files) (dir : List ℕ) (bytes : List ℕ) (held : files (inde
             fails Order not = no_fault Order (inl (test Order not))
             fails Records not = no_fault Records (test Records not)
 
-    next_parts : (row : Row) → AddsRow rows row rest → bytes ≡ INDEX_HEADER ++ flat_map row_spelling (map raw_of (rows ++ row ∷ [])) ++ drop 48 rest
+    next_parts : (row : Row) → AddsRow rows row rest → bytes ≡ index_header format ++ flat_map row_spelling (map raw_of (rows ++ row ∷ [])) ++ drop 48 rest
     next_parts row adds =
         let more : OneMore rows (rows ++ row ∷ []) rest = record { row = row; rows = refl; adds = adds } in
         parts
-        ∙ append_assoc INDEX_HEADER (flat_map row_spelling (map raw_of rows)) rest
-        ∙ ap (λ (bs : List ℕ). INDEX_HEADER ++ bs) (more_parts (flat_map row_spelling (map raw_of rows) ++ rest) rows (rows ++ row ∷ []) rest refl more)
-        ∙ sym (append_assoc INDEX_HEADER (flat_map row_spelling (map raw_of (rows ++ row ∷ []))) (drop 48 rest))
+        ∙ append_assoc (index_header format) (flat_map row_spelling (map raw_of rows)) rest
+        ∙ ap (λ (bs : List ℕ). index_header format ++ bs) (more_parts (flat_map row_spelling (map raw_of rows) ++ rest) rows (rows ++ row ∷ []) rest refl more)
+        ∙ sym (append_assoc (index_header format) (flat_map row_spelling (map raw_of (rows ++ row ∷ []))) (drop 48 rest))
 
-  read_all : (fuel : ℕ) (rows : List Row) (rest : List ℕ) → length rest ≤ fuel → Small rest → AreFirstRows rows → bytes ≡ INDEX_HEADER ++ flat_map row_spelling (map raw_of rows) ++ rest → HasRows files dir
+  read_all : (fuel : ℕ) (rows : List Row) (rest : List ℕ) → length rest ≤ fuel → Small rest → AreFirstRows rows → bytes ≡ index_header format ++ flat_map row_spelling (map raw_of rows) ++ rest → HasRows format files dir
   read_all fuel rows [] short small first parts = at_end rows [] first parts refl
   read_all zero rows (b ∷ rest) short small first parts = absurd (omega arith)
   read_all (suc fuel) rows (b ∷ rest) short small first parts =
       let one : Next rows (b ∷ rest) first parts = next rows (b ∷ rest) first parts (λ ended. absurd (omega (arith, ap length ended))) small in
       read_all fuel (rows ++ one.row ∷ []) (drop 48 (b ∷ rest)) (omega (arith, length-drop 48 (b ∷ rest))) (small_drop 48 (b ∷ rest) small) one.adds.good (next_parts rows (b ∷ rest) first parts one.row one.adds)
 
-  all_read : Small bytes → HasRows files dir
+  all_read : Small bytes → HasRows format files dir
   all_read small =
-      let header : take 8 bytes ≡ INDEX_HEADER = stable (same_list (take 8 bytes) INDEX_HEADER) (λ other. not_bad 0 Header (refl, other)) in
-      let parts : bytes ≡ INDEX_HEADER ++ drop 8 bytes = sym (take-append-drop 8 bytes) ∙ ap (λ (bs : List ℕ). bs ++ drop 8 bytes) header in
+      let header : take 8 bytes ≡ index_header format = stable (same_list (take 8 bytes) (index_header format)) (λ other. not_bad 0 Header (refl, other)) in
+      let parts : bytes ≡ (index_header format ++ []) ++ drop 8 bytes = sym (take-append-drop 8 bytes) ∙ ap (λ (bs : List ℕ). bs ++ drop 8 bytes) (header ∙ sym (append-nil (index_header format))) in
       read_all (length (drop 8 bytes)) [] (drop 8 bytes) (omega arith) (small_drop 8 bytes small) (record { begins = begins_none; each = λ k d h. absurd (omega arith); limit = omega arith }) parts
 
 -- a folder whose index isn't bad has rows
-pub has_rows : (files : Files) (dir : List ℕ) → ((bytes : List ℕ) → files (index_name dir) ≡ Some bytes → (i : ℕ) → get_or bytes i 0 < 256) → ((place : BadPlace) → IsBadIndexPlace files dir place → ⊥)
-    → HasRows files dir
-has_rows files dir small good = by_held (files (index_name dir)) refl where
-  by_held : (held : Option (List ℕ)) → files (index_name dir) ≡ held → HasRows files dir
+pub has_rows : (format : Format) (files : Files) (dir : List ℕ) → ((bytes : List ℕ) → files (index_name dir) ≡ Some bytes → (i : ℕ) → get_or bytes i 0 < 256) → ((place : BadPlace) → IsBadIndexPlace format files dir place → ⊥)
+    → HasRows format files dir
+has_rows format files dir small good = by_held (files (index_name dir)) refl where
+  by_held : (held : Option (List ℕ)) → files (index_name dir) ≡ held → HasRows format files dir
   by_held None missing = absurd (good no_index missing)
-  by_held (Some bytes) held = all_read files dir bytes held good (record { each = small bytes held })
+  by_held (Some bytes) held = all_read format files dir bytes held good (record { each = small bytes held })

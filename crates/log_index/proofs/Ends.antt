@@ -4,8 +4,9 @@ use Rattle.std.specs.List.{flat_map}
 use Rattle.std.proofs.lemmas.Grind.{flat_map-append}
 use Rattle.std.proofs.lemmas.List.{append-nil, map-append, length-map, drop-drop}
 use Rattle.sw_base.specs.declared.path.Step.{Step}
-use Rattle.sw_base.specs.declared.files.TheConstants.{INDEX_HEADER}
 use Rattle.sw_base.specs.Window.{Window, Shows}
+use Rattle.log_format.specs.declared.format.Format.{Format}
+use Rattle.log_format.specs.Format.{index_header}
 use Rattle.race_model.specs.declared.why.IndexWhy.{IndexWhy}
 use Rattle.race_model.specs.declared.why.IndexWhy.TheVariants.{Header, TooMany, Cut, Depth, Span, Lane, Order, Records}
 use Rattle.race_model.specs.BadPlace.{index_rank, bad_row}
@@ -84,23 +85,18 @@ read_all file rows window read good none = record {
   good = good;
 }
 
--- a fault comes next
-pub read_stops : (file : List ℕ) (rows : List Row) (window : Window) (n : ℕ) (why : IndexWhy) → IsReadTo file rows window → AreFirstRows rows → n ≡ length rows + 1
-    → FailsIndexFirst (map raw_of rows) (drop window.place file) why → StopsAt (drop 8 file) n why
-read_stops file rows window n why read good number first = record { before = rows; rest = drop window.place file; good = good; parts = read.parts; number = number; first = first }
-
 -- behind the header
-module _ (bytes rest : List ℕ) (parts : bytes ≡ INDEX_HEADER ++ rest) where
-  whole_parts : (rows : List Row) (left : List ℕ) → rest ≡ flat_map row_spelling (map raw_of rows) ++ left → bytes ≡ INDEX_HEADER ++ flat_map row_spelling (map raw_of rows) ++ left
+module _ (format : Format) (bytes rest : List ℕ) (parts : bytes ≡ index_header format ++ rest) where
+  whole_parts : (rows : List Row) (left : List ℕ) → rest ≡ flat_map row_spelling (map raw_of rows) ++ left → bytes ≡ index_header format ++ flat_map row_spelling (map raw_of rows) ++ left
   whole_parts rows left is =
-      parts ∙ ap (λ (bs : List ℕ). INDEX_HEADER ++ bs) is ∙ sym (append_assoc INDEX_HEADER (flat_map row_spelling (map raw_of rows)) left)
+      parts ∙ ap (λ (bs : List ℕ). index_header format ++ bs) is ∙ sym (append_assoc (index_header format) (flat_map row_spelling (map raw_of rows)) left)
 
-  pub stops_first : (n : ℕ) (why : IndexWhy) → StopsAt rest n why → IsFirstBadRow bytes n why
+  pub stops_first : (n : ℕ) (why : IndexWhy) → StopsAt rest n why → IsFirstBadRow format bytes n why
   stops_first n why stops files dir held =
-      subst (λ (m : ℕ). IsFirstBadIndexPlace files dir (bad_row m why)) (sym stops.number)
+      subst (λ (m : ℕ). IsFirstBadIndexPlace format files dir (bad_row m why)) (sym stops.number)
       (row_first files dir bytes held stops.before stops.rest stops.good (whole_parts stops.before stops.rest stops.parts) why stops.first)
 
-  pub end_first : (rows : List Row) (why : IndexWhy) → SpellsFirstRows rest rows → FailsIndexFirst (map raw_of rows) [] why → IsFirstBadRow bytes (length rows + 1) why
+  pub end_first : (rows : List Row) (why : IndexWhy) → SpellsFirstRows rest rows → FailsIndexFirst (map raw_of rows) [] why → IsFirstBadRow format bytes (length rows + 1) why
   end_first rows why first fails files dir held =
       row_first files dir bytes held rows [] first.good (whole_parts rows [] (first.spelled ∙ sym (append-nil (flat_map row_spelling (map raw_of rows))))) why fails
 

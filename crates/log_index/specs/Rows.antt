@@ -4,6 +4,7 @@ use Rattle.std.specs.List.{flat_map}
 use Rattle.sw_base.specs.Environment.{Files}
 use Rattle.sw_base.specs.Names.{index_name}
 use Rattle.sw_base.specs.Window.{Window, Shows}
+use Rattle.log_format.specs.declared.format.Format.{Format}
 use Rattle.race_model.specs.declared.why.IndexWhy.{IndexWhy}
 use Rattle.race_model.specs.BadPlace.{bad_row, index_rank}
 use Rattle.race_model.specs.Row.{Row, RawRow, row_spelling, raw_of, index_bytes}
@@ -56,10 +57,10 @@ pub record ReadsRow (file : List ℕ) (before now : List Row) (old new : Window)
   pub more : OneMore before now (drop old.place file)
 
 -- these bytes spell the rows of a well-formed index
-pub record SpellsRows (bytes : List ℕ) (rows : List Row) : Type 0 where
-  pub spelled : bytes ≡ index_bytes rows
+pub record SpellsRows (format : Format) (bytes : List ℕ) (rows : List Row) : Type 0 where
+  pub spelled : bytes ≡ index_bytes format rows
   pub rows_are : AreRows rows
 
 -- a folder whose index has these bytes has its first bad place at this row
-abbrev pub IsFirstBadRow : List ℕ → ℕ → IndexWhy → Type 0
-IsFirstBadRow bytes n why = (files : Files) (dir : List ℕ) → files (index_name dir) ≡ Some bytes → IsFirstBadIndexPlace files dir (bad_row n why)
+abbrev pub IsFirstBadRow : Format → List ℕ → ℕ → IndexWhy → Type 0
+IsFirstBadRow format bytes n why = (files : Files) (dir : List ℕ) → files (index_name dir) ≡ Some bytes → IsFirstBadIndexPlace format files dir (bad_row n why)

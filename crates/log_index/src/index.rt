@@ -2,6 +2,7 @@ ghost use Rattle.std.specs.Prelude.{◌≡◌, ◌≤◌, ℕ, IfOk, OnOk, OnErr
 ghost use Rattle.std.specs.Option.{option_map};
 ghost use Rattle.sw_base.specs.Environment.{WhereTold, Rose, HasCause, LeavesPrefix, with_put};
 ghost use Rattle.sw_base.specs.Names.{index_name};
+ghost use Rattle.log_format.specs.declared.format.TheConstants.{FORMAT};
 ghost use Rattle.race_model.specs.declared.why.IndexWhy.{IndexWhy};
 ghost use Rattle.race_model.specs.BadPlace.{no_index, bad_row};
 ghost use Rattle.race_model.specs.Row.{index_bytes};
@@ -10,6 +11,7 @@ ghost use Rattle.race_model.specs.IndexFault.{AreRows, IsIndex, IsFirstBadIndexP
 use crate::row::{IndexAnswer, Row};
 use crate::rows::read_rows;
 use crate::spelling::spell_rows;
+use log_format::{FORMAT, Format};
 use std::alloc::Global;
 use sw_base::{Folder, Trouble, index_name};
 
@@ -20,10 +22,31 @@ pub fn read_index<F: Folder>(
     dir: &str,
 ) -> Result<Vec<Row>, IndexAnswer>
     ensures rows { IfOk result (λ rows. AreRows rows.items) }
-    ensures found { IfOk result (λ rows. WhereTold (F.content folder.old) (λ c. IsIndex c.held dir.now rows.items)) }
-    ensures missing { IsErrOf result IndexAnswer.NoIndex → WhereTold (F.content folder.old) (λ c. IsFirstBadIndexPlace c.held dir.now no_index) }
+    ensures found { IfOk result (λ rows. WhereTold (F.content folder.old) (λ c. IsIndex FORMAT c.held dir.now rows.items)) }
+    ensures missing { IsErrOf result IndexAnswer.NoIndex → WhereTold (F.content folder.old) (λ c. IsFirstBadIndexPlace FORMAT c.held dir.now no_index) }
     ensures bad { (n : ℕ) (why : IndexWhy) → IsErrOf result (IndexAnswer.Bad n why) →
-        WhereTold (F.content folder.old) (λ c. IsFirstBadIndexPlace c.held dir.now (bad_row n why)) }
+        WhereTold (F.content folder.old) (λ c. IsFirstBadIndexPlace FORMAT c.held dir.now (bad_row n why)) }
+
+    ensures same { F.content folder.new ≡ F.content folder.old }
+    ensures later { F.read_faults folder.old ≤ F.read_faults folder.new }
+    ensures cause { IsErrOf result IndexAnswer.ReadFault → Rose (F.read_faults folder.old) (F.read_faults folder.new) }
+    ensures same_writes { F.write_faults folder.new ≡ F.write_faults folder.old }
+{
+    read_index_as(alloc, FORMAT, folder, dir)
+}
+
+/// The same of an index of this format.
+pub fn read_index_as<F: Folder>(
+    alloc: Global,
+    format: Format,
+    folder: &mut F,
+    dir: &str,
+) -> Result<Vec<Row>, IndexAnswer>
+    ensures rows { IfOk result (λ rows. AreRows rows.items) }
+    ensures found { IfOk result (λ rows. WhereTold (F.content folder.old) (λ c. IsIndex format c.held dir.now rows.items)) }
+    ensures missing { IsErrOf result IndexAnswer.NoIndex → WhereTold (F.content folder.old) (λ c. IsFirstBadIndexPlace format c.held dir.now no_index) }
+    ensures bad { (n : ℕ) (why : IndexWhy) → IsErrOf result (IndexAnswer.Bad n why) →
+        WhereTold (F.content folder.old) (λ c. IsFirstBadIndexPlace format c.held dir.now (bad_row n why)) }
 
     ensures same { F.content folder.new ≡ F.content folder.old }
     ensures later { F.read_faults folder.old ≤ F.read_faults folder.new }
@@ -33,7 +56,7 @@ pub fn read_index<F: Folder>(
     let name = index_name(alloc, dir)?;
     match folder.size(alloc, &name) {
         Ok(None) => Err(IndexAnswer::NoIndex),
-        Ok(Some(_)) => read_rows(alloc, folder, &name),
+        Ok(Some(_)) => read_rows(alloc, format, folder, &name),
         Err(trouble) => Err(IndexAnswer::from(trouble)),
     }
 }
@@ -46,8 +69,8 @@ pub fn write_index<F: Folder>(
     rows: &[Row],
 ) -> Result<(), Trouble>
     requires { AreRows rows.now }
-    ensures done { OnOk result (F.content folder.new ≡ option_map (with_put (index_name dir.now) (index_bytes rows.now)) (F.content folder.old)) }
-    ensures refused { OnErr result (LeavesPrefix (F.content folder.old) (F.content folder.new) (index_name dir.now) (index_bytes rows.now)) }
+    ensures done { OnOk result (F.content folder.new ≡ option_map (with_put (index_name dir.now) (index_bytes FORMAT rows.now)) (F.content folder.old)) }
+    ensures refused { OnErr result (LeavesPrefix (F.content folder.old) (F.content folder.new) (index_name dir.now) (index_bytes FORMAT rows.now)) }
 
     ensures cause { HasCause (F.write_faults folder.old) (F.write_faults folder.new) result }
     ensures same_reads { F.read_faults folder.new ≡ F.read_faults folder.old }

@@ -11,9 +11,10 @@ use crate::fields::{Fields, fields_of, path_of};
 use crate::listing::is_whole;
 use crate::row::{IndexAnswer, Row};
 use crate::rules::check;
+use log_format::Format;
 use race_model::IndexWhy;
 use std::alloc::Global;
-use sw_base::{Folder, INDEX_HEADER, Window};
+use sw_base::{Folder, Window};
 
 /// The most rows that an index has.
 const MAX_ROWS: usize = 65_536;
@@ -160,16 +161,17 @@ fn check_end(rows: &[Row]) -> Result<(), IndexWhy>
     Ok(())
 }
 
-/// The rows of the index under this name, or the first bad row.
+/// The rows of the index of this format under this name, or the first bad row.
 pub fn read_rows<F: Folder>(
     alloc: Global,
+    format: Format,
     folder: &mut F,
     name: &str,
 ) -> Result<Vec<Row>, IndexAnswer>
     ensures good { IfOk result (λ rows. AreRows rows.items) }
-    ensures rows { IfOk result (λ rows. WhereTold (F.content folder.old) (λ c. SpellsRows (file_of c name.now) rows.items)) }
+    ensures rows { IfOk result (λ rows. WhereTold (F.content folder.old) (λ c. SpellsRows format (file_of c name.now) rows.items)) }
     ensures bad { IfErr result (λ answer. (n : ℕ) (why : IndexWhy) → answer ≡ IndexAnswer.Bad n why
-        → WhereTold (F.content folder.old) (λ c. IsFirstBadRow (file_of c name.now) n why)) }
+        → WhereTold (F.content folder.old) (λ c. IsFirstBadRow format (file_of c name.now) n why)) }
     ensures there { IsErrOf result IndexAnswer.NoIndex → ⊥ }
 
     ensures same { F.content folder.new ≡ F.content folder.old }
@@ -178,7 +180,7 @@ pub fn read_rows<F: Folder>(
     ensures same_writes { F.write_faults folder.new ≡ F.write_faults folder.old }
 {
     let mut window = Window::new(alloc, ROW)?;
-    if !window.pass_header(alloc, folder, name, &INDEX_HEADER)? {
+    if !window.pass_header(alloc, folder, name, &format.index_header())? {
         return Err(IndexAnswer::Bad {
             row: 0,
             why: IndexWhy::Header,

@@ -10,11 +10,12 @@ ghost use Rattle.race_model.specs.Row.{row_path};
 use crate::fields::Fields;
 use crate::listing::goes_on;
 use crate::row::Row;
+use log_format::RECORD_LIMIT;
 use race_model::IndexWhy;
 use sw_base::Step;
 
 /// The most records that a log has.
-const MAX_RECORDS: u64 = 4_194_304;
+const MAX_RECORDS: u64 = RECORD_LIMIT as u64;
 
 fn have_spans(steps: &[Step]) -> bool
     ensures { IsTrue result ↔ All HasRegionSpan steps.now }

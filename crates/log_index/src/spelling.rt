@@ -1,11 +1,13 @@
 ghost use Rattle.std.specs.Prelude.{◌≡◌, ◌++◌, IfOk, OnOk};
 ghost use Rattle.std.specs.List.{flat_map};
 ghost use Rattle.sw_base.specs.declared.path.Step.{Step};
+ghost use Rattle.log_format.specs.declared.format.TheConstants.{FORMAT};
 ghost use Rattle.race_model.specs.Row.{raw_of, step_spelling, row_spelling, index_bytes};
 
 use crate::row::Row;
+use log_format::FORMAT;
 use std::alloc::{AllocError, Global};
-use sw_base::{INDEX_HEADER, Step};
+use sw_base::Step;
 
 /// The four steps of a row whose path uses none.
 const UNUSED: [Step; 4] = [Step {
@@ -47,9 +49,9 @@ fn push_row(bytes: &mut Vec<u8>, row: &Row) -> Result<(), AllocError>
 
 /// The bytes of an index with these rows.
 pub fn spell_rows(alloc: Global, rows: &[Row]) -> Result<Vec<u8>, AllocError>
-    ensures { IfOk result (λ bytes. bytes.items ≡ index_bytes rows.now) }
+    ensures { IfOk result (λ bytes. bytes.items ≡ index_bytes FORMAT rows.now) }
 {
-    let mut bytes = Vec::from_slice(alloc, &INDEX_HEADER)?;
+    let mut bytes = Vec::from_slice(alloc, &FORMAT.index_header())?;
     for row in rows {
         push_row(&mut bytes, row)?;
     }

@@ -3,10 +3,11 @@
 ghost use Rattle.std.specs.Prelude.{IfOk};
 ghost use Rattle.race_model.specs.IndexFault.{AreRows};
 
-use crate::{IndexAnswer, IndexWhy, Row, read_index, write_index};
+use crate::{IndexAnswer, IndexWhy, Row, read_index, read_index_as, write_index};
+use log_format::FORMAT;
 use std::alloc::{AllocError, Global};
 use std::test::Fail;
-use sw_base::{INDEX_HEADER, MemFolder};
+use sw_base::{INDEX_HEADER, MemFolder, ShortReads};
 
 // A row by hand: its depth, a field that should be 0, its first two steps as region, lane and span, and its records.
 #[derive(Clone, Copy)]
@@ -64,12 +65,30 @@ fn index(alloc: Global, rows: &[Spelled]) -> Result<Vec<u8>, AllocError> {
     Ok(bytes)
 }
 
+// What is answered of these bytes, also where no read gives more than five of them; `NoIndex` where that is answered otherwise.
 fn read(alloc: Global, bytes: &[u8]) -> Result<Vec<Row>, IndexAnswer>
     ensures { IfOk result (λ rows. AreRows rows.items) }
 {
     let mut folder = MemFolder::new(alloc)?;
     folder.hold("d/index.swi", bytes)?;
-    read_index(alloc, &mut folder, "d")
+    let whole = read_index_as(alloc, FORMAT, &mut folder, "d");
+    let short = read_index_as(alloc, FORMAT, &mut ShortReads { folder }, "d").err();
+    match whole {
+        Ok(rows) => {
+            if short.is_none() {
+                Ok(rows)
+            } else {
+                Err(IndexAnswer::NoIndex)
+            }
+        }
+        Err(answer) => {
+            if short == Some(answer) {
+                Err(answer)
+            } else {
+                Err(IndexAnswer::NoIndex)
+            }
+        }
+    }
 }
 
 fn bad(row: u32, why: IndexWhy) -> Option<IndexAnswer> {

@@ -1,26 +1,29 @@
 -- What is kept follows on from record to record.
-use Rattle.std.proofs.Common.{◌≡◌, ◌≢◌, ◌⊎◌, inl, inr, ℕ, zero, suc, ◌+◌, ◌*◌, ◌<◌, ◌≤◌, Bool, true, false, cond, List, [], ◌∷◌, ◌++◌, length, Some, refl, sym, ap, subst, ◌∙◌, arith}
-use Rattle.std.specs.Prelude.{slice_get, filter, map, not, ◌==◌}
+use Rattle.std.proofs.Common.{◌≡◌, ◌⊎◌, inl, inr, ℕ, zero, suc, ◌+◌, ◌*◌, ◌^◌, ◌<◌, ◌≤◌, Bool, true, false, cond, List, [], ◌∷◌, ◌++◌, length, Some, refl, sym, ap, subst, ◌∙◌, arith}
+use Rattle.std.specs.Prelude.{slice_get, filter, Option, None, ◌↔◌, ◌||◌}
 use Rattle.std.specs.List.{AllZip}
-use Rattle.std.proofs.lemmas.List.{length_push, map-append, append-nil}
-use Rattle.std.proofs.lemmas.List.Sums.{sum_by-take-le}
+use Rattle.std.proofs.lemmas.List.{length_push, append-nil}
 use Rattle.std.proofs.lemmas.List.Elements.{filter-append}
 use Rattle.std.proofs.lemmas.Option.{same_Some}
 use Rattle.sw_base.specs.declared.path.Step.{Step}
 use Rattle.log_format.specs.declared.record.Record.{Record}
 use Rattle.log_format.specs.declared.record.Kind.{Kind}
 use Rattle.log_format.specs.declared.record.Kind.TheVariants.{Read, Write, Lock, Unlock, Barrier, Region, Chunk, End}
-use Rattle.race_model.specs.Trace.{Logs, Node, HasKind, regions_before, barriers_before, barrier_count, is_region_kind, is_barrier_kind}
+use Rattle.log_format.specs.declared.record.Why.TheVariants as why
+use Rattle.log_format.specs.Table.{HasAddress, HasSize, IsAccessSize, IsTabled}
+use Rattle.race_model.specs.Trace.{Logs, Node, HasKind, regions_before, barriers_before, is_region_kind, is_barrier_kind}
 use Rattle.race_model.specs.Race.{held_after, held_after_kind}
 use Rattle.race_model.specs.Label.{Triple, IsLabel}
-use Rattle.race_model.specs.Segment.{Event, Segment as Interval, is_access_event, has_access, segment_of, first_number, last_number}
+use Rattle.race_model.specs.Segment.{Event, Segment as Interval, is_access, is_access_event, has_access, segment_of, first_number, last_number}
 use Rattle.race_model.proofs.LabelPlace.{same_node}
-use Rattle.stride_summary.specs.declared.access.Access.{Access}
-use Rattle.log_segment.specs.Accesses.{access_at, access_of}
+use Rattle.stride_summary.specs.declared.key.Key.{Key}
+use Rattle.stride_summary.specs.declared.summary.Summary.{Summary}
+use Rattle.log_segment.specs.Accesses.{is_write, key_at}
 use Rattle.log_segment.specs.declared.segment.Segment.{Segment}
-use Rattle.log_segment.specs.declared.open_interval.Walk.{Walk}
-use Rattle.log_segment.specs.Intervals.{IsSegmentOf}
-use Rattle.log_segment.specs.Walking.{AddsSegments, begun_after, event_after, ended, ended_by, AreNumbered, KeepsFork, AreForks, Follows, IsNextOf}
+use Rattle.log_segment.specs.declared.walking.Walk.{Walk}
+use Rattle.log_segment.specs.Intervals.{HasEvent, IsSegmentOf}
+use Rattle.log_segment.specs.Walking.{AddsSegments, begun_after, event_after, ended, ended_by, AreNumbered, KeepsFork, AreForks, Follows, IsNextOf, SumsUp, GainsAccess, HasSum, IsClosed, OrdersInLane, is_open}
+use Rattle.log_segment.proofs.Members.{In, from_contains, to_contains, in_left, in_right, in_either}
 use Rattle.log_segment.proofs.LabelMoves.{found_next, regions_next, barriers_next, moved}
 
 -- mutexes
@@ -33,7 +36,7 @@ pub numbered_push : (n : ℕ) (es : List Event) (e : Event) → AreNumbered n es
 numbered_push n [] e all is = (omega arith, tt)
 numbered_push n (x ∷ es) e (here, more) is = (here, numbered_push (n + 1) es e more (omega arith))
 
-first_is : (n : ℕ) (es : List Event) → AreNumbered n es → 1 ≤ length es → first_number es ≡ n
+pub first_is : (n : ℕ) (es : List Event) → AreNumbered n es → 1 ≤ length es → first_number es ≡ n
 first_is n [] all some = absurd (omega arith)
 first_is n (e ∷ es) (here, more) some = here
 
@@ -43,30 +46,72 @@ last_is n (e ∷ []) (here, more) some = omega arith
 last_is n (e ∷ f ∷ es) (here, more) some = let rest = last_is (n + 1) (f ∷ es) more (omega arith) in omega (arith, rest)
 
 -- accesses
-pub accesses_push : (es : List Event) (e : Event) → map access_of (filter is_access_event (es ++ e ∷ [])) ≡ map access_of (filter is_access_event es) ++ map access_of (filter is_access_event (e ∷ []))
-accesses_push es e = ap (λ (xs : List Event). map access_of xs) (filter-append is_access_event es (e ∷ [])) ∙ map-append access_of (filter is_access_event es) (filter is_access_event (e ∷ []))
+event_back : (xs : List Event) (e : Event) (key : Key) (address : ℕ) → HasEvent (xs ++ e ∷ []) key address → HasEvent xs key address ⊎ ((key_at e.event e.held ≡ key) × (e.event.addr ≡ address))
+event_back xs e key address h = at (in_either h.event xs (e ∷ []) (from_contains h.event (xs ++ e ∷ []) h.listed)) where
+  at : In h.event xs ⊎ In h.event (e ∷ []) → HasEvent xs key address ⊎ ((key_at e.event e.held ≡ key) × (e.event.addr ≡ address))
+  at (inl before) = inl (record { event = h.event; listed = to_contains h.event xs before; keyed = h.keyed; addressed = h.addressed })
+  at (inr (inl same)) = inr (ap (λ (x : Event). key_at x.event x.held) same ∙ sym h.keyed, ap (λ (x : Event). x.event.addr) same ∙ sym h.addressed)
+  at (inr (inr never)) = absurd never
 
-no_access : (es : List Event) → map access_of (filter is_access_event es) ≡ [] → has_access es ≡ false
-no_access [] e = refl
-no_access (x ∷ es) e = go (is_access_event x) refl (no_access es) e
-  where
-    go : (b : Bool) → is_access_event x ≡ b → (map access_of (filter is_access_event es) ≡ [] → has_access es ≡ false) → map access_of (filter is_access_event (x ∷ es)) ≡ [] → has_access (x ∷ es) ≡ false
-    go true is rec none = let some : access_of x ∷ map access_of (filter is_access_event es) ≡ map access_of (filter is_access_event (x ∷ es)) = rw is refl in cc
-    go false is rec none =
-        let same : map access_of (filter is_access_event es) ≡ map access_of (filter is_access_event (x ∷ es)) = rw is refl in
-        let later : has_access es ≡ false = rec (same ∙ none) in
-        rw is later
+event_there : (xs : List Event) (e : Event) (key : Key) (address : ℕ) → HasEvent xs key address ⊎ ((key_at e.event e.held ≡ key) × (e.event.addr ≡ address)) → HasEvent (xs ++ e ∷ []) key address
+event_there xs e key address (inl h) = record { event = h.event; listed = to_contains h.event (xs ++ e ∷ []) (in_left h.event xs (e ∷ []) (from_contains h.event xs h.listed)); keyed = h.keyed; addressed = h.addressed }
+event_there xs e key address (inr (keyed, addressed)) = record { event = e; listed = to_contains e (xs ++ e ∷ []) (in_right e xs (e ∷ []) (inl refl)); keyed = sym keyed; addressed = sym addressed }
 
-some_access : (es : List Event) → (map access_of (filter is_access_event es) ≢ []) → has_access es ≡ true
-some_access [] ne = absurd (ne refl)
-some_access (x ∷ es) ne = go (is_access_event x) refl (some_access es) ne
+no_event : (key : Key) (address : ℕ) → HasEvent [] key address → ⊥
+no_event key address h = from_contains h.event [] h.listed
+
+access_push : (es : List Event) (e : Event) → is_access_event e ≡ true → filter is_access_event (es ++ e ∷ []) ≡ filter is_access_event es ++ e ∷ []
+access_push es e is = filter-append is_access_event es (e ∷ []) ∙ (let one : filter is_access_event (e ∷ []) ≡ e ∷ [] = rw is refl in ap (λ (xs : List Event). filter is_access_event es ++ xs) one)
+
+quiet_push : (es : List Event) (e : Event) → is_access_event e ≡ false → filter is_access_event (es ++ e ∷ []) ≡ filter is_access_event es
+quiet_push es e isn = filter-append is_access_event es (e ∷ []) ∙ ((let none : filter is_access_event (e ∷ []) ≡ [] = rw isn refl in ap (λ (xs : List Event). filter is_access_event es ++ xs) none) ∙ append-nil (filter is_access_event es))
+
+has_push : (es : List Event) (e : Event) → has_access (es ++ e ∷ []) ≡ has_access es || is_access_event e
+has_push [] e = or_false (is_access_event e) where
+  or_false : (b : Bool) → (b || false) ≡ (false || b)
+  or_false true = refl
+  or_false false = refl
+has_push (x ∷ es) e = at (is_access_event x) refl (has_push es e) where
+  at : (b : Bool) → is_access_event x ≡ b → has_access (es ++ e ∷ []) ≡ has_access es || is_access_event e → has_access (x ∷ es ++ e ∷ []) ≡ has_access (x ∷ es) || is_access_event e
+  at true is rest = rw is refl
+  at false is rest = rw is rest
+
+or_true : (b : Bool) → (b || true) ≡ true
+or_true true = refl
+or_true false = refl
+
+or_false : (b : Bool) → (b || false) ≡ b
+or_false true = refl
+or_false false = refl
+
+-- no access since
+pub sums_none : (summary : Option Summary) → summary ≡ None → SumsUp summary []
+sums_none summary none = subst (λ (o : Option Summary). SumsUp o []) (sym none) (record { begins = refl; pairs = λ key address. ((λ h. absurd h), (λ h. absurd (no_event key address h))) })
+
+-- one access more
+pub sums_access : (old new : Option Summary) (begun : List Event) (e : Event) → is_access_event e ≡ true → GainsAccess old new (key_at e.event e.held) e.event.addr → SumsUp old begun → SumsUp new (begun ++ e ∷ [])
+sums_access old new begun e is gains sums = record {
+  begins = gains.opened ∙ sym (has_push begun e ∙ (ap (λ (b : Bool). has_access begun || b) is ∙ or_true (has_access begun)));
+  pairs = λ key address. subst (λ (es : List Event). HasSum new key address ↔ HasEvent es key address) (sym (access_push begun e is)) (
+    (λ h. event_there (filter is_access_event begun) e key address (forth key address ((gains.pairs key address).0 h))),
+    (λ h. (gains.pairs key address).1 (back key address (event_back (filter is_access_event begun) e key address h))),
+  );
+}
   where
-    go : (b : Bool) → is_access_event x ≡ b → ((map access_of (filter is_access_event es) ≢ []) → has_access es ≡ true) → (map access_of (filter is_access_event (x ∷ es)) ≢ []) → has_access (x ∷ es) ≡ true
-    go true is rec some = rw is refl
-    go false is rec some =
-        let same : map access_of (filter is_access_event (x ∷ es)) ≡ map access_of (filter is_access_event es) = rw is refl in
-        let later : has_access es ≡ true = rec (λ none. some (same ∙ none)) in
-        rw is later
+    forth : (key : Key) (address : ℕ) → HasSum old key address ⊎ ((key_at e.event e.held ≡ key) × (e.event.addr ≡ address)) → HasEvent (filter is_access_event begun) key address ⊎ ((key_at e.event e.held ≡ key) × (e.event.addr ≡ address))
+    forth key address (inl h) = inl ((sums.pairs key address).0 h)
+    forth key address (inr h) = inr h
+
+    back : (key : Key) (address : ℕ) → HasEvent (filter is_access_event begun) key address ⊎ ((key_at e.event e.held ≡ key) × (e.event.addr ≡ address)) → HasSum old key address ⊎ ((key_at e.event e.held ≡ key) × (e.event.addr ≡ address))
+    back key address (inl h) = inl ((sums.pairs key address).1 h)
+    back key address (inr h) = inr h
+
+-- or another record
+pub sums_quiet : (summary : Option Summary) (begun : List Event) (e : Event) → is_access_event e ≡ false → SumsUp summary begun → SumsUp summary (begun ++ e ∷ [])
+sums_quiet summary begun e isn sums = record {
+  begins = sums.begins ∙ sym (has_push begun e ∙ (ap (λ (b : Bool). has_access begun || b) isn ∙ or_false (has_access begun)));
+  pairs = λ key address. subst (λ (es : List Event). HasSum summary key address ↔ HasEvent es key address) (sym (quiet_push begun e isn)) (sums.pairs key address);
+}
 
 -- what is kept after a record that orders nothing
 module _ (logs : Logs) (path : List Step) (before : List Record) (r : Record) (next : IsNextOf logs path before r) where
@@ -114,15 +159,14 @@ module _ (logs : Logs) (path : List Step) (before : List Record) (r : Record) (n
       go (inr e) = inr (same_node x after same e)
 
   pub follows_plain : (walk new : Walk) (begun : List Event) → is_region_kind r.kind ≡ false → is_barrier_kind r.kind ≡ false
-      → new.held ≡ held_after_kind r.kind r.addr walk.held → new.first ≡ walk.first → new.label ≡ walk.label → new.forks.items ≡ walk.forks.items
-      → new.accesses.items ≡ walk.accesses.items ++ map access_of (filter is_access_event (event_after before r ∷ []))
+      → new.first ≡ walk.first → new.label ≡ walk.label → new.forks.items ≡ walk.forks.items
+      → (SumsUp walk.summary begun → SumsUp new.summary (begun ++ event_after before r ∷ []))
       → Follows logs path before walk begun → Follows logs path (before ++ r ∷ []) new (begun ++ event_after before r ∷ [])
-  follows_plain walk new begun not_region not_barrier held first label forks accesses f = record {
-    held = held ∙ (ap (λ (h : List ℕ). held_after_kind r.kind r.addr h) f.held ∙ sym (held_push [] before r));
+  follows_plain walk new begun not_region not_barrier first label forks sums f = record {
     numbered = subst (λ (n : ℕ). AreNumbered n (begun ++ event_after before r ∷ [])) (sym first)
         (numbered_push walk.first begun (event_after before r) f.numbered (sym f.up));
     up = (let up = f.up in let more = length_push begun (event_after before r) in omega (arith, longer, more, up, first));
-    accesses = accesses ∙ (ap (λ (xs : List Access). xs ++ map access_of (filter is_access_event (event_after before r ∷ []))) f.accesses ∙ sym (accesses_push begun (event_after before r)));
+    sums = sums f.sums;
     label = λ x same low high. subst (λ (l : List Triple). IsLabel logs x l) (sym label)
         (at_or_after x same (le_or_after x same (let n = longer in omega arith)) walk begun f (omega (arith, first)) stays);
     forks = subst (λ (xs : List (List Triple)). AreForks logs path (length (before ++ r ∷ [])) xs) (sym forks)
@@ -155,64 +199,69 @@ module _ (logs : Logs) (path : List Step) (before : List Record) (r : Record) (n
   begun_plain End e begun a b = refl
 
   by_kind : (walk new : Walk) (begun : List Event) → is_region_kind r.kind ≡ false → is_barrier_kind r.kind ≡ false
-      → new.held ≡ held_after_kind r.kind r.addr walk.held → new.first ≡ walk.first → new.label ≡ walk.label → new.forks.items ≡ walk.forks.items
-      → new.accesses.items ≡ walk.accesses.items ++ map access_of (filter is_access_event (event_after before r ∷ []))
+      → new.first ≡ walk.first → new.label ≡ walk.label → new.forks.items ≡ walk.forks.items
+      → (SumsUp walk.summary begun → SumsUp new.summary (begun ++ event_after before r ∷ []))
       → Follows logs path before walk begun → Follows logs path (before ++ r ∷ []) new (begun_after r.kind (event_after before r) begun)
-  by_kind walk new begun a b held first label forks accesses f =
+  by_kind walk new begun a b first label forks sums f =
       subst (λ (es : List Event). Follows logs path (before ++ r ∷ []) new es) (sym (begun_plain r.kind (event_after before r) begun a b))
-      (follows_plain walk new begun a b held first label forks accesses f)
+      (follows_plain walk new begun a b first label forks sums f)
 
-  is_plain_access : (r.kind ≡ Read) ⊎ (r.kind ≡ Write) → (held : List ℕ) → (is_region_kind r.kind ≡ false) × (is_barrier_kind r.kind ≡ false) × (held ≡ held_after_kind r.kind r.addr held) × (is_access_event (event_after before r) ≡ true)
-  is_plain_access (inl e) held = (rw e refl, rw e refl, rw e refl, rw e refl)
-  is_plain_access (inr e) held = (rw e refl, rw e refl, rw e refl, rw e refl)
+  -- the mutexes at an access, and its key
+  key_held : (k : Kind) (held : List ℕ) → is_access k ≡ true → held ≡ held_after_kind k r.addr held
+  key_held Read held is = refl
+  key_held Write held is = refl
+  key_held Lock held is = cc
+  key_held Unlock held is = cc
+  key_held Barrier held is = cc
+  key_held Region held is = cc
+  key_held Chunk held is = cc
+  key_held End held is = cc
 
-  pub follows_access : (walk new : Walk) (begun : List Event) → (r.kind ≡ Read) ⊎ (r.kind ≡ Write)
-      → new.accesses.items ≡ walk.accesses.items ++ access_at r walk.held ∷ [] → new ≡ record walk { accesses = new.accesses }
+  not_ordering : (k : Kind) → is_access k ≡ true → (is_region_kind k ≡ false) × (is_barrier_kind k ≡ false)
+  not_ordering Read is = (refl, refl)
+  not_ordering Write is = (refl, refl)
+  not_ordering Lock is = cc
+  not_ordering Unlock is = cc
+  not_ordering Barrier is = cc
+  not_ordering Region is = cc
+  not_ordering Chunk is = cc
+  not_ordering End is = cc
+
+  pub follows_access : (walk new : Walk) (begun : List Event) (held : List ℕ) (write : Bool) → is_access r.kind ≡ true → write ≡ is_write r.kind → held ≡ held_after [] (before ++ r ∷ [])
+      → GainsAccess walk.summary new.summary (record { write = write; size = r.size; site = r.site; line = r.line; held = held }) r.addr → new ≡ record walk { summary = new.summary }
       → Follows logs path before walk begun → Follows logs path (before ++ r ∷ []) new (begun_after r.kind (event_after before r) begun)
-  follows_access walk new begun is accesses same f =
-      let plain = is_plain_access is walk.held in
-      by_kind walk new begun plain.0 plain.1 (ap (λ (w : Walk). w.held) same ∙ plain.2) (ap (λ (w : Walk). w.first) same) (ap (λ (w : Walk). w.label) same) (ap (λ (w : Walk). w.forks.items) same)
-      (accesses ∙ (ap (λ (h : List ℕ). walk.accesses.items ++ access_at r h ∷ []) f.held ∙ ap (λ (xs : List Access). walk.accesses.items ++ xs) (sym (one (event_after before r) plain.3)))) f
+  follows_access walk new begun held write is writes held_is gains same f =
+      let plain = not_ordering r.kind is in
+      by_kind walk new begun plain.0 plain.1 (ap (λ (w : Walk). w.first) same) (ap (λ (w : Walk). w.label) same) (ap (λ (w : Walk). w.forks.items) same)
+      (sums_access walk.summary new.summary begun (event_after before r) is (subst (λ (key : Key). GainsAccess walk.summary new.summary key r.addr) keyed gains)) f
     where
-      one : (e : Event) → is_access_event e ≡ true → map access_of (filter is_access_event (e ∷ [])) ≡ access_of e ∷ []
-      one e does = rw does refl
+      here_held : held ≡ held_after [] before
+      here_held = held_is ∙ (held_push [] before r ∙ sym (key_held r.kind (held_after [] before) is))
+
+      keyed : (record { write = write; size = r.size; site = r.site; line = r.line; held = held }) ≡ key_at r (held_after [] before)
+      keyed = λ i. record { write = writes i; size = r.size; site = r.site; line = r.line; held = here_held i }
 
   -- where no access is kept
-  quiet : (walk new : Walk) (begun : List Event) → is_region_kind r.kind ≡ false → is_barrier_kind r.kind ≡ false → is_access_event (event_after before r) ≡ false
-      → new.held ≡ held_after_kind r.kind r.addr walk.held → new ≡ record walk { held = new.held }
-      → Follows logs path before walk begun → Follows logs path (before ++ r ∷ []) new (begun_after r.kind (event_after before r) begun)
-  quiet walk new begun a b quiet_kind held same f =
-      by_kind walk new begun a b held (ap (λ (w : Walk). w.first) same) (ap (λ (w : Walk). w.label) same) (ap (λ (w : Walk). w.forks.items) same)
-      (ap (λ (w : Walk). w.accesses.items) same ∙ (sym (append-nil walk.accesses.items) ∙ ap (λ (xs : List Access). walk.accesses.items ++ xs) (sym (none (event_after before r) quiet_kind)))) f
-    where
-      none : (e : Event) → is_access_event e ≡ false → map access_of (filter is_access_event (e ∷ [])) ≡ []
-      none e isn = rw isn refl
-
-  pub follows_lock : (walk new : Walk) (begun : List Event) → r.kind ≡ Lock → new.held ≡ walk.held ++ r.addr ∷ [] → new ≡ record walk { held = new.held }
-      → Follows logs path before walk begun → Follows logs path (before ++ r ∷ []) new (begun_after r.kind (event_after before r) begun)
-  follows_lock walk new begun is held same f =
-      quiet walk new begun (rw is refl) (rw is refl) (rw is refl) (held ∙ (let it : walk.held ++ r.addr ∷ [] ≡ held_after_kind r.kind r.addr walk.held = rw is refl in it)) same f
-
-  pub follows_unlock : (walk new : Walk) (begun : List Event) → r.kind ≡ Unlock → new.held ≡ filter (λ other. not (other == r.addr)) walk.held → new ≡ record walk { held = new.held }
-      → Follows logs path before walk begun → Follows logs path (before ++ r ∷ []) new (begun_after r.kind (event_after before r) begun)
-  follows_unlock walk new begun is held same f =
-      quiet walk new begun (rw is refl) (rw is refl) (rw is refl) (held ∙ (let it : filter (λ other. not (other == r.addr)) walk.held ≡ held_after_kind r.kind r.addr walk.held = rw is refl in it)) same f
-
-  pub follows_other : (walk : Walk) (begun : List Event) → (r.kind ≡ Chunk) ⊎ (r.kind ≡ End)
+  pub follows_quiet : (walk : Walk) (begun : List Event) → is_region_kind r.kind ≡ false → is_barrier_kind r.kind ≡ false → is_access r.kind ≡ false
       → Follows logs path before walk begun → Follows logs path (before ++ r ∷ []) walk (begun_after r.kind (event_after before r) begun)
-  follows_other walk begun (inl is) f = quiet walk walk begun (rw is refl) (rw is refl) (rw is refl) (rw is refl) refl f
-  follows_other walk begun (inr is) f = quiet walk walk begun (rw is refl) (rw is refl) (rw is refl) (rw is refl) refl f
+  follows_quiet walk begun a b isn f = by_kind walk walk begun a b refl refl refl (sums_quiet walk.summary begun (event_after before r) isn) f
+
+  pub follows_other : (walk : Walk) (begun : List Event) → (r.kind ≡ Lock) ⊎ (r.kind ≡ Unlock) ⊎ (r.kind ≡ Chunk) ⊎ (r.kind ≡ End)
+      → Follows logs path before walk begun → Follows logs path (before ++ r ∷ []) walk (begun_after r.kind (event_after before r) begun)
+  follows_other walk begun (inl is) f = follows_quiet walk begun (rw is refl) (rw is refl) (rw is refl) f
+  follows_other walk begun (inr (inl is)) f = follows_quiet walk begun (rw is refl) (rw is refl) (rw is refl) f
+  follows_other walk begun (inr (inr (inl is))) f = follows_quiet walk begun (rw is refl) (rw is refl) (rw is refl) f
+  follows_other walk begun (inr (inr (inr is))) f = follows_quiet walk begun (rw is refl) (rw is refl) (rw is refl) f
 
   -- after a region
   pub follows_region : (walk new : Walk) (begun : List Event) → r.kind ≡ Region
-      → new.held ≡ walk.held → new.first ≡ length before + 2 → new.accesses.items ≡ [] → new.forks.items ≡ walk.forks.items ++ walk.label ∷ []
+      → new.first ≡ length before + 2 → new.summary ≡ None → new.forks.items ≡ walk.forks.items ++ walk.label ∷ []
       → ((above : List Triple) (own : Triple) → walk.label ≡ above ++ own ∷ [] → new.label ≡ above ++ record own { offset = own.offset + own.span } ∷ [])
       → Follows logs path before walk begun → Follows logs path (before ++ r ∷ []) new (begun_after r.kind (event_after before r) begun)
-  follows_region walk new begun is held first accesses forks raised f = subst (λ (es : List Event). Follows logs path (before ++ r ∷ []) new es) none_begun (record {
-    held = held ∙ (f.held ∙ (same_held ∙ sym (held_push [] before r)));
+  follows_region walk new begun is first none forks raised f = subst (λ (es : List Event). Follows logs path (before ++ r ∷ []) new es) none_begun (record {
     numbered = tt;
     up = omega (arith, longer, first);
-    accesses = accesses;
+    sums = sums_none new.summary none;
     label = λ x same low high. subst (λ (y : Node). IsLabel logs y new.label) (sym (same_node x after same (let n = longer in omega (arith, first)))) next_label;
     forks = subst (λ (xs : List (List Triple)). AreForks logs path (length (before ++ r ∷ [])) xs) (sym forks)
         (subst (λ (n : ℕ). AreForks logs path n (walk.forks.items ++ walk.label ∷ [])) (sym longer) all_forks);
@@ -223,9 +272,6 @@ module _ (logs : Logs) (path : List Step) (before : List Record) (r : Record) (n
 
       yes : is_region_kind r.kind ≡ true
       yes = rw is refl
-
-      same_held : held_after [] before ≡ held_after_kind r.kind r.addr (held_after [] before)
-      same_held = rw is refl
 
       more_regions : regions_before logs after ≡ regions_before logs here + 1
       more_regions = let more = regions_next logs path before next.rest r next.parts in let one : cond {A = ℕ} (is_region_kind r.kind) 1 0 ≡ 1 = rw yes refl in omega arith
@@ -277,15 +323,14 @@ module _ (logs : Logs) (path : List Step) (before : List Record) (r : Record) (n
       }
 
   -- after a barrier
-  pub follows_barrier : (walk new : Walk) (begun : List Event) → r.kind ≡ Barrier
-      → new.held ≡ walk.held → new.first ≡ length before + 2 → new.accesses.items ≡ [] → new.forks.items ≡ walk.forks.items
+  pub follows_barrier : (walk new : Walk) (begun : List Event) → r.kind ≡ Barrier → OrdersInLane r.kind path
+      → new.first ≡ length before + 2 → new.summary ≡ None → new.forks.items ≡ walk.forks.items
       → ((above : List Triple) (own : Triple) → walk.label ≡ above ++ own ∷ [] → new.label ≡ above ++ record own { barrier = own.barrier + 1 } ∷ [])
       → Follows logs path before walk begun → Follows logs path (before ++ r ∷ []) new (begun_after r.kind (event_after before r) begun)
-  follows_barrier walk new begun is held first accesses forks raised f = subst (λ (es : List Event). Follows logs path (before ++ r ∷ []) new es) none_begun (record {
-    held = held ∙ (f.held ∙ (same_held ∙ sym (held_push [] before r)));
+  follows_barrier walk new begun is in_lane first none forks raised f = subst (λ (es : List Event). Follows logs path (before ++ r ∷ []) new es) none_begun (record {
     numbered = tt;
     up = omega (arith, longer, first);
-    accesses = accesses;
+    sums = sums_none new.summary none;
     label = λ x same low high. subst (λ (y : Node). IsLabel logs y new.label) (sym (same_node x after same (let n = longer in omega (arith, first)))) next_label;
     forks = subst (λ (xs : List (List Triple)). AreForks logs path (length (before ++ r ∷ [])) xs) (sym forks)
         (subst (λ (n : ℕ). AreForks logs path n walk.forks.items) (sym longer) (kept_forks walk.forks.items (rw is refl) f.forks));
@@ -294,56 +339,44 @@ module _ (logs : Logs) (path : List Step) (before : List Record) (r : Record) (n
       none_begun : [] ≡ begun_after r.kind (event_after before r) begun
       none_begun = rw is refl
 
-      same_held : held_after [] before ≡ held_after_kind r.kind r.addr (held_after [] before)
-      same_held = rw is refl
-
       same_regions : regions_before logs after ≡ regions_before logs here + 0
       same_regions = let more = regions_next logs path before next.rest r next.parts in let none : cond {A = ℕ} (is_region_kind r.kind) 1 0 ≡ 0 = rw is refl in omega arith
 
       more_barriers : barriers_before logs after ≡ barriers_before logs here + 1
       more_barriers = let more = barriers_next logs path before next.rest r next.parts in let one : cond {A = ℕ} (is_barrier_kind r.kind) 1 0 ≡ 1 = rw is refl in omega arith
 
-      -- the root passes no barrier
-      not_root : path ≡ [] → ⊥
-      not_root e =
-          let total : barriers_before logs after ≤ barrier_count (logs path) = sum_by-take-le (λ (x : Record). cond (is_barrier_kind x.kind) 1 0) (logs path) (length before + 1) in
-          let none : barrier_count (logs path) ≡ 0 = ap (λ (p : List Step). barrier_count (logs p)) e ∙ next.fork_join.ends.no_root_barrier in
-          absurd (omega (arith, more_barriers, none, total))
-
       plus_none : (o s : ℕ) → o ≡ o + s * 0
       plus_none o s = omega arith
 
       next_label : IsLabel logs after new.label
-      next_label = moved logs here after walk.label new.label 0 1 refl same_regions more_barriers (λ e. absurd (not_root e))
+      next_label = moved logs here after walk.label new.label 0 1 refl same_regions more_barriers (λ e. absurd (in_lane is e))
           (λ above own e. raised above own e ∙ (λ i. let t : Triple = record { offset = plus_none own.offset own.span i; span = own.span; barrier = own.barrier + 1 } in above ++ t ∷ []))
           (f.label here refl (let up = f.up in omega arith) (omega arith))
 
   -- the same where the segment was closed before
   pub closed_region : (walk mid new : Walk) (begun : List Event) (last : ℕ) → r.kind ≡ Region → last ≡ length before
-      → mid.first ≡ last + 2 → mid.accesses.items ≡ [] → mid ≡ record walk { first = mid.first; accesses = mid.accesses }
+      → mid.first ≡ last + 2 → mid.summary ≡ None → mid ≡ record walk { first = mid.first; summary = mid.summary }
       → new.forks.items ≡ mid.forks.items ++ mid.label ∷ [] → new ≡ record mid { label = new.label; forks = new.forks }
       → ((above : List Triple) (own : Triple) → mid.label ≡ above ++ own ∷ [] → new.label ≡ above ++ record own { offset = own.offset + own.span } ∷ [])
       → Follows logs path before walk begun → Follows logs path (before ++ r ∷ []) new (begun_after r.kind (event_after before r) begun)
-  closed_region walk mid new begun last is at first accesses same forks also raised f =
+  closed_region walk mid new begun last is at first none same forks also raised f =
       let label : mid.label ≡ walk.label = ap (λ (w : Walk). w.label) same in
       follows_region walk new begun is
-      (ap (λ (w : Walk). w.held) also ∙ ap (λ (w : Walk). w.held) same)
       (ap (λ (w : Walk). w.first) also ∙ (first ∙ ap (λ (n : ℕ). n + 2) at))
-      (ap (λ (w : Walk). w.accesses.items) also ∙ accesses)
+      (ap (λ (w : Walk). w.summary) also ∙ none)
       (forks ∙ (ap (λ (w : Walk). w.forks.items ++ mid.label ∷ []) same ∙ ap (λ (l : List Triple). walk.forks.items ++ l ∷ []) label))
       (λ above own e. raised above own (label ∙ e)) f
 
-  pub closed_barrier : (walk mid new : Walk) (begun : List Event) (last : ℕ) → r.kind ≡ Barrier → last ≡ length before
-      → mid.first ≡ last + 2 → mid.accesses.items ≡ [] → mid ≡ record walk { first = mid.first; accesses = mid.accesses }
+  pub closed_barrier : (walk mid new : Walk) (begun : List Event) (last : ℕ) → r.kind ≡ Barrier → OrdersInLane r.kind path → last ≡ length before
+      → mid.first ≡ last + 2 → mid.summary ≡ None → mid ≡ record walk { first = mid.first; summary = mid.summary }
       → new ≡ record mid { label = new.label }
       → ((above : List Triple) (own : Triple) → mid.label ≡ above ++ own ∷ [] → new.label ≡ above ++ record own { barrier = own.barrier + 1 } ∷ [])
       → Follows logs path before walk begun → Follows logs path (before ++ r ∷ []) new (begun_after r.kind (event_after before r) begun)
-  closed_barrier walk mid new begun last is at first accesses same also raised f =
+  closed_barrier walk mid new begun last is in_lane at first none same also raised f =
       let label : mid.label ≡ walk.label = ap (λ (w : Walk). w.label) same in
-      follows_barrier walk new begun is
-      (ap (λ (w : Walk). w.held) also ∙ ap (λ (w : Walk). w.held) same)
+      follows_barrier walk new begun is in_lane
       (ap (λ (w : Walk). w.first) also ∙ (first ∙ ap (λ (n : ℕ). n + 2) at))
-      (ap (λ (w : Walk). w.accesses.items) also ∙ accesses)
+      (ap (λ (w : Walk). w.summary) also ∙ none)
       (ap (λ (w : Walk). w.forks.items) also ∙ ap (λ (w : Walk). w.forks.items) same)
       (λ above own e. raised above own (label ∙ e)) f
 
@@ -354,12 +387,9 @@ ended_none path begun e = rw e refl
 ended_one : (path : List Step) (begun : List Event) → has_access begun ≡ true → ended path begun ≡ segment_of path begun ∷ []
 ended_one path begun e = rw e refl
 
-access_some : (es : List Event) → has_access es ≡ true → 1 ≤ length es
+pub access_some : (es : List Event) → has_access es ≡ true → 1 ≤ length es
 access_some [] e = cc
 access_some (x ∷ es) e = omega arith
-
-abbrev pub closed : List Step → ℕ → Walk → Segment
-closed path last walk = record { path = path; first = walk.first; last = last; label = walk.label; accesses = walk.accesses }
 
 -- an event that orders ends what has begun
 pub ends_region : (k : Kind) (path : List Step) (begun : List Event) → k ≡ Region → ended path begun ≡ ended_by path k begun
@@ -369,34 +399,64 @@ pub ends_barrier : (k : Kind) (path : List Step) (begun : List Event) → k ≡ 
 ends_barrier k path begun is = rw is refl
 
 pub adds_ended : (logs : Logs) (path : List Step) (before : List Record) (walk : Walk) (begun : List Event) (last : ℕ) (old new : List Segment)
-    → last ≡ length before → (walk.accesses.items ≡ [] → new ≡ old) → ((walk.accesses.items ≢ []) → new ≡ old ++ closed path last walk ∷ [])
+    → last ≡ length before → (walk.summary ≡ None → new ≡ old) → ((summary : Summary) → walk.summary ≡ Some summary → IsClosed path last walk summary old new)
     → Follows logs path before walk begun → AddsSegments logs (ended path begun) old new
-adds_ended logs path before walk begun last old new is_last empty some f = go (walk.accesses.items) refl
+adds_ended logs path before walk begun last old new is_last empty some f = go walk.summary refl
   where
-    adds_one : (walk.accesses.items ≢ []) → AddsSegments logs (ended path begun) old new
-    adds_one ne =
-        let has : has_access begun ≡ true = some_access begun (λ e. ne (f.accesses ∙ e)) in
+    one : (summary : Summary) → walk.summary ≡ Some summary → IsClosed path last walk summary old new → AddsSegments logs (ended path begun) old new
+    one summary e c =
+        let has : has_access begun ≡ true = sym f.sums.begins ∙ ap (λ (o : Option Summary). is_open o) e in
         let long : 1 ≤ length begun = access_some begun has in
         let ends : last_number begun + 1 ≡ walk.first + length begun = last_is walk.first begun f.numbered long in
+        let sums : SumsUp (Some summary) begun = subst (λ (o : Option Summary). SumsUp o begun) e f.sums in
         record {
-          added = closed path last walk ∷ [];
-          gains = some ne;
-          are = subst (λ (is : List Interval). AllZip (IsSegmentOf logs) is (closed path last walk ∷ [])) (sym (ended_one path begun has)) (
+          added = c.segment ∷ [];
+          gains = c.gains;
+          are = subst (λ (is : List Interval). AllZip (IsSegmentOf logs) is (c.segment ∷ [])) (sym (ended_one path begun has)) (
             record {
-              path = refl;
-              first = sym (first_is walk.first begun f.numbered long);
-              last = (let up = f.up in omega arith);
-              accesses = f.accesses;
-              label = λ x same low high. f.label x same low (omega arith);
+              path = c.path_is;
+              first = c.first ∙ sym (first_is walk.first begun f.numbered long);
+              last = c.last_is ∙ (let up = f.up in omega arith);
+              runs = λ key address. (
+                (λ h. (sums.pairs key address).0 ((c.pairs key address).0 h)),
+                (λ h. (c.pairs key address).1 ((sums.pairs key address).1 h)),
+              );
+              label = λ x same low high. subst (λ (l : List Triple). IsLabel logs x l) (sym c.label)
+                  (f.label x (same ∙ c.path_is) (let n = c.first in omega arith) (let n = c.last_is in omega arith));
             },
             tt,
           );
         }
 
-    go : (xs : List Access) → walk.accesses.items ≡ xs → AddsSegments logs (ended path begun) old new
-    go [] e = record {
+    go : (o : Option Summary) → walk.summary ≡ o → AddsSegments logs (ended path begun) old new
+    go None e = record {
       added = [];
       gains = empty e ∙ sym (append-nil old);
-      are = subst (λ (is : List Interval). AllZip (IsSegmentOf logs) is []) (sym (ended_none path begun (no_access begun (sym f.accesses ∙ e)))) tt;
+      are = subst (λ (is : List Interval). AllZip (IsSegmentOf logs) is []) (sym (ended_none path begun (sym f.sums.begins ∙ ap (λ (o : Option Summary). is_open o) e))) tt;
     }
-    go (x ∷ xs) e = adds_one (λ none. let never : x ∷ xs ≡ [] = sym e ∙ none in cc)
+    go (Some summary) e = one summary e (some summary e)
+
+-- an access fits a summary
+pub access_sized : (r : Record) → is_access r.kind ≡ true → HasSize r.kind r.size → IsAccessSize r.size
+access_sized r is size = at r.kind is size where
+  at : (k : Kind) → is_access k ≡ true → HasSize k r.size → IsAccessSize r.size
+  at Read e h = h
+  at Write e h = h
+  at Lock e h = cc
+  at Unlock e h = cc
+  at Barrier e h = cc
+  at Region e h = cc
+  at Chunk e h = cc
+  at End e h = cc
+
+pub access_fits : (r : Record) → is_access r.kind ≡ true → HasAddress r.kind r → r.addr + r.size ≤ 2 ^ 48
+access_fits r is address = at r.kind is address where
+  at : (k : Kind) → is_access k ≡ true → HasAddress k r → r.addr + r.size ≤ 2 ^ 48
+  at Read e h = h
+  at Write e h = h
+  at Lock e h = cc
+  at Unlock e h = cc
+  at Barrier e h = cc
+  at Region e h = cc
+  at Chunk e h = cc
+  at End e h = cc

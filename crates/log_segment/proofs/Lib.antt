@@ -1,11 +1,10 @@
-pub mod Ancestors
 pub mod Following
+pub mod Gaining
+pub mod InOrder
 pub mod LabelMoves
 pub mod OwnLevel
-pub mod Passing
-pub mod Stacks
-pub mod Tasks
 pub mod Members
+pub mod Passing
 pub mod Runs
+pub mod Stacks
 pub mod WholeRun
-pub mod RootAlone

@@ -1,10 +1,8 @@
 -- Going over a log gives its segments.
-use Rattle.std.proofs.Common.{◌≡◌, ℕ, zero, suc, ◌+◌, ◌<◌, ◌≤◌, Bool, true, false, List, [], ◌∷◌, ◌++◌, length, take, drop, Some, refl, sym, ap, subst, ◌∙◌, arith, append_assoc, get_or}
-use Rattle.std.specs.Prelude.{filter, map, slice_get}
+use Rattle.std.proofs.Common.{◌≡◌, ℕ, ◌+◌, Bool, true, false, List, [], ◌∷◌, ◌++◌, length, Some, None, refl, sym, ap, subst, ◌∙◌, arith, append_assoc}
+use Rattle.std.specs.Prelude.{filter, map}
 use Rattle.std.specs.List.{AllZip}
-use Rattle.std.proofs.Math.Seq.{take-length, drop-length}
-use Rattle.std.proofs.lemmas.List.{length_push, length-take-le, append-nil}
-use Rattle.std.proofs.lemmas.Option.{same_Some, slice_get_within, slice_get-get_or}
+use Rattle.std.proofs.lemmas.List.{length_push, append-nil}
 use Rattle.sw_base.specs.declared.path.Step.{Step}
 use Rattle.log_format.specs.declared.record.Record.{Record}
 use Rattle.log_format.specs.declared.record.Kind.{Kind}
@@ -13,27 +11,30 @@ use Rattle.race_model.specs.Trace.{Logs, Node}
 use Rattle.race_model.specs.Race.{held_after, held_after_kind}
 use Rattle.race_model.specs.Label.{Triple, IsLabel}
 use Rattle.race_model.specs.Segment.{Event, Segment as Interval, has_access, segment_of, runs_of, with_event, in_first, events_from, events, task_segments}
-use Rattle.race_model.specs.ForkJoin.{IsForkJoin}
 use Rattle.race_model.proofs.LabelPlace.{same_node}
-use Rattle.race_model.proofs.FolderRules.{parted}
 use Rattle.log_segment.specs.declared.segment.Segment.{Segment}
-use Rattle.log_segment.specs.declared.open_interval.Walk.{Walk}
+use Rattle.log_segment.specs.declared.walking.Walk.{Walk}
 use Rattle.log_segment.specs.Intervals.{IsSegmentOf}
-use Rattle.log_segment.specs.Walking.{AddsSegments, begun_after, event_after, ended, ended_by, Follows, IsNextOf, MayCome, MayAllCome}
-use Rattle.log_segment.proofs.Following.{held_push}
+use Rattle.log_segment.specs.Walking.{AddsSegments, BeginsLog, IsClosed, begun_after, event_after, ended, ended_by, Follows, IsNextOf, WalksLog}
+use Rattle.log_segment.proofs.Following.{held_push, sums_none, adds_ended}
+use Rattle.stride_summary.specs.declared.summary.Summary.{Summary}
 
 -- the segments that end from here on
 abbrev pub ends_from : List Step → List Event → List Event → List Interval
 ends_from path begun [] = ended path begun
 ends_from path begun (e ∷ es) = ended_by path e.event.kind begun ++ ends_from path (begun_after e.event.kind e begun) es
 
--- what was gone over and what is ahead are the segments of the log
-pub record Going (logs : Logs) (path : List Step) (before rest : List Record) (walk : Walk) (old new : List Segment) (all : List Interval) : Type 0 where
+-- what was gone over of a log, and what is to come of whatever is ahead, are the segments of the log
+pub record Going (logs : Logs) (path : List Step) (before : List Record) (walk : Walk) (old new : List Segment) : Type 0 where
   pub begun : List Event
   pub done : List Interval
   pub follows : Follows logs path before walk begun
   pub adds : AddsSegments logs done old new
-  pub total : done ++ ends_from path begun (events_from (length before + 1) (held_after [] before) rest) ≡ all
+  pub total : (rest : List Record) → done ++ ends_from path begun (events_from (length before + 1) (held_after [] before) rest) ≡ task_segments (record { path = path; records = before ++ rest })
+
+-- the walk went over these records of a log that begins with this label, whatever is ahead
+abbrev pub HasWalked : List Step → List Triple → List Record → Walk → List Segment → List Segment → Type 0
+HasWalked path label before walk old new = (logs : Logs) → BeginsLog logs path before → IsLabel logs (record { path = path; index = 0 }) label → Going logs path before walk old new
 
 -- the intervals of runs
 abbrev segs : List Step → List (List Event) → List Interval
@@ -126,105 +127,67 @@ pub adds_none : (logs : Logs) (old : List Segment) → AddsSegments logs [] old 
 adds_none logs old = record { added = []; gains = sym (append-nil old); are = tt }
 
 -- before the first record
-pub going_begins : (logs : Logs) (path : List Step) (records : List Record) (walk : Walk) (old : List Segment) → walk.held ≡ [] → walk.first ≡ 1 → walk.accesses.items ≡ [] → walk.forks.items ≡ []
-    → IsLabel logs (record { path = path; index = 0 }) walk.label → Going logs path [] records walk old old (task_segments (record { path = path; records = records }))
-going_begins logs path records walk old held first accesses forks label = record {
+pub walked_none : (path : List Step) (label : List Triple) (walk : Walk) (old : List Segment) → walk.label ≡ label → walk.first ≡ 1 → walk.summary ≡ None → walk.forks.items ≡ [] → HasWalked path label [] walk old old
+walked_none path label walk old label_is first none forks logs begins is_label = record {
   begun = [];
   done = [];
   follows = record {
-    held = held;
     numbered = tt;
     up = omega (arith, first);
-    accesses = accesses;
-    label = λ x same low high. subst (λ (y : Node). IsLabel logs y walk.label) (sym (same_node x (record { path = path; index = 0 }) same (omega arith))) label;
+    sums = sums_none walk.summary none;
+    label = λ x same low high. subst (λ (y : Node). IsLabel logs y walk.label) (sym (same_node x (record { path = path; index = 0 }) same (omega arith)))
+        (subst (λ (l : List Triple). IsLabel logs (record { path = path; index = 0 }) l) (sym label_is) is_label);
     forks = record {
       count = ap (λ (xs : List (List Triple)). length xs) forks;
       each = λ fork same within is. absurd (omega arith);
     };
   };
   adds = adds_none logs old;
-  total = ends_all path records;
+  total = λ rest. ends_all path rest;
 }
 
 -- one record more
-pub going_on : (logs : Logs) (path : List Step) (before rest : List Record) (r : Record) (walk now : Walk) (old mid new : List Segment) (all : List Interval)
-    → (g : Going logs path before (r ∷ rest) walk old mid all)
+pub going_on : (logs : Logs) (path : List Step) (before : List Record) (r : Record) (walk now : Walk) (old mid new : List Segment)
+    → (g : Going logs path before walk old mid)
     → Follows logs path (before ++ r ∷ []) now (begun_after r.kind (event_after before r) g.begun) → AddsSegments logs (ended_by path r.kind g.begun) mid new
-    → Going logs path (before ++ r ∷ []) rest now old new all
-going_on logs path before rest r walk now old mid new all g follows adds = record {
+    → Going logs path (before ++ r ∷ []) now old new
+going_on logs path before r walk now old mid new g follows adds = record {
   begun = begun_after r.kind (event_after before r) g.begun;
   done = g.done ++ ended_by path r.kind g.begun;
   follows = follows;
   adds = adds_more logs g.done (ended_by path r.kind g.begun) old mid new g.adds adds;
-  total = append_assoc g.done (ended_by path r.kind g.begun) _
-      ∙ (ap (λ (es : List Event). g.done ++ (ended_by path r.kind g.begun ++ ends_from path (begun_after r.kind (event_after before r) g.begun) es)) later ∙ g.total);
+  total = λ rest.
+      append_assoc g.done (ended_by path r.kind g.begun) _
+      ∙ (ap (λ (es : List Event). g.done ++ (ended_by path r.kind g.begun ++ ends_from path (begun_after r.kind (event_after before r) g.begun) es)) (later rest)
+      ∙ (g.total (r ∷ rest) ∙ ap (λ (rs : List Record). task_segments (record { path = path; records = rs })) (sym (append_assoc before (r ∷ []) rest))));
 }
   where
-    later : events_from (length (before ++ r ∷ []) + 1) (held_after [] (before ++ r ∷ [])) rest ≡ events_from (length before + 1 + 1) (held_after_kind r.kind r.addr (held_after [] before)) rest
-    later = ap (λ (n : ℕ). events_from (n + 1) (held_after [] (before ++ r ∷ [])) rest) (length_push before r) ∙ ap (λ (h : List ℕ). events_from (length before + 1 + 1) h rest) (held_push [] before r)
+    later : (rest : List Record) → events_from (length (before ++ r ∷ []) + 1) (held_after [] (before ++ r ∷ [])) rest ≡ events_from (length before + 1 + 1) (held_after_kind r.kind r.addr (held_after [] before)) rest
+    later rest = ap (λ (n : ℕ). events_from (n + 1) (held_after [] (before ++ r ∷ [])) rest) (length_push before r) ∙ ap (λ (h : List ℕ). events_from (length before + 1 + 1) h rest) (held_push [] before r)
 
--- at the end
-pub going_ends : (logs : Logs) (path : List Step) (before : List Record) (walk : Walk) (old mid new : List Segment) (all : List Interval)
-    → (g : Going logs path before [] walk old mid all) → AddsSegments logs (ended path g.begun) mid new → AddsSegments logs all old new
-going_ends logs path before walk old mid new all g adds =
-    subst (λ (is : List Interval). AddsSegments logs is old new) g.total (adds_more logs g.done (ended path g.begun) old mid new g.adds adds)
+pub begins_before : (logs : Logs) (path : List Step) (before : List Record) (r : Record) → BeginsLog logs path (before ++ r ∷ []) → IsNextOf logs path before r
+begins_before logs path before r b = record { rest = b.rest; parts = b.parts ∙ append_assoc before (r ∷ []) b.rest }
 
--- the prefixes of a log up to an element and with it
-drop_is : (records : List Record) (k : ℕ) (r : Record) → slice_get records k ≡ Some r → drop k records ≡ r ∷ drop (suc k) records
-drop_is [] k r found = cc
-drop_is (x ∷ records) zero r found = ap (λ (y : Record). y ∷ records) (same_Some x r found)
-drop_is (x ∷ records) (suc k) r found = drop_is records k r found
+pub walked_next : (path : List Step) (label : List Triple) (before : List Record) (r : Record) (walk now : Walk) (old mid new : List Segment) → HasWalked path label before walk old mid
+    → ((logs : Logs) (begun : List Event) → IsNextOf logs path before r → Follows logs path before walk begun → Follows logs path (before ++ r ∷ []) now (begun_after r.kind (event_after before r) begun))
+    → ((logs : Logs) (begun : List Event) → IsNextOf logs path before r → Follows logs path before walk begun → AddsSegments logs (ended_by path r.kind begun) mid new)
+    → HasWalked path label (before ++ r ∷ []) now old new
+walked_next path label before r walk now old mid new walked follows adds logs begins is_label =
+    let next = begins_before logs path before r begins in
+    let g = walked logs (record { rest = r ∷ next.rest; parts = next.parts }) is_label in
+    going_on logs path before r walk now old mid new g (follows logs g.begun next g.follows) (adds logs g.begun next g.follows)
 
-take_is : (records : List Record) (k : ℕ) (r : Record) → slice_get records k ≡ Some r → take (suc k) records ≡ take k records ++ r ∷ []
-take_is [] k r found = cc
-take_is (x ∷ records) zero r found = ap (λ (y : Record). y ∷ []) (same_Some x r found)
-take_is (x ∷ records) (suc k) r found = ap (λ (ys : List Record). x ∷ ys) (take_is records k r found)
-
-suc_is : (k : ℕ) → suc k ≡ k + 1
-suc_is k = omega arith
-
-pub record_is : (items now : List Record) (k : ℕ) (d : Record) → now ≡ items → k < length now → slice_get items k ≡ Some (get_or now k d)
-record_is items now k d e within = subst (λ (xs : List Record). slice_get xs k ≡ Some (get_or now k d)) e (slice_get-get_or now k d within)
-
-pub held_more : (records : List Record) (k : ℕ) (r : Record) (walk now : Walk) → slice_get records k ≡ Some r → walk.held ≡ held_after [] (take k records) → now.held ≡ held_after_kind r.kind r.addr walk.held
-    → now.held ≡ held_after [] (take (k + 1) records)
-held_more records k r walk now found held next =
-    next ∙ (ap (λ (h : List ℕ). held_after_kind r.kind r.addr h) held
-    ∙ (sym (held_push [] (take k records) r) ∙ ap (λ (rs : List Record). held_after [] rs) (sym (take_is records k r found) ∙ ap (λ (n : ℕ). take n records) (suc_is k))))
-
-pub going_next : (logs : Logs) (path : List Step) (records : List Record) (k : ℕ) (r : Record) (walk now : Walk) (old mid new : List Segment) (all : List Interval)
-    → slice_get records k ≡ Some r → logs path ≡ records → IsForkJoin logs → Going logs path (take k records) (drop k records) walk old mid all
-    → ((before : List Record) (begun : List Event) → IsNextOf logs path before r → k + 1 ≡ length before + 1 → Follows logs path before walk begun
-    → Follows logs path (before ++ r ∷ []) now (begun_after r.kind (event_after before r) begun))
-    → ((before : List Record) (begun : List Event) → IsNextOf logs path before r → k + 1 ≡ length before + 1 → Follows logs path before walk begun
-    → AddsSegments logs (ended_by path r.kind begun) mid new)
-    → Going logs path (take (k + 1) records) (drop (k + 1) records) now old new all
-going_next logs path records k r walk now old mid new all found log tree going follows adds =
-    subst (λ (rs : List Record). Going logs path rs (drop (k + 1) records) now old new all) (sym (take_is records k r found) ∙ ap (λ (n : ℕ). take n records) (suc_is k))
-    (subst (λ (n : ℕ). Going logs path (take k records ++ r ∷ []) (drop n records) now old new all) (suc_is k)
-    (going_on logs path (take k records) (drop (suc k) records) r walk now old mid new all here
-    (follows (take k records) here.begun next number here.follows)
-    (adds (take k records) here.begun next number here.follows)))
-  where
-    here : Going logs path (take k records) (r ∷ drop (suc k) records) walk old mid all
-    here = subst (λ (rs : List Record). Going logs path (take k records) rs walk old mid all) (drop_is records k r found) going
-
-    next : IsNextOf logs path (take k records) r
-    next = record { fork_join = tree; rest = drop (suc k) records; parts = log ∙ parted records k r found }
-
-    within : k < length records
-    within = slice_get_within records k r found
-
-    number : k + 1 ≡ length (take k records) + 1
-    number = ap (λ (n : ℕ). n + 1) (sym (length-take-le k records (let le : k ≤ length records = omega (arith, within) in le)))
-
-pub may_at : (records now : List Record) (held : List ℕ) (k : ℕ) (d : Record) → MayAllCome records → now ≡ records → k < length now → held ≡ held_after [] (take k records) → MayCome held (get_or now k d)
-may_at records now held k d all same within is =
-    subst (λ (h : List ℕ). MayCome h (get_or now k d)) (sym is) (all k (get_or now k d) (record_is records now k d same within))
-
--- all was gone over
-pub going_whole : (logs : Logs) (path : List Step) (records : List Record) (k : ℕ) (walk : Walk) (old mid : List Segment) (all : List Interval)
-    → k ≡ length records → Going logs path (take k records) (drop k records) walk old mid all → Going logs path records [] walk old mid all
-going_whole logs path records k walk old mid all e going =
-    subst (λ (rs : List Record). Going logs path rs [] walk old mid all) (ap (λ (n : ℕ). take n records) e ∙ take-length records)
-    (subst (λ (rs : List Record). Going logs path (take k records) rs walk old mid all) (ap (λ (n : ℕ). drop n records) e ∙ drop-length records) going)
+-- what the walk through a whole log gave
+pub walked_all : (path : List Step) (label : List Triple) (records : List Record) (walk : Walk) (last : ℕ) (old mid new : List Segment) → HasWalked path label records walk old mid → last ≡ length records
+    → (walk.summary ≡ None → new ≡ mid) → ((summary : Summary) → walk.summary ≡ Some summary → IsClosed path last walk summary mid new)
+    → WalksLog path label records walk.forks.items old new
+walked_all path label records walk last old mid new walked is_last empty some = record {
+  segments = λ logs log is_label.
+      let g = walked logs (record { rest = []; parts = log ∙ sym (append-nil records) }) is_label in
+      subst (λ (is : List Interval). AddsSegments logs is old new)
+      (g.total [] ∙ ap (λ (rs : List Record). task_segments (record { path = path; records = rs })) (append-nil records))
+      (adds_more logs g.done (ended path g.begun) old mid new g.adds (adds_ended logs path records walk g.begun last mid new is_last empty some g.follows));
+  forked = λ logs log is_label.
+      let g = walked logs (record { rest = []; parts = log ∙ sym (append-nil records) }) is_label in
+      g.follows.forks;
+}

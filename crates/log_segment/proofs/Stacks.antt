@@ -1,40 +1,23 @@
 -- The label of a task's first record, from the labels of the forks of the tasks above.
-use Rattle.std.proofs.Common.{◌≡◌, ◌≢◌, ◌⊎◌, inl, inr, ℕ, ◌+◌, ◌*◌, ◌-◌, ◌<◌, ◌≤◌, List, [], ◌∷◌, ◌++◌, length, take, Some, refl, sym, ap, subst, ◌∙◌, arith}
+use Rattle.std.proofs.Common.{◌≡◌, ℕ, ◌+◌, ◌*◌, ◌-◌, ◌<◌, ◌≤◌, List, [], ◌∷◌, ◌++◌, length, take, refl, sym, ap, subst, ◌∙◌, arith}
 use Rattle.std.specs.Prelude.{slice_get}
 use Rattle.std.specs.Global.{Vec}
 use Rattle.std.proofs.lemmas.List.{same_from_push, length_push}
 use Rattle.std.proofs.lemmas.Option.{same_Some, slice_get_within}
 use Rattle.sw_base.specs.declared.path.Step.{Step}
-use Rattle.log_format.specs.declared.record.Kind.TheVariants.{Unlock}
-use Rattle.log_format.specs.Table.{IsTabled}
-use Rattle.mutex_set.specs.Held.{IsInnermost}
-use Rattle.race_model.specs.declared.why.RecordWhy.TheVariants as log
 use Rattle.race_model.specs.IndexFault.{IsStep}
-use Rattle.race_model.specs.KeepsRules.{TaskKeepsRules}
 use Rattle.race_model.specs.Label.{Triple, IsLabel}
 use Rattle.race_model.specs.Order.{IsLane}
-use Rattle.race_model.specs.Race.{held_after}
-use Rattle.race_model.specs.Trace.{TaskLog, Trace, Logs, Node, logs_of, regions_before}
-use Rattle.race_model.specs.ForkJoin.{IsTask, WasForked, IsForkJoin}
-use Rattle.race_model.proofs.LabelPlace.{has_last, HasLast, not_both_empty, is_region}
-use Rattle.race_model.proofs.TraceLogs.{all_at}
-use Rattle.log_segment.specs.Stack.{HasFork}
-use Rattle.log_segment.specs.Walking.{AreForks, IsOwnAfter, MayAllCome}
+use Rattle.race_model.specs.Trace.{Logs, Node, regions_before}
+use Rattle.race_model.specs.ForkJoin.{WasForked}
+use Rattle.race_model.proofs.LabelPlace.{is_region}
+use Rattle.log_segment.specs.Stack.{HasFork, HasForks}
+use Rattle.log_segment.specs.Walking.{AreForks, IsOwnAfter}
 use Rattle.log_segment.proofs.OwnLevel.{own_last}
-
--- the labels of the forks of one task
-pub record HasForks (logs : Logs) (forks : List (Vec (List Triple))) (path : List Step) (depth : ℕ) : Type 0 where
-  pub labels : Vec (List Triple)
-  pub row : slice_get forks depth ≡ Some labels
-  pub are : AreForks logs (take depth path) (length (logs (take depth path))) labels.items
 
 -- the labels of the forks of the task of this path and of all above it, by depth
 abbrev pub IsStack : Logs → List (Vec (List Triple)) → List Step → Type 0
 IsStack logs forks path = (depth : ℕ) → depth ≤ length path → HasForks logs forks path depth
-
--- the labels of the forks are those of the last of the first tasks
-abbrev pub Reached : Trace → ℕ → List (Vec (List Triple)) → Type 0
-Reached trace n forks = (k : ℕ) (last : TaskLog) → n ≡ k + 1 → slice_get trace k ≡ Some last → IsStack (logs_of trace) forks last.path
 
 -- a label has one level more than its path
 pub label_levels : (logs : Logs) (x : Node) (l : List Triple) → IsLabel logs x l → length l ≡ length x.path + 1
@@ -51,9 +34,9 @@ pub record Fork (logs : Logs) (above : List Step) (step : Step) (forks : List (V
   pub lane : IsLane logs fork step.lane step.span (above ++ step ∷ [])
   pub is_label : IsLabel logs fork has.label
 
-pub fork_there : (logs : Logs) (forks : List (Vec (List Triple))) (above : List Step) (step : Step) → IsForkJoin logs → IsTask logs (above ++ step ∷ []) → length (above ++ step ∷ []) ≤ 4
+pub fork_there : (logs : Logs) (forks : List (Vec (List Triple))) (above : List Step) (step : Step) → WasForked logs above step → length (above ++ step ∷ []) ≤ 4
     → HasForks logs forks above (length above) → Fork logs above step forks
-fork_there logs forks above step tree begun deep h = go (tree.tasks.forked above step begun)
+fork_there logs forks above step forked deep h = go forked
   where
     whole : take (length above) above ≡ above
     whole = take-all above where
@@ -122,25 +105,3 @@ root_first logs path result root e = (label, own)
         let last : Triple = record { offset = 0; span = 1; barrier = 0 } in
         let same : last ≡ x = same_Some last x (sym (own_last [] last) ∙ (ap (λ (l : List Triple). slice_get l (length l - 1)) (sym e) ∙ found)) in
         subst (λ (t : Triple). (t.span ≤ 64) × (t.offset ≤ 64 * 1) × (t.barrier ≤ 1)) same (omega arith, omega arith, omega arith)
-
--- the mutexes of a task nest
-pub may_all : (trace : Trace) (task : TaskLog) → TaskKeepsRules trace task → MayAllCome task.records
-may_all trace task rules k r found = record {
-  tabled = all_at IsTabled task.records k r rules.tabled found;
-  lock = λ is. record {
-    free = λ has. rules.keeps k r found log.LockTwice (is, has);
-    few = λ deep. rules.keeps k r found log.LocksDeep (is, deep);
-  };
-  unlock = λ is. innermost is (has_last (held_after [] (take k task.records)));
-}
-  where
-    innermost : r.kind ≡ Unlock → (held_after [] (take k task.records) ≡ []) ⊎ HasLast (held_after [] (take k task.records)) → IsInnermost (held_after [] (take k task.records)) r.addr
-    innermost is (inl e) = absurd (rules.keeps k r found log.UnlockOther (is, λ outer same. not_both_empty (held_after [] (take k task.records)) outer r.addr e same))
-    innermost is (inr l) = decide (same_or_not l.last r.addr)
-      where
-        same_or_not : (m n : ℕ) → (m ≡ n) ⊎ (m ≢ n)
-        same_or_not m n = grind arith
-
-        decide : (l.last ≡ r.addr) ⊎ (l.last ≢ r.addr) → IsInnermost (held_after [] (take k task.records)) r.addr
-        decide (inl e) = (l.prefix, l.parts ∙ ap (λ (m : ℕ). l.prefix ++ m ∷ []) e)
-        decide (inr ne) = absurd (rules.keeps k r found log.UnlockOther (is, λ outer same. ne (let both = same_from_push l.prefix outer l.last r.addr (sym l.parts ∙ same) in both.1)))

@@ -1,19 +1,20 @@
--- The access that a record is.
+-- The key of the access that a record is.
 use Rattle.std.specs.Prelude.{ℕ, Bool, true, false, List}
 use Rattle.log_format.specs.declared.record.Kind.{Kind}
-use Rattle.log_format.specs.declared.record.Kind.TheVariants.{Write}
+use Rattle.log_format.specs.declared.record.Kind.TheVariants.{Read, Write, Lock, Unlock, Barrier, Region, Chunk, End}
 use Rattle.log_format.specs.declared.record.Record.{Record}
-use Rattle.race_model.specs.Segment.{Event}
-use Rattle.stride_summary.specs.declared.access.Access.{Access}
+use Rattle.stride_summary.specs.declared.key.Key.{Key}
 
 abbrev pub is_write : Kind → Bool
+is_write Read = false
 is_write Write = true
-is_write _ = false
+is_write Lock = false
+is_write Unlock = false
+is_write Barrier = false
+is_write Region = false
+is_write Chunk = false
+is_write End = false
 
--- the access that a record is, under these mutexes
-abbrev pub access_at : Record → List ℕ → Access
-access_at r held = record { write = is_write r.kind; size = r.size; site = r.site; line = r.line; addr = r.addr; held = held }
-
--- the access that an event is
-abbrev pub access_of : Event → Access
-access_of e = access_at e.event e.held
+-- what tells an access under these mutexes apart but its address
+abbrev pub key_at : Record → List ℕ → Key
+key_at r held = record { write = is_write r.kind; size = r.size; site = r.site; line = r.line; held = held }

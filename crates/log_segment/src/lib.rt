@@ -1,15 +1,17 @@
 //! The barrier intervals of a run (SWORD 2018): the accesses between two records that order a task with others.
 //!
-//! `segments` gives exactly those of a trace, in the order of its tasks and records, each with its offset-span label.
+//! `Walk` goes over the records of one log, one at a time, and gives exactly the log's intervals, in order, each with its
+//! offset-span label and its accesses as strided runs. It keeps no record. `first_label` tells with which label a task begins,
+//! by those at which the tasks above forked.
 #![tactic(auto)]
 
-mod building;
-mod open_interval;
+mod beginning;
 mod segment;
-mod task_records;
+mod walking;
 
-pub use building::segments;
-pub use segment::{Segment, TaskRecords};
+pub use beginning::first_label;
+pub use segment::Segment;
+pub use walking::Walk;
 
 #[cfg(test)]
 mod tests;

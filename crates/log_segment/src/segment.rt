@@ -1,14 +1,6 @@
-use log_format::Record;
 use span_label::Label;
-use stride_summary::Access;
+use stride_summary::Run;
 use sw_base::Path;
-
-/// One task of a run: its path, and the records of its log, its end the last.
-#[derive(Drop)]
-pub struct TaskRecords {
-    pub path: Path,
-    pub records: Vec<Record>,
-}
 
 /// A barrier interval (SWORD 2018): a maximal run of records of one log without a Region or Barrier, with an access.
 #[derive(Drop)]
@@ -21,6 +13,6 @@ pub struct Segment {
     pub last: u32,
     /// The offset-span label of all its records.
     pub label: Label,
-    /// The reads and writes, in order.
-    pub accesses: Vec<Access>,
+    /// The reads and writes, in order of their first addresses.
+    pub runs: Vec<Run>,
 }

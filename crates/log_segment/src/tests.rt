@@ -1,6 +1,7 @@
-use crate::{TaskRecords, segments};
+use crate::{Segment, Walk, first_label};
 use log_format::{Kind, Record};
-use span_label::Triple;
+use mutex_set::Held;
+use span_label::{Label, Triple};
 use std::test::Fail;
 use sw_base::Path;
 
@@ -13,23 +14,16 @@ const WRITE: Record = Record {
     value: 1,
 };
 
-const END: Record = Record {
-    kind: Kind::End,
-    size: 0,
-    site: 0,
-    line: 9,
-    addr: 0,
-    value: 0,
-};
-
 #[test]
 fn a_root_alone_has_one_segment(rt: HostRuntime) -> Result<(), Fail> {
-    let records = vec![in rt.alloc(); WRITE, END]?;
-    let trace = [TaskRecords {
-        path: Path::root(),
-        records,
-    }];
-    let found = segments(rt.alloc(), &trace)?;
+    let path = Path::root();
+    let mut forks: Vec<Vec<Label>> = Vec::new(rt.alloc());
+    forks.clear();
+    let mut walk = Walk::new(rt.alloc(), first_label(&forks, &path));
+    let held = Held::none();
+    let mut found: Vec<Segment> = Vec::new(rt.alloc());
+    walk.step(rt.alloc(), &path, 1, &WRITE, &held, &mut found)?;
+    walk.close(&path, 2, &mut found)?;
     assert_eq!(rt; found.len(), 1);
     let segment = &found[0];
     assert_eq!(rt; (segment.first, segment.last), (1, 2));
@@ -40,12 +34,10 @@ fn a_root_alone_has_one_segment(rt: HostRuntime) -> Result<(), Fail> {
         barrier: 0,
     };
     assert_eq!(rt; segment.label.triples(), [start].as_slice());
-    assert_eq!(rt; segment.accesses.len(), 1);
-    let access = &segment.accesses[0];
-    assert!(rt; access.write && access.held.ids().is_empty());
-    assert_eq!(rt;
-        (access.size, access.site, access.line, access.addr),
-        (8, 3, 5, 4096)
-    );
+    assert_eq!(rt; segment.runs.len(), 1);
+    let run = &segment.runs[0];
+    assert!(rt; run.write && run.held.ids().is_empty());
+    assert_eq!(rt; (run.size, run.site, run.line), (8, 3, 5));
+    assert_eq!(rt; (run.base, run.stride, run.count), (4096, 0, 1));
     Ok(())
 }

@@ -4,8 +4,7 @@ use Rattle.std.specs.Prelude.{slice_get, Option, None, MatchOption}
 use Rattle.log_format.specs.declared.record.Record.{Record}
 use Rattle.log_format.specs.declared.record.Kind.{Kind}
 use Rattle.log_format.specs.declared.record.Kind.TheVariants.{Read, Write, Lock, Unlock, Barrier, Region, Chunk, End}
-use Rattle.log_format.specs.declared.record.Why.TheVariants as why
-use Rattle.log_format.specs.Table.{IsTabled, HasAddress}
+use Rattle.log_format.specs.Table.{HasAddress}
 use Rattle.mutex_set.specs.Held.{IsInnermost}
 use Rattle.race_model.specs.declared.why.RecordWhy.{RecordWhy}
 use Rattle.race_model.specs.declared.why.RecordWhy.TheVariants as log
@@ -151,21 +150,6 @@ end_below task before r n kind place free all together log.RegionRows low (inl f
 end_below task before r n kind place free all together log.RegionRows low (inr end_of) = absurd (omega (arith, all low, end_of.1))
 end_below task before r n kind place free all together _ low broken = absurd broken
 
--- nothing of a rank below 9 but an End before its place
-below_nine : (task : LogTask) (before : List Record) (r : Record) (rule : RecordWhy) → record_rank rule < 9 → Breaks task before r rule → rule ≡ log.EndEarly
-below_nine task before r log.EndEarly low broken = refl
-below_nine task before r log.EndMissing low broken = absurd (omega arith)
-below_nine task before r log.LockTwice low broken = absurd (omega arith)
-below_nine task before r log.LocksDeep low broken = absurd (omega arith)
-below_nine task before r log.UnlockOther low broken = absurd (omega arith)
-below_nine task before r log.RootBarrier low broken = absurd (omega arith)
-below_nine task before r log.BarrierLocked low broken = absurd (omega arith)
-below_nine task before r log.RegionLocked low broken = absurd (omega arith)
-below_nine task before r log.LockOpen low broken = absurd (omega arith)
-below_nine task before r log.RegionRows low broken = absurd (omega arith)
-below_nine task before r log.BarrierCount low broken = absurd (omega arith)
-below_nine task before r _ low broken = absurd broken
-
 pub lock_first : (task : LogTask) (before : List Record) (r : Record) (held : List ℕ) → held ≡ held_after [] before → r.kind ≡ Lock → Placed task before r
     → (rule : RecordWhy) → CantLock held r.addr rule → BreaksFirst task before r rule
 lock_first task before r held is kind place log.LockTwice cant = record {
@@ -269,11 +253,11 @@ end_none task before r held is kind place may =
     (none_of task before r (end_below task before r last_rank kind place (λ low. sym is ∙ may.free) (λ low. may.all) (λ low. may.together)), kept before r held held End kind is refl)
 
 -- a mutex's number fits 16 bits
-pub lock_fits : (r : Record) → IsTabled r → r.kind ≡ Lock → r.addr < 2 ^ 16
-lock_fits r tabled kind = subst (λ (k : Kind). HasAddress k r) kind (tabled.passes why.Address)
+pub lock_fits : (r : Record) → HasAddress r.kind r → r.kind ≡ Lock → r.addr < 2 ^ 16
+lock_fits r fits kind = subst (λ (k : Kind). HasAddress k r) kind fits
 
-pub unlock_fits : (r : Record) → IsTabled r → r.kind ≡ Unlock → r.addr < 2 ^ 16
-unlock_fits r tabled kind = subst (λ (k : Kind). HasAddress k r) kind (tabled.passes why.Address)
+pub unlock_fits : (r : Record) → HasAddress r.kind r → r.kind ≡ Unlock → r.addr < 2 ^ 16
+unlock_fits r fits kind = subst (λ (k : Kind). HasAddress k r) kind fits
 
 -- a record in its place, its number being one more than those before
 pub here : (task : LogTask) (before : List Record) (r : Record) (n : ℕ) → n ≡ length before + 1 → InPlace r.kind n task.records → Placed task before r

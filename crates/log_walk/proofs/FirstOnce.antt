@@ -11,6 +11,7 @@ use Rattle.std.proofs.lemmas.Cmp.{nat_list_cmp_total}
 use Rattle.std.proofs.lemmas.Option.{same_Some}
 use Rattle.sw_base.specs.declared.path.Step.{Step}
 use Rattle.sw_base.specs.Environment.{Files}
+use Rattle.log_format.specs.declared.format.Format.{Format}
 use Rattle.race_model.specs.Row.{Row}
 use Rattle.race_model.specs.declared.why.IndexWhy.{IndexWhy}
 use Rattle.race_model.specs.declared.why.IndexWhy.TheVariants as index
@@ -91,7 +92,7 @@ same_keys (x ∷ xs) (y ∷ ys) same = elim (cases_order x y) [
 ]
 
 -- of two places that differ one is earlier
-pub first_bad_once : (files : Files) (dir : List ℕ) (place other : BadPlace) → IsFirstBad files dir place → IsFirstBad files dir other → place ≡ other
+pub first_bad_once : {format : Format} (files : Files) (dir : List ℕ) (place other : BadPlace) → IsFirstBad format files dir place → IsFirstBad format files dir other → place ≡ other
 first_bad_once files dir place other one two = at (slice_cmp nat_cmp (place_key place) (place_key other)) refl where
   at : (o : Ordering) → slice_cmp nat_cmp (place_key place) (place_key other) ≡ o → place ≡ other
   at Less is = absurd (two.least place is one.bad)
@@ -99,7 +100,7 @@ first_bad_once files dir place other one two = at (slice_cmp nat_cmp (place_key 
   at Greater is = absurd (one.least other (nat_list_cmp_total.antisymm (place_key other) (place_key place) ∙ ap ordering_reverse is) two.bad)
 
 -- rows are numbered
-pub row_task_once : (files : Files) (dir : List ℕ) (path other : List Step) (row : ℕ) → IsLogRow files dir path row → IsLogRow files dir other row → path ≡ other
+pub row_task_once : {format : Format} (files : Files) (dir : List ℕ) (path other : List Step) (row : ℕ) → IsLogRow format files dir path row → IsLogRow format files dir other row → path ≡ other
 row_task_once files dir path other row one two =
     let rows : two.rows ≡ one.rows = index_once files dir two.rows one.rows two.index one.index in
     let index : one.listed.index ≡ two.listed.index = omega (arith, one.listed.number, two.listed.number) in

@@ -5,10 +5,11 @@ use Rattle.std.proofs.lemmas.Bool.{cases_lt}
 use Rattle.std.proofs.lemmas.List.{append-nil, length-append, take-append-drop}
 use Rattle.std.proofs.lemmas.List.Elements.{All-nil, All-cons, All-push}
 use Rattle.std.proofs.lemmas.Option.{none-some, same_Some}
-use Rattle.sw_base.specs.declared.files.TheConstants.{LOG_HEADER}
 use Rattle.sw_base.specs.Environment.{Files}
 use Rattle.sw_base.specs.Names.{log_name}
 use Rattle.sw_base.proofs.ReadPrefixes.{BeginsWith}
+use Rattle.log_format.specs.declared.format.Format.{Format}
+use Rattle.log_format.specs.Format.{log_header}
 use Rattle.log_format.specs.declared.record.Record.{Record}
 use Rattle.log_format.specs.declared.record.Why.{Why}
 use Rattle.log_format.specs.declared.record.Why.TheVariants as why
@@ -58,18 +59,18 @@ begins (b ∷ bytes) (p ∷ prefix) = by_head (equal b p) (begins bytes prefix) 
   by_head (inr differ) other = inr (λ is. differ (ap (λ (xs : List ℕ). get_or xs 0 0) is.parts))
 
 -- records that the bytes spell, as many as the task has
-pub record ReadsAll (bytes : List ℕ) (count : ℕ) : Type 0 where
+pub record ReadsAll (format : Format) (bytes : List ℕ) (count : ℕ) : Type 0 where
   pub records : List Record
-  pub bytes_are : bytes ≡ log_bytes LOG_HEADER records
-  pub tabled : All IsTabled records
+  pub bytes_are : bytes ≡ log_bytes (log_header format) records
+  pub tabled : All (IsTabled format) records
   pub all : length records ≡ count
 
 -- ---- one log
 
-module _ (bytes : List ℕ) (small : AreSmall bytes) (task : LogTask) (good : (n : ℕ) (rule : RecordWhy) → IsLogFault bytes task n rule → ⊥) where
-  module _ (before : List Record) (rest : List ℕ) (read : IsRead bytes before rest) where
+module _ (format : Format) (bytes : List ℕ) (small : AreSmall bytes) (task : LogTask) (good : (n : ℕ) (rule : RecordWhy) → IsLogFault format bytes task n rule → ⊥) where
+  module _ (before : List Record) (rest : List ℕ) (read : IsRead format bytes before rest) where
     small_rest : AreSmall rest
-    small_rest = small_end (log_bytes LOG_HEADER before) rest (subst AreSmall read.parts small)
+    small_rest = small_end (log_bytes (log_header format) before) rest (subst AreSmall read.parts small)
 
     at_end : length before ≡ task.records → rest ≡ []
     at_end all = by_rest rest refl where
@@ -78,7 +79,7 @@ module _ (bytes : List ℕ) (small : AreSmall bytes) (task : LogTask) (good : (n
       by_rest (x ∷ xs) is = absurd (good (task.records + 1) log.Extra (record { records = before; rest = rest; read = read; all = all; number = refl; more = omega (arith, ap length is) }))
 
     module _ (more : length before + 1 ≤ task.records) where
-      at : IsAt bytes task.records (length before + 1) before rest
+      at : IsAt format bytes task.records (length before + 1) before rest
       at = record { read = read; number = refl; counted = more }
 
       long : 24 ≤ length rest
@@ -87,7 +88,7 @@ module _ (bytes : List ℕ) (small : AreSmall bytes) (task : LogTask) (good : (n
         by_length (inl short) = absurd (good (length before + 1) log.Cut (record { before = before; rest = rest; at = at; short = short }))
         by_length (inr enough) = enough
 
-      no_fault : (w : Why) → IsFirstFault (take 24 rest) w → ⊥
+      no_fault : (w : Why) → IsFirstFault format (take 24 rest) w → ⊥
       no_fault why.Kind first = good (length before + 1) log.Kind (record { before = before; rest = rest; at = at; whole = long; first = first })
       no_fault why.Size first = good (length before + 1) log.Size (record { before = before; rest = rest; at = at; whole = long; first = first })
       no_fault why.LineZero first = good (length before + 1) log.LineZero (record { before = before; rest = rest; at = at; whole = long; first = first })
@@ -95,25 +96,25 @@ module _ (bytes : List ℕ) (small : AreSmall bytes) (task : LogTask) (good : (n
       no_fault why.Span first = good (length before + 1) log.Span (record { before = before; rest = rest; at = at; whole = long; first = first })
       no_fault why.Reserved first = good (length before + 1) log.Reserved (record { before = before; rest = rest; at = at; whole = long; first = first })
 
-      next : SpellsSome (take 24 rest)
-      next = spells_some (take 24 rest) (let enough = long in omega (arith, length-take 24 rest)) (small_take 24 rest small_rest) no_fault
+      next : SpellsSome format (take 24 rest)
+      next = spells_some format (take 24 rest) (let enough = long in omega (arith, length-take 24 rest)) (small_take 24 rest small_rest) no_fault
 
-      read_next : IsRead bytes (before ++ next.read ∷ []) (drop 24 rest)
+      read_next : IsRead format bytes (before ++ next.read ∷ []) (drop 24 rest)
       read_next = record {
         parts = read.parts
-            ∙ ap (λ (bs : List ℕ). log_bytes LOG_HEADER before ++ bs) (sym (take-append-drop 24 rest) ∙ ap (λ (bs : List ℕ). bs ++ drop 24 rest) next.spells.spelled)
-            ∙ sym (append_assoc (log_bytes LOG_HEADER before) (spelling next.read) (drop 24 rest))
+            ∙ ap (λ (bs : List ℕ). log_bytes (log_header format) before ++ bs) (sym (take-append-drop 24 rest) ∙ ap (λ (bs : List ℕ). bs ++ drop 24 rest) next.spells.spelled)
+            ∙ sym (append_assoc (log_bytes (log_header format) before) (spelling next.read) (drop 24 rest))
             ∙ ap (λ (bs : List ℕ). bs ++ drop 24 rest)
-            (ap (λ (bs : List ℕ). log_bytes LOG_HEADER before ++ bs) (sym (append-nil (spelling next.read))) ∙ sym (log_bytes-append LOG_HEADER before (next.read ∷ [])));
-        tabled = All-push IsTabled before next.read read.tabled next.spells.tabled;
+            (ap (λ (bs : List ℕ). log_bytes (log_header format) before ++ bs) (sym (append-nil (spelling next.read))) ∙ sym (log_bytes-append (log_header format) before (next.read ∷ [])));
+        tabled = All-push (IsTabled format) before next.read read.tabled next.spells.tabled;
       }
 
-  go : (m : ℕ) (before : List Record) (rest : List ℕ) → IsRead bytes before rest → length before + m ≡ task.records → ReadsAll bytes task.records
+  go : (m : ℕ) (before : List Record) (rest : List ℕ) → IsRead format bytes before rest → length before + m ≡ task.records → ReadsAll format bytes task.records
   go zero before rest read all =
       let whole : length before ≡ task.records = omega (arith, all) in
       record {
         records = before;
-        bytes_are = read.parts ∙ ap (λ (bs : List ℕ). log_bytes LOG_HEADER before ++ bs) (at_end before rest read whole) ∙ append-nil (log_bytes LOG_HEADER before);
+        bytes_are = read.parts ∙ ap (λ (bs : List ℕ). log_bytes (log_header format) before ++ bs) (at_end before rest read whole) ∙ append-nil (log_bytes (log_header format) before);
         tabled = read.tabled;
         all = whole;
       }
@@ -122,11 +123,11 @@ module _ (bytes : List ℕ) (small : AreSmall bytes) (task : LogTask) (good : (n
       go m (before ++ (next before rest read more).read ∷ []) (drop 24 rest) (read_next before rest read more)
       (omega (arith, all, length-append before ((next before rest read more).read ∷ [])))
 
-  pub reads_all : ReadsAll bytes task.records
+  pub reads_all : ReadsAll format bytes task.records
   reads_all =
-      let header : BeginsWith bytes LOG_HEADER =
-      stable (begins bytes LOG_HEADER) (λ not. good 0 log.Header (refl, λ rest is. not (record { rest = rest; parts = is }))) in
-      go task.records [] header.rest (record { parts = header.parts ∙ ap (λ (bs : List ℕ). bs ++ header.rest) (sym (append-nil LOG_HEADER)); tabled = All-nil IsTabled }) (omega arith)
+      let header : BeginsWith bytes (log_header format) =
+      stable (begins bytes (log_header format)) (λ not. good 0 log.Header (refl, λ rest is. not (record { rest = rest; parts = is }))) in
+      go task.records [] header.rest (record { parts = header.parts ∙ ap (λ (bs : List ℕ). bs ++ header.rest) (sym (append-nil (log_header format))); tabled = All-nil (IsTabled format) }) (omega arith)
 
 -- ---- all logs
 
@@ -138,41 +139,41 @@ contains_at (r ∷ rows) (suc k) row found =
     let later = contains_at rows k row found in (suc later.0, omega (arith, later.1), later.2)
 
 -- the row's log is whole
-record HasWholeLog (files : Files) (dir : List ℕ) (row : Row) : Type 0 where
+record HasWholeLog (format : Format) (files : Files) (dir : List ℕ) (row : Row) : Type 0 where
   records : List Record
-  whole : IsWholeLog files dir row.path records
+  whole : IsWholeLog format files dir row.path records
   all : length records ≡ row.records
 
 -- tasks of these rows, whose logs are whole
-record HasTasks (files : Files) (dir : List ℕ) (rows : List Row) : Type 0 where
+record HasTasks (format : Format) (files : Files) (dir : List ℕ) (rows : List Row) : Type 0 where
   tasks : Trace
   rows_are : rows_of tasks ≡ rows
-  logs : HoldsLogs files dir tasks
+  logs : HoldsLogs format files dir tasks
 
-has_tasks : (files : Files) (dir : List ℕ) (rows : List Row) → ((k : ℕ) (row : Row) → slice_get rows k ≡ Some row → HasWholeLog files dir row) → HasTasks files dir rows
-has_tasks files dir [] each = record { tasks = []; rows_are = refl; logs = All-nil (λ (task : TaskLog). IsWholeLog files dir task.path task.records) }
-has_tasks files dir (row ∷ rows) each =
+has_tasks : {format : Format} (files : Files) (dir : List ℕ) (rows : List Row) → ((k : ℕ) (row : Row) → slice_get rows k ≡ Some row → HasWholeLog format files dir row) → HasTasks format files dir rows
+has_tasks {format} files dir [] each = record { tasks = []; rows_are = refl; logs = All-nil (λ (task : TaskLog). IsWholeLog format files dir task.path task.records) }
+has_tasks {format} files dir (row ∷ rows) each =
     let first = each 0 row refl in
     let others = has_tasks files dir rows (λ k. each (suc k)) in
     let task : TaskLog = record { path = row.path; records = first.records } in
     record {
       tasks = task ∷ others.tasks;
       rows_are = ap₂ (λ (r : Row) (rs : List Row). r ∷ rs) (λ i. record { path = row.path; records = first.all i }) others.rows_are;
-      logs = All-cons (λ (task : TaskLog). IsWholeLog files dir task.path task.records) task others.tasks first.whole others.logs;
+      logs = All-cons (λ (task : TaskLog). IsWholeLog format files dir task.path task.records) task others.tasks first.whole others.logs;
     }
 
-module _ (files : Files) (dir : List ℕ) (small : (name bytes : List ℕ) → files name ≡ Some bytes → AreSmall bytes) (good : IsWellFormed files dir)
-    (rows : List Row) (index : IsIndex files dir rows) where
+module _ (format : Format) (files : Files) (dir : List ℕ) (small : (name bytes : List ℕ) → files name ≡ Some bytes → AreSmall bytes) (good : IsWellFormed format files dir)
+    (rows : List Row) (index : IsIndex format files dir rows) where
   module _ (k : ℕ) (row : Row) (found : slice_get rows k ≡ Some row) where
     listed : Contains (map (λ (r : Row). r.path) rows) row.path
     listed = contains_at rows k row found
 
-    has_log : (held : Option (List ℕ)) → files (log_name dir row.path) ≡ held → HasWholeLog files dir row
+    has_log : (held : Option (List ℕ)) → files (log_name dir row.path) ≡ held → HasWholeLog format files dir row
     has_log None is = absurd (good (missing_log (k + 1)) (rows, index, record { task = row; listed = record { index = k; number = refl; listed = found }; missing = is }))
     has_log (Some bytes) is =
         let has = spans_listed (map (λ (r : Row). r.path) rows) row.path index.rows_are.lists listed in
         let task : LogTask = record { path = row.path; records = row.records; spans = has.spans; due_barriers = None } in
-        let all = reads_all bytes (small (log_name dir row.path) bytes is) task (λ n rule fault. good (bad_record (k + 1) n rule) (
+        let all = reads_all format bytes (small (log_name dir row.path) bytes is) task (λ n rule fault. good (bad_record (k + 1) n rule) (
           rows,
           index,
           record {
@@ -189,15 +190,15 @@ module _ (files : Files) (dir : List ℕ) (small : (name bytes : List ℕ) → f
         )) in
         record { records = all.records; whole = record { there = is ∙ ap (λ (bs : List ℕ). Some bs) all.bytes_are; tabled = all.tabled }; all = all.all }
 
-    whole_log : HasWholeLog files dir row
+    whole_log : HasWholeLog format files dir row
     whole_log = has_log (files (log_name dir row.path)) refl
 
   -- the folder's run
   pub record HoldsRun : Type 0 where
     pub trace : Trace
-    pub holds : HoldsTrace files dir trace
+    pub holds : HoldsTrace format files dir trace
 
   pub holds_run : HoldsRun
   holds_run =
       let has = has_tasks files dir rows whole_log in
-      record { trace = has.tasks; holds = record { index = subst (IsIndex files dir) (sym has.rows_are) index; logs = has.logs } }
+      record { trace = has.tasks; holds = record { index = subst (IsIndex format files dir) (sym has.rows_are) index; logs = has.logs } }

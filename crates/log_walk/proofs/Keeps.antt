@@ -4,6 +4,7 @@ use Rattle.std.specs.Prelude.{slice_get, Contains}
 use Rattle.std.proofs.lemmas.List.{take_all, same_from_push}
 use Rattle.std.proofs.lemmas.Option.{slice_get-get_or}
 use Rattle.sw_base.specs.declared.path.Step.{Step}
+use Rattle.log_format.specs.declared.format.Format.{Format}
 use Rattle.log_format.specs.declared.record.Record.{Record}
 use Rattle.race_model.specs.Row.{Row}
 use Rattle.race_model.specs.Listing.{lane_of}
@@ -34,15 +35,15 @@ knows_team rows trace index path (Some barriers) is team above step path_is from
     = ap (λ (p : List Step). logs_of trace p) (sym first_path) ∙ logs_at trace first.0 team.first (indexed_once rows trace is) first.1 in
     ap (λ (n : ℕ). Some n) (team.counted ∙ ap (λ (rs : List Record). barrier_count rs) (sym first_logs))
 
-pub keeps_rules : (rows : List Row) (trace : Trace) → AreRows rows → IsGoodTrace rows trace → length trace ≡ length rows → KeepsRules trace
-keeps_rules rows trace good_rows good all = record {
+pub keeps_rules : {format : Format} (rows : List Row) (trace : Trace) → AreRows rows → IsGoodTrace format rows trace → length trace ≡ length rows → KeepsRules format trace
+keeps_rules {format} rows trace good_rows good all = record {
   rows = subst (λ (rs : List Row). AreRows rs) (sym rows_are) good_rows;
   tasks = λ k d within. keeps k (get_or trace k d) (slice_get-get_or trace k d within);
 } where
   rows_are : rows_of trace ≡ rows
   rows_are = good.rows_are ∙ take_all (length trace) rows (omega arith)
 
-  keeps : (k : ℕ) (task : TaskLog) → slice_get trace k ≡ Some task → TaskKeepsRules trace task
+  keeps : (k : ℕ) (task : TaskLog) → slice_get trace k ≡ Some task → TaskKeepsRules format trace task
   keeps k task found =
       let is = good.each k task found in
       record {

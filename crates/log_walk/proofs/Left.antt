@@ -1,11 +1,13 @@
 -- What the window shows of the bytes that are left of a log.
 use Rattle.std.proofs.Common.{◌≡◌, inr, ℕ, ◌+◌, ◌<◌, ◌≤◌, List, [], ◌∷◌, ◌++◌, length, take, drop, refl, sym, ap, subst, ◌∙◌, arith}
-use Rattle.std.proofs.lemmas.List.{append-nil, length-take, drop-drop}
+use Rattle.std.proofs.lemmas.List.{append-nil, length-take, drop-drop, take_at}
 use Rattle.sw_base.specs.Window.{Window, Shows, skipped}
 use Rattle.sw_base.proofs.Windows.{shows_skipped}
+use Rattle.log_format.specs.declared.format.Format.{Format}
+use Rattle.log_format.specs.Format.{log_header}
+use Rattle.log_format.proofs.Headers.{length-log_header}
 use Rattle.log_format.specs.declared.record.Record.{Record}
 use Rattle.log_format.specs.Spelling.{spelling, log_bytes}
-use Rattle.sw_base.specs.declared.files.TheConstants.{LOG_HEADER}
 use Rattle.race_model.specs.declared.why.RecordWhy.TheVariants as log
 use Rattle.log_walk.specs.declared.state.State.{State}
 use Rattle.log_format.specs.Table.{Spells}
@@ -33,15 +35,15 @@ pub some_left : (ahead rest : List ℕ) → take 1 ahead ≡ take 1 rest → 0 <
 some_left ahead rest same some = omega (arith, some, ap length same, length-take 1 ahead, length-take 1 rest)
 
 -- another header
-pub header_refused : (bytes : List ℕ) (task : LogTask) (opened : ℕ) → (take 8 bytes ≡ LOG_HEADER → ⊥) → IsLogRefused bytes task opened (fault.Bad 0 log.Header)
-header_refused bytes task opened other = (
-  (refl, λ rest is. other (ap (λ (bs : List ℕ). take 8 bs) is)),
+pub header_refused : (format : Format) (bytes : List ℕ) (task : LogTask) (opened : ℕ) → (take 8 bytes ≡ log_header format → ⊥) → IsLogRefused format bytes task opened (fault.Bad 0 log.Header)
+header_refused format bytes task opened other = (
+  (refl, λ rest is. other (ap (λ (bs : List ℕ). take 8 bs) is ∙ take_at (log_header format) rest 8 (length-log_header format))),
   record { earlier = λ m rule less bad. absurd (omega arith); here = λ rule less bad. absurd (omega arith); segments = λ m less over. absurd (omega arith) },
 )
 
 -- the records of a log that is good
-pub good_log : (task : LogTask) (opened : ℕ) (state : State) (records : List Record) (index : ℕ) → Checks task opened state records index → index ≡ task.records
-    → IsGoodLog (log_bytes LOG_HEADER records) task opened records state.segments
+pub good_log : {format : Format} (task : LogTask) (opened : ℕ) (state : State) (records : List Record) (index : ℕ) → Checks format task opened state records index → index ≡ task.records
+    → IsGoodLog format (log_bytes (log_header format) records) task opened records state.segments
 good_log task opened state records index checks all = record {
   whole = refl;
   tabled = checks.tabled;
@@ -52,20 +54,20 @@ good_log task opened state records index checks all = record {
 }
 
 -- its bytes
-pub whole_log : (file : List ℕ) (records : List Record) (window : Window) → IsReadTo file records window → drop window.place file ≡ [] → file ≡ log_bytes LOG_HEADER records
-whole_log file records window read none = read.parts ∙ ap (λ (bs : List ℕ). log_bytes LOG_HEADER records ++ bs) none ∙ append-nil (log_bytes LOG_HEADER records)
+pub whole_log : {format : Format} (file : List ℕ) (records : List Record) (window : Window) → IsReadTo format file records window → drop window.place file ≡ [] → file ≡ log_bytes (log_header format) records
+whole_log {format} file records window read none = read.parts ∙ ap (λ (bs : List ℕ). log_bytes (log_header format) records ++ bs) none ∙ append-nil (log_bytes (log_header format) records)
 
 -- its refusal is that of the bytes that are left
-pub refused_left : (next rest : List ℕ) (task : LogTask) (opened : ℕ) (before : List Record) (number : ℕ) (refusal : LogFault) → next ≡ take 24 rest → 24 ≤ length rest
-    → IsNextRefused next task opened before number refusal → IsLeftRefused rest task opened before number refusal
-refused_left next rest task opened before number (fault.Bad n rule) is whole refused = inr (whole, subst (λ (bs : List ℕ). IsNextRefused bs task opened before number (fault.Bad n rule)) is refused)
-refused_left next rest task opened before number (fault.TooMany n) is whole refused = (whole, subst (λ (bs : List ℕ). IsNextRefused bs task opened before number (fault.TooMany n)) is refused)
-refused_left next rest task opened before number fault.ReadFault is whole refused = tt
-refused_left next rest task opened before number fault.Memory is whole refused = tt
+pub refused_left : (format : Format) (next rest : List ℕ) (task : LogTask) (opened : ℕ) (before : List Record) (number : ℕ) (refusal : LogFault) → next ≡ take 24 rest → 24 ≤ length rest
+    → IsNextRefused format next task opened before number refusal → IsLeftRefused format rest task opened before number refusal
+refused_left format next rest task opened before number (fault.Bad n rule) is whole refused = inr (whole, subst (λ (bs : List ℕ). IsNextRefused format bs task opened before number (fault.Bad n rule)) is refused)
+refused_left format next rest task opened before number (fault.TooMany n) is whole refused = (whole, subst (λ (bs : List ℕ). IsNextRefused format bs task opened before number (fault.TooMany n)) is refused)
+refused_left format next rest task opened before number fault.ReadFault is whole refused = tt
+refused_left format next rest task opened before number fault.Memory is whole refused = tt
 
 -- the window goes past a record
-pub passes : (file next : List ℕ) (r : Record) (old filled new : Window) → Shows filled file → filled.place ≡ old.place → 24 ≤ length filled.ahead → new ≡ skipped 24 filled
-    → next ≡ take 24 (drop old.place file) → Spells next r → PassesRecord file r old new
+pub passes : {format : Format} (file next : List ℕ) (r : Record) (old filled new : Window) → Shows filled file → filled.place ≡ old.place → 24 ≤ length filled.ahead → new ≡ skipped 24 filled
+    → next ≡ take 24 (drop old.place file) → Spells format next r → PassesRecord file r old new
 passes file next r old filled new shows place there is next_is spells = record {
   shows = subst (λ (w : Window). Shows w file) (sym is) (shows_skipped filled file 24 there shows);
   parts = begins (drop old.place file) next r next_is spells

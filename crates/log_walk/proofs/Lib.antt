@@ -1,8 +1,12 @@
 pub mod ByKind
 pub mod FirstOnce
+pub mod Forked
+pub mod StackMoves
+pub mod Giving
 pub mod HeldRun
 pub mod Keeps
 pub mod Next
+pub mod NextStack
 pub mod NextTask
 pub mod Opening
 pub mod Places
@@ -10,8 +14,12 @@ pub mod RowOrder
 pub mod RowReads
 pub mod SoFar
 pub mod Left
+pub mod LogSoFar
 pub mod SpanOrder
 pub mod Steps
+pub mod SweepMoves
+pub mod Sweeping
 pub mod TaskAt
 pub mod TaskReads
 pub mod Whole
+pub mod WalkMoves

@@ -3,6 +3,7 @@ use Rattle.std.proofs.Common.{◌≡◌, ℕ, ◌+◌, ◌<◌, ◌≤◌, List,
 use Rattle.std.specs.Prelude.{slice_get}
 use Rattle.std.proofs.lemmas.List.{take_more}
 use Rattle.std.proofs.lemmas.Option.{get_or_from_slice_get, slice_get_within}
+use Rattle.log_format.specs.declared.format.Format.{Format}
 use Rattle.log_format.specs.declared.record.Record.{Record}
 use Rattle.log_format.specs.declared.record.Why.{Why}
 use Rattle.log_format.specs.declared.record.Why.TheVariants as why
@@ -20,8 +21,8 @@ use Rattle.race_model.proofs.LogFaults.{find, not_cut, not_untabled, same_record
 use Rattle.log_walk.proofs.Opening.{segment_count-take}
 
 -- no record that was read opens one segment too many
-pub no_overflow_in : (bytes : List ℕ) (count opened n : ℕ) (records : List Record) (rest : List ℕ) → IsRead bytes records rest
-    → n ≤ length records → opened + segment_count records ≤ max_segments → OpensTooMany bytes count opened n → ⊥
+pub no_overflow_in : {format : Format} (bytes : List ℕ) (count opened n : ℕ) (records : List Record) (rest : List ℕ) → IsRead format bytes records rest
+    → n ≤ length records → opened + segment_count records ≤ max_segments → OpensTooMany format bytes count opened n → ⊥
 no_overflow_in bytes count opened n records rest read within few over =
     let same = same_record bytes count n records rest over.before over.r read within over.at in
     let at = find records (length over.before) (omega (arith, over.at.at.number)) in
@@ -35,13 +36,17 @@ no_overflow_in bytes count opened n records rest read within few over =
         ∙ ap (λ (zs : List Record). zs ++ r ∷ []) (sym prefix)
 
 -- bytes have one first fault
-pub one_fault : (bytes : List ℕ) (v w : Why) → IsFirstFault bytes v → IsFirstFault bytes w → v ≡ w
-one_fault bytes why.Kind w v_first w_first = kind_is_first bytes v_first w w_first
-one_fault bytes v w v_first w_first = first_fault-unique bytes v_first.fields _ w v_first.fits v_first.spelled v_first.failed w_first
+pub one_fault : (format : Format) (bytes : List ℕ) (v w : Why) → IsFirstFault format bytes v → IsFirstFault format bytes w → v ≡ w
+one_fault format bytes why.Kind w v_first w_first = kind_is_first format bytes v_first w w_first
+one_fault format bytes why.Size w v_first w_first = first_fault-unique format bytes v_first.fields _ w v_first.fits (v_first.failed.before why.Kind (omega arith)) v_first.spelled v_first.failed w_first
+one_fault format bytes why.LineZero w v_first w_first = first_fault-unique format bytes v_first.fields _ w v_first.fits (v_first.failed.before why.Kind (omega arith)) v_first.spelled v_first.failed w_first
+one_fault format bytes why.Address w v_first w_first = first_fault-unique format bytes v_first.fields _ w v_first.fits (v_first.failed.before why.Kind (omega arith)) v_first.spelled v_first.failed w_first
+one_fault format bytes why.Span w v_first w_first = first_fault-unique format bytes v_first.fields _ w v_first.fits (v_first.failed.before why.Kind (omega arith)) v_first.spelled v_first.failed w_first
+one_fault format bytes why.Reserved w v_first w_first = first_fault-unique format bytes v_first.fields _ w v_first.fits (v_first.failed.before why.Kind (omega arith)) v_first.spelled v_first.failed w_first
 
 -- at the next record, if its bytes are cut
-pub next_cut : (bytes : List ℕ) (count n : ℕ) (records : List Record) (rest : List ℕ) → IsRead bytes records rest → n ≡ length records + 1 → n ≤ count
-    → length rest < 24 → IsCutRecord bytes count n
+pub next_cut : {format : Format} (bytes : List ℕ) (count n : ℕ) (records : List Record) (rest : List ℕ) → IsRead format bytes records rest → n ≡ length records + 1 → n ≤ count
+    → length rest < 24 → IsCutRecord format bytes count n
 next_cut bytes count n records rest read number counted short = record {
   before = records;
   rest = rest;
@@ -50,13 +55,13 @@ next_cut bytes count n records rest read number counted short = record {
 }
 
 -- or are no record of the table
-pub next_untabled : (bytes : List ℕ) (task : LogTask) (n : ℕ) (records : List Record) (rest : List ℕ) (w : Why) → IsRead bytes records rest → n ≡ length records + 1 → n ≤ task.records
-    → 24 ≤ length rest → IsFirstFault (take 24 rest) w → IsLogFault bytes task n (of_why w)
-next_untabled bytes task n records rest w read number counted whole first = at w made where
-  made : IsUntabled bytes task.records n w
+pub next_untabled : {format : Format} (bytes : List ℕ) (task : LogTask) (n : ℕ) (records : List Record) (rest : List ℕ) (w : Why) → IsRead format bytes records rest → n ≡ length records + 1 → n ≤ task.records
+    → 24 ≤ length rest → IsFirstFault format (take 24 rest) w → IsLogFault format bytes task n (of_why w)
+next_untabled {format} bytes task n records rest w read number counted whole first = at w made where
+  made : IsUntabled format bytes task.records n w
   made = record { before = records; rest = rest; at = record { read = read; number = number; counted = counted }; whole = whole; first = first }
 
-  at : (v : Why) → IsUntabled bytes task.records n v → IsLogFault bytes task n (of_why v)
+  at : (v : Why) → IsUntabled format bytes task.records n v → IsLogFault format bytes task n (of_why v)
   at why.Kind fault = fault
   at why.Size fault = fault
   at why.LineZero fault = fault
@@ -65,9 +70,9 @@ next_untabled bytes task n records rest w read number counted whole first = at w
   at why.Reserved fault = fault
 
 -- nothing comes before what is told of the next record
-pub before_next : (bytes : List ℕ) (task : LogTask) (opened n rank : ℕ) (records : List Record) (rest : List ℕ) → IsRead bytes records rest → KeepsLogRules task records
+pub before_next : {format : Format} (bytes : List ℕ) (task : LogTask) (opened n rank : ℕ) (records : List Record) (rest : List ℕ) → IsRead format bytes records rest → KeepsLogRules task records
     → opened + segment_count records ≤ max_segments → length records ≤ task.records → n ≡ length records + 1
-    → ((rule : RecordWhy) → record_rank rule < rank → IsLogFault bytes task n rule → ⊥) → NothingBefore bytes task opened n rank
+    → ((rule : RecordWhy) → record_rank rule < rank → IsLogFault format bytes task n rule → ⊥) → NothingBefore format bytes task opened n rank
 before_next bytes task opened n rank records rest read keeps few counted number here = record {
   earlier = λ m rule less fault. no_fault_in bytes task records rest m rule read keeps.each counted (omega arith) fault;
   here = here;
@@ -75,9 +80,9 @@ before_next bytes task opened n rank records rest read keeps few counted number 
 }
 
 -- the rules of a lower rank than a cut
-pub before_cut : (bytes : List ℕ) (task : LogTask) (n : ℕ) (rule : RecordWhy) → 1 ≤ n → record_rank rule < 1 → IsLogFault bytes task n rule → ⊥
-before_cut bytes task n log.Header number low fault = absurd (omega (arith, fault.0))
-before_cut bytes task n rule number low fault = absurd (omega arith)
+pub before_cut : (format : Format) (bytes : List ℕ) (task : LogTask) (n : ℕ) (rule : RecordWhy) → 1 ≤ n → record_rank rule < 1 → IsLogFault format bytes task n rule → ⊥
+before_cut format bytes task n log.Header number low fault = absurd (omega (arith, fault.0))
+before_cut format bytes task n rule number low fault = absurd (omega arith)
 
 why_rank : (w : Why) → record_rank (of_why w) ≤ 7
 why_rank why.Kind = omega arith
@@ -88,15 +93,15 @@ why_rank why.Span = omega arith
 why_rank why.Reserved = omega arith
 
 -- the rules of a lower rank than a fault of the table
-no_lower_why : (bytes : List ℕ) (task : LogTask) (n : ℕ) (records : List Record) (rest : List ℕ) (v w : Why) → IsRead bytes records rest → n ≡ length records + 1
-    → IsFirstFault (take 24 rest) w → record_rank (of_why v) < record_rank (of_why w) → IsUntabled bytes task.records n v → ⊥
-no_lower_why bytes task n records rest v w read number first low fault =
+no_lower_why : {format : Format} (bytes : List ℕ) (task : LogTask) (n : ℕ) (records : List Record) (rest : List ℕ) (v w : Why) → IsRead format bytes records rest → n ≡ length records + 1
+    → IsFirstFault format (take 24 rest) w → record_rank (of_why v) < record_rank (of_why w) → IsUntabled format bytes task.records n v → ⊥
+no_lower_why {format} bytes task n records rest v w read number first low fault =
     let next = is_next bytes records fault.before rest fault.rest read fault.at.read (omega (arith, fault.at.number)) in
-    let same : v ≡ w = one_fault (take 24 rest) v w (subst (λ (bs : List ℕ). IsFirstFault (take 24 bs) v) next.more_is fault.first) first in
+    let same : v ≡ w = one_fault format (take 24 rest) v w (subst (λ (bs : List ℕ). IsFirstFault format (take 24 bs) v) next.more_is fault.first) first in
     absurd (omega (arith, ap (λ (u : Why). record_rank (of_why u)) same))
 
-pub before_untabled : (bytes : List ℕ) (task : LogTask) (n : ℕ) (records : List Record) (rest : List ℕ) (w : Why) → IsRead bytes records rest → n ≡ length records + 1
-    → 24 ≤ length rest → IsFirstFault (take 24 rest) w → (rule : RecordWhy) → record_rank rule < record_rank (of_why w) → IsLogFault bytes task n rule → ⊥
+pub before_untabled : {format : Format} (bytes : List ℕ) (task : LogTask) (n : ℕ) (records : List Record) (rest : List ℕ) (w : Why) → IsRead format bytes records rest → n ≡ length records + 1
+    → 24 ≤ length rest → IsFirstFault format (take 24 rest) w → (rule : RecordWhy) → record_rank rule < record_rank (of_why w) → IsLogFault format bytes task n rule → ⊥
 before_untabled bytes task n records rest w read number whole first log.Header low fault = absurd (omega (arith, fault.0))
 before_untabled bytes task n records rest w read number whole first log.Cut low fault =
     let next = is_next bytes records fault.before rest fault.rest read fault.at.read (omega (arith, fault.at.number)) in
@@ -110,28 +115,28 @@ before_untabled bytes task n records rest w read number whole first log.Reserved
 before_untabled bytes task n records rest w read number whole first rule low fault = absurd (omega (arith, why_rank w))
 
 -- the rules of a lower rank than one, where the next record breaks none of them
-no_broken_at : (bytes : List ℕ) (task : LogTask) (n : ℕ) (records : List Record) (r : Record) (after : List ℕ) (rule : RecordWhy) → IsRead bytes records (spelling r ++ after) → IsTabled r
-    → n ≡ length records + 1 → (Breaks task records r rule → ⊥) → IsBroken bytes task n rule → ⊥
+no_broken_at : {format : Format} (bytes : List ℕ) (task : LogTask) (n : ℕ) (records : List Record) (r : Record) (after : List ℕ) (rule : RecordWhy) → IsRead format bytes records (spelling r ++ after) → IsTabled format r
+    → n ≡ length records + 1 → (Breaks task records r rule → ⊥) → IsBroken format bytes task n rule → ⊥
 no_broken_at bytes task n records r after rule read tabled number holds fault =
     let next = is_next bytes records fault.before (spelling r ++ after) (spelling fault.r ++ fault.at.rest) read fault.at.at.read (omega (arith, fault.at.at.number)) in
     let same = same_first fault.r r fault.at.rest after fault.at.tabled tabled next.more_is in
     holds (subst (λ (s : Record). Breaks task records s rule) same.0 (subst (λ (rs : List Record). Breaks task rs fault.r rule) next.before_is fault.breaks))
 
-no_cut_at : (bytes : List ℕ) (count n : ℕ) (records : List Record) (r : Record) (after : List ℕ) → IsRead bytes records (spelling r ++ after)
-    → n ≡ length records + 1 → IsCutRecord bytes count n → ⊥
+no_cut_at : {format : Format} (bytes : List ℕ) (count n : ℕ) (records : List Record) (r : Record) (after : List ℕ) → IsRead format bytes records (spelling r ++ after)
+    → n ≡ length records + 1 → IsCutRecord format bytes count n → ⊥
 no_cut_at bytes count n records r after read number fault =
     let next = is_next bytes records fault.before (spelling r ++ after) fault.rest read fault.at.read (omega (arith, fault.at.number)) in
     not_cut fault.rest r after next.more_is fault.short
 
-no_untabled_at : (bytes : List ℕ) (count n : ℕ) (records : List Record) (r : Record) (after : List ℕ) (w : Why) → IsRead bytes records (spelling r ++ after) → IsTabled r
-    → n ≡ length records + 1 → IsUntabled bytes count n w → ⊥
+no_untabled_at : {format : Format} (bytes : List ℕ) (count n : ℕ) (records : List Record) (r : Record) (after : List ℕ) (w : Why) → IsRead format bytes records (spelling r ++ after) → IsTabled format r
+    → n ≡ length records + 1 → IsUntabled format bytes count n w → ⊥
 no_untabled_at bytes count n records r after w read tabled number fault =
     let next = is_next bytes records fault.before (spelling r ++ after) fault.rest read fault.at.read (omega (arith, fault.at.number)) in
     not_untabled fault.rest r after w next.more_is tabled fault.first
 
-pub before_broken : (bytes : List ℕ) (task : LogTask) (n rank : ℕ) (records : List Record) (r : Record) (after : List ℕ) → IsRead bytes records (spelling r ++ after) → IsTabled r
+pub before_broken : {format : Format} (bytes : List ℕ) (task : LogTask) (n rank : ℕ) (records : List Record) (r : Record) (after : List ℕ) → IsRead format bytes records (spelling r ++ after) → IsTabled format r
     → n ≡ length records + 1 → n ≤ task.records → ((rule : RecordWhy) → record_rank rule < rank → Breaks task records r rule → ⊥)
-    → (rule : RecordWhy) → record_rank rule < rank → IsLogFault bytes task n rule → ⊥
+    → (rule : RecordWhy) → record_rank rule < rank → IsLogFault format bytes task n rule → ⊥
 before_broken bytes task n rank records r after read tabled number counted holds log.Header low fault = absurd (omega (arith, fault.0))
 before_broken bytes task n rank records r after read tabled number counted holds log.Cut low fault = no_cut_at bytes task.records n records r after read number fault
 before_broken bytes task n rank records r after read tabled number counted holds log.Kind low fault = no_untabled_at bytes task.records n records r after _ read tabled number fault

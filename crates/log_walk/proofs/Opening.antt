@@ -6,7 +6,8 @@ use Rattle.log_format.specs.declared.record.Kind.{Kind}
 use Rattle.log_format.specs.declared.record.Kind.TheVariants.{Read, Write, Lock, Unlock, Barrier, Region, Chunk, End}
 use Rattle.race_model.specs.Race.{held_after_kind}
 use Rattle.race_model.specs.Segment.{Event, events_from, runs_of, with_event, in_first, has_access, is_access, is_access_event, segment_count}
-use Rattle.log_walk.specs.Check.{open_after, opens_by, is_open}
+use Rattle.log_segment.specs.Walking.{open_after}
+use Rattle.log_walk.specs.Check.{opens_by, is_open}
 
 -- how many segments the records open, where one is open before them or not
 abbrev pub opened_by : Bool → List Record → ℕ

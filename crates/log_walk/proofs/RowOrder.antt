@@ -3,9 +3,8 @@ use Rattle.std.proofs.Common.{◌≡◌, ◌≢◌, ◌⊎◌, inl, inr, ℕ, ze
 use Rattle.std.specs.Prelude.{slice_get}
 use Rattle.std.proofs.lemmas.Bool.{cases_order}
 use Rattle.std.proofs.lemmas.Option.{same_Some}
-use Rattle.std.proofs.lemmas.List.{same_from_push}
 use Rattle.sw_base.specs.declared.path.Step.{Step}
-use Rattle.race_model.specs.Listing.{IsListing, BeginsListing, IsNextPath, lane_of}
+use Rattle.race_model.specs.Listing.{IsListing, BeginsListing, IsNextPath}
 use Rattle.race_model.proofs.Listings.{IsChain, chain_of_begins, begins_at_root, lists_begins}
 
 -- an earlier region, or an earlier lane of the same
@@ -88,21 +87,3 @@ lane_not_before [] s t not_before differs (inl less) = not_before less
 lane_not_before [] s t not_before differs (inr (same, less)) = differs same
 lane_not_before (x ∷ path) s t not_before differs (inl less) = not_before_itself x x refl less
 lane_not_before (x ∷ path) s t not_before differs (inr (same, less)) = lane_not_before path s t not_before differs less
-
--- lane 0 of a team stands before its other lanes
-pub first_lane_earlier : (paths : List (List Step)) (i j : ℕ) (path : List Step) (step : Step) → IsListing paths → 0 < step.lane
-    → slice_get paths i ≡ Some (lane_of path step.region 0 step.span) → slice_get paths j ≡ Some (path ++ step ∷ []) → i < j
-first_lane_earlier paths i j path step lists from_one first other = elim (cases_order i j) [
-  | inl same ↦
-      let one : lane_of path step.region 0 step.span ≡ path ++ step ∷ [] = same_Some _ _ (sym first ∙ ap (λ (k : ℕ). slice_get paths k) same ∙ other) in
-      let steps : record { region = step.region; lane = 0; span = step.span } ≡ step = (same_from_push path path _ step one).1 in
-      absurd (omega (arith, ap (λ (s : Step). s.lane) steps))
-  | inr either ↦ elim either [
-    | inl less ↦ less
-    | inr more ↦
-        absurd (lane_not_before path step (record { region = step.region; lane = 0; span = step.span })
-        (λ less. elim less [ inl region ↦ absurd (omega arith) | inr lane ↦ absurd (omega (arith, lane.1)) ])
-        (λ same. absurd (omega (arith, ap (λ (s : Step). s.lane) same)))
-        (listing_sorted paths j i _ _ lists more other first))
-  ]
-]

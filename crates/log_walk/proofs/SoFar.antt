@@ -4,8 +4,9 @@ use Rattle.std.specs.Prelude.{slice_get}
 use Rattle.std.proofs.lemmas.List.{length-append, take_at, take-append-drop, take-append-le, get_or_append_left, get_or_push}
 use Rattle.std.proofs.lemmas.Bool.{cases_order}
 use Rattle.std.proofs.lemmas.Option.{slice_get_within}
-use Rattle.sw_base.specs.declared.files.TheConstants.{LOG_HEADER}
 use Rattle.sw_base.specs.Window.{Window, Shows}
+use Rattle.log_format.specs.declared.format.Format.{Format}
+use Rattle.log_format.specs.Format.{log_header}
 use Rattle.log_format.specs.declared.record.Record.{Record}
 use Rattle.log_format.specs.declared.record.Why.{Why}
 use Rattle.log_format.specs.Spelling.{spelling, log_bytes}
@@ -27,22 +28,21 @@ use Rattle.race_model.proofs.LogFaults.{past_end}
 use Rattle.log_walk.proofs.Opening.{segment_count-push}
 
 -- these records were read of a log, and the rest is left
-pub record SoFar (bytes : List ℕ) (task : LogTask) (opened : ℕ) (state : State) (records : List Record) (rest : List ℕ) (index : ℕ) : Type 0 where
-  pub read : IsRead bytes records rest
+pub record SoFar (format : Format) (bytes : List ℕ) (task : LogTask) (opened : ℕ) (state : State) (records : List Record) (rest : List ℕ) (index : ℕ) : Type 0 where
+  pub read : IsRead format bytes records rest
   pub keeps : KeepsLogRules task records
   pub follows : IsStateAfter state opened records
   pub count : length records ≡ index
-  pub regions : state.regions ≤ index
   pub barriers : state.barriers ≤ index
   pub limit : state.segments ≤ max_segments
 
 -- no log has fewer segments than were counted
-few : (bytes : List ℕ) (task : LogTask) (opened : ℕ) (state : State) (records : List Record) (rest : List ℕ) (index : ℕ) → SoFar bytes task opened state records rest index
+few : {format : Format} (bytes : List ℕ) (task : LogTask) (opened : ℕ) (state : State) (records : List Record) (rest : List ℕ) (index : ℕ) → SoFar format bytes task opened state records rest index
     → opened + segment_count records ≤ max_segments
 few bytes task opened state records rest index so = omega (arith, so.limit, so.follows.segments)
 
 -- the rest begins with the next record
-pub begins : (rest next : List ℕ) (r : Record) → next ≡ take 24 rest → Spells next r → rest ≡ spelling r ++ drop 24 rest
+pub begins : {format : Format} (rest next : List ℕ) (r : Record) → next ≡ take 24 rest → Spells format next r → rest ≡ spelling r ++ drop 24 rest
 begins rest next r next_is spells = sym (take-append-drop 24 rest) ∙ ap (λ (bs : List ℕ). bs ++ drop 24 rest) (sym next_is ∙ spells.spelled)
 
 pub below_or_at : (j n : ℕ) → j < n + 1 → (j < n) ⊎ (j ≡ n)
@@ -85,90 +85,86 @@ keeps_push task records r keeps holds = record {
 }
 
 -- what the check of a log keeps of these records, whatever bytes they were read from
-pub record Checks (task : LogTask) (opened : ℕ) (state : State) (records : List Record) (index : ℕ) : Type 0 where
-  pub tabled : All IsTabled records
+pub record Checks (format : Format) (task : LogTask) (opened : ℕ) (state : State) (records : List Record) (index : ℕ) : Type 0 where
+  pub tabled : All (IsTabled format) records
   pub keeps : KeepsLogRules task records
   pub follows : IsStateAfter state opened records
   pub count : length records ≡ index
-  pub regions : state.regions ≤ index
   pub barriers : state.barriers ≤ index
   pub limit : state.segments ≤ max_segments
 
 -- no record yet
-pub checks_none : (task : LogTask) (opened : ℕ) (state : State) (records : List Record) → records ≡ [] → IsStateAfter state opened [] → opened ≤ max_segments → Checks task opened state records 0
-checks_none task opened state records none follows limit =
-    subst (λ (rs : List Record). Checks task opened state rs 0) (sym none) (record {
+pub checks_none : {format : Format} (task : LogTask) (opened : ℕ) (state : State) (records : List Record) → records ≡ [] → IsStateAfter state opened [] → opened ≤ max_segments → Checks format task opened state records 0
+checks_none {format} task opened state records none follows limit =
+    subst (λ (rs : List Record). Checks format task opened state rs 0) (sym none) (record {
       tabled = λ k d h. absurd (omega arith);
       keeps = record { each = λ k r found rule breaks. cc };
       follows = follows;
       count = refl;
-      regions = omega (arith, follows.regions);
       barriers = omega (arith, follows.barriers);
       limit = omega (arith, follows.segments, limit);
     })
 
 -- one record more
-pub checks_next : (task : LogTask) (opened : ℕ) (state now : State) (records pushed : List Record) (index : ℕ) (r : Record) → Checks task opened state records index → IsTabled r → BreaksNone task records r
-    → IsStateAfter now opened (records ++ r ∷ []) → now.regions ≤ index + 1 → now.barriers ≤ index + 1 → now.segments ≤ max_segments → pushed ≡ records ++ r ∷ [] → Checks task opened now pushed (index + 1)
-checks_next task opened state now records pushed index r checks tabled breaks follows regions barriers limit is =
-    subst (λ (rs : List Record). Checks task opened now rs (index + 1)) (sym is) (record {
-      tabled = all_push IsTabled records r checks.tabled tabled;
+pub checks_next : {format : Format} (task : LogTask) (opened : ℕ) (state now : State) (records pushed : List Record) (index : ℕ) (r : Record) → Checks format task opened state records index → IsTabled format r → BreaksNone task records r
+    → IsStateAfter now opened (records ++ r ∷ []) → now.barriers ≤ index + 1 → now.segments ≤ max_segments → pushed ≡ records ++ r ∷ [] → Checks format task opened now pushed (index + 1)
+checks_next {format} task opened state now records pushed index r checks tabled breaks follows barriers limit is =
+    subst (λ (rs : List Record). Checks format task opened now rs (index + 1)) (sym is) (record {
+      tabled = all_push (IsTabled format) records r checks.tabled tabled;
       keeps = keeps_push task records r checks.keeps breaks;
       follows = follows;
       count = omega (arith, length-append records (r ∷ []), checks.count);
-      regions = regions;
       barriers = barriers;
       limit = limit;
     })
 
-log_bytes_none : (records : List Record) → records ≡ [] → log_bytes LOG_HEADER records ≡ LOG_HEADER
-log_bytes_none records none = ap (λ (rs : List Record). log_bytes LOG_HEADER rs) none ∙ append-nil LOG_HEADER
+log_bytes_none : (format : Format) (records : List Record) → records ≡ [] → log_bytes (log_header format) records ≡ log_header format
+log_bytes_none format records none = ap (λ (rs : List Record). log_bytes (log_header format) rs) none ∙ append-nil (log_header format)
 
 -- these records were read of the file, up to the window
-pub record IsReadTo (file : List ℕ) (records : List Record) (window : Window) : Type 0 where
+pub record IsReadTo (format : Format) (file : List ℕ) (records : List Record) (window : Window) : Type 0 where
   pub shows : Shows window file
-  pub parts : file ≡ log_bytes LOG_HEADER records ++ drop window.place file
+  pub parts : file ≡ log_bytes (log_header format) records ++ drop window.place file
 
-pub read_none : (file : List ℕ) (records : List Record) (window : Window) → records ≡ [] → window.place ≡ 8 → Shows window file → file ≡ LOG_HEADER ++ drop 8 file → IsReadTo file records window
-read_none file records window none place shows parts = record {
+pub read_none : {format : Format} (file : List ℕ) (records : List Record) (window : Window) → records ≡ [] → window.place ≡ 8 → Shows window file → file ≡ log_header format ++ drop 8 file → IsReadTo format file records window
+read_none {format} file records window none place shows parts = record {
   shows = shows;
   parts = parts
-      ∙ ap (λ (bs : List ℕ). bs ++ drop 8 file) (sym (log_bytes_none records none))
-      ∙ ap (λ (n : ℕ). log_bytes LOG_HEADER records ++ drop n file) (sym place);
+      ∙ ap (λ (bs : List ℕ). bs ++ drop 8 file) (sym (log_bytes_none format records none))
+      ∙ ap (λ (n : ℕ). log_bytes (log_header format) records ++ drop n file) (sym place);
 }
 
-pub read_next : (file : List ℕ) (records pushed : List Record) (r : Record) (old new : Window) → IsReadTo file records old → PassesRecord file r old new → pushed ≡ records ++ r ∷ [] → IsReadTo file pushed new
-read_next file records pushed r old new read passes is =
-    subst (λ (rs : List Record). IsReadTo file rs new) (sym is) (record {
+pub read_next : {format : Format} (file : List ℕ) (records pushed : List Record) (r : Record) (old new : Window) → IsReadTo format file records old → PassesRecord file r old new → pushed ≡ records ++ r ∷ [] → IsReadTo format file pushed new
+read_next {format} file records pushed r old new read passes is =
+    subst (λ (rs : List Record). IsReadTo format file rs new) (sym is) (record {
       shows = passes.shows;
-      parts = read.parts ∙ ap (λ (bs : List ℕ). log_bytes LOG_HEADER records ++ bs) passes.parts
-          ∙ sym (append_assoc (log_bytes LOG_HEADER records) (spelling r) (drop new.place file))
-          ∙ ap (λ (bs : List ℕ). bs ++ drop new.place file) (sym (log_bytes-append LOG_HEADER records (r ∷ []) ∙ ap (λ (bs : List ℕ). log_bytes LOG_HEADER records ++ bs) (append-nil (spelling r))));
+      parts = read.parts ∙ ap (λ (bs : List ℕ). log_bytes (log_header format) records ++ bs) passes.parts
+          ∙ sym (append_assoc (log_bytes (log_header format) records) (spelling r) (drop new.place file))
+          ∙ ap (λ (bs : List ℕ). bs ++ drop new.place file) (sym (log_bytes-append (log_header format) records (r ∷ []) ∙ ap (λ (bs : List ℕ). log_bytes (log_header format) records ++ bs) (append-nil (spelling r))));
     })
 
-pub so_far : (file : List ℕ) (task : LogTask) (opened : ℕ) (state : State) (records : List Record) (window : Window) (index : ℕ) → Checks task opened state records index → IsReadTo file records window
-    → SoFar file task opened state records (drop window.place file) index
+pub so_far : {format : Format} (file : List ℕ) (task : LogTask) (opened : ℕ) (state : State) (records : List Record) (window : Window) (index : ℕ) → Checks format task opened state records index → IsReadTo format file records window
+    → SoFar format file task opened state records (drop window.place file) index
 so_far file task opened state records window index checks read = record {
   read = record { parts = read.parts; tabled = checks.tabled };
   keeps = checks.keeps;
   follows = checks.follows;
   count = checks.count;
-  regions = checks.regions;
   barriers = checks.barriers;
   limit = checks.limit;
 }
 
 -- the next record is cut
-pub cut_refused : (bytes : List ℕ) (task : LogTask) (opened : ℕ) (state : State) (records : List Record) (rest : List ℕ) (index : ℕ) → SoFar bytes task opened state records rest index
-    → length rest < 24 → index < task.records → IsLogRefused bytes task opened (fault.Bad (index + 1) log.Cut)
-cut_refused bytes task opened state records rest index so short within = (
+pub cut_refused : {format : Format} (bytes : List ℕ) (task : LogTask) (opened : ℕ) (state : State) (records : List Record) (rest : List ℕ) (index : ℕ) → SoFar format bytes task opened state records rest index
+    → length rest < 24 → index < task.records → IsLogRefused format bytes task opened (fault.Bad (index + 1) log.Cut)
+cut_refused {format} bytes task opened state records rest index so short within = (
   next_cut bytes task.records (index + 1) records rest so.read (omega (arith, so.count)) (omega arith) short,
   before_next bytes task opened (index + 1) 1 records rest so.read so.keeps (few bytes task opened state records rest index so) (omega (arith, so.count)) (omega (arith, so.count))
-      (λ rule low told. before_cut bytes task (index + 1) rule (omega arith) low told),
+      (λ rule low told. before_cut format bytes task (index + 1) rule (omega arith) low told),
 )
 
-untabled_refused : (bytes : List ℕ) (task : LogTask) (opened : ℕ) (state : State) (records : List Record) (rest : List ℕ) (index : ℕ) (w : Why) → SoFar bytes task opened state records rest index
-    → 24 ≤ length rest → IsFirstFault (take 24 rest) w → index < task.records → IsLogRefused bytes task opened (fault.Bad (index + 1) (of_why w))
+untabled_refused : {format : Format} (bytes : List ℕ) (task : LogTask) (opened : ℕ) (state : State) (records : List Record) (rest : List ℕ) (index : ℕ) (w : Why) → SoFar format bytes task opened state records rest index
+    → 24 ≤ length rest → IsFirstFault format (take 24 rest) w → index < task.records → IsLogRefused format bytes task opened (fault.Bad (index + 1) (of_why w))
 untabled_refused bytes task opened state records rest index w so whole first within = (
   next_untabled bytes task (index + 1) records rest w so.read (omega (arith, so.count)) (omega arith) whole first,
   before_next bytes task opened (index + 1) (record_rank (of_why w)) records rest so.read so.keeps (few bytes task opened state records rest index so) (omega (arith, so.count)) (omega (arith, so.count))
@@ -176,16 +172,16 @@ untabled_refused bytes task opened state records rest index w so whole first wit
 )
 
 -- the next record is one of the table
-at_next : (bytes : List ℕ) (task : LogTask) (opened : ℕ) (state : State) (records : List Record) (rest : List ℕ) (index : ℕ) (next : List ℕ) (r : Record) → SoFar bytes task opened state records rest index
-    → next ≡ take 24 rest → Spells next r → index < task.records → IsRecord bytes task.records (index + 1) records r
-at_next bytes task opened state records rest index next r so next_is spells within = record {
+at_next : {format : Format} (bytes : List ℕ) (task : LogTask) (opened : ℕ) (state : State) (records : List Record) (rest : List ℕ) (index : ℕ) (next : List ℕ) (r : Record) → SoFar format bytes task opened state records rest index
+    → next ≡ take 24 rest → Spells format next r → index < task.records → IsRecord format bytes task.records (index + 1) records r
+at_next {format} bytes task opened state records rest index next r so next_is spells within = record {
   rest = drop 24 rest;
-  at = record { read = subst (λ (bs : List ℕ). IsRead bytes records bs) (begins rest next r next_is spells) so.read; number = omega (arith, so.count); counted = omega arith };
+  at = record { read = subst (λ (bs : List ℕ). IsRead format bytes records bs) (begins rest next r next_is spells) so.read; number = omega (arith, so.count); counted = omega arith };
   tabled = spells.tabled;
 }
 
-nothing_before : (bytes : List ℕ) (task : LogTask) (opened : ℕ) (state : State) (records : List Record) (rest : List ℕ) (index : ℕ) (next : List ℕ) (r : Record) (rank : ℕ) → SoFar bytes task opened state records rest index
-    → next ≡ take 24 rest → Spells next r → index < task.records → ((rule : RecordWhy) → record_rank rule < rank → Breaks task records r rule → ⊥) → NothingBefore bytes task opened (index + 1) rank
+nothing_before : {format : Format} (bytes : List ℕ) (task : LogTask) (opened : ℕ) (state : State) (records : List Record) (rest : List ℕ) (index : ℕ) (next : List ℕ) (r : Record) (rank : ℕ) → SoFar format bytes task opened state records rest index
+    → next ≡ take 24 rest → Spells format next r → index < task.records → ((rule : RecordWhy) → record_rank rule < rank → Breaks task records r rule → ⊥) → NothingBefore format bytes task opened (index + 1) rank
 unfolding at_next
 nothing_before bytes task opened state records rest index next r rank so next_is spells within holds =
     let at = at_next bytes task opened state records rest index next r so next_is spells within in
@@ -193,7 +189,7 @@ nothing_before bytes task opened state records rest index next r rank so next_is
     (before_broken bytes task (index + 1) rank records r (drop 24 rest) at.at.read spells.tabled (omega (arith, so.count)) (omega arith) holds)
 
 -- a rule that a record can break is told of a record
-broken_at : (bytes : List ℕ) (task : LogTask) (n : ℕ) (before : List Record) (r : Record) (rule : RecordWhy) → IsRecord bytes task.records n before r → Breaks task before r rule → IsLogFault bytes task n rule
+broken_at : {format : Format} (bytes : List ℕ) (task : LogTask) (n : ℕ) (before : List Record) (r : Record) (rule : RecordWhy) → IsRecord format bytes task.records n before r → Breaks task before r rule → IsLogFault format bytes task n rule
 broken_at bytes task n before r log.Header at breaks = absurd breaks
 broken_at bytes task n before r log.Cut at breaks = absurd breaks
 broken_at bytes task n before r log.Kind at breaks = absurd breaks
@@ -206,19 +202,19 @@ broken_at bytes task n before r log.Extra at breaks = absurd breaks
 broken_at bytes task n before r rule at breaks = record { before = before; r = r; at = at; breaks = breaks }
 
 -- the next record is refused
-pub next_refused : (bytes : List ℕ) (task : LogTask) (opened : ℕ) (state : State) (records : List Record) (rest : List ℕ) (index : ℕ) (next : List ℕ) (refusal : LogFault) → SoFar bytes task opened state records rest index
-    → 24 ≤ length rest → next ≡ take 24 rest → index < task.records → IsNextRefused next task opened records (index + 1) refusal → IsLogRefused bytes task opened refusal
-next_refused bytes task opened state records rest index next (fault.Bad n rule) so whole next_is within (number, inl no_record) =
-    subst (λ (m : ℕ). IsLogRefused bytes task opened (fault.Bad m rule)) (sym number)
-    (subst (λ (w : RecordWhy). IsLogRefused bytes task opened (fault.Bad (index + 1) w)) (sym no_record.rule_is)
-    (untabled_refused bytes task opened state records rest index no_record.fault so whole (subst (λ (bs : List ℕ). IsFirstFault bs no_record.fault) next_is no_record.first) within))
-next_refused bytes task opened state records rest index next (fault.Bad n rule) so whole next_is within (number, inr bad) =
-    subst (λ (m : ℕ). IsLogRefused bytes task opened (fault.Bad m rule)) (sym number) (
+pub next_refused : {format : Format} (bytes : List ℕ) (task : LogTask) (opened : ℕ) (state : State) (records : List Record) (rest : List ℕ) (index : ℕ) (next : List ℕ) (refusal : LogFault) → SoFar format bytes task opened state records rest index
+    → 24 ≤ length rest → next ≡ take 24 rest → index < task.records → IsNextRefused format next task opened records (index + 1) refusal → IsLogRefused format bytes task opened refusal
+next_refused {format} bytes task opened state records rest index next (fault.Bad n rule) so whole next_is within (number, inl no_record) =
+    subst (λ (m : ℕ). IsLogRefused format bytes task opened (fault.Bad m rule)) (sym number)
+    (subst (λ (w : RecordWhy). IsLogRefused format bytes task opened (fault.Bad (index + 1) w)) (sym no_record.rule_is)
+    (untabled_refused bytes task opened state records rest index no_record.fault so whole (subst (λ (bs : List ℕ). IsFirstFault format bs no_record.fault) next_is no_record.first) within))
+next_refused {format} bytes task opened state records rest index next (fault.Bad n rule) so whole next_is within (number, inr bad) =
+    subst (λ (m : ℕ). IsLogRefused format bytes task opened (fault.Bad m rule)) (sym number) (
       broken_at bytes task (index + 1) records bad.r rule (at_next bytes task opened state records rest index next bad.r so next_is bad.spells within) bad.breaks.breaks,
       nothing_before bytes task opened state records rest index next bad.r (record_rank rule) so next_is bad.spells within bad.breaks.least,
     )
-next_refused bytes task opened state records rest index next (fault.TooMany n) so whole next_is within (number, over) =
-    subst (λ (m : ℕ). IsLogRefused bytes task opened (fault.TooMany m)) (sym number) (
+next_refused {format} bytes task opened state records rest index next (fault.TooMany n) so whole next_is within (number, over) =
+    subst (λ (m : ℕ). IsLogRefused format bytes task opened (fault.TooMany m)) (sym number) (
       record {
         before = records;
         r = over.r;
@@ -232,11 +228,11 @@ next_refused bytes task opened state records rest index next fault.ReadFault so 
 next_refused bytes task opened state records rest index next fault.Memory so whole next_is within refused = absurd refused
 
 -- the bytes that are left begin with no good record
-pub left_refused : (bytes : List ℕ) (task : LogTask) (opened : ℕ) (state : State) (records : List Record) (rest : List ℕ) (index : ℕ) (refusal : LogFault) → SoFar bytes task opened state records rest index
-    → index < task.records → IsLeftRefused rest task opened records (index + 1) refusal → IsLogRefused bytes task opened refusal
-left_refused bytes task opened state records rest index (fault.Bad n rule) so within (inl (number, rule_is, short)) =
-    subst (λ (m : ℕ). IsLogRefused bytes task opened (fault.Bad m rule)) (sym number)
-    (subst (λ (w : RecordWhy). IsLogRefused bytes task opened (fault.Bad (index + 1) w)) (sym rule_is) (cut_refused bytes task opened state records rest index so short within))
+pub left_refused : {format : Format} (bytes : List ℕ) (task : LogTask) (opened : ℕ) (state : State) (records : List Record) (rest : List ℕ) (index : ℕ) (refusal : LogFault) → SoFar format bytes task opened state records rest index
+    → index < task.records → IsLeftRefused format rest task opened records (index + 1) refusal → IsLogRefused format bytes task opened refusal
+left_refused {format} bytes task opened state records rest index (fault.Bad n rule) so within (inl (number, rule_is, short)) =
+    subst (λ (m : ℕ). IsLogRefused format bytes task opened (fault.Bad m rule)) (sym number)
+    (subst (λ (w : RecordWhy). IsLogRefused format bytes task opened (fault.Bad (index + 1) w)) (sym rule_is) (cut_refused bytes task opened state records rest index so short within))
 left_refused bytes task opened state records rest index (fault.Bad n rule) so within (inr (whole, refused)) =
     next_refused bytes task opened state records rest index (take 24 rest) (fault.Bad n rule) so whole refl within refused
 left_refused bytes task opened state records rest index (fault.TooMany n) so within (whole, refused) =
@@ -245,10 +241,10 @@ left_refused bytes task opened state records rest index fault.ReadFault so withi
 left_refused bytes task opened state records rest index fault.Memory so within refused = tt
 
 -- a byte follows the last record
-pub extra_refused : (bytes : List ℕ) (task : LogTask) (opened : ℕ) (state : State) (records : List Record) (rest : List ℕ) (index : ℕ) → SoFar bytes task opened state records rest index
-    → index ≡ task.records → 0 < length rest → IsLogRefused bytes task opened (fault.Bad (task.records + 1) log.Extra)
-extra_refused bytes task opened state records rest index so all more = (
+pub extra_refused : {format : Format} (bytes : List ℕ) (task : LogTask) (opened : ℕ) (state : State) (records : List Record) (rest : List ℕ) (index : ℕ) → SoFar format bytes task opened state records rest index
+    → index ≡ task.records → 0 < length rest → IsLogRefused format bytes task opened (fault.Bad (task.records + 1) log.Extra)
+extra_refused {format} bytes task opened state records rest index so all more = (
   record { records = records; rest = rest; read = so.read; all = so.count ∙ all; number = refl; more = more },
   before_next bytes task opened (task.records + 1) 19 records rest so.read so.keeps (few bytes task opened state records rest index so) (omega (arith, so.count)) (omega (arith, so.count))
-      (λ rule low told. past_end bytes task (task.records + 1) rule (omega arith) low told),
+      (λ rule low told. past_end format bytes task (task.records + 1) rule (omega arith) low told),
 )

@@ -27,7 +27,7 @@ between (x ∷ p) (t ∷ q) s (inr (same, one)) (inr (again, other)) =
     record { first = rest.first; rest = rest.rest; parts = ap (λ (ts : List Step). t ∷ ts) rest.parts ∙ ap (λ (y : Step). y ∷ (p ++ rest.first ∷ rest.rest)) (sym same) }
 
 -- a lane isn't listed before its task
-not_before_above : (p : List Step) (s : Step) → PathBefore (p ++ s ∷ []) p → ⊥
+pub not_before_above : (p : List Step) (s : Step) → PathBefore (p ++ s ∷ []) p → ⊥
 not_before_above [] s before = before
 not_before_above (x ∷ p) s (inl less) = not_before_itself x x refl less
 not_before_above (x ∷ p) s (inr (same, less)) = not_before_above p s less

@@ -1,6 +1,7 @@
 -- Traces whose logs keep all rules beside an index.
 use Rattle.std.specs.Prelude.{◌≡◌, ℕ, ◌<◌, ◌≤◌, List, [], ◌∷◌, ◌++◌, length, take, All, Contains, Option, Some, None, slice_get}
 use Rattle.sw_base.specs.declared.path.Step.{Step}
+use Rattle.log_format.specs.declared.format.Format.{Format}
 use Rattle.log_format.specs.Table.{IsTabled}
 use Rattle.race_model.specs.Row.{Row}
 use Rattle.race_model.specs.Listing.{lane_of}
@@ -29,26 +30,21 @@ abbrev pub AreTeamBarriers : Trace → List Step → Option ℕ → Type 0
 AreTeamBarriers earlier path None = LeadsTeam path
 AreTeamBarriers earlier path (Some barriers) = FollowsTeam earlier path barriers
 
--- the first lane of the task's team, where the task is a lane from 1 on, is one of these tasks
-abbrev pub HasFirst : Trace → List Step → Type 0
-HasFirst earlier path = (above : List Step) (step : Step) → path ≡ above ++ step ∷ [] → 0 < step.lane
-    → (first : TaskLog) × Contains earlier first × (first.path ≡ lane_of above step.region 0 step.span)
-
 -- a task with this many records, seen by the rules
 abbrev pub log_task : TaskLog → List ℕ → Option ℕ → LogTask
 log_task task spans team = record { path = task.path; records = length task.records; spans = spans; due_barriers = team }
 
 -- the log of a task after others keeps the rules
-pub record IsGoodTask (rows : List Row) (earlier : Trace) (task : TaskLog) : Type 0 where
+pub record IsGoodTask (format : Format) (rows : List Row) (earlier : Trace) (task : TaskLog) : Type 0 where
   pub spans : List ℕ
   pub has_spans : ListsSpans rows task.path spans
   pub due_barriers : Option ℕ
   pub has_team : AreTeamBarriers earlier task.path due_barriers
-  pub tabled : All IsTabled task.records
+  pub tabled : All (IsTabled format) task.records
   pub keeps : KeepsLogRules (log_task task spans due_barriers) task.records
 
 -- the tasks are those of the first rows, and their logs keep the rules
-pub record IsGoodTrace (rows : List Row) (trace : Trace) : Type 0 where
+pub record IsGoodTrace (format : Format) (rows : List Row) (trace : Trace) : Type 0 where
   pub rows_are : rows_of trace ≡ take (length trace) rows
-  pub each : (k : ℕ) (task : TaskLog) → slice_get trace k ≡ Some task → IsGoodTask rows (take k trace) task
+  pub each : (k : ℕ) (task : TaskLog) → slice_get trace k ≡ Some task → IsGoodTask format rows (take k trace) task
   pub limit : segments_in trace ≤ max_segments

@@ -5,18 +5,21 @@ ghost use Rattle.sw_base.specs.Window.{Shows, file_of};
 ghost use Rattle.log_format.specs.Spelling.{log_bytes};
 ghost use Rattle.log_format.specs.Table.{IsTabled, Spells};
 ghost use Rattle.log_format.specs.declared.record.Record.{Record};
-ghost use Rattle.log_walk.specs.Check.{of_why, IsGoodNext, IsNextRefused, IsLeftRefused, PassesRecord, IsGoodLog, IsLogRefused};
+ghost use Rattle.log_segment.specs.Walking.{IsOwnAfter};
+ghost use Rattle.log_walk.specs.Check.{of_why, IsGoodNext, IsNextRefused, IsLeftRefused, PassesRecord, ChecksLog, IsLogRefused};
 ghost use Rattle.log_walk.specs.Rules.{log_task_of, BreaksNone};
-ghost use Rattle.log_walk.specs.State.{IsStateAfter};
+ghost use Rattle.log_walk.specs.State.{IsStateAfter, IsWalkAfter};
 ghost use Rattle.race_model.specs.LogFault.{max_segments};
 ghost use Rattle.race_model.specs.IndexFault.{max_records};
 
 use crate::state::State;
 use crate::task::Task;
-use log_format::{Record, Why, decode};
+use log_format::{Format, Record, Why, decode_as};
+use log_segment::{Segment, Walk};
 use race_model::RecordWhy;
+use span_label::Label;
 use std::alloc::{AllocFailed, Global};
-use sw_base::{Folder, LOG_HEADER, Trouble, Window};
+use sw_base::{Folder, Memory, Trouble, Window};
 
 /// The bytes of a record.
 const RECORD: usize = 24;
@@ -59,10 +62,25 @@ impl<T: Drop> From<AllocFailed<T>> for LogFault {
     }
 }
 
-/// The records of a log, and how many segments it and the earlier logs have.
+impl From<Memory> for LogFault {
+    ghost use Rattle.std.specs.Prelude.{◌≡◌};
+    ghost use Rattle.log_walk.specs.declared.check.LogFault.TheVariants as fault;
+
+    ghost from_gives = { λ _ e. e ≡ fault.Memory };
+
+    fn from(_: Memory) -> Self {
+        LogFault::Memory
+    }
+}
+
+/// What is told of a log that is good.
 #[derive(Drop)]
 pub struct Checked {
-    pub records: Vec<Record>,
+    /// The label of each of its Regions.
+    pub forks: Vec<Label>,
+    /// How many barriers it has.
+    pub barriers: u32,
+    /// How many segments it and the earlier logs have.
     pub segments: u32,
 }
 
@@ -81,23 +99,28 @@ fn rule_of(why: Why) -> RecordWhy
 }
 
 /// The record that these bytes spell, where it keeps the rules.
-fn accept(state: &mut State, task: &Task, number: u32, bytes: &[u8; 24]) -> Result<Record, LogFault>
+fn accept(
+    format: Format,
+    state: &mut State,
+    walk: &Walk,
+    task: &Task,
+    number: u32,
+    bytes: &[u8; 24],
+) -> Result<Record, LogFault>
     requires segments { state.old.segments ≤ max_segments }
-    requires regions { state.old.regions < number }
     requires barriers { state.old.barriers < number }
-    ensures good { (opened : ℕ) (before : List Record) → IsStateAfter state.old opened before → number ≡ length before + 1
-        → IfOk result (λ r. IsGoodNext bytes.now (log_task_of task.now) before r) }
-    ensures spells { IfOk result (λ r. Spells bytes.now r) }
-    ensures follows { (opened : ℕ) (before : List Record) → IsStateAfter state.old opened before → number ≡ length before + 1
+    ensures good { (opened : ℕ) (before : List Record) → IsStateAfter state.old opened before → IsWalkAfter walk.now before → number ≡ length before + 1
+        → IfOk result (λ r. IsGoodNext format bytes.now (log_task_of task.now) before r) }
+    ensures spells { IfOk result (λ r. Spells format bytes.now r) }
+    ensures follows { (opened : ℕ) (before : List Record) → IsStateAfter state.old opened before → IsWalkAfter walk.now before → number ≡ length before + 1
         → IfOk result (λ r. IsStateAfter state.new opened (before ++ r ∷ [])) }
-    ensures refused { (opened : ℕ) (before : List Record) → IsStateAfter state.old opened before → number ≡ length before + 1
-        → IfErr result (λ e. IsNextRefused bytes.now (log_task_of task.now) opened before number e) }
+    ensures refused { (opened : ℕ) (before : List Record) → IsStateAfter state.old opened before → IsWalkAfter walk.now before → number ≡ length before + 1
+        → IfErr result (λ e. IsNextRefused format bytes.now (log_task_of task.now) opened before number e) }
     ensures read { IsErrOf result LogFault.ReadFault → ⊥ }
     ensures limit { OnOk result (state.new.segments ≤ max_segments) }
-    ensures regions { OnOk result (state.new.regions ≤ number) }
     ensures barriers { OnOk result (state.new.barriers ≤ number) }
 {
-    let record = match decode(bytes) {
+    let record = match decode_as(format, bytes) {
         Ok(record) => record,
         Err(why) => {
             return Err(LogFault::Bad {
@@ -106,10 +129,10 @@ fn accept(state: &mut State, task: &Task, number: u32, bytes: &[u8; 24]) -> Resu
             });
         }
     };
-    if let Some(why) = state.broken(task, number, &record) {
+    if let Some(why) = state.broken(task, walk.forks.len(), number, &record) {
         return Err(LogFault::Bad { number, why });
     }
-    if !state.count(record.kind) {
+    if !state.count(record.kind, walk.is_open()) {
         return Err(LogFault::TooMany { number });
     }
     Ok(record)
@@ -118,29 +141,29 @@ fn accept(state: &mut State, task: &Task, number: u32, bytes: &[u8; 24]) -> Resu
 /// The next record of a log, where it keeps the rules. So many records were read before.
 fn next_record<F: Folder>(
     alloc: Global,
+    format: Format,
     folder: &mut F,
     name: &str,
     window: &mut Window,
     state: &mut State,
+    walk: &Walk,
     task: &Task,
     index: u32,
 ) -> Result<Record, LogFault>
     requires index { index < max_records }
     requires place { window.old.place ≡ 8 + 24 * index }
     requires segments { state.old.segments ≤ max_segments }
-    requires regions { state.old.regions ≤ index }
     requires barriers { state.old.barriers ≤ index }
-    ensures good { (opened : ℕ) (before : List Record) → IsStateAfter state.old opened before → index ≡ length before
-        → IfOk result (λ r. IsTabled r × BreaksNone (log_task_of task.now) before r) }
-    ensures follows { (opened : ℕ) (before : List Record) → IsStateAfter state.old opened before → index ≡ length before
+    ensures good { (opened : ℕ) (before : List Record) → IsStateAfter state.old opened before → IsWalkAfter walk.now before → index ≡ length before
+        → IfOk result (λ r. IsTabled format r × BreaksNone (log_task_of task.now) before r) }
+    ensures follows { (opened : ℕ) (before : List Record) → IsStateAfter state.old opened before → IsWalkAfter walk.now before → index ≡ length before
         → IfOk result (λ r. IsStateAfter state.new opened (before ++ r ∷ [])) }
     ensures read { IfOk result (λ r. WhereTold (F.content folder.old) (λ c. Shows window.old (file_of c name.now) → PassesRecord (file_of c name.now) r window.old window.new)) }
-    ensures refused { (opened : ℕ) (before : List Record) → IsStateAfter state.old opened before → index ≡ length before
+    ensures refused { (opened : ℕ) (before : List Record) → IsStateAfter state.old opened before → IsWalkAfter walk.now before → index ≡ length before
         → IfErr result (λ e. WhereTold (F.content folder.old) (λ c. Shows window.old (file_of c name.now)
-        → IsLeftRefused (drop window.old.place (file_of c name.now)) (log_task_of task.now) opened before (index + 1) e)) }
+        → IsLeftRefused format (drop window.old.place (file_of c name.now)) (log_task_of task.now) opened before (index + 1) e)) }
     ensures place { OnOk result (window.new.place ≡ window.old.place + 24) }
     ensures limit { OnOk result (state.new.segments ≤ max_segments) }
-    ensures regions { OnOk result (state.new.regions ≤ index + 1) }
     ensures barriers { OnOk result (state.new.barriers ≤ index + 1) }
 
     ensures same { F.content folder.new ≡ F.content folder.old }
@@ -156,25 +179,28 @@ fn next_record<F: Folder>(
             why: RecordWhy::Cut,
         });
     };
-    let record = accept(state, task, number, next)?;
+    let record = accept(format, state, walk, task, number, next)?;
     window.skip(RECORD);
     Ok(record)
 }
 
-/// The records of the log under this name, where it is good. Else the first place at which it isn't.
+/// Goes over the log under this name, where it is good, and adds its segments. Else the first place at which it isn't.
 pub fn check_log<F: Folder>(
     alloc: Global,
+    format: Format,
     folder: &mut F,
     name: &str,
     window: &mut Window,
     task: &Task,
     opened: u32,
+    label: Label,
+    found: &mut Vec<Segment>,
 ) -> Result<Checked, LogFault>
     requires opened { opened ≤ max_segments }
     requires records { task.now.records ≤ max_records }
-    ensures good { IfOk result (λ c. IsGoodLog (log_bytes LOG_HEADER c.records.items) (log_task_of task.now) opened c.records.items c.segments) }
-    ensures whole { IfOk result (λ c. WhereTold (F.content folder.old) (λ x. file_of x name.now ≡ log_bytes LOG_HEADER c.records.items)) }
-    ensures refused { IfErr result (λ e. WhereTold (F.content folder.old) (λ x. IsLogRefused (file_of x name.now) (log_task_of task.now) opened e)) }
+    requires own { IsOwnAfter label 1 }
+    ensures good { IfOk result (λ checked. ChecksLog format (F.content folder.old) name.now task.now opened label checked found.old.items found.new.items) }
+    ensures refused { IfErr result (λ e. WhereTold (F.content folder.old) (λ x. IsLogRefused format (file_of x name.now) (log_task_of task.now) opened e)) }
 
     ensures same { F.content folder.new ≡ F.content folder.old }
     ensures later { F.read_faults folder.old ≤ F.read_faults folder.new }
@@ -182,17 +208,19 @@ pub fn check_log<F: Folder>(
     ensures same_writes { F.write_faults folder.new ≡ F.write_faults folder.old }
 {
     window.restart();
-    if !window.pass_header(alloc, folder, name, &LOG_HEADER)? {
+    if !window.pass_header(alloc, folder, name, &format.log_header())? {
         return Err(LogFault::Bad {
             number: 0,
             why: RecordWhy::Header,
         });
     }
     let mut state = State::new(opened);
-    let mut records = Vec::new(alloc);
+    let mut walk = Walk::new(alloc, label);
     'records: for index in 0..task.records {
-        let next = next_record(alloc, folder, name, window, &mut state, task, index)?;
-        records.push(next)?;
+        let next = next_record(
+            alloc, format, folder, name, window, &mut state, &walk, task, index,
+        )?;
+        walk.step(alloc, &task.path, index + 1, &next, &state.held, found)?;
     }
     window.fill(alloc, folder, name, 1)?;
     if !window.ahead().is_empty() {
@@ -201,8 +229,10 @@ pub fn check_log<F: Folder>(
             why: RecordWhy::Extra,
         });
     }
+    walk.close(&task.path, task.records, found)?;
     Ok(Checked {
-        records,
+        forks: walk.forks,
+        barriers: state.barriers,
         segments: state.segments,
     })
 }

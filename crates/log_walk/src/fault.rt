@@ -1,6 +1,6 @@
 use log_index::IndexAnswer;
 use race_model::{IndexWhy, RecordWhy};
-use std::alloc::AllocFailed;
+use std::alloc::{AllocError, AllocFailed};
 use sw_base::{Memory, Path, Trouble};
 
 /// Why a folder isn't walked: its first bad place, a read that failed, or no memory.
@@ -34,6 +34,35 @@ pub enum WalkFault {
     Memory,
 }
 
+impl WalkFault {
+    ghost use Rattle.std.specs.Prelude.{◌≡◌};
+
+    /// The same fault.
+    pub fn copy(&self) -> WalkFault
+        ensures { result ≡ self.now }
+    {
+        match self {
+            WalkFault::NoIndex => WalkFault::NoIndex,
+            WalkFault::BadIndex { row, why } => WalkFault::BadIndex {
+                row: *row,
+                why: *why,
+            },
+            WalkFault::MissingLog { path } => WalkFault::MissingLog { path: path.copy() },
+            WalkFault::BadRecord { path, number, why } => WalkFault::BadRecord {
+                path: path.copy(),
+                number: *number,
+                why: *why,
+            },
+            WalkFault::TooManySegments { path, number } => WalkFault::TooManySegments {
+                path: path.copy(),
+                number: *number,
+            },
+            WalkFault::ReadFault => WalkFault::ReadFault,
+            WalkFault::Memory => WalkFault::Memory,
+        }
+    }
+}
+
 impl From<Memory> for WalkFault {
     ghost use Rattle.std.specs.Prelude.{◌≡◌};
     ghost use Rattle.log_walk.specs.declared.fault.WalkFault.TheVariants as fault;
@@ -41,6 +70,17 @@ impl From<Memory> for WalkFault {
     ghost from_gives = { λ _ e. e ≡ fault.Memory };
 
     fn from(_: Memory) -> Self {
+        WalkFault::Memory
+    }
+}
+
+impl From<AllocError> for WalkFault {
+    ghost use Rattle.std.specs.Prelude.{◌≡◌};
+    ghost use Rattle.log_walk.specs.declared.fault.WalkFault.TheVariants as fault;
+
+    ghost from_gives = { λ _ e. e ≡ fault.Memory };
+
+    fn from(_: AllocError) -> Self {
         WalkFault::Memory
     }
 }

@@ -15,8 +15,13 @@ pub fn place(kind: Kind, number: u32, count: u32) -> Option<RecordWhy>
     match kind {
         Kind::End if number < count => Some(RecordWhy::EndEarly),
         Kind::End => None,
-        _ if number == count => Some(RecordWhy::EndMissing),
-        _ => None,
+        Kind::Read
+        | Kind::Write
+        | Kind::Lock
+        | Kind::Unlock
+        | Kind::Barrier
+        | Kind::Region
+        | Kind::Chunk => (number == count).then_some(RecordWhy::EndMissing),
     }
 }
 
@@ -55,30 +60,30 @@ pub fn barrier(held: &Held, path: &Path) -> Option<RecordWhy>
 }
 
 /// A task forks a region with no mutex, and the index lists it.
-pub fn region(held: &Held, spans: &[u16], number: u32, span: u64) -> Option<RecordWhy>
+pub fn region(held: &Held, spans: &[u16], number: usize, span: u64) -> Option<RecordWhy>
     ensures { MatchOption result (MayFork held.now spans.now number span) (λ why. CantFork held.now spans.now number span why) }
 {
     if !held.ids().is_empty() {
         return Some(RecordWhy::RegionLocked);
     }
-    match spans.get(number as usize) {
+    match spans.get(number) {
         Some(listed) if u64::from(*listed) == span => None,
         _ => Some(RecordWhy::RegionRows),
     }
 }
 
 /// A task ends with no mutex, after all regions that the index lists, and after as many barriers as its team.
-pub fn end(held: &Held, task: &Task, regions: u32, barriers: u32) -> Option<RecordWhy>
+pub fn end(held: &Held, task: &Task, regions: usize, barriers: u32) -> Option<RecordWhy>
     ensures { MatchOption result (MayEnd held.now (log_task_of task.now) regions barriers) (λ why. CantEnd held.now (log_task_of task.now) regions barriers why) }
 {
     if !held.ids().is_empty() {
         return Some(RecordWhy::LockOpen);
     }
-    if task.spans.len() > regions as usize {
+    if task.spans.len() > regions {
         return Some(RecordWhy::RegionRows);
     }
     match task.due_barriers {
-        Some(others) if others != barriers as usize => Some(RecordWhy::BarrierCount),
+        Some(others) if others != barriers => Some(RecordWhy::BarrierCount),
         _ => None,
     }
 }

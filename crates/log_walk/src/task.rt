@@ -10,5 +10,5 @@ pub struct Task {
     /// The spans of its regions by the index, by number.
     pub spans: Vec<u16>,
     /// The barriers of its team's lane 0, for a lane from 1 on.
-    pub due_barriers: Option<usize>,
+    pub due_barriers: Option<u32>,
 }

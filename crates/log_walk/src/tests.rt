@@ -1,12 +1,11 @@
 //! Folders by hand with their first bad places, and each public call with ample memory.
 
-use crate::short_reads::ShortReads;
-use crate::{RecordWhy, TaskRecords, WalkFault, read_trace, walk};
+use crate::{RecordWhy, Segment, Sweep, WalkFault, walk};
 use race_model::IndexWhy;
 use span_label::Triple;
 use std::alloc::{AllocError, Global};
 use std::test::Fail;
-use sw_base::{INDEX_HEADER, LOG_HEADER, MemFolder, Memory, Path};
+use sw_base::{Folder, INDEX_HEADER, LOG_HEADER, MemFolder, Memory, Path, ShortReads};
 
 type Spelled = [u8; 24];
 
@@ -52,9 +51,9 @@ fn fault_told(fault: &WalkFault) -> Told {
     }
 }
 
-fn answer_of(answer: Result<Vec<TaskRecords>, WalkFault>) -> Told {
+fn answer_of(answer: Result<Vec<Segment>, WalkFault>) -> Told {
     match answer {
-        Ok(_trace) => Told::Good,
+        Ok(_found) => Told::Good,
         Err(fault) => fault_told(&fault),
     }
 }
@@ -129,10 +128,22 @@ fn folder(
     Ok(folder)
 }
 
+// What is told of a folder, the same where no read gives more than five bytes.
+fn told_twice(alloc: Global, folder: MemFolder) -> Result<Told, Fail> {
+    let mut folder = folder;
+    let whole = answer_of(walk(alloc, &mut folder, "d"));
+    let short = answer_of(walk(alloc, &mut ShortReads { folder }, "d"));
+    if whole == short {
+        Ok(whole)
+    } else {
+        Err(Fail::new("short reads are answered otherwise"))
+    }
+}
+
 // What is told where lane 1 has these records, and its row this number.
-fn lane_1(alloc: Global, records: u32, second: &[Spelled]) -> Result<Told, Memory> {
-    let mut folder = folder(alloc, [2, 5, records], &root(), &lane(4096), second)?;
-    Ok(answer_of(read_trace(alloc, &mut folder, "d")))
+fn lane_1(alloc: Global, records: u32, second: &[Spelled]) -> Result<Told, Fail> {
+    let folder = folder(alloc, [2, 5, records], &root(), &lane(4096), second)?;
+    told_twice(alloc, folder)
 }
 
 // What is told where the root and lane 0 have these records.
@@ -141,35 +152,30 @@ fn root_and_lane_0(
     root: &[Spelled],
     first: &[Spelled],
     second: &[Spelled],
-) -> Result<Told, Memory> {
-    let mut folder = folder(alloc, [2, 5, 5], root, first, second)?;
-    Ok(answer_of(read_trace(alloc, &mut folder, "d")))
+) -> Result<Told, Fail> {
+    let folder = folder(alloc, [2, 5, 5], root, first, second)?;
+    told_twice(alloc, folder)
 }
 
 // What is told where lane 1's log has these bytes.
-fn lane_1_bytes(alloc: Global, bytes: &[u8]) -> Result<Told, Memory> {
+fn lane_1_bytes(alloc: Global, bytes: &[u8]) -> Result<Told, Fail> {
     let mut folder = folder(alloc, [2, 5, 5], &root(), &lane(4096), &lane(4104))?;
     folder.hold("d/t-0.1.swl", bytes)?;
-    Ok(answer_of(read_trace(alloc, &mut folder, "d")))
+    told_twice(alloc, folder)
 }
 
 #[test]
 fn a_good_folder_is_read_and_walked(rt: HostRuntime) -> Result<(), Fail> {
     let alloc = rt.alloc();
     let mut folder = folder(alloc, [2, 5, 5], &root(), &lane(4096), &lane(4104))?;
-    let Ok(trace) = read_trace(alloc, &mut folder, "d") else {
-        return Err(Fail::new("refused"));
-    };
-    assert_eq!(rt; trace.len(), 3);
-    assert_eq!(rt; trace[2].path.bare_name(alloc)?.as_str(), "t-0.1.swl");
-    assert_eq!(rt; (trace[0].records.len(), trace[2].records.len()), (2, 5));
     let Ok(found) = walk(alloc, &mut folder, "d") else {
         return Err(Fail::new("refused"));
     };
     assert_eq!(rt; found.len(), 2);
     assert_eq!(rt; (found[1].first, found[1].last), (1, 3));
-    assert_eq!(rt; found[1].accesses.len(), 1);
-    assert_eq!(rt; found[1].accesses[0].held.ids(), [1].as_slice());
+    assert_eq!(rt; found[1].path.bare_name(alloc)?.as_str(), "t-0.1.swl");
+    assert_eq!(rt; found[1].runs.len(), 1);
+    assert_eq!(rt; found[1].runs[0].held.ids(), [1].as_slice());
     Ok(())
 }
 
@@ -331,9 +337,9 @@ fn a_ninth_lock_and_the_root_break_two_rules(rt: HostRuntime) -> Result<(), Fail
     let open = root_and_lane_0(alloc, &[lock, end], &lane(4096), &lane(4104))?;
     assert_eq!(rt; open, Told::Record(0, 2, RecordWhy::LockOpen));
     let root = [lock, barrier, end];
-    let mut folder = folder(alloc, [3, 5, 5], &root, &lane(4096), &lane(4104))?;
+    let folder = folder(alloc, [3, 5, 5], &root, &lane(4096), &lane(4104))?;
     assert_eq!(rt;
-        answer_of(read_trace(alloc, &mut folder, "d")),
+        told_twice(alloc, folder)?,
         Told::Record(0, 2, RecordWhy::RootBarrier)
     );
     Ok(())
@@ -350,7 +356,7 @@ fn a_region_that_is_not_forked_comes_before_too_few_barriers(rt: HostRuntime) ->
     let mut folder = folder(alloc, [2, 5, 1], &root(), &lane(4096), &[end])?;
     folder.hold("d/index.swi", &bytes)?;
     assert_eq!(rt;
-        answer_of(read_trace(alloc, &mut folder, "d")),
+        told_twice(alloc, folder)?,
         Told::Record(2, 1, RecordWhy::RegionRows)
     );
     Ok(())
@@ -409,14 +415,8 @@ fn the_index_comes_before_the_logs(rt: HostRuntime) -> Result<(), Fail> {
     let bad = [spelled(0, 0, 1, 0, 2), other(END, 9, 0, 0)];
     let mut folder = folder(alloc, [2, 5, 5], &bad, &lane(4096), &lane(4104))?;
     folder.hold("d/index.swi", &index(alloc, 0, [2, 5, 5])?)?;
-    assert_eq!(rt;
-        answer_of(read_trace(alloc, &mut folder, "d")),
-        Told::Row(3, IndexWhy::Span)
-    );
-    assert_eq!(rt;
-        answer_of(read_trace(alloc, &mut folder, "e")),
-        Told::NoIndex
-    );
+    assert_eq!(rt; answer_of(walk(alloc, &mut folder, "e")), Told::NoIndex);
+    assert_eq!(rt; told_twice(alloc, folder)?, Told::Row(3, IndexWhy::Span));
     Ok(())
 }
 
@@ -427,10 +427,7 @@ fn a_missing_log_comes_before_a_later_bad_one(rt: HostRuntime) -> Result<(), Fai
     folder.hold("d/index.swi", &index(alloc, 2, [2, 5, 5])?)?;
     folder.hold("d/t.swl", &log(alloc, &root())?)?;
     folder.hold("d/t-0.1.swl", b"SWLOG002")?;
-    assert_eq!(rt;
-        answer_of(read_trace(alloc, &mut folder, "d")),
-        Told::Missing(1)
-    );
+    assert_eq!(rt; told_twice(alloc, folder)?, Told::Missing(1));
     Ok(())
 }
 
@@ -439,9 +436,9 @@ fn unequal_barrier_counts_are_told(rt: HostRuntime) -> Result<(), Fail> {
     let alloc = rt.alloc();
     let end = other(END, 9, 0, 0);
     let first = [other(BARRIER, 5, 0, 0), end];
-    let mut folder = folder(alloc, [2, 2, 1], &root(), &first, &[end])?;
+    let folder = folder(alloc, [2, 2, 1], &root(), &first, &[end])?;
     assert_eq!(rt;
-        answer_of(read_trace(alloc, &mut folder, "d")),
+        told_twice(alloc, folder)?,
         Told::Record(2, 1, RecordWhy::BarrierCount)
     );
     Ok(())
@@ -465,7 +462,7 @@ fn the_65537th_segment_is_one_too_many(rt: HostRuntime) -> Result<(), Fail> {
     folder.hold("d/t.swl", &log(alloc, &root)?)?;
     folder.hold("d/t-0.0.swl", &log(alloc, &records)?)?;
     assert_eq!(rt;
-        answer_of(read_trace(alloc, &mut folder, "d")),
+        answer_of(walk(alloc, &mut folder, "d")),
         Told::TooMany(1, 131_073)
     );
     Ok(())
@@ -478,52 +475,28 @@ fn each_read_that_fails_is_told(rt: HostRuntime) -> Result<(), Fail> {
     for call in 1..16 {
         let mut folder = folder(alloc, [2, 5, 5], &root(), &lane(4096), &lane(4104))?;
         folder.fail(&[call])?;
-        assert_eq!(rt;
-            answer_of(read_trace(alloc, &mut folder, "d")),
-            Told::ReadFault
-        );
+        assert_eq!(rt; answer_of(walk(alloc, &mut folder, "d")), Told::ReadFault);
     }
     let mut folder = folder(alloc, [2, 5, 5], &root(), &lane(4096), &lane(4104))?;
     folder.fail(&[16])?;
-    assert_eq!(rt; answer_of(read_trace(alloc, &mut folder, "d")), Told::Good);
+    assert_eq!(rt; answer_of(walk(alloc, &mut folder, "d")), Told::Good);
     Ok(())
 }
 
-// What is told where lane 1's log has these bytes, and no read gives more than five bytes.
-fn lane_1_in_short_reads(alloc: Global, bytes: &[u8]) -> Result<Told, Memory> {
-    let mut folder = folder(alloc, [2, 5, 5], &root(), &lane(4096), &[])?;
-    folder.hold("d/t-0.1.swl", bytes)?;
-    Ok(answer_of(read_trace(alloc, &mut ShortReads { folder }, "d")))
-}
-
 #[test]
-fn a_short_read_is_gone_on_with(rt: HostRuntime) -> Result<(), Fail> {
+fn a_byte_that_changes_or_is_left_out_is_told(rt: HostRuntime) -> Result<(), Fail> {
     let alloc = rt.alloc();
     let whole = log(alloc, &lane(4104))?;
-    assert_eq!(rt; lane_1_in_short_reads(alloc, &whole)?, Told::Good);
+    assert_eq!(rt; lane_1_bytes(alloc, &whole)?, Told::Good);
     assert_eq!(rt;
-        lane_1_in_short_reads(alloc, &[])?,
+        lane_1_bytes(alloc, whole.get(1..).ok_or("bytes")?)?,
         Told::Record(2, 0, RecordWhy::Header)
-    );
-    assert_eq!(rt;
-        lane_1_in_short_reads(alloc, whole.get(1..).ok_or("bytes")?)?,
-        Told::Record(2, 0, RecordWhy::Header)
-    );
-    assert_eq!(rt;
-        lane_1_in_short_reads(alloc, whole.get(..79).ok_or("bytes")?)?,
-        Told::Record(2, 3, RecordWhy::Cut)
-    );
-    let mut longer = whole.clone()?;
-    longer.push(0)?;
-    assert_eq!(rt;
-        lane_1_in_short_reads(alloc, &longer)?,
-        Told::Record(2, 6, RecordWhy::Extra)
     );
     let mut other = whole.clone()?;
     assert_eq!(rt; other.len(), 128);
     other[8 + 24] = 0;
     assert_eq!(rt;
-        lane_1_in_short_reads(alloc, &other)?,
+        lane_1_bytes(alloc, &other)?,
         Told::Record(2, 2, RecordWhy::Kind)
     );
     Ok(())
@@ -533,16 +506,58 @@ fn a_short_read_is_gone_on_with(rt: HostRuntime) -> Result<(), Fail> {
 #[test]
 fn a_row_that_claims_too_many_records_is_told(rt: HostRuntime) -> Result<(), Fail> {
     let alloc = rt.alloc();
-    let mut folder = folder(
-        alloc,
-        [2, 5, 4_194_304],
-        &root(),
-        &lane(4096),
-        &lane(4104)[..4],
-    )?;
-    assert_eq!(rt;
-        answer_of(read_trace(alloc, &mut folder, "d")),
-        Told::Record(2, 5, RecordWhy::Cut)
-    );
+    let answer = lane_1(alloc, 4_194_304, &lane(4104)[..4])?;
+    assert_eq!(rt; answer, Told::Record(2, 5, RecordWhy::Cut));
+    Ok(())
+}
+
+// A root that forks two regions of one lane each, each with an access.
+fn two_regions(alloc: Global) -> Result<MemFolder, Memory> {
+    let mut second = row(1, 0, 1, 2);
+    second[11] = 1;
+    let mut bytes = Vec::from_slice(alloc, &INDEX_HEADER)?;
+    bytes.extend_from_slice(&row(0, 0, 0, 3))?;
+    bytes.extend_from_slice(&row(1, 0, 1, 2))?;
+    bytes.extend_from_slice(&second)?;
+    let fork = other(REGION, 1, 0, 1);
+    let end = other(END, 9, 0, 0);
+    let mut folder = MemFolder::new(alloc)?;
+    folder.hold("d/index.swi", &bytes)?;
+    folder.hold("d/t.swl", &log(alloc, &[fork, fork, end])?)?;
+    folder.hold("d/t-0.0.swl", &log(alloc, &[write(4096), end])?)?;
+    folder.hold("d/t-1.0.swl", &log(alloc, &[write(4104), end])?)?;
+    Ok(folder)
+}
+
+// How many regions a sweep gives, up to two.
+fn regions_given<F: Folder>(alloc: Global, folder: &mut F, dir: &str) -> u32 {
+    let Ok((mut sweep, _)) = Sweep::open(alloc, folder, dir) else {
+        return 0;
+    };
+    let Ok(Some(_)) = sweep.next(alloc, folder) else {
+        return 0;
+    };
+    let Ok(Some(_)) = sweep.next(alloc, folder) else {
+        return 1;
+    };
+    2
+}
+
+#[test]
+fn a_region_is_given_before_the_next_is_read(rt: HostRuntime) -> Result<(), Fail> {
+    let alloc = rt.alloc();
+    // The size of the index and its five reads, and for each of three logs its size and two reads.
+    for call in 1..17 {
+        let given = if call <= 12 {
+            0
+        } else if call <= 15 {
+            1
+        } else {
+            2
+        };
+        let mut folder = two_regions(alloc)?;
+        folder.fail(&[call])?;
+        assert_eq!(rt; regions_given(alloc, &mut folder, "d"), given);
+    }
     Ok(())
 }

@@ -1,29 +1,56 @@
 //! The segments of a folder.
 ghost use Rattle.std.specs.Prelude.{◌≡◌, ◌≤◌, IfOk, IfErr, OnOk, IsErrOf};
 ghost use Rattle.sw_base.specs.Environment.{WhereTold, Rose};
+ghost use Rattle.log_format.specs.declared.format.TheConstants.{FORMAT};
 ghost use Rattle.race_model.specs.WellFormed.{IsWellFormed};
 ghost use Rattle.log_walk.specs.Walk.{TellsFirstBad};
 ghost use Rattle.log_walk.specs.Segments.{AreOfFolder};
 
 use crate::fault::WalkFault;
-use crate::read::read_trace;
-use log_segment::{Segment, segments};
+use crate::sweep::Sweep;
+use log_format::{FORMAT, Format};
+use log_segment::Segment;
 use std::alloc::Global;
 use sw_base::Folder;
 
 /// The barrier intervals of a folder's trace, in the order of its rows, and in each log by number, each with its label,
 /// where the folder is well formed. Else the folder's first bad place.
 pub fn walk<F: Folder>(alloc: Global, folder: &mut F, dir: &str) -> Result<Vec<Segment>, WalkFault>
-    ensures segments { IfOk result (λ found. AreOfFolder (F.content folder.old) dir.now found.items) }
-    ensures well_formed { OnOk result (WhereTold (F.content folder.old) (λ c. IsWellFormed c.held dir.now)) }
-    ensures refused { IfErr result (λ e. WhereTold (F.content folder.old) (λ c. TellsFirstBad c.held dir.now e)) }
+    ensures segments { IfOk result (λ found. AreOfFolder FORMAT (F.content folder.old) dir.now found.items) }
+    ensures well_formed { OnOk result (WhereTold (F.content folder.old) (λ c. IsWellFormed FORMAT c.held dir.now)) }
+    ensures refused { IfErr result (λ e. WhereTold (F.content folder.old) (λ c. TellsFirstBad FORMAT c.held dir.now e)) }
 
     ensures same { F.content folder.new ≡ F.content folder.old }
     ensures later { F.read_faults folder.old ≤ F.read_faults folder.new }
     ensures cause { IsErrOf result WalkFault.ReadFault → Rose (F.read_faults folder.old) (F.read_faults folder.new) }
     ensures same_writes { F.write_faults folder.new ≡ F.write_faults folder.old }
 {
-    let trace = read_trace(alloc, folder, dir)?;
-    let found = segments(alloc, &trace)?;
+    walk_as(alloc, FORMAT, folder, dir)
+}
+
+/// The same of a folder of this format.
+pub fn walk_as<F: Folder>(
+    alloc: Global,
+    format: Format,
+    folder: &mut F,
+    dir: &str,
+) -> Result<Vec<Segment>, WalkFault>
+    ensures segments { IfOk result (λ found. AreOfFolder format (F.content folder.old) dir.now found.items) }
+    ensures well_formed { OnOk result (WhereTold (F.content folder.old) (λ c. IsWellFormed format c.held dir.now)) }
+    ensures refused { IfErr result (λ e. WhereTold (F.content folder.old) (λ c. TellsFirstBad format c.held dir.now e)) }
+
+    ensures same { F.content folder.new ≡ F.content folder.old }
+    ensures later { F.read_faults folder.old ≤ F.read_faults folder.new }
+    ensures cause { IsErrOf result WalkFault.ReadFault → Rose (F.read_faults folder.old) (F.read_faults folder.new) }
+    ensures same_writes { F.write_faults folder.new ≡ F.write_faults folder.old }
+{
+    let (mut sweep, mut found) = Sweep::open_as(alloc, format, folder, dir)?;
+    let left = sweep.left();
+    'regions: for round in 0..left + 1 {
+        let Some(mut region) = sweep.next(alloc, folder)? else {
+            return Ok(found);
+        };
+        found.append(&mut region)?;
+    }
     Ok(found)
 }

@@ -6,6 +6,7 @@ use Rattle.std.proofs.lemmas.List.Sums.{sum_by-take-le, sum_by-append}
 use Rattle.std.proofs.lemmas.List.Elements.{All-from_get_or, All-contains, Contains-push}
 use Rattle.std.proofs.lemmas.Option.{slice_get_within, slice_get-get_or, same_Some, none-some}
 use Rattle.sw_base.specs.declared.path.Step.{Step}
+use Rattle.log_format.specs.declared.format.Format.{Format}
 use Rattle.log_format.specs.declared.record.Record.{Record}
 use Rattle.log_format.specs.declared.record.Kind.{Kind}
 use Rattle.log_format.specs.declared.record.Kind.TheVariants.{Read, Write, Lock, Unlock, Barrier, Region, Chunk, End}
@@ -137,13 +138,13 @@ pub has_begun : (trace : Trace) → AreRows (rows_of trace) → (path : List Ste
 has_begun trace rows path listed =
     listed_task trace path (with_records trace rows.each) (subst (λ (ps : List (List Step)). Contains ps path) (paths_same trace) listed)
 
-module _ (trace : Trace) (good : KeepsRules trace) where
+module _ {format : Format} (trace : Trace) (good : KeepsRules format trace) where
   is_listing : IsListing (map (λ (row : Row). row.path) (rows_of trace))
   is_listing = good.rows.lists
 
   known_task : (index : ℕ) (task : TaskLog) → slice_get trace index ≡ Some task → Known trace task.path task.records
   known_task index task found =
-      let keeps = all_at (TaskKeepsRules trace) trace index task good.tasks found in
+      let keeps = all_at (TaskKeepsRules format trace) trace index task good.tasks found in
       record {
         spans = keeps.spans;
         lists = keeps.has_spans;

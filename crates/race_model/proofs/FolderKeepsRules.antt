@@ -6,6 +6,7 @@ use Rattle.std.proofs.lemmas.List.Elements.{All-contains, Contains-push}
 use Rattle.std.proofs.lemmas.Option.{slice_get-get_or, same_Some, none-some}
 use Rattle.sw_base.specs.declared.path.Step.{Step}
 use Rattle.sw_base.specs.Environment.{Files}
+use Rattle.log_format.specs.declared.format.Format.{Format}
 use Rattle.race_model.specs.Row.{Row}
 use Rattle.race_model.specs.Listing.{lane_of}
 use Rattle.race_model.specs.Trace.{TaskLog, Trace, logs_of, barrier_count}
@@ -22,20 +23,20 @@ use Rattle.race_model.proofs.FolderRules.{kept, lists_spans}
 use Rattle.race_model.proofs.FolderForkJoin.{path_at, row_all, has_begun}
 
 -- what a task's team is known to have passed, and where that is read
-record Team (files : Files) (dir : List ℕ) (trace : Trace) (path : List Step) : Type 0 where
+record Team (format : Format) (files : Files) (dir : List ℕ) (trace : Trace) (path : List Step) : Type 0 where
   team : Option ℕ
   knows : KnowsTeam trace path team
-  has : (barriers : ℕ) → team ≡ Some barriers → HasTeamBarriers files dir path barriers
+  has : (barriers : ℕ) → team ≡ Some barriers → HasTeamBarriers format files dir path barriers
 
-module _ (files : Files) (dir : List ℕ) (trace : Trace) (holds : HoldsTrace files dir trace) (good : IsWellFormed files dir) where
-  no_team : (path : List Step) → ((above : List Step) (step : Step) → path ≡ above ++ step ∷ [] → 0 < step.lane → ⊥) → Team files dir trace path
+module _ {format : Format} (files : Files) (dir : List ℕ) (trace : Trace) (holds : HoldsTrace format files dir trace) (good : IsWellFormed format files dir) where
+  no_team : (path : List Step) → ((above : List Step) (step : Step) → path ≡ above ++ step ∷ [] → 0 < step.lane → ⊥) → Team format files dir trace path
   no_team path never = record {
     team = None;
     knows = λ above step e from. absurd (never above step e from);
     has = λ barriers e. absurd (none-some barriers e);
   }
 
-  lane_team : (path above : List Step) (step : Step) → path ≡ above ++ step ∷ [] → All IsStep path → Contains (map (λ (row : Row). row.path) (rows_of trace)) path → (lane : ℕ) → step.lane ≡ lane → Team files dir trace path
+  lane_team : (path above : List Step) (step : Step) → path ≡ above ++ step ∷ [] → All IsStep path → Contains (map (λ (row : Row). row.path) (rows_of trace)) path → (lane : ℕ) → step.lane ≡ lane → Team format files dir trace path
   lane_team path above step e steps listed zero is_zero =
       no_team path (λ other last same from. let both = same_from_push above other step last (sym e ∙ same) in
       let lanes : step.lane ≡ last.lane = ap (λ (s : Step). s.lane) both.1 in omega arith)
@@ -57,17 +58,17 @@ module _ (files : Files) (dir : List ℕ) (trace : Trace) (holds : HoldsTrace fi
         };
       }
 
-  team_of : (path : List Step) → All IsStep path → Contains (map (λ (row : Row). row.path) (rows_of trace)) path → (path ≡ []) ⊎ HasLast path → Team files dir trace path
+  team_of : (path : List Step) → All IsStep path → Contains (map (λ (row : Row). row.path) (rows_of trace)) path → (path ≡ []) ⊎ HasLast path → Team format files dir trace path
   team_of path steps listed (inl e) = no_team path (λ above step same from. not_both_empty path above step e same)
   team_of path steps listed (inr l) = lane_team path l.prefix l.last l.parts steps listed l.last.lane refl
 
-  task_keeps : (index : ℕ) (task : TaskLog) → slice_get trace index ≡ Some task → TaskKeepsRules trace task
+  task_keeps : (index : ℕ) (task : TaskLog) → slice_get trace index ≡ Some task → TaskKeepsRules format trace task
   task_keeps index task found =
       let listed = path_at trace index task found in
       let has = spans_listed (map (λ (row : Row). row.path) (rows_of trace)) task.path holds.index.rows_are.lists listed in
       let row = row_all trace index task holds.index.rows_are.each found in
       let team = team_of task.path row.steps listed (has_last task.path) in
-      let log = all_at (λ (t : TaskLog). IsWholeLog files dir t.path t.records) trace index task holds.logs found in
+      let log = all_at (λ (t : TaskLog). IsWholeLog format files dir t.path t.records) trace index task holds.logs found in
       record {
         tabled = log.tabled;
         spans = has.spans;
@@ -77,7 +78,7 @@ module _ (files : Files) (dir : List ℕ) (trace : Trace) (holds : HoldsTrace fi
         keeps = kept files dir trace holds good index task found has.spans has.are team.team team.has;
       }
 
-  pub keeps_rules : KeepsRules trace
+  pub keeps_rules : KeepsRules format trace
   keeps_rules = record {
     rows = holds.index.rows_are;
     tasks = λ k d within. task_keeps k (get_or trace k d) (slice_get-get_or trace k d within);

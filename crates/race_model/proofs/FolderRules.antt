@@ -7,8 +7,9 @@ use Rattle.std.proofs.lemmas.List.{length-take-le}
 use Rattle.std.proofs.lemmas.Option.{slice_get_within, get_or_from_slice_get, slice_get-map}
 use Rattle.std.proofs.lemmas.List.Elements.{All-take}
 use Rattle.sw_base.specs.declared.path.Step.{Step}
-use Rattle.sw_base.specs.declared.files.TheConstants.{LOG_HEADER}
 use Rattle.sw_base.specs.Environment.{Files}
+use Rattle.log_format.specs.declared.format.Format.{Format}
+use Rattle.log_format.specs.Format.{log_header}
 use Rattle.log_format.specs.declared.record.Record.{Record}
 use Rattle.log_format.specs.Spelling.{spelling, log_bytes}
 use Rattle.log_format.specs.Table.{IsTabled}
@@ -32,7 +33,7 @@ parted xs k x found =
     ∙ ap (λ y. take k xs ++ y ∷ drop (suc k) xs) (get_or_from_slice_get xs k x x found)
 
 -- a rule that is broken makes a log bad
-broken_fault : (bytes : List ℕ) (task : LogTask) (n : ℕ) (rule : RecordWhy) → IsBroken bytes task n rule → IsLogFault bytes task n rule
+broken_fault : {format : Format} (bytes : List ℕ) (task : LogTask) (n : ℕ) (rule : RecordWhy) → IsBroken format bytes task n rule → IsLogFault format bytes task n rule
 broken_fault bytes task n log.Header b = absurd b.breaks
 broken_fault bytes task n log.Cut b = absurd b.breaks
 broken_fault bytes task n log.Kind b = absurd b.breaks
@@ -45,21 +46,21 @@ broken_fault bytes task n log.Extra b = absurd b.breaks
 broken_fault bytes task n _ b = b
 
 -- the record of this number in a whole log
-record_there : (records : List Record) (k : ℕ) (r : Record) → All IsTabled records → slice_get records k ≡ Some r
-    → IsRecord (log_bytes LOG_HEADER records) (length records) (k + 1) (take k records) r
-record_there records k r tabled found =
+record_there : {format : Format} (records : List Record) (k : ℕ) (r : Record) → All (IsTabled format) records → slice_get records k ≡ Some r
+    → IsRecord format (log_bytes (log_header format) records) (length records) (k + 1) (take k records) r
+record_there {format} records k r tabled found =
     let within : k < length records = slice_get_within records k r found in
     record {
       rest = flat_map spelling (drop (suc k) records);
       at = record {
         read = record {
-          parts = ap (λ rs. log_bytes LOG_HEADER rs) (parted records k r found) ∙ log_bytes-append LOG_HEADER (take k records) (r ∷ drop (suc k) records);
-          tabled = All-take IsTabled k records tabled;
+          parts = ap (λ rs. log_bytes (log_header format) rs) (parted records k r found) ∙ log_bytes-append (log_header format) (take k records) (r ∷ drop (suc k) records);
+          tabled = All-take (IsTabled format) k records tabled;
         };
         number = ap (λ (n : ℕ). n + 1) (sym (length-take-le k records (let le : k ≤ length records = omega arith in le)));
         counted = omega arith;
       };
-      tabled = all_at IsTabled records k r tabled found;
+      tabled = all_at (IsTabled format) records k r tabled found;
     }
 
 -- the spans that the rows list
@@ -102,12 +103,12 @@ region_of rows path step listed = at (row_listed rows (path ++ step ∷ []) list
 abbrev pub log_task : TaskLog → List ℕ → Option ℕ → LogTask
 log_task task spans team = record { path = task.path; records = length task.records; spans = spans; due_barriers = team }
 
-pub kept : (files : Files) (dir : List ℕ) (trace : Trace) → HoldsTrace files dir trace → IsWellFormed files dir → (index : ℕ) (task : TaskLog) → slice_get trace index ≡ Some task
+pub kept : {format : Format} (files : Files) (dir : List ℕ) (trace : Trace) → HoldsTrace format files dir trace → IsWellFormed format files dir → (index : ℕ) (task : TaskLog) → slice_get trace index ≡ Some task
     → (spans : List ℕ) → AreSpans (map (λ (row : Row). row.path) (rows_of trace)) task.path spans
-    → (team : Option ℕ) → ((barriers : ℕ) → team ≡ Some barriers → HasTeamBarriers files dir task.path barriers)
+    → (team : Option ℕ) → ((barriers : ℕ) → team ≡ Some barriers → HasTeamBarriers format files dir task.path barriers)
     → (k : ℕ) (r : Record) → slice_get task.records k ≡ Some r → (rule : RecordWhy) → Breaks (log_task task spans team) (take k task.records) r rule → ⊥
-kept files dir trace holds good index task listed spans are team has_team k r found rule breaks =
-    let whole : IsWholeLog files dir task.path task.records = all_at (λ (t : TaskLog). IsWholeLog files dir t.path t.records) trace index task holds.logs listed in
+kept {format} files dir trace holds good index task listed spans are team has_team k r found rule breaks =
+    let whole : IsWholeLog format files dir task.path task.records = all_at (λ (t : TaskLog). IsWholeLog format files dir t.path t.records) trace index task holds.logs listed in
     let row_at : slice_get (rows_of trace) index ≡ Some (row_of task) = slice_get-map row_of trace index ∙ ap (λ o. option_map row_of o) listed in
     good (bad_record (index + 1) (k + 1) rule) (
       rows_of trace,
@@ -115,13 +116,13 @@ kept files dir trace holds good index task listed spans are team has_team k r fo
       record {
         task = row_of task;
         listed = record { index = index; number = refl; listed = row_at };
-        bytes = log_bytes LOG_HEADER task.records;
+        bytes = log_bytes (log_header format) task.records;
         there = whole.there;
         spans = spans;
         has_spans = lists_spans (rows_of trace) task.path spans are;
         due_barriers = team;
         has_team = has_team;
-        fault = broken_fault (log_bytes LOG_HEADER task.records) (log_task task spans team) (k + 1) rule
+        fault = broken_fault (log_bytes (log_header format) task.records) (log_task task spans team) (k + 1) rule
             (record { before = take k task.records; r = r; at = record_there task.records k r whole.tabled found; breaks = breaks });
       },
     )

@@ -10,9 +10,11 @@ use Rattle.std.specs.Ordering.{nat_cmp, ordering_then}
 use Rattle.std.specs.declared.cmp.Ordering.{Ordering}
 use Rattle.std.specs.declared.cmp.Ordering.TheVariants.{Less, Equal, Greater}
 use Rattle.sw_base.specs.declared.path.Step.{Step}
-use Rattle.sw_base.specs.declared.files.TheConstants.{INDEX_HEADER}
 use Rattle.sw_base.specs.Environment.{Files}
 use Rattle.sw_base.specs.Names.{index_name}
+use Rattle.log_format.specs.declared.format.Format.{Format}
+use Rattle.log_format.specs.Format.{index_header}
+use Rattle.log_format.proofs.Headers.{after_index_header, first_index_header}
 use Rattle.race_model.specs.declared.why.IndexWhy.{IndexWhy}
 use Rattle.race_model.specs.declared.why.IndexWhy.TheVariants.{Header, TooMany, Cut, Depth, Span, Lane, Order, Records}
 use Rattle.race_model.specs.BadPlace.{BadPlace, no_index, bad_row, missing_log, bad_record, too_many_segments, index_rank, IsEarlier}
@@ -153,18 +155,18 @@ middle prefix row back good =
     }
 
 -- the bytes of an index whose first rows are these
-module _ (bytes : List ℕ) (rows : List Row) (rest : List ℕ) (good : AreFirstRows rows) (parts : bytes ≡ INDEX_HEADER ++ flat_map row_spelling (map raw_of rows) ++ rest) where
-  after_header : (before : List RawRow) (x : List ℕ) → bytes ≡ INDEX_HEADER ++ flat_map row_spelling before ++ x → flat_map row_spelling before ++ x ≡ flat_map row_spelling (map raw_of rows) ++ rest
+module _ (format : Format) (bytes : List ℕ) (rows : List Row) (rest : List ℕ) (good : AreFirstRows rows) (parts : bytes ≡ index_header format ++ flat_map row_spelling (map raw_of rows) ++ rest) where
+  after_header : (before : List RawRow) (x : List ℕ) → bytes ≡ index_header format ++ flat_map row_spelling before ++ x → flat_map row_spelling before ++ x ≡ flat_map row_spelling (map raw_of rows) ++ rest
   after_header before x is =
-      sym (drop-append_seam INDEX_HEADER (flat_map row_spelling before ++ x))
-      ∙ ap (λ (bs : List ℕ). drop 8 bs) (sym (append_assoc INDEX_HEADER (flat_map row_spelling before) x) ∙ sym is ∙ parts ∙ append_assoc INDEX_HEADER (flat_map row_spelling (map raw_of rows)) rest)
-      ∙ drop-append_seam INDEX_HEADER (flat_map row_spelling (map raw_of rows) ++ rest)
+      sym (after_index_header format (flat_map row_spelling before ++ x))
+      ∙ ap (λ (bs : List ℕ). drop 8 bs) (sym (append_assoc (index_header format) (flat_map row_spelling before) x) ∙ sym is ∙ parts ∙ append_assoc (index_header format) (flat_map row_spelling (map raw_of rows)) rest)
+      ∙ after_index_header format (flat_map row_spelling (map raw_of rows) ++ rest)
 
-  has_header : take 8 bytes ≡ INDEX_HEADER
-  has_header = ap (λ (bs : List ℕ). take 8 bs) (parts ∙ append_assoc INDEX_HEADER (flat_map row_spelling (map raw_of rows)) rest) ∙ take-append_seam INDEX_HEADER (flat_map row_spelling (map raw_of rows) ++ rest)
+  has_header : take 8 bytes ≡ index_header format
+  has_header = ap (λ (bs : List ℕ). take 8 bs) (parts ∙ append_assoc (index_header format) (flat_map row_spelling (map raw_of rows)) rest) ∙ first_index_header format (flat_map row_spelling (map raw_of rows) ++ rest)
 
   -- none of them is bad
-  earlier_good : (n : ℕ) (why : IndexWhy) → n ≤ length rows → HasRowFault bytes n why → ⊥
+  earlier_good : (n : ℕ) (why : IndexWhy) → n ≤ length rows → HasRowFault format bytes n why → ⊥
   earlier_good n why within fault = by_more on.more on.rows on.rest where
     on : GoesOn fault.before (map raw_of rows) fault.rest rest
     on = goes_on fault.before (map raw_of rows) fault.rest rest fault.at_row.fit (raws_fit rows good.each) (omega (arith, fault.at_row.number, length-map rows raw_of)) (after_header fault.before fault.rest fault.at_row.parts)
@@ -180,7 +182,7 @@ module _ (bytes : List ℕ) (rows : List Row) (rest : List ℕ) (good : AreFirst
         (subst (λ (bs : List ℕ). Fails (map raw_of at.prefix) bs why) left_is (subst (λ (raws : List RawRow). Fails raws fault.rest why) at.prefix_is fault.fails))
 
   -- the next one has the faults of the bytes that are left
-  next_fault : (why : IndexWhy) → HasRowFault bytes (length rows + 1) why → Fails (map raw_of rows) rest why
+  next_fault : (why : IndexWhy) → HasRowFault format bytes (length rows + 1) why → Fails (map raw_of rows) rest why
   next_fault why fault = by_more on.more on.rows on.rest where
     on : GoesOn fault.before (map raw_of rows) fault.rest rest
     on = goes_on fault.before (map raw_of rows) fault.rest rest fault.at_row.fit (raws_fit rows good.each) (omega (arith, fault.at_row.number, length-map rows raw_of)) (after_header fault.before fault.rest fault.at_row.parts)
@@ -192,7 +194,7 @@ module _ (bytes : List ℕ) (rows : List Row) (rest : List ℕ) (good : AreFirst
     by_more (next ∷ more) same left = absurd (omega (arith, fault.at_row.number, ap length same, length-map rows raw_of, length-append fault.before (next ∷ more)))
 
   -- and none further on is there where no byte is left
-  later_none : (n : ℕ) (why : IndexWhy) → length rows + 1 < n → rest ≡ [] → HasRowFault bytes n why → ⊥
+  later_none : (n : ℕ) (why : IndexWhy) → length rows + 1 < n → rest ≡ [] → HasRowFault format bytes n why → ⊥
   later_none n why after none fault = by_more on.more on.rows on.fit on.rest where
     on : GoesOn (map raw_of rows) fault.before rest fault.rest
     on = goes_on (map raw_of rows) fault.before rest fault.rest (raws_fit rows good.each) fault.at_row.fit (omega (arith, fault.at_row.number, length-map rows raw_of)) (sym (after_header fault.before fault.rest fault.at_row.parts))
@@ -202,7 +204,7 @@ module _ (bytes : List ℕ) (rows : List Row) (rest : List ℕ) (good : AreFirst
     by_more (next ∷ more) same fit left =
         absurd (omega (arith, ap length none, ap length left, length-append (row_spelling next ++ flat_map row_spelling more) fault.rest, length-append (row_spelling next) (flat_map row_spelling more), length-row next (All-head RowFits next more fit).four))
 
-  no_bad_row : (n : ℕ) (why : IndexWhy) → n ≤ length rows → IsBadRow bytes n why → ⊥
+  no_bad_row : (n : ℕ) (why : IndexWhy) → n ≤ length rows → IsBadRow format bytes n why → ⊥
   no_bad_row n Header within bad = bad.1 has_header
   no_bad_row n TooMany within bad = earlier_good n TooMany within bad
   no_bad_row n Cut within bad = earlier_good n Cut within bad
@@ -212,7 +214,7 @@ module _ (bytes : List ℕ) (rows : List Row) (rest : List ℕ) (good : AreFirst
   no_bad_row n Order within bad = earlier_good n Order within bad
   no_bad_row n Records within bad = earlier_good n Records within bad
 
-  next_bad_row : (why : IndexWhy) → IsBadRow bytes (length rows + 1) why → Fails (map raw_of rows) rest why
+  next_bad_row : (why : IndexWhy) → IsBadRow format bytes (length rows + 1) why → Fails (map raw_of rows) rest why
   next_bad_row Header bad = absurd (bad.1 has_header)
   next_bad_row TooMany bad = next_fault TooMany bad
   next_bad_row Cut bad = next_fault Cut bad
@@ -222,12 +224,12 @@ module _ (bytes : List ℕ) (rows : List Row) (rest : List ℕ) (good : AreFirst
   next_bad_row Order bad = next_fault Order bad
   next_bad_row Records bad = next_fault Records bad
 
-  bad_next_row : (why : IndexWhy) → Fails (map raw_of rows) rest why → IsBadRow bytes (length rows + 1) why
+  bad_next_row : (why : IndexWhy) → Fails (map raw_of rows) rest why → IsBadRow format bytes (length rows + 1) why
   bad_next_row why fails = by_why why fails where
-    at_row : IsAtRow bytes (length rows + 1) (map raw_of rows) rest
+    at_row : IsAtRow format bytes (length rows + 1) (map raw_of rows) rest
     at_row = record { number = omega (arith, length-map rows raw_of); fit = raws_fit rows good.each; parts = parts }
 
-    by_why : (w : IndexWhy) → Fails (map raw_of rows) rest w → IsBadRow bytes (length rows + 1) w
+    by_why : (w : IndexWhy) → Fails (map raw_of rows) rest w → IsBadRow format bytes (length rows + 1) w
     by_why Header failed = absurd failed
     by_why TooMany failed = record { before = map raw_of rows; rest = rest; at_row = at_row; fails = failed }
     by_why Cut failed = record { before = map raw_of rows; rest = rest; at_row = at_row; fails = failed }
@@ -263,29 +265,29 @@ not_both : (held : Option (List ℕ)) (bytes : List ℕ) → held ≡ Some bytes
 not_both held bytes there none = cc
 
 -- a folder without an index has its first bad place there
-pub no_index_first : (files : Files) (dir : List ℕ) → files (index_name dir) ≡ None → IsFirstBadIndexPlace files dir no_index
-no_index_first files dir none = record { bad = none; least = least } where
-  least : (q : BadPlace) → IsEarlier q no_index → IsBadIndexPlace files dir q → ⊥
+pub no_index_first : {format : Format} (files : Files) (dir : List ℕ) → files (index_name dir) ≡ None → IsFirstBadIndexPlace format files dir no_index
+no_index_first {format} files dir none = record { bad = none; least = least } where
+  least : (q : BadPlace) → IsEarlier q no_index → IsBadIndexPlace format files dir q → ⊥
   least no_index earlier bad = cc
   least (bad_row n why) earlier bad = cc
   least (missing_log row) earlier bad = bad
   least (bad_record row n why) earlier bad = bad
   least (too_many_segments row n) earlier bad = bad
 
-module _ (files : Files) (dir : List ℕ) (bytes : List ℕ) (held : files (index_name dir) ≡ Some bytes) where
-  module _ (rows : List Row) (rest : List ℕ) (good : AreFirstRows rows) (parts : bytes ≡ INDEX_HEADER ++ flat_map row_spelling (map raw_of rows) ++ rest) where
-    bad_row_here : (n : ℕ) (why : IndexWhy) → HoldsBadRow files dir n why → IsBadRow bytes n why
-    bad_row_here n why bad = subst (λ (bs : List ℕ). IsBadRow bs n why) (same_bytes (files (index_name dir)) bytes bad.bytes held bad.held) bad.bad
+module _ {format : Format} (files : Files) (dir : List ℕ) (bytes : List ℕ) (held : files (index_name dir) ≡ Some bytes) where
+  module _ (rows : List Row) (rest : List ℕ) (good : AreFirstRows rows) (parts : bytes ≡ index_header format ++ flat_map row_spelling (map raw_of rows) ++ rest) where
+    bad_row_here : (n : ℕ) (why : IndexWhy) → HoldsBadRow format files dir n why → IsBadRow format bytes n why
+    bad_row_here n why bad = subst (λ (bs : List ℕ). IsBadRow format bs n why) (same_bytes (files (index_name dir)) bytes bad.bytes held bad.held) bad.bad
 
     -- and after good rows the first fault of the bytes that are left
-    pub row_first : (why : IndexWhy) → FailsIndexFirst (map raw_of rows) rest why → IsFirstBadIndexPlace files dir (bad_row (length rows + 1) why)
-    row_first why first = record { bad = record { bytes = bytes; held = held; bad = bad_next_row bytes rows rest good parts why first.fails }; least = least } where
-      by_order : (n : ℕ) (other : IndexWhy) → IsBadRow bytes n other → (n < length rows + 1) ⊎ ((n ≡ length rows + 1) × (index_rank other < index_rank why)) → ⊥
-      by_order n other bad (inl less) = no_bad_row bytes rows rest good parts n other (omega arith) bad
+    pub row_first : (why : IndexWhy) → FailsIndexFirst (map raw_of rows) rest why → IsFirstBadIndexPlace format files dir (bad_row (length rows + 1) why)
+    row_first why first = record { bad = record { bytes = bytes; held = held; bad = bad_next_row format bytes rows rest good parts why first.fails }; least = least } where
+      by_order : (n : ℕ) (other : IndexWhy) → IsBadRow format bytes n other → (n < length rows + 1) ⊎ ((n ≡ length rows + 1) × (index_rank other < index_rank why)) → ⊥
+      by_order n other bad (inl less) = no_bad_row format bytes rows rest good parts n other (omega arith) bad
       by_order n other bad (inr less) =
-          first.least other less.1 (next_bad_row bytes rows rest good parts other (subst (λ (m : ℕ). IsBadRow bytes m other) less.0 bad))
+          first.least other less.1 (next_bad_row format bytes rows rest good parts other (subst (λ (m : ℕ). IsBadRow format bytes m other) less.0 bad))
 
-      least : (q : BadPlace) → IsEarlier q (bad_row (length rows + 1) why) → IsBadIndexPlace files dir q → ⊥
+      least : (q : BadPlace) → IsEarlier q (bad_row (length rows + 1) why) → IsBadIndexPlace format files dir q → ⊥
       least no_index earlier bad = not_both (files (index_name dir)) bytes held bad
       least (bad_row n other) earlier bad = by_order n other (bad_row_here n other bad) (bad_rows_order n (length rows + 1) other why earlier)
       least (missing_log row) earlier bad = bad
@@ -319,36 +321,36 @@ module _ (rows : List Row) (good : AreRows rows) where
   first_rows = record { begins = lists_begins (map path_of rows) good.lists; each = good.each; limit = good.limit }
 
 -- a well-formed index has no bad place
-pub index_good : (files : Files) (dir : List ℕ) (rows : List Row) (place : BadPlace) → IsIndex files dir rows → IsBadIndexPlace files dir place → ⊥
-index_good files dir rows place is = by_place place where
+pub index_good : {format : Format} (files : Files) (dir : List ℕ) (rows : List Row) (place : BadPlace) → IsIndex format files dir rows → IsBadIndexPlace format files dir place → ⊥
+index_good {format} files dir rows place is = by_place place where
   bytes : List ℕ
-  bytes = index_bytes rows
+  bytes = index_bytes format rows
 
   good : AreFirstRows rows
   good = first_rows rows is.rows_are
 
-  parts : index_bytes rows ≡ INDEX_HEADER ++ flat_map row_spelling (map raw_of rows) ++ []
-  parts = sym (append-nil (index_bytes rows))
+  parts : index_bytes format rows ≡ index_header format ++ flat_map row_spelling (map raw_of rows) ++ []
+  parts = sym (append-nil (index_bytes format rows))
 
-  later : (n : ℕ) (why : IndexWhy) → length rows + 1 < n → IsBadRow (index_bytes rows) n why → ⊥
+  later : (n : ℕ) (why : IndexWhy) → length rows + 1 < n → IsBadRow format (index_bytes format rows) n why → ⊥
   later n Header after bad = absurd (omega (arith, bad.0))
-  later n TooMany after bad = later_none (index_bytes rows) rows [] good parts n TooMany after refl bad
-  later n Cut after bad = later_none (index_bytes rows) rows [] good parts n Cut after refl bad
-  later n Depth after bad = later_none (index_bytes rows) rows [] good parts n Depth after refl bad
-  later n Span after bad = later_none (index_bytes rows) rows [] good parts n Span after refl bad
-  later n Lane after bad = later_none (index_bytes rows) rows [] good parts n Lane after refl bad
-  later n Order after bad = later_none (index_bytes rows) rows [] good parts n Order after refl bad
-  later n Records after bad = later_none (index_bytes rows) rows [] good parts n Records after refl bad
+  later n TooMany after bad = later_none format (index_bytes format rows) rows [] good parts n TooMany after refl bad
+  later n Cut after bad = later_none format (index_bytes format rows) rows [] good parts n Cut after refl bad
+  later n Depth after bad = later_none format (index_bytes format rows) rows [] good parts n Depth after refl bad
+  later n Span after bad = later_none format (index_bytes format rows) rows [] good parts n Span after refl bad
+  later n Lane after bad = later_none format (index_bytes format rows) rows [] good parts n Lane after refl bad
+  later n Order after bad = later_none format (index_bytes format rows) rows [] good parts n Order after refl bad
+  later n Records after bad = later_none format (index_bytes format rows) rows [] good parts n Records after refl bad
 
-  by_number : (n : ℕ) (why : IndexWhy) → IsBadRow (index_bytes rows) n why → (n ≡ length rows + 1) ⊎ ((n < length rows + 1) ⊎ (length rows + 1 < n)) → ⊥
-  by_number n why bad (inl same) = end_good rows is.rows_are why (next_bad_row (index_bytes rows) rows [] good parts why (subst (λ (m : ℕ). IsBadRow (index_bytes rows) m why) same bad))
-  by_number n why bad (inr (inl less)) = no_bad_row (index_bytes rows) rows [] good parts n why (omega arith) bad
+  by_number : (n : ℕ) (why : IndexWhy) → IsBadRow format (index_bytes format rows) n why → (n ≡ length rows + 1) ⊎ ((n < length rows + 1) ⊎ (length rows + 1 < n)) → ⊥
+  by_number n why bad (inl same) = end_good rows is.rows_are why (next_bad_row format (index_bytes format rows) rows [] good parts why (subst (λ (m : ℕ). IsBadRow format (index_bytes format rows) m why) same bad))
+  by_number n why bad (inr (inl less)) = no_bad_row format (index_bytes format rows) rows [] good parts n why (omega arith) bad
   by_number n why bad (inr (inr more)) = later n why more bad
 
-  by_place : (q : BadPlace) → IsBadIndexPlace files dir q → ⊥
-  by_place no_index bad = not_both (files (index_name dir)) (index_bytes rows) is.held bad
+  by_place : (q : BadPlace) → IsBadIndexPlace format files dir q → ⊥
+  by_place no_index bad = not_both (files (index_name dir)) (index_bytes format rows) is.held bad
   by_place (bad_row n why) bad =
-      by_number n why (bad_row_here files dir (index_bytes rows) is.held rows [] good parts n why bad) (cases_order n (length rows + 1))
+      by_number n why (bad_row_here files dir (index_bytes format rows) is.held rows [] good parts n why bad) (cases_order n (length rows + 1))
   by_place (missing_log row) bad = bad
   by_place (bad_record row n why) bad = bad
   by_place (too_many_segments row n) bad = bad
@@ -377,7 +379,7 @@ rule_of-rank Order = refl
 rule_of-rank Records = refl
 
 -- an index has at most one first bad place
-pub first_once : (files : Files) (dir : List ℕ) (p q : BadPlace) → IsFirstBadIndexPlace files dir p → IsFirstBadIndexPlace files dir q → p ≡ q
+pub first_once : {format : Format} (files : Files) (dir : List ℕ) (p q : BadPlace) → IsFirstBadIndexPlace format files dir p → IsFirstBadIndexPlace format files dir q → p ≡ q
 first_once files dir no_index no_index one other = refl
 first_once files dir no_index (bad_row n w) one other = absurd (not_both (files (index_name dir)) other.bad.bytes other.bad.held one.bad)
 first_once files dir (bad_row m v) no_index one other = absurd (not_both (files (index_name dir)) one.bad.bytes one.bad.held other.bad)

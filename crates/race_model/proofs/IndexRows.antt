@@ -6,11 +6,11 @@ use Rattle.std.proofs.lemmas.Bool.{cases_order}
 use Rattle.std.proofs.lemmas.List.{append-nil, length-map}
 use Rattle.std.proofs.lemmas.List.Elements.{All-head}
 use Rattle.std.proofs.lemmas.Slice.Eq.{bytes_eq-Decides}
-use Rattle.std.proofs.Math.Seq.{drop-append_seam}
 use Rattle.sw_base.specs.declared.path.Step.{Step}
-use Rattle.sw_base.specs.declared.files.TheConstants.{INDEX_HEADER}
 use Rattle.sw_base.specs.Environment.{Files, with_file}
 use Rattle.sw_base.specs.Names.{index_name}
+use Rattle.log_format.specs.declared.format.Format.{Format}
+use Rattle.log_format.proofs.Headers.{after_index_header}
 use Rattle.race_model.specs.Row.{Row, RawRow, RowFits, row_spelling, used, raw_of, index_bytes}
 use Rattle.race_model.specs.IndexFault.{AreRows, IsIndex}
 use Rattle.race_model.proofs.RowSpelling.{GoesOn, goes_on, length-row}
@@ -45,13 +45,13 @@ raws_from_bytes rs ss rs_fit ss_fit shorter same =
     let on : GoesOn rs ss [] [] = goes_on rs ss [] [] rs_fit ss_fit shorter (append-nil (flat_map row_spelling rs) ∙ same ∙ sym (append-nil (flat_map row_spelling ss))) in
     sym (on.rows ∙ ap (λ (more : List RawRow). rs ++ more) (no_more on.more on.fit on.rest) ∙ append-nil rs)
 
-pub index_bytes-injective : (rows others : List Row) → AreRows rows → AreRows others → index_bytes rows ≡ index_bytes others → rows ≡ others
-index_bytes-injective rows others rows_are others_are same = by_length (cases_order (length rows) (length others)) where
+pub index_bytes-injective : (format : Format) (rows others : List Row) → AreRows rows → AreRows others → index_bytes format rows ≡ index_bytes format others → rows ≡ others
+index_bytes-injective format rows others rows_are others_are same = by_length (cases_order (length rows) (length others)) where
   bytes : flat_map row_spelling (map raw_of rows) ≡ flat_map row_spelling (map raw_of others)
   bytes =
-      sym (drop-append_seam INDEX_HEADER (flat_map row_spelling (map raw_of rows)))
+      sym (after_index_header format (flat_map row_spelling (map raw_of rows)))
       ∙ ap (λ (bs : List ℕ). drop 8 bs) same
-      ∙ drop-append_seam INDEX_HEADER (flat_map row_spelling (map raw_of others))
+      ∙ after_index_header format (flat_map row_spelling (map raw_of others))
 
   one : length rows ≤ length others → rows ≡ others
   one shorter = raws-injective rows others
@@ -70,13 +70,13 @@ same_some : {X : Type 0} {x y : X} → Some x ≡ Some y → x ≡ y
 same_some same = cc
 
 -- a folder has at most one well-formed index
-pub index_once : (files : Files) (dir : List ℕ) (rows others : List Row) → IsIndex files dir rows → IsIndex files dir others → rows ≡ others
-index_once files dir rows others one other =
-    index_bytes-injective rows others one.rows_are other.rows_are (same_some (sym one.held ∙ other.held))
+pub index_once : {format : Format} (files : Files) (dir : List ℕ) (rows others : List Row) → IsIndex format files dir rows → IsIndex format files dir others → rows ≡ others
+index_once {format} files dir rows others one other =
+    index_bytes-injective format rows others one.rows_are other.rows_are (same_some (sym one.held ∙ other.held))
 
 -- rows that were put are the index
-pub put_is_index : (files : Files) (dir : List ℕ) (rows : List Row) → AreRows rows → IsIndex (with_file (index_name dir) (index_bytes rows) files) dir rows
-put_is_index files dir rows rows_are = record {
-  held = ap (λ (b : Bool). if b then Some (index_bytes rows) else files (index_name dir)) ((bytes_eq-Decides (index_name dir) (index_name dir)).1 refl);
+pub put_is_index : {format : Format} (files : Files) (dir : List ℕ) (rows : List Row) → AreRows rows → IsIndex format (with_file (index_name dir) (index_bytes format rows) files) dir rows
+put_is_index {format} files dir rows rows_are = record {
+  held = ap (λ (b : Bool). if b then Some (index_bytes format rows) else files (index_name dir)) ((bytes_eq-Decides (index_name dir) (index_name dir)).1 refl);
   rows_are = rows_are;
 }

@@ -5,8 +5,9 @@ use Rattle.std.proofs.lemmas.List.{ext_get_or}
 use Rattle.std.proofs.lemmas.Option.{same_Some, slice_get-get_or, slice_get_within}
 use Rattle.std.proofs.lemmas.Bool.{cases_order}
 use Rattle.sw_base.specs.declared.path.Step.{Step}
-use Rattle.sw_base.specs.declared.files.TheConstants.{LOG_HEADER}
 use Rattle.sw_base.specs.Environment.{Files}
+use Rattle.log_format.specs.declared.format.Format.{Format}
+use Rattle.log_format.specs.Format.{log_header}
 use Rattle.log_format.specs.declared.record.Record.{Record}
 use Rattle.log_format.specs.Spelling.{log_bytes}
 use Rattle.log_format.proofs.Logs.{log_bytes-injective}
@@ -14,9 +15,9 @@ use Rattle.race_model.specs.Row.{Row}
 use Rattle.race_model.specs.LogFault.{IsWholeLog, ListsSpans}
 
 -- a name holds the log of one list of records
-pub log_once : (files : Files) (dir : List ℕ) (path : List Step) (records others : List Record) → IsWholeLog files dir path records → IsWholeLog files dir path others → records ≡ others
-log_once files dir path records others one other =
-    log_bytes-injective LOG_HEADER records others one.tabled other.tabled (same_Some (log_bytes LOG_HEADER records) (log_bytes LOG_HEADER others) (sym one.there ∙ other.there))
+pub log_once : {format : Format} (files : Files) (dir : List ℕ) (path : List Step) (records others : List Record) → IsWholeLog format files dir path records → IsWholeLog format files dir path others → records ≡ others
+log_once {format} files dir path records others one other =
+    log_bytes-injective (log_header format) records others one.tabled other.tabled (same_Some (log_bytes (log_header format) records) (log_bytes (log_header format) others) (sym one.there ∙ other.there))
 
 -- an index lists one list of spans for a task
 shorter_spans : (rows : List Row) (path : List Step) (spans others : List ℕ) → ListsSpans rows path spans → ListsSpans rows path others → length spans < length others → ⊥

@@ -2,7 +2,8 @@
 use Rattle.std.proofs.Common.{◌≡◌, ℕ, suc, ◌≤◌, List, [], ◌∷◌, ◌++◌, length, take, drop, refl, sym, ap, ◌∙◌, arith, append_assoc, All}
 use Rattle.std.specs.List.{flat_map}
 use Rattle.std.proofs.lemmas.List.{append-nil, append_cancel_left, take_at, drop_at, take_all, drop_all}
-use Rattle.sw_base.specs.declared.files.TheConstants.{LOG_HEADER}
+use Rattle.log_format.specs.declared.format.Format.{Format}
+use Rattle.log_format.specs.Format.{log_header}
 use Rattle.log_format.specs.declared.record.Record.{Record}
 use Rattle.log_format.specs.Spelling.{spelling, log_bytes}
 use Rattle.log_format.specs.Table.{IsTabled}
@@ -14,7 +15,7 @@ all_tail : {X : Type 0} (P : X → Type 0) (x : X) (xs : List X) → All P (x �
 all_tail P x xs each = λ k d h. each (suc k) d (omega arith)
 
 -- bytes that begin with two spellings begin with one
-pub same_first : (r s : Record) (more other : List ℕ) → IsTabled r → IsTabled s → spelling r ++ more ≡ spelling s ++ other → (r ≡ s) × (more ≡ other)
+pub same_first : {format : Format} (r s : Record) (more other : List ℕ) → IsTabled format r → IsTabled format s → spelling r ++ more ≡ spelling s ++ other → (r ≡ s) × (more ≡ other)
 same_first r s more other r_tabled s_tabled same = (
   spelling-injective r s r_tabled.fits s_tabled.fits
       (sym (take_at (spelling r) more 24 (length-spelling r)) ∙ ap (λ bs. take 24 bs) same ∙ take_at (spelling s) other 24 (length-spelling s)),
@@ -26,34 +27,34 @@ pub record IsPrefix (records before : List Record) (rest more : List ℕ) : Type
   pub prefix : before ≡ take (length before) records
   pub left : more ≡ flat_map spelling (drop (length before) records) ++ rest
 
-pub is_prefix : (records before : List Record) (rest more : List ℕ) → All IsTabled records → All IsTabled before → length before ≤ length records
+pub is_prefix : {format : Format} (records before : List Record) (rest more : List ℕ) → All (IsTabled format) records → All (IsTabled format) before → length before ≤ length records
     → flat_map spelling records ++ rest ≡ flat_map spelling before ++ more → IsPrefix records before rest more
 is_prefix records [] rest more tabled before_tabled within same = record { prefix = refl; left = sym same }
 is_prefix [] (b ∷ before) rest more tabled before_tabled within same = absurd (omega arith)
-is_prefix (r ∷ records) (b ∷ before) rest more tabled before_tabled within same =
+is_prefix {format} (r ∷ records) (b ∷ before) rest more tabled before_tabled within same =
     let regrouped : spelling r ++ (flat_map spelling records ++ rest) ≡ spelling b ++ (flat_map spelling before ++ more)
     = sym (append_assoc (spelling r) (flat_map spelling records) rest) ∙ same ∙ append_assoc (spelling b) (flat_map spelling before) more in
     let first = same_first r b _ _ (tabled 0 r (omega arith)) (before_tabled 0 b (omega arith)) regrouped in
-    let rest_is = is_prefix records before rest more (all_tail IsTabled r records tabled) (all_tail IsTabled b before before_tabled) (omega arith) first.1 in
+    let rest_is = is_prefix records before rest more (all_tail (IsTabled format) r records tabled) (all_tail (IsTabled format) b before before_tabled) (omega arith) first.1 in
     record {
       prefix = ap (λ (x : Record). x ∷ before) (sym first.0) ∙ ap (λ (xs : List Record). r ∷ xs) rest_is.prefix;
       left = rest_is.left;
     }
 
 -- a log that was read to the end of some records has the fewer ones as its prefix
-pub read_prefix : (bytes : List ℕ) (records before : List Record) (rest more : List ℕ) → IsRead bytes records rest → IsRead bytes before more
+pub read_prefix : {format : Format} (bytes : List ℕ) (records before : List Record) (rest more : List ℕ) → IsRead format bytes records rest → IsRead format bytes before more
     → length before ≤ length records → IsPrefix records before rest more
-read_prefix bytes records before rest more one other within =
+read_prefix {format} bytes records before rest more one other within =
     is_prefix records before rest more one.tabled other.tabled within
-    (append_cancel_left LOG_HEADER _ _
-    (sym (append_assoc LOG_HEADER (flat_map spelling records) rest) ∙ sym one.parts ∙ other.parts ∙ append_assoc LOG_HEADER (flat_map spelling before) more))
+    (append_cancel_left (log_header format) _ _
+    (sym (append_assoc (log_header format) (flat_map spelling records) rest) ∙ sym one.parts ∙ other.parts ∙ append_assoc (log_header format) (flat_map spelling before) more))
 
 -- and is told to have just these records where it is told to have as many
 pub record IsNext (records before : List Record) (rest more : List ℕ) : Type 0 where
   pub before_is : before ≡ records
   pub more_is : more ≡ rest
 
-pub is_next : (bytes : List ℕ) (records before : List Record) (rest more : List ℕ) → IsRead bytes records rest → IsRead bytes before more
+pub is_next : {format : Format} (bytes : List ℕ) (records before : List Record) (rest more : List ℕ) → IsRead format bytes records rest → IsRead format bytes before more
     → length before ≡ length records → IsNext records before rest more
 is_next bytes records before rest more one other same =
     let prefix = read_prefix bytes records before rest more one other (omega arith) in
@@ -63,5 +64,5 @@ is_next bytes records before rest more one other same =
     }
 
 -- a whole log is read to its end
-pub whole_read : (records : List Record) → All IsTabled records → IsRead (log_bytes LOG_HEADER records) records []
-whole_read records tabled = record { parts = sym (append-nil (log_bytes LOG_HEADER records)); tabled = tabled }
+pub whole_read : {format : Format} (records : List Record) → All (IsTabled format) records → IsRead format (log_bytes (log_header format) records) records []
+whole_read {format} records tabled = record { parts = sym (append-nil (log_bytes (log_header format) records)); tabled = tabled }

@@ -2,9 +2,11 @@
 use Rattle.std.specs.Prelude.{◌≡◌, ◌≢◌, ◌⊎◌, ℕ, ◌+◌, ◌^◌, ◌<◌, ◌≤◌, List, [], ◌∷◌, ◌++◌, length, take, map, All, Some, None}
 use Rattle.std.specs.List.{flat_map}
 use Rattle.sw_base.specs.declared.path.Step.{Step}
-use Rattle.sw_base.specs.declared.files.TheConstants.{INDEX_HEADER}
 use Rattle.sw_base.specs.Environment.{Files}
 use Rattle.sw_base.specs.Names.{index_name}
+use Rattle.log_format.specs.declared.format.Format.{Format}
+use Rattle.log_format.specs.Format.{index_header}
+use Rattle.log_format.specs.Limit.{record_limit}
 use Rattle.race_model.specs.declared.why.IndexWhy.{IndexWhy}
 use Rattle.race_model.specs.declared.why.IndexWhy.TheVariants.{Header, TooMany, Cut, Depth, Span, Lane, Order, Records}
 use Rattle.race_model.specs.BadPlace.{BadPlace, no_index, bad_row, missing_log, bad_record, too_many_segments, index_rank, IsEarlier}
@@ -28,7 +30,7 @@ pub record HasDepth (row : RawRow) : Type 0 where
 
 -- how many records a log has at most, and how many rows an index
 abbrev pub max_records : ℕ
-max_records = 4194304
+max_records = record_limit
 
 abbrev pub max_rows : ℕ
 max_rows = 65536
@@ -69,41 +71,41 @@ pub record FailsIndexFirst (before : List RawRow) (rest : List ℕ) (why : Index
   pub least : (other : IndexWhy) → index_rank other < index_rank why → Fails before rest other → ⊥
 
 -- the bytes are the header, the rows before the n-th, which are as many as there must be, and the rest
-pub record IsAtRow (bytes : List ℕ) (n : ℕ) (before : List RawRow) (rest : List ℕ) : Type 0 where
+pub record IsAtRow (format : Format) (bytes : List ℕ) (n : ℕ) (before : List RawRow) (rest : List ℕ) : Type 0 where
   pub number : n ≡ length before + 1
   pub fit : All RowFits before
-  pub parts : bytes ≡ INDEX_HEADER ++ flat_map row_spelling before ++ rest
+  pub parts : bytes ≡ index_header format ++ flat_map row_spelling before ++ rest
 
 -- the n-th row has this fault
-pub record HasRowFault (bytes : List ℕ) (n : ℕ) (why : IndexWhy) : Type 0 where
+pub record HasRowFault (format : Format) (bytes : List ℕ) (n : ℕ) (why : IndexWhy) : Type 0 where
   pub before : List RawRow
   pub rest : List ℕ
-  pub at_row : IsAtRow bytes n before rest
+  pub at_row : IsAtRow format bytes n before rest
   pub fails : Fails before rest why
 
 -- row n of these bytes is bad, rows numbered from 1; row 0 is the header
-abbrev pub IsBadRow : List ℕ → ℕ → IndexWhy → Type 0
-IsBadRow bytes n Header = (n ≡ 0) × (take 8 bytes ≢ INDEX_HEADER)
-IsBadRow bytes n why = HasRowFault bytes n why
+abbrev pub IsBadRow : Format → List ℕ → ℕ → IndexWhy → Type 0
+IsBadRow format bytes n Header = (n ≡ 0) × (take 8 bytes ≢ index_header format)
+IsBadRow format bytes n why = HasRowFault format bytes n why
 
 -- the folder's index has this bad row
-pub record HoldsBadRow (files : Files) (dir : List ℕ) (n : ℕ) (why : IndexWhy) : Type 0 where
+pub record HoldsBadRow (format : Format) (files : Files) (dir : List ℕ) (n : ℕ) (why : IndexWhy) : Type 0 where
   pub bytes : List ℕ
   pub held : files (index_name dir) ≡ Some bytes
-  pub bad : IsBadRow bytes n why
+  pub bad : IsBadRow format bytes n why
 
 -- a place of the index at which the folder is bad
-abbrev pub IsBadIndexPlace : Files → List ℕ → BadPlace → Type 0
-IsBadIndexPlace files dir no_index = files (index_name dir) ≡ None
-IsBadIndexPlace files dir (bad_row n why) = HoldsBadRow files dir n why
-IsBadIndexPlace files dir (missing_log row) = ⊥
-IsBadIndexPlace files dir (bad_record row n why) = ⊥
-IsBadIndexPlace files dir (too_many_segments row n) = ⊥
+abbrev pub IsBadIndexPlace : Format → Files → List ℕ → BadPlace → Type 0
+IsBadIndexPlace format files dir no_index = files (index_name dir) ≡ None
+IsBadIndexPlace format files dir (bad_row n why) = HoldsBadRow format files dir n why
+IsBadIndexPlace format files dir (missing_log row) = ⊥
+IsBadIndexPlace format files dir (bad_record row n why) = ⊥
+IsBadIndexPlace format files dir (too_many_segments row n) = ⊥
 
 -- the first of them
-pub record IsFirstBadIndexPlace (files : Files) (dir : List ℕ) (place : BadPlace) : Type 0 where
-  pub bad : IsBadIndexPlace files dir place
-  pub least : (q : BadPlace) → IsEarlier q place → IsBadIndexPlace files dir q → ⊥
+pub record IsFirstBadIndexPlace (format : Format) (files : Files) (dir : List ℕ) (place : BadPlace) : Type 0 where
+  pub bad : IsBadIndexPlace format files dir place
+  pub least : (q : BadPlace) → IsEarlier q place → IsBadIndexPlace format files dir q → ⊥
 
 -- a step of a path
 pub record IsStep (step : Step) : Type 0 where
@@ -130,6 +132,6 @@ pub record AreRows (rows : List Row) : Type 0 where
   pub limit : length rows ≤ max_rows
 
 -- the folder holds a well-formed index with these rows
-pub record IsIndex (files : Files) (dir : List ℕ) (rows : List Row) : Type 0 where
-  pub held : files (index_name dir) ≡ Some (index_bytes rows)
+pub record IsIndex (format : Format) (files : Files) (dir : List ℕ) (rows : List Row) : Type 0 where
+  pub held : files (index_name dir) ≡ Some (index_bytes format rows)
   pub rows_are : AreRows rows

@@ -1,9 +1,10 @@
 -- What makes a log bad. Each rule is told of the whole file, at one record, by the records before it.
 use Rattle.std.specs.Prelude.{◌≡◌, ◌≢◌, ◌⊎◌, ◌↔◌, ℕ, ◌+◌, ◌<◌, ◌≤◌, List, [], ◌∷◌, ◌++◌, length, take, All, Contains, Option, Some, None, slice_get}
-use Rattle.sw_base.specs.declared.files.TheConstants.{LOG_HEADER}
 use Rattle.sw_base.specs.declared.path.Step.{Step}
 use Rattle.sw_base.specs.Environment.{Files}
 use Rattle.sw_base.specs.Names.{log_name}
+use Rattle.log_format.specs.declared.format.Format.{Format}
+use Rattle.log_format.specs.Format.{log_header}
 use Rattle.log_format.specs.declared.record.Record.{Record}
 use Rattle.log_format.specs.declared.record.Kind.TheVariants.{Lock, Unlock, Barrier, Region, End}
 use Rattle.log_format.specs.declared.record.Why.{Why}
@@ -58,87 +59,87 @@ Breaks task before r log.BarrierCount = (r.kind ≡ End) × ((barriers : ℕ) ×
 Breaks task before r _ = ⊥
 
 -- the bytes are a log's header, these records of the table, and a rest
-pub record IsRead (bytes : List ℕ) (records : List Record) (rest : List ℕ) : Type 0 where
-  pub parts : bytes ≡ log_bytes LOG_HEADER records ++ rest
-  pub tabled : All IsTabled records
+pub record IsRead (format : Format) (bytes : List ℕ) (records : List Record) (rest : List ℕ) : Type 0 where
+  pub parts : bytes ≡ log_bytes (log_header format) records ++ rest
+  pub tabled : All (IsTabled format) records
 
 -- record n of a log of so many records comes after these records and begins the rest
-pub record IsAt (bytes : List ℕ) (count n : ℕ) (before : List Record) (rest : List ℕ) : Type 0 where
-  pub read : IsRead bytes before rest
+pub record IsAt (format : Format) (bytes : List ℕ) (count n : ℕ) (before : List Record) (rest : List ℕ) : Type 0 where
+  pub read : IsRead format bytes before rest
   pub number : n ≡ length before + 1
   pub counted : n ≤ count
 
 -- the bytes of record n aren't all there
-pub record IsCutRecord (bytes : List ℕ) (count n : ℕ) : Type 0 where
+pub record IsCutRecord (format : Format) (bytes : List ℕ) (count n : ℕ) : Type 0 where
   pub before : List Record
   pub rest : List ℕ
-  pub at : IsAt bytes count n before rest
+  pub at : IsAt format bytes count n before rest
   pub short : length rest < 24
 
 -- the bytes of record n are no record of the table, by this fault first
-pub record IsUntabled (bytes : List ℕ) (count n : ℕ) (fault : Why) : Type 0 where
+pub record IsUntabled (format : Format) (bytes : List ℕ) (count n : ℕ) (fault : Why) : Type 0 where
   pub before : List Record
   pub rest : List ℕ
-  pub at : IsAt bytes count n before rest
+  pub at : IsAt format bytes count n before rest
   pub whole : 24 ≤ length rest
-  pub first : IsFirstFault (take 24 rest) fault
+  pub first : IsFirstFault format (take 24 rest) fault
 
 -- record n is r, of the table, after these records
-pub record IsRecord (bytes : List ℕ) (count n : ℕ) (before : List Record) (r : Record) : Type 0 where
+pub record IsRecord (format : Format) (bytes : List ℕ) (count n : ℕ) (before : List Record) (r : Record) : Type 0 where
   pub rest : List ℕ
-  pub at : IsAt bytes count n before (spelling r ++ rest)
-  pub tabled : IsTabled r
+  pub at : IsAt format bytes count n before (spelling r ++ rest)
+  pub tabled : IsTabled format r
 
 -- record n breaks a rule
-pub record IsBroken (bytes : List ℕ) (task : LogTask) (n : ℕ) (rule : RecordWhy) : Type 0 where
+pub record IsBroken (format : Format) (bytes : List ℕ) (task : LogTask) (n : ℕ) (rule : RecordWhy) : Type 0 where
   pub before : List Record
   pub r : Record
-  pub at : IsRecord bytes task.records n before r
+  pub at : IsRecord format bytes task.records n before r
   pub breaks : Breaks task before r rule
 
 -- a byte follows the last record, and n is the number after it
-pub record IsExtra (bytes : List ℕ) (count n : ℕ) : Type 0 where
+pub record IsExtra (format : Format) (bytes : List ℕ) (count n : ℕ) : Type 0 where
   pub records : List Record
   pub rest : List ℕ
-  pub read : IsRead bytes records rest
+  pub read : IsRead format bytes records rest
   pub all : length records ≡ count
   pub number : n ≡ count + 1
   pub more : 0 < length rest
 
 -- record n opens the first segment that is too many, after so many segments of earlier logs
-pub record OpensTooMany (bytes : List ℕ) (count opened n : ℕ) : Type 0 where
+pub record OpensTooMany (format : Format) (bytes : List ℕ) (count opened n : ℕ) : Type 0 where
   pub before : List Record
   pub r : Record
-  pub at : IsRecord bytes count n before r
+  pub at : IsRecord format bytes count n before r
   pub full : opened + segment_count before ≡ max_segments
   pub opens : segment_count (before ++ r ∷ []) ≡ segment_count before + 1
 
 -- the log of these bytes is bad at record n by this rule
-abbrev pub IsLogFault : List ℕ → LogTask → ℕ → RecordWhy → Type 0
-IsLogFault bytes task n log.Header = (n ≡ 0) × ((rest : List ℕ) → bytes ≢ LOG_HEADER ++ rest)
-IsLogFault bytes task n log.Cut = IsCutRecord bytes task.records n
-IsLogFault bytes task n log.Kind = IsUntabled bytes task.records n why.Kind
-IsLogFault bytes task n log.Size = IsUntabled bytes task.records n why.Size
-IsLogFault bytes task n log.LineZero = IsUntabled bytes task.records n why.LineZero
-IsLogFault bytes task n log.Address = IsUntabled bytes task.records n why.Address
-IsLogFault bytes task n log.Span = IsUntabled bytes task.records n why.Span
-IsLogFault bytes task n log.Reserved = IsUntabled bytes task.records n why.Reserved
-IsLogFault bytes task n log.Extra = IsExtra bytes task.records n
-IsLogFault bytes task n rule = IsBroken bytes task n rule
+abbrev pub IsLogFault : Format → List ℕ → LogTask → ℕ → RecordWhy → Type 0
+IsLogFault format bytes task n log.Header = (n ≡ 0) × ((rest : List ℕ) → bytes ≢ log_header format ++ rest)
+IsLogFault format bytes task n log.Cut = IsCutRecord format bytes task.records n
+IsLogFault format bytes task n log.Kind = IsUntabled format bytes task.records n why.Kind
+IsLogFault format bytes task n log.Size = IsUntabled format bytes task.records n why.Size
+IsLogFault format bytes task n log.LineZero = IsUntabled format bytes task.records n why.LineZero
+IsLogFault format bytes task n log.Address = IsUntabled format bytes task.records n why.Address
+IsLogFault format bytes task n log.Span = IsUntabled format bytes task.records n why.Span
+IsLogFault format bytes task n log.Reserved = IsUntabled format bytes task.records n why.Reserved
+IsLogFault format bytes task n log.Extra = IsExtra format bytes task.records n
+IsLogFault format bytes task n rule = IsBroken format bytes task n rule
 
 -- the task's log is whole: its header, these records of the table, and nothing else
-pub record IsWholeLog (files : Files) (dir : List ℕ) (path : List Step) (records : List Record) : Type 0 where
-  pub there : files (log_name dir path) ≡ Some (log_bytes LOG_HEADER records)
-  pub tabled : All IsTabled records
+pub record IsWholeLog (format : Format) (files : Files) (dir : List ℕ) (path : List Step) (records : List Record) : Type 0 where
+  pub there : files (log_name dir path) ≡ Some (log_bytes (log_header format) records)
+  pub tabled : All (IsTabled format) records
 
 -- a lane from 1 on, whose team's lane 0 has a whole log with this many barriers
-pub record HasTeamBarriers (files : Files) (dir : List ℕ) (path : List Step) (barriers : ℕ) : Type 0 where
+pub record HasTeamBarriers (format : Format) (files : Files) (dir : List ℕ) (path : List Step) (barriers : ℕ) : Type 0 where
   pub above : List Step
   pub step : Step
   pub path_is : path ≡ above ++ step ∷ []
   pub from_one : 0 < step.lane
   pub records : List Record
-  pub log_of_first : IsWholeLog files dir (above ++ record { region = step.region; lane = 0; span = step.span } ∷ []) records
+  pub log_of_first : IsWholeLog format files dir (above ++ record { region = step.region; lane = 0; span = step.span } ∷ []) records
   pub counted : barriers ≡ barrier_count records
 
 -- the row of this number, from 1
@@ -154,7 +155,7 @@ pub record IsMissingLog (files : Files) (dir : List ℕ) (rows : List Row) (row 
   pub missing : files (log_name dir task.path) ≡ None
 
 -- the log of the row is bad at record n by this rule
-pub record IsBadRecord (files : Files) (dir : List ℕ) (rows : List Row) (row n : ℕ) (rule : RecordWhy) : Type 0 where
+pub record IsBadRecord (format : Format) (files : Files) (dir : List ℕ) (rows : List Row) (row n : ℕ) (rule : RecordWhy) : Type 0 where
   pub task : Row
   pub listed : RowAt rows row task
   pub bytes : List ℕ
@@ -162,5 +163,5 @@ pub record IsBadRecord (files : Files) (dir : List ℕ) (rows : List Row) (row n
   pub spans : List ℕ
   pub has_spans : ListsSpans rows task.path spans
   pub due_barriers : Option ℕ
-  pub has_team : (barriers : ℕ) → due_barriers ≡ Some barriers → HasTeamBarriers files dir task.path barriers
-  pub fault : IsLogFault bytes (record { path = task.path; records = task.records; spans = spans; due_barriers = due_barriers }) n rule
+  pub has_team : (barriers : ℕ) → due_barriers ≡ Some barriers → HasTeamBarriers format files dir task.path barriers
+  pub fault : IsLogFault format bytes (record { path = task.path; records = task.records; spans = spans; due_barriers = due_barriers }) n rule

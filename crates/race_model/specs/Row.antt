@@ -3,7 +3,8 @@ use Rattle.std.specs.Prelude.{◌≡◌, ℕ, ◌-◌, ◌^◌, ◌<◌, List, �
 use Rattle.std.specs.Int.{w16, w32, w64, to_be_bytes}
 use Rattle.std.specs.List.{flat_map}
 use Rattle.sw_base.specs.declared.path.Step.{Step}
-use Rattle.sw_base.specs.declared.files.TheConstants.{INDEX_HEADER}
+use Rattle.log_format.specs.declared.format.Format.{Format}
+use Rattle.log_format.specs.Format.{index_header}
 
 -- a task: its path, and how many records its log has
 pub record Row : Type 0 where
@@ -59,5 +60,5 @@ abbrev pub raw_of : Row → RawRow
 raw_of row = record { depth = length row.path; reserved = 0; steps = row.path ++ replicate (4 - length row.path) no_step; records = row.records }
 
 -- an index: its header, and then its rows
-abbrev pub index_bytes : List Row → List ℕ
-index_bytes rows = INDEX_HEADER ++ flat_map row_spelling (map raw_of rows)
+abbrev pub index_bytes : Format → List Row → List ℕ
+index_bytes format rows = index_header format ++ flat_map row_spelling (map raw_of rows)

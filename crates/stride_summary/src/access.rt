@@ -1,8 +1,11 @@
-ghost use Rattle.std.specs.Prelude.{◌≡◌};
+ghost use Rattle.std.specs.Prelude.{◌≡◌, ◌+◌, ◌^◌, ◌≤◌};
+ghost use Rattle.log_format.specs.Table.{IsAccessSize};
+ghost use Rattle.stride_summary.specs.Sizes.{access_size_prop};
 
 use mutex_set::Held;
 
-/// One read or write of memory: what kind, where in the kernel, which bytes, and the mutexes that were held.
+/// One read or write of memory: what kind, where in the kernel, which bytes, and the mutexes that were held. Its last byte is
+/// below 2^48.
 #[derive(Drop)]
 pub struct Access {
     pub write: bool,
@@ -16,6 +19,8 @@ pub struct Access {
     pub addr: u64,
     /// The mutexes that the task held.
     pub held: Held,
+    ghost sized: { IsAccessSize size } by { access_size_prop size },
+    ghost bounded: { addr + size ≤ 2 ^ 48 },
 }
 
 impl Access {

@@ -1,6 +1,5 @@
 ghost use Rattle.std.specs.Prelude.{◌≡◌, ◌↔◌, ◌⊎◌, ℕ, ◌+◌, ◌^◌, ◌<◌, ◌≤◌, All, AllPairs, IfSome, IfNone, IfOk, OnOk, OnErr, sum_by, slice_index_or, vec_len, vec_capacity};
 ghost use Rattle.std.specs.List.Sorted.{IsNonDecreasingBy};
-ghost use Rattle.log_format.specs.Table.{IsAccessSize};
 ghost use Rattle.stride_summary.specs.declared.stretch.Stretch.{Stretch};
 ghost use Rattle.stride_summary.specs.Run.{AreApart, HasPair, access_key};
 ghost use Rattle.stride_summary.specs.Stretches.{Holds, HoldsOneMore, HoldsSame, IsPlaceOf, KeysDiffer, needed_of};
@@ -68,8 +67,6 @@ impl Summary {
 
     /// Adds an access. After an error the accesses are as before.
     pub fn add(&mut self, access: &Access) -> Result<(), Memory>
-        requires size { IsAccessSize access.now.size }
-        requires end { access.now.addr + access.now.size ≤ 2 ^ 48 }
         ensures added { OnOk result (SumsOneMore self.old self.new (access_key access.now) access.now.addr) }
         ensures refused { OnErr result (SumsSame self.old self.new) }
     {
@@ -103,7 +100,6 @@ impl Summary {
 
     // The place of the access's key, which is a new one if need be.
     fn place_of(&mut self, access: &Access) -> Result<usize, Memory>
-        requires { IsAccessSize access.now.size }
         ensures found { IfOk result (λ place. IsPlaceOf self.new.stretches.items (access_key access.now) place) }
         ensures same { HoldsSame self.old.stretches.items self.new.stretches.items }
         ensures room { self.new.room ≡ self.old.room }

@@ -1,4 +1,5 @@
-ghost use Rattle.std.specs.Prelude.{◌≡◌};
+ghost use Rattle.std.specs.Prelude.{◌+◌, ◌^◌, ◌≤◌};
+ghost use Rattle.log_format.specs.Table.{IsAccessSize};
 
 use crate::{Access, Run, Summary};
 use mutex_set::{Held, HeldFault};
@@ -62,8 +63,7 @@ fn a_run_goes_from_its_base_to_its_last_byte(rt: HostRuntime) -> Result<(), Fail
 }
 
 fn write_at(line: u32, addr: u64) -> Access
-    ensures size { result.size ≡ 8 }
-    ensures addr { result.addr ≡ addr }
+    requires { addr + 8 ≤ 2 ^ 48 }
 {
     Access {
         write: true,
@@ -134,6 +134,25 @@ fn runs_are_the_same_in_every_order(rt: HostRuntime) -> Result<(), Fail> {
     Ok(())
 }
 
+// Ten keys, each with ten addresses; which comes next jumps about.
+#[test]
+fn keys_that_take_turns_in_any_order_have_runs_of_their_own(rt: HostRuntime) -> Result<(), Fail> {
+    let alloc = rt.alloc();
+    let mut writes = Vec::new(alloc);
+    for number in 0..500u32 {
+        let place = number % 100 * 37 % 100;
+        writes.push((place % 10, 4096 + u64::from(place / 10) * 24))?;
+    }
+    let runs = runs_of(alloc, &writes)?;
+    let mut found = shapes(alloc, &runs)?;
+    found.sort()?;
+    assert_eq!(rt; found.len(), 10);
+    for (line, shape) in found.iter().enumerate() {
+        assert_eq!(rt; *shape, (line as u32, 4096, 24, 10));
+    }
+    Ok(())
+}
+
 #[test]
 fn keys_that_take_turns_have_runs_of_their_own(rt: HostRuntime) -> Result<(), Fail> {
     let alloc = rt.alloc();
@@ -151,28 +170,51 @@ fn keys_that_take_turns_have_runs_of_their_own(rt: HostRuntime) -> Result<(), Fa
     Ok(())
 }
 
+// An access at one address, with this key.
+fn keyed(write: bool, size: u8, site: u16, line: u32, mutexes: &[u16]) -> Result<Access, HeldFault>
+    requires { IsAccessSize size }
+{
+    Ok(Access {
+        write,
+        size,
+        site,
+        line,
+        addr: 64,
+        held: holding(mutexes)?,
+    })
+}
+
 #[test]
 fn the_key_has_all_but_the_address(rt: HostRuntime) -> Result<(), Fail> {
-    let alloc = rt.alloc();
-    let mut summary = Summary::new(alloc)?;
-    let plain = write_at(1, 64);
-    let mut others = [
-        write_at(1, 64),
-        write_at(1, 64),
-        write_at(1, 64),
-        write_at(2, 64),
-        write_at(1, 64),
-    ];
-    others[0].write = false;
-    others[1].site = 1;
-    others[2].size = 4;
-    others[4].held = holding(&[3])?;
-    summary.add(&plain)?;
-    for other in &others {
-        if other.addr == 64 && matches!(other.size, 4 | 8) {
-            summary.add(other)?;
-        }
+    let mut summary = Summary::new(rt.alloc())?;
+    for _ in 0..2 {
+        summary.add(&keyed(true, 8, 0, 1, &[])?)?;
+        summary.add(&keyed(false, 8, 0, 1, &[])?)?;
+        summary.add(&keyed(true, 4, 0, 1, &[])?)?;
+        summary.add(&keyed(true, 8, 1, 1, &[])?)?;
+        summary.add(&keyed(true, 8, 0, 2, &[])?)?;
+        summary.add(&keyed(true, 8, 0, 1, &[3])?)?;
+        summary.add(&keyed(true, 8, 0, 1, &[3, 4])?)?;
+        summary.add(&keyed(true, 8, 0, 1, &[4, 3])?)?;
     }
-    assert_eq!(rt; summary.finish().len(), 6);
+    assert_eq!(rt; summary.finish().len(), 8);
+    Ok(())
+}
+
+#[test]
+fn the_last_byte_may_be_the_last_there_is(rt: HostRuntime) -> Result<(), Fail> {
+    let mut summary = Summary::new(rt.alloc())?;
+    summary.add(&Access {
+        write: false,
+        size: 1,
+        site: 0,
+        line: 1,
+        addr: (1 << 48) - 1,
+        held: Held::none(),
+    })?;
+    let runs = summary.finish();
+    assert_eq!(rt; runs.len(), 1);
+    let last = (1 << 48) - 1;
+    assert_eq!(rt; (runs[0].low(), runs[0].high()), (last, last));
     Ok(())
 }

@@ -66,6 +66,7 @@ pub trait Log: Drop + Send + Sized {
         ensures same_dir { dir self.new ≡ dir self.old }
         ensures same_path { path self.new ≡ path self.old }
         ensures same_text { text self.new ≡ text self.old }
+        ensures memory_faults { IsErrOf result Trouble.Memory → faults self.new ≡ faults self.old }
         ensures cause { HasCause (faults self.old) (faults self.new) result };
 
     /// Adds the piece to the log's end.

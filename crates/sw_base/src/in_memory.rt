@@ -7,7 +7,9 @@ mod folder;
 mod log;
 mod out;
 mod plans;
+mod short_reads;
 
 pub use folder::MemFolder;
 pub use log::MemLog;
 pub use out::MemOut;
+pub use short_reads::ShortReads;

@@ -16,7 +16,7 @@ mod window;
 
 pub use environment::{Folder, Gate, Log, NoGate, Out};
 pub use files::{INDEX_HEADER, LOG_HEADER, index_name};
-pub use in_memory::{MemFolder, MemLog, MemOut};
+pub use in_memory::{MemFolder, MemLog, MemOut, ShortReads};
 pub use path::{Path, Step};
 pub use reading::read_file;
 pub use trouble::{Memory, Trouble};
@@ -24,3 +24,5 @@ pub use window::Window;
 
 #[cfg(test)]
 mod tests;
+#[cfg(test)]
+mod window_tests;

@@ -2,4 +2,4 @@ use Rattle.log_walk.proofs.FirstOnce.{first_bad_once}
 use Rattle.log_walk.proofs.laws.first_bad_place_is_unique.Goals as goal
 
 pub returns : goal.returns
-returns c = first_bad_once
+returns c = λ format. first_bad_once

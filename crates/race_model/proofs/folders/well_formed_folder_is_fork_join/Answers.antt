@@ -4,6 +4,6 @@ use Rattle.race_model.proofs.folders.well_formed_folder_is_fork_join.Goals as go
 
 pub returns : goal.returns
 returns c = record {
-  keeps = λ files dir trace good holds. keeps_rules files dir trace holds good;
-  fork_join = fork_join;
+  keeps = λ format files dir trace good holds. keeps_rules files dir trace holds good;
+  fork_join = λ format trace good. fork_join trace good;
 }

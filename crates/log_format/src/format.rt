@@ -1,0 +1,42 @@
+ghost use Rattle.std.specs.Prelude.{◌≡◌};
+ghost use Rattle.log_format.specs.Format.{log_header, index_header, last_code};
+
+use sw_base::{INDEX_HEADER, LOG_HEADER};
+
+/// What logs and indexes begin with, and which kinds of records there are.
+#[derive(Clone, Copy, Debug, PartialEq, Eq)]
+pub enum Format {
+    First,
+}
+
+/// The format that the program reads and writes.
+pub const FORMAT: Format = Format::First;
+
+impl Format {
+    /// The eight bytes that a log begins with.
+    pub fn log_header(self) -> [u8; 8]
+        ensures { result ≡ log_header self }
+    {
+        match self {
+            Format::First => LOG_HEADER,
+        }
+    }
+
+    /// The eight bytes that an index begins with.
+    pub fn index_header(self) -> [u8; 8]
+        ensures { result ≡ index_header self }
+    {
+        match self {
+            Format::First => INDEX_HEADER,
+        }
+    }
+
+    /// The greatest number of a kind.
+    pub fn last_code(self) -> u8
+        ensures { result ≡ last_code self }
+    {
+        match self {
+            Format::First => 8,
+        }
+    }
+}

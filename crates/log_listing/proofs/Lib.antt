@@ -1,0 +1,2 @@
+mod ListedLogs
+mod ListedRecords

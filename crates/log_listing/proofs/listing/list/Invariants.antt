@@ -1,0 +1,18 @@
+use Rattle.std.proofs.Common.{◌≡◌, ◌≤◌}
+use Rattle.log_format.specs.declared.format.TheConstants.{FORMAT}
+use Rattle.sw_base.specs.Environment.{WhereTold}
+use Rattle.race_model.specs.FirstBad.{HoldsLogs, rows_of}
+use Rattle.race_model.specs.Trace.{TaskLog, Trace}
+use Rattle.log_listing.specs.Listing.{log_text}
+use Rattle.log_listing.proofs.ListedLogs.{LogsTo}
+use Rattle.log_listing.proofs.listing.list.Given as goal
+
+abbrev pub invariant-rows : goal.invariant-rows
+invariant-rows g l = record {
+  listed : WhereTold (g.F.Folder.content l.initial.folder) (λ c. (trace : Trace) → rows_of trace ≡ l.fn.rows → HoldsLogs FORMAT c.held l.dir trace
+      → LogsTo (λ (task : TaskLog). log_text task.path task.records) trace (g.O.Out.written l.initial.out) (g.O.Out.written l.out) l.row-index);
+  same : g.F.Folder.content l.folder ≡ g.F.Folder.content l.initial.folder;
+  later : g.F.Folder.read_faults l.initial.folder ≤ g.F.Folder.read_faults l.folder;
+  same_writes : g.F.Folder.write_faults l.folder ≡ g.F.Folder.write_faults l.initial.folder;
+  later_out : g.O.Out.faults l.initial.out ≤ g.O.Out.faults l.out;
+}

@@ -1,0 +1,164 @@
+//! Lists logs.
+ghost use Rattle.std.specs.Prelude.{◌≡◌, ◌^◌, ◌<◌, ◌≤◌, List, length, is_some, IsTrue, IfOk, OnOk, OnErr, IsErrOf};
+ghost use Rattle.log_format.specs.declared.format.TheConstants.{FORMAT};
+ghost use Rattle.sw_base.specs.Environment.{WhereTold, Rose, GainsPrefix, gained};
+ghost use Rattle.log_format.specs.declared.record.Record.{Record};
+ghost use Rattle.log_reader.specs.Reading.{StandsBefore, GivesNext};
+ghost use Rattle.race_model.specs.FirstBad.{HoldsLogs, rows_of};
+ghost use Rattle.race_model.specs.LogFault.{IsWholeLog};
+ghost use Rattle.race_model.specs.Trace.{Trace};
+ghost use Rattle.log_listing.specs.Listing.{record_line, log_line, log_text, records_text, show_text};
+
+use crate::lines::{line_of_log, line_of_record};
+use crate::unlisted::{Unlisted, unread, unwritten};
+use log_format::{FORMAT, Record};
+use log_index::Row;
+use log_reader::LogReader;
+use std::alloc::Global;
+use sw_base::{Folder, Out, Path};
+
+fn print_record<O: Out>(alloc: Global, out: &mut O, number: u64, r: &Record) -> Result<(), Unlisted>
+    ensures done { OnOk result (O.written out.new ≡ gained (O.written out.old) (record_line number r.now)) }
+    ensures refused { OnErr result (GainsPrefix (O.written out.old) (O.written out.new) (record_line number r.now)) }
+    ensures later { O.faults out.old ≤ O.faults out.new }
+    ensures write_cause { IsErrOf result Unlisted.WriteFault → Rose (O.faults out.old) (O.faults out.new) }
+    ensures no_read { IsErrOf result Unlisted.ReadFault → ⊥ }
+{
+    let line = line_of_record(alloc, number, r)?;
+    match out.append(alloc, line.as_bytes()) {
+        Ok(()) => Ok(()),
+        Err(trouble) => Err(unwritten(trouble)),
+    }
+}
+
+fn print_log<O: Out>(alloc: Global, out: &mut O, path: &Path, count: u32) -> Result<(), Unlisted>
+    ensures done { OnOk result (O.written out.new ≡ gained (O.written out.old) (log_line path.now count)) }
+    ensures refused { OnErr result (GainsPrefix (O.written out.old) (O.written out.new) (log_line path.now count)) }
+    ensures later { O.faults out.old ≤ O.faults out.new }
+    ensures write_cause { IsErrOf result Unlisted.WriteFault → Rose (O.faults out.old) (O.faults out.new) }
+    ensures no_read { IsErrOf result Unlisted.ReadFault → ⊥ }
+{
+    let line = line_of_log(alloc, path, count)?;
+    match out.append(alloc, line.as_bytes()) {
+        Ok(()) => Ok(()),
+        Err(trouble) => Err(unwritten(trouble)),
+    }
+}
+
+fn next_record<F: Folder>(
+    alloc: Global,
+    folder: &mut F,
+    reader: &mut LogReader,
+) -> Result<Option<Record>, Unlisted>
+    ensures gives { WhereTold (F.content folder.old) (λ c. (events : List Record) → StandsBefore c reader.old events → IfOk result (λ answer. GivesNext c events answer reader.new)) }
+    ensures fewer { IfOk result (λ answer. IsTrue (is_some answer) → reader.new.left < reader.old.left) }
+    ensures same { F.content folder.new ≡ F.content folder.old }
+    ensures later { F.read_faults folder.old ≤ F.read_faults folder.new }
+    ensures read_cause { IsErrOf result Unlisted.ReadFault → Rose (F.read_faults folder.old) (F.read_faults folder.new) }
+    ensures no_write { IsErrOf result Unlisted.WriteFault → ⊥ }
+    ensures same_writes { F.write_faults folder.new ≡ F.write_faults folder.old }
+{
+    match reader.next(alloc, folder) {
+        Ok(next) => Ok(next),
+        Err(trouble) => Err(unread(trouble)),
+    }
+}
+
+fn open_log<F: Folder>(
+    alloc: Global,
+    folder: &mut F,
+    dir: &str,
+    path: &Path,
+    records: u32,
+    reader: &mut LogReader,
+) -> Result<(), Unlisted>
+    ensures stands { OnOk result (WhereTold (F.content folder.old) (λ c. (events : List Record) → IsWholeLog FORMAT c.held dir.now path.now events → records ≡ length events → StandsBefore c reader.new events)) }
+    ensures most { reader.new.left ≤ records }
+    ensures same { F.content folder.new ≡ F.content folder.old }
+    ensures later { F.read_faults folder.old ≤ F.read_faults folder.new }
+    ensures read_cause { IsErrOf result Unlisted.ReadFault → Rose (F.read_faults folder.old) (F.read_faults folder.new) }
+    ensures no_write { IsErrOf result Unlisted.WriteFault → ⊥ }
+    ensures same_writes { F.write_faults folder.new ≡ F.write_faults folder.old }
+{
+    match reader.open(alloc, FORMAT, folder, dir, path, records) {
+        Ok(()) => Ok(()),
+        Err(trouble) => Err(unread(trouble)),
+    }
+}
+
+// Lists the records that the reader stands before.
+fn list_records<F: Folder, O: Out>(
+    alloc: Global,
+    folder: &mut F,
+    out: &mut O,
+    reader: &mut LogReader,
+) -> Result<(), Unlisted>
+    requires { reader.old.left < 2 ^ 32 }
+    ensures done { WhereTold (F.content folder.old) (λ c. (events : List Record) → StandsBefore c reader.old events → OnOk result (O.written out.new ≡ gained (O.written out.old) (records_text events))) }
+    ensures refused { WhereTold (F.content folder.old) (λ c. (events : List Record) → StandsBefore c reader.old events → OnErr result (GainsPrefix (O.written out.old) (O.written out.new) (records_text events))) }
+    ensures same { F.content folder.new ≡ F.content folder.old }
+    ensures later { F.read_faults folder.old ≤ F.read_faults folder.new }
+    ensures read_cause { IsErrOf result Unlisted.ReadFault → Rose (F.read_faults folder.old) (F.read_faults folder.new) }
+    ensures same_writes { F.write_faults folder.new ≡ F.write_faults folder.old }
+    ensures later_out { O.faults out.old ≤ O.faults out.new }
+    ensures write_cause { IsErrOf result Unlisted.WriteFault → Rose (O.faults out.old) (O.faults out.new) }
+{
+    let mut number = 1;
+    'records: while let Some(next) = next_record(alloc, folder, reader)? {
+        print_record(alloc, out, number, &next)?;
+        number += 1;
+    }
+    Ok(())
+}
+
+fn list_log<F: Folder, O: Out>(
+    alloc: Global,
+    folder: &mut F,
+    out: &mut O,
+    dir: &str,
+    path: &Path,
+    records: u32,
+    reader: &mut LogReader,
+) -> Result<(), Unlisted>
+    ensures done { WhereTold (F.content folder.old) (λ c. (events : List Record) → IsWholeLog FORMAT c.held dir.now path.now events → records ≡ length events
+        → OnOk result (O.written out.new ≡ gained (O.written out.old) (log_text path.now events))) }
+    ensures refused { WhereTold (F.content folder.old) (λ c. (events : List Record) → IsWholeLog FORMAT c.held dir.now path.now events → records ≡ length events
+        → OnErr result (GainsPrefix (O.written out.old) (O.written out.new) (log_text path.now events))) }
+    ensures same { F.content folder.new ≡ F.content folder.old }
+    ensures later { F.read_faults folder.old ≤ F.read_faults folder.new }
+    ensures read_cause { IsErrOf result Unlisted.ReadFault → Rose (F.read_faults folder.old) (F.read_faults folder.new) }
+    ensures same_writes { F.write_faults folder.new ≡ F.write_faults folder.old }
+    ensures later_out { O.faults out.old ≤ O.faults out.new }
+    ensures write_cause { IsErrOf result Unlisted.WriteFault → Rose (O.faults out.old) (O.faults out.new) }
+{
+    print_log(alloc, out, path, records)?;
+    open_log(alloc, folder, dir, path, records, reader)?;
+    list_records(alloc, folder, out, reader)
+}
+
+/// Lists the logs of these rows, which are good, and each of their records, as a line.
+pub fn list<F: Folder, O: Out>(
+    alloc: Global,
+    folder: &mut F,
+    out: &mut O,
+    dir: &str,
+    rows: &[Row],
+) -> Result<(), Unlisted>
+    ensures done { WhereTold (F.content folder.old) (λ c. (trace : Trace) → rows_of trace ≡ rows.now → HoldsLogs FORMAT c.held dir.now trace
+        → OnOk result (O.written out.new ≡ gained (O.written out.old) (show_text trace))) }
+    ensures refused { WhereTold (F.content folder.old) (λ c. (trace : Trace) → rows_of trace ≡ rows.now → HoldsLogs FORMAT c.held dir.now trace
+        → OnErr result (GainsPrefix (O.written out.old) (O.written out.new) (show_text trace))) }
+
+    ensures same { F.content folder.new ≡ F.content folder.old }
+    ensures later { F.read_faults folder.old ≤ F.read_faults folder.new }
+    ensures read_cause { IsErrOf result Unlisted.ReadFault → Rose (F.read_faults folder.old) (F.read_faults folder.new) }
+    ensures same_writes { F.write_faults folder.new ≡ F.write_faults folder.old }
+    ensures later_out { O.faults out.old ≤ O.faults out.new }
+    ensures write_cause { IsErrOf result Unlisted.WriteFault → Rose (O.faults out.old) (O.faults out.new) }
+{
+    let mut reader = LogReader::new(alloc)?;
+    'rows: for row in rows {
+        list_log(alloc, folder, out, dir, &row.path, row.records, &mut reader)?;
+    }
+    Ok(())
+}

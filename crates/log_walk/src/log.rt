@@ -1,0 +1,131 @@
+//! Going over one log of a folder.
+ghost use Rattle.std.specs.Prelude.{◌≡◌, ◌+◌, ◌≤◌, ◌<◌, Some, length, slice_get, string_bytes, IfOk, IfErr, OnOk, IsErrOf};
+ghost use Rattle.sw_base.specs.Environment.{WhereTold, Rose};
+ghost use Rattle.sw_base.specs.Names.{log_name};
+ghost use Rattle.sw_base.specs.Window.{HoldsFile};
+ghost use Rattle.log_format.specs.declared.format.Format.{Format};
+ghost use Rattle.race_model.specs.Row.{Row};
+ghost use Rattle.race_model.specs.IndexFault.{AreRows};
+ghost use Rattle.race_model.specs.Trace.{Trace};
+ghost use Rattle.log_walk.specs.Rules.{log_task_of};
+ghost use Rattle.log_walk.specs.Stack.{IsStackAfter, WalksTask};
+ghost use Rattle.log_walk.specs.Walk.{of_log, Walked, TellsFirstBad, IsUnread, IsTaskOf, RefusesLogOf};
+
+use crate::check::{LogFault, check_log};
+use crate::fault::WalkFault;
+use crate::spans::spans_of;
+use crate::stack::Stack;
+use crate::task::Task;
+use log_format::Format;
+use log_index::Row as IndexRow;
+use log_segment::{Segment, first_label};
+use std::alloc::Global;
+use sw_base::{Folder, Memory, Path};
+
+/// The name of a task's log, where the folder has it.
+fn find_log<F: Folder>(
+    alloc: Global,
+    folder: &mut F,
+    dir: &str,
+    path: &Path,
+) -> Result<String, WalkFault>
+    ensures name { IfOk result (λ name. string_bytes name ≡ log_name dir.now path.now) }
+    ensures found { OnOk result (WhereTold (F.content folder.old) (λ c. HoldsFile c (log_name dir.now path.now))) }
+    ensures unread { IfErr result (λ e. IsUnread (F.content folder.old) dir.now path.now e) }
+    ensures same { F.content folder.new ≡ F.content folder.old }
+    ensures later { F.read_faults folder.old ≤ F.read_faults folder.new }
+    ensures cause { IsErrOf result WalkFault.ReadFault → Rose (F.read_faults folder.old) (F.read_faults folder.new) }
+    ensures same_writes { F.write_faults folder.new ≡ F.write_faults folder.old }
+{
+    let name = path.name(alloc, dir)?;
+    match folder.size(alloc, &name) {
+        Ok(Some(_)) => Ok(name),
+        Ok(None) => Err(WalkFault::MissingLog { path: path.copy() }),
+        Err(trouble) => Err(WalkFault::from(trouble)),
+    }
+}
+
+/// What the rules of the next log stand on.
+fn next_task(alloc: Global, rows: &[IndexRow], stack: &Stack) -> Result<Task, Memory>
+    requires rows { AreRows rows.now }
+    requires within { stack.now.place < length rows.now }
+    requires stands { (format : Format) × (trace : Trace) × IsStackAfter format rows.now stack.now trace }
+    ensures task { IfOk result (λ task. (row : Row) → slice_get rows.now stack.now.place ≡ Some row → (format : Format) (trace : Trace) → IsStackAfter format rows.now stack.now trace
+        → IsTaskOf rows.now trace row (log_task_of task)) }
+{
+    let row = &rows[stack.place];
+    Ok(Task {
+        path: row.path.copy(),
+        records: row.records,
+        spans: spans_of(alloc, rows, stack.place)?,
+        due_barriers: stack.due_barriers(&row.path),
+    })
+}
+
+/// The fault of a walk for that of a task's log.
+fn fault_of(path: &Path, fault: LogFault) -> WalkFault
+    ensures { result ≡ of_log path.now fault }
+{
+    match fault {
+        LogFault::Bad { number, why } => WalkFault::BadRecord {
+            path: path.copy(),
+            number,
+            why,
+        },
+        LogFault::TooMany { number } => WalkFault::TooManySegments {
+            path: path.copy(),
+            number,
+        },
+        LogFault::ReadFault => WalkFault::ReadFault,
+        LogFault::Memory => WalkFault::Memory,
+    }
+}
+
+/// Goes over the log of the next row, where it is good, and adds its segments.
+pub fn walk_log<F: Folder>(
+    alloc: Global,
+    format: Format,
+    folder: &mut F,
+    dir: &str,
+    rows: &[IndexRow],
+    stack: &mut Stack,
+    found: &mut Vec<Segment>,
+) -> Result<(), WalkFault>
+    requires rows { AreRows rows.now }
+    requires within { stack.old.place < length rows.now }
+    requires stands { (trace : Trace) × IsStackAfter format rows.now stack.old trace }
+    ensures walks { (trace : Trace) (row : Row) → IsStackAfter format rows.now stack.old trace → slice_get rows.now stack.old.place ≡ Some row
+        → OnOk result (WalksTask format (F.content folder.old) dir.now rows.now stack.new trace row found.old.items found.new.items) }
+    ensures place { OnOk result (stack.new.place ≡ stack.old.place + 1) }
+    ensures refused { (trace : Trace) (row : Row) → IsStackAfter format rows.now stack.old trace → slice_get rows.now stack.old.place ≡ Some row
+        → IfErr result (λ e. WhereTold (F.content folder.old) (λ c. Walked format c.held dir.now rows.now trace → TellsFirstBad format c.held dir.now e)) }
+    ensures of_row { (row : Row) → slice_get rows.now stack.old.place ≡ Some row → IfErr result (λ e. RefusesLogOf (λ path. path ≡ row.path) e) }
+    ensures same { F.content folder.new ≡ F.content folder.old }
+    ensures later { F.read_faults folder.old ≤ F.read_faults folder.new }
+    ensures cause { IsErrOf result WalkFault.ReadFault → Rose (F.read_faults folder.old) (F.read_faults folder.new) }
+    ensures same_writes { F.write_faults folder.new ≡ F.write_faults folder.old }
+{
+    let row = &rows[stack.place];
+    let name = find_log(alloc, folder, dir, &row.path)?;
+    let task = next_task(alloc, rows, stack)?;
+    let label = first_label(&stack.forks, &row.path);
+    let window = &mut stack.window;
+    match check_log(
+        alloc,
+        format,
+        folder,
+        &name,
+        window,
+        &task,
+        stack.segments,
+        label,
+        found,
+    ) {
+        Ok(checked) => {
+            let barriers = task.due_barriers.unwrap_or(checked.barriers);
+            stack.push(&row.path, checked.forks, barriers, checked.segments)?;
+            Ok(())
+        }
+        Err(fault) => Err(fault_of(&row.path, fault)),
+    }
+}

@@ -1,0 +1,189 @@
+//! A folder gone over region by region.
+ghost use Rattle.std.specs.Prelude.{◌≡◌, ◌⊎◌, ◌≤◌, ◌<◌, ◌↔◌, ℕ, List, Err, None, length, IfOk, IfErr, IfSome, IsErrOf, IsTrue, OnOk};
+ghost use Rattle.sw_base.specs.Environment.{WhereTold, Rose};
+ghost use Rattle.log_format.specs.declared.format.Format.{Format};
+ghost use Rattle.log_format.specs.declared.format.TheConstants.{FORMAT};
+ghost use Rattle.race_model.specs.Trace.{Trace};
+ghost use Rattle.race_model.specs.IndexFault.{AreRows};
+ghost use Rattle.log_segment.specs.Regions.{IsUnderRegion};
+ghost use Rattle.log_walk.specs.Stack.{IsStackAfter};
+ghost use Rattle.log_walk.specs.Sweep.{AreRegions, BeginsSweep, GivesRegion, HasRefused, HasSwept, HasSweptAll, RefusesIndexOrRoot, WalksRegion, logs_left, regions_given};
+ghost use Rattle.log_walk.specs.Walk.{TellsFirstBad, RefusesLogOf, Walked};
+
+use crate::fault::WalkFault;
+use crate::log::walk_log;
+use crate::stack::Stack;
+use log_format::{FORMAT, Format};
+use log_index::{Row as IndexRow, read_index_as};
+use log_segment::Segment;
+use std::alloc::Global;
+use sw_base::{Folder, Path};
+
+/// The logs of a folder, gone over once: the root's first, and then those of one region of the root at a time. It keeps no
+/// record and no segment.
+#[derive(Drop)]
+pub struct Sweep {
+    format: Format,
+    dir: String,
+    rows: Vec<IndexRow>,
+    stack: Stack,
+    /// The root's region that comes next.
+    region: u64,
+    /// What `next` refused.
+    refused: Option<WalkFault>,
+}
+
+fn is_under(path: &Path, region: u64) -> bool
+    ensures { IsTrue result ↔ IsUnderRegion region path.now }
+{
+    match path.steps().first() {
+        Some(step) => u64::from(step.region) == region,
+        None => false,
+    }
+}
+
+/// Goes over the logs of the root's next region.
+fn walk_region<F: Folder>(
+    alloc: Global,
+    format: Format,
+    folder: &mut F,
+    dir: &str,
+    rows: &[IndexRow],
+    stack: &mut Stack,
+    region: u64,
+) -> Result<Vec<Segment>, WalkFault>
+    requires rows { AreRows rows.now }
+    requires fits { (trace : Trace) × IsStackAfter format rows.now stack.old trace }
+    requires ahead { stack.old.place < length rows.now }
+    ensures walks { (trace : Trace) → IsStackAfter format rows.now stack.old trace → AreRegions region rows.now trace
+        → IfOk result (λ found. WalksRegion format (F.content folder.old) dir.now rows.now region stack.new trace found.items) }
+    ensures refused { (trace : Trace) → IsStackAfter format rows.now stack.old trace → WhereTold (F.content folder.old) (λ c. Walked format c.held dir.now rows.now trace)
+        → IfErr result (λ e. RefusesLogOf (IsUnderRegion region) e × WhereTold (F.content folder.old) (λ c. TellsFirstBad format c.held dir.now e)) }
+    ensures same { F.content folder.new ≡ F.content folder.old }
+    ensures later { F.read_faults folder.old ≤ F.read_faults folder.new }
+    ensures cause { IsErrOf result WalkFault.ReadFault → Rose (F.read_faults folder.old) (F.read_faults folder.new) }
+    ensures same_writes { F.write_faults folder.new ≡ F.write_faults folder.old }
+{
+    let mut found = Vec::new(alloc);
+    'tasks: for index in stack.place..rows.len() {
+        let row = &rows[index];
+        if !is_under(&row.path, region) {
+            return Ok(found);
+        }
+        walk_log(alloc, format, folder, dir, rows, stack, &mut found)?;
+    }
+    Ok(found)
+}
+
+impl Sweep {
+    /// Reads the folder's index and goes over the root's log: its segments, where both are good.
+    pub fn open<F: Folder>(
+        alloc: Global,
+        folder: &mut F,
+        dir: &str,
+    ) -> Result<(Sweep, Vec<Segment>), WalkFault>
+        ensures begins { IfOk result (λ pair. BeginsSweep FORMAT (F.content folder.old) dir.now pair.0 pair.1.items) }
+        ensures refused { IfErr result (λ e. RefusesIndexOrRoot e × WhereTold (F.content folder.old) (λ c. TellsFirstBad FORMAT c.held dir.now e)) }
+
+        ensures same { F.content folder.new ≡ F.content folder.old }
+        ensures later { F.read_faults folder.old ≤ F.read_faults folder.new }
+        ensures cause { IsErrOf result WalkFault.ReadFault → Rose (F.read_faults folder.old) (F.read_faults folder.new) }
+        ensures same_writes { F.write_faults folder.new ≡ F.write_faults folder.old }
+    {
+        Sweep::open_as(alloc, FORMAT, folder, dir)
+    }
+
+    /// The same of a folder of this format.
+    pub fn open_as<F: Folder>(
+        alloc: Global,
+        format: Format,
+        folder: &mut F,
+        dir: &str,
+    ) -> Result<(Sweep, Vec<Segment>), WalkFault>
+        ensures begins { IfOk result (λ pair. BeginsSweep format (F.content folder.old) dir.now pair.0 pair.1.items) }
+        ensures refused { IfErr result (λ e. RefusesIndexOrRoot e × WhereTold (F.content folder.old) (λ c. TellsFirstBad format c.held dir.now e)) }
+
+        ensures same { F.content folder.new ≡ F.content folder.old }
+        ensures later { F.read_faults folder.old ≤ F.read_faults folder.new }
+        ensures cause { IsErrOf result WalkFault.ReadFault → Rose (F.read_faults folder.old) (F.read_faults folder.new) }
+        ensures same_writes { F.write_faults folder.new ≡ F.write_faults folder.old }
+    {
+        let mut found = Vec::new(alloc);
+        let rows = read_index_as(alloc, format, folder, dir)?;
+        let mut stack = Stack::new(alloc)?;
+        walk_log(alloc, format, folder, dir, &rows, &mut stack, &mut found)?;
+        let sweep = Sweep {
+            format,
+            dir: String::from_str(alloc, dir)?,
+            rows,
+            stack,
+            region: 0,
+            refused: None,
+        };
+        Ok((sweep, found))
+    }
+
+    /// The rows of the index.
+    pub fn rows(&self) -> &[IndexRow]
+        ensures { result.now ≡ self.now.rows.items }
+    {
+        &self.rows
+    }
+
+    /// How many logs are ahead.
+    pub fn left(&self) -> usize
+        ensures { result ≡ logs_left self.now }
+    {
+        self.rows.len().saturating_sub(self.stack.place)
+    }
+
+    /// The segments under the root's next region, where its logs are good; none after the last. A refusal is answered again
+    /// by each later call.
+    pub fn next<F: Folder>(
+        &mut self,
+        alloc: Global,
+        folder: &mut F,
+    ) -> Result<Option<Vec<Segment>>, WalkFault>
+        requires swept { (format : Format) × (dir : List ℕ) × (trace : Trace) × HasSwept format (F.content folder.old) dir self.old trace }
+        ensures region { (format : Format) (dir : List ℕ) (trace : Trace) → HasSwept format (F.content folder.old) dir self.old trace
+            → IfOk result (λ found. IfSome found (λ segments. GivesRegion format (F.content folder.old) dir self.old self.new trace segments.items)) }
+        ensures shrinks { IfOk result (λ found. IfSome found (λ _. logs_left self.new < logs_left self.old)) }
+        ensures all { (format : Format) (dir : List ℕ) (trace : Trace) → HasSwept format (F.content folder.old) dir self.old trace
+            → IfOk result (λ found. found ≡ None → (self.new ≡ self.old) × HasSweptAll format (F.content folder.old) dir self.old trace) }
+        ensures refused { (format : Format) (dir : List ℕ) (trace : Trace) → HasSwept format (F.content folder.old) dir self.old trace
+            → IfErr result (λ e. HasRefused self.new e × RefusesLogOf (IsUnderRegion (regions_given self.old)) e
+            × WhereTold (F.content folder.old) (λ c. TellsFirstBad format c.held dir e) × HasSwept format (F.content folder.old) dir self.new trace) }
+        ensures unrefused { OnOk result ((e : WalkFault) → HasRefused self.new e → ⊥) }
+        ensures again { (e : WalkFault) → HasRefused self.old e → result ≡ Err e }
+
+        ensures same { F.content folder.new ≡ F.content folder.old }
+        ensures later { F.read_faults folder.old ≤ F.read_faults folder.new }
+        ensures cause { IsErrOf result WalkFault.ReadFault → Rose (F.read_faults folder.old) (F.read_faults folder.new) ⊎ HasRefused self.old WalkFault.ReadFault }
+        ensures same_writes { F.write_faults folder.new ≡ F.write_faults folder.old }
+    {
+        if let Some(refusal) = &self.refused {
+            return Err(refusal.copy());
+        }
+        if self.stack.place >= self.rows.len() {
+            return Ok(None);
+        }
+        match walk_region(
+            alloc,
+            self.format,
+            folder,
+            &self.dir,
+            &self.rows,
+            &mut self.stack,
+            self.region,
+        ) {
+            Ok(found) => {
+                self.region += 1;
+                Ok(Some(found))
+            }
+            Err(refusal) => {
+                self.refused = Some(refusal.copy());
+                Err(refusal)
+            }
+        }
+    }
+}

@@ -1,0 +1,56 @@
+//! A folder of which one read gives at most five bytes. It tells nothing of what it holds.
+ghost use Rattle.std.specs.Prelude.{None};
+ghost use Rattle.sw_base.specs.MemFolder.{read_faults_of, write_faults_of};
+
+use crate::environment::Folder;
+use crate::in_memory::folder::MemFolder;
+use crate::in_memory::log::MemLog;
+use crate::trouble::Trouble;
+use std::alloc::Global;
+
+/// A folder in memory, whose reads come in short pieces.
+#[derive(Drop)]
+pub struct ShortReads {
+    pub folder: MemFolder,
+}
+
+impl Folder for ShortReads {
+    type Log = MemLog;
+
+    ghost content = { λ _. None };
+
+    ghost read_faults = { λ s. read_faults_of s.folder };
+
+    ghost write_faults = { λ s. write_faults_of s.folder };
+
+    fn size(&mut self, alloc: Global, name: &str) -> Result<Option<u64>, Trouble> {
+        self.folder.size(alloc, name)
+    }
+
+    fn read(
+        &mut self,
+        alloc: Global,
+        name: &str,
+        at: u64,
+        into: &mut [u8],
+    ) -> Result<usize, Trouble> {
+        let most = into.len().min(5);
+        self.folder.read(alloc, name, at, &mut into[..most])
+    }
+
+    fn put(&mut self, alloc: Global, name: &str, bytes: &[u8]) -> Result<(), Trouble> {
+        self.folder.put(alloc, name, bytes)
+    }
+
+    fn root(&mut self, _alloc: Global, _dir: &str) -> Result<MemLog, Trouble> {
+        Err(Trouble::Memory)
+    }
+
+    fn seal(&mut self, alloc: Global, log: MemLog) -> Result<(), (Trouble, MemLog)> {
+        self.folder.seal(alloc, log)
+    }
+
+    fn discard(&mut self, log: MemLog) {
+        self.folder.discard(log)
+    }
+}

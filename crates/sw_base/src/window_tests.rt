@@ -1,0 +1,112 @@
+//! Windows over files that are longer, missing, read in short pieces, or not read at all.
+
+use crate::{MemFolder, ShortReads, Trouble, Window};
+use std::alloc::Global;
+use std::test::Fail;
+
+#[test]
+fn a_file_longer_than_a_window_comes_in_order(rt: HostRuntime) -> Result<(), Fail> {
+    let alloc = rt.alloc();
+    let mut folder = MemFolder::new(alloc)?;
+    folder.hold("name", b"abcdefgh")?;
+    let mut window = Window::new(alloc, 3)?;
+    assert_eq!(rt; window.ahead().len(), 0);
+    window.fill(alloc, &mut folder, "name", 2)?;
+    assert_eq!(rt; window.ahead(), b"abc".as_slice());
+    window.skip(2);
+    assert_eq!(rt; window.ahead(), b"c".as_slice());
+    window.fill(alloc, &mut folder, "name", 4)?;
+    assert_eq!(rt; window.ahead(), b"cdef".as_slice());
+    window.skip(4);
+    window.fill(alloc, &mut folder, "name", 9)?;
+    assert_eq!(rt; window.ahead(), b"gh".as_slice());
+    window.skip(2);
+    window.fill(alloc, &mut folder, "name", 1)?;
+    assert_eq!(rt; window.ahead().len(), 0);
+    Ok(())
+}
+
+#[test]
+fn a_file_that_is_not_there_ends_at_once(rt: HostRuntime) -> Result<(), Fail> {
+    let alloc = rt.alloc();
+    let mut folder = MemFolder::new(alloc)?;
+    folder.hold("name", b"ab")?;
+    let mut window = Window::new(alloc, 1)?;
+    window.fill(alloc, &mut folder, "none", 1)?;
+    assert_eq!(rt; window.ahead().len(), 0);
+    window.fill(alloc, &mut folder, "name", 0)?;
+    assert_eq!(rt; window.ahead().len(), 0);
+    Ok(())
+}
+
+#[test]
+fn a_window_starts_again_at_the_front(rt: HostRuntime) -> Result<(), Fail> {
+    let alloc = rt.alloc();
+    let mut folder = MemFolder::new(alloc)?;
+    folder.hold("name", b"abcdefgh")?;
+    folder.hold("other", b"uvwxyz")?;
+    let mut window = Window::new(alloc, 4)?;
+    window.fill(alloc, &mut folder, "name", 4)?;
+    assert_eq!(rt; window.ahead(), b"abcd".as_slice());
+    window.skip(3);
+    window.restart();
+    assert_eq!(rt; window.ahead().len(), 0);
+    window.fill(alloc, &mut folder, "other", 2)?;
+    assert_eq!(rt; window.ahead(), b"uvwx".as_slice());
+    Ok(())
+}
+
+#[test]
+fn a_short_read_is_gone_on_with(rt: HostRuntime) -> Result<(), Fail> {
+    let alloc = rt.alloc();
+    let mut folder = MemFolder::new(alloc)?;
+    folder.hold("name", b"abcdefghijklmnopqr")?;
+    let mut folder = ShortReads { folder };
+    let mut window = Window::new(alloc, 16)?;
+    window.fill(alloc, &mut folder, "name", 11)?;
+    assert_eq!(rt; window.ahead(), b"abcdefghijklmno".as_slice());
+    window.skip(11);
+    window.fill(alloc, &mut folder, "name", 5)?;
+    assert_eq!(rt; window.ahead(), b"lmnopqr".as_slice());
+    window.fill(alloc, &mut folder, "name", 8)?;
+    assert_eq!(rt; window.ahead(), b"lmnopqr".as_slice());
+    Ok(())
+}
+
+#[test]
+fn a_read_that_fails_loses_nothing(rt: HostRuntime) -> Result<(), Fail> {
+    let alloc = rt.alloc();
+    let mut folder = MemFolder::new(alloc)?;
+    folder.hold("name", b"abcdefgh")?;
+    folder.fail(&[2])?;
+    let mut window = Window::new(alloc, 3)?;
+    assert_eq!(rt;
+        window.fill(alloc, &mut folder, "name", 7),
+        Err(Trouble::Failed)
+    );
+    assert_eq!(rt; window.ahead(), b"abc".as_slice());
+    window.skip(1);
+    window.fill(alloc, &mut folder, "name", 7)?;
+    assert_eq!(rt; window.ahead(), b"bcdefgh".as_slice());
+    Ok(())
+}
+
+// Whether a file of these bytes begins with the header, and how many bytes are ahead then.
+fn header_passed(alloc: Global, bytes: &[u8]) -> Result<(bool, usize), Fail> {
+    let mut folder = MemFolder::new(alloc)?;
+    folder.hold("name", bytes)?;
+    let mut window = Window::new(alloc, 10)?;
+    let passed = window.pass_header(alloc, &mut folder, "name", b"SWLOG001")?;
+    Ok((passed, window.ahead().len()))
+}
+
+#[test]
+fn a_header_is_passed_where_all_of_it_is_there(rt: HostRuntime) -> Result<(), Fail> {
+    let alloc = rt.alloc();
+    assert_eq!(rt; header_passed(alloc, b"SWLOG001")?, (true, 0));
+    assert_eq!(rt; header_passed(alloc, b"SWLOG001abc")?, (true, 2));
+    assert_eq!(rt; header_passed(alloc, b"SWLOG00")?, (false, 7));
+    assert_eq!(rt; header_passed(alloc, b"SWLOG002")?, (false, 8));
+    assert_eq!(rt; header_passed(alloc, b"")?, (false, 0));
+    Ok(())
+}
