@@ -16,7 +16,7 @@ use Rattle.kernel_model.specs.Trace.{Start, Ended, run, task, trace, state_at, s
 use Rattle.kernel_model.specs.FirstTeam.{first_team}
 use Rattle.kernel_model.specs.Folder.{IsTracedFolder, IsTraced, IsTracedTask, root_start, lane_start, start_at, start_below, paths_of}
 use Rattle.kernel_syntax.specs.FirstKind.{IsFirstKind, IsOneRegion, IsOneLoop}
-use Rattle.kernel_model.proofs.SingleSteps.{KeepsPlainSteps}
+use Rattle.kernel_model.proofs.SingleSteps.{KeepsPlainSteps, KeepsBarriers}
 use Rattle.kernel_model.proofs.Steps.{kept-one_loop, kept-after, kept-put}
 
 -- a part that forks nothing
@@ -28,10 +28,13 @@ same_forks-steps = record {
   same = λ s. refl;
   chain = λ a b c one more. more ∙ one;
   assigns = λ slot v s. refl;
-  puts = λ r room s is plain. refl;
+  writes = λ r room s is write. refl;
   reads = λ e site line room v reads s is prefix. refl;
   draws = λ line n room q chunks s is prefix. refl;
 }
+
+same_forks-barriers : KeepsBarriers SameForks
+same_forks-barriers = record { bars = λ line room s is. refl }
 
 -- a lane of one loop forks nothing
 pub no_forks : (program : Program) (start : Start) (reads : List ℤ) (chunks : List ℕ) → IsOneLoop start.team.body →
@@ -39,8 +42,8 @@ pub no_forks : (program : Program) (start : Start) (reads : List ℤ) (chunks : 
 unfolding task
 no_forks program start reads chunks one =
     kept-after SameForks same_forks-steps (state_at start reads chunks) (run (site_of program start) start.team.body (state_at start reads chunks)) _
-    (kept-one_loop SameForks same_forks-steps (site_of program start) start.team.body (state_at start reads chunks) one)
-    (λ t. kept-put SameForks same_forks-steps (event kind.End start.team.end 0 0) t refl)
+    (kept-one_loop SameForks same_forks-steps same_forks-barriers (site_of program start) start.team.body (state_at start reads chunks) one)
+    (λ t. kept-put SameForks same_forks-steps (event kind.End start.team.end 0 0) t (λ room is. refl))
 
 -- the team's lanes from this number on, with these records
 abbrev pub first_lanes : ℕ → ℕ → List (List Record) → Trace

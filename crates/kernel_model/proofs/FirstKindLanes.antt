@@ -4,6 +4,7 @@ use Rattle.std.proofs.lemmas.List.{take_at, length-append, length-take-le}
 use Rattle.std.proofs.lemmas.List.Elements.{All-nil, All-cons, All-head, All-tail, All-append, All-take, All-weaker, All-same, All-push}
 use Rattle.std.proofs.lemmas.List.Sums.{sum_by-append, sum_by-cons}
 use Rattle.std.proofs.lemmas.Option.{slice_get_within, same_Some}
+use Rattle.log_format.specs.declared.format.TheConstants.{FORMAT}
 use Rattle.sw_base.specs.declared.path.Step.{Step}
 use Rattle.log_format.specs.declared.record.Record.{Record}
 use Rattle.log_format.specs.declared.record.Kind.{Kind}
@@ -34,35 +35,35 @@ use Rattle.kernel_model.proofs.FirstKindShape.{IsTabledAccess, IsLaneLog, loop_b
 event_fits : (k : Kind) (line value : ℕ) → IsLine line → value < 2 ^ 64 → RecordFits (event k line 0 value)
 event_fits k line value is small = record { size = omega arith; site = omega arith; line = is.fits; addr = omega arith; value = small }
 
-tabled_barrier : (line : ℕ) → IsLine line → IsTabled (event kind.Barrier line 0 0)
+tabled_barrier : (line : ℕ) → IsLine line → IsTabled FORMAT (event kind.Barrier line 0 0)
 tabled_barrier line is = record { fits = event_fits kind.Barrier line 0 is (omega arith); passes = passes }
   where
-    passes : (w : Why) → PassesTable (event kind.Barrier line 0 0) w
-    passes why.Kind = tt
+    passes : (w : Why) → PassesTable FORMAT (event kind.Barrier line 0 0) w
+    passes why.Kind = omega arith
     passes why.Size = refl
     passes why.LineZero = is.some
     passes why.Address = tt
     passes why.Span = tt
     passes why.Reserved = (refl, refl, refl)
 
-pub tabled_end : (line : ℕ) → IsLine line → IsTabled (event kind.End line 0 0)
+pub tabled_end : (line : ℕ) → IsLine line → IsTabled FORMAT (event kind.End line 0 0)
 tabled_end line is = record { fits = event_fits kind.End line 0 is (omega arith); passes = passes }
   where
-    passes : (w : Why) → PassesTable (event kind.End line 0 0) w
-    passes why.Kind = tt
+    passes : (w : Why) → PassesTable FORMAT (event kind.End line 0 0) w
+    passes why.Kind = omega arith
     passes why.Size = refl
     passes why.LineZero = is.some
     passes why.Address = tt
     passes why.Span = tt
     passes why.Reserved = (refl, refl, refl)
 
-pub tabled_region : (line span : ℕ) → IsLine line → IsSpan span → IsTabled (event kind.Region line 0 span)
+pub tabled_region : (line span : ℕ) → IsLine line → IsSpan span → IsTabled FORMAT (event kind.Region line 0 span)
 tabled_region line span is spans =
     let limit = spans.limit in
     record { fits = event_fits kind.Region line span is (omega arith); passes = passes }
   where
-    passes : (w : Why) → PassesTable (event kind.Region line 0 span) w
-    passes why.Kind = tt
+    passes : (w : Why) → PassesTable FORMAT (event kind.Region line 0 span) w
+    passes why.Kind = omega arith
     passes why.Size = refl
     passes why.LineZero = is.some
     passes why.Address = tt
@@ -156,7 +157,7 @@ held_none (r ∷ records) plain =
 -- a lane's log with so many barriers
 pub record IsLane (barriers : ℕ) (records : List Record) : Type 0 where
   pub ends : EndsOnce records
-  pub tabled : All IsTabled records
+  pub tabled : All (IsTabled FORMAT) records
   pub plain : All IsPlain records
   pub count : barrier_count ends.prefix ≡ barriers
   pub size : HasRecords (length records)
@@ -219,7 +220,7 @@ lane_barriers barriers records lane =
 
 -- a record of a lane before its End
 record IsPrefix (r : Record) : Type 0 where
-  tabled : IsTabled r
+  tabled : IsTabled FORMAT r
   kind_is : IsPrefixKind r.kind
 
 -- the barrier of a loop is such a record
@@ -266,7 +267,7 @@ is_lane team one bounded line records log limit =
     All-append IsPrefix log.accesses middle
     (All-weaker IsTabledAccess IsPrefix (λ r is. record { tabled = is.tabled; kind_is = prefix_access r is.access }) log.accesses log.each)
     (loop_prefix team.body one bounded) in
-    let tabled = All-weaker IsPrefix IsTabled (λ r is. is.tabled) prefix each in
+    let tabled = All-weaker IsPrefix (IsTabled FORMAT) (λ r is. is.tabled) prefix each in
     let plain = All-weaker IsPrefix IsPlain (λ r is. plain_prefix r.kind is.kind_is) prefix each in
     let sum : barrier_count prefix ≡ barrier_count log.accesses + barrier_count middle =
     sum_by-append (λ (r : Record). number (is_barrier_kind r.kind)) log.accesses middle in
@@ -279,7 +280,7 @@ is_lane team one bounded line records log limit =
         ends = refl;
         once = All-weaker IsPrefix NotEnd (λ r is. prefix_not_end r.kind is.kind_is) prefix each;
       };
-      tabled = All-same IsTabled records (prefix ++ last ∷ []) parts (All-push IsTabled prefix last tabled (tabled_end team.end line));
+      tabled = All-same (IsTabled FORMAT) records (prefix ++ last ∷ []) parts (All-push (IsTabled FORMAT) prefix last tabled (tabled_end team.end line));
       plain = All-same IsPlain records (prefix ++ last ∷ []) parts (All-push IsPlain prefix last plain tt);
       count = omega (arith, sum, no_barriers log.accesses log.each);
       size = record { some = omega arith; limit = limit };

@@ -4,6 +4,7 @@ use Rattle.std.specs.Prelude.{map}
 use Rattle.std.proofs.lemmas.List.{same_from_push}
 use Rattle.std.proofs.lemmas.List.Elements.{All-nil, All-cons, All-head, All-tail, All-weaker}
 use Rattle.std.proofs.lemmas.Option.{same_Some, none-some}
+use Rattle.log_format.specs.declared.format.TheConstants.{FORMAT}
 use Rattle.sw_base.specs.declared.path.Step.{Step}
 use Rattle.log_format.specs.declared.record.Record.{Record}
 use Rattle.log_format.specs.declared.record.Kind.TheVariants as kind
@@ -203,11 +204,11 @@ module _ (span line last barriers : ℕ) (spans : IsSpan span) (fork : IsLine li
     limit = let limit = spans.limit in omega (arith, row_count span 0 lanes);
   }
 
-  root_task_keeps : TaskKeepsRules all_tasks root
+  root_task_keeps : TaskKeepsRules FORMAT all_tasks root
   root_task_keeps = record {
     tabled =
-        All-cons IsTabled (region_record line span) (end_record last ∷ []) (tabled_region line span fork spans)
-        (All-cons IsTabled (end_record last) [] (tabled_end last ends) (All-nil IsTabled));
+        All-cons (IsTabled FORMAT) (region_record line span) (end_record last ∷ []) (tabled_region line span fork spans)
+        (All-cons (IsTabled FORMAT) (end_record last) [] (tabled_end last ends) (All-nil (IsTabled FORMAT)));
     spans = span ∷ [];
     has_spans = lists_spans (rows_of all_tasks) [] (span ∷ []) (root_spans span spans lanes count);
     due_barriers = None;
@@ -230,7 +231,7 @@ module _ (span line last barriers : ℕ) (spans : IsSpan span) (fork : IsLine li
       ∙ (λ j. Some (barrier_count (logs_of all_tasks (lane_of (both.0 j) (both.1 j).region 0 (both.1 j).span))))
 
   lane_task_keeps : (i : ℕ) (records : List Record) → IsLane barriers records →
-      TaskKeepsRules all_tasks (record { path = lane_at span i ∷ []; records = records })
+      TaskKeepsRules FORMAT all_tasks (record { path = lane_at span i ∷ []; records = records })
   lane_task_keeps i records lane = record {
     tabled = lane.tabled;
     spans = [];
@@ -240,16 +241,16 @@ module _ (span line last barriers : ℕ) (spans : IsSpan span) (fork : IsLine li
     keeps = lane_keeps barriers records lane (lane_at span i ∷ []) (λ is. cc);
   }
 
-  lane_tasks_keep : (i : ℕ) (rs : List (List Record)) → All (IsLane barriers) rs → All (TaskKeepsRules all_tasks) (first_lanes span i rs)
-  lane_tasks_keep i [] are = All-nil (TaskKeepsRules all_tasks)
+  lane_tasks_keep : (i : ℕ) (rs : List (List Record)) → All (IsLane barriers) rs → All (TaskKeepsRules FORMAT all_tasks) (first_lanes span i rs)
+  lane_tasks_keep i [] are = All-nil (TaskKeepsRules FORMAT all_tasks)
   lane_tasks_keep i (r ∷ rs) are =
-      All-cons (TaskKeepsRules all_tasks) _ _ (lane_task_keeps i r (All-head (IsLane barriers) r rs are))
+      All-cons (TaskKeepsRules FORMAT all_tasks) _ _ (lane_task_keeps i r (All-head (IsLane barriers) r rs are))
       (lane_tasks_keep (i + 1) rs (All-tail (IsLane barriers) r rs are))
 
-  all_keep : KeepsRules all_tasks
+  all_keep : KeepsRules FORMAT all_tasks
   all_keep = record {
     rows = are_rows;
-    tasks = All-cons (TaskKeepsRules all_tasks) root (first_lanes span 0 lanes) root_task_keeps (lane_tasks_keep 0 lanes each);
+    tasks = All-cons (TaskKeepsRules FORMAT all_tasks) root (first_lanes span 0 lanes) root_task_keeps (lane_tasks_keep 0 lanes each);
   }
 
 -- ---- kernels of the first kind
@@ -271,7 +272,7 @@ is_first_team _ one bounded = absurd one
 pub first_kind_rules : (program : Program) → IsFirstKind program → IsBounded program → (words : ℕ) → ArePlaced program.arrays words →
     (lanes : List (List Record)) → length lanes ≡ (first_team program.main.body).span →
     ((l : ℕ) (d : List Record) → l < (first_team program.main.body).span → IsTraced program (first_lane program l) (get_or lanes l d)) →
-    KeepsRules (first_tasks program lanes)
+    KeepsRules FORMAT (first_tasks program lanes)
 first_kind_rules program first bounded words placed lanes count traced =
     let team = first_team program.main.body in
     let is = is_first_team program.main.body first.one_region bounded.body in

@@ -4,6 +4,7 @@ use Rattle.std.proofs.Math.Facts.{Fits-of_z}
 use Rattle.std.proofs.lemmas.Bool.Decides.{nat_tests}
 use Rattle.std.proofs.lemmas.List.{append-nil}
 use Rattle.std.proofs.lemmas.List.Elements.{All-nil, All-cons, All-append}
+use Rattle.log_format.specs.declared.format.TheConstants.{FORMAT}
 use Rattle.log_format.specs.declared.record.Record.{Record}
 use Rattle.log_format.specs.declared.record.Kind.{Kind}
 use Rattle.log_format.specs.declared.record.Kind.TheVariants as kind
@@ -63,20 +64,20 @@ byte_width width is = grind arith
 
 -- a record of the table that reads or writes memory
 pub record IsTabledAccess (r : Record) : Type 0 where
-  pub tabled : IsTabled r
+  pub tabled : IsTabled FORMAT r
   pub access : IsAccess r
 
 module _ (e : Element) (site line : ℕ) (v : ℤ) (placed : IsPlacedElement e) (place : IsPlace line site) where
-  read_passes : (w : Why) → PassesTable (access kind.Read e site line (fitted v e.width)) w
-  read_passes why.Kind = tt
+  read_passes : (w : Why) → PassesTable FORMAT (access kind.Read e site line (fitted v e.width)) w
+  read_passes why.Kind = omega arith
   read_passes why.Size = placed.width
   read_passes why.LineZero = place.line_is.some
   read_passes why.Address = placed.ends
   read_passes why.Span = tt
   read_passes why.Reserved = tt
 
-  write_passes : (w : Why) → PassesTable (access kind.Write e site line (fitted v e.width)) w
-  write_passes why.Kind = tt
+  write_passes : (w : Why) → PassesTable FORMAT (access kind.Write e site line (fitted v e.width)) w
+  write_passes why.Kind = omega arith
   write_passes why.Size = placed.width
   write_passes why.LineZero = place.line_is.some
   write_passes why.Address = placed.ends

@@ -5,13 +5,14 @@ use Rattle.std.proofs.lemmas.List.Sums.{sum_by-append}
 use Rattle.kernel_syntax.specs.Tree.{Term, Code}
 use Rattle.kernel_syntax.specs.Program.{Program}
 use Rattle.log_format.specs.declared.record.Record.{Record}
+use Rattle.log_format.specs.declared.record.Kind.{Kind}
 use Rattle.log_format.specs.declared.record.Kind.TheVariants as kind
 use Rattle.race_model.specs.Trace.{is_region_kind, region_count}
 use Rattle.kernel_model.specs.State.{State, state_of, event}
 use Rattle.kernel_model.specs.Value.{Site, value}
 use Rattle.kernel_model.specs.Trace.{run, task, Start, state_at}
 use Rattle.kernel_model.specs.Growth.{Grows}
-use Rattle.kernel_model.proofs.SingleSteps.{KeepsPlainSteps, KeepsSteps}
+use Rattle.kernel_model.proofs.SingleSteps.{IsMark, KeepsPlainSteps, KeepsBarriers, KeepsSteps}
 use Rattle.kernel_model.proofs.Steps.{kept-value, kept-run, kept-task}
 
 region_count-append : (xs ys : List Record) → region_count (xs ++ ys) ≡ region_count xs + region_count ys
@@ -56,19 +57,30 @@ grows-record r room s t is plain records left forks = record {
   fork_count = plain_count (is_region_kind r.kind) plain;
 }
 
-grows-plain : KeepsPlainSteps Grows
+-- a record of a mutex, or the End, is no Region
+plain_mark : (k : Kind) → IsMark k → is_region_kind k ≡ false
+plain_mark kind.Lock is = refl
+plain_mark kind.Unlock is = refl
+plain_mark kind.End is = refl
+plain_mark _ is = absurd is
+
+pub grows-plain : KeepsPlainSteps Grows
 grows-plain = record {
   same = λ s. grows-nothing s s refl refl refl;
   chain = grows-chain;
   assigns = λ slot v s. grows-nothing s _ refl refl refl;
-  puts = λ r room s is plain. grows-record r room s _ is plain refl refl refl;
+  writes = λ r room s is write. grows-record r room s _ is (ap is_region_kind write) refl refl refl;
   reads = λ e site line room v reads s is prefix. grows-record _ room s _ is refl refl refl refl;
   draws = λ line n room q chunks s is prefix. grows-record _ room s _ is refl refl refl refl;
 }
 
-grows-steps : KeepsSteps Grows
+grows-barriers : KeepsBarriers Grows
+grows-barriers = record { bars = λ line room s is. grows-record (event kind.Barrier line 0 0) room s _ is refl refl refl refl }
+
+pub grows-steps : KeepsSteps Grows
 grows-steps = record {
   plain = grows-plain;
+  marks = λ r room s is mark. grows-record r room s _ is (plain_mark r.kind mark) refl refl refl;
   forks = λ team room s is. record {
     added = event kind.Region team.line 0 team.span ∷ [];
     records_are = refl;
@@ -83,8 +95,8 @@ pub value-grows : (at : Site) (e : Term) (s : State) → Grows s (state_of (valu
 value-grows = kept-value Grows grows-plain
 
 pub run-grows : (at : Site) (code : Code) (s : State) → Grows s (state_of (run at code s))
-run-grows = kept-run Grows grows-steps
+run-grows at code s = kept-run Grows grows-steps at code s (λ is. grows-barriers)
 
 pub task-grows : (program : Program) (start : Start) (reads : List ℤ) (chunks : List ℕ) →
     Grows (state_at start reads chunks) (state_of (task program start reads chunks))
-task-grows = kept-task Grows grows-steps
+task-grows = kept-task Grows grows-steps grows-barriers

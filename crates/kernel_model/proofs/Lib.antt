@@ -12,3 +12,13 @@ pub mod SingleSteps
 pub mod Steps
 pub mod Tracing
 pub mod WorkedRows
+pub mod RunningParts
+pub mod BodyParts
+pub mod StmtKinds
+pub mod Dividing
+pub mod BarrierCounts
+pub mod SameBarriers
+pub mod LawfulRecords
+pub mod LawfulLogs
+pub mod LawfulFolder
+pub mod LawfulVectors

@@ -2,31 +2,42 @@
 use Rattle.std.specs.Prelude.{◌≡◌, ℕ, suc, min, List, [], ◌∷◌, ◌++◌, ℤ}
 use Rattle.log_format.specs.declared.record.Record.{Record}
 use Rattle.log_format.specs.declared.record.Kind.TheVariants as kind
-use Rattle.race_model.specs.Trace.{is_region_kind}
+use Rattle.log_format.specs.declared.record.Kind.{Kind}
 use Rattle.kernel_syntax.specs.Arithmetic.{fitted}
 use Rattle.kernel_syntax.specs.Tree.{TeamTree}
 use Rattle.kernel_model.specs.State.{State, event, assign}
 use Rattle.kernel_model.specs.Value.{Element, access}
 use Rattle.kernel_model.specs.Trace.{forked}
-use Rattle.std.specs.Prelude.{false}
 
 -- the state with one record more
 abbrev pub with_record : Record → ℕ → State → State
 with_record r room s = record s { records = s.records ++ r ∷ []; room = room }
 
--- Each single step of a task but a fork is in the relation, and so are several in a row.
+-- Each single step of a task within one statement is in the relation, and so are several in a row.
 pub record KeepsPlainSteps (R : State → State → Type 0) : Type 0 where
   pub same : (s : State) → R s s
   pub chain : (a b c : State) → R a b → R b c → R a c
   pub assigns : (slot : ℕ) (v : ℤ) (s : State) → R s (assign slot v s)
-  pub puts : (r : Record) (room : ℕ) (s : State) → s.room ≡ suc room → is_region_kind r.kind ≡ false → R s (with_record r room s)
+  pub writes : (r : Record) (room : ℕ) (s : State) → s.room ≡ suc room → r.kind ≡ kind.Write → R s (with_record r room s)
   pub reads : (e : Element) (site line room : ℕ) (v : ℤ) (reads : List ℤ) (s : State) → s.room ≡ suc room → s.reads ≡ v ∷ reads →
       R s (record (with_record (access kind.Read e site line (fitted v e.width)) room s) { reads = reads })
   pub draws : (line n room q : ℕ) (chunks : List ℕ) (s : State) → s.room ≡ suc room → s.chunks ≡ q ∷ chunks →
       R s (record (with_record (event kind.Chunk line (min q n) n) room s) { chunks = chunks })
 
--- the same with forks
+-- the kinds of records of mutexes, and of the End
+abbrev pub IsMark : Kind → Type 0
+IsMark kind.Lock = Unit {0}
+IsMark kind.Unlock = Unit {0}
+IsMark kind.End = Unit {0}
+IsMark _ = ⊥
+
+-- a barrier is in the relation
+pub record KeepsBarriers (R : State → State → Type 0) : Type 0 where
+  pub bars : (line room : ℕ) (s : State) → s.room ≡ suc room → R s (with_record (event kind.Barrier line 0 0) room s)
+
+-- the same with the records of mutexes, the End and forks
 pub record KeepsSteps (R : State → State → Type 0) : Type 0 where
   pub plain : KeepsPlainSteps R
+  pub marks : (r : Record) (room : ℕ) (s : State) → s.room ≡ suc room → IsMark r.kind → R s (with_record r room s)
   pub forks : (team : TeamTree) (room : ℕ) (s : State) → s.room ≡ suc room →
       R s (forked team (with_record (event kind.Region team.line 0 team.span) room s))

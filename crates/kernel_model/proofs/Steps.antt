@@ -1,5 +1,6 @@
 -- A relation that each step of a task keeps, a whole run keeps.
-use Rattle.std.proofs.Common.{◌≡◌, refl, ℕ, zero, suc, Bool, true, false, List, [], ◌∷◌, ℤ, pos, negsuc, ◌+ℤ◌, Option, Some, None, nat_lt, cond}
+use Rattle.std.proofs.Common.{◌≡◌, refl, ℕ, zero, suc, Bool, true, false, List, [], ◌∷◌, ℤ, pos, negsuc, ◌+ℤ◌, Option, Some, None, nat_lt, cond, sym, true≢false}
+use Rattle.std.specs.Prelude.{◌||◌}
 use Rattle.kernel_syntax.specs.declared.syntax.Schedule.{Schedule}
 use Rattle.kernel_syntax.specs.declared.syntax.Schedule.TheVariants.{Even, Static, Dynamic}
 use Rattle.kernel_syntax.specs.Arithmetic.{applied, fitted}
@@ -7,21 +8,21 @@ use Rattle.kernel_syntax.specs.Tree.{Term, Code, TeamTree, Number, Slot, Tid, Sp
 use Rattle.kernel_syntax.specs.Program.{Program}
 use Rattle.log_format.specs.declared.record.Record.{Record}
 use Rattle.log_format.specs.declared.record.Kind.TheVariants as kind
-use Rattle.race_model.specs.Trace.{is_region_kind}
 use Rattle.kernel_model.specs.State.{State, Outcome, Gives, Stops, Wants, and_then, after, put, put_in, event, assign, state_of}
 use Rattle.kernel_model.specs.Value.{Site, Element, element_at, access, read, read_in, loaded, operated, value}
 use Rattle.kernel_model.specs.Iterations.{total_of, even_iterations, static_iterations, chunk_count, chunk_iterations}
 use Rattle.kernel_model.specs.Trace.{stored, branch, turns, each, drawn, draw, draw_in, draws, shared, loop_end, forked, run, task, Start, site_of, state_at}
-use Rattle.kernel_model.proofs.SingleSteps.{KeepsPlainSteps, KeepsSteps}
+use Rattle.kernel_model.proofs.SingleSteps.{with_record, KeepsPlainSteps, KeepsBarriers, KeepsSteps}
 use Rattle.kernel_syntax.specs.FirstKind.{AreStores, IsOneLoop}
+use Rattle.kernel_model.specs.Lawful.{code_holds_work}
 
 -- what a part of a task does, as a function of its state
-abbrev Part : Type 0
+abbrev pub Part : Type 0
 Part = State → Outcome (Unit {0})
 
 -- the parts that fork no region
 module _ (R : State → State → Type 0) (keeps : KeepsPlainSteps R) where
-  abbrev Kept : {A : Type 0} → State → Outcome A → Type 0
+  abbrev pub Kept : {A : Type 0} → State → Outcome A → Type 0
   Kept s m = R s (state_of m)
 
   pub kept-and_then : {A B : Type 0} (s : State) (m : Outcome A) (next : A → State → Outcome B) → Kept s m →
@@ -35,13 +36,17 @@ module _ (R : State → State → Type 0) (keeps : KeepsPlainSteps R) where
   kept-after s (Stops why line t) next first later = first
   kept-after s (Wants t) next first later = first
 
-  kept-put_in : (room : ℕ) (r : Record) (s : State) → s.room ≡ room → is_region_kind r.kind ≡ false → Kept s (put_in room r s)
-  kept-put_in zero r s is plain = keeps.same s
-  kept-put_in (suc room) r s is plain = keeps.puts r room s is plain
+  kept-put_in : (room : ℕ) (r : Record) (s : State) → s.room ≡ room → ((more : ℕ) → s.room ≡ suc more → R s (with_record r more s)) →
+      Kept s (put_in room r s)
+  kept-put_in zero r s is step = keeps.same s
+  kept-put_in (suc room) r s is step = step room is
 
-  pub kept-put : (r : Record) (s : State) → is_region_kind r.kind ≡ false → Kept s (put r s)
+  pub kept-put : (r : Record) (s : State) → ((room : ℕ) → s.room ≡ suc room → R s (with_record r room s)) → Kept s (put r s)
   unfolding put
-  kept-put r s plain = kept-put_in s.room r s refl plain
+  kept-put r s step = kept-put_in s.room r s refl step
+
+  pub kept-bar : KeepsBarriers R → (line : ℕ) (s : State) → Kept s (put (event kind.Barrier line 0 0) s)
+  kept-bar also line s = kept-put (event kind.Barrier line 0 0) s (λ room is. also.bars line room s is)
 
   kept-read_in : (room : ℕ) (reads : List ℤ) (e : Element) (site line : ℕ) (s : State) → s.room ≡ room → s.reads ≡ reads →
       Kept s (read_in room reads e site line s)
@@ -49,15 +54,15 @@ module _ (R : State → State → Type 0) (keeps : KeepsPlainSteps R) where
   kept-read_in (suc room) [] e site line s is prefix = keeps.same s
   kept-read_in (suc room) (v ∷ reads) e site line s is prefix = keeps.reads e site line room v reads s is prefix
 
-  kept-read : (e : Element) (site line : ℕ) (s : State) → Kept s (read e site line s)
+  pub kept-read : (e : Element) (site line : ℕ) (s : State) → Kept s (read e site line s)
   unfolding read
   kept-read e site line s = kept-read_in s.room s.reads e site line s refl refl
 
-  kept-loaded : (e : Option Element) (line site : ℕ) (s : State) → Kept s (loaded e line site s)
+  pub kept-loaded : (e : Option Element) (line site : ℕ) (s : State) → Kept s (loaded e line site s)
   kept-loaded None line site s = keeps.same s
   kept-loaded (Some e) line site s = kept-read e site line s
 
-  kept-operated : (v : Option ℤ) (line : ℕ) (s : State) → Kept s (operated v line s)
+  pub kept-operated : (v : Option ℤ) (line : ℕ) (s : State) → Kept s (operated v line s)
   kept-operated None line s = keeps.same s
   kept-operated (Some v) line s = keeps.same s
 
@@ -76,7 +81,7 @@ module _ (R : State → State → Type 0) (keeps : KeepsPlainSteps R) where
 
   pub kept-stored : (e : Option Element) (v : ℤ) (line site : ℕ) (s : State) → Kept s (stored e v line site s)
   kept-stored None v line site s = keeps.same s
-  kept-stored (Some e) v line site s = kept-put (access kind.Write e site line (fitted v e.width)) s refl
+  kept-stored (Some e) v line site s = kept-put (access kind.Write e site line (fitted v e.width)) s (λ room is. keeps.writes _ room s is refl)
 
   pub kept-branch : (v : ℤ) (if_true if_false : Part) (s : State) → Kept s (if_true s) → Kept s (if_false s) → Kept s (branch v if_true if_false s)
   kept-branch (pos zero) if_true if_false s one other = other
@@ -87,7 +92,7 @@ module _ (R : State → State → Type 0) (keeps : KeepsPlainSteps R) where
   kept-turns zero i turn s each = keeps.same s
   kept-turns (suc n) i turn s each = kept-after s (turn i s) _ (each i s) (λ t. kept-turns n (suc i) turn t each)
 
-  kept-each : (is : List ℕ) (turn : ℕ → Part) (s : State) → ((k : ℕ) (t : State) → Kept t (turn k t)) → Kept s (each is turn s)
+  pub kept-each : (is : List ℕ) (turn : ℕ → Part) (s : State) → ((k : ℕ) (t : State) → Kept t (turn k t)) → Kept s (each is turn s)
   kept-each [] turn s each = keeps.same s
   kept-each (i ∷ is) turn s each = kept-after s (turn i s) _ (each i s) (λ t. kept-each is turn t each)
 
@@ -96,7 +101,7 @@ module _ (R : State → State → Type 0) (keeps : KeepsPlainSteps R) where
   kept-draw_in (suc room) [] line n s is prefix = keeps.same s
   kept-draw_in (suc room) (q ∷ chunks) line n s is prefix = keeps.draws line n room q chunks s is prefix
 
-  kept-draw : (line n : ℕ) (s : State) → Kept s (draw line n s)
+  pub kept-draw : (line n : ℕ) (s : State) → Kept s (draw line n s)
   unfolding draw
   kept-draw line n s = kept-draw_in s.room s.chunks line n s refl refl
 
@@ -104,11 +109,11 @@ module _ (R : State → State → Type 0) (keeps : KeepsPlainSteps R) where
   kept-either true m s one = one
   kept-either false m s one = keeps.same s
 
-  kept-drawn : (q n : ℕ) (chunk : ℕ → Part) (more : Part) (s : State) → ((k : ℕ) (t : State) → Kept t (chunk k t)) →
+  pub kept-drawn : (q n : ℕ) (chunk : ℕ → Part) (more : Part) (s : State) → ((k : ℕ) (t : State) → Kept t (chunk k t)) →
       ((t : State) → Kept t (more t)) → Kept s (drawn q n chunk more s)
   kept-drawn q n chunk more s each later = kept-either (nat_lt q n) _ s (kept-after s (chunk q s) more (each q s) later)
 
-  kept-draws : (fuel line n : ℕ) (chunk : ℕ → Part) (s : State) → ((k : ℕ) (t : State) → Kept t (chunk k t)) → Kept s (draws fuel line n chunk s)
+  pub kept-draws : (fuel line n : ℕ) (chunk : ℕ → Part) (s : State) → ((k : ℕ) (t : State) → Kept t (chunk k t)) → Kept s (draws fuel line n chunk s)
   kept-draws zero line n chunk s each = keeps.same s
   kept-draws (suc fuel) line n chunk s each =
       kept-and_then s (draw line n s) _ (kept-draw line n s) (λ q t.
@@ -121,9 +126,9 @@ module _ (R : State → State → Type 0) (keeps : KeepsPlainSteps R) where
   kept-shared (Dynamic chunk) at line total turn s each =
       kept-draws s.room line (chunk_count chunk total) _ s (λ q t. kept-each (chunk_iterations chunk total q) turn t each)
 
-  pub kept-loop_end : (nowait : Bool) (end : ℕ) (s : State) → Kept s (loop_end nowait end s)
-  kept-loop_end true end s = keeps.same s
-  kept-loop_end false end s = kept-put (event kind.Barrier end 0 0) s refl
+  pub kept-loop_end : KeepsBarriers R → (nowait : Bool) (end : ℕ) (s : State) → Kept s (loop_end nowait end s)
+  kept-loop_end also true end s = keeps.same s
+  kept-loop_end also false end s = kept-bar also end s
 
   -- stores alone
   pub kept-stores : (at : Site) (code : Code) (s : State) → AreStores code → Kept s (run at code s)
@@ -138,16 +143,16 @@ module _ (R : State → State → Type 0) (keeps : KeepsPlainSteps R) where
   kept-stores at _ s stores = absurd stores
 
   -- one worksharing loop of stores
-  pub kept-one_loop : (at : Site) (code : Code) (s : State) → IsOneLoop code → Kept s (run at code s)
+  pub kept-one_loop : KeepsBarriers R → (at : Site) (code : Code) (s : State) → IsOneLoop code → Kept s (run at code s)
   unfolding run
-  kept-one_loop at (For slot from to schedule nowait line end body Done) s one =
+  kept-one_loop also at (For slot from to schedule nowait line end body Done) s one =
       kept-and_then s (value at from s) _ (kept-value at from s) (λ a t.
       kept-and_then t (value at to t) _ (kept-value at to t) (λ b u.
       kept-after u (shared schedule at line (total_of a b) (λ i w. run at body (assign slot (a +ℤ pos i) w)) u) _
       (kept-shared schedule at line (total_of a b) (λ i w. run at body (assign slot (a +ℤ pos i) w)) u
       (λ i w. keeps.chain w (assign slot (a +ℤ pos i) w) _ (keeps.assigns slot (a +ℤ pos i) w) (kept-stores at body (assign slot (a +ℤ pos i) w) one.1)))
-      (λ w. kept-after w (loop_end nowait end w) (run at Done) (kept-loop_end nowait end w) (λ x. keeps.same x))))
-  kept-one_loop at _ s one = absurd one
+      (λ w. kept-after w (loop_end nowait end w) (run at Done) (kept-loop_end also nowait end w) (λ x. keeps.same x))))
+  kept-one_loop also at _ s one = absurd one
 
 -- whole tasks
 module _ (R : State → State → Type 0) (all : KeepsSteps R) where
@@ -164,50 +169,83 @@ module _ (R : State → State → Type 0) (all : KeepsSteps R) where
   unfolding put
   kept-fork team s next later = kept-fork_in s.room team s next refl later
 
-  pub kept-run : (at : Site) (code : Code) (s : State) → Kept R keeps s (run at code s)
+  -- barriers matter only where the statements hold work
+  abbrev Bars : Bool → Type 0
+  Bars work = work ≡ true → KeepsBarriers R
+
+  left_bars : (a b : Bool) → Bars (a || b) → Bars a
+  left_bars true b bars is = bars refl
+  left_bars false b bars is = absurd (true≢false (sym is))
+
+  right_bars : (a b : Bool) → Bars (a || b) → Bars b
+  right_bars true b bars is = bars refl
+  right_bars false b bars is = bars is
+
+  pub kept-run : (at : Site) (code : Code) (s : State) → Bars (code_holds_work code) → Kept R keeps s (run at code s)
   unfolding run
-  kept-run at Done s = keeps.same s
-  kept-run at (Set slot e rest) s =
+  kept-run at Done s bars = keeps.same s
+  kept-run at (Set slot e rest) s bars =
       kept-and_then R keeps s (value at e s) _ (kept-value R keeps at e s) (λ v t.
-      keeps.chain t (assign slot v t) _ (keeps.assigns slot v t) (kept-run at rest (assign slot v t)))
-  kept-run at (Store array index e line site rest) s =
+      keeps.chain t (assign slot v t) _ (keeps.assigns slot v t) (kept-run at rest (assign slot v t) bars))
+  kept-run at (Store array index e line site rest) s bars =
       kept-and_then R keeps s (value at index s) _ (kept-value R keeps at index s) (λ i t.
       kept-and_then R keeps t (value at e t) _ (kept-value R keeps at e t) (λ v u.
       kept-after R keeps u (stored (element_at at.arrays array i) v line site u) (run at rest)
       (kept-stored R keeps (element_at at.arrays array i) v line site u)
-      (kept-run at rest)))
-  kept-run at (If test if_true if_false rest) s =
+      (λ w. kept-run at rest w bars)))
+  kept-run at (If test if_true if_false rest) s bars =
+      let others = right_bars (code_holds_work if_true) (code_holds_work if_false || code_holds_work rest) bars in
       kept-and_then R keeps s (value at test s) _ (kept-value R keeps at test s) (λ v t.
       kept-after R keeps t (branch v (run at if_true) (run at if_false) t) (run at rest)
-      (kept-branch R keeps v (run at if_true) (run at if_false) t (kept-run at if_true t) (kept-run at if_false t))
-      (kept-run at rest))
-  kept-run at (Loop slot from to body rest) s =
+      (kept-branch R keeps v (run at if_true) (run at if_false) t
+      (kept-run at if_true t (left_bars (code_holds_work if_true) (code_holds_work if_false || code_holds_work rest) bars))
+      (kept-run at if_false t (left_bars (code_holds_work if_false) (code_holds_work rest) others)))
+      (λ w. kept-run at rest w (right_bars (code_holds_work if_false) (code_holds_work rest) others)))
+  kept-run at (Loop slot from to body rest) s bars =
       kept-and_then R keeps s (value at from s) _ (kept-value R keeps at from s) (λ a t.
       kept-and_then R keeps t (value at to t) _ (kept-value R keeps at to t) (λ b u.
       kept-after R keeps u (turns (total_of a b) 0 (λ i w. run at body (assign slot (a +ℤ pos i) w)) u) (run at rest)
       (kept-turns R keeps (total_of a b) 0 (λ i w. run at body (assign slot (a +ℤ pos i) w)) u
-      (λ i w. keeps.chain w (assign slot (a +ℤ pos i) w) _ (keeps.assigns slot (a +ℤ pos i) w) (kept-run at body (assign slot (a +ℤ pos i) w))))
-      (kept-run at rest)))
-  kept-run at (Parallel span line end body rest) s =
-      kept-fork (record { span = span; line = line; end = end; body = body }) s (run at rest) (kept-run at rest)
-  kept-run at (For slot from to schedule nowait line end body rest) s =
+      (λ i w. keeps.chain w (assign slot (a +ℤ pos i) w) _ (keeps.assigns slot (a +ℤ pos i) w)
+      (kept-run at body (assign slot (a +ℤ pos i) w) (left_bars (code_holds_work body) (code_holds_work rest) bars))))
+      (λ w. kept-run at rest w (right_bars (code_holds_work body) (code_holds_work rest) bars))))
+  kept-run at (Parallel span line end body rest) s bars =
+      kept-fork (record { span = span; line = line; end = end; body = body }) s (run at rest) (λ w. kept-run at rest w bars)
+  kept-run at (For slot from to schedule nowait line end body rest) s bars =
       kept-and_then R keeps s (value at from s) _ (kept-value R keeps at from s) (λ a t.
       kept-and_then R keeps t (value at to t) _ (kept-value R keeps at to t) (λ b u.
       kept-after R keeps u (shared schedule at line (total_of a b) (λ i w. run at body (assign slot (a +ℤ pos i) w)) u) _
       (kept-shared R keeps schedule at line (total_of a b) (λ i w. run at body (assign slot (a +ℤ pos i) w)) u
-      (λ i w. keeps.chain w (assign slot (a +ℤ pos i) w) _ (keeps.assigns slot (a +ℤ pos i) w) (kept-run at body (assign slot (a +ℤ pos i) w))))
-      (λ w. kept-after R keeps w (loop_end nowait end w) (run at rest) (kept-loop_end R keeps nowait end w) (kept-run at rest))))
-  kept-run at (Barrier line rest) s =
-      kept-after R keeps s (put (event kind.Barrier line 0 0) s) (run at rest) (kept-put R keeps (event kind.Barrier line 0 0) s refl) (kept-run at rest)
-  kept-run at (Critical mutex line end body rest) s =
-      kept-after R keeps s (put (event kind.Lock line mutex 0) s) _ (kept-put R keeps (event kind.Lock line mutex 0) s refl) (λ t.
-      kept-after R keeps t (run at body t) _ (kept-run at body t) (λ u.
-      kept-after R keeps u (put (event kind.Unlock end mutex 0) u) (run at rest) (kept-put R keeps (event kind.Unlock end mutex 0) u refl) (kept-run at rest)))
+      (λ i w. keeps.chain w (assign slot (a +ℤ pos i) w) _ (keeps.assigns slot (a +ℤ pos i) w)
+      (kept-run at body (assign slot (a +ℤ pos i) w) (λ is. bars refl))))
+      (λ w. kept-after R keeps w (loop_end nowait end w) (run at rest) (kept-loop_end R keeps (bars refl) nowait end w)
+      (λ x. kept-run at rest x (λ is. bars refl)))))
+  kept-run at (Barrier line rest) s bars =
+      kept-after R keeps s (put (event kind.Barrier line 0 0) s) (run at rest) (kept-bar R keeps (bars refl) line s)
+      (λ w. kept-run at rest w (λ is. bars refl))
+  kept-run at (Critical mutex line end body rest) s bars =
+      kept-after R keeps s (put (event kind.Lock line mutex 0) s) _ (kept-put R keeps (event kind.Lock line mutex 0) s (λ room is. all.marks _ room s is tt)) (λ t.
+      kept-after R keeps t (run at body t) _ (kept-run at body t (left_bars (code_holds_work body) (code_holds_work rest) bars)) (λ u.
+      kept-after R keeps u (put (event kind.Unlock end mutex 0) u) (run at rest) (kept-put R keeps (event kind.Unlock end mutex 0) u (λ room is. all.marks _ room u is tt))
+      (λ w. kept-run at rest w (right_bars (code_holds_work body) (code_holds_work rest) bars))))
 
-  pub kept-task : (program : Program) (start : Start) (reads : List ℤ) (chunks : List ℕ) →
+  -- a worksharing loop without the barrier at its end
+  pub kept-waitless : (at : Site) (slot : ℕ) (from to : Term) (schedule : Schedule) (line end : ℕ) (body : Code) (s : State) → Bars (code_holds_work body) →
+      Kept R keeps s (run at (For slot from to schedule true line end body Done) s)
+  unfolding run
+  kept-waitless at slot from to schedule line end body s bars =
+      kept-and_then R keeps s (value at from s) _ (kept-value R keeps at from s) (λ a t.
+      kept-and_then R keeps t (value at to t) _ (kept-value R keeps at to t) (λ b u.
+      kept-after R keeps u (shared schedule at line (total_of a b) (λ i w. run at body (assign slot (a +ℤ pos i) w)) u) _
+      (kept-shared R keeps schedule at line (total_of a b) (λ i w. run at body (assign slot (a +ℤ pos i) w)) u
+      (λ i w. keeps.chain w (assign slot (a +ℤ pos i) w) _ (keeps.assigns slot (a +ℤ pos i) w)
+      (kept-run at body (assign slot (a +ℤ pos i) w) bars)))
+      (λ w. keeps.same w)))
+
+  pub kept-task : KeepsBarriers R → (program : Program) (start : Start) (reads : List ℤ) (chunks : List ℕ) →
       Kept R keeps (state_at start reads chunks) (task program start reads chunks)
   unfolding task
-  kept-task program start reads chunks =
+  kept-task also program start reads chunks =
       kept-after R keeps (state_at start reads chunks) (run (site_of program start) start.team.body (state_at start reads chunks)) _
-      (kept-run (site_of program start) start.team.body (state_at start reads chunks))
-      (λ t. kept-put R keeps (event kind.End start.team.end 0 0) t refl)
+      (kept-run (site_of program start) start.team.body (state_at start reads chunks) (λ is. also))
+      (λ t. kept-put R keeps (event kind.End start.team.end 0 0) t (λ room is. all.marks _ room t is tt))

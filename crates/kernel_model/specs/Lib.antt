@@ -3,6 +3,10 @@ pub mod FirstTeam
 pub mod Folder
 pub mod Growth
 pub mod Iterations
+pub mod Lawful
+pub mod Parts
+pub mod Phases
+pub mod Pieces
 pub mod State
 pub mod Trace
 pub mod Value

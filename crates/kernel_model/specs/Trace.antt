@@ -5,6 +5,7 @@ use Rattle.kernel_syntax.specs.declared.syntax.Schedule.TheVariants.{Even, Stati
 use Rattle.kernel_syntax.specs.Tree.{Code, Done, Set, Store, If, Loop, Parallel, For, Barrier, Critical, TeamTree}
 use Rattle.kernel_syntax.specs.Arithmetic.{fitted}
 use Rattle.kernel_syntax.specs.Program.{Program}
+use Rattle.log_format.specs.Limit.{record_limit}
 use Rattle.log_format.specs.declared.record.Record.{Record}
 use Rattle.log_format.specs.declared.record.Kind.TheVariants as kind
 use Rattle.kernel_model.specs.State.{State, Fork, Stop, Outcome, Gives, Stops, Wants, Index, LogFull, and_then, after, put, event, assign, state_of}
@@ -99,7 +100,7 @@ pub record Start : Type 0 where
 
 -- a log has at most so many records
 abbrev pub log_limit : ℕ
-log_limit = 4194304
+log_limit = record_limit
 
 abbrev pub site_of : Program → Start → Site
 site_of program start = record { arrays = program.arrays; lane = start.lane; span = start.team.span }

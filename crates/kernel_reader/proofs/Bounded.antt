@@ -13,20 +13,19 @@ use Rattle.kernel_syntax.specs.Layout.{elements, IsWithinLimits}
 use Rattle.kernel_syntax.specs.Program.{Program}
 use Rattle.kernel_syntax.specs.Bounds.{IsLine, IsSpan, IsChunk, IsBoundedSchedule, IsBoundedTerm, IsBoundedCode, IsBounded}
 use Rattle.kernel_syntax.proofs.Laying.{HasWidth, length-laid, elements-laid, widths-laid, laid-laid}
-use Rattle.kernel_reader.specs.declared.fault.KernelWhy.TheVariants as why
-use Rattle.kernel_reader.specs.declared.token.Word.TheVariants as word
-use Rattle.kernel_reader.specs.declared.token.Sign.TheVariants as sign
-use Rattle.kernel_reader.specs.declared.token.Token.{Token}
-use Rattle.kernel_reader.specs.Tokens.{Refusal}
-use Rattle.kernel_reader.specs.Grammar.{Tree, NumberAt, NameAt, TidAt, SpanAt, Element, Group, Minus, Binary, tree_tokens, sign_of, reserved, mark, block, range, ScheduleTree, Unsaid, Static, StaticBy, Dynamic, DynamicBy, schedule_tokens, nowait_tokens, Stmts, NoMore, Let, Assign, Store, If, IfElse, Loop, Parallel, For, Barrier, Critical, CriticalOf, stmts_tokens, Declaration, ArrayOf, MutexOf, declarations_tokens, KernelTree, kernel_tokens}
+use Rattle.kernel_text.specs.declared.fault.KernelWhy.TheVariants as why
+use Rattle.kernel_text.specs.declared.token.Word.TheVariants as word
+use Rattle.kernel_text.specs.declared.token.Sign.TheVariants as sign
+use Rattle.kernel_text.specs.declared.token.Token.{Token}
+use Rattle.kernel_text.specs.Tokens.{Refusal}
+use Rattle.kernel_text.specs.Grammar.{Tree, NumberAt, NameAt, TidAt, SpanAt, Element, Group, Minus, Binary, tree_tokens, sign_of, reserved, mark, block, range, ScheduleTree, Unsaid, Static, StaticBy, Dynamic, DynamicBy, schedule_tokens, nowait_tokens, Stmts, NoMore, Let, Assign, Store, If, IfElse, Loop, Parallel, For, Barrier, Critical, CriticalOf, stmts_tokens, Declaration, ArrayOf, MutexOf, declarations_tokens, KernelTree, kernel_tokens}
 use Rattle.kernel_reader.specs.Scope.{number_of, is_among, is_array, Names, Place, with_local, slots, past, count_literal, is_between}
 use Rattle.kernel_reader.specs.Rules.{fault_if, width_of, array_of, declarations_faults, array_faults, tree_faults, declared_faults, assigned_faults, schedule_faults, critical_faults, stmts_faults, weight, is_misplaced, mutex_of, is_fixed, in_branch, in_region, in_work, in_critical, arrays_of, mutex_names, at_main, kernel_faults}
 use Rattle.kernel_reader.specs.Resolve.{sites, stmts_sites, term, schedule_of, code, program}
 use Rattle.kernel_reader.specs.KernelOf.{IsKernelOf}
-use Rattle.kernel_reader.proofs.KernelReading.{between-le}
-use Rattle.kernel_reader.proofs.Accepting.{nil_left, nil_right, fault_if-none, not-false}
-use Rattle.kernel_reader.proofs.Few.{tokens_of-few}
-use Rattle.kernel_reader.proofs.Lines.{AreLined, lined-split, tokens_of-lined}
+use Rattle.kernel_reader.proofs.Broken.{nil_left, nil_right, fault_if-none, not-false, between-le}
+use Rattle.kernel_text.proofs.Few.{tokens_of-few}
+use Rattle.kernel_text.proofs.Lines.{AreLined, lined-split, tokens_of-lined}
 use Rattle.kernel_reader.proofs.Rooms.{stmts_sites-bound}
 
 -- ---- numbers that are counted

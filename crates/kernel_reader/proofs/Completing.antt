@@ -1,15 +1,17 @@
 -- Each expression by the grammar is read, whatever is around it.
-use Rattle.std.proofs.Common.{◌≡◌, ℕ, ◌+◌, ◌<◌, ◌≤◌, List, [], ◌∷◌, ◌++◌, Option, Some, None, refl, ap, ◌∙◌, append_assoc, arith}
+use Rattle.std.proofs.Common.{◌≡◌, ℕ, ◌+◌, ◌<◌, ◌≤◌, List, [], ◌∷◌, ◌++◌, Option, Some, None, refl, sym, ap, ◌∙◌, append_assoc, arith}
 use Rattle.std.proofs.lemmas.Bool.{le-leb, lt-leb}
 use Rattle.kernel_syntax.specs.declared.syntax.Op.{Op}
-use Rattle.kernel_reader.specs.declared.token.Word.TheVariants as word
-use Rattle.kernel_reader.specs.declared.token.Sign.TheVariants as sign
-use Rattle.kernel_reader.specs.declared.token.Token.{Token}
+use Rattle.kernel_text.specs.declared.token.Word.TheVariants as word
+use Rattle.kernel_text.specs.declared.token.Sign.TheVariants as sign
+use Rattle.kernel_text.specs.declared.token.Token.{Token}
 use Rattle.kernel_reader.specs.declared.expression.Role.{Role}
 use Rattle.kernel_reader.specs.declared.expression.Role.TheVariants.{OpenIndex, CloseGroup, CloseIndex, Operator, Other}
-use Rattle.kernel_reader.specs.Grammar.{Tree, NumberAt, NameAt, TidAt, SpanAt, Element, Group, Minus, Binary, Derives, depth, tree_tokens, rank_of, left_rank, right_rank, sign_of, unary, expr, named, number, reserved, mark}
+use Rattle.kernel_text.specs.Grammar.{Tree, NumberAt, NameAt, TidAt, SpanAt, Element, Group, Minus, Binary, Derives, depth, tree_tokens, rank_of, left_rank, right_rank, sign_of, unary, expr, named, number, reserved, mark}
 use Rattle.kernel_reader.specs.Machine.{Around, AfterMinus, AfterLeft, InGroup, InIndex, wanted, levels, reduced, Goes, Ends, close_group, close_index, take_left, finish, role_step, role_of, step, expression_from}
-use Rattle.kernel_reader.proofs.Operators.{ranks, role_of-sign}
+use Rattle.kernel_reader.specs.Heads.{Closes, IsExpression}
+use Rattle.kernel_text.proofs.Operators.{ranks}
+use Rattle.kernel_reader.proofs.Roles.{role_of-sign}
 use Rattle.kernel_reader.proofs.Stacks.{deeper-room, expression-goes, expression-ends}
 
 -- what is held and what is around, after an expression was read
@@ -116,14 +118,6 @@ tree-is-read p (Binary left o line right) s rest d fits low =
     ∙ expression-goes _ _ (mark line (sign_of o)) (tree_tokens right ++ rest) None (AfterLeft left o line ∷ s) (operator-step o line p left s d.1 le)
     ∙ tree-is-read (right_rank o) right (AfterLeft left o line ∷ s) rest d.2 (omega arith) (omega arith)
 
--- a token that may follow an expression
-abbrev pub Closes : Role → Type 0
-Closes OpenIndex = ⊥
-Closes (Operator o) = ⊥
-Closes CloseGroup = Unit {0}
-Closes CloseIndex = Unit {0}
-Closes Other = Unit {0}
-
 ends-step : (role : Role) (line : ℕ) (t : Tree) → Closes role → Derives expr t → role_step (after_tree t []).0 (after_tree t []).1 line role ≡ Ends t
 ends-step OpenIndex line t closes d = absurd closes
 ends-step (Operator o) line t closes d = absurd closes
@@ -137,3 +131,24 @@ pub expression-complete : (t : Tree) (next : Token) (rest : List Token) → Deri
 expression-complete t next rest d low closes =
     tree-is-read expr t [] (next ∷ rest) d (omega arith) (omega arith)
     ∙ expression-ends (Some (after_tree t []).0) (after_tree t []).1 next rest t (ends-step (role_of next.lexeme) next.line t closes d)
+
+-- tokens that are an expression's and others are read so
+pub expression-is : (ts : List Token) (t : Tree) (after : List Token) → IsExpression ts t after → expression_from None [] ts ≡ Some (t, after)
+expression-is ts t [] is = absurd is.ends
+expression-is ts t (next ∷ rest) is = rw is.parts (expression-complete t next rest is.derives is.flat is.ends)
+
+tree_in : Tree → Option (Tree × List Token) → Tree
+tree_in d None = d
+tree_in d (Some x) = x.0
+
+rest_in : List Token → Option (Tree × List Token) → List Token
+rest_in d None = d
+rest_in d (Some x) = x.1
+
+pub expression-same : (ts : List Token) (t : Tree) (after : List Token) (u : Tree) (rest : List Token) → IsExpression ts t after → expression_from None [] ts ≡ Some (u, rest) → (u ≡ t) × (rest ≡ after)
+unfolding tree_in rest_in
+expression-same ts t after u rest is read =
+    let e : Some (u, rest) ≡ Some (t, after) = sym read ∙ expression-is ts t after is in (ap (tree_in u) e, ap (rest_in rest) e)
+
+pub expression-there : (ts : List Token) (t : Tree) (after : List Token) → IsExpression ts t after → expression_from None [] ts ≡ None → ⊥
+expression-there ts t after is none = let e = expression-is ts t after is in absurd cc

@@ -1,10 +1,10 @@
 -- The definitions computed: tokens of texts, the rule that each of some kernels breaks first, with its line, and kernels that break none.
 use Rattle.std.proofs.Common.{◌≡◌, ℕ, List, [], ◌∷◌, ◌++◌, None, Ok, Err, refl}
 use Rattle.std.specs.Prelude.{pos, codes}
-use Rattle.kernel_reader.specs.declared.fault.KernelWhy.TheVariants as why
-use Rattle.kernel_reader.specs.declared.token.Sign.TheVariants as sign
-use Rattle.kernel_reader.specs.Tokens.{lexeme_at, tokens_from}
-use Rattle.kernel_reader.specs.Grammar.{Tree, NumberAt, NameAt, TidAt, number, mark, ScheduleTree, Unsaid, StaticBy, Stmts, NoMore, Let, Assign, Store, If, Loop, Parallel, For, Barrier, Critical, CriticalOf, Declaration, ArrayOf, MutexOf, KernelTree}
+use Rattle.kernel_text.specs.declared.fault.KernelWhy.TheVariants as why
+use Rattle.kernel_text.specs.declared.token.Sign.TheVariants as sign
+use Rattle.kernel_text.specs.Tokens.{lexeme_at, tokens_from}
+use Rattle.kernel_text.specs.Grammar.{Tree, NumberAt, NameAt, TidAt, number, mark, ScheduleTree, Unsaid, StaticBy, Stmts, NoMore, Let, Assign, Store, If, Loop, Parallel, For, Barrier, Critical, CriticalOf, Declaration, ArrayOf, MutexOf, KernelTree}
 use Rattle.kernel_reader.specs.Rules.{fault_at, kernel_faults}
 use Rattle.kernel_reader.specs.Resolve.{program}
 use Rattle.kernel_syntax.specs.Tree as kernel

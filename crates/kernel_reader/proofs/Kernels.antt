@@ -1,75 +1,70 @@
--- A kernel is read exactly where the text has one of the first kind.
-use Rattle.std.proofs.Common.{◌≡◌, ℕ, List, Option, Some, None, Result, Ok, Err, sym, ap, subst, ◌∙◌}
-use Rattle.std.specs.Prelude.{IfOk}
+-- The kernel of tokens that are one by the grammar is that of the text, or the first rule that it breaks is told.
+use Rattle.std.proofs.Common.{◌≡◌, ℕ, List, [], ◌∷◌, Some, None, Result, Ok, Err, sym, ap, ◌∙◌}
+use Rattle.std.specs.Prelude.{IfOk, IfErr}
 use Rattle.kernel_syntax.specs.declared.syntax.Kernel.{Kernel}
 use Rattle.kernel_syntax.specs.Program.{Program, program_of}
-use Rattle.kernel_reader.specs.declared.fault.BuildFault.{BuildFault}
-use Rattle.kernel_reader.specs.declared.fault.BuildFault.TheVariants.{NotBuilt}
-use Rattle.kernel_reader.specs.Machine.{Gives}
-use Rattle.kernel_reader.specs.declared.token.Token.{Token}
-use Rattle.kernel_reader.specs.Tokens.{Refusal, tokens_of}
-use Rattle.kernel_reader.specs.Grammar.{kernel_tokens}
-use Rattle.kernel_reader.specs.KernelOf.{IsKernelOf}
 use Rattle.kernel_syntax.specs.Bounds.{IsBounded}
-use Rattle.kernel_syntax.specs.FirstKind.{IsFirstKind, IsOneRegion}
-use Rattle.kernel_reader.specs.Reading.{kernel_at}
-use Rattle.kernel_reader.proofs.KernelReading.{kernel_at-some}
-use Rattle.kernel_reader.proofs.Accepting.{accept-kernel}
+use Rattle.kernel_text.specs.declared.token.Token.{Token}
+use Rattle.kernel_text.specs.declared.judging.Verdict.TheVariants as verdict
+use Rattle.kernel_text.specs.Tokens.{Refusal, tokens_of}
+use Rattle.kernel_text.specs.Grammar.{KernelTree, kernel_tokens, IsKernel, IsShallow}
+use Rattle.kernel_text.specs.Judging.{IsVerdict}
+use Rattle.kernel_syntax.specs.declared.syntax.Array.{Array}
+use Rattle.kernel_syntax.specs.Layout.{laid}
+use Rattle.kernel_syntax.specs.Tree.{Code}
+use Rattle.kernel_reader.specs.Scope.{slots}
+use Rattle.kernel_reader.specs.Rules.{arrays_of, mutex_names, at_main, kernel_faults}
+use Rattle.kernel_reader.specs.Resolve.{code, program}
+use Rattle.kernel_reader.specs.Settled.{first, Settles}
+use Rattle.kernel_reader.specs.KernelOf.{IsKernelOf, AtRule, IsFaultOf, HasNoKernel}
+use Rattle.kernel_reader.specs.declared.fault.ReadKernelFault.{ReadKernelFault}
+use Rattle.kernel_reader.specs.declared.fault.ReadKernelFault.TheVariants as read
+use Rattle.kernel_reader.proofs.Refusing.{tree-tokens}
 use Rattle.kernel_reader.proofs.Bounded.{kernels_are_bounded}
 
--- what is read is the kernel of the text, and of the first kind
-pub is_kernel : (text : List ℕ) (ts : List Token) (p : Program) → tokens_of text ≡ Ok ts → kernel_at ts ≡ Some p → IsKernelOf text p
-is_kernel text ts p e read =
-    let r = kernel_at-some ts p read in
-    record { tree = r.tree; tokens = e ∙ ap (λ (ts : List Token). Ok ts) r.tokens; derives = r.derives; shallow = r.shallow; lawful = r.lawful; resolved = r.resolved }
-
-pub is_first_kind : (ts : List Token) (p : Program) → kernel_at ts ≡ Some p → IsFirstKind p
-is_first_kind ts p read = let r = kernel_at-some ts p read in record { no_mutex = r.plain; one_region = r.kind }
+-- for every tree with these tokens
+abbrev pub IsRead : List Token → Result Kernel ReadKernelFault → Type 0
+IsRead ts r = (k : KernelTree) → ts ≡ kernel_tokens k → IsKernel k → IsShallow k → Settles r (kernel_faults k) (λ x. program_of x ≡ program k)
 
 abbrev told : List Token → Result (List Token) Refusal
 told ts = Ok ts
 
-told-is : (xs ys : List Token) → told xs ≡ told ys → xs ≡ ys
-told-is xs ys e = cc
+first-is : (faults : List Refusal) (r : Refusal) → first faults ≡ Some r → (later : List Refusal) × (faults ≡ r ∷ later)
+first-is [] r e = absurd cc
+first-is (x ∷ later) r e = let same : x ≡ r = cc in (later, ap (λ (y : Refusal). y ∷ later) same)
 
-abbrev some : Program → Option Program
-some p = Some p
+is-kernel : (text : List ℕ) (ts : List Token) (k : Kernel) → tokens_of text ≡ Ok ts → IsVerdict ts verdict.Kernel → IsRead ts (Ok k) → IsKernelOf text (program_of k)
+is-kernel text ts k e v reads =
+    let s = reads v.0 (sym v.3) v.1 v.2 in record { tree = v.0; tokens = e ∙ ap told (sym v.3); derives = v.1; shallow = v.2; lawful = s.0; resolved = s.1 }
 
-some-is : (p q : Program) → some p ≡ some q → p ≡ q
-some-is p q e = cc
+pub gives-kernel : (text : List ℕ) (ts : List Token) (r : Result Kernel ReadKernelFault) → tokens_of text ≡ Ok ts → IsVerdict ts verdict.Kernel → IsRead ts r → IfOk r (λ k. IsKernelOf text (program_of k))
+gives-kernel text ts (Ok k) e v reads = is-kernel text ts k e v reads
+gives-kernel text ts (Err f) e v reads = tt
 
--- a kernel of the first kind is read
-pub is_read : (text : List ℕ) (ts : List Token) → tokens_of text ≡ Ok ts → (p : Program) → IsKernelOf text p → IsFirstKind p → kernel_at ts ≡ Some p
-is_read text ts e p k f =
-    let same : kernel_tokens k.tree ≡ ts = told-is (kernel_tokens k.tree) ts (sym k.tokens ∙ e) in
-    let plain = ap (λ (p : Program). p.mutexes) (sym k.resolved) ∙ f.no_mutex in
-    let kind = subst (λ (p : Program). IsOneRegion p.main.body) k.resolved f.one_region in
-    ap kernel_at (sym same) ∙ accept-kernel k.tree k.derives k.shallow k.lawful plain kind ∙ ap some (sym k.resolved)
+pub gives-bounded : (text : List ℕ) (ts : List Token) (r : Result Kernel ReadKernelFault) → tokens_of text ≡ Ok ts → IsVerdict ts verdict.Kernel → IsRead ts r → IfOk r (λ k. IsBounded (program_of k))
+gives-bounded text ts (Ok k) e v reads = kernels_are_bounded text (program_of k) (is-kernel text ts k e v reads)
+gives-bounded text ts (Err f) e v reads = tt
 
--- where nothing is read, the text has no kernel of the first kind
-pub no_kernel : (text : List ℕ) (ts : List Token) → tokens_of text ≡ Ok ts → kernel_at ts ≡ None → (p : Program) → IsKernelOf text p → IsFirstKind p → ⊥
-no_kernel text ts e none p k f =
-    let both : Some p ≡ None = sym (is_read text ts e p k f) ∙ none in
-    absurd cc
+pub gives-only : (text : List ℕ) (ts : List Token) (r : Result Kernel ReadKernelFault) → tokens_of text ≡ Ok ts → IsRead ts r → (p : Program) → IsKernelOf text p → IfOk r (λ k. program_of k ≡ p)
+gives-only text ts (Ok k) e reads p is = (reads is.tree (sym (tree-tokens text ts p is e)) is.derives is.shallow).1 ∙ sym is.resolved
+gives-only text ts (Err f) e reads p is = tt
 
--- what the code gives
-pub gives_kernel : (text : List ℕ) (ts : List Token) (r : Result Kernel BuildFault) → tokens_of text ≡ Ok ts → Gives program_of r (kernel_at ts) → IfOk r (λ k. IsKernelOf text (program_of k))
-gives_kernel text ts (Ok k) e given = is_kernel text ts (program_of k) e given
-gives_kernel text ts (Err f) e given = tt
+pub gives-fault : (text : List ℕ) (ts : List Token) (r : Result Kernel ReadKernelFault) → tokens_of text ≡ Ok ts → IsVerdict ts verdict.Kernel → IsRead ts r → IfErr r (λ f. IsFaultOf text f)
+gives-fault text ts (Ok k) e v reads = tt
+gives-fault text ts (Err (read.Refused line why)) e v reads =
+    let s = first-is (kernel_faults v.0) (record { line = line; why = why }) (reads v.0 (sym v.3) v.1 v.2) in
+    AtRule v.0 s.0 (e ∙ ap told (sym v.3)) v.1 v.2 s.1
+gives-fault text ts (Err read.Memory) e v reads = tt
 
-pub gives_bounded : (text : List ℕ) (ts : List Token) (r : Result Kernel BuildFault) → tokens_of text ≡ Ok ts → Gives program_of r (kernel_at ts) → IfOk r (λ k. IsBounded (program_of k))
-gives_bounded text ts (Ok k) e given = kernels_are_bounded text (program_of k) (is_kernel text ts (program_of k) e given)
-gives_bounded text ts (Err f) e given = tt
+pub gives-none : (text : List ℕ) (ts : List Token) (r : Result Kernel ReadKernelFault) → tokens_of text ≡ Ok ts → IsRead ts r → IfErr r (λ f. HasNoKernel text f)
+gives-none text ts (Ok k) e reads = tt
+gives-none text ts (Err (read.Refused line why)) e reads = λ p is.
+    let s : first (kernel_faults is.tree) ≡ Some (record { line = line; why = why }) = reads is.tree (sym (tree-tokens text ts p is e)) is.derives is.shallow in
+    let none : first (kernel_faults is.tree) ≡ None = ap first is.lawful in absurd cc
+gives-none text ts (Err read.Memory) e reads = tt
 
-pub gives_first_kind : (ts : List Token) (r : Result Kernel BuildFault) → Gives program_of r (kernel_at ts) → IfOk r (λ k. IsFirstKind (program_of k))
-gives_first_kind ts (Ok k) given = is_first_kind ts (program_of k) given
-gives_first_kind ts (Err f) given = tt
-
-pub gives_none : (text : List ℕ) (ts : List Token) (r : Result Kernel BuildFault) → tokens_of text ≡ Ok ts → Gives program_of r (kernel_at ts) → r ≡ Err NotBuilt
-    → (p : Program) → IsKernelOf text p → IsFirstKind p → ⊥
-gives_none text ts r e given none = no_kernel text ts e (subst (λ (r : Result Kernel BuildFault). Gives program_of r (kernel_at ts)) none given)
-
-pub gives_only : (text : List ℕ) (ts : List Token) (r : Result Kernel BuildFault) → tokens_of text ≡ Ok ts → Gives program_of r (kernel_at ts)
-    → (p : Program) → IsKernelOf text p → IsFirstKind p → IfOk r (λ k. program_of k ≡ p)
-gives_only text ts (Ok k) e given p is f = some-is (program_of k) p (sym given ∙ is_read text ts e p is f)
-gives_only text ts (Err fault) e given p is f = tt
+-- the kernel of a tree, by its parts
+pub program-is : (k : KernelTree) (arrays : List Array) (mutexes : List (List ℕ)) (line end count : ℕ) (body : Code) → arrays ≡ arrays_of k.declarations → mutexes ≡ mutex_names k.declarations → line ≡ k.line → end ≡ k.closed
+    → body ≡ code (at_main k.declarations) 0 k.body → count ≡ slots k.body
+    → program k ≡ record { arrays = laid arrays; mutexes = mutexes; main = record { span = 1; line = line; end = end; body = body }; slots = count }
+program-is k arrays mutexes line end count body a m l e b s = cc

@@ -7,15 +7,15 @@ use Rattle.std.specs.Str.Lossy.{utf8_valid_len}
 use Rattle.std.proofs.lemmas.Bool.Decides.{nat_tests}
 use Rattle.std.proofs.lemmas.List.Elements.{All-nil, All-cons}
 use lib.Utf8.{encode}
-use Rattle.kernel_reader.specs.declared.fault.KernelWhy.TheVariants as why
-use Rattle.kernel_reader.specs.declared.token.Word.TheVariants as word
-use Rattle.kernel_reader.specs.declared.token.Sign.TheVariants as sign
-use Rattle.kernel_reader.specs.declared.token.Lexeme.{Lexeme}
-use Rattle.kernel_reader.specs.declared.token.Lexeme.TheVariants.{Reserved, Number}
-use Rattle.kernel_reader.specs.declared.token.Token.{Token}
-use Rattle.kernel_reader.specs.Tokens.{lexeme_at, tokens_from, tokens_of}
-use Rattle.kernel_reader.specs.Grammar.{Tree, NumberAt, NameAt, TidAt, SpanAt, Element, Group, Minus, Binary, named, number, reserved, mark, sign_of, tree_tokens, Stmts, NoMore, Let, Assign, Store, If, IfElse, Loop, Parallel, For, Barrier, Critical, CriticalOf, stmts_tokens, Declaration, ArrayOf, MutexOf, declarations_tokens, KernelTree, kernel_tokens, IsKernel, IsShallow}
-use Rattle.kernel_reader.specs.Faults.{tree_levels, stmts_levels, flat, block_levels, kernel_levels, BeginsShallow}
+use Rattle.kernel_text.specs.declared.fault.KernelWhy.TheVariants as why
+use Rattle.kernel_text.specs.declared.token.Word.TheVariants as word
+use Rattle.kernel_text.specs.declared.token.Sign.TheVariants as sign
+use Rattle.kernel_text.specs.declared.token.Lexeme.{Lexeme}
+use Rattle.kernel_text.specs.declared.token.Lexeme.TheVariants.{Reserved, Number}
+use Rattle.kernel_text.specs.declared.token.Token.{Token}
+use Rattle.kernel_text.specs.Tokens.{lexeme_at, tokens_from, tokens_of}
+use Rattle.kernel_text.specs.Grammar.{Tree, NumberAt, NameAt, TidAt, SpanAt, Element, Group, Minus, Binary, named, number, reserved, mark, sign_of, tree_tokens, Stmts, NoMore, Let, Assign, Store, If, IfElse, Loop, Parallel, For, Barrier, Critical, CriticalOf, stmts_tokens, Declaration, ArrayOf, MutexOf, declarations_tokens, KernelTree, kernel_tokens, IsKernel, IsShallow}
+use Rattle.kernel_text.specs.Faults.{tree_levels, stmts_levels, flat, block_levels, kernel_levels, BeginsShallow}
 use Rattle.kernel_reader.specs.KernelOf.{IsRefused, AtTokens, AtSyntax, AtDepth, AtEnd}
 use Rattle.kernel_reader.proofs.Texts.{ascii_tokens, ascii_fault, lines}
 

@@ -3,15 +3,15 @@ use Rattle.std.proofs.Common.{◌≡◌, ℕ, ◌≤◌, zero, suc, List, [], �
 use Rattle.std.specs.List.{AllByRecursion}
 use Rattle.std.proofs.lemmas.List.Elements.{All-from_recursion, recursion_from_All}
 use Rattle.kernel_syntax.specs.Program.{Program}
-use Rattle.kernel_reader.specs.declared.token.Token.{Token}
-use Rattle.kernel_reader.specs.declared.fault.KernelWhy.TheVariants as why
-use Rattle.kernel_reader.specs.declared.judging.Verdict.TheVariants as verdict
-use Rattle.kernel_reader.specs.Tokens.{Refusal, tokens_of, line_at}
-use Rattle.kernel_reader.specs.Grammar.{kernel_tokens}
-use Rattle.kernel_reader.specs.Faults.{kernel_levels, IsSyntaxFault, IsTooDeep, EndsEarly}
-use Rattle.kernel_reader.specs.Judging.{IsVerdict}
+use Rattle.kernel_text.specs.declared.token.Token.{Token}
+use Rattle.kernel_text.specs.declared.fault.KernelWhy.TheVariants as why
+use Rattle.kernel_text.specs.declared.judging.Verdict.TheVariants as verdict
+use Rattle.kernel_text.specs.Tokens.{Refusal, tokens_of, line_at}
+use Rattle.kernel_text.specs.Grammar.{kernel_tokens}
+use Rattle.kernel_text.specs.Faults.{kernel_levels, IsSyntaxFault, IsTooDeep, EndsEarly}
+use Rattle.kernel_text.specs.Judging.{IsVerdict}
 use Rattle.kernel_reader.specs.KernelOf.{IsKernelOf, IsRefused, AtSyntax, AtDepth, AtEnd}
-use Rattle.kernel_reader.proofs.Levels.{shallow_is_low}
+use Rattle.kernel_text.proofs.Levels.{shallow_is_low}
 
 abbrev told : List Token → Result (List Token) Refusal
 told ts = Ok ts
@@ -19,13 +19,13 @@ told ts = Ok ts
 told-is : (xs ys : List Token) → told xs ≡ told ys → xs ≡ ys
 told-is xs ys e = cc
 
-tree-tokens : (text : List ℕ) (ts : List Token) (p : Program) (k : IsKernelOf text p) → tokens_of text ≡ Ok ts → kernel_tokens k.tree ≡ ts
+pub tree-tokens : (text : List ℕ) (ts : List Token) (p : Program) (k : IsKernelOf text p) → tokens_of text ≡ Ok ts → kernel_tokens k.tree ≡ ts
 tree-tokens text ts p k e = told-is (kernel_tokens k.tree) ts (sym k.tokens ∙ e)
 
-abbrev AreLow : List ℕ → Type 0
+abbrev pub AreLow : List ℕ → Type 0
 AreLow ns = AllByRecursion (λ n. n ≤ 32) ns
 
-take-low : (n : ℕ) (ls : List ℕ) → AreLow ls → AreLow (take n ls)
+pub take-low : (n : ℕ) (ls : List ℕ) → AreLow ls → AreLow (take n ls)
 take-low zero ls low = tt
 take-low (suc n) [] low = tt
 take-low (suc n) (l ∷ ls) low = (low.0, take-low n ls low.1)

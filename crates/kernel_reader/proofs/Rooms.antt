@@ -1,9 +1,9 @@
 -- How many sites there are: in an expression at most one in three of its tokens, in statements at most one a token.
 use Rattle.std.proofs.Common.{◌≡◌, ℕ, ◌+◌, ◌*◌, ◌<◌, ◌≤◌, List, [], ◌∷◌, ◌++◌, length, Some, None, ap, arith, length-append}
-use Rattle.kernel_reader.specs.declared.token.Word.TheVariants as word
-use Rattle.kernel_reader.specs.declared.token.Sign.TheVariants as sign
-use Rattle.kernel_reader.specs.declared.token.Token.{Token}
-use Rattle.kernel_reader.specs.Grammar.{Tree, NumberAt, NameAt, TidAt, SpanAt, Element, Group, Minus, Binary, tree_tokens, reserved, mark, sign_of, block, range, schedule_tokens, nowait_tokens, Stmts, NoMore, Let, Assign, Store, If, IfElse, Loop, Parallel, For, Barrier, Critical, CriticalOf, stmts_tokens}
+use Rattle.kernel_text.specs.declared.token.Word.TheVariants as word
+use Rattle.kernel_text.specs.declared.token.Sign.TheVariants as sign
+use Rattle.kernel_text.specs.declared.token.Token.{Token}
+use Rattle.kernel_text.specs.Grammar.{Tree, NumberAt, NameAt, TidAt, SpanAt, Element, Group, Minus, Binary, tree_tokens, reserved, mark, sign_of, block, range, schedule_tokens, nowait_tokens, Stmts, NoMore, Let, Assign, Store, If, IfElse, Loop, Parallel, For, Barrier, Critical, CriticalOf, stmts_tokens}
 use Rattle.kernel_reader.specs.Resolve.{sites, stmts_sites}
 use Rattle.kernel_reader.specs.Machine.{expression_from}
 use Rattle.kernel_reader.proofs.Sounding.{expression-sound}

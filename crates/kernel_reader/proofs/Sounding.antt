@@ -3,15 +3,15 @@ use Rattle.std.proofs.Common.{◌≡◌, ℕ, ◌+◌, ◌<◌, ◌≤◌, Bool,
 use Rattle.std.proofs.lemmas.Bool.{leb-true, ltb-true}
 use Rattle.kernel_syntax.specs.declared.syntax.Op.{Op}
 use Rattle.kernel_syntax.specs.declared.syntax.Op.TheVariants as op
-use Rattle.kernel_reader.specs.declared.token.Word.TheVariants as word
-use Rattle.kernel_reader.specs.declared.token.Sign.TheVariants as sign
-use Rattle.kernel_reader.specs.declared.token.Lexeme.{Lexeme}
-use Rattle.kernel_reader.specs.declared.token.Lexeme.TheVariants.{Named, Number, Reserved, Mark}
-use Rattle.kernel_reader.specs.declared.token.Token.{Token}
-use Rattle.kernel_reader.specs.Grammar.{Tree, NumberAt, NameAt, TidAt, SpanAt, Element, Group, Minus, Binary, Derives, depth, tree_tokens, rank_of, left_rank, right_rank, sign_of, expr, named, number, reserved, mark}
+use Rattle.kernel_text.specs.declared.token.Word.TheVariants as word
+use Rattle.kernel_text.specs.declared.token.Sign.TheVariants as sign
+use Rattle.kernel_text.specs.declared.token.Lexeme.{Lexeme}
+use Rattle.kernel_text.specs.declared.token.Lexeme.TheVariants.{Named, Number, Reserved, Mark}
+use Rattle.kernel_text.specs.declared.token.Token.{Token}
+use Rattle.kernel_text.specs.Grammar.{Tree, NumberAt, NameAt, TidAt, SpanAt, Element, Group, Minus, Binary, Derives, depth, tree_tokens, rank_of, left_rank, right_rank, sign_of, expr, named, number, reserved, mark}
 use Rattle.kernel_reader.specs.Machine.{Around, AfterMinus, AfterLeft, InGroup, InIndex, wanted, levels, reduced, Step, Fails, Goes, Ends, operand_step, open_index, close_group, close_index, take_left, finish, role_step, role_of, step, expression_from}
 use Rattle.kernel_reader.proofs.Stacks.{after as going}
-use Rattle.kernel_reader.proofs.Operators.{Derives-weaker}
+use Rattle.kernel_text.proofs.Operators.{Derives-weaker}
 
 -- the tokens that are open around a place
 abbrev pub around_tokens : Around → List Token

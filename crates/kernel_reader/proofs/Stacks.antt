@@ -4,8 +4,8 @@ use Rattle.std.specs.Prelude.{count_by, fold}
 use Rattle.std.proofs.lemmas.List.Sums.{fold_push, sum_by-cons}
 use Rattle.kernel_reader.specs.declared.expression.Frame.{Frame}
 use Rattle.std.proofs.lemmas.Bool.{lt-ltb, le-ltb}
-use Rattle.kernel_reader.specs.declared.token.Token.{Token}
-use Rattle.kernel_reader.specs.Grammar.{Tree}
+use Rattle.kernel_text.specs.declared.token.Token.{Token}
+use Rattle.kernel_text.specs.Grammar.{Tree}
 use Rattle.kernel_reader.specs.Machine.{Around, AfterMinus, AfterLeft, InGroup, InIndex, around_of, stack_of, opens, levels, finish, deeper, Step, Fails, Goes, Ends, step, expression_from, Makes, Refuses}
 use Rattle.kernel_reader.specs.declared.fault.BuildFault.{BuildFault}
 use Rattle.kernel_reader.specs.declared.fault.BuildFault.TheVariants.{NotBuilt, Memory}

@@ -5,16 +5,16 @@ use Rattle.std.specs.Str.{IsAscii}
 use Rattle.std.proofs.lemmas.Bool.Decides.{nat_tests}
 use Rattle.std.proofs.lemmas.Str.{IsUtf8-from_ascii, is_utf8-from_IsUtf8}
 use Rattle.std.proofs.lemmas.Str.Ascii.{IsAscii-nil, IsAscii-cons}
-use Rattle.kernel_reader.specs.declared.token.Token.{Token}
+use Rattle.kernel_text.specs.declared.token.Token.{Token}
 use Rattle.kernel_syntax.specs.declared.syntax.Array.{Array}
 use Rattle.kernel_syntax.specs.declared.syntax.Op.TheVariants.{Add, Eq}
 use Rattle.kernel_syntax.specs.declared.syntax.Schedule.TheVariants as schedule
 use Rattle.kernel_syntax.specs.Tree as kernel
 use Rattle.kernel_syntax.specs.Program.{Program}
-use Rattle.kernel_reader.specs.declared.fault.KernelWhy.TheVariants as why
-use Rattle.kernel_reader.specs.Tokens.{lexeme_at, tokens_from, tokens_of}
-use Rattle.kernel_reader.specs.Grammar.{Tree, NumberAt, NameAt, TidAt, Element, Binary, Dynamic, DynamicBy, Stmts, NoMore, Let, Store, If, Loop, Parallel, For, Barrier, CriticalOf, Declaration, ArrayOf, MutexOf, KernelTree}
-use Rattle.kernel_reader.specs.Faults.{kernel_levels}
+use Rattle.kernel_text.specs.declared.fault.KernelWhy.TheVariants as why
+use Rattle.kernel_text.specs.Tokens.{lexeme_at, tokens_from, tokens_of}
+use Rattle.kernel_text.specs.Grammar.{Tree, NumberAt, NameAt, TidAt, Element, Binary, Dynamic, DynamicBy, Stmts, NoMore, Let, Store, If, Loop, Parallel, For, Barrier, CriticalOf, Declaration, ArrayOf, MutexOf, KernelTree}
+use Rattle.kernel_text.specs.Faults.{kernel_levels}
 use Rattle.kernel_reader.specs.KernelOf.{IsKernelOf, IsRefused, AtRule}
 
 -- each byte is below 128

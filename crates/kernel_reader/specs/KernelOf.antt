@@ -1,14 +1,13 @@
 -- The kernel of a text, or why it has none.
 use Rattle.std.specs.Prelude.{◌≡◌, ℕ, List, [], ◌∷◌, length, Ok, Err}
 use Rattle.kernel_syntax.specs.Program.{Program}
-use Rattle.kernel_syntax.specs.FirstKind.{IsFirstKind}
-use Rattle.kernel_reader.specs.declared.fault.KernelWhy.TheVariants as why
+use Rattle.kernel_text.specs.declared.fault.KernelWhy.TheVariants as why
 use Rattle.kernel_reader.specs.declared.fault.ReadKernelFault.{ReadKernelFault}
 use Rattle.kernel_reader.specs.declared.fault.ReadKernelFault.TheVariants as read
-use Rattle.kernel_reader.specs.declared.token.Token.{Token}
-use Rattle.kernel_reader.specs.Tokens.{Refusal, line_at, tokens_of}
-use Rattle.kernel_reader.specs.Grammar.{KernelTree, kernel_tokens, IsKernel, IsShallow}
-use Rattle.kernel_reader.specs.Faults.{IsSyntaxFault, IsTooDeep, EndsEarly}
+use Rattle.kernel_text.specs.declared.token.Token.{Token}
+use Rattle.kernel_text.specs.Tokens.{Refusal, line_at, tokens_of}
+use Rattle.kernel_text.specs.Grammar.{KernelTree, kernel_tokens, IsKernel, IsShallow}
+use Rattle.kernel_text.specs.Faults.{IsSyntaxFault, IsTooDeep, EndsEarly}
 use Rattle.kernel_reader.specs.Rules.{kernel_faults}
 use Rattle.kernel_reader.specs.Resolve.{program}
 
@@ -29,14 +28,12 @@ pub data IsRefused (text : List ℕ) (r : Refusal) : Type 0 where
   AtEnd : (ts : List Token) → tokens_of text ≡ Ok ts → EndsEarly ts → r ≡ record { line = line_at text (length text); why = why.Syntax } → IsRefused text r
   AtRule : (tree : KernelTree) → (later : List Refusal) → tokens_of text ≡ Ok (kernel_tokens tree) → IsKernel tree → IsShallow tree → kernel_faults tree ≡ r ∷ later → IsRefused text r
 
--- the fault is the one of the text's tokens and their grammar; or the tokens are a kernel's; or it is out of memory
+-- the fault is the one of the text, or it is out of memory
 abbrev pub IsFaultOf : List ℕ → ReadKernelFault → Type 0
 IsFaultOf text (read.Refused line why) = IsRefused text (record { line = line; why = why })
-IsFaultOf text read.NotBuilt = (tree : KernelTree) × (tokens_of text ≡ Ok (kernel_tokens tree)) × IsKernel tree × IsShallow tree
 IsFaultOf text read.Memory = Unit {0}
 
--- with it the text has no kernel, or none of the first kind
+-- with it the text has no kernel
 abbrev pub HasNoKernel : List ℕ → ReadKernelFault → Type 0
 HasNoKernel text (read.Refused line why) = (p : Program) → IsKernelOf text p → ⊥
-HasNoKernel text read.NotBuilt = (p : Program) → IsKernelOf text p → IsFirstKind p → ⊥
 HasNoKernel text read.Memory = Unit {0}

@@ -1,10 +1,12 @@
-pub mod Tokens
-pub mod Grammar
-pub mod Faults
 pub mod Scope
 pub mod Rules
 pub mod Resolve
 pub mod KernelOf
-pub mod Judging
 pub mod Machine
-pub mod Reading
+pub mod Settled
+pub mod Heads
+pub mod Naming
+pub mod Sections
+pub mod Folding
+pub mod Declaring
+pub mod Rows

@@ -3,12 +3,12 @@
 use Rattle.std.specs.Prelude.{◌≡◌, ℕ, suc, Bool, true, false, List, [], ◌∷◌, Option, Some, None, option_map, Result, Ok, Err, nat_le, nat_lt, if◌then◌else◌, fold}
 use Rattle.kernel_syntax.specs.declared.syntax.Op.{Op}
 use Rattle.kernel_syntax.specs.declared.syntax.Op.TheVariants as op
-use Rattle.kernel_reader.specs.declared.token.Word.TheVariants as word
-use Rattle.kernel_reader.specs.declared.token.Sign.{Sign}
-use Rattle.kernel_reader.specs.declared.token.Sign.TheVariants as sign
-use Rattle.kernel_reader.specs.declared.token.Lexeme.{Lexeme}
-use Rattle.kernel_reader.specs.declared.token.Lexeme.TheVariants.{Named, Number, Reserved, Mark}
-use Rattle.kernel_reader.specs.declared.token.Token.{Token}
+use Rattle.kernel_text.specs.declared.token.Word.TheVariants as word
+use Rattle.kernel_text.specs.declared.token.Sign.{Sign}
+use Rattle.kernel_text.specs.declared.token.Sign.TheVariants as sign
+use Rattle.kernel_text.specs.declared.token.Lexeme.{Lexeme}
+use Rattle.kernel_text.specs.declared.token.Lexeme.TheVariants.{Named, Number, Reserved, Mark}
+use Rattle.kernel_text.specs.declared.token.Token.{Token}
 use Rattle.kernel_reader.specs.declared.fault.BuildFault.{BuildFault}
 use Rattle.kernel_reader.specs.declared.fault.BuildFault.TheVariants as fault
 use Rattle.kernel_reader.specs.declared.expression.Moved.{Moved}
@@ -19,7 +19,7 @@ use Rattle.kernel_reader.specs.declared.expression.Frame as frame
 use Rattle.kernel_reader.specs.declared.expression.Frame.TheVariants as frames
 use Rattle.kernel_reader.specs.declared.expression.Role.{Role}
 use Rattle.kernel_reader.specs.declared.expression.Role.TheVariants.{OpenIndex, CloseGroup, CloseIndex, Operator, Other}
-use Rattle.kernel_reader.specs.Grammar.{Tree, NumberAt, NameAt, TidAt, SpanAt, Element, Group, Minus, Binary, rank_of, left_rank, right_rank, unary, expr}
+use Rattle.kernel_text.specs.Grammar.{Tree, NumberAt, NameAt, TidAt, SpanAt, Element, Group, Minus, Binary, rank_of, left_rank, right_rank, unary, expr}
 
 -- the parse tree of an expression of the code
 abbrev pub tree_of : code.Tree → Tree

@@ -6,7 +6,7 @@ use Rattle.kernel_syntax.specs.Layout.{laid}
 use Rattle.kernel_syntax.specs.Tree as kernel
 use Rattle.kernel_syntax.specs.Tree.{Term, Code}
 use Rattle.kernel_syntax.specs.Program.{Program}
-use Rattle.kernel_reader.specs.Grammar.{Tree, NumberAt, NameAt, TidAt, SpanAt, Element, Group, Minus, Binary, ScheduleTree, Unsaid, Static, StaticBy, Dynamic, DynamicBy, Stmts, NoMore, Let, Assign, Store, If, IfElse, Loop, Parallel, For, Barrier, Critical, CriticalOf, KernelTree}
+use Rattle.kernel_text.specs.Grammar.{Tree, NumberAt, NameAt, TidAt, SpanAt, Element, Group, Minus, Binary, ScheduleTree, Unsaid, Static, StaticBy, Dynamic, DynamicBy, Stmts, NoMore, Let, Assign, Store, If, IfElse, Loop, Parallel, For, Barrier, Critical, CriticalOf, KernelTree}
 use Rattle.kernel_reader.specs.Scope.{array_number, variable_of, Names, Place, with_local, slots, past, count_literal}
 use Rattle.kernel_reader.specs.declared.binding.Variable.{Variable}
 use Rattle.kernel_reader.specs.Rules.{mutex_of, arrays_of, mutex_names, at_main}

@@ -2,10 +2,10 @@
 use Rattle.std.specs.Prelude.{ℕ, ◌+◌, ◌*◌, ◌==◌, Bool, true, false, not, ◌||◌, ◌&&◌, List, [], ◌∷◌, ◌++◌, length, Option, Some, None, option_map, is_some, is_none, bytes_eq, codes, if◌then◌else◌, nat_lt, nat_le, unwrap_or, ℤ, neg_ℤ, ◌-ℤ◌}
 use Rattle.kernel_syntax.specs.declared.syntax.Op.{Op}
 use Rattle.kernel_syntax.specs.declared.syntax.Op.TheVariants.{Add, Sub, Mul, Div, Rem, Eq, Ne, Lt, Le, Gt, Ge}
-use Rattle.kernel_reader.specs.declared.fault.KernelWhy.{KernelWhy}
-use Rattle.kernel_reader.specs.declared.fault.KernelWhy.TheVariants as why
-use Rattle.kernel_reader.specs.Tokens.{Refusal}
-use Rattle.kernel_reader.specs.Grammar.{Tree, NumberAt, NameAt, TidAt, SpanAt, Element, Group, Minus, Binary, ScheduleTree, Unsaid, Static, StaticBy, Dynamic, DynamicBy, Stmts, NoMore, Let, Assign, Store, If, IfElse, Loop, Parallel, For, Barrier, Critical, CriticalOf, Declaration, ArrayOf, MutexOf, KernelTree}
+use Rattle.kernel_text.specs.declared.fault.KernelWhy.{KernelWhy}
+use Rattle.kernel_text.specs.declared.fault.KernelWhy.TheVariants as why
+use Rattle.kernel_text.specs.Tokens.{Refusal}
+use Rattle.kernel_text.specs.Grammar.{Tree, NumberAt, NameAt, TidAt, SpanAt, Element, Group, Minus, Binary, ScheduleTree, Unsaid, Static, StaticBy, Dynamic, DynamicBy, Stmts, NoMore, Let, Assign, Store, If, IfElse, Loop, Parallel, For, Barrier, Critical, CriticalOf, Declaration, ArrayOf, MutexOf, KernelTree}
 use Rattle.kernel_syntax.specs.declared.syntax.Array.{Array}
 use Rattle.kernel_syntax.specs.Layout.{elements}
 use Rattle.kernel_reader.specs.Scope.{number_of, is_among, is_array, variable_of, Names, Place, with_local, slots, past, count_literal, is_between}

@@ -2,7 +2,7 @@
 use Rattle.std.specs.Prelude.{ℕ, ◌+◌, Bool, ◌&&◌, List, ◌∷◌, Option, is_some, bytes_eq, position, find, ℤ, pos, negsuc, int_le}
 use Rattle.kernel_syntax.specs.declared.syntax.Array.{Array}
 use Rattle.kernel_reader.specs.declared.binding.Variable.{Variable}
-use Rattle.kernel_reader.specs.Grammar.{Stmts, NoMore, Let, Assign, Store, If, IfElse, Loop, Parallel, For, Barrier, Critical, CriticalOf}
+use Rattle.kernel_text.specs.Grammar.{Stmts, NoMore, Let, Assign, Store, If, IfElse, Loop, Parallel, For, Barrier, Critical, CriticalOf}
 
 -- the place of a name among names, from 0
 abbrev pub number_of : List ℕ → List (List ℕ) → Option ℕ

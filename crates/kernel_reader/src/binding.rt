@@ -1,17 +1,19 @@
 //! The names of an expression become numbers of arrays and slots, and its accesses get their sites.
-ghost use Rattle.std.specs.Prelude.{◌≡◌, ◌+◌, ◌<◌, ◌≤◌, length, bytes_eq, option_copied, [], IfSome, IfOk, IfErr, None, Some, if◌then◌else◌};
+ghost use Rattle.std.specs.Prelude.{◌≡◌, ◌+◌, ◌<◌, ◌≤◌, ◌&&◌, ◌∷◌, length, bytes_eq, option_copied, reverse, [], IfSome, IfOk, IfErr};
 ghost use Rattle.kernel_syntax.specs.Tree as kernel;
 ghost use Rattle.kernel_syntax.specs.Program.{term_of};
-ghost use Rattle.kernel_reader.specs.declared.fault.BuildFault.TheVariants.{Memory};
+ghost use Rattle.kernel_reader.specs.declared.fault.ReadKernelFault.TheVariants.{Memory};
 ghost use Rattle.kernel_reader.specs.Scope.{array_number, is_array, variable_of};
-ghost use Rattle.kernel_reader.specs.Resolve.{sites};
-ghost use Rattle.kernel_reader.specs.Rules.{is_unfit};
-ghost use Rattle.kernel_reader.specs.Machine.{Gives, tree_of};
-ghost use Rattle.kernel_reader.specs.Reading.{slot_in, array_in, bind};
+ghost use Rattle.kernel_reader.specs.Resolve.{sites, term, slot_of, array_at};
+ghost use Rattle.kernel_reader.specs.Rules.{is_unfit, name_faults, array_faults, tree_faults, fault_if};
+ghost use Rattle.kernel_reader.specs.Machine.{tree_of};
+ghost use Rattle.kernel_reader.specs.Settled.{Settles};
+ghost use Rattle.kernel_reader.specs.Rows.{in_row};
 
-use crate::fault::BuildFault;
+use crate::fault::ReadKernelFault;
 use crate::tree::Tree;
 use kernel_syntax::{Array, Expr, Name, Op};
+use kernel_text::KernelWhy;
 use std::alloc::Global;
 
 /// A local variable in scope.
@@ -23,7 +25,7 @@ pub struct Variable {
     pub assignable: bool,
 }
 
-fn is_same(name: &Name, other: &Name) -> bool
+pub fn is_same(name: &Name, other: &Name) -> bool
     ensures { result ≡ bytes_eq name.now other.now }
 {
     name.as_str() == other.as_str()
@@ -44,12 +46,21 @@ pub fn is_array(arrays: &[Array], name: &Name) -> bool
     array_number(arrays, name).is_some()
 }
 
-fn variable_of<'a>(variables: &'a [Variable], name: &Name) -> Option<&'a Variable>
-    ensures { option_copied result ≡ variable_of name.now variables.now }
+/// The variable of a name; the innermost one comes last.
+pub fn variable_of<'a>(variables: &'a [Variable], name: &Name) -> Option<&'a Variable>
+    ensures { option_copied result ≡ variable_of name.now (reverse variables.now) }
 {
     variables
         .iter()
+        .rev()
         .find(|variable| is_same(&variable.name, name))
+}
+
+/// A rule that is broken at a line.
+pub fn refused(line: u32, why: KernelWhy) -> ReadKernelFault
+    ensures { result ≡ ReadKernelFault.Refused line why }
+{
+    ReadKernelFault::Refused { line, why }
 }
 
 /// What names mean in an expression.
@@ -69,7 +80,13 @@ fn is_unfit(op: Op) -> bool
 }
 
 /// An element of an array.
-fn load(alloc: Global, array: u32, index: Expr, line: u32, site: u16) -> Result<Expr, BuildFault>
+fn load(
+    alloc: Global,
+    array: u32,
+    index: Expr,
+    line: u32,
+    site: u16,
+) -> Result<Expr, ReadKernelFault>
     ensures made { IfOk result (λ e. term_of e ≡ kernel.Load array (term_of index) line site) }
     ensures fault { IfErr result (λ e. e ≡ Memory) }
 {
@@ -82,8 +99,22 @@ fn load(alloc: Global, array: u32, index: Expr, line: u32, site: u16) -> Result<
     })
 }
 
+/// A negative.
+fn negative(alloc: Global, operand: Expr) -> Result<Expr, ReadKernelFault>
+    ensures made { IfOk result (λ e. term_of e ≡ kernel.Neg (term_of operand)) }
+    ensures fault { IfErr result (λ e. e ≡ Memory) }
+{
+    Ok(Expr::Neg(Box::new(alloc, operand)?))
+}
+
 /// An operation on two expressions.
-fn binary(alloc: Global, op: Op, line: u32, left: Expr, right: Expr) -> Result<Expr, BuildFault>
+fn binary(
+    alloc: Global,
+    op: Op,
+    line: u32,
+    left: Expr,
+    right: Expr,
+) -> Result<Expr, ReadKernelFault>
     ensures made { IfOk result (λ e. term_of e ≡ kernel.Binary op line (term_of left) (term_of right)) }
     ensures fault { IfErr result (λ e. e ≡ Memory) }
 {
@@ -97,51 +128,104 @@ fn binary(alloc: Global, op: Op, line: u32, left: Expr, right: Expr) -> Result<E
     })
 }
 
+/// An operator and the operand behind it.
+#[derive(Clone, Copy, Debug)]
+pub struct Behind<'a> {
+    pub op: Op,
+    pub line: u32,
+    pub right: &'a Tree,
+}
+
+/// The first of the operands of operators in a row, and what stands behind it, the nearest last.
+fn unwound<'a>(
+    alloc: Global,
+    left: &'a Tree,
+    last: Behind<'a>,
+) -> Result<(&'a Tree, Vec<Behind<'a>>), ReadKernelFault>
+    ensures whole { IfOk result (λ x. in_row (tree_of x.0.now) x.1.items ≡ in_row (tree_of left.entry.now) (last.entry ∷ [])) }
+    ensures some { IfOk result (λ x. 1 ≤ length x.1.items) }
+    ensures fault { IfErr result (λ e. e ≡ Memory) }
+{
+    let mut behind = Vec::new(alloc);
+    behind.push(last)?;
+    let mut first = left;
+    'left: while let Tree::Binary {
+        left,
+        op,
+        line,
+        right,
+    } = first
+    {
+        behind.push(Behind {
+            op: *op,
+            line: *line,
+            right,
+        })?;
+        first = left;
+    }
+    Ok((first, behind))
+}
+
 impl Binder<'_> {
     /// The slot of a variable, which isn't assignable in a bound.
-    fn slot(&self, name: &Name) -> Result<u32, BuildFault>
-        ensures { Gives (λ x. x) result (slot_in (record { arrays = []; scope = self.now.variables.now }) self.now.in_bound name.now) }
+    fn slot(&self, line: u32, name: &Name) -> Result<u32, ReadKernelFault>
+        ensures { Settles result (name_faults (record { arrays = self.now.arrays.now; scope = reverse self.now.variables.now }) self.now.in_bound line name.now) (λ x. x ≡ slot_of (record { arrays = self.now.arrays.now; scope = reverse self.now.variables.now }) name.now) }
     {
-        let variable = variable_of(self.variables, name).ok_or(BuildFault::NotBuilt)?;
+        let Some(variable) = variable_of(self.variables, name) else {
+            return Err(refused(line, KernelWhy::Unknown));
+        };
         if self.in_bound && variable.assignable {
-            return Err(BuildFault::NotBuilt);
+            return Err(refused(line, KernelWhy::NotUniform));
         }
         Ok(variable.slot)
     }
 
     /// The number of the array of a name, which doesn't stand in a bound.
-    pub fn array(&self, name: &Name) -> Result<u32, BuildFault>
+    pub fn array(&self, line: u32, name: &Name) -> Result<u32, ReadKernelFault>
         requires { length self.now.arrays.now ≤ 64 }
-        ensures { Gives (λ x. x) result (array_in (record { arrays = self.now.arrays.now; scope = [] }) self.now.in_bound name.now) }
+        ensures { Settles result (array_faults (record { arrays = self.now.arrays.now; scope = reverse self.now.variables.now }) self.now.in_bound line name.now) (λ x. x ≡ array_at (record { arrays = self.now.arrays.now; scope = reverse self.now.variables.now }) name.now) }
     {
-        let number = array_number(self.arrays, name).ok_or(BuildFault::NotBuilt)?;
+        let Some(number) = array_number(self.arrays, name) else {
+            return Err(refused(line, KernelWhy::Unknown));
+        };
         if self.in_bound {
-            return Err(BuildFault::NotBuilt);
+            return Err(refused(line, KernelWhy::NotUniform));
         }
         Ok(number as u32)
     }
 
     /// The lane's number, which doesn't stand in a bound.
-    fn tid(&self) -> Result<Expr, BuildFault>
-        ensures { Gives term_of result (if self.now.in_bound then None else Some kernel.Tid) }
+    fn tid(&self, line: u32) -> Result<Expr, ReadKernelFault>
+        ensures { Settles result (fault_if self.now.in_bound line KernelWhy.NotUniform) (λ x. term_of x ≡ kernel.Tid) }
     {
         if self.in_bound {
-            return Err(BuildFault::NotBuilt);
+            return Err(refused(line, KernelWhy::NotUniform));
         }
         Ok(Expr::Tid)
     }
 
-    /// An expression with its names bound, and the next site.
-    pub fn bind(&self, site: u16, tree: &Tree) -> Result<(Expr, u16), BuildFault>
+    /// The operation, which a bound may have.
+    fn check_op(&self, line: u32, op: Op) -> Result<(), ReadKernelFault>
+        ensures { Settles result (fault_if (self.now.in_bound && is_unfit op) line KernelWhy.NotUniform) (λ _. Unit {0}) }
+    {
+        if self.in_bound && is_unfit(op) {
+            return Err(refused(line, KernelWhy::NotUniform));
+        }
+        Ok(())
+    }
+
+    /// An expression with its names bound, and the next site. Calls follow brackets, signs and
+    /// right operands; left operands are followed by loops.
+    pub fn bind(&self, site: u16, tree: &Tree) -> Result<(Expr, u16), ReadKernelFault>
         requires few { length self.now.arrays.now ≤ 64 }
         requires room { site + sites (tree_of tree.now) < 65536 }
-        ensures bound { Gives (λ x. (term_of x.0, x.1)) result (bind (record { arrays = self.now.arrays.now; scope = self.now.variables.now }) self.now.in_bound site (tree_of tree.now)) }
+        ensures bound { Settles result (tree_faults (record { arrays = self.now.arrays.now; scope = reverse self.now.variables.now }) self.now.in_bound (tree_of tree.now)) (λ x. term_of x.0 ≡ term (record { arrays = self.now.arrays.now; scope = reverse self.now.variables.now }) site (tree_of tree.now)) }
         ensures next { IfOk result (λ x. x.1 ≡ site + sites (tree_of tree.now)) }
     {
         match tree {
             Tree::Number { value, .. } => Ok((Expr::Number(*value), site)),
-            Tree::Name { name, .. } => Ok((Expr::Slot(self.slot(name)?), site)),
-            Tree::Tid { .. } => Ok((self.tid()?, site)),
+            Tree::Name { line, name } => Ok((Expr::Slot(self.slot(*line, name)?), site)),
+            Tree::Tid { line } => Ok((self.tid(*line)?, site)),
             Tree::Span { .. } => Ok((Expr::Span, site)),
             Tree::Element {
                 line,
@@ -149,14 +233,14 @@ impl Binder<'_> {
                 index,
                 ..
             } => {
-                let array = self.array(name)?;
+                let array = self.array(*line, name)?;
                 let (index, next) = self.bind(site + 1, index)?;
                 Ok((load(self.alloc, array, index, *line, site)?, next))
             }
             Tree::Group { inside, .. } => self.bind(site, inside),
             Tree::Minus { operand, .. } => {
                 let (operand, next) = self.bind(site, operand)?;
-                Ok((Expr::Neg(Box::new(self.alloc, operand)?), next))
+                Ok((negative(self.alloc, operand)?, next))
             }
             Tree::Binary {
                 left,
@@ -164,12 +248,20 @@ impl Binder<'_> {
                 line,
                 right,
             } => {
-                let (left, next) = self.bind(site, left)?;
-                if self.in_bound && is_unfit(*op) {
-                    return Err(BuildFault::NotBuilt);
+                let last = Behind {
+                    op: *op,
+                    line: *line,
+                    right,
+                };
+                let (first, mut behind) = unwound(self.alloc, left, last)?;
+                let (mut bound, mut next) = self.bind(site, first)?;
+                'behind: while let Some(Behind { op, line, right }) = behind.pop() {
+                    self.check_op(line, op)?;
+                    let (right, after) = self.bind(next, right)?;
+                    bound = binary(self.alloc, op, line, bound, right)?;
+                    next = after;
                 }
-                let (right, next) = self.bind(next, right)?;
-                Ok((binary(self.alloc, *op, *line, left, right)?, next))
+                Ok((bound, next))
             }
         }
     }

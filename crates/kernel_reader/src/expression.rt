@@ -4,14 +4,14 @@
 //! itself.
 ghost use Rattle.std.specs.Prelude.{◌≡◌, ◌+◌, ◌*◌, ◌<◌, ◌≤◌, length, count_by, IfOk, IfErr, option_map, None, [], ◌∷◌};
 ghost use Rattle.kernel_reader.specs.declared.fault.BuildFault.TheVariants.{Memory};
-ghost use Rattle.kernel_reader.specs.Grammar.{rank_of, left_rank, right_rank, expr};
+ghost use Rattle.kernel_text.specs.Grammar.{rank_of, left_rank, right_rank, expr};
 ghost use Rattle.kernel_reader.specs.Resolve.{sites};
 ghost use Rattle.kernel_reader.specs.Machine.{role_of, tree_of, around_of, stack_of, opens, levels, wanted, reduced, deeper, operand_step, open_index, close_group, close_index, take_left, finish, role_step, step, expression_from, Makes, Gives};
 
 use crate::fault::BuildFault;
-use crate::token::{Lexeme, Sign, Token, Word};
 use crate::tree::Tree;
 use kernel_syntax::{Name, Op};
+use kernel_text::{Lexeme, Sign, Token, Word};
 use std::alloc::Global;
 
 /// What is open around the operand that is wanted or was read.
@@ -215,7 +215,7 @@ fn reduced(
 fn open_index(frames: &mut Vec<Frame>, held: Tree, opened: u32) -> Result<Moved, BuildFault>
     ensures { Makes result frames.new.items (open_index opened (tree_of held) (stack_of frames.old.items)) }
 {
-    let Tree::Name { line, name } = held else {
+    let Some((line, name)) = held.into_name() else {
         return Err(BuildFault::NotBuilt);
     };
     deeper(frames, Frame::Index { line, name, opened })

@@ -2,35 +2,77 @@
 ghost use Rattle.std.specs.Prelude.{◌≡◌, ◌≤◌, length, Ok, IfOk, IfErr};
 ghost use Rattle.kernel_syntax.specs.Program.{Program, program_of};
 ghost use Rattle.kernel_syntax.specs.Bounds.{IsBounded};
-ghost use Rattle.kernel_syntax.specs.FirstKind.{IsFirstKind};
-ghost use Rattle.kernel_reader.specs.Tokens.{tokens_of};
+ghost use Rattle.kernel_text.specs.Tokens.{tokens_of};
+ghost use Rattle.kernel_text.specs.Grammar.{KernelTree, kernel_tokens, IsKernel, IsShallow};
+ghost use Rattle.kernel_reader.specs.Rules.{kernel_faults};
+ghost use Rattle.kernel_reader.specs.Resolve.{program};
+ghost use Rattle.kernel_reader.specs.Settled.{Settles};
 ghost use Rattle.kernel_reader.specs.KernelOf.{IsKernelOf, IsFaultOf, HasNoKernel};
 
-use crate::fault::{BuildFault, KernelWhy, ReadKernelFault, TextFault};
-use crate::judging::{Verdict, judge};
-use crate::lexing::{line_at, tokens};
-use crate::reading::kernel_at;
-use crate::token::Token;
-use kernel_syntax::Kernel;
+use crate::declarations::declarations;
+use crate::fault::ReadKernelFault;
+use crate::heads::skip;
+use crate::place::{Known, Section, State};
+use kernel_syntax::{Kernel, Team, layout};
+use kernel_text::{KernelWhy, TextFault, Token, Verdict, judge, line_at, tokens};
 use std::alloc::Global;
+
+/// The kernel of tokens that are one by the grammar.
+fn kernel_at(alloc: Global, tokens: &[Token]) -> Result<Kernel, ReadKernelFault>
+    requires { length tokens.now ≤ 65536 }
+    ensures { (k : KernelTree) → tokens.now ≡ kernel_tokens k → IsKernel k → IsShallow k → Settles result (kernel_faults k) (λ x. program_of x ≡ program k) }
+{
+    let declared = declarations(alloc, tokens)?;
+    let (line, rest) = skip(declared.rest);
+    let (_, rest) = skip(rest);
+    let known = Known {
+        alloc,
+        arrays: declared.arrays.as_slice(),
+        mutexes: declared.mutexes.as_slice(),
+    };
+    let mut state = State {
+        variables: Vec::new(alloc),
+        slot: 0,
+        site: 0,
+    };
+    let main = known.stmts(&mut state, OUTSIDE, rest)?;
+    let mut kernel = Kernel {
+        arrays: declared.arrays,
+        mutexes: declared.mutexes,
+        main: Team {
+            span: 1,
+            line,
+            end: main.end,
+            body: main.body,
+        },
+        slots: state.slot,
+    };
+    layout(&mut kernel);
+    Ok(kernel)
+}
+
+/// What is around the body of `main`.
+const OUTSIDE: Section = Section {
+    regions: 0,
+    spans: 1,
+    critical: None,
+    criticals: 0,
+    divided: false,
+    uneven: false,
+};
 
 /// The kernel of the tokens of a text.
 fn kernel_of(alloc: Global, text: &[u8], found: &[Token]) -> Result<Kernel, ReadKernelFault>
     requires short { length text.now ≤ 65536 }
     requires tokens { tokens_of text.now ≡ Ok found.now }
     ensures kernel { IfOk result (λ k. IsKernelOf text.now (program_of k)) }
-    ensures first_kind { IfOk result (λ k. IsFirstKind (program_of k)) }
     ensures bounded { IfOk result (λ k. IsBounded (program_of k)) }
-    ensures only { (p : Program) → IsKernelOf text.now p → IsFirstKind p → IfOk result (λ k. program_of k ≡ p) }
+    ensures only { (p : Program) → IsKernelOf text.now p → IfOk result (λ k. program_of k ≡ p) }
     ensures fault { IfErr result (λ fault. IsFaultOf text.now fault) }
     ensures none { IfErr result (λ fault. HasNoKernel text.now fault) }
 {
     match judge(alloc, found)? {
-        Verdict::Kernel => match kernel_at(alloc, found) {
-            Ok(kernel) => Ok(kernel),
-            Err(BuildFault::NotBuilt) => Err(ReadKernelFault::NotBuilt),
-            Err(BuildFault::Memory) => Err(ReadKernelFault::Memory),
-        },
+        Verdict::Kernel => kernel_at(alloc, found),
         Verdict::Syntax { line } => Err(ReadKernelFault::Refused {
             line,
             why: KernelWhy::Syntax,
@@ -46,21 +88,16 @@ fn kernel_of(alloc: Global, text: &[u8], found: &[Token]) -> Result<Kernel, Read
     }
 }
 
-/// The kernel of a text, where it is of the first kind: without a mutex, `main` is one region, the
-/// region is one worksharing loop with a static schedule, and the loop has stores alone.
-///
-/// A text that is no kernel by its tokens and the grammar is refused at the line of the first
-/// fault: of the whole text's tokens first, and then of the first token that no kernel goes on with
-/// or that opens level 33, or at the end where the text ends too early. `NotBuilt` comes exactly
-/// where the tokens are a kernel by the grammar and the text has no kernel of the first kind.
+/// The kernel of a text, or the line and the reason of its first fault: of its tokens first, then
+/// of the first token that no kernel goes on with or that opens level 33, or of the end where the
+/// text ends too early, and then of the first rule that is broken in the order of the text.
 pub fn read_kernel(alloc: Global, text: &[u8]) -> Result<Kernel, ReadKernelFault>
     // The kernel is the text's, by the grammar, the rules and the resolution of names.
     ensures kernel { IfOk result (λ k. IsKernelOf text.now (program_of k)) }
-    ensures first_kind { IfOk result (λ k. IsFirstKind (program_of k)) }
     ensures bounded { IfOk result (λ k. IsBounded (program_of k)) }
     // It is the only kernel that the text has.
-    ensures only { (p : Program) → IsKernelOf text.now p → IsFirstKind p → IfOk result (λ k. program_of k ≡ p) }
-    // The text has this fault, and no kernel of the first kind.
+    ensures only { (p : Program) → IsKernelOf text.now p → IfOk result (λ k. program_of k ≡ p) }
+    // The text has this fault, and no kernel.
     ensures fault { IfErr result (λ fault. IsFaultOf text.now fault) }
     ensures none { IfErr result (λ fault. HasNoKernel text.now fault) }
 {

@@ -1,28 +1,41 @@
 use super::*;
 use kernel_syntax::{Expr, Kernel, Op, Schedule, Stmt, Team};
+use kernel_text::KernelWhy;
 use std::alloc::{AllocError, Global};
 use std::test::Fail;
 
 const TWO_LANES: &[u8] =
     b"array a i64 8\nmain {\nparallel 2 {\nfor i in 0 .. 8 static 1 {\na[i] = a[i] + 1\n}\n}\n}";
 
-const NEIGHBOUR: &[u8] =
-    b"array a i64 9\nmain { parallel 2 {\nfor i in 0 .. 8 static 4 { a[i+1] = a[i] }\n} }";
-
-const NO_TURN: &[u8] = b"array a i64 4\nmain { parallel 2 {\nfor i in 0 .. 0 { a[i] = 1 }\n} }";
-
-const NO_WAIT: &[u8] =
-    b"array a i64 4\nmain { parallel 2 {\nfor i in 0 .. 0 nowait { a[i] = 1 }\n} }";
-
 const LOCKED: &[u8] =
     b"array s i64 1\nmutex c\nmain { parallel 8 {\ncritical c { s[0] = s[0] + 1 }\n} }";
 
-fn is_not_built(alloc: Global, text: &[u8]) -> bool {
-    matches!(read_kernel(alloc, text), Err(ReadKernelFault::NotBuilt))
-}
+const HEAT: &[u8] =
+    b"# heat\narray u i64 64\narray v i64 64\nmain {\nu[0] = 1000\nparallel 4 {\nloop t in 0 .. 3 {\nfor i in 1 .. 63 {\nv[i] = (u[i-1] + 2 * u[i] + u[i+1]) / 4\n}\nfor i in 1 .. 63 {\nu[i] = v[i]\n}\n}\n}\n}";
 
 fn is_read(alloc: Global, text: &[u8]) -> bool {
     read_kernel(alloc, text).is_ok()
+}
+
+// Whether a text is refused at this line for this reason.
+fn is_refused(alloc: Global, text: &[u8], line: u32, why: KernelWhy) -> bool {
+    match read_kernel(alloc, text) {
+        Err(
+            ReadKernelFault::Refused {
+                line: at,
+                why: told,
+            },
+        ) => at == line && told == why,
+        _ => false,
+    }
+}
+
+// Whether a text is refused at this line for this reason, or is read where none is given.
+fn has_refusal(alloc: Global, text: &[u8], line: u32, refusal: Option<KernelWhy>) -> bool {
+    match refusal {
+        Some(why) => is_refused(alloc, text, line, why),
+        None => is_read(alloc, text),
+    }
 }
 
 // The text with a comment behind it, of so many bytes in all.
@@ -35,17 +48,23 @@ fn padded(alloc: Global, text: &[u8], len: usize) -> Result<Vec<u8>, AllocError>
     Ok(bytes)
 }
 
-#[test]
-fn digits_end_before_dots(rt: HostRuntime) -> Result<(), Fail> {
-    let found = tokens(rt.alloc(), b"0..8").ok().ok_or("tokens")?;
-    assert_eq!(rt; found.len(), 3);
-    assert!(rt; matches!(found[0].lexeme, Lexeme::Number(0)));
-    assert!(rt; matches!(found[1].lexeme, Lexeme::Mark(Sign::Dots)));
-    assert!(rt; matches!(found[2].lexeme, Lexeme::Number(8)));
-    Ok(())
+// So many times a text, with others before and behind.
+fn repeated(
+    alloc: Global,
+    before: &[u8],
+    text: &[u8],
+    count: usize,
+    behind: &[u8],
+) -> Result<Vec<u8>, AllocError> {
+    let mut bytes = Vec::from_slice(alloc, before)?;
+    for _ in 0..count {
+        bytes.extend_from_slice(text)?;
+    }
+    bytes.extend_from_slice(behind)?;
+    Ok(bytes)
 }
 
-// The one region of a kernel of the first kind.
+// The one region of a kernel.
 fn region(kernel: &Kernel) -> Option<&Team> {
     match kernel.main.body.stmts.as_slice() {
         [Stmt::Parallel { team }] => Some(team),
@@ -119,11 +138,336 @@ fn a_store_has_site_0_and_its_load_site_1(rt: HostRuntime) -> Result<(), Fail> {
 }
 
 #[test]
-fn kernels_of_the_first_kind_are_read(rt: HostRuntime) {
-    assert!(rt; is_read(rt.alloc(), NEIGHBOUR));
-    assert!(rt; is_read(rt.alloc(), NO_TURN));
-    assert!(rt; is_read(rt.alloc(), NO_WAIT));
-    assert!(rt; is_not_built(rt.alloc(), LOCKED));
+fn kernels_of_the_whole_language_are_read(rt: HostRuntime) {
+    let texts: [&[u8]; 16] = [
+        b"main { let abcdefghijklmnopqrstuvwxyz012345 = 9223372036854775807 }",
+        LOCKED,
+        HEAT,
+        b"main { }",
+        b"array a i64 8\nmain { parallel 2 {\nif tid == 1 {\nlet k = 8\na[k] = 1 }\n} }",
+        b"array a i64 8\nmain { parallel 2 {\nif tid == 1 {\nlet k = 8\na[0] = 1 / (tid - 1) }\n} }",
+        b"array a i64 8 main { parallel 3 { for i in 0 .. 8 { a[i] = i } } }",
+        b"array a i64 8\nmain { parallel 2 { for i in 0 .. 8 nowait { a[i] = i } for i in 0 .. 7 static { a[i] = 1 } } }",
+        b"array a i64 10\nmain { parallel 3 {\nfor i in 0 .. 10 dynamic 4 { a[i] = i }\n} }",
+        b"array b i8 1 main { b[0] = 200 }",
+        b"main {\nloop k in 0 .. 1024 {\nparallel 64 { }\n}\n}",
+        b"main { let x = 1 if x < 2 { x = 2 } else { x = 3 } loop k in 0 .. x { } }",
+        b"mutex m mutex n main { parallel 2 { critical { critical m { critical n { } } } barrier } }",
+        b"main { let x = 1 if 1 { let y = 2 } let y = x }",
+        b"main { parallel 2 { loop i in -1 .. (3) { for j in i .. span { } barrier } } }",
+        b"main { parallel 2 { parallel 2 { parallel 2 { parallel 8 { barrier } } } } }",
+    ];
+    for text in texts {
+        assert!(rt; is_read(rt.alloc(), text));
+    }
+}
+
+#[test]
+fn a_broken_rule_of_a_declaration_tells_its_line_and_why(rt: HostRuntime) {
+    let rows: [(&[u8], u32, KernelWhy); 14] = [
+        (b"array a i8 1\narray a i8 1 main { }", 2, KernelWhy::Twice),
+        (b"array a i8 1\nmutex a main { }", 2, KernelWhy::Twice),
+        (b"mutex m\nmutex m main { }", 2, KernelWhy::Twice),
+        (b"mutex m\narray m f 0 main { }", 2, KernelWhy::Twice),
+        (b"array a\ni7 1 main { }", 2, KernelWhy::Width),
+        (b"array a f64\n0 main { }", 1, KernelWhy::Width),
+        (b"array a i8\n0 main { }", 2, KernelWhy::Count),
+        (b"array a i8 1048577 main { }", 1, KernelWhy::Count),
+        (
+            b"array a i8 9223372036854775807 main { }",
+            1,
+            KernelWhy::Count,
+        ),
+        (
+            b"array a i64 1048576\narray b i8\n1 main { }",
+            3,
+            KernelWhy::Large,
+        ),
+        (
+            b"array a i64 1048575\narray b i8 1\narray c i8 1 main { x = 1 }",
+            3,
+            KernelWhy::Large,
+        ),
+        (b"main {\nx = 1 }", 2, KernelWhy::Unknown),
+        (b"array a i8 1\nmain { a\n= 1 }", 2, KernelWhy::Unknown),
+        (b"mutex m\nmain { m[0] = 1 }", 2, KernelWhy::Unknown),
+    ];
+    for (text, line, why) in rows {
+        assert!(rt; is_refused(rt.alloc(), text, line, why));
+    }
+}
+
+#[test]
+fn a_broken_rule_of_a_name_tells_its_line_and_why(rt: HostRuntime) {
+    let rows: [(&[u8], u32, KernelWhy); 16] = [
+        (b"main { let x = 1\nlet x = y }", 2, KernelWhy::Twice),
+        (b"array a i8 1 main { let\na = 1 }", 2, KernelWhy::Twice),
+        (
+            b"mutex m main { loop\nm in 0 .. 1 { } }",
+            2,
+            KernelWhy::Twice,
+        ),
+        (
+            b"main { parallel 2 { loop i in 0 .. 1 { for\ni in 0 .. 1 { } } } }",
+            2,
+            KernelWhy::Twice,
+        ),
+        (b"main { let x =\nx }", 2, KernelWhy::Unknown),
+        (b"main { loop i in 0 ..\ni { } }", 2, KernelWhy::Unknown),
+        (
+            b"main { loop i in 0 .. 1 {\ni = 2 } }",
+            2,
+            KernelWhy::Unknown,
+        ),
+        (
+            b"main { loop i in 0 .. 1 { }\nlet j = i }",
+            2,
+            KernelWhy::Unknown,
+        ),
+        (
+            b"main { if 1 { let x = 1 } else {\nx = 2 } }",
+            2,
+            KernelWhy::Unknown,
+        ),
+        (
+            b"array a i8 1 main { a[0] = a[\nb[0]] }",
+            2,
+            KernelWhy::Unknown,
+        ),
+        (b"array a i8 1 main { a[0] =\na }", 2, KernelWhy::Unknown),
+        (b"array a i8 1 main { b[x] = y }", 1, KernelWhy::Unknown),
+        (
+            b"main { parallel 2 { critical\nm { } critical { critical { } } } }",
+            1,
+            KernelWhy::Unknown,
+        ),
+        (
+            b"main { parallel 2 {\ncritical\nm { } } }",
+            2,
+            KernelWhy::Unknown,
+        ),
+        (
+            b"main { let x = 1 + 2\n+ z let x = 3 }",
+            2,
+            KernelWhy::Unknown,
+        ),
+        (b"main { if q { let q = 1 } }", 1, KernelWhy::Unknown),
+    ];
+    for (text, line, why) in rows {
+        assert!(rt; is_refused(rt.alloc(), text, line, why));
+    }
+}
+
+#[test]
+fn a_broken_rule_of_a_section_tells_its_line_and_why(rt: HostRuntime) {
+    let rows: [(&[u8], u32, KernelWhy); 25] = [
+        (
+            b"array a i64 8\nmain { parallel 2 {\nloop j in 0 .. tid {\nbarrier\n}\n} }",
+            4,
+            KernelWhy::NotUniform,
+        ),
+        (
+            b"main { parallel 1 { parallel 1 { parallel 1 { parallel 1 { barrier if 1 { } else { loop i in 0 .. 1 {\nparallel 0 { x = 1 } } } } } } } }",
+            2,
+            KernelWhy::Deep,
+        ),
+        (b"main { parallel\n0 { } }", 2, KernelWhy::Count),
+        (b"main { parallel 65 { x = 1 } }", 1, KernelWhy::Count),
+        (
+            b"main { parallel 8 { parallel\n9 { } } }",
+            2,
+            KernelWhy::Large,
+        ),
+        (
+            b"main { parallel 2 { parallel 2 { parallel 2 { parallel 8 {\nparallel 1 { } } } } } }",
+            2,
+            KernelWhy::Deep,
+        ),
+        (
+            b"main { critical {\nparallel 0 { } } }",
+            2,
+            KernelWhy::ParallelHere,
+        ),
+        (
+            b"main { parallel 2 { critical { if 1 {\nparallel 1 { } } } } }",
+            2,
+            KernelWhy::ParallelHere,
+        ),
+        (b"main {\nfor i in 0 .. 1 { } }", 2, KernelWhy::WorkHere),
+        (
+            b"main { parallel 2 { for i in 0 .. 1 {\nfor j in tid .. 1 { } } } }",
+            2,
+            KernelWhy::WorkHere,
+        ),
+        (
+            b"main { parallel 2 { if 1 { critical {\nfor j in 0 .. 1 { } } } } }",
+            2,
+            KernelWhy::WorkHere,
+        ),
+        (b"main { if 1 {\nbarrier } }", 2, KernelWhy::BarrierHere),
+        (
+            b"main { parallel 2 { critical {\nbarrier } } }",
+            2,
+            KernelWhy::BarrierHere,
+        ),
+        (
+            b"main { parallel 2 { loop j in 0 .. tid {\nbarrier\n} } }",
+            2,
+            KernelWhy::NotUniform,
+        ),
+        (
+            b"main { parallel 2 { if 1 { } else {\nfor tid2 in tid .. 1 { } } } }",
+            2,
+            KernelWhy::NotUniform,
+        ),
+        (
+            b"main { parallel 2 { for i in 0 ..\ntid { } } }",
+            2,
+            KernelWhy::NotUniform,
+        ),
+        (
+            b"main { let x = 1 parallel 2 { for i in\nx .. 1 { } } }",
+            2,
+            KernelWhy::NotUniform,
+        ),
+        (
+            b"array a i8 1 main { parallel 2 { for i in a\n[0] .. 1 { } } }",
+            1,
+            KernelWhy::NotUniform,
+        ),
+        (
+            b"main { parallel 2 { for i in 4\n/ 2 .. tid { } } }",
+            2,
+            KernelWhy::NotUniform,
+        ),
+        (
+            b"main { parallel 2 { for i in 0 .. 1 static\n0 { } } }",
+            2,
+            KernelWhy::Count,
+        ),
+        (
+            b"main { parallel 2 { for i in 0 .. 1 dynamic 1048577 { } } }",
+            1,
+            KernelWhy::Count,
+        ),
+        (
+            b"mutex m main { critical m {\ncritical m { } } }",
+            2,
+            KernelWhy::CriticalOrder,
+        ),
+        (
+            b"mutex m main { critical m {\ncritical { } } }",
+            2,
+            KernelWhy::CriticalOrder,
+        ),
+        (
+            b"mutex m main { critical m { if 1 {\ncritical { } } } }",
+            2,
+            KernelWhy::CriticalOrder,
+        ),
+        (
+            b"main { parallel 2 {\nloop i in 0 .. 32768 { barrier }\nbarrier\n} }",
+            4,
+            KernelWhy::Large,
+        ),
+    ];
+    for (text, line, why) in rows {
+        assert!(rt; is_refused(rt.alloc(), text, line, why));
+    }
+}
+
+#[test]
+fn a_region_weighs_at_most_65536(rt: HostRuntime) {
+    let full = b"main { parallel 2 { loop i in 0 .. 32768 { barrier } } }";
+    assert!(rt; is_read(rt.alloc(), full));
+    let inner =
+        b"main { parallel 2 { loop i in 0 .. 9223372036854775807 { loop j in 0 .. 9223372036854775807 { parallel 2 { barrier } } } } }";
+    assert!(rt; is_read(rt.alloc(), inner));
+    let more =
+        b"main { parallel 2 { loop i in 0 .. 9223372036854775807 { loop j in 0 .. 9223372036854775807 { barrier } }\n} }";
+    assert!(rt; is_refused(rt.alloc(), more, 2, KernelWhy::Large));
+}
+
+#[test]
+fn eight_critical_sections_nest(rt: HostRuntime) -> Result<(), Fail> {
+    let names =
+        b"mutex a mutex b mutex c mutex d mutex e mutex f mutex g mutex h mutex i main { critical a { critical b { critical c { critical d { critical e { critical f { critical g { critical h { ";
+    let eight = repeated(rt.alloc(), names, b"} ", 9, b"")?;
+    assert!(rt; is_read(rt.alloc(), &eight));
+    let nine = repeated(
+        rt.alloc(),
+        names,
+        b"\n critical i {",
+        1,
+        b"} } } } } } } } } }",
+    )?;
+    assert!(rt; is_refused(rt.alloc(), &nine, 2, KernelWhy::Deep));
+    Ok(())
+}
+
+// Declarations of names of two letters, in a line each: the first letter and each of the second ones.
+fn declare(
+    bytes: &mut Vec<u8>,
+    word: &[u8],
+    first: u8,
+    seconds: &[u8],
+    rest: &[u8],
+) -> Result<(), AllocError> {
+    for second in seconds {
+        bytes.extend_from_slice(word)?;
+        bytes.push(first)?;
+        bytes.push(*second)?;
+        bytes.extend_from_slice(rest)?;
+    }
+    Ok(())
+}
+
+// Such declarations for each of the first letters, and then a text.
+fn declared(
+    alloc: Global,
+    word: &[u8],
+    firsts: &[u8],
+    seconds: &[u8],
+    rest: &[u8],
+    behind: &[u8],
+) -> Result<Vec<u8>, AllocError> {
+    let mut bytes = Vec::new(alloc);
+    for first in firsts {
+        declare(&mut bytes, word, *first, seconds, rest)?;
+    }
+    bytes.extend_from_slice(behind)?;
+    Ok(bytes)
+}
+
+#[test]
+fn at_most_64_arrays_and_63_mutexes_are_declared(rt: HostRuntime) -> Result<(), Fail> {
+    let eight = b"abcdefgh";
+    let arrays: [(&[u8], Option<KernelWhy>); 3] = [
+        (b"main { hh[0] = 1 }", None),
+        (b"array z i64 1 main { }", Some(KernelWhy::Large)),
+        (b"array hh i64 1 main { }", Some(KernelWhy::Twice)),
+    ];
+    for (behind, refusal) in arrays {
+        let text = declared(rt.alloc(), b"array ", eight, eight, b" i64 1\n", behind)?;
+        assert!(rt; has_refusal(rt.alloc(), &text, 65, refusal));
+    }
+    let mutexes: [(&[u8], Option<KernelWhy>); 3] = [
+        (b"main { critical gi { } }", None),
+        (b"mutex z main { }", Some(KernelWhy::Large)),
+        (b"mutex gi main { }", Some(KernelWhy::Twice)),
+    ];
+    for (behind, refusal) in mutexes {
+        let text = declared(
+            rt.alloc(),
+            b"mutex ",
+            b"abcdefg",
+            b"abcdefghi",
+            b"\n",
+            behind,
+        )?;
+        assert!(rt; has_refusal(rt.alloc(), &text, 64, refusal));
+    }
+    Ok(())
 }
 
 #[test]
@@ -132,48 +476,24 @@ fn a_text_has_at_most_65536_bytes(rt: HostRuntime) -> Result<(), Fail> {
     assert!(rt; is_read(rt.alloc(), &largest));
     let larger = padded(rt.alloc(), TWO_LANES, 65537)?;
     assert!(rt; is_refused(rt.alloc(), &larger, 1, KernelWhy::Large));
+    let bytes = repeated(rt.alloc(), b"\n\xff", b"\xff", 65535, b"")?;
+    assert!(rt; is_refused(rt.alloc(), &bytes, 1, KernelWhy::Large));
     Ok(())
 }
 
 #[test]
-fn broken_rules_are_not_built(rt: HostRuntime) {
-    let texts: [&[u8]; 14] = [
-        b"array a i64 4 main { parallel 2 { for i in 0 .. 4 { b[i] = 1 } } }",
-        b"array a i64 4 main { parallel 2 { for i in 0 .. 4 { a[i] = j } } }",
-        b"array a i64 4 array a i64 4 main { parallel 2 { for i in 0 .. 4 { a[i] = 1 } } }",
-        b"array a i64 4 main { parallel 2 { for a in 0 .. 4 { } } }",
-        b"array a i63 4 main { parallel 2 { for i in 0 .. 4 { a[i] = 1 } } }",
-        b"array a i64 0 main { parallel 2 { for i in 0 .. 4 { a[i] = 1 } } }",
-        b"array a i64 4 main { parallel 65 { for i in 0 .. 4 { a[i] = 1 } } }",
-        b"array a i64 4 main { parallel 2 { for i in 0 .. 4 static 0 { a[i] = 1 } } }",
-        b"array a i64 1048576 array b i64 1 main { parallel 2 { for i in 0 .. 4 { a[i] = 1 } } }",
-        b"array a i64 4 main { parallel 2 { for i in tid .. 4 { a[i] = 1 } } }",
-        b"array a i64 4 main { parallel 2 { for i in 0 .. a[0] { a[i] = 1 } } }",
-        b"array a i64 4 main { parallel 2 { for i in 0 .. 4 / 2 { a[i] = 1 } } }",
-        b"main { let x = 1 if x < 2 { x = 2 } else { barrier } loop k in 0 .. 3 { } }",
-        b"mutex m main { parallel 2 { critical m { } for i in 0 .. 1 dynamic 2 nowait { } } }",
-    ];
-    for text in texts {
-        assert!(rt; is_not_built(rt.alloc(), text));
-    }
-}
-
-// Whether a text is refused at this line for this reason.
-fn is_refused(alloc: Global, text: &[u8], line: u32, why: KernelWhy) -> bool {
-    match read_kernel(alloc, text) {
-        Err(
-            ReadKernelFault::Refused {
-                line: at,
-                why: told,
-            },
-        ) => at == line && told == why,
-        _ => false,
-    }
-}
-
-#[test]
 fn a_text_that_is_no_kernel_tells_its_line_and_why(rt: HostRuntime) {
-    let rows: [(&[u8], u32, KernelWhy); 20] = [
+    let rows: [(&[u8], u32, KernelWhy); 26] = [
+        (b"\xff\nmain { $ }", 1, KernelWhy::NotUtf8),
+        (b"main {\n} # \xc3\x28\n\xff", 2, KernelWhy::NotUtf8),
+        (b"main { }\n# \xe2\x82", 2, KernelWhy::NotUtf8),
+        (b"! main { } $", 1, KernelWhy::Token),
+        (b"main { }\n9223372036854775808", 2, KernelWhy::Token),
+        (
+            b"main { }\nname_of_more_than_32_bytes_in_all",
+            2,
+            KernelWhy::Token,
+        ),
         (b"", 1, KernelWhy::Syntax),
         (b"main {\n", 2, KernelWhy::Syntax),
         (b"main {\n}\n}", 3, KernelWhy::Syntax),
@@ -220,67 +540,132 @@ fn a_text_that_is_no_kernel_tells_its_line_and_why(rt: HostRuntime) {
     }
 }
 
-// So many times a text, with others before and behind.
-fn repeated(
-    alloc: Global,
-    before: &[u8],
-    text: &[u8],
-    count: usize,
-    behind: &[u8],
-) -> Result<Vec<u8>, AllocError> {
-    let mut bytes = Vec::from_slice(alloc, before)?;
-    for _ in 0..count {
-        bytes.extend_from_slice(text)?;
-    }
-    bytes.extend_from_slice(behind)?;
-    Ok(bytes)
-}
-
 #[test]
 fn at_most_32_levels_are_open(rt: HostRuntime) -> Result<(), Fail> {
-    let blocks = repeated(rt.alloc(), b"main {", b"critical {", 31, b"")?;
-    assert!(rt; is_refused(rt.alloc(), &blocks, 1, KernelWhy::Syntax));
-    let more = repeated(rt.alloc(), b"main {", b"critical\n{", 32, b"")?;
+    let opened = repeated(rt.alloc(), b"main {", b"if 1 {", 31, b"")?;
+    let blocks = repeated(rt.alloc(), &opened, b"}", 32, b"")?;
+    assert!(rt; is_read(rt.alloc(), &blocks));
+    let more = repeated(rt.alloc(), b"main {", b"if 1\n{", 32, b"")?;
     assert!(rt; is_refused(rt.alloc(), &more, 33, KernelWhy::Deep));
-    let signs = repeated(rt.alloc(), b"main { x = ", b"-", 32, b"1 }")?;
-    assert!(rt; is_not_built(rt.alloc(), &signs));
-    let brackets = repeated(rt.alloc(), b"main { x = ", b"\n(", 33, b"")?;
-    assert!(rt; is_refused(rt.alloc(), &brackets, 34, KernelWhy::Deep));
+    let signs = repeated(rt.alloc(), b"main { let x = ", b"-", 32, b"1 }")?;
+    assert!(rt; is_read(rt.alloc(), &signs));
+    let opened = repeated(rt.alloc(), b"main { let x = ", b"(", 32, b"1")?;
+    let brackets = repeated(rt.alloc(), &opened, b")", 32, b" }")?;
+    assert!(rt; is_read(rt.alloc(), &brackets));
+    let more = repeated(rt.alloc(), b"main { let x = ", b"\n(", 33, b"1")?;
+    assert!(rt; is_refused(rt.alloc(), &more, 34, KernelWhy::Deep));
     Ok(())
 }
 
 #[test]
-fn long_texts_are_judged(rt: HostRuntime) -> Result<(), Fail> {
-    let sum = repeated(rt.alloc(), b"main { x = 1", b"+1", 32000, b" }")?;
-    assert!(rt; is_not_built(rt.alloc(), &sum));
-    let stores = repeated(rt.alloc(), b"main { ", b"x=1 ", 10000, b"")?;
-    assert!(rt; is_refused(rt.alloc(), &stores, 1, KernelWhy::Syntax));
+fn long_texts_are_read_to_their_end(rt: HostRuntime) -> Result<(), Fail> {
+    let sum = repeated(rt.alloc(), b"main { let x = 1", b"+1", 32000, b" }")?;
+    assert!(rt; is_read(rt.alloc(), &sum));
+    let stmts = repeated(rt.alloc(), b"main { let x = 1 ", b"x=1 ", 10000, b"}")?;
+    assert!(rt; is_read(rt.alloc(), &stmts));
+    let last = repeated(rt.alloc(), b"main {", b"if 1{}", 10000, b"\nx = 1 }")?;
+    assert!(rt; is_refused(rt.alloc(), &last, 2, KernelWhy::Unknown));
+    // as many `else` parts as a text has room for
+    let elses = repeated(rt.alloc(), b"main{", b"if 1{}else{}", 5460, b"}")?;
+    assert!(rt; is_read(rt.alloc(), &elses));
+    let more = repeated(rt.alloc(), b"main{", b"if 1{}else{}", 5459, b"\nelse{}}")?;
+    assert!(rt; is_refused(rt.alloc(), &more, 2, KernelWhy::Syntax));
     Ok(())
 }
 
-// Whether the tokens of a text are refused at this line for this reason.
-fn has_no_tokens(alloc: Global, text: &[u8], line: u32, why: KernelWhy) -> bool {
-    match tokens(alloc, text) {
-        Err(
-            TextFault::Refused {
-                line: at,
-                why: told,
-            },
-        ) => at == line && told == why,
-        _ => false,
-    }
+#[test]
+fn a_name_has_at_most_32_bytes(rt: HostRuntime) -> Result<(), Fail> {
+    let longest = repeated(rt.alloc(), b"main { let\n_", b"z", 31, b" = 1 }")?;
+    assert!(rt; is_read(rt.alloc(), &longest));
+    let longer = repeated(rt.alloc(), b"main { let\n_", b"z", 32, b" = 1 }")?;
+    assert!(rt; is_refused(rt.alloc(), &longer, 2, KernelWhy::Token));
+    Ok(())
 }
 
 #[test]
-fn a_text_without_tokens_tells_its_line_and_why(rt: HostRuntime) {
-    let rows: [(&[u8], u32, KernelWhy); 5] = [
-        (b"a\n$", 2, KernelWhy::Token),
-        (b"# $\n\n9223372036854775808", 3, KernelWhy::Token),
-        (b"a23456789012345678901234567890123", 1, KernelWhy::Token),
-        (b"a\n\n\xff", 3, KernelWhy::NotUtf8),
-        (b"$\n\xc3", 2, KernelWhy::NotUtf8),
+fn a_number_is_at_most_9223372036854775807(rt: HostRuntime) {
+    assert!(rt; is_read(rt.alloc(), b"main { let x = 9223372036854775807 }"));
+    assert!(rt;
+        is_read(
+            rt.alloc(),
+            b"main { let x = 00000000000000000000000000000000001 }"
+        )
+    );
+    let rows: [&[u8]; 3] = [
+        b"main { let x =\n9223372036854775808 }",
+        b"main { let x =\n-9223372036854775808 }",
+        b"main { let x =\n18446744073709551617 }",
     ];
-    for (text, line, why) in rows {
-        assert!(rt; has_no_tokens(rt.alloc(), text, line, why));
+    for text in rows {
+        assert!(rt; is_refused(rt.alloc(), text, 2, KernelWhy::Token));
     }
+}
+
+#[test]
+fn a_region_has_1_to_64_lanes(rt: HostRuntime) {
+    assert!(rt; is_read(rt.alloc(), b"main { parallel 1 { } }"));
+    assert!(rt; is_read(rt.alloc(), b"main { parallel 64 { } }"));
+    assert!(rt;
+        is_refused(
+            rt.alloc(),
+            b"main { parallel\n65 { } }",
+            2,
+            KernelWhy::Count
+        )
+    );
+    assert!(rt;
+        is_refused(
+            rt.alloc(),
+            b"main { parallel 64 { parallel\n65 { } } }",
+            2,
+            KernelWhy::Count
+        )
+    );
+    assert!(rt;
+        is_refused(
+            rt.alloc(),
+            b"main { parallel\n9223372036854775807 { } }",
+            2,
+            KernelWhy::Count
+        )
+    );
+}
+
+#[test]
+fn nested_regions_have_at_most_64_lanes_in_all(rt: HostRuntime) {
+    let most: [&[u8]; 4] = [
+        b"main { parallel 8 { parallel 8 { } } }",
+        b"main { parallel 1 { parallel 64 { parallel 1 { parallel 1 { } } } } }",
+        b"main { parallel 2 { parallel 4 { parallel 8 { } parallel 8 { } } } }",
+        b"main { parallel 64 { } parallel 64 { } }",
+    ];
+    for text in most {
+        assert!(rt; is_read(rt.alloc(), text));
+    }
+    let more: [&[u8]; 4] = [
+        b"main { parallel 2 { parallel\n33 { } } }",
+        b"main { parallel 64 { parallel\n2 { } } }",
+        b"main { parallel 2 { parallel 4 { parallel 8 { } parallel\n9 { } } } }",
+        b"main { parallel 2 { parallel 2 { parallel 4 { parallel\n5 { } } } } }",
+    ];
+    for text in more {
+        assert!(rt; is_refused(rt.alloc(), text, 2, KernelWhy::Large));
+    }
+}
+
+#[test]
+fn a_text_is_utf8_to_its_last_byte(rt: HostRuntime) {
+    assert!(rt; is_read(rt.alloc(), b"# \xc3\xa9\nmain { } # \xe2\x82\xac"));
+    let rows: [(&[u8], u32); 6] = [
+        (b"\xffmain { }", 1),
+        (b"\x80\nmain { }", 1),
+        (b"main {\n# \xc3\n}", 2),
+        (b"main {\n\n# \xe2\x82\xac \xe2\x82 \xff\n$ }", 3),
+        (b"main { }\n\xff", 2),
+        (b"main { } #\n# \xe2\x82", 2),
+    ];
+    for (text, line) in rows {
+        assert!(rt; is_refused(rt.alloc(), text, line, KernelWhy::NotUtf8));
+    }
+    assert!(rt; is_refused(rt.alloc(), b"main { }\n\xc3\xa9", 2, KernelWhy::Token));
 }

@@ -1,8 +1,12 @@
 //! An expression as it is written.
+ghost use Rattle.std.specs.Prelude.{◌≡◌};
+ghost use Rattle.kernel_reader.specs.Machine.{tree_of};
+ghost use Rattle.kernel_reader.specs.Rows.{name_in};
+
 use kernel_syntax::{Name, Op};
 
 /// An expression with the line of each of its tokens.
-#[derive(Debug, Drop)]
+#[derive(Debug)]
 pub enum Tree {
     Number {
         line: u32,
@@ -40,4 +44,49 @@ pub enum Tree {
         line: u32,
         right: Box<Tree>,
     },
+}
+
+impl Tree {
+    /// The name, where the expression is one.
+    pub fn into_name(self) -> Option<(u32, Name)>
+        ensures { result ≡ name_in (tree_of self) }
+    {
+        match self {
+            Tree::Name { line, name } => Some((line, name)),
+            _ => None,
+        }
+    }
+}
+
+impl Drop for Tree {
+    // A loop, since a sum may be as long as its kernel's text. Its left operands come first.
+    fn drop(mut self) {
+        loop {
+            match self {
+                Tree::Number { line: _, value: _ }
+                | Tree::Name { line: _, name: _ }
+                | Tree::Tid { line: _ }
+                | Tree::Span { line: _ } => return,
+                Tree::Element {
+                    line: _,
+                    name: _,
+                    opened: _,
+                    index,
+                    closed: _,
+                } => self = Box::into_inner(index),
+                Tree::Group {
+                    opened: _,
+                    inside,
+                    closed: _,
+                } => self = Box::into_inner(inside),
+                Tree::Minus { line: _, operand } => self = Box::into_inner(operand),
+                Tree::Binary {
+                    left,
+                    op: _,
+                    line: _,
+                    right: _,
+                } => self = Box::into_inner(left),
+            }
+        }
+    }
 }

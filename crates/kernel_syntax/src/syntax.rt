@@ -70,7 +70,7 @@ pub enum Op {
 }
 
 /// An expression. A line is that of the array's name or of the operator.
-#[derive(Debug, Drop)]
+#[derive(Debug)]
 pub enum Expr {
     Number(i64),
     /// A local variable, by its slot.
@@ -93,6 +93,30 @@ pub enum Expr {
         left: Box<Expr>,
         right: Box<Expr>,
     },
+}
+
+impl Drop for Expr {
+    // A loop, since a sum may be as long as its kernel's text. Its left operands come first.
+    fn drop(mut self) {
+        loop {
+            match self {
+                Expr::Number(_) | Expr::Slot(_) | Expr::Tid | Expr::Span => return,
+                Expr::Load {
+                    array: _,
+                    index,
+                    line: _,
+                    site: _,
+                } => self = Box::into_inner(index),
+                Expr::Neg(operand) => self = Box::into_inner(operand),
+                Expr::Binary {
+                    op: _,
+                    line: _,
+                    left,
+                    right: _,
+                } => self = Box::into_inner(left),
+            }
+        }
+    }
 }
 
 /// A list of statements.

@@ -1,27 +1,25 @@
-use Rattle.std.proofs.Common.{Ok, Err, refl}
-use Rattle.kernel_reader.specs.declared.fault.BuildFault.TheVariants.{NotBuilt}
-use Rattle.kernel_reader.proofs.Few.{tokens_of-few}
-use Rattle.kernel_reader.proofs.Kernels.{gives_kernel, gives_bounded, gives_first_kind, gives_none, gives_only}
+use Rattle.kernel_text.proofs.Few.{tokens_of-few}
+use Rattle.kernel_reader.proofs.Kernels.{gives-kernel, gives-bounded, gives-only, gives-fault, gives-none}
 use Rattle.kernel_reader.proofs.Refusing.{no_syntax_fault, not_too_deep, refused_syntax, refused_deep, refused_early}
 use Rattle.kernel_reader.proofs.kernel.kernel_of.Goals as goal
 
 pub kernel_at-requires : goal.kernel_at-requires
 kernel_at-requires c = tokens_of-few c.args.text.now c.args.found.now c.requires.tokens
 
-pub returns-in-Ok-clause-kernel : goal.returns-in-Ok-clause-kernel
-returns-in-Ok-clause-kernel c = gives_kernel c.args.text.now c.args.found.now (Ok c.in-Ok.kernel) c.requires.tokens c.in-Ok.ensures
+pub returns-in-Kernel-clause-kernel : goal.returns-in-Kernel-clause-kernel
+returns-in-Kernel-clause-kernel c = gives-kernel c.args.text.now c.args.found.now c.kernel_at.result c.requires.tokens (rw c.in-Kernel.is at c.in_ok-judge.ensures) c.kernel_at.ensures
 
-pub returns-in-Ok-clause-bounded : goal.returns-in-Ok-clause-bounded
-returns-in-Ok-clause-bounded c = gives_bounded c.args.text.now c.args.found.now (Ok c.in-Ok.kernel) c.requires.tokens c.in-Ok.ensures
+pub returns-in-Kernel-clause-bounded : goal.returns-in-Kernel-clause-bounded
+returns-in-Kernel-clause-bounded c = gives-bounded c.args.text.now c.args.found.now c.kernel_at.result c.requires.tokens (rw c.in-Kernel.is at c.in_ok-judge.ensures) c.kernel_at.ensures
 
-pub returns-in-Ok-clause-first_kind : goal.returns-in-Ok-clause-first_kind
-returns-in-Ok-clause-first_kind c = gives_first_kind c.args.found.now (Ok c.in-Ok.kernel) c.in-Ok.ensures
+pub returns-in-Kernel-clause-only : goal.returns-in-Kernel-clause-only
+returns-in-Kernel-clause-only c = gives-only c.args.text.now c.args.found.now c.kernel_at.result c.requires.tokens c.kernel_at.ensures
 
-pub returns-in-Ok-clause-only : goal.returns-in-Ok-clause-only
-returns-in-Ok-clause-only c = gives_only c.args.text.now c.args.found.now (Ok c.in-Ok.kernel) c.requires.tokens c.in-Ok.ensures
+pub returns-in-Kernel-clause-fault : goal.returns-in-Kernel-clause-fault
+returns-in-Kernel-clause-fault c = gives-fault c.args.text.now c.args.found.now c.kernel_at.result c.requires.tokens (rw c.in-Kernel.is at c.in_ok-judge.ensures) c.kernel_at.ensures
 
-pub returns-in-Err-NotBuilt-clause-none : goal.returns-in-Err-NotBuilt-clause-none
-returns-in-Err-NotBuilt-clause-none c = let h = rw c.in-Err-NotBuilt.field-0-is at c.in-Err-NotBuilt.ensures in gives_none c.args.text.now c.args.found.now (Err NotBuilt) c.requires.tokens h refl
+pub returns-in-Kernel-clause-none : goal.returns-in-Kernel-clause-none
+returns-in-Kernel-clause-none c = gives-none c.args.text.now c.args.found.now c.kernel_at.result c.requires.tokens c.kernel_at.ensures
 
 pub returns-in-Syntax-clause-fault : goal.returns-in-Syntax-clause-fault
 returns-in-Syntax-clause-fault c = refused_syntax c.args.text.now c.args.found.now c.in-Syntax.line c.requires.tokens (rw c.in-Syntax.is at c.in_ok-judge.ensures)

@@ -1,4 +1,4 @@
-use Rattle.kernel_reader.proofs.Few.{tokens_of-is}
+use Rattle.kernel_text.proofs.Few.{tokens_of-is}
 use Rattle.kernel_reader.proofs.kernel.read_kernel.Goals as goal
 
 pub kernel_of-requires-clause-short : goal.kernel_of-requires-clause-short

@@ -1,0 +1,413 @@
+-- The tokens of a kernel are those of one tree by the grammar.
+use Rattle.std.proofs.Common.{◌≡◌, ℕ, Bool, true, false, List, [], ◌∷◌, ◌++◌, drop, Option, Some, None, refl, sym, ap, subst, ◌∙◌, append_assoc}
+use Rattle.std.specs.Prelude.{ℤ, ◌-◌}
+use Rattle.kernel_text.specs.declared.token.Word.TheVariants as word
+use Rattle.kernel_text.specs.declared.token.Sign.TheVariants as sign
+use Rattle.kernel_text.specs.declared.token.Lexeme.TheVariants.{Named, Number}
+use Rattle.kernel_text.specs.declared.token.Token.{Token}
+use Rattle.kernel_text.specs.Grammar.{Tree, tree_tokens, Derives, expr, IsFlat, mark, reserved, block, ScheduleTree, Unsaid, Static, StaticBy, Dynamic, DynamicBy, schedule_tokens, nowait_tokens, Stmts, NoMore, Let, Assign, Store, If, IfElse, Loop, Parallel, For, Barrier, Critical, CriticalOf, stmts_tokens, StmtsDerive, AreShallow, Declaration, ArrayOf, MutexOf, declarations_tokens, KernelTree, kernel_tokens, IsKernel, IsShallow}
+use Rattle.kernel_reader.specs.declared.heads.Lead.{Lead}
+use Rattle.kernel_reader.specs.declared.heads.Lead.TheVariants as lead
+use Rattle.kernel_reader.specs.Machine.{expression_from}
+use Rattle.kernel_reader.specs.Heads.{IsExpression, lead_of, lead_of_stmts, inside, is_else, line_of, number_of, is_number, is_static, is_dynamic, is_nowait}
+use Rattle.kernel_reader.proofs.Completing.{expression-is, expression-same}
+use Rattle.kernel_reader.proofs.Heading.{follows-inside, follows-schedule, lead-is}
+use Rattle.kernel_reader.proofs.Firsts.{no-else}
+
+-- statements of which the lead is known
+data View : Lead → Stmts → Type 0 where
+  IsEnd : View lead.End NoMore
+  IsLet : (line name_line : ℕ) → (name : List ℕ) → (sign_line : ℕ) → (value : Tree) → (rest : Stmts) → View lead.Let (Let line name_line name sign_line value rest)
+  IsAssign : (line : ℕ) → (name : List ℕ) → (sign_line : ℕ) → (value : Tree) → (rest : Stmts) → View lead.Assign (Assign line name sign_line value rest)
+  IsStore : (line : ℕ) → (name : List ℕ) → (opened : ℕ) → (index : Tree) → (closed sign_line : ℕ) → (value : Tree) → (rest : Stmts) → View lead.Store (Store line name opened index closed sign_line value rest)
+  IsIf : (line : ℕ) → (test : Tree) → (opened : ℕ) → (if_true : Stmts) → (closed : ℕ) → (rest : Stmts) → View lead.If (If line test opened if_true closed rest)
+  IsIfElse : (line : ℕ) → (test : Tree) → (opened : ℕ) → (if_true : Stmts) → (closed else_line else_opened : ℕ) → (if_false : Stmts) → (else_closed : ℕ) → (rest : Stmts)
+      → View lead.If (IfElse line test opened if_true closed else_line else_opened if_false else_closed rest)
+  IsLoop : (line name_line : ℕ) → (name : List ℕ) → (in_line : ℕ) → (from : Tree) → (dots : ℕ) → (to : Tree) → (opened : ℕ) → (body : Stmts) → (closed : ℕ) → (rest : Stmts)
+      → View lead.Loop (Loop line name_line name in_line from dots to opened body closed rest)
+  IsParallel : (line number_line : ℕ) → (span : ℤ) → (opened : ℕ) → (body : Stmts) → (closed : ℕ) → (rest : Stmts) → View lead.Parallel (Parallel line number_line span opened body closed rest)
+  IsFor : (line name_line : ℕ) → (name : List ℕ) → (in_line : ℕ) → (from : Tree) → (dots : ℕ) → (to : Tree) → (schedule : ScheduleTree) → (nowait : Option ℕ) → (opened : ℕ) → (body : Stmts) → (closed : ℕ) → (rest : Stmts)
+      → View lead.For (For line name_line name in_line from dots to schedule nowait opened body closed rest)
+  IsBarrier : (line : ℕ) → (rest : Stmts) → View lead.Barrier (Barrier line rest)
+  IsCritical : (line opened : ℕ) → (body : Stmts) → (closed : ℕ) → (rest : Stmts) → View lead.Critical (Critical line opened body closed rest)
+  IsCriticalOf : (line name_line : ℕ) → (name : List ℕ) → (opened : ℕ) → (body : Stmts) → (closed : ℕ) → (rest : Stmts) → View lead.Critical (CriticalOf line name_line name opened body closed rest)
+
+view : (b : Stmts) → View (lead_of_stmts b) b
+view NoMore = IsEnd
+view (Let line name_line name sign_line value rest) = IsLet line name_line name sign_line value rest
+view (Assign line name sign_line value rest) = IsAssign line name sign_line value rest
+view (Store line name opened index closed sign_line value rest) = IsStore line name opened index closed sign_line value rest
+view (If line test opened if_true closed rest) = IsIf line test opened if_true closed rest
+view (IfElse line test opened if_true closed else_line else_opened if_false else_closed rest) = IsIfElse line test opened if_true closed else_line else_opened if_false else_closed rest
+view (Loop line name_line name in_line from dots to opened body closed rest) = IsLoop line name_line name in_line from dots to opened body closed rest
+view (Parallel line number_line span opened body closed rest) = IsParallel line number_line span opened body closed rest
+view (For line name_line name in_line from dots to schedule nowait opened body closed rest) = IsFor line name_line name in_line from dots to schedule nowait opened body closed rest
+view (Barrier line rest) = IsBarrier line rest
+view (Critical line opened body closed rest) = IsCritical line opened body closed rest
+view (CriticalOf line name_line name opened body closed rest) = IsCriticalOf line name_line name opened body closed rest
+
+-- the first two tokens tell the lead
+seen : (l : Lead) (b : Stmts) (end : ℕ) (tail : List Token) (t : Token) (ts : List Token) → lead_of t.lexeme ts ≡ l → t ∷ ts ≡ inside b end tail → View l b
+seen l b end tail t ts is e = subst (λ (l : Lead). View l b) (sym (lead-is b end tail t ts e) ∙ is) (view b)
+
+-- statements with these tokens, the brace behind them, and the tokens behind it
+abbrev AreOnly : Stmts → Type 0
+AreOnly b = (c : Stmts) (n m end last : ℕ) (tail after : List Token) → inside b end tail ≡ inside c last after → StmtsDerive b → StmtsDerive c → AreShallow n b → AreShallow m c → (b ≡ c) × (end ≡ last) × (tail ≡ after)
+
+-- one expression stands at the beginning of tokens
+one-expression : (ts us : List Token) (t u : Tree) (after behind : List Token) → ts ≡ us → IsExpression ts t after → IsExpression us u behind → (t ≡ u) × (after ≡ behind)
+one-expression ts us t u after behind e first second = expression-same us u behind t after second (ap (expression_from None []) (sym e) ∙ expression-is ts t after first)
+
+before-stmts : (v : Tree) (b : Stmts) (end : ℕ) (tail : List Token) → Derives expr v → IsFlat v
+    → IsExpression ((tree_tokens v ++ stmts_tokens b) ++ mark end sign.CloseBrace ∷ tail) v (inside b end tail)
+before-stmts v b end tail d f = record { parts = append_assoc (tree_tokens v) (stmts_tokens b) _; derives = d; flat = f; ends = follows-inside b end tail }
+
+line-is : (t u : Token) → t ≡ u → t.line ≡ u.line
+line-is t u e = ap (λ (t : Token). t.line) e
+
+lexeme-is : (t u : Token) → t ≡ u → t.lexeme ≡ u.lexeme
+lexeme-is t u e = ap (λ (t : Token). t.lexeme) e
+
+heads-is : (t u : Token) (ts us : List Token) → t ∷ ts ≡ u ∷ us → (t.line ≡ u.line) × (t.lexeme ≡ u.lexeme) × (ts ≡ us)
+heads-is t u ts us e = let one : t ≡ u = cc in (line-is t u one, lexeme-is t u one, cc)
+
+only-let : (line name_line : ℕ) (name : List ℕ) (sign_line : ℕ) (value : Tree) (rest : Stmts) → AreOnly rest → AreOnly (Let line name_line name sign_line value rest)
+only-let line name_line name sign_line value rest more c n m end last tail after e d g s h = same c (seen lead.Let c last after _ _ refl e) e g h
+  where
+    same : (c : Stmts) → View lead.Let c → inside (Let line name_line name sign_line value rest) end tail ≡ inside c last after → StmtsDerive c → AreShallow m c
+        → (Let line name_line name sign_line value rest ≡ c) × (end ≡ last) × (tail ≡ after)
+    same _ (IsLet line2 name_line2 name2 sign_line2 value2 rest2) e g h =
+        let a = heads-is _ _ _ _ e in
+        let b = heads-is _ _ _ _ a.2 in
+        let c = heads-is _ _ _ _ b.2 in
+        let v = one-expression _ _ value value2 _ _ c.2 (before-stmts value rest end tail d.0 s.0) (before-stmts value2 rest2 last after g.0 h.0) in
+        let r = more rest2 n m end last tail after v.1 d.1 g.1 s.1 h.1 in (cc, r.1, r.2)
+
+-- a block before statements
+block-opens : (opened : ℕ) (body : Stmts) (closed : ℕ) (after : List Token) → block opened (stmts_tokens body) closed ++ after ≡ mark opened sign.OpenBrace ∷ inside body closed after
+block-opens opened body closed after = ap (λ (ts : List Token). mark opened sign.OpenBrace ∷ ts) (append_assoc (stmts_tokens body) (mark closed sign.CloseBrace ∷ []) after)
+
+body-opens : (opened : ℕ) (body : Stmts) (closed : ℕ) (b : Stmts) (end : ℕ) (tail : List Token)
+    → (block opened (stmts_tokens body) closed ++ stmts_tokens b) ++ mark end sign.CloseBrace ∷ tail ≡ mark opened sign.OpenBrace ∷ inside body closed (inside b end tail)
+body-opens opened body closed b end tail = append_assoc (block opened (stmts_tokens body) closed) (stmts_tokens b) _ ∙ block-opens opened body closed (inside b end tail)
+
+only-end : AreOnly NoMore
+only-end c n m end last tail after e d g s h = same c (seen lead.End c last after _ _ refl e) e
+  where
+    same : (c : Stmts) → View lead.End c → inside NoMore end tail ≡ inside c last after → (NoMore ≡ c) × (end ≡ last) × (tail ≡ after)
+    same _ IsEnd e = let a = heads-is _ _ _ _ e in (refl, a.0, a.2)
+
+only-assign : (line : ℕ) (name : List ℕ) (sign_line : ℕ) (value : Tree) (rest : Stmts) → AreOnly rest → AreOnly (Assign line name sign_line value rest)
+only-assign line name sign_line value rest more c n m end last tail after e d g s h = same c (seen lead.Assign c last after _ _ refl e) e g h
+  where
+    same : (c : Stmts) → View lead.Assign c → inside (Assign line name sign_line value rest) end tail ≡ inside c last after → StmtsDerive c → AreShallow m c
+        → (Assign line name sign_line value rest ≡ c) × (end ≡ last) × (tail ≡ after)
+    same _ (IsAssign line2 name2 sign_line2 value2 rest2) e g h =
+        let a = heads-is _ _ _ _ e in
+        let b = heads-is _ _ _ _ a.2 in
+        let v = one-expression _ _ value value2 _ _ b.2 (before-stmts value rest end tail d.0 s.0) (before-stmts value2 rest2 last after g.0 h.0) in
+        let r = more rest2 n m end last tail after v.1 d.1 g.1 s.1 h.1 in (cc, r.1, r.2)
+
+only-barrier : (line : ℕ) (rest : Stmts) → AreOnly rest → AreOnly (Barrier line rest)
+only-barrier line rest more c n m end last tail after e d g s h = same c (seen lead.Barrier c last after _ _ refl e) e g h
+  where
+    same : (c : Stmts) → View lead.Barrier c → inside (Barrier line rest) end tail ≡ inside c last after → StmtsDerive c → AreShallow m c → (Barrier line rest ≡ c) × (end ≡ last) × (tail ≡ after)
+    same _ (IsBarrier line2 rest2) e g h =
+        let a = heads-is _ _ _ _ e in
+        let r = more rest2 n m end last tail after a.2 d g s h in (cc, r.1, r.2)
+
+-- a block and the statements behind it
+one-block : (opened opened2 : ℕ) (body body2 : Stmts) (closed closed2 : ℕ) (behind behind2 : List Token) (n m : ℕ) → AreOnly body
+    → mark opened sign.OpenBrace ∷ inside body closed behind ≡ mark opened2 sign.OpenBrace ∷ inside body2 closed2 behind2 → StmtsDerive body → StmtsDerive body2 → AreShallow n body → AreShallow m body2
+    → (opened ≡ opened2) × (body ≡ body2) × (closed ≡ closed2) × (behind ≡ behind2)
+one-block opened opened2 body body2 closed closed2 behind behind2 n m only e d g s h =
+    let a = heads-is _ _ _ _ e in let r = only body2 n m closed closed2 behind behind2 a.2 d g s h in (a.0, r.0, r.1, r.2)
+
+only-parallel : (line number_line : ℕ) (span : ℤ) (opened : ℕ) (body : Stmts) (closed : ℕ) (rest : Stmts) → AreOnly body → AreOnly rest → AreOnly (Parallel line number_line span opened body closed rest)
+only-parallel line number_line span opened body closed rest only more c n m end last tail after e d g s h = same c (seen lead.Parallel c last after _ _ refl e) e g h
+  where
+    same : (c : Stmts) → View lead.Parallel c → inside (Parallel line number_line span opened body closed rest) end tail ≡ inside c last after → StmtsDerive c → AreShallow m c
+        → (Parallel line number_line span opened body closed rest ≡ c) × (end ≡ last) × (tail ≡ after)
+    same _ (IsParallel line2 number_line2 span2 opened2 body2 closed2 rest2) e g h =
+        let a = heads-is _ _ _ _ e in
+        let b = heads-is _ _ _ _ a.2 in
+        let k = one-block opened opened2 body body2 closed closed2 _ _ (n - 1) (m - 1) only (sym (body-opens opened body closed rest end tail) ∙ b.2 ∙ body-opens opened2 body2 closed2 rest2 last after) d.0 g.0 s.1 h.1 in
+        let r = more rest2 n m end last tail after k.3 d.1 g.1 s.2 h.2 in (cc, r.1, r.2)
+
+only-critical : (line opened : ℕ) (body : Stmts) (closed : ℕ) (rest : Stmts) → AreOnly body → AreOnly rest → AreOnly (Critical line opened body closed rest)
+only-critical line opened body closed rest only more c n m end last tail after e d g s h = same c (seen lead.Critical c last after _ _ refl e) e g h
+  where
+    same : (c : Stmts) → View lead.Critical c → inside (Critical line opened body closed rest) end tail ≡ inside c last after → StmtsDerive c → AreShallow m c
+        → (Critical line opened body closed rest ≡ c) × (end ≡ last) × (tail ≡ after)
+    same _ (IsCritical line2 opened2 body2 closed2 rest2) e g h =
+        let a = heads-is _ _ _ _ e in
+        let k = one-block opened opened2 body body2 closed closed2 _ _ (n - 1) (m - 1) only (sym (body-opens opened body closed rest end tail) ∙ a.2 ∙ body-opens opened2 body2 closed2 rest2 last after) d.0 g.0 s.1 h.1 in
+        let r = more rest2 n m end last tail after k.3 d.1 g.1 s.2 h.2 in (cc, r.1, r.2)
+    same _ (IsCriticalOf line2 name_line2 name2 opened2 body2 closed2 rest2) e g h =
+        let a = heads-is _ _ _ _ e in
+        let b = heads-is _ _ _ _ a.2 in
+        let l = b.1 in absurd cc
+
+only-critical-of : (line name_line : ℕ) (name : List ℕ) (opened : ℕ) (body : Stmts) (closed : ℕ) (rest : Stmts) → AreOnly body → AreOnly rest → AreOnly (CriticalOf line name_line name opened body closed rest)
+only-critical-of line name_line name opened body closed rest only more c n m end last tail after e d g s h = same c (seen lead.Critical c last after _ _ refl e) e g h
+  where
+    same : (c : Stmts) → View lead.Critical c → inside (CriticalOf line name_line name opened body closed rest) end tail ≡ inside c last after → StmtsDerive c → AreShallow m c
+        → (CriticalOf line name_line name opened body closed rest ≡ c) × (end ≡ last) × (tail ≡ after)
+    same _ (IsCritical line2 opened2 body2 closed2 rest2) e g h =
+        let a = heads-is _ _ _ _ e in
+        let b = heads-is _ _ _ _ a.2 in
+        let l = b.1 in absurd cc
+    same _ (IsCriticalOf line2 name_line2 name2 opened2 body2 closed2 rest2) e g h =
+        let a = heads-is _ _ _ _ e in
+        let b = heads-is _ _ _ _ a.2 in
+        let l = b.1 in
+        let k = one-block opened opened2 body body2 closed closed2 _ _ (n - 1) (m - 1) only (sym (body-opens opened body closed rest end tail) ∙ b.2 ∙ body-opens opened2 body2 closed2 rest2 last after) d.0 g.0 s.1 h.1 in
+        let r = more rest2 n m end last tail after k.3 d.1 g.1 s.2 h.2 in (cc, r.1, r.2)
+
+-- an index and a value
+index-first : (index : Tree) (closed sign_line : ℕ) (value : Tree) (b : Stmts) (end : ℕ) (tail : List Token) → Derives expr index → IsFlat index
+    → IsExpression ((tree_tokens index ++ (mark closed sign.CloseBracket ∷ mark sign_line sign.Assign ∷ tree_tokens value ++ stmts_tokens b)) ++ mark end sign.CloseBrace ∷ tail) index
+    (mark closed sign.CloseBracket ∷ mark sign_line sign.Assign ∷ (tree_tokens value ++ stmts_tokens b) ++ mark end sign.CloseBrace ∷ tail)
+index-first index closed sign_line value b end tail d f = record { parts = append_assoc (tree_tokens index) _ _; derives = d; flat = f; ends = tt }
+
+only-store : (line : ℕ) (name : List ℕ) (opened : ℕ) (index : Tree) (closed sign_line : ℕ) (value : Tree) (rest : Stmts) → AreOnly rest → AreOnly (Store line name opened index closed sign_line value rest)
+only-store line name opened index closed sign_line value rest more c n m end last tail after e d g s h = same c (seen lead.Store c last after _ _ refl e) e g h
+  where
+    same : (c : Stmts) → View lead.Store c → inside (Store line name opened index closed sign_line value rest) end tail ≡ inside c last after → StmtsDerive c → AreShallow m c
+        → (Store line name opened index closed sign_line value rest ≡ c) × (end ≡ last) × (tail ≡ after)
+    same _ (IsStore line2 name2 opened2 index2 closed2 sign_line2 value2 rest2) e g h =
+        let a = heads-is _ _ _ _ e in
+        let b = heads-is _ _ _ _ a.2 in
+        let i = one-expression _ _ index index2 _ _ b.2 (index-first index closed sign_line value rest end tail d.0 s.0) (index-first index2 closed2 sign_line2 value2 rest2 last after g.0 h.0) in
+        let k = heads-is _ _ _ _ i.1 in
+        let l = heads-is _ _ _ _ k.2 in
+        let v = one-expression _ _ value value2 _ _ l.2 (before-stmts value rest end tail d.1 s.1) (before-stmts value2 rest2 last after g.1 h.1) in
+        let r = more rest2 n m end last tail after v.1 d.2 g.2 s.2 h.2 in (cc, r.1, r.2)
+
+-- a test and what is behind it
+before-block : (test : Tree) (opened : ℕ) (body : Stmts) (closed : ℕ) (b : Stmts) (end : ℕ) (tail : List Token) → Derives expr test → IsFlat test
+    → IsExpression ((tree_tokens test ++ (block opened (stmts_tokens body) closed ++ stmts_tokens b)) ++ mark end sign.CloseBrace ∷ tail) test (mark opened sign.OpenBrace ∷ inside body closed (inside b end tail))
+before-block test opened body closed b end tail d f =
+    record { parts = append_assoc (tree_tokens test) (block opened (stmts_tokens body) closed ++ stmts_tokens b) _ ∙ ap (λ (us : List Token). tree_tokens test ++ us) (body-opens opened body closed b end tail); derives = d; flat = f; ends = tt }
+
+else-opens : (opened : ℕ) (if_true : Stmts) (closed else_line else_opened : ℕ) (if_false : Stmts) (else_closed : ℕ) (b : Stmts) (end : ℕ) (tail : List Token)
+    → (block opened (stmts_tokens if_true) closed ++ (reserved else_line word.Else ∷ block else_opened (stmts_tokens if_false) else_closed ++ stmts_tokens b)) ++ mark end sign.CloseBrace ∷ tail
+    ≡ mark opened sign.OpenBrace ∷ inside if_true closed (reserved else_line word.Else ∷ mark else_opened sign.OpenBrace ∷ inside if_false else_closed (inside b end tail))
+else-opens opened if_true closed else_line else_opened if_false else_closed b end tail =
+    append_assoc (block opened (stmts_tokens if_true) closed) (reserved else_line word.Else ∷ block else_opened (stmts_tokens if_false) else_closed ++ stmts_tokens b) _
+    ∙ ap (λ (us : List Token). block opened (stmts_tokens if_true) closed ++ reserved else_line word.Else ∷ us) (body-opens else_opened if_false else_closed b end tail)
+    ∙ block-opens opened if_true closed _
+
+before-else : (test : Tree) (opened : ℕ) (if_true : Stmts) (closed else_line else_opened : ℕ) (if_false : Stmts) (else_closed : ℕ) (b : Stmts) (end : ℕ) (tail : List Token) → Derives expr test → IsFlat test
+    → IsExpression ((tree_tokens test ++ (block opened (stmts_tokens if_true) closed ++ (reserved else_line word.Else ∷ block else_opened (stmts_tokens if_false) else_closed ++ stmts_tokens b))) ++ mark end sign.CloseBrace ∷ tail) test
+    (mark opened sign.OpenBrace ∷ inside if_true closed (reserved else_line word.Else ∷ mark else_opened sign.OpenBrace ∷ inside if_false else_closed (inside b end tail)))
+before-else test opened if_true closed else_line else_opened if_false else_closed b end tail d f =
+    record { parts = append_assoc (tree_tokens test) _ _ ∙ ap (λ (us : List Token). tree_tokens test ++ us) (else-opens opened if_true closed else_line else_opened if_false else_closed b end tail); derives = d; flat = f; ends = tt }
+
+no-else-here : (b : Stmts) (end : ℕ) (tail : List Token) (line : ℕ) (ts : List Token) → inside b end tail ≡ reserved line word.Else ∷ ts → ⊥
+no-else-here b end tail line ts e = let one = sym (no-else b end tail) ∙ ap is_else e in absurd cc
+
+only-if : (line : ℕ) (test : Tree) (opened : ℕ) (if_true : Stmts) (closed : ℕ) (rest : Stmts) → AreOnly if_true → AreOnly rest → AreOnly (If line test opened if_true closed rest)
+only-if line test opened if_true closed rest only more c n m end last tail after e d g s h = same c (seen lead.If c last after _ _ refl e) e g h
+  where
+    same : (c : Stmts) → View lead.If c → inside (If line test opened if_true closed rest) end tail ≡ inside c last after → StmtsDerive c → AreShallow m c
+        → (If line test opened if_true closed rest ≡ c) × (end ≡ last) × (tail ≡ after)
+    same _ (IsIf line2 test2 opened2 if_true2 closed2 rest2) e g h =
+        let a = heads-is _ _ _ _ e in
+        let v = one-expression _ _ test test2 _ _ a.2 (before-block test opened if_true closed rest end tail d.0 s.0) (before-block test2 opened2 if_true2 closed2 rest2 last after g.0 h.0) in
+        let k = one-block opened opened2 if_true if_true2 closed closed2 _ _ (n - 1) (m - 1) only v.1 d.1 g.1 s.2 h.2 in
+        let r = more rest2 n m end last tail after k.3 d.2 g.2 s.3 h.3 in (cc, r.1, r.2)
+    same _ (IsIfElse line2 test2 opened2 if_true2 closed2 else_line2 else_opened2 if_false2 else_closed2 rest2) e g h =
+        let a = heads-is _ _ _ _ e in
+        let v = one-expression _ _ test test2 _ _ a.2 (before-block test opened if_true closed rest end tail d.0 s.0)
+        (before-else test2 opened2 if_true2 closed2 else_line2 else_opened2 if_false2 else_closed2 rest2 last after g.0 h.0) in
+        let k = one-block opened opened2 if_true if_true2 closed closed2 _ _ (n - 1) (m - 1) only v.1 d.1 g.1 s.2 h.2 in
+        absurd (no-else-here rest end tail else_line2 _ k.3)
+
+only-if-else : (line : ℕ) (test : Tree) (opened : ℕ) (if_true : Stmts) (closed else_line else_opened : ℕ) (if_false : Stmts) (else_closed : ℕ) (rest : Stmts) → AreOnly if_true → AreOnly if_false → AreOnly rest
+    → AreOnly (IfElse line test opened if_true closed else_line else_opened if_false else_closed rest)
+only-if-else line test opened if_true closed else_line else_opened if_false else_closed rest only other more c n m end last tail after e d g s h = same c (seen lead.If c last after _ _ refl e) e g h
+  where
+    same : (c : Stmts) → View lead.If c → inside (IfElse line test opened if_true closed else_line else_opened if_false else_closed rest) end tail ≡ inside c last after → StmtsDerive c → AreShallow m c
+        → (IfElse line test opened if_true closed else_line else_opened if_false else_closed rest ≡ c) × (end ≡ last) × (tail ≡ after)
+    same _ (IsIf line2 test2 opened2 if_true2 closed2 rest2) e g h =
+        let a = heads-is _ _ _ _ e in
+        let v = one-expression _ _ test test2 _ _ a.2 (before-else test opened if_true closed else_line else_opened if_false else_closed rest end tail d.0 s.0)
+        (before-block test2 opened2 if_true2 closed2 rest2 last after g.0 h.0) in
+        let k = one-block opened opened2 if_true if_true2 closed closed2 _ _ (n - 1) (m - 1) only v.1 d.1 g.1 s.2 h.2 in
+        absurd (no-else-here rest2 last after else_line _ (sym k.3))
+    same _ (IsIfElse line2 test2 opened2 if_true2 closed2 else_line2 else_opened2 if_false2 else_closed2 rest2) e g h =
+        let a = heads-is _ _ _ _ e in
+        let v = one-expression _ _ test test2 _ _ a.2 (before-else test opened if_true closed else_line else_opened if_false else_closed rest end tail d.0 s.0)
+        (before-else test2 opened2 if_true2 closed2 else_line2 else_opened2 if_false2 else_closed2 rest2 last after g.0 h.0) in
+        let k = one-block opened opened2 if_true if_true2 closed closed2 _ _ (n - 1) (m - 1) only v.1 d.1 g.1 s.2 h.2 in
+        let b = heads-is _ _ _ _ k.3 in
+        let l = one-block else_opened else_opened2 if_false if_false2 else_closed else_closed2 _ _ (n - 1) (m - 1) other b.2 d.2 g.2 s.3 h.3 in
+        let r = more rest2 n m end last tail after l.3 d.3 g.3 s.4 h.4 in (cc, r.1, r.2)
+
+-- a range and what is behind it
+range-first : (from : Tree) (dots : ℕ) (to : Tree) (behind more : List Token) → Derives expr from → IsFlat from
+    → IsExpression (((tree_tokens from ++ mark dots sign.Dots ∷ tree_tokens to) ++ behind) ++ more) from (mark dots sign.Dots ∷ (tree_tokens to ++ behind) ++ more)
+range-first from dots to behind more d f =
+    record { parts = ap (λ (us : List Token). us ++ more) (append_assoc (tree_tokens from) (mark dots sign.Dots ∷ tree_tokens to) behind) ∙ append_assoc (tree_tokens from) (mark dots sign.Dots ∷ tree_tokens to ++ behind) more; derives = d; flat = f; ends = tt }
+
+only-loop : (line name_line : ℕ) (name : List ℕ) (in_line : ℕ) (from : Tree) (dots : ℕ) (to : Tree) (opened : ℕ) (body : Stmts) (closed : ℕ) (rest : Stmts) → AreOnly body → AreOnly rest
+    → AreOnly (Loop line name_line name in_line from dots to opened body closed rest)
+only-loop line name_line name in_line from dots to opened body closed rest only more c n m end last tail after e d g s h = same c (seen lead.Loop c last after _ _ refl e) e g h
+  where
+    same : (c : Stmts) → View lead.Loop c → inside (Loop line name_line name in_line from dots to opened body closed rest) end tail ≡ inside c last after → StmtsDerive c → AreShallow m c
+        → (Loop line name_line name in_line from dots to opened body closed rest ≡ c) × (end ≡ last) × (tail ≡ after)
+    same _ (IsLoop line2 name_line2 name2 in_line2 from2 dots2 to2 opened2 body2 closed2 rest2) e g h =
+        let a = heads-is _ _ _ _ e in
+        let b = heads-is _ _ _ _ a.2 in
+        let i = heads-is _ _ _ _ b.2 in
+        let u = one-expression _ _ from from2 _ _ i.2 (range-first from dots to (block opened (stmts_tokens body) closed ++ stmts_tokens rest) _ d.0 s.0)
+        (range-first from2 dots2 to2 (block opened2 (stmts_tokens body2) closed2 ++ stmts_tokens rest2) _ g.0 h.0) in
+        let p = heads-is _ _ _ _ u.1 in
+        let v = one-expression _ _ to to2 _ _ p.2 (before-block to opened body closed rest end tail d.1 s.1) (before-block to2 opened2 body2 closed2 rest2 last after g.1 h.1) in
+        let k = one-block opened opened2 body body2 closed closed2 _ _ (n - 1) (m - 1) only v.1 d.2 g.2 s.3 h.3 in
+        let r = more rest2 n m end last tail after k.3 d.3 g.3 s.4 h.4 in (cc, r.1, r.2)
+
+-- ---- worksharing loops
+
+-- the schedule at the beginning of tokens, and the tokens behind it
+static_at : Bool → List Token → ScheduleTree × List Token
+static_at true ts = (StaticBy (line_of ts) (line_of (drop 1 ts)) (number_of (drop 1 ts)), drop 1 (drop 1 ts))
+static_at false ts = (Static (line_of ts), drop 1 ts)
+
+dynamic_at : Bool → List Token → ScheduleTree × List Token
+dynamic_at true ts = (DynamicBy (line_of ts) (line_of (drop 1 ts)) (number_of (drop 1 ts)), drop 1 (drop 1 ts))
+dynamic_at false ts = (Dynamic (line_of ts), drop 1 ts)
+
+schedule_at : Bool → Bool → List Token → ScheduleTree × List Token
+schedule_at true b ts = static_at (is_number (drop 1 ts)) ts
+schedule_at false true ts = dynamic_at (is_number (drop 1 ts)) ts
+schedule_at false false ts = (Unsaid, ts)
+
+schedule_in : List Token → ScheduleTree × List Token
+schedule_in ts = schedule_at (is_static ts) (is_dynamic ts) ts
+
+schedule-in : (s : ScheduleTree) (w : Option ℕ) (opened : ℕ) (ts : List Token)
+    → schedule_in (schedule_tokens s ++ (nowait_tokens w ++ mark opened sign.OpenBrace ∷ ts)) ≡ (s, nowait_tokens w ++ mark opened sign.OpenBrace ∷ ts)
+unfolding static_at dynamic_at schedule_at schedule_in
+schedule-in Unsaid None opened ts = refl
+schedule-in Unsaid (Some line) opened ts = refl
+schedule-in (Static line) None opened ts = refl
+schedule-in (Static line) (Some nowait) opened ts = refl
+schedule-in (StaticBy line number_line chunk) w opened ts = refl
+schedule-in (Dynamic line) None opened ts = refl
+schedule-in (Dynamic line) (Some nowait) opened ts = refl
+schedule-in (DynamicBy line number_line chunk) w opened ts = refl
+
+nowait_at : Bool → List Token → Option ℕ × List Token
+nowait_at true ts = (Some (line_of ts), drop 1 ts)
+nowait_at false ts = (None, ts)
+
+nowait_in : List Token → Option ℕ × List Token
+nowait_in ts = nowait_at (is_nowait ts) ts
+
+nowait-in : (w : Option ℕ) (opened : ℕ) (ts : List Token) → nowait_in (nowait_tokens w ++ mark opened sign.OpenBrace ∷ ts) ≡ (w, mark opened sign.OpenBrace ∷ ts)
+unfolding nowait_at nowait_in
+nowait-in None opened ts = refl
+nowait-in (Some line) opened ts = refl
+
+one-sharing : (s t : ScheduleTree) (w v : Option ℕ) (opened opened2 : ℕ) (ts us : List Token)
+    → schedule_tokens s ++ (nowait_tokens w ++ mark opened sign.OpenBrace ∷ ts) ≡ schedule_tokens t ++ (nowait_tokens v ++ mark opened2 sign.OpenBrace ∷ us)
+    → (s ≡ t) × (w ≡ v) × (mark opened sign.OpenBrace ∷ ts ≡ mark opened2 sign.OpenBrace ∷ us)
+one-sharing s t w v opened opened2 ts us e =
+    let first = sym (schedule-in s w opened ts) ∙ ap schedule_in e ∙ schedule-in t v opened2 us in
+    let second = sym (nowait-in w opened ts) ∙ ap (λ (x : ScheduleTree × List Token). nowait_in x.1) first ∙ nowait-in v opened2 us in
+    (ap (λ (x : ScheduleTree × List Token). x.0) first, ap (λ (x : Option ℕ × List Token). x.0) second, ap (λ (x : Option ℕ × List Token). x.1) second)
+
+before-schedule : (to : Tree) (schedule : ScheduleTree) (nowait : Option ℕ) (opened : ℕ) (body : Stmts) (closed : ℕ) (b : Stmts) (end : ℕ) (tail : List Token) → Derives expr to → IsFlat to
+    → IsExpression ((tree_tokens to ++ (schedule_tokens schedule ++ (nowait_tokens nowait ++ (block opened (stmts_tokens body) closed ++ stmts_tokens b)))) ++ mark end sign.CloseBrace ∷ tail) to
+    (schedule_tokens schedule ++ (nowait_tokens nowait ++ mark opened sign.OpenBrace ∷ inside body closed (inside b end tail)))
+before-schedule to schedule nowait opened body closed b end tail d f =
+    record {
+      parts = append_assoc (tree_tokens to) (schedule_tokens schedule ++ (nowait_tokens nowait ++ (block opened (stmts_tokens body) closed ++ stmts_tokens b))) _
+          ∙ ap (λ (us : List Token). tree_tokens to ++ us) (append_assoc (schedule_tokens schedule) (nowait_tokens nowait ++ (block opened (stmts_tokens body) closed ++ stmts_tokens b)) _
+          ∙ ap (λ (us : List Token). schedule_tokens schedule ++ us) (append_assoc (nowait_tokens nowait) (block opened (stmts_tokens body) closed ++ stmts_tokens b) _
+          ∙ ap (λ (us : List Token). nowait_tokens nowait ++ us) (body-opens opened body closed b end tail)));
+      derives = d;
+      flat = f;
+      ends = follows-schedule schedule nowait opened _;
+    }
+
+only-for : (line name_line : ℕ) (name : List ℕ) (in_line : ℕ) (from : Tree) (dots : ℕ) (to : Tree) (schedule : ScheduleTree) (nowait : Option ℕ) (opened : ℕ) (body : Stmts) (closed : ℕ) (rest : Stmts) → AreOnly body → AreOnly rest
+    → AreOnly (For line name_line name in_line from dots to schedule nowait opened body closed rest)
+only-for line name_line name in_line from dots to schedule nowait opened body closed rest only more c n m end last tail after e d g s h = same c (seen lead.For c last after _ _ refl e) e g h
+  where
+    same : (c : Stmts) → View lead.For c → inside (For line name_line name in_line from dots to schedule nowait opened body closed rest) end tail ≡ inside c last after → StmtsDerive c → AreShallow m c
+        → (For line name_line name in_line from dots to schedule nowait opened body closed rest ≡ c) × (end ≡ last) × (tail ≡ after)
+    same _ (IsFor line2 name_line2 name2 in_line2 from2 dots2 to2 schedule2 nowait2 opened2 body2 closed2 rest2) e g h =
+        let a = heads-is _ _ _ _ e in
+        let b = heads-is _ _ _ _ a.2 in
+        let i = heads-is _ _ _ _ b.2 in
+        let u = one-expression _ _ from from2 _ _ i.2 (range-first from dots to (schedule_tokens schedule ++ (nowait_tokens nowait ++ (block opened (stmts_tokens body) closed ++ stmts_tokens rest))) _ d.0 s.0)
+        (range-first from2 dots2 to2 (schedule_tokens schedule2 ++ (nowait_tokens nowait2 ++ (block opened2 (stmts_tokens body2) closed2 ++ stmts_tokens rest2))) _ g.0 h.0) in
+        let p = heads-is _ _ _ _ u.1 in
+        let v = one-expression _ _ to to2 _ _ p.2 (before-schedule to schedule nowait opened body closed rest end tail d.1 s.1) (before-schedule to2 schedule2 nowait2 opened2 body2 closed2 rest2 last after g.1 h.1) in
+        let w = one-sharing schedule schedule2 nowait nowait2 opened opened2 _ _ v.1 in
+        let k = one-block opened opened2 body body2 closed closed2 _ _ (n - 1) (m - 1) only w.2 d.2 g.2 s.3 h.3 in
+        let r = more rest2 n m end last tail after k.3 d.3 g.3 s.4 h.4 in (cc, r.1, r.2)
+
+-- ---- kernels
+
+only : (b : Stmts) → AreOnly b
+only NoMore = only-end
+only (Let line name_line name sign_line value rest) = only-let line name_line name sign_line value rest (only rest)
+only (Assign line name sign_line value rest) = only-assign line name sign_line value rest (only rest)
+only (Store line name opened index closed sign_line value rest) = only-store line name opened index closed sign_line value rest (only rest)
+only (If line test opened if_true closed rest) = only-if line test opened if_true closed rest (only if_true) (only rest)
+only (IfElse line test opened if_true closed else_line else_opened if_false else_closed rest) =
+    only-if-else line test opened if_true closed else_line else_opened if_false else_closed rest (only if_true) (only if_false) (only rest)
+only (Loop line name_line name in_line from dots to opened body closed rest) = only-loop line name_line name in_line from dots to opened body closed rest (only body) (only rest)
+only (Parallel line number_line span opened body closed rest) = only-parallel line number_line span opened body closed rest (only body) (only rest)
+only (For line name_line name in_line from dots to schedule nowait opened body closed rest) =
+    only-for line name_line name in_line from dots to schedule nowait opened body closed rest (only body) (only rest)
+only (Barrier line rest) = only-barrier line rest (only rest)
+only (Critical line opened body closed rest) = only-critical line opened body closed rest (only body) (only rest)
+only (CriticalOf line name_line name opened body closed rest) = only-critical-of line name_line name opened body closed rest (only body) (only rest)
+
+named-is : (one other : List ℕ) → Named one ≡ Named other → one ≡ other
+named-is one other e = cc
+
+number-is : (one other : ℤ) → Number one ≡ Number other → one ≡ other
+number-is one other e = cc
+
+-- declarations before `main`
+one-declared : (ds es : List Declaration) (l o : ℕ) (ts us : List Token) → declarations_tokens ds ++ reserved l word.Main ∷ ts ≡ declarations_tokens es ++ reserved o word.Main ∷ us → (ds ≡ es) × (l ≡ o) × (ts ≡ us)
+one-declared [] [] l o ts us e = let a = heads-is _ _ _ _ e in (refl, a.0, a.2)
+one-declared [] (ArrayOf _ _ _ _ _ _ _ ∷ es) l o ts us e = let a = heads-is _ _ _ _ e in let x = a.1 in absurd cc
+one-declared [] (MutexOf _ _ _ ∷ es) l o ts us e = let a = heads-is _ _ _ _ e in let x = a.1 in absurd cc
+one-declared (ArrayOf _ _ _ _ _ _ _ ∷ ds) [] l o ts us e = let a = heads-is _ _ _ _ e in let x = a.1 in absurd cc
+one-declared (MutexOf _ _ _ ∷ ds) [] l o ts us e = let a = heads-is _ _ _ _ e in let x = a.1 in absurd cc
+one-declared (ArrayOf _ _ _ _ _ _ _ ∷ ds) (MutexOf _ _ _ ∷ es) l o ts us e = let a = heads-is _ _ _ _ e in let x = a.1 in absurd cc
+one-declared (MutexOf _ _ _ ∷ ds) (ArrayOf _ _ _ _ _ _ _ ∷ es) l o ts us e = let a = heads-is _ _ _ _ e in let x = a.1 in absurd cc
+one-declared (ArrayOf line name_line name width_line width count_line count ∷ ds) (ArrayOf line2 name_line2 name2 width_line2 width2 count_line2 count2 ∷ es) l o ts us e =
+    let a = heads-is _ _ _ _ e in
+    let b = heads-is _ _ _ _ a.2 in
+    let c = heads-is _ _ _ _ b.2 in
+    let d = heads-is _ _ _ _ c.2 in
+    let r = one-declared ds es l o ts us d.2 in
+    let x = named-is name name2 b.1 in let y = named-is width width2 c.1 in let z = number-is count count2 d.1 in
+    (cc, r.1, r.2)
+one-declared (MutexOf line name_line name ∷ ds) (MutexOf line2 name_line2 name2 ∷ es) l o ts us e =
+    let a = heads-is _ _ _ _ e in
+    let b = heads-is _ _ _ _ a.2 in
+    let r = one-declared ds es l o ts us b.2 in
+    let x = named-is name name2 b.1 in (cc, r.1, r.2)
+
+abbrev tree : List Declaration → ℕ → ℕ → Stmts → ℕ → KernelTree
+tree ds line opened body closed = record { declarations = ds; line = line; opened = opened; body = body; closed = closed }
+
+trees-same : (ds es : List Declaration) (line line2 opened opened2 : ℕ) (body body2 : Stmts) (closed closed2 : ℕ) → ds ≡ es → line ≡ line2 → opened ≡ opened2 → body ≡ body2 → closed ≡ closed2
+    → tree ds line opened body closed ≡ tree es line2 opened2 body2 closed2
+trees-same ds es line line2 opened opened2 body body2 closed closed2 a b c d e = cc
+
+pub one-tree : (k l : KernelTree) → kernel_tokens k ≡ kernel_tokens l → IsKernel k → IsKernel l → IsShallow k → IsShallow l → k ≡ l
+one-tree k l e d g s h =
+    let a = one-declared k.declarations l.declarations k.line l.line _ _ e in
+    let b = heads-is _ _ _ _ a.2 in
+    let r = only k.body l.body 31 31 k.closed l.closed [] [] b.2 d g s h in
+    trees-same k.declarations l.declarations k.line l.line k.opened l.opened k.body l.body k.closed l.closed a.0 a.1 b.0 r.0 r.1

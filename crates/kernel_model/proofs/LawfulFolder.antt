@@ -1,0 +1,369 @@
+-- The tasks of a whole run of a lawful kernel keep every rule of a folder.
+use Rattle.std.proofs.Common.{◌≡◌, refl, ap, sym, ◌∙◌, subst, ℕ, zero, suc, ◌+◌, ◌<◌, ◌≤◌, arith, Bool, true, false, cond, nat_lt, List, [], ◌∷◌, ◌++◌, append_assoc, length, get_or, Option, Some, None, slice_get, IsSome, All, true≢false, length-append}
+use Rattle.std.specs.Prelude.{◌==◌, ◌&&◌, map, Contains, option_map}
+use Rattle.std.proofs.lemmas.Bool.Decides.{nat_tests}
+use Rattle.std.proofs.lemmas.List.{append-nil}
+use Rattle.std.proofs.lemmas.List.Elements.{All-nil, All-cons, All-push}
+use Rattle.std.proofs.lemmas.Option.{same_Some, none-some, slice_get-map, slice_get_within}
+use Rattle.log_format.specs.declared.format.TheConstants.{FORMAT}
+use Rattle.sw_base.specs.declared.path.Step.{Step}
+use Rattle.log_format.specs.declared.record.Record.{Record}
+use Rattle.log_format.specs.Table.{IsTabled}
+use Rattle.race_model.specs.FirstBad.{row_of, rows_of}
+use Rattle.race_model.specs.IndexFault.{IsStep, IsRow, max_rows}
+use Rattle.race_model.specs.KeepsRules.{KnowsTeam, TaskKeepsRules, KeepsRules}
+use Rattle.race_model.specs.Listing.{lane_of, IsListing}
+use Rattle.race_model.specs.Row.{Row}
+use Rattle.race_model.specs.Trace.{TaskLog, Trace, Logs, logs_of, barrier_count, is_region_kind}
+use Rattle.std.proofs.lemmas.List.Sums.{count_by-le-length}
+use Rattle.race_model.proofs.FolderRules.{lists_spans}
+use Rattle.race_model.proofs.Listed.{AreSpans}
+use Rattle.race_model.proofs.ListedOnce.{logs_at}
+use Rattle.race_model.proofs.TraceLogs.{all_at}
+use Rattle.kernel_syntax.specs.Program.{Program}
+use Rattle.kernel_syntax.specs.Tree.{TeamTree}
+use Rattle.kernel_model.specs.State.{Fork, reads_of, chunks_of}
+use Rattle.kernel_model.specs.Trace.{Start, log_limit}
+use Rattle.kernel_model.specs.Folder.{own_trace, root_start, lane_start, start_at, start_below, IsTraced, IsTracedTask, IsTracedFolder, paths_of}
+use Rattle.kernel_model.specs.Lawful.{IsLawful, code_holds_work}
+use Rattle.kernel_model.specs.Parts.{parts_of, bar_count}
+use Rattle.kernel_model.proofs.FirstKindShape.{trace_limit}
+use Rattle.kernel_model.proofs.Growing.{task-grows}
+use Rattle.kernel_model.proofs.LawfulRecords.{IsLawfulTeam, IsLawfulFork, spans_forked}
+use Rattle.kernel_model.proofs.LawfulLogs.{IsLawfulLog, lawful_log, log_keeps}
+use Rattle.kernel_model.proofs.SameBarriers.{traced_barriers, idle_barriers}
+
+-- ---- starts down a path
+
+module _ (program : Program) (logs : Logs) where
+  below_append : (path : List Step) (o : Option Start) (xs ys : List Step) →
+      start_below program logs path o (xs ++ ys) ≡ start_below program logs (path ++ xs) (start_below program logs path o xs) ys
+  below_append path None xs ys = refl
+  below_append path (Some start) [] ys = ap (λ (p : List Step). start_below program logs p (Some start) ys) (sym (append-nil path))
+  below_append path (Some start) (step ∷ xs) ys =
+      let next = lane_start (slice_get (own_trace program start (logs path)).forks step.region) step in
+      below_append (path ++ step ∷ []) next xs ys
+      ∙ ap (λ (p : List Step). start_below program logs p (start_below program logs (path ++ step ∷ []) next xs) ys) (append_assoc path (step ∷ []) xs)
+
+  nothing_below : (path : List Step) (o : Option Start) → start_below program logs path o [] ≡ o
+  nothing_below path None = refl
+  nothing_below path (Some start) = refl
+
+  at_append : (xs ys : List Step) → start_at program logs (xs ++ ys) ≡ start_below program logs xs (start_at program logs xs) ys
+  unfolding start_at
+  at_append xs ys = below_append [] (Some (root_start program)) xs ys
+
+  -- a lane starts where its parent forks it
+  at_lane : (path : List Step) (start : Start) (step : Step) → start_at program logs path ≡ Some start →
+      start_at program logs (path ++ step ∷ []) ≡ lane_start (slice_get (own_trace program start (logs path)).forks step.region) step
+  at_lane path start step is =
+      at_append path (step ∷ [])
+      ∙ ap (λ (o : Option Start). start_below program logs path o (step ∷ [])) is
+      ∙ nothing_below (path ++ step ∷ []) (lane_start (slice_get (own_trace program start (logs path)).forks step.region) step)
+
+  at_root : start_at program logs [] ≡ Some (root_start program)
+  unfolding start_at
+  at_root = refl
+
+-- what a lane's start tells
+record IsLaneStart (o : Option Fork) (step : Step) (start : Start) : Type 0 where
+  fork : Fork
+  forked : o ≡ Some fork
+  span : step.span ≡ fork.team.span
+  lane : step.lane < step.span
+  team : start.team ≡ fork.team
+
+both : (a b : Bool) → (a && b) ≡ true → (a ≡ true) × (b ≡ true)
+both true b is = (refl, is)
+both false b is = absurd (true≢false (sym is))
+
+fits_lane : (a b lane : ℕ) → (a == b) && nat_lt lane a ≡ true → (a ≡ b) × (lane < a)
+fits_lane a b lane is =
+    let parts = both (a == b) (nat_lt lane a) is in
+    let one : (a == b) ≡ true = parts.0 in
+    let two : nat_lt lane a ≡ true = parts.1 in
+    let same : a ≡ b = grind (arith, nat_tests) in
+    let lt : lane < a = grind (arith, nat_tests) in
+    (same, lt)
+
+lane_started : (o : Option Fork) (step : Step) (start : Start) → lane_start o step ≡ Some start → IsLaneStart o step start
+lane_started None step start is = absurd (none-some start is)
+lane_started (Some f) step start is = by_test ((step.span == f.team.span) && nat_lt step.lane step.span) refl is
+  where
+    by_test : (b : Bool) → (step.span == f.team.span) && nat_lt step.lane step.span ≡ b →
+        cond b (Some (record { team = f.team; lane = step.lane; slots = f.slots })) None ≡ Some start → IsLaneStart (Some f) step start
+    by_test false test same = absurd (none-some start same)
+    by_test true test same =
+        let fits = fits_lane step.span f.team.span step.lane test in
+        record {
+          fork = f;
+          forked = refl;
+          span = fits.0;
+          lane = fits.1;
+          team = ap (λ (s : Start). s.team) (sym (same_Some (record { team = f.team; lane = step.lane; slots = f.slots }) start same));
+        }
+
+starts_lane : (f : Fork) (step : Step) → step.span ≡ f.team.span → step.lane < step.span →
+    lane_start (Some f) step ≡ Some (record { team = f.team; lane = step.lane; slots = f.slots })
+starts_lane f step span lane =
+    let test : (step.span == f.team.span) && nat_lt step.lane step.span ≡ true = passes step.span f.team.span step.lane span lane in
+    ap (λ (b : Bool). cond b (Some (record { team = f.team; lane = step.lane; slots = f.slots })) None) test
+  where
+    passes : (a b lane : ℕ) → a ≡ b → lane < a → (a == b) && nat_lt lane a ≡ true
+    passes a b lane same lt = grind (arith, nat_tests)
+
+-- ---- tasks of a trace
+
+pub record FoundTask (tasks : Trace) (path : List Step) : Type 0 where
+  pub index : ℕ
+  pub task : TaskLog
+  pub found : slice_get tasks index ≡ Some task
+  pub path_is : task.path ≡ path
+
+found_at : (tasks : Trace) (path : List Step) (k : ℕ) → k < length (paths_of tasks) → get_or (paths_of tasks) k path ≡ path → FoundTask tasks path
+found_at [] path k lt is = absurd (omega arith)
+found_at (t ∷ tasks) path zero lt is = record { index = 0; task = t; found = refl; path_is = is }
+found_at (t ∷ tasks) path (suc k) lt is =
+    let rest = found_at tasks path k (omega arith) is in
+    record { index = suc rest.index; task = rest.task; found = rest.found; path_is = rest.path_is }
+
+find_task : (tasks : Trace) (path : List Step) → Contains (paths_of tasks) path → FoundTask tasks path
+find_task tasks path (k, lt, is) = found_at tasks path k lt is
+
+-- what holds of each task holds of all, and of their rows
+each_task : (P : TaskLog → Type 0) (tasks : Trace) → ((k : ℕ) (task : TaskLog) → slice_get tasks k ≡ Some task → P task) → All P tasks
+each_task P [] all = All-nil P
+each_task P (t ∷ tasks) all = All-cons P t tasks (all 0 t refl) (each_task P tasks (λ k task found. all (suc k) task found))
+
+each_row : (tasks : Trace) → ((k : ℕ) (task : TaskLog) → slice_get tasks k ≡ Some task → IsRow (row_of task)) → All IsRow (rows_of tasks)
+each_row [] all = All-nil IsRow
+each_row (t ∷ tasks) all = All-cons IsRow (row_of t) (rows_of tasks) (all 0 t refl) (each_row tasks (λ k task found. all (suc k) task found))
+
+row_paths : (tasks : Trace) → map (λ (row : Row). row.path) (rows_of tasks) ≡ paths_of tasks
+row_paths [] = refl
+row_paths (t ∷ tasks) = ap (λ (ps : List (List Step)). t.path ∷ ps) (row_paths tasks)
+
+row_count : (tasks : Trace) → length (rows_of tasks) ≡ length tasks
+row_count [] = refl
+row_count (t ∷ tasks) = ap suc (row_count tasks)
+
+-- a task forks at most as many regions as it has records
+fork_limit : (program : Program) (start : Start) (records : List Record) → length (own_trace program start records).forks ≤ log_limit
+fork_limit program start records =
+    let grows = task-grows program start (reads_of records) (chunks_of records) in
+    let forks : length (own_trace program start records).forks ≡ length grows.regions = ap length grows.forks_are in
+    let count = grows.fork_count in
+    let room = grows.room_is in
+    omega (arith, count_by-le-length (λ (r : Record). is_region_kind r.kind) grows.added)
+
+-- ---- a folder of a lawful kernel
+
+module _ (program : Program) (lawful : IsLawful program) (tasks : Trace) (folder : IsTracedFolder program tasks) (listing : IsListing (paths_of tasks)) where
+  abbrev logs : Logs
+  logs = logs_of tasks
+
+  abbrev mutexes : ℕ
+  mutexes = length program.mutexes
+
+  -- each task that starts is there, with its trace
+  traced_at : (path : List Step) (start : Start) → start_at program logs path ≡ Some start → IsTraced program start (logs path)
+  traced_at path start starts =
+      let there = find_task tasks path (folder.all path (subst IsSome (sym starts) refl)) in
+      let it = all_at (IsTracedTask program logs) tasks there.index there.task folder.each there.found in
+      let same : it.start ≡ start =
+      same_Some it.start start (sym it.starts ∙ ap (λ (p : List Step). start_at program logs p) there.path_is ∙ starts) in
+      let records : there.task.records ≡ logs path =
+      sym (logs_at tasks listing there.index there.task there.found) ∙ ap logs there.path_is in
+      subst (λ (rs : List Record). IsTraced program start rs) records (subst (λ (s : Start). IsTraced program s there.task.records) same it.traced)
+
+  -- a task that lies as deep as its path is long
+  record IsLawfulAt (path : List Step) (start : Start) : Type 0 where
+    inside : IsLawfulTeam mutexes (length path) start.team
+    steps : All IsStep path
+
+  root_lawful : IsLawfulAt [] (root_start program)
+  root_lawful = record {
+    inside = record { lanes = 1; few = omega arith; shallow = omega arith; even = lawful.even; nested = lawful.nested; bounded = lawful.bounded.body };
+    steps = All-nil IsStep;
+  }
+
+  -- a lane of a lawful task's region
+  lane_lawful : (path : List Step) (start : Start) (step : Step) (next : Start) → IsLawfulAt path start → IsTraced program start (logs path) →
+      lane_start (slice_get (own_trace program start (logs path)).forks step.region) step ≡ Some next → IsLawfulAt (path ++ step ∷ []) next
+  lane_lawful path start step next at traced is =
+      let forks = (own_trace program start (logs path)).forks in
+      let lane = lane_started (slice_get forks step.region) step next is in
+      let log = lawful_log program start (logs path) mutexes (length path) at.inside traced in
+      let fork : IsLawfulFork mutexes (length path + 1) lane.fork = all_at (IsLawfulFork mutexes (length path + 1)) forks step.region lane.fork log.teams lane.forked in
+      let deep : length (path ++ step ∷ []) ≡ length path + 1 = length-append path (step ∷ []) in
+      let region = slice_get_within forks step.region lane.fork lane.forked in
+      let limit = fork_limit program start (logs path) in
+      let some = fork.span.some in
+      let most = fork.span.limit in
+      let span = lane.span in
+      record {
+        inside =
+            subst (λ (n : ℕ). IsLawfulTeam mutexes n next.team) (sym deep)
+            (subst (λ (t : TeamTree). IsLawfulTeam mutexes (length path + 1) t) (sym lane.team) fork.inside);
+        steps = All-push IsStep path step at.steps (record { region = omega arith; span = record { some = omega arith; limit = omega arith }; lane = lane.lane });
+      }
+
+  -- so every task that starts is lawful
+  walk : (above : List Step) (start : Start) (steps : List Step) (last : Start) → start_at program logs above ≡ Some start → IsLawfulAt above start →
+      start_at program logs (above ++ steps) ≡ Some last → IsLawfulAt (above ++ steps) last
+  walk above start [] last starts at ends =
+      let all = append-nil above in
+      let same : start ≡ last = same_Some start last (sym starts ∙ ap (λ (p : List Step). start_at program logs p) (sym all) ∙ ends) in
+      subst (λ (p : List Step). IsLawfulAt p last) (sym all) (subst (IsLawfulAt above) same at)
+  walk above start (step ∷ steps) last starts at ends =
+      by_lane (start_at program logs (above ++ step ∷ [])) refl (λ next is.
+      walk (above ++ step ∷ []) next steps last is
+      (lane_lawful above start step next at (traced_at above start starts) (sym (at_lane program logs above start step starts) ∙ is))
+      reaches)
+    where
+      parts : (above ++ step ∷ []) ++ steps ≡ above ++ step ∷ steps
+      parts = append_assoc above (step ∷ []) steps
+
+      reaches : start_at program logs ((above ++ step ∷ []) ++ steps) ≡ Some last
+      reaches = ap (λ (p : List Step). start_at program logs p) parts ∙ ends
+
+      by_lane : (o : Option Start) → start_at program logs (above ++ step ∷ []) ≡ o →
+          ((next : Start) → start_at program logs (above ++ step ∷ []) ≡ Some next → IsLawfulAt ((above ++ step ∷ []) ++ steps) last) →
+          IsLawfulAt (above ++ step ∷ steps) last
+      by_lane None is goes_on =
+          let none : start_at program logs ((above ++ step ∷ []) ++ steps) ≡ None =
+          at_append program logs (above ++ step ∷ []) steps ∙ ap (λ (o : Option Start). start_below program logs (above ++ step ∷ []) o steps) is in
+          absurd (none-some last (sym none ∙ reaches))
+      by_lane (Some next) is goes_on = subst (λ (p : List Step). IsLawfulAt p last) parts (goes_on next is)
+
+  lawful_at : (path : List Step) (start : Start) → start_at program logs path ≡ Some start → IsLawfulAt path start
+  lawful_at path start starts = walk [] (root_start program) path start (at_root program logs) root_lawful starts
+
+  -- the task above one that starts, too
+  parent : (above : List Step) (step : Step) (start : Start) → start_at program logs (above ++ step ∷ []) ≡ Some start →
+      (up : Start) × (start_at program logs above ≡ Some up)
+  parent above step start starts = by_start (start_at program logs above) refl
+    where
+      by_start : (o : Option Start) → start_at program logs above ≡ o → (up : Start) × (start_at program logs above ≡ Some up)
+      by_start None is =
+          absurd (none-some start (sym (at_append program logs above (step ∷ [])
+          ∙ ap (λ (o : Option Start). start_below program logs above o (step ∷ [])) is) ∙ starts))
+      by_start (Some up) is = (up, is)
+
+  -- ---- one task
+
+  module _ (k : ℕ) (task : TaskLog) (found : slice_get tasks k ≡ Some task) where
+    it : IsTracedTask program logs task
+    it = all_at (IsTracedTask program logs) tasks k task folder.each found
+
+    own : logs task.path ≡ task.records
+    own = logs_at tasks listing k task found
+
+    at : IsLawfulAt task.path it.start
+    at = lawful_at task.path it.start it.starts
+
+    abbrev forks : List Fork
+    forks = (own_trace program it.start (logs task.path)).forks
+
+    log : IsLawfulLog mutexes (length task.path + 1) task.records forks
+    log =
+        subst (λ (rs : List Record). IsLawfulLog mutexes (length task.path + 1) rs forks) own
+        (lawful_log program it.start (logs task.path) mutexes (length task.path) at.inside (traced_at task.path it.start it.starts))
+
+    abbrev due : ℕ
+    due = bar_count (parts_of it.start.team.body)
+
+    barriers_are : barrier_count task.records ≡ due
+    barriers_are = traced_barriers program it.start task.records at.inside.even it.traced
+
+    root_barriers : task.path ≡ [] → barrier_count task.records ≡ 0
+    root_barriers is =
+        let main : root_start program ≡ it.start =
+        same_Some (root_start program) it.start (sym (at_root program logs) ∙ ap (λ (p : List Step). start_at program logs p) (sym is) ∙ it.starts) in
+        idle_barriers program it.start task.records
+        (subst (λ (s : Start). code_holds_work s.team.body ≡ false) main lawful.idle) it.traced
+
+    -- the spans of its regions
+    are_spans : AreSpans (paths_of tasks) task.path (spans_forked forks)
+    are_spans = record { listed = listed; lists = lists }
+      where
+        listed : (region lane span : ℕ) → Contains (paths_of tasks) (lane_of task.path region lane span) → slice_get (spans_forked forks) region ≡ Some span
+        listed region lane span there =
+            let step : Step = record { region = region; lane = lane; span = span } in
+            let beside = find_task tasks (task.path ++ step ∷ []) there in
+            let its = all_at (IsTracedTask program logs) tasks beside.index beside.task folder.each beside.found in
+            let starts : start_at program logs (task.path ++ step ∷ []) ≡ Some its.start =
+            ap (λ (p : List Step). start_at program logs p) (sym beside.path_is) ∙ its.starts in
+            let told = lane_started (slice_get forks region) step its.start (sym (at_lane program logs task.path it.start step it.starts) ∙ starts) in
+            slice_get-map (λ (f : Fork). f.team.span) forks region
+            ∙ ap (λ o. option_map (λ (f : Fork). f.team.span) o) told.forked
+            ∙ ap (λ (n : ℕ). Some n) (sym told.span)
+
+        by_fork : (region span : ℕ) (o : Option Fork) → slice_get forks region ≡ o → option_map (λ (f : Fork). f.team.span) o ≡ Some span →
+            Contains (paths_of tasks) (lane_of task.path region 0 span)
+        by_fork region span None is same = absurd (none-some span same)
+        by_fork region span (Some f) is same =
+            let step : Step = record { region = region; lane = 0; span = span } in
+            let lawful_fork = all_at (IsLawfulFork mutexes (length task.path + 1)) forks region f log.teams is in
+            let span_is : span ≡ f.team.span = sym (same_Some f.team.span span same) in
+            let some = lawful_fork.span.some in
+            let starts = at_lane program logs task.path it.start step it.starts ∙ ap (λ o. lane_start o step) is ∙ starts_lane f step span_is (omega arith) in
+            folder.all (task.path ++ step ∷ []) (subst IsSome (sym starts) refl)
+
+        lists : (region span : ℕ) → slice_get (spans_forked forks) region ≡ Some span → Contains (paths_of tasks) (lane_of task.path region 0 span)
+        lists region span told =
+            by_fork region span (slice_get forks region) refl (sym (slice_get-map (λ (f : Fork). f.team.span) forks region) ∙ told)
+
+    -- lane 0 of its team passes as many barriers
+    knows_team : KnowsTeam tasks task.path (Some due)
+    knows_team above step is above_first =
+        let starts : start_at program logs (above ++ step ∷ []) ≡ Some it.start = ap (λ (p : List Step). start_at program logs p) (sym is) ∙ it.starts in
+        let up = parent above step it.start starts in
+        let others = (own_trace program up.0 (logs above)).forks in
+        let told = lane_started (slice_get others step.region) step it.start (sym (at_lane program logs above up.0 step up.1) ∙ starts) in
+        let first : Step = record { region = step.region; lane = 0; span = step.span } in
+        let lane = told.lane in
+        let begins =
+        at_lane program logs above up.0 first up.1
+        ∙ ap (λ o. lane_start o first) told.forked
+        ∙ starts_lane told.fork first told.span (omega arith) in
+        let zero_start : Start = record { team = told.fork.team; lane = 0; slots = told.fork.slots } in
+        let path = lane_of above step.region 0 step.span in
+        let count = traced_barriers program zero_start (logs path) (lawful_at path zero_start begins).inside.even (traced_at path zero_start begins) in
+        ap (λ (n : ℕ). Some n) (ap (λ (t : TeamTree). bar_count (parts_of t.body)) told.team ∙ sym count)
+
+    task_keeps : All (IsTabled FORMAT) task.records → TaskKeepsRules FORMAT tasks task
+    task_keeps tabled = record {
+      tabled = tabled;
+      spans = spans_forked forks;
+      has_spans =
+          lists_spans (rows_of tasks) task.path (spans_forked forks)
+          (subst (λ (ps : List (List Step)). AreSpans ps task.path (spans_forked forks)) (sym (row_paths tasks)) are_spans);
+      due_barriers = Some due;
+      knows_team = knows_team;
+      keeps =
+          log_keeps mutexes (length task.path + 1) task.records forks log task.path (Some due)
+          (λ barriers same. barriers_are ∙ same_Some due barriers same) root_barriers;
+    }
+
+    is_row : IsRow (row_of task)
+    is_row =
+        let size : length task.records ≡ length log.prefix + 1 = ap length log.parts ∙ length-append log.prefix _ in
+        record {
+          depth = at.inside.shallow;
+          steps = at.steps;
+          records = record { some = omega arith; limit = trace_limit program it.start task.records it.traced };
+        }
+
+  -- All tasks keep the rules.
+  pub folder_keeps : length tasks ≤ max_rows → All (λ (task : TaskLog). All (IsTabled FORMAT) task.records) tasks → KeepsRules FORMAT tasks
+  folder_keeps few tabled = record {
+    rows = record {
+      lists = subst IsListing (sym (row_paths tasks)) listing;
+      each = each_row tasks is_row;
+      limit = omega (arith, row_count tasks);
+    };
+    tasks =
+        each_task (TaskKeepsRules FORMAT tasks) tasks (λ k task found.
+        task_keeps k task found (all_at (λ (t : TaskLog). All (IsTabled FORMAT) t.records) tasks k task tabled found));
+  }

@@ -1,0 +1,14 @@
+pub mod Prefixes
+pub mod Scans
+pub mod Operators
+pub mod Few
+pub mod Lines
+pub mod Wants
+pub mod Running
+pub mod Completes
+pub mod CompleteKernels
+pub mod Grouping
+pub mod Filling
+pub mod Sounds
+pub mod Levels
+pub mod Judgement

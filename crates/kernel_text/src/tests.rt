@@ -1,0 +1,40 @@
+use super::*;
+use std::alloc::Global;
+use std::test::Fail;
+
+#[test]
+fn digits_end_before_dots(rt: HostRuntime) -> Result<(), Fail> {
+    let found = tokens(rt.alloc(), b"0..8").ok().ok_or("tokens")?;
+    assert_eq!(rt; found.len(), 3);
+    assert!(rt; matches!(found[0].lexeme, Lexeme::Number(0)));
+    assert!(rt; matches!(found[1].lexeme, Lexeme::Mark(Sign::Dots)));
+    assert!(rt; matches!(found[2].lexeme, Lexeme::Number(8)));
+    Ok(())
+}
+
+// Whether the tokens of a text are refused at this line for this reason.
+fn has_no_tokens(alloc: Global, text: &[u8], line: u32, why: KernelWhy) -> bool {
+    match tokens(alloc, text) {
+        Err(
+            TextFault::Refused {
+                line: at,
+                why: told,
+            },
+        ) => at == line && told == why,
+        _ => false,
+    }
+}
+
+#[test]
+fn a_text_without_tokens_tells_its_line_and_why(rt: HostRuntime) {
+    let rows: [(&[u8], u32, KernelWhy); 5] = [
+        (b"a\n$", 2, KernelWhy::Token),
+        (b"# $\n\n9223372036854775808", 3, KernelWhy::Token),
+        (b"a23456789012345678901234567890123", 1, KernelWhy::Token),
+        (b"a\n\n\xff", 3, KernelWhy::NotUtf8),
+        (b"$\n\xc3", 2, KernelWhy::NotUtf8),
+    ];
+    for (text, line, why) in rows {
+        assert!(rt; has_no_tokens(rt.alloc(), text, line, why));
+    }
+}
