@@ -1,6 +1,7 @@
 -- What is seen of a buffer: its log, and the bytes that wait in its block.
 use Rattle.std.specs.Prelude.{◌≡◌, ℕ, ◌+◌, ◌<◌, ◌≤◌, List, [], length, Option, Some, None, is_some}
 use Rattle.std.specs.Option.{option_map}
+use Rattle.log_format.specs.Limit.{record_limit}
 use Rattle.sw_base.specs.declared.path.Step.{Step}
 use Rattle.sw_base.specs.declared.trouble.Trouble.{Trouble}
 use Rattle.sw_base.specs.declared.trouble.Trouble.TheVariants.{Failed, Memory}
@@ -17,10 +18,6 @@ pub record Buffered : Type 0 where
   pub waiting : List ℕ
   pub count : ℕ
   pub refused : Option Trouble
-
--- how many records a log may have
-abbrev pub record_limit : ℕ
-record_limit = 4194304
 
 -- the bytes of one more record fit
 abbrev pub HasRoom : Buffered → Type 0

@@ -1,21 +1,21 @@
 //! A buffer before a task's log.
 ghost use Rattle.std.specs.Prelude.{◌≡◌, ◌+◌, ◌*◌, ◌<◌, ◌≤◌, ◌↔◌, [], ◌∷◌, ◌++◌, length, List, ℕ, Some, None, Err, is_some, IfOk, IfErr, OnOk, OnErr, IsErr, IsErrOf, IsTrue};
 ghost use Rattle.std.specs.Option.{option_map};
+ghost use Rattle.log_format.specs.declared.format.TheConstants.{FORMAT};
+ghost use Rattle.log_format.specs.Format.{log_header};
+ghost use Rattle.log_format.specs.Limit.{record_limit};
 ghost use Rattle.log_format.specs.declared.record.Record.{Record};
 ghost use Rattle.log_format.specs.Spelling.{spelling};
 ghost use Rattle.sw_base.specs.Environment.{WhereTold, HasCause, Rose, TearsPiece, empty_text, with_piece};
-ghost use Rattle.event_buffer.specs.Buffered.{HasRoom, MayPut, IsFlushed, IsTornBy, IsStill, CountsFault, record_limit};
+ghost use Rattle.event_buffer.specs.Buffered.{HasRoom, MayPut, IsFlushed, IsTornBy, IsStill, CountsFault};
 ghost use Rattle.event_buffer.specs.Logged.{HoldsRecords, HasAll, KeepsPrefix};
 
 use crate::fault::BufferFault;
 use event_block::Block;
-use log_format::{Record, encode};
+use log_format::{FORMAT, RECORD_LIMIT, Record, encode};
 use std::alloc::Global;
 use std::marker::Model;
-use sw_base::{LOG_HEADER, Log, Trouble};
-
-/// How many records a log may have.
-const RECORD_LIMIT: u32 = 4_194_304;
+use sw_base::{Log, Trouble};
 
 /// The bytes of a record.
 const RECORD_SIZE: usize = 24;
@@ -31,7 +31,8 @@ pub struct Buffer<L: Log> {
 
 impl<L: Log> Model for Buffer<L> {
     ghost use Rattle.std.specs.Prelude.{◌≡◌, ◌<◌, ◌≤◌, Some, length};
-    ghost use Rattle.event_buffer.specs.Buffered.{Buffered, CountsFault, record_limit};
+    ghost use Rattle.event_buffer.specs.Buffered.{Buffered, CountsFault};
+    ghost use Rattle.log_format.specs.Limit.{record_limit};
     ghost use Rattle.sw_base.specs.declared.trouble.Trouble.{Trouble};
 
     ghost Value = { Buffered };
@@ -61,17 +62,17 @@ impl<L: Log> Buffer<L> {
         ensures started { IfOk result (λ b. b ≡ record {
           dir = L.dir log;
           path = L.path log;
-          text = option_map (with_piece LOG_HEADER) (L.text log);
+          text = option_map (with_piece (log_header FORMAT)) (L.text log);
           faults = b.faults;
           size = size;
           waiting = [];
           count = 0;
           refused = None;
         }) }
-        ensures records { IfOk result (λ b. HoldsRecords LOG_HEADER b []) }
+        ensures records { IfOk result (λ b. HoldsRecords (log_header FORMAT) b []) }
 
         ensures given_back { IfErr result (λ error. (L.dir error.1 ≡ L.dir log) × (L.path error.1 ≡ L.path log)) }
-        ensures torn { IfErr result (λ error. TearsPiece (L.text log) (L.text error.1) LOG_HEADER) }
+        ensures torn { IfErr result (λ error. TearsPiece (L.text log) (L.text error.1) (log_header FORMAT)) }
         ensures memory { IfErr result (λ error. error.0 ≡ Trouble.Memory → (L.text error.1 ≡ L.text log) × (L.faults error.1 ≡ L.faults log)) }
         ensures fault { IfErr result (λ error. CountsFault error.0 (L.faults error.1)) }
     {
@@ -79,7 +80,7 @@ impl<L: Log> Buffer<L> {
         let Ok(block) = Block::new(alloc, size) else {
             return Err((Trouble::Memory, log));
         };
-        match log.append(alloc, &LOG_HEADER) {
+        match log.append(alloc, &FORMAT.log_header()) {
             Ok(()) => Ok(Buffer {
                 log,
                 block,

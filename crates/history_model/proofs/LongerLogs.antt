@@ -17,24 +17,24 @@ abbrev pub GoesOn : Logs → Logs → Type 0
 GoesOn logs full = (path : List Step) → (rest : List Record) × (full path ≡ logs path ++ rest)
 
 module _ (logs full : Logs) (on : GoesOn logs full) where
-  get_more : {X : Type 0} (xs ys : List X) (n : ℕ) (x : X) → slice_get xs n ≡ Some x → slice_get (xs ++ ys) n ≡ Some x
+  pub get_more : {X : Type 0} (xs ys : List X) (n : ℕ) (x : X) → slice_get xs n ≡ Some x → slice_get (xs ++ ys) n ≡ Some x
   get_more [] ys n x found = cc
   get_more (y ∷ xs) ys zero x found = found
   get_more (y ∷ xs) ys (suc n) x found = get_more xs ys n x found
 
-  at_full : (x : Node) (r : Record) → record_at logs x ≡ Some r → record_at full x ≡ Some r
+  pub at_full : (x : Node) (r : Record) → record_at logs x ≡ Some r → record_at full x ≡ Some r
   at_full x r found = ap (λ (rs : List Record). slice_get rs x.index) (on x.path).1 ∙ get_more (logs x.path) (on x.path).0 x.index r found
 
-  take_full : (x : Node) → x.index ≤ length (logs x.path) → take x.index (full x.path) ≡ take x.index (logs x.path)
+  pub take_full : (x : Node) → x.index ≤ length (logs x.path) → take x.index (full x.path) ≡ take x.index (logs x.path)
   take_full x le = ap (λ (rs : List Record). take x.index rs) (on x.path).1 ∙ take-append-le x.index (logs x.path) (on x.path).0 le
 
-  there_full : (x : Node) → IsThere logs x → IsThere full x
+  pub there_full : (x : Node) → IsThere logs x → IsThere full x
   there_full x here = let size = ap length (on x.path).1 ∙ length-append (logs x.path) (on x.path).0 in omega arith
 
   found_le : (x : Node) (r : Record) → record_at logs x ≡ Some r → x.index ≤ length (logs x.path)
   found_le x r found = let less = slice_get_within (logs x.path) x.index r found in omega arith
 
-  lane_full : (fork : Node) (lane span : ℕ) (path : List Step) → IsLane logs fork lane span path → IsLane full fork lane span path
+  pub lane_full : (fork : Node) (lane span : ℕ) (path : List Step) → IsLane logs fork lane span path → IsLane full fork lane span path
   lane_full fork lane span path is = record {
     event = is.event;
     found = at_full fork is.event is.found;

@@ -23,24 +23,24 @@ use Rattle.history_model.proofs.Windows.{get_either}
 use Rattle.history_model.proofs.TaskEntries.{joined, joined_records, joined_regions, path_same}
 
 -- the step is that of a lane of a region of these works
-record IsForkedLane (works : List Work) (step : Step) : Type 0 where
-  region : RegionWork
-  found : slice_get (flat_map work_regions works) step.region ≡ Some region
-  span_is : region.span ≡ step.span
-  within : step.lane < step.span
+pub record IsForkedLane (works : List Work) (step : Step) : Type 0 where
+  pub region : RegionWork
+  pub found : slice_get (flat_map work_regions works) step.region ≡ Some region
+  pub span_is : region.span ≡ step.span
+  pub within : step.lane < step.span
 
 -- each step of the path is one
-abbrev AreForked : List Work → List Step → Type 0
+abbrev pub AreForked : List Work → List Step → Type 0
 AreForked works [] = Unit {0}
 AreForked works (step ∷ path) = IsForkedLane works step × AreForked (works_at_step step works) path
 
 -- a task is under the path, with the records of its works
-record IsUnder (bound : ℕ) (path : List Step) (works : List Work) (task : TaskLog) : Type 0 where
-  rest : List Step
-  short : length rest < bound
-  path_is : task.path ≡ path ++ rest
-  records_are : task.records ≡ flat_map work_records (works_under works rest)
-  forked : AreForked works rest
+pub record IsUnder (bound : ℕ) (path : List Step) (works : List Work) (task : TaskLog) : Type 0 where
+  pub rest : List Step
+  pub short : length rest < bound
+  pub path_is : task.path ≡ path ++ rest
+  pub records_are : task.records ≡ flat_map work_records (works_under works rest)
+  pub forked : AreForked works rest
 
 member_either : {X : Type 0} (xs ys : List X) (x : X) → Member (xs ++ ys) x → Member xs x ⊎ Member ys x
 member_either {X} xs ys x m = at (get_either xs ys m.place x m.found) where
@@ -96,7 +96,7 @@ module _ (bound : ℕ) (below : List Step → List Work → Trace) (sound_below 
           lanes_under path works region g 0 region.span task (ap (λ (k : ℕ). slice_get (flat_map work_regions works) k) (let e : g ≡ g + 0 = omega arith in e) ∙ all 0 region refl) (omega arith) here
       at (inr later) rest = rest later
 
-tasks_under : (depth : ℕ) (path : List Step) (works : List Work) (task : TaskLog) → Member (tasks_from depth path works) task → IsUnder depth path works task
+pub tasks_under : (depth : ℕ) (path : List Step) (works : List Work) (task : TaskLog) → Member (tasks_from depth path works) task → IsUnder depth path works task
 tasks_under zero path works task m = let none = m.found in cc
 tasks_under (suc depth) path works task m = at m.place m.found (λ (p : List Step) (ws : List Work) (t : TaskLog) (k : Member (tasks_from depth p ws) t). tasks_under depth p ws t k) where
   at : (n : ℕ) → slice_get (tasks_from (suc depth) path works) n ≡ Some task → ((p : List Step) (ws : List Work) (t : TaskLog) → Member (tasks_from depth p ws) t → IsUnder depth p ws t) → IsUnder (suc depth) path works task
@@ -131,7 +131,7 @@ pub logs_listed : (depth : ℕ) (root : Work) (path : List Step) → ListsTask (
 logs_listed depth root path lists = log_listed (tree_tasks depth root) (task_logs root) path (task_records depth root) lists
 
 -- the task of a listed path
-listed_member : (trace : Trace) (path : List Step) → ListsTask trace path → (task : TaskLog) × Member trace task × (task.path ≡ path)
+pub listed_member : (trace : Trace) (path : List Step) → ListsTask trace path → (task : TaskLog) × Member trace task × (task.path ≡ path)
 listed_member [] path (k, within, is) = absurd (omega arith)
 listed_member (t ∷ trace) path (zero, within, is) = (t, record { place = 0; found = refl }, is)
 listed_member (t ∷ trace) path (suc k, within, is) = at (listed_member trace path (k, omega arith, is)) where
@@ -212,7 +212,7 @@ forked_listed (suc depth) path works (step ∷ rest) forked less = at (forked_li
             (let e : step.region ≡ 0 + step.region = omega arith in e)
             (subst (λ (l : ℕ). Member (tasks_from depth (lane_of path step.region l forked.0.region.span) (lane_works l forked.0.region.phases)) (under_task path works (step ∷ rest))) (let e : step.lane ≡ 0 + step.lane = omega arith in e) there)))
 
-listed_of : (depth : ℕ) (root : Work) (path : List Step) → AreForked (root ∷ []) path → length path ≤ depth → ListsTask (tree_tasks depth root) path
+pub listed_of : (depth : ℕ) (root : Work) (path : List Step) → AreForked (root ∷ []) path → length path ≤ depth → ListsTask (tree_tasks depth root) path
 listed_of depth root path forked le = member_listed (tree_tasks depth root) (under_task [] (root ∷ []) path) (forked_listed (suc depth) [] (root ∷ []) path forked (omega arith))
 
 -- works of a sound tree
@@ -281,7 +281,7 @@ no_lane_works layout span lane (Phase team later) sound le =
 span_same : (m n : ℕ) → (m == n) ≡ true → m ≡ n
 span_same m n e = grind arith
 
-records_forked : (layout : WordLayout) (works : List Work) (path : List Step) → AreSound layout works → 0 < length (flat_map work_records (works_under works path)) → AreForked works path
+pub records_forked : (layout : WordLayout) (works : List Work) (path : List Step) → AreSound layout works → 0 < length (flat_map work_records (works_under works path)) → AreForked works path
 records_forked layout works [] sound some = tt
 records_forked layout works (step ∷ path) sound some =
     (at (slice_get (flat_map work_regions works) step.region) refl, records_forked layout (works_at_step step works) path (sound_at_step layout step works sound) some)
@@ -362,7 +362,7 @@ region_of_works layout works r region sound found =
     (region_record_at (joined works) r region (joined_puts layout works sound) (ap (λ (regions : List RegionWork). slice_get regions r) (joined_regions works) ∙ found))
 
 -- of a forked path the path above, and its last step
-forked_last : (works : List Work) (path : List Step) (step : Step) → AreForked works (path ++ step ∷ []) → AreForked works path × IsForkedLane (works_under works path) step
+pub forked_last : (works : List Work) (path : List Step) (step : Step) → AreForked works (path ++ step ∷ []) → AreForked works path × IsForkedLane (works_under works path) step
 forked_last works [] step forked = (tt, forked.0)
 forked_last works (s ∷ path) step forked = let rest = forked_last (works_at_step s works) path step forked.1 in ((forked.0, rest.0), rest.1)
 

@@ -15,7 +15,10 @@ deeds_of word kind.Read r = deed.Read (word r.addr) r.value ∷ []
 deeds_of word kind.Write r = deed.Write (word r.addr) r.value ∷ []
 deeds_of word kind.Lock r = deed.Lock r.addr ∷ []
 deeds_of word kind.Unlock r = deed.Unlock r.addr ∷ []
-deeds_of word _ r = []
+deeds_of word kind.Barrier r = []
+deeds_of word kind.Region r = []
+deeds_of word kind.Chunk r = []
+deeds_of word kind.End r = []
 
 abbrev pub lane_count_of : TeamWork → ℕ
 lane_count_of NoWork = 0

@@ -89,6 +89,7 @@ impl Words {
         Ok((Words { table, room, locks }, Hand::of(seat)))
     }
 
+    /// The value of an element, which the hand has read.
     pub fn load(&self, hand: &mut Hand, word: usize) -> u64
         requires hand { Belongs hand.old self.now.table }
         requires word { word < self.now.elements }
@@ -101,6 +102,7 @@ impl Words {
         value
     }
 
+    /// Writes a value into an element.
     pub fn store(&self, hand: &mut Hand, word: usize, value: u64)
         requires hand { Belongs hand.old self.now.table }
         requires word { word < self.now.elements }

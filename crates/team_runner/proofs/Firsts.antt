@@ -1,5 +1,5 @@
 -- Kernels of the first kind: the one statement of a body.
-use Rattle.std.proofs.Common.{◌≡◌, refl, ap, sym, ◌∙◌, subst, ℕ, ◌<◌, Bool, List, [], ◌∷◌, length, arith}
+use Rattle.std.proofs.Common.{◌≡◌, refl, ap, sym, ◌∙◌, subst, ℕ, Bool}
 use Rattle.kernel_syntax.specs.declared.syntax.Expr.{Expr}
 use Rattle.kernel_syntax.specs.declared.syntax.Stmt.{Stmt}
 use Rattle.kernel_syntax.specs.declared.syntax.Stmt.TheOpen as layer
@@ -12,7 +12,7 @@ use Rattle.kernel_syntax.specs.declared.syntax.Team.{Team}
 use Rattle.kernel_syntax.specs.declared.syntax.Schedule.{Schedule}
 use Rattle.kernel_syntax.specs.Tree as tree
 use Rattle.kernel_syntax.specs.Tree.{Term, Code}
-use Rattle.kernel_syntax.specs.Program.{code_of, stmt_code}
+use Rattle.kernel_syntax.specs.Program.{stmt_code}
 use Rattle.kernel_syntax.proofs.Equations.{stmt_code-Set, stmt_code-Store, stmt_code-If, stmt_code-Loop, stmt_code-Parallel, stmt_code-For, stmt_code-Barrier, stmt_code-Critical}
 use Rattle.kernel_syntax.specs.declared.syntax.Schedule.TheVariants.{Even, Static, Dynamic}
 use Rattle.kernel_syntax.specs.Bounds.{IsBoundedCode, IsBoundedSchedule}

@@ -1,6 +1,6 @@
 -- Parts of a lane, one after another.
-use Rattle.std.proofs.Common.{◌≡◌, refl, ap, sym, ◌∙◌, subst, ℕ, zero, suc, ◌-◌, List, [], ◌∷◌, ◌++◌, length, ℤ, pos, ◌+ℤ◌, Result, Ok, Err, Some, arith, append_assoc}
-use Rattle.std.specs.Prelude.{slice_set, slice_get}
+use Rattle.std.proofs.Common.{◌≡◌, refl, ap, sym, ◌∙◌, subst, ℕ, zero, suc, ◌-◌, List, [], ◌∷◌, ◌++◌, length, ℤ, Result, Ok, Err, Some, arith, append_assoc}
+use Rattle.std.specs.Prelude.{slice_get}
 use Rattle.log_format.specs.declared.record.Record.{Record}
 use Rattle.log_format.specs.declared.record.Kind.TheVariants as kind
 use Rattle.kernel_syntax.specs.declared.syntax.Stmt.{Stmt}
@@ -18,7 +18,7 @@ use Rattle.kernel_model.specs.Trace.{log_limit, run, each}
 use Rattle.kernel_model.specs.Effect.{Finish, Returned, Halted, Makes, MakesValue, adds}
 use Rattle.kernel_model.proofs.Effects.{makes-same}
 use Rattle.kernel_model.proofs.Joining.{run-stmts, run-first, each-append, after-nothing}
-use Rattle.kernel_model.proofs.RunEffects.{makes-after, makes-after_halt, makes-assign, makes-Done, makes-each_none, makes-Store, makes-Store_index, makes-Store_value, makes-Store_outside, makes-Store_full}
+use Rattle.kernel_model.proofs.RunEffects.{makes-after, makes-after_halt, makes-Done, makes-each_none, makes-Store, makes-Store_index, makes-Store_value, makes-Store_outside, makes-Store_full}
 use Rattle.team_runner.specs.declared.stop.Stop.{Stop}
 use Rattle.team_runner.specs.declared.stop.Stop.TheVariants.{DivZero, Index, LogFull, Trouble}
 use Rattle.team_runner.specs.Written.{Written, Adds}

@@ -1,16 +1,12 @@
 -- What puts into a log, flushes and closings do together.
-use Rattle.std.proofs.Common.{◌≡◌, refl, ap, sym, ◌∙◌, subst, ℕ, List, [], ◌++◌, Option, Some, None, Result, Ok, Err, append_assoc, arith}
-use Rattle.std.specs.Prelude.{is_some, OnOk, OnErr, IfErr}
+use Rattle.std.proofs.Common.{◌≡◌, refl, ap, sym, ◌∙◌, subst, ℕ, List, [], ◌++◌, Option, Some, None, append_assoc, arith}
 use Rattle.std.specs.Option.{option_map}
 use Rattle.std.specs.List.{flat_map}
 use Rattle.std.proofs.lemmas.List.{append-nil, length-append}
 use Rattle.std.proofs.lemmas.Grind.{flat_map-append}
-use Rattle.sw_base.specs.declared.trouble.Trouble.{Trouble}
-use Rattle.sw_base.specs.declared.trouble.Trouble.TheVariants as trouble
-use Rattle.sw_base.specs.Environment.{Text, HasCause, TearsPiece, with_piece, with_torn}
 use Rattle.log_format.specs.declared.record.Record.{Record}
 use Rattle.log_format.specs.Spelling.{spelling}
-use Rattle.team_runner.specs.Written.{Written, Adds, Keeps, HasFault, held}
+use Rattle.team_runner.specs.Written.{Written, Adds, Keeps, held}
 
 pub keeps_chain : (a b c : Written) → Keeps a b → Keeps b c → Keeps a c
 keeps_chain a b c one more = record {

@@ -3,7 +3,8 @@ use Rattle.std.proofs.Common.{◌≡◌, ◌≢◌, refl, ap, sym, ◌∙◌, su
 use Rattle.std.proofs.lemmas.Bool.Decides.{nat_tests}
 use Rattle.std.proofs.lemmas.List.Sums.{sum_by-append}
 use Rattle.std.specs.Option.{option_map}
-use Rattle.sw_base.specs.declared.files.TheConstants.{LOG_HEADER}
+use Rattle.log_format.specs.declared.format.TheConstants.{FORMAT}
+use Rattle.log_format.specs.Format.{log_header}
 use Rattle.sw_base.specs.declared.trouble.Trouble.TheVariants as trouble
 use Rattle.log_format.specs.declared.record.Record.{Record}
 use Rattle.kernel_syntax.specs.declared.syntax.Array.{Array}
@@ -49,7 +50,7 @@ module _ (arrays : List Array) (start : Start) (old mid : Written) (finish : Fin
       (sym is) m.made.makes)
 
 -- a log of these records that was closed
-log_of : (old begun last new : Written) (records : List Record) → IsFresh old → 24 ≤ old.size → Begun old begun LOG_HEADER → begun.size ≡ old.size →
+log_of : (old begun last new : Written) (records : List Record) → IsFresh old → 24 ≤ old.size → Begun old begun (log_header FORMAT) → begun.size ≡ old.size →
     Adds begun last records → last.size ≡ old.size → Closed last new → new.size ≡ last.size → IsLogOf old new records
 log_of old begun last new records fresh some begins begun_size adds size closed size_now = record {
   told =

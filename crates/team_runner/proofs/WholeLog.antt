@@ -4,7 +4,8 @@ use Rattle.std.specs.Option.{option_map}
 use Rattle.std.specs.List.{flat_map}
 use Rattle.std.proofs.Math.Nat.{zero-div, zero-mod}
 use Rattle.std.proofs.lemmas.List.{append-nil}
-use Rattle.sw_base.specs.declared.files.TheConstants.{LOG_HEADER}
+use Rattle.log_format.specs.declared.format.TheConstants.{FORMAT}
+use Rattle.log_format.specs.Format.{log_header}
 use Rattle.sw_base.specs.Environment.{Text, WhereTold, with_piece, empty_text, Outline}
 use Rattle.log_format.specs.declared.record.Record.{Record}
 use Rattle.log_format.specs.Spelling.{spelling, log_bytes}
@@ -55,14 +56,14 @@ no_pieces w = ap (λ n. replicate n (24 * w)) (zero-div w)
 none_waits : (w : ℕ) → 0 % w ≡ 0
 none_waits w = zero-mod w
 
-module _ (fresh begun last new : Written) (records : List Record) (is_fresh : IsFresh fresh) (room : 24 ≤ fresh.size) (begins : Begun fresh begun LOG_HEADER)
+module _ (fresh begun last new : Written) (records : List Record) (is_fresh : IsFresh fresh) (room : 24 ≤ fresh.size) (begins : Begun fresh begun (log_header FORMAT))
     (begun_size : begun.size ≡ fresh.size) (adds : Adds begun last records) (last_size : last.size ≡ fresh.size) (closed : Closed last new) where
   -- the header alone is held
-  begun_held : held begun ≡ option_map (λ _. LOG_HEADER) fresh.text
+  begun_held : held begun ≡ option_map (λ _. log_header FORMAT) fresh.text
   begun_held =
       ap (λ (o : Option Text). option_map (λ (t : Text). t.bytes ++ begun.buffer) o) begins.text
-      ∙ ap (λ (b : List ℕ). option_map (λ (t : Text). t.bytes ++ b) (option_map (with_piece LOG_HEADER) fresh.text)) (begins.buffer ∙ is_fresh.buffer)
-      ∙ header_held fresh.text LOG_HEADER is_fresh.text
+      ∙ ap (λ (b : List ℕ). option_map (λ (t : Text). t.bytes ++ b) (option_map (with_piece (log_header FORMAT)) fresh.text)) (begins.buffer ∙ is_fresh.buffer)
+      ∙ header_held fresh.text (log_header FORMAT) is_fresh.text
 
   -- and is cut as a log without records
   begun_cut : IsCut begun
@@ -70,7 +71,7 @@ module _ (fresh begun last new : Written) (records : List Record) (is_fresh : Is
       let count : begun.count ≡ 0 = begins.count ∙ is_fresh.count in
       record {
         pieces = λ t told.
-            header_pieces fresh.text LOG_HEADER is_fresh.text t (sym begins.text ∙ told)
+            header_pieces fresh.text (log_header FORMAT) is_fresh.text t (sym begins.text ∙ told)
             ∙ ap (λ (l : List ℕ). 8 ∷ l) (sym (no_pieces (records_in begun.size)))
             ∙ ap (λ n. full_pieces n begun.size) (sym count);
         waiting =
@@ -87,10 +88,10 @@ module _ (fresh begun last new : Written) (records : List Record) (is_fresh : Is
   whole_count = closed.count ∙ last_count
 
   -- the bytes of the closed log
-  bytes_are : option_map (λ (t : Text). t.bytes) new.text ≡ option_map (λ _. log_bytes LOG_HEADER records) fresh.text
+  bytes_are : option_map (λ (t : Text). t.bytes) new.text ≡ option_map (λ _. log_bytes (log_header FORMAT) records) fresh.text
   bytes_are =
       closed.bytes ∙ adds.held_are ∙ ap (option_map (λ (bytes : List ℕ). bytes ++ flat_map spelling records)) begun_held
-      ∙ more_held fresh.text LOG_HEADER (flat_map spelling records)
+      ∙ more_held fresh.text (log_header FORMAT) (flat_map spelling records)
 
   -- its pieces
   pieces_are : WhereTold new.text (λ t. map length t.pieces ≡ cut (length records) fresh.size)
@@ -100,4 +101,4 @@ module _ (fresh begun last new : Written) (records : List Record) (is_fresh : Is
 
   -- both together
   pub whole_told : outline new.text ≡ option_map (λ _. whole_outline fresh.size records) fresh.text
-  whole_told = outline_is new.text fresh.text (log_bytes LOG_HEADER records) (cut (length records) fresh.size) bytes_are pieces_are
+  whole_told = outline_is new.text fresh.text (log_bytes (log_header FORMAT) records) (cut (length records) fresh.size) bytes_are pieces_are

@@ -1,8 +1,9 @@
 -- What `run_kernel` answers.
-use Rattle.std.specs.Prelude.{◌≡◌, ◌⊎◌, ℕ, ◌<◌, ◌≤◌, List, [], ◌∷◌, ◌++◌, length, map, take, Option, Some, is_some, Bool, Contains}
+use Rattle.std.specs.Prelude.{◌≡◌, ◌⊎◌, ℕ, ◌<◌, ◌≤◌, List, [], ◌∷◌, ◌++◌, length, map, take, Option, Some, Contains}
 use Rattle.std.specs.Option.{option_map}
+use Rattle.log_format.specs.declared.format.TheConstants.{FORMAT}
+use Rattle.log_format.specs.Format.{log_header}
 use Rattle.sw_base.specs.declared.path.Step.{Step}
-use Rattle.sw_base.specs.declared.files.TheConstants.{LOG_HEADER}
 use Rattle.sw_base.specs.Environment.{Outline, Text}
 use Rattle.sw_base.specs.HandedLog.{HandedLog}
 use Rattle.log_format.specs.declared.record.Record.{Record}
@@ -19,7 +20,7 @@ use Rattle.sw_base.specs.Pieces.{cut}
 
 -- the bytes of a whole log and the lengths of its pieces, from a buffer of this size
 abbrev pub whole_outline : ℕ → List Record → Outline
-whole_outline size records = record { bytes = log_bytes LOG_HEADER records; lengths = cut (length records) size }
+whole_outline size records = record { bytes = log_bytes (log_header FORMAT) records; lengths = cut (length records) size }
 
 -- the whole log of a task, in the folder `dir`; it tells its content where the root's log, `root`, does
 abbrev pub whole_log : List ℕ → ℕ → Option Text → TaskLog → HandedLog
@@ -34,7 +35,7 @@ whole_log dir size root task = record {
 -- the tasks of a run are those of the kernel, each with its trace, and their logs keep the rules of a folder
 pub record IsRun (program : Program) (tasks : Trace) : Type 0 where
   pub traced : IsTracedFolder program tasks
-  pub rules : KeepsRules tasks
+  pub rules : KeepsRules FORMAT tasks
 
 -- the logs are those of a whole run, in the order of their paths
 pub record HasRun (program : Program) (dir : List ℕ) (size : ℕ) (root : Option Text) (logs : List HandedLog) : Type 0 where

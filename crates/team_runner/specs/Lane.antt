@@ -1,6 +1,8 @@
 -- What a lane does, by the definition of its trace.
 use Rattle.std.specs.Prelude.{◌≡◌, ℕ, ◌-◌, ◌<◌, ◌≤◌, List, [], ◌∷◌, length, ℤ, pos, ◌+ℤ◌, Option, Some, None, Result, Ok, Err, FitsSigned, ◌⊎◌, false}
 use Rattle.std.specs.Int.{w64}
+use Rattle.log_format.specs.declared.format.TheConstants.{FORMAT}
+use Rattle.log_format.specs.Format.{log_header}
 use Rattle.log_format.specs.declared.record.Record.{Record}
 use Rattle.log_format.specs.declared.record.Kind.TheVariants as kind
 use Rattle.kernel_syntax.specs.declared.syntax.Array.{Array}
@@ -17,7 +19,6 @@ use Rattle.team_runner.specs.Written.{Written, Adds, Begun, Closed, HasFault}
 use Rattle.team_runner.specs.Stops.{Finishes, Puts, EndsPart}
 use Rattle.sw_base.specs.HandedLog.{outline}
 use Rattle.team_runner.specs.Answer.{IsPrefixOf, whole_outline}
-use Rattle.sw_base.specs.declared.files.TheConstants.{LOG_HEADER}
 use Rattle.sw_base.specs.Environment.{WhereTold, empty_text}
 use Rattle.std.specs.Option.{option_map}
 use Rattle.kernel_syntax.specs.Program.{Program}
@@ -141,7 +142,7 @@ EndsTask arrays start barriers old new result = Finishes (λ finish. HasTrace ar
 -- the log has its header, and the records that were put after it are those of the team's body, which ends so
 pub record MadeBody (arrays : List Array) (start : Start) (old new : Written) (finish : Finish (Unit {0})) : Type 0 where
   pub begun : Written
-  pub begins : Begun old begun LOG_HEADER
+  pub begins : Begun old begun (log_header FORMAT)
   pub size : begun.size ≡ old.size
   pub slots : List ℤ
   pub made : MadePart (run (site arrays start.lane start.team.span) start.team.body) start.slots begun new slots finish

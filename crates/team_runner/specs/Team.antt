@@ -1,8 +1,9 @@
 -- The tasks of a run: its root, and the lanes of its one team.
 use Rattle.std.specs.Prelude.{◌≡◌, ◌≢◌, ℕ, ◌<◌, ◌≤◌, List, [], ◌∷◌, ◌++◌, length, map, replicate, pos, Option, Some, None, Result, Ok, Err, slice_index_or, ◌⊎◌, Bool, true, All, Contains}
 use Rattle.std.specs.Option.{option_map}
+use Rattle.log_format.specs.declared.format.TheConstants.{FORMAT}
+use Rattle.log_format.specs.Format.{log_header}
 use Rattle.sw_base.specs.declared.path.Step.{Step}
-use Rattle.sw_base.specs.declared.files.TheConstants.{LOG_HEADER}
 use Rattle.sw_base.specs.declared.trouble.Trouble.TheVariants as trouble
 use Rattle.sw_base.specs.Environment.{Text, empty_text}
 use Rattle.log_format.specs.declared.record.Record.{Record}
@@ -171,7 +172,7 @@ IsAfterClosing halt (Some want) result = (result ≡ want) ⊎ ((result ≡ halt
 -- the log began with its header, and just these records were put since
 pub record HasPut (old new : Written) (records : List Record) : Type 0 where
   pub begun : Written
-  pub begins : Begun old begun LOG_HEADER
+  pub begins : Begun old begun (log_header FORMAT)
   pub size : begun.size ≡ old.size
   pub adds : Adds begun new records
 

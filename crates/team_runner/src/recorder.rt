@@ -1,6 +1,8 @@
 //! The records of one task, on their way to its log.
 ghost use Rattle.std.specs.Prelude.{◌≡◌, ◌+◌, ◌-◌, ◌<◌, ◌≤◌, ◌↔◌, [], ◌∷◌, ◌++◌, length, OnOk, OnErr, IfOk, IfErr, IsTrue};
 ghost use Rattle.std.specs.Option.{option_map};
+ghost use Rattle.log_format.specs.declared.format.TheConstants.{FORMAT};
+ghost use Rattle.log_format.specs.Format.{log_header};
 ghost use Rattle.log_format.specs.Spelling.{spelling};
 ghost use Rattle.team_runner.specs.Written.{Keeps, Begun, Flushed, Closed, HasFault};
 ghost use Rattle.team_runner.specs.Stops.{EndsPart, Puts};
@@ -8,10 +10,10 @@ ghost use Rattle.kernel_model.specs.Trace.{log_limit};
 ghost use Rattle.sw_base.specs.Environment.{empty_text};
 
 use crate::stop::Stop;
-use log_format::{Record, encode};
+use log_format::{FORMAT, Record, encode};
 use std::alloc::Global;
 use std::marker::Model;
-use sw_base::{LOG_HEADER, Log, Memory, Trouble};
+use sw_base::{Log, Memory, Trouble};
 
 /// How many records a log has room for.
 const LOG_LIMIT: u32 = 4_194_304;
@@ -67,11 +69,11 @@ impl<L: Log> Recorder<L> {
 
     /// Begins the log with its header.
     pub fn start(&mut self, alloc: Global) -> Result<(), Trouble>
-        ensures begun { OnOk result (Begun self.old self.new LOG_HEADER) }
+        ensures begun { OnOk result (Begun self.old self.new (log_header FORMAT)) }
         ensures same { Keeps self.old self.new }
         ensures fault { IfErr result (λ trouble. HasFault trouble self.new) }
     {
-        self.log.append(alloc, &LOG_HEADER)
+        self.log.append(alloc, &FORMAT.log_header())
     }
 
     /// Puts one more record.

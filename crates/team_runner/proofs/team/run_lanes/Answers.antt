@@ -1,4 +1,4 @@
-use Rattle.std.proofs.Common.{◌<◌, subst, length, None, arith}
+use Rattle.std.proofs.Common.{◌<◌, subst, length, arith}
 use Rattle.kernel_syntax.specs.Program.{team_of}
 use Rattle.team_runner.specs.declared.lane.Pass.TheVariants.{Last, Shut}
 use Rattle.team_runner.specs.Lane.{barriers_of}

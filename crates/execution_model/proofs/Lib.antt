@@ -1,0 +1,5 @@
+pub mod Descent
+pub mod FittingReads
+pub mod LoggedTasks
+pub mod Prefixes
+pub mod Whole

@@ -1,0 +1,48 @@
+-- Works one after another: what they read, and how their regions ended.
+use Rattle.std.proofs.Common.{ap, sym, ◌∙◌, subst, List, [], ◌∷◌, ◌++◌, append_assoc}
+use Rattle.std.proofs.lemmas.List.Elements.{All-append, All-nil, All-cons}
+use Rattle.kernel_syntax.specs.declared.syntax.Array.{Array}
+use Rattle.kernel_model.specs.State as model
+use Rattle.history_model.specs.Work.{Work, Rest, Put, Fork, RegionWork, work_regions, then_work}
+use Rattle.history_model.specs.Joined.{PhasesEnd, ArePhasesJoined}
+use Rattle.lane_runner.specs.Fitting.{WorkFits}
+use Rattle.lane_runner.specs.Stopping.{HaveEnded}
+use Rattle.lane_runner.specs.Going.{Cause, AtLog, AtRegion, StopsBy}
+use Rattle.lane_runner.proofs.Working.{regions_then}
+
+pub fits_then : (work other : Work) → WorkFits (then_work work other) → WorkFits work × WorkFits other
+fits_then Rest other fit = (tt, fit)
+fits_then (Put r more) other fit = let rest = fits_then more other fit.1 in ((fit.0, rest.0), rest.1)
+fits_then (Fork line span phases more) other fit = let rest = fits_then more other fit.1 in ((fit.0, rest.0), rest.1)
+
+ended_both : (xs ys : List RegionWork) → HaveEnded xs → HaveEnded ys → HaveEnded (xs ++ ys)
+ended_both xs ys x y = All-append (λ (r : RegionWork). PhasesEnd r.phases × ArePhasesJoined r.phases) xs ys x y
+
+stops_both : (arrays : List Array) (cause : Cause) (earlier forks : List model.Fork) (xs ys : List RegionWork) → HaveEnded xs → StopsBy arrays cause forks ys → StopsBy arrays cause (earlier ++ forks) (xs ++ ys)
+stops_both arrays AtLog earlier forks xs ys x y = ended_both xs ys x y
+stops_both arrays (AtRegion why) earlier forks xs ys x y = record {
+  earlier = earlier ++ y.earlier;
+  fork = y.fork;
+  forks_are = ap (λ (fs : List model.Fork). earlier ++ fs) y.forks_are ∙ sym (append_assoc earlier y.earlier (y.fork ∷ []));
+  before = xs ++ y.before;
+  region = y.region;
+  regions_are = ap (λ (rs : List RegionWork). xs ++ rs) y.regions_are ∙ sym (append_assoc xs y.before (y.region ∷ []));
+  ended = ended_both xs y.before x y.ended;
+  joined = y.joined;
+  stopped = y.stopped;
+}
+
+pub ended_then : (work other : Work) → HaveEnded (work_regions work) → HaveEnded (work_regions other) → HaveEnded (work_regions (then_work work other))
+ended_then work other x y = subst (λ (rs : List RegionWork). HaveEnded rs) (sym (regions_then work other)) (ended_both (work_regions work) (work_regions other) x y)
+
+pub stops_then : (arrays : List Array) (cause : Cause) (earlier forks : List model.Fork) (work other : Work) → HaveEnded (work_regions work) → StopsBy arrays cause forks (work_regions other)
+    → StopsBy arrays cause (earlier ++ forks) (work_regions (then_work work other))
+stops_then arrays cause earlier forks work other x y =
+    subst (λ (rs : List RegionWork). StopsBy arrays cause (earlier ++ forks) rs) (sym (regions_then work other)) (stops_both arrays cause earlier forks (work_regions work) (work_regions other) x y)
+
+-- no region
+pub ended_none : HaveEnded []
+ended_none = All-nil (λ (r : RegionWork). PhasesEnd r.phases × ArePhasesJoined r.phases)
+
+pub ended_one : (region : RegionWork) → PhasesEnd region.phases → ArePhasesJoined region.phases → HaveEnded (region ∷ [])
+ended_one region ends joined = All-cons (λ (r : RegionWork). PhasesEnd r.phases × ArePhasesJoined r.phases) region [] (ends, joined) ended_none

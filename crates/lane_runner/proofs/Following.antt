@@ -1,0 +1,180 @@
+-- How a lane goes on: parts one after another.
+use Rattle.std.proofs.Common.{◌≡◌, refl, ap, sym, subst, ℕ, ◌-◌, List, [], ◌∷◌, ◌++◌, length, ℤ, Result, Ok, Err, arith}
+use Rattle.std.proofs.lemmas.List.Elements.{All-nil, All-cons, All-head, All-tail}
+use Rattle.log_format.specs.declared.record.Record.{Record}
+use Rattle.kernel_model.specs.State as model
+use Rattle.kernel_model.specs.State.{State, Fork, Outcome, and_then, after, state_of}
+use Rattle.kernel_model.specs.Growth.{Grows}
+use Rattle.kernel_model.specs.Trace.{log_limit}
+use Rattle.kernel_model.specs.Effect.{Effect, Finish, Returned, Halted, Makes, then_effect}
+use Rattle.kernel_model.proofs.Effects.{makes-then, makes-halt, makes-same}
+use Rattle.history_model.specs.Work.{Work, work_records, then_work}
+use Rattle.history_model.proofs.TaskEntries.{then_records}
+use Rattle.execution_model.specs.Fitting.{ReadsFit, IsFittingRead}
+use Rattle.lane_runner.specs.declared.stop.Halt.{Halt}
+use Rattle.lane_runner.specs.declared.stop.Halt.TheVariants as halt
+use Rattle.lane_runner.specs.World.{WorldValue}
+use Rattle.lane_runner.specs.Going.{Progress, HasDone, HasReleased, Cause, AtLog, AtRegion, EndsBy, log_of, BeginsPart, effect_of, Made, Began, Goes}
+use Rattle.shared_words.specs.declared.view.View.{View}
+use Rattle.shared_words.specs.Handles.{HandValue}
+use Rattle.lane_runner.proofs.Working.{log_then, done_then, runs_then}
+use Rattle.lane_runner.proofs.Releasing.{released_then, ends_then}
+use Rattle.lane_runner.proofs.Ending.{fits_then, ended_then, stops_then}
+use Rattle.lane_runner.proofs.Beginning.{begins_first, begins_then, begins_same}
+
+-- the reads of both parts
+pub fit_first : (xs ys : List Record) → ReadsFit (xs ++ ys) → ReadsFit xs
+fit_first [] ys all = All-nil (λ (r : Record). IsFittingRead r.kind r)
+fit_first (x ∷ xs) ys all =
+    All-cons (λ (r : Record). IsFittingRead r.kind r) x xs (All-head (λ (r : Record). IsFittingRead r.kind r) x (xs ++ ys) all)
+    (fit_first xs ys (All-tail (λ (r : Record). IsFittingRead r.kind r) x (xs ++ ys) all))
+
+fit_last : (xs ys : List Record) → ReadsFit (xs ++ ys) → ReadsFit ys
+fit_last [] ys all = all
+fit_last (x ∷ xs) ys all = fit_last xs ys (All-tail (λ (r : Record). IsFittingRead r.kind r) x (xs ++ ys) all)
+
+effect_then : (one two : Work) (slots slots' : List ℤ) (forks later : List Fork) → then_effect (effect_of slots one forks) (effect_of slots' two later) ≡ effect_of slots' (then_work one two) (forks ++ later)
+effect_then one two slots slots' forks later = λ i. record { slots = slots'; added = sym (log_then one two) i; forks = forks ++ later }
+
+module _ (w : WorldValue) {A B : Type 0} (part : State → Outcome A) (next : A → State → Outcome B) (slots slots' : List ℤ) (old new : Progress) where
+  -- a part that stops, whatever follows it
+  halts : (why : model.Stop) (line : ℕ) → Made w part slots slots' old new (Halted why line) → Made w (λ s. and_then (part s) next) slots slots' old new (Halted why line)
+  halts why line m = record {
+    work = m.work;
+    forks = m.forks;
+    own = m.own;
+    done = m.done;
+    released = m.released;
+    closes = tt;
+    ended = m.ended;
+    unrefused = m.unrefused;
+    makes = λ fit. makes-halt part next slots (log_limit - old.buffer.count) (effect_of slots' m.work m.forks) why line (m.makes fit);
+    regions = m.regions;
+  }
+
+  begins_stop : (cause : Cause) → ((a : A) (s : State) → Grows s (state_of (next a s))) → Began w part slots old new cause → Began w (λ s. and_then (part s) next) slots old new cause
+  begins_stop cause grows m = record {
+    work = m.work;
+    forks = m.forks;
+    own = m.own;
+    done = m.done;
+    released = m.released;
+    ends = m.ends;
+    stops = m.stops;
+    begins = λ fit. begins_first part next slots (log_limit - old.buffer.count) (log_of m.work) m.forks grows (m.begins fit);
+    regions = m.regions;
+  }
+
+  pub goes_stop : (why : Halt) → ((a : A) (s : State) → Grows s (state_of (next a s))) → Goes w part slots slots' old new (Err why) → Goes w (λ s. and_then (part s) next) slots slots' old new (Err why)
+  goes_stop (halt.DivZero line) grows m = halts model.DivZero line m
+  goes_stop (halt.Index line) grows m = halts model.Index line m
+  goes_stop (halt.LogFull line) grows m = halts model.LogFull line m
+  goes_stop (halt.Region why) grows m = begins_stop (AtRegion why) grows m
+  goes_stop (halt.Trouble trouble) grows (m, refused) = (begins_stop AtLog grows m, refused)
+
+-- a part, and what follows it
+module _ (w : WorldValue) {A B : Type 0} (part : State → Outcome A) (next : A → State → Outcome B) (slots mid_slots slots' : List ℤ) (old mid new : Progress) (a : A)
+    (one : Made w part slots mid_slots old mid (Returned a)) where
+  left : log_limit - mid.buffer.count ≡ log_limit - old.buffer.count - length (log_of one.work)
+  left = let count = one.done.log.count in omega arith
+
+  done : (work : Work) → HasDone w mid new work → HasDone w old new (then_work one.work work)
+  done work d = done_then w old mid new one.work work one.done d
+
+  fits_one : (work : Work) → ReadsFit (work_records (then_work one.work work)) → ReadsFit (work_records one.work)
+  fits_one work fit = fit_first (work_records one.work) (work_records work) (subst (λ (rs : List Record). ReadsFit rs) (then_records one.work work) fit)
+
+  fits_two : (work : Work) → ReadsFit (work_records (then_work one.work work)) → ReadsFit (work_records work)
+  fits_two work fit = fit_last (work_records one.work) (work_records work) (subst (λ (rs : List Record). ReadsFit rs) (then_records one.work work) fit)
+
+  held_is : mid.hand.view.held ≡ old.hand.view.held
+  held_is = ap (λ (h : HandValue View). h.view.held) one.done.hand
+
+  released : (work : Work) (own : List ℕ) → HasReleased mid.hand.view.held work own → HasReleased old.hand.view.held (then_work one.work work) own
+  released work own r =
+      released_then old.hand.view.held one.work work own (subst (λ (l : List ℕ). HasReleased old.hand.view.held one.work l) one.closes one.released)
+      (subst (λ (h : List ℕ). HasReleased h work own) held_is r)
+
+  follows : (finish : Finish B) → Made w (next a) mid_slots slots' mid new finish → Made w (λ s. and_then (part s) next) slots slots' old new finish
+  follows finish m = record {
+    work = then_work one.work m.work;
+    forks = one.forks ++ m.forks;
+    own = m.own;
+    done = done m.work m.done;
+    released = released m.work m.own m.released;
+    closes = m.closes;
+    ended = ended_then one.work m.work one.ended m.ended;
+    unrefused = m.unrefused;
+    makes = λ fit.
+        subst (λ (e : Effect). Makes (λ s. and_then (part s) next) slots (log_limit - old.buffer.count) e finish) (effect_then one.work m.work mid_slots slots' one.forks m.forks)
+        (makes-then part next slots (log_limit - old.buffer.count) (effect_of mid_slots one.work one.forks) a (effect_of slots' m.work m.forks) finish (one.makes (fits_one m.work fit))
+        (subst (λ (room : ℕ). Makes (next a) mid_slots room (effect_of slots' m.work m.forks) finish) left (m.makes (fits_two m.work fit))));
+    regions = λ fit program is. let both = fits_then one.work m.work fit in runs_then program one.forks m.forks one.work m.work (one.regions both.0 program is) (m.regions both.1 program is);
+  }
+
+  begins_follow : (cause : Cause) → Began w (next a) mid_slots mid new cause → Began w (λ s. and_then (part s) next) slots old new cause
+  begins_follow cause m = record {
+    work = then_work one.work m.work;
+    forks = one.forks ++ m.forks;
+    own = m.own;
+    done = done m.work m.done;
+    released = released m.work m.own m.released;
+    ends = subst (λ (rs : List Record). EndsBy cause rs) (sym (log_then one.work m.work)) (ends_then cause (log_of one.work) (log_of m.work) m.ends);
+    stops = stops_then w.arrays cause one.forks m.forks one.work m.work one.ended m.stops;
+    begins = λ fit.
+        subst (λ (rs : List Record). BeginsPart (λ s. and_then (part s) next) slots (log_limit - old.buffer.count) rs (one.forks ++ m.forks)) (sym (log_then one.work m.work))
+        (begins_then part next slots (log_limit - old.buffer.count) (effect_of mid_slots one.work one.forks) a (log_of m.work) m.forks (one.makes (fits_one m.work fit))
+        (subst (λ (room : ℕ). BeginsPart (next a) mid_slots room (log_of m.work) m.forks) left (m.begins (fits_two m.work fit))));
+    regions = λ fit program is. let both = fits_then one.work m.work fit in runs_then program one.forks m.forks one.work m.work (one.regions both.0 program is) (m.regions both.1 program is);
+  }
+
+  pub goes_then : (r : Result B Halt) → Goes w (next a) mid_slots slots' mid new r → Goes w (λ s. and_then (part s) next) slots slots' old new r
+  goes_then (Ok b) m = follows (Returned b) m
+  goes_then (Err (halt.DivZero line)) m = follows (Halted model.DivZero line) m
+  goes_then (Err (halt.Index line)) m = follows (Halted model.Index line) m
+  goes_then (Err (halt.LogFull line)) m = follows (Halted model.LogFull line) m
+  goes_then (Err (halt.Region why)) m = begins_follow (AtRegion why) m
+  goes_then (Err (halt.Trouble trouble)) (m, refused) = (begins_follow AtLog m, refused)
+
+-- the same part, told otherwise
+module _ (w : WorldValue) {A : Type 0} (part other : State → Outcome A) (slots slots' : List ℤ) (old new : Progress) (same : (s : State) → other s ≡ part s) where
+  made_same : (finish : Finish A) → Made w part slots slots' old new finish → Made w other slots slots' old new finish
+  made_same finish m = record {
+    work = m.work;
+    forks = m.forks;
+    own = m.own;
+    done = m.done;
+    released = m.released;
+    closes = m.closes;
+    ended = m.ended;
+    unrefused = m.unrefused;
+    makes = λ fit. makes-same part other slots (log_limit - old.buffer.count) (effect_of slots' m.work m.forks) finish same (m.makes fit);
+    regions = m.regions;
+  }
+
+  begun_same : (cause : Cause) → Began w part slots old new cause → Began w other slots old new cause
+  begun_same cause m = record {
+    work = m.work;
+    forks = m.forks;
+    own = m.own;
+    done = m.done;
+    released = m.released;
+    ends = m.ends;
+    stops = m.stops;
+    begins = λ fit. begins_same part other slots (log_limit - old.buffer.count) (log_of m.work) m.forks same (m.begins fit);
+    regions = m.regions;
+  }
+
+  pub goes_same : (r : Result A Halt) → Goes w part slots slots' old new r → Goes w other slots slots' old new r
+  goes_same (Ok v) m = made_same (Returned v) m
+  goes_same (Err (halt.DivZero line)) m = made_same (Halted model.DivZero line) m
+  goes_same (Err (halt.Index line)) m = made_same (Halted model.Index line) m
+  goes_same (Err (halt.LogFull line)) m = made_same (Halted model.LogFull line) m
+  goes_same (Err (halt.Region why)) m = begun_same (AtRegion why) m
+  goes_same (Err (halt.Trouble trouble)) (m, refused) = (begun_same AtLog m, refused)
+
+-- what follows where a part gives no value
+pub after_is : (m : Outcome (Unit {0})) (f : State → Outcome (Unit {0})) → after m f ≡ and_then m (λ a t. f t)
+after_is (Outcome.Gives a s) f = refl
+after_is (Outcome.Stops why line s) f = refl
+after_is (Outcome.Wants s) f = refl

@@ -1,0 +1,117 @@
+-- Regions: the record of the fork, and what the lanes of the region did.
+use Rattle.std.proofs.Common.{◌≡◌, refl, ap, sym, ◌∙◌, subst, ℕ, ◌+◌, ◌-◌, ◌≤◌, List, [], ◌∷◌, ◌++◌, ℤ, arith}
+use Rattle.std.specs.Prelude.{reverse, Result, Ok, Err}
+use Rattle.std.proofs.lemmas.List.{append-nil}
+use Rattle.log_format.specs.declared.record.Record.{Record}
+use Rattle.log_format.specs.declared.record.Kind.TheVariants as kind
+use Rattle.kernel_syntax.specs.Program.{Program}
+use Rattle.kernel_syntax.specs.Tree as tree
+use Rattle.kernel_syntax.specs.Tree.{TeamTree, Code}
+use Rattle.kernel_model.specs.State.{Fork, event}
+use Rattle.kernel_model.specs.Value.{Site}
+use Rattle.kernel_model.specs.Trace.{log_limit, run}
+use Rattle.kernel_model.specs.Effect.{Returned, Makes, adds}
+use Rattle.kernel_model.proofs.RunEffects.{makes-Parallel, makes-Done}
+use Rattle.race_model.specs.Race.{held_after}
+use Rattle.step_history.specs.declared.item.Item.{Item}
+use Rattle.shared_words.specs.declared.view.View.{View}
+use Rattle.shared_words.specs.Handles.{HandValue, with_view}
+use Rattle.history_model.specs.Work as work
+use Rattle.history_model.specs.Work.{Work, Rest, RegionWork, work_regions}
+use Rattle.history_model.specs.Did.{phase_splits, did_phases}
+use Rattle.execution_model.specs.Runs.{RunsRegions}
+use Rattle.event_buffer.specs.Buffered.{Buffered}
+use Rattle.event_buffer.specs.Logged.{HoldsRecords}
+use Rattle.lane_runner.specs.Drawing.{Tally, HasDrawn}
+use Rattle.lane_runner.proofs.Drawing.{drew_nothing}
+use Rattle.lane_runner.specs.World.{WorldValue, element_word}
+use Rattle.lane_runner.specs.Going.{Progress, HasDone, HasReleased, GainsRecords, AtRegion, log_of, worked, effect_of, Made, Began, Takes}
+use Rattle.lane_runner.specs.Forking.{RanRegion, EndsAs, after_phases}
+use Rattle.lane_runner.specs.Fitting.{WorkFits}
+use Rattle.lane_runner.specs.declared.stop.Stop.{Stop}
+use Rattle.lane_runner.proofs.Working.{view_same}
+use Rattle.lane_runner.proofs.Ending.{ended_none, ended_one}
+use Rattle.lane_runner.proofs.Stepping.{is_put_one}
+use Rattle.lane_runner.proofs.Beginning.{begins_made}
+
+module _ (w : WorldValue) (at : Site) (team : TeamTree) (some : 1 ≤ team.line) (slots : List ℤ) (old a new : Progress) (r : Result (Unit {0}) Stop)
+    (taken : Takes (event kind.Region team.line 0 team.span) old.hand.view old a) (ran : RanRegion w team slots a.hand new.hand r) (still : new.buffer ≡ a.buffer) (same_tally : new.tally ≡ a.tally) where
+  abbrev region_work : Work
+  region_work = work.Fork team.line team.span ran.phases Rest
+
+  abbrev region_code : Code
+  region_code = tree.Parallel team.span team.line team.end team.body tree.Done
+
+  abbrev this_fork : Fork
+  this_fork = record { team = team; slots = slots }
+
+  region_log : log_of region_work ≡ work.fork_record team.line team.span ∷ []
+  region_log = rw (is_put_one team.line some) refl
+
+  region_view : (word : ℕ → ℕ) (v : View) → after_phases word team.span ran.phases v ≡ worked word v region_work
+  region_view word v =
+      view_same v (v.splits + phase_splits ran.phases) (v.splits + (phase_splits ran.phases + 0))
+      (v.items ++ did_phases word v.name v.splits team.span ran.phases) (v.items ++ (did_phases word v.name v.splits team.span ran.phases ++ []))
+      (omega arith) (ap (λ (items : List Item). v.items ++ items) (sym (append-nil (did_phases word v.name v.splits team.span ran.phases))))
+
+  region_done : HasDone w old new region_work
+  region_done = record {
+    hand =
+        ran.hand
+        ∙ ap (λ (h : HandValue View). with_view h (after_phases (element_word w.arrays) team.span ran.phases h.view)) taken.hand
+        ∙ ap (λ (v : View). with_view old.hand v) (region_view (element_word w.arrays) old.hand.view);
+    log = subst (λ (rs : List Record). GainsRecords old.buffer new.buffer rs) (sym region_log)
+        (record {
+          records = λ header records holds. subst (λ (b : Buffered). HoldsRecords header b (records ++ work.fork_record team.line team.span ∷ [])) (sym still) (taken.records header records holds);
+          count = ap (λ (b : Buffered). b.count) still ∙ taken.count;
+        });
+    draws = subst (λ (rs : List Record). HasDrawn old.tally new.tally rs) (sym region_log)
+        (subst (λ (t : Tally). HasDrawn old.tally t (work.fork_record team.line team.span ∷ [])) (sym (same_tally ∙ taken.tally)) (drew_nothing old.tally (work.fork_record team.line team.span) refl));
+    sound = (ran.sound, tt);
+    no_barrier = refl;
+  }
+
+  region_released : HasReleased old.hand.view.held region_work []
+  region_released = record {
+    records = sym region_log ∙ sym (append-nil (log_of region_work));
+    held = ap (λ (rs : List Record). held_after (reverse old.hand.view.held) rs) region_log;
+  }
+
+  region_makes : Makes (run at region_code) slots (log_limit - old.buffer.count) (effect_of slots region_work (this_fork ∷ [])) (Returned tt)
+  region_makes =
+      subst (λ (rs : List Record). Makes (run at region_code) slots (log_limit - old.buffer.count) (record { slots = slots; added = rs; forks = this_fork ∷ [] }) (Returned tt)) (sym region_log)
+      (makes-Parallel at slots (log_limit - old.buffer.count) team tree.Done (adds slots []) (Returned tt) (let below = taken.below in omega arith)
+      (makes-Done at slots (log_limit - old.buffer.count - 1)))
+
+  region_runs : WorkFits region_work → (program : Program) → program.arrays ≡ w.arrays → RunsRegions program (this_fork ∷ []) (work_regions region_work)
+  region_runs fit program is = RunsRegions.region this_fork [] (record { span = team.span; phases = ran.phases }) [] refl (ran.lanes fit.0 program is) ran.drawn RunsRegions.no_region
+
+  abbrev this_region : RegionWork
+  this_region = record { span = team.span; phases = ran.phases }
+
+  pub region_made : (u : Unit {0}) → r ≡ Ok u → Made w (run at region_code) slots slots old new (Returned tt)
+  region_made u is = record {
+    work = region_work;
+    forks = this_fork ∷ [];
+    own = [];
+    done = region_done;
+    released = region_released;
+    closes = refl;
+    ended = ended_one this_region (subst (λ (x : Result (Unit {0}) Stop). EndsAs w.arrays this_fork ran.phases x) is ran.ends) ran.joined;
+    unrefused = ap (λ (b : Buffered). b.refused) still ∙ taken.unrefused;
+    makes = λ fit. region_makes;
+    regions = region_runs;
+  }
+
+  pub region_began : (why : Stop) → r ≡ Err why → Began w (run at region_code) slots old new (AtRegion why)
+  region_began why is = record {
+    work = region_work;
+    forks = this_fork ∷ [];
+    own = [];
+    done = region_done;
+    released = region_released;
+    ends = record { prefix = []; last = work.fork_record team.line team.span; parts = region_log; forks = refl };
+    stops = record { earlier = []; fork = this_fork; forks_are = refl; before = []; region = this_region; regions_are = refl; ended = ended_none; joined = ran.joined; stopped = subst (λ (x : Result (Unit {0}) Stop). EndsAs w.arrays this_fork ran.phases x) is ran.ends };
+    begins = λ fit. begins_made (run at region_code) slots (log_limit - old.buffer.count) (effect_of slots region_work (this_fork ∷ [])) (Returned tt) region_makes;
+    regions = region_runs;
+  }

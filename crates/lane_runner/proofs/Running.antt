@@ -1,0 +1,150 @@
+-- How a lane goes on: statements.
+use Rattle.std.proofs.Common.{◌≡◌, refl, ap, sym, subst, ℕ, ◌-◌, List, ℤ, Option, Some, None, Result, Ok, Err}
+use Rattle.std.specs.Prelude.{slice_set}
+use Rattle.kernel_syntax.specs.Arithmetic.{fitted}
+use Rattle.kernel_syntax.specs.Tree as tree
+use Rattle.kernel_syntax.specs.Tree.{Term, Code}
+use Rattle.log_format.specs.declared.record.Kind.TheVariants as kind
+use Rattle.kernel_model.specs.State as model
+use Rattle.kernel_model.specs.State.{State, Outcome, Gives, and_then, after, assign, put, state_of}
+use Rattle.kernel_model.specs.Growth.{Grows}
+use Rattle.kernel_model.specs.Trace.{log_limit, run, stored}
+use Rattle.kernel_model.specs.Value.{Site, Element, element_at, access, value}
+use Rattle.kernel_model.specs.Effect.{Finish, Returned, Halted}
+use Rattle.kernel_model.proofs.Effects.{makes-stays}
+use Rattle.kernel_model.proofs.RunEffects.{makes-Done, makes-assign}
+use Rattle.kernel_model.proofs.Equations.{run-Done, run-Set, run-Store}
+use Rattle.kernel_model.proofs.Growing.{grows-plain, run-grows, value-grows}
+use Rattle.kernel_model.proofs.Steps.{kept-and_then, kept-after, kept-stored}
+use Rattle.lane_runner.specs.declared.stop.Halt.{Halt}
+use Rattle.lane_runner.specs.declared.stop.Halt.TheVariants as halt
+use Rattle.lane_runner.specs.World.{WorldValue}
+use Rattle.lane_runner.specs.Going.{Progress, CanGo, Cause, AtLog, AtRegion, effect_of, Made, Began, Goes}
+use Rattle.lane_runner.proofs.Following.{goes_stop, goes_then, goes_same, after_is}
+use Rattle.lane_runner.proofs.Values.{can_follow, made_still}
+
+-- ---- parts that give no value
+
+module _ (w : WorldValue) (part next : State → Outcome (Unit {0})) (slots : List ℤ) where
+  pub after_stop : (slots' : List ℤ) (old new : Progress) (why : Halt) → ((s : State) → Grows s (state_of (next s))) → Goes w part slots slots' old new (Err why)
+      → Goes w (λ s. after (part s) next) slots slots' old new (Err why)
+  after_stop slots' old new why grows goes =
+      goes_same w _ (λ (s : State). after (part s) next) slots slots' old new (λ s. after_is (part s) next) (Err why)
+      (goes_stop w part (λ (a : Unit {0}) (s : State). next s) slots slots' old new why (λ a s. grows s) goes)
+
+  pub after_goes : (mid_slots slots' : List ℤ) (old mid new : Progress) (r : Result (Unit {0}) Halt) → Made w part slots mid_slots old mid (Returned tt) → Goes w next mid_slots slots' mid new r
+      → Goes w (λ s. after (part s) next) slots slots' old new r
+  after_goes mid_slots slots' old mid new r made goes =
+      goes_same w _ (λ (s : State). after (part s) next) slots slots' old new (λ s. after_is (part s) next) r
+      (goes_then w part (λ (a : Unit {0}) (s : State). next s) slots mid_slots slots' old mid new tt made r goes)
+
+-- a local is set, and then a part goes on
+module _ (w : WorldValue) (part : State → Outcome (Unit {0})) (slot : ℕ) (v : ℤ) (slots slots' : List ℤ) (old new : Progress) where
+  made_assigned : (finish : Finish (Unit {0})) → Made w part (slice_set slots slot v) slots' old new finish → Made w (λ s. part (assign slot v s)) slots slots' old new finish
+  made_assigned finish m = record {
+    work = m.work;
+    forks = m.forks;
+    own = m.own;
+    done = m.done;
+    released = m.released;
+    closes = m.closes;
+    ended = m.ended;
+    unrefused = m.unrefused;
+    makes = λ fit. makes-assign part slot v slots (log_limit - old.buffer.count) (effect_of slots' m.work m.forks) finish (m.makes fit);
+    regions = m.regions;
+  }
+
+  begun_assigned : (cause : Cause) → Began w part (slice_set slots slot v) old new cause → Began w (λ s. part (assign slot v s)) slots old new cause
+  begun_assigned cause m = record {
+    work = m.work;
+    forks = m.forks;
+    own = m.own;
+    done = m.done;
+    released = m.released;
+    ends = m.ends;
+    stops = m.stops;
+    begins = λ fit. let b = m.begins fit in record { within = b.within; begins = λ records before reads chunks. b.begins records before reads chunks };
+    regions = m.regions;
+  }
+
+  pub goes_assigned : (r : Result (Unit {0}) Halt) → Goes w part (slice_set slots slot v) slots' old new r → Goes w (λ s. part (assign slot v s)) slots slots' old new r
+  goes_assigned (Ok u) m = made_assigned (Returned tt) m
+  goes_assigned (Err (halt.DivZero line)) m = made_assigned (Halted model.DivZero line) m
+  goes_assigned (Err (halt.Index line)) m = made_assigned (Halted model.Index line) m
+  goes_assigned (Err (halt.LogFull line)) m = made_assigned (Halted model.LogFull line) m
+  goes_assigned (Err (halt.Region why)) m = begun_assigned (AtRegion why) m
+  goes_assigned (Err (halt.Trouble trouble)) (m, refused) = (begun_assigned AtLog m, refused)
+
+-- no statement
+pub made_done : (w : WorldValue) (at : Site) (slots : List ℤ) (p : Progress) → CanGo w p → Made w (run at tree.Done) slots slots p p (Returned tt)
+made_done w at slots p can = made_still w (run at tree.Done) slots p (Returned tt) can (makes-Done at slots (log_limit - p.buffer.count))
+
+pub after_done : (at : Site) (m : Outcome (Unit {0})) → after m (run at tree.Done) ≡ m
+after_done at (Gives u s) = run-Done at s
+after_done at (Outcome.Stops why line s) = refl
+after_done at (Outcome.Wants s) = refl
+
+-- ---- a variable is set
+
+module _ (w : WorldValue) (at : Site) (slots : List ℤ) (slot : ℕ) (e : Term) (old new : Progress) where
+  pub set_stops : (why : Halt) → Goes w (value at e) slots slots old new (Err why) → Goes w (run at (tree.Set slot e tree.Done)) slots slots old new (Err why)
+  set_stops why goes =
+      goes_same w _ (run at (tree.Set slot e tree.Done)) slots slots old new (run-Set at slot e tree.Done) (Err why)
+      (goes_stop w (value at e) (λ (v : ℤ) (s : State). run at tree.Done (assign slot v s)) slots slots old new why
+      (λ v s. grows-plain.chain s (assign slot v s) _ (grows-plain.assigns slot v s) (run-grows at tree.Done (assign slot v s))) goes)
+
+  pub set_goes : (v : ℤ) → CanGo w old → Made w (value at e) slots slots old new (Returned v) → Made w (run at (tree.Set slot e tree.Done)) slots (slice_set slots slot v) old new (Returned tt)
+  set_goes v can made =
+      goes_same w _ (run at (tree.Set slot e tree.Done)) slots (slice_set slots slot v) old new (run-Set at slot e tree.Done) (Ok tt)
+      (goes_then w (value at e) (λ (x : ℤ) (s : State). run at tree.Done (assign slot x s)) slots slots (slice_set slots slot v) old new new v made (Ok tt)
+      (goes_assigned w (run at tree.Done) slot v slots (slice_set slots slot v) new new (Ok tt)
+      (made_done w at (slice_set slots slot v) new (can_follow w (value at e) slots slots old new (Returned v) can made))))
+
+-- ---- a store
+
+-- an element that isn't there, and one that is
+pub stores_none : (w : WorldValue) (found : Option Element) (v : ℤ) (line site : ℕ) (slots : List ℤ) (p : Progress) → CanGo w p → found ≡ None → Made w (stored found v line site) slots slots p p (Halted model.Index line)
+stores_none w found v line site slots p can is =
+    made_still w (stored found v line site) slots p (Halted model.Index line) can
+    (makes-stays (stored found v line site) slots (log_limit - p.buffer.count) (Halted model.Index line) (λ s same full. ap (λ o. stored o v line site s) is))
+
+pub stores_some : (w : WorldValue) (found : Option Element) (e : Element) (v number : ℤ) (line site : ℕ) (slots : List ℤ) (old new : Progress) (r : Result (Unit {0}) Halt) → found ≡ Some e → number ≡ fitted v e.width
+    → Goes w (put (access kind.Write e site line number)) slots slots old new r → Goes w (stored found v line site) slots slots old new r
+stores_some w found e v number line site slots old new r is number_is goes =
+    subst (λ (o : Option Element). Goes w (stored o v line site) slots slots old new r) (sym is)
+    (goes_same w (put (access kind.Write e site line (fitted v e.width))) (stored (Some e) v line site) slots slots old new (λ s. refl) r
+    (subst (λ (x : ℤ). Goes w (put (access kind.Write e site line x)) slots slots old new r) number_is goes))
+
+module _ (w : WorldValue) (at : Site) (slots : List ℤ) (array : ℕ) (index e : Term) (line site : ℕ) where
+  abbrev put_value : ℤ → ℤ → State → Outcome (Unit {0})
+  put_value i v s = after (stored (element_at at.arrays array i) v line site s) (run at tree.Done)
+
+  put_grows : (i v : ℤ) (s : State) → Grows s (state_of (put_value i v s))
+  put_grows i v s = kept-after Grows grows-plain s (stored (element_at at.arrays array i) v line site s) (run at tree.Done) (kept-stored Grows grows-plain (element_at at.arrays array i) v line site s) (run-grows at tree.Done)
+
+  abbrev after_index : ℤ → State → Outcome (Unit {0})
+  after_index i s = and_then (value at e s) (put_value i)
+
+  index_grows : (i : ℤ) (s : State) → Grows s (state_of (after_index i s))
+  index_grows i s = kept-and_then Grows grows-plain s (value at e s) (put_value i) (value-grows at e s) (put_grows i)
+
+  pub index_stops : (old new : Progress) (why : Halt) → Goes w (value at index) slots slots old new (Err why) → Goes w (run at (tree.Store array index e line site tree.Done)) slots slots old new (Err why)
+  index_stops old new why goes =
+      goes_same w _ (run at (tree.Store array index e line site tree.Done)) slots slots old new (run-Store at array index e line site tree.Done) (Err why)
+      (goes_stop w (value at index) after_index slots slots old new why index_grows goes)
+
+  module _ (i : ℤ) (old mid new : Progress) (made : Made w (value at index) slots slots old mid (Returned i)) where
+    store_after : (r : Result (Unit {0}) Halt) → Goes w (after_index i) slots slots mid new r → Goes w (run at (tree.Store array index e line site tree.Done)) slots slots old new r
+    store_after r goes =
+        goes_same w _ (run at (tree.Store array index e line site tree.Done)) slots slots old new (run-Store at array index e line site tree.Done) r
+        (goes_then w (value at index) after_index slots slots slots old mid new i made r goes)
+
+    pub stored_stops : (why : Halt) → Goes w (value at e) slots slots mid new (Err why) → Goes w (run at (tree.Store array index e line site tree.Done)) slots slots old new (Err why)
+    stored_stops why goes = store_after (Err why) (goes_stop w (value at e) (put_value i) slots slots mid new why (put_grows i) goes)
+
+    pub store_goes : (last : Progress) (v : ℤ) (r : Result (Unit {0}) Halt) → Made w (value at e) slots slots mid last (Returned v)
+        → Goes w (stored (element_at at.arrays array i) v line site) slots slots last new r → Goes w (run at (tree.Store array index e line site tree.Done)) slots slots old new r
+    store_goes last v r made_value goes =
+        store_after r
+        (goes_then w (value at e) (put_value i) slots slots slots mid last new v made_value r
+        (goes_same w (stored (element_at at.arrays array i) v line site) (put_value i v) slots slots last new (λ s. after_done at (stored (element_at at.arrays array i) v line site s)) r goes))

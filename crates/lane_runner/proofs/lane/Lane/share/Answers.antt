@@ -1,0 +1,42 @@
+use Rattle.std.proofs.Common.{◌≡◌, ap, sym, subst, ◌∙◌, ℕ, ◌+◌, ◌-◌, ◌^◌, ◌<◌, ◌≤◌, ℤ, pos, ◌+ℤ◌, ◌≤ℤ◌, w64, arith}
+use Rattle.std.proofs.lemmas.Int.{to_z-of_z}
+use Rattle.kernel_syntax.specs.Program.{code_of}
+use Rattle.kernel_syntax.specs.Share.{even_share_of}
+use Rattle.kernel_model.specs.Iterations.{static_iterations}
+use Rattle.kernel_model.specs.Trace.{each, turns}
+use Rattle.lane_runner.specs.Alone.{turn_from}
+use Rattle.lane_runner.specs.Going.{Goes, site}
+use Rattle.lane_runner.proofs.Dealing.{share_within, below_top, shared_even, shared_static}
+use Rattle.lane_runner.proofs.lane.Lane.share.Goals as goal
+
+within_is : (lane span given : ℕ) → given ≡ span → lane < given → lane < span
+within_is lane span given is less = omega (arith, is, less)
+
+pub even_share-first-requires : goal.even_share-first-requires
+even_share-first-requires g c = subst (λ (n : ℕ). n < c.span.result) (sym c.lane.ensures) c.span.ensures.within
+
+pub repeat-requires-clause-top : goal.repeat-requires-clause-top
+repeat-requires-clause-top g c κs given =
+    let lt = within_is c.args.world.now.lane c.args.world.now.span c.span.result c.span.ensures.span c.span.ensures.within in
+    let is : c.even_share-first.result ≡ even_share_of c.args.total c.args.world.now.lane c.args.world.now.span =
+    c.even_share-first.ensures ∙ ap (λ (n : ℕ). even_share_of c.args.total n c.span.result) c.lane.ensures ∙ ap (λ (n : ℕ). even_share_of c.args.total c.args.world.now.lane n) c.span.ensures.span in
+    let within : c.even_share-first.result.0 + c.even_share-first.result.1 ≤ c.args.total =
+    subst (λ (p : ℕ × ℕ). p.0 + p.1 ≤ c.args.total) (sym is) (share_within c.args.total c.args.world.now.lane c.args.world.now.span lt) in
+    subst (λ (z : ℤ). (z +ℤ pos (c.even_share-first.result.0 + c.even_share-first.result.1)) ≤ℤ pos (2 ^ 63 - 1)) (sym (to_z-of_z w64 c.args.from c.ranges.from))
+    (below_top c.args.from (c.even_share-first.result.0 + c.even_share-first.result.1) c.args.total within c.requires.top)
+
+pub returns-in-Even-clause-goes : goal.returns-in-Even-clause-goes
+returns-in-Even-clause-goes g c = λ line.
+    let is : c.even_share-first.result ≡ even_share_of c.args.total c.args.world.now.lane c.args.world.now.span =
+    c.even_share-first.ensures ∙ ap (λ (n : ℕ). even_share_of c.args.total n c.span.result) c.lane.ensures ∙ ap (λ (n : ℕ). even_share_of c.args.total c.args.world.now.lane n) c.span.ensures.span in
+    shared_even c.args.world.now (site c.args.world.now) (code_of c.args.body.now.stmts.items) c.args.slot c.args.from line c.args.total c.args.self.now.locals.slots.items c.repeat.new.self.locals.slots.items c.args.self.now.track c.repeat.new.self.track c.repeat.result
+    c.args.schedule c.even_share-first.result c.in-Even.is is
+    (subst (λ (z : ℤ). Goes c.args.world.now (turns c.even_share-first.result.1 c.even_share-first.result.0 (turn_from (site c.args.world.now) (code_of c.args.body.now.stmts.items) c.args.slot z)) c.args.self.now.locals.slots.items c.repeat.new.self.locals.slots.items c.args.self.now.track c.repeat.new.self.track c.repeat.result)
+    (to_z-of_z w64 c.args.from c.ranges.from) c.repeat.ensures.goes)
+
+pub returns-in-Static-clause-goes : goal.returns-in-Static-clause-goes
+returns-in-Static-clause-goes g c = λ line.
+    shared_static c.args.world.now (site c.args.world.now) (code_of c.args.body.now.stmts.items) c.args.slot c.args.from line c.args.total c.args.self.now.locals.slots.items c.chunks.new.self.locals.slots.items c.args.self.now.track c.chunks.new.self.track c.chunks.result
+    c.args.schedule c.in-Static.chunk c.in-Static.is
+    (subst (λ (z : ℤ). Goes c.args.world.now (each (static_iterations c.in-Static.chunk c.args.total c.args.world.now.lane c.args.world.now.span) (turn_from (site c.args.world.now) (code_of c.args.body.now.stmts.items) c.args.slot z)) c.args.self.now.locals.slots.items c.chunks.new.self.locals.slots.items c.args.self.now.track c.chunks.new.self.track c.chunks.result)
+    (to_z-of_z w64 c.args.from c.ranges.from) c.chunks.ensures.goes)

@@ -1,0 +1,56 @@
+use Rattle.std.proofs.Common.{◌≡◌, refl, ap, sym, ◌∙◌, subst, []}
+use Rattle.std.proofs.lemmas.Result.{err_from_is_err_and}
+use Rattle.log_format.specs.declared.record.Kind.TheVariants as kind
+use Rattle.kernel_syntax.specs.Program.{team_of}
+use Rattle.kernel_syntax.specs.Tree as tree
+use Rattle.kernel_syntax.specs.Tree.{TeamTree}
+use Rattle.kernel_model.specs.State.{event}
+use Rattle.kernel_model.specs.Trace.{run}
+use Rattle.kernel_model.proofs.Growing.{run-grows}
+use Rattle.kernel_model.proofs.RunEffects.{makes-Parallel_full}
+use Rattle.shared_words.specs.declared.view.View.{View}
+use Rattle.shared_words.specs.Handles.{HandValue, IsFree}
+use Rattle.lane_runner.specs.Forking.{RanRegion}
+use Rattle.lane_runner.specs.Going.{Progress, Takes, site}
+use Rattle.lane_runner.specs.World.{WorldValue}
+use Rattle.lane_runner.specs.Going.{CanGo}
+use Rattle.lane_runner.proofs.Stepping.{goes_unready}
+use Rattle.lane_runner.proofs.Regions.{region_made, region_began}
+use Rattle.lane_runner.proofs.track.Track.parallel.Goals as goal
+
+-- the hand after the record of the fork
+free_after : (w : WorldValue) (team : TeamTree) (old a : Progress) → CanGo w old → old.hand.view.held ≡ [] → Takes (event kind.Region team.line 0 team.span) old.hand.view old a → IsFree a.hand w.words.table
+free_after w team old a can free taken = record {
+  belongs = record { here = ap (λ (h : HandValue View). h.table) taken.hand ∙ can.belongs.here; there = ap (λ (h : HandValue View). h.there) taken.hand };
+  holds_none = ap (λ (h : HandValue View). h.view.held) taken.hand ∙ free;
+}
+
+pub returns-in_err-fork-clause-goes : goal.returns-in_err-fork-clause-goes
+returns-in_err-fork-clause-goes g c =
+    let p = err_from_is_err_and c.from_residual.result c.from_residual.ensures.1 in
+    let team : TeamTree = team_of c.args.team.now in
+    rw (p.1, p.2)
+    (goes_unready c.args.world.now (run (site c.args.world.now) (tree.Parallel team.span team.line team.end team.body tree.Done)) c.args.locals.now.slots.items team.line
+    (run-grows (site c.args.world.now) (tree.Parallel team.span team.line team.end team.body tree.Done))
+    (makes-Parallel_full (site c.args.world.now) c.args.locals.now.slots.items 0 team tree.Done refl)
+    c.args.self.now c.fork.new.self c.in_err-fork.field-0.0 c.requires.can c.in_err-fork.ensures.takes)
+
+pub returns-in-Err-clause-goes : goal.returns-in-Err-clause-goes
+returns-in-Err-clause-goes g c =
+    let team : TeamTree = team_of c.args.team.now in
+    let mid : Progress = record { hand = c.self.inside.hand; buffer = c.self.inside.buffer; tally = record { draws = c.self.inside.draws; next_loop = c.self.inside.next_loop } } in
+    let new : Progress = record { hand = c.region.new.arg2; buffer = c.self.inside.buffer; tally = record { draws = c.self.inside.draws; next_loop = c.self.inside.next_loop } } in
+    let taken = subst (λ (p : Progress). Takes (event kind.Region team.line 0 team.span) c.args.self.now.hand.view c.args.self.now p) (sym c.self.view_is) c.in_ok-fork.ensures.takes in
+    let free = free_after c.args.world.now team c.args.self.now mid c.requires.can c.requires.free taken in
+    let ran : RanRegion c.args.world.now team c.args.locals.now.slots.items mid.hand new.hand c.region.result = c.requires.runs.ran _ _ _ _ _ _ _ refl free c.region.ensures in
+    region_began c.args.world.now (site c.args.world.now) team c.requires.line c.args.locals.now.slots.items c.args.self.now mid new c.region.result taken ran refl refl c.in-Err.stop c.in-Err.is
+
+pub returns-clause-goes : goal.returns-clause-goes
+returns-clause-goes g c =
+    let team : TeamTree = team_of c.args.team.now in
+    let mid : Progress = record { hand = c.self.inside.hand; buffer = c.self.inside.buffer; tally = record { draws = c.self.inside.draws; next_loop = c.self.inside.next_loop } } in
+    let new : Progress = record { hand = c.region.new.arg2; buffer = c.self.inside.buffer; tally = record { draws = c.self.inside.draws; next_loop = c.self.inside.next_loop } } in
+    let taken = subst (λ (p : Progress). Takes (event kind.Region team.line 0 team.span) c.args.self.now.hand.view c.args.self.now p) (sym c.self.view_is) c.in_ok-fork.ensures.takes in
+    let free = free_after c.args.world.now team c.args.self.now mid c.requires.can c.requires.free taken in
+    let ran : RanRegion c.args.world.now team c.args.locals.now.slots.items mid.hand new.hand c.region.result = c.requires.runs.ran _ _ _ _ _ _ _ refl free c.region.ensures in
+    region_made c.args.world.now (site c.args.world.now) team c.requires.line c.args.locals.now.slots.items c.args.self.now mid new c.region.result taken ran refl refl _ c.in_default.is

@@ -1,0 +1,207 @@
+-- How a lane goes on: what its records, its hand and its locals have to do with the meaning of what it executes.
+use Rattle.std.specs.Prelude.{◌≡◌, ℕ, ◌+◌, ◌-◌, ◌≤◌, List, [], ◌∷◌, ◌++◌, length, map, reverse, ◌<◌, ℤ, Some, None, Result, Ok, Err, is_some}
+use Rattle.sw_base.specs.declared.trouble.Trouble.{Trouble}
+use Rattle.log_format.specs.declared.record.Record.{Record}
+use Rattle.kernel_syntax.specs.declared.syntax.Array.{Array}
+use Rattle.kernel_syntax.specs.Program.{Program}
+use Rattle.kernel_model.specs.State as model
+use Rattle.kernel_model.specs.State.{State, Fork, Outcome, state_of, reads_of, chunks_of}
+use Rattle.kernel_model.specs.Value.{Site}
+use Rattle.kernel_model.specs.Trace.{log_limit}
+use Rattle.kernel_model.specs.Effect.{Finish, Returned, Halted, Makes, Effect, state_with}
+use Rattle.shared_words.specs.declared.view.View.{View}
+use Rattle.shared_words.specs.Handles.{HandValue, Belongs, with_view}
+use Rattle.history_model.specs.Work.{Work, RegionWork, work_records, work_regions}
+use Rattle.log_format.specs.declared.record.Kind.TheVariants.{Region}
+use Rattle.race_model.specs.Trace.{barrier_count}
+use Rattle.race_model.specs.Race.{held_after}
+use Rattle.race_model.specs.History.{release}
+use Rattle.history_model.specs.Sound.{IsSound}
+use Rattle.history_model.specs.Did as tree
+use Rattle.history_model.specs.Did.{split_count}
+use Rattle.execution_model.specs.Fitting.{ReadsFit}
+use Rattle.execution_model.specs.Runs.{put_records, RunsRegions}
+use Rattle.event_buffer.specs.Buffered.{Buffered, MayPut}
+use Rattle.event_buffer.specs.Logged.{HoldsRecords}
+use Rattle.event_buffer.specs.declared.fault.BufferFault.{BufferFault}
+use Rattle.event_buffer.specs.declared.fault.BufferFault.TheVariants as fault
+use Rattle.lane_runner.specs.declared.stop.Halt.{Halt}
+use Rattle.lane_runner.specs.declared.stop.Stop.{Stop}
+use Rattle.lane_runner.specs.declared.stop.Halt.TheVariants as halt
+use Rattle.lane_runner.specs.Drawing.{Tally, HasDrawn}
+use Rattle.lane_runner.specs.Fitting.{WorkFits}
+use Rattle.lane_runner.specs.Stopping.{HaveEnded, StopsAtLast}
+use Rattle.lane_runner.specs.World.{WorldValue, element_word, layout_of}
+
+-- where a lane runs
+abbrev pub site : WorldValue → Site
+site w = record { arrays = w.arrays; lane = w.lane; span = w.span }
+
+-- what of a lane changes with each step: its hand, the buffer before its log, and what it drew
+pub record Progress : Type 0 where
+  pub hand : HandValue View
+  pub buffer : Buffered
+  pub tally : Tally
+
+-- the lane can go on: its hands belong to the words and to the counters, its log has refused nothing, and it may draw as often as its
+-- log has room
+pub record CanGo (w : WorldValue) (p : Progress) : Type 0 where
+  pub belongs : Belongs p.hand w.words.table
+  pub unrefused : p.buffer.refused ≡ None
+  pub drawing : Belongs p.tally.draws w.chunks.table
+  pub enough : log_limit ≤ p.tally.draws.view.left + p.buffer.count
+
+-- the records that a work puts into its log
+abbrev pub log_of : Work → List Record
+log_of work = put_records (work_records work)
+
+-- a hand's view once it did the work
+abbrev pub worked : (ℕ → ℕ) → View → Work → View
+worked word v work = record v { splits = v.splits + split_count work; items = v.items ++ tree.did word v.name v.splits work }
+
+-- a log has gained these records
+pub record GainsRecords (old new : Buffered) (added : List Record) : Type 0 where
+  pub records : (header : List ℕ) (records : List Record) → HoldsRecords header old records → HoldsRecords header new (records ++ added)
+  pub count : new.count ≡ old.count + length added
+
+-- it is the same log before and after
+pub record IsSameLog (old new : Buffered) : Type 0 where
+  pub dir : new.dir ≡ old.dir
+  pub path : new.path ≡ old.path
+  pub size : new.size ≡ old.size
+  pub tells : is_some new.text ≡ is_some old.text
+  pub later : old.faults ≤ new.faults
+
+-- the lane did the work: its hand has the steps, and its log the records
+pub record HasDone (w : WorldValue) (old new : Progress) (work : Work) : Type 0 where
+  pub hand : new.hand ≡ with_view old.hand (worked (element_word w.arrays) old.hand.view work)
+  pub log : GainsRecords old.buffer new.buffer (log_of work)
+  pub draws : HasDrawn old.tally new.tally (log_of work)
+  pub sound : IsSound (layout_of w.arrays) work
+  pub no_barrier : barrier_count (work_records work) ≡ 0
+
+-- the state goes on from these records and forks
+pub record GoesOnFrom (s : State) (records : List Record) (forks : List Fork) : Type 0 where
+  pub more : List Record
+  pub later : List Fork
+  pub records_are : s.records ≡ records ++ more
+  pub forks_are : s.forks ≡ forks ++ later
+
+-- The part puts these records first and forks these regions, whatever was put and forked before, where it reads and draws what its
+-- own records tell.
+pub record BeginsPart {A : Type 0} (part : State → Outcome A) (slots : List ℤ) (room : ℕ) (added : List Record) (forks : List Fork) : Type 0 where
+  pub within : length added ≤ room
+  pub begins : (records : List Record) (before : List Fork) (reads : List ℤ) (chunks : List ℕ) →
+      GoesOnFrom (state_of (part (state_with slots records before room (reads_of added ++ reads) (chunks_of added ++ chunks)))) (records ++ added) (before ++ forks)
+
+-- What a work put is its log, and then the unlocks of what it holds at its end: these mutexes, the innermost first, beside those
+-- that it held before.
+pub record HasReleased (before : List ℕ) (work : Work) (own : List ℕ) : Type 0 where
+  pub records : work_records work ≡ log_of work ++ map release own
+  pub held : held_after (reverse before) (log_of work) ≡ reverse (own ++ before)
+
+-- who executes a part to its end holds nothing of it any more
+abbrev pub ClosesAll : {A : Type 0} → Finish A → List ℕ → Type 0
+ClosesAll (Returned a) own = own ≡ []
+ClosesAll (Halted why line) own = Unit {0}
+
+-- the last of these records is that of a region
+pub record LastIsRegion (records : List Record) : Type 0 where
+  pub prefix : List Record
+  pub last : Record
+  pub parts : records ≡ prefix ++ last ∷ []
+  pub forks : last.kind ≡ Region
+
+-- what keeps a lane from going on: its log refused a record, or the region that it forked last stopped so
+pub data Cause : Type 0 where
+  AtLog : Cause
+  AtRegion : (why : Stop) → Cause
+
+abbrev pub EndsBy : Cause → List Record → Type 0
+EndsBy AtLog records = Unit {0}
+EndsBy (AtRegion why) records = LastIsRegion records
+
+-- what the regions forked have to do with it
+abbrev pub StopsBy : List Array → Cause → List Fork → List RegionWork → Type 0
+StopsBy arrays AtLog forks regions = HaveEnded regions
+StopsBy arrays (AtRegion why) forks regions = StopsAtLast arrays why forks regions
+
+-- what of the meaning of a part its work has made
+abbrev pub effect_of : List ℤ → Work → List Fork → Effect
+effect_of slots work forks = record { slots = slots; added = log_of work; forks = forks }
+
+-- The lane executed the part, which ends so and leaves these locals.
+pub record Made {A : Type 0} (w : WorldValue) (part : State → Outcome A) (slots slots' : List ℤ) (old new : Progress) (finish : Finish A) : Type 0 where
+  pub work : Work
+  pub forks : List Fork
+  pub own : List ℕ
+  pub done : HasDone w old new work
+  pub released : HasReleased old.hand.view.held work own
+  pub closes : ClosesAll finish own
+  pub ended : HaveEnded (work_regions work)
+  pub unrefused : new.buffer.refused ≡ None
+  pub makes : ReadsFit (work_records work) → Makes part slots (log_limit - old.buffer.count) (effect_of slots' work forks) finish
+  pub regions : WorkFits work → (program : Program) → program.arrays ≡ w.arrays → RunsRegions program forks (work_regions work)
+
+-- The lane executed the part up to a record that its log, or a region that its lanes, didn't take.
+pub record Began {A : Type 0} (w : WorldValue) (part : State → Outcome A) (slots : List ℤ) (old new : Progress) (cause : Cause) : Type 0 where
+  pub work : Work
+  pub forks : List Fork
+  pub own : List ℕ
+  pub done : HasDone w old new work
+  pub released : HasReleased old.hand.view.held work own
+  pub ends : EndsBy cause (log_of work)
+  pub stops : StopsBy w.arrays cause forks (work_regions work)
+  pub begins : ReadsFit (work_records work) → BeginsPart part slots (log_limit - old.buffer.count) (log_of work) forks
+  pub regions : WorkFits work → (program : Program) → program.arrays ≡ w.arrays → RunsRegions program forks (work_regions work)
+
+-- nothing was put, whatever the log took
+pub record Waits (old new : Progress) : Type 0 where
+  pub hand : new.hand ≡ old.hand
+  pub records : (header : List ℕ) (records : List Record) → HoldsRecords header old.buffer records → HoldsRecords header new.buffer records
+  pub count : new.buffer.count ≡ old.buffer.count
+  pub tally : new.tally ≡ old.tally
+
+-- and one record more may be put
+pub record HasRoomFor (old new : Progress) : Type 0 where
+  pub waits : Waits old new
+  pub may_put : MayPut new.buffer
+
+-- the log refused a record so
+pub record Refused (trouble : Trouble) (new : Progress) : Type 0 where
+  pub refused : new.buffer.refused ≡ Some trouble
+
+-- how the execution of a part ends, by what is answered
+abbrev pub Goes : {A : Type 0} → WorldValue → (State → Outcome A) → List ℤ → List ℤ → Progress → Progress → Result A Halt → Type 0
+Goes w part slots slots' old new (Ok v) = Made w part slots slots' old new (Returned v)
+Goes w part slots slots' old new (Err (halt.DivZero line)) = Made w part slots slots' old new (Halted model.DivZero line)
+Goes w part slots slots' old new (Err (halt.Index line)) = Made w part slots slots' old new (Halted model.Index line)
+Goes w part slots slots' old new (Err (halt.LogFull line)) = Made w part slots slots' old new (Halted model.LogFull line)
+Goes w part slots slots' old new (Err (halt.Region why)) = Began w part slots old new (AtRegion why)
+Goes w part slots slots' old new (Err (halt.Trouble trouble)) = Began w part slots old new AtLog × Refused trouble new
+
+-- one record was put, after its step, which left this view
+pub record Takes (event : Record) (after : View) (old new : Progress) : Type 0 where
+  pub hand : new.hand ≡ with_view old.hand after
+  pub records : (header : List ℕ) (records : List Record) → HoldsRecords header old.buffer records → HoldsRecords header new.buffer (records ++ event ∷ [])
+  pub count : new.buffer.count ≡ old.buffer.count + 1
+  pub below : old.buffer.count < log_limit
+  pub unrefused : new.buffer.refused ≡ None
+  pub tally : new.tally ≡ old.tally
+
+-- the stop of a record that has no place
+abbrev pub stop_for : BufferFault → ℕ → Halt
+stop_for fault.LogFull line = halt.LogFull line
+stop_for (fault.Trouble trouble) line = halt.Trouble trouble
+
+-- room was made for one more record, or the log is full at its line, or refused
+abbrev pub MakesRoom : ℕ → Progress → Progress → Result (Unit {0}) Halt → Type 0
+MakesRoom line old new (Ok _) = HasRoomFor old new
+MakesRoom line old new (Err (halt.LogFull at_line)) = (at_line ≡ line) × (log_limit ≤ old.buffer.count) × (new ≡ old)
+MakesRoom line old new (Err (halt.Trouble trouble)) = Waits old new × Refused trouble new
+MakesRoom line old new (Err _) = ⊥
+
+-- the record was put after its step, or has no place
+abbrev pub TakesOrHalts : Record → View → Progress → Progress → Result (Unit {0}) Halt → Type 0
+TakesOrHalts event after old new (Ok _) = Takes event after old new
+TakesOrHalts event after old new (Err why) = MakesRoom event.line old new (Err why)

@@ -1,0 +1,22 @@
+-- Where an element stands.
+use Rattle.std.specs.Prelude.{◌≡◌, ◌<◌, Option, Some}
+use Rattle.kernel_syntax.specs.Arithmetic.{IsWidth}
+use Rattle.kernel_model.specs.Value as model
+use Rattle.lane_runner.specs.declared.element.Element.{Element}
+use Rattle.lane_runner.specs.World.{WorldValue, element_word, element_address}
+
+-- the element is a word of the table, and its address that word's
+pub record StandsIn (w : WorldValue) (e : Element) : Type 0 where
+  pub width : IsWidth e.width
+  pub inside : e.word < w.words.elements
+  pub word : element_word w.arrays e.addr ≡ e.word
+  pub address : element_address w.arrays e.word ≡ e.addr
+
+-- the element as the meaning of kernels has it
+abbrev pub meant : Element → model.Element
+meant e = record { addr = e.addr; width = e.width }
+
+-- this element was found
+pub record IsElement (found : Option model.Element) (w : WorldValue) (e : Element) : Type 0 where
+  pub is : found ≡ Some (meant e)
+  pub stands : StandsIn w e

@@ -1,0 +1,57 @@
+-- How regions end, and how one stops.
+use Rattle.std.specs.Prelude.{◌≡◌, ℕ, ◌<◌, List, [], ◌∷◌, ◌++◌, All, Option, Some, None, slice_get}
+use Rattle.std.specs.List.{flat_map}
+use Rattle.kernel_syntax.specs.declared.syntax.Array.{Array}
+use Rattle.kernel_syntax.specs.Program.{Program}
+use Rattle.kernel_model.specs.State as model
+use Rattle.kernel_model.specs.State.{Fork}
+use Rattle.kernel_model.specs.Trace.{Start, Ending, Stopped}
+use Rattle.kernel_model.specs.Folder.{own_trace, IsTracedTo}
+use Rattle.history_model.specs.Work.{Work, Phases, RegionWork, work_regions, lane_works}
+use Rattle.history_model.specs.Joined.{PhasesEnd, ArePhasesJoined}
+use Rattle.execution_model.specs.Runs.{works_log, lane_begin}
+use Rattle.lane_runner.specs.declared.stop.Stop.{Stop}
+use Rattle.lane_runner.specs.declared.stop.Stop.TheVariants as stop
+use Rattle.lane_runner.specs.Fitting.{PhasesFit}
+
+-- each of these regions ended: each lane put its End in the last phase, and whoever went on after a region waited for its lanes
+abbrev pub HaveEnded : List RegionWork → Type 0
+HaveEnded regions = All (λ (r : RegionWork). PhasesEnd r.phases × ArePhasesJoined r.phases) regions
+
+-- how the trace of a task ends that stops so; none where no trace tells it: the run had too many tasks, no memory was found, or a
+-- call on a log failed
+abbrev pub ending_for : Stop → Option Ending
+ending_for (stop.DivZero line) = Some (Stopped model.DivZero line)
+ending_for (stop.Index line) = Some (Stopped model.Index line)
+ending_for (stop.LogFull line) = Some (Stopped model.LogFull line)
+ending_for (stop.Tasks line) = None
+ending_for (stop.Trouble trouble) = None
+
+-- a task with this start and these works ends so, or a lane of a region below it
+pub data EndsBelow (program : Program) (end : Ending) : Start → List Work → Type 0 where
+  itself : (start : Start) (works : List Work) → IsTracedTo program start (works_log works) end → EndsBelow program end start works
+  below : (start : Start) (works : List Work) (number : ℕ) (fork : Fork) (region : RegionWork) (lane : ℕ)
+      → slice_get (own_trace program start (works_log works)).forks number ≡ Some fork → slice_get (flat_map work_regions works) number ≡ Some region → lane < region.span
+      → EndsBelow program end (lane_begin fork lane) (lane_works lane region.phases) → EndsBelow program end start works
+
+-- some lane of the region ends so, or a task below it
+pub record EndsInLane (program : Program) (end : Ending) (fork : Fork) (phases : Phases) : Type 0 where
+  pub lane : ℕ
+  pub within : lane < fork.team.span
+  pub ends : EndsBelow program end (lane_begin fork lane) (lane_works lane phases)
+
+-- the region stopped so, in each kernel of these arrays: a stop that traces tell is that of some task of the region
+abbrev pub StopsRegion : List Array → Stop → Fork → Phases → Type 0
+StopsRegion arrays why fork phases = PhasesFit phases → (program : Program) → program.arrays ≡ arrays → (end : Ending) → ending_for why ≡ Some end → EndsInLane program end fork phases
+
+-- the last of these regions stopped so, and those before it ended
+pub record StopsAtLast (arrays : List Array) (why : Stop) (forks : List Fork) (regions : List RegionWork) : Type 0 where
+  pub earlier : List Fork
+  pub fork : Fork
+  pub forks_are : forks ≡ earlier ++ fork ∷ []
+  pub before : List RegionWork
+  pub region : RegionWork
+  pub regions_are : regions ≡ before ++ region ∷ []
+  pub ended : HaveEnded before
+  pub joined : ArePhasesJoined region.phases
+  pub stopped : StopsRegion arrays why fork region.phases

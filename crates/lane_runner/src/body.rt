@@ -1,0 +1,179 @@
+//! Lists of statements.
+ghost use Rattle.std.specs.Prelude.{◌≡◌, ◌+◌, ◌-◌, ◌^◌, pos, ◌+ℤ◌, ◌≤ℤ◌};
+ghost use Rattle.kernel_syntax.specs.Bounds.{IsBoundedCode};
+ghost use Rattle.kernel_syntax.specs.Program.{code_of, stmt_code};
+ghost use Rattle.kernel_syntax.specs.Tree as tree;
+ghost use Rattle.kernel_syntax.specs.Tree.{Done};
+ghost use Rattle.kernel_model.specs.Trace.{run, turns};
+ghost use Rattle.kernel_model.specs.Iterations.{total_of};
+ghost use Rattle.lane_runner.specs.Alone.{IsAlone, turn_from};
+ghost use Rattle.lane_runner.specs.Going.{CanGo, Goes, IsSameLog, site};
+
+use crate::lane::Lane;
+use crate::stop::Halt;
+use crate::value::value;
+use crate::world::World;
+use kernel_syntax::{Body, Stmt};
+use std::alloc::Global;
+use std::sync::Wait;
+use sw_base::Log;
+
+/// How many turns a loop has.
+pub(crate) fn total_of(from: i64, to: i64) -> u64
+    ensures { result ≡ total_of from to }
+{
+    if from < to { to.abs_diff(from) } else { 0 }
+}
+
+/// The number of a turn.
+fn number_at(from: i64, first: u64, i: u64) -> i64
+    requires { (from +ℤ pos (first + i)) ≤ℤ pos (2 ^ 63 - 1) }
+    ensures { result ≡ from +ℤ pos (first + i) }
+{
+    from.wrapping_add_unsigned(first + i)
+}
+
+impl<L: Log> Lane<L> {
+    /// Executes the statements of a body.
+    #[cycle(executing)]
+    pub fn statements<R: Wait>(
+        &mut self,
+        body: &Body,
+        rt: &R,
+        alloc: Global,
+        world: &World,
+    ) -> Result<(), Halt>
+        requires can { CanGo world.now self.old.track }
+        requires bounded { IsBoundedCode (code_of body.now.stmts.items) }
+        requires alone { IsAlone world.now.words.locks self.old.track.hand.view.held (code_of body.now.stmts.items) }
+        ensures goes { Goes world.now (run (site world.now) (code_of body.now.stmts.items)) self.old.locals.slots.items self.new.locals.slots.items self.old.track self.new.track result }
+        ensures log { IsSameLog self.old.track.buffer self.new.track.buffer }
+        ensures tally { self.new.track.tally ≡ self.old.track.tally }
+    {
+        for stmt in &body.stmts {
+            self.statement(stmt, rt, alloc, world)?;
+        }
+        Ok(())
+    }
+
+    /// Executes so many turns of a loop that begins at this value of its variable, from this turn on.
+    #[cycle(executing)]
+    pub(crate) fn repeat<R: Wait>(
+        &mut self,
+        body: &Body,
+        rt: &R,
+        alloc: Global,
+        world: &World,
+        slot: u32,
+        from: i64,
+        first: u64,
+        count: u64,
+    ) -> Result<(), Halt>
+        requires can { CanGo world.now self.old.track }
+        requires bounded { IsBoundedCode (code_of body.now.stmts.items) }
+        requires alone { IsAlone world.now.words.locks self.old.track.hand.view.held (code_of body.now.stmts.items) }
+        requires top { (from +ℤ pos (first + count)) ≤ℤ pos (2 ^ 63 - 1) }
+        ensures goes { Goes world.now (turns count first (turn_from (site world.now) (code_of body.now.stmts.items) slot from)) self.old.locals.slots.items self.new.locals.slots.items self.old.track self.new.track result }
+        ensures log { IsSameLog self.old.track.buffer self.new.track.buffer }
+        ensures tally { self.new.track.tally ≡ self.old.track.tally }
+    {
+        for i in 0..count {
+            self.locals.set(slot, number_at(from, first, i));
+            self.statements(body, rt, alloc, world)?;
+        }
+        Ok(())
+    }
+
+    /// Executes a critical section.
+    #[cycle(executing)]
+    fn critical<R: Wait>(
+        &mut self,
+        body: &Body,
+        rt: &R,
+        alloc: Global,
+        world: &World,
+        mutex: u16,
+        line: u32,
+        end: u32,
+    ) -> Result<(), Halt>
+        requires can { CanGo world.now self.old.track }
+        requires bounded { IsBoundedCode (tree.Critical mutex line end (code_of body.now.stmts.items) Done) }
+        requires alone { IsAlone world.now.words.locks self.old.track.hand.view.held (tree.Critical mutex line end (code_of body.now.stmts.items) Done) }
+        ensures goes { Goes world.now (run (site world.now) (tree.Critical mutex line end (code_of body.now.stmts.items) Done)) self.old.locals.slots.items self.new.locals.slots.items self.old.track self.new.track result }
+        ensures log { IsSameLog self.old.track.buffer self.new.track.buffer }
+        ensures tally { self.new.track.tally ≡ self.old.track.tally }
+    {
+        self.track.lock(rt, alloc, world, mutex, line)?;
+        if let Err(halt) = self.statements(body, rt, alloc, world) {
+            self.track.release(world, mutex);
+            return Err(halt);
+        }
+        if let Err(halt) = self.track.unlock(alloc, world, mutex, end) {
+            self.track.release(world, mutex);
+            return Err(halt);
+        }
+        Ok(())
+    }
+
+    /// Executes a statement.
+    #[cycle(executing)]
+    fn statement<R: Wait>(
+        &mut self,
+        stmt: &Stmt,
+        rt: &R,
+        alloc: Global,
+        world: &World,
+    ) -> Result<(), Halt>
+        requires can { CanGo world.now self.old.track }
+        requires bounded { IsBoundedCode (stmt_code stmt.now Done) }
+        requires alone { IsAlone world.now.words.locks self.old.track.hand.view.held (stmt_code stmt.now Done) }
+        ensures goes { Goes world.now (run (site world.now) (stmt_code stmt.now Done)) self.old.locals.slots.items self.new.locals.slots.items self.old.track self.new.track result }
+        ensures log { IsSameLog self.old.track.buffer self.new.track.buffer }
+        ensures tally { self.new.track.tally ≡ self.old.track.tally }
+    {
+        match stmt {
+            Stmt::Set { slot, value: expr } => self.set(alloc, world, *slot, expr),
+            Stmt::Store {
+                array,
+                index,
+                value: expr,
+                line,
+                site,
+            } => self.store(alloc, world, *array, index, expr, *line, *site),
+            Stmt::If { test, yes, no } => {
+                let chosen = value(alloc, world, &self.locals, &mut self.track, test)?;
+                if chosen == 0 {
+                    self.statements(no, rt, alloc, world)
+                } else {
+                    self.statements(yes, rt, alloc, world)
+                }
+            }
+            Stmt::Loop {
+                slot,
+                from,
+                to,
+                body,
+            } => {
+                let first = value(alloc, world, &self.locals, &mut self.track, from)?;
+                let last = value(alloc, world, &self.locals, &mut self.track, to)?;
+                self.repeat(
+                    body,
+                    rt,
+                    alloc,
+                    world,
+                    *slot,
+                    first,
+                    0,
+                    total_of(first, last),
+                )
+            }
+            Stmt::Critical {
+                mutex,
+                line,
+                end,
+                body,
+            } => self.critical(body, rt, alloc, world, *mutex, *line, *end),
+            _ => unreachable!(),
+        }
+    }
+}

@@ -1,0 +1,124 @@
+//! Worksharing loops: a lane's share of the iterations.
+ghost use Rattle.std.specs.Prelude.{◌≡◌, ◌<◌, ◌-◌, ◌^◌, ℕ, true, pos, ◌+ℤ◌, ◌≤ℤ◌};
+ghost use Rattle.kernel_syntax.specs.Bounds.{IsBoundedCode, IsBoundedSchedule};
+ghost use Rattle.kernel_syntax.specs.Program.{code_of, term_of};
+ghost use Rattle.kernel_syntax.specs.Tree as tree;
+ghost use Rattle.kernel_syntax.specs.Tree.{Done};
+ghost use Rattle.kernel_model.specs.Iterations.{static_iterations};
+ghost use Rattle.kernel_model.specs.Trace.{run, each, shared};
+ghost use Rattle.lane_runner.specs.Alone.{IsAlone, IsDealt, turn_from};
+ghost use Rattle.lane_runner.specs.Going.{CanGo, Goes, IsSameLog, site};
+
+use crate::body::total_of;
+use crate::lane::Lane;
+use crate::stop::Halt;
+use crate::value::value;
+use crate::world::World;
+use kernel_syntax::{Body, Expr, Schedule, even_share};
+use std::alloc::Global;
+use std::sync::Wait;
+use sw_base::Log;
+
+impl<L: Log> Lane<L> {
+    /// Executes the lane's chunks of a loop whose chunks are dealt in turn.
+    fn chunks<R: Wait>(
+        &mut self,
+        body: &Body,
+        rt: &R,
+        alloc: Global,
+        world: &World,
+        slot: u32,
+        from: i64,
+        total: u64,
+        chunk: u32,
+    ) -> Result<(), Halt>
+        requires can { CanGo world.now self.old.track }
+        requires bounded { IsBoundedCode (code_of body.now.stmts.items) }
+        requires alone { IsAlone world.now.words.locks self.old.track.hand.view.held (code_of body.now.stmts.items) }
+        requires some { 0 < chunk }
+        requires top { (from +ℤ pos total) ≤ℤ pos (2 ^ 63 - 1) }
+        ensures goes { Goes world.now (each (static_iterations chunk total world.now.lane world.now.span) (turn_from (site world.now) (code_of body.now.stmts.items) slot from)) self.old.locals.slots.items self.new.locals.slots.items self.old.track self.new.track result }
+        ensures log { IsSameLog self.old.track.buffer self.new.track.buffer }
+        ensures tally { self.new.track.tally ≡ self.old.track.tally }
+    {
+        let chunk = u64::from(chunk);
+        let stride = chunk * u64::from(world.span());
+        let mut first = chunk * u64::from(world.lane());
+        'chunks: while first < total {
+            let count = chunk.min(total - first);
+            self.repeat(body, rt, alloc, world, slot, from, first, count)?;
+            first = first.saturating_add(stride);
+        }
+        Ok(())
+    }
+
+    /// Executes the lane's share of a loop of so many iterations, of which the first has this value.
+    fn share<R: Wait>(
+        &mut self,
+        body: &Body,
+        rt: &R,
+        alloc: Global,
+        world: &World,
+        slot: u32,
+        from: i64,
+        total: u64,
+        schedule: Schedule,
+    ) -> Result<(), Halt>
+        requires can { CanGo world.now self.old.track }
+        requires bounded { IsBoundedCode (code_of body.now.stmts.items) }
+        requires alone { IsAlone world.now.words.locks self.old.track.hand.view.held (code_of body.now.stmts.items) }
+        requires chunk { IsBoundedSchedule schedule }
+        requires dealt { IsDealt schedule }
+        requires top { (from +ℤ pos total) ≤ℤ pos (2 ^ 63 - 1) }
+        ensures goes { (line : ℕ) → Goes world.now (shared schedule (site world.now) line total (turn_from (site world.now) (code_of body.now.stmts.items) slot from)) self.old.locals.slots.items self.new.locals.slots.items self.old.track self.new.track result }
+        ensures log { IsSameLog self.old.track.buffer self.new.track.buffer }
+        ensures tally { self.new.track.tally ≡ self.old.track.tally }
+    {
+        match schedule {
+            Schedule::Even => {
+                let (first, count) = even_share(total, world.lane(), world.span());
+                self.repeat(body, rt, alloc, world, slot, from, first, count)
+            }
+            Schedule::Static(chunk) => {
+                self.chunks(body, rt, alloc, world, slot, from, total, chunk)
+            }
+            Schedule::Dynamic(_) => unreachable!(),
+        }
+    }
+
+    /// Executes the lane's share of a worksharing loop whose iterations are dealt, without the barrier at its end.
+    pub fn dealt_loop<R: Wait>(
+        &mut self,
+        body: &Body,
+        rt: &R,
+        alloc: Global,
+        world: &World,
+        slot: u32,
+        from: &Expr,
+        to: &Expr,
+        schedule: Schedule,
+        line: u32,
+        end: u32,
+    ) -> Result<(), Halt>
+        requires can { CanGo world.now self.old.track }
+        requires bounded { IsBoundedCode (tree.For slot (term_of from.now) (term_of to.now) schedule true line end (code_of body.now.stmts.items) Done) }
+        requires alone { IsAlone world.now.words.locks self.old.track.hand.view.held (code_of body.now.stmts.items) }
+        requires dealt { IsDealt schedule }
+        ensures goes { Goes world.now (run (site world.now) (tree.For slot (term_of from.now) (term_of to.now) schedule true line end (code_of body.now.stmts.items) Done)) self.old.locals.slots.items self.new.locals.slots.items self.old.track self.new.track result }
+        ensures log { IsSameLog self.old.track.buffer self.new.track.buffer }
+        ensures tally { self.new.track.tally ≡ self.old.track.tally }
+    {
+        let first = value(alloc, world, &self.locals, &mut self.track, from)?;
+        let last = value(alloc, world, &self.locals, &mut self.track, to)?;
+        self.share(
+            body,
+            rt,
+            alloc,
+            world,
+            slot,
+            first,
+            total_of(first, last),
+            schedule,
+        )
+    }
+}

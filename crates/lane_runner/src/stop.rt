@@ -1,0 +1,33 @@
+//! Why a task stops, and why a lane doesn't go on.
+
+use sw_base::Trouble;
+
+/// Why a task stops. A line is that of the operator, of the array's name, or of the record for which there is no room.
+#[derive(Clone, Copy, Debug, PartialEq, Eq)]
+pub enum Stop {
+    /// A divisor is 0.
+    DivZero { line: u32 },
+    /// An index lies outside its array.
+    Index { line: u32 },
+    /// A log has room for no more records.
+    LogFull { line: u32 },
+    /// The run has too many tasks.
+    Tasks { line: u32 },
+    /// No memory was found, or a call on a log failed.
+    Trouble(Trouble),
+}
+
+/// Why a lane doesn't go on: it stops itself, or a region that it forked did.
+#[derive(Clone, Copy, Debug, PartialEq, Eq)]
+pub enum Halt {
+    /// A divisor is 0.
+    DivZero { line: u32 },
+    /// An index lies outside its array.
+    Index { line: u32 },
+    /// Its log has room for no more records.
+    LogFull { line: u32 },
+    /// The region that it forked last stopped so.
+    Region(Stop),
+    /// No memory was found, or a call on its log failed.
+    Trouble(Trouble),
+}

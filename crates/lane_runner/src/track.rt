@@ -1,0 +1,304 @@
+//! What a lane steps with: its hand on the shared words, and the buffer before its log. Each step has a place in the log before it
+//! is taken.
+ghost use Rattle.std.specs.Prelude.{◌≡◌, ◌+◌, ◌<◌, ◌≤◌, true, None, List, [], ◌∷◌, IfOk, ℤ, Contains};
+ghost use Rattle.kernel_model.specs.Value as model;
+ghost use Rattle.kernel_model.specs.Value.{read};
+ghost use Rattle.kernel_model.specs.State.{put, event};
+ghost use Rattle.log_format.specs.declared.record.Kind.TheVariants as kind;
+ghost use Rattle.lane_runner.specs.Going.{CanGo, Goes, IsSameLog, MakesRoom, site, TakesOrHalts, stop_for};
+ghost use Rattle.shared_words.specs.Handles.{Belongs, with_view};
+ghost use Rattle.kernel_syntax.specs.Program.{team_of, code_of};
+ghost use Rattle.kernel_syntax.specs.Tree as tree;
+ghost use Rattle.kernel_model.specs.Trace.{run, draw};
+ghost use Rattle.lane_runner.specs.Forking.{RunsTeam};
+ghost use Rattle.shared_words.specs.Views.{locked, unlocked, rest};
+ghost use Rattle.lane_runner.specs.Placing.{StandsIn, meant};
+
+use crate::element::Element;
+use crate::locals::Locals;
+use crate::stop::{Halt, Stop};
+use crate::world::World;
+use event_buffer::{Buffer, BufferFault};
+use kernel_syntax::Team;
+use log_format::{Kind, Record};
+use shared_words::{ChunkHand, Hand};
+use std::alloc::Global;
+use std::marker::Model;
+use std::sync::Wait;
+use sw_base::{Log, Path};
+
+/// A lane's hand on the shared words, the buffer before its log, and its hand on the counters of its team's loops.
+#[derive(Drop)]
+pub struct Track<L: Log> {
+    hand: Hand,
+    buffer: Buffer<L>,
+    draws: ChunkHand,
+    next_loop: usize,
+}
+
+impl<L: Log> Model for Track<L> {
+    ghost use Rattle.lane_runner.specs.Going.{Progress};
+
+    ghost Value = { Progress };
+
+    ghost view = { λ t. record { hand = t.hand; buffer = t.buffer; tally = record { draws = t.draws; next_loop = t.next_loop } } };
+}
+
+// Why a record of this line has no place.
+fn stop_for(fault: BufferFault, line: u32) -> Halt
+    ensures { result ≡ stop_for fault line }
+{
+    match fault {
+        BufferFault::LogFull => Halt::LogFull { line },
+        BufferFault::Trouble(trouble) => Halt::Trouble(trouble),
+    }
+}
+
+// The loop that is open after a draw.
+fn loop_after(next_loop: usize, drawn: u64, chunks: u64) -> usize
+    requires { next_loop + 1 < 18446744073709551616 }
+    ensures open { drawn < chunks → result ≡ next_loop }
+    ensures closed { chunks ≤ drawn → result ≡ next_loop + 1 }
+{
+    if drawn < chunks {
+        next_loop
+    } else {
+        next_loop + 1
+    }
+}
+
+// The record of an access.
+fn access(kind: Kind, element: &Element, line: u32, site: u16, value: u64) -> Record
+    ensures { result ≡ record { kind = kind; size = element.now.width; site = site; line = line; addr = element.now.addr; value = value } }
+{
+    Record {
+        kind,
+        size: element.width,
+        site,
+        line,
+        addr: element.addr,
+        value,
+    }
+}
+
+// The record of a step that is no access.
+fn event(kind: Kind, line: u32, addr: u64, value: u64) -> Record
+    ensures { result ≡ event kind line addr value }
+{
+    Record {
+        kind,
+        size: 0,
+        site: 0,
+        line,
+        addr,
+        value,
+    }
+}
+
+impl<L: Log> Track<L> {
+    /// A lane's steps from here on, where this is its next loop whose chunks are drawn.
+    pub fn new(hand: Hand, buffer: Buffer<L>, draws: ChunkHand, next_loop: usize) -> Track<L>
+        ensures { result ≡ record { hand = hand; buffer = buffer; tally = record { draws = draws; next_loop = next_loop } } }
+    {
+        Track {
+            hand,
+            buffer,
+            draws,
+            next_loop,
+        }
+    }
+
+    /// The hand, the buffer, and the hand on the counters.
+    pub fn into_parts(self) -> (Hand, Buffer<L>, ChunkHand)
+        ensures hand { result.0 ≡ self.hand }
+        ensures buffer { result.1 ≡ self.buffer }
+        ensures draws { result.2 ≡ self.tally.draws }
+    {
+        (self.hand, self.buffer, self.draws)
+    }
+
+    // Makes room for the record of a line.
+    fn ready(&mut self, alloc: Global, line: u32) -> Result<(), Halt>
+        requires { self.old.buffer.refused ≡ None }
+        ensures room { MakesRoom line self.old self.new result }
+        ensures log { IsSameLog self.old.buffer self.new.buffer }
+        ensures tally { self.new.tally ≡ self.old.tally }
+    {
+        if let Err(fault) = self.buffer.ready(alloc) {
+            return Err(stop_for(fault, line));
+        }
+        Ok(())
+    }
+
+    /// Reads an element, and puts the record.
+    pub fn read(
+        &mut self,
+        alloc: Global,
+        world: &World,
+        element: &Element,
+        line: u32,
+        site: u16,
+    ) -> Result<i64, Halt>
+        requires can { CanGo world.now self.old }
+        requires stands { StandsIn world.now element.now }
+        requires line { 1 ≤ line }
+        ensures goes { (slots : List ℤ) → Goes world.now (read (meant element.now) site line) slots slots self.old self.new result }
+        ensures log { IsSameLog self.old.buffer self.new.buffer }
+        ensures tally { self.new.tally ≡ self.old.tally }
+    {
+        self.ready(alloc, line)?;
+        let bits = world.words().load(&mut self.hand, element.word);
+        let event = access(Kind::Read, element, line, site, bits);
+        self.buffer.put(&event);
+        Ok(bits.cast_signed())
+    }
+
+    /// Puts the record of a store, and stores the value, which the element can have.
+    pub fn write(
+        &mut self,
+        alloc: Global,
+        world: &World,
+        element: &Element,
+        value: i64,
+        line: u32,
+        site: u16,
+    ) -> Result<(), Halt>
+        requires can { CanGo world.now self.old }
+        requires stands { StandsIn world.now element.now }
+        requires line { 1 ≤ line }
+        ensures goes { (slots : List ℤ) → Goes world.now (put (model.access kind.Write (meant element.now) site line value)) slots slots self.old self.new result }
+        ensures log { IsSameLog self.old.buffer self.new.buffer }
+        ensures tally { self.new.tally ≡ self.old.tally }
+    {
+        self.ready(alloc, line)?;
+        let bits = value.cast_unsigned();
+        world.words().store(&mut self.hand, element.word, bits);
+        let event = access(Kind::Write, element, line, site, bits);
+        self.buffer.put(&event);
+        Ok(())
+    }
+
+    /// Waits for a mutex that it doesn't hold, and puts the record.
+    pub fn lock<R: Wait>(
+        &mut self,
+        rt: &R,
+        alloc: Global,
+        world: &World,
+        mutex: u16,
+        line: u32,
+    ) -> Result<(), Halt>
+        requires can { CanGo world.now self.old }
+        requires mutex { mutex < world.now.words.locks }
+        requires not_held { Contains self.old.hand.view.held mutex → ⊥ }
+        ensures takes { TakesOrHalts (event kind.Lock line mutex 0) (locked self.old.hand.view mutex) self.old self.new result }
+        ensures log { IsSameLog self.old.buffer self.new.buffer }
+        ensures tally { self.new.tally ≡ self.old.tally }
+    {
+        self.ready(alloc, line)?;
+        world.words().lock(rt, &mut self.hand, usize::from(mutex));
+        let event = event(Kind::Lock, line, u64::from(mutex), 0);
+        self.buffer.put(&event);
+        Ok(())
+    }
+
+    /// Gives back the mutex that it won last, and puts the record.
+    pub fn unlock(
+        &mut self,
+        alloc: Global,
+        world: &World,
+        mutex: u16,
+        line: u32,
+    ) -> Result<(), Halt>
+        requires can { CanGo world.now self.old }
+        requires mutex { mutex < world.now.words.locks }
+        requires innermost { self.old.hand.view.held ≡ mutex ∷ rest self.old.hand.view.held }
+        ensures takes { TakesOrHalts (event kind.Unlock line mutex 0) (unlocked self.old.hand.view mutex) self.old self.new result }
+        ensures log { IsSameLog self.old.buffer self.new.buffer }
+        ensures tally { self.new.tally ≡ self.old.tally }
+    {
+        self.ready(alloc, line)?;
+        world.words().unlock(&mut self.hand, usize::from(mutex));
+        let event = event(Kind::Unlock, line, u64::from(mutex), 0);
+        self.buffer.put(&event);
+        Ok(())
+    }
+
+    /// Gives back the mutex that it won last at a stop, without a record.
+    pub fn release(&mut self, world: &World, mutex: u16)
+        requires belongs { Belongs self.old.hand world.now.words.table }
+        requires mutex { mutex < world.now.words.locks }
+        requires innermost { self.old.hand.view.held ≡ mutex ∷ rest self.old.hand.view.held }
+        ensures hand { self.new.hand ≡ with_view self.old.hand (unlocked self.old.hand.view mutex) }
+        ensures log { self.new.buffer ≡ self.old.buffer }
+        ensures tally { self.new.tally ≡ self.old.tally }
+    {
+        world.words().unlock(&mut self.hand, usize::from(mutex));
+    }
+
+    /// Puts the record of a region that is forked.
+    pub fn fork(&mut self, alloc: Global, line: u32, span: u16) -> Result<(), Halt>
+        requires there { self.old.hand.there ≡ true }
+        requires unrefused { self.old.buffer.refused ≡ None }
+        ensures takes { TakesOrHalts (event kind.Region line 0 span) self.old.hand.view self.old self.new result }
+        ensures log { IsSameLog self.old.buffer self.new.buffer }
+        ensures tally { self.new.tally ≡ self.old.tally }
+    {
+        self.ready(alloc, line)?;
+        let event = event(Kind::Region, line, 0, u64::from(span));
+        self.buffer.put(&event);
+        Ok(())
+    }
+
+    /// Executes a region: puts its record, and has its lanes run with these logs, from these locals.
+    pub fn parallel<
+        F: Fn(&mut Hand, &Locals, Vec<L>, &Team, &mut Vec<(Path, L, u32)>) -> Result<(), Stop>,
+    >(
+        &mut self,
+        alloc: Global,
+        world: &World,
+        locals: &Locals,
+        logs: Vec<L>,
+        team: &Team,
+        done: &mut Vec<(Path, L, u32)>,
+        region: &F,
+    ) -> Result<(), Halt>
+        requires can { CanGo world.now self.old }
+        requires free { self.old.hand.view.held ≡ [] }
+        requires line { 1 ≤ team.now.line }
+        requires runs { RunsTeam world.now (F.pre region.now) (F.post region.now) logs (team_of team.now) }
+        ensures goes { Goes world.now (run (site world.now) (tree.Parallel team.now.span team.now.line team.now.end (code_of team.now.body.stmts.items) tree.Done)) locals.now.slots.items locals.now.slots.items self.old self.new result }
+        ensures log { IsSameLog self.old.buffer self.new.buffer }
+        ensures tally { self.new.tally ≡ self.old.tally }
+    {
+        self.fork(alloc, team.line, team.span)?;
+        if let Err(stop) = region(&mut self.hand, locals, logs, team, done) {
+            return Err(Halt::Region(stop));
+        }
+        Ok(())
+    }
+
+    /// Draws a chunk of the loop that is open, of so many, and puts the record. The count of chunks where none is left.
+    pub fn draw(
+        &mut self,
+        alloc: Global,
+        world: &World,
+        line: u32,
+        chunks: u64,
+    ) -> Result<u64, Halt>
+        requires can { CanGo world.now self.old }
+        requires open { self.old.tally.next_loop < world.now.chunks.loops }
+        requires number { self.old.tally.next_loop < 4294967296 }
+        requires line { 1 ≤ line }
+        ensures goes { (slots : List ℤ) → Goes world.now (draw line chunks) slots slots self.old self.new result }
+        ensures within { IfOk result (λ number. number ≤ chunks) }
+        ensures log { IsSameLog self.old.buffer self.new.buffer }
+    {
+        self.ready(alloc, line)?;
+        let number = world.chunks().draw(&mut self.draws, self.next_loop);
+        let drawn = number.min(chunks);
+        self.next_loop = loop_after(self.next_loop, drawn, chunks);
+        let event = event(Kind::Chunk, line, drawn, chunks);
+        self.buffer.put(&event);
+        Ok(drawn)
+    }
+}

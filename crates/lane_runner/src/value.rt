@@ -1,0 +1,96 @@
+//! The value of an expression.
+ghost use Rattle.std.specs.Prelude.{◌≡◌, List, ℤ, ok_or};
+ghost use Rattle.kernel_syntax.specs.Arithmetic.{applied, negated};
+ghost use Rattle.kernel_syntax.specs.Bounds.{IsBoundedTerm, IsPlace};
+ghost use Rattle.kernel_syntax.specs.Program.{term_of};
+ghost use Rattle.kernel_model.specs.Value.{element_at, loaded, value};
+ghost use Rattle.lane_runner.specs.Going.{CanGo, Goes, IsSameLog, site};
+
+use crate::locals::Locals;
+use crate::stop::Halt;
+use crate::track::Track;
+use crate::world::World;
+use kernel_syntax::{Expr, Op, apply};
+use std::alloc::Global;
+use sw_base::Log;
+
+/// Reads an element, after its index.
+fn load<L: Log>(
+    alloc: Global,
+    world: &World,
+    track: &mut Track<L>,
+    array: u32,
+    index: i64,
+    line: u32,
+    place: u16,
+) -> Result<i64, Halt>
+    requires can { CanGo world.now track.old }
+    requires bounded { IsPlace line place }
+    ensures goes { (slots : List ℤ) → Goes world.now (loaded (element_at world.now.arrays array index) line place) slots slots track.old track.new result }
+    ensures log { IsSameLog track.old.buffer track.new.buffer }
+    ensures tally { track.new.tally ≡ track.old.tally }
+{
+    let Some(element) = world.element(array, index) else {
+        return Err(Halt::Index { line });
+    };
+    track.read(alloc, world, &element, line, place)
+}
+
+/// The operation on two values, or the stop of a zero divisor.
+fn operate(op: Op, line: u32, left: i64, right: i64) -> Result<i64, Halt>
+    ensures { result ≡ ok_or (applied op left right) (Halt.DivZero line) }
+{
+    apply(op, left, right).ok_or(Halt::DivZero { line })
+}
+
+/// The negative of a value.
+fn negate(value: i64) -> i64
+    ensures { result ≡ negated value }
+{
+    0i64.wrapping_sub(value)
+}
+
+/// The value of an expression. Its reads are recorded.
+pub fn value<L: Log>(
+    alloc: Global,
+    world: &World,
+    locals: &Locals,
+    track: &mut Track<L>,
+    expr: &Expr,
+) -> Result<i64, Halt>
+    requires can { CanGo world.now track.old }
+    requires bounded { IsBoundedTerm (term_of expr.now) }
+    ensures goes { Goes world.now (value (site world.now) (term_of expr.now)) locals.now.slots.items locals.now.slots.items track.old track.new result }
+    ensures log { IsSameLog track.old.buffer track.new.buffer }
+    ensures tally { track.new.tally ≡ track.old.tally }
+{
+    match expr {
+        Expr::Number(number) => Ok(*number),
+        Expr::Slot(slot) => Ok(locals.get(*slot)),
+        Expr::Tid => Ok(i64::from(world.lane())),
+        Expr::Span => Ok(i64::from(world.span())),
+        Expr::Load {
+            array,
+            index,
+            line,
+            site,
+        } => {
+            let at = value(alloc, world, locals, track, index)?;
+            load(alloc, world, track, *array, at, *line, *site)
+        }
+        Expr::Neg(operand) => {
+            let negated = value(alloc, world, locals, track, operand)?;
+            Ok(negate(negated))
+        }
+        Expr::Binary {
+            op,
+            line,
+            left,
+            right,
+        } => {
+            let first = value(alloc, world, locals, track, left)?;
+            let second = value(alloc, world, locals, track, right)?;
+            operate(*op, *line, first, second)
+        }
+    }
+}

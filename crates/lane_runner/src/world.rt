@@ -1,0 +1,115 @@
+//! Where a lane runs.
+ghost use Rattle.std.specs.Prelude.{◌≡◌, ◌+◌, ◌*◌, ◌<◌, MatchOption, None, Some, slice_get};
+ghost use Rattle.kernel_model.specs.Value.{element_at};
+ghost use Rattle.kernel_syntax.specs.Arithmetic.{IsWidth};
+ghost use Rattle.kernel_syntax.specs.Layout.{IsPlaced};
+ghost use Rattle.lane_runner.specs.Placing.{IsElement};
+ghost use Rattle.lane_runner.specs.World.{IsWorld};
+
+use crate::element::Element;
+use kernel_syntax::Array;
+use shared_words::{Chunks, Words};
+use std::marker::Model;
+
+/// Where a lane runs: the kernel's arrays, the shared words and the team's counters, and the lane's place in its team. Each element of an array is a word
+/// of its own.
+#[derive(Drop)]
+pub struct World<'a> {
+    arrays: &'a [Array],
+    words: &'a Words,
+    chunks: &'a Chunks,
+    lane: u16,
+    span: u16,
+}
+
+impl<'a> Model for World<'a> {
+    ghost use Rattle.lane_runner.specs.World.{WorldValue, IsWorld};
+
+    ghost Value = { WorldValue };
+
+    ghost view = { λ w. record { arrays = w.arrays.now; words = w.words.now; chunks = w.chunks.now; lane = w.lane; span = w.span } };
+
+    ghost invariant = { λ w. IsWorld (record { arrays = w.arrays.now; words = w.words.now; chunks = w.chunks.now; lane = w.lane; span = w.span }) };
+}
+
+// An element of an array, by its number.
+fn element_of(place: &Array, index: u64) -> Element
+    requires within { index < place.now.count }
+    requires fits { place.now.first + place.now.count < 2147483648 }
+    requires ends { place.now.base + place.now.count * place.now.width < 1152921504606846976 }
+    requires width { IsWidth place.now.width }
+    ensures word { result.word ≡ place.now.first + index }
+    ensures addr { result.addr ≡ place.now.base + index * place.now.width }
+    ensures width { result.width ≡ place.now.width }
+{
+    Element {
+        word: place.first as usize + index as usize,
+        addr: place.base + index * u64::from(place.width),
+        width: place.width,
+    }
+}
+
+impl<'a> World<'a> {
+    pub fn new(
+        arrays: &'a [Array],
+        words: &'a Words,
+        chunks: &'a Chunks,
+        lane: u16,
+        span: u16,
+    ) -> World<'a>
+        requires { IsWorld (record { arrays = arrays.now; words = words.now; chunks = chunks.now; lane = lane; span = span }) }
+        ensures { result ≡ record { arrays = arrays.now; words = words.now; chunks = chunks.now; lane = lane; span = span } }
+    {
+        World {
+            arrays,
+            words,
+            chunks,
+            lane,
+            span,
+        }
+    }
+
+    /// The lane's number in its team.
+    pub fn lane(&self) -> u16
+        ensures { result ≡ self.now.lane }
+    {
+        self.lane
+    }
+
+    /// How many lanes the team has.
+    pub fn span(&self) -> u16
+        ensures span { result ≡ self.now.span }
+        ensures within { self.now.lane < result }
+    {
+        self.span
+    }
+
+    /// The shared words.
+    pub fn words(&self) -> &Words
+        ensures { result.now ≡ self.now.words }
+    {
+        self.words
+    }
+
+    /// The counters of the team's loops whose chunks are drawn.
+    pub fn chunks(&self) -> &Chunks
+        ensures { result.now ≡ self.now.chunks }
+    {
+        self.chunks
+    }
+
+    /// The element of an array at an index. None outside the array.
+    pub fn element(&self, array: u32, index: i64) -> Option<Element>
+        ensures { MatchOption result (element_at self.now.arrays array index ≡ None) (IsElement (element_at self.now.arrays array index) self.now) }
+    {
+        let place = self.arrays.get(array as usize)?;
+        if index < 0 {
+            return None;
+        }
+        let number = index.unsigned_abs();
+        if u64::from(place.count) <= number {
+            return None;
+        }
+        Some(element_of(place, number))
+    }
+}
