@@ -1,32 +1,44 @@
--- Sets of pairs that grow by the pairs of more accesses.
-use Rattle.std.proofs.Common.{◌≡◌, ◌⊎◌, ℕ, ◌+◌, ◌<◌, List, [], ◌∷◌, ◌++◌, take, drop, length, get_or, Contains, inl, inr, sym, ap, ◌∙◌, subst, arith}
+-- Sets of pairs that grow by the pairs of more elements.
+use Rattle.std.proofs.Common.{◌≡◌, ◌⊎◌, ℕ, zero, suc, refl, ◌+◌, ◌<◌, List, [], ◌∷◌, ◌++◌, take, drop, length, get_or, Contains, inl, inr, sym, ap, ◌∙◌, subst, arith}
 use Rattle.std.proofs.lemmas.List.Elements.{Contains-push, Contains-push_cases, Contains-append_left, Contains-get_or}
 use Rattle.std.proofs.lemmas.List.{take_more, take-append-drop}
-use Rattle.stride_summary.specs.declared.access.Access.{Access}
-use Rattle.pair_compare.specs.Conflict.{IsConflictPair, AddsPairs, AddsSome}
+use Rattle.pair_compare.specs.Conflict.{GrowsBy, AddsPairs, AddsSome, OneHas}
 
 pub not_in_nothing : {X : Type 0} (x : X) → Contains [] x → ⊥
 not_in_nothing x h = omega (arith, h.1)
 
--- no access adds nothing
-pub AddsPairs-none_right : (xs : List Access) (keys : List (ℕ × ℕ)) → AddsPairs keys keys (IsConflictPair xs [])
-AddsPairs-none_right xs keys = record {
+-- no element adds nothing
+pub AddsPairs-none : {X : Type 0} (P : X → ℕ × ℕ → Type 0) (keys : List (ℕ × ℕ)) → AddsPairs keys keys (OneHas P [])
+AddsPairs-none P keys = record {
   kept = λ pair k. k;
-  added = λ pair p. absurd (not_in_nothing p.b p.b_in);
+  added = λ pair h. absurd (not_in_nothing h.one h.listed);
   only = λ pair k. inl k;
 }
 
-pub AddsPairs-none_left : (ys : List Access) (keys : List (ℕ × ℕ)) → AddsPairs keys keys (IsConflictPair [] ys)
-AddsPairs-none_left ys keys = record {
-  kept = λ pair k. k;
-  added = λ pair p. absurd (not_in_nothing p.a p.a_in);
-  only = λ pair k. inl k;
+-- the same pairs, told in another way
+pub Adds-same : (O N P Q : ℕ × ℕ → Type 0) → ((pair : ℕ × ℕ) → P pair → Q pair) → ((pair : ℕ × ℕ) → Q pair → P pair) → GrowsBy O N P → GrowsBy O N Q
+Adds-same O N P Q there back adds = record {
+  kept = adds.kept;
+  added = λ pair q. adds.added pair (back pair q);
+  only = λ pair h. elim (adds.only pair h) [ inl was ↦ inl was | inr p ↦ inr (there pair p) ];
 }
+
+pub AddsPairs-same : (old new : List (ℕ × ℕ)) (P Q : ℕ × ℕ → Type 0) → ((pair : ℕ × ℕ) → P pair → Q pair) → ((pair : ℕ × ℕ) → Q pair → P pair) → AddsPairs old new P → AddsPairs old new Q
+AddsPairs-same old new P Q there back adds = Adds-same (Contains old) (Contains new) P Q there back adds
+
+pub AddsSome-same : (old new : List (ℕ × ℕ)) (P Q : ℕ × ℕ → Type 0) → ((pair : ℕ × ℕ) → P pair → Q pair) → AddsSome old new P → AddsSome old new Q
+AddsSome-same old new P Q there adds = record {
+  kept = adds.kept;
+  only = λ pair h. elim (adds.only pair h) [ inl was ↦ inl was | inr p ↦ inr (there pair p) ];
+}
+
+-- what adds all adds some
+pub AddsSome-all : (old new : List (ℕ × ℕ)) (P : ℕ × ℕ → Type 0) → AddsPairs old new P → AddsSome old new P
+AddsSome-all old new P adds = record { kept = adds.kept; only = adds.only }
 
 -- two steps in turn add what either adds
-pub AddsPairs-both : (k0 k1 k2 : List (ℕ × ℕ)) (P Q R : ℕ × ℕ → Type 0) → AddsPairs k0 k1 P → AddsPairs k1 k2 Q → ((p : ℕ × ℕ) → P p → R p) → ((p : ℕ × ℕ) → Q p → R p)
-    → ((p : ℕ × ℕ) → R p → P p ⊎ Q p) → AddsPairs k0 k2 R
-AddsPairs-both k0 k1 k2 P Q R first then p_r q_r parts = record {
+pub Adds-both : (O M N P Q R : ℕ × ℕ → Type 0) → GrowsBy O M P → GrowsBy M N Q → ((p : ℕ × ℕ) → P p → R p) → ((p : ℕ × ℕ) → Q p → R p) → ((p : ℕ × ℕ) → R p → P p ⊎ Q p) → GrowsBy O N R
+Adds-both O M N P Q R first then p_r q_r parts = record {
   kept = λ pair k. then.kept pair (first.kept pair k);
   added = λ pair r. elim (parts pair r) [ inl p ↦ then.kept pair (first.added pair p) | inr q ↦ then.added pair q ];
   only = λ pair k. elim (then.only pair k) [
@@ -35,43 +47,12 @@ AddsPairs-both k0 k1 k2 P Q R first then p_r q_r parts = record {
   ];
 }
 
--- one more access of the second list
-push_right : (k0 k1 k2 : List (ℕ × ℕ)) (xs ys : List Access) (y : Access) → AddsPairs k0 k1 (IsConflictPair xs ys) → AddsPairs k1 k2 (IsConflictPair xs (y ∷ []))
-    → AddsPairs k0 k2 (IsConflictPair xs (ys ++ y ∷ []))
-push_right k0 k1 k2 xs ys y first then = AddsPairs-both k0 k1 k2 (IsConflictPair xs ys) (IsConflictPair xs (y ∷ [])) (IsConflictPair xs (ys ++ y ∷ [])) first then
-    (λ p h. record { a = h.a; b = h.b; a_in = h.a_in; b_in = Contains-append_left ys (y ∷ []) h.b h.b_in; conflict = h.conflict; lines = h.lines })
-    (λ p h. record { a = h.a; b = h.b; a_in = h.a_in; b_in = elim (Contains-push_cases [] y h.b h.b_in) [ inl none ↦ absurd (not_in_nothing h.b none) | inr same ↦ subst (λ (z : Access). Contains (ys ++ y ∷ []) z) same (Contains-push ys y) ]; conflict = h.conflict; lines = h.lines })
-    (λ p h. elim (Contains-push_cases ys y h.b h.b_in) [
-      | inl old ↦ inl (record { a = h.a; b = h.b; a_in = h.a_in; b_in = old; conflict = h.conflict; lines = h.lines })
-      | inr same ↦ inr (record { a = h.a; b = h.b; a_in = h.a_in; b_in = subst (λ (z : Access). Contains (y ∷ []) z) same (Contains-push [] y); conflict = h.conflict; lines = h.lines })
-    ])
-
-push_left : (k0 k1 k2 : List (ℕ × ℕ)) (xs ys : List Access) (x : Access) → AddsPairs k0 k1 (IsConflictPair xs ys) → AddsPairs k1 k2 (IsConflictPair (x ∷ []) ys)
-    → AddsPairs k0 k2 (IsConflictPair (xs ++ x ∷ []) ys)
-push_left k0 k1 k2 xs ys x first then = AddsPairs-both k0 k1 k2 (IsConflictPair xs ys) (IsConflictPair (x ∷ []) ys) (IsConflictPair (xs ++ x ∷ []) ys) first then
-    (λ p h. record { a = h.a; b = h.b; a_in = Contains-append_left xs (x ∷ []) h.a h.a_in; b_in = h.b_in; conflict = h.conflict; lines = h.lines })
-    (λ p h. record { a = h.a; b = h.b; a_in = elim (Contains-push_cases [] x h.a h.a_in) [ inl none ↦ absurd (not_in_nothing h.a none) | inr same ↦ subst (λ (z : Access). Contains (xs ++ x ∷ []) z) same (Contains-push xs x) ]; b_in = h.b_in; conflict = h.conflict; lines = h.lines })
-    (λ p h. elim (Contains-push_cases xs x h.a h.a_in) [
-      | inl old ↦ inl (record { a = h.a; b = h.b; a_in = old; b_in = h.b_in; conflict = h.conflict; lines = h.lines })
-      | inr same ↦ inr (record { a = h.a; b = h.b; a_in = subst (λ (z : Access). Contains (x ∷ []) z) same (Contains-push [] x); b_in = h.b_in; conflict = h.conflict; lines = h.lines })
-    ])
-
--- the turn of one access of the second list
-pub AddsPairs-next_right : (k0 k1 k2 : List (ℕ × ℕ)) (xs ys : List Access) (i : ℕ) (y : Access) → i < length ys → y ≡ get_or ys i y → AddsPairs k0 k1 (IsConflictPair xs (take i ys))
-    → AddsPairs k1 k2 (IsConflictPair xs (y ∷ [])) → AddsPairs k0 k2 (IsConflictPair xs (take (i + 1) ys))
-AddsPairs-next_right k0 k1 k2 xs ys i y within is first then =
-    subst (λ (zs : List Access). AddsPairs k0 k2 (IsConflictPair xs zs)) (sym (take_more ys i y within ∙ ap (λ (z : Access). take i ys ++ z ∷ []) (sym is)))
-    (push_right k0 k1 k2 xs (take i ys) y first then)
-
--- the turn of one access of the first list
-pub AddsPairs-next_left : (k0 k1 k2 : List (ℕ × ℕ)) (xs ys : List Access) (i : ℕ) (x : Access) → i < length xs → x ≡ get_or xs i x → AddsPairs k0 k1 (IsConflictPair (take i xs) ys)
-    → AddsPairs k1 k2 (IsConflictPair (x ∷ []) ys) → AddsPairs k0 k2 (IsConflictPair (take (i + 1) xs) ys)
-AddsPairs-next_left k0 k1 k2 xs ys i x within is first then =
-    subst (λ (zs : List Access). AddsPairs k0 k2 (IsConflictPair zs ys)) (sym (take_more xs i x within ∙ ap (λ (z : Access). take i xs ++ z ∷ []) (sym is)))
-    (push_left k0 k1 k2 (take i xs) ys x first then)
+pub AddsPairs-both : (k0 k1 k2 : List (ℕ × ℕ)) (P Q R : ℕ × ℕ → Type 0) → AddsPairs k0 k1 P → AddsPairs k1 k2 Q → ((p : ℕ × ℕ) → P p → R p) → ((p : ℕ × ℕ) → Q p → R p)
+    → ((p : ℕ × ℕ) → R p → P p ⊎ Q p) → AddsPairs k0 k2 R
+AddsPairs-both k0 k1 k2 P Q R first then p_r q_r parts = Adds-both (Contains k0) (Contains k1) (Contains k2) P Q R first then p_r q_r parts
 
 -- what was added before a refusal, and some of the rest
-AddsSome-after : (k0 k1 k2 : List (ℕ × ℕ)) (P Q R : ℕ × ℕ → Type 0) → AddsPairs k0 k1 P → AddsSome k1 k2 Q → ((p : ℕ × ℕ) → P p → R p) → ((p : ℕ × ℕ) → Q p → R p)
+pub AddsSome-after : (k0 k1 k2 : List (ℕ × ℕ)) (P Q R : ℕ × ℕ → Type 0) → AddsPairs k0 k1 P → AddsSome k1 k2 Q → ((p : ℕ × ℕ) → P p → R p) → ((p : ℕ × ℕ) → Q p → R p)
     → AddsSome k0 k2 R
 AddsSome-after k0 k1 k2 P Q R first then p_r q_r = record {
   kept = λ pair k. then.kept pair (first.kept pair k);
@@ -81,28 +62,69 @@ AddsSome-after k0 k1 k2 P Q R first then p_r q_r = record {
   ];
 }
 
+-- one more element
+OneHas-push : {X : Type 0} (P : X → ℕ × ℕ → Type 0) (xs : List X) (x : X) (pair : ℕ × ℕ) → OneHas P (xs ++ x ∷ []) pair → OneHas P xs pair ⊎ P x pair
+OneHas-push P xs x pair h = elim (Contains-push_cases xs x h.one h.listed) [
+  | inl old ↦ inl (record { one = h.one; listed = old; has = h.has })
+  | inr same ↦ inr (subst (λ (z : _). P z pair) (sym same) h.has)
+]
+
+pub Adds-push : {X : Type 0} (O M N : ℕ × ℕ → Type 0) (P : X → ℕ × ℕ → Type 0) (xs : List X) (x : X) → GrowsBy O M (OneHas P xs) → GrowsBy M N (P x) → GrowsBy O N (OneHas P (xs ++ x ∷ []))
+Adds-push {X} O M N P xs x first then = Adds-both O M N (OneHas P xs) (P x) (OneHas P (xs ++ x ∷ [])) first then
+    (λ p h. record { one = h.one; listed = Contains-append_left xs (x ∷ []) h.one h.listed; has = h.has })
+    (λ p h. record { one = x; listed = Contains-push xs x; has = h })
+    (λ p h. OneHas-push P xs x p h)
+
+-- the turn of one element of a list
+pub Adds-next : {X : Type 0} (O M N : ℕ × ℕ → Type 0) (P : X → ℕ × ℕ → Type 0) (xs : List X) (i : ℕ) (x : X) → i < length xs → x ≡ get_or xs i x → GrowsBy O M (OneHas P (take i xs)) → GrowsBy M N (P x)
+    → GrowsBy O N (OneHas P (take (i + 1) xs))
+Adds-next {X} O M N P xs i x within is first then =
+    subst (λ (zs : List X). GrowsBy O N (OneHas P zs)) (sym (take_more xs i x within ∙ ap (λ (z : X). take i xs ++ z ∷ []) (sym is)))
+    (Adds-push O M N P (take i xs) x first then)
+
+pub AddsPairs-next : {X : Type 0} (k0 k1 k2 : List (ℕ × ℕ)) (P : X → ℕ × ℕ → Type 0) (xs : List X) (i : ℕ) (x : X) → i < length xs → x ≡ get_or xs i x → AddsPairs k0 k1 (OneHas P (take i xs))
+    → AddsPairs k1 k2 (P x) → AddsPairs k0 k2 (OneHas P (take (i + 1) xs))
+AddsPairs-next {X} k0 k1 k2 P xs i x within is first then = Adds-next (Contains k0) (Contains k1) (Contains k2) P xs i x within is first then
+
+-- one more element adds what it has
+pub Adds-pushed : {X : Type 0} (P : X → ℕ × ℕ → Type 0) (xs : List X) (x : X) → GrowsBy (OneHas P xs) (OneHas P (xs ++ x ∷ [])) (P x)
+Adds-pushed P xs x = record {
+  kept = λ p h. record { one = h.one; listed = Contains-append_left xs (x ∷ []) h.one h.listed; has = h.has };
+  added = λ p h. record { one = x; listed = Contains-push xs x; has = h };
+  only = λ p h. OneHas-push P xs x p h;
+}
+
+pub Adds-none : {X : Type 0} (O : ℕ × ℕ → Type 0) (P : X → ℕ × ℕ → Type 0) → GrowsBy O O (OneHas P [])
+Adds-none O P = record { kept = λ pair k. k; added = λ pair h. absurd (not_in_nothing h.one h.listed); only = λ pair k. inl k }
+
 in_prefix : {X : Type 0} (xs : List X) (i : ℕ) (x : X) → Contains (take i xs) x → Contains xs x
 in_prefix {X} xs i x h = subst (λ (ys : List X). Contains ys x) (take-append-drop i xs) (Contains-append_left (take i xs) (drop i xs) x h)
 
-in_turn : {X : Type 0} (xs : List X) (i : ℕ) (x : X) → i < length xs → x ≡ get_or xs i x → Contains xs x
+pub in_turn : {X : Type 0} (xs : List X) (i : ℕ) (x : X) → i < length xs → x ≡ get_or xs i x → Contains xs x
 in_turn {X} xs i x within is = subst (λ (z : X). Contains xs z) (sym is) (Contains-get_or xs i x within)
 
--- the one element of this list is in the other
-one_in : {X : Type 0} (xs : List X) (x y : X) → Contains xs x → Contains (x ∷ []) y → Contains xs y
-one_in {X} xs x y there h = elim (Contains-push_cases [] x y h) [ inl none ↦ absurd (not_in_nothing y none) | inr same ↦ subst (λ (z : X). Contains xs z) same there ]
+-- a refusal at one element of a list
+pub AddsSome-next : {X : Type 0} (k0 k1 k2 : List (ℕ × ℕ)) (P : X → ℕ × ℕ → Type 0) (xs : List X) (i : ℕ) (x : X) → i < length xs → x ≡ get_or xs i x → AddsPairs k0 k1 (OneHas P (take i xs))
+    → AddsSome k1 k2 (P x) → AddsSome k0 k2 (OneHas P xs)
+AddsSome-next {X} k0 k1 k2 P xs i x within is first then =
+    AddsSome-after k0 k1 k2 (OneHas P (take i xs)) (P x) (OneHas P xs) first then
+    (λ p h. record { one = h.one; listed = in_prefix xs i h.one h.listed; has = h.has })
+    (λ p h. record { one = x; listed = in_turn xs i x within is; has = h })
 
--- a refusal at one access of the second list
-pub AddsSome-next_right : (k0 k1 k2 : List (ℕ × ℕ)) (xs ys : List Access) (i : ℕ) (y : Access) → i < length ys → y ≡ get_or ys i y → AddsPairs k0 k1 (IsConflictPair xs (take i ys))
-    → AddsSome k1 k2 (IsConflictPair xs (y ∷ [])) → AddsSome k0 k2 (IsConflictPair xs ys)
-AddsSome-next_right k0 k1 k2 xs ys i y within is first then =
-    AddsSome-after k0 k1 k2 (IsConflictPair xs (take i ys)) (IsConflictPair xs (y ∷ [])) (IsConflictPair xs ys) first then
-    (λ p h. record { a = h.a; b = h.b; a_in = h.a_in; b_in = in_prefix ys i h.b h.b_in; conflict = h.conflict; lines = h.lines })
-    (λ p h. record { a = h.a; b = h.b; a_in = h.a_in; b_in = one_in ys y h.b (in_turn ys i y within is) h.b_in; conflict = h.conflict; lines = h.lines })
+-- a list with an element before it
+pub OneHas-cons : {X : Type 0} (P : X → ℕ × ℕ → Type 0) (x : X) (xs : List X) (pair : ℕ × ℕ) → OneHas P (x ∷ xs) pair → P x pair ⊎ OneHas P xs pair
+OneHas-cons P x xs pair h = at h.listed
+  where
+    at : Contains (x ∷ xs) h.one → P x pair ⊎ OneHas P xs pair
+    at (zero, within, is) = inl (subst (λ (z : _). P z pair) (sym is) h.has)
+    at (suc k, within, is) = inr (record { one = h.one; listed = (k, omega arith, is); has = h.has })
 
--- a refusal at one access of the first list
-pub AddsSome-next_left : (k0 k1 k2 : List (ℕ × ℕ)) (xs ys : List Access) (i : ℕ) (x : Access) → i < length xs → x ≡ get_or xs i x → AddsPairs k0 k1 (IsConflictPair (take i xs) ys)
-    → AddsSome k1 k2 (IsConflictPair (x ∷ []) ys) → AddsSome k0 k2 (IsConflictPair xs ys)
-AddsSome-next_left k0 k1 k2 xs ys i x within is first then =
-    AddsSome-after k0 k1 k2 (IsConflictPair (take i xs) ys) (IsConflictPair (x ∷ []) ys) (IsConflictPair xs ys) first then
-    (λ p h. record { a = h.a; b = h.b; a_in = in_prefix xs i h.a h.a_in; b_in = h.b_in; conflict = h.conflict; lines = h.lines })
-    (λ p h. record { a = h.a; b = h.b; a_in = one_in xs x h.a (in_turn xs i x within is) h.a_in; b_in = h.b_in; conflict = h.conflict; lines = h.lines })
+pub OneHas-first : {X : Type 0} (P : X → ℕ × ℕ → Type 0) (x : X) (xs : List X) (pair : ℕ × ℕ) → P x pair → OneHas P (x ∷ xs) pair
+OneHas-first P x xs pair h = record { one = x; listed = (0, omega arith, refl); has = h }
+
+pub OneHas-later : {X : Type 0} (P : X → ℕ × ℕ → Type 0) (x : X) (xs : List X) (pair : ℕ × ℕ) → OneHas P xs pair → OneHas P (x ∷ xs) pair
+OneHas-later P x xs pair h = record { one = h.one; listed = (let (k, within, is) = h.listed in (suc k, omega arith, is)); has = h.has }
+
+-- other properties of a list's elements that imply one another
+pub OneHas-same : {X : Type 0} (P Q : X → ℕ × ℕ → Type 0) (xs ys : List X) (pair : ℕ × ℕ) → ((x : X) → Contains xs x → P x pair → Contains ys x × Q x pair) → OneHas P xs pair → OneHas Q ys pair
+OneHas-same P Q xs ys pair there h = let both = there h.one h.listed h.has in record { one = h.one; listed = both.0; has = both.1 }

@@ -7,11 +7,10 @@ use Rattle.std.specs.BTreeMap.{is_at}
 use Rattle.std.proofs.lemmas.Cmp.{then_total, on_total, nat_cmp_total}
 use Rattle.std.proofs.lemmas.Map.Lookups.{CmpEqualImpliesEq, exact_pairs, exact_unsigned}
 use Rattle.std.proofs.lemmas.Map.Views.{btree_set_contains_iff}
-use Rattle.std.proofs.lemmas.List.Elements.{Contains-push, Contains-push_cases}
 use Rattle.race_model.specs.Race.{pair_cmp}
-use Rattle.stride_summary.specs.declared.access.Access.{Access}
-use Rattle.pair_compare.specs.Conflict.{IsConflict, IsConflictPair, AddsPairs, line_pair}
-use Rattle.pair_compare.proofs.Adds.{not_in_nothing}
+use Rattle.stride_summary.specs.declared.run.Run.{Run}
+use Rattle.pair_compare.specs.Conflict.{IsRunConflict, IsRunPair, AddsPairs, line_pair}
+use Rattle.pair_compare.proofs.Adds.{OneHas-cons, OneHas-first, not_in_nothing}
 
 pub pair_total : IsTotalOrder pair_cmp
 pair_total = then_total (on_total (λ (t : ℕ × ℕ). t.0) nat_cmp_total) (on_total (λ (t : ℕ × ℕ). t.1) nat_cmp_total)
@@ -46,16 +45,31 @@ Inserts-from_updates old new k updates = record {
   iff_old : (p : ℕ × ℕ) → (IsTrue (contains pair_cmp old p) → Contains old.keys p) × (Contains old.keys p → IsTrue (contains pair_cmp old p))
   iff_old = btree_set_contains_iff pair_total pair_exact old
 
--- a conflict of two accesses adds its line pair
-pub AddsPairs-insert : (old new : List (ℕ × ℕ)) (a b : Access) → IsConflict a b → Inserts old new (line_pair a b) → AddsPairs old new (IsConflictPair (a ∷ []) (b ∷ []))
+-- a conflict of two runs adds its line pair
+pub AddsPairs-insert : (old new : List (ℕ × ℕ)) (a b : Run) → IsRunConflict a b → Inserts old new (line_pair a.line b.line) → AddsPairs old new (IsRunPair a (b ∷ []))
 AddsPairs-insert old new a b conflict inserts = record {
   kept = inserts.kept;
-  added = λ pair h. subst (λ (p : ℕ × ℕ). Contains new p)
-      (sym (h.lines ∙ ap (λ (x : Access). line_pair x h.b) (sym (only_one a h.a h.a_in)) ∙ ap (λ (x : Access). line_pair a x) (sym (only_one b h.b h.b_in)))) inserts.added;
-  only = λ pair h. elim (inserts.only pair h) [
-    | inl old_one ↦ inl old_one
-    | inr same ↦ inr (record { a = a; b = b; a_in = Contains-push [] a; b_in = Contains-push [] b; conflict = conflict; lines = sym same })
+  added = λ pair h. elim (OneHas-cons _ b [] pair h) [
+    | inl has ↦ subst (λ (p : ℕ × ℕ). Contains new p) (sym has.lines) inserts.added
+    | inr none ↦ absurd (not_in_nothing none.one none.listed)
   ];
-} where
-  only_one : (x y : Access) → Contains (x ∷ []) y → x ≡ y
-  only_one x y h = elim (Contains-push_cases [] x y h) [ inl none ↦ absurd (not_in_nothing y none) | inr same ↦ same ]
+  only = λ pair h. elim (inserts.only pair h) [
+    | inl was ↦ inl was
+    | inr same ↦ inr (OneHas-first _ b [] pair (record { conflict = conflict; lines = sym same }))
+  ];
+}
+
+-- a pair that is there already, or no conflict, adds nothing
+pub AddsPairs-nothing : (keys : List (ℕ × ℕ)) (a b : Run) → (IsRunConflict a b → Contains keys (line_pair a.line b.line)) → AddsPairs keys keys (IsRunPair a (b ∷ []))
+AddsPairs-nothing keys a b known = record {
+  kept = λ pair h. h;
+  added = λ pair h. elim (OneHas-cons _ b [] pair h) [
+    | inl has ↦ subst (λ (p : ℕ × ℕ). Contains keys p) (sym has.lines) (known has.conflict)
+    | inr none ↦ absurd (not_in_nothing none.one none.listed)
+  ];
+  only = λ pair h. inl h;
+}
+
+-- a pair that a look-up finds is there
+pub Contains-known : (set : BTreeSet (ℕ × ℕ)) (p q : ℕ × ℕ) → p ≡ q → contains pair_cmp set p ≡ true → Contains set.keys q
+Contains-known set p q same found = subst (λ (r : ℕ × ℕ). Contains set.keys r) same ((btree_set_contains_iff pair_total pair_exact set p).0 found)

@@ -1,4 +1,16 @@
 pub mod Adds
 pub mod Inserts
-pub mod Compared
+pub mod Meeting
+pub mod Finding
 pub mod Races
+pub mod FirstRegion
+pub mod Segments
+pub mod Tasks
+pub mod Findings
+pub mod Works
+pub mod FieldOrder
+pub mod Dividing
+pub mod Halving
+pub mod NextField
+pub mod SegmentPlace
+pub mod AccessOrder

@@ -1,162 +1,141 @@
--- The pairs of concurrent segments are the race pairs of the run.
-use Rattle.std.proofs.Common.{◌≡◌, ◌⊎◌, ℕ, suc, ◌+◌, ◌<◌, ◌≤◌, List, [], ◌∷◌, min, max, Contains, inl, inr, refl, sym, ap, ◌∙◌, subst, arith, Some}
-use Rattle.std.specs.List.Sorted.{IsStrictlySortedBy}
-use Rattle.std.proofs.lemmas.List.Elements.{Contains-append_cases, Contains-push_cases}
+-- The pairs of segments of a run are its races.
+use Rattle.std.proofs.Common.{◌≡◌, ◌↔◌, ℕ, List, Some, Contains, inl, inr, refl, sym, ap, ◌∙◌, subst, IsTrue, arith}
+use Rattle.sw_base.specs.declared.path.Step.{Step}
 use Rattle.log_format.specs.declared.record.Record.{Record}
-use Rattle.stride_summary.specs.declared.access.Access.{Access}
+use Rattle.log_format.specs.declared.record.Kind.{Kind}
+use Rattle.log_format.specs.declared.record.Kind.TheVariants.{Write}
+use Rattle.stride_summary.specs.declared.key.Key.{Key}
 use Rattle.log_segment.specs.declared.segment.Segment.{Segment}
+use Rattle.log_segment.specs.Accesses.{is_write}
 use Rattle.log_segment.specs.Intervals.{IsAccessAt, HasAccess, AreSegments}
 use Rattle.race_model.specs.Trace.{Logs, Node, IsThere, record_at}
-use Rattle.race_model.specs.Race.{HasByte, IsRacePair, Lists, pair_cmp}
+use Rattle.race_model.specs.Race.{HasByte, IsRacePair, held_at}
 use Rattle.race_model.specs.ForkJoin.{IsForkJoin}
 use Rattle.race_model.proofs.LabelLaw.{concurrent_unordered, unordered_concurrent}
 use Rattle.std.proofs.lemmas.Option.{slice_get_within}
-use Rattle.pair_compare.specs.Conflict.{Touches, IsConflict}
-use Rattle.pair_compare.specs.Compare.{IsRacingPair, IsSegmentPair, AreCompared}
-use Rattle.pair_compare.proofs.Adds.{not_in_nothing}
+use Rattle.pair_compare.specs.Conflict.{Touches, line_pair}
+use Rattle.pair_compare.specs.Compare.{IsRacingPair, IsSegmentPair}
+use Rattle.pair_compare.specs.Regions.{IsRacePairAmong}
 
-min_comm : (a b : ℕ) → min a b ≡ min b a
-min_comm a b = grind arith
+-- an access of the key at the address touches the bytes of its record
+HasByte-from : (logs : Logs) (x : Node) (r : Record) (key : Key) (address byte : ℕ) → IsAccessAt logs x r key address → Touches key address byte → HasByte r byte
+HasByte-from logs x r key address byte is h =
+    let size : key.size ≡ r.size = ap (λ (k : Key). k.size) is.keyed in
+    let same : address ≡ r.addr = is.addressed in
+    let from = h.from_start in
+    let to = h.to_end in
+    record { from_start = omega arith; to_end = omega arith }
 
-max_comm : (a b : ℕ) → max a b ≡ max b a
-max_comm a b = grind arith
+Touches-from : (logs : Logs) (x : Node) (r : Record) (key : Key) (address byte : ℕ) → IsAccessAt logs x r key address → HasByte r byte → Touches key address byte
+Touches-from logs x r key address byte is h =
+    let size : key.size ≡ r.size = ap (λ (k : Key). k.size) is.keyed in
+    let same : address ≡ r.addr = is.addressed in
+    let from = h.from_start in
+    let to = h.to_end in
+    record { from_start = omega arith; to_end = omega arith }
 
--- an element of a list is its first or one of the others
-in_cons : {X : Type 0} (x y : X) (ys : List X) → Contains (y ∷ ys) x → (y ≡ x) ⊎ Contains ys x
-in_cons x y ys h = elim (Contains-append_cases (y ∷ []) ys x h) [
-  | inl first ↦ elim (Contains-push_cases [] y x first) [ inl none ↦ absurd (not_in_nothing x none) | inr same ↦ inl same ]
-  | inr later ↦ inr later
-]
+write_kind : (kind : Kind) → IsTrue (is_write kind) → kind ≡ Write
+write_kind Kind.Read h = cc
+write_kind Kind.Write h = refl
+write_kind Kind.Lock h = cc
+write_kind Kind.Unlock h = cc
+write_kind Kind.Barrier h = cc
+write_kind Kind.Region h = cc
+write_kind Kind.Chunk h = cc
+write_kind Kind.End h = cc
 
--- races between segments don't depend on which is named first
-IsConflict-sym : (a b : Access) → IsConflict a b → IsConflict b a
-IsConflict-sym a b h = record {
-  byte = h.byte;
-  first = h.second;
-  second = h.first;
-  writes = elim h.writes [ inl w ↦ inr w | inr w ↦ inl w ];
-  no_mutex = λ m in_b in_a. h.no_mutex m in_a in_b;
-}
+is_write_from : (logs : Logs) (x : Node) (r : Record) (key : Key) (address : ℕ) → IsAccessAt logs x r key address → IsTrue key.write → r.kind ≡ Write
+is_write_from logs x r key address is w = write_kind r.kind (subst (λ (k : Key). IsTrue k.write) is.keyed w)
 
-IsRacingPair-sym : (a b : Segment) (p : ℕ × ℕ) → IsRacingPair a b p → IsRacingPair b a p
-IsRacingPair-sym a b p h = record {
-  concurrent = record { different = λ e. h.concurrent.different (sym e); not_before = h.concurrent.not_after; not_after = h.concurrent.not_before };
-  conflict = record {
-    a = h.conflict.b;
-    b = h.conflict.a;
-    a_in = h.conflict.b_in;
-    b_in = h.conflict.a_in;
-    conflict = IsConflict-sym h.conflict.a h.conflict.b h.conflict.conflict;
-    lines = h.conflict.lines ∙ (λ i. (min_comm h.conflict.a.line h.conflict.b.line i, max_comm h.conflict.a.line h.conflict.b.line i));
-  };
-}
+write_from : (logs : Logs) (x : Node) (r : Record) (key : Key) (address : ℕ) → IsAccessAt logs x r key address → r.kind ≡ Write → IsTrue key.write
+write_from logs x r key address is w = subst (λ (k : Key). IsTrue k.write) (sym is.keyed) (subst (λ (k : Kind). IsTrue (is_write k)) (sym w) refl)
 
--- two segments of the list that race make a pair of it
-pub IsSegmentPair-of : (segments : List Segment) (a b : Segment) (p : ℕ × ℕ) → Contains segments a → Contains segments b → IsRacingPair a b p → IsSegmentPair segments p
-IsSegmentPair-of [] a b p a_in b_in racing = absurd (not_in_nothing a a_in)
-IsSegmentPair-of (s ∷ later) a b p a_in b_in racing = elim (in_cons a s later a_in) [
-  | inl a_first ↦ elim (in_cons b s later b_in) [
-    | inl b_first ↦ absurd (racing.concurrent.different (ap (λ (t : Segment). t.label) (sym a_first ∙ b_first)))
-    | inr b_later ↦ inl (record { other = b; listed = b_later; racing = subst (λ (t : Segment). IsRacingPair t b p) (sym a_first) racing })
-  ]
-  | inr a_later ↦ elim (in_cons b s later b_in) [
-    | inl b_first ↦ inl (record { other = a; listed = a_later; racing = subst (λ (t : Segment). IsRacingPair t a p) (sym b_first) (IsRacingPair-sym a b p racing) })
-    | inr b_later ↦ inr (IsSegmentPair-of later a b p a_later b_later racing)
-  ]
-]
+held_is : (logs : Logs) (x : Node) (r : Record) (key : Key) (address : ℕ) → IsAccessAt logs x r key address → key.held ≡ held_at logs x
+held_is logs x r key address is = ap (λ (k : Key). k.held) is.keyed
 
--- two segments of the list, and their race
-pub record OfTwo (segments : List Segment) (p : ℕ × ℕ) : Type 0 where
-  pub a : Segment
-  pub b : Segment
-  pub a_in : Contains segments a
-  pub b_in : Contains segments b
-  pub racing : IsRacingPair a b p
-
-in_later : {X : Type 0} (x y : X) (ys : List X) → Contains ys x → Contains (y ∷ ys) x
-in_later x y ys (k, within, is) = (suc k, omega arith, is)
-
-pub OfTwo-from : (segments : List Segment) (p : ℕ × ℕ) → IsSegmentPair segments p → OfTwo segments p
-OfTwo-from [] p h = absurd h
-OfTwo-from (s ∷ later) p (inl h) = record { a = s; b = h.other; a_in = (0, omega arith, refl); b_in = in_later h.other s later h.listed; racing = h.racing }
-OfTwo-from (s ∷ later) p (inr h) = let two = OfTwo-from later p h in
-    record { a = two.a; b = two.b; a_in = in_later two.a s later two.a_in; b_in = in_later two.b s later two.b_in; racing = two.racing }
-
--- an access touches the bytes of its record
-HasByte-from : (logs : Logs) (x : Node) (r : Record) (a : Access) (byte : ℕ) → IsAccessAt logs x r a → Touches a byte → HasByte r byte
-HasByte-from logs x r a byte is h = record {
-  from_start = subst (λ (n : ℕ). n ≤ byte) is.addr h.from_start;
-  to_end = subst (λ (n : ℕ). byte < n) ((λ i. is.addr i + is.size i)) h.to_end;
-}
-
-Touches-from : (logs : Logs) (x : Node) (r : Record) (a : Access) (byte : ℕ) → IsAccessAt logs x r a → HasByte r byte → Touches a byte
-Touches-from logs x r a byte is h = record {
-  from_start = subst (λ (n : ℕ). n ≤ byte) (sym is.addr) h.from_start;
-  to_end = subst (λ (n : ℕ). byte < n) (sym (λ i. is.addr i + is.size i)) h.to_end;
-}
+line_is : (logs : Logs) (x : Node) (r : Record) (key : Key) (address : ℕ) → IsAccessAt logs x r key address → key.line ≡ r.line
+line_is logs x r key address is = ap (λ (k : Key). k.line) is.keyed
 
 there : (logs : Logs) (x : Node) (r : Record) → record_at logs x ≡ Some r → IsThere logs x
 there logs x r found = slice_get_within (logs x.path) x.index r found
 
-module _ (logs : Logs) (segments : List Segment) (tree : IsForkJoin logs) (are : AreSegments logs segments) where
-  race_from_pair : (p : ℕ × ℕ) → IsSegmentPair segments p → IsRacePair logs p
-  race_from_pair p h =
-      let two = OfTwo-from segments p h in
-      let pair = two.racing.conflict in
-      let left = are.each two.a two.a_in pair.a pair.a_in in
-      let right = are.each two.b two.b_in pair.b pair.b_in in
-      made two left.0 left.1 left.2 right.0 right.1 right.2
-    where
-      made : (two : OfTwo segments p) (x : Node) (r : Record) → HasAccess logs two.a x r two.racing.conflict.a → (y : Node) (s : Record) → HasAccess logs two.b y s two.racing.conflict.b → IsRacePair logs p
-      made two x r left y s right = record {
-        x = x;
-        y = y;
-        r = r;
-        s = s;
-        race = record {
-          left = left.at_node.found;
-          right = right.at_node.found;
-          left_access = left.at_node.access;
-          right_access = right.at_node.access;
-          unordered = concurrent_unordered logs x y two.a.label two.b.label tree (there logs x r left.at_node.found) (there logs y s right.at_node.found) left.label right.label two.racing.concurrent;
-          shares = (two.racing.conflict.conflict.byte, HasByte-from logs x r two.racing.conflict.a two.racing.conflict.conflict.byte left.at_node two.racing.conflict.conflict.first, HasByte-from logs y s two.racing.conflict.b two.racing.conflict.conflict.byte right.at_node two.racing.conflict.conflict.second);
-          writes = elim two.racing.conflict.conflict.writes [ inl w ↦ inl (left.at_node.writes.0 w) | inr w ↦ inr (right.at_node.writes.0 w) ];
-          no_mutex = λ m in_x in_y. two.racing.conflict.conflict.no_mutex m (subst (λ (held : List ℕ). Contains held m) (sym left.at_node.held) in_x) (subst (λ (held : List ℕ). Contains held m) (sym right.at_node.held) in_y);
-        };
-        lines = two.racing.conflict.lines ∙ (λ i. (min (left.at_node.line i) (right.at_node.line i), max (left.at_node.line i) (right.at_node.line i)));
-      }
-
-  pair_from_race : (p : ℕ × ℕ) → IsRacePair logs p → IsSegmentPair segments p
-  pair_from_race p h =
-      let left = are.all h.x h.r h.race.left h.race.left_access in
-      let right = are.all h.y h.s h.race.right h.race.right_access in
-      IsSegmentPair-of segments left.0 right.0 p left.1 right.1 (racing left.0 left.2 left.3 right.0 right.2 right.3)
-    where
-      racing : (a : Segment) (u : Access) → HasAccess logs a h.x h.r u → (b : Segment) (v : Access) → HasAccess logs b h.y h.s v → IsRacingPair a b p
-      racing a u left b v right = record {
-        concurrent = unordered_concurrent logs h.x h.y a.label b.label tree (there logs h.x h.r h.race.left) (there logs h.y h.s h.race.right) left.label right.label h.race.unordered;
-        conflict = record {
-          a = u;
-          b = v;
-          a_in = left.listed;
-          b_in = right.listed;
-          conflict = record {
-            byte = h.race.shares.0;
-            first = Touches-from logs h.x h.r u h.race.shares.0 left.at_node h.race.shares.1;
-            second = Touches-from logs h.y h.s v h.race.shares.0 right.at_node h.race.shares.2;
-            writes = elim h.race.writes [ inl w ↦ inl (left.at_node.writes.1 w) | inr w ↦ inr (right.at_node.writes.1 w) ];
-            no_mutex = λ m in_u in_v. h.race.no_mutex m (subst (λ (held : List ℕ). Contains held m) left.at_node.held in_u) (subst (λ (held : List ℕ). Contains held m) right.at_node.held in_v);
+module _ (logs : Logs) (IsOne : List Step → Type 0) (segments : List Segment) (tree : IsForkJoin logs) (are : AreSegments logs IsOne segments) where
+  made : (p : ℕ × ℕ) (h : IsSegmentPair segments p) (x : Node) (r : Record) → HasAccess logs h.a x r h.racing.conflict.key h.racing.conflict.address → (y : Node) (s : Record) → HasAccess logs h.b y s h.racing.conflict.other h.racing.conflict.beside
+      → IsOne x.path → IsOne y.path → IsRacePairAmong logs IsOne p
+  made p h x r left y s right x_one y_one =
+      let pair = h.racing.conflict in
+      let mine = left.at_node in
+      let yours = right.at_node in
+      record {
+        races = record {
+          x = x;
+          y = y;
+          r = r;
+          s = s;
+          race = record {
+            left = mine.found;
+            right = yours.found;
+            left_access = mine.access;
+            right_access = yours.access;
+            unordered = concurrent_unordered logs x y h.a.label h.b.label tree (there logs x r mine.found) (there logs y s yours.found) left.label right.label h.racing.concurrent;
+            shares = (pair.conflict.byte, HasByte-from logs x r pair.key pair.address pair.conflict.byte mine pair.conflict.first, HasByte-from logs y s pair.other pair.beside pair.conflict.byte yours pair.conflict.second);
+            writes = elim pair.conflict.writes [ inl w ↦ inl (is_write_from logs x r pair.key pair.address mine w) | inr w ↦ inr (is_write_from logs y s pair.other pair.beside yours w) ];
+            no_mutex = λ m in_x in_y. pair.conflict.no_mutex m (subst (λ (held : List ℕ). Contains held m) (sym (held_is logs x r pair.key pair.address mine)) in_x) (subst (λ (held : List ℕ). Contains held m) (sym (held_is logs y s pair.other pair.beside yours)) in_y);
           };
-          lines = h.lines ∙ sym (λ i. (min (left.at_node.line i) (right.at_node.line i), max (left.at_node.line i) (right.at_node.line i)));
+          lines = pair.lines ∙ (λ i. line_pair (line_is logs x r pair.key pair.address mine i) (line_is logs y s pair.other pair.beside yours i));
         };
+        left = x_one;
+        right = y_one;
       }
 
-  -- the set that is left when all segments were compared lists the race pairs
-  pub Lists-from_compared : (keys : List (ℕ × ℕ)) → AreCompared segments [] keys → IsStrictlySortedBy pair_cmp keys → Lists (IsRacePair logs) keys
-  Lists-from_compared keys compared ascending = record {
-    ascending = ascending;
-    each = λ p. (
-      λ h. race_from_pair p (compared.found p h),
-      λ h. elim (compared.each p (pair_from_race p h)) [ inl was ↦ was | inr none ↦ absurd none ],
-    );
-  }
+  race_from_pair : (p : ℕ × ℕ) → IsSegmentPair segments p → IsRacePairAmong logs IsOne p
+  race_from_pair p h =
+      let pair = h.racing.conflict in
+      let left = are.each h.a h.a_in pair.key pair.address pair.first in
+      let right = are.each h.b h.b_in pair.other pair.beside pair.second in
+      made p h left.1.0 left.1.1 left.1.2 right.1.0 right.1.1 right.1.2
+      (subst IsOne (sym left.1.2.in_log) left.0) (subst IsOne (sym right.1.2.in_log) right.0)
+
+  pair_from_race : (p : ℕ × ℕ) → IsRacePairAmong logs IsOne p → IsSegmentPair segments p
+  pair_from_race p among =
+      let h = among.races in
+      let left = are.all h.x h.r among.left h.race.left h.race.left_access in
+      let right = are.all h.y h.s among.right h.race.right h.race.right_access in
+      record { a = left.0; b = right.0; a_in = left.1; b_in = right.1; racing = racing left.0 left.2 left.3 left.4 right.0 right.2 right.3 right.4 }
+    where
+      h : IsRacePair logs p
+      h = among.races
+
+      racing : (a : Segment) (key : Key) (address : ℕ) → HasAccess logs a h.x h.r key address → (b : Segment) (other : Key) (beside : ℕ) → HasAccess logs b h.y h.s other beside → IsRacingPair a b p
+      racing a key address left b other beside right =
+          let mine = left.at_node in
+          let yours = right.at_node in
+          record {
+            concurrent = unordered_concurrent logs h.x h.y a.label b.label tree (there logs h.x h.r h.race.left) (there logs h.y h.s h.race.right) left.label right.label h.race.unordered;
+            conflict = record {
+              key = key;
+              address = address;
+              other = other;
+              beside = beside;
+              first = left.listed;
+              second = right.listed;
+              conflict = record {
+                byte = h.race.shares.0;
+                first = Touches-from logs h.x h.r key address h.race.shares.0 mine h.race.shares.1;
+                second = Touches-from logs h.y h.s other beside h.race.shares.0 yours h.race.shares.2;
+                writes = elim h.race.writes [ inl w ↦ inl (write_from logs h.x h.r key address mine w) | inr w ↦ inr (write_from logs h.y h.s other beside yours w) ];
+                no_mutex = λ m in_u in_v. h.race.no_mutex m (subst (λ (held : List ℕ). Contains held m) (held_is logs h.x h.r key address mine) in_u) (subst (λ (held : List ℕ). Contains held m) (held_is logs h.y h.s other beside yours) in_v);
+              };
+              lines = h.lines ∙ sym (λ i. line_pair (line_is logs h.x h.r key address mine i) (line_is logs h.y h.s other beside yours i));
+            };
+          }
+
+pub pairs_iff_races : (logs : Logs) (IsOne : List Step → Type 0) (segments : List Segment) (pair : ℕ × ℕ) → IsForkJoin logs → AreSegments logs IsOne segments → IsSegmentPair segments pair ↔ IsRacePairAmong logs IsOne pair
+pairs_iff_races logs IsOne segments pair tree are = (race_from_pair logs IsOne segments tree are pair, pair_from_race logs IsOne segments tree are pair)
+
+pub pairs_iff_whole : (logs : Logs) (segments : List Segment) (pair : ℕ × ℕ) → IsForkJoin logs → AreSegments logs (λ path. Unit {0}) segments → IsSegmentPair segments pair ↔ IsRacePair logs pair
+pairs_iff_whole logs segments pair tree are =
+    let among = pairs_iff_races logs (λ path. Unit {0}) segments pair tree are in (
+      λ h. (among.0 h).races,
+      λ h. among.1 (record { races = h; left = tt; right = tt }),
+    )

@@ -1,75 +1,63 @@
-ghost use Rattle.std.specs.Prelude.{◌≡◌, ◌⊎◌, ◌↔◌, ◌<◌, ℕ, [], ◌∷◌, IsTrue, OnOk, OnErr};
-ghost use Rattle.pair_compare.specs.Conflict.{IsConflict, IsConflictPair, AddsPairs, AddsSome, Touches, line_pair};
+ghost use Rattle.std.specs.Prelude.{◌≡◌, ◌⊎◌, ◌↔◌, [], ◌∷◌, IsTrue, OnOk, OnErr};
+ghost use Rattle.pair_compare.specs.Conflict.{IsRunConflict, IsRunPair, AddsPairs, AddsSome, line_pair};
 
+use interval_tree::Visit;
 use std::collections::BTreeSet;
-use stride_summary::Access;
+use stride_overlap::overlap;
+use stride_summary::Run;
 use sw_base::Memory;
 
-fn shares_byte(a: &Access, b: &Access) -> bool
-    ensures { IsTrue result ↔ ((byte : ℕ) × Touches a.now byte × Touches b.now byte) }
-{
-    let start = a.addr.max(b.addr);
-    start - a.addr < u64::from(a.size) && start - b.addr < u64::from(b.size)
-}
-
-fn one_writes(a: &Access, b: &Access) -> bool
+fn one_writes(a: &Run, b: &Run) -> bool
     ensures { IsTrue result ↔ (IsTrue a.now.write ⊎ IsTrue b.now.write) }
 {
     a.write || b.write
 }
 
-/// Whether the two accesses touch a common byte, one of them writes, and no mutex was held at both.
-pub fn conflicts(a: &Access, b: &Access) -> bool
-    ensures { IsTrue result ↔ IsConflict a.now b.now }
+/// Whether the two runs have a common byte, one of them writes, and no mutex was held at both.
+fn conflicts(a: &Run, b: &Run) -> bool
+    ensures { IsTrue result ↔ IsRunConflict a.now b.now }
 {
-    if !one_writes(a, b) || !shares_byte(a, b) {
+    if !one_writes(a, b) || !a.held.disjoint(&b.held) {
         return false;
     }
-    a.held.disjoint(&b.held)
+    overlap(a, b)
 }
 
-fn lines_of(a: &Access, b: &Access) -> (u32, u32)
-    ensures { result ≡ line_pair a.now b.now }
+fn lines_of(a: &Run, b: &Run) -> (u32, u32)
+    ensures { result ≡ line_pair a.now.line b.now.line }
 {
     (a.line.min(b.line), a.line.max(b.line))
 }
 
-fn add_conflict(a: &Access, b: &Access, pairs: &mut BTreeSet<(u32, u32)>) -> Result<(), Memory>
-    ensures added { OnOk result (AddsPairs pairs.old.keys pairs.new.keys (IsConflictPair (a.now ∷ []) (b.now ∷ []))) }
-    ensures refused { OnErr result (AddsSome pairs.old.keys pairs.new.keys (IsConflictPair (a.now ∷ []) (b.now ∷ []))) }
+fn add_conflict(a: &Run, b: &Run, pairs: &mut BTreeSet<(u32, u32)>) -> Result<(), Memory>
+    ensures added { OnOk result (AddsPairs pairs.old.keys pairs.new.keys (IsRunPair a.now (b.now ∷ []))) }
+    ensures refused { OnErr result (AddsSome pairs.old.keys pairs.new.keys (IsRunPair a.now (b.now ∷ []))) }
 {
+    let lines = lines_of(a, b);
+    if pairs.contains(&lines) {
+        return Ok(());
+    }
     if conflicts(a, b) {
-        pairs.insert(lines_of(a, b))?;
+        pairs.insert(lines)?;
     }
     Ok(())
 }
 
-fn add_against(
-    a: &Access,
-    others: &[Access],
-    pairs: &mut BTreeSet<(u32, u32)>,
-) -> Result<(), Memory>
-    ensures added { OnOk result (AddsPairs pairs.old.keys pairs.new.keys (IsConflictPair (a.now ∷ []) others.now)) }
-    ensures refused { OnErr result (AddsSome pairs.old.keys pairs.new.keys (IsConflictPair (a.now ∷ []) others.now)) }
-{
-    for b in others {
-        add_conflict(a, b, pairs)?;
-    }
-    Ok(())
+/// A run that is looked up, and the line pairs that were found so far.
+pub struct Finder<'r> {
+    pub run: &'r Run,
+    pub pairs: BTreeSet<(u32, u32)>,
 }
 
-/// Adds the line pairs of the conflicts of an access of the first list with one of the second, the smaller line first.
-/// After an error some of them may have been added, and nothing else changed.
-pub fn add_conflicts(
-    accesses: &[Access],
-    others: &[Access],
-    pairs: &mut BTreeSet<(u32, u32)>,
-) -> Result<(), Memory>
-    ensures added { OnOk result (AddsPairs pairs.old.keys pairs.new.keys (IsConflictPair accesses.now others.now)) }
-    ensures refused { OnErr result (AddsSome pairs.old.keys pairs.new.keys (IsConflictPair accesses.now others.now)) }
-{
-    for a in accesses {
-        add_against(a, others, pairs)?;
+impl<'r> Visit for Finder<'r> {
+    ghost use Rattle.std.specs.Prelude.{[], ◌∷◌};
+    ghost use Rattle.pair_compare.specs.Conflict.{IsRunPair, AddsPairs, AddsSome};
+
+    ghost took = { λ before run after. (after.run.now ≡ before.run.now) × AddsPairs before.pairs.keys after.pairs.keys (IsRunPair before.run.now (run ∷ [])) };
+
+    ghost refused = { λ before run after. (after.run.now ≡ before.run.now) × AddsSome before.pairs.keys after.pairs.keys (IsRunPair before.run.now (run ∷ [])) };
+
+    fn take(&mut self, run: &Run) -> Result<(), Memory> {
+        add_conflict(self.run, run, &mut self.pairs)
     }
-    Ok(())
 }

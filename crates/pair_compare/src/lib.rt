@@ -1,15 +1,34 @@
 //! The race pairs of a run, found from its barrier intervals.
 //!
-//! `compare_all` answers exactly the line pairs of the accesses that race, the smaller line first, each once and in
-//! ascending order. `compare` adds those of two intervals: none unless their labels are concurrent, and else the lines of
-//! two accesses of a common byte, one a write, under no common mutex. After an error some of them may be there, and
-//! nothing else was added or lost.
+//! `compare_all` answers exactly the line pairs of the intervals' races, the smaller line first, each once and in ascending
+//! order, for every number of workers: two accesses of intervals with concurrent labels, of a common byte, one a write, under
+//! no common mutex. Labels are compared level by level: intervals that are the same there are divided by halves, as at the lanes of
+//! a team, and each run of one half is looked up in a tree of the other. The workers search at once, each its tasks.
+//!
+//! `compare` adds the race pairs of two intervals, over a tree of the second's runs, and counts its steps. After an error some
+//! of the pairs may be there, and nothing else was added or lost. `unite` adds one set of pairs to another.
+//! The law `pairs_are_races` says that the pairs of a run's intervals are its race pairs, region by region of the root, and
+//! `labels_order_accesses` that the labels of two intervals are ordered as their accesses are by happens-before.
 #![tactic(auto)]
 
+mod all;
 mod comparing;
 mod conflict;
+mod divide;
+mod field;
+mod ordering;
+mod piece;
+mod regions;
+mod searching;
+mod team;
+mod work;
+mod worker;
 
-pub use comparing::{compare, compare_all};
+pub use all::compare_all;
+pub use comparing::compare;
+pub use ordering::labels_order_accesses;
+pub use regions::pairs_are_races;
+pub use team::unite;
 
 #[cfg(test)]
 mod tests;

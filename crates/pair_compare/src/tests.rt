@@ -1,37 +1,48 @@
+ghost use Rattle.std.specs.Prelude.{◌≡◌, ◌+◌, ◌^◌, ◌<◌};
+
 use crate::{compare, compare_all};
+use interval_tree::{Steps, Tree};
 use log_segment::Segment;
 use mutex_set::{Held, HeldFault};
 use span_label::Label;
 use std::alloc::{AllocError, Global};
 use std::collections::BTreeSet;
+use std::marker::Brand;
+use std::sync::atomic::{AtomicU64, Ordering};
+use std::sync::ledger::{Blank, Ledger};
 use std::test::Fail;
-use stride_summary::Access;
-use sw_base::Path;
+use std::thread;
+use stride_summary::Run;
+use sw_base::{Gate, Memory, NoGate, Path};
 
-fn access(write: bool, line: u32, addr: u64, mutexes: &[u16]) -> Result<Access, HeldFault> {
+// One access of eight bytes.
+fn run(write: bool, line: u32, base: u64, mutexes: &[u16]) -> Result<Run, HeldFault>
+    requires { base < 2 ^ 40 }
+{
     let mut held = Held::none();
     for mutex in mutexes {
         held.enter(*mutex)?;
     }
-    Ok(Access {
-        write,
+    Ok(Run {
+        base,
+        stride: 0,
+        count: 1,
         size: 8,
-        site: 0,
+        write,
         line,
-        addr,
+        site: 0,
         held,
     })
 }
 
-// The only barrier interval of a lane of two, with one access.
-fn segment(alloc: Global, lane: u16, only: Access) -> Result<Segment, AllocError> {
-    Ok(Segment {
-        path: Path::root().child(0, lane, 2),
+fn segment(label: Label, runs: Vec<Run>) -> Segment {
+    Segment {
+        path: Path::root(),
         first: 1,
         last: 2,
-        label: Label::root().fork(lane % 2, 2),
-        accesses: vec![in alloc; only]?,
-    })
+        label,
+        runs,
+    }
 }
 
 fn listed(alloc: Global, pairs: &BTreeSet<(u32, u32)>) -> Result<Vec<(u32, u32)>, AllocError> {
@@ -42,10 +53,34 @@ fn listed(alloc: Global, pairs: &BTreeSet<(u32, u32)>) -> Result<Vec<(u32, u32)>
     Ok(found)
 }
 
+fn compared_with<L: Ledger>(
+    alloc: Global,
+    a: &Segment,
+    b: &Segment,
+    blank: Blank,
+) -> Result<BTreeSet<(u32, u32)>, Memory>
+    requires name { blank.name ≡ L.name }
+    requires parts { blank.parts ≡ L.parts }
+    requires some { 0 < blank.parts }
+{
+    let mut pairs = BTreeSet::new(alloc);
+    let mut steps = Steps::<L>::new(blank);
+    let tree = Tree::build(alloc, b.runs.as_slice())?;
+    compare(alloc, a, b, &tree, &mut pairs, &mut steps)?;
+    Ok(pairs)
+}
+
+fn compared(alloc: Global, a: &Segment, b: &Segment) -> Result<BTreeSet<(u32, u32)>, Memory> {
+    compared_with::<Brand>(alloc, a, b, Blank::new(1))
+}
+
 #[test]
 fn lanes_race_where_they_share_a_byte_and_no_mutex(rt: HostRuntime) -> Result<(), Fail> {
     let alloc = rt.alloc();
-    let write = segment(alloc, 0, access(true, 9, 100, &[3])?)?;
+    let write = segment(
+        Label::root().fork(0, 2),
+        vec![in alloc; run(true, 9, 100, &[3])?]?,
+    );
     let table: [(u16, bool, u64, &[u16], &[(u32, u32)]); 6] = [
         (1, false, 107, &[], &[(5, 9)]),
         (1, false, 108, &[], &[]),
@@ -55,27 +90,104 @@ fn lanes_race_where_they_share_a_byte_and_no_mutex(rt: HostRuntime) -> Result<()
         (0, true, 100, &[], &[]),
     ];
     for (lane, writes, addr, mutexes, races) in table {
-        let other = segment(alloc, lane, access(writes, 5, addr, mutexes)?)?;
-        let mut pairs = BTreeSet::new(alloc);
-        compare(&write, &other, &mut pairs)?;
+        let other = segment(
+            Label::root().fork(lane % 2, 2),
+            vec![in alloc; run(writes, 5, addr % 1000, mutexes)?]?,
+        );
+        let pairs = compared(alloc, &write, &other)?;
         assert_eq!(rt; listed(alloc, &pairs)?.as_slice(), races);
     }
     Ok(())
 }
 
+// Each lane writes an element and reads the next lane's.
+fn team(alloc: Global, span: u16) -> Result<Vec<Segment>, Fail>
+    requires { span < 2 ^ 10 }
+{
+    let mut segments = Vec::new(alloc);
+    for lane in 0..span {
+        let own = u64::from(lane) * 8;
+        let runs = vec![in alloc;
+            run(true, 1000 + u32::from(lane), own, &[])?,
+            run(false, 2000 + u32::from(lane), own + 8, &[])?,
+        ]?;
+        segments.push(segment(Label::root().fork(lane, span), runs))?;
+    }
+    Ok(segments)
+}
+
 #[test]
-fn each_pair_is_there_once_and_in_order(rt: HostRuntime) -> Result<(), Fail> {
+fn each_number_of_workers_finds_all_races(rt: HostRuntime) -> Result<(), Fail> {
     let alloc = rt.alloc();
+    for span in [1, 2, 3, 7, 64] {
+        let segments = team(alloc, span)?;
+        let mut races = Vec::new(alloc);
+        for lane in 1..u32::from(span) {
+            races.push((1000 + lane, 1999 + lane))?;
+        }
+        for workers in [1, 2, 3, 7, 64] {
+            let pairs = compare_all(&rt, alloc, segments.as_slice(), workers, &NoGate)?;
+            assert_eq!(rt; listed(alloc, &pairs)?.as_slice(), races.as_slice());
+        }
+    }
+    Ok(())
+}
+
+#[test]
+fn the_intervals_of_nested_teams_are_compared_by_labels(rt: HostRuntime) -> Result<(), Fail> {
+    let alloc = rt.alloc();
+    let outer = Label::root().fork(0, 2);
     let segments = [
-        segment(alloc, 0, access(true, 9, 100, &[])?)?,
-        segment(alloc, 1, access(true, 5, 100, &[])?)?,
-        segment(alloc, 0, access(true, 9, 104, &[])?)?,
-        segment(alloc, 1, access(false, 9, 104, &[])?)?,
+        segment(outer.copy(), vec![in alloc; run(true, 1, 64, &[])?]?),
+        segment(outer.fork(0, 2), vec![in alloc; run(true, 2, 64, &[])?]?),
+        segment(outer.fork(1, 2), vec![in alloc; run(true, 3, 64, &[])?]?),
+        segment(outer.barrier(), vec![in alloc; run(true, 4, 64, &[])?]?),
+        segment(
+            Label::root().fork(1, 2),
+            vec![in alloc; run(true, 5, 64, &[])?]?,
+        ),
     ];
-    let pairs = compare_all(alloc, &segments)?;
+    let pairs = compare_all(&rt, alloc, segments.as_slice(), 2, &NoGate)?;
     assert_eq!(rt;
         listed(alloc, &pairs)?.as_slice(),
-        [(5, 9), (9, 9)].as_slice()
+        [(1, 5), (2, 3), (2, 5), (3, 5)].as_slice()
     );
+    Ok(())
+}
+
+const TURNS: u64 = 100_000_000;
+
+// Lets a worker go on once two have come, or after so many turns, and then counts it.
+#[derive(Drop)]
+struct Meeting {
+    come: AtomicU64,
+    alone: AtomicU64,
+}
+
+impl Gate for Meeting {
+    fn enter(&self, _number: usize) {
+        self.come.fetch_add(1, Ordering::SeqCst);
+        for _ in 0..TURNS {
+            if self.come.load(Ordering::SeqCst) >= 2 {
+                return;
+            }
+            thread::yield_now();
+        }
+        self.alone.fetch_add(1, Ordering::SeqCst);
+    }
+}
+
+#[test]
+fn workers_run_at_once(rt: HostRuntime) -> Result<(), Fail> {
+    let alloc = rt.alloc();
+    let segments = team(alloc, 2)?;
+    let gate = Meeting {
+        come: AtomicU64::new(0),
+        alone: AtomicU64::new(0),
+    };
+    let pairs = compare_all(&rt, alloc, segments.as_slice(), 2, &gate)?;
+    assert_eq!(rt; pairs.len(), 1);
+    assert_eq!(rt; gate.come.load(Ordering::SeqCst), 2);
+    assert_eq!(rt; gate.alone.load(Ordering::SeqCst), 0);
     Ok(())
 }

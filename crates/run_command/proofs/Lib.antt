@@ -3,6 +3,7 @@ pub mod StoredRun
 pub mod RunSums
 pub mod IndexKept
 pub mod Refusals
+pub mod FirstKinds
 pub mod FirstPaths
 pub mod RunFolder
 pub mod RunEnds

@@ -10,5 +10,4 @@ use Rattle.run_command.specs.Begins.{IsRefusal, refusal_of_text}
 pub text_refused : (files : Files) (kernel dir bytes : List ℕ) (fault : ReadKernelFault) → files kernel ≡ Some bytes → IsFaultOf bytes fault → HasNoKernel bytes fault
     → IsRefusal files kernel dir (refusal_of_text fault)
 text_refused files kernel dir bytes (text.Refused line why) held is none = record { text = bytes; held = held; fault_is = is; none = none }
-text_refused files kernel dir bytes text.NotBuilt held is none = record { text = bytes; held = held; fault_is = is; none = none }
 text_refused files kernel dir bytes text.Memory held is none = tt

@@ -5,6 +5,7 @@ use Rattle.std.specs.declared.alloc.Global.{Global}
 use Rattle.std.proofs.lemmas.List.Elements.{All-map, All-weaker}
 use Rattle.std.proofs.lemmas.Option.{none-some, same_Some}
 use Rattle.std.proofs.lemmas.Simd.{map-map}
+use Rattle.log_format.specs.declared.format.TheConstants.{FORMAT}
 use Rattle.sw_base.specs.declared.path.Step.{Step}
 use Rattle.sw_base.specs.declared.trouble.Memory.{Memory}
 use Rattle.sw_base.specs.declared.trouble.Trouble.{Trouble}
@@ -74,14 +75,14 @@ module _ (rose : Type 0) (program : Program) (first : IsFirstKind program) (dir 
   run_logs = map (whole_log dir size (Some root)) tasks
 
   -- a folder with all logs and the whole index
-  all_left : (old : Content) → with_index dir run_logs (index_bytes (rows_of_logs run_logs)) old ≡ left_by program first dir size tasks run old
-  all_left old = ap (λ (rows : List Row). with_index dir run_logs (index_bytes rows) old) (whole_rows dir size (Some root) tasks)
+  all_left : (old : Content) → with_index dir run_logs (index_bytes FORMAT (rows_of_logs run_logs)) old ≡ left_by program first dir size tasks run old
+  all_left old = ap (λ (rows : List Row). with_index dir run_logs (index_bytes FORMAT rows) old) (whole_rows dir size (Some root) tasks)
 
   -- what is left where storing the run was refused
   part_left : (old new : Content) → StoresPart dir run_logs old new → EndLeaves rose program dir size old new
   part_left old new (part sealed) = logs run_logs (ended tasks run refl) sealed (prefix_keeps_index dir run_logs old new (own_dirs dir run_logs (whole_tell dir size root tasks)) sealed)
   part_left old new (prefix bytes rest parts leaves) =
-      index tasks run bytes rest (ap index_bytes (sym (whole_rows dir size (Some root) tasks)) ∙ parts) leaves
+      index tasks run bytes rest (ap (index_bytes FORMAT) (sym (whole_rows dir size (Some root) tasks)) ∙ parts) leaves
 
   -- storing the run was refused
   refused_ends : (old new : Option Content) (status : ℕ) (written : Option (List ℕ)) → StoresPrefix dir run_logs old new → IsFailure status → EndsSo rose program dir size old new written written status
@@ -96,7 +97,7 @@ module _ (rose : Type 0) (program : Program) (first : IsFirstKind program) (dir 
     tasks = tasks;
     run = run;
     leaves = leaves;
-    well_formed = λ place bad. run_well_formed program first dir size tasks run old place (subst (λ (c : Content). IsBad c.held dir place) leaves bad);
+    well_formed = λ place bad. run_well_formed program first dir size tasks run old place (subst (λ (c : Content). IsBad FORMAT c.held dir place) leaves bad);
     values = values;
     values_are = all;
     text_is = refl;
@@ -107,13 +108,13 @@ module _ (rose : Type 0) (program : Program) (first : IsFirstKind program) (dir 
       → length values ≡ elements program.arrays → IfOk made (λ m. string_bytes m ≡ run_text tasks program.arrays values)
       → IfOk made (λ m. Prints DONE (string_bytes m) before after status) → OnErr made ((status ≡ NO_MEMORY) × (after ≡ before)) → EndsSo rose program dir size old new before after status
   stored_ends old new status before after values made stores all same prints none content is =
-      let left : Content = with_index dir run_logs (index_bytes (rows_of_logs run_logs)) content in
+      let left : Content = with_index dir run_logs (index_bytes FORMAT (rows_of_logs run_logs)) content in
       record {
         content = left;
         is = stores content (whole_tell dir size root tasks) is;
         holds = record {
           answers = printed_made (EndDue rose program dir size content left) DONE (run_text tasks program.arrays values) made before after status (ran refl (has_ran content left values (all_left content) all)) same prints none;
-          leaves = λ _. index tasks run (index_bytes (rows_of tasks)) [] (sym (append-nil (index_bytes (rows_of tasks)))) (all_left content);
+          leaves = λ _. index tasks run (index_bytes FORMAT (rows_of tasks)) [] (sym (append-nil (index_bytes FORMAT (rows_of tasks)))) (all_left content);
         };
       }
 

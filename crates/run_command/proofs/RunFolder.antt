@@ -4,6 +4,7 @@ use Rattle.std.specs.Prelude.{All}
 use Rattle.std.specs.List.{IsDistinct, AllByRecursion}
 use Rattle.std.proofs.lemmas.List.{get_or-map, length-map}
 use Rattle.std.proofs.lemmas.List.Elements.{All-nil, All-cons, All-head, All-tail, All-weaker}
+use Rattle.log_format.specs.declared.format.TheConstants.{FORMAT}
 use Rattle.sw_base.specs.declared.path.Step.{Step}
 use Rattle.sw_base.specs.Environment.{Content, Files, Outline, with_put}
 use Rattle.sw_base.specs.HandedLog.{HandedLog, sealed_name, with_sealed, with_told}
@@ -142,10 +143,10 @@ module _ (program : Program) (first : IsFirstKind program) (dir : List ℕ) (siz
 
   -- the folder after the run
   abbrev pub left_by : Content → Content
-  left_by old = with_put (index_name dir) (index_bytes (rows_of tasks)) (with_sealed (map (told_log dir size) tasks) old)
+  left_by old = with_put (index_name dir) (index_bytes FORMAT (rows_of tasks)) (with_sealed (map (told_log dir size) tasks) old)
 
   -- each log is there and whole
-  logs_held : (old : Content) → HoldsLogs (left_by old).held dir tasks
+  logs_held : (old : Content) → HoldsLogs FORMAT (left_by old).held dir tasks
   logs_held old k d within =
       let task = get_or tasks k d in
       let log = told_log dir size task in
@@ -154,14 +155,14 @@ module _ (program : Program) (first : IsFirstKind program) (dir : List ℕ) (siz
       = subst (HasLog after.held) (get_or-map (told_log dir size) tasks k d log within)
       (sealed_here (map (told_log dir size) tasks) old (tasks_apart program dir size tasks all_named run.traced.once) k log (omega (arith, length-map tasks (told_log dir size)))) in
       record {
-        there = with_file-elsewhere (index_name dir) (index_bytes (rows_of tasks)) after.held (log_name dir task.path) (log_name-not_index dir task.path) ∙ sealed (whole_outline size task.records) refl;
+        there = with_file-elsewhere (index_name dir) (index_bytes FORMAT (rows_of tasks)) after.held (log_name dir task.path) (log_name-not_index dir task.path) ∙ sealed (whole_outline size task.records) refl;
         tabled = (run.rules.tasks k d within).tabled;
       }
 
   -- it holds the run's trace
-  pub run_held : (old : Content) → HoldsTrace (left_by old).held dir tasks
+  pub run_held : (old : Content) → HoldsTrace FORMAT (left_by old).held dir tasks
   run_held old = record { index = put_is_index (with_sealed (map (told_log dir size) tasks) old).held dir (rows_of tasks) run.rules.rows; logs = logs_held old }
 
   -- and is bad at most where a segment is one too many
-  pub run_well_formed : (old : Content) (place : BadPlace) → IsBad (left_by old).held dir place → IsTooMany place
+  pub run_well_formed : (old : Content) (place : BadPlace) → IsBad FORMAT (left_by old).held dir place → IsTooMany place
   run_well_formed old = kept_bad (left_by old).held dir tasks run.rules (run_held old)

@@ -2,6 +2,7 @@
 use Rattle.std.proofs.Common.{◌≡◌, refl, ap, ◌∙◌, ⊎_elim, ℕ, List, [], map, Option, Some, Ok, Err}
 use Rattle.std.specs.Option.{option_map}
 use Rattle.std.proofs.lemmas.Simd.{map-map}
+use Rattle.log_format.specs.declared.format.TheConstants.{FORMAT}
 use Rattle.sw_base.specs.declared.path.Step.{Step}
 use Rattle.sw_base.specs.declared.trouble.Trouble.{Trouble}
 use Rattle.sw_base.specs.Environment.{Content, LeavesPrefix, Text, with_put}
@@ -27,13 +28,13 @@ stores_part dir logs trouble old new seals content tell is =
 
 module _ (dir : List ℕ) (logs : List HandedLog) (old mid new : Option Content) (seals : SealsAll logs (Ok tt) old mid) where
   -- all logs and the index are there
-  pub stores_all : new ≡ option_map (with_put (index_name dir) (index_bytes (rows_of_logs logs))) mid → StoresAll dir logs old new
+  pub stores_all : new ≡ option_map (with_put (index_name dir) (index_bytes FORMAT (rows_of_logs logs))) mid → StoresAll dir logs old new
   stores_all put content tell is =
       let now = seals dir content tell is in
-      put ∙ ap (option_map (with_put (index_name dir) (index_bytes (rows_of_logs logs)))) (now.is ∙ ap Some now.holds.done)
+      put ∙ ap (option_map (with_put (index_name dir) (index_bytes FORMAT (rows_of_logs logs)))) (now.is ∙ ap Some now.holds.done)
 
   -- the index was refused
-  pub stores_prefix : LeavesPrefix mid new (index_name dir) (index_bytes (rows_of_logs logs)) → StoresPrefix dir logs old new
+  pub stores_prefix : LeavesPrefix mid new (index_name dir) (index_bytes FORMAT (rows_of_logs logs)) → StoresPrefix dir logs old new
   stores_prefix left content tell is =
       let now = seals dir content tell is in
       ⊎_elim

@@ -9,13 +9,12 @@ use Rattle.kernel_reader.specs.declared.fault.ReadKernelFault.TheVariants as tex
 use Rattle.run_command.specs.declared.beginning.Refusal.{Refusal}
 use Rattle.run_command.specs.declared.beginning.Refusal.TheVariants.{NoKernel, Refused, NotBuilt, IndexThere, Trouble}
 use Rattle.command_answer.specs.declared.status.TheConstants.{INDEX_THERE, KERNEL_REFUSED}
-use Rattle.run_command.specs.Run.{HoldsKernel, HoldsFault}
+use Rattle.run_command.specs.Run.{HoldsKernel, HoldsFault, HoldsOther}
 use Rattle.run_command.specs.RunTexts.{index_exists_text, no_kernel_text, not_built_text, refused_text}
 
 -- what a text that is no kernel is answered with
 abbrev pub refusal_of_text : ReadKernelFault → Refusal
 refusal_of_text (text.Refused line why) = Refused line why
-refusal_of_text text.NotBuilt = NotBuilt
 refusal_of_text text.Memory = Trouble trouble.Memory
 
 -- the folder has an index, and the named file a kernel
@@ -28,7 +27,7 @@ pub record HasIndex (files : Files) (kernel dir : List ℕ) : Type 0 where
 abbrev pub IsRefusal : Files → List ℕ → List ℕ → Refusal → Type 0
 IsRefusal files kernel dir NoKernel = files kernel ≡ None
 IsRefusal files kernel dir (Refused line why) = HoldsFault files kernel (text.Refused line why)
-IsRefusal files kernel dir NotBuilt = HoldsFault files kernel text.NotBuilt
+IsRefusal files kernel dir NotBuilt = HoldsOther files kernel
 IsRefusal files kernel dir IndexThere = HasIndex files kernel dir
 IsRefusal files kernel dir (Trouble trouble) = Unit {0}
 

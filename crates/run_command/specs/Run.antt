@@ -1,5 +1,6 @@
 -- What `run` answers, and what it leaves in the folder.
 use Rattle.std.specs.Prelude.{◌≡◌, ◌⊎◌, ℕ, List, ◌++◌, length, map, None, Some, IsSome, Contains}
+use Rattle.log_format.specs.declared.format.TheConstants.{FORMAT}
 use Rattle.sw_base.specs.declared.path.Step.{Step}
 use Rattle.sw_base.specs.Environment.{Files, Content, empty_text, with_put}
 use Rattle.sw_base.specs.HandedLog.{HandedLog, SealsPrefix, with_sealed}
@@ -12,7 +13,7 @@ use Rattle.kernel_syntax.specs.FirstKind.{IsFirstKind}
 use Rattle.kernel_syntax.specs.Layout.{elements}
 use Rattle.kernel_syntax.specs.Program.{Program}
 use Rattle.kernel_model.specs.State as model
-use Rattle.kernel_reader.specs.declared.fault.KernelWhy.{KernelWhy}
+use Rattle.kernel_text.specs.declared.fault.KernelWhy.{KernelWhy}
 use Rattle.kernel_reader.specs.declared.fault.ReadKernelFault.{ReadKernelFault}
 use Rattle.kernel_reader.specs.declared.fault.ReadKernelFault.TheVariants as read
 use Rattle.kernel_reader.specs.KernelOf.{IsKernelOf, IsFaultOf, HasNoKernel}
@@ -34,6 +35,14 @@ pub record HoldsFault (files : Files) (name : List ℕ) (fault : ReadKernelFault
   pub fault_is : IsFaultOf text fault
   pub none : HasNoKernel text fault
 
+-- the file of this name holds the text of a kernel of another kind
+pub record HoldsOther (files : Files) (name : List ℕ) : Type 0 where
+  pub text : List ℕ
+  pub program : Program
+  pub held : files name ≡ Some text
+  pub kernel : IsKernelOf text program
+  pub other : IsFirstKind program → ⊥
+
 -- the named file holds such a kernel, and the folder has no index
 pub record CanRun (files : Files) (kernel dir : List ℕ) : Type 0 where
   pub program : Program
@@ -49,8 +58,8 @@ told_log dir size task = whole_log dir size (Some empty_text) task
 pub record EndedRun (program : Program) (dir : List ℕ) (size : ℕ) (old new : Content) (text : List ℕ) : Type 0 where
   pub tasks : Trace
   pub run : IsRun program tasks
-  pub leaves : new ≡ with_put (index_name dir) (index_bytes (rows_of tasks)) (with_sealed (map (told_log dir size) tasks) old)
-  pub well_formed : (place : BadPlace) → IsBad new.held dir place → IsTooMany place
+  pub leaves : new ≡ with_put (index_name dir) (index_bytes FORMAT (rows_of tasks)) (with_sealed (map (told_log dir size) tasks) old)
+  pub well_formed : (place : BadPlace) → IsBad FORMAT new.held dir place → IsTooMany place
   pub values : List ℕ
   pub values_are : length values ≡ elements program.arrays
   pub text_is : text ≡ run_text tasks program.arrays values
@@ -72,13 +81,13 @@ pub record StoppedRun (rose : Type 0) (program : Program) (dir : List ℕ) (size
   pub leaves : new ≡ with_sealed logs old
   pub text_is : text ≡ stopped_text path line why
 
--- What is due of `run`: there is no file, or its text is refused at a line, or it is a kernel by the grammar and none of the first
--- kind; or the folder has an index; or the kernel stopped; or the run ended.
+-- What is due of `run`: there is no file, or its text is refused at a line, or its kernel is of another kind than the
+-- first; or the folder has an index; or the kernel stopped; or the run ended.
 pub data RunDue (rose : Type 0) (kernel dir : List ℕ) (size : ℕ) (old new : Content) (status : ℕ) (text : List ℕ) : Type 0 where
   no_kernel : old.held kernel ≡ None → status ≡ KERNEL_REFUSED → text ≡ no_kernel_text → new ≡ old → RunDue rose kernel dir size old new status text
   refused : (line : ℕ) (why : KernelWhy) → HoldsFault old.held kernel (read.Refused line why) → status ≡ KERNEL_REFUSED → text ≡ refused_text line why → new ≡ old
       → RunDue rose kernel dir size old new status text
-  not_built : HoldsFault old.held kernel read.NotBuilt → status ≡ KERNEL_REFUSED → text ≡ not_built_text → new ≡ old → RunDue rose kernel dir size old new status text
+  not_built : HoldsOther old.held kernel → status ≡ KERNEL_REFUSED → text ≡ not_built_text → new ≡ old → RunDue rose kernel dir size old new status text
   index_there : (program : Program) → HoldsKernel old.held kernel program → IsSome (old.held (index_name dir)) → status ≡ INDEX_THERE
       → text ≡ index_exists_text → new ≡ old → RunDue rose kernel dir size old new status text
   stopped : (program : Program) → HoldsKernel old.held kernel program → old.held (index_name dir) ≡ None → status ≡ KERNEL_STOPPED
@@ -97,7 +106,7 @@ pub data EndLeaves (rose : Type 0) (program : Program) (dir : List ℕ) (size : 
   nothing : new ≡ old → EndLeaves rose program dir size old new
   logs : (logs : List HandedLog) → AreRunLogs rose program dir size logs → SealsPrefix logs old new → new.held (index_name dir) ≡ old.held (index_name dir)
       → EndLeaves rose program dir size old new
-  index : (tasks : Trace) → IsRun program tasks → (prefix rest : List ℕ) → index_bytes (rows_of tasks) ≡ prefix ++ rest
+  index : (tasks : Trace) → IsRun program tasks → (prefix rest : List ℕ) → index_bytes FORMAT (rows_of tasks) ≡ prefix ++ rest
       → new ≡ with_put (index_name dir) prefix (with_sealed (map (told_log dir size) tasks) old) → EndLeaves rose program dir size old new
 
 -- What `run` leaves that could not give its answer: the folder as it was; or, of a kernel that the file holds and a folder that had

@@ -6,8 +6,8 @@ use Rattle.sw_base.specs.declared.path.Step.{Step}
 use Rattle.sw_base.specs.Names.{bare_log_name}
 use Rattle.race_model.specs.Trace.{TaskLog, Trace}
 use Rattle.kernel_syntax.specs.declared.syntax.Array.{Array}
-use Rattle.kernel_reader.specs.declared.fault.KernelWhy.{KernelWhy}
-use Rattle.kernel_reader.specs.declared.fault.KernelWhy.TheVariants as why
+use Rattle.kernel_text.specs.declared.fault.KernelWhy.{KernelWhy}
+use Rattle.kernel_text.specs.declared.fault.KernelWhy.TheVariants as why
 use Rattle.kernel_model.specs.State.{Stop, DivZero, Index, LogFull}
 
 abbrev pub no_kernel_text : List ℕ

@@ -1,5 +1,6 @@
 -- What sealing the logs of a run does to a folder.
 use Rattle.std.specs.Prelude.{◌≡◌, ℕ, List, ◌++◌, map, All, Option, Some, true, Result, OnOk}
+use Rattle.log_format.specs.declared.format.TheConstants.{FORMAT}
 use Rattle.sw_base.specs.declared.path.Step.{Step}
 use Rattle.sw_base.specs.declared.trouble.Trouble.{Trouble}
 use Rattle.sw_base.specs.Environment.{Content, Text, with_put}
@@ -49,12 +50,12 @@ with_index dir logs bytes content = with_put (index_name dir) bytes (with_sealed
 -- Storing a run was refused: the first of its logs are sealed; or all are, and a prefix of the index is there.
 pub data StoresPart (dir : List ℕ) (logs : List HandedLog) (old new : Content) : Type 0 where
   part : SealsPrefix logs old new → StoresPart dir logs old new
-  prefix : (prefix rest : List ℕ) → index_bytes (rows_of_logs logs) ≡ prefix ++ rest → new ≡ with_index dir logs prefix old → StoresPart dir logs old new
+  prefix : (prefix rest : List ℕ) → index_bytes FORMAT (rows_of_logs logs) ≡ prefix ++ rest → new ≡ with_index dir logs prefix old → StoresPart dir logs old new
 
 -- a run was stored in a folder that may tell
 abbrev pub StoresAll : List ℕ → List HandedLog → Option Content → Option Content → Type 0
 StoresAll dir logs old new =
-    (c : Content) → AllTell dir logs → old ≡ Some c → new ≡ Some (with_index dir logs (index_bytes (rows_of_logs logs)) c)
+    (c : Content) → AllTell dir logs → old ≡ Some c → new ≡ Some (with_index dir logs (index_bytes FORMAT (rows_of_logs logs)) c)
 
 -- or refused
 abbrev pub StoresPrefix : List ℕ → List HandedLog → Option Content → Option Content → Type 0

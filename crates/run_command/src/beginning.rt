@@ -11,10 +11,12 @@ ghost use Rattle.run_command.specs.declared.beginning.Refusal.TheVariants as ref
 ghost use Rattle.sw_base.specs.declared.trouble.Trouble.TheVariants as trouble;
 ghost use Rattle.command_answer.specs.declared.status.TheConstants.{USAGE, READ_FAULT, WRITE_FAULT};
 
+use crate::first_kind::is_first_kind;
 use crate::run_texts::{refused, why_name};
 use command_answer::{INDEX_THERE, KERNEL_REFUSED, NO_MEMORY, READ_FAULT, print};
-use kernel_reader::{KernelWhy, ReadKernelFault, read_kernel};
+use kernel_reader::{ReadKernelFault, read_kernel};
 use kernel_syntax::Kernel;
+use kernel_text::KernelWhy;
 use std::alloc::Global;
 use sw_base::{Folder, Memory, Out, Trouble, index_name, read_file};
 
@@ -31,7 +33,7 @@ pub enum Refusal {
     NoKernel,
     /// The file's text is no kernel, first for this reason at this line.
     Refused { line: u32, why: KernelWhy },
-    /// It is a kernel by the grammar, but the file holds none of the first kind.
+    /// The file holds a kernel, but none of the first kind.
     NotBuilt,
     /// The folder has an index.
     IndexThere,
@@ -59,7 +61,6 @@ impl From<ReadKernelFault> for Refusal {
     fn from(fault: ReadKernelFault) -> Self {
         match fault {
             ReadKernelFault::Refused { line, why } => Refusal::Refused { line, why },
-            ReadKernelFault::NotBuilt => Refusal::NotBuilt,
             ReadKernelFault::Memory => Refusal::Trouble(Trouble::Memory),
         }
     }
@@ -98,6 +99,9 @@ pub fn begin<F: Folder>(
         return Err(Refusal::NoKernel);
     };
     let kernel = read_kernel(alloc, &text)?;
+    if !is_first_kind(&kernel) {
+        return Err(Refusal::NotBuilt);
+    }
     let index = index_name(alloc, dir)?;
     match folder.size(alloc, &index)? {
         Some(_) => Err(Refusal::IndexThere),

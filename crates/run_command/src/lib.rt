@@ -6,6 +6,7 @@
 #![tactic(auto)]
 
 mod beginning;
+mod first_kind;
 mod run_texts;
 mod running;
 mod sealing;

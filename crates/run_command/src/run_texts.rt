@@ -6,8 +6,8 @@ ghost use Rattle.race_model.specs.Trace.{Trace};
 ghost use Rattle.kernel_syntax.specs.Layout.{ArePlaced};
 ghost use Rattle.run_command.specs.RunTexts.{count_lines, refused_line, run_text, stop_line, sum_line, sum_of, values_of, why_name};
 
-use kernel_reader::KernelWhy;
 use kernel_syntax::Array;
+use kernel_text::KernelWhy;
 use log_index::Row;
 use std::alloc::Global;
 use sw_base::{Memory, Path};

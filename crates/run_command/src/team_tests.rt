@@ -1,8 +1,12 @@
 //! Runs of small kernels: how their logs are cut, which stop is answered, calls on each log that fail, and what
 //! the gate sees.
-ghost use Rattle.team_runner.specs.Ready.{IsBufferSize};
+ghost use Rattle.std.specs.Prelude.{IfOk};
+ghost use Rattle.kernel_syntax.specs.Program.{program_of};
+ghost use Rattle.team_runner.specs.Ready.{IsBufferSize, IsReady};
 
+use crate::first_kind::is_first_kind;
 use kernel_reader::read_kernel;
+use kernel_syntax::Kernel;
 use std::alloc::Global;
 use std::process::Abort;
 use std::sync::atomic::{AtomicU64, Ordering};
@@ -68,6 +72,21 @@ for i in 0 .. 2 static 1 { a[i] = a[i] + 1
 } }
 ";
 
+const LEFT: Stop = Stop::Index { line: 3 };
+
+const DIVIDED: Stop = Stop::DivZero { line: 4 };
+
+// The kernel of a text, which can be run.
+fn kernel_of(alloc: Global, text: &str) -> Result<Kernel, Fail>
+    ensures { IfOk result (λ k. IsReady (program_of k)) }
+{
+    let kernel = read_kernel(alloc, text.as_bytes())?;
+    if !is_first_kind(&kernel) {
+        return Err(Fail::from("another kind"));
+    }
+    Ok(kernel)
+}
+
 // Runs the kernel of a text, where these calls on the log of this task are to fail.
 fn run_failing(
     alloc: Global,
@@ -78,7 +97,7 @@ fn run_failing(
 ) -> Result<Result<Finished<MemLog>, Stopped<MemLog>>, Fail>
     requires { IsBufferSize size }
 {
-    let kernel = read_kernel(alloc, text.as_bytes())?;
+    let kernel = kernel_of(alloc, text)?;
     let mut folder = MemFolder::new(alloc)?;
     folder.fail_log(path, calls)?;
     let root = folder.root(alloc, "d")?;
@@ -178,34 +197,16 @@ fn the_least_lane_that_stopped_is_answered(rt: HostRuntime) -> Result<(), Fail> 
     let alloc = rt.alloc();
     // Lane 0 waits at its barrier where there is one, and has no End then.
     let table: [(&str, &str, Stop, [u32; 2], &[u64]); 4] = [
-        (
-            LEAVING,
-            "t-0.1.swl",
-            Stop::Index { line: 3 },
-            [5, 2],
-            &[1, 1, 1, 1, 1, 1],
-        ),
+        (LEAVING, "t-0.1.swl", LEFT, [5, 2], &[1, 1, 1, 1, 1, 1]),
         (
             LEAVING_UNBARRED,
             "t-0.1.swl",
-            Stop::Index { line: 3 },
+            LEFT,
             [5, 2],
             &[1, 1, 1, 1, 1, 1],
         ),
-        (
-            BOTH_LEAVING,
-            "t-0.0.swl",
-            Stop::Index { line: 3 },
-            [2, 0],
-            &[1, 1],
-        ),
-        (
-            DIVIDING,
-            "t-0.1.swl",
-            Stop::DivZero { line: 4 },
-            [3, 1],
-            &[u64::MAX, 0],
-        ),
+        (BOTH_LEAVING, "t-0.0.swl", LEFT, [2, 0], &[1, 1]),
+        (DIVIDING, "t-0.1.swl", DIVIDED, [3, 1], &[u64::MAX, 0]),
     ];
     for (text, name, why, [first, second], words) in table {
         let stopped = run(alloc, text, 4096)?.err().ok_or("ended")?;
@@ -341,7 +342,7 @@ fn the_gate_sees_each_lane_start_each_phase(rt: HostRuntime) -> Result<(), Fail>
         (LEAVING_UNBARRED, [1, 1]),
     ];
     for (text, phases) in table {
-        let kernel = read_kernel(alloc, text.as_bytes())?;
+        let kernel = kernel_of(alloc, text)?;
         let gate = CountingGate {
             lanes: [AtomicU64::new(0), AtomicU64::new(0)],
             others: AtomicU64::new(0),

@@ -2,7 +2,7 @@
 use Rattle.std.proofs.Common.{◌≡◌, ℕ, ◌≤◌, ◌<◌, List, [], ◌∷◌, length, String, string_bytes, get_or, sym, subst, ◌∙◌, arith}
 use Rattle.std.specs.declared.alloc.Global.{Global}
 use Rattle.std.proofs.lemmas.Fmt.{decimal_injective}
-use Rattle.sword.specs.Arguments.{texts, SaysCheck, SaysRun, SaysShow}
+use Rattle.sword.specs.Arguments.{texts, SaysCheck, SaysGen, SaysRun, SaysShow}
 
 pub texts-three : (arguments : List (String Global)) (a b c : String Global) → 3 ≤ length arguments → length arguments < 4 → a ≡ get_or arguments 0 a → b ≡ get_or arguments 1 b → c ≡ get_or arguments 2 c
     → texts arguments ≡ string_bytes a ∷ string_bytes b ∷ string_bytes c ∷ []
@@ -49,3 +49,12 @@ same_run P arguments kernel dir other_kernel other_dir size other_size a b holds
     let dir_is : dir ≡ other_dir = cc both in
     let size_is = decimal_injective size other_size (omega arith) (omega arith) (sym a.size_is.digits ∙ number ∙ b.size_is.digits) in
     subst (λ (k : List ℕ). P k other_dir other_size) kernel_is (subst (λ (d : List ℕ). P kernel d other_size) dir_is (subst (P kernel dir) size_is holds))
+
+-- arguments that ask for a generated run name one number of rounds
+pub same_gen : (arguments : List (List ℕ)) (rounds other_rounds workers other_workers : ℕ) → SaysGen arguments rounds workers → SaysGen arguments other_rounds other_workers → rounds ≡ other_rounds
+same_gen arguments rounds other_rounds workers other_workers a b =
+    let both = sym a.are ∙ b.are in
+    let number : a.rounds_number ≡ b.rounds_number = cc both in
+    let most = a.rounds_are.most in
+    let other_most = b.rounds_are.most in
+    decimal_injective rounds other_rounds (omega arith) (omega arith) (sym a.rounds_are.digits ∙ number ∙ b.rounds_are.digits)

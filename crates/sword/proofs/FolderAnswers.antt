@@ -1,5 +1,6 @@
 -- The answer for a folder, by that for its run or its first bad place; and the one to arguments that ask for nothing.
 use Rattle.std.proofs.Common.{◌≡◌, ℕ, List, Option, sym, ◌∙◌}
+use Rattle.log_format.specs.declared.format.TheConstants.{FORMAT}
 use Rattle.sw_base.specs.Environment.{Files}
 use Rattle.race_model.specs.Trace.{Trace}
 use Rattle.race_model.specs.FirstBad.{HoldsTrace}
@@ -10,7 +11,7 @@ use Rattle.sword.specs.Check.{FolderDue, refused, answered, IsRefusedFolder}
 use Rattle.sword.specs.Arguments.{UsageDue}
 
 -- the answer for the run of a folder is the folder's
-pub answered_of : (answer : Trace → ℕ → List ℕ → Type 0) (files : Files) (dir : List ℕ) (trace : Trace) → IsWellFormed files dir → HoldsTrace files dir trace
+pub answered_of : (answer : Trace → ℕ → List ℕ → Type 0) (files : Files) (dir : List ℕ) (trace : Trace) → IsWellFormed FORMAT files dir → HoldsTrace FORMAT files dir trace
     → (old new : Option (List ℕ)) (result : ℕ) → Tries (answer trace) old new result → Tries (FolderDue answer files dir) old new result
 answered_of answer files dir trace good holds old new result = Tries-weaker (answer trace) (FolderDue answer files dir) old new result (λ status text is. answered trace good holds is)
 

@@ -1,4 +1,6 @@
 pub mod ArgumentLists
-pub mod Lines
 pub mod FolderAnswers
+pub mod OneSummary
 pub mod OneAnswer
+pub mod Sweeping
+pub mod Listed

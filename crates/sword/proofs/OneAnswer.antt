@@ -70,8 +70,8 @@ same_lists (p ∷ ps) (q ∷ qs) up uq there back = let rest : ps ≡ qs = same_
       | inr later ↦ later
     ]
 
-Lists-once : (P : ℕ × ℕ → Type 0) (ps qs : List (ℕ × ℕ)) → Lists P ps → Lists P qs → ps ≡ qs
-Lists-once P ps qs one other = same_lists ps qs one.ascending other.ascending (λ p h. (other.each p).1 ((one.each p).0 h)) (λ p h. (one.each p).1 ((other.each p).0 h))
+pub one_list : (P : ℕ × ℕ → Type 0) (ps qs : List (ℕ × ℕ)) → Lists P ps → Lists P qs → ps ≡ qs
+one_list P ps qs one other = same_lists ps qs one.ascending other.ascending (λ p h. (other.each p).1 ((one.each p).0 h)) (λ p h. (one.each p).1 ((other.each p).0 h))
 
 names_once : (files : Files) (dir : List ℕ) (row : ℕ) (text_of : List Step → List ℕ) (t u : List ℕ) → NamesLog files dir row text_of t → NamesLog files dir row text_of u → t ≡ u
 names_once files dir row text_of t u (p, is_p, t_is) (q, is_q, u_is) = t_is ∙ ap text_of (row_task_once files dir p q row is_p is_q) ∙ sym u_is
@@ -97,7 +97,7 @@ due_once answer once files dir s r t u (answered one _ one_holds a) (answered ot
     once other s r t u (subst (λ (trace : Trace). answer trace s t) (trace_once files dir one other one_holds other_holds) a) b
 
 report_once : (trace : Trace) (s r : ℕ) (t u : List ℕ) → HasReport trace s t → HasReport trace r u → t ≡ u
-report_once trace s r t u a b = a.text_is ∙ ap report_text (Lists-once (IsRacePair (logs_of trace)) a.pairs b.pairs a.races b.races) ∙ sym b.text_is
+report_once trace s r t u a b = a.text_is ∙ ap report_text (one_list (IsRacePair (logs_of trace)) a.pairs b.pairs a.races b.races) ∙ sym b.text_is
 
 records_once : (trace : Trace) (s r : ℕ) (t u : List ℕ) → ShowsRecords trace s t → ShowsRecords trace r u → t ≡ u
 records_once trace s r t u a b = a.text_is ∙ sym b.text_is

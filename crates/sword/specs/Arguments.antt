@@ -11,6 +11,7 @@ pub data Request : Type 0 where
   check : (dir : List ℕ) → (workers : ℕ) → Request
   run : (kernel dir : List ℕ) → (size : ℕ) → Request
   show : (dir : List ℕ) → Request
+  gen : (rounds workers : ℕ) → Request
 
 -- a word that names a folder or a file has 1 to 1,024 bytes
 pub record IsName (word : List ℕ) : Type 0 where
@@ -55,11 +56,19 @@ pub record SaysShow (arguments : List (List ℕ)) (dir : List ℕ) : Type 0 wher
   pub are : arguments ≡ codes "show" ∷ dir ∷ []
   pub dir_is : IsName dir
 
+pub record SaysGen (arguments : List (List ℕ)) (rounds workers : ℕ) : Type 0 where
+  pub rounds_number : List ℕ
+  pub workers_number : List ℕ
+  pub are : arguments ≡ codes "gen" ∷ rounds_number ∷ workers_number ∷ []
+  pub rounds_are : IsNumber rounds_number 1 100000 rounds
+  pub workers_are : IsNumber workers_number 1 64 workers
+
 -- the arguments ask for it
 abbrev pub Says : List (List ℕ) → Request → Type 0
 Says arguments (check dir workers) = SaysCheck arguments dir workers
 Says arguments (run kernel dir size) = SaysRun arguments kernel dir size
 Says arguments (show dir) = SaysShow arguments dir
+Says arguments (gen rounds workers) = SaysGen arguments rounds workers
 
 -- the arguments ask for nothing
 abbrev pub IsUsage : List (List ℕ) → Type 0

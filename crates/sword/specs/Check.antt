@@ -1,7 +1,8 @@
 -- What `check` answers: the first bad place of the folder, or the race pairs of the run that it holds.
-use Rattle.std.specs.Prelude.{◌≡◌, ℕ, List, [], ◌∷◌}
+use Rattle.std.specs.Prelude.{◌≡◌, ℕ, List, [], ◌∷◌, Option}
+use Rattle.log_format.specs.declared.format.TheConstants.{FORMAT}
 use Rattle.sw_base.specs.declared.path.Step.{Step}
-use Rattle.sw_base.specs.Environment.{Files}
+use Rattle.sw_base.specs.Environment.{Files, Content, WhereTold}
 use Rattle.race_model.specs.BadPlace.{BadPlace, no_index, bad_row, missing_log, bad_record, too_many_segments}
 use Rattle.race_model.specs.FirstBad.{IsFirstBad, HoldsTrace}
 use Rattle.race_model.specs.WellFormed.{IsWellFormed}
@@ -19,7 +20,7 @@ report_status (pair ∷ pairs) = RACES
 
 -- a text that names the log of a row of the folder's index
 abbrev pub NamesLog : Files → List ℕ → ℕ → (List Step → List ℕ) → List ℕ → Type 0
-NamesLog files dir row text_of text = (path : List Step) × IsLogRow files dir path row × (text ≡ text_of path)
+NamesLog files dir row text_of text = (path : List Step) × IsLogRow FORMAT files dir path row × (text ≡ text_of path)
 
 -- the text for a bad place
 abbrev pub IsPlaceText : Files → List ℕ → BadPlace → List ℕ → Type 0
@@ -32,14 +33,14 @@ IsPlaceText files dir (too_many_segments row n) text = NamesLog files dir row (�
 -- the folder is refused at its first bad place
 pub record IsRefusedFolder (files : Files) (dir : List ℕ) (status : ℕ) (text : List ℕ) : Type 0 where
   pub place : BadPlace
-  pub first : IsFirstBad files dir place
+  pub first : IsFirstBad FORMAT files dir place
   pub names : IsPlaceText files dir place text
   pub status_is : status ≡ FOLDER_REFUSED
 
 -- what is due of a command that reads the run of a folder: the first bad place, or the command's answer for the run
 pub data FolderDue (answer : Trace → ℕ → List ℕ → Type 0) (files : Files) (dir : List ℕ) (status : ℕ) (text : List ℕ) : Type 0 where
   refused : IsRefusedFolder files dir status text → FolderDue answer files dir status text
-  answered : (trace : Trace) → IsWellFormed files dir → HoldsTrace files dir trace → answer trace status text → FolderDue answer files dir status text
+  answered : (trace : Trace) → IsWellFormed FORMAT files dir → HoldsTrace FORMAT files dir trace → answer trace status text → FolderDue answer files dir status text
 
 -- the report of the race pairs of a run
 pub record HasReport (trace : Trace) (status : ℕ) (text : List ℕ) : Type 0 where
@@ -47,3 +48,10 @@ pub record HasReport (trace : Trace) (status : ℕ) (text : List ℕ) : Type 0 w
   pub races : Lists (IsRacePair (logs_of trace)) pairs
   pub text_is : text ≡ report_text pairs
   pub status_is : status ≡ report_status pairs
+
+-- the pairs are the race pairs of the run that the folder holds, where it tells what it holds
+pub record AreFolderPairs (told : Option Content) (dir : List ℕ) (pairs : List (ℕ × ℕ)) : Type 0 where
+  pub trace : Trace
+  pub holds : WhereTold told (λ c. HoldsTrace FORMAT c.held dir trace)
+  pub well_formed : WhereTold told (λ c. IsWellFormed FORMAT c.held dir)
+  pub races : Lists (IsRacePair (logs_of trace)) pairs

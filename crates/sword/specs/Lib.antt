@@ -3,3 +3,4 @@ pub mod Commands
 pub mod Show
 pub mod Texts
 pub mod Arguments
+pub mod Gen

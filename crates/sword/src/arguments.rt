@@ -23,6 +23,11 @@ pub enum Command<'a> {
     Show {
         dir: &'a str,
     },
+    /// Compare the accesses of a run of so many rounds, with so many workers.
+    Gen {
+        rounds: u64,
+        workers: u64,
+    },
 }
 
 /// What the arguments ask for. `None` where they ask for nothing.
@@ -34,8 +39,8 @@ pub fn read_arguments<'a>(
     ensures usage { IfOk result (λ asked. IfNone asked (IsUsage (texts arguments.now))) }
 {
     match arguments {
-        [name, dir, workers] if name.as_str() == "check" => {
-            check_arguments(alloc, dir.as_str(), workers.as_str())
+        [name, first, second] => {
+            two_arguments(alloc, name.as_str(), first.as_str(), second.as_str())
         }
         [name, kernel, dir, size] if name.as_str() == "run" => {
             run_arguments(alloc, kernel.as_str(), dir.as_str(), size.as_str())
@@ -84,6 +89,39 @@ fn run_arguments<'a>(
     }
     let size = number(alloc, size, 24, 4_194_304)?;
     Ok(size.map(|size| Command::Run { kernel, dir, size }))
+}
+
+fn two_arguments<'a>(
+    alloc: Global,
+    name: &str,
+    first: &'a str,
+    second: &str,
+) -> Result<Option<Command<'a>>, AllocError>
+    ensures said { IfOk result (λ asked. IfSome asked (λ c. Says (name.now ∷ first.now ∷ second.now ∷ []) (request_of c))) }
+    ensures usage { IfOk result (λ asked. IfNone asked (IsUsage (name.now ∷ first.now ∷ second.now ∷ []))) }
+{
+    if name == "check" {
+        return check_arguments(alloc, first, second);
+    }
+    if name == "gen" {
+        return gen_arguments(alloc, first, second);
+    }
+    Ok(None)
+}
+
+fn gen_arguments<'a>(
+    alloc: Global,
+    rounds: &str,
+    workers: &str,
+) -> Result<Option<Command<'a>>, AllocError>
+    ensures said { IfOk result (λ asked. IfSome asked (λ c. Says (codes "gen" ∷ rounds.now ∷ workers.now ∷ []) (request_of c))) }
+    ensures usage { IfOk result (λ asked. IfNone asked (IsUsage (codes "gen" ∷ rounds.now ∷ workers.now ∷ []))) }
+{
+    let Some(rounds) = number(alloc, rounds, 1, 100_000)? else {
+        return Ok(None);
+    };
+    let workers = number(alloc, workers, 1, 64)?;
+    Ok(workers.map(|workers| Command::Gen { rounds, workers }))
 }
 
 fn is_name(word: &str) -> bool

@@ -360,7 +360,16 @@ fn races_are_those_of_a_search_of_the_graph(rt: HostRuntime) -> Result<(), Fail>
         let pairs = race_pairs(alloc, &nodes)?;
         let text = report(alloc, &pairs)?;
         let mut folder = folder_of(alloc, &tasks)?;
-        answers(&rt, alloc, &mut folder, &["check", "d", "2"], RACES, &text)?;
+        for workers in ["1", "2", "3", "7", "64"] {
+            answers(
+                &rt,
+                alloc,
+                &mut folder,
+                &["check", "d", workers],
+                RACES,
+                &text,
+            )?;
+        }
     }
     Ok(())
 }

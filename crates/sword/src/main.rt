@@ -9,8 +9,10 @@ ghost use Rattle.std.specs.Process.{exit_status};
 
 mod arguments;
 mod checking;
+mod generating;
 mod host;
 mod printing;
+mod refusing;
 mod showing;
 mod texts;
 mod top;
@@ -21,10 +23,10 @@ use std::alloc::AllocError;
 use std::env;
 use std::io::ErrorKind;
 use std::process::ExitCode;
-use std::thread::Builder;
+use std::thread::{Builder, Threads};
 use sw_base::NoGate;
 
-/// How many bytes the stack has. An expression may be nearly as deep as its kernel's text is long, and calls on it are as deep.
+/// How many bytes the stack has. An expression may be nearly as deep as its kernel's text is long, and so are the calls that compute it.
 const STACK: usize = 1 << 28;
 
 /// The arguments after the program's name. Where one of them isn't UTF-8 they ask for nothing, and so none is answered.
@@ -49,35 +51,41 @@ fn exit_code(status: u8) -> ExitCode
     ExitCode::from(status)
 }
 
-/// Does what the arguments ask for.
-fn work(rt: HostRuntime) -> ExitCode {
+/// Does what the arguments ask for. Threads are started by the first runtime.
+fn work<R: Threads + Sync>(threads: &R, rt: HostRuntime) -> ExitCode {
     let alloc = rt.alloc();
     let Ok(arguments) = given_arguments(&rt) else {
         return exit_code(NO_MEMORY);
     };
     let mut folder = HostFolder::new(rt);
     let mut out = HostOut::new(rt);
-    exit_code(top::sword(&rt, alloc, &arguments, &mut folder, &mut out, &NoGate))
+    exit_code(top::sword(threads, alloc, &arguments, &mut folder, &mut out, &NoGate))
 }
 
 /// On a stack of its own, or on this one where no thread can be started.
 fn main(rt: HostRuntime) -> ExitCode {
     match Builder::new()
         .stack_size(STACK)
-        .spawn(&rt, move || work(rt))
+        .spawn(&rt, move || work(&rt, rt))
     {
         Ok(thread) => thread.join(&rt),
-        Err(_) => work(rt),
+        Err(_) => work(&rt, rt),
     }
 }
 
 #[cfg(test)]
 mod example_tests;
 #[cfg(test)]
+mod generated_tests;
+#[cfg(test)]
 mod graph_tests;
 #[cfg(test)]
 mod run_tests;
 #[cfg(test)]
+mod sweep_tests;
+#[cfg(test)]
 mod tests;
 #[cfg(test)]
 mod text_tests;
+#[cfg(test)]
+mod worker_tests;

@@ -7,7 +7,7 @@ use command_answer::{
 use std::alloc::Global;
 use std::process::Abort;
 use std::test::Fail;
-use std::thread::Builder;
+use std::thread::{Builder, Threads};
 use sw_base::{MemFolder, MemOut, NoGate, Path};
 
 // Each lane adds 1 to every other element.
@@ -48,7 +48,7 @@ fn holding(alloc: Global, kernel: &str) -> Result<MemFolder, Fail> {
 }
 
 // A folder in which this kernel ran and printed the text.
-fn after<R: Abort>(
+fn after<R: Abort + Threads + Sync>(
     rt: &R,
     alloc: Global,
     kernel: &str,
@@ -68,7 +68,12 @@ fn after<R: Abort>(
     Ok(folder)
 }
 
-fn show<R: Abort>(rt: &R, alloc: Global, folder: &mut MemFolder, text: &str) -> Result<(), Fail> {
+fn show<R: Abort + Threads + Sync>(
+    rt: &R,
+    alloc: Global,
+    folder: &mut MemFolder,
+    text: &str,
+) -> Result<(), Fail> {
     answers(rt, alloc, folder, &["show", "d"], DONE, text)
 }
 
@@ -126,15 +131,16 @@ fn a_run_races_where_lanes_share_an_element(rt: HostRuntime) -> Result<(), Fail>
         (SHIFT_ON, "tasks 3\nrecords 20\nsum a 0\n"),
     ] {
         let mut folder = after(&rt, alloc, kernel, "4096", DONE, text)?;
-        let check = ["check", "d", "2"];
-        answers(
-            &rt,
-            alloc,
-            &mut folder,
-            &check,
-            RACES,
-            "race 3 3\nraces 1\n",
-        )?;
+        for workers in ["1", "2", "3", "64"] {
+            answers(
+                &rt,
+                alloc,
+                &mut folder,
+                &["check", "d", workers],
+                RACES,
+                "race 3 3\nraces 1\n",
+            )?;
+        }
     }
     Ok(())
 }
@@ -301,7 +307,7 @@ fn each_text_of_a_run_may_fail(rt: HostRuntime) -> Result<(), Fail> {
 }
 
 // Whether a sum that is nearly as deep as its text is long is run; `None` where no memory was found.
-fn long_sum_is_run(rt: HostRuntime) -> Option<bool> {
+fn long_sum_is_run<R: AllocGlobal + Threads + Sync + Drop>(rt: R) -> Option<bool> {
     let alloc = rt.alloc();
     let begin = "array a i64 1 main { parallel 1 { for i in 0 .. 1 { a[0] = 1";
     let mut kernel = String::from_str(alloc, begin).ok()?;

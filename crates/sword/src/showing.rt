@@ -1,121 +1,65 @@
-//! `show` prints every record of a folder.
-ghost use Rattle.std.specs.Prelude.{◌≡◌, map, IfOk, OnOk, OnErr, string_bytes};
-ghost use Rattle.sw_base.specs.Environment.{HasCause, GainsPrefix, gained};
-ghost use Rattle.log_segment.specs.Intervals.{task_of};
-ghost use Rattle.sword.specs.Show.{site_text, access_text, record_text, record_line, log_line, log_text, records_text, show_text};
+//! `show`: every record of a folder.
+ghost use Rattle.std.specs.Prelude.{◌≡◌, ◌≤◌, List, Ok, IfOk, IfErr, OnOk, IsErrOf};
+ghost use Rattle.log_format.specs.declared.format.TheConstants.{FORMAT};
+ghost use Rattle.sw_base.specs.Environment.{Rose, WhereTold};
+ghost use Rattle.race_model.specs.Trace.{Trace};
+ghost use Rattle.log_walk.specs.Sweep.{HasSweptAll};
+ghost use Rattle.log_walk.specs.Walk.{TellsFirstBad};
+ghost use Rattle.command_answer.specs.Answer.{Answers, IsFailure};
+ghost use Rattle.command_answer.specs.declared.status.TheConstants.{DONE, USAGE, READ_FAULT, WRITE_FAULT};
+ghost use Rattle.log_listing.specs.declared.unlisted.Unlisted.TheVariants as why;
+ghost use Rattle.sword.specs.Check.{FolderDue};
+ghost use Rattle.sword.specs.Show.{ShowsRecords};
 
-use log_format::{Kind, Record};
-use log_segment::TaskRecords;
+use crate::refusing::refuse;
+use command_answer::{DONE, NO_MEMORY, READ_FAULT, WRITE_FAULT};
+use log_listing::{Unlisted, list};
+use log_walk::{Sweep, WalkFault};
 use std::alloc::Global;
-use sw_base::{Memory, Out, Path, Trouble};
+use sw_base::{Folder, Out};
 
-fn site_part(alloc: Global, r: &Record) -> Result<String, Memory>
-    ensures { IfOk result (λ text. string_bytes text ≡ site_text r.now) }
+/// Sweeps through a folder for its first bad place. Segments are dropped.
+fn swept<F: Folder>(alloc: Global, folder: &mut F, dir: &str) -> Result<Sweep, WalkFault>
+    ensures all { IfOk result (λ sweep. (trace : Trace) × HasSweptAll FORMAT (F.content folder.old) dir.now sweep trace) }
+    ensures refused { IfErr result (λ e. WhereTold (F.content folder.old) (λ c. TellsFirstBad FORMAT c.held dir.now e)) }
+
+    ensures same { F.content folder.new ≡ F.content folder.old }
+    ensures later { F.read_faults folder.old ≤ F.read_faults folder.new }
+    ensures cause { IsErrOf result WalkFault.ReadFault → Rose (F.read_faults folder.old) (F.read_faults folder.new) }
+    ensures same_writes { F.write_faults folder.new ≡ F.write_faults folder.old }
 {
-    let size = r.size;
-    let site = r.site;
-    let line = r.line;
-    Ok(format!(in alloc; "{size} site {site} line {line}")?)
+    let (mut sweep, _root) = Sweep::open(alloc, folder, dir)?;
+    'regions: while let Some(_segments) = sweep.next(alloc, folder)? {}
+    Ok(sweep)
 }
 
-fn access_part(alloc: Global, r: &Record) -> Result<String, Memory>
-    ensures { IfOk result (λ text. string_bytes text ≡ access_text r.now) }
+/// The status of a listing.
+fn status_of(outcome: Result<(), Unlisted>) -> u8
+    ensures done { OnOk outcome (result ≡ DONE) }
+    ensures failed { IfErr outcome (λ _. IsFailure result) }
+    ensures read_fault { result ≡ READ_FAULT → IsErrOf outcome why.ReadFault }
+    ensures write_fault { result ≡ WRITE_FAULT → IsErrOf outcome why.WriteFault }
+    ensures no_usage { result ≡ USAGE → ⊥ }
 {
-    let place = site_part(alloc, r)?;
-    let addr = r.addr;
-    let value = r.value.cast_signed();
-    Ok(format!(in alloc; "{place} addr {addr} value {value}")?)
-}
-
-fn record_part(alloc: Global, r: &Record) -> Result<String, Memory>
-    ensures { IfOk result (λ text. string_bytes text ≡ record_text r.now.kind r.now) }
-{
-    let line = r.line;
-    let addr = r.addr;
-    let value = r.value;
-    let text = match r.kind {
-        Kind::Read => format!(in alloc; "read {}", access_part(alloc, r)?)?,
-        Kind::Write => format!(in alloc; "write {}", access_part(alloc, r)?)?,
-        Kind::Lock => format!(in alloc; "lock {addr} line {line}")?,
-        Kind::Unlock => format!(in alloc; "unlock {addr} line {line}")?,
-        Kind::Barrier => format!(in alloc; "barrier line {line}")?,
-        Kind::Region => format!(in alloc; "region {value} line {line}")?,
-        Kind::Chunk => format!(in alloc; "chunk {addr} of {value} line {line}")?,
-        Kind::End => format!(in alloc; "end line {line}")?,
-    };
-    Ok(text)
-}
-
-fn line_of_record(alloc: Global, number: usize, r: &Record) -> Result<String, Memory>
-    ensures { IfOk result (λ text. string_bytes text ≡ record_line number r.now) }
-{
-    let part = record_part(alloc, r)?;
-    Ok(format!(in alloc; "{number} {part}\n")?)
-}
-
-fn line_of_log(alloc: Global, path: &Path, count: usize) -> Result<String, Memory>
-    ensures { IfOk result (λ text. string_bytes text ≡ log_line path.now count) }
-{
-    let name = path.bare_name(alloc)?;
-    Ok(format!(in alloc; "log {name} records {count}\n")?)
-}
-
-fn print_record<O: Out>(
-    alloc: Global,
-    out: &mut O,
-    number: usize,
-    r: &Record,
-) -> Result<(), Trouble>
-    ensures done { OnOk result (O.written out.new ≡ gained (O.written out.old) (record_line number r.now)) }
-    ensures refused { OnErr result (GainsPrefix (O.written out.old) (O.written out.new) (record_line number r.now)) }
-    ensures cause { HasCause (O.faults out.old) (O.faults out.new) result }
-{
-    let line = line_of_record(alloc, number, r)?;
-    out.append(alloc, line.as_bytes())
-}
-
-fn print_log<O: Out>(alloc: Global, out: &mut O, path: &Path, count: usize) -> Result<(), Trouble>
-    ensures done { OnOk result (O.written out.new ≡ gained (O.written out.old) (log_line path.now count)) }
-    ensures refused { OnErr result (GainsPrefix (O.written out.old) (O.written out.new) (log_line path.now count)) }
-    ensures cause { HasCause (O.faults out.old) (O.faults out.new) result }
-{
-    let line = line_of_log(alloc, path, count)?;
-    out.append(alloc, line.as_bytes())
-}
-
-fn print_records<O: Out>(alloc: Global, out: &mut O, records: &[Record]) -> Result<(), Trouble>
-    ensures done { OnOk result (O.written out.new ≡ gained (O.written out.old) (records_text records.now)) }
-    ensures refused { OnErr result (GainsPrefix (O.written out.old) (O.written out.new) (records_text records.now)) }
-    ensures cause { HasCause (O.faults out.old) (O.faults out.new) result }
-{
-    for (i, r) in records.iter().enumerate() {
-        print_record(alloc, out, i + 1, r)?;
+    match outcome {
+        Ok(()) => DONE,
+        Err(Unlisted::ReadFault) => READ_FAULT,
+        Err(Unlisted::WriteFault) => WRITE_FAULT,
+        Err(Unlisted::Memory) => NO_MEMORY,
     }
-    Ok(())
 }
 
-fn print_task<O: Out>(
-    alloc: Global,
-    out: &mut O,
-    path: &Path,
-    records: &[Record],
-) -> Result<(), Trouble>
-    ensures done { OnOk result (O.written out.new ≡ gained (O.written out.old) (log_text path.now records.now)) }
-    ensures refused { OnErr result (GainsPrefix (O.written out.old) (O.written out.new) (log_text path.now records.now)) }
-    ensures cause { HasCause (O.faults out.old) (O.faults out.new) result }
+/// Sweeps through the folder, and prints the records of its run, read once more.
+pub fn show<F: Folder, O: Out>(alloc: Global, folder: &mut F, out: &mut O, dir: &str) -> u8
+    ensures answers { WhereTold (F.content folder.old) (λ c. Answers (FolderDue ShowsRecords c.held dir.now) (O.written out.old) (O.written out.new) result) }
+    ensures read_fault { result ≡ READ_FAULT → Rose (F.read_faults folder.old) (F.read_faults folder.new) }
+    ensures write_fault { result ≡ WRITE_FAULT → Rose (O.faults out.old) (O.faults out.new) }
+    ensures same { F.content folder.new ≡ F.content folder.old }
+    ensures same_writes { F.write_faults folder.new ≡ F.write_faults folder.old }
+    ensures no_usage { result ≡ USAGE → ⊥ }
 {
-    print_log(alloc, out, path, records.len())?;
-    print_records(alloc, out, records)
-}
-
-/// Prints each log of a run, and each of its records, as a line.
-pub fn print_trace<O: Out>(alloc: Global, out: &mut O, tasks: &[TaskRecords]) -> Result<(), Trouble>
-    ensures done { OnOk result (O.written out.new ≡ gained (O.written out.old) (show_text (map task_of tasks.now))) }
-    ensures refused { OnErr result (GainsPrefix (O.written out.old) (O.written out.new) (show_text (map task_of tasks.now))) }
-    ensures cause { HasCause (O.faults out.old) (O.faults out.new) result }
-{
-    for task in tasks {
-        print_task(alloc, out, &task.path, task.records.as_slice())?;
+    match swept(alloc, folder, dir) {
+        Ok(sweep) => status_of(list(alloc, folder, out, dir, sweep.rows())),
+        Err(refused) => refuse(alloc, out, refused),
     }
-    Ok(())
 }

@@ -3,6 +3,7 @@ use command_answer::{DONE, FOLDER_REFUSED, RACES, READ_FAULT, USAGE, WRITE_FAULT
 use std::alloc::{AllocError, Global};
 use std::process::Abort;
 use std::test::Fail;
+use std::thread::Threads;
 use sw_base::{MemFolder, MemOut, NoGate};
 
 /// A record: kind, size, line, address and value. Its site is 1 where it reads, else 0.
@@ -92,7 +93,7 @@ pub fn arguments(alloc: Global, given: &[&str]) -> Result<Vec<String>, AllocErro
     Ok(all)
 }
 
-pub fn answers<R: Abort>(
+pub fn answers<R: Abort + Threads + Sync>(
     rt: &R,
     alloc: Global,
     folder: &mut MemFolder,
@@ -150,7 +151,16 @@ fn only_a_common_mutex_excludes(rt: HostRuntime) -> Result<(), Fail> {
                 ),
             ],
         )?;
-        answers(&rt, alloc, &mut folder, &["check", "d", "2"], status, text)?;
+        for workers in ["1", "2", "3", "64"] {
+            answers(
+                &rt,
+                alloc,
+                &mut folder,
+                &["check", "d", workers],
+                status,
+                text,
+            )?;
+        }
     }
     Ok(())
 }

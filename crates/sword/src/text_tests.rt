@@ -7,10 +7,16 @@ use command_answer::{DONE, FOLDER_REFUSED};
 use std::alloc::Global;
 use std::process::Abort;
 use std::test::Fail;
+use std::thread::Threads;
 use sw_base::MemFolder;
 
 // Of these tasks the folder is refused so.
-fn refused<R: Abort>(rt: &R, alloc: Global, tasks: &[Task<'_>], text: &str) -> Result<(), Fail> {
+fn refused<R: Abort + Threads + Sync>(
+    rt: &R,
+    alloc: Global,
+    tasks: &[Task<'_>],
+    text: &str,
+) -> Result<(), Fail> {
     let mut folder = made_folder(alloc, tasks)?;
     let check = ["check", "d", "2"];
     answers(rt, alloc, &mut folder, &check, FOLDER_REFUSED, text)

@@ -4,15 +4,19 @@ ghost use Rattle.sw_base.specs.Environment.{Rose, WhereTold};
 ghost use Rattle.command_answer.specs.Answer.{Answers, IsFailure, Tries};
 ghost use Rattle.sword.specs.Check.{FolderDue, HasReport};
 ghost use Rattle.run_command.specs.Run.{LeavesPart, RunDue};
+ghost use Rattle.sword.specs.Gen.{GenDue};
 ghost use Rattle.sword.specs.Show.{ShowsRecords};
-ghost use Rattle.sword.specs.Arguments.{AsksRun, BeginsRun, IsUsage, SaysCheck, SaysRun, SaysShow, UsageDue, texts};
+ghost use Rattle.sword.specs.Arguments.{AsksRun, BeginsRun, IsUsage, SaysCheck, SaysGen, SaysRun, SaysShow, UsageDue, texts};
 ghost use Rattle.command_answer.specs.declared.status.TheConstants.{USAGE, READ_FAULT, WRITE_FAULT};
 
 use crate::arguments::{Command, read_arguments};
-use crate::checking::{check, show};
+use crate::checking::check;
+use crate::generating::check_generated;
+use crate::showing::show;
 use command_answer::{NO_MEMORY, USAGE, print};
 use run_command::run;
 use std::alloc::Global;
+use std::thread::Threads;
 use sw_base::{Folder, Gate, Out};
 
 const USAGE_LINE: &[u8] =
@@ -20,9 +24,9 @@ const USAGE_LINE: &[u8] =
 
 /// Does what the arguments after the program's name ask for, and answers the status that the program ends with.
 ///
-/// The gate sees each lane of a run start each of its phases. The runtime is for lanes and workers in threads, which there are none of
-/// yet.
-pub fn sword<R, F: Folder, O: Out, G: Gate>(
+/// The gate sees each lane of a run start each of its phases, and each worker of a check or of `gen` start. The workers are threads of the
+/// runtime; lanes are none yet.
+pub fn sword<R: Threads + Sync, F: Folder, O: Out, G: Gate>(
     rt: &R,
     alloc: Global,
     arguments: &[String],
@@ -42,6 +46,9 @@ pub fn sword<R, F: Folder, O: Out, G: Gate>(
     // `show` answers the first bad place of the folder, or every record of the run that it holds.
     ensures show { (dir : List ℕ) → SaysShow (texts arguments.now) dir → WhereTold (F.content folder.old) (λ c.
         Answers (FolderDue ShowsRecords c.held dir) (O.written out.old) (O.written out.new) result) }
+
+    // `gen` answers how many accesses and barrier intervals the run of so many rounds has, and the line pairs of its races.
+    ensures gen_ { (rounds workers : ℕ) → SaysGen (texts arguments.now) rounds workers → Answers (GenDue rounds) (O.written out.old) (O.written out.new) result }
 
     // `run` answers that there is no kernel, or none of the first kind; that the folder has an index; where the kernel stopped; or
     // the counts of the run and some sums, whose logs and index are then there: those of the kernel's tasks, each with its whole trace
@@ -66,11 +73,16 @@ pub fn sword<R, F: Folder, O: Out, G: Gate>(
 {
     match read_arguments(alloc, arguments) {
         Ok(None) => print(alloc, out, USAGE_LINE, USAGE),
-        Ok(Some(Command::Check { dir, .. })) => check(alloc, folder, out, dir),
+        Ok(Some(Command::Check { dir, workers })) => {
+            check(rt, alloc, folder, out, gate, dir, workers as usize)
+        }
         Ok(Some(Command::Run { kernel, dir, size })) => {
             run(rt, alloc, kernel, dir, size as usize, folder, out, gate)
         }
         Ok(Some(Command::Show { dir })) => show(alloc, folder, out, dir),
+        Ok(Some(Command::Gen { rounds, workers })) => {
+            check_generated(rt, alloc, out, gate, rounds as u32, workers as usize)
+        }
         Err(_) => NO_MEMORY,
     }
 }

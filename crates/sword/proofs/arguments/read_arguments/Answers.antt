@@ -3,11 +3,12 @@ use Rattle.sword.proofs.ArgumentLists.{texts-four, texts-three, texts-two}
 use Rattle.sword.proofs.arguments.read_arguments.Goals as goal
 
 pub returns-in-len3-clause-said : goal.returns-in-len3-clause-said
-returns-in-len3-clause-said c = let three = texts-three c.args.arguments.now _ _ _ (omega arith) (omega arith) c.name-item-then-arguments-lt4.is c.dir-item-then-arguments-lt4.is c.workers-item.is in
-    let name : string_bytes c.name-item-then-arguments-lt4.result ≡ codes "check" = search rules in
-    let dir : string_bytes c.dir-item-then-arguments-lt4.result ≡ c.as_str-in-len3.result.now = search rules in
-    let workers : string_bytes c.workers-item.result ≡ c.as_str-in-len3-2.result.now = search rules in
-    rw (three, name, dir, workers) c.check_arguments.ensures.said
+returns-in-len3-clause-said c = let three = texts-three c.args.arguments.now _ _ _ (omega arith) (omega arith) c.name-item-then-arguments-lt4.is c.first-item.is c.second-item.is in
+    rw (three, ← c.as_str-in-len3.ensures.value, ← c.as_str-in-len3-2.ensures.value, ← c.as_str-in-len3-3.ensures.value) c.two_arguments.ensures.said
+
+pub returns-in-len3-clause-usage : goal.returns-in-len3-clause-usage
+returns-in-len3-clause-usage c = let three = texts-three c.args.arguments.now _ _ _ (omega arith) (omega arith) c.name-item-then-arguments-lt4.is c.first-item.is c.second-item.is in
+    rw (three, ← c.as_str-in-len3.ensures.value, ← c.as_str-in-len3-2.ensures.value, ← c.as_str-in-len3-3.ensures.value) c.two_arguments.ensures.usage
 
 pub returns-in-len2-clause-said : goal.returns-in-len2-clause-said
 returns-in-len2-clause-said c = let two = texts-two c.args.arguments.now _ _ (omega arith) (omega arith) c.name-item.is c.dir-item.is in

@@ -1,13 +1,15 @@
-use Rattle.std.proofs.Common.{refl, subst, List, ℕ}
+use Rattle.std.proofs.Common.{refl, inr, subst, List, ℕ}
 use Rattle.sw_base.specs.Environment.{Rose}
-use Rattle.command_answer.specs.Answer.{Answers, Tries}
+use Rattle.command_answer.specs.Answer.{Answers, Tries, silent}
 use Rattle.command_answer.proofs.Answering.{Answers-of, Tries-from_prints}
 use Rattle.sword.specs.Check.{FolderDue, HasReport}
 use Rattle.run_command.specs.Run.{LeavesPart, RunDue}
 use Rattle.sword.specs.Show.{ShowsRecords}
-use Rattle.sword.specs.Arguments.{UsageDue, check, run, show, texts}
+use Rattle.sword.specs.Arguments.{UsageDue, check, gen, run, show, texts}
 use Rattle.sword.proofs.FolderAnswers.{usage_once}
-use Rattle.sword.proofs.ArgumentLists.{same_check, same_run, same_show}
+use Rattle.sword.proofs.ArgumentLists.{same_check, same_gen, same_run, same_show}
+use Rattle.sword.specs.Gen.{GenDue}
+use Rattle.sword.proofs.OneSummary.{one_summary}
 use Rattle.sword.proofs.top.sword.Goals as goal
 
 pub returns-in-Ok-None-clause-usage : goal.returns-in-Ok-None-clause-usage
@@ -18,6 +20,11 @@ returns-in-Ok-None-clause-check g c = λ dir workers says. let usage = rw c.in-O
 
 pub returns-in-Ok-None-clause-show : goal.returns-in-Ok-None-clause-show
 returns-in-Ok-None-clause-show g c = λ dir says. let usage = rw c.in-Ok-None.field-0-is at c.in-Ok-None.ensures.usage in absurd (usage (show dir) says)
+
+pub check-requires-clause-workers : goal.check-requires-clause-workers
+check-requires-clause-workers g c = λ _ _.
+    let said = rw (c.in-Ok-Some-Check.field-0-is, c.in-Ok-Some-Check.field-0-0-is) at c.in-Ok-Some-Check.ensures.said in
+    (said.workers_are.least, said.workers_are.most)
 
 pub returns-in-Ok-Some-Check-clause-check : goal.returns-in-Ok-Some-Check-clause-check
 returns-in-Ok-Some-Check-clause-check g c = λ dir workers says content told.
@@ -54,3 +61,25 @@ pub returns-in-Ok-Some-Run-clause-no_writes : goal.returns-in-Ok-Some-Run-clause
 returns-in-Ok-Some-Run-clause-no_writes g c = λ old is none.
     let said = rw (c.in-Ok-Some-Run.field-0-is, c.in-Ok-Some-Run.field-0-0-is) at c.in-Ok-Some-Run.ensures.said in
     c.run.ensures.same_writes old is (λ can. none (record { kernel = _; dir = _; size = _; says = said; can = can }))
+
+pub returns-in-Ok-None-clause-gen_ : goal.returns-in-Ok-None-clause-gen_
+returns-in-Ok-None-clause-gen_ g c = λ rounds workers says. let usage = rw c.in-Ok-None.field-0-is at c.in-Ok-None.ensures.usage in absurd (usage (gen rounds workers) says)
+
+pub check_generated-requires-clause-rounds : goal.check_generated-requires-clause-rounds
+check_generated-requires-clause-rounds g c = λ _ _.
+    let said = rw (c.in-Ok-Some-Gen.field-0-is, c.in-Ok-Some-Gen.field-0-0-is) at c.in-Ok-Some-Gen.ensures.said in
+    (said.rounds_are.least, said.rounds_are.most)
+
+pub check_generated-requires-clause-workers : goal.check_generated-requires-clause-workers
+check_generated-requires-clause-workers g c = λ _ _.
+    let said = rw (c.in-Ok-Some-Gen.field-0-is, c.in-Ok-Some-Gen.field-0-0-is) at c.in-Ok-Some-Gen.ensures.said in
+    (said.workers_are.least, said.workers_are.most)
+
+pub returns-in-Ok-Some-Gen-clause-gen_ : goal.returns-in-Ok-Some-Gen-clause-gen_
+returns-in-Ok-Some-Gen-clause-gen_ g c = λ rounds workers says.
+    let said = rw (c.in-Ok-Some-Gen.field-0-is, c.in-Ok-Some-Gen.field-0-0-is) at c.in-Ok-Some-Gen.ensures.said in
+    subst (λ (n : ℕ). Answers (GenDue n) (g.O.Out.written c.args.out.now) (g.O.Out.written c.check_generated.new.out) c.check_generated.result)
+    (same_gen _ _ rounds _ workers said says) c.check_generated.ensures.answers
+
+pub returns-in-Err-clause-gen_ : goal.returns-in-Err-clause-gen_
+returns-in-Err-clause-gen_ g c = λ rounds workers says. Answers-of (GenDue rounds) (one_summary rounds) _ _ _ (silent (inr (inr refl)) refl)

@@ -1,0 +1,221 @@
+-- The folder into which the run was put holds it.
+use Rattle.std.proofs.Common.{◌≡◌, ◌≢◌, inl, inr, refl, sym, ap, subst, ◌∙◌, ℕ, zero, suc, ◌+◌, ◌*◌, ◌/◌, ◌%◌, ◌^◌, ◌<◌, ◌≤◌, List, [], ◌∷◌, ◌++◌, map, length, get_or, Some, true, false, Bool, arith}
+use Rattle.std.specs.Prelude.{All, ◌==◌, if◌then◌else◌}
+use Rattle.std.specs.List.{range_with_len}
+use Rattle.std.proofs.lemmas.List.Elements.{All-append, All-cons, All-head, All-map, All-nil, All-tail}
+use Rattle.std.proofs.lemmas.List.FromFn.{get_or-range_with_len, length-range_with_len}
+use Rattle.log_format.specs.declared.format.TheConstants.{FORMAT}
+use Rattle.log_format.specs.Format.{log_header}
+use Rattle.sw_base.specs.Environment.{Content, Files}
+use Rattle.sw_base.specs.Names.{index_name, log_name}
+use Rattle.sw_base.proofs.AfterPut.{with_file-elsewhere, with_file-here}
+use Rattle.sw_base.proofs.NameLaws.{HasPlace, log_name-not_index, log_name-places, place}
+use Rattle.log_format.specs.Spelling.{log_bytes}
+use Rattle.log_format.specs.Table.{IsTabled, PassesTable, RecordFits}
+use Rattle.log_format.specs.declared.record.Record.{Record}
+use Rattle.log_format.specs.declared.record.Why.{Why}
+use Rattle.log_format.specs.declared.record.Why.TheVariants as why
+use Rattle.log_format.specs.declared.record.Kind.TheVariants.{Barrier, End}
+use Rattle.race_model.specs.FirstBad.{HoldsTrace, rows_of}
+use Rattle.race_model.specs.Row.{index_bytes}
+use Rattle.race_model.specs.Trace.{TaskLog, Trace}
+use Rattle.race_model.proofs.IndexRows.{put_is_index}
+use Rattle.generated_run.specs.Generated.{element, generated, path_of_lane, lane_records, log_of_lane, logs_of_lanes, late_write, late_writes, bare_record, read_of, root_records, root_task, rounds_of, write_of}
+use Rattle.generated_run.specs.Puts.{with_run, with_task, with_tasks}
+use Rattle.generated_run.proofs.Counting.{lane_parts}
+use Rattle.generated_run.proofs.Holding.{generated_rows}
+
+-- ---- the records are of the table
+
+-- half of a product of neighbours
+half_below : (k : ℕ) → k < 100000 → k * (k + 1) / 2 ≤ 5000000000
+half_below k within = grind arith
+
+element_below : (k lane : ℕ) → k < 100000 → lane < 8 → element k lane < 2 ^ 40
+element_below k lane within few = let half = half_below k within in omega (arith, half)
+
+write_tabled : (lane k : ℕ) → lane < 8 → k < 100000 → IsTabled FORMAT (write_of lane k)
+write_tabled lane k few within = record { fits = fits; passes = passes } where
+  below : element k lane < 2 ^ 40
+  below = element_below k lane within few
+
+  fits : RecordFits (write_of lane k)
+  fits = record { size = omega arith; site = omega arith; line = omega arith; addr = omega (arith, below); value = omega arith }
+
+  passes : (w : Why) → PassesTable FORMAT (write_of lane k) w
+  passes why.Kind = omega arith
+  passes why.Size = inr (inr (inr refl))
+  passes why.LineZero = omega arith
+  passes why.Address = omega (arith, below)
+  passes why.Span = tt
+  passes why.Reserved = tt
+
+read_tabled : (lane k : ℕ) → lane < 8 → k < 100000 → IsTabled FORMAT (read_of lane k)
+read_tabled lane k few within = record { fits = fits; passes = passes } where
+  below : element k ((lane + 1) % 8) < 2 ^ 40
+  below = element_below k ((lane + 1) % 8) within (omega arith)
+
+  fits : RecordFits (read_of lane k)
+  fits = record { size = omega arith; site = omega arith; line = omega arith; addr = omega (arith, below); value = omega arith }
+
+  passes : (w : Why) → PassesTable FORMAT (read_of lane k) w
+  passes why.Kind = omega arith
+  passes why.Size = inr (inr (inr refl))
+  passes why.LineZero = omega arith
+  passes why.Address = omega (arith, below)
+  passes why.Span = tt
+  passes why.Reserved = tt
+
+barrier_tabled : IsTabled FORMAT (bare_record Barrier 20)
+barrier_tabled = record { fits = record { size = omega arith; site = omega arith; line = omega arith; addr = omega arith; value = omega arith }; passes = passes } where
+  passes : (w : Why) → PassesTable FORMAT (bare_record Barrier 20) w
+  passes why.Kind = omega arith
+  passes why.Size = refl
+  passes why.LineZero = omega arith
+  passes why.Address = tt
+  passes why.Span = tt
+  passes why.Reserved = (refl, refl, refl)
+
+end_tabled : IsTabled FORMAT (bare_record End 50)
+end_tabled = record { fits = record { size = omega arith; site = omega arith; line = omega arith; addr = omega arith; value = omega arith }; passes = passes } where
+  passes : (w : Why) → PassesTable FORMAT (bare_record End 50) w
+  passes why.Kind = omega arith
+  passes why.Size = refl
+  passes why.LineZero = omega arith
+  passes why.Address = tt
+  passes why.Span = tt
+  passes why.Reserved = (refl, refl, refl)
+
+late_tabled : IsTabled FORMAT late_write
+late_tabled = record { fits = record { size = omega arith; site = omega arith; line = omega arith; addr = omega arith; value = omega arith }; passes = passes } where
+  passes : (w : Why) → PassesTable FORMAT late_write w
+  passes why.Kind = omega arith
+  passes why.Size = inr (inr (inl refl))
+  passes why.LineZero = omega arith
+  passes why.Address = omega arith
+  passes why.Span = tt
+  passes why.Reserved = tt
+
+abbrev region_record : Record
+region_record = get_or root_records 0 late_write
+
+region_tabled : IsTabled FORMAT region_record
+region_tabled = record { fits = record { size = omega arith; site = omega arith; line = omega arith; addr = omega arith; value = omega arith }; passes = passes } where
+  passes : (w : Why) → PassesTable FORMAT region_record w
+  passes why.Kind = omega arith
+  passes why.Size = refl
+  passes why.LineZero = omega arith
+  passes why.Address = tt
+  passes why.Span = (omega arith, omega arith)
+  passes why.Reserved = (refl, refl)
+
+root_tabled : All (IsTabled FORMAT) root_records
+root_tabled = All-cons (IsTabled FORMAT) region_record (bare_record End 50 ∷ []) region_tabled (All-cons (IsTabled FORMAT) (bare_record End 50) [] end_tabled (All-nil (IsTabled FORMAT)))
+
+-- what holds of the record of each round
+rounds_tabled : (of_round : ℕ → Record) (rounds : ℕ) → ((k : ℕ) → k < rounds → IsTabled FORMAT (of_round k)) → All (IsTabled FORMAT) (map of_round (rounds_of rounds))
+rounds_tabled of_round rounds each = All-map (IsTabled FORMAT) of_round (rounds_of rounds) (λ k d within. each (get_or (rounds_of rounds) k d) (below k d within)) where
+  below : (k d : ℕ) → k < length (rounds_of rounds) → get_or (rounds_of rounds) k d < rounds
+  below k d within = let few : k < rounds = omega (arith, within, length-range_with_len 0 rounds) in omega (arith, few, get_or-range_with_len 0 rounds k d few)
+
+ending_tabled : (late : Bool) → All (IsTabled FORMAT) ((if late then late_write ∷ [] else []) ++ bare_record End 50 ∷ [])
+ending_tabled true = All-cons (IsTabled FORMAT) late_write (bare_record End 50 ∷ []) late_tabled (All-cons (IsTabled FORMAT) (bare_record End 50) [] end_tabled (All-nil (IsTabled FORMAT)))
+ending_tabled false = All-cons (IsTabled FORMAT) (bare_record End 50) [] end_tabled (All-nil (IsTabled FORMAT))
+
+lane_tabled : (rounds lane : ℕ) → rounds ≤ 100000 → lane < 8 → All (IsTabled FORMAT) (lane_records rounds lane)
+lane_tabled rounds lane few within =
+    subst (All (IsTabled FORMAT)) (sym (lane_parts rounds lane))
+    (All-append (IsTabled FORMAT) (map (write_of lane) (rounds_of rounds)) (bare_record Barrier 20 ∷ _)
+    (rounds_tabled (write_of lane) rounds (λ k below. write_tabled lane k within (omega arith)))
+    (All-cons (IsTabled FORMAT) (bare_record Barrier 20) _ barrier_tabled
+    (All-append (IsTabled FORMAT) (map (read_of lane) (rounds_of rounds)) (late_writes lane ++ bare_record End 50 ∷ [])
+    (rounds_tabled (read_of lane) rounds (λ k below. read_tabled lane k within (omega arith)))
+    (ending_tabled (lane == 3)))))
+
+-- ---- the logs are there
+
+-- the task isn't at the place of another
+abbrev IsApart : TaskLog → TaskLog → Type 0
+IsApart task other = map place task.path ≢ map place other.path
+
+abbrev AreApart : Trace → Type 0
+AreApart [] = Unit {0}
+AreApart (task ∷ tasks) = All (IsApart task) tasks × AreApart tasks
+
+abbrev HasPlaces : TaskLog → Type 0
+HasPlaces task = All HasPlace task.path
+
+-- a file that is none of the logs is as before
+elsewhere : (dir : List ℕ) (tasks : Trace) (task : TaskLog) (content : Content) → HasPlaces task → All HasPlaces tasks → All (IsApart task) tasks
+    → (with_tasks dir tasks content).held (log_name dir task.path) ≡ content.held (log_name dir task.path)
+elsewhere dir [] task content own places apart = refl
+elsewhere dir (t ∷ tasks) task content own places apart =
+    elsewhere dir tasks task (with_task dir t content) own (All-tail HasPlaces t tasks places) (All-tail (IsApart task) t tasks apart)
+    ∙ with_file-elsewhere (log_name dir t.path) (log_bytes (log_header FORMAT) t.records) content.held (log_name dir task.path)
+    (λ same. All-head (IsApart task) t tasks apart (log_name-places dir task.path t.path own (All-head HasPlaces t tasks places) same))
+
+-- each log is there
+abbrev HasLog : Files → List ℕ → TaskLog → Type 0
+HasLog files dir task = files (log_name dir task.path) ≡ Some (log_bytes (log_header FORMAT) task.records)
+
+all_there : (dir : List ℕ) (tasks : Trace) (content : Content) → All HasPlaces tasks → AreApart tasks → All (HasLog (with_tasks dir tasks content).held dir) tasks
+all_there dir [] content places apart = All-nil (HasLog content.held dir)
+all_there dir (task ∷ tasks) content places apart =
+    let own = All-head HasPlaces task tasks places in
+    let rest = All-tail HasPlaces task tasks places in
+    All-cons (HasLog (with_tasks dir (task ∷ tasks) content).held dir) task tasks
+    (elsewhere dir tasks task (with_task dir task content) own rest apart.0 ∙ with_file-here (log_name dir task.path) (log_bytes (log_header FORMAT) task.records) content.held)
+    (all_there dir tasks (with_task dir task content) rest apart.1)
+
+-- the lane of a path's first step
+first_lane : List (ℕ × ℕ) → ℕ
+first_lane [] = 0
+first_lane (at ∷ rest) = at.1
+
+lanes_differ : (a b : ℕ) → a < b → map place (path_of_lane a) ≢ map place (path_of_lane b)
+unfolding first_lane
+lanes_differ a b less same = let lanes : a ≡ b = ap first_lane same in absurd (omega (arith, lanes, less))
+
+lanes_apart : (rounds a n : ℕ) → AreApart (map (log_of_lane rounds) (range_with_len a n))
+lanes_apart rounds a zero = tt
+lanes_apart rounds a (suc n) = (
+  All-map (IsApart (log_of_lane rounds a)) (log_of_lane rounds) (range_with_len (a + 1) n)
+      (λ k d within.
+      let few : k < n = omega (arith, within, length-range_with_len (a + 1) n) in
+      lanes_differ a (get_or (range_with_len (a + 1) n) k d) (omega (arith, get_or-range_with_len (a + 1) n k d few))),
+  lanes_apart rounds (a + 1) n,
+)
+
+root_apart : (rounds : ℕ) → All (IsApart root_task) (logs_of_lanes rounds 8)
+root_apart rounds = All-map (IsApart root_task) (log_of_lane rounds) (range_with_len 0 8)
+    (λ k d within same. let lengths : ◌≡◌ {A = ℕ} 0 1 = ap length same in absurd (omega (arith, lengths)))
+
+lane_places : (rounds : ℕ) → All HasPlaces (logs_of_lanes rounds 8)
+lane_places rounds = All-map HasPlaces (log_of_lane rounds) (range_with_len 0 8)
+    (λ k d within. let at = get_or-range_with_len 0 8 k d within in All-cons HasPlace (record { region = 0; lane = get_or (range_with_len 0 8) k d; span = 8 }) [] (omega arith, omega (arith, at, within)) (All-nil HasPlace))
+
+places : (rounds : ℕ) → All HasPlaces (generated rounds)
+places rounds = All-cons HasPlaces root_task (logs_of_lanes rounds 8) (All-nil HasPlace) (lane_places rounds)
+
+-- ---- the run
+
+abbrev IsTabledTask : TaskLog → Type 0
+IsTabledTask task = All (IsTabled FORMAT) task.records
+
+all_tabled : (rounds : ℕ) → rounds ≤ 100000 → All IsTabledTask (generated rounds)
+all_tabled rounds few =
+    All-cons IsTabledTask root_task (logs_of_lanes rounds 8) root_tabled
+    (All-map IsTabledTask (log_of_lane rounds) (range_with_len 0 8)
+    (λ k d within. lane_tabled rounds (get_or (range_with_len 0 8) k d) few (omega (arith, within, get_or-range_with_len 0 8 k d within))))
+
+pub generated_held : (rounds : ℕ) (dir : List ℕ) (content : Content) → 1 ≤ rounds → rounds ≤ 100000 → HoldsTrace FORMAT (with_run dir (generated rounds) content).held dir (generated rounds)
+generated_held rounds dir content some few = record {
+  index = put_is_index after.held dir (rows_of (generated rounds)) (generated_rows rounds some few);
+  logs = λ k d within. record {
+    there = with_file-elsewhere (index_name dir) (index_bytes FORMAT (rows_of (generated rounds))) after.held (log_name dir (get_or (generated rounds) k d).path) (log_name-not_index dir (get_or (generated rounds) k d).path)
+        ∙ all_there dir (generated rounds) content (places rounds) (root_apart rounds, lanes_apart rounds 0 8) k d within;
+    tabled = all_tabled rounds few k d within;
+  };
+} where
+  after : Content
+  after = with_tasks dir (generated rounds) content

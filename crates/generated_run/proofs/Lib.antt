@@ -1,0 +1,6 @@
+pub mod Counting
+pub mod Held
+pub mod Holding
+pub mod Opening
+pub mod Pushing
+pub mod Putting

@@ -1,0 +1,30 @@
+ghost use Rattle.std.specs.Prelude.{◌≤◌, IfOk};
+ghost use Rattle.race_model.specs.Race.{Lists};
+ghost use Rattle.pair_compare.specs.Compare.{IsSegmentPair};
+
+use crate::piece::pieces;
+use crate::team::search_all;
+use crate::work::{cut, works};
+use log_segment::Segment;
+use std::alloc::Global;
+use std::collections::BTreeSet;
+use std::thread::Threads;
+use sw_base::{Gate, Memory};
+
+/// The line pairs of the races of the segments, in ascending order: accesses of two segments with concurrent labels, of a common
+/// byte, one a write, under no common mutex. So many workers search at once; each enters the gate with its number when it starts.
+pub fn compare_all<R: Threads + Sync, G: Gate>(
+    rt: &R,
+    alloc: Global,
+    segments: &[Segment],
+    workers: usize,
+    gate: &G,
+) -> Result<BTreeSet<(u32, u32)>, Memory>
+    requires { (1 ≤ workers) × (workers ≤ 64) }
+    ensures { IfOk result (λ pairs. Lists (IsSegmentPair segments.now) pairs.keys) }
+{
+    let pieces = pieces(alloc, segments)?;
+    let works = works(alloc, &pieces)?;
+    let tasks = cut(alloc, &works)?;
+    search_all(rt, alloc, &tasks, workers, gate)
+}
