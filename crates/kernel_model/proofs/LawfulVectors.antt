@@ -4,7 +4,7 @@ use Rattle.std.proofs.lemmas.List.Elements.{All-nil, All-cons, All-head}
 use Rattle.kernel_syntax.specs.declared.syntax.Op.TheVariants.{Add, Div}
 use Rattle.kernel_syntax.specs.declared.syntax.Schedule.TheVariants.{Even}
 use Rattle.kernel_syntax.specs.Tree.{Term, Number, Slot, Tid, Span, Load, Neg, Binary, Code, Done, Set, Store, If, Loop, Parallel, For, Barrier, Critical}
-use Rattle.kernel_model.specs.Lawful.{Scope, with_variable, IsKnown, IsEvenTerm, IsScoped, IsEven, IsNested, code_weight, max_weight, IsLight}
+use Rattle.kernel_model.specs.Lawful.{TermFits, CodeFits, Scope, with_variable, IsKnown, IsEvenTerm, IsScoped, IsEven, IsNested, code_weight, max_weight, IsLight}
 
 -- ---- where lanes meet
 
@@ -104,6 +104,15 @@ light_region = refl
 -- a turn weighs one more than its body
 heavy_turns : code_weight (rounds 3 (rounds 2 (Barrier 1 Done))) ≡ 15
 heavy_turns = refl
+
+-- ---- numbers
+
+-- 2 ^ 63 - 1 is the largest number of 64 bits, also as an index, in a bound and in an inner region
+largest : TermFits (Load 0 (Neg (Number (pos 9223372036854775807))) 1 2)
+largest = record { sfits = omega arith }
+
+too_large : CodeFits (Parallel 2 1 9 (For 0 one (Number (pos 9223372036854775808)) Even true 3 4 Done Done) Done) → ⊥
+too_large fits = let bound = fits.0.1.sfits in omega arith
 
 -- ---- names, with one array and three slots
 

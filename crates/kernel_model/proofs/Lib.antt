@@ -18,6 +18,8 @@ pub mod StmtKinds
 pub mod Dividing
 pub mod BarrierCounts
 pub mod SameBarriers
+pub mod Tabled
+pub mod LawfulValues
 pub mod LawfulRecords
 pub mod LawfulLogs
 pub mod LawfulFolder

@@ -1,12 +1,11 @@
 //! Laws of lawful kernels.
-ghost use Rattle.std.specs.Prelude.{◌≡◌, ◌≤◌, ℤ, List, ℕ, All, length};
+ghost use Rattle.std.specs.Prelude.{◌≡◌, ◌≤◌, ℤ, List, ℕ, length};
 ghost use Rattle.log_format.specs.declared.format.TheConstants.{FORMAT};
 ghost use Rattle.log_format.specs.declared.record.Record.{Record};
-ghost use Rattle.race_model.specs.Trace.{TaskLog, Trace, barrier_count};
+ghost use Rattle.race_model.specs.Trace.{Trace, barrier_count};
 ghost use Rattle.race_model.specs.IndexFault.{max_rows};
 ghost use Rattle.race_model.specs.KeepsRules.{KeepsRules};
 ghost use Rattle.race_model.specs.Listing.{IsListing};
-ghost use Rattle.log_format.specs.Table.{IsTabled};
 ghost use Rattle.kernel_syntax.specs.Program.{Program};
 ghost use Rattle.kernel_model.specs.Folder.{IsTraced, IsTracedFolder, paths_of};
 ghost use Rattle.kernel_model.specs.Lawful.{IsEven, IsLawful};
@@ -25,9 +24,8 @@ pub fn lanes_meet_the_same_barriers()
         → IsTraced program one records → IsTraced program other beside → barrier_count records ≡ barrier_count beside }
 {}
 
-/// The tasks of a whole run of a lawful kernel, in the order of a listing and at most 65,536, keep every rule of a folder, where
-/// their records are of the table.
+/// The tasks of a whole run of a lawful kernel, in the order of a listing and at most 65,536, keep every rule of a folder.
 pub fn lawful_folder_keeps_the_rules()
     ensures { (program : Program) (tasks : Trace) → IsLawful program → IsTracedFolder program tasks → IsListing (paths_of tasks)
-        → length tasks ≤ max_rows → All (λ (task : TaskLog). All (IsTabled FORMAT) task.records) tasks → KeepsRules FORMAT tasks }
+        → length tasks ≤ max_rows → KeepsRules FORMAT tasks }
 {}

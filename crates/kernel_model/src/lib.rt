@@ -6,8 +6,8 @@
 //!
 //! `IsLawful` is what the rules of the language say of a kernel, and two laws are what they buy. `lanes_meet_the_same_barriers`:
 //! all lanes of an even team (`IsEven`) that end pass equally many barriers, whatever was read and drawn.
-//! `lawful_folder_keeps_the_rules`: the tasks of a whole run, in the order of a listing, keep every rule of a folder of logs,
-//! where their records are of the table. That the rules find no fault in a text exactly where its names are good and its program
+//! `lawful_folder_keeps_the_rules`: the tasks of a whole run, in the order of a listing, keep every rule of a folder of logs.
+//! That the rules find no fault in a text exactly where its names are good and its program
 //! is lawful is a law of `kernel_laws`.
 //!
 //! `phases` divides a team's body after each barrier: its items, run in order, make the body's records from every state; where
