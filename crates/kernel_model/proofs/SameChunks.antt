@@ -7,7 +7,6 @@ use Rattle.std.proofs.lemmas.Bool.Decides.{nat_tests}
 use Rattle.log_format.specs.declared.record.Record.{Record}
 use Rattle.log_format.specs.declared.record.Kind.{Kind}
 use Rattle.log_format.specs.declared.record.Kind.TheVariants as kind
-use Rattle.race_model.specs.Draws.{with_closing, closed_loops}
 use Rattle.kernel_syntax.specs.declared.syntax.Op.{Op}
 use Rattle.kernel_syntax.specs.declared.syntax.Op.TheVariants.{Add, Sub, Mul}
 use Rattle.kernel_syntax.specs.declared.syntax.Schedule.{Schedule}
@@ -15,10 +14,11 @@ use Rattle.kernel_syntax.specs.declared.syntax.Schedule.TheVariants.{Even, Stati
 use Rattle.kernel_syntax.specs.Arithmetic.{applied, negated, fitted}
 use Rattle.kernel_syntax.specs.Program.{Program}
 use Rattle.kernel_syntax.specs.Tree.{Term, Code, TeamTree, Number, Slot, Tid, Span, Load, Neg, Binary, Done, Set, Store, If, Loop, Parallel, For, Barrier, Critical}
-use Rattle.kernel_model.specs.State.{State, Outcome, Gives, Stops, Wants, and_then, after, put, put_in, event, assign, state_of}
+use Rattle.kernel_model.specs.State.{State, Outcome, Gives, Stops, Wants, and_then, after, put, put_in, event, assign, state_of, number_drawn}
 use Rattle.kernel_model.specs.Value.{Site, Element, element_at, access, read, read_in, loaded, operated, value}
 use Rattle.kernel_model.specs.Iterations.{total_of, even_iterations, static_iterations, chunk_count, chunk_iterations}
-use Rattle.kernel_model.specs.Trace.{stored, branch, turns, each, drawn, draw, draw_in, draws, shared, loop_end, forked, run, task, trace, Start, site_of, state_at}
+use Rattle.kernel_model.specs.Trace.{stored, branch, turns, each, drawn, draw as draw_step, draw_in, draws, shared, loop_end, forked, run, task, trace, Start, site_of, state_at}
+use Rattle.kernel_model.specs.Chunking.{TellCounts, no_record, other, draw, closing, TellFirst, HasCounts}
 use Rattle.kernel_model.specs.Lawful.{Scope, Variable, variable_at, with_variable, IsNew, IsAssigned, after_assigning, IsLoopVariable, IsEvenOp, IsEvenTerm, IsScoped, fixed_bound, has_fixed_bounds, code_holds_work, IsEven}
 
 -- ---- what a body's text tells
@@ -199,34 +199,27 @@ narrower n wider slot v s t widens kept = record {
   same = λ k loops. let are = widens.loops k loops in kept.same k are.1 ∙ get_set s.slots slot k v are.0;
 }
 
--- ---- loops that are closed
+-- ---- counts that are told
 
-with_closing-append : (k : Kind) (r : Record) (xs ys : List ℕ) → with_closing k r (xs ++ ys) ≡ with_closing k r xs ++ ys
-with_closing-append kind.Read r xs ys = refl
-with_closing-append kind.Write r xs ys = refl
-with_closing-append kind.Lock r xs ys = refl
-with_closing-append kind.Unlock r xs ys = refl
-with_closing-append kind.Barrier r xs ys = refl
-with_closing-append kind.Region r xs ys = refl
-with_closing-append kind.End r xs ys = refl
-with_closing-append kind.Chunk r xs ys = by (r.addr == r.value)
-  where
-    by : (b : Bool) → cond b (r.value ∷ xs ++ ys) (xs ++ ys) ≡ cond b (r.value ∷ xs) xs ++ ys
-    by true = refl
-    by false = refl
+tell_append : (a b c : List ℕ) (xs ys : List Record) → TellCounts a xs b → TellCounts b ys c → TellCounts a (xs ++ ys) c
+tell_append a b c _ ys (no_record counts) later = later
+tell_append a b c _ ys (other counts left r xs plain more) later = other a c r (xs ++ ys) plain (tell_append a b c xs ys more later)
+tell_append a b c _ ys (draw n counts left r xs is value below more) later =
+    draw n counts c r (xs ++ ys) is value below (tell_append (n ∷ counts) b c xs ys more later)
+tell_append a b c _ ys (closing n counts left r xs is value closes more) later =
+    closing n counts c r (xs ++ ys) is value closes (tell_append counts b c xs ys more later)
 
-closed_append : (xs ys : List Record) → closed_loops (xs ++ ys) ≡ closed_loops xs ++ closed_loops ys
-closed_append [] ys = refl
-closed_append (r ∷ xs) ys = ap (with_closing r.kind r) (closed_append xs ys) ∙ with_closing-append r.kind r (closed_loops xs) (closed_loops ys)
-
--- where a part goes on, it has closed these loops, and kept the locals of loops; else it has closed the first of these
+-- where a part goes on, it has told these counts, and kept the locals of loops; else it has told the first of these
 record Closed (n : Scope) (counts : List ℕ) (s t : State) : Type 0 where
-  loops : closed_loops t.records ≡ closed_loops s.records ++ counts
+  added : List Record
+  records_are : t.records ≡ s.records ++ added
+  tells : (later : List ℕ) → TellCounts (counts ++ later) added later
   kept : Kept n s t
 
 record Begins (counts : List ℕ) (s t : State) : Type 0 where
-  rest : List ℕ
-  loops : closed_loops t.records ++ rest ≡ closed_loops s.records ++ counts
+  added : List Record
+  records_are : t.records ≡ s.records ++ added
+  tells : (later : List ℕ) → TellFirst (counts ++ later) added
 
 abbrev Closes : {A : Type 0} → Scope → List ℕ → State → Outcome A → Type 0
 Closes n counts s (Gives a t) = Closed n counts s t
@@ -235,25 +228,42 @@ Closes n counts s (Wants t) = Begins counts s t
 
 closes_nothing : (n : Scope) (s t : State) → t.records ≡ s.records → t.slots ≡ s.slots → Closed n [] s t
 closes_nothing n s t records slots =
-    record { loops = ap closed_loops records ∙ sym (append-nil (closed_loops s.records)); kept = kept_all n s t slots }
+    record { added = []; records_are = records ∙ sym (append-nil s.records); tells = λ later. no_record later; kept = kept_all n s t slots }
 
 begins_nothing : (counts : List ℕ) (s : State) → Begins counts s s
-begins_nothing counts s = record { rest = counts; loops = refl }
+begins_nothing counts s =
+    record { added = []; records_are = sym (append-nil s.records); tells = λ later. record { left = counts ++ later; tells = no_record (counts ++ later) } }
+
+both_added : (s t u : State) (xs ys : List Record) → t.records ≡ s.records ++ xs → u.records ≡ t.records ++ ys → u.records ≡ s.records ++ (xs ++ ys)
+both_added s t u xs ys one more = more ∙ ap (λ (l : List Record). l ++ ys) one ∙ append_assoc s.records xs ys
+
+tells_both : (a b later left : List ℕ) (xs ys : List Record) → ((after : List ℕ) → TellCounts (a ++ after) xs after) → TellCounts (b ++ later) ys left →
+    TellCounts ((a ++ b) ++ later) (xs ++ ys) left
+tells_both a b later left xs ys one more =
+    subst (λ (l : List ℕ). TellCounts l (xs ++ ys) left) (sym (append_assoc a b later)) (tell_append (a ++ (b ++ later)) (b ++ later) left xs ys (one (b ++ later)) more)
+
+begins_chain : (n : Scope) (a b : List ℕ) (s t u : State) → Closed n a s t → Begins b t u → Begins (a ++ b) s u
+begins_chain n a b s t u one more = record {
+  added = one.added ++ more.added;
+  records_are = both_added s t u one.added more.added one.records_are more.records_are;
+  tells = λ later. record { left = (more.tells later).left; tells = tells_both a b later (more.tells later).left one.added more.added one.tells (more.tells later).tells };
+}
 
 closes_chain : {A : Type 0} (n : Scope) (a b : List ℕ) (s t : State) (m : Outcome A) → Closed n a s t → Closes n b t m → Closes n (a ++ b) s m
 closes_chain n a b s t (Gives x u) one more = record {
-  loops = more.loops ∙ ap (λ (l : List ℕ). l ++ b) one.loops ∙ append_assoc (closed_loops s.records) a b;
+  added = one.added ++ more.added;
+  records_are = both_added s t u one.added more.added one.records_are more.records_are;
+  tells = λ later. tells_both a b later later one.added more.added one.tells (more.tells later);
   kept = kept_chain n s t u one.kept more.kept;
 }
-closes_chain n a b s t (Stops why line u) one more =
-    record { rest = more.rest; loops = more.loops ∙ ap (λ (l : List ℕ). l ++ b) one.loops ∙ append_assoc (closed_loops s.records) a b }
-closes_chain n a b s t (Wants u) one more =
-    record { rest = more.rest; loops = more.loops ∙ ap (λ (l : List ℕ). l ++ b) one.loops ∙ append_assoc (closed_loops s.records) a b }
+closes_chain n a b s t (Stops why line u) one more = begins_chain n a b s t u one more
+closes_chain n a b s t (Wants u) one more = begins_chain n a b s t u one more
 
 begins_more : (a b : List ℕ) (s t : State) → Begins a s t → Begins (a ++ b) s t
 begins_more a b s t begins = record {
-  rest = begins.rest ++ b;
-  loops = sym (append_assoc (closed_loops t.records) begins.rest b) ∙ ap (λ (l : List ℕ). l ++ b) begins.loops ∙ append_assoc (closed_loops s.records) a b;
+  added = begins.added;
+  records_are = begins.records_are;
+  tells = λ later. subst (λ (l : List ℕ). TellFirst l begins.added) (sym (append_assoc a b later)) (begins.tells (b ++ later));
 }
 
 closes_and_then : {A B : Type 0} (n : Scope) (a b : List ℕ) (s : State) (m : Outcome A) (next : A → State → Outcome B) → Closes n a s m →
@@ -269,19 +279,17 @@ closes_after n a b s (Stops why line t) next first later = begins_more a b s t f
 closes_after n a b s (Wants t) next first later = begins_more a b s t first
 
 -- a record that is no Chunk
-closes_record : (n : Scope) (r : Record) (s t : State) → closed_loops (r ∷ []) ≡ [] → t.records ≡ s.records ++ r ∷ [] → t.slots ≡ s.slots → Closed n [] s t
-closes_record n r s t none records slots = record {
-  loops = ap closed_loops records ∙ closed_append s.records (r ∷ []) ∙ ap (λ (l : List ℕ). closed_loops s.records ++ l) none;
-  kept = kept_all n s t slots;
-}
+closes_record : (n : Scope) (r : Record) (s t : State) → number_drawn r.kind r.addr ≡ None → t.records ≡ s.records ++ r ∷ [] → t.slots ≡ s.slots → Closed n [] s t
+closes_record n r s t plain records slots =
+    record { added = r ∷ []; records_are = records; tells = λ later. other later later r [] plain (no_record later); kept = kept_all n s t slots }
 
-closes_put_in : (n : Scope) (room : ℕ) (r : Record) (s : State) → closed_loops (r ∷ []) ≡ [] → Closes n [] s (put_in room r s)
-closes_put_in n zero r s none = begins_nothing [] s
-closes_put_in n (suc room) r s none = closes_record n r s _ none refl refl
+closes_put_in : (n : Scope) (room : ℕ) (r : Record) (s : State) → number_drawn r.kind r.addr ≡ None → Closes n [] s (put_in room r s)
+closes_put_in n zero r s plain = begins_nothing [] s
+closes_put_in n (suc room) r s plain = closes_record n r s _ plain refl refl
 
-closes_put : (n : Scope) (r : Record) (s : State) → closed_loops (r ∷ []) ≡ [] → Closes n [] s (put r s)
+closes_put : (n : Scope) (r : Record) (s : State) → number_drawn r.kind r.addr ≡ None → Closes n [] s (put r s)
 unfolding put
-closes_put n r s none = closes_put_in n s.room r s none
+closes_put n r s plain = closes_put_in n s.room r s plain
 
 -- ---- expressions
 
@@ -346,9 +354,9 @@ fixed_is slots at _ s fixed = absurd (true≢false (sym fixed))
 
 closes_branch : (n : Scope) (v : ℤ) (if_true if_false : State → Outcome (Unit {0})) (s : State) → Closes n [] s (if_true s) → Closes n [] s (if_false s) →
     Closes n [] s (branch v if_true if_false s)
-closes_branch n (pos zero) if_true if_false s one other = other
-closes_branch n (pos (suc k)) if_true if_false s one other = one
-closes_branch n (negsuc k) if_true if_false s one other = one
+closes_branch n (pos zero) if_true if_false s left right = right
+closes_branch n (pos (suc k)) if_true if_false s left right = left
+closes_branch n (negsuc k) if_true if_false s left right = left
 
 closes_turns : (n : Scope) (slots : List ℤ) (count i : ℕ) (turn : ℕ → State → Outcome (Unit {0})) (counts : ℕ → List ℕ) (s : State) → Agrees n slots s →
     ((k : ℕ) (t : State) → Agrees n slots t → Closes n (counts k) t (turn k t)) → Closes n (each_turn count i counts) s (turns count i turn s)
@@ -370,26 +378,48 @@ closes_drawn : (n : Scope) (slots : List ℤ) (q total line : ℕ) (chunk : ℕ 
     Closes n (total ∷ []) s (drawn q total chunk more t)
 closes_drawn n slots q total line chunk more s t records same agrees all later = by (nat_lt q total) refl
   where
+    r : Record
+    r = event kind.Chunk line (min q total) total
+
     there : Agrees n slots t
     there = agrees_kept n slots s t agrees (kept_all n s t same)
 
-    told : closed_loops t.records ≡ closed_loops s.records ++ cond (min q total == total) (total ∷ []) []
-    told = ap closed_loops records ∙ closed_append s.records (event kind.Chunk line (min q total) total ∷ [])
+    -- the record of a draw leaves the loop open
+    begun : (u : State) → min q total < total → Begins (total ∷ []) t u → Begins (total ∷ []) s u
+    begun u below begins = record {
+      added = r ∷ begins.added;
+      records_are = both_added s t u (r ∷ []) begins.added records begins.records_are;
+      tells = λ later. record {
+        left = (begins.tells later).left;
+        tells = draw total later (begins.tells later).left r begins.added refl refl below (begins.tells later).tells;
+      };
+    }
+
+    open_still : (m : Outcome (Unit {0})) → min q total < total → Closes n (total ∷ []) t m → Closes n (total ∷ []) s m
+    open_still (Gives a u) below closed = record {
+      added = r ∷ closed.added;
+      records_are = both_added s t u (r ∷ []) closed.added records closed.records_are;
+      tells = λ later. draw total later later r closed.added refl refl below (closed.tells later);
+      kept = kept_chain n s t u (kept_all n s t same) closed.kept;
+    }
+    open_still (Stops why line u) below begins = begun u below begins
+    open_still (Wants u) below begins = begun u below begins
 
     by : (b : Bool) → nat_lt q total ≡ b → Closes n (total ∷ []) s (cond b (after (chunk q t) more) (Gives tt t))
     by true is =
-        let open_still : (min q total == total) ≡ false = grind (arith, nat_tests) in
-        closes_chain n [] (total ∷ []) s t (after (chunk q t) more)
-        (record { loops = told ∙ ap (λ (b : Bool). closed_loops s.records ++ cond b (total ∷ []) []) open_still; kept = kept_all n s t same })
+        open_still (after (chunk q t) more) (grind (arith, nat_tests))
         (closes_after n [] (total ∷ []) t (chunk q t) more (all q t there) (λ u kept. later u (agrees_kept n slots t u there kept)))
-    by false is =
-        let closes : (min q total == total) ≡ true = grind (arith, nat_tests) in
-        record { loops = told ∙ ap (λ (b : Bool). closed_loops s.records ++ cond b (total ∷ []) []) closes; kept = kept_all n s t same }
+    by false is = record {
+      added = r ∷ [];
+      records_are = records;
+      tells = λ later. closing total later later r [] refl refl (grind (arith, nat_tests)) (no_record later);
+      kept = kept_all n s t same;
+    }
 
 closes_draw : (n : Scope) (slots : List ℤ) (line total : ℕ) (chunk : ℕ → State → Outcome (Unit {0})) (more : State → Outcome (Unit {0})) (s : State) → Agrees n slots s →
     ((k : ℕ) (t : State) → Agrees n slots t → Closes n [] t (chunk k t)) → ((u : State) → Agrees n slots u → Closes n (total ∷ []) u (more u)) →
-    Closes n (total ∷ []) s (and_then (draw line total s) (λ q t. drawn q total chunk more t))
-unfolding draw
+    Closes n (total ∷ []) s (and_then (draw_step line total s) (λ q t. drawn q total chunk more t))
+unfolding draw_step
 closes_draw n slots line total chunk more s agrees all later = by s.room s.chunks
   where
     by : (room : ℕ) (chunks : List ℕ) → Closes n (total ∷ []) s (and_then (draw_in room chunks line total s) (λ q t. drawn q total chunk more t))
@@ -422,9 +452,10 @@ closes_stored n (Some e) v line site s = closes_put n (access kind.Write e site 
 -- from a state with one local set, as seen from the one before
 closes_set : (n wider : Scope) (counts : List ℕ) (slot : ℕ) (v : ℤ) (s : State) (m : Outcome (Unit {0})) → Widens n wider slot →
     Closes wider counts (assign slot v s) m → Closes n counts s m
-closes_set n wider counts slot v s (Gives a t) widens closes = record { loops = closes.loops; kept = narrower n wider slot v s t widens closes.kept }
-closes_set n wider counts slot v s (Stops why line t) widens closes = record { rest = closes.rest; loops = closes.loops }
-closes_set n wider counts slot v s (Wants t) widens closes = record { rest = closes.rest; loops = closes.loops }
+closes_set n wider counts slot v s (Gives a t) widens closes =
+    record { added = closes.added; records_are = closes.records_are; tells = closes.tells; kept = narrower n wider slot v s t widens closes.kept }
+closes_set n wider counts slot v s (Stops why line t) widens closes = record { added = closes.added; records_are = closes.records_are; tells = closes.tells }
+closes_set n wider counts slot v s (Wants t) widens closes = record { added = closes.added; records_are = closes.records_are; tells = closes.tells }
 
 -- ---- bodies
 
@@ -557,58 +588,29 @@ closes_run at (Critical mutex line end body rest) n slots s scoped even agrees =
 
 -- ---- whole traces
 
--- a task closes the first of its team's loops
-record IsFirstOf (closed counts : List ℕ) : Type 0 where
-  rest : List ℕ
-  parts : closed ++ rest ≡ counts
+-- a task tells the first of its team's counts
+told_first : (n : Scope) (counts : List ℕ) (s : State) (m : Outcome (Unit {0})) → s.records ≡ [] → Closes n counts s m → TellFirst (counts ++ []) (state_of m).records
+told_first n counts s (Gives a t) none closes =
+    subst (TellFirst (counts ++ [])) (sym (closes.records_are ∙ ap (λ (rs : List Record). rs ++ closes.added) none)) (record { left = []; tells = closes.tells [] })
+told_first n counts s (Stops why line t) none closes =
+    subst (TellFirst (counts ++ [])) (sym (closes.records_are ∙ ap (λ (rs : List Record). rs ++ closes.added) none)) (closes.tells [])
+told_first n counts s (Wants t) none closes =
+    subst (TellFirst (counts ++ [])) (sym (closes.records_are ∙ ap (λ (rs : List Record). rs ++ closes.added) none)) (closes.tells [])
 
-first_of : (n : Scope) (counts : List ℕ) (s : State) (m : Outcome (Unit {0})) → s.records ≡ [] → Closes n counts s m → IsFirstOf (closed_loops (state_of m).records) counts
-first_of n counts s (Gives a t) none closes =
-    record { rest = []; parts = append-nil (closed_loops t.records) ∙ closes.loops ∙ ap (λ (rs : List Record). closed_loops rs ++ counts) none }
-first_of n counts s (Stops why line t) none closes = record { rest = closes.rest; parts = closes.loops ∙ ap (λ (rs : List Record). closed_loops rs ++ counts) none }
-first_of n counts s (Wants t) none closes = record { rest = closes.rest; parts = closes.loops ∙ ap (λ (rs : List Record). closed_loops rs ++ counts) none }
+closes_task : (program : Program) (n : Scope) (start : Start) → IsScoped n start.team.body → IsEven start.team.body → (reads : List ℤ) (chunks : List ℕ) →
+    Closes n (chunk_counts start.team.span start.slots start.team.body ++ []) (state_at start reads chunks) (task program start reads chunks)
+unfolding task
+closes_task program n start scoped even reads chunks =
+    let s = state_at start reads chunks in
+    closes_after n (chunk_counts start.team.span start.slots start.team.body) [] s (run (site_of program start) start.team.body s) (put (event kind.End start.team.end 0 0))
+    (closes_run (site_of program start) start.team.body n start.slots s scoped even (record { size = refl; same = λ k loops. refl }))
+    (λ t kept. closes_put n (event kind.End start.team.end 0 0) t refl)
 
-module _ (program : Program) (n : Scope) (start : Start) (scoped : IsScoped n start.team.body) (even : IsEven start.team.body) where
-  abbrev counts : List ℕ
-  counts = chunk_counts start.team.span start.slots start.team.body
-
-  closes_task : (reads : List ℤ) (chunks : List ℕ) → Closes n (counts ++ []) (state_at start reads chunks) (task program start reads chunks)
-  unfolding task
-  closes_task reads chunks =
-      let s = state_at start reads chunks in
-      closes_after n counts [] s (run (site_of program start) start.team.body s) (put (event kind.End start.team.end 0 0))
-      (closes_run (site_of program start) start.team.body n start.slots s scoped even (record { size = refl; same = λ k loops. refl }))
-      (λ t kept. closes_put n (event kind.End start.team.end 0 0) t refl)
-
-  closed_first : (reads : List ℤ) (chunks : List ℕ) → IsFirstOf (closed_loops (trace program start reads chunks).records) counts
-  closed_first reads chunks =
-      let first = first_of n (counts ++ []) (state_at start reads chunks) (task program start reads chunks) refl (closes_task reads chunks) in
-      record { rest = first.rest; parts = first.parts ∙ append-nil counts }
-
-get_first : (closed counts : List ℕ) (loop m : ℕ) → IsFirstOf closed counts → slice_get closed loop ≡ Some m → slice_get counts loop ≡ Some m
-get_first closed counts loop m first told = subst (λ (l : List ℕ). slice_get l loop ≡ Some m) first.parts (longer closed loop told)
-  where
-    longer : (xs : List ℕ) (k : ℕ) → slice_get xs k ≡ Some m → slice_get (xs ++ first.rest) k ≡ Some m
-    longer [] k none = absurd cc
-    longer (x ∷ xs) zero told = told
-    longer (x ∷ xs) (suc k) told = longer xs k told
-
-pub same_chunks : (program : Program) (names : Scope) (one other : Start) (reads beside : List ℤ) (chunks drawn : List ℕ) (loop m n : ℕ) →
-    IsScoped names one.team.body → IsEven one.team.body → one.team ≡ other.team → one.slots ≡ other.slots →
-    slice_get (closed_loops (trace program one reads chunks).records) loop ≡ Some m →
-    slice_get (closed_loops (trace program other beside drawn).records) loop ≡ Some n → m ≡ n
-same_chunks program names one other reads beside chunks drawn loop m n scoped even team slots first second =
-    same_Some m n (sym mine ∙ same ∙ yours)
-  where
-    mine : slice_get (chunk_counts one.team.span one.slots one.team.body) loop ≡ Some m
-    mine = get_first _ _ loop m (closed_first program names one scoped even reads chunks) first
-
-    yours : slice_get (chunk_counts other.team.span other.slots other.team.body) loop ≡ Some n
-    yours =
-        get_first _ _ loop n
-        (closed_first program names other (subst (λ (t : TeamTree). IsScoped names t.body) team scoped) (subst (λ (t : TeamTree). IsEven t.body) team even) beside drawn) second
-
-    same : slice_get (chunk_counts one.team.span one.slots one.team.body) loop ≡ slice_get (chunk_counts other.team.span other.slots other.team.body) loop
-    same =
-        ap (λ (t : TeamTree). slice_get (chunk_counts t.span one.slots t.body) loop) team
-        ∙ ap (λ (l : List ℤ). slice_get (chunk_counts other.team.span l other.team.body) loop) slots
+pub same_chunks : (names : Scope) (team : TeamTree) (slots : List ℤ) → IsScoped names team.body → IsEven team.body → HasCounts team slots
+same_chunks names team slots scoped even = record {
+  counts = (chunk_counts team.span slots team.body ++ []) ++ [];
+  told = λ program lane reads chunks.
+      let start : Start = record { team = team; lane = lane; slots = slots } in
+      told_first names (chunk_counts team.span slots team.body ++ []) (state_at start reads chunks) (task program start reads chunks) refl
+      (closes_task program names start scoped even reads chunks);
+}

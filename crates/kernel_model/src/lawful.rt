@@ -1,13 +1,14 @@
 //! Laws of lawful kernels.
-ghost use Rattle.std.specs.Prelude.{◌≡◌, ◌≤◌, ℤ, List, ℕ, Some, length, slice_get};
+ghost use Rattle.std.specs.Prelude.{◌≡◌, ◌≤◌, ℤ, List, ℕ, length};
 ghost use Rattle.log_format.specs.declared.format.TheConstants.{FORMAT};
 ghost use Rattle.log_format.specs.declared.record.Record.{Record};
 ghost use Rattle.race_model.specs.Trace.{Trace, barrier_count};
-ghost use Rattle.race_model.specs.Draws.{closed_loops};
 ghost use Rattle.race_model.specs.IndexFault.{max_rows};
 ghost use Rattle.race_model.specs.KeepsRules.{KeepsRules};
 ghost use Rattle.race_model.specs.Listing.{IsListing};
 ghost use Rattle.kernel_syntax.specs.Program.{Program};
+ghost use Rattle.kernel_syntax.specs.Tree.{TeamTree};
+ghost use Rattle.kernel_model.specs.Chunking.{HasCounts};
 ghost use Rattle.kernel_model.specs.Folder.{IsTraced, IsTracedFolder, paths_of};
 ghost use Rattle.kernel_model.specs.Lawful.{Scope, IsEven, IsLawful, IsScoped};
 ghost use Rattle.kernel_model.specs.Parts.{parts_of, bar_count};
@@ -31,11 +32,7 @@ pub fn lawful_folder_keeps_the_rules()
         → length tasks ≤ max_rows → KeepsRules FORMAT tasks }
 {}
 
-/// All lanes of a team that start with the same locals find equally many chunks in each loop whose chunks are drawn, whatever was read
-/// and drawn.
+/// How many chunks the loops of a team have, in order: all lanes that start with the same locals tell them, whatever was read and drawn.
 pub fn lanes_find_the_same_chunks()
-    ensures { (program : Program) (names : Scope) (one other : Start) (reads beside : List ℤ) (chunks drawn : List ℕ) (loop m n : ℕ)
-        → IsScoped names one.team.body → IsEven one.team.body → one.team ≡ other.team → one.slots ≡ other.slots
-        → slice_get (closed_loops (trace program one reads chunks).records) loop ≡ Some m
-        → slice_get (closed_loops (trace program other beside drawn).records) loop ≡ Some n → m ≡ n }
+    ensures { (names : Scope) (team : TeamTree) (slots : List ℤ) → IsScoped names team.body → IsEven team.body → HasCounts team slots }
 {}
