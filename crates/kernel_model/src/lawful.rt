@@ -7,8 +7,10 @@ ghost use Rattle.race_model.specs.IndexFault.{max_rows};
 ghost use Rattle.race_model.specs.KeepsRules.{KeepsRules};
 ghost use Rattle.race_model.specs.Listing.{IsListing};
 ghost use Rattle.kernel_syntax.specs.Program.{Program};
+ghost use Rattle.kernel_syntax.specs.Tree.{TeamTree};
+ghost use Rattle.kernel_model.specs.Chunking.{HasCounts};
 ghost use Rattle.kernel_model.specs.Folder.{IsTraced, IsTracedFolder, paths_of};
-ghost use Rattle.kernel_model.specs.Lawful.{IsEven, IsLawful};
+ghost use Rattle.kernel_model.specs.Lawful.{Scope, IsEven, IsLawful, IsScoped};
 ghost use Rattle.kernel_model.specs.Parts.{parts_of, bar_count};
 ghost use Rattle.kernel_model.specs.Trace.{Start, Ended, trace};
 
@@ -28,4 +30,9 @@ pub fn lanes_meet_the_same_barriers()
 pub fn lawful_folder_keeps_the_rules()
     ensures { (program : Program) (tasks : Trace) → IsLawful program → IsTracedFolder program tasks → IsListing (paths_of tasks)
         → length tasks ≤ max_rows → KeepsRules FORMAT tasks }
+{}
+
+/// How many chunks the loops of a team have, in order: all lanes that start with the same locals tell them, whatever was read and drawn.
+pub fn lanes_find_the_same_chunks()
+    ensures { (names : Scope) (team : TeamTree) (slots : List ℤ) → IsScoped names team.body → IsEven team.body → HasCounts team slots }
 {}
