@@ -1,14 +1,13 @@
 -- The tasks of a whole run of a lawful kernel keep every rule of a folder.
-use Rattle.std.proofs.Common.{◌≡◌, refl, ap, sym, ◌∙◌, subst, ℕ, zero, suc, ◌+◌, ◌<◌, ◌≤◌, arith, Bool, true, false, cond, nat_lt, List, [], ◌∷◌, ◌++◌, append_assoc, length, get_or, Option, Some, None, slice_get, IsSome, All, true≢false, length-append}
+use Rattle.std.proofs.Common.{◌≡◌, refl, ap, sym, ◌∙◌, subst, ℕ, zero, suc, ◌+◌, ◌<◌, ◌≤◌, arith, Bool, true, false, cond, nat_lt, List, [], ◌∷◌, ◌++◌, append_assoc, length, get_or, Option, Some, None, slice_get, IsSome, All, pos, true≢false, length-append}
 use Rattle.std.specs.Prelude.{◌==◌, ◌&&◌, map, Contains, option_map}
 use Rattle.std.proofs.lemmas.Bool.Decides.{nat_tests}
 use Rattle.std.proofs.lemmas.List.{append-nil}
-use Rattle.std.proofs.lemmas.List.Elements.{All-nil, All-cons, All-push}
+use Rattle.std.proofs.lemmas.List.Elements.{All-nil, All-cons, All-push, All-replicate}
 use Rattle.std.proofs.lemmas.Option.{same_Some, none-some, slice_get-map, slice_get_within}
 use Rattle.log_format.specs.declared.format.TheConstants.{FORMAT}
 use Rattle.sw_base.specs.declared.path.Step.{Step}
 use Rattle.log_format.specs.declared.record.Record.{Record}
-use Rattle.log_format.specs.Table.{IsTabled}
 use Rattle.race_model.specs.FirstBad.{row_of, rows_of}
 use Rattle.race_model.specs.IndexFault.{IsStep, IsRow, max_rows}
 use Rattle.race_model.specs.KeepsRules.{KnowsTeam, TaskKeepsRules, KeepsRules}
@@ -29,6 +28,7 @@ use Rattle.kernel_model.specs.Lawful.{IsLawful, code_holds_work}
 use Rattle.kernel_model.specs.Parts.{parts_of, bar_count}
 use Rattle.kernel_model.proofs.FirstKindShape.{trace_limit}
 use Rattle.kernel_model.proofs.Growing.{task-grows}
+use Rattle.kernel_model.proofs.LawfulValues.{IsValue, IsValueFork, IsValueStart, zero_value, lane_values, traced_values}
 use Rattle.kernel_model.proofs.LawfulRecords.{IsLawfulTeam, IsLawfulFork, spans_forked}
 use Rattle.kernel_model.proofs.LawfulLogs.{IsLawfulLog, lawful_log, log_keeps}
 use Rattle.kernel_model.proofs.SameBarriers.{traced_barriers, idle_barriers}
@@ -71,7 +71,7 @@ record IsLaneStart (o : Option Fork) (step : Step) (start : Start) : Type 0 wher
   forked : o ≡ Some fork
   span : step.span ≡ fork.team.span
   lane : step.lane < step.span
-  team : start.team ≡ fork.team
+  begins : start ≡ record { team = fork.team; lane = step.lane; slots = fork.slots }
 
 both : (a b : Bool) → (a && b) ≡ true → (a ≡ true) × (b ≡ true)
 both true b is = (refl, is)
@@ -100,7 +100,7 @@ lane_started (Some f) step start is = by_test ((step.span == f.team.span) && nat
           forked = refl;
           span = fits.0;
           lane = fits.1;
-          team = ap (λ (s : Start). s.team) (sym (same_Some (record { team = f.team; lane = step.lane; slots = f.slots }) start same));
+          begins = sym (same_Some (record { team = f.team; lane = step.lane; slots = f.slots }) start same);
         }
 
 starts_lane : (f : Fork) (step : Step) → step.span ≡ f.team.span → step.lane < step.span →
@@ -179,11 +179,20 @@ module _ (program : Program) (lawful : IsLawful program) (tasks : Trace) (folder
   -- a task that lies as deep as its path is long
   record IsLawfulAt (path : List Step) (start : Start) : Type 0 where
     inside : IsLawfulTeam mutexes (length path) start.team
+    begins : IsValueStart start
     steps : All IsStep path
 
   root_lawful : IsLawfulAt [] (root_start program)
   root_lawful = record {
     inside = record { lanes = 1; few = omega arith; shallow = omega arith; even = lawful.even; nested = lawful.nested; bounded = lawful.bounded.body };
+    begins = record {
+      slots = All-replicate IsValue program.slots (pos 0) zero_value;
+      numbers = lawful.numbers;
+      bounded = lawful.bounded.body;
+      ends = lawful.bounded.end_line;
+      within = let alone = lawful.alone in omega arith;
+      few = let alone = lawful.alone in omega arith;
+    };
     steps = All-nil IsStep;
   }
 
@@ -194,6 +203,7 @@ module _ (program : Program) (lawful : IsLawful program) (tasks : Trace) (folder
       let forks = (own_trace program start (logs path)).forks in
       let lane = lane_started (slice_get forks step.region) step next is in
       let log = lawful_log program start (logs path) mutexes (length path) at.inside traced in
+      let values = traced_values program lawful.bounded start at.begins (logs path) traced in
       let fork : IsLawfulFork mutexes (length path + 1) lane.fork = all_at (IsLawfulFork mutexes (length path + 1)) forks step.region lane.fork log.teams lane.forked in
       let deep : length (path ++ step ∷ []) ≡ length path + 1 = length-append path (step ∷ []) in
       let region = slice_get_within forks step.region lane.fork lane.forked in
@@ -204,7 +214,10 @@ module _ (program : Program) (lawful : IsLawful program) (tasks : Trace) (folder
       record {
         inside =
             subst (λ (n : ℕ). IsLawfulTeam mutexes n next.team) (sym deep)
-            (subst (λ (t : TeamTree). IsLawfulTeam mutexes (length path + 1) t) (sym lane.team) fork.inside);
+            (subst (λ (t : TeamTree). IsLawfulTeam mutexes (length path + 1) t) (sym (ap (λ (s : Start). s.team) lane.begins)) fork.inside);
+        begins =
+            subst IsValueStart (sym lane.begins)
+            (lane_values lane.fork step.lane (all_at IsValueFork forks step.region lane.fork values.begin lane.forked) (omega (arith, span, lane.lane)));
         steps = All-push IsStep path step at.steps (record { region = omega arith; span = record { some = omega arith; limit = omega arith }; lane = lane.lane });
       }
 
@@ -330,11 +343,11 @@ module _ (program : Program) (lawful : IsLawful program) (tasks : Trace) (folder
         let zero_start : Start = record { team = told.fork.team; lane = 0; slots = told.fork.slots } in
         let path = lane_of above step.region 0 step.span in
         let count = traced_barriers program zero_start (logs path) (lawful_at path zero_start begins).inside.even (traced_at path zero_start begins) in
-        ap (λ (n : ℕ). Some n) (ap (λ (t : TeamTree). bar_count (parts_of t.body)) told.team ∙ sym count)
+        ap (λ (n : ℕ). Some n) (ap (λ (s : Start). bar_count (parts_of s.team.body)) told.begins ∙ sym count)
 
-    task_keeps : All (IsTabled FORMAT) task.records → TaskKeepsRules FORMAT tasks task
-    task_keeps tabled = record {
-      tabled = tabled;
+    task_keeps : TaskKeepsRules FORMAT tasks task
+    task_keeps = record {
+      tabled = (traced_values program lawful.bounded it.start at.begins task.records it.traced).tabled;
       spans = spans_forked forks;
       has_spans =
           lists_spans (rows_of tasks) task.path (spans_forked forks)
@@ -356,14 +369,12 @@ module _ (program : Program) (lawful : IsLawful program) (tasks : Trace) (folder
         }
 
   -- All tasks keep the rules.
-  pub folder_keeps : length tasks ≤ max_rows → All (λ (task : TaskLog). All (IsTabled FORMAT) task.records) tasks → KeepsRules FORMAT tasks
-  folder_keeps few tabled = record {
+  pub folder_keeps : length tasks ≤ max_rows → KeepsRules FORMAT tasks
+  folder_keeps few = record {
     rows = record {
       lists = subst IsListing (sym (row_paths tasks)) listing;
       each = each_row tasks is_row;
       limit = omega (arith, row_count tasks);
     };
-    tasks =
-        each_task (TaskKeepsRules FORMAT tasks) tasks (λ k task found.
-        task_keeps k task found (all_at (λ (t : TaskLog). All (IsTabled FORMAT) t.records) tasks k task tabled found));
+    tasks = each_task (TaskKeepsRules FORMAT tasks) tasks task_keeps;
   }
