@@ -1,0 +1,6 @@
+//! What the lanes of a region did, told by what their hands know.
+#![tactic(auto)]
+
+mod drawn;
+
+pub use drawn::lanes_draw_each_chunk_once;
