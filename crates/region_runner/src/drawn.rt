@@ -6,7 +6,7 @@ ghost use Rattle.shared_words.specs.Draws.{AreEachOnce, numbers};
 ghost use Rattle.region_runner.specs.Drawing.{DrewByLogs};
 
 /// Where the hands of all lanes drew of each loop the numbers below some number, each once, so the logs tell it.
-pub fn lanes_draw_each_chunk_once()
+pub fn hands_tell_each_chunk_once()
     ensures { (counts : List ℕ) (logs : List (List Record)) (drawn : List (ℕ × ℕ)) → DrewByLogs counts logs drawn
         → ((loop : ℕ) → AreEachOnce (numbers loop drawn)) → (loop : ℕ) → DrewSome logs loop }
 {}

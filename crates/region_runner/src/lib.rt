@@ -3,4 +3,4 @@
 
 mod drawn;
 
-pub use drawn::lanes_draw_each_chunk_once;
+pub use drawn::hands_tell_each_chunk_once;
