@@ -1,6 +1,12 @@
-//! What the lanes of a region did, told by what their hands know.
+//! A region: its lanes on threads of their own, phase by phase.
+//!
+//! So far two laws, on which the run of a region rests. `hands_tell_each_chunk_once`: what the hands of a team drew from its counters,
+//! the logs of its lanes tell. `works_are_executions`: where the works of all tasks access elements of their widths, and each
+//! task runs its trace as far as what it read is what elements can have, they are an execution of the kernel.
 #![tactic(auto)]
 
 mod drawn;
+mod executions;
 
 pub use drawn::hands_tell_each_chunk_once;
+pub use executions::works_are_executions;
