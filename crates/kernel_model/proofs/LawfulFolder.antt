@@ -61,17 +61,17 @@ module _ (program : Program) (logs : Logs) where
       ∙ ap (λ (o : Option Start). start_below program logs path o (step ∷ [])) is
       ∙ nothing_below (path ++ step ∷ []) (lane_start (slice_get (own_trace program start (logs path)).forks step.region) step)
 
-  at_root : start_at program logs [] ≡ Some (root_start program)
+  pub at_root : start_at program logs [] ≡ Some (root_start program)
   unfolding start_at
   at_root = refl
 
 -- what a lane's start tells
-record IsLaneStart (o : Option Fork) (step : Step) (start : Start) : Type 0 where
-  fork : Fork
-  forked : o ≡ Some fork
-  span : step.span ≡ fork.team.span
-  lane : step.lane < step.span
-  begins : start ≡ record { team = fork.team; lane = step.lane; slots = fork.slots }
+pub record IsLaneStart (o : Option Fork) (step : Step) (start : Start) : Type 0 where
+  pub fork : Fork
+  pub forked : o ≡ Some fork
+  pub span : step.span ≡ fork.team.span
+  pub lane : step.lane < step.span
+  pub begins : start ≡ record { team = fork.team; lane = step.lane; slots = fork.slots }
 
 both : (a b : Bool) → (a && b) ≡ true → (a ≡ true) × (b ≡ true)
 both true b is = (refl, is)
@@ -86,7 +86,7 @@ fits_lane a b lane is =
     let lt : lane < a = grind (arith, nat_tests) in
     (same, lt)
 
-lane_started : (o : Option Fork) (step : Step) (start : Start) → lane_start o step ≡ Some start → IsLaneStart o step start
+pub lane_started : (o : Option Fork) (step : Step) (start : Start) → lane_start o step ≡ Some start → IsLaneStart o step start
 lane_started None step start is = absurd (none-some start is)
 lane_started (Some f) step start is = by_test ((step.span == f.team.span) && nat_lt step.lane step.span) refl is
   where
@@ -102,6 +102,40 @@ lane_started (Some f) step start is = by_test ((step.span == f.team.span) && nat
           lane = fits.1;
           begins = sym (same_Some (record { team = f.team; lane = step.lane; slots = f.slots }) start same);
         }
+
+-- what holds of the root, and goes over from each task to the lanes that it forks, holds of every task
+module _ (program : Program) (logs : Logs) (P : List Step → Start → Type 0) (root : P [] (root_start program))
+    (lane : (above : List Step) (start : Start) (step : Step) (next : Start) → P above start → start_at program logs above ≡ Some start →
+        lane_start (slice_get (own_trace program start (logs above)).forks step.region) step ≡ Some next → P (above ++ step ∷ []) next) where
+  walk : (above : List Step) (start : Start) (steps : List Step) (last : Start) → start_at program logs above ≡ Some start → P above start →
+      start_at program logs (above ++ steps) ≡ Some last → P (above ++ steps) last
+  walk above start [] last starts at ends =
+      let all = append-nil above in
+      let same : start ≡ last = same_Some start last (sym starts ∙ ap (λ (p : List Step). start_at program logs p) (sym all) ∙ ends) in
+      subst (λ (p : List Step). P p last) (sym all) (subst (P above) same at)
+  walk above start (step ∷ steps) last starts at ends =
+      by_lane (start_at program logs (above ++ step ∷ [])) refl (λ next is.
+      walk (above ++ step ∷ []) next steps last is
+      (lane above start step next at starts (sym (at_lane program logs above start step starts) ∙ is))
+      reaches)
+    where
+      parts : (above ++ step ∷ []) ++ steps ≡ above ++ step ∷ steps
+      parts = append_assoc above (step ∷ []) steps
+
+      reaches : start_at program logs ((above ++ step ∷ []) ++ steps) ≡ Some last
+      reaches = ap (λ (p : List Step). start_at program logs p) parts ∙ ends
+
+      by_lane : (o : Option Start) → start_at program logs (above ++ step ∷ []) ≡ o →
+          ((next : Start) → start_at program logs (above ++ step ∷ []) ≡ Some next → P ((above ++ step ∷ []) ++ steps) last) →
+          P (above ++ step ∷ steps) last
+      by_lane None is goes_on =
+          let none : start_at program logs ((above ++ step ∷ []) ++ steps) ≡ None =
+          at_append program logs (above ++ step ∷ []) steps ∙ ap (λ (o : Option Start). start_below program logs (above ++ step ∷ []) o steps) is in
+          absurd (none-some last (sym none ∙ reaches))
+      by_lane (Some next) is goes_on = subst (λ (p : List Step). P p last) parts (goes_on next is)
+
+  pub descend : (path : List Step) (start : Start) → start_at program logs path ≡ Some start → P path start
+  descend path start starts = walk [] (root_start program) path start (at_root program logs) root starts
 
 starts_lane : (f : Fork) (step : Step) → step.span ≡ f.team.span → step.lane < step.span →
     lane_start (Some f) step ≡ Some (record { team = f.team; lane = step.lane; slots = f.slots })
@@ -222,35 +256,10 @@ module _ (program : Program) (lawful : IsLawful program) (tasks : Trace) (folder
       }
 
   -- so every task that starts is lawful
-  walk : (above : List Step) (start : Start) (steps : List Step) (last : Start) → start_at program logs above ≡ Some start → IsLawfulAt above start →
-      start_at program logs (above ++ steps) ≡ Some last → IsLawfulAt (above ++ steps) last
-  walk above start [] last starts at ends =
-      let all = append-nil above in
-      let same : start ≡ last = same_Some start last (sym starts ∙ ap (λ (p : List Step). start_at program logs p) (sym all) ∙ ends) in
-      subst (λ (p : List Step). IsLawfulAt p last) (sym all) (subst (IsLawfulAt above) same at)
-  walk above start (step ∷ steps) last starts at ends =
-      by_lane (start_at program logs (above ++ step ∷ [])) refl (λ next is.
-      walk (above ++ step ∷ []) next steps last is
-      (lane_lawful above start step next at (traced_at above start starts) (sym (at_lane program logs above start step starts) ∙ is))
-      reaches)
-    where
-      parts : (above ++ step ∷ []) ++ steps ≡ above ++ step ∷ steps
-      parts = append_assoc above (step ∷ []) steps
-
-      reaches : start_at program logs ((above ++ step ∷ []) ++ steps) ≡ Some last
-      reaches = ap (λ (p : List Step). start_at program logs p) parts ∙ ends
-
-      by_lane : (o : Option Start) → start_at program logs (above ++ step ∷ []) ≡ o →
-          ((next : Start) → start_at program logs (above ++ step ∷ []) ≡ Some next → IsLawfulAt ((above ++ step ∷ []) ++ steps) last) →
-          IsLawfulAt (above ++ step ∷ steps) last
-      by_lane None is goes_on =
-          let none : start_at program logs ((above ++ step ∷ []) ++ steps) ≡ None =
-          at_append program logs (above ++ step ∷ []) steps ∙ ap (λ (o : Option Start). start_below program logs (above ++ step ∷ []) o steps) is in
-          absurd (none-some last (sym none ∙ reaches))
-      by_lane (Some next) is goes_on = subst (λ (p : List Step). IsLawfulAt p last) parts (goes_on next is)
-
   lawful_at : (path : List Step) (start : Start) → start_at program logs path ≡ Some start → IsLawfulAt path start
-  lawful_at path start starts = walk [] (root_start program) path start (at_root program logs) root_lawful starts
+  lawful_at path start starts =
+      descend program logs IsLawfulAt root_lawful
+      (λ above up step next at begins is. lane_lawful above up step next at (traced_at above up begins) is) path start starts
 
   -- the task above one that starts, too
   parent : (above : List Step) (step : Step) (start : Start) → start_at program logs (above ++ step ∷ []) ≡ Some start →

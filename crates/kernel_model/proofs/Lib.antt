@@ -25,3 +25,4 @@ pub mod LawfulRecords
 pub mod LawfulLogs
 pub mod LawfulFolder
 pub mod LawfulVectors
+pub mod EndedTraces
