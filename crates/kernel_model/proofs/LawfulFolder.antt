@@ -54,7 +54,7 @@ module _ (program : Program) (logs : Logs) where
   at_append xs ys = below_append [] (Some (root_start program)) xs ys
 
   -- a lane starts where its parent forks it
-  at_lane : (path : List Step) (start : Start) (step : Step) → start_at program logs path ≡ Some start →
+  pub at_lane : (path : List Step) (start : Start) (step : Step) → start_at program logs path ≡ Some start →
       start_at program logs (path ++ step ∷ []) ≡ lane_start (slice_get (own_trace program start (logs path)).forks step.region) step
   at_lane path start step is =
       at_append path (step ∷ [])
@@ -165,7 +165,7 @@ find_task : (tasks : Trace) (path : List Step) → Contains (paths_of tasks) pat
 find_task tasks path (k, lt, is) = found_at tasks path k lt is
 
 -- what holds of each task holds of all, and of their rows
-each_task : (P : TaskLog → Type 0) (tasks : Trace) → ((k : ℕ) (task : TaskLog) → slice_get tasks k ≡ Some task → P task) → All P tasks
+pub each_task : (P : TaskLog → Type 0) (tasks : Trace) → ((k : ℕ) (task : TaskLog) → slice_get tasks k ≡ Some task → P task) → All P tasks
 each_task P [] all = All-nil P
 each_task P (t ∷ tasks) all = All-cons P t tasks (all 0 t refl) (each_task P tasks (λ k task found. all (suc k) task found))
 

@@ -1,3 +1,4 @@
 pub mod Numbers
 pub mod WholeTree
 pub mod TaskListing
+pub mod FinishedRun
