@@ -2,3 +2,4 @@ pub mod Numbers
 pub mod WholeTree
 pub mod TaskListing
 pub mod FinishedRun
+pub mod JoinedHands
