@@ -1,0 +1,6 @@
+pub mod LabelGroups
+pub mod LabelPaths
+pub mod Lists
+pub mod Chains
+pub mod Depths
+pub mod TreeGroups
