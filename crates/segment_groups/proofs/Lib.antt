@@ -3,4 +3,6 @@ pub mod LabelPaths
 pub mod Lists
 pub mod Chains
 pub mod Depths
+pub mod Levels
+pub mod Threading
 pub mod TreeGroups

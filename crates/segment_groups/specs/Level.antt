@@ -41,8 +41,8 @@ LanesAscend depth labels = (i j : ℕ) → IsMember depth labels i j → lane_at
 pub record IsThreaded (depth : ℕ) (labels : Labels) (from count : ℕ) (nexts laters : List (Option ℕ)) : Type 0 where
   pub next_count : length nexts ≡ count
   pub later_count : length laters ≡ count
-  pub next : (at : ℕ) → from ≤ at → at < count → IsFirst (IsMember depth labels at) (slice_index_or nexts at None)
-  pub later : (at : ℕ) → from ≤ at → at < count → IsFirst (IsInLaterLane depth labels at) (slice_index_or laters at None)
+  pub next : (at : ℕ) (d : Option ℕ) → from ≤ at → at < count → IsFirst (IsMember depth labels at) (slice_index_or nexts at d)
+  pub later : (at : ℕ) (d : Option ℕ) → from ≤ at → at < count → IsFirst (IsInLaterLane depth labels at) (slice_index_or laters at d)
 
 -- the first of each group from this position on
 abbrev pub AreHeads : ℕ → Labels → ℕ → BTreeMap (Vec ℕ) ℕ → Type 0

@@ -1,0 +1,47 @@
+use Rattle.std.proofs.Common.{◌≡◌, ◌<◌, ◌+◌, ℕ, length, Option, Some, subst, sym, rules}
+use Rattle.std.proofs.lemmas.Result.{on_err_weaker}
+use Rattle.stride_summary.proofs.Holding.{on_err_from}
+use Rattle.segment_groups.specs.Level.{IsInLaterLane, IsLevel, IsMember, Labels}
+use Rattle.segment_groups.proofs.Chains.{HasPassed, IsNext, passed_more, passed_none}
+use Rattle.segment_groups.proofs.Levels.{follow, handed_over, in_range, later_first, left_falls, next_first, stopped_at}
+use Rattle.segment_groups.proofs.level.Level.hand_over.Goals as goal
+
+pub chain-init : goal.chain-init
+chain-init g c = λ depth labels is. passed_none g.V.Partner.took (IsInLaterLane depth labels c.args.at) c.index-cursor.result.now c.args.visit.now c.args.steps.now (later_first depth labels c.args.self.now is c.args.at c.index-cursor.result.now c.requires.within c.index-cursor.ensures)
+
+pub index-cursor-requires-in-Some : goal.index-cursor-requires-in-Some
+index-cursor-requires-in-Some g c =
+    let depth = c.requires.level.0 in
+    let labels = c.requires.level.1 in
+    let is = c.requires.level.2 in
+    let here = subst (λ (o : Option ℕ). IsNext (IsInLaterLane depth labels c.args.at) o) c.in-Some.is (c.chain.invariant depth labels is).next in
+    in_range depth labels c.args.self.now is c.args.at c.in-Some.position here.member
+
+pub chain-smaller : goal.chain-smaller
+chain-smaller g c =
+    let depth = c.requires.level.0 in
+    let labels = c.requires.level.1 in
+    let is = c.requires.level.2 in
+    let here = subst (λ (o : Option ℕ). IsNext (IsInLaterLane depth labels c.args.at) o) c.in-Some.is (c.chain.invariant depth labels is).next in
+    let within = in_range depth labels c.args.self.now is c.args.at c.in-Some.position here.member in
+    left_falls depth labels c.args.self.now is c.args.at c.in-Some.position c.chain.cursor c.index-cursor-in-Some.result.now c.in-Some.is within
+    (next_first depth labels c.args.self.now is c.in-Some.position c.index-cursor-in-Some.result.now within c.index-cursor-in-Some.ensures)
+
+pub chain-preserved : goal.chain-preserved
+chain-preserved g c = λ depth labels is.
+    let so_far = subst (λ (o : Option ℕ). HasPassed g.V.Partner.took (IsInLaterLane depth labels c.args.at) o c.args.visit.now c.chain.visit c.args.steps.now c.chain.steps) c.in-Some.is (c.chain.invariant depth labels is) in
+    let within = in_range depth labels c.args.self.now is c.args.at c.in-Some.position so_far.next.member in
+    subst (λ (n : ℕ). HasPassed g.V.Partner.took (IsInLaterLane depth labels c.args.at) c.index-cursor-in-Some.result.now c.args.visit.now c.take.new.self c.args.steps.now n) (sym c.tick.ensures)
+    (passed_more g.V.Partner.took (IsInLaterLane depth labels c.args.at) (IsMember depth labels c.in-Some.position) c.in-Some.position c.index-cursor-in-Some.result.now c.args.visit.now c.chain.visit c.take.new.self c.args.steps.now c.chain.steps
+    (follow depth labels c.args.self.now is c.args.at c.in-Some.position so_far.next)
+    (next_first depth labels c.args.self.now is c.in-Some.position c.index-cursor-in-Some.result.now within c.index-cursor-in-Some.ensures)
+    c.in_ok-take.ensures.taken so_far)
+
+pub returns-in_err-take-clause-refused : goal.returns-in_err-take-clause-refused
+returns-in_err-take-clause-refused g c = λ depth labels is. on_err_from c.from_residual.result
+    (stopped_at g.V.Partner.took g.V.Partner.refused (IsInLaterLane depth labels c.args.at) c.chain.cursor c.in-Some.position c.args.visit.now c.chain.visit c.take.new.self c.args.steps.now c.chain.steps c.tick.new.self
+    c.in-Some.is c.tick.ensures c.in_err-take.ensures.not_taken (c.chain.invariant depth labels is))
+
+pub returns-clause-taken : goal.returns-clause-taken
+returns-clause-taken g c = λ depth labels is.
+    handed_over g.V.Partner.took (IsInLaterLane depth labels c.args.at) c.chain.cursor c.args.visit.now c.chain.visit c.args.steps.now c.chain.steps c.in_default.is (c.chain.invariant depth labels is)
