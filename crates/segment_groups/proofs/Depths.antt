@@ -1,11 +1,12 @@
 -- The partners at the greater depths stand first.
-use Rattle.std.proofs.Common.{◌≡◌, ◌⊎◌, inl, inr, ℕ, ◌+◌, ◌<◌, ◌≤◌, List, [], ◌++◌, length, length-append, refl, sym, ap, subst, ◌∙◌, arith}
+use Rattle.std.proofs.Common.{◌≡◌, ◌⊎◌, inl, inr, ℕ, ◌+◌, ◌-◌, ◌<◌, ◌≤◌, List, [], ◌++◌, length, length-append, get_or, refl, sym, ap, subst, ◌∙◌, arith}
 use Rattle.std.proofs.lemmas.Option.{slice_get_cases, get_or_from_slice_get}
 use Rattle.interval_tree.proofs.Taking.{Takes-append}
 use Rattle.log_segment.specs.OneTree.{StandInOneTree}
 use Rattle.log_segment.specs.declared.segment.Segment.{Segment}
 use Rattle.segment_groups.specs.Group.{label_at, label_of}
-use Rattle.segment_groups.specs.Level.{HaveLevels, IsInLaterLane, Labels, LanesAscend}
+use Rattle.segment_groups.specs.Level.{AreGroups, HaveLevels, IsInLaterLane, IsLevel, Labels, LanesAscend}
+use Rattle.segment_groups.specs.declared.level.Level.{Level}
 use Rattle.segment_groups.specs.Partners.{HandsOver, IsPartner, StopsAt}
 use Rattle.segment_groups.proofs.Lists.{AreAll-append, AreAll-none, AreAll-same, three}
 use Rattle.segment_groups.proofs.TreeGroups.{deeper_first, label_within, lanes_ascend, later_concurrent, partner_later}
@@ -21,6 +22,10 @@ few_levels most segments position few = elim (slice_get_cases segments position)
   | inl there ↦ subst (λ (n : ℕ). n ≤ most) (ap (λ (s : Segment). length s.label) (get_or_from_slice_get segments position there.0 there.0 there.2) ∙ sym (ap (λ (s : _). length (label_of s)) there.2)) (few position there.0 there.1)
   | inr past ↦ subst (λ (n : ℕ). n ≤ most) (sym (ap (λ (s : _). length (label_of s)) past.1)) (omega arith)
 ]
+
+-- the groups of one of the levels
+pub level_at : (segments : List Segment) (levels : List Level) (k : ℕ) (level : Level) → AreGroups segments levels → k < length levels → level ≡ get_or levels k level → IsLevel (length levels - k) (label_at segments) level
+level_at segments levels k level groups within read = subst (λ (l : Level). IsLevel (length levels - k) (label_at segments) l) (sym read) (groups.each k level within).1
 
 -- none is deeper than the labels
 pub deepest_none : {S : Type 0} (took : S → ℕ → S → Type 0) (segments : List Segment) (depth at : ℕ) (before : S) (old : ℕ) → HaveLevels (depth + 1) segments

@@ -1,6 +1,5 @@
 -- Two labels are concurrent exactly where they share a group and their lanes differ there.
 use Rattle.std.proofs.Common.{◌≡◌, ◌≢◌, ◌⊎◌, inl, inr, ℕ, zero, suc, ◌%◌, ◌<◌, List, [], ◌∷◌, ◌++◌, refl, sym, ap, arith}
-use Rattle.std.specs.Prelude.{None, slice_get}
 use Rattle.race_model.specs.Label.{Triple, IsConcurrent, IsLabelBefore, IsTripleBefore}
 use Rattle.race_model.proofs.LabelOrder.{label_before_first, label_before_rest, not_earlier}
 use Rattle.segment_groups.specs.Group.{ShareGroup, group_key, lane_at}
@@ -113,9 +112,3 @@ concurrent_parted (t ∷ l) (u ∷ m) agree c = by_barriers (three t.barrier u.b
     by_barriers (inl less) rec = absurd (before (record { same_span = spans; earlier = inl less }))
     by_barriers (inr (inl barriers)) rec = by_lanes barriers (same_or_apart (t.offset % t.span) (u.offset % u.span)) rec
     by_barriers (inr (inr greater)) rec = absurd (after (record { same_span = sym spans; earlier = inl greater }))
-
--- a label that doesn't reach the depth has no lane there
-pub lane_none : (depth : ℕ) (label : List Triple) → slice_get label depth ≡ None → lane_at depth label ≡ 0
-lane_none depth [] none = refl
-lane_none zero (t ∷ label) none = cc
-lane_none (suc depth) (t ∷ label) none = lane_none depth label none

@@ -12,6 +12,7 @@ use Rattle.std.proofs.lemmas.Map.Lookups.{exact_bytes}
 use Rattle.std.proofs.lemmas.Option.{slice_get_read}
 use Rattle.std.proofs.lemmas.Grind.{get_or-set_at}
 use Rattle.std.proofs.lemmas.List.{length-set, get_or-set_other}
+use Rattle.race_model.specs.Label.{Triple}
 use Rattle.log_segment.specs.declared.segment.Segment.{Segment}
 use Rattle.segment_groups.specs.Group.{group_key, label_at, label_of, lane_at}
 use Rattle.segment_groups.specs.Level.{AreHeads, HasKey, IsFirst, IsInLaterLane, IsMember, IsThreaded, Labels, LanesAscend}
@@ -19,6 +20,10 @@ use Rattle.segment_groups.proofs.Levels.{same_group}
 
 pub label_read : (segments : List Segment) (at : ℕ) (segment : Segment) → at < length segments → segment ≡ get_or segments at segment → label_at segments at ≡ segment.label
 label_read segments at segment within read = ap label_of (slice_get_read segments (length segments) at segment refl within read)
+
+pub label_deep : (segments : List Segment) (at depth : ℕ) (segment : Segment) (triples : List Triple) → at < length segments → segment ≡ get_or segments at segment → triples ≡ (get_or segments at segment).label
+    → depth < length triples → depth < length (label_at segments at)
+label_deep segments at depth segment triples within read same deep = subst (λ (l : List Triple). depth < length l) (same ∙ sym (ap (λ (s : Segment). s.label) read) ∙ sym (label_read segments at segment within read)) deep
 
 first_same : (P Q : ℕ → Type 0) (found : Option ℕ) → ((n : ℕ) → P n → Q n) → ((n : ℕ) → Q n → P n) → IsFirst P found → IsFirst Q found
 first_same P Q None to from none = λ n q. none n (from n q)

@@ -10,10 +10,12 @@ group_key zero (t ∷ label) = t.span ∷ t.barrier ∷ []
 group_key (suc depth) (t ∷ label) = t.span ∷ t.barrier ∷ t.offset ∷ group_key depth label
 
 -- the lane at a depth
+abbrev pub lane_in : Option Triple → ℕ
+lane_in None = 0
+lane_in (Some t) = t.offset % t.span
+
 abbrev pub lane_at : ℕ → List Triple → ℕ
-lane_at depth [] = 0
-lane_at zero (t ∷ label) = t.offset % t.span
-lane_at (suc depth) (t ∷ label) = lane_at depth label
+lane_at depth label = lane_in (slice_get label depth)
 
 -- both labels reach the depth, in one group there: the same team, and as many barriers passed
 pub record ShareGroup (depth : ℕ) (label other : List Triple) : Type 0 where

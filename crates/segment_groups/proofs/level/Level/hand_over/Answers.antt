@@ -15,7 +15,8 @@ index-cursor-requires-in-Some g c =
     let labels = c.requires.level.1 in
     let is = c.requires.level.2 in
     let here = subst (λ (o : Option ℕ). IsNext (IsInLaterLane depth labels c.args.at) o) c.in-Some.is (c.chain.invariant depth labels is).next in
-    in_range depth labels c.args.self.now is c.args.at c.in-Some.position here.member
+    let within : c.in-Some.position < length c.args.self.now.next.items = in_range depth labels c.args.self.now is c.args.at c.in-Some.position here.member in
+    search rules
 
 pub chain-smaller : goal.chain-smaller
 chain-smaller g c =
