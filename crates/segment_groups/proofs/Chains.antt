@@ -1,5 +1,5 @@
 -- Going along a chain: what was handed over so far.
-use Rattle.std.proofs.Common.{◌≡◌, ◌⊎◌, inl, inr, ℕ, ◌+◌, ◌-◌, ◌<◌, ◌≤◌, List, [], ◌∷◌, ◌++◌, length, length-append, Option, Some, None, refl, sym, ap, subst, ◌∙◌, arith}
+use Rattle.std.proofs.Common.{◌≡◌, ◌⊎◌, inl, inr, ℕ, ◌+◌, ◌-◌, ◌<◌, ◌≤◌, List, [], ◌∷◌, ◌++◌, length, length-append, Option, Some, None, refl, sym, subst, arith}
 use Rattle.interval_tree.specs.Visits.{Takes}
 use Rattle.interval_tree.proofs.Taking.{Takes-append}
 use Rattle.segment_groups.specs.Level.{IsFirst}

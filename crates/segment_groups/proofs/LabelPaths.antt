@@ -1,5 +1,5 @@
 -- The path that a label tells, and the order of paths where labels share a group.
-use Rattle.std.proofs.Common.{◌≡◌, ◌⊎◌, inl, inr, ℕ, zero, suc, ◌+◌, ◌*◌, ◌/◌, ◌%◌, ◌<◌, ◌≤◌, List, [], ◌∷◌, ◌++◌, refl, sym, ap, ◌∙◌, arith}
+use Rattle.std.proofs.Common.{◌≡◌, ◌⊎◌, inl, inr, ℕ, zero, suc, ◌+◌, ◌*◌, ◌/◌, ◌%◌, ◌≤◌, List, [], ◌∷◌, ◌++◌, refl, sym, ap, ◌∙◌, arith}
 use Rattle.std.proofs.lemmas.List.{same_from_push}
 use Rattle.std.proofs.Math.Nat.{add-mul-div_left, div-eq_of_lt}
 use Rattle.sw_base.specs.declared.path.Step.{Step}
@@ -71,7 +71,7 @@ only_root logs g beside prefix t u v w also l_is m_is =
 
 same_span : (logs : Logs) (a b : Node) (l m prefix : List Triple) (t u : Triple) → IsLabel logs a l → IsLabel logs b m → l ≡ prefix ++ t ∷ [] → m ≡ prefix ++ u ∷ [] → t.span ≡ u.span
 same_span logs a b _ _ prefix t u (IsLabel.root a1 e) (IsLabel.root b1 f) l_is m_is =
-    ap (λ (v : Triple). v.span) (sym (same_from_push [] prefix _ t l_is).1 ) ∙ ap (λ (v : Triple). v.span) (same_from_push [] prefix _ u m_is).1
+    ap (λ (v : Triple). v.span) (sym (same_from_push [] prefix _ t l_is).1) ∙ ap (λ (v : Triple). v.span) (same_from_push [] prefix _ u m_is).1
 same_span logs a b _ _ prefix t u (IsLabel.root a1 e) (IsLabel.lane g b1 m r beside k also) l_is m_is = absurd (only_root logs g beside prefix _ t _ u also l_is m_is)
 same_span logs a b _ _ prefix t u (IsLabel.lane f a1 n s above h up) (IsLabel.root b1 e) l_is m_is = absurd (only_root logs f above prefix _ u _ t up m_is l_is)
 same_span logs a b _ _ prefix t u (IsLabel.lane f a1 n s above h up) (IsLabel.lane g b1 m r beside k also) l_is m_is =

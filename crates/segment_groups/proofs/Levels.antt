@@ -1,5 +1,5 @@
 -- Going along a chain of a level.
-use Rattle.std.proofs.Common.{◌≡◌, ℕ, ◌+◌, ◌-◌, ◌<◌, ◌≤◌, length, Option, Some, None, get_or, sym, subst, ◌∙◌, arith}
+use Rattle.std.proofs.Common.{◌≡◌, ℕ, ◌+◌, ◌-◌, ◌<◌, length, Option, Some, None, get_or, sym, subst, ◌∙◌, arith}
 use Rattle.segment_groups.specs.Group.{ShareGroup}
 use Rattle.segment_groups.specs.Level.{IsFirst, IsInLaterLane, IsLevel, IsMember, Labels}
 use Rattle.segment_groups.specs.Partners.{HandsOver, StopsAt}
@@ -21,10 +21,13 @@ module _ (depth : ℕ) (labels : Labels) (level : Level) (is : IsLevel depth lab
 
   pub follow : (at last : ℕ) → IsInLaterLane depth labels at last → Follow (IsInLaterLane depth labels at) (IsMember depth labels last) last
   follow at last here = record {
-    to = λ n member. (record {
-          member = record { later = (let first = here.member.later in let second = member.later in omega arith); group = record { mine = here.member.group.mine; yours = member.group.yours; same = here.member.group.same ∙ member.group.same } };
-          lane = (let less = here.lane in let up = is.lanes last n member in omega arith);
-        }, member.later);
+    to = λ n member. (
+      record {
+        member = record { later = (let first = here.member.later in let second = member.later in omega arith); group = record { mine = here.member.group.mine; yours = member.group.yours; same = here.member.group.same ∙ member.group.same } };
+        lane = (let less = here.lane in let up = is.lanes last n member in omega arith);
+      },
+      member.later,
+    );
     from = λ n p less. record { later = less; group = same_group depth labels at last n here.member p.member };
   }
 

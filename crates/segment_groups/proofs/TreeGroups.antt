@@ -1,7 +1,7 @@
 -- What the groups of segments of one tree tell: concurrency, and the order of positions.
-use Rattle.std.proofs.Common.{◌≡◌, ◌≢◌, ◌⊎◌, inl, inr, ℕ, zero, suc, true, ◌+◌, ◌%◌, ◌<◌, ◌≤◌, List, [], ◌∷◌, ◌++◌, length, Some, refl, sym, ap, subst, ◌∙◌, arith, get_or}
-use Rattle.std.specs.Prelude.{slice_get, All, AllPairs}
-use Rattle.std.proofs.lemmas.Option.{slice_get_cases, slice_get_past, get_or_from_slice_get}
+use Rattle.std.proofs.Common.{◌≡◌, ◌≢◌, inl, inr, ℕ, zero, suc, true, ◌+◌, ◌%◌, ◌<◌, ◌≤◌, List, [], ◌∷◌, ◌++◌, length, Some, refl, sym, ap, subst, ◌∙◌, arith, get_or}
+use Rattle.std.specs.Prelude.{slice_get}
+use Rattle.std.proofs.lemmas.Option.{slice_get_cases, get_or_from_slice_get}
 use Rattle.sw_base.specs.declared.path.Step.{Step}
 use Rattle.log_segment.specs.Intervals.{IsSegmentOf}
 use Rattle.log_segment.specs.OneTree.{IsPathBefore, IsSegmentBefore, IsSegmentIn, StandInOneTree}
@@ -9,7 +9,7 @@ use Rattle.log_segment.specs.declared.segment.Segment.{Segment}
 use Rattle.log_segment.proofs.Members.{In, from_contains, map_back, filter_back}
 use Rattle.log_segment.proofs.Runs.{event_back, events_numbered, run_back, run_numbered, within_run}
 use Rattle.race_model.specs.Label.{Triple, IsConcurrent, IsLabel, lane_triple}
-use Rattle.race_model.specs.Segment.{Event, has_access, runs_of, events, first_number, last_number, segment_of}
+use Rattle.race_model.specs.Segment.{Event, has_access, runs_of, events, last_number, segment_of}
 use Rattle.race_model.specs.Trace.{Logs, Node}
 use Rattle.segment_groups.specs.Group.{ShareGroup, group_key, label_at, label_of, lane_at}
 use Rattle.segment_groups.specs.Level.{IsInLaterLane, IsMember, Labels, LanesAscend}
@@ -78,7 +78,7 @@ module _ (segments : List Segment) (tree : StandInOneTree segments) where
 
   paths_up : (i j : ℕ) (at : IsAt segments i) (other : IsAt segments j) → i < j → IsPathUpTo (path_of (label_at segments i)) (path_of (label_at segments j))
   paths_up i j at other less = go (subst (λ (s : Segment). IsSegmentBefore s other.segment) (get_or_from_slice_get segments i at.segment at.segment at.found)
-    (subst (λ (s : Segment). IsSegmentBefore (get_or segments i at.segment) s) (get_or_from_slice_get segments j other.segment at.segment other.found) (tree.ordered i j at.segment less other.within)))
+      (subst (λ (s : Segment). IsSegmentBefore (get_or segments i at.segment) s) (get_or_from_slice_get segments j other.segment at.segment other.found) (tree.ordered i j at.segment less other.within)))
     where
       go : IsSegmentBefore at.segment other.segment → IsPathUpTo (path_of (label_at segments i)) (path_of (label_at segments j))
       go (IsSegmentBefore.row before) = inl (subst (λ (p : List Step). IsPathBefore p (path_of (label_at segments j))) (path_is i at) (subst (λ (p : List Step). IsPathBefore at.segment.path p) (path_is j other) before))

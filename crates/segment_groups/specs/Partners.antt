@@ -1,5 +1,5 @@
 -- The partners of a segment, and handing them over.
-use Rattle.std.specs.Prelude.{◌≡◌, ◌↔◌, ℕ, ◌+◌, ◌<◌, ◌≤◌, List, length, Contains}
+use Rattle.std.specs.Prelude.{◌↔◌, ℕ, ◌+◌, ◌<◌, ◌≤◌, List, length, Contains}
 use Rattle.std.specs.List.Sorted.{IsStrictlyIncreasing}
 use Rattle.interval_tree.specs.Visits.{Takes}
 use Rattle.race_model.specs.Label.{IsConcurrent}

@@ -14,4 +14,3 @@ mod partner;
 
 pub use groups::Groups;
 pub use partner::Partner;
-

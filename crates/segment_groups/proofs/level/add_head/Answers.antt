@@ -1,4 +1,4 @@
-use Rattle.std.proofs.Common.{◌≡◌, ◌+◌, ◌<◌, ◌≤◌, ℕ, List, length, sym, subst, ap, ◌∙◌, arith}
+use Rattle.std.proofs.Common.{◌≡◌, ◌+◌, ◌≤◌, sym, subst, ap, ◌∙◌, arith}
 use Rattle.log_segment.specs.declared.segment.Segment.{Segment}
 use Rattle.segment_groups.specs.Group.{group_key, label_at}
 use Rattle.segment_groups.specs.Level.{HasKey, IsFirst}

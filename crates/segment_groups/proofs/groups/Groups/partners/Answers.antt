@@ -1,4 +1,4 @@
-use Rattle.std.proofs.Common.{◌≡◌, ◌+◌, ◌-◌, ◌<◌, ℕ, List, length, sym, subst, arith}
+use Rattle.std.proofs.Common.{◌≡◌, ◌+◌, ◌-◌, ℕ, List, length, sym, subst, arith}
 use Rattle.stride_summary.proofs.Holding.{on_err_from}
 use Rattle.log_segment.specs.declared.segment.Segment.{Segment}
 use Rattle.segment_groups.specs.Group.{label_at}

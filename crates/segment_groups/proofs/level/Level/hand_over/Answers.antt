@@ -1,7 +1,6 @@
-use Rattle.std.proofs.Common.{◌≡◌, ◌<◌, ◌+◌, ℕ, length, Option, Some, subst, sym, rules}
-use Rattle.std.proofs.lemmas.Result.{on_err_weaker}
+use Rattle.std.proofs.Common.{◌<◌, ℕ, length, Option, subst, sym, rules}
 use Rattle.stride_summary.proofs.Holding.{on_err_from}
-use Rattle.segment_groups.specs.Level.{IsInLaterLane, IsLevel, IsMember, Labels}
+use Rattle.segment_groups.specs.Level.{IsInLaterLane, IsMember}
 use Rattle.segment_groups.proofs.Chains.{HasPassed, IsNext, passed_more, passed_none}
 use Rattle.segment_groups.proofs.Levels.{follow, handed_over, in_range, later_first, left_falls, next_first, stopped_at}
 use Rattle.segment_groups.proofs.level.Level.hand_over.Goals as goal
