@@ -7,7 +7,7 @@ use Rattle.log_segment.specs.declared.segment.Segment.{Segment}
 use Rattle.segment_groups.specs.Group.{label_at, label_of}
 use Rattle.segment_groups.specs.Level.{AreGroups, HaveLevels, IsInLaterLane, IsLevel, Labels, LanesAscend}
 use Rattle.segment_groups.specs.declared.level.Level.{Level}
-use Rattle.segment_groups.specs.Partners.{HandsOver, IsPartner, StopsAt}
+use Rattle.segment_groups.specs.Partners.{HandsOver, IsPartner, RefusesAt}
 use Rattle.segment_groups.proofs.Lists.{AreAll-append, AreAll-none, AreAll-same, three}
 use Rattle.segment_groups.proofs.TreeGroups.{deeper_first, label_within, lanes_ascend, later_concurrent, partner_later}
 
@@ -87,8 +87,8 @@ module _ (segments : List Segment) (tree : StandInOneTree segments) (at : ℕ) w
 
   -- one that is refused at a depth
   pub stops_at_depth : {S : Type 0} (took refused : S → ℕ → S → Type 0) (depth : ℕ) (before now after : S) (old mid new : ℕ) → 0 < depth
-      → HandsOver took (IsDeeper depth (label_at segments) at) before now old mid → StopsAt took refused (IsInLaterLane depth (label_at segments) at) now after mid new
-      → StopsAt took refused (IsPartner segments at) before after old new
+      → HandsOver took (IsDeeper depth (label_at segments) at) before now old mid → RefusesAt took refused (IsInLaterLane depth (label_at segments) at) now after mid new
+      → RefusesAt took refused (IsPartner segments at) before after old new
   stops_at_depth took refused depth before now after old mid new below deep stop =
       let long : length (deep.found ++ stop.found) ≡ length deep.found + length stop.found = length-append deep.found stop.found in
       let first = deep.cost in

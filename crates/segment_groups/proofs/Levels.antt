@@ -1,8 +1,8 @@
 -- Going along a chain of a level.
 use Rattle.std.proofs.Common.{◌≡◌, ℕ, ◌+◌, ◌-◌, ◌<◌, length, Option, Some, None, get_or, sym, subst, ◌∙◌, arith}
 use Rattle.segment_groups.specs.Group.{ShareGroup}
-use Rattle.segment_groups.specs.Level.{IsFirst, IsInLaterLane, IsLevel, IsMember, Labels}
-use Rattle.segment_groups.specs.Partners.{HandsOver, StopsAt}
+use Rattle.segment_groups.specs.Level.{IsLeast, IsInLaterLane, IsLevel, IsMember, Labels}
+use Rattle.segment_groups.specs.Partners.{HandsOver, RefusesAt}
 use Rattle.segment_groups.specs.declared.level.Level.{Level}
 use Rattle.segment_groups.proofs.Chains.{Follow, HasPassed, positions_left}
 
@@ -10,11 +10,11 @@ pub same_group : (depth : ℕ) (labels : Labels) (at one other : ℕ) → IsMemb
 same_group depth labels at one other mine yours = record { mine = mine.group.yours; yours = yours.group.yours; same = sym mine.group.same ∙ yours.group.same }
 
 module _ (depth : ℕ) (labels : Labels) (level : Level) (is : IsLevel depth labels level) where
-  pub later_first : (at : ℕ) (found : Option ℕ) → at < length level.next.items → found ≡ get_or level.later.items at found → IsFirst (IsInLaterLane depth labels at) found
-  later_first at found within read = subst (λ (o : Option ℕ). IsFirst (IsInLaterLane depth labels at) o) (sym read) (is.chains.later at found (omega arith) within)
+  pub later_first : (at : ℕ) (found : Option ℕ) → at < length level.next.items → found ≡ get_or level.later.items at found → IsLeast (IsInLaterLane depth labels at) found
+  later_first at found within read = subst (λ (o : Option ℕ). IsLeast (IsInLaterLane depth labels at) o) (sym read) (is.chains.later at found (omega arith) within)
 
-  pub next_first : (at : ℕ) (found : Option ℕ) → at < length level.next.items → found ≡ get_or level.next.items at found → IsFirst (IsMember depth labels at) found
-  next_first at found within read = subst (λ (o : Option ℕ). IsFirst (IsMember depth labels at) o) (sym read) (is.chains.next at found (omega arith) within)
+  pub next_first : (at : ℕ) (found : Option ℕ) → at < length level.next.items → found ≡ get_or level.next.items at found → IsLeast (IsMember depth labels at) found
+  next_first at found within read = subst (λ (o : Option ℕ). IsLeast (IsMember depth labels at) o) (sym read) (is.chains.next at found (omega arith) within)
 
   pub in_range : (at n : ℕ) → IsMember depth labels at n → n < length level.next.items
   in_range at n member = is.within n (let deep = member.group.yours in omega arith)
@@ -31,11 +31,11 @@ module _ (depth : ℕ) (labels : Labels) (level : Level) (is : IsLevel depth lab
     from = λ n p less. record { later = less; group = same_group depth labels at last n here.member p.member };
   }
 
-  pub left_falls : (at position : ℕ) (cursor next : Option ℕ) → cursor ≡ Some position → position < length level.next.items → IsFirst (IsMember depth labels position) next
+  pub left_falls : (at position : ℕ) (cursor next : Option ℕ) → cursor ≡ Some position → position < length level.next.items → IsLeast (IsMember depth labels position) next
       → positions_left (length level.next.items) next < positions_left (length level.next.items) cursor
   left_falls at position cursor next here within first = subst (λ (o : Option ℕ). positions_left (length level.next.items) next < positions_left (length level.next.items) o) (sym here) (falls next first)
     where
-      falls : (next : Option ℕ) → IsFirst (IsMember depth labels position) next → positions_left (length level.next.items) next < length level.next.items - position
+      falls : (next : Option ℕ) → IsLeast (IsMember depth labels position) next → positions_left (length level.next.items) next < length level.next.items - position
       falls None none = omega arith
       falls (Some n) first = let up = first.0.later in let range = in_range position n first.0 in omega arith
 
@@ -46,8 +46,8 @@ handed_over took P cursor before after old new ended passed = at (subst (λ (o :
     at all = record { found = all.found; all = all.all; takes = all.takes; cost = all.cost }
 
 pub stopped_at : {S : Type 0} (took refused : S → ℕ → S → Type 0) (P : ℕ → Type 0) (cursor : Option ℕ) (position : ℕ) (before now after : S) (old mid new : ℕ) → cursor ≡ Some position → new ≡ mid + 1 → refused now position after
-    → HasPassed took P cursor before now old mid → StopsAt took refused P before after old new
+    → HasPassed took P cursor before now old mid → RefusesAt took refused P before after old new
 stopped_at took refused P cursor position before now after old mid new here step refusal passed = at (subst (λ (o : Option ℕ). HasPassed took P o before now old mid) here passed)
   where
-    at : HasPassed took P (Some position) before now old mid → StopsAt took refused P before after old new
+    at : HasPassed took P (Some position) before now old mid → RefusesAt took refused P before after old new
     at some = record { next = position; is_one = some.next; found = some.found; all = some.all; between = now; takes = some.takes; refuses = refusal; cost = (let cost = some.cost in omega arith) }

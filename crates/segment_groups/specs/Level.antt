@@ -29,9 +29,9 @@ pub record HasKey (depth : ℕ) (labels : Labels) (key : List ℕ) (position : �
   pub keyed : group_key depth (labels position) ≡ key
 
 -- the least number with the property, or none where there is none
-abbrev pub IsFirst : (ℕ → Type 0) → Option ℕ → Type 0
-IsFirst P None = (n : ℕ) → P n → ⊥
-IsFirst P (Some least) = P least × ((n : ℕ) → P n → least ≤ n)
+abbrev pub IsLeast : (ℕ → Type 0) → Option ℕ → Type 0
+IsLeast P None = (n : ℕ) → P n → ⊥
+IsLeast P (Some least) = P least × ((n : ℕ) → P n → least ≤ n)
 
 -- in a group the lanes ascend with the positions
 abbrev pub LanesAscend : ℕ → Labels → Type 0
@@ -41,21 +41,21 @@ LanesAscend depth labels = (i j : ℕ) → IsMember depth labels i j → lane_at
 pub record IsThreaded (depth : ℕ) (labels : Labels) (from count : ℕ) (nexts laters : List (Option ℕ)) : Type 0 where
   pub next_count : length nexts ≡ count
   pub later_count : length laters ≡ count
-  pub next : (at : ℕ) (d : Option ℕ) → from ≤ at → at < count → IsFirst (IsMember depth labels at) (slice_index_or nexts at d)
-  pub later : (at : ℕ) (d : Option ℕ) → from ≤ at → at < count → IsFirst (IsInLaterLane depth labels at) (slice_index_or laters at d)
+  pub next : (at : ℕ) (d : Option ℕ) → from ≤ at → at < count → IsLeast (IsMember depth labels at) (slice_index_or nexts at d)
+  pub later : (at : ℕ) (d : Option ℕ) → from ≤ at → at < count → IsLeast (IsInLaterLane depth labels at) (slice_index_or laters at d)
 
 -- the first of each group from this position on
 abbrev pub AreHeads : ℕ → Labels → ℕ → BTreeMap (Vec ℕ) ℕ → Type 0
-AreHeads depth labels from heads = (key : Vec ℕ) → IsFirst (λ n. (from ≤ n) × HasKey depth labels key.items n) (get (λ x y. slice_cmp nat_cmp x.items y.items) heads key)
+AreHeads depth labels from heads = (key : Vec ℕ) → IsLeast (λ n. (from ≤ n) × HasKey depth labels key.items n) (get (λ x y. slice_cmp nat_cmp x.items y.items) heads key)
 
 -- a label stands at these positions alone
-abbrev pub AreWithin : ℕ → Labels → Type 0
-AreWithin count labels = (position : ℕ) → 0 < length (labels position) → position < count
+abbrev pub HasLabelsBelow : ℕ → Labels → Type 0
+HasLabelsBelow count labels = (position : ℕ) → 0 < length (labels position) → position < count
 
 -- the groups of a depth
 pub record IsLevel (depth : ℕ) (labels : Labels) (level : Level) : Type 0 where
   pub lanes : LanesAscend depth labels
-  pub within : AreWithin (length level.next.items) labels
+  pub within : HasLabelsBelow (length level.next.items) labels
   pub chains : IsThreaded depth labels 0 (length level.next.items) level.next.items level.later.items
 
 -- the labels have at most so many levels

@@ -25,7 +25,7 @@ pub record HandsOver {S : Type 0} (took : S → ℕ → S → Type 0) (P : ℕ �
   pub cost : new ≤ old + length found
 
 -- those before one of them were taken in turn, and this one was refused
-pub record StopsAt {S : Type 0} (took refused : S → ℕ → S → Type 0) (P : ℕ → Type 0) (before after : S) (old new : ℕ) : Type 0 where
+pub record RefusesAt {S : Type 0} (took refused : S → ℕ → S → Type 0) (P : ℕ → Type 0) (before after : S) (old new : ℕ) : Type 0 where
   pub next : ℕ
   pub is_one : P next
   pub found : List ℕ

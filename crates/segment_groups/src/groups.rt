@@ -1,7 +1,7 @@
 ghost use Rattle.std.specs.Prelude.{◌≡◌, ◌+◌, ◌<◌, length, OnOk, OnErr, IfOk};
 ghost use Rattle.log_segment.specs.OneTree.{StandInOneTree};
 ghost use Rattle.segment_groups.specs.Level.{HaveLevels};
-ghost use Rattle.segment_groups.specs.Partners.{HandsOver, IsPartner, StopsAt};
+ghost use Rattle.segment_groups.specs.Partners.{HandsOver, IsPartner, RefusesAt};
 
 use crate::level::Level;
 use crate::partner::Partner;
@@ -74,7 +74,7 @@ impl<'s> Groups<'s> {
     ) -> Result<(), Memory>
         requires { at < length self.now }
         ensures taken { OnOk result (HandsOver V.took (IsPartner self.now at) visit.old visit.new steps.old steps.new) }
-        ensures refused { OnErr result (StopsAt V.took V.refused (IsPartner self.now at) visit.old visit.new steps.old steps.new) }
+        ensures refused { OnErr result (RefusesAt V.took V.refused (IsPartner self.now at) visit.old visit.new steps.old steps.new) }
     {
         for level in &self.levels {
             level.hand_over(at, visit, steps)?;

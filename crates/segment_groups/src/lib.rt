@@ -14,3 +14,6 @@ mod partner;
 
 pub use groups::Groups;
 pub use partner::Partner;
+
+#[cfg(test)]
+mod tests;
