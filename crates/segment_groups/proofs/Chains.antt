@@ -21,16 +21,16 @@ pub record HasPassed {S : Type 0} (took : S → ℕ → S → Type 0) (P : ℕ �
   pub found : List ℕ
   pub all : AreAll (IsPassed P cursor) found
   pub takes : Takes took before found now
-  pub cost : new ≤ old + length found
+  pub steps : new ≡ old + length found
 
 pub passed_none : {S : Type 0} (took : S → ℕ → S → Type 0) (P : ℕ → Type 0) (cursor : Option ℕ) (before : S) (old : ℕ) → IsLeast P cursor → HasPassed took P cursor before before old old
-passed_none took P None before old first = record { next = tt; found = []; all = AreAll-none P first; takes = refl; cost = omega arith }
+passed_none took P None before old first = record { next = tt; found = []; all = AreAll-none P first; takes = refl; steps = omega arith }
 passed_none took P (Some least) before old first = record {
   next = first.0;
   found = [];
   all = AreAll-none (λ n. P n × (n < least)) (λ n both. let up = first.1 n both.0 in let less = both.1 in omega arith);
   takes = refl;
-  cost = omega arith;
+  steps = omega arith;
 }
 
 -- those after a number, of which the first is next
@@ -70,13 +70,13 @@ pub passed_more : {S : Type 0} (took : S → ℕ → S → Type 0) (P After : �
     → took now last after → HasPassed took P (Some last) before now old new → HasPassed took P next before after old (new + 1)
 passed_more took P After last next before now after old new follow first took_it so_far =
     let long : length (so_far.found ++ last ∷ []) ≡ length so_far.found + 1 = length-append so_far.found (last ∷ []) in
-    let cost = so_far.cost in
+    let steps = so_far.steps in
     record {
       next = next_one P After last next follow first;
       found = so_far.found ++ last ∷ [];
       all = all_passed P After last next so_far.found follow first so_far.next so_far.all;
       takes = Takes-append took before now after so_far.found (last ∷ []) so_far.takes (after, took_it, refl);
-      cost = omega arith;
+      steps = omega arith;
     }
 
 -- how many positions there are from the one that is next on

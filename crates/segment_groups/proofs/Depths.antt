@@ -34,7 +34,7 @@ deepest_none took segments depth at before old few = record {
   found = [];
   all = AreAll-none (IsDeeper depth (label_at segments) at) (λ n h. let mine = h.later.member.group.mine in let most = few_levels (depth + 1) segments at few in let deeper = h.deeper in omega arith);
   takes = refl;
-  cost = omega arith;
+  steps = omega arith;
 }
 
 -- those at this depth after the deeper ones
@@ -42,14 +42,14 @@ pub one_less_deep : {S : Type 0} (took : S → ℕ → S → Type 0) (labels : L
     → HandsOver took (IsDeeper depth labels at) before now old mid → HandsOver took (IsInLaterLane depth labels at) now after mid new → HandsOver took (IsDeeper below labels at) before after old new
 one_less_deep took labels depth below at before now after old mid new ascend next deep here =
     let long : length (deep.found ++ here.found) ≡ length deep.found + length here.found = length-append deep.found here.found in
-    let first = deep.cost in
-    let second = here.cost in
+    let first = deep.steps in
+    let second = here.steps in
     record {
       found = deep.found ++ here.found;
       all = AreAll-same (λ n. IsDeeper depth labels at n ⊎ IsInLaterLane depth labels at n) (IsDeeper below labels at) (deep.found ++ here.found) to from
           (AreAll-append (IsDeeper depth labels at) (IsInLaterLane depth labels at) deep.found here.found (λ j k d s. deeper_first labels depth d.depth at j k ascend d.deeper d.later s) deep.all here.all);
       takes = Takes-append took before now after deep.found here.found deep.takes here.takes;
-      cost = omega arith;
+      steps = omega arith;
     }
   where
     to : (n : ℕ) → IsDeeper depth labels at n ⊎ IsInLaterLane depth labels at n → IsDeeper below labels at n
@@ -82,7 +82,7 @@ module _ (segments : List Segment) (tree : StandInOneTree segments) (at : ℕ) w
     found = all.found;
     all = AreAll-same (IsDeeper 0 (label_at segments) at) (IsPartner segments at) all.found (deeper_partner 0) partner_deeper all.all;
     takes = all.takes;
-    cost = all.cost;
+    steps = all.steps;
   }
 
   -- one that is refused at a depth
@@ -91,8 +91,8 @@ module _ (segments : List Segment) (tree : StandInOneTree segments) (at : ℕ) w
       → RefusesAt took refused (IsPartner segments at) before after old new
   stops_at_depth took refused depth before now after old mid new below deep stop =
       let long : length (deep.found ++ stop.found) ≡ length deep.found + length stop.found = length-append deep.found stop.found in
-      let first = deep.cost in
-      let second = stop.cost in
+      let first = deep.steps in
+      let second = stop.steps in
       record {
         next = stop.next;
         is_one = here stop.next stop.is_one;
@@ -103,7 +103,7 @@ module _ (segments : List Segment) (tree : StandInOneTree segments) (at : ℕ) w
         between = stop.between;
         takes = Takes-append took before now stop.between deep.found stop.found deep.takes stop.takes;
         refuses = stop.refuses;
-        cost = omega arith;
+        steps = omega arith;
       }
     where
       ascend : LanesAscend depth (label_at segments)

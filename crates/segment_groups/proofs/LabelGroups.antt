@@ -1,12 +1,31 @@
 -- Two labels are concurrent exactly where they share a group and their lanes differ there.
-use Rattle.std.proofs.Common.{◌≡◌, ◌≢◌, ◌⊎◌, inl, inr, ℕ, zero, suc, ◌%◌, ◌<◌, List, [], ◌∷◌, ◌++◌, refl, sym, ap, arith}
+use Rattle.std.proofs.Common.{◌≡◌, ◌≢◌, ◌⊎◌, inl, inr, ℕ, zero, suc, ◌%◌, ◌<◌, List, [], ◌∷◌, ◌++◌, refl, sym, ap, subst, arith}
 use Rattle.race_model.specs.Label.{Triple, IsConcurrent, IsLabelBefore, IsTripleBefore}
 use Rattle.race_model.proofs.LabelOrder.{label_before_first, label_before_rest, not_earlier}
 use Rattle.segment_groups.specs.Group.{ShareGroup, group_key, lane_at}
+use Rattle.segment_groups.proofs.Lists.{three}
 
 -- a triple before another of the same barrier number is of the same lane
 same_lane : (t u : Triple) → t.barrier ≡ u.barrier → IsTripleBefore t u → t.offset % t.span ≡ u.offset % u.span
 same_lane t u same before = elim before.earlier [ inl less ↦ absurd (omega arith) | inr both ↦ both.2 ]
+
+-- labels that share a group below their first triple share that one
+pub record ShareFirst (depth : ℕ) (t u : Triple) (l m : List Triple) : Type 0 where
+  pub first : t ≡ u
+  pub rest : ShareGroup depth l m
+
+pub share_first : (depth : ℕ) (t u : Triple) (l m : List Triple) → ShareGroup (suc depth) (t ∷ l) (u ∷ m) → ShareFirst depth t u l m
+share_first depth t u l m share =
+    let same : t.span ∷ t.barrier ∷ t.offset ∷ group_key depth l ≡ u.span ∷ u.barrier ∷ u.offset ∷ group_key depth m = share.same in
+    let spans : t.span ≡ u.span = cc in
+    let barriers : t.barrier ≡ u.barrier = cc in
+    let offsets : t.offset ≡ u.offset = cc in
+    let mine = share.mine in
+    let yours = share.yours in
+    record {
+      first = λ i. record { offset = offsets i; span = spans i; barrier = barriers i };
+      rest = record { mine = omega arith; yours = omega arith; same = cc };
+    }
 
 pub apart_concurrent : (depth : ℕ) (l m : List Triple) → ShareGroup depth l m → (lane_at depth l ≢ lane_at depth m) → IsConcurrent l m
 apart_concurrent depth [] m share differ = absurd (let mine = share.mine in omega arith)
@@ -21,18 +40,12 @@ apart_concurrent zero (t ∷ l) (u ∷ m) share differ =
       not_after = λ after. differ (sym (same_lane u t (sym barriers) (label_before_first u t m l (λ e. apart (sym e)) after)));
     }
 apart_concurrent (suc depth) (t ∷ l) (u ∷ m) share differ =
-    let same : t.span ∷ t.barrier ∷ t.offset ∷ group_key depth l ≡ u.span ∷ u.barrier ∷ u.offset ∷ group_key depth m = share.same in
-    let spans : t.span ≡ u.span = cc in
-    let barriers : t.barrier ≡ u.barrier = cc in
-    let offsets : t.offset ≡ u.offset = cc in
-    let first : t ≡ u = λ i. record { offset = offsets i; span = spans i; barrier = barriers i } in
-    let mine = share.mine in
-    let yours = share.yours in
-    let rest = apart_concurrent depth l m (record { mine = omega arith; yours = omega arith; same = (let tails : group_key depth l ≡ group_key depth m = cc in tails) }) differ in
+    let one = share_first depth t u l m share in
+    let below = apart_concurrent depth l m one.rest differ in
     record {
-      different = λ e. rest.different (let whole : t ∷ l ≡ u ∷ m = e in cc);
-      not_before = λ before. rest.not_before (label_before_rest t u l m first before);
-      not_after = λ after. rest.not_after (label_before_rest u t m l (sym first) after);
+      different = λ e. below.different (let whole : t ∷ l ≡ u ∷ m = e in cc);
+      not_before = λ before. below.not_before (label_before_rest t u l m one.first before);
+      not_after = λ after. below.not_after (label_before_rest u t m l (sym one.first) after);
     }
 
 -- where the labels part, their teams are of one span
@@ -44,9 +57,6 @@ pub record ArePartedAt (l m : List Triple) : Type 0 where
   pub depth : ℕ
   pub share : ShareGroup depth l m
   pub lanes : lane_at depth l ≢ lane_at depth m
-
-three : (m n : ℕ) → (m < n) ⊎ ((m ≡ n) ⊎ (n < m))
-three m n = grind arith
 
 same_or_apart : (m n : ℕ) → (m ≡ n) ⊎ (m ≢ n)
 same_or_apart m n = grind arith
@@ -80,15 +90,9 @@ concurrent_parted (t ∷ l) (u ∷ m) agree c = by_barriers (three t.barrier u.b
     rest : t ≡ u → IsConcurrent l m
     rest first = record {
       different = λ e. c.different (λ i. first i ∷ e i);
-      not_before = λ is. c.not_before (let same = IsLabelBefore.same t l m is in subst_second same);
-      not_after = λ is. c.not_after (let same = IsLabelBefore.same u m l is in subst_third same);
+      not_before = λ is. c.not_before (subst (λ (v : Triple). IsLabelBefore (t ∷ l) (v ∷ m)) first (IsLabelBefore.same t l m is));
+      not_after = λ is. c.not_after (subst (λ (v : Triple). IsLabelBefore (v ∷ m) (t ∷ l)) first (IsLabelBefore.same t m l is));
     }
-      where
-        subst_second : IsLabelBefore (t ∷ l) (t ∷ m) → IsLabelBefore (t ∷ l) (u ∷ m)
-        subst_second is = rw (← first) is
-
-        subst_third : IsLabelBefore (u ∷ m) (u ∷ l) → IsLabelBefore (u ∷ m) (t ∷ l)
-        subst_third is = rw first is
 
     by_offsets : t.barrier ≡ u.barrier → t.offset % t.span ≡ u.offset % u.span → (t.offset < u.offset) ⊎ ((t.offset ≡ u.offset) ⊎ (u.offset < t.offset))
         → (AgreeOnSpans l m → IsConcurrent l m → ArePartedAt l m) → ArePartedAt (t ∷ l) (u ∷ m)

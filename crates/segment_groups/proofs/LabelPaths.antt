@@ -9,8 +9,8 @@ use Rattle.race_model.specs.Order.{IsLane, lane_path}
 use Rattle.race_model.specs.Trace.{Logs, Node, regions_before}
 use Rattle.race_model.proofs.LabelPlace.{HasLast, label_last, not_both_empty, offset_residue, same_place, same_region, is_region}
 use Rattle.race_model.proofs.Parting.{ancestor}
-use Rattle.segment_groups.specs.Group.{ShareGroup, group_key, lane_at}
-use Rattle.segment_groups.proofs.LabelGroups.{AgreeOnSpans}
+use Rattle.segment_groups.specs.Group.{ShareGroup, lane_at}
+use Rattle.segment_groups.proofs.LabelGroups.{AgreeOnSpans, ShareFirst, share_first}
 
 -- the step from a task with the first triple to one with the second
 abbrev step_of : Triple → Triple → Step
@@ -128,28 +128,19 @@ lanes_up depth (t ∷ u ∷ l) [] up share = absurd (let yours = share.yours in 
 lanes_up depth (t ∷ u ∷ l) (v ∷ []) up share = absurd (let yours = share.yours in omega arith)
 lanes_up zero (t ∷ u ∷ l) (v ∷ w ∷ m) up share = at (first_step (step_of t u) (step_of v w) (path_of (u ∷ l)) (path_of (w ∷ m)) up)
   where
-    regions : t.offset / t.span ≡ v.offset / v.span
-    regions =
-        let same : t.span ∷ t.barrier ∷ t.offset ∷ u.span ∷ u.barrier ∷ [] ≡ v.span ∷ v.barrier ∷ v.offset ∷ w.span ∷ w.barrier ∷ [] = share.same in
-        let spans : t.span ≡ v.span = cc in
-        let offsets : t.offset ≡ v.offset = cc in
-        λ i. offsets i / spans i
-
     at : ((step_of t u ≡ step_of v w) × IsPathUpTo (path_of (u ∷ l)) (path_of (w ∷ m))) ⊎ IsStepBefore (step_of t u) (step_of v w) → u.offset % u.span ≤ w.offset % w.span
     at (inl same) = let lanes : u.offset % u.span ≡ w.offset % w.span = ap (λ (s : Step). s.lane) same.0 in omega arith
-    at (inr less) = lane_first (step_of t u) (step_of v w) regions less
+    at (inr less) = lane_first (step_of t u) (step_of v w) (ap (λ (a : Triple). a.offset / a.span) (share_first 0 t v (u ∷ l) (w ∷ m) share).first) less
 lanes_up (suc depth) (t ∷ u ∷ l) (v ∷ w ∷ m) up share = at (first_step (step_of t u) (step_of v w) (path_of (u ∷ l)) (path_of (w ∷ m)) up) (lanes_up depth (u ∷ l) (w ∷ m))
   where
-    alike : (t.offset ≡ v.offset) × (t.span ≡ v.span) × (u.offset ≡ w.offset) × (u.span ≡ w.span) × (group_key (suc depth) (u ∷ l) ≡ group_key (suc depth) (w ∷ m))
-    alike =
-        let same : t.span ∷ t.barrier ∷ t.offset ∷ u.span ∷ u.barrier ∷ u.offset ∷ group_key depth l ≡ v.span ∷ v.barrier ∷ v.offset ∷ w.span ∷ w.barrier ∷ w.offset ∷ group_key depth m = share.same in
-        (cc, cc, cc, cc, cc)
+    above : ShareFirst (suc depth) t v (u ∷ l) (w ∷ m)
+    above = share_first (suc depth) t v (u ∷ l) (w ∷ m) share
+
+    steps : step_of t u ≡ step_of v w
+    steps = λ i. step_of (above.first i) ((share_first depth u w l m above.rest).first i)
 
     at : ((step_of t u ≡ step_of v w) × IsPathUpTo (path_of (u ∷ l)) (path_of (w ∷ m))) ⊎ IsStepBefore (step_of t u) (step_of v w)
         → (IsPathUpTo (path_of (u ∷ l)) (path_of (w ∷ m)) → ShareGroup (suc depth) (u ∷ l) (w ∷ m) → lane_at (suc depth) (u ∷ l) ≤ lane_at (suc depth) (w ∷ m))
         → lane_at (suc (suc depth)) (t ∷ u ∷ l) ≤ lane_at (suc (suc depth)) (v ∷ w ∷ m)
-    at (inr less) rec = absurd (not_itself (step_of t u) (step_of v w) (λ i. record { region = alike.0 i / alike.1 i; lane = alike.2 i % alike.3 i; span = alike.3 i }) less)
-    at (inl same) rec =
-        let mine = share.mine in
-        let yours = share.yours in
-        rec same.1 (record { mine = omega arith; yours = omega arith; same = alike.4 })
+    at (inr less) rec = absurd (not_itself (step_of t u) (step_of v w) steps less)
+    at (inl same) rec = rec same.1 above.rest

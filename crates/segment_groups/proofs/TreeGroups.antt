@@ -11,10 +11,10 @@ use Rattle.log_segment.proofs.Runs.{event_back, events_numbered, run_back, run_n
 use Rattle.race_model.specs.Label.{Triple, IsConcurrent, IsLabel, lane_triple}
 use Rattle.race_model.specs.Segment.{Event, has_access, runs_of, events, last_number, segment_of}
 use Rattle.race_model.specs.Trace.{Logs, Node}
-use Rattle.segment_groups.specs.Group.{ShareGroup, group_key, label_at, label_of, lane_at}
+use Rattle.segment_groups.specs.Group.{ShareGroup, label_at, label_of, lane_at}
 use Rattle.segment_groups.specs.Level.{IsInLaterLane, IsMember, Labels, LanesAscend}
 use Rattle.segment_groups.specs.Partners.{IsPartner}
-use Rattle.segment_groups.proofs.LabelGroups.{ArePartedAt, apart_concurrent, concurrent_parted}
+use Rattle.segment_groups.proofs.LabelGroups.{ArePartedAt, apart_concurrent, concurrent_parted, share_first}
 use Rattle.segment_groups.proofs.LabelPaths.{IsPathUpTo, lanes_up, path_of, spans_agree, told}
 
 -- a record of the segment
@@ -156,22 +156,17 @@ share_above depth zero l m less share = absurd (omega arith)
 share_above depth (suc more) [] m less share = absurd (let mine = share.mine in omega arith)
 share_above depth (suc more) (t ∷ l) [] less share = absurd (let yours = share.yours in omega arith)
 share_above zero (suc more) (t ∷ l) (u ∷ m) less share =
-    let same : t.span ∷ t.barrier ∷ t.offset ∷ group_key more l ≡ u.span ∷ u.barrier ∷ u.offset ∷ group_key more m = share.same in
-    let spans : t.span ≡ u.span = cc in
-    let barriers : t.barrier ≡ u.barrier = cc in
-    let offsets : t.offset ≡ u.offset = cc in
-    record { share = record { mine = omega arith; yours = omega arith; same = λ i. spans i ∷ barriers i ∷ [] }; lane = λ i. offsets i % spans i }
+    let first = (share_first more t u l m share).first in
+    record { share = record { mine = omega arith; yours = omega arith; same = ap (λ (v : Triple). v.span ∷ v.barrier ∷ []) first }; lane = ap (λ (v : Triple). v.offset % v.span) first }
 share_above (suc depth) (suc more) (t ∷ l) (u ∷ m) less share =
-    let same : t.span ∷ t.barrier ∷ t.offset ∷ group_key more l ≡ u.span ∷ u.barrier ∷ u.offset ∷ group_key more m = share.same in
-    let mine = share.mine in
-    let yours = share.yours in
-    let tails : group_key more l ≡ group_key more m = cc in
-    let rest = share_above depth more l m (omega arith) (record { mine = omega arith; yours = omega arith; same = tails }) in
-    let mine_above = rest.share.mine in
-    let yours_above = rest.share.yours in
-    let key : group_key depth l ≡ group_key depth m = rest.share.same in
-    let firsts : (t.span ≡ u.span) × (t.barrier ≡ u.barrier) × (t.offset ≡ u.offset) = (cc, cc, cc) in
-    record { share = record { mine = omega arith; yours = omega arith; same = λ i. firsts.0 i ∷ firsts.1 i ∷ firsts.2 i ∷ key i }; lane = rest.lane }
+    let one = share_first more t u l m share in
+    let below = share_above depth more l m (omega arith) one.rest in
+    let mine = below.share.mine in
+    let yours = below.share.yours in
+    record {
+      share = record { mine = omega arith; yours = omega arith; same = λ i. (one.first i).span ∷ (one.first i).barrier ∷ (one.first i).offset ∷ below.share.same i };
+      lane = below.lane;
+    }
 
 -- the partners at a greater depth stand first
 pub deeper_first : (labels : Labels) (depth more : ℕ) (at j k : ℕ) → LanesAscend depth labels → depth < more → IsInLaterLane more labels at j → IsInLaterLane depth labels at k → j < k

@@ -1,5 +1,5 @@
 -- The partners of a segment, and handing them over.
-use Rattle.std.specs.Prelude.{◌↔◌, ℕ, ◌+◌, ◌<◌, ◌≤◌, List, length, Contains}
+use Rattle.std.specs.Prelude.{◌≡◌, ◌↔◌, ℕ, ◌+◌, ◌<◌, List, length, Contains}
 use Rattle.std.specs.List.Sorted.{IsStrictlyIncreasing}
 use Rattle.interval_tree.specs.Visits.{Takes}
 use Rattle.race_model.specs.Label.{IsConcurrent}
@@ -22,7 +22,7 @@ pub record HandsOver {S : Type 0} (took : S → ℕ → S → Type 0) (P : ℕ �
   pub found : List ℕ
   pub all : AreAll P found
   pub takes : Takes took before found after
-  pub cost : new ≤ old + length found
+  pub steps : new ≡ old + length found
 
 -- those before one of them were taken in turn, and this one was refused
 pub record RefusesAt {S : Type 0} (took refused : S → ℕ → S → Type 0) (P : ℕ → Type 0) (before after : S) (old new : ℕ) : Type 0 where
@@ -33,4 +33,4 @@ pub record RefusesAt {S : Type 0} (took refused : S → ℕ → S → Type 0) (P
   pub between : S
   pub takes : Takes took before found between
   pub refuses : refused between next after
-  pub cost : new ≤ old + length found + 1
+  pub steps : new ≡ old + length found + 1
