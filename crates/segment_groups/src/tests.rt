@@ -38,7 +38,8 @@ fn spell(log: &mut Vec<u8>, record: &Rec) -> Result<(), AllocError> {
 }
 
 fn spell_row(index: &mut Vec<u8>, steps: &[Step], records: &[Rec]) -> Result<(), AllocError> {
-    index.extend_from_slice(&[0, 0, 0, steps.len() as u8, 0, 0, 0, 0])?;
+    index.extend_from_slice(&(steps.len() as u64).to_be_bytes()[4..])?;
+    index.extend_from_slice(&[0; 4])?;
     for (region, lane, span) in steps {
         index.extend_from_slice(&[0, 0, 0, *region, 0, *lane, 0, *span])?;
     }
