@@ -37,25 +37,23 @@ fn spell(log: &mut Vec<u8>, record: &Rec) -> Result<(), AllocError> {
     log.extend_from_slice(&bytes)
 }
 
-fn spell_row(index: &mut Vec<u8>, steps: &[Step], records: &[Rec]) -> Result<(), AllocError> {
+// Adds the row of a task to the index, and the steps of its path to the name of its log.
+fn spell_row(
+    index: &mut Vec<u8>,
+    name: &mut String,
+    steps: &[Step],
+    records: &[Rec],
+) -> Result<(), AllocError> {
     index.extend_from_slice(&(steps.len() as u64).to_be_bytes()[4..])?;
     index.extend_from_slice(&[0; 4])?;
     for (region, lane, span) in steps {
         index.extend_from_slice(&[0, 0, 0, *region, 0, *lane, 0, *span])?;
+        write!(name, "-{region}.{lane}")?;
     }
     for _ in steps.len()..4 {
         index.extend_from_slice(&[0; 8])?;
     }
     index.extend_from_slice(&(records.len() as u64).to_be_bytes())
-}
-
-fn log_name(alloc: Global, steps: &[Step]) -> Result<String, AllocError> {
-    let mut name = String::from_str(alloc, "d/t")?;
-    for (region, lane, _) in steps {
-        write!(name, "-{region}.{lane}")?;
-    }
-    name.push_str(".swl")?;
-    Ok(name)
 }
 
 fn folder(alloc: Global, tasks: &[Task<'_>]) -> Result<MemFolder, Fail> {
@@ -66,8 +64,10 @@ fn folder(alloc: Global, tasks: &[Task<'_>]) -> Result<MemFolder, Fail> {
         for record in records.iter() {
             spell(&mut log, record)?;
         }
-        folder.hold(&log_name(alloc, steps)?, &log)?;
-        spell_row(&mut index, steps, records)?;
+        let mut name = String::from_str(alloc, "d/t")?;
+        spell_row(&mut index, &mut name, steps, records)?;
+        name.push_str(".swl")?;
+        folder.hold(&name, &log)?;
     }
     folder.hold("d/index.swi", &index)?;
     Ok(folder)
