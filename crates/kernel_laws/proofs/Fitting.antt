@@ -38,30 +38,41 @@ code-fits p site (Assign line name sign_line value rest) small =
 code-fits p site (Store line name opened index closed sign_line value rest) small =
     let behind = mark closed sign.CloseBracket ∷ mark sign_line sign.Assign ∷ tree_tokens value ++ stmts_tokens rest in
     let first = small-split (tree_tokens index) behind small.1.1 in
-    let parts = small-split (tree_tokens value) (stmts_tokens rest) first.1.1.1 in
-    (term-fits p.names (site + 1) index first.0, term-fits p.names (site + 1 + sites index) value parts.0,
-    code-fits p (site + 1 + sites index + sites value) rest parts.1)
+    let parts = small-split (tree_tokens value) (stmts_tokens rest) first.1.1.1 in (
+      term-fits p.names (site + 1) index first.0,
+      term-fits p.names (site + 1 + sites index) value parts.0,
+      code-fits p (site + 1 + sites index + sites value) rest parts.1,
+    )
 code-fits p site (If line test opened if_true closed rest) small =
     let first = small-split (tree_tokens test) (block opened (stmts_tokens if_true) closed ++ stmts_tokens rest) small.1 in
     let parts = block-small opened (stmts_tokens if_true) closed (stmts_tokens rest) first.1 in
-    let inside = site + sites test in
-    (term-fits p.names site test first.0, code-fits p inside if_true parts.0, tt,
-    code-fits (past p (slots if_true)) (inside + stmts_sites if_true) rest parts.1)
+    let inside = site + sites test in (
+      term-fits p.names site test first.0,
+      code-fits p inside if_true parts.0,
+      tt,
+      code-fits (past p (slots if_true)) (inside + stmts_sites if_true) rest parts.1,
+    )
 code-fits p site (IfElse line test opened if_true closed else_line else_opened if_false else_closed rest) small =
     let behind = reserved else_line word.Else ∷ block else_opened (stmts_tokens if_false) else_closed ++ stmts_tokens rest in
     let first = small-split (tree_tokens test) (block opened (stmts_tokens if_true) closed ++ behind) small.1 in
     let parts = block-small opened (stmts_tokens if_true) closed behind first.1 in
     let others = block-small else_opened (stmts_tokens if_false) else_closed (stmts_tokens rest) parts.1.1 in
     let inside = site + sites test in
-    let other = inside + stmts_sites if_true in
-    (term-fits p.names site test first.0, code-fits p inside if_true parts.0, code-fits (past p (slots if_true)) other if_false others.0,
-    code-fits (past p (slots if_true + slots if_false)) (other + stmts_sites if_false) rest others.1)
+    let other = inside + stmts_sites if_true in (
+      term-fits p.names site test first.0,
+      code-fits p inside if_true parts.0,
+      code-fits (past p (slots if_true)) other if_false others.0,
+      code-fits (past p (slots if_true + slots if_false)) (other + stmts_sites if_false) rest others.1,
+    )
 code-fits p site (Loop line name_line name in_line from dots to opened body closed rest) small =
     let head = range-small name_line name in_line from dots to (block opened (stmts_tokens body) closed ++ stmts_tokens rest) small.1 in
     let parts = block-small opened (stmts_tokens body) closed (stmts_tokens rest) head.2 in
-    let inside = site + sites from + sites to in
-    (term-fits p.names site from head.0, term-fits p.names (site + sites from) to head.1,
-    code-fits (with_local p name false) inside body parts.0, code-fits (past p (1 + slots body)) (inside + stmts_sites body) rest parts.1)
+    let inside = site + sites from + sites to in (
+      term-fits p.names site from head.0,
+      term-fits p.names (site + sites from) to head.1,
+      code-fits (with_local p name false) inside body parts.0,
+      code-fits (past p (1 + slots body)) (inside + stmts_sites body) rest parts.1,
+    )
 code-fits p site (Parallel line number_line span opened body closed rest) small =
     let parts = block-small opened (stmts_tokens body) closed (stmts_tokens rest) small.1.1 in
     (code-fits p site body parts.0, code-fits (past p (slots body)) (site + stmts_sites body) rest parts.1)
@@ -70,9 +81,12 @@ code-fits p site (For line name_line name in_line from dots to schedule nowait o
     let head = range-small name_line name in_line from dots to (schedule_tokens schedule ++ (nowait_tokens nowait ++ tail)) small.1 in
     let waits = small-split (schedule_tokens schedule) (nowait_tokens nowait ++ tail) head.2 in
     let parts = block-small opened (stmts_tokens body) closed (stmts_tokens rest) (small-split (nowait_tokens nowait) tail waits.1).1 in
-    let inside = site + sites from + sites to in
-    (term-fits p.names site from head.0, term-fits p.names (site + sites from) to head.1,
-    code-fits (with_local p name false) inside body parts.0, code-fits (past p (1 + slots body)) (inside + stmts_sites body) rest parts.1)
+    let inside = site + sites from + sites to in (
+      term-fits p.names site from head.0,
+      term-fits p.names (site + sites from) to head.1,
+      code-fits (with_local p name false) inside body parts.0,
+      code-fits (past p (1 + slots body)) (inside + stmts_sites body) rest parts.1,
+    )
 code-fits p site (Barrier line rest) small = code-fits p site rest small.1
 code-fits p site (Critical line opened body closed rest) small =
     let parts = block-small opened (stmts_tokens body) closed (stmts_tokens rest) small.1 in

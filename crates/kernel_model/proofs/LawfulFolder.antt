@@ -106,7 +106,7 @@ lane_started (Some f) step start is = by_test ((step.span == f.team.span) && nat
 -- what holds of the root, and goes over from each task to the lanes that it forks, holds of every task
 module _ (program : Program) (logs : Logs) (P : List Step → Start → Type 0) (root : P [] (root_start program))
     (lane : (above : List Step) (start : Start) (step : Step) (next : Start) → P above start → start_at program logs above ≡ Some start →
-        lane_start (slice_get (own_trace program start (logs above)).forks step.region) step ≡ Some next → P (above ++ step ∷ []) next) where
+    lane_start (slice_get (own_trace program start (logs above)).forks step.region) step ≡ Some next → P (above ++ step ∷ []) next) where
   walk : (above : List Step) (start : Start) (steps : List Step) (last : Start) → start_at program logs above ≡ Some start → P above start →
       start_at program logs (above ++ steps) ≡ Some last → P (above ++ steps) last
   walk above start [] last starts at ends =
