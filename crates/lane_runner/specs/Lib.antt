@@ -1,4 +1,5 @@
 pub mod Alone
+pub mod Children
 pub mod Drawing
 pub mod Fitting
 pub mod Forking

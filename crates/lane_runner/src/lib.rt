@@ -16,6 +16,7 @@
 
 mod assign;
 mod body;
+mod children;
 mod dynamic;
 mod element;
 mod lane;
