@@ -4,6 +4,7 @@ pub mod Drawing
 pub mod Fitting
 pub mod Forking
 pub mod Going
+pub mod Phase
 pub mod Placing
 pub mod Stopping
 pub mod World

@@ -22,6 +22,7 @@ mod element;
 mod lane;
 mod laws;
 mod locals;
+mod phase;
 mod sharing;
 mod stop;
 #[cfg(test)]

@@ -1,0 +1,12 @@
+-- A lane's phase: what it executes up to a barrier of its team, or to the end.
+use Rattle.std.specs.Prelude.{ℕ, []}
+use Rattle.kernel_syntax.specs.Tree as tree
+use Rattle.kernel_syntax.specs.Tree.{Code}
+use Rattle.lane_runner.specs.Alone.{IsAlone}
+
+-- A statement of a team, by so many mutexes: a worksharing loop whose body a lane executes alone, a region, or another statement that a
+-- lane executes alone.
+abbrev pub IsOfTeam : ℕ → Code → Type 0
+IsOfTeam locks (tree.For slot from to schedule nowait line end body rest) = IsAlone locks [] body
+IsOfTeam locks (tree.Parallel span line end body rest) = Unit {0}
+IsOfTeam locks code = IsAlone locks [] code
