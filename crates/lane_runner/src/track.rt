@@ -247,6 +247,20 @@ impl<L: Log> Track<L> {
         world.words().unlock(&mut self.hand, usize::from(mutex));
     }
 
+    /// Puts the record of a barrier of the team.
+    pub fn meet(&mut self, alloc: Global, line: u32) -> Result<(), Halt>
+        requires there { self.old.hand.there ≡ true }
+        requires unrefused { self.old.buffer.refused ≡ None }
+        ensures takes { TakesOrHalts (event kind.Barrier line 0 0) self.old.hand.view self.old self.new result }
+        ensures log { IsSameLog self.old.buffer self.new.buffer }
+        ensures tally { self.new.tally ≡ self.old.tally }
+    {
+        self.ready(alloc, line)?;
+        let event = event(Kind::Barrier, line, 0, 0);
+        self.buffer.put(&event);
+        Ok(())
+    }
+
     // Makes new logs for the lanes of a region, and puts the record of the fork.
     fn fork(&mut self, alloc: Global, line: u32, span: u16) -> Result<Vec<L>, Halt>
         requires there { self.old.hand.there ≡ true }
