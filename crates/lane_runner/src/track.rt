@@ -1,6 +1,6 @@
 //! What a lane steps with: its hand on the shared words, and the buffer before its log. Each step has a place in the log before it
 //! is taken.
-ghost use Rattle.std.specs.Prelude.{◌≡◌, ◌+◌, ◌<◌, ◌≤◌, true, None, List, [], ◌∷◌, length, IfOk, ℤ, Contains};
+ghost use Rattle.std.specs.Prelude.{◌≡◌, ◌+◌, ◌<◌, ◌≤◌, true, None, List, [], ◌∷◌, length, IfOk, OnOk, ℤ, Contains};
 ghost use Rattle.kernel_model.specs.Value as model;
 ghost use Rattle.kernel_model.specs.Value.{read};
 ghost use Rattle.kernel_model.specs.State.{put, event};
@@ -203,6 +203,7 @@ impl<L: Log> Track<L> {
         requires mutex { mutex < world.now.words.locks }
         requires not_held { Contains self.old.hand.view.held mutex → ⊥ }
         ensures takes { TakesOrHalts (event kind.Lock line mutex 0) (locked self.old.hand.view mutex) self.old self.new result }
+        ensures can { OnOk result (CanGo world.now self.new) }
         ensures log { IsSameLog self.old.buffer self.new.buffer }
         ensures tally { self.new.tally ≡ self.old.tally }
     {
