@@ -384,7 +384,7 @@ module _ (w : WorldValue) (part inner : State → Outcome (Unit {0})) (mutex lin
   section_left (halt.Index at_line) m = left_halts model.Index at_line m
   section_left (halt.LogFull at_line) m = left_halts model.LogFull at_line m
   section_left (halt.Region path why) m = left_begins (AtRegion path why) m
-  section_left (halt.Trouble trouble) (m, refused) = (left_begins AtLog m, record { refused = ap (λ (x : Buffered). x.refused) buffer_is ∙ refused.refused })
+  section_left (halt.Trouble trouble) (m, refused) = (left_begins AtLog m, record { refused = λ other. ap (λ (x : Buffered). x.refused) buffer_is ∙ refused.refused other })
 
 -- a lane that put a record after its step can go on
 pub can_taken : (w : WorldValue) (event : Record) (after : View) (old new : Progress) → CanGo w old → Takes event after old new → CanGo w new

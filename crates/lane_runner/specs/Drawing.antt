@@ -25,9 +25,9 @@ pub data TellDraws : ℕ → List Record → List (ℕ × ℕ) → ℕ → Type 
       → TellDraws (suc loop) records drawn last → TellDraws loop (r ∷ records) ((loop, number) ∷ drawn) last
 
 -- the loop that is open after a draw: the next one, where no chunk was left
-abbrev pub open_after : Bool → ℕ → ℕ
-open_after true loop = loop
-open_after false loop = suc loop
+abbrev pub open_past : Bool → ℕ → ℕ
+open_past true loop = loop
+open_past false loop = suc loop
 
 -- how many counters a worksharing loop of this schedule has, and that the team has them from this one on
 abbrev pub counters_of : Schedule → ℕ

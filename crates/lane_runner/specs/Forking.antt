@@ -2,6 +2,8 @@
 use Rattle.std.specs.Prelude.{◌≡◌, ℕ, ◌+◌, ◌<◌, List, ◌++◌, ℤ, Result, Ok, Err}
 use Rattle.sw_base.specs.declared.path.Step.{Step}
 use denote.Ref.{Bor, MutBor}
+use Rattle.std.specs.Global.{Vec}
+use Rattle.event_buffer.specs.Buffered.{Buffered}
 use Rattle.kernel_syntax.specs.declared.syntax.Array.{Array}
 use Rattle.kernel_syntax.specs.declared.syntax.Team.{Team}
 use Rattle.kernel_syntax.specs.Program.{Program, team_of}
@@ -17,6 +19,7 @@ use Rattle.execution_model.specs.Execution.{DrewSome}
 use Rattle.execution_model.specs.Runs.{RunsTask, lane_begin, region_logs}
 use Rattle.lane_runner.specs.declared.locals.Locals.{Locals}
 use Rattle.lane_runner.specs.declared.stop.Stop.{Stop}
+use Rattle.lane_runner.specs.Children.{LogView, AreNewLogs}
 use Rattle.lane_runner.specs.Fitting.{PhasesFit, PhasesAccessElements}
 use Rattle.lane_runner.specs.Stopping.{StopsRegion}
 use Rattle.lane_runner.specs.World.{WorldValue, element_word, element_width, layout_of}
@@ -47,12 +50,13 @@ pub record RanRegion (w : WorldValue) (team : TeamTree) (slots : List ℤ) (at :
   pub joined : ArePhasesJoined phases
   pub ends : EndsAs w.arrays at number (record { team = team; slots = slots }) phases r
 
--- What a lane asks of the function that runs regions, for a region of this team, that of this number of the task `at`: it may be called
--- with each hand that holds nothing, and with these logs for the lanes, and runs the region from the locals given.
-pub record RunsTeam {Logs Done : Type 0} (w : WorldValue) (accepts : MutBor (HandValue View) → Bor Locals → Logs → Bor Team → MutBor Done → Type 0)
-    (gives : MutBor (HandValue View) → Bor Locals → Logs → Bor Team → MutBor Done → Answer → MutBor (HandValue View) → MutBor Done → Type 0)
-    (logs : Logs) (at : List Step) (number : ℕ) (team : TeamTree) : Type 0 where
-  pub accepted : (hand : MutBor (HandValue View)) (locals : Bor Locals) (given : Bor Team) (done : MutBor Done) → team_of given.now ≡ team → IsFree hand.now w.words.table
-      → accepts hand locals logs given done
-  pub ran : (hand after : MutBor (HandValue View)) (locals : Bor Locals) (given : Bor Team) (done now_done : MutBor Done) (r : Answer) → team_of given.now ≡ team → IsFree hand.now w.words.table
-      → gives hand locals logs given done r after now_done → RanRegion w team locals.now.slots.items at number hand.now after.now r
+-- What a lane asks of the function that runs regions, for a region of this team of a task with this log: it may be called with each
+-- hand that holds nothing and with new logs for the lanes, which tell the region's number among those of the task, and runs the region
+-- from the locals given.
+pub record RunsTeam {T Done : Type 0} (w : WorldValue) (accepts : MutBor (HandValue View) → Bor Locals → Vec T → Bor Team → MutBor Done → Type 0)
+    (gives : MutBor (HandValue View) → Bor Locals → Vec T → Bor Team → MutBor Done → Answer → MutBor (HandValue View) → MutBor Done → Type 0)
+    (seen : LogView T) (task : Buffered) (team : TeamTree) : Type 0 where
+  pub accepted : (hand : MutBor (HandValue View)) (locals : Bor Locals) (logs : Vec T) (given : Bor Team) (done : MutBor Done) (number : ℕ) → team_of given.now ≡ team → IsFree hand.now w.words.table
+      → AreNewLogs seen task number team.span logs.items → accepts hand locals logs given done
+  pub ran : (hand after : MutBor (HandValue View)) (locals : Bor Locals) (logs : Vec T) (given : Bor Team) (done now_done : MutBor Done) (number : ℕ) (r : Answer) → team_of given.now ≡ team → IsFree hand.now w.words.table
+      → AreNewLogs seen task number team.span logs.items → gives hand locals logs given done r after now_done → RanRegion w team locals.now.slots.items task.path number hand.now after.now r

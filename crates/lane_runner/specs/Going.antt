@@ -1,6 +1,7 @@
 -- How a lane goes on: what its records, its hand and its locals have to do with the meaning of what it executes.
 use Rattle.std.specs.Prelude.{◌≡◌, ℕ, ◌+◌, ◌-◌, ◌≤◌, List, [], ◌∷◌, ◌++◌, length, map, reverse, ◌<◌, ℤ, Some, None, Result, Ok, Err, is_some}
 use Rattle.sw_base.specs.declared.trouble.Trouble.{Trouble}
+use Rattle.sw_base.specs.declared.trouble.Trouble.TheVariants.{Memory}
 use Rattle.log_format.specs.declared.record.Record.{Record}
 use Rattle.kernel_syntax.specs.declared.syntax.Array.{Array}
 use Rattle.sw_base.specs.declared.path.Step.{Step}
@@ -174,9 +175,9 @@ pub record HasRoomFor (old new : Progress) : Type 0 where
   pub waits : Waits old new
   pub may_put : MayPut new.buffer
 
--- the log refused a record so
+-- the log refused so, where it wasn't memory that wasn't found
 pub record Refused (trouble : Trouble) (new : Progress) : Type 0 where
-  pub refused : new.buffer.refused ≡ Some trouble
+  pub refused : (trouble ≡ Memory → ⊥) → new.buffer.refused ≡ Some trouble
 
 -- how the execution of a part ends, by what is answered
 abbrev pub Goes : {A : Type 0} → WorldValue → (State → Outcome A) → List ℤ → List ℤ → Progress → Progress → Result A Halt → Type 0
@@ -208,6 +209,6 @@ MakesRoom line old new (Err (halt.Trouble trouble)) = Waits old new × Refused t
 MakesRoom line old new (Err _) = ⊥
 
 -- the record was put after its step, or has no place
-abbrev pub TakesOrHalts : Record → View → Progress → Progress → Result (Unit {0}) Halt → Type 0
+abbrev pub TakesOrHalts : {A : Type 0} → Record → View → Progress → Progress → Result A Halt → Type 0
 TakesOrHalts event after old new (Ok _) = Takes event after old new
 TakesOrHalts event after old new (Err why) = MakesRoom event.line old new (Err why)

@@ -5,7 +5,7 @@ ghost use Rattle.kernel_syntax.specs.Program.{code_of};
 ghost use Rattle.kernel_model.specs.Iterations.{chunk_count, chunk_iterations};
 ghost use Rattle.kernel_model.specs.Trace.{each, log_limit};
 ghost use Rattle.lane_runner.specs.Alone.{IsAlone, turn_from, draw_once, draw_all};
-ghost use Rattle.lane_runner.specs.Drawing.{open_after};
+ghost use Rattle.lane_runner.specs.Drawing.{open_past};
 ghost use Rattle.lane_runner.specs.Going.{CanGo, Goes, IsSameLog, site};
 
 use crate::lane::Lane;
@@ -40,7 +40,7 @@ impl<L: Log> Lane<L> {
         requires line { 1 ≤ line }
         ensures goes { Goes world.now (draw_once line (chunk_count chunk total) (λ q. each (chunk_iterations chunk total q) (turn_from (site world.now) (code_of body.now.stmts.items) slot from))) self.old.locals.slots.items self.new.locals.slots.items self.old.track self.new.track result }
         ensures log { IsSameLog self.old.track.buffer self.new.track.buffer }
-        ensures loops { IfOk result (λ more. self.new.track.tally.next_loop ≡ open_after more self.old.track.tally.next_loop) }
+        ensures loops { IfOk result (λ more. self.new.track.tally.next_loop ≡ open_past more self.old.track.tally.next_loop) }
         ensures below { IfOk result (λ _. self.old.track.buffer.count < log_limit) }
         ensures count { IfOk result (λ _. self.old.track.buffer.count < self.new.track.buffer.count) }
     {

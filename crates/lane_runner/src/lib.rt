@@ -1,8 +1,8 @@
 //! What a lane of a team executes, over shared words and a bounded buffer before its log.
 //!
 //! So far: the value of an expression with its loads; lists of assignments, stores, tests, loops and critical sections; worksharing
-//! loops of every schedule; and the fork of a region, which a function of the caller's runs.
-//! Barriers, and regions among the statements come next, and the program doesn't use the crate yet.
+//! loops of every schedule; the fork of a region, which a function of the caller's runs, with new logs for its lanes; a team's
+//! statements and items, one at a time; and the record of a barrier. A whole phase comes next, and the program doesn't use the crate yet.
 //!
 //! Before each record the buffer makes room, then the step on the shared words is taken, and then the record is put: no step is
 //! taken that has no place in the log. Each call says by one witness, a tree of work, what it did: its records are those that the
@@ -16,11 +16,13 @@
 
 mod assign;
 mod body;
+mod children;
 mod dynamic;
 mod element;
 mod lane;
 mod laws;
 mod locals;
+mod phase;
 mod sharing;
 mod stop;
 #[cfg(test)]

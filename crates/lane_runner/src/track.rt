@@ -1,6 +1,6 @@
 //! What a lane steps with: its hand on the shared words, and the buffer before its log. Each step has a place in the log before it
 //! is taken.
-ghost use Rattle.std.specs.Prelude.{◌≡◌, ◌+◌, ◌<◌, ◌≤◌, true, None, List, [], ◌∷◌, IfOk, ℤ, Contains};
+ghost use Rattle.std.specs.Prelude.{◌≡◌, ◌+◌, ◌<◌, ◌≤◌, true, None, List, [], ◌∷◌, length, IfOk, OnOk, ℤ, Contains};
 ghost use Rattle.kernel_model.specs.Value as model;
 ghost use Rattle.kernel_model.specs.Value.{read};
 ghost use Rattle.kernel_model.specs.State.{put, event};
@@ -10,11 +10,13 @@ ghost use Rattle.shared_words.specs.Handles.{Belongs, with_view};
 ghost use Rattle.kernel_syntax.specs.Program.{team_of, code_of};
 ghost use Rattle.kernel_syntax.specs.Tree as tree;
 ghost use Rattle.kernel_model.specs.Trace.{run, draw, log_limit};
+ghost use Rattle.lane_runner.specs.Children.{AreNewLogs};
 ghost use Rattle.lane_runner.specs.Forking.{RunsTeam};
 ghost use Rattle.shared_words.specs.Views.{locked, unlocked, rest};
 ghost use Rattle.kernel_syntax.specs.Arithmetic.{fitted};
 ghost use Rattle.lane_runner.specs.Placing.{StandsIn, meant};
 
+use crate::children::children;
 use crate::element::Element;
 use crate::locals::Locals;
 use crate::stop::{Halt, Stop};
@@ -201,6 +203,7 @@ impl<L: Log> Track<L> {
         requires mutex { mutex < world.now.words.locks }
         requires not_held { Contains self.old.hand.view.held mutex → ⊥ }
         ensures takes { TakesOrHalts (event kind.Lock line mutex 0) (locked self.old.hand.view mutex) self.old self.new result }
+        ensures can { OnOk result (CanGo world.now self.new) }
         ensures log { IsSameLog self.old.buffer self.new.buffer }
         ensures tally { self.new.tally ≡ self.old.tally }
     {
@@ -245,21 +248,41 @@ impl<L: Log> Track<L> {
         world.words().unlock(&mut self.hand, usize::from(mutex));
     }
 
-    /// Puts the record of a region that is forked.
-    pub fn fork(&mut self, alloc: Global, line: u32, span: u16) -> Result<(), Halt>
+    /// Puts the record of a barrier of the team.
+    pub fn meet(&mut self, alloc: Global, line: u32) -> Result<(), Halt>
         requires there { self.old.hand.there ≡ true }
         requires unrefused { self.old.buffer.refused ≡ None }
-        ensures takes { TakesOrHalts (event kind.Region line 0 span) self.old.hand.view self.old self.new result }
+        ensures takes { TakesOrHalts (event kind.Barrier line 0 0) self.old.hand.view self.old self.new result }
         ensures log { IsSameLog self.old.buffer self.new.buffer }
         ensures tally { self.new.tally ≡ self.old.tally }
     {
         self.ready(alloc, line)?;
-        let event = event(Kind::Region, line, 0, u64::from(span));
+        let event = event(Kind::Barrier, line, 0, 0);
         self.buffer.put(&event);
         Ok(())
     }
 
-    /// Executes a region: puts its record, and has its lanes run with these logs, from these locals.
+    // Makes new logs for the lanes of a region, and puts the record of the fork.
+    fn fork(&mut self, alloc: Global, line: u32, span: u16) -> Result<Vec<L>, Halt>
+        requires there { self.old.hand.there ≡ true }
+        requires unrefused { self.old.buffer.refused ≡ None }
+        requires path { length self.old.buffer.path < 4 }
+        ensures takes { TakesOrHalts (event kind.Region line 0 span) self.old.hand.view self.old self.new result }
+        ensures logs { IfOk result (λ logs. AreNewLogs (record { dir = L.dir; path = L.path; text = L.text; faults = L.faults }) self.old.buffer self.old.tally.forked span logs.items) }
+        ensures log { IsSameLog self.old.buffer self.new.buffer }
+        ensures tally { self.new.tally ≡ self.old.tally }
+    {
+        self.ready(alloc, line)?;
+        let logs = match children(alloc, &mut self.buffer, self.forked, span) {
+            Ok(logs) => logs,
+            Err(trouble) => return Err(Halt::Trouble(trouble)),
+        };
+        let event = event(Kind::Region, line, 0, u64::from(span));
+        self.buffer.put(&event);
+        Ok(logs)
+    }
+
+    /// Executes a region: makes the logs of its lanes, puts its record, and has the lanes run from these locals.
     pub fn parallel<
         F: Fn(
             &mut Hand,
@@ -273,7 +296,6 @@ impl<L: Log> Track<L> {
         alloc: Global,
         world: &World,
         locals: &Locals,
-        logs: Vec<L>,
         team: &Team,
         done: &mut Vec<(Path, L, u32)>,
         region: &F,
@@ -281,12 +303,13 @@ impl<L: Log> Track<L> {
         requires can { CanGo world.now self.old }
         requires free { self.old.hand.view.held ≡ [] }
         requires line { 1 ≤ team.now.line }
-        requires runs { RunsTeam world.now (F.pre region.now) (F.post region.now) logs self.old.buffer.path self.old.tally.forked (team_of team.now) }
+        requires path { length self.old.buffer.path < 4 }
+        requires runs { RunsTeam world.now (F.pre region.now) (F.post region.now) (record { dir = L.dir; path = L.path; text = L.text; faults = L.faults }) self.old.buffer (team_of team.now) }
         ensures goes { Goes world.now (run (site world.now) (tree.Parallel team.now.span team.now.line team.now.end (code_of team.now.body.stmts.items) tree.Done)) locals.now.slots.items locals.now.slots.items self.old self.new result }
         ensures log { IsSameLog self.old.buffer self.new.buffer }
         ensures loops { self.new.tally.next_loop ≡ self.old.tally.next_loop }
     {
-        self.fork(alloc, team.line, team.span)?;
+        let logs = self.fork(alloc, team.line, team.span)?;
         self.forked += 1;
         if let Err((path, stop)) = region(&mut self.hand, locals, logs, team, done) {
             return Err(Halt::Region(path, stop));

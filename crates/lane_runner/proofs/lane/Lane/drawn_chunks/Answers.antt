@@ -8,7 +8,7 @@ use Rattle.kernel_model.specs.Trace.{each}
 use Rattle.shared_words.specs.declared.view.View.{View}
 use Rattle.shared_words.specs.Handles.{HandValue}
 use Rattle.lane_runner.specs.Alone.{turn_from, draw_all, draw_once}
-use Rattle.lane_runner.specs.Drawing.{open_after}
+use Rattle.lane_runner.specs.Drawing.{open_past}
 use Rattle.lane_runner.specs.Going.{Goes, Made, site}
 use Rattle.lane_runner.proofs.Bodies.{log_later}
 use Rattle.lane_runner.proofs.Draining.{GoesOnIn, chunk_grows, draws_more, draws_end, draws_stop}
@@ -44,7 +44,7 @@ draws-preserved g c =
     record {
       can = can_follow _ _ _ _ _ _ _ c.draws.invariant.can made;
       held = ap (λ (h : HandValue View). h.view.held) made.done.hand ∙ c.draws.invariant.held;
-      opened = c.in_ok-drawn_chunk.ensures.loops ∙ ap (λ (b : Bool). open_after b c.draws.self.track.tally.next_loop) c.if-not-branch.false ∙ c.draws.invariant.opened;
+      opened = c.in_ok-drawn_chunk.ensures.loops ∙ ap (λ (b : Bool). open_past b c.draws.self.track.tally.next_loop) c.if-not-branch.false ∙ c.draws.invariant.opened;
       log = log_later c.args.self.now.track.buffer c.draws.self.track.buffer c.drawn_chunk.new.self.track.buffer c.draws.invariant.log c.in_ok-drawn_chunk.ensures.log;
       on =
           draws_more c.args.line (chunk_count c.args.chunk c.args.total) (λ q. each (chunk_iterations c.args.chunk c.args.total q) (turn_from (site c.args.world.now) (code_of c.args.body.now.stmts.items) c.args.slot from)) grows

@@ -9,6 +9,7 @@ use Rattle.shared_words.specs.declared.view.View.{View}
 use Rattle.shared_words.specs.Handles.{HandValue, with_view}
 use Rattle.shared_words.specs.Views.{locked}
 use Rattle.lane_runner.specs.Going.{Progress, HasRoomFor}
+use Rattle.lane_runner.proofs.Sections.{can_taken}
 use Rattle.lane_runner.proofs.track.Track.lock.Goals as goal
 
 pub returns-clause-takes : goal.returns-clause-takes
@@ -27,3 +28,6 @@ returns-clause-takes g c =
       tally = room.waits.tally;
       unrefused = ap (λ (b : Buffered). b.refused) c.put.ensures.put ∙ room.may_put.unrefused;
     }
+
+pub returns-clause-can : goal.returns-clause-can
+returns-clause-can g c = can_taken c.args.world.now (event kind.Lock c.args.line c.args.mutex 0) (locked c.args.self.now.hand.view c.args.mutex) c.args.self.now _ c.requires.can (returns-clause-takes g c)
