@@ -1,6 +1,6 @@
 -- A loop whose chunks are drawn: one draw after another, until none is left.
-use Rattle.std.proofs.Common.{◌≡◌, refl, ap, sym, ◌∙◌, ℕ, zero, suc, ◌+◌, ◌-◌, ◌≤◌, Bool, true, false, cond, List, [], ◌∷◌, ℤ, Result, Ok, Err, nat_lt, arith}
-use Rattle.kernel_model.specs.State.{State, Outcome, Gives, after, and_then, event, state_of}
+use Rattle.std.proofs.Common.{◌≡◌, refl, ap, sym, ℕ, zero, suc, ◌-◌, ◌≤◌, Bool, true, false, cond, List, [], ◌∷◌, ℤ, Result, Ok, Err, nat_lt, arith}
+use Rattle.kernel_model.specs.State.{State, Outcome, Gives, after, and_then, state_of}
 use Rattle.kernel_model.specs.Growth.{Grows}
 use Rattle.kernel_model.specs.Iterations.{chunk_iterations}
 use Rattle.kernel_model.specs.Trace.{log_limit, draw, draw_in, drawn, draws, each}

@@ -16,7 +16,7 @@ IsOfTeam locks (tree.Parallel span line end body rest) = Unit {0}
 IsOfTeam locks code = IsAlone locks [] code
 
 -- a value, or a statement of a team within the bounds of the language: no barrier
-abbrev pub IsStep : ℕ → Item → Type 0
-IsStep locks (item.Set slot value) = Unit {0}
-IsStep locks (item.Run stmt which) = IsBoundedCode (stmt_code stmt.now Done) × IsOfTeam locks (stmt_code stmt.now Done)
-IsStep locks (item.Bar line) = ⊥
+abbrev pub IsPlainItem : ℕ → Item → Type 0
+IsPlainItem locks (item.Set slot value) = Unit {0}
+IsPlainItem locks (item.Run stmt which) = IsBoundedCode (stmt_code stmt.now Done) × IsOfTeam locks (stmt_code stmt.now Done)
+IsPlainItem locks (item.Bar line) = ⊥

@@ -13,7 +13,7 @@ ghost use Rattle.kernel_model.specs.Phases.{part_of, part_of_stmt, without_barri
 ghost use Rattle.kernel_model.specs.Trace.{run};
 ghost use Rattle.lane_runner.specs.Forking.{RunsTeam};
 ghost use Rattle.lane_runner.specs.Going.{CanGo, Goes, IsSameLog, site};
-ghost use Rattle.lane_runner.specs.Phase.{IsOfTeam, IsStep};
+ghost use Rattle.lane_runner.specs.Phase.{IsOfTeam, IsPlainItem};
 
 use crate::lane::Lane;
 use crate::locals::Locals;
@@ -100,7 +100,7 @@ impl<L: Log> Lane<L> {
     ) -> Result<(), Halt>
         requires can { CanGo world.now self.old.track }
         requires free { self.old.track.hand.view.held ≡ [] }
-        requires step { IsStep world.now.words.locks item.now }
+        requires step { IsPlainItem world.now.words.locks item.now }
         requires counters { self.old.track.tally.next_loop + drawn_count (part_of item.now ∷ []) ≤ world.now.chunks.loops }
         requires number { self.old.track.tally.next_loop < 4294967296 }
         requires path { length self.old.track.buffer.path < 4 }

@@ -1,4 +1,4 @@
-use Rattle.std.proofs.Common.{ap, ◌∙◌, rules, ℕ}
+use Rattle.std.proofs.Common.{ap, rules}
 use Rattle.std.specs.Prelude.{is_some}
 use Rattle.event_buffer.specs.Buffered.{Buffered}
 use Rattle.lane_runner.proofs.NewLogs.{new_log, new_logs_more}

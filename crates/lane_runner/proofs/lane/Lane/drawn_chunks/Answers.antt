@@ -11,7 +11,7 @@ use Rattle.lane_runner.specs.Alone.{turn_from, draw_all, draw_once}
 use Rattle.lane_runner.specs.Drawing.{open_past}
 use Rattle.lane_runner.specs.Going.{Goes, Made, site}
 use Rattle.lane_runner.proofs.Bodies.{log_later}
-use Rattle.lane_runner.proofs.Draining.{GoesOnIn, chunk_grows, draws_more, draws_end, draws_stop}
+use Rattle.lane_runner.proofs.Draining.{chunk_grows, draws_more, draws_end, draws_stop}
 use Rattle.lane_runner.proofs.Values.{can_follow}
 use Rattle.lane_runner.proofs.lane.Lane.drawn_chunks.Goals as goal
 
