@@ -7,19 +7,16 @@ use Rattle.log_segment.specs.declared.segment.Segment.{Segment}
 use Rattle.race_model.specs.Label.{Triple}
 use Rattle.pair_compare.specs.Compare.{IsSegmentPair}
 use Rattle.pair_compare.specs.Fields.{Agrees, AreAlike, CanDivide, HasNoLevel, HasTriple, next_field, next_level, fields_left, field_value, label_value}
-use Rattle.pair_compare.specs.Pieces.{pointed}
+use Rattle.pair_compare.specs.Groups.{pointed}
 use Rattle.pair_compare.specs.declared.field.Field.{Field}
 use Rattle.pair_compare.specs.declared.field.Field.TheVariants.{Depth, Span, Barrier, Residue, Offset}
-use Rattle.pair_compare.proofs.Dividing.{points_to, value_own}
+use Rattle.pair_compare.proofs.Dividing.{points_to, same_value, value_own}
 
 value_none : (level : ℕ) (prefix label : List Triple) → length prefix ≡ level → label ≡ prefix ++ [] → label_value level Depth label ≡ 0
 value_none level prefix label long is =
     let whole : label ≡ prefix = is ∙ append-nil prefix in
     let short : length label ≤ level = let e : length label ≡ length prefix = ap length whole in omega arith in
     ap (field_value Depth) (slice_get_past label level short)
-
-same_value : (v least most : ℕ) → least ≤ v → v ≤ most → most ≤ least → v ≡ most
-same_value v least most low high same = grind arith
 
 -- a label that has the level, where its field's value is known
 deeper : (level : ℕ) (prefix : List Triple) (known : Triple) (label : List Triple) (most : ℕ) → length prefix ≡ level → Agrees Depth prefix known label → label_value level Depth label ≡ most → (most ≡ 0 → ⊥) → HasTriple Span prefix known label

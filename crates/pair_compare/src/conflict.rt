@@ -29,7 +29,12 @@ fn lines_of(a: &Run, b: &Run) -> (u32, u32)
     (a.line.min(b.line), a.line.max(b.line))
 }
 
-fn add_conflict(a: &Run, b: &Run, pairs: &mut BTreeSet<(u32, u32)>) -> Result<(), Memory>
+/// Adds the line pair of the two runs, if they conflict.
+pub fn add_conflict(
+    a: &Run,
+    b: &Run,
+    pairs: &mut BTreeSet<(u32, u32)>,
+) -> Result<(), Memory>
     ensures added { OnOk result (AddsPairs pairs.old.keys pairs.new.keys (IsRunPair a.now (b.now ∷ []))) }
     ensures refused { OnErr result (AddsSome pairs.old.keys pairs.new.keys (IsRunPair a.now (b.now ∷ []))) }
 {

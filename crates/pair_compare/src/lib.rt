@@ -12,16 +12,19 @@
 #![tactic(auto)]
 
 mod all;
+mod collecting;
 mod comparing;
 mod conflict;
 mod divide;
 mod field;
+mod group;
+mod hull;
 mod ordering;
-mod piece;
 mod regions;
 mod searching;
+mod sweeping;
+mod task;
 mod team;
-mod work;
 mod worker;
 
 pub use all::compare_all;

@@ -4,7 +4,7 @@ ghost use Rattle.race_model.specs.Race.{pair_cmp};
 ghost use Rattle.pair_compare.specs.Conflict.{GrowsBy, AddsPairs, AddsSome, OneHas};
 ghost use Rattle.pair_compare.specs.Work.{HasFound, HasSearched, HasNothing, IsTaskPair, IsWorkerPair};
 
-use crate::work::Task;
+use crate::task::Task;
 use crate::worker::Worker;
 use std::alloc::Global;
 use std::collections::BTreeSet;
@@ -24,11 +24,11 @@ pub fn unite(pairs: &mut BTreeSet<(u32, u32)>, more: &BTreeSet<(u32, u32)>) -> R
 }
 
 // Deals the tasks out in as many parts as there are workers.
-fn deal<'t, 'w, 'r>(
+fn deal<'t, 'g, 's>(
     alloc: Global,
-    tasks: &'t [Task<'w, 'r>],
+    tasks: &'t [Task<'g, 's>],
     workers: usize,
-    team: &mut Vec<Worker<'t, 'w, 'r>>,
+    team: &mut Vec<Worker<'t, 'g, 's>>,
 ) -> Result<(), Memory>
     ensures dealt { OnOk result (GrowsBy (OneHas IsWorkerPair team.old.items) (OneHas IsWorkerPair team.new.items) (OneHas IsTaskPair tasks.now)) }
     ensures fresh { All HasNothing team.old.items → OnOk result (All HasNothing team.new.items) }

@@ -1,19 +1,18 @@
 use Rattle.std.proofs.Common.{◌≡◌, ◌<◌, ◌≤◌, ◌+◌, ◌-◌, ◌*◌, ◌/◌, ◌^◌, ℕ, Bool, false, IsTrue, length, Bor, List, rules, subst, sym, arith}
 use Rattle.std.proofs.lemmas.Result.{on_ok_weaker}
 use Rattle.log_segment.specs.declared.segment.Segment.{Segment}
-use Rattle.pair_compare.specs.Compare.{IsSegmentPair}
 use Rattle.pair_compare.specs.Conflict.{GrowsBy, OneHas}
-use Rattle.pair_compare.specs.Fields.{AreAlike, CanDivide, fields_left}
-use Rattle.pair_compare.specs.Pieces.{IsPiecePair, pointed}
+use Rattle.pair_compare.specs.Fields.{AreAlike, CanDivide, IsSamePair, fields_left}
+use Rattle.pair_compare.specs.Groups.{IsGroupPair, pointed}
 use Rattle.pair_compare.specs.declared.field.Field.{Field}
-use Rattle.pair_compare.proofs.Halving.{grow_halves, left_half, right_half}
+use Rattle.pair_compare.proofs.Halving.{grow_all, grow_halves, grow_same, left_half, right_half}
 use Rattle.pair_compare.proofs.NextField.{ended_same, falls, fewer_left, next_alike}
-use Rattle.pair_compare.proofs.Works.{Adds-nothing}
+use Rattle.pair_compare.proofs.Members.{Adds-nothing}
 use Rattle.pair_compare.proofs.divide.+divide.Goals as goal
 
 pub returns-then-has_ended : goal.returns-then-has_ended
-returns-then-has_ended t c = Adds-nothing (OneHas IsPiecePair c.args.pieces.now.items) (IsSegmentPair (pointed c.args.members.now))
-    (λ pair h. ended_same c.args.level c.args.range.0 c.args.range.1 c.args.field c.args.members.now pair c.requires.can (c.has_ended.ensures.0 c.if-has_ended.true) h)
+returns-then-has_ended t c = Adds-nothing (OneHas IsGroupPair c.args.groups.now.items) (IsSamePair c.args.level c.args.field (pointed c.args.members.now))
+    (λ pair h. ended_same c.args.level c.args.range.0 c.args.range.1 c.args.field c.args.members.now pair c.requires.can (c.has_ended.ensures.0 c.if-has_ended.true) h.two)
 
 pub divide-requires : goal.divide-requires
 divide-requires t c =
@@ -37,7 +36,7 @@ divide-requires-2 t c =
     let wide : c.args.range.0 < c.args.range.1 = search rules in
     let less : c.args.range.0 + (c.args.range.1 - c.args.range.0) / 2 - c.args.range.0 < c.args.range.1 - c.args.range.0 = omega (arith, wide) in
     let can = subst (λ (refs : List (Bor Segment)). CanDivide c.args.level c.args.field c.args.range.0 (c.args.range.0 + (c.args.range.1 - c.args.range.0) / 2) refs) (sym c.as_slice.ensures.value)
-    (left_half c.args.level c.args.field c.args.range.0 c.args.range.1 (c.args.range.0 + (c.args.range.1 - c.args.range.0) / 2) c.args.members.now c.in_ok-parts.parts c.requires.can c.in_ok-parts.ensures) in
+    (left_half c.args.level c.args.field c.args.range.0 c.args.range.1 (c.args.range.0 + (c.args.range.1 - c.args.range.0) / 2) c.args.members.now c.in_ok-halves.halves c.requires.can c.in_ok-halves.ensures) in
     (omega (arith, less, c.decreases), (can, c.requires.few))
 
 pub divide-requires-3 : goal.divide-requires-3
@@ -45,13 +44,13 @@ divide-requires-3 t c =
     let wide : c.args.range.0 < c.args.range.1 = search rules in
     let less : c.args.range.1 - (c.args.range.0 + (c.args.range.1 - c.args.range.0) / 2 + 1) < c.args.range.1 - c.args.range.0 = omega (arith, wide) in
     let can = subst (λ (refs : List (Bor Segment)). CanDivide c.args.level c.args.field (c.args.range.0 + (c.args.range.1 - c.args.range.0) / 2 + 1) c.args.range.1 refs) (sym c.as_slice-2.ensures.value)
-    (right_half c.args.level c.args.field c.args.range.0 c.args.range.1 (c.args.range.0 + (c.args.range.1 - c.args.range.0) / 2) c.args.members.now c.in_ok-parts.parts c.requires.can c.in_ok-parts.ensures) in
+    (right_half c.args.level c.args.field c.args.range.0 c.args.range.1 (c.args.range.0 + (c.args.range.1 - c.args.range.0) / 2) c.args.members.now c.in_ok-halves.halves c.requires.can c.in_ok-halves.ensures) in
     (omega (arith, less, c.decreases), (can, c.requires.few))
 
 pub returns : goal.returns
-returns t c = on_ok_weaker c.add_parts.result
-    (λ added. grow_halves c.args.level (c.args.range.0 + (c.args.range.1 - c.args.range.0) / 2) c.args.field c.args.members.now c.in_ok-parts.parts c.args.pieces.now.items c.divide-2.new.pieces.items c.divide-3.new.pieces.items c.add_parts.new.pieces.items
-    c.requires.can.alike c.in_ok-parts.ensures
-    (subst (λ (refs : List (Bor Segment)). GrowsBy (OneHas IsPiecePair c.args.pieces.now.items) (OneHas IsPiecePair c.divide-2.new.pieces.items) (IsSegmentPair (pointed refs))) c.as_slice.ensures.value c.in_ok-divide.ensures)
-    (subst (λ (refs : List (Bor Segment)). GrowsBy (OneHas IsPiecePair c.divide-2.new.pieces.items) (OneHas IsPiecePair c.divide-3.new.pieces.items) (IsSegmentPair (pointed refs))) c.as_slice-2.ensures.value c.in_ok-divide-2.ensures)
-    added) c.add_parts.ensures
+returns t c = on_ok_weaker c.divide-3.result
+    (λ right. grow_halves c.args.level (c.args.range.0 + (c.args.range.1 - c.args.range.0) / 2) c.args.field c.args.members.now c.in_ok-halves.halves c.args.groups.now.items c.divide-2.new.groups.items c.divide-3.new.groups.items
+    c.in_ok-halves.ensures
+    (subst (λ (refs : List (Bor Segment)). GrowsBy (OneHas IsGroupPair c.args.groups.now.items) (OneHas IsGroupPair c.divide-2.new.groups.items) (IsSamePair c.args.level c.args.field (pointed refs))) c.as_slice.ensures.value c.in_ok-divide-2.ensures)
+    (subst (λ (refs : List (Bor Segment)). GrowsBy (OneHas IsGroupPair c.divide-2.new.groups.items) (OneHas IsGroupPair c.divide-3.new.groups.items) (IsSamePair c.args.level c.args.field (pointed refs))) c.as_slice-2.ensures.value right))
+    c.divide-3.ensures

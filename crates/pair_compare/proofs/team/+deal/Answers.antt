@@ -4,7 +4,7 @@ use Rattle.std.proofs.lemmas.List.Elements.{All-push}
 use Rattle.pair_compare.specs.declared.worker.Worker.{Worker}
 use Rattle.pair_compare.specs.Conflict.{GrowsBy, OneHas}
 use Rattle.pair_compare.specs.Work.{HasNothing, IsTaskPair, IsWorkerPair}
-use Rattle.pair_compare.specs.declared.work.Task.{Task}
+use Rattle.pair_compare.specs.declared.task.Task.{Task}
 use Rattle.pair_compare.proofs.Findings.{Adds-worker}
 use Rattle.pair_compare.proofs.Tasks.{Adds-append}
 use Rattle.pair_compare.proofs.team.+deal.Goals as goal

@@ -1,0 +1,95 @@
+-- Tasks whose ranges have all bytes together have the pairs of a group.
+use Rattle.std.proofs.Common.{◌≡◌, ◌⊎◌, ℕ, ◌+◌, ◌^◌, ◌<◌, ◌≤◌, List, [], ◌∷◌, ◌++◌, inl, inr, sym, ap, subst, arith}
+use Rattle.std.proofs.lemmas.Bool.{cases_order}
+use Rattle.stride_summary.specs.declared.run.Run.{Run}
+use Rattle.stride_summary.specs.Run.{last_byte}
+use Rattle.pair_compare.specs.Conflict.{GrowsBy, OneHas}
+use Rattle.pair_compare.specs.Groups.{IsPartedPair, IsRunOf}
+use Rattle.pair_compare.specs.Work.{IsMetRun, IsTaskPair}
+use Rattle.pair_compare.specs.declared.group.Member.{Member}
+use Rattle.pair_compare.specs.declared.task.Task.{Task}
+use Rattle.pair_compare.proofs.Adds.{Adds-pushed}
+use Rattle.pair_compare.proofs.Meeting.{from_first, to_last}
+
+-- the new tasks are the old ones and some that find the conflicts of the members at bytes below this one
+pub record CutsBelow (members : List Member) (byte : ℕ) (old new : List Task) : Type 0 where
+  pub kept : (pair : ℕ × ℕ) → OneHas IsTaskPair old pair → OneHas IsTaskPair new pair
+  pub added : (pair : ℕ × ℕ) (h : IsPartedPair (OneHas IsRunOf members) pair) → h.lines.conflict.shares.byte < byte → OneHas IsTaskPair new pair
+  pub only : (pair : ℕ × ℕ) → OneHas IsTaskPair new pair → OneHas IsTaskPair old pair ⊎ IsPartedPair (OneHas IsRunOf members) pair
+
+of_member : (low high : ℕ) (members : List Member) (n : ℕ × Run) → OneHas (IsMetRun low high) members n → OneHas IsRunOf members n
+of_member low high members n h = record { one = h.one; listed = h.listed; has = record { one = h.has.one; listed = h.has.listed; has = h.has.has.0 } }
+
+is_met : (low high : ℕ) (members : List Member) (n : ℕ × Run) → n.1.base ≤ high → low ≤ last_byte n.1 → OneHas IsRunOf members n → OneHas (IsMetRun low high) members n
+is_met low high members n from to h =
+    let same : n.1 ≡ h.has.one = ap (λ (m : ℕ × Run). m.1) h.has.has in
+    record {
+      one = h.one;
+      listed = h.listed;
+      has = record {
+        one = h.has.one;
+        listed = h.has.listed;
+        has = (h.has.has, subst (λ (r : Run). r.base ≤ high) same from, subst (λ (r : Run). low ≤ last_byte r) same to);
+      };
+    }
+
+of_task : (task : Task) (pair : ℕ × ℕ) → IsTaskPair task pair → IsPartedPair (OneHas IsRunOf task.members.now) pair
+of_task task pair h = record {
+  a = h.a;
+  b = h.b;
+  a_in = of_member task.low task.high task.members.now h.a h.a_in;
+  b_in = of_member task.low task.high task.members.now h.b h.b_in;
+  apart = h.apart;
+  lines = h.lines;
+}
+
+in_task : (task : Task) (pair : ℕ × ℕ) (h : IsPartedPair (OneHas IsRunOf task.members.now) pair) → task.low ≤ h.lines.conflict.shares.byte → h.lines.conflict.shares.byte ≤ task.high → IsTaskPair task pair
+in_task task pair h from to =
+    let shares = h.lines.conflict.shares in
+    let a_from = from_first h.a.1 shares.byte shares.first in
+    let a_to = to_last h.a.1 shares.byte shares.first in
+    let b_from = from_first h.b.1 shares.byte shares.second in
+    let b_to = to_last h.b.1 shares.byte shares.second in
+    record {
+      a = h.a;
+      b = h.b;
+      a_in = is_met task.low task.high task.members.now h.a (omega arith) (omega arith) h.a_in;
+      b_in = is_met task.low task.high task.members.now h.b (omega arith) (omega arith) h.b_in;
+      apart = h.apart;
+      lines = h.lines;
+    }
+
+-- one more task, from where the others end
+pub cut_more : (members : List Member) (low : ℕ) (old tasks more : List Task) (task : Task) → task.members.now ≡ members → task.low ≡ low → more ≡ tasks ++ task ∷ [] → CutsBelow members low old tasks → CutsBelow members (task.high + 1) old more
+cut_more members low old tasks more task same begins is cuts =
+    subst (λ (ts : List Task). CutsBelow members (task.high + 1) old ts) (sym is)
+    (subst (λ (ms : List Member). CutsBelow ms (task.high + 1) old (tasks ++ task ∷ [])) same
+    (record {
+      kept = λ pair h. pushed.kept pair (cuts.kept pair h);
+      added = λ pair h below. elim (cases_order h.lines.conflict.shares.byte task.low) [
+        | inr (inl less) ↦ pushed.kept pair (before pair h (omega arith))
+        | inl equal ↦ pushed.added pair (in_task task pair h (omega arith) (omega arith))
+        | inr (inr above) ↦ pushed.added pair (in_task task pair h (omega arith) (omega arith))
+      ];
+      only = λ pair h. elim (pushed.only pair h) [
+        | inl was ↦ subst (λ (ms : List Member). OneHas IsTaskPair old pair ⊎ IsPartedPair (OneHas IsRunOf ms) pair) (sym same) (cuts.only pair was)
+        | inr new ↦ inr (of_task task pair new)
+      ];
+    }))
+  where
+    pushed : GrowsBy (OneHas IsTaskPair tasks) (OneHas IsTaskPair (tasks ++ task ∷ [])) (IsTaskPair task)
+    pushed = Adds-pushed IsTaskPair tasks task
+
+    before : (pair : ℕ × ℕ) (h : IsPartedPair (OneHas IsRunOf task.members.now) pair) → h.lines.conflict.shares.byte < low → OneHas IsTaskPair tasks pair
+    before = (subst (λ (ms : List Member). CutsBelow ms low old tasks) (sym same) cuts).added
+
+-- once all bytes of runs are below, the tasks have the members' pairs
+pub cut_all : (members : List Member) (old new : List Task) → CutsBelow members (2 ^ 64) old new → GrowsBy (OneHas IsTaskPair old) (OneHas IsTaskPair new) (IsPartedPair (OneHas IsRunOf members))
+cut_all members old new cuts = record {
+  kept = cuts.kept;
+  added = λ pair h. cuts.added pair h (let to = to_last h.a.1 h.lines.conflict.shares.byte h.lines.conflict.shares.first in let bounded = h.a.1.bounded in omega arith);
+  only = cuts.only;
+}
+
+pub none_cut : (members : List Member) (old : List Task) → CutsBelow members 0 old old
+none_cut members old = record { kept = λ pair h. h; added = λ pair h below. absurd (omega arith); only = λ pair h. inl h }
