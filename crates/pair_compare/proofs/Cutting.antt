@@ -5,11 +5,14 @@ use Rattle.stride_summary.specs.declared.run.Run.{Run}
 use Rattle.stride_summary.specs.Run.{last_byte}
 use Rattle.pair_compare.specs.Conflict.{GrowsBy, OneHas}
 use Rattle.pair_compare.specs.Groups.{IsPartedPair, IsRunOf}
-use Rattle.pair_compare.specs.Work.{IsMetRun, IsTaskPair}
+use Rattle.pair_compare.specs.Sweeps.{IsHullOf}
+use Rattle.pair_compare.specs.Work.{IsMetNumbered, IsMetRun, IsTaskPair}
 use Rattle.pair_compare.specs.declared.group.Member.{Member}
+use Rattle.pair_compare.specs.declared.hull.Hull.{Hull}
 use Rattle.pair_compare.specs.declared.task.Task.{Task}
-use Rattle.pair_compare.proofs.Adds.{Adds-pushed}
+use Rattle.pair_compare.proofs.Adds.{Adds-pushed, Adds-same}
 use Rattle.pair_compare.proofs.Meeting.{from_first, to_last}
+use Rattle.pair_compare.proofs.Members.{parted_within}
 
 -- the new tasks are the old ones and some that find the conflicts of the members at bytes below this one
 pub record CutsBelow (members : List Member) (byte : ℕ) (old new : List Task) : Type 0 where
@@ -34,14 +37,7 @@ is_met low high members n from to h =
     }
 
 of_task : (task : Task) (pair : ℕ × ℕ) → IsTaskPair task pair → IsPartedPair (OneHas IsRunOf task.members.now) pair
-of_task task pair h = record {
-  a = h.a;
-  b = h.b;
-  a_in = of_member task.low task.high task.members.now h.a h.a_in;
-  b_in = of_member task.low task.high task.members.now h.b h.b_in;
-  apart = h.apart;
-  lines = h.lines;
-}
+of_task task pair h = parted_within (OneHas (IsMetRun task.low task.high) task.members.now) (OneHas IsRunOf task.members.now) pair (of_member task.low task.high task.members.now) h
 
 in_task : (task : Task) (pair : ℕ × ℕ) (h : IsPartedPair (OneHas IsRunOf task.members.now) pair) → task.low ≤ h.lines.conflict.shares.byte → h.lines.conflict.shares.byte ≤ task.high → IsTaskPair task pair
 in_task task pair h from to =
@@ -93,3 +89,11 @@ cut_all members old new cuts = record {
 
 pub none_cut : (members : List Member) (old : List Task) → CutsBelow members 0 old old
 none_cut members old = record { kept = λ pair h. h; added = λ pair h below. absurd (omega arith); only = λ pair h. inl h }
+
+pub cuts_less : (members : List Member) (less more : ℕ) (old new : List Task) → less ≤ more → CutsBelow members more old new → CutsBelow members less old new
+cuts_less members less more old new fewer cuts = record { kept = cuts.kept; added = λ pair h below. cuts.added pair h (omega arith); only = cuts.only }
+
+-- one more hull adds its run, if the run meets the range
+pub Adds-hull : (hulls more : List Hull) (hull : Hull) (low high : ℕ) → more ≡ hulls ++ hull ∷ [] → hull.run.now.base ≤ high → low ≤ last_byte hull.run.now → GrowsBy (OneHas IsHullOf hulls) (OneHas IsHullOf more) (IsMetNumbered low high hull.part hull.run.now)
+Adds-hull hulls more hull low high is from to = subst (λ (hs : List Hull). GrowsBy (OneHas IsHullOf hulls) (OneHas IsHullOf hs) (IsMetNumbered low high hull.part hull.run.now)) (sym is)
+    (Adds-same (OneHas IsHullOf hulls) (OneHas IsHullOf (hulls ++ hull ∷ [])) (IsHullOf hull) (IsMetNumbered low high hull.part hull.run.now) (λ n h. (h, from, to)) (λ n h. h.0) (Adds-pushed IsHullOf hulls hull))

@@ -4,11 +4,11 @@ use Rattle.std.specs.List.Sorted.{IsNonDecreasingBy}
 use Rattle.std.proofs.lemmas.List.{get_or_default, take_more}
 use Rattle.std.proofs.lemmas.List.Elements.{Contains-append_left, Contains-push, Contains-push_cases}
 use Rattle.stride_summary.specs.declared.run.Run.{Run}
-use Rattle.pair_compare.specs.Conflict.{AddsPairs, IsLinesOf, OneHas}
+use Rattle.pair_compare.specs.Conflict.{AddsPairs, IsLinesOf, IsRunPair, OneHas}
 use Rattle.pair_compare.specs.Groups.{IsPartedPair}
 use Rattle.pair_compare.specs.Sweeps.{IsHullOf, IsHullPair, reaches}
 use Rattle.pair_compare.specs.declared.hull.Hull.{Hull}
-use Rattle.pair_compare.proofs.Adds.{AddsPairs-both, not_in_nothing}
+use Rattle.pair_compare.proofs.Adds.{AddsPairs-both, AddsPairs-same, OneHas-cons, OneHas-first, not_in_nothing}
 use Rattle.pair_compare.proofs.Dividing.{Contains-filter, filter-Contains}
 use Rattle.pair_compare.proofs.Meeting.{from_first, to_last}
 
@@ -169,3 +169,9 @@ none_swept hulls keys = record { kept = λ p h. h; added = λ p h. absurd (not_i
 
 pub none_open : (hulls : List Hull) → IsOpen hulls 0 []
 none_open hulls = record { seen = λ hull h. absurd (not_in_nothing hull h); others = λ hull j d h from inside. absurd (not_in_nothing hull h) }
+
+-- what two hulls of different parts add
+pub of_hulls : (old new : List (ℕ × ℕ)) (a b : Hull) → (a.part ≡ b.part → ⊥) → AddsPairs old new (IsRunPair a.run.now (b.run.now ∷ [])) → AddsPairs old new (IsHullPair a b)
+of_hulls old new a b apart adds = AddsPairs-same old new (IsRunPair a.run.now (b.run.now ∷ [])) (IsHullPair a b)
+    (λ p h. elim (OneHas-cons (IsLinesOf a.run.now) b.run.now [] p h) [ inl lines ↦ record { apart = apart; lines = lines } | inr none ↦ absurd (not_in_nothing none.one none.listed) ])
+    (λ p h. OneHas-first (IsLinesOf a.run.now) b.run.now [] p h.lines) adds

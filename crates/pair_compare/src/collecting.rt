@@ -25,16 +25,17 @@ fn add_met<'r>(
     let low = run.low();
     let high = run.high();
     if low <= task.high && task.low <= high {
-        hulls.push(Hull { low, high, part, run })?;
+        hulls.push(Hull {
+            low,
+            high,
+            part,
+            run,
+        })?;
     }
     Ok(())
 }
 
-fn add_member<'s>(
-    member: &Member<'s>,
-    task: &Task,
-    hulls: &mut Vec<Hull<'s>>,
-) -> Result<(), Memory>
+fn add_member<'s>(member: &Member<'s>, task: &Task, hulls: &mut Vec<Hull<'s>>) -> Result<(), Memory>
     ensures { OnOk result (GrowsBy (OneHas IsHullOf hulls.old.items) (OneHas IsHullOf hulls.new.items) (IsMetRun task.now.low task.now.high member.now)) }
 {
     for run in member.segment.runs.as_slice() {

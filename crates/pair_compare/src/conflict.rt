@@ -30,11 +30,7 @@ fn lines_of(a: &Run, b: &Run) -> (u32, u32)
 }
 
 /// Adds the line pair of the two runs, if they conflict.
-pub fn add_conflict(
-    a: &Run,
-    b: &Run,
-    pairs: &mut BTreeSet<(u32, u32)>,
-) -> Result<(), Memory>
+pub fn add_conflict(a: &Run, b: &Run, pairs: &mut BTreeSet<(u32, u32)>) -> Result<(), Memory>
     ensures added { OnOk result (AddsPairs pairs.old.keys pairs.new.keys (IsRunPair a.now (b.now ∷ []))) }
     ensures refused { OnErr result (AddsSome pairs.old.keys pairs.new.keys (IsRunPair a.now (b.now ∷ []))) }
 {

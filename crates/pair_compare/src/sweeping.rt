@@ -47,11 +47,7 @@ fn step<'r>(
 
 /// Adds the line pairs of the conflicts of runs of different parts, in order of their first bytes: each is compared with
 /// those before it that haven't ended.
-pub fn sweep(
-    alloc: Global,
-    hulls: &[Hull],
-    pairs: &mut BTreeSet<(u32, u32)>,
-) -> Result<(), Memory>
+pub fn sweep(alloc: Global, hulls: &[Hull], pairs: &mut BTreeSet<(u32, u32)>) -> Result<(), Memory>
     requires { IsNonDecreasingBy (λ hull. hull.low) hulls.now }
     ensures { OnOk result (AddsPairs pairs.old.keys pairs.new.keys (IsPartedPair (OneHas IsHullOf hulls.now))) }
 {

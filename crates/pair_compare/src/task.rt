@@ -8,8 +8,11 @@ use std::alloc::Global;
 use stride_summary::Run;
 use sw_base::Memory;
 
-/// Of how many runs of a group about one is looked at, to cut them evenly.
+/// About how many runs of a group are looked at, to cut them evenly.
 const SAMPLES: usize = 1024;
+
+/// The least number of runs for which a task is worth while.
+const TASK: usize = 4096;
 
 /// Members of a group, whose runs that meet these bytes are compared: those from the first to the last.
 #[derive(Drop)]
@@ -72,12 +75,7 @@ fn samples_of(alloc: Global, members: &[Member], step: usize) -> Result<Vec<u64>
 }
 
 // Bytes that cut the runs in about so many even parts.
-fn cuts_of(
-    alloc: Global,
-    members: &[Member],
-    runs: usize,
-    parts: usize,
-) -> Result<Vec<u64>, Memory>
+fn cuts_of(alloc: Global, members: &[Member], runs: usize, parts: usize) -> Result<Vec<u64>, Memory>
     requires { 1 ≤ parts }
 {
     let mut cuts = Vec::new(alloc);
@@ -100,16 +98,11 @@ fn cut_at<'g, 's>(
 ) -> Result<(), Memory>
     ensures { OnOk result (GrowsBy (OneHas IsTaskPair tasks.old.items) (OneHas IsTaskPair tasks.new.items) (IsPartedPair (OneHas IsRunOf members.now))) }
 {
-    let mut low = 0;
+    let mut low = 0u64;
     for cut in cuts {
-        if low <= *cut && *cut < u64::MAX {
-            tasks.push(Task {
-                members,
-                low,
-                high: *cut,
-            })?;
-            low = *cut + 1;
-        }
+        let high = low.max(*cut);
+        tasks.push(Task { members, low, high })?;
+        low = high.saturating_add(1);
     }
     tasks.push(Task {
         members,
@@ -134,7 +127,8 @@ fn cut_group<'g, 's>(
         return Ok(());
     }
     let runs = runs_in(members);
-    let cuts = cuts_of(alloc, members, runs, runs / most + 1)?;
+    let parts = (runs / most).saturating_add(1);
+    let cuts = cuts_of(alloc, members, runs, parts)?;
     cut_at(members, cuts.as_slice(), tasks)
 }
 
@@ -155,7 +149,8 @@ pub fn cut<'g, 's>(
     requires { 1 ≤ workers }
     ensures { IfOk result (λ tasks. (pair : ℕ × ℕ) → OneHas IsTaskPair tasks.items pair ↔ OneHas IsGroupPair groups.now pair) }
 {
-    let most = runs_in_all(groups) / workers + 1;
+    let share = runs_in_all(groups) / workers;
+    let most = TASK.max(share.saturating_add(1));
     let mut tasks = Vec::new(alloc);
     for group in groups {
         cut_group(alloc, group, most, &mut tasks)?;

@@ -9,6 +9,9 @@ use Rattle.pair_compare.proofs.Findings.{Adds-worker}
 use Rattle.pair_compare.proofs.Tasks.{Adds-append}
 use Rattle.pair_compare.proofs.team.+deal.Goals as goal
 
+pub returns-then-workers-le1-clause-dealt : goal.returns-then-workers-le1-clause-dealt
+returns-then-workers-le1-clause-dealt t c = Adds-worker c.args.team.now.items c.push.new.self.items c.new.result c.args.tasks.now c.new.ensures.tasks c.in_ok-push.ensures.items
+
 pub returns-clause-dealt : goal.returns-clause-dealt
 returns-clause-dealt t c =
     let whole : c.args.tasks.now ≡ c.split_at.result.0.now ++ c.split_at.result.1.now = search rules in
