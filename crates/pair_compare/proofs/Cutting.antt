@@ -1,18 +1,16 @@
 -- Tasks whose ranges have all bytes together have the pairs of a group.
-use Rattle.std.proofs.Common.{◌≡◌, ◌⊎◌, ℕ, ◌+◌, ◌^◌, ◌<◌, ◌≤◌, List, [], ◌∷◌, ◌++◌, inl, inr, sym, ap, subst, arith}
+use Rattle.std.proofs.Common.{◌≡◌, ◌⊎◌, ℕ, ◌+◌, ◌^◌, ◌<◌, ◌≤◌, List, [], ◌∷◌, ◌++◌, Contains, inl, inr, sym, ap, subst, arith}
 use Rattle.std.proofs.lemmas.Bool.{cases_order}
 use Rattle.stride_summary.specs.declared.run.Run.{Run}
-use Rattle.stride_summary.specs.Run.{last_byte}
 use Rattle.pair_compare.specs.Conflict.{GrowsBy, OneHas}
 use Rattle.pair_compare.specs.Groups.{IsPartedPair, IsRunOf}
-use Rattle.pair_compare.specs.Sweeps.{IsHullOf}
-use Rattle.pair_compare.specs.Work.{IsMetNumbered, IsMetRun, IsTaskPair}
+use Rattle.pair_compare.specs.Sweeps.{Reach, reaches_of}
+use Rattle.pair_compare.specs.Work.{IsMemberReach, IsTaskPair}
 use Rattle.pair_compare.specs.declared.group.Member.{Member}
-use Rattle.pair_compare.specs.declared.hull.Hull.{Hull}
 use Rattle.pair_compare.specs.declared.task.Task.{Task}
-use Rattle.pair_compare.proofs.Adds.{Adds-pushed, Adds-same}
-use Rattle.pair_compare.proofs.Meeting.{from_first, to_last}
-use Rattle.pair_compare.proofs.Members.{parted_within}
+use Rattle.pair_compare.proofs.Adds.{Adds-pushed}
+use Rattle.pair_compare.proofs.Meeting.{to_last}
+use Rattle.pair_compare.proofs.Reaching.{reach_at}
 
 -- the new tasks are the old ones and some that find the conflicts of the members at bytes below this one
 pub record CutsBelow (members : List Member) (byte : ℕ) (old new : List Task) : Type 0 where
@@ -20,38 +18,52 @@ pub record CutsBelow (members : List Member) (byte : ℕ) (old new : List Task) 
   pub added : (pair : ℕ × ℕ) (h : IsPartedPair (OneHas IsRunOf members) pair) → h.lines.conflict.shares.byte < byte → OneHas IsTaskPair new pair
   pub only : (pair : ℕ × ℕ) → OneHas IsTaskPair new pair → OneHas IsTaskPair old pair ⊎ IsPartedPair (OneHas IsRunOf members) pair
 
-of_member : (low high : ℕ) (members : List Member) (n : ℕ × Run) → OneHas (IsMetRun low high) members n → OneHas IsRunOf members n
-of_member low high members n h = record { one = h.one; listed = h.listed; has = record { one = h.has.one; listed = h.has.listed; has = h.has.has.0 } }
+of_member : (low high : ℕ) (members : List Member) (reach : Reach) → OneHas (IsMemberReach low high) members reach → OneHas IsRunOf members (reach.part, reach.run)
+of_member low high members reach h =
+    let is = h.has.has.0 in
+    record { one = h.one; listed = h.listed; has = record { one = h.has.one; listed = h.has.listed; has = λ i. (is.of_part i, is.of_run i) } }
 
-is_met : (low high : ℕ) (members : List Member) (n : ℕ × Run) → n.1.base ≤ high → low ≤ last_byte n.1 → OneHas IsRunOf members n → OneHas (IsMetRun low high) members n
-is_met low high members n from to h =
-    let same : n.1 ≡ h.has.one = ap (λ (m : ℕ × Run). m.1) h.has.has in
+of_task : (task : Task) (pair : ℕ × ℕ) → IsTaskPair task pair → IsPartedPair (OneHas IsRunOf task.members.now) pair
+of_task task pair h = record {
+  a = (h.a.part, h.a.run);
+  b = (h.b.part, h.b.run);
+  a_in = of_member task.low task.high task.members.now h.a h.a_in;
+  b_in = of_member task.low task.high task.members.now h.b h.b_in;
+  apart = h.apart;
+  lines = h.lines;
+}
+
+in_member : (low high : ℕ) (members : List Member) (n : ℕ × Run) (bytes : ℕ × ℕ) → Contains (reaches_of n.1) bytes → bytes.0 ≤ high → low ≤ bytes.1 → OneHas IsRunOf members n
+    → OneHas (IsMemberReach low high) members (record { part = n.0; run = n.1; low = bytes.0; high = bytes.1 })
+in_member low high members n bytes reached from to h =
+    let run_is : n.1 ≡ h.has.one = ap (λ (m : ℕ × Run). m.1) h.has.has in
     record {
       one = h.one;
       listed = h.listed;
       has = record {
         one = h.has.one;
         listed = h.has.listed;
-        has = (h.has.has, subst (λ (r : Run). r.base ≤ high) same from, subst (λ (r : Run). low ≤ last_byte r) same to);
+        has = (record { of_part = ap (λ (m : ℕ × Run). m.0) h.has.has; of_run = run_is; listed = subst (λ (r : Run). Contains (reaches_of r) bytes) run_is reached }, from, to);
       };
     }
-
-of_task : (task : Task) (pair : ℕ × ℕ) → IsTaskPair task pair → IsPartedPair (OneHas IsRunOf task.members.now) pair
-of_task task pair h = parted_within (OneHas (IsMetRun task.low task.high) task.members.now) (OneHas IsRunOf task.members.now) pair (of_member task.low task.high task.members.now) h
 
 in_task : (task : Task) (pair : ℕ × ℕ) (h : IsPartedPair (OneHas IsRunOf task.members.now) pair) → task.low ≤ h.lines.conflict.shares.byte → h.lines.conflict.shares.byte ≤ task.high → IsTaskPair task pair
 in_task task pair h from to =
     let shares = h.lines.conflict.shares in
-    let a_from = from_first h.a.1 shares.byte shares.first in
-    let a_to = to_last h.a.1 shares.byte shares.first in
-    let b_from = from_first h.b.1 shares.byte shares.second in
-    let b_to = to_last h.b.1 shares.byte shares.second in
+    let a = reach_at h.a.1 shares.byte shares.first in
+    let b = reach_at h.b.1 shares.byte shares.second in
+    let a_from = a.from in
+    let a_to = a.to in
+    let b_from = b.from in
+    let b_to = b.to in
     record {
-      a = h.a;
-      b = h.b;
-      a_in = is_met task.low task.high task.members.now h.a (omega arith) (omega arith) h.a_in;
-      b_in = is_met task.low task.high task.members.now h.b (omega arith) (omega arith) h.b_in;
+      a = record { part = h.a.0; run = h.a.1; low = a.bytes.0; high = a.bytes.1 };
+      b = record { part = h.b.0; run = h.b.1; low = b.bytes.0; high = b.bytes.1 };
+      a_in = in_member task.low task.high task.members.now h.a a.bytes a.listed (omega arith) (omega arith) h.a_in;
+      b_in = in_member task.low task.high task.members.now h.b b.bytes b.listed (omega arith) (omega arith) h.b_in;
       apart = h.apart;
+      before = omega arith;
+      after = omega arith;
       lines = h.lines;
     }
 
@@ -92,8 +104,3 @@ none_cut members old = record { kept = λ pair h. h; added = λ pair h below. ab
 
 pub cuts_less : (members : List Member) (less more : ℕ) (old new : List Task) → less ≤ more → CutsBelow members more old new → CutsBelow members less old new
 cuts_less members less more old new fewer cuts = record { kept = cuts.kept; added = λ pair h below. cuts.added pair h (omega arith); only = cuts.only }
-
--- one more hull adds its run, if the run meets the range
-pub Adds-hull : (hulls more : List Hull) (hull : Hull) (low high : ℕ) → more ≡ hulls ++ hull ∷ [] → hull.run.now.base ≤ high → low ≤ last_byte hull.run.now → GrowsBy (OneHas IsHullOf hulls) (OneHas IsHullOf more) (IsMetNumbered low high hull.part hull.run.now)
-Adds-hull hulls more hull low high is from to = subst (λ (hs : List Hull). GrowsBy (OneHas IsHullOf hulls) (OneHas IsHullOf hs) (IsMetNumbered low high hull.part hull.run.now)) (sym is)
-    (Adds-same (OneHas IsHullOf hulls) (OneHas IsHullOf (hulls ++ hull ∷ [])) (IsHullOf hull) (IsMetNumbered low high hull.part hull.run.now) (λ n h. (h, from, to)) (λ n h. h.0) (Adds-pushed IsHullOf hulls hull))

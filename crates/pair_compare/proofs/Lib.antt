@@ -16,3 +16,4 @@ pub mod SegmentPlace
 pub mod AccessOrder
 pub mod Swept
 pub mod Cutting
+pub mod Reaching

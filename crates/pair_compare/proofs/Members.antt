@@ -186,9 +186,5 @@ value_of level field least most refs a within same a_in =
 pub none_differ : (level : ℕ) (field : Field) (least most : ℕ) (refs : List (Bor Segment)) (pair : ℕ × ℕ) → AreWithin level field least most refs → most ≤ least → IsApartPair level field (pointed refs) pair → ⊥
 none_differ level field least most refs pair within same h = h.apart (value_of level field least most refs h.two.a within same h.two.a_in ∙ sym (value_of level field least most refs h.two.b within same h.two.b_in))
 
--- what some runs have, more runs have
-pub parted_within : (Few Many : ℕ × Run → Type 0) (pair : ℕ × ℕ) → ((n : ℕ × Run) → Few n → Many n) → IsPartedPair Few pair → IsPartedPair Many pair
-parted_within Few Many pair within h = record { a = h.a; b = h.b; a_in = within h.a h.a_in; b_in = within h.b h.b_in; apart = h.apart; lines = h.lines }
-
 pub OneHas-permuted : {X K : Type 0} (P : X → K → Type 0) (xs ys : List X) (k : K) → IsPermutation xs ys → OneHas P xs k → OneHas P ys k
 OneHas-permuted P xs ys k same h = record { one = h.one; listed = Contains-permutation xs ys h.one same h.listed; has = h.has }

@@ -1,24 +1,27 @@
 -- The work of comparing groups: runs of some members that meet a range of bytes.
 use Rattle.std.specs.Prelude.{◌≡◌, ℕ, ◌≤◌, [], false, Contains}
 use Rattle.stride_summary.specs.declared.run.Run.{Run}
-use Rattle.stride_summary.specs.Run.{last_byte}
 use Rattle.pair_compare.specs.Conflict.{AddsPairs, OneHas}
-use Rattle.pair_compare.specs.Groups.{IsNumbered, IsPartedPair}
+use Rattle.pair_compare.specs.Sweeps.{IsMetPair, IsReachOf, Reach}
 use Rattle.pair_compare.specs.declared.group.Member.{Member}
 use Rattle.pair_compare.specs.declared.task.Task.{Task}
 use Rattle.pair_compare.specs.declared.worker.Worker.{Worker}
 
--- the run with the number of its part, if its bytes from the first to the last meet those of the range
-abbrev pub IsMetNumbered : ℕ → ℕ → ℕ → Run → ℕ × Run → Type 0
-IsMetNumbered low high part run numbered = IsNumbered part run numbered × (run.base ≤ high) × (low ≤ last_byte run)
+-- the run's reach over these bytes, if they meet the range
+abbrev pub IsMetStretch : ℕ → ℕ → ℕ → Run → ℕ × ℕ → Reach → Type 0
+IsMetStretch low high part run bytes reach = (reach ≡ record { part = part; run = run; low = bytes.0; high = bytes.1 }) × (bytes.0 ≤ high) × (low ≤ bytes.1)
 
--- one of the member's runs that meet the range
-abbrev pub IsMetRun : ℕ → ℕ → Member → ℕ × Run → Type 0
-IsMetRun low high member numbered = OneHas (IsMetNumbered low high member.part) member.segment.now.runs.items numbered
+-- a reach of the run that meets the range
+abbrev pub IsMetReach : ℕ → ℕ → ℕ → Run → Reach → Type 0
+IsMetReach low high part run reach = IsReachOf part run reach × (reach.low ≤ high) × (low ≤ reach.high)
 
--- the line pair of a conflict of two of the task's runs, of members of different parts
+-- a reach of one of the member's runs that meets the range
+abbrev pub IsMemberReach : ℕ → ℕ → Member → Reach → Type 0
+IsMemberReach low high member reach = OneHas (IsMetReach low high member.part) member.segment.now.runs.items reach
+
+-- the line pair of a conflict of runs of members of different parts, which reach over a common byte and into the task's range
 abbrev pub IsTaskPair : Task → ℕ × ℕ → Type 0
-IsTaskPair task pair = IsPartedPair (OneHas (IsMetRun task.low task.high) task.members.now) pair
+IsTaskPair task pair = IsMetPair (OneHas (IsMemberReach task.low task.high) task.members.now) pair
 
 -- the line pair of one of the worker's tasks
 abbrev pub IsWorkerPair : Worker → ℕ × ℕ → Type 0

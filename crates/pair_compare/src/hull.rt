@@ -1,15 +1,13 @@
-ghost use Rattle.std.specs.Prelude.{◌≡◌};
-ghost use Rattle.stride_summary.specs.Run.{last_byte};
+ghost use Rattle.std.specs.Prelude.{◌≤◌};
 
 use stride_summary::Run;
 
-/// A run with its first and its last byte, and the number of its part.
+/// A run, the number of its part, and the first and the last byte of a stretch of it.
 #[derive(Clone, Copy)]
 pub struct Hull<'r> {
     pub low: u64,
     pub high: u64,
     pub part: u64,
     pub run: &'r Run,
-    ghost first: { low ≡ run.now.base },
-    ghost last: { high ≡ last_byte run.now },
+    ghost ordered: { low ≤ high },
 }

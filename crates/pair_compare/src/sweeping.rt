@@ -1,8 +1,7 @@
 ghost use Rattle.std.specs.Prelude.{◌≡◌, ◌++◌, [], ◌∷◌, ◌≤◌, filter, nat_le, OnOk};
 ghost use Rattle.std.specs.List.Sorted.{IsNonDecreasingBy};
 ghost use Rattle.pair_compare.specs.Conflict.{AddsPairs, OneHas};
-ghost use Rattle.pair_compare.specs.Groups.{IsPartedPair};
-ghost use Rattle.pair_compare.specs.Sweeps.{IsHullOf, IsHullPair, reaches};
+ghost use Rattle.pair_compare.specs.Sweeps.{IsHullOf, IsHullPair, IsMetPair, reaches};
 
 use crate::conflict::add_conflict;
 use crate::hull::Hull;
@@ -45,11 +44,11 @@ fn step<'r>(
     Ok(())
 }
 
-/// Adds the line pairs of the conflicts of runs of different parts, in order of their first bytes: each is compared with
-/// those before it that haven't ended.
+/// Adds the line pairs of the conflicts of runs of different parts whose hulls meet. These are in order of their first bytes: each is
+/// compared with those before it that haven't ended.
 pub fn sweep(alloc: Global, hulls: &[Hull], pairs: &mut BTreeSet<(u32, u32)>) -> Result<(), Memory>
     requires { IsNonDecreasingBy (λ hull. hull.low) hulls.now }
-    ensures { OnOk result (AddsPairs pairs.old.keys pairs.new.keys (IsPartedPair (OneHas IsHullOf hulls.now))) }
+    ensures { OnOk result (AddsPairs pairs.old.keys pairs.new.keys (IsMetPair (OneHas IsHullOf hulls.now))) }
 {
     let mut active = Vec::new(alloc);
     for hull in hulls {

@@ -11,8 +11,11 @@ use sw_base::Memory;
 /// About how many runs of a group are looked at, to cut them evenly.
 const SAMPLES: usize = 1024;
 
-/// The least number of runs for which a task is worth while.
-const TASK: usize = 4096;
+/// A task has more runs than these only where a group has so many, which aren't worth two tasks.
+const LEAST: usize = 4096;
+
+/// About the most runs of a task, so that what a worker keeps of them stays small.
+const MOST: usize = 262_144;
 
 /// Members of a group, whose runs that meet these bytes are compared: those from the first to the last.
 #[derive(Drop)]
@@ -20,6 +23,8 @@ pub struct Task<'g, 's> {
     pub members: &'g [Member<'s>],
     pub low: u64,
     pub high: u64,
+    /// About how many runs these are.
+    pub runs: usize,
 }
 
 fn has_write(runs: &[Run]) -> bool
@@ -90,10 +95,11 @@ fn cuts_of(alloc: Global, members: &[Member], runs: usize, parts: usize) -> Resu
     Ok(cuts)
 }
 
-// Adds tasks that have all bytes together, cut behind these ones.
+// Adds tasks that have all bytes together, cut behind these ones, and about so many runs each.
 fn cut_at<'g, 's>(
     members: &'g [Member<'s>],
     cuts: &[u64],
+    runs: usize,
     tasks: &mut Vec<Task<'g, 's>>,
 ) -> Result<(), Memory>
     ensures { OnOk result (GrowsBy (OneHas IsTaskPair tasks.old.items) (OneHas IsTaskPair tasks.new.items) (IsPartedPair (OneHas IsRunOf members.now))) }
@@ -101,13 +107,19 @@ fn cut_at<'g, 's>(
     let mut low = 0u64;
     for cut in cuts {
         let high = low.max(*cut);
-        tasks.push(Task { members, low, high })?;
+        tasks.push(Task {
+            members,
+            low,
+            high,
+            runs,
+        })?;
         low = high.saturating_add(1);
     }
     tasks.push(Task {
         members,
         low,
         high: u64::MAX,
+        runs,
     })?;
     Ok(())
 }
@@ -129,7 +141,7 @@ fn cut_group<'g, 's>(
     let runs = runs_in(members);
     let parts = (runs / most).saturating_add(1);
     let cuts = cuts_of(alloc, members, runs, parts)?;
-    cut_at(members, cuts.as_slice(), tasks)
+    cut_at(members, cuts.as_slice(), runs / parts, tasks)
 }
 
 fn runs_in_all(groups: &[Group]) -> usize {
@@ -150,7 +162,7 @@ pub fn cut<'g, 's>(
     ensures { IfOk result (λ tasks. (pair : ℕ × ℕ) → OneHas IsTaskPair tasks.items pair ↔ OneHas IsGroupPair groups.now pair) }
 {
     let share = runs_in_all(groups) / workers;
-    let most = TASK.max(share.saturating_add(1));
+    let most = LEAST.max(MOST.min(share.saturating_add(1)));
     let mut tasks = Vec::new(alloc);
     for group in groups {
         cut_group(alloc, group, most, &mut tasks)?;

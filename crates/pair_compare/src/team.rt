@@ -23,7 +23,29 @@ pub fn unite(pairs: &mut BTreeSet<(u32, u32)>, more: &BTreeSet<(u32, u32)>) -> R
     Ok(())
 }
 
-// Deals the tasks out in as many parts as there are workers.
+fn runs_in(tasks: &[Task]) -> usize {
+    let mut runs = 0usize;
+    for task in tasks {
+        runs = runs.saturating_add(task.runs);
+    }
+    runs
+}
+
+// How many of the tasks have about so many runs together.
+fn share(tasks: &[Task], most: usize) -> usize
+    ensures { result ≤ length tasks.now }
+{
+    let mut runs = 0usize;
+    for (place, task) in tasks.iter().enumerate() {
+        if runs >= most {
+            return place;
+        }
+        runs = runs.saturating_add(task.runs);
+    }
+    tasks.len()
+}
+
+// Deals the tasks out in as many parts as there are workers, of about as many runs each.
 fn deal<'t, 'g, 's>(
     alloc: Global,
     tasks: &'t [Task<'g, 's>],
@@ -37,7 +59,7 @@ fn deal<'t, 'g, 's>(
         team.push(Worker::new(alloc, tasks))?;
         return Ok(());
     }
-    let (mine, others) = tasks.split_at(tasks.len() / workers);
+    let (mine, others) = tasks.split_at(share(tasks, runs_in(tasks) / workers));
     team.push(Worker::new(alloc, mine))?;
     deal(alloc, others, workers - 1, team)
 }
