@@ -4,7 +4,7 @@ use Rattle.std.proofs.lemmas.Bool.{cases_order}
 use Rattle.stride_summary.specs.declared.run.Run.{Run}
 use Rattle.pair_compare.specs.Conflict.{GrowsBy, OneHas}
 use Rattle.pair_compare.specs.Groups.{IsPartedPair, IsRunOf}
-use Rattle.pair_compare.specs.Sweeps.{Reach, reaches_of}
+use Rattle.pair_compare.specs.Sweeps.{Reach, stretches_of}
 use Rattle.pair_compare.specs.Work.{IsMemberReach, IsTaskPair}
 use Rattle.pair_compare.specs.declared.group.Member.{Member}
 use Rattle.pair_compare.specs.declared.task.Task.{Task}
@@ -33,7 +33,7 @@ of_task task pair h = record {
   lines = h.lines;
 }
 
-in_member : (low high : ℕ) (members : List Member) (n : ℕ × Run) (bytes : ℕ × ℕ) → Contains (reaches_of n.1) bytes → bytes.0 ≤ high → low ≤ bytes.1 → OneHas IsRunOf members n
+in_member : (low high : ℕ) (members : List Member) (n : ℕ × Run) (bytes : ℕ × ℕ) → Contains (stretches_of n.1) bytes → bytes.0 ≤ high → low ≤ bytes.1 → OneHas IsRunOf members n
     → OneHas (IsMemberReach low high) members (record { part = n.0; run = n.1; low = bytes.0; high = bytes.1 })
 in_member low high members n bytes reached from to h =
     let run_is : n.1 ≡ h.has.one = ap (λ (m : ℕ × Run). m.1) h.has.has in
@@ -43,7 +43,7 @@ in_member low high members n bytes reached from to h =
       has = record {
         one = h.has.one;
         listed = h.has.listed;
-        has = (record { of_part = ap (λ (m : ℕ × Run). m.0) h.has.has; of_run = run_is; listed = subst (λ (r : Run). Contains (reaches_of r) bytes) run_is reached }, from, to);
+        has = (record { of_part = ap (λ (m : ℕ × Run). m.0) h.has.has; of_run = run_is; listed = subst (λ (r : Run). Contains (stretches_of r) bytes) run_is reached }, from, to);
       };
     }
 
@@ -98,9 +98,6 @@ cut_all members old new cuts = record {
   added = λ pair h. cuts.added pair h (let to = to_last h.a.1 h.lines.conflict.shares.byte h.lines.conflict.shares.first in let bounded = h.a.1.bounded in omega arith);
   only = cuts.only;
 }
-
-pub none_cut : (members : List Member) (old : List Task) → CutsBelow members 0 old old
-none_cut members old = record { kept = λ pair h. h; added = λ pair h below. absurd (omega arith); only = λ pair h. inl h }
 
 pub cuts_less : (members : List Member) (less more : ℕ) (old new : List Task) → less ≤ more → CutsBelow members more old new → CutsBelow members less old new
 cuts_less members less more old new fewer cuts = record { kept = cuts.kept; added = λ pair h below. cuts.added pair h (omega arith); only = cuts.only }

@@ -10,7 +10,7 @@ use Rattle.race_model.specs.Label.{Triple, IsConcurrent}
 use Rattle.stride_summary.specs.declared.run.Run.{Run}
 use Rattle.pair_compare.specs.Compare.{IsSegmentPair}
 use Rattle.pair_compare.specs.Conflict.{GrowsBy, IsPairOfRuns, OneHas}
-use Rattle.pair_compare.specs.Fields.{Agrees, AreAlike, AreWithin, CanDivide, IsApartPair, Parts, label_value, numbered}
+use Rattle.pair_compare.specs.Fields.{Agrees, AreAlike, AreWithin, CanDivide, IsApartPair, Parts, label_value, in_part}
 use Rattle.pair_compare.specs.Groups.{IsGroupPair, IsNumbered, IsPartedPair, IsRunOf, pointed}
 use Rattle.pair_compare.specs.declared.field.Field.{Field}
 use Rattle.pair_compare.specs.declared.field.Field.TheVariants.{Depth, Span, Barrier, Residue, Offset}
@@ -73,9 +73,9 @@ record Owner (level : ℕ) (field : Field) (refs : List (Bor Segment)) (n : ℕ 
   pub inside : Contains owner.now.runs.items n.1
   pub value : n.0 ≡ label_value level field owner.now.label
 
-owner_of : (level : ℕ) (field : Field) (refs : List (Bor Segment)) (n : ℕ × Run) → OneHas IsRunOf (map (numbered level field) refs) n → Owner level field refs n
+owner_of : (level : ℕ) (field : Field) (refs : List (Bor Segment)) (n : ℕ × Run) → OneHas IsRunOf (map (in_part level field) refs) n → Owner level field refs n
 owner_of level field refs n h =
-    let at = OneHas-map (numbered level field) IsRunOf refs n h in
+    let at = OneHas-map (in_part level field) IsRunOf refs n h in
     let same : n ≡ (label_value level field at.one.now.label, at.has.one) = at.has.has in
     record {
       owner = at.one;
@@ -126,7 +126,7 @@ module _ (level : ℕ) (field : Field) (refs : List (Bor Segment)) (alike : AreA
     | inr (inr more) ↦ not_concurrent h.two.b.label h.two.a.label (parted_ordered field h.two.b.label h.two.a.label none (labels h.two.b h.two.a h.two.b_in h.two.a_in more)) (concurrent_sym h.two.a.label h.two.b.label h.two.racing.concurrent)
   ]
 
-  group_apart : Parts field → (pair : ℕ × ℕ) → IsPartedPair (OneHas IsRunOf (map (numbered level field) refs)) pair → IsApartPair level field (pointed refs) pair
+  group_apart : Parts field → (pair : ℕ × ℕ) → IsPartedPair (OneHas IsRunOf (map (in_part level field) refs)) pair → IsApartPair level field (pointed refs) pair
   group_apart parts pair h =
       let a = owner_of level field refs h.a h.a_in in
       let b = owner_of level field refs h.b h.b_in in
@@ -147,16 +147,16 @@ module _ (level : ℕ) (field : Field) (refs : List (Bor Segment)) (alike : AreA
         apart = differ;
       }
 
-  member_run : (a : Segment) (run : Run) → Contains (pointed refs) a → Contains a.runs.items run → OneHas IsRunOf (map (numbered level field) refs) (label_value level field a.label, run)
+  member_run : (a : Segment) (run : Run) → Contains (pointed refs) a → Contains a.runs.items run → OneHas IsRunOf (map (in_part level field) refs) (label_value level field a.label, run)
   member_run a run a_in inside =
       let to = points_to refs a a_in in
-      map-OneHas (numbered level field) IsRunOf refs (label_value level field a.label, run) (record {
+      map-OneHas (in_part level field) IsRunOf refs (label_value level field a.label, run) (record {
         one = to.pointer;
         listed = to.listed;
         has = subst (λ (s : Segment). OneHas (IsNumbered (label_value level field s.label)) s.runs.items (label_value level field a.label, run)) (sym to.is) (record { one = run; listed = inside; has = refl });
       })
 
-  apart_group : (pair : ℕ × ℕ) → IsApartPair level field (pointed refs) pair → IsPartedPair (OneHas IsRunOf (map (numbered level field) refs)) pair
+  apart_group : (pair : ℕ × ℕ) → IsApartPair level field (pointed refs) pair → IsPartedPair (OneHas IsRunOf (map (in_part level field) refs)) pair
   apart_group pair h =
       let found = IsPairOfRuns-from h.two.a.runs.items h.two.b.runs.items pair h.two.racing.conflict in
       record {
@@ -169,7 +169,7 @@ module _ (level : ℕ) (field : Field) (refs : List (Bor Segment)) (alike : AreA
       }
 
   -- one more group has the pairs that it parts
-  pub Adds-group : (groups more : List Group) (group : Group) → Parts field → group.members.items ≡ map (numbered level field) refs → more ≡ groups ++ group ∷ [] → GrowsBy (OneHas IsGroupPair groups) (OneHas IsGroupPair more) (IsApartPair level field (pointed refs))
+  pub Adds-group : (groups more : List Group) (group : Group) → Parts field → group.members.items ≡ map (in_part level field) refs → more ≡ groups ++ group ∷ [] → GrowsBy (OneHas IsGroupPair groups) (OneHas IsGroupPair more) (IsApartPair level field (pointed refs))
   Adds-group groups more group parts members is = subst (λ (gs : List Group). GrowsBy (OneHas IsGroupPair groups) (OneHas IsGroupPair gs) (IsApartPair level field (pointed refs))) (sym is)
       (Adds-same (OneHas IsGroupPair groups) (OneHas IsGroupPair (groups ++ group ∷ [])) (IsGroupPair group) (IsApartPair level field (pointed refs))
       (λ pair h. group_apart parts pair (subst (λ (ms : List Member). IsPartedPair (OneHas IsRunOf ms) pair) members h))

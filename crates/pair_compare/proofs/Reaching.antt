@@ -3,7 +3,7 @@ use Rattle.std.proofs.Common.{◌≡◌, ◌⊎◌, ℕ, zero, suc, ◌+◌, ◌
 use Rattle.stride_summary.specs.declared.run.Run.{Run}
 use Rattle.stride_summary.specs.Run.{HasRunByte, address_at, last_address, last_byte}
 use Rattle.pair_compare.specs.Conflict.{GrowsBy, OneHas}
-use Rattle.pair_compare.specs.Sweeps.{IsHullOf, IsReachOf, Reach, reaches_of}
+use Rattle.pair_compare.specs.Sweeps.{IsHullOf, IsReachOf, Reach, stretches_of}
 use Rattle.pair_compare.specs.Work.{IsMetReach, IsMetStretch}
 use Rattle.pair_compare.specs.declared.hull.Hull.{Hull}
 use Rattle.pair_compare.proofs.Adds.{Adds-both, Adds-pushed, Adds-same, not_in_nothing}
@@ -18,7 +18,7 @@ whole_of run = (run.base, last_byte run) ∷ []
 -- the stretch that has a byte
 pub record ReachesAt (run : Run) (byte : ℕ) : Type 0 where
   pub bytes : ℕ × ℕ
-  pub listed : Contains (reaches_of run) bytes
+  pub listed : Contains (stretches_of run) bytes
   pub from : bytes.0 ≤ byte
   pub to : byte ≤ bytes.1
 
@@ -35,13 +35,13 @@ not_two n other = at (nat_eq n 2) refl
 pub reach_at : (run : Run) (byte : ℕ) → HasRunByte run byte → ReachesAt run byte
 reach_at run byte h = at (nat_eq run.count 2) refl
   where
-    first : nat_eq run.count 2 ≡ true → Contains (reaches_of run) (run.base, run.base + (run.size - 1))
+    first : nat_eq run.count 2 ≡ true → Contains (stretches_of run) (run.base, run.base + (run.size - 1))
     first e = subst (λ (b : Bool). Contains (cond b (each_of run) (whole_of run)) (run.base, run.base + (run.size - 1))) (sym e) (0, omega arith, refl)
 
-    second : nat_eq run.count 2 ≡ true → Contains (reaches_of run) (last_address run, last_byte run)
+    second : nat_eq run.count 2 ≡ true → Contains (stretches_of run) (last_address run, last_byte run)
     second e = subst (λ (b : Bool). Contains (cond b (each_of run) (whole_of run)) (last_address run, last_byte run)) (sym e) (1, omega arith, refl)
 
-    whole : nat_eq run.count 2 ≡ false → Contains (reaches_of run) (run.base, last_byte run)
+    whole : nat_eq run.count 2 ≡ false → Contains (stretches_of run) (run.base, last_byte run)
     whole e = subst (λ (b : Bool). Contains (cond b (each_of run) (whole_of run)) (run.base, last_byte run)) (sym e) (0, omega arith, refl)
 
     one_of : (place : ℕ) → nat_eq run.count 2 ≡ true → place < 2 → address_at run place ≤ byte → byte < address_at run place + run.size → ReachesAt run byte
@@ -56,7 +56,7 @@ reach_at run byte h = at (nat_eq run.count 2) refl
     at false e = record { bytes = (run.base, last_byte run); listed = whole e; from = from_first run byte h; to = to_last run byte h }
 
 -- a stretch of a run is one of its reaches
-met_listed : (low high part : ℕ) (run : Run) (bytes : ℕ × ℕ) (reach : Reach) → Contains (reaches_of run) bytes → IsMetStretch low high part run bytes reach → IsMetReach low high part run reach
+met_listed : (low high part : ℕ) (run : Run) (bytes : ℕ × ℕ) (reach : Reach) → Contains (stretches_of run) bytes → IsMetStretch low high part run bytes reach → IsMetReach low high part run reach
 met_listed low high part run bytes reach listed h =
     let same : reach ≡ record { part = part; run = run; low = bytes.0; high = bytes.1 } = h.0 in
     subst (λ (r : Reach). IsMetReach low high part run r) (sym same) (record { of_part = refl; of_run = refl; listed = listed }, h.1, h.2)

@@ -178,13 +178,6 @@ module _ (hulls : List Hull) (i : ℕ) (x : Hull) (open_ones : List Hull) (withi
   swept k0 k1 k2 first then = subst (λ (hs : List Hull). AddsPairs k0 k2 (IsMetPair (OneHas IsHullOf hs))) (sym more)
       (AddsPairs-both k0 k1 k2 (IsMetPair (OneHas IsHullOf (take i hulls))) (OneHas (IsHullPair x) kept) (IsMetPair (OneHas IsHullOf (take i hulls ++ x ∷ []))) first then earlier found parts)
 
--- nothing is swept yet
-pub none_swept : (hulls : List Hull) (keys : List (ℕ × ℕ)) → AddsPairs keys keys (IsMetPair (OneHas IsHullOf (take 0 hulls)))
-none_swept hulls keys = record { kept = λ p h. h; added = λ p h. absurd (not_in_nothing h.a_in.one h.a_in.listed); only = λ p h. inl h }
-
-pub none_open : (hulls : List Hull) → IsOpen hulls 0 []
-none_open hulls = record { seen = λ hull h. absurd (not_in_nothing hull h); others = λ hull j d h from inside. absurd (not_in_nothing hull h) }
-
 -- what two hulls of different parts add
 pub of_hulls : (old new : List (ℕ × ℕ)) (a b : Hull) → (a.part ≡ b.part → ⊥) → AddsPairs old new (IsRunPair a.run.now (b.run.now ∷ [])) → AddsPairs old new (IsHullPair a b)
 of_hulls old new a b apart adds = AddsPairs-same old new (IsRunPair a.run.now (b.run.now ∷ [])) (IsHullPair a b)

@@ -98,8 +98,8 @@ Parts Residue = Unit {0}
 Parts Offset = ⊥
 
 -- the segment with its value of the field
-abbrev pub numbered : ℕ → Field → Bor Segment → Member
-numbered level field s = record { part = label_value level field s.now.label; segment = s }
+abbrev pub in_part : ℕ → Field → Bor Segment → Member
+in_part level field s = record { part = label_value level field s.now.label; segment = s }
 
 -- the pair of two of the segments whose values of the field are the same
 pub record IsSamePair (level : ℕ) (field : Field) (segments : List Segment) (pair : ℕ × ℕ) : Type 0 where

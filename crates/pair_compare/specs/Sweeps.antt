@@ -13,14 +13,14 @@ pub record Reach : Type 0 where
   pub high : ℕ
 
 -- a run of two addresses reaches over each, and any other from its first byte to its last
-abbrev pub reaches_of : Run → List (ℕ × ℕ)
-reaches_of run = cond (nat_eq run.count 2) ((run.base, run.base + (run.size - 1)) ∷ (last_address run, last_byte run) ∷ []) ((run.base, last_byte run) ∷ [])
+abbrev pub stretches_of : Run → List (ℕ × ℕ)
+stretches_of run = cond (nat_eq run.count 2) ((run.base, run.base + (run.size - 1)) ∷ (last_address run, last_byte run) ∷ []) ((run.base, last_byte run) ∷ [])
 
 -- a reach of the run, which is of this part
 pub record IsReachOf (part : ℕ) (run : Run) (reach : Reach) : Type 0 where
   pub of_part : reach.part ≡ part
   pub of_run : reach.run ≡ run
-  pub listed : Contains (reaches_of run) (reach.low, reach.high)
+  pub listed : Contains (stretches_of run) (reach.low, reach.high)
 
 -- the line pair of a conflict of two runs of different parts, which reach over a common byte
 pub record IsMetPair (Has : Reach → Type 0) (pair : ℕ × ℕ) : Type 0 where

@@ -1,6 +1,6 @@
 ghost use Rattle.std.specs.Prelude.{◌≡◌, ◌↔◌, ◌≤◌, IsTrue, map, IfOk, OnOk};
 ghost use Rattle.pair_compare.specs.Conflict.{GrowsBy, OneHas};
-ghost use Rattle.pair_compare.specs.Fields.{CanDivide, HasNoLevel, IsApartPair, IsSamePair, Parts, next_field, next_level, numbered};
+ghost use Rattle.pair_compare.specs.Fields.{CanDivide, HasNoLevel, IsApartPair, IsSamePair, Parts, next_field, next_level, in_part};
 ghost use Rattle.pair_compare.specs.Groups.{IsGroupPair, pointed};
 
 use crate::field::{Field, extremes, halves, value};
@@ -53,7 +53,7 @@ fn members_of<'s>(
     level: usize,
     field: Field,
 ) -> Result<Vec<Member<'s>>, Memory>
-    ensures { IfOk result (λ members. members.items ≡ map (numbered level field) segments.now) }
+    ensures { IfOk result (λ members. members.items ≡ map (in_part level field) segments.now) }
 {
     let mut members = Vec::new(alloc);
     for segment in segments {

@@ -222,3 +222,26 @@ fn ranges_of_bytes_lose_no_race(rt: HostRuntime) -> Result<(), Fail> {
     }
     Ok(())
 }
+
+#[test]
+fn one_write_among_reads_of_one_element(rt: HostRuntime) -> Result<(), Fail> {
+    let alloc = rt.alloc();
+    let mut segments = Vec::new(alloc);
+    for lane in 0..8u16 {
+        let line = 1 + u32::from(lane);
+        let runs = vec![in alloc; run(lane == 5, line, 64, &[])?]?;
+        segments.push(segment(Label::root().fork(0, 1).fork(lane, 8), runs))?;
+    }
+    for lane in 0..8u16 {
+        let line = 101 + u32::from(lane);
+        let runs = vec![in alloc; run(false, line, 64, &[])?]?;
+        let label = Label::root().fork(0, 1).barrier().fork(lane, 8);
+        segments.push(segment(label, runs))?;
+    }
+    for workers in [1, 2] {
+        let pairs = compare_all(&rt, alloc, segments.as_slice(), workers, &NoGate)?;
+        let races = [(1, 6), (2, 6), (3, 6), (4, 6), (5, 6), (6, 7), (6, 8)];
+        assert_eq!(rt; listed(alloc, &pairs)?.as_slice(), races.as_slice());
+    }
+    Ok(())
+}
