@@ -4,13 +4,11 @@
 The last log of each folder has a byte too many, so `check` goes through all of them and then names that place. The first folder
 is that of `generate.py`, 38 MB in 9 logs whose accesses no stride compresses; the walk is set beside the time in which `cat` of the
 folder piped to `cksum` reads it. The others have one log of 4,194,303 accesses: of one element, and of 1,000 elements in turn. The
-last has a log of three records whose row tells 4,194,304, so that memory which grew by what a row tells would show; it is walked once
-more in an address space that has no room for so many records, and must answer the same.
+last has a log of three records whose row tells 4,194,304, so that memory which grew by what a row tells would show.
 
 usage: walk.py [N], at the top of the repository, after `./sword` was built; N is 100000 where it isn't told
 """
 import os
-import resource
 import struct
 import subprocess
 import sys
@@ -20,8 +18,6 @@ import time
 WRITE, REGION, END = 2, 6, 8
 MOST = 4_194_304
 ROUNDS = 3
-# A log of so many records has 101 MB.
-LIMIT = 64_000_000
 
 
 def record(kind, size, line, addr, value):
@@ -73,14 +69,6 @@ def seconds_of(words):
     return best, most, text
 
 
-def bounded(folder):
-    """The first line, or none, where the program may take so many bytes of addresses at most."""
-    def limit():
-        resource.setrlimit(resource.RLIMIT_AS, (LIMIT, LIMIT))
-    done = subprocess.run(["crates/sword/out/sword", "check", folder, "1"], capture_output=True, check=False, preexec_fn=limit)
-    return done.stdout.decode().split("\n")[0]
-
-
 def walk(what, folder, last, records):
     with open(last, "ab") as out:
         out.write(b"\0")
@@ -105,10 +93,6 @@ def main():
             walk(f"one log, {elements} element(s) in turn", folder, last, MOST)
         folder = os.path.join(place, "claiming")
         walk("one log of three records whose row tells 4,194,304", folder, claiming(folder), 3)
-        _, _, free = seconds_of(["./sword", "check", folder, "1"])
-        if bounded(folder) != free:
-            raise SystemExit(f"a row that tells {MOST} records takes more than {LIMIT / 1e6:.0f} MB")
-        print(f"the same within {LIMIT / 1e6:.0f} MB of addresses: {free}")
 
 
 main()
