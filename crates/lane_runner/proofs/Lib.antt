@@ -3,6 +3,7 @@ pub mod Beginning
 pub mod Bodies
 pub mod Chunking
 pub mod Dealing
+pub mod Draining
 pub mod Drawing
 pub mod Drawn
 pub mod Elements

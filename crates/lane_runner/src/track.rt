@@ -9,9 +9,10 @@ ghost use Rattle.lane_runner.specs.Going.{CanGo, Goes, IsSameLog, MakesRoom, sit
 ghost use Rattle.shared_words.specs.Handles.{Belongs, with_view};
 ghost use Rattle.kernel_syntax.specs.Program.{team_of, code_of};
 ghost use Rattle.kernel_syntax.specs.Tree as tree;
-ghost use Rattle.kernel_model.specs.Trace.{run, draw};
+ghost use Rattle.kernel_model.specs.Trace.{run, draw, log_limit};
 ghost use Rattle.lane_runner.specs.Forking.{RunsTeam};
 ghost use Rattle.shared_words.specs.Views.{locked, unlocked, rest};
+ghost use Rattle.kernel_syntax.specs.Arithmetic.{fitted};
 ghost use Rattle.lane_runner.specs.Placing.{StandsIn, meant};
 
 use crate::element::Element;
@@ -34,6 +35,7 @@ pub struct Track<L: Log> {
     buffer: Buffer<L>,
     draws: ChunkHand,
     next_loop: usize,
+    forked: u32,
 }
 
 impl<L: Log> Model for Track<L> {
@@ -41,7 +43,7 @@ impl<L: Log> Model for Track<L> {
 
     ghost Value = { Progress };
 
-    ghost view = { λ t. record { hand = t.hand; buffer = t.buffer; tally = record { draws = t.draws; next_loop = t.next_loop } } };
+    ghost view = { λ t. record { hand = t.hand; buffer = t.buffer; tally = record { draws = t.draws; next_loop = t.next_loop; forked = t.forked } } };
 }
 
 // Why a record of this line has no place.
@@ -96,15 +98,22 @@ fn event(kind: Kind, line: u32, addr: u64, value: u64) -> Record
 }
 
 impl<L: Log> Track<L> {
-    /// A lane's steps from here on, where this is its next loop whose chunks are drawn.
-    pub fn new(hand: Hand, buffer: Buffer<L>, draws: ChunkHand, next_loop: usize) -> Track<L>
-        ensures { result ≡ record { hand = hand; buffer = buffer; tally = record { draws = draws; next_loop = next_loop } } }
+    /// A lane's steps from here on, where this is its next loop whose chunks are drawn, and its task has forked so many regions.
+    pub fn new(
+        hand: Hand,
+        buffer: Buffer<L>,
+        draws: ChunkHand,
+        next_loop: usize,
+        forked: u32,
+    ) -> Track<L>
+        ensures { result ≡ record { hand = hand; buffer = buffer; tally = record { draws = draws; next_loop = next_loop; forked = forked } } }
     {
         Track {
             hand,
             buffer,
             draws,
             next_loop,
+            forked,
         }
     }
 
@@ -165,6 +174,7 @@ impl<L: Log> Track<L> {
     ) -> Result<(), Halt>
         requires can { CanGo world.now self.old }
         requires stands { StandsIn world.now element.now }
+        requires fits { fitted value element.now.width ≡ value }
         requires line { 1 ≤ line }
         ensures goes { (slots : List ℤ) → Goes world.now (put (model.access kind.Write (meant element.now) site line value)) slots slots self.old self.new result }
         ensures log { IsSameLog self.old.buffer self.new.buffer }
@@ -251,7 +261,13 @@ impl<L: Log> Track<L> {
 
     /// Executes a region: puts its record, and has its lanes run with these logs, from these locals.
     pub fn parallel<
-        F: Fn(&mut Hand, &Locals, Vec<L>, &Team, &mut Vec<(Path, L, u32)>) -> Result<(), Stop>,
+        F: Fn(
+            &mut Hand,
+            &Locals,
+            Vec<L>,
+            &Team,
+            &mut Vec<(Path, L, u32)>,
+        ) -> Result<(), (Path, Stop)>,
     >(
         &mut self,
         alloc: Global,
@@ -265,14 +281,15 @@ impl<L: Log> Track<L> {
         requires can { CanGo world.now self.old }
         requires free { self.old.hand.view.held ≡ [] }
         requires line { 1 ≤ team.now.line }
-        requires runs { RunsTeam world.now (F.pre region.now) (F.post region.now) logs (team_of team.now) }
+        requires runs { RunsTeam world.now (F.pre region.now) (F.post region.now) logs self.old.buffer.path self.old.tally.forked (team_of team.now) }
         ensures goes { Goes world.now (run (site world.now) (tree.Parallel team.now.span team.now.line team.now.end (code_of team.now.body.stmts.items) tree.Done)) locals.now.slots.items locals.now.slots.items self.old self.new result }
         ensures log { IsSameLog self.old.buffer self.new.buffer }
-        ensures tally { self.new.tally ≡ self.old.tally }
+        ensures loops { self.new.tally.next_loop ≡ self.old.tally.next_loop }
     {
         self.fork(alloc, team.line, team.span)?;
-        if let Err(stop) = region(&mut self.hand, locals, logs, team, done) {
-            return Err(Halt::Region(stop));
+        self.forked += 1;
+        if let Err((path, stop)) = region(&mut self.hand, locals, logs, team, done) {
+            return Err(Halt::Region(path, stop));
         }
         Ok(())
     }
@@ -291,6 +308,10 @@ impl<L: Log> Track<L> {
         requires line { 1 ≤ line }
         ensures goes { (slots : List ℤ) → Goes world.now (draw line chunks) slots slots self.old self.new result }
         ensures within { IfOk result (λ number. number ≤ chunks) }
+        ensures open { IfOk result (λ number. number < chunks → self.new.tally.next_loop ≡ self.old.tally.next_loop) }
+        ensures closed { IfOk result (λ number. chunks ≤ number → self.new.tally.next_loop ≡ self.old.tally.next_loop + 1) }
+        ensures below { IfOk result (λ _. self.old.buffer.count < log_limit) }
+        ensures count { IfOk result (λ _. self.new.buffer.count ≡ self.old.buffer.count + 1) }
         ensures log { IsSameLog self.old.buffer self.new.buffer }
     {
         self.ready(alloc, line)?;

@@ -14,9 +14,12 @@ returns-clause-takes g c =
     let room = subst (λ (p : Progress). HasRoomFor c.args.self.now p) (sym c.self.view_is) c.in_ok-ready.ensures.room in
     record {
       hand = room.waits.hand ∙ hand_still c.args.self.now.hand c.requires.there;
-      records = λ header records holds.
-          subst (λ (r : Record). HoldsRecords header c.put.new.self (records ++ r ∷ [])) (c.event-event.ensures ∙ ap (λ (n : ℕ). event kind.Region c.args.line 0 n) c.from.ensures) (c.put.ensures.records header records (room.waits.records header records holds));
-      count = ap (λ (b : Buffered). b.count) c.put.ensures.put ∙ ap (λ (n : ℕ). n + 1) room.waits.count;
+      log = record {
+        records = λ header records holds.
+            subst (λ (r : Record). HoldsRecords header c.put.new.self (records ++ r ∷ [])) (c.event-event.ensures ∙ ap (λ (n : ℕ). event kind.Region c.args.line 0 n) c.from.ensures) (c.put.ensures.records header records (room.waits.records header records holds));
+        count = ap (λ (b : Buffered). b.count) c.put.ensures.put ∙ ap (λ (n : ℕ). n + 1) room.waits.count;
+        path = ap (λ (b : Buffered). b.path) c.put.ensures.put ∙ room.waits.path;
+      };
       below = subst (λ (n : ℕ). n < log_limit) room.waits.count room.may_put.below;
       tally = room.waits.tally;
       unrefused = ap (λ (b : Buffered). b.refused) c.put.ensures.put ∙ room.may_put.unrefused;

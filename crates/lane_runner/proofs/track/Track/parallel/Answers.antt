@@ -1,4 +1,4 @@
-use Rattle.std.proofs.Common.{◌≡◌, refl, ap, sym, ◌∙◌, subst, []}
+use Rattle.std.proofs.Common.{◌≡◌, refl, ap, sym, ◌∙◌, subst, ℕ, ◌+◌, [], arith}
 use Rattle.std.proofs.lemmas.Result.{err_from_is_err_and}
 use Rattle.log_format.specs.declared.record.Kind.TheVariants as kind
 use Rattle.kernel_syntax.specs.Program.{team_of}
@@ -38,19 +38,19 @@ returns-in_err-fork-clause-goes g c =
 pub returns-in-Err-clause-goes : goal.returns-in-Err-clause-goes
 returns-in-Err-clause-goes g c =
     let team : TeamTree = team_of c.args.team.now in
-    let mid : Progress = record { hand = c.self.inside.hand; buffer = c.self.inside.buffer; tally = record { draws = c.self.inside.draws; next_loop = c.self.inside.next_loop } } in
-    let new : Progress = record { hand = c.region.new.arg2; buffer = c.self.inside.buffer; tally = record { draws = c.self.inside.draws; next_loop = c.self.inside.next_loop } } in
+    let mid : Progress = record { hand = c.self.inside.hand; buffer = c.self.inside.buffer; tally = record { draws = c.self.inside.draws; next_loop = c.self.inside.next_loop; forked = c.self.inside.forked } } in
+    let new : Progress = record { hand = c.region.new.arg2; buffer = c.self.inside.buffer; tally = record { draws = c.self.inside.draws; next_loop = c.self.inside.next_loop; forked = c.self.inside.forked + 1 } } in
     let taken = subst (λ (p : Progress). Takes (event kind.Region team.line 0 team.span) c.args.self.now.hand.view c.args.self.now p) (sym c.self.view_is) c.in_ok-fork.ensures.takes in
     let free = free_after c.args.world.now team c.args.self.now mid c.requires.can c.requires.free taken in
-    let ran : RanRegion c.args.world.now team c.args.locals.now.slots.items mid.hand new.hand c.region.result = c.requires.runs.ran _ _ _ _ _ _ _ refl free c.region.ensures in
-    region_began c.args.world.now (site c.args.world.now) team c.requires.line c.args.locals.now.slots.items c.args.self.now mid new c.region.result taken ran refl refl c.in-Err.stop c.in-Err.is
+    let ran : RanRegion c.args.world.now team c.args.locals.now.slots.items c.args.self.now.buffer.path c.args.self.now.tally.forked mid.hand new.hand c.region.result = c.requires.runs.ran _ _ _ _ _ _ _ refl free c.region.ensures in
+    region_began c.args.world.now (site c.args.world.now) team c.requires.line c.args.locals.now.slots.items c.args.self.now mid new c.region.result taken ran refl refl c.in-Err.path c.in-Err.stop c.in-Err.is
 
 pub returns-clause-goes : goal.returns-clause-goes
 returns-clause-goes g c =
     let team : TeamTree = team_of c.args.team.now in
-    let mid : Progress = record { hand = c.self.inside.hand; buffer = c.self.inside.buffer; tally = record { draws = c.self.inside.draws; next_loop = c.self.inside.next_loop } } in
-    let new : Progress = record { hand = c.region.new.arg2; buffer = c.self.inside.buffer; tally = record { draws = c.self.inside.draws; next_loop = c.self.inside.next_loop } } in
+    let mid : Progress = record { hand = c.self.inside.hand; buffer = c.self.inside.buffer; tally = record { draws = c.self.inside.draws; next_loop = c.self.inside.next_loop; forked = c.self.inside.forked } } in
+    let new : Progress = record { hand = c.region.new.arg2; buffer = c.self.inside.buffer; tally = record { draws = c.self.inside.draws; next_loop = c.self.inside.next_loop; forked = c.self.inside.forked + 1 } } in
     let taken = subst (λ (p : Progress). Takes (event kind.Region team.line 0 team.span) c.args.self.now.hand.view c.args.self.now p) (sym c.self.view_is) c.in_ok-fork.ensures.takes in
     let free = free_after c.args.world.now team c.args.self.now mid c.requires.can c.requires.free taken in
-    let ran : RanRegion c.args.world.now team c.args.locals.now.slots.items mid.hand new.hand c.region.result = c.requires.runs.ran _ _ _ _ _ _ _ refl free c.region.ensures in
+    let ran : RanRegion c.args.world.now team c.args.locals.now.slots.items c.args.self.now.buffer.path c.args.self.now.tally.forked mid.hand new.hand c.region.result = c.requires.runs.ran _ _ _ _ _ _ _ refl free c.region.ensures in
     region_made c.args.world.now (site c.args.world.now) team c.requires.line c.args.locals.now.slots.items c.args.self.now mid new c.region.result taken ran refl refl _ c.in_default.is
