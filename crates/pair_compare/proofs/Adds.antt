@@ -16,7 +16,7 @@ AddsPairs-none P keys = record {
 }
 
 -- the same pairs, told in another way
-pub Adds-same : (O N P Q : ℕ × ℕ → Type 0) → ((pair : ℕ × ℕ) → P pair → Q pair) → ((pair : ℕ × ℕ) → Q pair → P pair) → GrowsBy O N P → GrowsBy O N Q
+pub Adds-same : {K : Type 0} (O N P Q : K → Type 0) → ((pair : K) → P pair → Q pair) → ((pair : K) → Q pair → P pair) → GrowsBy O N P → GrowsBy O N Q
 Adds-same O N P Q there back adds = record {
   kept = adds.kept;
   added = λ pair q. adds.added pair (back pair q);
@@ -37,7 +37,7 @@ pub AddsSome-all : (old new : List (ℕ × ℕ)) (P : ℕ × ℕ → Type 0) →
 AddsSome-all old new P adds = record { kept = adds.kept; only = adds.only }
 
 -- two steps in turn add what either adds
-pub Adds-both : (O M N P Q R : ℕ × ℕ → Type 0) → GrowsBy O M P → GrowsBy M N Q → ((p : ℕ × ℕ) → P p → R p) → ((p : ℕ × ℕ) → Q p → R p) → ((p : ℕ × ℕ) → R p → P p ⊎ Q p) → GrowsBy O N R
+pub Adds-both : {K : Type 0} (O M N P Q R : K → Type 0) → GrowsBy O M P → GrowsBy M N Q → ((p : K) → P p → R p) → ((p : K) → Q p → R p) → ((p : K) → R p → P p ⊎ Q p) → GrowsBy O N R
 Adds-both O M N P Q R first then p_r q_r parts = record {
   kept = λ pair k. then.kept pair (first.kept pair k);
   added = λ pair r. elim (parts pair r) [ inl p ↦ then.kept pair (first.added pair p) | inr q ↦ then.added pair q ];
@@ -63,20 +63,20 @@ AddsSome-after k0 k1 k2 P Q R first then p_r q_r = record {
 }
 
 -- one more element
-OneHas-push : {X : Type 0} (P : X → ℕ × ℕ → Type 0) (xs : List X) (x : X) (pair : ℕ × ℕ) → OneHas P (xs ++ x ∷ []) pair → OneHas P xs pair ⊎ P x pair
+OneHas-push : {X K : Type 0} (P : X → K → Type 0) (xs : List X) (x : X) (pair : K) → OneHas P (xs ++ x ∷ []) pair → OneHas P xs pair ⊎ P x pair
 OneHas-push P xs x pair h = elim (Contains-push_cases xs x h.one h.listed) [
   | inl old ↦ inl (record { one = h.one; listed = old; has = h.has })
   | inr same ↦ inr (subst (λ (z : _). P z pair) (sym same) h.has)
 ]
 
-pub Adds-push : {X : Type 0} (O M N : ℕ × ℕ → Type 0) (P : X → ℕ × ℕ → Type 0) (xs : List X) (x : X) → GrowsBy O M (OneHas P xs) → GrowsBy M N (P x) → GrowsBy O N (OneHas P (xs ++ x ∷ []))
+pub Adds-push : {X K : Type 0} (O M N : K → Type 0) (P : X → K → Type 0) (xs : List X) (x : X) → GrowsBy O M (OneHas P xs) → GrowsBy M N (P x) → GrowsBy O N (OneHas P (xs ++ x ∷ []))
 Adds-push {X} O M N P xs x first then = Adds-both O M N (OneHas P xs) (P x) (OneHas P (xs ++ x ∷ [])) first then
     (λ p h. record { one = h.one; listed = Contains-append_left xs (x ∷ []) h.one h.listed; has = h.has })
     (λ p h. record { one = x; listed = Contains-push xs x; has = h })
     (λ p h. OneHas-push P xs x p h)
 
 -- the turn of one element of a list
-pub Adds-next : {X : Type 0} (O M N : ℕ × ℕ → Type 0) (P : X → ℕ × ℕ → Type 0) (xs : List X) (i : ℕ) (x : X) → i < length xs → x ≡ get_or xs i x → GrowsBy O M (OneHas P (take i xs)) → GrowsBy M N (P x)
+pub Adds-next : {X K : Type 0} (O M N : K → Type 0) (P : X → K → Type 0) (xs : List X) (i : ℕ) (x : X) → i < length xs → x ≡ get_or xs i x → GrowsBy O M (OneHas P (take i xs)) → GrowsBy M N (P x)
     → GrowsBy O N (OneHas P (take (i + 1) xs))
 Adds-next {X} O M N P xs i x within is first then =
     subst (λ (zs : List X). GrowsBy O N (OneHas P zs)) (sym (take_more xs i x within ∙ ap (λ (z : X). take i xs ++ z ∷ []) (sym is)))
@@ -87,14 +87,14 @@ pub AddsPairs-next : {X : Type 0} (k0 k1 k2 : List (ℕ × ℕ)) (P : X → ℕ 
 AddsPairs-next {X} k0 k1 k2 P xs i x within is first then = Adds-next (Contains k0) (Contains k1) (Contains k2) P xs i x within is first then
 
 -- one more element adds what it has
-pub Adds-pushed : {X : Type 0} (P : X → ℕ × ℕ → Type 0) (xs : List X) (x : X) → GrowsBy (OneHas P xs) (OneHas P (xs ++ x ∷ [])) (P x)
+pub Adds-pushed : {X K : Type 0} (P : X → K → Type 0) (xs : List X) (x : X) → GrowsBy (OneHas P xs) (OneHas P (xs ++ x ∷ [])) (P x)
 Adds-pushed P xs x = record {
   kept = λ p h. record { one = h.one; listed = Contains-append_left xs (x ∷ []) h.one h.listed; has = h.has };
   added = λ p h. record { one = x; listed = Contains-push xs x; has = h };
   only = λ p h. OneHas-push P xs x p h;
 }
 
-pub Adds-none : {X : Type 0} (O : ℕ × ℕ → Type 0) (P : X → ℕ × ℕ → Type 0) → GrowsBy O O (OneHas P [])
+pub Adds-none : {X K : Type 0} (O : K → Type 0) (P : X → K → Type 0) → GrowsBy O O (OneHas P [])
 Adds-none O P = record { kept = λ pair k. k; added = λ pair h. absurd (not_in_nothing h.one h.listed); only = λ pair k. inl k }
 
 in_prefix : {X : Type 0} (xs : List X) (i : ℕ) (x : X) → Contains (take i xs) x → Contains xs x
@@ -112,19 +112,19 @@ AddsSome-next {X} k0 k1 k2 P xs i x within is first then =
     (λ p h. record { one = x; listed = in_turn xs i x within is; has = h })
 
 -- a list with an element before it
-pub OneHas-cons : {X : Type 0} (P : X → ℕ × ℕ → Type 0) (x : X) (xs : List X) (pair : ℕ × ℕ) → OneHas P (x ∷ xs) pair → P x pair ⊎ OneHas P xs pair
+pub OneHas-cons : {X K : Type 0} (P : X → K → Type 0) (x : X) (xs : List X) (pair : K) → OneHas P (x ∷ xs) pair → P x pair ⊎ OneHas P xs pair
 OneHas-cons P x xs pair h = at h.listed
   where
     at : Contains (x ∷ xs) h.one → P x pair ⊎ OneHas P xs pair
     at (zero, within, is) = inl (subst (λ (z : _). P z pair) (sym is) h.has)
     at (suc k, within, is) = inr (record { one = h.one; listed = (k, omega arith, is); has = h.has })
 
-pub OneHas-first : {X : Type 0} (P : X → ℕ × ℕ → Type 0) (x : X) (xs : List X) (pair : ℕ × ℕ) → P x pair → OneHas P (x ∷ xs) pair
+pub OneHas-first : {X K : Type 0} (P : X → K → Type 0) (x : X) (xs : List X) (pair : K) → P x pair → OneHas P (x ∷ xs) pair
 OneHas-first P x xs pair h = record { one = x; listed = (0, omega arith, refl); has = h }
 
-pub OneHas-later : {X : Type 0} (P : X → ℕ × ℕ → Type 0) (x : X) (xs : List X) (pair : ℕ × ℕ) → OneHas P xs pair → OneHas P (x ∷ xs) pair
+pub OneHas-later : {X K : Type 0} (P : X → K → Type 0) (x : X) (xs : List X) (pair : K) → OneHas P xs pair → OneHas P (x ∷ xs) pair
 OneHas-later P x xs pair h = record { one = h.one; listed = (let (k, within, is) = h.listed in (suc k, omega arith, is)); has = h.has }
 
 -- other properties of a list's elements that imply one another
-pub OneHas-same : {X : Type 0} (P Q : X → ℕ × ℕ → Type 0) (xs ys : List X) (pair : ℕ × ℕ) → ((x : X) → Contains xs x → P x pair → Contains ys x × Q x pair) → OneHas P xs pair → OneHas Q ys pair
+pub OneHas-same : {X K : Type 0} (P Q : X → K → Type 0) (xs ys : List X) (pair : K) → ((x : X) → Contains xs x → P x pair → Contains ys x × Q x pair) → OneHas P xs pair → OneHas Q ys pair
 OneHas-same P Q xs ys pair there h = let both = there h.one h.listed h.has in record { one = h.one; listed = both.0; has = both.1 }

@@ -7,10 +7,10 @@ use Rattle.log_segment.specs.declared.segment.Segment.{Segment}
 use Rattle.race_model.specs.Label.{Triple, IsConcurrent, IsLabelBefore}
 use Rattle.race_model.proofs.LabelOrder.{label_before_longer}
 use Rattle.pair_compare.specs.Fields.{Agrees, AreHalves, field_value, label_value}
-use Rattle.pair_compare.specs.Pieces.{pointed}
+use Rattle.pair_compare.specs.Groups.{pointed}
 use Rattle.pair_compare.specs.declared.field.Field.{Field}
 use Rattle.pair_compare.specs.declared.field.Field.TheVariants.{Depth, Span, Barrier, Residue, Offset}
-use Rattle.pair_compare.specs.declared.piece.Piece.{Piece}
+use Rattle.pair_compare.specs.declared.field.Split.{Split}
 use Rattle.pair_compare.proofs.Adds.{not_in_nothing}
 use Rattle.pair_compare.proofs.FieldOrder.{AreOrdered, barriers_order, lanes_apart, offsets_order, spans_apart}
 
@@ -73,6 +73,9 @@ parted level Offset prefix known l m long a b less =
     moved_before prefix l m a.rest b.rest a.own b.own a.parts b.parts
     (offsets_order prefix a.rest b.rest a.own b.own (a.agrees.0 ∙ sym b.agrees.0) (a.agrees.1 ∙ sym b.agrees.1) (a.agrees.2 ∙ sym b.agrees.2) (omega arith))
 
+pub same_value : (v least most : ℕ) → least ≤ v → v ≤ most → most ≤ least → v ≡ most
+same_value v least most low high same = grind arith
+
 -- the pointer to a segment
 pub record PointsTo (refs : List (Bor Segment)) (a : Segment) : Type 0 where
   pub pointer : Bor Segment
@@ -109,7 +112,7 @@ pub filter-Contains : {X : Type 0} (p : X → Bool) (xs : List X) (x : X) → Co
 filter-Contains p xs x h = (All-contains (Contains xs) (filter p xs) x (All-filter p (Contains xs) xs (All-contains_itself xs)) h, All-contains (λ y. p y ≡ true) (filter p xs) x (filter_passes p xs) h)
 
 -- what the halves hold together, and how they stand to each other
-module _ (level middle : ℕ) (field : Field) (refs : List (Bor Segment)) (parts : Piece) (cut : AreHalves level field middle refs parts) where
+module _ (level middle : ℕ) (field : Field) (refs : List (Bor Segment)) (parts : Split) (cut : AreHalves level field middle refs parts) where
   abbrev low : Bor Segment → Bool
   low s = nat_le (label_value level field s.now.label) middle
 

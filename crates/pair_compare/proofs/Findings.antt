@@ -6,7 +6,7 @@ use Rattle.pair_compare.specs.Work.{HasSearched, HasNothing, IsTaskPair, IsWorke
 use Rattle.pair_compare.specs.declared.worker.Worker.{Worker}
 use Rattle.pair_compare.proofs.Adds.{Adds-pushed, not_in_nothing}
 use Rattle.pair_compare.proofs.Inserts.{Inserts}
-use Rattle.pair_compare.specs.declared.work.Task.{Task}
+use Rattle.pair_compare.specs.declared.task.Task.{Task}
 
 one_worker : (old new : Worker) (pair : ℕ × ℕ) → HasSearched old new → HasNothing old → new.refused ≡ false → HasFound new pair ↔ IsWorkerPair old pair
 one_worker old new pair searched fresh ok =

@@ -7,10 +7,13 @@ pub mod FirstRegion
 pub mod Segments
 pub mod Tasks
 pub mod Findings
-pub mod Works
+pub mod Members
 pub mod FieldOrder
 pub mod Dividing
 pub mod Halving
 pub mod NextField
 pub mod SegmentPlace
 pub mod AccessOrder
+pub mod Swept
+pub mod Cutting
+pub mod Reaching

@@ -1,25 +1,22 @@
 -- Where all values of a field are the same, the next field is looked at.
-use Rattle.std.proofs.Common.{◌≡◌, ℕ, ◌+◌, ◌-◌, ◌*◌, ◌^◌, ◌%◌, ◌<◌, ◌≤◌, List, [], ◌∷◌, ◌++◌, All, Bor, Contains, length, get_or, sym, ap, ◌∙◌, arith}
+use Rattle.std.proofs.Common.{◌≡◌, ℕ, ◌+◌, ◌-◌, ◌*◌, ◌^◌, ◌%◌, ◌<◌, ◌≤◌, List, [], ◌∷◌, ◌++◌, All, Bor, Contains, length, get_or, sym, ap, subst, ◌∙◌, arith}
 use Rattle.std.proofs.lemmas.List.{append-nil, append_assoc, length_push}
 use Rattle.std.proofs.lemmas.List.Elements.{All-contains}
 use Rattle.std.proofs.lemmas.Option.{slice_get_past}
 use Rattle.log_segment.specs.declared.segment.Segment.{Segment}
 use Rattle.race_model.specs.Label.{Triple}
 use Rattle.pair_compare.specs.Compare.{IsSegmentPair}
-use Rattle.pair_compare.specs.Fields.{Agrees, AreAlike, CanDivide, HasNoLevel, HasTriple, next_field, next_level, fields_left, field_value, label_value}
-use Rattle.pair_compare.specs.Pieces.{pointed}
+use Rattle.pair_compare.specs.Fields.{Agrees, AreAlike, AreWithin, CanDivide, HasNoLevel, HasTriple, next_field, next_level, fields_left, field_value, label_value}
+use Rattle.pair_compare.specs.Groups.{pointed}
 use Rattle.pair_compare.specs.declared.field.Field.{Field}
 use Rattle.pair_compare.specs.declared.field.Field.TheVariants.{Depth, Span, Barrier, Residue, Offset}
-use Rattle.pair_compare.proofs.Dividing.{points_to, value_own}
+use Rattle.pair_compare.proofs.Dividing.{points_to, same_value, value_own}
 
 value_none : (level : ℕ) (prefix label : List Triple) → length prefix ≡ level → label ≡ prefix ++ [] → label_value level Depth label ≡ 0
 value_none level prefix label long is =
     let whole : label ≡ prefix = is ∙ append-nil prefix in
     let short : length label ≤ level = let e : length label ≡ length prefix = ap length whole in omega arith in
     ap (field_value Depth) (slice_get_past label level short)
-
-same_value : (v least most : ℕ) → least ≤ v → v ≤ most → most ≤ least → v ≡ most
-same_value v least most low high same = grind arith
 
 -- a label that has the level, where its field's value is known
 deeper : (level : ℕ) (prefix : List Triple) (known : Triple) (label : List Triple) (most : ℕ) → length prefix ≡ level → Agrees Depth prefix known label → label_value level Depth label ≡ most → (most ≡ 0 → ⊥) → HasTriple Span prefix known label
@@ -157,6 +154,14 @@ module _ (level least most : ℕ) (r : Bor Segment) (rest : List (Bor Segment)) 
 pub next_alike : (level least most : ℕ) (field : Field) (refs : List (Bor Segment)) → most ≤ least → 1 ≤ length refs → CanDivide level field least most refs → (HasNoLevel field most → ⊥) → Next (next_level field level) (next_field field) refs
 next_alike level least most field [] same some can going = absurd (omega arith)
 next_alike level least most field (r ∷ rest) same some can going = next_of level least most r rest same field can going
+
+pub next_can : (level least most low high : ℕ) (field : Field) (refs : List (Bor Segment)) (next : ℕ × Field) → most ≤ least → 1 ≤ length refs → CanDivide level field least most refs → (HasNoLevel field most → ⊥) → next ≡ (next_level field level, next_field field)
+    → AreWithin next.0 next.1 low high refs → CanDivide next.0 next.1 low high refs
+next_can level least most low high field refs next same some can going is within = record {
+  alike = subst (λ (p : ℕ × Field). AreAlike p.0 p.1 refs) (sym is) (next_alike level least most field refs same some can going).alike;
+  deep = can.deep;
+  within = within;
+}
 
 -- labels that end at the level are the same
 pub ended_same : (level least most : ℕ) (field : Field) (refs : List (Bor Segment)) (pair : ℕ × ℕ) → CanDivide level field least most refs → HasNoLevel field most → IsSegmentPair (pointed refs) pair → ⊥

@@ -44,11 +44,11 @@ pub record IsLinesOf (a b : Run) (pair : ℕ × ℕ) : Type 0 where
   pub conflict : IsRunConflict a b
   pub lines : pair ≡ line_pair a.line b.line
 
--- one of the elements has the pair
-pub record OneHas {X : Type 0} (P : X → ℕ × ℕ → Type 0) (xs : List X) (pair : ℕ × ℕ) : Type 0 where
+-- one of the elements has what is looked for
+pub record OneHas {X K : Type 0} (P : X → K → Type 0) (xs : List X) (k : K) : Type 0 where
   pub one : X
   pub listed : Contains xs one
-  pub has : P one pair
+  pub has : P one k
 
 -- the line pair of a conflict of a run with one of others
 abbrev pub IsRunPair : Run → List Run → ℕ × ℕ → Type 0
@@ -64,10 +64,10 @@ pub record AddsSome (old new : List (ℕ × ℕ)) (P : ℕ × ℕ → Type 0) : 
   pub only : (pair : ℕ × ℕ) → Contains new pair → Contains old pair ⊎ P pair
 
 -- what is new is what was before and what has the property
-pub record GrowsBy (Old New P : ℕ × ℕ → Type 0) : Type 0 where
-  pub kept : (pair : ℕ × ℕ) → Old pair → New pair
-  pub added : (pair : ℕ × ℕ) → P pair → New pair
-  pub only : (pair : ℕ × ℕ) → New pair → Old pair ⊎ P pair
+pub record GrowsBy {K : Type 0} (Old New P : K → Type 0) : Type 0 where
+  pub kept : (k : K) → Old k → New k
+  pub added : (k : K) → P k → New k
+  pub only : (k : K) → New k → Old k ⊎ P k
 
 -- the new pairs are the old ones and those with the property
 abbrev pub AddsPairs : List (ℕ × ℕ) → List (ℕ × ℕ) → (ℕ × ℕ → Type 0) → Type 0

@@ -3,9 +3,11 @@ use Rattle.std.specs.Prelude.{◌≡◌, ℕ, ◌+◌, ◌%◌, ◌≤◌, List,
 use Rattle.std.specs.Borrow.{Bor}
 use Rattle.race_model.specs.Label.{Triple}
 use Rattle.log_segment.specs.declared.segment.Segment.{Segment}
+use Rattle.pair_compare.specs.Compare.{IsSegmentPair}
 use Rattle.pair_compare.specs.declared.field.Field.{Field}
 use Rattle.pair_compare.specs.declared.field.Field.TheVariants.{Depth, Span, Barrier, Residue, Offset}
-use Rattle.pair_compare.specs.declared.piece.Piece.{Piece}
+use Rattle.pair_compare.specs.declared.field.Split.{Split}
+use Rattle.pair_compare.specs.declared.group.Member.{Member}
 
 abbrev pub field_value : Field → Option Triple → ℕ
 field_value field None = 0
@@ -52,7 +54,7 @@ abbrev pub AreWithin : ℕ → Field → ℕ → ℕ → List (Bor Segment) → 
 AreWithin level field low high refs = All (λ s. (low ≤ label_value level field s.now.label) × (label_value level field s.now.label ≤ high)) refs
 
 -- those with a value up to the middle are on the left, those above it on the right
-pub record AreHalves (level : ℕ) (field : Field) (middle : ℕ) (refs : List (Bor Segment)) (parts : Piece) : Type 0 where
+pub record AreHalves (level : ℕ) (field : Field) (middle : ℕ) (refs : List (Bor Segment)) (parts : Split) : Type 0 where
   pub left : parts.left.items ≡ filter (λ s. nat_le (label_value level field s.now.label) middle) refs
   pub right : parts.right.items ≡ filter (λ s. not (nat_le (label_value level field s.now.label) middle)) refs
 
@@ -87,13 +89,27 @@ HasNoLevel Barrier most = ⊥
 HasNoLevel Residue most = ⊥
 HasNoLevel Offset most = ⊥
 
--- the pieces, and this one where the field parts labels that are concurrent
-abbrev pub with_parts : Field → Piece → List Piece → List Piece
-with_parts Depth parts pieces = pieces
-with_parts Span parts pieces = pieces ++ parts ∷ []
-with_parts Barrier parts pieces = pieces
-with_parts Residue parts pieces = pieces ++ parts ∷ []
-with_parts Offset parts pieces = pieces
+-- labels that differ first in the field are concurrent
+abbrev pub Parts : Field → Type 0
+Parts Depth = ⊥
+Parts Span = Unit {0}
+Parts Barrier = ⊥
+Parts Residue = Unit {0}
+Parts Offset = ⊥
+
+-- the segment with its value of the field
+abbrev pub in_part : ℕ → Field → Bor Segment → Member
+in_part level field s = record { part = label_value level field s.now.label; segment = s }
+
+-- the pair of two of the segments whose values of the field are the same
+pub record IsSamePair (level : ℕ) (field : Field) (segments : List Segment) (pair : ℕ × ℕ) : Type 0 where
+  pub two : IsSegmentPair segments pair
+  pub same : label_value level field two.a.label ≡ label_value level field two.b.label
+
+-- the pair of two of the segments whose values of the field differ
+pub record IsApartPair (level : ℕ) (field : Field) (segments : List Segment) (pair : ℕ × ℕ) : Type 0 where
+  pub two : IsSegmentPair segments pair
+  pub apart : label_value level field two.a.label ≡ label_value level field two.b.label → ⊥
 
 -- the segments' labels are the same before the field of the level, have at most five levels, and have values of the range there
 pub record CanDivide (level : ℕ) (field : Field) (least most : ℕ) (refs : List (Bor Segment)) : Type 0 where

@@ -2,6 +2,7 @@ pub mod Conflict
 pub mod Compare
 pub mod Regions
 pub mod Work
-pub mod Pieces
+pub mod Groups
+pub mod Sweeps
 pub mod Fields
 pub mod Accesses

@@ -1,17 +1,27 @@
--- The work of comparing segments: runs that are looked up in trees.
-use Rattle.std.specs.Prelude.{◌≡◌, ℕ, [], false, Contains}
-use Rattle.pair_compare.specs.Conflict.{AddsPairs, IsPairOfRuns, OneHas}
-use Rattle.pair_compare.specs.declared.work.Task.{Task}
-use Rattle.pair_compare.specs.declared.work.Work.{Work}
+-- The work of comparing groups: runs of some members that meet a range of bytes.
+use Rattle.std.specs.Prelude.{◌≡◌, ℕ, ◌≤◌, [], false, Contains}
+use Rattle.stride_summary.specs.declared.run.Run.{Run}
+use Rattle.pair_compare.specs.Conflict.{AddsPairs, OneHas}
+use Rattle.pair_compare.specs.Sweeps.{IsMetPair, IsReachOf, Reach}
+use Rattle.pair_compare.specs.declared.group.Member.{Member}
+use Rattle.pair_compare.specs.declared.task.Task.{Task}
 use Rattle.pair_compare.specs.declared.worker.Worker.{Worker}
 
--- the line pair of a conflict of one of the task's runs with one of its tree's
-abbrev pub IsTaskPair : Task → ℕ × ℕ → Type 0
-IsTaskPair task pair = IsPairOfRuns task.tree.now task.runs.now pair
+-- the run's reach over these bytes, if they meet the range
+abbrev pub IsMetStretch : ℕ → ℕ → ℕ → Run → ℕ × ℕ → Reach → Type 0
+IsMetStretch low high part run bytes reach = (reach ≡ record { part = part; run = run; low = bytes.0; high = bytes.1 }) × (bytes.0 ≤ high) × (low ≤ bytes.1)
 
--- the line pair of a conflict of a run of the parts with one of the tree's
-abbrev pub IsWorkPair : Work → ℕ × ℕ → Type 0
-IsWorkPair work pair = OneHas (λ part. IsPairOfRuns work.tree part.now) work.parts.items pair
+-- a reach of the run that meets the range
+abbrev pub IsMetReach : ℕ → ℕ → ℕ → Run → Reach → Type 0
+IsMetReach low high part run reach = IsReachOf part run reach × (reach.low ≤ high) × (low ≤ reach.high)
+
+-- a reach of one of the member's runs that meets the range
+abbrev pub IsMemberReach : ℕ → ℕ → Member → Reach → Type 0
+IsMemberReach low high member reach = OneHas (IsMetReach low high member.part) member.segment.now.runs.items reach
+
+-- the line pair of a conflict of runs of members of different parts, which reach over a common byte and into the task's range
+abbrev pub IsTaskPair : Task → ℕ × ℕ → Type 0
+IsTaskPair task pair = IsMetPair (OneHas (IsMemberReach task.low task.high) task.members.now) pair
 
 -- the line pair of one of the worker's tasks
 abbrev pub IsWorkerPair : Worker → ℕ × ℕ → Type 0

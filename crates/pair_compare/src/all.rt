@@ -2,9 +2,9 @@ ghost use Rattle.std.specs.Prelude.{◌≤◌, IfOk};
 ghost use Rattle.race_model.specs.Race.{Lists};
 ghost use Rattle.pair_compare.specs.Compare.{IsSegmentPair};
 
-use crate::piece::pieces;
+use crate::group::groups;
+use crate::task::cut;
 use crate::team::search_all;
-use crate::work::{cut, works};
 use log_segment::Segment;
 use std::alloc::Global;
 use std::collections::BTreeSet;
@@ -23,8 +23,7 @@ pub fn compare_all<R: Threads + Sync, G: Gate>(
     requires { (1 ≤ workers) × (workers ≤ 64) }
     ensures { IfOk result (λ pairs. Lists (IsSegmentPair segments.now) pairs.keys) }
 {
-    let pieces = pieces(alloc, segments)?;
-    let works = works(alloc, &pieces)?;
-    let tasks = cut(alloc, &works)?;
+    let groups = groups(alloc, segments)?;
+    let tasks = cut(alloc, &groups, workers)?;
     search_all(rt, alloc, &tasks, workers, gate)
 }

@@ -1,5 +1,7 @@
 ghost use Rattle.std.specs.Prelude.{◌≡◌, ◌⊎◌, ◌↔◌, [], ◌∷◌, IsTrue, OnOk, OnErr};
-ghost use Rattle.pair_compare.specs.Conflict.{IsRunConflict, IsRunPair, AddsPairs, AddsSome, line_pair};
+ghost use Rattle.mutex_set.specs.Held.{AreDisjoint};
+ghost use Rattle.stride_summary.specs.Run.{SharesRunByte};
+ghost use Rattle.pair_compare.specs.Conflict.{IsRunPair, AddsPairs, AddsSome, line_pair};
 
 use interval_tree::Visit;
 use std::collections::BTreeSet;
@@ -13,14 +15,11 @@ fn one_writes(a: &Run, b: &Run) -> bool
     a.write || b.write
 }
 
-/// Whether the two runs have a common byte, one of them writes, and no mutex was held at both.
-fn conflicts(a: &Run, b: &Run) -> bool
-    ensures { IsTrue result ↔ IsRunConflict a.now b.now }
+/// Whether the two runs have a common byte, and no mutex was held at both.
+fn collide(a: &Run, b: &Run) -> bool
+    ensures { IsTrue result ↔ (AreDisjoint a.now.held b.now.held × SharesRunByte a.now b.now) }
 {
-    if !one_writes(a, b) || !a.held.disjoint(&b.held) {
-        return false;
-    }
-    overlap(a, b)
+    a.held.disjoint(&b.held) && overlap(a, b)
 }
 
 fn lines_of(a: &Run, b: &Run) -> (u32, u32)
@@ -29,15 +28,19 @@ fn lines_of(a: &Run, b: &Run) -> (u32, u32)
     (a.line.min(b.line), a.line.max(b.line))
 }
 
-fn add_conflict(a: &Run, b: &Run, pairs: &mut BTreeSet<(u32, u32)>) -> Result<(), Memory>
+/// Adds the line pair of the two runs, if they conflict.
+pub fn add_conflict(a: &Run, b: &Run, pairs: &mut BTreeSet<(u32, u32)>) -> Result<(), Memory>
     ensures added { OnOk result (AddsPairs pairs.old.keys pairs.new.keys (IsRunPair a.now (b.now ∷ []))) }
     ensures refused { OnErr result (AddsSome pairs.old.keys pairs.new.keys (IsRunPair a.now (b.now ∷ []))) }
 {
+    if !one_writes(a, b) {
+        return Ok(());
+    }
     let lines = lines_of(a, b);
     if pairs.contains(&lines) {
         return Ok(());
     }
-    if conflicts(a, b) {
+    if collide(a, b) {
         pairs.insert(lines)?;
     }
     Ok(())

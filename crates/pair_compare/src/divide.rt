@@ -1,11 +1,10 @@
-ghost use Rattle.std.specs.Prelude.{◌≡◌, ◌↔◌, ◌≤◌, IsTrue, OnOk};
-ghost use Rattle.pair_compare.specs.Compare.{IsSegmentPair};
+ghost use Rattle.std.specs.Prelude.{◌≡◌, ◌↔◌, ◌≤◌, IsTrue, map, IfOk, OnOk};
 ghost use Rattle.pair_compare.specs.Conflict.{GrowsBy, OneHas};
-ghost use Rattle.pair_compare.specs.Fields.{CanDivide, HasNoLevel, next_field, next_level, with_parts};
-ghost use Rattle.pair_compare.specs.Pieces.{IsPiecePair, pointed};
+ghost use Rattle.pair_compare.specs.Fields.{CanDivide, HasNoLevel, IsApartPair, IsSamePair, Parts, next_field, next_level, in_part};
+ghost use Rattle.pair_compare.specs.Groups.{IsGroupPair, pointed};
 
-use crate::field::{Field, extremes, halves};
-use crate::piece::Piece;
+use crate::field::{Field, extremes, halves, value};
+use crate::group::{Group, Member};
 use log_segment::Segment;
 use std::alloc::Global;
 use sw_base::Memory;
@@ -18,6 +17,19 @@ fn has_ended(field: Field, most: u64) -> bool
         Field::Span => false,
         Field::Barrier => false,
         Field::Residue => false,
+        Field::Offset => false,
+    }
+}
+
+// Whether labels that differ first in this field are concurrent.
+fn parts(field: Field) -> bool
+    ensures { IsTrue result ↔ Parts field }
+{
+    match field {
+        Field::Depth => false,
+        Field::Span => true,
+        Field::Barrier => false,
+        Field::Residue => true,
         Field::Offset => false,
     }
 }
@@ -35,31 +47,57 @@ fn next(level: usize, field: Field) -> (usize, Field)
     }
 }
 
-fn add_parts<'s>(parts: Piece<'s>, field: Field, pieces: &mut Vec<Piece<'s>>) -> Result<(), Memory>
-    ensures { OnOk result (pieces.new.items ≡ with_parts field parts.entry pieces.old.items) }
+fn members_of<'s>(
+    alloc: Global,
+    segments: &[&'s Segment],
+    level: usize,
+    field: Field,
+) -> Result<Vec<Member<'s>>, Memory>
+    ensures { IfOk result (λ members. members.items ≡ map (in_part level field) segments.now) }
 {
-    match field {
-        Field::Depth => {}
-        Field::Span => pieces.push(parts)?,
-        Field::Barrier => {}
-        Field::Residue => pieces.push(parts)?,
-        Field::Offset => {}
+    let mut members = Vec::new(alloc);
+    for segment in segments {
+        let part = value(&segment.label, level, field);
+        members.push(Member { part, segment })?;
     }
+    Ok(members)
+}
+
+// Adds the group of segments whose values of the field are in the range, if those with different ones are concurrent.
+fn add_group<'s>(
+    alloc: Global,
+    segments: &[&'s Segment],
+    level: usize,
+    field: Field,
+    range: (u64, u64),
+    groups: &mut Vec<Group<'s>>,
+) -> Result<(), Memory>
+    requires { CanDivide level field range.0 range.1 segments.now }
+    ensures { OnOk result (GrowsBy (OneHas IsGroupPair groups.old.items) (OneHas IsGroupPair groups.new.items) (IsApartPair level field (pointed segments.now))) }
+{
+    if !parts(field) {
+        return Ok(());
+    }
+    if range.0 >= range.1 {
+        return Ok(());
+    }
+    let members = members_of(alloc, segments, level, field)?;
+    groups.push(Group { members })?;
     Ok(())
 }
 
-/// Adds pieces of the members, whose labels are the same before the field of the level, and have values of the range there.
+/// Adds groups of the members with equal values of the field, whose labels are the same before it, and have values of the range there.
 pub fn divide<'s>(
     alloc: Global,
     members: &[&'s Segment],
     level: usize,
     field: Field,
     range: (u64, u64),
-    pieces: &mut Vec<Piece<'s>>,
+    groups: &mut Vec<Group<'s>>,
 ) -> Result<(), Memory>
     requires can { CanDivide level field range.0 range.1 members.now }
     requires few { level ≤ 5 }
-    ensures { OnOk result (GrowsBy (OneHas IsPiecePair pieces.old.items) (OneHas IsPiecePair pieces.new.items) (IsSegmentPair (pointed members.now))) }
+    ensures { OnOk result (GrowsBy (OneHas IsGroupPair groups.old.items) (OneHas IsGroupPair groups.new.items) (IsSamePair level field (pointed members.now))) }
 {
     let (least, most) = range;
     if members.len() < 2 {
@@ -71,25 +109,25 @@ pub fn divide<'s>(
     if most <= least {
         let (level, field) = next(level, field);
         let range = extremes(members, level, field);
-        return divide(alloc, members, level, field, range, pieces);
+        add_group(alloc, members, level, field, range, groups)?;
+        return divide(alloc, members, level, field, range, groups);
     }
     let middle = least + (most - least) / 2;
-    let parts = halves(alloc, members, level, field, middle)?;
+    let halves = halves(alloc, members, level, field, middle)?;
     divide(
         alloc,
-        parts.left.as_slice(),
+        halves.left.as_slice(),
         level,
         field,
         (least, middle),
-        pieces,
+        groups,
     )?;
     divide(
         alloc,
-        parts.right.as_slice(),
+        halves.right.as_slice(),
         level,
         field,
         (middle + 1, most),
-        pieces,
-    )?;
-    add_parts(parts, field, pieces)
+        groups,
+    )
 }

@@ -1,7 +1,6 @@
 ghost use Rattle.std.specs.Prelude.{◌≡◌, ◌%◌, ◌^◌, ◌<◌, filter, nat_le, not, IfOk};
 ghost use Rattle.pair_compare.specs.Fields.{AreHalves, AreWithin, label_value};
 
-use crate::piece::Piece;
 use log_segment::Segment;
 use span_label::Label;
 use std::alloc::Global;
@@ -100,6 +99,13 @@ fn above<'s>(
     Ok(found)
 }
 
+/// Some segments, parted by a field of their labels.
+#[derive(Drop)]
+pub struct Split<'s> {
+    pub left: Vec<&'s Segment>,
+    pub right: Vec<&'s Segment>,
+}
+
 /// The members with a value up to the middle, and those above it.
 pub fn halves<'s>(
     alloc: Global,
@@ -107,10 +113,10 @@ pub fn halves<'s>(
     level: usize,
     field: Field,
     middle: u64,
-) -> Result<Piece<'s>, Memory>
+) -> Result<Split<'s>, Memory>
     ensures { IfOk result (λ parts. AreHalves level field middle members.now parts) }
 {
     let left = up_to(alloc, members, level, field, middle)?;
     let right = above(alloc, members, level, field, middle)?;
-    Ok(Piece { left, right })
+    Ok(Split { left, right })
 }

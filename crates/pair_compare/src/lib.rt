@@ -2,8 +2,9 @@
 //!
 //! `compare_all` answers exactly the line pairs of the intervals' races, the smaller line first, each once and in ascending
 //! order, for every number of workers: two accesses of intervals with concurrent labels, of a common byte, one a write, under
-//! no common mutex. Labels are compared level by level: intervals that are the same there are divided by halves, as at the lanes of
-//! a team, and each run of one half is looked up in a tree of the other. The workers search at once, each its tasks.
+//! no common mutex. Labels are compared level by level: intervals that are the same there stand in groups, as the lanes of a team
+//! between two barriers. A group's runs are swept in order of their first bytes. The workers sweep at once, each the runs that meet
+//! its ranges of bytes.
 //!
 //! `compare` adds the race pairs of two intervals, over a tree of the second's runs, and counts its steps. After an error some
 //! of the pairs may be there, and nothing else was added or lost. `unite` adds one set of pairs to another.
@@ -12,16 +13,19 @@
 #![tactic(auto)]
 
 mod all;
+mod collecting;
 mod comparing;
 mod conflict;
 mod divide;
 mod field;
+mod group;
+mod hull;
 mod ordering;
-mod piece;
 mod regions;
 mod searching;
+mod sweeping;
+mod task;
 mod team;
-mod work;
 mod worker;
 
 pub use all::compare_all;

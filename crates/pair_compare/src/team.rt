@@ -4,7 +4,7 @@ ghost use Rattle.race_model.specs.Race.{pair_cmp};
 ghost use Rattle.pair_compare.specs.Conflict.{GrowsBy, AddsPairs, AddsSome, OneHas};
 ghost use Rattle.pair_compare.specs.Work.{HasFound, HasSearched, HasNothing, IsTaskPair, IsWorkerPair};
 
-use crate::work::Task;
+use crate::task::Task;
 use crate::worker::Worker;
 use std::alloc::Global;
 use std::collections::BTreeSet;
@@ -23,12 +23,34 @@ pub fn unite(pairs: &mut BTreeSet<(u32, u32)>, more: &BTreeSet<(u32, u32)>) -> R
     Ok(())
 }
 
-// Deals the tasks out in as many parts as there are workers.
-fn deal<'t, 'w, 'r>(
+fn runs_in(tasks: &[Task]) -> usize {
+    let mut runs = 0usize;
+    for task in tasks {
+        runs = runs.saturating_add(task.runs);
+    }
+    runs
+}
+
+// How many of the tasks have about so many runs together.
+fn share(tasks: &[Task], most: usize) -> usize
+    ensures { result ≤ length tasks.now }
+{
+    let mut runs = 0usize;
+    for (place, task) in tasks.iter().enumerate() {
+        if runs >= most {
+            return place;
+        }
+        runs = runs.saturating_add(task.runs);
+    }
+    tasks.len()
+}
+
+// Deals the tasks out in as many parts as there are workers, of about as many runs each.
+fn deal<'t, 'g, 's>(
     alloc: Global,
-    tasks: &'t [Task<'w, 'r>],
+    tasks: &'t [Task<'g, 's>],
     workers: usize,
-    team: &mut Vec<Worker<'t, 'w, 'r>>,
+    team: &mut Vec<Worker<'t, 'g, 's>>,
 ) -> Result<(), Memory>
     ensures dealt { OnOk result (GrowsBy (OneHas IsWorkerPair team.old.items) (OneHas IsWorkerPair team.new.items) (OneHas IsTaskPair tasks.now)) }
     ensures fresh { All HasNothing team.old.items → OnOk result (All HasNothing team.new.items) }
@@ -37,7 +59,7 @@ fn deal<'t, 'w, 'r>(
         team.push(Worker::new(alloc, tasks))?;
         return Ok(());
     }
-    let (mine, others) = tasks.split_at(tasks.len() / workers);
+    let (mine, others) = tasks.split_at(share(tasks, runs_in(tasks) / workers));
     team.push(Worker::new(alloc, mine))?;
     deal(alloc, others, workers - 1, team)
 }

@@ -191,3 +191,57 @@ fn workers_run_at_once(rt: HostRuntime) -> Result<(), Fail> {
     assert_eq!(rt; gate.alone.load(Ordering::SeqCst), 0);
     Ok(())
 }
+
+// So many elements that the group's bytes are cut into ranges: one lane writes each, and another reads it.
+fn long_team(alloc: Global, elements: u32) -> Result<Vec<Segment>, Fail>
+    requires { elements < 2 ^ 16 }
+{
+    let mut segments = Vec::new(alloc);
+    for lane in 0..2u16 {
+        let mut runs = Vec::new(alloc);
+        for element in 0..elements {
+            let line = 1 + element + 100_000 * u32::from(lane);
+            runs.push(run(lane == 0, line, u64::from(element) * 8, &[])?)?;
+        }
+        segments.push(segment(Label::root().fork(lane, 2), runs))?;
+    }
+    Ok(segments)
+}
+
+#[test]
+fn ranges_of_bytes_lose_no_race(rt: HostRuntime) -> Result<(), Fail> {
+    let alloc = rt.alloc();
+    let segments = long_team(alloc, 9000)?;
+    let mut races = Vec::new(alloc);
+    for element in 0..9000u32 {
+        races.push((1 + element, 100_001 + element))?;
+    }
+    for workers in [1, 3, 64] {
+        let pairs = compare_all(&rt, alloc, segments.as_slice(), workers, &NoGate)?;
+        assert_eq!(rt; listed(alloc, &pairs)?.as_slice(), races.as_slice());
+    }
+    Ok(())
+}
+
+#[test]
+fn one_write_among_reads_of_one_element(rt: HostRuntime) -> Result<(), Fail> {
+    let alloc = rt.alloc();
+    let mut segments = Vec::new(alloc);
+    for lane in 0..8u16 {
+        let line = 1 + u32::from(lane);
+        let runs = vec![in alloc; run(lane == 5, line, 64, &[])?]?;
+        segments.push(segment(Label::root().fork(0, 1).fork(lane, 8), runs))?;
+    }
+    for lane in 0..8u16 {
+        let line = 101 + u32::from(lane);
+        let runs = vec![in alloc; run(false, line, 64, &[])?]?;
+        let label = Label::root().fork(0, 1).barrier().fork(lane, 8);
+        segments.push(segment(label, runs))?;
+    }
+    for workers in [1, 2] {
+        let pairs = compare_all(&rt, alloc, segments.as_slice(), workers, &NoGate)?;
+        let races = [(1, 6), (2, 6), (3, 6), (4, 6), (5, 6), (6, 7), (6, 8)];
+        assert_eq!(rt; listed(alloc, &pairs)?.as_slice(), races.as_slice());
+    }
+    Ok(())
+}

@@ -4,10 +4,13 @@ use Rattle.std.proofs.lemmas.List.Elements.{All-push}
 use Rattle.pair_compare.specs.declared.worker.Worker.{Worker}
 use Rattle.pair_compare.specs.Conflict.{GrowsBy, OneHas}
 use Rattle.pair_compare.specs.Work.{HasNothing, IsTaskPair, IsWorkerPair}
-use Rattle.pair_compare.specs.declared.work.Task.{Task}
+use Rattle.pair_compare.specs.declared.task.Task.{Task}
 use Rattle.pair_compare.proofs.Findings.{Adds-worker}
 use Rattle.pair_compare.proofs.Tasks.{Adds-append}
 use Rattle.pair_compare.proofs.team.+deal.Goals as goal
+
+pub returns-then-workers-le1-clause-dealt : goal.returns-then-workers-le1-clause-dealt
+returns-then-workers-le1-clause-dealt t c = Adds-worker c.args.team.now.items c.push.new.self.items c.new.result c.args.tasks.now c.new.ensures.tasks c.in_ok-push.ensures.items
 
 pub returns-clause-dealt : goal.returns-clause-dealt
 returns-clause-dealt t c =

@@ -4,4 +4,4 @@ use Rattle.pair_compare.specs.Work.{IsTaskPair}
 use Rattle.pair_compare.proofs.worker.search_tasks.Given as goal
 
 abbrev pub invariant-loop-task : goal.invariant-loop-task
-invariant-loop-task g l = AddsPairs l.initial.pairs.keys l.pairs.keys (OneHas IsTaskPair (take l.task-index l.tasks))
+invariant-loop-task l = AddsPairs l.initial.pairs.keys l.pairs.keys (OneHas IsTaskPair (take l.task-index l.tasks))

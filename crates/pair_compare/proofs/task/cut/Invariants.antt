@@ -1,0 +1,8 @@
+use Rattle.std.proofs.Common.{take, []}
+use Rattle.pair_compare.specs.Conflict.{GrowsBy, OneHas}
+use Rattle.pair_compare.specs.Groups.{IsGroupPair}
+use Rattle.pair_compare.specs.Work.{IsTaskPair}
+use Rattle.pair_compare.proofs.task.cut.Given as goal
+
+abbrev pub invariant-loop-group : goal.invariant-loop-group
+invariant-loop-group l = GrowsBy (OneHas IsTaskPair []) (OneHas IsTaskPair l.tasks.items) (OneHas IsGroupPair (take l.group-index l.groups))

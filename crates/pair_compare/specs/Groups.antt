@@ -1,0 +1,33 @@
+-- Groups of segments in parts, and the conflicts of runs of different parts.
+use Rattle.std.specs.Prelude.{◌≡◌, ℕ, List, map}
+use Rattle.std.specs.Borrow.{Bor}
+use Rattle.log_segment.specs.declared.segment.Segment.{Segment}
+use Rattle.stride_summary.specs.declared.run.Run.{Run}
+use Rattle.pair_compare.specs.Conflict.{IsLinesOf, OneHas}
+use Rattle.pair_compare.specs.declared.group.Group.{Group}
+use Rattle.pair_compare.specs.declared.group.Member.{Member}
+
+-- the segments that are pointed to
+abbrev pub pointed : List (Bor Segment) → List Segment
+pointed refs = map (λ r. r.now) refs
+
+-- the line pair of a conflict of two of some runs whose parts have different numbers
+pub record IsPartedPair (Has : ℕ × Run → Type 0) (pair : ℕ × ℕ) : Type 0 where
+  pub a : ℕ × Run
+  pub b : ℕ × Run
+  pub a_in : Has a
+  pub b_in : Has b
+  pub apart : a.0 ≡ b.0 → ⊥
+  pub lines : IsLinesOf a.1 b.1 pair
+
+-- a run with the number of its part
+abbrev pub IsNumbered : ℕ → Run → ℕ × Run → Type 0
+IsNumbered part run numbered = numbered ≡ (part, run)
+
+-- one of the member's runs
+abbrev pub IsRunOf : Member → ℕ × Run → Type 0
+IsRunOf member numbered = OneHas (IsNumbered member.part) member.segment.now.runs.items numbered
+
+-- the line pair of a conflict of two members of different parts
+abbrev pub IsGroupPair : Group → ℕ × ℕ → Type 0
+IsGroupPair group pair = IsPartedPair (OneHas IsRunOf group.members.items) pair

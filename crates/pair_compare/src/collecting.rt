@@ -1,0 +1,87 @@
+ghost use Rattle.std.specs.Prelude.{◌↔◌, ◌≤◌, OnOk, IfOk};
+ghost use Rattle.std.specs.List.Sorted.{IsNonDecreasingBy};
+ghost use Rattle.pair_compare.specs.Conflict.{AddsPairs, GrowsBy, OneHas};
+ghost use Rattle.pair_compare.specs.Sweeps.{IsHullOf, Reach};
+ghost use Rattle.pair_compare.specs.Work.{IsMemberReach, IsMetReach, IsMetStretch, IsTaskPair};
+
+use crate::group::Member;
+use crate::hull::Hull;
+use crate::sweeping::sweep;
+use crate::task::Task;
+use std::alloc::Global;
+use std::collections::BTreeSet;
+use stride_summary::Run;
+use sw_base::Memory;
+
+// Adds a stretch of the run, if it meets the task's bytes.
+fn add_stretch<'r>(
+    run: &'r Run,
+    part: u64,
+    bytes: (u64, u64),
+    task: &Task,
+    hulls: &mut Vec<Hull<'r>>,
+) -> Result<(), Memory>
+    requires { bytes.0 ≤ bytes.1 }
+    ensures { OnOk result (GrowsBy (OneHas IsHullOf hulls.old.items) (OneHas IsHullOf hulls.new.items) (IsMetStretch task.now.low task.now.high part run.now bytes)) }
+{
+    let (low, high) = bytes;
+    if low <= task.high && task.low <= high {
+        hulls.push(Hull {
+            low,
+            high,
+            part,
+            run,
+        })?;
+    }
+    Ok(())
+}
+
+// A run of two addresses is taken one by one, since their distance may be great: nothing between them meets it.
+fn add_run<'r>(
+    run: &'r Run,
+    part: u64,
+    task: &Task,
+    hulls: &mut Vec<Hull<'r>>,
+) -> Result<(), Memory>
+    ensures { OnOk result (GrowsBy (OneHas IsHullOf hulls.old.items) (OneHas IsHullOf hulls.new.items) (IsMetReach task.now.low task.now.high part run.now)) }
+{
+    if run.count != 2 {
+        return add_stretch(run, part, (run.low(), run.high()), task, hulls);
+    }
+    let width = u64::from(run.size - 1);
+    add_stretch(run, part, (run.low(), run.low() + width), task, hulls)?;
+    add_stretch(run, part, (run.high() - width, run.high()), task, hulls)
+}
+
+fn add_member<'s>(member: &Member<'s>, task: &Task, hulls: &mut Vec<Hull<'s>>) -> Result<(), Memory>
+    ensures { OnOk result (GrowsBy (OneHas IsHullOf hulls.old.items) (OneHas IsHullOf hulls.new.items) (IsMemberReach task.now.low task.now.high member.now)) }
+{
+    for run in member.segment.runs.as_slice() {
+        add_run(run, member.part, task, hulls)?;
+    }
+    Ok(())
+}
+
+fn hulls_of<'s>(alloc: Global, task: &Task<'_, 's>) -> Result<Vec<Hull<'s>>, Memory>
+    ensures same { IfOk result (λ hulls. (reach : Reach) → OneHas IsHullOf hulls.items reach ↔ OneHas (IsMemberReach task.now.low task.now.high) task.now.members.now reach) }
+    ensures ascends { IfOk result (λ hulls. IsNonDecreasingBy (λ hull. hull.low) hulls.items) }
+{
+    let mut hulls = Vec::new(alloc);
+    for member in task.members {
+        add_member(member, task, &mut hulls)?;
+    }
+    hulls.sort_by_key(|hull| hull.low)?;
+    Ok(hulls)
+}
+
+/// Adds the pairs of the task.
+pub fn search_task(
+    alloc: Global,
+    task: &Task,
+    pairs: &mut BTreeSet<(u32, u32)>,
+) -> Result<(), Memory>
+    ensures { OnOk result (AddsPairs pairs.old.keys pairs.new.keys (IsTaskPair task.now)) }
+{
+    let hulls = hulls_of(alloc, task)?;
+    sweep(alloc, hulls.as_slice(), pairs)
+}
