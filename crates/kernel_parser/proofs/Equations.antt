@@ -12,12 +12,12 @@ use Rattle.kernel_parser.specs.declared.tree.Statement.TheOpen as layer
 use Rattle.kernel_parser.specs.declared.tree.Statement.TheOpen.{Statement-F}
 use Rattle.kernel_parser.specs.declared.tree.Statement.TheVariants as variant
 use Rattle.kernel_parser.specs.declared.tree.Statement.TheVariants.{rolls-Let, rolls-Assign, rolls-Store, rolls-If, rolls-IfElse, rolls-Loop, rolls-Parallel, rolls-For, rolls-Barrier, rolls-Critical, rolls-CriticalOf}
-use Rattle.kernel_parser.specs.declared.tree.Statement.TheViews.{roll-Statement}
+use Rattle.kernel_parser.specs.declared.tree.Statement.TheViews.{roll-Statement, out-Statement, roll-out-Statement}
 use Rattle.kernel_parser.specs.declared.tree.Statement.TheFolds.{fold-Block, fold-roll-Statement, fold_out-Block, map-Statement}
 use Rattle.kernel_parser.specs.Trees.{tree_of, schedule_tree, BlockTree, layer_stmt, layer_block, stmt_before, stmts_before, stmts_of}
 
 -- what the folds give for a block
-abbrev block_fold : Block → BlockTree
+abbrev pub block_fold : Block → BlockTree
 block_fold = fold-Block (Stmts → Stmts) BlockTree layer_stmt layer_block
 
 abbrev block_tree : Block → BlockTree
@@ -34,6 +34,10 @@ unfolding stmt_before
 from_layer x s rest is =
     ap (λ z. stmt_before z rest) (sym is)
     ∙ ap (λ (f : Stmts → Stmts). f rest) (fold-roll-Statement (Stmts → Stmts) BlockTree layer_stmt layer_block x)
+
+-- a statement by its layer
+pub before_layer : (s : Statement) (rest : Stmts) → stmt_before s rest ≡ layer_stmt (map-Statement Statement Block (Stmts → Stmts) BlockTree stmt_before block_fold (out-Statement s)) rest
+before_layer s rest = from_layer (out-Statement s) s rest (roll-out-Statement s)
 
 pub before_let : (line name_line : ℕ) (name : List ℕ) (sign_line : ℕ) (value : Tree) (rest : Stmts)
     → stmt_before (variant.Let line name_line name sign_line value) rest ≡ grammar.Let line name_line name sign_line (tree_of value) rest

@@ -1,12 +1,11 @@
 -- How many sites there are: in an expression at most one in three of its tokens, in statements at most one a token.
-use Rattle.std.proofs.Common.{◌≡◌, ℕ, ◌+◌, ◌*◌, ◌<◌, ◌≤◌, List, [], ◌∷◌, ◌++◌, length, Some, None, ap, arith, length-append}
+use Rattle.std.proofs.Common.{◌≡◌, ℕ, ◌+◌, ◌*◌, ◌<◌, ◌≤◌, List, [], ◌∷◌, ◌++◌, length, arith, length-append}
 use Rattle.kernel_text.specs.declared.token.Word.TheVariants as word
 use Rattle.kernel_text.specs.declared.token.Sign.TheVariants as sign
 use Rattle.kernel_text.specs.declared.token.Token.{Token}
 use Rattle.kernel_text.specs.Grammar.{Tree, NumberAt, NameAt, TidAt, SpanAt, Element, Group, Minus, Binary, tree_tokens, reserved, mark, sign_of, block, range, schedule_tokens, nowait_tokens, Stmts, NoMore, Let, Assign, Store, If, IfElse, Loop, Parallel, For, Barrier, Critical, CriticalOf, stmts_tokens}
 use Rattle.kernel_reader.specs.Resolve.{sites, stmts_sites}
-use Rattle.kernel_reader.specs.Machine.{expression_from}
-use Rattle.kernel_reader.proofs.Sounding.{expression-sound}
+
 
 -- each site of an expression has a name and two brackets
 pub tree_sites-bound : (t : Tree) → 3 * sites t + 1 ≤ length (tree_tokens t)
@@ -89,8 +88,3 @@ stmts_sites-bound (Critical line opened body closed rest) =
     omega (arith, stmts_sites-bound body, stmts_sites-bound rest, block-length opened (stmts_tokens body) closed (stmts_tokens rest))
 stmts_sites-bound (CriticalOf line name_line name opened body closed rest) =
     omega (arith, stmts_sites-bound body, stmts_sites-bound rest, block-length opened (stmts_tokens body) closed (stmts_tokens rest))
-
-pub expression-room : (ts : List Token) (t : Tree) (rest : List Token) → expression_from None [] ts ≡ Some (t, rest) → 3 * sites t + length rest < length ts
-expression-room ts t rest e =
-    let n = ap length (expression-sound ts t rest e).tokens in
-    omega (arith, n, length-append (tree_tokens t) rest, tree_sites-bound t)
