@@ -2,7 +2,7 @@
 //! broken.
 //!
 //! A call inside a call follows a block; statements in a row are a loop.
-ghost use Rattle.std.specs.Prelude.{◌≡◌, ◌+◌, ◌<◌, ◌≤◌, ◌^◌, ◌++◌, ◌∷◌, [], ◌||◌, length, ℕ, true, OnOk, IfOk, take};
+ghost use Rattle.std.specs.Prelude.{◌≡◌, ◌+◌, ◌<◌, ◌≤◌, ◌^◌, ◌++◌, ◌∷◌, [], ◌||◌, length, ℕ, true, false, OnOk, IfOk, take};
 ghost use Rattle.kernel_syntax.specs.Program.{term_of, stmt_code, code_of};
 ghost use Rattle.kernel_syntax.specs.Tree.{Code};
 ghost use Rattle.kernel_syntax.specs.Tree as kernel;
