@@ -1,17 +1,15 @@
 -- The first of some statements, by what it begins with.
-use Rattle.std.proofs.Common.{◌≡◌, ℕ, ◌-◌, false, List, [], ◌∷◌, ◌++◌, Option, Ok, Err, Result, Bor, refl, sym, ap, ◌∙◌, append_assoc}
+use Rattle.std.proofs.Common.{◌≡◌, ℕ, ◌-◌, false, List, [], ◌∷◌, ◌++◌, Option, Ok, Err, Result, Bor, refl, ap, ◌∙◌, append_assoc}
 use Rattle.std.specs.Prelude.{ℤ}
 use Rattle.kernel_text.specs.declared.token.Word.TheVariants as word
 use Rattle.kernel_text.specs.declared.token.Sign.TheVariants as sign
-use Rattle.kernel_text.specs.declared.token.Lexeme.{Lexeme}
 use Rattle.kernel_text.specs.declared.token.Token.{Token}
-use Rattle.kernel_text.specs.Grammar.{Tree, tree_tokens, named, mark, reserved, number, block, ScheduleTree, schedule_tokens, nowait_tokens, Stmts, NoMore, Let, Assign, Store, If, IfElse, Loop, Parallel, For, Barrier, Critical, CriticalOf, stmts_tokens, StmtsDerive, AreShallow}
+use Rattle.kernel_text.specs.Grammar.{Tree, tree_tokens, named, mark, reserved, number, block, ScheduleTree, schedule_tokens, nowait_tokens, Stmts, Let, Assign, Store, If, IfElse, Loop, Parallel, For, Barrier, Critical, CriticalOf, stmts_tokens, StmtsDerive, AreShallow}
 use Rattle.kernel_parser.specs.declared.fault.ParseFault.{ParseFault}
 use Rattle.kernel_parser.specs.declared.fault.ParseFault.TheVariants as fault
 use Rattle.kernel_parser.specs.declared.lookahead.Lead.{Lead}
 use Rattle.kernel_parser.specs.declared.lookahead.Lead.TheVariants as lead
 use Rattle.kernel_parser.specs.declared.tree.Statement.{Statement}
-use Rattle.kernel_parser.specs.Trees.{stmt_before}
 use Rattle.kernel_parser.specs.Parsing.{IsExpression, IsBlock, IsRead, IsFirst, Reads, AreSome, rest_of, inside, lead_of, is_else, name_in}
 use Rattle.kernel_parser.proofs.Heading.{View, IsLet, IsAssign, IsStore, IsIf, IsIfElse, IsLoop, IsParallel, IsFor, IsBarrier, IsCritical, IsCriticalOf, IsEnd, seen, heads-is, before-stmts, body-opens, follows-schedule, no-else}
 
@@ -78,7 +76,7 @@ block-more opened body closed us vs =
 pub if-parsed : (t : Token) (ts : List Token) (r : Parsed)
     → ((test : Tree) (opened : ℕ) (body : Stmts) (closed : ℕ) (us after : List Token) → IsExpression ts test us → IsBlock us opened body closed after → is_else after ≡ false → Reads r (λ x. IsRead (If t.line test opened body closed) after x.0 x.1.now))
     → ((test : Tree) (opened : ℕ) (body : Stmts) (closed else_line else_opened : ℕ) (other : Stmts) (else_closed : ℕ) (us vs after : List Token) → IsExpression ts test us → IsBlock us opened body closed (reserved else_line word.Else ∷ vs) → IsBlock vs else_opened other else_closed after
-        → Reads r (λ x. IsRead (IfElse t.line test opened body closed else_line else_opened other else_closed) after x.0 x.1.now))
+    → Reads r (λ x. IsRead (IfElse t.line test opened body closed else_line else_opened other else_closed) after x.0 x.1.now))
     → IsParsed lead.If t ts r
 if-parsed t ts r f g is b end tail n e d s = same b (seen lead.If b end tail t ts is e) e d s
   where
@@ -105,7 +103,7 @@ from-before from dots to behind last =
 
 pub loop-parsed : (t : Token) (ts : List Token) (r : Parsed)
     → ((name_line : ℕ) (name : List ℕ) (in_line : ℕ) (from : Tree) (dots : ℕ) (to : Tree) (opened : ℕ) (body : Stmts) (closed : ℕ) (us vs ws after : List Token) → ts ≡ named name_line name ∷ reserved in_line word.In ∷ us → IsExpression us from (mark dots sign.Dots ∷ vs) → IsExpression vs to ws → IsBlock ws opened body closed after
-        → Reads r (λ x. IsRead (Loop t.line name_line name in_line from dots to opened body closed) after x.0 x.1.now))
+    → Reads r (λ x. IsRead (Loop t.line name_line name in_line from dots to opened body closed) after x.0 x.1.now))
     → IsParsed lead.Loop t ts r
 loop-parsed t ts r f is b end tail n e d s = same b (seen lead.Loop b end tail t ts is e) e d s
   where
@@ -131,8 +129,8 @@ parallel-parsed t ts r f is b end tail n e d s = same b (seen lead.Parallel b en
 
 pub for-parsed : (t : Token) (ts : List Token) (r : Parsed)
     → ((name_line : ℕ) (name : List ℕ) (in_line : ℕ) (from : Tree) (dots : ℕ) (to : Tree) (schedule : ScheduleTree) (nowait : Option ℕ) (opened : ℕ) (body : Stmts) (closed : ℕ) (us vs ws after : List Token) → ts ≡ named name_line name ∷ reserved in_line word.In ∷ us → IsExpression us from (mark dots sign.Dots ∷ vs)
-        → IsExpression vs to (schedule_tokens schedule ++ (nowait_tokens nowait ++ mark opened sign.OpenBrace ∷ ws)) → IsBlock (mark opened sign.OpenBrace ∷ ws) opened body closed after
-        → Reads r (λ x. IsRead (For t.line name_line name in_line from dots to schedule nowait opened body closed) after x.0 x.1.now))
+    → IsExpression vs to (schedule_tokens schedule ++ (nowait_tokens nowait ++ mark opened sign.OpenBrace ∷ ws)) → IsBlock (mark opened sign.OpenBrace ∷ ws) opened body closed after
+    → Reads r (λ x. IsRead (For t.line name_line name in_line from dots to schedule nowait opened body closed) after x.0 x.1.now))
     → IsParsed lead.For t ts r
 for-parsed t ts r f is b end tail n e d s = same b (seen lead.For b end tail t ts is e) e d s
   where

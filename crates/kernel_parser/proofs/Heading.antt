@@ -1,10 +1,9 @@
 -- What statements begin with, and what follows their parts.
-use Rattle.std.proofs.Common.{◌≡◌, ℕ, false, List, [], ◌∷◌, ◌++◌, Option, Some, None, Ok, Err, Result, Bor, refl, sym, ap, subst, ◌∙◌, append_assoc}
+use Rattle.std.proofs.Common.{◌≡◌, ℕ, false, List, [], ◌∷◌, ◌++◌, Option, Some, None, refl, sym, ap, subst, ◌∙◌, append_assoc}
 use Rattle.std.specs.Prelude.{ℤ}
-use Rattle.kernel_text.specs.declared.token.Word.TheVariants as word
 use Rattle.kernel_text.specs.declared.token.Sign.TheVariants as sign
 use Rattle.kernel_text.specs.declared.token.Token.{Token}
-use Rattle.kernel_text.specs.Grammar.{Tree, tree_tokens, Derives, expr, IsFlat, named, mark, reserved, number, block, ScheduleTree, Unsaid, Static, StaticBy, Dynamic, DynamicBy, schedule_tokens, nowait_tokens, Stmts, NoMore, Let, Assign, Store, If, IfElse, Loop, Parallel, For, Barrier, Critical, CriticalOf, stmts_tokens, StmtsDerive, AreShallow}
+use Rattle.kernel_text.specs.Grammar.{Tree, tree_tokens, Derives, expr, IsFlat, mark, block, ScheduleTree, Unsaid, Static, StaticBy, Dynamic, DynamicBy, schedule_tokens, nowait_tokens, Stmts, NoMore, Let, Assign, Store, If, IfElse, Loop, Parallel, For, Barrier, Critical, CriticalOf, stmts_tokens}
 use Rattle.kernel_parser.specs.declared.lookahead.Lead.{Lead}
 use Rattle.kernel_parser.specs.declared.lookahead.Lead.TheVariants as lead
 use Rattle.kernel_parser.specs.Parsing.{IsExpression, Follows, is_else, lead_of, lead_of_stmts, inside}
@@ -127,4 +126,3 @@ lexeme-is t u e = ap (λ (t : Token). t.lexeme) e
 
 pub heads-is : (t u : Token) (ts us : List Token) → t ∷ ts ≡ u ∷ us → (t.line ≡ u.line) × (t.lexeme ≡ u.lexeme) × (ts ≡ us)
 heads-is t u ts us e = let one : t ≡ u = cc in (line-is t u one, lexeme-is t u one, cc)
-

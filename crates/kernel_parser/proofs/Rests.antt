@@ -7,7 +7,7 @@ use Rattle.kernel_parser.specs.declared.fault.ParseFault.{ParseFault}
 use Rattle.kernel_parser.specs.declared.fault.ParseFault.TheVariants as fault
 use Rattle.kernel_parser.specs.declared.lookahead.Lead.TheVariants as lead
 use Rattle.kernel_parser.specs.declared.tree.Statement.{Statement}
-use Rattle.kernel_parser.specs.Trees.{stmt_before, stmts_before, stmts_of}
+use Rattle.kernel_parser.specs.Trees.{stmts_before, stmts_of}
 use Rattle.kernel_parser.specs.Parsing.{IsBlock, IsFirst, AreSome, Reads, rest_of, inside, lead_of}
 use Rattle.kernel_parser.proofs.Equations.{before_push}
 use Rattle.kernel_parser.proofs.Heading.{View, IsEnd, seen, heads-is}

@@ -5,7 +5,6 @@ use Rattle.kernel_parser.specs.declared.tree.Tree as code
 use Rattle.kernel_parser.specs.declared.tree.Tree.TheVariants as written
 use Rattle.kernel_parser.specs.declared.tree.ScheduleTree as schedules
 use Rattle.kernel_parser.specs.declared.tree.ScheduleTree.TheVariants as schedule
-use Rattle.kernel_parser.specs.declared.tree.Block.{Block}
 use Rattle.kernel_parser.specs.declared.tree.Statement.{Statement}
 use Rattle.kernel_parser.specs.declared.tree.Statement.TheOpen as layer
 use Rattle.kernel_parser.specs.declared.tree.Statement.TheOpen.{Statement-F, Block-F}

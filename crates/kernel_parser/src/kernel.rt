@@ -80,10 +80,7 @@ fn declaration<'a>(token: &Token, rest: &'a [Token]) -> Option<(Declaration, &'a
 }
 
 /// The declarations at the start of tokens, and the tokens behind them.
-fn declarations(
-    alloc: Global,
-    tokens: &[Token],
-) -> Result<(Vec<Declaration>, &[Token]), ParseFault>
+fn declarations(alloc: Global, tokens: &[Token]) -> Result<(Vec<Declaration>, &[Token]), ParseFault>
     ensures parsed { (ds : List grammar.Declaration) (line : ℕ) (after : List AToken) → tokens.now ≡ declarations_tokens ds ++ reserved line word.Main ∷ after → Reads result (λ x. (map declaration_of x.0.items ≡ ds) × (x.1.now ≡ reserved line word.Main ∷ after)) }
 {
     let mut made = Vec::new(alloc);

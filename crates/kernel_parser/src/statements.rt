@@ -23,11 +23,7 @@ use std::alloc::Global;
 
 /// NAME `=` expr, behind `let`
 #[tactic(auto, using(crate::proofs::Equations::before_let))]
-fn let_stmt(
-    alloc: Global,
-    line: u32,
-    tokens: &[Token],
-) -> Result<(Statement, &[Token]), ParseFault>
+fn let_stmt(alloc: Global, line: u32, tokens: &[Token]) -> Result<(Statement, &[Token]), ParseFault>
     ensures parsed { (name_line : ℕ) (name : List ℕ) (sign_line : ℕ) (value : grammar.Tree) (ts after : List AToken) → tokens.now ≡ named name_line name ∷ mark sign_line sign.Assign ∷ ts → IsExpression ts value after → Reads result (λ x. IsRead (grammar.Let line name_line name sign_line value) after x.0 x.1.now) }
     ensures shorter { IfOk result (λ x. length x.1.now ≤ length tokens.now) }
 {

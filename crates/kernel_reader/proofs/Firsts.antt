@@ -13,26 +13,26 @@ use Rattle.kernel_reader.proofs.Broken.{first-before, first-behind}
 
 -- the first of some parts is that of the whole
 pub part-1 : (a z : List Refusal) (f : ReadKernelFault) → IsFirstOf a f → IsFirstOf (a ++ z) f
-pub part-1 a z f is = first-before a z f is
+part-1 a z f is = first-before a z f is
 
 pub part-2 : (a b z : List Refusal) (f : ReadKernelFault) → IsFirstOf (a ++ b) f → IsFirstOf (a ++ (b ++ z)) f
-pub part-2 a b z f is = subst (λ (l : List Refusal). IsFirstOf l f) (append_assoc a b z) (first-before (a ++ b) z f is)
+part-2 a b z f is = subst (λ (l : List Refusal). IsFirstOf l f) (append_assoc a b z) (first-before (a ++ b) z f is)
 
 pub part-3 : (a b c z : List Refusal) (f : ReadKernelFault) → IsFirstOf (a ++ (b ++ c)) f → IsFirstOf (a ++ (b ++ (c ++ z))) f
-pub part-3 a b c z f is = subst (λ (l : List Refusal). IsFirstOf (a ++ l) f) (append_assoc b c z) (part-2 a (b ++ c) z f is)
+part-3 a b c z f is = subst (λ (l : List Refusal). IsFirstOf (a ++ l) f) (append_assoc b c z) (part-2 a (b ++ c) z f is)
 
 pub part-4 : (a b c d z : List Refusal) (f : ReadKernelFault) → IsFirstOf (a ++ (b ++ (c ++ d))) f → IsFirstOf (a ++ (b ++ (c ++ (d ++ z)))) f
-pub part-4 a b c d z f is = subst (λ (l : List Refusal). IsFirstOf (a ++ (b ++ l)) f) (append_assoc c d z) (part-3 a b (c ++ d) z f is)
+part-4 a b c d z f is = subst (λ (l : List Refusal). IsFirstOf (a ++ (b ++ l)) f) (append_assoc c d z) (part-3 a b (c ++ d) z f is)
 
 -- behind parts that break none
 pub skip-2 : (a b z : List Refusal) (f : ReadKernelFault) → a ++ b ≡ [] → IsFirstOf z f → IsFirstOf (a ++ (b ++ z)) f
-pub skip-2 a b z f none is = subst (λ (l : List Refusal). IsFirstOf l f) (append_assoc a b z) (first-behind (a ++ b) z f none is)
+skip-2 a b z f none is = subst (λ (l : List Refusal). IsFirstOf l f) (append_assoc a b z) (first-behind (a ++ b) z f none is)
 
 pub skip-3 : (a b c z : List Refusal) (f : ReadKernelFault) → a ++ (b ++ c) ≡ [] → IsFirstOf z f → IsFirstOf (a ++ (b ++ (c ++ z))) f
-pub skip-3 a b c z f none is = subst (λ (l : List Refusal). IsFirstOf (a ++ l) f) (append_assoc b c z) (skip-2 a (b ++ c) z f none is)
+skip-3 a b c z f none is = subst (λ (l : List Refusal). IsFirstOf (a ++ l) f) (append_assoc b c z) (skip-2 a (b ++ c) z f none is)
 
 pub skip-4 : (a b c d z : List Refusal) (f : ReadKernelFault) → a ++ (b ++ (c ++ d)) ≡ [] → IsFirstOf z f → IsFirstOf (a ++ (b ++ (c ++ (d ++ z)))) f
-pub skip-4 a b c d z f none is = subst (λ (l : List Refusal). IsFirstOf (a ++ (b ++ l)) f) (append_assoc c d z) (skip-3 a b (c ++ d) z f none is)
+skip-4 a b c d z f none is = subst (λ (l : List Refusal). IsFirstOf (a ++ (b ++ l)) f) (append_assoc c d z) (skip-3 a b (c ++ d) z f none is)
 
 -- the rules of a region
 abbrev pub RegionFaults : Place → ℕ → ℕ → ℤ → List Refusal
@@ -50,3 +50,30 @@ RangeFaults p in_bound name_line name from to = declared_faults p name_line name
 -- behind the bounds of a loop that break none, in a place that is the inner one
 pub inner-first : (q p : Place) (b : Stmts) (z : List Refusal) (f : ReadKernelFault) → q ≡ p → IsFirstOf (stmts_faults q b) f → IsFirstOf (stmts_faults p b ++ z) f
 inner-first q p b z f at told = part-1 (stmts_faults p b) z f (rw (← at) told)
+
+-- ---- loops
+
+pub loop-range-first : (p : Place) (line : ℕ) (nl : ℕ) (n : List ℕ) (il : ℕ) (fr : Tree) (dots : ℕ) (to : Tree) (opened : ℕ) (b : Stmts) (closed : ℕ) (rest : Stmts) (f : ReadKernelFault) → IsFirstOf (RangeFaults p false nl n fr to) f → IsFirstOf (stmts_faults p (Loop line nl n il fr dots to opened b closed rest)) f
+loop-range-first p line nl n il fr dots to opened b closed rest f told = part-3 (declared_faults p nl n) (tree_faults p.names false fr) (tree_faults p.names false to) _ f told
+
+pub loop-body-first : (q p : Place) (line : ℕ) (nl : ℕ) (n : List ℕ) (il : ℕ) (fr : Tree) (dots : ℕ) (to : Tree) (opened : ℕ) (b : Stmts) (closed : ℕ) (rest : Stmts) (f : ReadKernelFault) → q ≡ in_branch (with_local p n false) (not (is_fixed fr to)) → RangeFaults p false nl n fr to ≡ [] → IsFirstOf (stmts_faults q b) f
+    → IsFirstOf (stmts_faults p (Loop line nl n il fr dots to opened b closed rest)) f
+loop-body-first q p line nl n il fr dots to opened b closed rest f at fine told =
+    skip-3 (declared_faults p nl n) (tree_faults p.names false fr) (tree_faults p.names false to) _ f fine (inner-first q (in_branch (with_local p n false) (not (is_fixed fr to))) b _ f at told)
+
+pub for-range-first : (p : Place) (line : ℕ) (nl : ℕ) (n : List ℕ) (il : ℕ) (fr : Tree) (dots : ℕ) (to : Tree) (s : ScheduleTree) (nowait : Option ℕ) (opened : ℕ) (b : Stmts) (closed : ℕ) (rest : Stmts) (f : ReadKernelFault) → SharedFaults p line why.WorkHere ≡ [] → IsFirstOf (RangeFaults p true nl n fr to) f
+    → IsFirstOf (stmts_faults p (For line nl n il fr dots to s nowait opened b closed rest)) f
+for-range-first p line nl n il fr dots to s nowait opened b closed rest f placed told =
+    skip-2 (fault_if (is_misplaced p) line why.WorkHere) (fault_if p.uneven line why.NotUniform) _ f placed (part-3 (declared_faults p nl n) (tree_faults p.names true fr) (tree_faults p.names true to) _ f told)
+
+pub for-schedule-first : (p : Place) (line : ℕ) (nl : ℕ) (n : List ℕ) (il : ℕ) (fr : Tree) (dots : ℕ) (to : Tree) (s : ScheduleTree) (nowait : Option ℕ) (opened : ℕ) (b : Stmts) (closed : ℕ) (rest : Stmts) (f : ReadKernelFault) → SharedFaults p line why.WorkHere ≡ [] → RangeFaults p true nl n fr to ≡ [] → IsFirstOf (schedule_faults s) f
+    → IsFirstOf (stmts_faults p (For line nl n il fr dots to s nowait opened b closed rest)) f
+for-schedule-first p line nl n il fr dots to s nowait opened b closed rest f placed fine told =
+    skip-2 (fault_if (is_misplaced p) line why.WorkHere) (fault_if p.uneven line why.NotUniform) _ f placed
+    (skip-3 (declared_faults p nl n) (tree_faults p.names true fr) (tree_faults p.names true to) _ f fine (part-1 (schedule_faults s) _ f told))
+
+pub for-body-first : (q p : Place) (line : ℕ) (nl : ℕ) (n : List ℕ) (il : ℕ) (fr : Tree) (dots : ℕ) (to : Tree) (s : ScheduleTree) (nowait : Option ℕ) (opened : ℕ) (b : Stmts) (closed : ℕ) (rest : Stmts) (f : ReadKernelFault) → q ≡ in_work (with_local p n false) → SharedFaults p line why.WorkHere ≡ [] → RangeFaults p true nl n fr to ≡ [] → schedule_faults s ≡ []
+    → IsFirstOf (stmts_faults q b) f → IsFirstOf (stmts_faults p (For line nl n il fr dots to s nowait opened b closed rest)) f
+for-body-first q p line nl n il fr dots to s nowait opened b closed rest f at placed fine even told =
+    skip-2 (fault_if (is_misplaced p) line why.WorkHere) (fault_if p.uneven line why.NotUniform) _ f placed
+    (skip-3 (declared_faults p nl n) (tree_faults p.names true fr) (tree_faults p.names true to) _ f fine (first-behind (schedule_faults s) _ f even (inner-first q (in_work (with_local p n false)) b _ f at told)))

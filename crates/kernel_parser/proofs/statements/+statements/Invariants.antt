@@ -1,4 +1,4 @@
-use Rattle.std.proofs.Common.{◌≡◌, ◌+◌, ◌*◌, ◌≤◌, length}
+use Rattle.std.proofs.Common.{◌+◌, ◌*◌, ◌≤◌, length}
 use Rattle.kernel_parser.proofs.Rests.{Leaves}
 use Rattle.kernel_parser.proofs.statements.+statements.Given as goal
 

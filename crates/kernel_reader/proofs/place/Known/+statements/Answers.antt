@@ -12,7 +12,7 @@ use Rattle.kernel_parser.specs.declared.tree.Statement.{Statement}
 use Rattle.kernel_parser.proofs.Equations.{before_let, before_assign, before_store, before_if, before_if_else, before_loop, before_parallel, before_for, before_barrier, before_critical, before_critical_of}
 use Rattle.kernel_reader.specs.Scope.{Place, count_literal, slots}
 use Rattle.kernel_reader.specs.Rules.{critical_faults, in_critical, is_fixed, stmts_faults}
-use Rattle.kernel_reader.specs.Resolve.{stmts_sites}
+use Rattle.kernel_reader.specs.Resolve.{sites, stmts_sites}
 use Rattle.kernel_reader.specs.Sections.{region_faults, region_section}
 use Rattle.kernel_reader.specs.Folding.{place_of, IsFirstRead, IsLeft}
 use Rattle.kernel_reader.specs.declared.fault.ReadKernelFault.{ReadKernelFault}
@@ -20,7 +20,7 @@ use Rattle.kernel_reader.specs.declared.place.State.{State}
 use Rattle.kernel_reader.specs.declared.place.Section.{Section}
 use Rattle.kernel_reader.specs.declared.statements.Added.{Added}
 use Rattle.kernel_reader.proofs.Sizes.{apart, size}
-use Rattle.kernel_reader.proofs.Firsts.{part-1, part-2, part-3, part-4, skip-2, skip-3, skip-4, inner-first}
+use Rattle.kernel_reader.proofs.Firsts.{part-2, part-3, loop-range-first, loop-body-first, for-range-first, for-schedule-first, for-body-first}
 use Rattle.kernel_reader.proofs.Broken.{first-before, first-behind}
 use Rattle.kernel_reader.proofs.Advances.{let-read, assign-read, store-read, barrier-read, if-read, if-else-read, loop-read, for-read, region-read, critical-read, critical-of-read, place-branch, place-other, place-loop, place-work, take-back}
 use Rattle.kernel_reader.proofs.Lefts.{left-begins, left-ends, left-fails, left-steps, take-through}
@@ -47,15 +47,15 @@ pub loop_stmt-returns-clause-reads : goal.loop_stmt-returns-clause-reads
 loop_stmt-returns-clause-reads t c =
     let inner_is : c.inside_branch-inner.result ≡ record c.args.section { uneven = c.args.section.uneven || not (is_fixed (tree_of c.args.range.now.from) (tree_of c.args.range.now.to)) } = rw (← c.is_fixed.ensures) c.inside_branch-inner.ensures in
     let length_is : c.len-known.result ≡ length c.args.state.now.variables.items = search rules in
-    λ line rest.
-    loop-read c.args.self.now.arrays.now c.args.self.now.mutexes.now c.args.state.now (record { variables = c.truncate.new.self; slot = c.stmts.new.state.slot; site = c.stmts.new.state.site }) c.args.section c.range.new.state c.stmts.new.state c.inside_branch-inner.result line c.args.range.now.name_line c.args.range.now.name c.args.range.now.in_line (tree_of c.args.range.now.from) c.args.range.now.dots (tree_of c.args.range.now.to) c.args.body.now.opened (stmts_of c.args.body.now.stmts.items) c.args.body.now.closed c.made_loop.result c.loop_weight.result c.in_ok-block.block rest c.in_ok-slot.ensures.settled.0 c.in_ok-slot.ensures.site c.in_ok-slot.ensures.slot (place-loop c.args.self.now.arrays.now c.args.self.now.mutexes.now c.args.state.now c.range.new.state c.args.section c.inside_branch-inner.result c.args.range.now.name (not (is_fixed (tree_of c.args.range.now.from) (tree_of c.args.range.now.to))) inner_is c.in_ok-slot.ensures.slot c.in_ok-slot.ensures.variables) c.in_ok-block.ensures.reads refl refl (take-back c.len-known.result c.args.state.now.variables.items c.stmts.new.state.variables.items c.truncate.new.self.items _ length_is (c.in_ok-block.ensures.variables ∙ c.in_ok-slot.ensures.variables) c.truncate.ensures.items)
-    (λ more. let m = c.made_loop.ensures more in let e = c.in_ok-slot.ensures.settled.1 in let e0 = e.0 in let e1 = e.1 in let e2 = e.2 in cc) c.loop_weight.ensures.weighs
+    λ line rest. rw (← c.copy-name.ensures)
+    (loop-read c.args.self.now.arrays.now c.args.self.now.mutexes.now c.args.state.now (record { variables = c.truncate.new.self; slot = c.stmts.new.state.slot; site = c.stmts.new.state.site }) c.args.section c.range.new.state c.stmts.new.state c.inside_branch-inner.result line c.args.range.now.name_line c.copy-name.result c.args.range.now.in_line (tree_of c.args.range.now.from) c.args.range.now.dots (tree_of c.args.range.now.to) c.args.body.now.opened (stmts_of c.args.body.now.stmts.items) c.args.body.now.closed c.made_loop.result c.loop_weight.result c.in_ok-block.block rest c.in_ok-slot.ensures.settled.0 c.in_ok-slot.ensures.site c.in_ok-slot.ensures.slot (place-loop c.args.self.now.arrays.now c.args.self.now.mutexes.now c.args.state.now c.range.new.state c.args.section c.inside_branch-inner.result c.copy-name.result (not (is_fixed (tree_of c.args.range.now.from) (tree_of c.args.range.now.to))) inner_is c.in_ok-slot.ensures.slot c.in_ok-slot.ensures.variables) c.in_ok-block.ensures.reads refl refl (take-back c.len-known.result c.args.state.now.variables.items c.stmts.new.state.variables.items c.truncate.new.self.items _ length_is (c.in_ok-block.ensures.variables ∙ c.in_ok-slot.ensures.variables) c.truncate.ensures.items)
+    (λ more. let m = c.made_loop.ensures more in let e = c.in_ok-slot.ensures.settled.1 in let e0 = e.0 in let e1 = e.1 in let e2 = e.2 in cc) c.loop_weight.ensures.weighs)
 
 pub for_stmt-returns-clause-reads : goal.for_stmt-returns-clause-reads
 for_stmt-returns-clause-reads t c =
     let length_is : c.len-known.result ≡ length c.args.state.now.variables.items = search rules in
-    λ rest. rw c.plain.ensures
-    (for-read c.args.self.now.arrays.now c.args.self.now.mutexes.now c.args.state.now (record { variables = c.truncate.new.self; slot = c.stmts.new.state.slot; site = c.stmts.new.state.site }) c.args.section c.range.new.state c.stmts.new.state c.inside_work.result c.args.line c.args.range.now.name_line c.args.range.now.name c.args.range.now.in_line (tree_of c.args.range.now.from) c.args.range.now.dots (tree_of c.args.range.now.to) (schedule_tree c.args.schedule) c.args.nowait c.args.body.now.opened (stmts_of c.args.body.now.stmts.items) c.args.body.now.closed c.made_for-stmt.result c.in_ok-block.block rest c.in_ok-check_shared.ensures.0 c.in_ok-slot.ensures.settled.0 c.in_ok-schedule.ensures.0 c.in_ok-slot.ensures.site c.in_ok-slot.ensures.slot (place-work c.args.self.now.arrays.now c.args.self.now.mutexes.now c.args.state.now c.range.new.state c.args.section c.inside_work.result c.args.range.now.name c.inside_work.ensures c.in_ok-slot.ensures.slot c.in_ok-slot.ensures.variables) c.in_ok-block.ensures.reads refl refl (take-back c.len-known.result c.args.state.now.variables.items c.stmts.new.state.variables.items c.truncate.new.self.items _ length_is (c.in_ok-block.ensures.variables ∙ c.in_ok-slot.ensures.variables) c.truncate.ensures.items)
+    λ rest. rw (c.plain.ensures, ← c.copy-name.ensures)
+    (for-read c.args.self.now.arrays.now c.args.self.now.mutexes.now c.args.state.now (record { variables = c.truncate.new.self; slot = c.stmts.new.state.slot; site = c.stmts.new.state.site }) c.args.section c.range.new.state c.stmts.new.state c.inside_work.result c.args.line c.args.range.now.name_line c.copy-name.result c.args.range.now.in_line (tree_of c.args.range.now.from) c.args.range.now.dots (tree_of c.args.range.now.to) (schedule_tree c.args.schedule) c.args.nowait c.args.body.now.opened (stmts_of c.args.body.now.stmts.items) c.args.body.now.closed c.made_for-stmt.result c.in_ok-block.block rest c.in_ok-check_shared.ensures.0 c.in_ok-slot.ensures.settled.0 c.in_ok-schedule.ensures.0 c.in_ok-slot.ensures.site c.in_ok-slot.ensures.slot (place-work c.args.self.now.arrays.now c.args.self.now.mutexes.now c.args.state.now c.range.new.state c.args.section c.inside_work.result c.copy-name.result c.inside_work.ensures c.in_ok-slot.ensures.slot c.in_ok-slot.ensures.variables) c.in_ok-block.ensures.reads refl refl (take-back c.len-known.result c.args.state.now.variables.items c.stmts.new.state.variables.items c.truncate.new.self.items _ length_is (c.in_ok-block.ensures.variables ∙ c.in_ok-slot.ensures.variables) c.truncate.ensures.items)
     (λ more. let m = c.made_for-stmt.ensures more in let e = c.in_ok-slot.ensures.settled.1 in let e0 = e.0 in let e1 = e.1 in let e2 = e.2 in let f = c.in_ok-schedule.ensures.1 in let n = c.is_some.ensures in cc))
 
 pub parallel_stmt-returns-clause-reads : goal.parallel_stmt-returns-clause-reads
@@ -94,7 +94,7 @@ stmt-returns-in-Loop-clause-reads t c =
 
 pub stmt-returns-in-Parallel-clause-reads : goal.stmt-returns-in-Parallel-clause-reads
 stmt-returns-in-Parallel-clause-reads t c =
-    λ rest. first-at c.args.self.now.arrays.now c.args.self.now.mutexes.now c.args.state.now c.parallel_stmt.new.state c.args.section c.args.stmt.now _ _ rest c.parallel_stmt.result c.in-Parallel.is (before_parallel c.in-Parallel.line c.in-Parallel.number_line c.in-Parallel.span c.in-Parallel.body rest) (c.parallel_stmt.ensures.reads  rest)
+    λ rest. first-at c.args.self.now.arrays.now c.args.self.now.mutexes.now c.args.state.now c.parallel_stmt.new.state c.args.section c.args.stmt.now _ _ rest c.parallel_stmt.result c.in-Parallel.is (before_parallel c.in-Parallel.line c.in-Parallel.number_line c.in-Parallel.span c.in-Parallel.body rest) (rw (to_z-of_z w64 c.in-Parallel.span (search rules)) at (c.parallel_stmt.ensures.reads rest))
 
 pub stmt-returns-in-For-clause-reads : goal.stmt-returns-in-For-clause-reads
 stmt-returns-in-For-clause-reads t c =
@@ -146,3 +146,135 @@ stmts-returns-clause-reads t c =
     let none = nil_from_length _ c.in_default.ensures.cases in
     let l = subst (λ (d : Stmts). IsLeft c.args.self.now.arrays.now c.args.self.now.mutexes.now c.args.state.now c.stmts.state c.args.section (stmts_of c.args.block.now.stmts.items) d c.stmts.stmts.items c.stmts.weight c.stmts.works) (ap stmts_of none) c.stmts.invariant.left in
     left-ends c.args.self.now.arrays.now c.args.self.now.mutexes.now c.args.state.now c.stmts.state (record { variables = c.truncate.new.self; slot = c.stmts.state.slot; site = c.stmts.state.site }) c.args.section (stmts_of c.args.block.now.stmts.items) c.stmts.stmts.items c.stmts.weight c.stmts.works _ l refl refl refl c.stmts.invariant.light refl refl
+
+pub loop_stmt-returns-in_err-slot-clause-reads : goal.loop_stmt-returns-in_err-slot-clause-reads
+loop_stmt-returns-in_err-slot-clause-reads t c =
+    let p = err_from_is_err_and c.from_residual.result c.from_residual.ensures.1 in
+    λ line rest. rw (p.1, p.2, ← c.copy-name.ensures) (loop-range-first (place_of c.args.self.now.arrays.now c.args.self.now.mutexes.now c.args.state.now c.args.section) line c.args.range.now.name_line c.copy-name.result c.args.range.now.in_line (tree_of c.args.range.now.from) c.args.range.now.dots (tree_of c.args.range.now.to) c.args.body.now.opened (stmts_of c.args.body.now.stmts.items) c.args.body.now.closed rest c.in_err-slot.field-0.0 c.in_err-slot.ensures.settled)
+
+pub loop_stmt-returns-in_err-block-clause-reads : goal.loop_stmt-returns-in_err-block-clause-reads
+loop_stmt-returns-in_err-block-clause-reads t c =
+    let inner_is : c.inside_branch-inner.result ≡ record c.args.section { uneven = c.args.section.uneven || not (is_fixed (tree_of c.args.range.now.from) (tree_of c.args.range.now.to)) } = rw (← c.is_fixed.ensures) c.inside_branch-inner.ensures in
+    let p = err_from_is_err_and c.from_residual-in_err-block.result c.from_residual-in_err-block.ensures.1 in
+    λ line rest. rw (p.1, p.2, ← c.copy-name.ensures) (loop-body-first (place_of c.args.self.now.arrays.now c.args.self.now.mutexes.now c.range.new.state c.inside_branch-inner.result) (place_of c.args.self.now.arrays.now c.args.self.now.mutexes.now c.args.state.now c.args.section) line c.args.range.now.name_line c.copy-name.result c.args.range.now.in_line (tree_of c.args.range.now.from) c.args.range.now.dots (tree_of c.args.range.now.to) c.args.body.now.opened (stmts_of c.args.body.now.stmts.items) c.args.body.now.closed rest c.in_err-block.field-0.0 (place-loop c.args.self.now.arrays.now c.args.self.now.mutexes.now c.args.state.now c.range.new.state c.args.section c.inside_branch-inner.result c.copy-name.result (not (is_fixed (tree_of c.args.range.now.from) (tree_of c.args.range.now.to))) inner_is c.in_ok-slot.ensures.slot c.in_ok-slot.ensures.variables) c.in_ok-slot.ensures.settled.0 c.in_err-block.ensures.reads)
+
+pub for_stmt-returns-in_err-slot-clause-reads : goal.for_stmt-returns-in_err-slot-clause-reads
+for_stmt-returns-in_err-slot-clause-reads t c =
+    let p = err_from_is_err_and c.from_residual-in_err-slot.result c.from_residual-in_err-slot.ensures.1 in
+    λ rest. rw (p.1, p.2, ← c.copy-name.ensures) (for-range-first (place_of c.args.self.now.arrays.now c.args.self.now.mutexes.now c.args.state.now c.args.section) c.args.line c.args.range.now.name_line c.copy-name.result c.args.range.now.in_line (tree_of c.args.range.now.from) c.args.range.now.dots (tree_of c.args.range.now.to) (schedule_tree c.args.schedule) c.args.nowait c.args.body.now.opened (stmts_of c.args.body.now.stmts.items) c.args.body.now.closed rest c.in_err-slot.field-0.0 c.in_ok-check_shared.ensures.0 c.in_err-slot.ensures.settled)
+
+pub for_stmt-returns-in_err-schedule-clause-reads : goal.for_stmt-returns-in_err-schedule-clause-reads
+for_stmt-returns-in_err-schedule-clause-reads t c =
+    let p = err_from_is_err_and c.from_residual-in_err-schedule.result c.from_residual-in_err-schedule.ensures.1 in
+    λ rest. rw (p.1, p.2, ← c.copy-name.ensures) (for-schedule-first (place_of c.args.self.now.arrays.now c.args.self.now.mutexes.now c.args.state.now c.args.section) c.args.line c.args.range.now.name_line c.copy-name.result c.args.range.now.in_line (tree_of c.args.range.now.from) c.args.range.now.dots (tree_of c.args.range.now.to) (schedule_tree c.args.schedule) c.args.nowait c.args.body.now.opened (stmts_of c.args.body.now.stmts.items) c.args.body.now.closed rest c.in_err-schedule.field-0.0 c.in_ok-check_shared.ensures.0 c.in_ok-slot.ensures.settled.0 c.in_err-schedule.ensures)
+
+pub for_stmt-returns-in_err-block-clause-reads : goal.for_stmt-returns-in_err-block-clause-reads
+for_stmt-returns-in_err-block-clause-reads t c =
+    let p = err_from_is_err_and c.from_residual-in_err-block.result c.from_residual-in_err-block.ensures.1 in
+    λ rest. rw (p.1, p.2, ← c.copy-name.ensures) (for-body-first (place_of c.args.self.now.arrays.now c.args.self.now.mutexes.now c.range.new.state c.inside_work.result) (place_of c.args.self.now.arrays.now c.args.self.now.mutexes.now c.args.state.now c.args.section) c.args.line c.args.range.now.name_line c.copy-name.result c.args.range.now.in_line (tree_of c.args.range.now.from) c.args.range.now.dots (tree_of c.args.range.now.to) (schedule_tree c.args.schedule) c.args.nowait c.args.body.now.opened (stmts_of c.args.body.now.stmts.items) c.args.body.now.closed rest c.in_err-block.field-0.0 (place-work c.args.self.now.arrays.now c.args.self.now.mutexes.now c.args.state.now c.range.new.state c.args.section c.inside_work.result c.copy-name.result c.inside_work.ensures c.in_ok-slot.ensures.slot c.in_ok-slot.ensures.variables) c.in_ok-check_shared.ensures.0 c.in_ok-slot.ensures.settled.0 c.in_ok-schedule.ensures.0 c.in_err-block.ensures.reads)
+
+pub stmt-if_stmt-requires : goal.stmt-if_stmt-requires
+stmt-if_stmt-requires t c =
+    let is = ap (λ (s : Statement). stmt_before s NoMore) c.in-If.is ∙ before_if c.in-If.line c.in-If.test c.in-If.yes NoMore in
+    let e : stmts_sites (stmt_before c.args.stmt.now NoMore) ≡ sites (tree_of c.in-If.test) + (stmts_sites (stmts_of c.in-If.yes.stmts.items) + 0) = ap stmts_sites is in
+    let d : slots (stmt_before c.args.stmt.now NoMore) ≡ slots (stmts_of c.in-If.yes.stmts.items) + 0 = ap slots is in
+    let z : size (stmt_before c.args.stmt.now NoMore) ≡ 1 + (size (stmts_of c.in-If.yes.stmts.items) + 0) = ap size is in
+    let falls = c.decreases in
+    let room = c.requires.room in
+    let most = c.requires.slots in
+    (omega (arith, falls, z), (c.requires.few, c.requires.few_mutexes, omega (arith, e, room), omega (arith, d, most)))
+
+pub stmt-if_else_stmt-requires : goal.stmt-if_else_stmt-requires
+stmt-if_else_stmt-requires t c =
+    let is = ap (λ (s : Statement). stmt_before s NoMore) c.in-IfElse.is ∙ before_if_else c.in-IfElse.line c.in-IfElse.test c.in-IfElse.yes c.in-IfElse.else_line c.in-IfElse.no NoMore in
+    let e : stmts_sites (stmt_before c.args.stmt.now NoMore) ≡ sites (tree_of c.in-IfElse.test) + (stmts_sites (stmts_of c.in-IfElse.yes.stmts.items) + (stmts_sites (stmts_of c.in-IfElse.no.stmts.items) + 0)) = ap stmts_sites is in
+    let d : slots (stmt_before c.args.stmt.now NoMore) ≡ slots (stmts_of c.in-IfElse.yes.stmts.items) + (slots (stmts_of c.in-IfElse.no.stmts.items) + 0) = ap slots is in
+    let z : size (stmt_before c.args.stmt.now NoMore) ≡ 1 + (size (stmts_of c.in-IfElse.yes.stmts.items) + (size (stmts_of c.in-IfElse.no.stmts.items) + 0)) = ap size is in
+    let falls = c.decreases in
+    let room = c.requires.room in
+    let most = c.requires.slots in
+    (omega (arith, falls, z), (c.requires.few, c.requires.few_mutexes, omega (arith, e, room), omega (arith, d, most)))
+
+pub stmt-parallel_stmt-requires : goal.stmt-parallel_stmt-requires
+stmt-parallel_stmt-requires t c =
+    let is = ap (λ (s : Statement). stmt_before s NoMore) c.in-Parallel.is ∙ before_parallel c.in-Parallel.line c.in-Parallel.number_line c.in-Parallel.span c.in-Parallel.body NoMore in
+    let e : stmts_sites (stmt_before c.args.stmt.now NoMore) ≡ stmts_sites (stmts_of c.in-Parallel.body.stmts.items) + 0 = ap stmts_sites is in
+    let d : slots (stmt_before c.args.stmt.now NoMore) ≡ slots (stmts_of c.in-Parallel.body.stmts.items) + 0 = ap slots is in
+    let z : size (stmt_before c.args.stmt.now NoMore) ≡ 1 + (size (stmts_of c.in-Parallel.body.stmts.items) + 0) = ap size is in
+    let falls = c.decreases in
+    let room = c.requires.room in
+    let most = c.requires.slots in
+    (omega (arith, falls, z), (c.requires.few, c.requires.few_mutexes, omega (arith, e, room), omega (arith, d, most)))
+
+pub stmt-critical_stmt-requires : goal.stmt-critical_stmt-requires
+stmt-critical_stmt-requires t c =
+    let is = ap (λ (s : Statement). stmt_before s NoMore) c.in-Critical.is ∙ before_critical c.in-Critical.line c.in-Critical.body NoMore in
+    let e : stmts_sites (stmt_before c.args.stmt.now NoMore) ≡ stmts_sites (stmts_of c.in-Critical.body.stmts.items) + 0 = ap stmts_sites is in
+    let d : slots (stmt_before c.args.stmt.now NoMore) ≡ slots (stmts_of c.in-Critical.body.stmts.items) + 0 = ap slots is in
+    let z : size (stmt_before c.args.stmt.now NoMore) ≡ 1 + (size (stmts_of c.in-Critical.body.stmts.items) + 0) = ap size is in
+    let falls = c.decreases in
+    let room = c.requires.room in
+    let most = c.requires.slots in
+    (omega (arith, falls, z), (c.requires.few, c.requires.few_mutexes, omega (arith, e, room), omega (arith, d, most)))
+
+pub stmt-critical_of_stmt-requires : goal.stmt-critical_of_stmt-requires
+stmt-critical_of_stmt-requires t c =
+    let is = ap (λ (s : Statement). stmt_before s NoMore) c.in-CriticalOf.is ∙ before_critical_of c.in-CriticalOf.line c.in-CriticalOf.name_line c.in-CriticalOf.name c.in-CriticalOf.body NoMore in
+    let e : stmts_sites (stmt_before c.args.stmt.now NoMore) ≡ stmts_sites (stmts_of c.in-CriticalOf.body.stmts.items) + 0 = ap stmts_sites is in
+    let d : slots (stmt_before c.args.stmt.now NoMore) ≡ slots (stmts_of c.in-CriticalOf.body.stmts.items) + 0 = ap slots is in
+    let z : size (stmt_before c.args.stmt.now NoMore) ≡ 1 + (size (stmts_of c.in-CriticalOf.body.stmts.items) + 0) = ap size is in
+    let falls = c.decreases in
+    let room = c.requires.room in
+    let most = c.requires.slots in
+    (omega (arith, falls, z), (c.requires.few, c.requires.few_mutexes, omega (arith, e, room), omega (arith, d, most)))
+
+pub stmt-loop_stmt-requires : goal.stmt-loop_stmt-requires
+stmt-loop_stmt-requires t c =
+    let is = ap (λ (s : Statement). stmt_before s NoMore) c.in-Loop.is ∙ before_loop c.in-Loop.line c.in-Loop.range c.in-Loop.body NoMore in
+    let e : stmts_sites (stmt_before c.args.stmt.now NoMore) ≡ sites (tree_of c.in-Loop.range.from) + (sites (tree_of c.in-Loop.range.to) + (stmts_sites (stmts_of c.in-Loop.body.stmts.items) + 0)) = ap stmts_sites is in
+    let d : slots (stmt_before c.args.stmt.now NoMore) ≡ 1 + (slots (stmts_of c.in-Loop.body.stmts.items) + 0) = ap slots is in
+    let z : size (stmt_before c.args.stmt.now NoMore) ≡ 1 + (size (stmts_of c.in-Loop.body.stmts.items) + 0) = ap size is in
+    let falls = c.decreases in
+    let room = c.requires.room in
+    let most = c.requires.slots in
+    (omega (arith, falls, z), (c.requires.few, c.requires.few_mutexes, omega (arith, e, room), omega (arith, d, most)))
+
+pub stmt-for_stmt-requires : goal.stmt-for_stmt-requires
+stmt-for_stmt-requires t c =
+    let is = ap (λ (s : Statement). stmt_before s NoMore) c.in-For.is ∙ before_for c.in-For.line c.in-For.range c.in-For.schedule c.in-For.nowait c.in-For.body NoMore in
+    let e : stmts_sites (stmt_before c.args.stmt.now NoMore) ≡ sites (tree_of c.in-For.range.from) + (sites (tree_of c.in-For.range.to) + (stmts_sites (stmts_of c.in-For.body.stmts.items) + 0)) = ap stmts_sites is in
+    let d : slots (stmt_before c.args.stmt.now NoMore) ≡ 1 + (slots (stmts_of c.in-For.body.stmts.items) + 0) = ap slots is in
+    let z : size (stmt_before c.args.stmt.now NoMore) ≡ 1 + (size (stmts_of c.in-For.body.stmts.items) + 0) = ap size is in
+    let falls = c.decreases in
+    let room = c.requires.room in
+    let most = c.requires.slots in
+    (omega (arith, falls, z), (c.requires.few, c.requires.few_mutexes, omega (arith, e, room), omega (arith, d, most)))
+
+pub stmt-let_stmt-requires-clause-room : goal.stmt-let_stmt-requires-clause-room
+stmt-let_stmt-requires-clause-room t c =
+    let e : stmts_sites (stmt_before c.args.stmt.now NoMore) ≡ sites (tree_of c.in-Let.value) + 0 = ap stmts_sites (ap (λ (s : Statement). stmt_before s NoMore) c.in-Let.is ∙ before_let c.in-Let.line c.in-Let.name_line c.in-Let.name c.in-Let.sign_line c.in-Let.value NoMore) in
+    let room = c.requires.room in omega (arith, e, room)
+
+pub stmt-assign_stmt-requires-clause-room : goal.stmt-assign_stmt-requires-clause-room
+stmt-assign_stmt-requires-clause-room t c =
+    let e : stmts_sites (stmt_before c.args.stmt.now NoMore) ≡ sites (tree_of c.in-Assign.value) + 0 = ap stmts_sites (ap (λ (s : Statement). stmt_before s NoMore) c.in-Assign.is ∙ before_assign c.in-Assign.line c.in-Assign.name c.in-Assign.sign_line c.in-Assign.value NoMore) in
+    let room = c.requires.room in omega (arith, e, room)
+
+pub stmt-store_stmt-requires-clause-room : goal.stmt-store_stmt-requires-clause-room
+stmt-store_stmt-requires-clause-room t c =
+    let e : stmts_sites (stmt_before c.args.stmt.now NoMore) ≡ 1 + (sites (tree_of c.in-Store.index) + (sites (tree_of c.in-Store.value) + 0)) = ap stmts_sites (ap (λ (s : Statement). stmt_before s NoMore) c.in-Store.is ∙ before_store c.in-Store.line c.in-Store.name c.in-Store.opened c.in-Store.index c.in-Store.closed c.in-Store.sign_line c.in-Store.value NoMore) in
+    let room = c.requires.room in omega (arith, e, room)
+
+pub stmts-stmt-requires : goal.stmts-stmt-requires
+stmts-stmt-requires t c =
+    let split : c.stmts.rest.now ≡ c.in-Some.first.now ∷ c.in-Some.others.now = c.in-Some.ensures.cases.0 in
+    let rest : Stmts = stmts_of c.in-Some.others.now in
+    let here : stmts_of c.stmts.rest.now ≡ stmt_before c.in-Some.first.now rest = ap stmts_of split in
+    let parts = apart c.in-Some.first.now rest in
+    let e = parts.sites_are in let d = parts.slots_are in let z = parts.size_is in
+    let e2 = ap stmts_sites here in let d2 = ap slots here in let z2 = ap size here in
+    let e3 = c.stmts.invariant.left.sites_are in let d3 = c.stmts.invariant.left.slots_are in let z3 = c.stmts.invariant.smaller in
+    let falls = c.decreases in
+    let room = c.requires.room in
+    let most = c.requires.slots in
+    (omega (arith, falls, z, z2, z3), (c.requires.few, c.requires.few_mutexes, omega (arith, e, e2, e3, room), omega (arith, d, d2, d3, most)))
