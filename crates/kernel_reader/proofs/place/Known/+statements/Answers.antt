@@ -1,4 +1,4 @@
-use Rattle.std.proofs.Common.{◌≡◌, ℕ, ◌≤◌, true, false, not, ◌||◌, List, ◌∷◌, length, [], w64, subst, Result, refl, sym, ap, ◌∙◌, arith, rules}
+use Rattle.std.proofs.Common.{◌≡◌, ℕ, ◌+◌, ◌*◌, ◌<◌, ◌≤◌, Ok, true, false, not, ◌||◌, List, ◌∷◌, length, [], w64, subst, Result, refl, sym, ap, ◌∙◌, arith, rules}
 use Rattle.std.proofs.lemmas.Result.{err_from_is_err_and}
 use Rattle.std.proofs.lemmas.List.{nil_from_length}
 use Rattle.std.proofs.lemmas.Int.{to_z-of_z}
@@ -13,6 +13,7 @@ use Rattle.kernel_parser.proofs.Equations.{before_let, before_assign, before_sto
 use Rattle.kernel_reader.specs.Scope.{Place, count_literal, slots}
 use Rattle.kernel_reader.specs.Rules.{critical_faults, in_critical, is_fixed, stmts_faults}
 use Rattle.kernel_reader.specs.Resolve.{sites, stmts_sites}
+use Rattle.kernel_reader.specs.Naming.{names_of}
 use Rattle.kernel_reader.specs.Sections.{region_faults, region_section}
 use Rattle.kernel_reader.specs.Folding.{place_of, IsFirstRead, IsLeft}
 use Rattle.kernel_reader.specs.declared.fault.ReadKernelFault.{ReadKernelFault}
@@ -182,7 +183,7 @@ stmt-if_stmt-requires t c =
     let falls = c.decreases in
     let room = c.requires.room in
     let most = c.requires.slots in
-    (omega (arith, falls, z), (c.requires.few, c.requires.few_mutexes, omega (arith, e, room), omega (arith, d, most)))
+    (omega (arith, falls, z), (c.requires.few, (c.requires.few_mutexes, (omega (arith, e, room), omega (arith, d, most)))))
 
 pub stmt-if_else_stmt-requires : goal.stmt-if_else_stmt-requires
 stmt-if_else_stmt-requires t c =
@@ -193,7 +194,7 @@ stmt-if_else_stmt-requires t c =
     let falls = c.decreases in
     let room = c.requires.room in
     let most = c.requires.slots in
-    (omega (arith, falls, z), (c.requires.few, c.requires.few_mutexes, omega (arith, e, room), omega (arith, d, most)))
+    (omega (arith, falls, z), (c.requires.few, (c.requires.few_mutexes, (omega (arith, e, room), omega (arith, d, most)))))
 
 pub stmt-parallel_stmt-requires : goal.stmt-parallel_stmt-requires
 stmt-parallel_stmt-requires t c =
@@ -204,7 +205,7 @@ stmt-parallel_stmt-requires t c =
     let falls = c.decreases in
     let room = c.requires.room in
     let most = c.requires.slots in
-    (omega (arith, falls, z), (c.requires.few, c.requires.few_mutexes, omega (arith, e, room), omega (arith, d, most)))
+    (omega (arith, falls, z), (c.requires.few, (c.requires.few_mutexes, (omega (arith, e, room), omega (arith, d, most)))))
 
 pub stmt-critical_stmt-requires : goal.stmt-critical_stmt-requires
 stmt-critical_stmt-requires t c =
@@ -215,7 +216,7 @@ stmt-critical_stmt-requires t c =
     let falls = c.decreases in
     let room = c.requires.room in
     let most = c.requires.slots in
-    (omega (arith, falls, z), (c.requires.few, c.requires.few_mutexes, omega (arith, e, room), omega (arith, d, most)))
+    (omega (arith, falls, z), (c.requires.few, (c.requires.few_mutexes, (omega (arith, e, room), omega (arith, d, most)))))
 
 pub stmt-critical_of_stmt-requires : goal.stmt-critical_of_stmt-requires
 stmt-critical_of_stmt-requires t c =
@@ -226,7 +227,7 @@ stmt-critical_of_stmt-requires t c =
     let falls = c.decreases in
     let room = c.requires.room in
     let most = c.requires.slots in
-    (omega (arith, falls, z), (c.requires.few, c.requires.few_mutexes, omega (arith, e, room), omega (arith, d, most)))
+    (omega (arith, falls, z), (c.requires.few, (c.requires.few_mutexes, (omega (arith, e, room), omega (arith, d, most)))))
 
 pub stmt-loop_stmt-requires : goal.stmt-loop_stmt-requires
 stmt-loop_stmt-requires t c =
@@ -237,7 +238,7 @@ stmt-loop_stmt-requires t c =
     let falls = c.decreases in
     let room = c.requires.room in
     let most = c.requires.slots in
-    (omega (arith, falls, z), (c.requires.few, c.requires.few_mutexes, omega (arith, e, room), omega (arith, d, most)))
+    (omega (arith, falls, z), (c.requires.few, (c.requires.few_mutexes, (omega (arith, e, room), omega (arith, d, most)))))
 
 pub stmt-for_stmt-requires : goal.stmt-for_stmt-requires
 stmt-for_stmt-requires t c =
@@ -248,7 +249,7 @@ stmt-for_stmt-requires t c =
     let falls = c.decreases in
     let room = c.requires.room in
     let most = c.requires.slots in
-    (omega (arith, falls, z), (c.requires.few, c.requires.few_mutexes, omega (arith, e, room), omega (arith, d, most)))
+    (omega (arith, falls, z), (c.requires.few, (c.requires.few_mutexes, (omega (arith, e, room), omega (arith, d, most)))))
 
 pub stmt-let_stmt-requires-clause-room : goal.stmt-let_stmt-requires-clause-room
 stmt-let_stmt-requires-clause-room t c =
@@ -277,4 +278,56 @@ stmts-stmt-requires t c =
     let falls = c.decreases in
     let room = c.requires.room in
     let most = c.requires.slots in
-    (omega (arith, falls, z, z2, z3), (c.requires.few, c.requires.few_mutexes, omega (arith, e, e2, e3, room), omega (arith, d, d2, d3, most)))
+    (omega (arith, falls, z, z2, z3), (c.requires.few, (c.requires.few_mutexes, (omega (arith, e, e2, e3, room), omega (arith, d, d2, d3, most)))))
+
+pub stmt-returns-in_err-let_stmt-in-Let-clause-reads : goal.stmt-returns-in_err-let_stmt-in-Let-clause-reads
+stmt-returns-in_err-let_stmt-in-Let-clause-reads t c =
+    let p = err_from_is_err_and c.from_residual.result c.from_residual.ensures.1 in
+    λ rest.
+    let at = ap (λ (s : Statement). stmt_before s rest) c.in-Let.is ∙ before_let c.in-Let.line c.in-Let.name_line c.in-Let.name c.in-Let.sign_line c.in-Let.value rest in
+    rw (p.1, p.2, at, ← c.copy.ensures) (part-2 _ _ _ _ c.in_err-let_stmt-in-Let.ensures.settled)
+
+pub stmt-returns-in_ok-let_stmt-in-Let-clause-reads : goal.stmt-returns-in_ok-let_stmt-in-Let-clause-reads
+stmt-returns-in_ok-let_stmt-in-Let-clause-reads t c =
+    λ rest.
+    let at = ap (λ (s : Statement). stmt_before s rest) c.in-Let.is ∙ before_let c.in-Let.line c.in-Let.name_line c.in-Let.name c.in-Let.sign_line c.in-Let.value rest in
+    rw (c.plain.ensures, at, ← c.copy.ensures) (let-read c.args.self.now.arrays.now c.args.self.now.mutexes.now c.args.state.now c.let_stmt.new.state c.args.section c.in-Let.line c.in-Let.name_line c.copy.result c.in-Let.sign_line (tree_of c.in-Let.value) c.in_ok-let_stmt-in-Let.field-0 rest c.in_ok-let_stmt-in-Let.ensures.settled.1 c.in_ok-let_stmt-in-Let.ensures.settled.0 c.in_ok-let_stmt-in-Let.ensures.site c.in_ok-let_stmt-in-Let.ensures.slot c.in_ok-let_stmt-in-Let.ensures.variables)
+
+pub stmt-returns-in_err-assign_stmt-in-Assign-clause-reads : goal.stmt-returns-in_err-assign_stmt-in-Assign-clause-reads
+stmt-returns-in_err-assign_stmt-in-Assign-clause-reads t c =
+    let p = err_from_is_err_and c.from_residual-in_err-assign_stmt-in-Assign.result c.from_residual-in_err-assign_stmt-in-Assign.ensures.1 in
+    λ rest.
+    let at = ap (λ (s : Statement). stmt_before s rest) c.in-Assign.is ∙ before_assign c.in-Assign.line c.in-Assign.name c.in-Assign.sign_line c.in-Assign.value rest in
+    rw (p.1, p.2, at) (part-2 _ _ _ _ c.in_err-assign_stmt-in-Assign.ensures.settled)
+
+pub stmt-returns-in_ok-assign_stmt-in-Assign-clause-reads : goal.stmt-returns-in_ok-assign_stmt-in-Assign-clause-reads
+stmt-returns-in_ok-assign_stmt-in-Assign-clause-reads t c =
+    λ rest.
+    let at = ap (λ (s : Statement). stmt_before s rest) c.in-Assign.is ∙ before_assign c.in-Assign.line c.in-Assign.name c.in-Assign.sign_line c.in-Assign.value rest in
+    rw (c.plain-in-Assign.ensures, at) (assign-read c.args.self.now.arrays.now c.args.self.now.mutexes.now c.args.state.now c.assign_stmt.new.state c.args.section c.in-Assign.line c.in-Assign.name c.in-Assign.sign_line (tree_of c.in-Assign.value) c.in_ok-assign_stmt-in-Assign.field-0 rest c.in_ok-assign_stmt-in-Assign.ensures.settled.1 c.in_ok-assign_stmt-in-Assign.ensures.settled.0 c.in_ok-assign_stmt-in-Assign.ensures.site c.in_ok-assign_stmt-in-Assign.ensures.slot c.in_ok-assign_stmt-in-Assign.ensures.variables)
+
+pub stmt-returns-in_err-store_stmt-in-Store-clause-reads : goal.stmt-returns-in_err-store_stmt-in-Store-clause-reads
+stmt-returns-in_err-store_stmt-in-Store-clause-reads t c =
+    let p = err_from_is_err_and c.from_residual-in_err-store_stmt-in-Store.result c.from_residual-in_err-store_stmt-in-Store.ensures.1 in
+    λ rest.
+    let at = ap (λ (s : Statement). stmt_before s rest) c.in-Store.is ∙ before_store c.in-Store.line c.in-Store.name c.in-Store.opened c.in-Store.index c.in-Store.closed c.in-Store.sign_line c.in-Store.value rest in
+    rw (p.1, p.2, at) (part-3 _ _ _ _ _ c.in_err-store_stmt-in-Store.ensures.settled)
+
+pub stmt-returns-in_ok-store_stmt-in-Store-clause-reads : goal.stmt-returns-in_ok-store_stmt-in-Store-clause-reads
+stmt-returns-in_ok-store_stmt-in-Store-clause-reads t c =
+    λ rest.
+    let at = ap (λ (s : Statement). stmt_before s rest) c.in-Store.is ∙ before_store c.in-Store.line c.in-Store.name c.in-Store.opened c.in-Store.index c.in-Store.closed c.in-Store.sign_line c.in-Store.value rest in
+    rw (c.plain-in-Store.ensures, at) (store-read c.args.self.now.arrays.now c.args.self.now.mutexes.now c.args.state.now c.store_stmt.new.state c.args.section c.in-Store.line c.in-Store.name c.in-Store.opened (tree_of c.in-Store.index) c.in-Store.closed c.in-Store.sign_line (tree_of c.in-Store.value) c.in_ok-store_stmt-in-Store.field-0 rest c.in_ok-store_stmt-in-Store.ensures.settled.1 c.in_ok-store_stmt-in-Store.ensures.settled.0 c.in_ok-store_stmt-in-Store.ensures.site c.in_ok-store_stmt-in-Store.ensures.slot c.in_ok-store_stmt-in-Store.ensures.variables)
+
+pub stmt-returns-in_err-check_shared-in-Barrier-clause-reads : goal.stmt-returns-in_err-check_shared-in-Barrier-clause-reads
+stmt-returns-in_err-check_shared-in-Barrier-clause-reads t c =
+    let p = err_from_is_err_and c.from_residual-in_err-check_shared-in-Barrier.result c.from_residual-in_err-check_shared-in-Barrier.ensures.1 in
+    λ rest.
+    let at = ap (λ (s : Statement). stmt_before s rest) c.in-Barrier.is ∙ before_barrier c.in-Barrier.line rest in
+    rw (p.1, p.2, at) (part-2 _ _ _ _ c.in_err-check_shared-in-Barrier.ensures)
+
+pub stmt-returns-in_ok-check_shared-in-Barrier-clause-reads : goal.stmt-returns-in_ok-check_shared-in-Barrier-clause-reads
+stmt-returns-in_ok-check_shared-in-Barrier-clause-reads t c =
+    λ rest.
+    let at = ap (λ (s : Statement). stmt_before s rest) c.in-Barrier.is ∙ before_barrier c.in-Barrier.line rest in
+    rw (c.plain-in-Barrier.ensures, at) (barrier-read c.args.self.now.arrays.now c.args.self.now.mutexes.now c.args.state.now c.args.state.now c.args.section c.in-Barrier.line c.made_barrier.result rest c.made_barrier.ensures c.in_ok-check_shared-in-Barrier.ensures.0 refl refl refl)
