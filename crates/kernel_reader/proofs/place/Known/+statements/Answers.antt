@@ -11,7 +11,8 @@ use Rattle.kernel_parser.specs.Trees.{tree_of, schedule_tree, stmt_before, stmts
 use Rattle.kernel_parser.specs.declared.tree.Statement.{Statement}
 use Rattle.kernel_parser.proofs.Equations.{before_let, before_assign, before_store, before_if, before_if_else, before_loop, before_parallel, before_for, before_barrier, before_critical, before_critical_of}
 use Rattle.kernel_reader.specs.Scope.{Place, count_literal, slots}
-use Rattle.kernel_reader.specs.Rules.{critical_faults, in_critical, is_fixed, stmts_faults}
+use Rattle.kernel_text.specs.declared.fault.KernelWhy.TheVariants as why
+use Rattle.kernel_reader.specs.Rules.{fault_if, is_misplaced, declared_faults, assigned_faults, array_faults, tree_faults, critical_faults, in_critical, is_fixed, stmts_faults}
 use Rattle.kernel_reader.specs.Resolve.{sites, stmts_sites}
 use Rattle.kernel_reader.specs.Naming.{names_of}
 use Rattle.kernel_reader.specs.Sections.{region_faults, region_section}
@@ -285,7 +286,7 @@ stmt-returns-in_err-let_stmt-in-Let-clause-reads t c =
     let p = err_from_is_err_and c.from_residual.result c.from_residual.ensures.1 in
     λ rest.
     let at = ap (λ (s : Statement). stmt_before s rest) c.in-Let.is ∙ before_let c.in-Let.line c.in-Let.name_line c.in-Let.name c.in-Let.sign_line c.in-Let.value rest in
-    rw (p.1, p.2, at, ← c.copy.ensures) (part-2 _ _ _ _ c.in_err-let_stmt-in-Let.ensures.settled)
+    rw (p.1, p.2, at, ← c.copy.ensures) (part-2 (declared_faults (place_of c.args.self.now.arrays.now c.args.self.now.mutexes.now c.args.state.now c.args.section) c.in-Let.name_line c.copy.result) (tree_faults (place_of c.args.self.now.arrays.now c.args.self.now.mutexes.now c.args.state.now c.args.section).names false (tree_of c.in-Let.value)) _ _ c.in_err-let_stmt-in-Let.ensures.settled)
 
 pub stmt-returns-in_ok-let_stmt-in-Let-clause-reads : goal.stmt-returns-in_ok-let_stmt-in-Let-clause-reads
 stmt-returns-in_ok-let_stmt-in-Let-clause-reads t c =
@@ -298,7 +299,7 @@ stmt-returns-in_err-assign_stmt-in-Assign-clause-reads t c =
     let p = err_from_is_err_and c.from_residual-in_err-assign_stmt-in-Assign.result c.from_residual-in_err-assign_stmt-in-Assign.ensures.1 in
     λ rest.
     let at = ap (λ (s : Statement). stmt_before s rest) c.in-Assign.is ∙ before_assign c.in-Assign.line c.in-Assign.name c.in-Assign.sign_line c.in-Assign.value rest in
-    rw (p.1, p.2, at) (part-2 _ _ _ _ c.in_err-assign_stmt-in-Assign.ensures.settled)
+    rw (p.1, p.2, at) (part-2 (assigned_faults (place_of c.args.self.now.arrays.now c.args.self.now.mutexes.now c.args.state.now c.args.section) c.in-Assign.line c.in-Assign.name) (tree_faults (place_of c.args.self.now.arrays.now c.args.self.now.mutexes.now c.args.state.now c.args.section).names false (tree_of c.in-Assign.value)) _ _ c.in_err-assign_stmt-in-Assign.ensures.settled)
 
 pub stmt-returns-in_ok-assign_stmt-in-Assign-clause-reads : goal.stmt-returns-in_ok-assign_stmt-in-Assign-clause-reads
 stmt-returns-in_ok-assign_stmt-in-Assign-clause-reads t c =
@@ -311,7 +312,7 @@ stmt-returns-in_err-store_stmt-in-Store-clause-reads t c =
     let p = err_from_is_err_and c.from_residual-in_err-store_stmt-in-Store.result c.from_residual-in_err-store_stmt-in-Store.ensures.1 in
     λ rest.
     let at = ap (λ (s : Statement). stmt_before s rest) c.in-Store.is ∙ before_store c.in-Store.line c.in-Store.name c.in-Store.opened c.in-Store.index c.in-Store.closed c.in-Store.sign_line c.in-Store.value rest in
-    rw (p.1, p.2, at) (part-3 _ _ _ _ _ c.in_err-store_stmt-in-Store.ensures.settled)
+    rw (p.1, p.2, at) (part-3 (array_faults (place_of c.args.self.now.arrays.now c.args.self.now.mutexes.now c.args.state.now c.args.section).names false c.in-Store.line c.in-Store.name) (tree_faults (place_of c.args.self.now.arrays.now c.args.self.now.mutexes.now c.args.state.now c.args.section).names false (tree_of c.in-Store.index)) (tree_faults (place_of c.args.self.now.arrays.now c.args.self.now.mutexes.now c.args.state.now c.args.section).names false (tree_of c.in-Store.value)) _ _ c.in_err-store_stmt-in-Store.ensures.settled)
 
 pub stmt-returns-in_ok-store_stmt-in-Store-clause-reads : goal.stmt-returns-in_ok-store_stmt-in-Store-clause-reads
 stmt-returns-in_ok-store_stmt-in-Store-clause-reads t c =
@@ -324,7 +325,7 @@ stmt-returns-in_err-check_shared-in-Barrier-clause-reads t c =
     let p = err_from_is_err_and c.from_residual-in_err-check_shared-in-Barrier.result c.from_residual-in_err-check_shared-in-Barrier.ensures.1 in
     λ rest.
     let at = ap (λ (s : Statement). stmt_before s rest) c.in-Barrier.is ∙ before_barrier c.in-Barrier.line rest in
-    rw (p.1, p.2, at) (part-2 _ _ _ _ c.in_err-check_shared-in-Barrier.ensures)
+    rw (p.1, p.2, at) (part-2 (fault_if (is_misplaced (place_of c.args.self.now.arrays.now c.args.self.now.mutexes.now c.args.state.now c.args.section)) c.in-Barrier.line why.BarrierHere) (fault_if c.args.section.uneven c.in-Barrier.line why.NotUniform) _ _ c.in_err-check_shared-in-Barrier.ensures)
 
 pub stmt-returns-in_ok-check_shared-in-Barrier-clause-reads : goal.stmt-returns-in_ok-check_shared-in-Barrier-clause-reads
 stmt-returns-in_ok-check_shared-in-Barrier-clause-reads t c =
