@@ -4,17 +4,20 @@
 The last log of each folder has a byte too many, so `check` goes through all of them and then names that place. The first folder
 is that of `generate.py`, 38 MB in 9 logs whose accesses no stride compresses; the walk is set beside the time in which `cat` of the
 folder piped to `cksum` reads it. The others have one log of 4,194,303 accesses: of one element, and of 1,000 elements in turn. The
-last has a log of three records whose row tells 4,194,304, so that memory which grew by what a row tells would show.
+last has a log of three records whose row tells 4,194,304. For it, and for the same with the true number in its row, the least
+address space is sought in which `check` gives its answer: it counts all memory that is asked for, also what is never touched.
 
 usage: walk.py [N], at the top of the repository, after `./sword` was built; N is 100000 where it isn't told
 """
 import os
+import resource
 import struct
 import subprocess
 import sys
 import tempfile
 import time
 
+PROGRAM = os.path.join("crates", "sword", "out", "sword")
 WRITE, REGION, END = 2, 6, 8
 MOST = 4_194_304
 ROUNDS = 3
@@ -55,6 +58,32 @@ def claiming(folder):
     return last
 
 
+def tell(folder, records):
+    """Has the row of the lane tell so many records."""
+    with open(os.path.join(folder, "index.swi"), "wb") as out:
+        out.write(b"SWIDX001" + row([], 2) + row([(0, 0, 1)], records))
+
+
+def answers(folder, space):
+    """Whether `check` names a bad record of the folder in so many KB of address space."""
+    limit = space * 1024
+    done = subprocess.run([PROGRAM, "check", folder, "1"], capture_output=True,
+                          preexec_fn=lambda: resource.setrlimit(resource.RLIMIT_AS, (limit, limit)))
+    return done.returncode == 4
+
+
+def least_space(folder):
+    """The least address space in KB in which `check` answers."""
+    low, high = 0, 1 << 20
+    while low + 1 < high:
+        middle = (low + high) // 2
+        if answers(folder, middle):
+            high = middle
+        else:
+            low = middle
+    return high
+
+
 def seconds_of(words):
     """The least time of some rounds, the most memory in MB, and the first line."""
     best, most, text = None, 0, ""
@@ -74,7 +103,7 @@ def walk(what, folder, last, records):
         out.write(b"\0")
     size = sum(os.path.getsize(os.path.join(folder, name)) for name in os.listdir(folder))
     plain, _, _ = seconds_of(["sh", "-c", f"cat {folder}/* | cksum"])
-    walked, memory, text = seconds_of(["./sword", "check", folder, "1"])
+    walked, memory, text = seconds_of([PROGRAM, "check", folder, "1"])
     due = 2 * plain + 60e-9 * records
     print(f"{what}: {size / 1e6:.1f} MB, cat | cksum {plain:.3f} s, walk {walked:.3f} s "
           f"({1e9 * walked / records:.0f} ns a record, {due:.3f} s are allowed), {memory} MB at most; {text}")
@@ -92,7 +121,11 @@ def main():
             last = one_log(folder, elements)
             walk(f"one log, {elements} element(s) in turn", folder, last, MOST)
         folder = os.path.join(place, "claiming")
-        walk("one log of three records whose row tells 4,194,304", folder, claiming(folder), 3)
+        last = claiming(folder)
+        walk("one log of three records whose row tells 4,194,304", folder, last, 3)
+        claimed = least_space(folder)
+        tell(folder, 3)
+        print(f"least address space: {claimed} KB, and {least_space(folder)} KB where the row tells 3")
 
 
 main()

@@ -3,17 +3,17 @@ use Rattle.std.specs.Prelude.{◌≡◌, ℕ, ◌+◌, ◌*◌, ◌^◌, ◌<◌
 use Rattle.stride_summary.specs.declared.run.Run.{Run}
 use Rattle.interval_tree.specs.Order.{met}
 
--- from one state to another by taking each of the runs in turn
-abbrev pub Takes : {S : Type 0} → (S → Run → S → Type 0) → S → List Run → S → Type 0
+-- from one state to another by taking each of a list in turn
+abbrev pub Takes : {S X : Type 0} → (S → X → S → Type 0) → S → List X → S → Type 0
 Takes took before [] after = before ≡ after
-Takes {S} took before (run ∷ runs) after = (between : S) × took before run between × Takes took between runs after
+Takes {S} took before (x ∷ xs) after = (between : S) × took before x between × Takes took between xs after
 
--- the first of the runs were taken, and the next was refused
-pub record TakesUpTo {S : Type 0} (took refused : S → Run → S → Type 0) (before : S) (runs : List Run) (after : S) : Type 0 where
-  pub taken : List Run
-  pub next : Run
-  pub later : List Run
-  pub all : runs ≡ taken ++ next ∷ later
+-- the first of a list were taken, and the next was refused
+pub record TakesUpTo {S X : Type 0} (took refused : S → X → S → Type 0) (before : S) (xs : List X) (after : S) : Type 0 where
+  pub taken : List X
+  pub next : X
+  pub later : List X
+  pub all : xs ≡ taken ++ next ∷ later
   pub between : S
   pub takes : Takes took before taken between
   pub refuses : refused between next after

@@ -22,16 +22,21 @@ use Rattle.kernel_laws.proofs.Kept.{AreKept, are-kept}
 use Rattle.kernel_laws.proofs.Evenness.{free, even-code}
 use Rattle.kernel_laws.proofs.Nesting.{nested-main}
 use Rattle.kernel_laws.proofs.Numbers.{AreSmall, small-split, small-bounds, HaveSmallBounds, tokens_of-small}
+use Rattle.kernel_laws.proofs.Fitting.{code-fits}
 use Rattle.kernel_laws.proofs.Weights.{light-code}
 use Rattle.kernel_laws.proofs.Scoping.{scope_of, scoped-code}
 use Rattle.kernel_laws.proofs.Declaring.{filled-laid, declared-filled}
 
--- the bounds of a kernel's loops are small where its tokens are
-pub bounds-small : (k : KernelTree) → AreSmall (kernel_tokens k) → HaveSmallBounds k.body
-bounds-small k small =
+-- the tokens of a kernel's body are small where all are
+body-small : (k : KernelTree) → AreSmall (kernel_tokens k) → AreSmall (stmts_tokens k.body)
+body-small k small =
     let main = reserved k.line word.Main ∷ block k.opened (stmts_tokens k.body) k.closed in
     let behind = (small-split (declarations_tokens k.declarations) main small).1 in
-    small-bounds k.body (small-split (stmts_tokens k.body) (mark k.closed sign.CloseBrace ∷ []) behind.1.1).0
+    (small-split (stmts_tokens k.body) (mark k.closed sign.CloseBrace ∷ []) behind.1.1).0
+
+-- and so are the bounds of its loops
+pub bounds-small : (k : KernelTree) → AreSmall (kernel_tokens k) → HaveSmallBounds k.body
+bounds-small k small = small-bounds k.body (body-small k small)
 
 -- at most 63 mutexes are declared
 few-declared : (ds : List Declaration) (arrays : List Array) (mutexes : List (List ℕ)) → length mutexes ≤ 63 → declarations_faults arrays mutexes ds ≡ []
@@ -65,8 +70,11 @@ kernels_are_lawful text p k = subst IsLawful (sym k.resolved) lawful
     kept : AreKept q tree.body
     kept = are-kept q tree.body (nil_right (declarations_faults [] [] tree.declarations) _ k.lawful)
 
+    tokens : AreSmall (kernel_tokens tree)
+    tokens = tokens_of-small text (kernel_tokens tree) k.tokens
+
     small : HaveSmallBounds tree.body
-    small = bounds-small tree (tokens_of-small text (kernel_tokens tree) k.tokens)
+    small = bounds-small tree tokens
 
     main_scoped : IsScoped (scope_of (slots tree.body) q.names) (code q 0 tree.body)
     main_scoped = scoped-code tree.body (slots tree.body) q 0 tt (omega arith) kept
@@ -74,6 +82,7 @@ kernels_are_lawful text p k = subst IsLawful (sym k.resolved) lawful
     lawful : IsLawful (program tree)
     lawful = record {
       bounded = subst IsBounded k.resolved (kernels_are_bounded text p k);
+      numbers = code-fits q 0 tree.body (body-small tree tokens);
       few_mutexes = few-declared tree.declarations [] [] (omega arith) (nil_left (declarations_faults [] [] tree.declarations) _ k.lawful);
       filled = filled-laid (arrays_of tree.declarations) (declared-filled tree.declarations [] [] (nil_left (declarations_faults [] [] tree.declarations) _ k.lawful));
       alone = refl;

@@ -3,6 +3,7 @@ pub mod Working
 pub mod Evenness
 pub mod Nesting
 pub mod Numbers
+pub mod Fitting
 pub mod Weights
 pub mod Scoping
 pub mod Lawfulness

@@ -99,12 +99,12 @@ pub small-split : (xs ys : List Token) → AreSmall (xs ++ ys) → AreSmall xs �
 small-split [] ys all = (tt, all)
 small-split (x ∷ xs) ys all = let rest = small-split xs ys all.1 in ((all.0, rest.0), rest.1)
 
-block-small : (opened : ℕ) (body : List Token) (closed : ℕ) (after : List Token) → AreSmall (block opened body closed ++ after) → AreSmall body × AreSmall after
+pub block-small : (opened : ℕ) (body : List Token) (closed : ℕ) (after : List Token) → AreSmall (block opened body closed ++ after) → AreSmall body × AreSmall after
 block-small opened body closed after small =
     let whole = small-split (block opened body closed) after small in
     ((small-split body (mark closed sign.CloseBrace ∷ []) whole.0.1).0, whole.1)
 
-range-small : (name_line : ℕ) (name : List ℕ) (in_line : ℕ) (from : Tree) (dots : ℕ) (to : Tree) (after : List Token)
+pub range-small : (name_line : ℕ) (name : List ℕ) (in_line : ℕ) (from : Tree) (dots : ℕ) (to : Tree) (after : List Token)
     → AreSmall (range name_line name in_line from dots to ++ after) → AreSmall (tree_tokens from) × AreSmall (tree_tokens to) × AreSmall after
 range-small name_line name in_line from dots to after small =
     let whole = small-split (range name_line name in_line from dots to) after small in

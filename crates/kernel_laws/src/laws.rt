@@ -1,9 +1,8 @@
 //! The laws of kernels that texts have.
-ghost use Rattle.std.specs.Prelude.{◌≡◌, ◌↔◌, ◌⊎◌, ◌≤◌, ◌∷◌, ◌++◌, List, [], ℕ, ℤ, All, Some, length, Ok};
+ghost use Rattle.std.specs.Prelude.{◌≡◌, ◌↔◌, ◌⊎◌, ◌≤◌, ◌∷◌, ◌++◌, List, [], ℕ, ℤ, Some, length, Ok};
 ghost use Rattle.log_format.specs.declared.format.TheConstants.{FORMAT};
-ghost use Rattle.log_format.specs.Table.{IsTabled};
 ghost use Rattle.sw_base.specs.declared.path.Step.{Step};
-ghost use Rattle.race_model.specs.Trace.{TaskLog, Trace, Logs, barrier_count};
+ghost use Rattle.race_model.specs.Trace.{Trace, Logs, barrier_count};
 ghost use Rattle.race_model.specs.IndexFault.{max_rows};
 ghost use Rattle.race_model.specs.KeepsRules.{KeepsRules};
 ghost use Rattle.race_model.specs.Listing.{IsListing};
@@ -46,11 +45,10 @@ pub fn lanes_of_regions_meet_the_same_barriers()
         → barrier_count (trace program other reads_beside chunks_beside).records ≤ barrier_count (trace program one reads chunks).records }
 {}
 
-/// So the tasks of a whole run of the kernel of a text, in the order of a listing and at most 65,536, keep every rule of a folder,
-/// where their records are of the table.
+/// So the tasks of a whole run of the kernel of a text, in the order of a listing and at most 65,536, keep every rule of a folder.
 pub fn folders_of_kernels_keep_the_rules()
     ensures { (text : List ℕ) (program : Program) (tasks : Trace) → IsKernelOf text program → IsTracedFolder program tasks → IsListing (paths_of tasks)
-        → length tasks ≤ max_rows → All (λ (task : TaskLog). All (IsTabled FORMAT) task.records) tasks → KeepsRules FORMAT tasks }
+        → length tasks ≤ max_rows → KeepsRules FORMAT tasks }
 {}
 
 /// A text has one answer, a kernel or a line and the reason for which it is refused.

@@ -36,11 +36,10 @@ uncounted records r is =
     let none : number (is_barrier_kind r.kind) ≡ 0 = ap number is in
     omega (arith, none, one_more records r)
 
--- a record of a mutex, or the End, is no Barrier
+-- a record of a mutex is no Barrier
 unbarred : (k : Kind) → IsMark k → is_barrier_kind k ≡ false
 unbarred kind.Lock is = refl
 unbarred kind.Unlock is = refl
-unbarred kind.End is = refl
 unbarred _ is = absurd is
 
 same_barriers-plain : KeepsPlainSteps SameBarriers

@@ -28,47 +28,8 @@ use Rattle.kernel_model.specs.State.{Stop, event}
 use Rattle.kernel_model.specs.Value.{Site}
 use Rattle.kernel_model.specs.Trace.{run}
 use Rattle.kernel_model.specs.Effect.{Makes, Returned, Halted, adds}
+use Rattle.kernel_model.proofs.Tabled.{tabled_barrier, tabled_end}
 use Rattle.kernel_model.proofs.FirstKindShape.{IsTabledAccess, IsLaneLog, loop_barrier, loop_stops, loop_ends}
-
--- ---- records that are no accesses
-
-event_fits : (k : Kind) (line value : ℕ) → IsLine line → value < 2 ^ 64 → RecordFits (event k line 0 value)
-event_fits k line value is small = record { size = omega arith; site = omega arith; line = is.fits; addr = omega arith; value = small }
-
-tabled_barrier : (line : ℕ) → IsLine line → IsTabled FORMAT (event kind.Barrier line 0 0)
-tabled_barrier line is = record { fits = event_fits kind.Barrier line 0 is (omega arith); passes = passes }
-  where
-    passes : (w : Why) → PassesTable FORMAT (event kind.Barrier line 0 0) w
-    passes why.Kind = omega arith
-    passes why.Size = refl
-    passes why.LineZero = is.some
-    passes why.Address = tt
-    passes why.Span = tt
-    passes why.Reserved = (refl, refl, refl)
-
-pub tabled_end : (line : ℕ) → IsLine line → IsTabled FORMAT (event kind.End line 0 0)
-tabled_end line is = record { fits = event_fits kind.End line 0 is (omega arith); passes = passes }
-  where
-    passes : (w : Why) → PassesTable FORMAT (event kind.End line 0 0) w
-    passes why.Kind = omega arith
-    passes why.Size = refl
-    passes why.LineZero = is.some
-    passes why.Address = tt
-    passes why.Span = tt
-    passes why.Reserved = (refl, refl, refl)
-
-pub tabled_region : (line span : ℕ) → IsLine line → IsSpan span → IsTabled FORMAT (event kind.Region line 0 span)
-tabled_region line span is spans =
-    let limit = spans.limit in
-    record { fits = event_fits kind.Region line span is (omega arith); passes = passes }
-  where
-    passes : (w : Why) → PassesTable FORMAT (event kind.Region line 0 span) w
-    passes why.Kind = omega arith
-    passes why.Size = refl
-    passes why.LineZero = is.some
-    passes why.Address = tt
-    passes why.Span = (spans.some, spans.limit)
-    passes why.Reserved = (refl, refl)
 
 -- ---- a log that ends once
 

@@ -32,7 +32,8 @@ use Rattle.kernel_model.specs.Folder.{IsTraced}
 use Rattle.kernel_model.specs.State.{event}
 use Rattle.kernel_model.specs.FirstTeam.{first_team}
 use Rattle.kernel_model.proofs.FirstKindFolder.{first_lanes, first_lane, first_tasks}
-use Rattle.kernel_model.proofs.FirstKindLanes.{IsLane, lane_keeps, lane_barriers, is_lane, tabled_region, tabled_end}
+use Rattle.kernel_model.proofs.Tabled.{tabled_region, tabled_end}
+use Rattle.kernel_model.proofs.FirstKindLanes.{IsLane, lane_keeps, lane_barriers, is_lane}
 use Rattle.kernel_model.proofs.FirstKindShape.{loop_barrier, lane_log, trace_limit}
 
 -- the paths that the index lists

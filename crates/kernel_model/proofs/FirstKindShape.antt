@@ -29,38 +29,9 @@ use Rattle.kernel_model.specs.Trace.{stored, each, shared, loop_end, run, task, 
 use Rattle.kernel_model.specs.Folder.{IsTraced}
 use Rattle.kernel_model.specs.Effect.{Makes, Returned, Halted, adds, state_with}
 use Rattle.kernel_model.proofs.Growing.{task-grows}
+use Rattle.kernel_model.proofs.Tabled.{IsPlacedElement, placed_element, tabled_read, tabled_write}
 
 -- ---- accesses
-
--- an element whose accesses are of the table
-record IsPlacedElement (e : Element) : Type 0 where
-  width : IsWidth e.width
-  ends : e.addr + e.width ≤ 2 ^ 48
-
-placed_at : (words i : ℕ) (a : Array) → IsPlaced words a → i < a.count → a.base + i * a.width + a.width ≤ 2 ^ 48
-placed_at words i a placed lt =
-    let next : (i + 1) * a.width ≤ a.count * a.width = grind arith in
-    omega (arith, placed.ends)
-
-placed_of : (words : ℕ) (a : Array) (i : ℤ) → IsPlaced words a → IfSome (element_of (Some a) i) IsPlacedElement
-placed_of words a (negsuc i) placed = tt
-placed_of words a (pos i) placed = by_count (nat_lt i a.count) refl
-  where
-    by_count : (b : Bool) → nat_lt i a.count ≡ b →
-        IfSome (cond b (Some (record { addr = a.base + i * a.width; width = a.width })) None) IsPlacedElement
-    by_count false is = tt
-    by_count true is = record { width = placed.width; ends = placed_at words i a placed (grind (arith, nat_tests)) }
-
--- each element that a kernel can reach
-placed_element : (arrays : List Array) (words array : ℕ) (i : ℤ) → ArePlaced arrays words → IfSome (element_at arrays array i) IsPlacedElement
-placed_element arrays words array i placed = by_array (slice_get arrays array) refl
-  where
-    by_array : (o : Option Array) → slice_get arrays array ≡ o → IfSome (element_of o i) IsPlacedElement
-    by_array None is = tt
-    by_array (Some a) is = placed_of words a i (placed.each array a is)
-
-byte_width : (width : ℕ) → IsWidth width → width < 2 ^ 8
-byte_width width is = grind arith
 
 -- a record of the table that reads or writes memory
 pub record IsTabledAccess (r : Record) : Type 0 where
@@ -68,36 +39,11 @@ pub record IsTabledAccess (r : Record) : Type 0 where
   pub access : IsAccess r
 
 module _ (e : Element) (site line : ℕ) (v : ℤ) (placed : IsPlacedElement e) (place : IsPlace line site) where
-  read_passes : (w : Why) → PassesTable FORMAT (access kind.Read e site line (fitted v e.width)) w
-  read_passes why.Kind = omega arith
-  read_passes why.Size = placed.width
-  read_passes why.LineZero = place.line_is.some
-  read_passes why.Address = placed.ends
-  read_passes why.Span = tt
-  read_passes why.Reserved = tt
-
-  write_passes : (w : Why) → PassesTable FORMAT (access kind.Write e site line (fitted v e.width)) w
-  write_passes why.Kind = omega arith
-  write_passes why.Size = placed.width
-  write_passes why.LineZero = place.line_is.some
-  write_passes why.Address = placed.ends
-  write_passes why.Span = tt
-  write_passes why.Reserved = tt
-
-  access_fits : (k : Kind) → RecordFits (access k e site line (fitted v e.width))
-  access_fits k = record {
-    size = byte_width e.width placed.width;
-    site = place.site_fits;
-    line = place.line_is.fits;
-    addr = let ends = placed.ends in omega arith;
-    value = (Fits-of_z (fitted_fits v e.width placed.width)).fits;
-  }
-
   read_tabled : IsTabledAccess (access kind.Read e site line (fitted v e.width))
-  read_tabled = record { tabled = record { fits = access_fits kind.Read; passes = read_passes }; access = inl refl }
+  read_tabled = record { tabled = tabled_read e site line v placed place; access = inl refl }
 
   write_tabled : IsTabledAccess (access kind.Write e site line (fitted v e.width))
-  write_tabled = record { tabled = record { fits = access_fits kind.Write; passes = write_passes }; access = inr refl }
+  write_tabled = record { tabled = tabled_write e site line v placed place; access = inr refl }
 
 -- ---- parts that add accesses alone
 

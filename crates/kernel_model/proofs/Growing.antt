@@ -12,7 +12,7 @@ use Rattle.kernel_model.specs.State.{State, state_of, event}
 use Rattle.kernel_model.specs.Value.{Site, value}
 use Rattle.kernel_model.specs.Trace.{run, task, Start, state_at}
 use Rattle.kernel_model.specs.Growth.{Grows}
-use Rattle.kernel_model.proofs.SingleSteps.{IsMark, KeepsPlainSteps, KeepsBarriers, KeepsSteps}
+use Rattle.kernel_model.proofs.SingleSteps.{IsMark, KeepsPlainSteps, KeepsBarriers, KeepsEnds, KeepsSteps}
 use Rattle.kernel_model.proofs.Steps.{kept-value, kept-run, kept-task}
 
 region_count-append : (xs ys : List Record) → region_count (xs ++ ys) ≡ region_count xs + region_count ys
@@ -57,11 +57,10 @@ grows-record r room s t is plain records left forks = record {
   fork_count = plain_count (is_region_kind r.kind) plain;
 }
 
--- a record of a mutex, or the End, is no Region
+-- a record of a mutex is no Region
 plain_mark : (k : Kind) → IsMark k → is_region_kind k ≡ false
 plain_mark kind.Lock is = refl
 plain_mark kind.Unlock is = refl
-plain_mark kind.End is = refl
 plain_mark _ is = absurd is
 
 pub grows-plain : KeepsPlainSteps Grows
@@ -76,6 +75,9 @@ grows-plain = record {
 
 grows-barriers : KeepsBarriers Grows
 grows-barriers = record { bars = λ line room s is. grows-record (event kind.Barrier line 0 0) room s _ is refl refl refl refl }
+
+grows-ends : KeepsEnds Grows
+grows-ends = record { ends = λ line room s is. grows-record (event kind.End line 0 0) room s _ is refl refl refl refl }
 
 pub grows-steps : KeepsSteps Grows
 grows-steps = record {
@@ -99,4 +101,4 @@ run-grows at code s = kept-run Grows grows-steps at code s (λ is. grows-barrier
 
 pub task-grows : (program : Program) (start : Start) (reads : List ℤ) (chunks : List ℕ) →
     Grows (state_at start reads chunks) (state_of (task program start reads chunks))
-task-grows = kept-task Grows grows-steps grows-barriers
+task-grows = kept-task Grows grows-steps grows-barriers grows-ends

@@ -1,14 +1,13 @@
 -- The tasks of a whole run of a lawful kernel keep every rule of a folder.
-use Rattle.std.proofs.Common.{◌≡◌, refl, ap, sym, ◌∙◌, subst, ℕ, zero, suc, ◌+◌, ◌<◌, ◌≤◌, arith, Bool, true, false, cond, nat_lt, List, [], ◌∷◌, ◌++◌, append_assoc, length, get_or, Option, Some, None, slice_get, IsSome, All, true≢false, length-append}
+use Rattle.std.proofs.Common.{◌≡◌, refl, ap, sym, ◌∙◌, subst, ℕ, zero, suc, ◌+◌, ◌<◌, ◌≤◌, arith, Bool, true, false, cond, nat_lt, List, [], ◌∷◌, ◌++◌, append_assoc, length, get_or, Option, Some, None, slice_get, IsSome, All, pos, true≢false, length-append}
 use Rattle.std.specs.Prelude.{◌==◌, ◌&&◌, map, Contains, option_map}
 use Rattle.std.proofs.lemmas.Bool.Decides.{nat_tests}
 use Rattle.std.proofs.lemmas.List.{append-nil}
-use Rattle.std.proofs.lemmas.List.Elements.{All-nil, All-cons, All-push}
+use Rattle.std.proofs.lemmas.List.Elements.{All-nil, All-cons, All-push, All-replicate}
 use Rattle.std.proofs.lemmas.Option.{same_Some, none-some, slice_get-map, slice_get_within}
 use Rattle.log_format.specs.declared.format.TheConstants.{FORMAT}
 use Rattle.sw_base.specs.declared.path.Step.{Step}
 use Rattle.log_format.specs.declared.record.Record.{Record}
-use Rattle.log_format.specs.Table.{IsTabled}
 use Rattle.race_model.specs.FirstBad.{row_of, rows_of}
 use Rattle.race_model.specs.IndexFault.{IsStep, IsRow, max_rows}
 use Rattle.race_model.specs.KeepsRules.{KnowsTeam, TaskKeepsRules, KeepsRules}
@@ -29,6 +28,7 @@ use Rattle.kernel_model.specs.Lawful.{IsLawful, code_holds_work}
 use Rattle.kernel_model.specs.Parts.{parts_of, bar_count}
 use Rattle.kernel_model.proofs.FirstKindShape.{trace_limit}
 use Rattle.kernel_model.proofs.Growing.{task-grows}
+use Rattle.kernel_model.proofs.LawfulValues.{IsValue, IsValueFork, IsValueStart, zero_value, lane_values, traced_values}
 use Rattle.kernel_model.proofs.LawfulRecords.{IsLawfulTeam, IsLawfulFork, spans_forked}
 use Rattle.kernel_model.proofs.LawfulLogs.{IsLawfulLog, lawful_log, log_keeps}
 use Rattle.kernel_model.proofs.SameBarriers.{traced_barriers, idle_barriers}
@@ -54,24 +54,24 @@ module _ (program : Program) (logs : Logs) where
   at_append xs ys = below_append [] (Some (root_start program)) xs ys
 
   -- a lane starts where its parent forks it
-  at_lane : (path : List Step) (start : Start) (step : Step) → start_at program logs path ≡ Some start →
+  pub at_lane : (path : List Step) (start : Start) (step : Step) → start_at program logs path ≡ Some start →
       start_at program logs (path ++ step ∷ []) ≡ lane_start (slice_get (own_trace program start (logs path)).forks step.region) step
   at_lane path start step is =
       at_append path (step ∷ [])
       ∙ ap (λ (o : Option Start). start_below program logs path o (step ∷ [])) is
       ∙ nothing_below (path ++ step ∷ []) (lane_start (slice_get (own_trace program start (logs path)).forks step.region) step)
 
-  at_root : start_at program logs [] ≡ Some (root_start program)
+  pub at_root : start_at program logs [] ≡ Some (root_start program)
   unfolding start_at
   at_root = refl
 
 -- what a lane's start tells
-record IsLaneStart (o : Option Fork) (step : Step) (start : Start) : Type 0 where
-  fork : Fork
-  forked : o ≡ Some fork
-  span : step.span ≡ fork.team.span
-  lane : step.lane < step.span
-  team : start.team ≡ fork.team
+pub record IsLaneStart (o : Option Fork) (step : Step) (start : Start) : Type 0 where
+  pub fork : Fork
+  pub forked : o ≡ Some fork
+  pub span : step.span ≡ fork.team.span
+  pub lane : step.lane < step.span
+  pub begins : start ≡ record { team = fork.team; lane = step.lane; slots = fork.slots }
 
 both : (a b : Bool) → (a && b) ≡ true → (a ≡ true) × (b ≡ true)
 both true b is = (refl, is)
@@ -86,7 +86,7 @@ fits_lane a b lane is =
     let lt : lane < a = grind (arith, nat_tests) in
     (same, lt)
 
-lane_started : (o : Option Fork) (step : Step) (start : Start) → lane_start o step ≡ Some start → IsLaneStart o step start
+pub lane_started : (o : Option Fork) (step : Step) (start : Start) → lane_start o step ≡ Some start → IsLaneStart o step start
 lane_started None step start is = absurd (none-some start is)
 lane_started (Some f) step start is = by_test ((step.span == f.team.span) && nat_lt step.lane step.span) refl is
   where
@@ -100,8 +100,42 @@ lane_started (Some f) step start is = by_test ((step.span == f.team.span) && nat
           forked = refl;
           span = fits.0;
           lane = fits.1;
-          team = ap (λ (s : Start). s.team) (sym (same_Some (record { team = f.team; lane = step.lane; slots = f.slots }) start same));
+          begins = sym (same_Some (record { team = f.team; lane = step.lane; slots = f.slots }) start same);
         }
+
+-- what holds of the root, and goes over from each task to the lanes that it forks, holds of every task
+module _ (program : Program) (logs : Logs) (P : List Step → Start → Type 0) (root : P [] (root_start program))
+    (lane : (above : List Step) (start : Start) (step : Step) (next : Start) → P above start → start_at program logs above ≡ Some start →
+    lane_start (slice_get (own_trace program start (logs above)).forks step.region) step ≡ Some next → P (above ++ step ∷ []) next) where
+  walk : (above : List Step) (start : Start) (steps : List Step) (last : Start) → start_at program logs above ≡ Some start → P above start →
+      start_at program logs (above ++ steps) ≡ Some last → P (above ++ steps) last
+  walk above start [] last starts at ends =
+      let all = append-nil above in
+      let same : start ≡ last = same_Some start last (sym starts ∙ ap (λ (p : List Step). start_at program logs p) (sym all) ∙ ends) in
+      subst (λ (p : List Step). P p last) (sym all) (subst (P above) same at)
+  walk above start (step ∷ steps) last starts at ends =
+      by_lane (start_at program logs (above ++ step ∷ [])) refl (λ next is.
+      walk (above ++ step ∷ []) next steps last is
+      (lane above start step next at starts (sym (at_lane program logs above start step starts) ∙ is))
+      reaches)
+    where
+      parts : (above ++ step ∷ []) ++ steps ≡ above ++ step ∷ steps
+      parts = append_assoc above (step ∷ []) steps
+
+      reaches : start_at program logs ((above ++ step ∷ []) ++ steps) ≡ Some last
+      reaches = ap (λ (p : List Step). start_at program logs p) parts ∙ ends
+
+      by_lane : (o : Option Start) → start_at program logs (above ++ step ∷ []) ≡ o →
+          ((next : Start) → start_at program logs (above ++ step ∷ []) ≡ Some next → P ((above ++ step ∷ []) ++ steps) last) →
+          P (above ++ step ∷ steps) last
+      by_lane None is goes_on =
+          let none : start_at program logs ((above ++ step ∷ []) ++ steps) ≡ None =
+          at_append program logs (above ++ step ∷ []) steps ∙ ap (λ (o : Option Start). start_below program logs (above ++ step ∷ []) o steps) is in
+          absurd (none-some last (sym none ∙ reaches))
+      by_lane (Some next) is goes_on = subst (λ (p : List Step). P p last) parts (goes_on next is)
+
+  pub descend : (path : List Step) (start : Start) → start_at program logs path ≡ Some start → P path start
+  descend path start starts = walk [] (root_start program) path start (at_root program logs) root starts
 
 starts_lane : (f : Fork) (step : Step) → step.span ≡ f.team.span → step.lane < step.span →
     lane_start (Some f) step ≡ Some (record { team = f.team; lane = step.lane; slots = f.slots })
@@ -131,7 +165,7 @@ find_task : (tasks : Trace) (path : List Step) → Contains (paths_of tasks) pat
 find_task tasks path (k, lt, is) = found_at tasks path k lt is
 
 -- what holds of each task holds of all, and of their rows
-each_task : (P : TaskLog → Type 0) (tasks : Trace) → ((k : ℕ) (task : TaskLog) → slice_get tasks k ≡ Some task → P task) → All P tasks
+pub each_task : (P : TaskLog → Type 0) (tasks : Trace) → ((k : ℕ) (task : TaskLog) → slice_get tasks k ≡ Some task → P task) → All P tasks
 each_task P [] all = All-nil P
 each_task P (t ∷ tasks) all = All-cons P t tasks (all 0 t refl) (each_task P tasks (λ k task found. all (suc k) task found))
 
@@ -179,11 +213,20 @@ module _ (program : Program) (lawful : IsLawful program) (tasks : Trace) (folder
   -- a task that lies as deep as its path is long
   record IsLawfulAt (path : List Step) (start : Start) : Type 0 where
     inside : IsLawfulTeam mutexes (length path) start.team
+    begins : IsValueStart start
     steps : All IsStep path
 
   root_lawful : IsLawfulAt [] (root_start program)
   root_lawful = record {
     inside = record { lanes = 1; few = omega arith; shallow = omega arith; even = lawful.even; nested = lawful.nested; bounded = lawful.bounded.body };
+    begins = record {
+      slots = All-replicate IsValue program.slots (pos 0) zero_value;
+      numbers = lawful.numbers;
+      bounded = lawful.bounded.body;
+      ends = lawful.bounded.end_line;
+      within = let alone = lawful.alone in omega arith;
+      few = let alone = lawful.alone in omega arith;
+    };
     steps = All-nil IsStep;
   }
 
@@ -194,6 +237,7 @@ module _ (program : Program) (lawful : IsLawful program) (tasks : Trace) (folder
       let forks = (own_trace program start (logs path)).forks in
       let lane = lane_started (slice_get forks step.region) step next is in
       let log = lawful_log program start (logs path) mutexes (length path) at.inside traced in
+      let values = traced_values program lawful.bounded start at.begins (logs path) traced in
       let fork : IsLawfulFork mutexes (length path + 1) lane.fork = all_at (IsLawfulFork mutexes (length path + 1)) forks step.region lane.fork log.teams lane.forked in
       let deep : length (path ++ step ∷ []) ≡ length path + 1 = length-append path (step ∷ []) in
       let region = slice_get_within forks step.region lane.fork lane.forked in
@@ -204,40 +248,18 @@ module _ (program : Program) (lawful : IsLawful program) (tasks : Trace) (folder
       record {
         inside =
             subst (λ (n : ℕ). IsLawfulTeam mutexes n next.team) (sym deep)
-            (subst (λ (t : TeamTree). IsLawfulTeam mutexes (length path + 1) t) (sym lane.team) fork.inside);
+            (subst (λ (t : TeamTree). IsLawfulTeam mutexes (length path + 1) t) (sym (ap (λ (s : Start). s.team) lane.begins)) fork.inside);
+        begins =
+            subst IsValueStart (sym lane.begins)
+            (lane_values lane.fork step.lane (all_at IsValueFork forks step.region lane.fork values.begin lane.forked) (omega (arith, span, lane.lane)));
         steps = All-push IsStep path step at.steps (record { region = omega arith; span = record { some = omega arith; limit = omega arith }; lane = lane.lane });
       }
 
   -- so every task that starts is lawful
-  walk : (above : List Step) (start : Start) (steps : List Step) (last : Start) → start_at program logs above ≡ Some start → IsLawfulAt above start →
-      start_at program logs (above ++ steps) ≡ Some last → IsLawfulAt (above ++ steps) last
-  walk above start [] last starts at ends =
-      let all = append-nil above in
-      let same : start ≡ last = same_Some start last (sym starts ∙ ap (λ (p : List Step). start_at program logs p) (sym all) ∙ ends) in
-      subst (λ (p : List Step). IsLawfulAt p last) (sym all) (subst (IsLawfulAt above) same at)
-  walk above start (step ∷ steps) last starts at ends =
-      by_lane (start_at program logs (above ++ step ∷ [])) refl (λ next is.
-      walk (above ++ step ∷ []) next steps last is
-      (lane_lawful above start step next at (traced_at above start starts) (sym (at_lane program logs above start step starts) ∙ is))
-      reaches)
-    where
-      parts : (above ++ step ∷ []) ++ steps ≡ above ++ step ∷ steps
-      parts = append_assoc above (step ∷ []) steps
-
-      reaches : start_at program logs ((above ++ step ∷ []) ++ steps) ≡ Some last
-      reaches = ap (λ (p : List Step). start_at program logs p) parts ∙ ends
-
-      by_lane : (o : Option Start) → start_at program logs (above ++ step ∷ []) ≡ o →
-          ((next : Start) → start_at program logs (above ++ step ∷ []) ≡ Some next → IsLawfulAt ((above ++ step ∷ []) ++ steps) last) →
-          IsLawfulAt (above ++ step ∷ steps) last
-      by_lane None is goes_on =
-          let none : start_at program logs ((above ++ step ∷ []) ++ steps) ≡ None =
-          at_append program logs (above ++ step ∷ []) steps ∙ ap (λ (o : Option Start). start_below program logs (above ++ step ∷ []) o steps) is in
-          absurd (none-some last (sym none ∙ reaches))
-      by_lane (Some next) is goes_on = subst (λ (p : List Step). IsLawfulAt p last) parts (goes_on next is)
-
   lawful_at : (path : List Step) (start : Start) → start_at program logs path ≡ Some start → IsLawfulAt path start
-  lawful_at path start starts = walk [] (root_start program) path start (at_root program logs) root_lawful starts
+  lawful_at path start starts =
+      descend program logs IsLawfulAt root_lawful
+      (λ above up step next at begins is. lane_lawful above up step next at (traced_at above up begins) is) path start starts
 
   -- the task above one that starts, too
   parent : (above : List Step) (step : Step) (start : Start) → start_at program logs (above ++ step ∷ []) ≡ Some start →
@@ -330,11 +352,11 @@ module _ (program : Program) (lawful : IsLawful program) (tasks : Trace) (folder
         let zero_start : Start = record { team = told.fork.team; lane = 0; slots = told.fork.slots } in
         let path = lane_of above step.region 0 step.span in
         let count = traced_barriers program zero_start (logs path) (lawful_at path zero_start begins).inside.even (traced_at path zero_start begins) in
-        ap (λ (n : ℕ). Some n) (ap (λ (t : TeamTree). bar_count (parts_of t.body)) told.team ∙ sym count)
+        ap (λ (n : ℕ). Some n) (ap (λ (s : Start). bar_count (parts_of s.team.body)) told.begins ∙ sym count)
 
-    task_keeps : All (IsTabled FORMAT) task.records → TaskKeepsRules FORMAT tasks task
-    task_keeps tabled = record {
-      tabled = tabled;
+    task_keeps : TaskKeepsRules FORMAT tasks task
+    task_keeps = record {
+      tabled = (traced_values program lawful.bounded it.start at.begins task.records it.traced).tabled;
       spans = spans_forked forks;
       has_spans =
           lists_spans (rows_of tasks) task.path (spans_forked forks)
@@ -356,14 +378,12 @@ module _ (program : Program) (lawful : IsLawful program) (tasks : Trace) (folder
         }
 
   -- All tasks keep the rules.
-  pub folder_keeps : length tasks ≤ max_rows → All (λ (task : TaskLog). All (IsTabled FORMAT) task.records) tasks → KeepsRules FORMAT tasks
-  folder_keeps few tabled = record {
+  pub folder_keeps : length tasks ≤ max_rows → KeepsRules FORMAT tasks
+  folder_keeps few = record {
     rows = record {
       lists = subst IsListing (sym (row_paths tasks)) listing;
       each = each_row tasks is_row;
       limit = omega (arith, row_count tasks);
     };
-    tasks =
-        each_task (TaskKeepsRules FORMAT tasks) tasks (λ k task found.
-        task_keeps k task found (all_at (λ (t : TaskLog). All (IsTabled FORMAT) t.records) tasks k task tabled found));
+    tasks = each_task (TaskKeepsRules FORMAT tasks) tasks task_keeps;
   }

@@ -65,7 +65,7 @@ span_told _ value = None
 abbrev pub spans_of : List Record → List ℕ
 spans_of records = filter_map (λ (r : Record). span_told r.kind r.value) records
 
-spans_append : (xs ys : List Record) → spans_of (xs ++ ys) ≡ spans_of xs ++ spans_of ys
+pub spans_append : (xs ys : List Record) → spans_of (xs ++ ys) ≡ spans_of xs ++ spans_of ys
 spans_append xs ys = filter_map-append (λ (r : Record). span_told r.kind r.value) xs ys
 
 abbrev pub spans_forked : List Fork → List ℕ

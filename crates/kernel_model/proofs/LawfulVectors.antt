@@ -1,10 +1,14 @@
 -- Bodies that keep the rules, and for each rule one that breaks it alone.
-use Rattle.std.proofs.Common.{◌≡◌, refl, ℕ, ◌<◌, arith, true, false, [], ◌∷◌, pos, true≢false, sym}
+use Rattle.std.proofs.Common.{◌≡◌, refl, ℕ, ◌<◌, arith, true, false, List, [], ◌∷◌, pos, true≢false, sym}
 use Rattle.std.proofs.lemmas.List.Elements.{All-nil, All-cons, All-head}
 use Rattle.kernel_syntax.specs.declared.syntax.Op.TheVariants.{Add, Div}
 use Rattle.kernel_syntax.specs.declared.syntax.Schedule.TheVariants.{Even}
 use Rattle.kernel_syntax.specs.Tree.{Term, Number, Slot, Tid, Span, Load, Neg, Binary, Code, Done, Set, Store, If, Loop, Parallel, For, Barrier, Critical}
-use Rattle.kernel_model.specs.Lawful.{Scope, with_variable, IsKnown, IsEvenTerm, IsScoped, IsEven, IsNested, code_weight, max_weight, IsLight}
+use Rattle.log_format.specs.declared.record.Kind.TheVariants as kind
+use Rattle.kernel_model.specs.State.{event}
+use Rattle.kernel_model.specs.Chunking as told
+use Rattle.kernel_model.specs.Chunking.{TellCounts, no_record, draw, closing}
+use Rattle.kernel_model.specs.Lawful.{TermFits, CodeFits, Scope, with_variable, IsKnown, IsEvenTerm, IsScoped, IsEven, IsNested, code_weight, max_weight, IsLight}
 
 -- ---- where lanes meet
 
@@ -105,6 +109,15 @@ light_region = refl
 heavy_turns : code_weight (rounds 3 (rounds 2 (Barrier 1 Done))) ≡ 15
 heavy_turns = refl
 
+-- ---- numbers
+
+-- 2 ^ 63 - 1 is the largest number of 64 bits, also as an index, in a bound and in an inner region
+largest : TermFits (Load 0 (Neg (Number (pos 9223372036854775807))) 1 2)
+largest = record { sfits = omega arith }
+
+too_large : CodeFits (Parallel 2 1 9 (For 0 one (Number (pos 9223372036854775808)) Even true 3 4 Done Done) Done) → ⊥
+too_large fits = let bound = fits.0.1.sfits in omega arith
+
 -- ---- names, with one array and three slots
 
 abbrev scope : Scope
@@ -148,3 +161,29 @@ divided_bound even = even.1
 
 loaded_bound : IsEvenTerm scope (Load 0 one 1 2) → ⊥
 loaded_bound even = even
+
+-- ---- chunks that lanes tell, of a loop of three
+
+-- two lanes: one draws the chunks 0 and 2, the other the chunk 1, and both find no more
+first_lane : TellCounts (3 ∷ 5 ∷ []) (event kind.Chunk 3 0 3 ∷ event kind.Chunk 3 2 3 ∷ event kind.Chunk 3 3 3 ∷ event kind.End 9 0 0 ∷ []) (5 ∷ [])
+first_lane =
+    draw 3 (5 ∷ []) (5 ∷ []) _ _ refl refl (omega arith)
+    (draw 3 (5 ∷ []) (5 ∷ []) _ _ refl refl (omega arith)
+    (closing 3 (5 ∷ []) (5 ∷ []) _ _ refl refl refl
+    (told.other (5 ∷ []) (5 ∷ []) _ _ refl (no_record (5 ∷ [])))))
+
+second_lane : TellCounts (3 ∷ 5 ∷ []) (event kind.Chunk 3 1 3 ∷ event kind.Chunk 3 3 3 ∷ []) (5 ∷ [])
+second_lane = draw 3 (5 ∷ []) (5 ∷ []) _ _ refl refl (omega arith) (closing 3 (5 ∷ []) (5 ∷ []) _ _ refl refl refl (no_record (5 ∷ [])))
+
+-- another count isn't told, nor does a lane go on to the next loop before it finds no more
+another_count : (left : List ℕ) → TellCounts (3 ∷ []) (event kind.Chunk 3 0 4 ∷ []) left → ⊥
+another_count left (told.other counts rest r records plain more) = cc
+another_count left (draw n counts rest r records is value below more) = omega (arith, value)
+another_count left (closing n counts rest r records is value closes more) = omega (arith, value)
+
+too_early : (left : List ℕ) → TellCounts (3 ∷ 5 ∷ []) (event kind.Chunk 3 0 3 ∷ event kind.Chunk 5 0 5 ∷ []) left → ⊥
+too_early left (told.other counts rest r records plain more) = cc
+too_early left (draw n counts rest r records is value below (told.other counts' rest' r' records' plain more)) = cc
+too_early left (draw n counts rest r records is value below (draw n' counts' rest' r' records' is' value' below' more)) = omega (arith, value')
+too_early left (draw n counts rest r records is value below (closing n' counts' rest' r' records' is' value' closes more)) = omega (arith, value')
+too_early left (closing n counts rest r records is value closes more) = omega (arith, closes)

@@ -18,7 +18,11 @@ pub mod StmtKinds
 pub mod Dividing
 pub mod BarrierCounts
 pub mod SameBarriers
+pub mod SameChunks
+pub mod Tabled
+pub mod LawfulValues
 pub mod LawfulRecords
 pub mod LawfulLogs
 pub mod LawfulFolder
 pub mod LawfulVectors
+pub mod EndedTraces

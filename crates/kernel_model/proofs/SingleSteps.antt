@@ -24,18 +24,21 @@ pub record KeepsPlainSteps (R : State → State → Type 0) : Type 0 where
   pub draws : (line n room q : ℕ) (chunks : List ℕ) (s : State) → s.room ≡ suc room → s.chunks ≡ q ∷ chunks →
       R s (record (with_record (event kind.Chunk line (min q n) n) room s) { chunks = chunks })
 
--- the kinds of records of mutexes, and of the End
+-- the kinds of records of mutexes
 abbrev pub IsMark : Kind → Type 0
 IsMark kind.Lock = Unit {0}
 IsMark kind.Unlock = Unit {0}
-IsMark kind.End = Unit {0}
 IsMark _ = ⊥
 
 -- a barrier is in the relation
 pub record KeepsBarriers (R : State → State → Type 0) : Type 0 where
   pub bars : (line room : ℕ) (s : State) → s.room ≡ suc room → R s (with_record (event kind.Barrier line 0 0) room s)
 
--- the same with the records of mutexes, the End and forks
+-- an End is in the relation
+pub record KeepsEnds (R : State → State → Type 0) : Type 0 where
+  pub ends : (line room : ℕ) (s : State) → s.room ≡ suc room → R s (with_record (event kind.End line 0 0) room s)
+
+-- the same with the records of mutexes and forks
 pub record KeepsSteps (R : State → State → Type 0) : Type 0 where
   pub plain : KeepsPlainSteps R
   pub marks : (r : Record) (room : ℕ) (s : State) → s.room ≡ suc room → IsMark r.kind → R s (with_record r room s)

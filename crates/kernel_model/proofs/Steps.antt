@@ -12,7 +12,7 @@ use Rattle.kernel_model.specs.State.{State, Outcome, Gives, Stops, Wants, and_th
 use Rattle.kernel_model.specs.Value.{Site, Element, element_at, access, read, read_in, loaded, operated, value}
 use Rattle.kernel_model.specs.Iterations.{total_of, even_iterations, static_iterations, chunk_count, chunk_iterations}
 use Rattle.kernel_model.specs.Trace.{stored, branch, turns, each, drawn, draw, draw_in, draws, shared, loop_end, forked, run, task, Start, site_of, state_at}
-use Rattle.kernel_model.proofs.SingleSteps.{with_record, KeepsPlainSteps, KeepsBarriers, KeepsSteps}
+use Rattle.kernel_model.proofs.SingleSteps.{with_record, KeepsPlainSteps, KeepsBarriers, KeepsEnds, KeepsSteps}
 use Rattle.kernel_syntax.specs.FirstKind.{AreStores, IsOneLoop}
 use Rattle.kernel_model.specs.Lawful.{code_holds_work}
 
@@ -242,10 +242,10 @@ module _ (R : State → State → Type 0) (all : KeepsSteps R) where
       (kept-run at body (assign slot (a +ℤ pos i) w) bars)))
       (λ w. keeps.same w)))
 
-  pub kept-task : KeepsBarriers R → (program : Program) (start : Start) (reads : List ℤ) (chunks : List ℕ) →
+  pub kept-task : KeepsBarriers R → KeepsEnds R → (program : Program) (start : Start) (reads : List ℤ) (chunks : List ℕ) →
       Kept R keeps (state_at start reads chunks) (task program start reads chunks)
   unfolding task
-  kept-task also program start reads chunks =
+  kept-task also ends program start reads chunks =
       kept-after R keeps (state_at start reads chunks) (run (site_of program start) start.team.body (state_at start reads chunks)) _
       (kept-run (site_of program start) start.team.body (state_at start reads chunks) (λ is. also))
-      (λ t. kept-put R keeps (event kind.End start.team.end 0 0) t (λ room is. all.marks _ room t is tt))
+      (λ t. kept-put R keeps (event kind.End start.team.end 0 0) t (λ room is. ends.ends start.team.end room t is))

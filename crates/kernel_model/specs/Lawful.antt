@@ -1,5 +1,6 @@
 -- What the rules of the language say of a kernel: its names, where work is shared, how it nests, and how much it weighs.
-use Rattle.std.specs.Prelude.{◌≡◌, ℕ, ◌+◌, ◌*◌, ◌<◌, ◌≤◌, ◌==◌, Bool, true, false, ◌||◌, ◌&&◌, IsTrue, List, [], ◌∷◌, ◌++◌, length, find, All, ℤ, Option, Some, None, is_some, IsSome}
+use Rattle.std.specs.Prelude.{◌≡◌, ℕ, ◌+◌, ◌*◌, ◌<◌, ◌≤◌, ◌==◌, Bool, true, false, ◌||◌, ◌&&◌, IsTrue, List, [], ◌∷◌, ◌++◌, length, find, All, ℤ, FitsSigned, Option, Some, None, is_some, IsSome}
+use Rattle.std.specs.Int.{w64}
 use Rattle.kernel_syntax.specs.declared.syntax.Array.{Array}
 use Rattle.kernel_syntax.specs.declared.syntax.Op.{Op}
 use Rattle.kernel_syntax.specs.declared.syntax.Op.TheVariants.{Add, Sub, Mul}
@@ -8,6 +9,28 @@ use Rattle.kernel_syntax.specs.Bounds.{IsBounded}
 use Rattle.kernel_syntax.specs.Program.{Program}
 use Rattle.kernel_syntax.specs.Tree.{Term, Number, Slot, Tid, Span, Load, Neg, Binary, Code, Done, Set, Store, If, Loop, Parallel, For, Barrier, Critical}
 use Rattle.kernel_model.specs.Iterations.{total_of}
+
+-- ---- numbers
+
+-- each number in an expression is a value of 64 bits
+abbrev pub TermFits : Term → Type 0
+TermFits (Number value) = FitsSigned w64 value
+TermFits (Load array index line site) = TermFits index
+TermFits (Neg operand) = TermFits operand
+TermFits (Binary op line left right) = TermFits left × TermFits right
+TermFits _ = Unit {0}
+
+-- and each in the statements
+abbrev pub CodeFits : Code → Type 0
+CodeFits Done = Unit {0}
+CodeFits (Set slot value rest) = TermFits value × CodeFits rest
+CodeFits (Store array index value line site rest) = TermFits index × TermFits value × CodeFits rest
+CodeFits (If test if_true if_false rest) = TermFits test × CodeFits if_true × CodeFits if_false × CodeFits rest
+CodeFits (Loop slot from to body rest) = TermFits from × TermFits to × CodeFits body × CodeFits rest
+CodeFits (Parallel span line end body rest) = CodeFits body × CodeFits rest
+CodeFits (For slot from to schedule nowait line end body rest) = TermFits from × TermFits to × CodeFits body × CodeFits rest
+CodeFits (Barrier line rest) = CodeFits rest
+CodeFits (Critical mutex line end body rest) = CodeFits body × CodeFits rest
 
 -- ---- names
 
@@ -205,6 +228,7 @@ main_scope program = record { arrays = length program.arrays; slots = program.sl
 -- critical sections nest as they may; and no region weighs too much.
 pub record IsLawful (program : Program) : Type 0 where
   pub bounded : IsBounded program
+  pub numbers : CodeFits program.main.body
   pub filled : All (λ (a : Array). 1 ≤ a.count) program.arrays
   pub few_mutexes : length program.mutexes ≤ 63
   pub alone : program.main.span ≡ 1

@@ -1,3 +1,4 @@
+pub mod Chunking
 pub mod Effect
 pub mod FirstTeam
 pub mod Folder

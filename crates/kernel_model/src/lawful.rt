@@ -1,15 +1,16 @@
 //! Laws of lawful kernels.
-ghost use Rattle.std.specs.Prelude.{◌≡◌, ◌≤◌, ℤ, List, ℕ, All, length};
+ghost use Rattle.std.specs.Prelude.{◌≡◌, ◌≤◌, ℤ, List, ℕ, length};
 ghost use Rattle.log_format.specs.declared.format.TheConstants.{FORMAT};
 ghost use Rattle.log_format.specs.declared.record.Record.{Record};
-ghost use Rattle.race_model.specs.Trace.{TaskLog, Trace, barrier_count};
+ghost use Rattle.race_model.specs.Trace.{Trace, barrier_count};
 ghost use Rattle.race_model.specs.IndexFault.{max_rows};
 ghost use Rattle.race_model.specs.KeepsRules.{KeepsRules};
 ghost use Rattle.race_model.specs.Listing.{IsListing};
-ghost use Rattle.log_format.specs.Table.{IsTabled};
 ghost use Rattle.kernel_syntax.specs.Program.{Program};
+ghost use Rattle.kernel_syntax.specs.Tree.{TeamTree};
+ghost use Rattle.kernel_model.specs.Chunking.{HasCounts};
 ghost use Rattle.kernel_model.specs.Folder.{IsTraced, IsTracedFolder, paths_of};
-ghost use Rattle.kernel_model.specs.Lawful.{IsEven, IsLawful};
+ghost use Rattle.kernel_model.specs.Lawful.{Scope, IsEven, IsLawful, IsScoped};
 ghost use Rattle.kernel_model.specs.Parts.{parts_of, bar_count};
 ghost use Rattle.kernel_model.specs.Trace.{Start, Ended, trace};
 
@@ -25,9 +26,13 @@ pub fn lanes_meet_the_same_barriers()
         → IsTraced program one records → IsTraced program other beside → barrier_count records ≡ barrier_count beside }
 {}
 
-/// The tasks of a whole run of a lawful kernel, in the order of a listing and at most 65,536, keep every rule of a folder, where
-/// their records are of the table.
+/// The tasks of a whole run of a lawful kernel, in the order of a listing and at most 65,536, keep every rule of a folder.
 pub fn lawful_folder_keeps_the_rules()
     ensures { (program : Program) (tasks : Trace) → IsLawful program → IsTracedFolder program tasks → IsListing (paths_of tasks)
-        → length tasks ≤ max_rows → All (λ (task : TaskLog). All (IsTabled FORMAT) task.records) tasks → KeepsRules FORMAT tasks }
+        → length tasks ≤ max_rows → KeepsRules FORMAT tasks }
+{}
+
+/// How many chunks the loops of a team have, in order: all lanes that start with the same locals tell them, whatever was read and drawn.
+pub fn lanes_find_the_same_chunks()
+    ensures { (names : Scope) (team : TeamTree) (slots : List ℤ) → IsScoped names team.body → IsEven team.body → HasCounts team slots }
 {}

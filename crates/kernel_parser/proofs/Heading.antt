@@ -50,7 +50,7 @@ pub before-stmts : (v : Tree) (b : Stmts) (end : ℕ) (tail : List Token) → De
 before-stmts v b end tail d f = record { parts = append_assoc (tree_tokens v) (stmts_tokens b) _; derives = d; flat = f; ends = follows-inside b end tail }
 
 -- a block, and what is behind it
-block-opens : (opened : ℕ) (body : Stmts) (closed : ℕ) (after : List Token) → block opened (stmts_tokens body) closed ++ after ≡ mark opened sign.OpenBrace ∷ inside body closed after
+pub block-opens : (opened : ℕ) (body : Stmts) (closed : ℕ) (after : List Token) → block opened (stmts_tokens body) closed ++ after ≡ mark opened sign.OpenBrace ∷ inside body closed after
 block-opens opened body closed after = ap (λ (ts : List Token). mark opened sign.OpenBrace ∷ ts) (append_assoc (stmts_tokens body) (mark closed sign.CloseBrace ∷ []) after)
 
 -- a block, and statements behind it

@@ -4,7 +4,7 @@ use Rattle.std.specs.List.{range_with_len}
 use Rattle.std.proofs.lemmas.Int.{ints}
 use Rattle.std.proofs.lemmas.List.{append-nil}
 use Rattle.kernel_syntax.specs.declared.syntax.Schedule.{Schedule}
-use Rattle.kernel_syntax.specs.declared.syntax.Schedule.TheVariants.{Even, Static}
+use Rattle.kernel_syntax.specs.declared.syntax.Schedule.TheVariants.{Even, Static, Dynamic}
 use Rattle.kernel_syntax.specs.Share.{even_share_of}
 use Rattle.kernel_syntax.proofs.Sharing.{share_goes_on, share_ends}
 use Rattle.kernel_syntax.specs.Tree as tree
@@ -12,7 +12,7 @@ use Rattle.kernel_syntax.specs.Tree.{Term, Code}
 use Rattle.kernel_model.specs.State.{State, Outcome, after, and_then, state_of}
 use Rattle.kernel_model.specs.Growth.{Grows}
 use Rattle.kernel_model.specs.Value.{Site, value}
-use Rattle.kernel_model.specs.Iterations.{total_of, static_iterations, chunk_iterations}
+use Rattle.kernel_model.specs.Iterations.{total_of, static_iterations, chunk_count, chunk_iterations}
 use Rattle.kernel_model.specs.Trace.{run, each, turns, shared}
 use Rattle.kernel_model.specs.Effect.{Returned}
 use Rattle.kernel_model.proofs.Equations.{run-For}
@@ -22,7 +22,7 @@ use Rattle.kernel_model.proofs.Shares.{static_from, static_from-first, static_fr
 use Rattle.kernel_model.proofs.Steps.{kept-and_then, kept-after, kept-each, kept-shared}
 use Rattle.lane_runner.specs.declared.stop.Halt.{Halt}
 use Rattle.lane_runner.specs.World.{WorldValue}
-use Rattle.lane_runner.specs.Alone.{turn_from}
+use Rattle.lane_runner.specs.Alone.{turn_from, draw_all}
 use Rattle.lane_runner.specs.Going.{Progress, CanGo, Made, Goes}
 use Rattle.lane_runner.proofs.Following.{goes_stop, goes_then, goes_same}
 use Rattle.lane_runner.proofs.Running.{after_stop, after_goes, after_done}
@@ -161,6 +161,13 @@ module _ (w : WorldValue) (at : Site) (body : Code) (slot : ℕ) (from : ℤ) (l
       → Goes w (shared schedule at line total (turn_from at body slot from)) slots slots' old new r
   shared_static schedule chunk is m =
       goes_same w (each (static_iterations chunk total at.lane at.span) (turn_from at body slot from)) (shared schedule at line total (turn_from at body slot from)) slots slots' old new
+      (λ s. ap (λ (k : Schedule). shared k at line total (turn_from at body slot from) s) is) r m
+
+  pub shared_drawn : (schedule : Schedule) (chunk : ℕ) → schedule ≡ Dynamic chunk
+      → Goes w (draw_all line (chunk_count chunk total) (λ q. each (chunk_iterations chunk total q) (turn_from at body slot from))) slots slots' old new r
+      → Goes w (shared schedule at line total (turn_from at body slot from)) slots slots' old new r
+  shared_drawn schedule chunk is m =
+      goes_same w (draw_all line (chunk_count chunk total) (λ q. each (chunk_iterations chunk total q) (turn_from at body slot from))) (shared schedule at line total (turn_from at body slot from)) slots slots' old new
       (λ s. ap (λ (k : Schedule). shared k at line total (turn_from at body slot from) s) is) r m
 
 -- ---- the loop

@@ -28,6 +28,10 @@ drew_none t = record { drawn = []; draws = still_draws t.draws; tells = TellDraw
 pub drew_nothing : (t : Tally) (r : Record) → number_drawn r.kind r.addr ≡ None → HasDrawn t t (r ∷ [])
 drew_nothing t r none = record { drawn = []; draws = still_draws t.draws; tells = TellDraws.other t.next_loop t.next_loop r [] [] none (TellDraws.no_record t.next_loop) }
 
+-- a fork is no draw
+pub drew_forked : (t : Tally) (n : ℕ) (r : Record) → number_drawn r.kind r.addr ≡ None → HasDrawn t (record t { forked = n }) (r ∷ [])
+drew_forked t n r none = let d = drew_nothing t r none in record { drawn = d.drawn; draws = d.draws; tells = d.tells }
+
 tells_both : (a b c : ℕ) (xs ys : List Record) (ds es : List (ℕ × ℕ)) → TellDraws a xs ds b → TellDraws b ys es c → TellDraws a (xs ++ ys) (ds ++ es) c
 tells_both a b c [] ys ds es (TellDraws.no_record loop) later = later
 tells_both a b c (r ∷ xs) ys ds es (TellDraws.other loop last x records drawn none t) later = TellDraws.other loop c x (records ++ ys) (drawn ++ es) none (tells_both loop b c records ys drawn es t later)

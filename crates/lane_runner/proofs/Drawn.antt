@@ -18,12 +18,11 @@ use Rattle.shared_words.specs.Handles.{HandValue, with_view}
 use Rattle.shared_words.specs.Draws.{drew}
 use Rattle.history_model.specs.Work.{Rest, Put}
 use Rattle.execution_model.specs.Runs.{RunsRegions}
-use Rattle.event_buffer.specs.Logged.{HoldsRecords}
 use Rattle.lane_runner.specs.World.{WorldValue, element_word}
 use Rattle.lane_runner.specs.Drawing.{Tally, TellDraws, HasDrawn}
 use Rattle.lane_runner.specs.Going.{Progress, GainsRecords, HasRoomFor, Made, log_of}
 use Rattle.lane_runner.proofs.Working.{hand_still, worked_put_nothing}
-use Rattle.lane_runner.proofs.Stepping.{put_one}
+use Rattle.lane_runner.proofs.Stepping.{put_one, gains_after}
 use Rattle.lane_runner.proofs.Ending.{ended_none}
 
 pub draw_grows : (line n : ℕ) (s : State) → Grows s (state_of (draw line n s))
@@ -35,8 +34,7 @@ same_hand h v there = λ i. record { table = h.table; there = sym there i; view 
 module _ (w : WorldValue) (line n number : ℕ) (some : 1 ≤ line) (old mid new : Progress) (there : old.hand.there ≡ true) (room : HasRoomFor old mid)
     (hand_is : new.hand ≡ mid.hand) (draws_are : new.tally.draws ≡ record mid.tally.draws { view = drew mid.tally.draws.view mid.tally.next_loop number })
     (opened : min number n < n → new.tally.next_loop ≡ mid.tally.next_loop) (closed : n ≤ min number n → new.tally.next_loop ≡ mid.tally.next_loop + 1)
-    (unrefused : new.buffer.refused ≡ None) (count : new.buffer.count ≡ mid.buffer.count + 1)
-    (records : (header : List ℕ) (records : List Record) → HoldsRecords header mid.buffer records → HoldsRecords header new.buffer (records ++ event kind.Chunk line (min number n) n ∷ [])) where
+    (forked : new.tally.forked ≡ mid.tally.forked) (unrefused : new.buffer.refused ≡ None) (gains : GainsRecords mid.buffer new.buffer (event kind.Chunk line (min number n) n ∷ [])) where
   abbrev told : Record
   told = event kind.Chunk line (min number n) n
 
@@ -73,9 +71,11 @@ module _ (w : WorldValue) (line n number : ℕ) (some : 1 ≤ line) (old mid new
     own = [];
     done = record {
       hand = hand_is ∙ room.waits.hand ∙ hand_still old.hand there ∙ ap (λ v. with_view old.hand v) (worked_put_nothing (element_word w.arrays) old.hand.view told refl);
-      log = subst (λ (rs : List Record). GainsRecords old.buffer new.buffer rs) (sym (put_one told some))
-          (record { records = λ header before holds. records header before (room.waits.records header before holds); count = let same = room.waits.count in omega (arith, same, count) });
+      log = subst (λ (rs : List Record). GainsRecords old.buffer new.buffer rs) (sym (put_one told some)) (gains_after old mid new told room gains);
       draws = subst (λ (rs : List Record). HasDrawn old.tally new.tally rs) (sym (put_one told some)) has_drawn;
+      forked = let same = forked ∙ ap (λ (t : Tally). t.forked) room.waits.tally in omega (arith, same);
+      told = omega arith;
+      elements = (tt, tt);
       sound = (record { no_region = λ is. cc; element = λ is. absurd (⊎_elim (λ e. cc) (λ e. cc) is) }, (λ is. refl), tt);
       no_barrier = refl;
     };

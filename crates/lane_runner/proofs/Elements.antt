@@ -9,7 +9,7 @@ use Rattle.kernel_syntax.specs.declared.syntax.Array.{Array}
 use Rattle.kernel_syntax.specs.Arithmetic.{IsWidth}
 use Rattle.kernel_model.specs.Value.{element_of, element_at}
 use Rattle.lane_runner.specs.declared.element.Element.{Element}
-use Rattle.lane_runner.specs.World.{WorldValue, IsWorld, element_word, element_address}
+use Rattle.lane_runner.specs.World.{WorldValue, IsWorld, element_word, element_address, element_width}
 use Rattle.lane_runner.specs.Placing.{IsElement}
 
 pub array_found : (arrays : List Array) (k : ℕ) (a : Array) → k < length arrays → a ≡ get_or arrays k a → slice_get arrays k ≡ Some a
@@ -48,5 +48,6 @@ element_stands w e k a i n world found low high n_is word addr width =
         inside = omega (arith, inside);
         word = ap (λ (m : ℕ). element_word w.arrays m) addr ∙ world.apart.word k n a found high ∙ sym word;
         address = ap (λ (m : ℕ). element_address w.arrays m) word ∙ world.apart.address k n a found high ∙ sym addr;
+        bytes = ap (λ (m : ℕ). element_width w.arrays m) addr ∙ world.apart.width k n a found high ∙ sym width;
       };
     }

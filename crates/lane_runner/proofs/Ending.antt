@@ -1,13 +1,16 @@
 -- Works one after another: what they read, and how their regions ended.
-use Rattle.std.proofs.Common.{ap, sym, ◌∙◌, subst, List, [], ◌∷◌, ◌++◌, append_assoc}
+use Rattle.std.proofs.Common.{◌≡◌, ap, sym, ◌∙◌, subst, ℕ, ◌+◌, List, [], ◌∷◌, ◌++◌, length, append_assoc, arith}
+use Rattle.std.proofs.lemmas.List.{length-append}
+use Rattle.sw_base.specs.declared.path.Step.{Step}
 use Rattle.std.proofs.lemmas.List.Elements.{All-append, All-nil, All-cons}
 use Rattle.kernel_syntax.specs.declared.syntax.Array.{Array}
 use Rattle.kernel_model.specs.State as model
 use Rattle.history_model.specs.Work.{Work, Rest, Put, Fork, RegionWork, work_regions, then_work}
 use Rattle.history_model.specs.Joined.{PhasesEnd, ArePhasesJoined}
 use Rattle.lane_runner.specs.Fitting.{WorkFits}
-use Rattle.lane_runner.specs.Stopping.{HaveEnded}
-use Rattle.lane_runner.specs.Going.{Cause, AtLog, AtRegion, StopsBy}
+use Rattle.lane_runner.specs.Stopping.{HaveEnded, StopsRegion, StopsAtLast}
+use Rattle.lane_runner.specs.declared.stop.Stop.{Stop}
+use Rattle.lane_runner.specs.Going.{Progress, Cause, AtLog, AtRegion, StopsBy}
 use Rattle.lane_runner.proofs.Working.{regions_then}
 
 pub fits_then : (work other : Work) → WorkFits (then_work work other) → WorkFits work × WorkFits other
@@ -18,9 +21,10 @@ fits_then (Fork line span phases more) other fit = let rest = fits_then more oth
 ended_both : (xs ys : List RegionWork) → HaveEnded xs → HaveEnded ys → HaveEnded (xs ++ ys)
 ended_both xs ys x y = All-append (λ (r : RegionWork). PhasesEnd r.phases × ArePhasesJoined r.phases) xs ys x y
 
-stops_both : (arrays : List Array) (cause : Cause) (earlier forks : List model.Fork) (xs ys : List RegionWork) → HaveEnded xs → StopsBy arrays cause forks ys → StopsBy arrays cause (earlier ++ forks) (xs ++ ys)
-stops_both arrays AtLog earlier forks xs ys x y = ended_both xs ys x y
-stops_both arrays (AtRegion why) earlier forks xs ys x y = record {
+-- regions that ended, and then others of which the last stopped
+stops_both : (arrays : List Array) (at : List Step) (number : ℕ) (path : List Step) (why : Stop) (earlier forks : List model.Fork) (xs ys : List RegionWork) → HaveEnded xs
+    → StopsAtLast arrays at (number + length xs) path why forks ys → StopsAtLast arrays at number path why (earlier ++ forks) (xs ++ ys)
+stops_both arrays at number path why earlier forks xs ys x y = record {
   earlier = earlier ++ y.earlier;
   fork = y.fork;
   forks_are = ap (λ (fs : List model.Fork). earlier ++ fs) y.forks_are ∙ sym (append_assoc earlier y.earlier (y.fork ∷ []));
@@ -29,16 +33,22 @@ stops_both arrays (AtRegion why) earlier forks xs ys x y = record {
   regions_are = ap (λ (rs : List RegionWork). xs ++ rs) y.regions_are ∙ sym (append_assoc xs y.before (y.region ∷ []));
   ended = ended_both xs y.before x y.ended;
   joined = y.joined;
-  stopped = y.stopped;
+  stopped =
+      subst (λ (n : ℕ). StopsRegion arrays at n path why y.fork y.region.phases)
+      (let e : number + length xs + length y.before ≡ number + length (xs ++ y.before) = omega (arith, length-append xs y.before) in e) y.stopped;
 }
 
 pub ended_then : (work other : Work) → HaveEnded (work_regions work) → HaveEnded (work_regions other) → HaveEnded (work_regions (then_work work other))
 ended_then work other x y = subst (λ (rs : List RegionWork). HaveEnded rs) (sym (regions_then work other)) (ended_both (work_regions work) (work_regions other) x y)
 
-pub stops_then : (arrays : List Array) (cause : Cause) (earlier forks : List model.Fork) (work other : Work) → HaveEnded (work_regions work) → StopsBy arrays cause forks (work_regions other)
-    → StopsBy arrays cause (earlier ++ forks) (work_regions (then_work work other))
-stops_then arrays cause earlier forks work other x y =
-    subst (λ (rs : List RegionWork). StopsBy arrays cause (earlier ++ forks) rs) (sym (regions_then work other)) (stops_both arrays cause earlier forks (work_regions work) (work_regions other) x y)
+pub stops_then : (arrays : List Array) (old mid : Progress) (cause : Cause) (earlier forks : List model.Fork) (work other : Work) → mid.buffer.path ≡ old.buffer.path → mid.tally.forked ≡ old.tally.forked + length (work_regions work)
+    → HaveEnded (work_regions work) → StopsBy arrays mid cause forks (work_regions other) → StopsBy arrays old cause (earlier ++ forks) (work_regions (then_work work other))
+stops_then arrays old mid AtLog earlier forks work other path forked x y = ended_then work other x y
+stops_then arrays old mid (AtRegion path why) earlier forks work other same forked x y =
+    subst (λ (rs : List RegionWork). StopsAtLast arrays old.buffer.path old.tally.forked path why (earlier ++ forks) rs) (sym (regions_then work other))
+    (stops_both arrays old.buffer.path old.tally.forked path why earlier forks (work_regions work) (work_regions other) x
+    (subst (λ (n : ℕ). StopsAtLast arrays old.buffer.path n path why forks (work_regions other)) forked
+    (subst (λ (at : List Step). StopsAtLast arrays at mid.tally.forked path why forks (work_regions other)) same y)))
 
 -- no region
 pub ended_none : HaveEnded []

@@ -69,7 +69,7 @@ module _ (w : WorldValue) {A B : Type 0} (part : State → Outcome A) (next : A 
   goes_stop (halt.DivZero line) grows m = halts model.DivZero line m
   goes_stop (halt.Index line) grows m = halts model.Index line m
   goes_stop (halt.LogFull line) grows m = halts model.LogFull line m
-  goes_stop (halt.Region why) grows m = begins_stop (AtRegion why) grows m
+  goes_stop (halt.Region path why) grows m = begins_stop (AtRegion path why) grows m
   goes_stop (halt.Trouble trouble) grows (m, refused) = (begins_stop AtLog grows m, refused)
 
 -- a part, and what follows it
@@ -120,7 +120,7 @@ module _ (w : WorldValue) {A B : Type 0} (part : State → Outcome A) (next : A 
     done = done m.work m.done;
     released = released m.work m.own m.released;
     ends = subst (λ (rs : List Record). EndsBy cause rs) (sym (log_then one.work m.work)) (ends_then cause (log_of one.work) (log_of m.work) m.ends);
-    stops = stops_then w.arrays cause one.forks m.forks one.work m.work one.ended m.stops;
+    stops = stops_then w.arrays old mid cause one.forks m.forks one.work m.work one.done.log.path one.done.forked one.ended m.stops;
     begins = λ fit.
         subst (λ (rs : List Record). BeginsPart (λ s. and_then (part s) next) slots (log_limit - old.buffer.count) rs (one.forks ++ m.forks)) (sym (log_then one.work m.work))
         (begins_then part next slots (log_limit - old.buffer.count) (effect_of mid_slots one.work one.forks) a (log_of m.work) m.forks (one.makes (fits_one m.work fit))
@@ -133,7 +133,7 @@ module _ (w : WorldValue) {A B : Type 0} (part : State → Outcome A) (next : A 
   goes_then (Err (halt.DivZero line)) m = follows (Halted model.DivZero line) m
   goes_then (Err (halt.Index line)) m = follows (Halted model.Index line) m
   goes_then (Err (halt.LogFull line)) m = follows (Halted model.LogFull line) m
-  goes_then (Err (halt.Region why)) m = begins_follow (AtRegion why) m
+  goes_then (Err (halt.Region path why)) m = begins_follow (AtRegion path why) m
   goes_then (Err (halt.Trouble trouble)) (m, refused) = (begins_follow AtLog m, refused)
 
 -- the same part, told otherwise
@@ -170,7 +170,7 @@ module _ (w : WorldValue) {A : Type 0} (part other : State → Outcome A) (slots
   goes_same (Err (halt.DivZero line)) m = made_same (Halted model.DivZero line) m
   goes_same (Err (halt.Index line)) m = made_same (Halted model.Index line) m
   goes_same (Err (halt.LogFull line)) m = made_same (Halted model.LogFull line) m
-  goes_same (Err (halt.Region why)) m = begun_same (AtRegion why) m
+  goes_same (Err (halt.Region path why)) m = begun_same (AtRegion path why) m
   goes_same (Err (halt.Trouble trouble)) (m, refused) = (begun_same AtLog m, refused)
 
 -- what follows where a part gives no value

@@ -3,11 +3,13 @@ pub mod Beginning
 pub mod Bodies
 pub mod Chunking
 pub mod Dealing
+pub mod Draining
 pub mod Drawing
 pub mod Drawn
 pub mod Elements
 pub mod Ending
 pub mod Following
+pub mod NewLogs
 pub mod OwnWords
 pub mod Parting
 pub mod Regions

@@ -13,7 +13,7 @@ use Rattle.kernel_syntax.specs.Bounds.{IsBounded}
 use Rattle.kernel_syntax.proofs.Placing.{bounded_arrays_are_placed}
 use Rattle.shared_words.specs.Handles.{WordsValue, ChunksValue}
 use Rattle.kernel_syntax.specs.Layout.{ArePlaced}
-use Rattle.lane_runner.specs.World.{element_word, element_address, HaveOwnWords, IsWorld}
+use Rattle.lane_runner.specs.World.{element_word, element_address, element_width, HaveOwnWords, IsWorld}
 
 abbrev HasWidth : Array → Type 0
 HasWidth a = IsWidth a.width
@@ -54,19 +54,31 @@ first_least base first (x ∷ xs) zero a found = let is : first ≡ a.first = ap
 first_least base first (x ∷ xs) (suc k) a found = let later = first_least (aligned (base + x.width * x.count)) (first + x.count) xs k a found in omega arith
 
 module _ (a : Array) (rest : List Array) where
+  lies_here : (i : ℕ) → i < a.count → IsWidth a.width → (nat_le a.base (a.base + i * a.width) && nat_lt (a.base + i * a.width) (a.base + a.count * a.width)) ≡ true
+  lies_here i less width =
+      let some = some_width a.width width in
+      let bound : suc i * a.width ≤ a.count * a.width = mul-le (suc i) a.width a.count a.width (omega arith) (omega arith) in
+      rw (le_yes a.base (a.base + i * a.width) (omega arith), lt_yes (a.base + i * a.width) (a.base + a.count * a.width) (omega arith)) refl
+
+  lies_later : (addr : ℕ) → a.base + a.count * a.width ≤ addr → (nat_le a.base addr && nat_lt addr (a.base + a.count * a.width)) ≡ false
+  lies_later addr past = and_no (nat_le a.base addr) (nat_lt addr (a.base + a.count * a.width)) (lt_no addr (a.base + a.count * a.width) past)
+
   word_here : (i : ℕ) → IsWidth a.width → i < a.count → element_word (a ∷ rest) (a.base + i * a.width) ≡ a.first + i
   word_here i width less =
       let some = some_width a.width width in
-      let bound : suc i * a.width ≤ a.count * a.width = mul-le (suc i) a.width a.count a.width (omega arith) (omega arith) in
-      let inside : a.base + i * a.width < a.base + a.count * a.width = omega arith in
       let back : (a.base + i * a.width - a.base) / a.width ≡ i =
       ap (λ (n : ℕ). n / a.width) (let e : a.base + i * a.width - a.base ≡ i * a.width + 0 = omega arith in e) ∙ div-mul-add i a.width 0 some in
-      rw (le_yes a.base (a.base + i * a.width) (omega arith), lt_yes (a.base + i * a.width) (a.base + a.count * a.width) inside) (ap (λ (n : ℕ). a.first + n) back)
+      ap (λ (b : Bool). if b then a.first + (a.base + i * a.width - a.base) / a.width else element_word rest (a.base + i * a.width)) (lies_here i less width)
+      ∙ ap (λ (n : ℕ). a.first + n) back
 
   word_later : (addr : ℕ) → a.base + a.count * a.width ≤ addr → element_word (a ∷ rest) addr ≡ element_word rest addr
-  word_later addr past =
-      ap (λ (b : Bool). if b then a.first + (addr - a.base) / a.width else element_word rest addr)
-      (and_no (nat_le a.base addr) (nat_lt addr (a.base + a.count * a.width)) (lt_no addr (a.base + a.count * a.width) past))
+  word_later addr past = ap (λ (b : Bool). if b then a.first + (addr - a.base) / a.width else element_word rest addr) (lies_later addr past)
+
+  width_here : (i : ℕ) → IsWidth a.width → i < a.count → element_width (a ∷ rest) (a.base + i * a.width) ≡ a.width
+  width_here i width less = ap (λ (b : Bool). if b then a.width else element_width rest (a.base + i * a.width)) (lies_here i less width)
+
+  width_later : (addr : ℕ) → a.base + a.count * a.width ≤ addr → element_width (a ∷ rest) addr ≡ element_width rest addr
+  width_later addr past = ap (λ (b : Bool). if b then a.width else element_width rest addr) (lies_later addr past)
 
   address_here : (i : ℕ) → i < a.count → element_address (a ∷ rest) (a.first + i) ≡ a.base + i * a.width
   address_here i less =
@@ -90,6 +102,18 @@ words_of base first (x ∷ xs) widths (suc k) i a found less =
     word_later (record x { base = base; first = first }) (laid_from (aligned (base + x.width * x.count)) (first + x.count) xs) (a.base + i * a.width) (omega arith)
     ∙ words_of (aligned (base + x.width * x.count)) (first + x.count) xs (All-tail HasWidth x xs widths) k i a found less
 
+widths_of : (base first : ℕ) (xs : List Array) → All HasWidth xs → (k i : ℕ) (a : Array) → slice_get (laid_from base first xs) k ≡ Some a → i < a.count
+    → element_width (laid_from base first xs) (a.base + i * a.width) ≡ a.width
+widths_of base first [] widths k i a found less = cc
+widths_of base first (x ∷ xs) widths zero i a found less =
+    subst (λ (y : Array). i < y.count → element_width (laid_from base first (x ∷ xs)) (y.base + i * y.width) ≡ y.width) (same_Some (record x { base = base; first = first }) a found)
+    (λ within. width_here (record x { base = base; first = first }) (laid_from (aligned (base + x.width * x.count)) (first + x.count) xs) i (All-head HasWidth x xs widths) within) less
+widths_of base first (x ∷ xs) widths (suc k) i a found less =
+    let least = aligned_least (base + x.width * x.count) in
+    let behind = base_least (aligned (base + x.width * x.count)) (first + x.count) xs k a found in
+    width_later (record x { base = base; first = first }) (laid_from (aligned (base + x.width * x.count)) (first + x.count) xs) (a.base + i * a.width) (omega arith)
+    ∙ widths_of (aligned (base + x.width * x.count)) (first + x.count) xs (All-tail HasWidth x xs widths) k i a found less
+
 addresses_of : (base first : ℕ) (xs : List Array) (k i : ℕ) (a : Array) → slice_get (laid_from base first xs) k ≡ Some a → i < a.count
     → element_address (laid_from base first xs) (a.first + i) ≡ a.base + i * a.width
 addresses_of base first [] k i a found less = cc
@@ -109,6 +133,21 @@ bounded_world program words chunks lane span bounded count within = record {
   apart = subst (λ (xs : List Array). HaveOwnWords xs) (sym bounded.placed) (record {
     word = λ k i a found less. words_of 4096 0 program.arrays bounded.widths k i a found less;
     address = λ k i a found less. addresses_of 4096 0 program.arrays k i a found less;
+    width = λ k i a found less. widths_of 4096 0 program.arrays bounded.widths k i a found less;
   });
   within = within;
 }
+
+-- at each address there is a width of the language
+either_width : (b : Bool) (m n : ℕ) → IsWidth m → IsWidth n → IsWidth (if b then m else n)
+either_width true m n one other = one
+either_width false m n one other = other
+
+some_widths : (xs : List Array) → All HasWidth xs → (addr : ℕ) → IsWidth (element_width xs addr)
+some_widths [] widths addr = inl refl
+some_widths (a ∷ xs) widths addr =
+    either_width (nat_le a.base addr && nat_lt addr (a.base + a.count * a.width)) a.width (element_width xs addr) (All-head HasWidth a xs widths)
+    (some_widths xs (All-tail HasWidth a xs widths) addr)
+
+pub bounded_widths : (program : Program) → IsBounded program → (addr : ℕ) → IsWidth (element_width program.arrays addr)
+bounded_widths program bounded addr = some_widths program.arrays bounded.widths addr

@@ -1,5 +1,5 @@
 -- What holds of a list of statements holds of each.
-use Rattle.std.proofs.Common.{◌≡◌, ap, ◌∙◌, sym, subst, ℕ, zero, suc, List, [], ◌∷◌, Some}
+use Rattle.std.proofs.Common.{◌≡◌, refl, ap, ◌∙◌, sym, subst, ℕ, zero, suc, Bool, false, List, [], ◌∷◌, Some}
 use Rattle.std.specs.Prelude.{slice_get}
 use Rattle.std.proofs.lemmas.Option.{same_Some}
 use Rattle.kernel_syntax.specs.declared.syntax.Expr.{Expr}
@@ -11,12 +11,16 @@ use Rattle.kernel_syntax.specs.declared.syntax.Stmt.TheVariants.{rolls-Set, roll
 use Rattle.kernel_syntax.specs.declared.syntax.Stmt.TheViews.{roll-Stmt, out-Stmt, roll-out-Stmt}
 use Rattle.kernel_syntax.specs.declared.syntax.Body.{Body}
 use Rattle.kernel_syntax.specs.declared.syntax.Team.{Team}
-use Rattle.kernel_syntax.proofs.Equations.{stmt_code-Parallel, stmt_code-For, stmt_code-Barrier}
+use Rattle.kernel_syntax.proofs.Equations.{stmt_code-Set, stmt_code-Store, stmt_code-If, stmt_code-Loop, stmt_code-Parallel, stmt_code-For, stmt_code-Barrier, stmt_code-Critical}
 use Rattle.kernel_syntax.specs.Program.{stmt_code, code_of}
 use Rattle.kernel_syntax.specs.Tree.{Code, Done, Set, Store, If, Loop, Parallel, For, Barrier, Critical}
 use Rattle.kernel_syntax.specs.Bounds.{IsBoundedCode}
 use Rattle.kernel_syntax.proofs.Following.{followed_by, stmt_code-first}
+use Rattle.kernel_syntax.specs.declared.syntax.Schedule.{Schedule}
 use Rattle.lane_runner.specs.Alone.{IsAlone}
+use Rattle.lane_runner.specs.Phase.{IsOfTeam}
+use Rattle.kernel_model.specs.Parts.{drawn_count, is_drawn_code}
+use Rattle.kernel_model.specs.Phases.{without_barrier, part_of_stmt}
 
 bounded_both : (code later : Code) → IsBoundedCode (followed_by code later) → IsBoundedCode code × IsBoundedCode later
 bounded_both Done later b = (tt, b)
@@ -71,3 +75,50 @@ module _ (locks : ℕ) (held : List ℕ) (s : Stmt) (h : IsAlone locks held (stm
 
   pub alone_only : ⊥
   alone_only = by_layer (out-Stmt s) (roll-out-Stmt s)
+
+-- a statement that is no worksharing loop and forks no region is executed alone
+module _ (locks : ℕ) (s : Stmt) (h : IsOfTeam locks (stmt_code s Done)) (no_region : (team : Team) → s ≡ variant.Parallel team → ⊥)
+    (no_loop : (slot : ℕ) (from to : Expr) (schedule : Schedule) (nowait : Bool) (line end : ℕ) (body : Body) → s ≡ variant.For slot from to schedule nowait line end body → ⊥) where
+  alone_by : (t : Stmt) {code : Code} → s ≡ t → stmt_code t Done ≡ code → (IsOfTeam locks code → IsAlone locks [] code) → IsAlone locks [] (stmt_code s Done)
+  alone_by t {code} same is own =
+      let all : stmt_code s Done ≡ code = ap (λ (z : Stmt). stmt_code z Done) same ∙ is in
+      subst (IsAlone locks []) (sym all) (own (subst (IsOfTeam locks) all h))
+
+  alone_layer : (x : Stmt-F Stmt Body Team) → roll-Stmt x ≡ s → IsAlone locks [] (stmt_code s Done)
+  alone_layer (layer.Set slot value) is = alone_by (variant.Set slot value) (sym is ∙ rolls-Set slot value) (stmt_code-Set slot value Done) (λ own. own)
+  alone_layer (layer.Store array index value line site) is = alone_by (variant.Store array index value line site) (sym is ∙ rolls-Store array index value line site) (stmt_code-Store array index value line site Done) (λ own. own)
+  alone_layer (layer.If test if_true if_false) is = alone_by (variant.If test if_true if_false) (sym is ∙ rolls-If test if_true if_false) (stmt_code-If test if_true if_false Done) (λ own. own)
+  alone_layer (layer.Loop slot from to body) is = alone_by (variant.Loop slot from to body) (sym is ∙ rolls-Loop slot from to body) (stmt_code-Loop slot from to body Done) (λ own. own)
+  alone_layer (layer.Parallel team) is = absurd (no_region team (sym is ∙ rolls-Parallel team))
+  alone_layer (layer.For slot from to schedule nowait line end body) is = absurd (no_loop slot from to schedule nowait line end body (sym is ∙ rolls-For slot from to schedule nowait line end body))
+  alone_layer (layer.Barrier line) is = alone_by (variant.Barrier line) (sym is ∙ rolls-Barrier line) (stmt_code-Barrier line Done) (λ own. own)
+  alone_layer (layer.Critical mutex line end body) is = alone_by (variant.Critical mutex line end body) (sym is ∙ rolls-Critical mutex line end body) (stmt_code-Critical mutex line end body Done) (λ own. own)
+
+  pub alone_in_team : IsAlone locks [] (stmt_code s Done)
+  alone_in_team = alone_layer (out-Stmt s) (roll-out-Stmt s)
+
+-- such a statement has no barrier at its end, and isn't drawn
+pub alone_whole : (locks : ℕ) (held : List ℕ) (code : Code) → IsAlone locks held code → without_barrier code ≡ code
+alone_whole locks held Done own = refl
+alone_whole locks held (Set slot value rest) own = refl
+alone_whole locks held (Store array index value line site rest) own = refl
+alone_whole locks held (If test if_true if_false rest) own = refl
+alone_whole locks held (Loop slot from to body rest) own = refl
+alone_whole locks held (Parallel span line end body rest) own = absurd own
+alone_whole locks held (For slot from to schedule nowait line end body rest) own = absurd own
+alone_whole locks held (Barrier line rest) own = absurd own
+alone_whole locks held (Critical mutex line end body rest) own = refl
+
+alone_undrawn : (locks : ℕ) (held : List ℕ) (code : Code) → IsAlone locks held code → is_drawn_code code ≡ false
+alone_undrawn locks held Done own = refl
+alone_undrawn locks held (Set slot value rest) own = refl
+alone_undrawn locks held (Store array index value line site rest) own = refl
+alone_undrawn locks held (If test if_true if_false rest) own = refl
+alone_undrawn locks held (Loop slot from to body rest) own = refl
+alone_undrawn locks held (Parallel span line end body rest) own = absurd own
+alone_undrawn locks held (For slot from to schedule nowait line end body rest) own = absurd own
+alone_undrawn locks held (Barrier line rest) own = absurd own
+alone_undrawn locks held (Critical mutex line end body rest) own = refl
+
+pub alone_draws_none : (locks : ℕ) (held : List ℕ) (s : Stmt) → IsAlone locks held (stmt_code s Done) → drawn_count (part_of_stmt s ∷ []) ≡ 0
+alone_draws_none locks held s own = rw (ap is_drawn_code (alone_whole locks held (stmt_code s Done) own) ∙ alone_undrawn locks held (stmt_code s Done) own) refl

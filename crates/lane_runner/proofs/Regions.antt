@@ -1,6 +1,7 @@
 -- Regions: the record of the fork, and what the lanes of the region did.
-use Rattle.std.proofs.Common.{◌≡◌, refl, ap, sym, ◌∙◌, subst, ℕ, ◌+◌, ◌-◌, ◌≤◌, List, [], ◌∷◌, ◌++◌, ℤ, arith}
-use Rattle.std.specs.Prelude.{reverse, Result, Ok, Err}
+use Rattle.std.proofs.Common.{◌≡◌, refl, ap, sym, ◌∙◌, subst, ℕ, ◌+◌, ◌-◌, ◌≤◌, List, [], ◌∷◌, ◌++◌, length, ℤ, arith}
+use Rattle.std.specs.Prelude.{reverse, Ok, Err}
+use Rattle.sw_base.specs.declared.path.Step.{Step}
 use Rattle.std.proofs.lemmas.List.{append-nil}
 use Rattle.log_format.specs.declared.record.Record.{Record}
 use Rattle.log_format.specs.declared.record.Kind.TheVariants as kind
@@ -21,21 +22,22 @@ use Rattle.history_model.specs.Work.{Work, Rest, RegionWork, work_regions}
 use Rattle.history_model.specs.Did.{phase_splits, did_phases}
 use Rattle.execution_model.specs.Runs.{RunsRegions}
 use Rattle.event_buffer.specs.Buffered.{Buffered}
-use Rattle.event_buffer.specs.Logged.{HoldsRecords}
 use Rattle.lane_runner.specs.Drawing.{Tally, HasDrawn}
-use Rattle.lane_runner.proofs.Drawing.{drew_nothing}
+use Rattle.lane_runner.proofs.Drawing.{drew_forked}
 use Rattle.lane_runner.specs.World.{WorldValue, element_word}
 use Rattle.lane_runner.specs.Going.{Progress, HasDone, HasReleased, GainsRecords, AtRegion, log_of, worked, effect_of, Made, Began, Takes}
-use Rattle.lane_runner.specs.Forking.{RanRegion, EndsAs, after_phases}
+use Rattle.lane_runner.specs.Forking.{Answer, RanRegion, EndsAs, after_phases}
 use Rattle.lane_runner.specs.Fitting.{WorkFits}
+use Rattle.lane_runner.specs.Stopping.{StopsRegion}
 use Rattle.lane_runner.specs.declared.stop.Stop.{Stop}
 use Rattle.lane_runner.proofs.Working.{view_same}
 use Rattle.lane_runner.proofs.Ending.{ended_none, ended_one}
 use Rattle.lane_runner.proofs.Stepping.{is_put_one}
 use Rattle.lane_runner.proofs.Beginning.{begins_made}
 
-module _ (w : WorldValue) (at : Site) (team : TeamTree) (some : 1 ≤ team.line) (slots : List ℤ) (old a new : Progress) (r : Result (Unit {0}) Stop)
-    (taken : Takes (event kind.Region team.line 0 team.span) old.hand.view old a) (ran : RanRegion w team slots a.hand new.hand r) (still : new.buffer ≡ a.buffer) (same_tally : new.tally ≡ a.tally) where
+module _ (w : WorldValue) (at : Site) (team : TeamTree) (some : 1 ≤ team.line) (slots : List ℤ) (old a new : Progress) (r : Answer)
+    (taken : Takes (event kind.Region team.line 0 team.span) old.hand.view old a) (ran : RanRegion w team slots old.buffer.path old.tally.forked a.hand new.hand r)
+    (still : new.buffer ≡ a.buffer) (tally : new.tally ≡ record a.tally { forked = a.tally.forked + 1 }) where
   abbrev region_work : Work
   region_work = work.Fork team.line team.span ran.phases Rest
 
@@ -54,6 +56,9 @@ module _ (w : WorldValue) (at : Site) (team : TeamTree) (some : 1 ≤ team.line)
       (v.items ++ did_phases word v.name v.splits team.span ran.phases) (v.items ++ (did_phases word v.name v.splits team.span ran.phases ++ []))
       (omega arith) (ap (λ (items : List Item). v.items ++ items) (sym (append-nil (did_phases word v.name v.splits team.span ran.phases))))
 
+  counted : new.tally ≡ record old.tally { forked = old.tally.forked + 1 }
+  counted = tally ∙ ap (λ (t : Tally). record t { forked = t.forked + 1 }) taken.tally
+
   region_done : HasDone w old new region_work
   region_done = record {
     hand =
@@ -61,12 +66,12 @@ module _ (w : WorldValue) (at : Site) (team : TeamTree) (some : 1 ≤ team.line)
         ∙ ap (λ (h : HandValue View). with_view h (after_phases (element_word w.arrays) team.span ran.phases h.view)) taken.hand
         ∙ ap (λ (v : View). with_view old.hand v) (region_view (element_word w.arrays) old.hand.view);
     log = subst (λ (rs : List Record). GainsRecords old.buffer new.buffer rs) (sym region_log)
-        (record {
-          records = λ header records holds. subst (λ (b : Buffered). HoldsRecords header b (records ++ work.fork_record team.line team.span ∷ [])) (sym still) (taken.records header records holds);
-          count = ap (λ (b : Buffered). b.count) still ∙ taken.count;
-        });
+        (subst (λ (b : Buffered). GainsRecords old.buffer b (work.fork_record team.line team.span ∷ [])) (sym still) taken.log);
     draws = subst (λ (rs : List Record). HasDrawn old.tally new.tally rs) (sym region_log)
-        (subst (λ (t : Tally). HasDrawn old.tally t (work.fork_record team.line team.span ∷ [])) (sym (same_tally ∙ taken.tally)) (drew_nothing old.tally (work.fork_record team.line team.span) refl));
+        (subst (λ (t : Tally). HasDrawn old.tally t (work.fork_record team.line team.span ∷ [])) (sym counted) (drew_forked old.tally (old.tally.forked + 1) (work.fork_record team.line team.span) refl));
+    forked = ap (λ (t : Tally). t.forked) counted;
+    told = let one = ap (λ (rs : List Record). length rs) region_log in omega (arith, one);
+    elements = (ran.elements, tt);
     sound = (ran.sound, tt);
     no_barrier = refl;
   }
@@ -97,21 +102,24 @@ module _ (w : WorldValue) (at : Site) (team : TeamTree) (some : 1 ≤ team.line)
     done = region_done;
     released = region_released;
     closes = refl;
-    ended = ended_one this_region (subst (λ (x : Result (Unit {0}) Stop). EndsAs w.arrays this_fork ran.phases x) is ran.ends) ran.joined;
+    ended = ended_one this_region (subst (λ (x : Answer). EndsAs w.arrays old.buffer.path old.tally.forked this_fork ran.phases x) is ran.ends) ran.joined;
     unrefused = ap (λ (b : Buffered). b.refused) still ∙ taken.unrefused;
     makes = λ fit. region_makes;
     regions = region_runs;
   }
 
-  pub region_began : (why : Stop) → r ≡ Err why → Began w (run at region_code) slots old new (AtRegion why)
-  region_began why is = record {
+  pub region_began : (path : List Step) (why : Stop) → r ≡ Err (path, why) → Began w (run at region_code) slots old new (AtRegion path why)
+  region_began path why is = record {
     work = region_work;
     forks = this_fork ∷ [];
     own = [];
     done = region_done;
     released = region_released;
     ends = record { prefix = []; last = work.fork_record team.line team.span; parts = region_log; forks = refl };
-    stops = record { earlier = []; fork = this_fork; forks_are = refl; before = []; region = this_region; regions_are = refl; ended = ended_none; joined = ran.joined; stopped = subst (λ (x : Result (Unit {0}) Stop). EndsAs w.arrays this_fork ran.phases x) is ran.ends };
+    stops = record { earlier = []; fork = this_fork; forks_are = refl; before = []; region = this_region; regions_are = refl; ended = ended_none; joined = ran.joined; stopped = at_number (subst (λ (x : Answer). EndsAs w.arrays old.buffer.path old.tally.forked this_fork ran.phases x) is ran.ends) };
     begins = λ fit. begins_made (run at region_code) slots (log_limit - old.buffer.count) (effect_of slots region_work (this_fork ∷ [])) (Returned tt) region_makes;
     regions = region_runs;
   }
+    where
+      at_number : StopsRegion w.arrays old.buffer.path old.tally.forked path why this_fork ran.phases → StopsRegion w.arrays old.buffer.path (old.tally.forked + 0) path why this_fork ran.phases
+      at_number = subst (λ (n : ℕ). StopsRegion w.arrays old.buffer.path n path why this_fork ran.phases) (let e : old.tally.forked ≡ old.tally.forked + 0 = omega arith in e)

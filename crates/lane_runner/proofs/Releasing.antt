@@ -34,7 +34,7 @@ released_then before one two own x y = record {
 
 pub ends_then : (cause : Cause) (xs ys : List Record) → EndsBy cause ys → EndsBy cause (xs ++ ys)
 ends_then AtLog xs ys e = tt
-ends_then (AtRegion why) xs ys e = record {
+ends_then (AtRegion path why) xs ys e = record {
   prefix = xs ++ e.prefix;
   last = e.last;
   parts = ap (λ (rs : List Record). xs ++ rs) e.parts ∙ sym (append_assoc xs e.prefix (e.last ∷ []));

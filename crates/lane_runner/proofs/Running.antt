@@ -72,7 +72,7 @@ module _ (w : WorldValue) (part : State → Outcome (Unit {0})) (slot : ℕ) (v 
   goes_assigned (Err (halt.DivZero line)) m = made_assigned (Halted model.DivZero line) m
   goes_assigned (Err (halt.Index line)) m = made_assigned (Halted model.Index line) m
   goes_assigned (Err (halt.LogFull line)) m = made_assigned (Halted model.LogFull line) m
-  goes_assigned (Err (halt.Region why)) m = begun_assigned (AtRegion why) m
+  goes_assigned (Err (halt.Region path why)) m = begun_assigned (AtRegion path why) m
   goes_assigned (Err (halt.Trouble trouble)) (m, refused) = (begun_assigned AtLog m, refused)
 
 -- no statement

@@ -1,7 +1,7 @@
 -- Critical sections: the steps on the mutex with what is done between them, by which the section ends or is left at a stop.
 use Rattle.std.proofs.Common.{◌≡◌, refl, ap, sym, ◌∙◌, subst, ⊎_elim, ℕ, ◌+◌, ◌-◌, ◌<◌, ◌≤◌, Bool, true, false, not, List, [], ◌∷◌, ◌++◌, length, ℤ, Err, append_assoc, arith}
 use Rattle.std.specs.Prelude.{map, filter, reverse, All, ◌==◌}
-use Rattle.std.proofs.lemmas.List.{append-nil, reverse-append, map-append}
+use Rattle.std.proofs.lemmas.List.{append-nil, reverse-append, map-append, length-append}
 use Rattle.std.proofs.lemmas.List.Elements.{All-head, All-tail, filter-append}
 use Rattle.log_format.specs.declared.record.Record.{Record}
 use Rattle.log_format.specs.declared.record.Kind.TheVariants as kind
@@ -35,15 +35,17 @@ use Rattle.execution_model.specs.Fitting.{ReadsFit, IsFittingRead}
 use Rattle.execution_model.specs.Runs.{RunsRegions}
 use Rattle.event_buffer.specs.Buffered.{Buffered}
 use Rattle.event_buffer.specs.Logged.{HoldsRecords}
+use Rattle.sw_base.specs.declared.path.Step.{Step}
+use Rattle.kernel_syntax.specs.declared.syntax.Array.{Array}
 use Rattle.lane_runner.specs.declared.stop.Halt.{Halt}
 use Rattle.lane_runner.specs.declared.stop.Halt.TheVariants as halt
 use Rattle.lane_runner.specs.Drawing.{Tally, HasDrawn}
 use Rattle.lane_runner.proofs.Drawing.{drew_none, drew_nothing, drew_then}
-use Rattle.lane_runner.specs.World.{WorldValue, element_word, layout_of}
+use Rattle.lane_runner.specs.World.{WorldValue, element_word, element_width, layout_of}
 use Rattle.lane_runner.specs.Going.{Progress, CanGo, HasDone, HasReleased, GainsRecords, Cause, AtLog, AtRegion, EndsBy, StopsBy, log_of, worked, BeginsPart, effect_of, Made, Began, Goes, Takes}
-use Rattle.lane_runner.proofs.Working.{log_then, view_same, gains_then, barriers_none, regions_then}
+use Rattle.lane_runner.proofs.Working.{log_then, view_same, gains_then, barriers_none, regions_then, elements_then}
 use Rattle.lane_runner.specs.Fitting.{WorkFits}
-use Rattle.lane_runner.specs.Stopping.{HaveEnded}
+use Rattle.lane_runner.specs.Stopping.{HaveEnded, StopsAtLast}
 use Rattle.lane_runner.proofs.Ending.{fits_then}
 use Rattle.lane_runner.proofs.Stepping.{put_first}
 use Rattle.lane_runner.proofs.Releasing.{held_both, ends_then}
@@ -171,18 +173,29 @@ unlock_sound w mutex line = record { no_region = λ is. cc; element = λ is. abs
 
 module _ (w : WorldValue) (mutex line end : ℕ) (some : 1 ≤ line) (old a b new : Progress) (body : Work) (taken : Takes (event kind.Lock line mutex 0) (locked old.hand.view mutex) old a)
     (hand_is : new.hand ≡ with_view b.hand (unlocked b.hand.view mutex)) (log_is : GainsRecords b.buffer new.buffer (log_of (Put (event kind.Unlock end mutex 0) Rest)))
-    (tally_is : HasDrawn b.tally new.tally (log_of (Put (event kind.Unlock end mutex 0) Rest))) where
+    (tally_is : HasDrawn b.tally new.tally (log_of (Put (event kind.Unlock end mutex 0) Rest))) (unlocked_forks : new.tally.forked ≡ b.tally.forked) where
   section_done : HasDone w a b body → HasDone w old new (section mutex line end body)
   section_done done = record {
     hand = section_hand (element_word w.arrays) old.hand a.hand b.hand new.hand mutex line end body taken.hand done.hand hand_is;
     log = subst (λ (rs : List Record). GainsRecords old.buffer new.buffer rs) (sym (section_log mutex line end some body))
         (gains_then old.buffer a.buffer new.buffer (event kind.Lock line mutex 0 ∷ []) (log_of body ++ log_of (Put (event kind.Unlock end mutex 0) Rest))
-        (record { records = taken.records; count = taken.count })
+        taken.log
         (gains_then a.buffer b.buffer new.buffer (log_of body) (log_of (Put (event kind.Unlock end mutex 0) Rest)) done.log log_is));
     draws = subst (λ (rs : List Record). HasDrawn old.tally new.tally rs) (sym (section_log mutex line end some body))
         (drew_then old.tally a.tally new.tally (event kind.Lock line mutex 0 ∷ []) (log_of body ++ log_of (Put (event kind.Unlock end mutex 0) Rest))
         (subst (λ (t : Tally). HasDrawn old.tally t (event kind.Lock line mutex 0 ∷ [])) (sym taken.tally) (drew_nothing old.tally (event kind.Lock line mutex 0) refl))
         (drew_then a.tally b.tally new.tally (log_of body) (log_of (Put (event kind.Unlock end mutex 0) Rest)) done.draws tally_is));
+    forked =
+        let first = ap (λ (t : Tally). t.forked) taken.tally in
+        let same = ap (λ (rs : List RegionWork). length rs) (regions_then body (Put (event kind.Unlock end mutex 0) Rest) ∙ append-nil (work_regions body)) in
+        let within = done.forked in
+        omega (arith, first, same, within, unlocked_forks);
+    told =
+        let same = ap (λ (rs : List RegionWork). length rs) (regions_then body (Put (event kind.Unlock end mutex 0) Rest) ∙ append-nil (work_regions body)) in
+        let records = ap (λ (rs : List Record). length rs) (section_log mutex line end some body) in
+        let within = done.told in
+        omega (arith, same, records, within, length-append (log_of body) (log_of (Put (event kind.Unlock end mutex 0) Rest)));
+    elements = (tt, elements_then (element_width w.arrays) body (Put (event kind.Unlock end mutex 0) Rest) done.elements (tt, tt));
     sound = (
       lock_sound w mutex line,
       (λ is. cc),
@@ -213,7 +226,7 @@ module _ (w : WorldValue) (mutex line end : ℕ) (some : 1 ≤ line) (old a b ne
   section_reads fit = (fits_then body (Put (event kind.Unlock end mutex 0) Rest) fit.1).0
 
   room_left : log_limit - a.buffer.count ≡ log_limit - old.buffer.count - 1
-  room_left = let count = taken.count in omega arith
+  room_left = let count = taken.log.count in omega arith
 
   some_room : 0 < log_limit - old.buffer.count
   some_room = let below = taken.below in omega arith
@@ -253,31 +266,34 @@ module _ (w : WorldValue) (at : Site) (code : Code) (mutex line end : ℕ) (some
     work = section mutex line end m.work;
     forks = m.forks;
     own = [];
-    done = section_done w mutex line end some old a b new m.work taken given.hand gained tallied m.done;
+    done = section_done w mutex line end some old a b new m.work taken given.hand gained tallied forked m.done;
     released =
         released_at_end mutex line end some at_end m.work old.hand.view.held all
         (subst (λ (l : List ℕ). HasReleased (mutex ∷ old.hand.view.held) m.work l) m.closes
-        (subst (λ (h : List ℕ). HasReleased h m.work m.own) (held_is w mutex line end some old a b new m.work taken given.hand gained tallied) m.released));
+        (subst (λ (h : List ℕ). HasReleased h m.work m.own) (held_is w mutex line end some old a b new m.work taken given.hand gained tallied forked) m.released));
     closes = refl;
-    ended = section_regions w mutex line end some old a b new m.work taken given.hand gained tallied (λ rs. HaveEnded rs) m.ended;
+    ended = section_regions w mutex line end some old a b new m.work taken given.hand gained tallied forked (λ rs. HaveEnded rs) m.ended;
     unrefused = given.unrefused;
     makes = λ fit.
         subst (λ (e : Effect). Makes (run at (tree.Critical mutex line end code tree.Done)) slots (log_limit - old.buffer.count) e (Returned tt)) effect_is
         (makes-Critical at slots (log_limit - old.buffer.count) mutex line end code tree.Done (effect_of slots' m.work m.forks) (adds slots' (event kind.Unlock end mutex 0 ∷ [])) (Returned tt)
-        (some_room w mutex line end some old a b new m.work taken given.hand gained tallied)
-        (subst (λ (k : ℕ). Makes (run at code) slots k (effect_of slots' m.work m.forks) (Returned tt)) (room_left w mutex line end some old a b new m.work taken given.hand gained tallied)
-        (m.makes (section_fits w mutex line end some old a b new m.work taken given.hand gained tallied fit)))
-        (unlocks (log_limit - old.buffer.count - 1 - length (log_of m.work)) (let first = taken.count in let body = m.done.log.count in let below = given.below in omega arith)));
-    regions = λ fit program is. section_regions w mutex line end some old a b new m.work taken given.hand gained tallied (λ rs. RunsRegions program m.forks rs) (m.regions (section_reads w mutex line end some old a b new m.work taken given.hand gained tallied fit) program is);
+        (some_room w mutex line end some old a b new m.work taken given.hand gained tallied forked)
+        (subst (λ (k : ℕ). Makes (run at code) slots k (effect_of slots' m.work m.forks) (Returned tt)) (room_left w mutex line end some old a b new m.work taken given.hand gained tallied forked)
+        (m.makes (section_fits w mutex line end some old a b new m.work taken given.hand gained tallied forked fit)))
+        (unlocks (log_limit - old.buffer.count - 1 - length (log_of m.work)) (let first = taken.log.count in let body = m.done.log.count in let below = given.below in omega arith)));
+    regions = λ fit program is. section_regions w mutex line end some old a b new m.work taken given.hand gained tallied forked (λ rs. RunsRegions program m.forks rs) (m.regions (section_reads w mutex line end some old a b new m.work taken given.hand gained tallied forked fit) program is);
   }
     where
+      forked : new.tally.forked ≡ b.tally.forked
+      forked = ap (λ (t : Tally). t.forked) given.tally
+
       tallied : HasDrawn b.tally new.tally (log_of (Put (event kind.Unlock end mutex 0) Rest))
       tallied =
           subst (λ (rs : List Record). HasDrawn b.tally new.tally rs) (sym (put_first (event kind.Unlock end mutex 0) Rest at_end))
           (subst (λ (t : Tally). HasDrawn b.tally t (event kind.Unlock end mutex 0 ∷ [])) (sym given.tally) (drew_nothing b.tally (event kind.Unlock end mutex 0) refl))
 
       gained : GainsRecords b.buffer new.buffer (log_of (Put (event kind.Unlock end mutex 0) Rest))
-      gained = subst (λ (rs : List Record). GainsRecords b.buffer new.buffer rs) (sym (put_first (event kind.Unlock end mutex 0) Rest at_end)) (record { records = given.records; count = given.count })
+      gained = subst (λ (rs : List Record). GainsRecords b.buffer new.buffer rs) (sym (put_first (event kind.Unlock end mutex 0) Rest at_end)) given.log
 
       log_is : event kind.Lock line mutex 0 ∷ (log_of m.work ++ event kind.Unlock end mutex 0 ∷ []) ≡ log_of (section mutex line end m.work)
       log_is =
@@ -290,11 +306,21 @@ module _ (w : WorldValue) (at : Site) (code : Code) (mutex line end : ℕ) (some
 
 -- ---- sections that are left at a stop
 
+-- regions of a task that took a lock before
+stops_from : (arrays : List Array) (old a : Progress) (cause : Cause) (forks : List Fork) (regions : List RegionWork) {event : Record} {after : View} → Takes event after old a → StopsBy arrays a cause forks regions → StopsBy arrays old cause forks regions
+stops_from arrays old a AtLog forks regions taken stops = stops
+stops_from arrays old a (AtRegion path why) forks regions taken stops =
+    subst (λ (at : List Step). StopsAtLast arrays at old.tally.forked path why forks regions) taken.log.path
+    (subst (λ (t : Tally). StopsAtLast arrays a.buffer.path t.forked path why forks regions) taken.tally stops)
+
 module _ (w : WorldValue) (part inner : State → Outcome (Unit {0})) (mutex line : ℕ) (some : 1 ≤ line) (slots slots' : List ℤ) (old a b new : Progress)
     (same : (s : State) → part s ≡ after (put (event kind.Lock line mutex 0) s) inner)
     (taken : Takes (event kind.Lock line mutex 0) (locked old.hand.view mutex) old a) (hand_is : new.hand ≡ with_view b.hand (unlocked b.hand.view mutex)) (buffer_is : new.buffer ≡ b.buffer) (same_tally : new.tally ≡ b.tally) where
   abbrev lock_record : Record
   lock_record = event kind.Lock line mutex 0
+
+  forked : new.tally.forked ≡ b.tally.forked
+  forked = ap (λ (t : Tally). t.forked) same_tally
 
   tallied : HasDrawn b.tally new.tally (log_of (Put (release mutex) Rest))
   tallied = subst (λ (t : Tally). HasDrawn b.tally t []) (sym same_tally) (drew_none b.tally)
@@ -303,6 +329,7 @@ module _ (w : WorldValue) (part inner : State → Outcome (Unit {0})) (mutex lin
   gained = record {
     records = λ header records holds. subst (λ (rs : List Record). HoldsRecords header new.buffer rs) (sym (append-nil records)) (subst (λ (x : Buffered). HoldsRecords header x records) (sym buffer_is) holds);
     count = ap (λ (x : Buffered). x.count) buffer_is ∙ (let e : b.buffer.count ≡ b.buffer.count + 0 = omega arith in e);
+    path = ap (λ (x : Buffered). x.path) buffer_is;
   }
 
   left_log : (work : Work) → lock_record ∷ log_of work ≡ log_of (section mutex line 0 work)
@@ -311,26 +338,26 @@ module _ (w : WorldValue) (part inner : State → Outcome (Unit {0})) (mutex lin
   left_released : (work : Work) (own : List ℕ) → HasReleased a.hand.view.held work own → HasReleased old.hand.view.held (section mutex line 0 work) (own ++ mutex ∷ [])
   left_released work own r =
       released_at_stop mutex line some work old.hand.view.held own
-      (subst (λ (h : List ℕ). HasReleased h work own) (held_is w mutex line 0 some old a b new work taken hand_is gained tallied) r)
+      (subst (λ (h : List ℕ). HasReleased h work own) (held_is w mutex line 0 some old a b new work taken hand_is gained tallied forked) r)
 
   left_halts : (why : model.Stop) (at_line : ℕ) → Made w inner slots slots' a b (Halted why at_line) → Made w part slots slots' old new (Halted why at_line)
   left_halts why at_line m = record {
     work = section mutex line 0 m.work;
     forks = m.forks;
     own = m.own ++ mutex ∷ [];
-    done = section_done w mutex line 0 some old a b new m.work taken hand_is gained tallied m.done;
+    done = section_done w mutex line 0 some old a b new m.work taken hand_is gained tallied forked m.done;
     released = left_released m.work m.own m.released;
     closes = tt;
-    ended = section_regions w mutex line 0 some old a b new m.work taken hand_is gained tallied (λ rs. HaveEnded rs) m.ended;
+    ended = section_regions w mutex line 0 some old a b new m.work taken hand_is gained tallied forked (λ rs. HaveEnded rs) m.ended;
     unrefused = ap (λ (x : Buffered). x.refused) buffer_is ∙ m.unrefused;
     makes = λ fit.
         makes-same (λ s. after (put lock_record s) inner) part slots (log_limit - old.buffer.count) (effect_of slots' (section mutex line 0 m.work) m.forks) (Halted why at_line) same
         (subst (λ (rs : List Record). Makes (λ s. after (put lock_record s) inner) slots (log_limit - old.buffer.count) (record { slots = slots'; added = rs; forks = m.forks }) (Halted why at_line)) (left_log m.work)
         (makes-after (put lock_record) inner slots (log_limit - old.buffer.count) (adds slots (lock_record ∷ [])) (effect_of slots' m.work m.forks) (Halted why at_line)
-        (makes-put lock_record slots (log_limit - old.buffer.count) (some_room w mutex line 0 some old a b new m.work taken hand_is gained tallied) refl refl)
-        (subst (λ (k : ℕ). Makes inner slots k (effect_of slots' m.work m.forks) (Halted why at_line)) (room_left w mutex line 0 some old a b new m.work taken hand_is gained tallied)
-        (m.makes (section_fits w mutex line 0 some old a b new m.work taken hand_is gained tallied fit)))));
-    regions = λ fit program is. section_regions w mutex line 0 some old a b new m.work taken hand_is gained tallied (λ rs. RunsRegions program m.forks rs) (m.regions (section_reads w mutex line 0 some old a b new m.work taken hand_is gained tallied fit) program is);
+        (makes-put lock_record slots (log_limit - old.buffer.count) (some_room w mutex line 0 some old a b new m.work taken hand_is gained tallied forked) refl refl)
+        (subst (λ (k : ℕ). Makes inner slots k (effect_of slots' m.work m.forks) (Halted why at_line)) (room_left w mutex line 0 some old a b new m.work taken hand_is gained tallied forked)
+        (m.makes (section_fits w mutex line 0 some old a b new m.work taken hand_is gained tallied forked fit)))));
+    regions = λ fit program is. section_regions w mutex line 0 some old a b new m.work taken hand_is gained tallied forked (λ rs. RunsRegions program m.forks rs) (m.regions (section_reads w mutex line 0 some old a b new m.work taken hand_is gained tallied forked fit) program is);
   }
 
   left_begins : (cause : Cause) → Began w inner slots a b cause → Began w part slots old new cause
@@ -338,26 +365,26 @@ module _ (w : WorldValue) (part inner : State → Outcome (Unit {0})) (mutex lin
     work = section mutex line 0 m.work;
     forks = m.forks;
     own = m.own ++ mutex ∷ [];
-    done = section_done w mutex line 0 some old a b new m.work taken hand_is gained tallied m.done;
+    done = section_done w mutex line 0 some old a b new m.work taken hand_is gained tallied forked m.done;
     released = left_released m.work m.own m.released;
     ends = subst (λ (rs : List Record). EndsBy cause rs) (left_log m.work) (ends_then cause (lock_record ∷ []) (log_of m.work) m.ends);
-    stops = section_regions w mutex line 0 some old a b new m.work taken hand_is gained tallied (λ rs. StopsBy w.arrays cause m.forks rs) m.stops;
+    stops = section_regions w mutex line 0 some old a b new m.work taken hand_is gained tallied forked (λ rs. StopsBy w.arrays old cause m.forks rs) (stops_from w.arrays old a cause m.forks (work_regions m.work) taken m.stops);
     begins = λ fit.
         begins_same (λ s. and_then (put lock_record s) (λ u t. inner t)) part slots (log_limit - old.buffer.count) (log_of (section mutex line 0 m.work)) m.forks (λ s. same s ∙ after_is (put lock_record s) inner)
         (subst (λ (rs : List Record). BeginsPart (λ s. and_then (put lock_record s) (λ u t. inner t)) slots (log_limit - old.buffer.count) rs m.forks) (left_log m.work)
         (begins_then (put lock_record) (λ u t. inner t) slots (log_limit - old.buffer.count) (adds slots (lock_record ∷ [])) tt (log_of m.work) m.forks
-        (makes-put lock_record slots (log_limit - old.buffer.count) (some_room w mutex line 0 some old a b new m.work taken hand_is gained tallied) refl refl)
-        (subst (λ (k : ℕ). BeginsPart inner slots k (log_of m.work) m.forks) (room_left w mutex line 0 some old a b new m.work taken hand_is gained tallied)
-        (m.begins (section_fits w mutex line 0 some old a b new m.work taken hand_is gained tallied fit)))));
-    regions = λ fit program is. section_regions w mutex line 0 some old a b new m.work taken hand_is gained tallied (λ rs. RunsRegions program m.forks rs) (m.regions (section_reads w mutex line 0 some old a b new m.work taken hand_is gained tallied fit) program is);
+        (makes-put lock_record slots (log_limit - old.buffer.count) (some_room w mutex line 0 some old a b new m.work taken hand_is gained tallied forked) refl refl)
+        (subst (λ (k : ℕ). BeginsPart inner slots k (log_of m.work) m.forks) (room_left w mutex line 0 some old a b new m.work taken hand_is gained tallied forked)
+        (m.begins (section_fits w mutex line 0 some old a b new m.work taken hand_is gained tallied forked fit)))));
+    regions = λ fit program is. section_regions w mutex line 0 some old a b new m.work taken hand_is gained tallied forked (λ rs. RunsRegions program m.forks rs) (m.regions (section_reads w mutex line 0 some old a b new m.work taken hand_is gained tallied forked fit) program is);
   }
 
   pub section_left : (why : Halt) → Goes w inner slots slots' a b (Err why) → Goes w part slots slots' old new (Err why)
   section_left (halt.DivZero at_line) m = left_halts model.DivZero at_line m
   section_left (halt.Index at_line) m = left_halts model.Index at_line m
   section_left (halt.LogFull at_line) m = left_halts model.LogFull at_line m
-  section_left (halt.Region why) m = left_begins (AtRegion why) m
-  section_left (halt.Trouble trouble) (m, refused) = (left_begins AtLog m, record { refused = ap (λ (x : Buffered). x.refused) buffer_is ∙ refused.refused })
+  section_left (halt.Region path why) m = left_begins (AtRegion path why) m
+  section_left (halt.Trouble trouble) (m, refused) = (left_begins AtLog m, record { refused = λ other. ap (λ (x : Buffered). x.refused) buffer_is ∙ refused.refused other })
 
 -- a lane that put a record after its step can go on
 pub can_taken : (w : WorldValue) (event : Record) (after : View) (old new : Progress) → CanGo w old → Takes event after old new → CanGo w new
@@ -365,5 +392,6 @@ can_taken w event after old new can taken = record {
   belongs = record { here = ap (λ (h : HandValue View). h.table) taken.hand ∙ can.belongs.here; there = ap (λ (h : HandValue View). h.there) taken.hand };
   unrefused = taken.unrefused;
   drawing = subst (λ (t : Tally). Belongs t.draws w.chunks.table) (sym taken.tally) can.drawing;
-  enough = let enough = can.enough in let count = taken.count in let left : new.tally.draws.view.left ≡ old.tally.draws.view.left = ap (λ (t : Tally). t.draws.view.left) taken.tally in omega arith;
+  forks = let forks = can.forks in let count = taken.log.count in let same = ap (λ (t : Tally). t.forked) taken.tally in omega arith;
+  enough = let enough = can.enough in let count = taken.log.count in let left : new.tally.draws.view.left ≡ old.tally.draws.view.left = ap (λ (t : Tally). t.draws.view.left) taken.tally in omega arith;
 }

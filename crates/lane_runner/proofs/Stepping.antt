@@ -22,12 +22,12 @@ use Rattle.race_model.specs.Race.{held_after, held_after_kind}
 use Rattle.execution_model.specs.Runs.{RunsRegions}
 use Rattle.event_buffer.specs.Logged.{HoldsRecords}
 use Rattle.event_buffer.specs.declared.fault.BufferFault.{BufferFault}
-use Rattle.execution_model.specs.Fitting.{IsFittingRead}
+use Rattle.execution_model.specs.Fitting.{IsFittingRead, IsOfElement}
 use Rattle.lane_runner.specs.declared.stop.Halt.{Halt}
 use Rattle.lane_runner.specs.declared.stop.Halt.TheVariants as halt
 use Rattle.lane_runner.specs.Drawing.{Tally, HasDrawn}
 use Rattle.lane_runner.proofs.Drawing.{drew_none, drew_nothing}
-use Rattle.lane_runner.specs.World.{WorldValue, element_word, layout_of}
+use Rattle.lane_runner.specs.World.{WorldValue, element_word, element_width, layout_of}
 use Rattle.lane_runner.specs.Going.{Progress, CanGo, log_of, worked, GainsRecords, HasDone, Made, Goes, Waits, HasRoomFor, MakesRoom}
 use Rattle.lane_runner.proofs.Working.{done_none, view_same}
 use Rattle.lane_runner.proofs.Beginning.{begins_none}
@@ -48,8 +48,12 @@ waits_done w old new there waits =
       log = record {
         records = λ header records holds. subst (λ (rs : List Record). HoldsRecords header new.buffer rs) (sym (append-nil records)) (waits.records header records holds);
         count = let same = waits.count in omega arith;
+        path = waits.path;
       };
       draws = subst (λ (t : Tally). HasDrawn old.tally t []) (sym waits.tally) (drew_none old.tally);
+      forked = let same = ap (λ (t : Tally). t.forked) waits.tally in omega (arith, same);
+      told = omega arith;
+      elements = tt;
       sound = tt;
       no_barrier = refl;
     }
@@ -92,7 +96,7 @@ module _ (w : WorldValue) {A : Type 0} (part : State → Outcome A) (slots : Lis
   )
   goes_unready old new (halt.DivZero at_line) can room = absurd room
   goes_unready old new (halt.Index at_line) can room = absurd room
-  goes_unready old new (halt.Region why) can room = absurd room
+  goes_unready old new (halt.Region path why) can room = absurd room
 
 -- ---- one record
 
@@ -113,33 +117,42 @@ worked_one word v event deed is =
     view_same v v.splits (v.splits + 0) (v.items ++ item v.name deed ∷ []) (v.items ++ (map (item v.name) (deeds_of word event.kind event) ++ [])) (omega arith)
     (ap (λ (deeds : List Deed). v.items ++ (map (item v.name) deeds ++ [])) (sym is))
 
+-- a record that was put, once there was room
+pub gains_after : (old mid new : Progress) (event : Record) → HasRoomFor old mid → GainsRecords mid.buffer new.buffer (event ∷ []) → GainsRecords old.buffer new.buffer (event ∷ [])
+gains_after old mid new event room gains = record {
+  records = λ header before holds. gains.records header before (room.waits.records header before holds);
+  count = let same = room.waits.count in let count = gains.count in omega arith;
+  path = gains.path ∙ room.waits.path;
+}
+
 module _ (w : WorldValue) (old mid new : Progress) (event : Record) (deed : Deed) where
   one_done : HasRoomFor old mid → new.hand ≡ with_view mid.hand (hand.did mid.hand.view deed) → deeds_of (element_word w.arrays) event.kind event ≡ deed ∷ []
-      → new.buffer.count ≡ mid.buffer.count + 1 → ((header : List ℕ) (records : List Record) → HoldsRecords header mid.buffer records → HoldsRecords header new.buffer (records ++ event ∷ []))
-      → 1 ≤ event.line → IsSoundRecord (layout_of w.arrays) event → is_barrier_kind event.kind ≡ false → new.tally ≡ mid.tally → number_drawn event.kind event.addr ≡ None → HasDone w old new (Put event Rest)
-  one_done room hand_is deeds count records some sound plain tally none = record {
+      → GainsRecords mid.buffer new.buffer (event ∷ []) → 1 ≤ event.line → IsSoundRecord (layout_of w.arrays) event → is_barrier_kind event.kind ≡ false → new.tally ≡ mid.tally → number_drawn event.kind event.addr ≡ None
+      → IsOfElement (element_width w.arrays) event.kind event → HasDone w old new (Put event Rest)
+  one_done room hand_is deeds gains some sound plain tally none element = record {
     hand = hand_is
         ∙ ap (λ (h : HandValue View). with_view h (hand.did h.view deed)) room.waits.hand
         ∙ ap (λ (v : View). with_view old.hand v) (worked_one (element_word w.arrays) old.hand.view event deed deeds);
-    log = subst (λ (rs : List Record). GainsRecords old.buffer new.buffer rs) (sym (put_one event some))
-        (record { records = λ header before holds. records header before (room.waits.records header before holds); count = let same = room.waits.count in omega (arith, same, count) });
+    log = subst (λ (rs : List Record). GainsRecords old.buffer new.buffer rs) (sym (put_one event some)) (gains_after old mid new event room gains);
     draws = subst (λ (rs : List Record). HasDrawn old.tally new.tally rs) (sym (put_one event some))
         (subst (λ (t : Tally). HasDrawn old.tally t (event ∷ [])) (sym (tally ∙ room.waits.tally)) (drew_nothing old.tally event none));
+    forked = let same = ap (λ (t : Tally). t.forked) (tally ∙ room.waits.tally) in omega (arith, same);
+    told = omega arith;
+    elements = (element, tt);
     sound = (sound, (λ is. refl), tt);
     no_barrier = rw plain refl;
   }
 
   -- the record was put, and its step taken
   pub made_one : {A : Type 0} (part : State → Outcome A) (slots : List ℤ) (a : A) → HasRoomFor old mid → new.hand ≡ with_view mid.hand (hand.did mid.hand.view deed)
-      → deeds_of (element_word w.arrays) event.kind event ≡ deed ∷ [] → new.buffer.count ≡ mid.buffer.count + 1 → new.buffer.refused ≡ None
-      → ((header : List ℕ) (records : List Record) → HoldsRecords header mid.buffer records → HoldsRecords header new.buffer (records ++ event ∷ []))
+      → deeds_of (element_word w.arrays) event.kind event ≡ deed ∷ [] → new.buffer.refused ≡ None → GainsRecords mid.buffer new.buffer (event ∷ [])
       → 1 ≤ event.line → IsSoundRecord (layout_of w.arrays) event → is_barrier_kind event.kind ≡ false
-      → new.tally ≡ mid.tally → number_drawn event.kind event.addr ≡ None → ((held : List ℕ) → held_after_kind event.kind event.addr held ≡ held) → ((room : ℕ) → 0 < room → IsFittingRead event.kind event → Makes part slots room (adds slots (event ∷ [])) (Returned a)) → Made w part slots slots old new (Returned a)
-  made_one part slots a room hand_is deeds count unrefused records some sound plain tally none holds makes = record {
+      → new.tally ≡ mid.tally → number_drawn event.kind event.addr ≡ None → IsOfElement (element_width w.arrays) event.kind event → ((held : List ℕ) → held_after_kind event.kind event.addr held ≡ held) → ((room : ℕ) → 0 < room → IsFittingRead event.kind event → Makes part slots room (adds slots (event ∷ [])) (Returned a)) → Made w part slots slots old new (Returned a)
+  made_one part slots a room hand_is deeds unrefused gains some sound plain tally none element holds makes = record {
     work = Put event Rest;
     forks = [];
     own = [];
-    done = one_done room hand_is deeds count records some sound plain tally none;
+    done = one_done room hand_is deeds gains some sound plain tally none element;
     released = record {
       records = sym (put_one event some) ∙ sym (append-nil (log_of (Put event Rest)));
       held = ap (λ (rs : List Record). held_after (reverse old.hand.view.held) rs) (put_one event some) ∙ holds (reverse old.hand.view.held);

@@ -1,5 +1,5 @@
 -- The value of an expression, from those of its parts.
-use Rattle.std.proofs.Common.{◌≡◌, refl, ap, sym, ◌∙◌, subst, ℕ, ◌-◌, List, [], ℤ, Option, Some, None, Result, Ok, Err}
+use Rattle.std.proofs.Common.{◌≡◌, refl, ap, sym, ◌∙◌, subst, ℕ, ◌-◌, List, [], ℤ, Option, Some, None, Result, Ok, Err, arith}
 use Rattle.std.specs.Prelude.{ok_or}
 use Rattle.kernel_syntax.specs.declared.syntax.Op.{Op}
 use Rattle.kernel_syntax.specs.Arithmetic.{applied, negated}
@@ -36,6 +36,7 @@ can_follow w part slots slots' old new finish can m = record {
   belongs = record { here = ap (λ (h : HandValue View). h.table) m.done.hand ∙ can.belongs.here; there = ap (λ (h : HandValue View). h.there) m.done.hand };
   unrefused = m.unrefused;
   drawing = record { here = ap (λ (h : HandValue Share). h.table) m.done.draws.draws ∙ can.drawing.here; there = ap (λ (h : HandValue Share). h.there) m.done.draws.draws ∙ can.drawing.there };
+  forks = let forks = can.forks in let more = m.done.forked in let told = m.done.told in let count = m.done.log.count in omega arith;
   enough = draws_left old.tally new.tally (log_of m.work) old.buffer.count new.buffer.count m.done.draws m.done.log.count can.enough;
 }
 

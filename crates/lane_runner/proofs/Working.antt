@@ -1,5 +1,5 @@
 -- Works one after another: what a hand has of them, and a log.
-use Rattle.std.proofs.Common.{◌≡◌, refl, ap, sym, ◌∙◌, subst, ℕ, ◌+◌, List, [], ◌∷◌, ◌++◌, arith, append_assoc, true, cond}
+use Rattle.std.proofs.Common.{◌≡◌, refl, ap, sym, ◌∙◌, subst, ℕ, ◌+◌, List, [], ◌∷◌, ◌++◌, length, arith, append_assoc, true, cond}
 use Rattle.std.proofs.lemmas.List.{append-nil, length-append}
 use Rattle.std.proofs.lemmas.List.Elements.{filter-append}
 use Rattle.std.proofs.lemmas.List.Sums.{sum_by-append}
@@ -22,7 +22,8 @@ use Rattle.event_buffer.specs.Buffered.{Buffered}
 use Rattle.event_buffer.specs.Logged.{HoldsRecords}
 use Rattle.lane_runner.specs.Drawing.{HasDrawn}
 use Rattle.lane_runner.proofs.Drawing.{drew_none, drew_then}
-use Rattle.lane_runner.specs.World.{WorldValue, element_word, layout_of}
+use Rattle.lane_runner.specs.World.{WorldValue, element_word, element_width, layout_of}
+use Rattle.lane_runner.specs.Fitting.{AccessesElements}
 use Rattle.lane_runner.specs.Going.{Progress, log_of, worked, GainsRecords, HasDone}
 
 put_append : (xs ys : List Record) → put_records (xs ++ ys) ≡ put_records xs ++ put_records ys
@@ -66,16 +67,33 @@ pub gains_then : (a b c : Buffered) (one more : List Record) → GainsRecords a 
 gains_then a b c one more x y = record {
   records = λ header records holds. subst (λ (rs : List Record). HoldsRecords header c rs) (append_assoc records one more) (y.records header (records ++ one) (x.records header records holds));
   count = omega (arith, x.count, y.count, length-append one more);
+  path = y.path ∙ x.path;
 }
+
+pub elements_then : (width : ℕ → ℕ) (work other : Work) → AccessesElements width work → AccessesElements width other → AccessesElements width (then_work work other)
+elements_then width Rest other x y = y
+elements_then width (Put r more) other x y = (x.0, elements_then width more other x.1 y)
+elements_then width (Work.Fork line span phases more) other x y = (x.0, elements_then width more other x.1 y)
 
 pub barriers_none : (xs ys : List Record) → barrier_count xs ≡ 0 → barrier_count ys ≡ 0 → barrier_count (xs ++ ys) ≡ 0
 barriers_none xs ys one more = let sum = sum_by-append (λ (r : Record). cond (is_barrier_kind r.kind) 1 0) xs ys in omega (arith, sum, one, more)
+
+pub regions_then : (work other : Work) → work_regions (then_work work other) ≡ work_regions work ++ work_regions other
+regions_then Rest other = refl
+regions_then (Work.Put r more) other = regions_then more other
+regions_then (Work.Fork line span phases more) other = ap (λ (rs : List RegionWork). record { span = span; phases = phases } ∷ rs) (regions_then more other)
 
 pub done_then : (w : WorldValue) (a b c : Progress) (work other : Work) → HasDone w a b work → HasDone w b c other → HasDone w a c (then_work work other)
 done_then w a b c work other x y = record {
   hand = hand_then (element_word w.arrays) a.hand b.hand c.hand work other x.hand y.hand;
   log = subst (λ (rs : List Record). GainsRecords a.buffer c.buffer rs) (sym (log_then work other)) (gains_then a.buffer b.buffer c.buffer (log_of work) (log_of other) x.log y.log);
   draws = subst (λ (rs : List Record). HasDrawn a.tally c.tally rs) (sym (log_then work other)) (drew_then a.tally b.tally c.tally (log_of work) (log_of other) x.draws y.draws);
+  forked = let sum = ap (λ (rs : List RegionWork). length rs) (regions_then work other) ∙ length-append (work_regions work) (work_regions other) in omega (arith, sum, x.forked, y.forked);
+  told =
+      let regions = ap (λ (rs : List RegionWork). length rs) (regions_then work other) ∙ length-append (work_regions work) (work_regions other) in
+      let records = ap (λ (rs : List Record). length rs) (log_then work other) ∙ length-append (log_of work) (log_of other) in
+      omega (arith, regions, records, x.told, y.told);
+  elements = elements_then (element_width w.arrays) work other x.elements y.elements;
   sound = then_sound (layout_of w.arrays) work other x.sound y.sound x.no_barrier;
   no_barrier = ap (λ (rs : List Record). barrier_count rs) (then_records work other) ∙ barriers_none (work_records work) (work_records other) x.no_barrier y.no_barrier;
 }
@@ -90,8 +108,12 @@ done_none w a there = record {
   log = record {
     records = λ header records holds. subst (λ (rs : List Record). HoldsRecords header a.buffer rs) (sym (append-nil records)) holds;
     count = omega arith;
+    path = refl;
   };
   draws = drew_none a.tally;
+  forked = omega arith;
+  told = omega arith;
+  elements = tt;
   sound = tt;
   no_barrier = refl;
 }
@@ -104,11 +126,6 @@ regions_both program (f ∷ one) more [] others runs later = elim runs [ ]
 regions_both program [] more (w ∷ works) others runs later = elim runs [ ]
 regions_both program (f ∷ one) more (w ∷ works) others (RunsRegions.region fork forks work ws span lanes drew rest) later =
     RunsRegions.region f (one ++ more) w (works ++ others) span lanes drew (regions_both program one more works others rest later)
-
-pub regions_then : (work other : Work) → work_regions (then_work work other) ≡ work_regions work ++ work_regions other
-regions_then Rest other = refl
-regions_then (Work.Put r more) other = regions_then more other
-regions_then (Work.Fork line span phases more) other = ap (λ (rs : List RegionWork). record { span = span; phases = phases } ∷ rs) (regions_then more other)
 
 pub runs_then : (program : Program) (one more : List Fork) (work other : Work) → RunsRegions program one (work_regions work) → RunsRegions program more (work_regions other)
     → RunsRegions program (one ++ more) (work_regions (then_work work other))

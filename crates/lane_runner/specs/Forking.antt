@@ -1,6 +1,9 @@
 -- Regions that a lane forks: what it asks of who runs them, and what that gives.
 use Rattle.std.specs.Prelude.{◌≡◌, ℕ, ◌+◌, ◌<◌, List, ◌++◌, ℤ, Result, Ok, Err}
+use Rattle.sw_base.specs.declared.path.Step.{Step}
 use denote.Ref.{Bor, MutBor}
+use Rattle.std.specs.Global.{Vec}
+use Rattle.event_buffer.specs.Buffered.{Buffered}
 use Rattle.kernel_syntax.specs.declared.syntax.Array.{Array}
 use Rattle.kernel_syntax.specs.declared.syntax.Team.{Team}
 use Rattle.kernel_syntax.specs.Program.{Program, team_of}
@@ -16,37 +19,44 @@ use Rattle.execution_model.specs.Execution.{DrewSome}
 use Rattle.execution_model.specs.Runs.{RunsTask, lane_begin, region_logs}
 use Rattle.lane_runner.specs.declared.locals.Locals.{Locals}
 use Rattle.lane_runner.specs.declared.stop.Stop.{Stop}
-use Rattle.lane_runner.specs.Fitting.{PhasesFit}
+use Rattle.lane_runner.specs.Children.{LogView, AreNewLogs}
+use Rattle.lane_runner.specs.Fitting.{PhasesFit, PhasesAccessElements}
 use Rattle.lane_runner.specs.Stopping.{StopsRegion}
-use Rattle.lane_runner.specs.World.{WorldValue, element_word, layout_of}
+use Rattle.lane_runner.specs.World.{WorldValue, element_word, element_width, layout_of}
 
 -- a hand's view once all hands that it split off for the phases are home
 abbrev pub after_phases : (ℕ → ℕ) → ℕ → Phases → View → View
 after_phases word span phases v = record v { splits = v.splits + phase_splits phases; items = v.items ++ did_phases word v.name v.splits span phases }
 
--- how a region ends, by what is answered: each lane has ended, or the stop is that of a task of the region
-abbrev pub EndsAs : List Array → Fork → Phases → Result (Unit {0}) Stop → Type 0
-EndsAs arrays fork phases (Ok _) = PhasesEnd phases
-EndsAs arrays fork phases (Err why) = StopsRegion arrays why fork phases
+-- what runs a region answers, if not Ok: the path of the task that stopped, and why
+abbrev pub Answer : Type 0
+Answer = Result (Unit {0}) (List Step × Stop)
 
--- The lanes of a region of this team did these phases, from these locals at the fork, ended by this answer, and all their hands are
--- home.
-pub record RanRegion (w : WorldValue) (team : TeamTree) (slots : List ℤ) (old new : HandValue View) (r : Result (Unit {0}) Stop) : Type 0 where
+-- how the region of this number of the task `at` ends, by what is answered: each lane has ended, or a task of the region stopped
+abbrev pub EndsAs : List Array → List Step → ℕ → Fork → Phases → Answer → Type 0
+EndsAs arrays at number fork phases (Ok _) = PhasesEnd phases
+EndsAs arrays at number fork phases (Err stopped) = StopsRegion arrays at number stopped.0 stopped.1 fork phases
+
+-- The lanes of a region of this team, that of this number of the task `at`, did these phases, from these locals at the fork, ended by
+-- this answer, and all their hands are home.
+pub record RanRegion (w : WorldValue) (team : TeamTree) (slots : List ℤ) (at : List Step) (number : ℕ) (old new : HandValue View) (r : Answer) : Type 0 where
   pub phases : Phases
   pub sound : ArePhasesSound (layout_of w.arrays) team.span phases
+  pub elements : PhasesAccessElements (element_width w.arrays) phases
   pub hand : new ≡ with_view old (after_phases (element_word w.arrays) team.span phases old.view)
   pub lanes : PhasesFit phases → (program : Program) → program.arrays ≡ w.arrays → (lane : ℕ) → lane < team.span →
       RunsTask program (lane_begin (record { team = team; slots = slots }) lane) (lane_works lane phases)
   pub drawn : (loop : ℕ) → DrewSome (region_logs phases team.span) loop
   pub joined : ArePhasesJoined phases
-  pub ends : EndsAs w.arrays (record { team = team; slots = slots }) phases r
+  pub ends : EndsAs w.arrays at number (record { team = team; slots = slots }) phases r
 
--- What a lane asks of the function that runs regions, for a region of this team: it may be called with each hand that holds nothing,
--- and with these logs for the lanes, and runs the region from the locals given.
-pub record RunsTeam {Logs Done : Type 0} (w : WorldValue) (accepts : MutBor (HandValue View) → Bor Locals → Logs → Bor Team → MutBor Done → Type 0)
-    (gives : MutBor (HandValue View) → Bor Locals → Logs → Bor Team → MutBor Done → Result (Unit {0}) Stop → MutBor (HandValue View) → MutBor Done → Type 0)
-    (logs : Logs) (team : TeamTree) : Type 0 where
-  pub accepted : (hand : MutBor (HandValue View)) (locals : Bor Locals) (given : Bor Team) (done : MutBor Done) → team_of given.now ≡ team → IsFree hand.now w.words.table
-      → accepts hand locals logs given done
-  pub ran : (hand after : MutBor (HandValue View)) (locals : Bor Locals) (given : Bor Team) (done now_done : MutBor Done) (r : Result (Unit {0}) Stop) → team_of given.now ≡ team → IsFree hand.now w.words.table
-      → gives hand locals logs given done r after now_done → RanRegion w team locals.now.slots.items hand.now after.now r
+-- What a lane asks of the function that runs regions, for a region of this team of a task with this log: it may be called with each
+-- hand that holds nothing and with new logs for the lanes, which tell the region's number among those of the task, and runs the region
+-- from the locals given.
+pub record RunsTeam {T Done : Type 0} (w : WorldValue) (accepts : MutBor (HandValue View) → Bor Locals → Vec T → Bor Team → MutBor Done → Type 0)
+    (gives : MutBor (HandValue View) → Bor Locals → Vec T → Bor Team → MutBor Done → Answer → MutBor (HandValue View) → MutBor Done → Type 0)
+    (seen : LogView T) (task : Buffered) (team : TeamTree) : Type 0 where
+  pub accepted : (hand : MutBor (HandValue View)) (locals : Bor Locals) (logs : Vec T) (given : Bor Team) (done : MutBor Done) (number : ℕ) → team_of given.now ≡ team → IsFree hand.now w.words.table
+      → AreNewLogs seen task number team.span logs.items → accepts hand locals logs given done
+  pub ran : (hand after : MutBor (HandValue View)) (locals : Bor Locals) (logs : Vec T) (given : Bor Team) (done now_done : MutBor Done) (number : ℕ) (r : Answer) → team_of given.now ≡ team → IsFree hand.now w.words.table
+      → AreNewLogs seen task number team.span logs.items → gives hand locals logs given done r after now_done → RanRegion w team locals.now.slots.items task.path number hand.now after.now r

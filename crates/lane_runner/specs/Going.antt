@@ -1,8 +1,10 @@
 -- How a lane goes on: what its records, its hand and its locals have to do with the meaning of what it executes.
 use Rattle.std.specs.Prelude.{◌≡◌, ℕ, ◌+◌, ◌-◌, ◌≤◌, List, [], ◌∷◌, ◌++◌, length, map, reverse, ◌<◌, ℤ, Some, None, Result, Ok, Err, is_some}
 use Rattle.sw_base.specs.declared.trouble.Trouble.{Trouble}
+use Rattle.sw_base.specs.declared.trouble.Trouble.TheVariants.{Memory}
 use Rattle.log_format.specs.declared.record.Record.{Record}
 use Rattle.kernel_syntax.specs.declared.syntax.Array.{Array}
+use Rattle.sw_base.specs.declared.path.Step.{Step}
 use Rattle.kernel_syntax.specs.Program.{Program}
 use Rattle.kernel_model.specs.State as model
 use Rattle.kernel_model.specs.State.{State, Fork, Outcome, state_of, reads_of, chunks_of}
@@ -29,9 +31,9 @@ use Rattle.lane_runner.specs.declared.stop.Halt.{Halt}
 use Rattle.lane_runner.specs.declared.stop.Stop.{Stop}
 use Rattle.lane_runner.specs.declared.stop.Halt.TheVariants as halt
 use Rattle.lane_runner.specs.Drawing.{Tally, HasDrawn}
-use Rattle.lane_runner.specs.Fitting.{WorkFits}
+use Rattle.lane_runner.specs.Fitting.{WorkFits, AccessesElements}
 use Rattle.lane_runner.specs.Stopping.{HaveEnded, StopsAtLast}
-use Rattle.lane_runner.specs.World.{WorldValue, element_word, layout_of}
+use Rattle.lane_runner.specs.World.{WorldValue, element_word, element_width, layout_of}
 
 -- where a lane runs
 abbrev pub site : WorldValue → Site
@@ -43,13 +45,14 @@ pub record Progress : Type 0 where
   pub buffer : Buffered
   pub tally : Tally
 
--- the lane can go on: its hands belong to the words and to the counters, its log has refused nothing, and it may draw as often as its
--- log has room
+-- the lane can go on: its hands belong to the words and to the counters, its log has refused nothing and tells each fork, and it may
+-- draw as often as its log has room
 pub record CanGo (w : WorldValue) (p : Progress) : Type 0 where
   pub belongs : Belongs p.hand w.words.table
   pub unrefused : p.buffer.refused ≡ None
   pub drawing : Belongs p.tally.draws w.chunks.table
   pub enough : log_limit ≤ p.tally.draws.view.left + p.buffer.count
+  pub forks : p.tally.forked ≤ p.buffer.count
 
 -- the records that a work puts into its log
 abbrev pub log_of : Work → List Record
@@ -59,10 +62,11 @@ log_of work = put_records (work_records work)
 abbrev pub worked : (ℕ → ℕ) → View → Work → View
 worked word v work = record v { splits = v.splits + split_count work; items = v.items ++ tree.did word v.name v.splits work }
 
--- a log has gained these records
+-- a task's log has gained these records
 pub record GainsRecords (old new : Buffered) (added : List Record) : Type 0 where
   pub records : (header : List ℕ) (records : List Record) → HoldsRecords header old records → HoldsRecords header new (records ++ added)
   pub count : new.count ≡ old.count + length added
+  pub path : new.path ≡ old.path
 
 -- it is the same log before and after
 pub record IsSameLog (old new : Buffered) : Type 0 where
@@ -72,11 +76,14 @@ pub record IsSameLog (old new : Buffered) : Type 0 where
   pub tells : is_some new.text ≡ is_some old.text
   pub later : old.faults ≤ new.faults
 
--- the lane did the work: its hand has the steps, and its log the records
+-- the lane did the work: its hand has the steps, its log the records, and its counts the draws and the forks
 pub record HasDone (w : WorldValue) (old new : Progress) (work : Work) : Type 0 where
   pub hand : new.hand ≡ with_view old.hand (worked (element_word w.arrays) old.hand.view work)
   pub log : GainsRecords old.buffer new.buffer (log_of work)
   pub draws : HasDrawn old.tally new.tally (log_of work)
+  pub forked : new.tally.forked ≡ old.tally.forked + length (work_regions work)
+  pub told : length (work_regions work) ≤ length (log_of work)
+  pub elements : AccessesElements (element_width w.arrays) work
   pub sound : IsSound (layout_of w.arrays) work
   pub no_barrier : barrier_count (work_records work) ≡ 0
 
@@ -112,19 +119,19 @@ pub record LastIsRegion (records : List Record) : Type 0 where
   pub parts : records ≡ prefix ++ last ∷ []
   pub forks : last.kind ≡ Region
 
--- what keeps a lane from going on: its log refused a record, or the region that it forked last stopped so
+-- what keeps a lane from going on: its log refused a record, or in the region that it forked last the task of this path stopped so
 pub data Cause : Type 0 where
   AtLog : Cause
-  AtRegion : (why : Stop) → Cause
+  AtRegion : (path : List Step) → (why : Stop) → Cause
 
 abbrev pub EndsBy : Cause → List Record → Type 0
 EndsBy AtLog records = Unit {0}
-EndsBy (AtRegion why) records = LastIsRegion records
+EndsBy (AtRegion path why) records = LastIsRegion records
 
--- what the regions forked have to do with it
-abbrev pub StopsBy : List Array → Cause → List Fork → List RegionWork → Type 0
-StopsBy arrays AtLog forks regions = HaveEnded regions
-StopsBy arrays (AtRegion why) forks regions = StopsAtLast arrays why forks regions
+-- what the regions forked have to do with it, where the task has forked others before
+abbrev pub StopsBy : List Array → Progress → Cause → List Fork → List RegionWork → Type 0
+StopsBy arrays before AtLog forks regions = HaveEnded regions
+StopsBy arrays before (AtRegion path why) forks regions = StopsAtLast arrays before.buffer.path before.tally.forked path why forks regions
 
 -- what of the meaning of a part its work has made
 abbrev pub effect_of : List ℤ → Work → List Fork → Effect
@@ -151,7 +158,7 @@ pub record Began {A : Type 0} (w : WorldValue) (part : State → Outcome A) (slo
   pub done : HasDone w old new work
   pub released : HasReleased old.hand.view.held work own
   pub ends : EndsBy cause (log_of work)
-  pub stops : StopsBy w.arrays cause forks (work_regions work)
+  pub stops : StopsBy w.arrays old cause forks (work_regions work)
   pub begins : ReadsFit (work_records work) → BeginsPart part slots (log_limit - old.buffer.count) (log_of work) forks
   pub regions : WorkFits work → (program : Program) → program.arrays ≡ w.arrays → RunsRegions program forks (work_regions work)
 
@@ -160,6 +167,7 @@ pub record Waits (old new : Progress) : Type 0 where
   pub hand : new.hand ≡ old.hand
   pub records : (header : List ℕ) (records : List Record) → HoldsRecords header old.buffer records → HoldsRecords header new.buffer records
   pub count : new.buffer.count ≡ old.buffer.count
+  pub path : new.buffer.path ≡ old.buffer.path
   pub tally : new.tally ≡ old.tally
 
 -- and one record more may be put
@@ -167,9 +175,9 @@ pub record HasRoomFor (old new : Progress) : Type 0 where
   pub waits : Waits old new
   pub may_put : MayPut new.buffer
 
--- the log refused a record so
+-- the log refused so, where it wasn't memory that wasn't found
 pub record Refused (trouble : Trouble) (new : Progress) : Type 0 where
-  pub refused : new.buffer.refused ≡ Some trouble
+  pub refused : (trouble ≡ Memory → ⊥) → new.buffer.refused ≡ Some trouble
 
 -- how the execution of a part ends, by what is answered
 abbrev pub Goes : {A : Type 0} → WorldValue → (State → Outcome A) → List ℤ → List ℤ → Progress → Progress → Result A Halt → Type 0
@@ -177,14 +185,13 @@ Goes w part slots slots' old new (Ok v) = Made w part slots slots' old new (Retu
 Goes w part slots slots' old new (Err (halt.DivZero line)) = Made w part slots slots' old new (Halted model.DivZero line)
 Goes w part slots slots' old new (Err (halt.Index line)) = Made w part slots slots' old new (Halted model.Index line)
 Goes w part slots slots' old new (Err (halt.LogFull line)) = Made w part slots slots' old new (Halted model.LogFull line)
-Goes w part slots slots' old new (Err (halt.Region why)) = Began w part slots old new (AtRegion why)
+Goes w part slots slots' old new (Err (halt.Region path why)) = Began w part slots old new (AtRegion path why)
 Goes w part slots slots' old new (Err (halt.Trouble trouble)) = Began w part slots old new AtLog × Refused trouble new
 
 -- one record was put, after its step, which left this view
 pub record Takes (event : Record) (after : View) (old new : Progress) : Type 0 where
   pub hand : new.hand ≡ with_view old.hand after
-  pub records : (header : List ℕ) (records : List Record) → HoldsRecords header old.buffer records → HoldsRecords header new.buffer (records ++ event ∷ [])
-  pub count : new.buffer.count ≡ old.buffer.count + 1
+  pub log : GainsRecords old.buffer new.buffer (event ∷ [])
   pub below : old.buffer.count < log_limit
   pub unrefused : new.buffer.refused ≡ None
   pub tally : new.tally ≡ old.tally
@@ -202,6 +209,6 @@ MakesRoom line old new (Err (halt.Trouble trouble)) = Waits old new × Refused t
 MakesRoom line old new (Err _) = ⊥
 
 -- the record was put after its step, or has no place
-abbrev pub TakesOrHalts : Record → View → Progress → Progress → Result (Unit {0}) Halt → Type 0
+abbrev pub TakesOrHalts : {A : Type 0} → Record → View → Progress → Progress → Result A Halt → Type 0
 TakesOrHalts event after old new (Ok _) = Takes event after old new
 TakesOrHalts event after old new (Err why) = MakesRoom event.line old new (Err why)

@@ -1,8 +1,10 @@
 pub mod Alone
+pub mod Children
 pub mod Drawing
 pub mod Fitting
 pub mod Forking
 pub mod Going
+pub mod Phase
 pub mod Placing
 pub mod Stopping
 pub mod World

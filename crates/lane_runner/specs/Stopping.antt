@@ -1,5 +1,6 @@
 -- How regions end, and how one stops.
-use Rattle.std.specs.Prelude.{◌≡◌, ℕ, ◌<◌, List, [], ◌∷◌, ◌++◌, All, Option, Some, None, slice_get}
+use Rattle.std.specs.Prelude.{◌≡◌, ℕ, ◌+◌, ◌<◌, List, [], ◌∷◌, ◌++◌, length, All, Option, Some, None, slice_get}
+use Rattle.sw_base.specs.declared.path.Step.{Step}
 use Rattle.std.specs.List.{flat_map}
 use Rattle.kernel_syntax.specs.declared.syntax.Array.{Array}
 use Rattle.kernel_syntax.specs.Program.{Program}
@@ -27,25 +28,29 @@ ending_for (stop.LogFull line) = Some (Stopped model.LogFull line)
 ending_for (stop.Tasks line) = None
 ending_for (stop.Trouble trouble) = None
 
--- a task with this start and these works ends so, or a lane of a region below it
-pub data EndsBelow (program : Program) (end : Ending) : Start → List Work → Type 0 where
-  itself : (start : Start) (works : List Work) → IsTracedTo program start (works_log works) end → EndsBelow program end start works
-  below : (start : Start) (works : List Work) (number : ℕ) (fork : Fork) (region : RegionWork) (lane : ℕ)
+-- under a task with this start and these works, the task at this path ends so
+pub data EndsBelow (program : Program) (end : Ending) : Start → List Work → List Step → Type 0 where
+  itself : (start : Start) (works : List Work) → IsTracedTo program start (works_log works) end → EndsBelow program end start works []
+  below : (start : Start) (works : List Work) (number : ℕ) (fork : Fork) (region : RegionWork) (lane : ℕ) (path : List Step)
       → slice_get (own_trace program start (works_log works)).forks number ≡ Some fork → slice_get (flat_map work_regions works) number ≡ Some region → lane < region.span
-      → EndsBelow program end (lane_begin fork lane) (lane_works lane region.phases) → EndsBelow program end start works
+      → EndsBelow program end (lane_begin fork lane) (lane_works lane region.phases) path
+      → EndsBelow program end start works (record { region = number; lane = lane; span = region.span } ∷ path)
 
--- some lane of the region ends so, or a task below it
-pub record EndsInLane (program : Program) (end : Ending) (fork : Fork) (phases : Phases) : Type 0 where
+-- The task of this path, a lane of the region or a task below one, ends so: the region is that of this number of the task `at`.
+pub record EndsInLane (program : Program) (end : Ending) (at : List Step) (number : ℕ) (path : List Step) (fork : Fork) (phases : Phases) : Type 0 where
   pub lane : ℕ
   pub within : lane < fork.team.span
-  pub ends : EndsBelow program end (lane_begin fork lane) (lane_works lane phases)
+  pub below : List Step
+  pub path_is : path ≡ at ++ record { region = number; lane = lane; span = fork.team.span } ∷ below
+  pub ends : EndsBelow program end (lane_begin fork lane) (lane_works lane phases) below
 
--- the region stopped so, in each kernel of these arrays: a stop that traces tell is that of some task of the region
-abbrev pub StopsRegion : List Array → Stop → Fork → Phases → Type 0
-StopsRegion arrays why fork phases = PhasesFit phases → (program : Program) → program.arrays ≡ arrays → (end : Ending) → ending_for why ≡ Some end → EndsInLane program end fork phases
+-- the task of this path stopped so in the region, in each kernel of these arrays: a stop that traces tell is how its trace ends
+abbrev pub StopsRegion : List Array → List Step → ℕ → List Step → Stop → Fork → Phases → Type 0
+StopsRegion arrays at number path why fork phases = PhasesFit phases → (program : Program) → program.arrays ≡ arrays → (end : Ending) → ending_for why ≡ Some end → EndsInLane program end at number path fork phases
 
--- the last of these regions stopped so, and those before it ended
-pub record StopsAtLast (arrays : List Array) (why : Stop) (forks : List Fork) (regions : List RegionWork) : Type 0 where
+-- In the last of these regions the task of this path stopped so, and those before it ended: they are the regions of the task `at`
+-- from this number on.
+pub record StopsAtLast (arrays : List Array) (at : List Step) (number : ℕ) (path : List Step) (why : Stop) (forks : List Fork) (regions : List RegionWork) : Type 0 where
   pub earlier : List Fork
   pub fork : Fork
   pub forks_are : forks ≡ earlier ++ fork ∷ []
@@ -54,4 +59,4 @@ pub record StopsAtLast (arrays : List Array) (why : Stop) (forks : List Fork) (r
   pub regions_are : regions ≡ before ++ region ∷ []
   pub ended : HaveEnded before
   pub joined : ArePhasesJoined region.phases
-  pub stopped : StopsRegion arrays why fork region.phases
+  pub stopped : StopsRegion arrays at (number + length before) path why fork region.phases

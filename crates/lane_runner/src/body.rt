@@ -117,7 +117,7 @@ impl<L: Log> Lane<L> {
 
     /// Executes a statement.
     #[cycle(executing)]
-    fn statement<R: Wait>(
+    pub(crate) fn statement<R: Wait>(
         &mut self,
         stmt: &Stmt,
         rt: &R,

@@ -1,10 +1,11 @@
 //! Worksharing loops whose chunks are drawn.
-ghost use Rattle.std.specs.Prelude.{◌≡◌, ◌+◌, ◌-◌, ◌<◌, ◌≤◌, ◌^◌, ℕ, pos, ◌+ℤ◌, ◌≤ℤ◌};
+ghost use Rattle.std.specs.Prelude.{IfOk, ◌≡◌, ◌+◌, ◌-◌, ◌<◌, ◌≤◌, ◌^◌, ℕ, pos, ◌+ℤ◌, ◌≤ℤ◌};
 ghost use Rattle.kernel_syntax.specs.Bounds.{IsBoundedCode};
 ghost use Rattle.kernel_syntax.specs.Program.{code_of};
 ghost use Rattle.kernel_model.specs.Iterations.{chunk_count, chunk_iterations};
-ghost use Rattle.kernel_model.specs.Trace.{each};
-ghost use Rattle.lane_runner.specs.Alone.{IsAlone, turn_from, draw_once};
+ghost use Rattle.kernel_model.specs.Trace.{each, log_limit};
+ghost use Rattle.lane_runner.specs.Alone.{IsAlone, turn_from, draw_once, draw_all};
+ghost use Rattle.lane_runner.specs.Drawing.{open_past};
 ghost use Rattle.lane_runner.specs.Going.{CanGo, Goes, IsSameLog, site};
 
 use crate::lane::Lane;
@@ -17,7 +18,7 @@ use sw_base::Log;
 
 impl<L: Log> Lane<L> {
     /// Draws a chunk of the loop that is open, and executes it. False where none is left.
-    pub fn drawn_chunk<R: Wait>(
+    fn drawn_chunk<R: Wait>(
         &mut self,
         body: &Body,
         rt: &R,
@@ -39,6 +40,9 @@ impl<L: Log> Lane<L> {
         requires line { 1 ≤ line }
         ensures goes { Goes world.now (draw_once line (chunk_count chunk total) (λ q. each (chunk_iterations chunk total q) (turn_from (site world.now) (code_of body.now.stmts.items) slot from))) self.old.locals.slots.items self.new.locals.slots.items self.old.track self.new.track result }
         ensures log { IsSameLog self.old.track.buffer self.new.track.buffer }
+        ensures loops { IfOk result (λ more. self.new.track.tally.next_loop ≡ open_past more self.old.track.tally.next_loop) }
+        ensures below { IfOk result (λ _. self.old.track.buffer.count < log_limit) }
+        ensures count { IfOk result (λ _. self.old.track.buffer.count < self.new.track.buffer.count) }
     {
         let chunks = total.div_ceil(chunk);
         let number = self.track.draw(alloc, world, line, chunks)?;
@@ -57,5 +61,37 @@ impl<L: Log> Lane<L> {
             chunk.min(total - first),
         )?;
         Ok(true)
+    }
+
+    /// Draws chunks of the loop that is open, and executes them, until none is left.
+    pub(crate) fn drawn_chunks<R: Wait>(
+        &mut self,
+        body: &Body,
+        rt: &R,
+        alloc: Global,
+        world: &World,
+        slot: u32,
+        from: i64,
+        total: u64,
+        chunk: u64,
+        line: u32,
+    ) -> Result<(), Halt>
+        requires can { CanGo world.now self.old.track }
+        requires bounded { IsBoundedCode (code_of body.now.stmts.items) }
+        requires alone { IsAlone world.now.words.locks self.old.track.hand.view.held (code_of body.now.stmts.items) }
+        requires some { 0 < chunk }
+        requires top { (from +ℤ pos total) ≤ℤ pos (2 ^ 63 - 1) }
+        requires open { self.old.track.tally.next_loop < world.now.chunks.loops }
+        requires number { self.old.track.tally.next_loop < 4294967296 }
+        requires line { 1 ≤ line }
+        ensures goes { Goes world.now (draw_all line (chunk_count chunk total) (λ q. each (chunk_iterations chunk total q) (turn_from (site world.now) (code_of body.now.stmts.items) slot from))) self.old.locals.slots.items self.new.locals.slots.items self.old.track self.new.track result }
+        ensures log { IsSameLog self.old.track.buffer self.new.track.buffer }
+        ensures loops { IfOk result (λ _. self.new.track.tally.next_loop ≡ self.old.track.tally.next_loop + 1) }
+    {
+        'draws: loop {
+            if !self.drawn_chunk(body, rt, alloc, world, slot, from, total, chunk, line)? {
+                return Ok(());
+            }
+        }
     }
 }

@@ -1,14 +1,20 @@
-//! That the arrays of a kernel are where a lane can run.
+//! That the arrays of a kernel are where a lane can run, and what widths their elements have.
 ghost use Rattle.std.specs.Prelude.{◌≡◌, ◌<◌, ℕ};
 ghost use Rattle.kernel_syntax.specs.Layout.{elements};
 ghost use Rattle.kernel_syntax.specs.Program.{Program};
 ghost use Rattle.kernel_syntax.specs.Bounds.{IsBounded};
 ghost use Rattle.shared_words.specs.Handles.{WordsValue, ChunksValue};
-ghost use Rattle.lane_runner.specs.World.{IsWorld};
+ghost use Rattle.kernel_syntax.specs.Arithmetic.{IsWidth};
+ghost use Rattle.lane_runner.specs.World.{IsWorld, element_width};
 
 /// The arrays of a kernel within the bounds of the language, with a table of as many words as they have elements, are where a lane of a
 /// team can run.
 pub fn arrays_of_a_kernel_have_words()
     ensures { (program : Program) (words : WordsValue) (chunks : ChunksValue) (lane span : ℕ) → IsBounded program → words.elements ≡ elements program.arrays → lane < span →
         IsWorld (record { arrays = program.arrays; words = words; chunks = chunks; lane = lane; span = span }) }
+{}
+
+/// At each address the arrays of a kernel within the bounds of the language have a width of the language.
+pub fn elements_of_a_kernel_have_widths()
+    ensures { (program : Program) → IsBounded program → (addr : ℕ) → IsWidth (element_width program.arrays addr) }
 {}

@@ -1,8 +1,8 @@
 //! What a lane of a team executes, over shared words and a bounded buffer before its log.
 //!
 //! So far: the value of an expression with its loads; lists of assignments, stores, tests, loops and critical sections; worksharing
-//! loops whose iterations are dealt; the fork of a region, which a function of the caller's runs; and one chunk that is drawn.
-//! Loops whose chunks are drawn, barriers, and regions among the statements come next, and the program doesn't use the crate yet.
+//! loops of every schedule; the fork of a region, which a function of the caller's runs, with new logs for its lanes; a team's
+//! statements and items, one at a time; and the record of a barrier. A whole phase comes next, and the program doesn't use the crate yet.
 //!
 //! Before each record the buffer makes room, then the step on the shared words is taken, and then the record is put: no step is
 //! taken that has no place in the log. Each call says by one witness, a tree of work, what it did: its records are those that the
@@ -10,16 +10,19 @@
 //! these are the records that the meaning of what was executed puts, under the values that the records read, from the locals before
 //! it to those after it. Where the log refuses a record, they are the first of these. A lane that stops in critical sections gives
 //! their mutexes back, the innermost first, without a record; one that goes on holds no more than before. That a value read is one
-//! that its element can have is a premise there: it holds of each legal history whose stores fit their elements.
+//! that its element can have is a premise there: it holds of each legal history whose stores fit their elements, and that these do is said
+//! of each witness without that premise. A region that stopped is told with the path of the task that did.
 #![tactic(auto)]
 
 mod assign;
 mod body;
+mod children;
 mod dynamic;
 mod element;
 mod lane;
 mod laws;
 mod locals;
+mod phase;
 mod sharing;
 mod stop;
 #[cfg(test)]
@@ -30,7 +33,7 @@ mod world;
 
 pub use element::Element;
 pub use lane::Lane;
-pub use laws::arrays_of_a_kernel_have_words;
+pub use laws::{arrays_of_a_kernel_have_words, elements_of_a_kernel_have_widths};
 pub use locals::Locals;
 pub use stop::{Halt, Stop};
 pub use track::Track;

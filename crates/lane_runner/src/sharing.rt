@@ -1,12 +1,13 @@
 //! Worksharing loops: a lane's share of the iterations.
-ghost use Rattle.std.specs.Prelude.{◌≡◌, ◌<◌, ◌-◌, ◌^◌, ℕ, true, pos, ◌+ℤ◌, ◌≤ℤ◌};
+ghost use Rattle.std.specs.Prelude.{IfOk, ◌≡◌, ◌<◌, ◌≤◌, ◌+◌, ◌-◌, ◌^◌, true, pos, ◌+ℤ◌, ◌≤ℤ◌};
 ghost use Rattle.kernel_syntax.specs.Bounds.{IsBoundedCode, IsBoundedSchedule};
 ghost use Rattle.kernel_syntax.specs.Program.{code_of, term_of};
 ghost use Rattle.kernel_syntax.specs.Tree as tree;
 ghost use Rattle.kernel_syntax.specs.Tree.{Done};
 ghost use Rattle.kernel_model.specs.Iterations.{static_iterations};
 ghost use Rattle.kernel_model.specs.Trace.{run, each, shared};
-ghost use Rattle.lane_runner.specs.Alone.{IsAlone, IsDealt, turn_from};
+ghost use Rattle.lane_runner.specs.Alone.{IsAlone, turn_from};
+ghost use Rattle.lane_runner.specs.Drawing.{HasCounters, counters_of};
 ghost use Rattle.lane_runner.specs.Going.{CanGo, Goes, IsSameLog, site};
 
 use crate::body::total_of;
@@ -63,16 +64,18 @@ impl<L: Log> Lane<L> {
         from: i64,
         total: u64,
         schedule: Schedule,
+        line: u32,
     ) -> Result<(), Halt>
         requires can { CanGo world.now self.old.track }
         requires bounded { IsBoundedCode (code_of body.now.stmts.items) }
         requires alone { IsAlone world.now.words.locks self.old.track.hand.view.held (code_of body.now.stmts.items) }
         requires chunk { IsBoundedSchedule schedule }
-        requires dealt { IsDealt schedule }
+        requires counters { HasCounters schedule self.old.track.tally.next_loop world.now.chunks }
+        requires line { 1 ≤ line }
         requires top { (from +ℤ pos total) ≤ℤ pos (2 ^ 63 - 1) }
-        ensures goes { (line : ℕ) → Goes world.now (shared schedule (site world.now) line total (turn_from (site world.now) (code_of body.now.stmts.items) slot from)) self.old.locals.slots.items self.new.locals.slots.items self.old.track self.new.track result }
+        ensures goes { Goes world.now (shared schedule (site world.now) line total (turn_from (site world.now) (code_of body.now.stmts.items) slot from)) self.old.locals.slots.items self.new.locals.slots.items self.old.track self.new.track result }
         ensures log { IsSameLog self.old.track.buffer self.new.track.buffer }
-        ensures tally { self.new.track.tally ≡ self.old.track.tally }
+        ensures loops { IfOk result (λ _. self.new.track.tally.next_loop ≡ self.old.track.tally.next_loop + counters_of schedule) }
     {
         match schedule {
             Schedule::Even => {
@@ -82,12 +85,22 @@ impl<L: Log> Lane<L> {
             Schedule::Static(chunk) => {
                 self.chunks(body, rt, alloc, world, slot, from, total, chunk)
             }
-            Schedule::Dynamic(_) => unreachable!(),
+            Schedule::Dynamic(chunk) => self.drawn_chunks(
+                body,
+                rt,
+                alloc,
+                world,
+                slot,
+                from,
+                total,
+                u64::from(chunk),
+                line,
+            ),
         }
     }
 
-    /// Executes the lane's share of a worksharing loop whose iterations are dealt, without the barrier at its end.
-    pub fn dealt_loop<R: Wait>(
+    /// Executes the lane's share of a worksharing loop, without the barrier at its end.
+    pub fn shared_loop<R: Wait>(
         &mut self,
         body: &Body,
         rt: &R,
@@ -103,10 +116,10 @@ impl<L: Log> Lane<L> {
         requires can { CanGo world.now self.old.track }
         requires bounded { IsBoundedCode (tree.For slot (term_of from.now) (term_of to.now) schedule true line end (code_of body.now.stmts.items) Done) }
         requires alone { IsAlone world.now.words.locks self.old.track.hand.view.held (code_of body.now.stmts.items) }
-        requires dealt { IsDealt schedule }
+        requires counters { HasCounters schedule self.old.track.tally.next_loop world.now.chunks }
         ensures goes { Goes world.now (run (site world.now) (tree.For slot (term_of from.now) (term_of to.now) schedule true line end (code_of body.now.stmts.items) Done)) self.old.locals.slots.items self.new.locals.slots.items self.old.track self.new.track result }
         ensures log { IsSameLog self.old.track.buffer self.new.track.buffer }
-        ensures tally { self.new.track.tally ≡ self.old.track.tally }
+        ensures loops { IfOk result (λ _. self.new.track.tally.next_loop ≡ self.old.track.tally.next_loop + counters_of schedule) }
     {
         let first = value(alloc, world, &self.locals, &mut self.track, from)?;
         let last = value(alloc, world, &self.locals, &mut self.track, to)?;
@@ -119,6 +132,7 @@ impl<L: Log> Lane<L> {
             first,
             total_of(first, last),
             schedule,
+            line,
         )
     }
 }

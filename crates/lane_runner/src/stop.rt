@@ -1,6 +1,6 @@
 //! Why a task stops, and why a lane doesn't go on.
 
-use sw_base::Trouble;
+use sw_base::{Path, Trouble};
 
 /// Why a task stops. A line is that of the operator, of the array's name, or of the record for which there is no room.
 #[derive(Clone, Copy, Debug, PartialEq, Eq)]
@@ -18,7 +18,7 @@ pub enum Stop {
 }
 
 /// Why a lane doesn't go on: it stops itself, or a region that it forked did.
-#[derive(Clone, Copy, Debug, PartialEq, Eq)]
+#[derive(Debug, Drop)]
 pub enum Halt {
     /// A divisor is 0.
     DivZero { line: u32 },
@@ -26,8 +26,8 @@ pub enum Halt {
     Index { line: u32 },
     /// Its log has room for no more records.
     LogFull { line: u32 },
-    /// The region that it forked last stopped so.
-    Region(Stop),
+    /// In the region that it forked last, the task of this path stopped so.
+    Region(Path, Stop),
     /// No memory was found, or a call on its log failed.
     Trouble(Trouble),
 }

@@ -63,8 +63,8 @@ fn a_mutex_released_at_a_stop_is_won_by_another(rt: HostRuntime) -> Result<(), F
     let (chunks, mut draws) = Chunks::new(alloc, 0)?;
     let lent = chunks.split(&mut draws);
     let world = World::new(&arrays, &words, &chunks, 0, 1);
-    let mut first = Track::new(hand, buffer(alloc)?, draws, 0);
-    let mut second = Track::new(other, buffer(alloc)?, lent, 0);
+    let mut first = Track::new(hand, buffer(alloc)?, draws, 0, 0);
+    let mut second = Track::new(other, buffer(alloc)?, lent, 0, 0);
 
     let Ok(()) = first.lock(&rt, alloc, &world, 1, 5) else {
         panic!(rt; "no room");

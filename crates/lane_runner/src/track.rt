@@ -1,6 +1,6 @@
 //! What a lane steps with: its hand on the shared words, and the buffer before its log. Each step has a place in the log before it
 //! is taken.
-ghost use Rattle.std.specs.Prelude.{◌≡◌, ◌+◌, ◌<◌, ◌≤◌, true, None, List, [], ◌∷◌, IfOk, ℤ, Contains};
+ghost use Rattle.std.specs.Prelude.{◌≡◌, ◌+◌, ◌<◌, ◌≤◌, true, None, List, [], ◌∷◌, length, IfOk, OnOk, ℤ, Contains};
 ghost use Rattle.kernel_model.specs.Value as model;
 ghost use Rattle.kernel_model.specs.Value.{read};
 ghost use Rattle.kernel_model.specs.State.{put, event};
@@ -9,11 +9,14 @@ ghost use Rattle.lane_runner.specs.Going.{CanGo, Goes, IsSameLog, MakesRoom, sit
 ghost use Rattle.shared_words.specs.Handles.{Belongs, with_view};
 ghost use Rattle.kernel_syntax.specs.Program.{team_of, code_of};
 ghost use Rattle.kernel_syntax.specs.Tree as tree;
-ghost use Rattle.kernel_model.specs.Trace.{run, draw};
+ghost use Rattle.kernel_model.specs.Trace.{run, draw, log_limit};
+ghost use Rattle.lane_runner.specs.Children.{AreNewLogs};
 ghost use Rattle.lane_runner.specs.Forking.{RunsTeam};
 ghost use Rattle.shared_words.specs.Views.{locked, unlocked, rest};
+ghost use Rattle.kernel_syntax.specs.Arithmetic.{fitted};
 ghost use Rattle.lane_runner.specs.Placing.{StandsIn, meant};
 
+use crate::children::children;
 use crate::element::Element;
 use crate::locals::Locals;
 use crate::stop::{Halt, Stop};
@@ -34,6 +37,7 @@ pub struct Track<L: Log> {
     buffer: Buffer<L>,
     draws: ChunkHand,
     next_loop: usize,
+    forked: u32,
 }
 
 impl<L: Log> Model for Track<L> {
@@ -41,7 +45,7 @@ impl<L: Log> Model for Track<L> {
 
     ghost Value = { Progress };
 
-    ghost view = { λ t. record { hand = t.hand; buffer = t.buffer; tally = record { draws = t.draws; next_loop = t.next_loop } } };
+    ghost view = { λ t. record { hand = t.hand; buffer = t.buffer; tally = record { draws = t.draws; next_loop = t.next_loop; forked = t.forked } } };
 }
 
 // Why a record of this line has no place.
@@ -96,15 +100,22 @@ fn event(kind: Kind, line: u32, addr: u64, value: u64) -> Record
 }
 
 impl<L: Log> Track<L> {
-    /// A lane's steps from here on, where this is its next loop whose chunks are drawn.
-    pub fn new(hand: Hand, buffer: Buffer<L>, draws: ChunkHand, next_loop: usize) -> Track<L>
-        ensures { result ≡ record { hand = hand; buffer = buffer; tally = record { draws = draws; next_loop = next_loop } } }
+    /// A lane's steps from here on, where this is its next loop whose chunks are drawn, and its task has forked so many regions.
+    pub fn new(
+        hand: Hand,
+        buffer: Buffer<L>,
+        draws: ChunkHand,
+        next_loop: usize,
+        forked: u32,
+    ) -> Track<L>
+        ensures { result ≡ record { hand = hand; buffer = buffer; tally = record { draws = draws; next_loop = next_loop; forked = forked } } }
     {
         Track {
             hand,
             buffer,
             draws,
             next_loop,
+            forked,
         }
     }
 
@@ -165,6 +176,7 @@ impl<L: Log> Track<L> {
     ) -> Result<(), Halt>
         requires can { CanGo world.now self.old }
         requires stands { StandsIn world.now element.now }
+        requires fits { fitted value element.now.width ≡ value }
         requires line { 1 ≤ line }
         ensures goes { (slots : List ℤ) → Goes world.now (put (model.access kind.Write (meant element.now) site line value)) slots slots self.old self.new result }
         ensures log { IsSameLog self.old.buffer self.new.buffer }
@@ -191,6 +203,7 @@ impl<L: Log> Track<L> {
         requires mutex { mutex < world.now.words.locks }
         requires not_held { Contains self.old.hand.view.held mutex → ⊥ }
         ensures takes { TakesOrHalts (event kind.Lock line mutex 0) (locked self.old.hand.view mutex) self.old self.new result }
+        ensures can { OnOk result (CanGo world.now self.new) }
         ensures log { IsSameLog self.old.buffer self.new.buffer }
         ensures tally { self.new.tally ≡ self.old.tally }
     {
@@ -235,29 +248,54 @@ impl<L: Log> Track<L> {
         world.words().unlock(&mut self.hand, usize::from(mutex));
     }
 
-    /// Puts the record of a region that is forked.
-    pub fn fork(&mut self, alloc: Global, line: u32, span: u16) -> Result<(), Halt>
+    /// Puts the record of a barrier of the team.
+    pub fn meet(&mut self, alloc: Global, line: u32) -> Result<(), Halt>
         requires there { self.old.hand.there ≡ true }
         requires unrefused { self.old.buffer.refused ≡ None }
-        ensures takes { TakesOrHalts (event kind.Region line 0 span) self.old.hand.view self.old self.new result }
+        ensures takes { TakesOrHalts (event kind.Barrier line 0 0) self.old.hand.view self.old self.new result }
         ensures log { IsSameLog self.old.buffer self.new.buffer }
         ensures tally { self.new.tally ≡ self.old.tally }
     {
         self.ready(alloc, line)?;
-        let event = event(Kind::Region, line, 0, u64::from(span));
+        let event = event(Kind::Barrier, line, 0, 0);
         self.buffer.put(&event);
         Ok(())
     }
 
-    /// Executes a region: puts its record, and has its lanes run with these logs, from these locals.
+    // Makes new logs for the lanes of a region, and puts the record of the fork.
+    fn fork(&mut self, alloc: Global, line: u32, span: u16) -> Result<Vec<L>, Halt>
+        requires there { self.old.hand.there ≡ true }
+        requires unrefused { self.old.buffer.refused ≡ None }
+        requires path { length self.old.buffer.path < 4 }
+        ensures takes { TakesOrHalts (event kind.Region line 0 span) self.old.hand.view self.old self.new result }
+        ensures logs { IfOk result (λ logs. AreNewLogs (record { dir = L.dir; path = L.path; text = L.text; faults = L.faults }) self.old.buffer self.old.tally.forked span logs.items) }
+        ensures log { IsSameLog self.old.buffer self.new.buffer }
+        ensures tally { self.new.tally ≡ self.old.tally }
+    {
+        self.ready(alloc, line)?;
+        let logs = match children(alloc, &mut self.buffer, self.forked, span) {
+            Ok(logs) => logs,
+            Err(trouble) => return Err(Halt::Trouble(trouble)),
+        };
+        let event = event(Kind::Region, line, 0, u64::from(span));
+        self.buffer.put(&event);
+        Ok(logs)
+    }
+
+    /// Executes a region: makes the logs of its lanes, puts its record, and has the lanes run from these locals.
     pub fn parallel<
-        F: Fn(&mut Hand, &Locals, Vec<L>, &Team, &mut Vec<(Path, L, u32)>) -> Result<(), Stop>,
+        F: Fn(
+            &mut Hand,
+            &Locals,
+            Vec<L>,
+            &Team,
+            &mut Vec<(Path, L, u32)>,
+        ) -> Result<(), (Path, Stop)>,
     >(
         &mut self,
         alloc: Global,
         world: &World,
         locals: &Locals,
-        logs: Vec<L>,
         team: &Team,
         done: &mut Vec<(Path, L, u32)>,
         region: &F,
@@ -265,14 +303,16 @@ impl<L: Log> Track<L> {
         requires can { CanGo world.now self.old }
         requires free { self.old.hand.view.held ≡ [] }
         requires line { 1 ≤ team.now.line }
-        requires runs { RunsTeam world.now (F.pre region.now) (F.post region.now) logs (team_of team.now) }
+        requires path { length self.old.buffer.path < 4 }
+        requires runs { RunsTeam world.now (F.pre region.now) (F.post region.now) (record { dir = L.dir; path = L.path; text = L.text; faults = L.faults }) self.old.buffer (team_of team.now) }
         ensures goes { Goes world.now (run (site world.now) (tree.Parallel team.now.span team.now.line team.now.end (code_of team.now.body.stmts.items) tree.Done)) locals.now.slots.items locals.now.slots.items self.old self.new result }
         ensures log { IsSameLog self.old.buffer self.new.buffer }
-        ensures tally { self.new.tally ≡ self.old.tally }
+        ensures loops { self.new.tally.next_loop ≡ self.old.tally.next_loop }
     {
-        self.fork(alloc, team.line, team.span)?;
-        if let Err(stop) = region(&mut self.hand, locals, logs, team, done) {
-            return Err(Halt::Region(stop));
+        let logs = self.fork(alloc, team.line, team.span)?;
+        self.forked += 1;
+        if let Err((path, stop)) = region(&mut self.hand, locals, logs, team, done) {
+            return Err(Halt::Region(path, stop));
         }
         Ok(())
     }
@@ -291,6 +331,10 @@ impl<L: Log> Track<L> {
         requires line { 1 ≤ line }
         ensures goes { (slots : List ℤ) → Goes world.now (draw line chunks) slots slots self.old self.new result }
         ensures within { IfOk result (λ number. number ≤ chunks) }
+        ensures open { IfOk result (λ number. number < chunks → self.new.tally.next_loop ≡ self.old.tally.next_loop) }
+        ensures closed { IfOk result (λ number. chunks ≤ number → self.new.tally.next_loop ≡ self.old.tally.next_loop + 1) }
+        ensures below { IfOk result (λ _. self.old.buffer.count < log_limit) }
+        ensures count { IfOk result (λ _. self.new.buffer.count ≡ self.old.buffer.count + 1) }
         ensures log { IsSameLog self.old.buffer self.new.buffer }
     {
         self.ready(alloc, line)?;

@@ -1,6 +1,7 @@
-use Rattle.std.proofs.Common.{ap, sym, ◌∙◌, subst, ℤ, w64, FitsSigned, rules}
+use Rattle.std.proofs.Common.{◌≡◌, ap, sym, ◌∙◌, subst, ℤ, w64, to_z, of_z, FitsSigned, rules}
 use Rattle.std.proofs.lemmas.Int.{to_z-of_z}
 use Rattle.kernel_syntax.specs.Arithmetic.{fitted}
+use Rattle.kernel_syntax.proofs.Fitting.{fitted-fitted}
 use Rattle.log_format.specs.declared.record.Kind.TheVariants as kind
 use Rattle.kernel_model.specs.State.{put}
 use Rattle.kernel_model.specs.Value.{element_at, access}
@@ -24,3 +25,9 @@ returns-clause-goes g c =
     (c.fit-stored.ensures ∙ ap (λ (z : ℤ). fitted z c.in-Some.element.width) (to_z-of_z w64 c.args.number c.ranges.number))
     (subst (λ (z : ℤ). Goes c.args.world.now (put (access kind.Write (meant c.in-Some.element) c.args.place c.args.line z)) slots slots c.args.track.now c.write.new.self c.write.result)
     (to_z-of_z w64 c.fit-stored.result fits) (c.write.ensures.goes slots))
+
+pub write-requires-clause-fits : goal.write-requires-clause-fits
+write-requires-clause-fits g c κs given =
+    let fits : FitsSigned w64 c.fit-stored.result = search rules in
+    subst (λ (z : ℤ). fitted z c.in-Some.element.width ≡ z) (sym c.fit-stored.ensures ∙ sym (to_z-of_z w64 c.fit-stored.result fits))
+    (fitted-fitted (to_z w64 (of_z w64 c.args.number)) c.in-Some.element.width c.in-Some.ensures.stands.width)

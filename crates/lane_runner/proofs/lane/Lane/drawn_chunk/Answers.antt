@@ -1,4 +1,5 @@
-use Rattle.std.proofs.Common.{◌≡◌, ap, sym, ◌∙◌, subst, ℕ, ◌+◌, ◌-◌, ◌*◌, ◌^◌, ◌<◌, ◌≤◌, min, true, List, ℤ, pos, ◌+ℤ◌, ◌≤ℤ◌, Err, nat_lt, w64, rules, arith}
+use Rattle.lane_runner.specs.Drawing.{Tally}
+use Rattle.std.proofs.Common.{◌≡◌, ap, sym, ◌∙◌, subst, ℕ, suc, ◌+◌, ◌-◌, ◌*◌, ◌^◌, ◌<◌, ◌≤◌, min, true, List, ℤ, pos, ◌+ℤ◌, ◌≤ℤ◌, Err, nat_lt, w64, rules, arith}
 use Rattle.std.proofs.lemmas.Result.{err_from_is_err_and}
 use Rattle.std.proofs.lemmas.Int.{to_z-of_z}
 use Rattle.kernel_syntax.specs.Program.{code_of}
@@ -85,3 +86,22 @@ returns-clause-goes g c =
     chunk_ends c.args.world.now (site c.args.world.now) (code_of c.args.body.now.stmts.items) c.args.slot c.args.from c.args.line c.args.total c.args.chunk c.args.self.now.locals.slots.items c.in_ok-number.number c.args.self.now.track c.draw.new.self made (is_below c.in_ok-number.number (chunk_count c.args.chunk c.args.total) less) c.repeat.new.self.locals.slots.items c.repeat.new.self.track can
     (subst (λ (n : ℕ). Made c.args.world.now (turns n (c.in_ok-number.number * c.args.chunk) (turn_from (site c.args.world.now) (code_of c.args.body.now.stmts.items) c.args.slot c.args.from)) c.args.self.now.locals.slots.items c.repeat.new.self.locals.slots.items c.draw.new.self c.repeat.new.self.track (Returned tt)) least
     (subst (λ (z : ℤ). Made c.args.world.now (turns c.min.result (c.in_ok-number.number * c.args.chunk) (turn_from (site c.args.world.now) (code_of c.args.body.now.stmts.items) c.args.slot z)) c.args.self.now.locals.slots.items c.repeat.new.self.locals.slots.items c.draw.new.self c.repeat.new.self.track (Returned tt)) (to_z-of_z w64 c.args.from c.ranges.from) c.in_ok-repeat.ensures.goes))
+
+pub returns-then-number-chunks-clause-loops : goal.returns-then-number-chunks-clause-loops
+returns-then-number-chunks-clause-loops g c =
+    c.in_ok-number.ensures.closed (let is = c.if-number-chunks.true in omega (arith, is)) ∙ (let e : c.args.self.now.track.tally.next_loop + 1 ≡ suc c.args.self.now.track.tally.next_loop = omega arith in e)
+
+pub returns-then-number-chunks-clause-count : goal.returns-then-number-chunks-clause-count
+returns-then-number-chunks-clause-count g c = let count = c.in_ok-number.ensures.count in omega (arith, count)
+
+pub returns-clause-loops : goal.returns-clause-loops
+returns-clause-loops g c =
+    let count : c.div_ceil-chunks.result ≡ chunk_count c.args.chunk c.args.total = search rules in
+    let less = below c.in_ok-number.number (chunk_count c.args.chunk c.args.total) c.div_ceil-chunks.result count c.in_ok-number.ensures.within c.if-number-chunks.false in
+    ap (λ (t : Tally). t.next_loop) c.repeat.ensures.tally ∙ c.in_ok-number.ensures.open (subst (λ (n : ℕ). c.in_ok-number.number < n) (sym count) less)
+
+pub returns-clause-count : goal.returns-clause-count
+returns-clause-count g c =
+    let count = c.in_ok-number.ensures.count in
+    let more = c.in_ok-repeat.ensures.goes.done.log.count in
+    omega (arith, count, more)

@@ -2,11 +2,11 @@ use Rattle.std.proofs.Common.{◌≡◌, ap, sym, subst, ◌∙◌, ℕ, ◌+◌
 use Rattle.std.proofs.lemmas.Int.{to_z-of_z}
 use Rattle.kernel_syntax.specs.Program.{code_of}
 use Rattle.kernel_syntax.specs.Share.{even_share_of}
-use Rattle.kernel_model.specs.Iterations.{static_iterations}
+use Rattle.kernel_model.specs.Iterations.{static_iterations, chunk_count, chunk_iterations}
 use Rattle.kernel_model.specs.Trace.{each, turns}
-use Rattle.lane_runner.specs.Alone.{turn_from}
+use Rattle.lane_runner.specs.Alone.{turn_from, draw_all}
 use Rattle.lane_runner.specs.Going.{Goes, site}
-use Rattle.lane_runner.proofs.Dealing.{share_within, below_top, shared_even, shared_static}
+use Rattle.lane_runner.proofs.Dealing.{share_within, below_top, shared_even, shared_static, shared_drawn}
 use Rattle.lane_runner.proofs.lane.Lane.share.Goals as goal
 
 within_is : (lane span given : ℕ) → given ≡ span → lane < given → lane < span
@@ -26,17 +26,26 @@ repeat-requires-clause-top g c κs given =
     (below_top c.args.from (c.even_share-first.result.0 + c.even_share-first.result.1) c.args.total within c.requires.top)
 
 pub returns-in-Even-clause-goes : goal.returns-in-Even-clause-goes
-returns-in-Even-clause-goes g c = λ line.
+returns-in-Even-clause-goes g c =
     let is : c.even_share-first.result ≡ even_share_of c.args.total c.args.world.now.lane c.args.world.now.span =
     c.even_share-first.ensures ∙ ap (λ (n : ℕ). even_share_of c.args.total n c.span.result) c.lane.ensures ∙ ap (λ (n : ℕ). even_share_of c.args.total c.args.world.now.lane n) c.span.ensures.span in
-    shared_even c.args.world.now (site c.args.world.now) (code_of c.args.body.now.stmts.items) c.args.slot c.args.from line c.args.total c.args.self.now.locals.slots.items c.repeat.new.self.locals.slots.items c.args.self.now.track c.repeat.new.self.track c.repeat.result
+    shared_even c.args.world.now (site c.args.world.now) (code_of c.args.body.now.stmts.items) c.args.slot c.args.from c.args.line c.args.total c.args.self.now.locals.slots.items c.repeat.new.self.locals.slots.items c.args.self.now.track c.repeat.new.self.track c.repeat.result
     c.args.schedule c.even_share-first.result c.in-Even.is is
     (subst (λ (z : ℤ). Goes c.args.world.now (turns c.even_share-first.result.1 c.even_share-first.result.0 (turn_from (site c.args.world.now) (code_of c.args.body.now.stmts.items) c.args.slot z)) c.args.self.now.locals.slots.items c.repeat.new.self.locals.slots.items c.args.self.now.track c.repeat.new.self.track c.repeat.result)
     (to_z-of_z w64 c.args.from c.ranges.from) c.repeat.ensures.goes)
 
 pub returns-in-Static-clause-goes : goal.returns-in-Static-clause-goes
-returns-in-Static-clause-goes g c = λ line.
-    shared_static c.args.world.now (site c.args.world.now) (code_of c.args.body.now.stmts.items) c.args.slot c.args.from line c.args.total c.args.self.now.locals.slots.items c.chunks.new.self.locals.slots.items c.args.self.now.track c.chunks.new.self.track c.chunks.result
+returns-in-Static-clause-goes g c =
+    shared_static c.args.world.now (site c.args.world.now) (code_of c.args.body.now.stmts.items) c.args.slot c.args.from c.args.line c.args.total c.args.self.now.locals.slots.items c.chunks.new.self.locals.slots.items c.args.self.now.track c.chunks.new.self.track c.chunks.result
     c.args.schedule c.in-Static.chunk c.in-Static.is
     (subst (λ (z : ℤ). Goes c.args.world.now (each (static_iterations c.in-Static.chunk c.args.total c.args.world.now.lane c.args.world.now.span) (turn_from (site c.args.world.now) (code_of c.args.body.now.stmts.items) c.args.slot z)) c.args.self.now.locals.slots.items c.chunks.new.self.locals.slots.items c.args.self.now.track c.chunks.new.self.track c.chunks.result)
     (to_z-of_z w64 c.args.from c.ranges.from) c.chunks.ensures.goes)
+
+pub returns-in-Dynamic-clause-goes : goal.returns-in-Dynamic-clause-goes
+returns-in-Dynamic-clause-goes g c =
+    shared_drawn c.args.world.now (site c.args.world.now) (code_of c.args.body.now.stmts.items) c.args.slot c.args.from c.args.line c.args.total c.args.self.now.locals.slots.items c.drawn_chunks.new.self.locals.slots.items c.args.self.now.track c.drawn_chunks.new.self.track c.drawn_chunks.result
+    c.args.schedule c.in-Dynamic.chunk c.in-Dynamic.is
+    (subst (λ (n : ℕ). Goes c.args.world.now (draw_all c.args.line (chunk_count n c.args.total) (λ q. each (chunk_iterations n c.args.total q) (turn_from (site c.args.world.now) (code_of c.args.body.now.stmts.items) c.args.slot c.args.from))) c.args.self.now.locals.slots.items c.drawn_chunks.new.self.locals.slots.items c.args.self.now.track c.drawn_chunks.new.self.track c.drawn_chunks.result)
+    c.from.ensures
+    (subst (λ (z : ℤ). Goes c.args.world.now (draw_all c.args.line (chunk_count c.from.result c.args.total) (λ q. each (chunk_iterations c.from.result c.args.total q) (turn_from (site c.args.world.now) (code_of c.args.body.now.stmts.items) c.args.slot z))) c.args.self.now.locals.slots.items c.drawn_chunks.new.self.locals.slots.items c.args.self.now.track c.drawn_chunks.new.self.track c.drawn_chunks.result)
+    (to_z-of_z w64 c.args.from c.ranges.from) c.drawn_chunks.ensures.goes))

@@ -1,9 +1,9 @@
-use Rattle.std.proofs.Common.{◌≡◌, refl, ap, sym, ◌∙◌, subst, ℕ, ◌<◌, ◌≤◌, min, true, [], ◌∷◌, ◌++◌, rules, arith}
+use Rattle.std.proofs.Common.{◌≡◌, refl, ap, sym, ◌∙◌, subst, ℕ, ◌+◌, ◌<◌, ◌≤◌, min, true, [], ◌∷◌, ◌++◌, rules, arith}
 use Rattle.std.proofs.lemmas.Result.{err_from_is_err_and}
 use Rattle.log_format.specs.declared.record.Record.{Record}
 use Rattle.log_format.specs.declared.record.Kind.TheVariants as kind
 use Rattle.kernel_model.specs.State.{event}
-use Rattle.kernel_model.specs.Trace.{draw}
+use Rattle.kernel_model.specs.Trace.{draw, log_limit}
 use Rattle.kernel_model.specs.Effect.{Returned}
 use Rattle.kernel_model.proofs.Effects.{makes-draw_full}
 use Rattle.event_buffer.specs.Buffered.{Buffered}
@@ -31,8 +31,8 @@ loop_after-self-inside-requires g c =
 
 pub returns-clause-goes : goal.returns-clause-goes
 returns-clause-goes g c =
-    let mid : Progress = record { hand = c.self.inside.hand; buffer = c.self.inside.buffer; tally = record { draws = c.self.inside.draws; next_loop = c.self.inside.next_loop } } in
-    let new : Progress = record { hand = c.self.inside.hand; buffer = c.put.new.self; tally = record { draws = c.draw-number.new.hand; next_loop = c.loop_after-self-inside.result } } in
+    let mid : Progress = record { hand = c.self.inside.hand; buffer = c.self.inside.buffer; tally = record { draws = c.self.inside.draws; next_loop = c.self.inside.next_loop; forked = c.self.inside.forked } } in
+    let new : Progress = record { hand = c.self.inside.hand; buffer = c.put.new.self; tally = record { draws = c.draw-number.new.hand; next_loop = c.loop_after-self-inside.result; forked = c.self.inside.forked } } in
     let number : ℕ = c.draw-number.result in
     let room = subst (λ (p : Progress). HasRoomFor c.args.self.now p) (sym c.self.view_is) c.in_ok-ready.ensures.room in
     let least : c.min-drawn.result ≡ min number c.args.chunks = search rules in
@@ -42,5 +42,29 @@ returns-clause-goes g c =
     (c.draw-number.ensures.drawn ∙ same_hand c.self.inside.draws (drew c.self.inside.draws.view c.self.inside.next_loop number) there)
     (λ less. c.loop_after-self-inside.ensures.open (subst (λ (k : ℕ). k < c.args.chunks) (sym least) less))
     (λ past. c.loop_after-self-inside.ensures.closed (subst (λ (k : ℕ). c.args.chunks ≤ k) (sym least) past))
-    (ap (λ (b : Buffered). b.refused) c.put.ensures.put ∙ room.may_put.unrefused) (ap (λ (b : Buffered). b.count) c.put.ensures.put)
-    (λ header records holds. subst (λ (r : Record). HoldsRecords header c.put.new.self (records ++ r ∷ [])) (c.event-event.ensures ∙ ap (λ (k : ℕ). event kind.Chunk c.args.line k c.args.chunks) least) (c.put.ensures.records header records holds)) slots)
+    refl (ap (λ (b : Buffered). b.refused) c.put.ensures.put ∙ room.may_put.unrefused)
+    (record {
+      records = λ header records holds. subst (λ (r : Record). HoldsRecords header c.put.new.self (records ++ r ∷ [])) (c.event-event.ensures ∙ ap (λ (k : ℕ). event kind.Chunk c.args.line k c.args.chunks) least) (c.put.ensures.records header records holds);
+      count = ap (λ (b : Buffered). b.count) c.put.ensures.put;
+      path = ap (λ (b : Buffered). b.path) c.put.ensures.put;
+    }) slots)
+
+pub returns-clause-open : goal.returns-clause-open
+returns-clause-open g c =
+    let room = subst (λ (p : Progress). HasRoomFor c.args.self.now p) (sym c.self.view_is) c.in_ok-ready.ensures.room in
+    λ less. c.loop_after-self-inside.ensures.open less ∙ ap (λ (t : Tally). t.next_loop) room.waits.tally
+
+pub returns-clause-closed : goal.returns-clause-closed
+returns-clause-closed g c =
+    let room = subst (λ (p : Progress). HasRoomFor c.args.self.now p) (sym c.self.view_is) c.in_ok-ready.ensures.room in
+    λ past. c.loop_after-self-inside.ensures.closed past ∙ ap (λ (t : Tally). t.next_loop + 1) room.waits.tally
+
+pub returns-clause-below : goal.returns-clause-below
+returns-clause-below g c =
+    let room = subst (λ (p : Progress). HasRoomFor c.args.self.now p) (sym c.self.view_is) c.in_ok-ready.ensures.room in
+    subst (λ (n : ℕ). n < log_limit) room.waits.count room.may_put.below
+
+pub returns-clause-count : goal.returns-clause-count
+returns-clause-count g c =
+    let room = subst (λ (p : Progress). HasRoomFor c.args.self.now p) (sym c.self.view_is) c.in_ok-ready.ensures.room in
+    ap (λ (b : Buffered). b.count) c.put.ensures.put ∙ ap (λ (n : ℕ). n + 1) room.waits.count

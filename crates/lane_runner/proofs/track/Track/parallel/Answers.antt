@@ -1,4 +1,4 @@
-use Rattle.std.proofs.Common.{◌≡◌, refl, ap, sym, ◌∙◌, subst, []}
+use Rattle.std.proofs.Common.{◌≡◌, refl, ap, sym, ◌∙◌, subst, ℕ, ◌+◌, [], rules}
 use Rattle.std.proofs.lemmas.Result.{err_from_is_err_and}
 use Rattle.log_format.specs.declared.record.Kind.TheVariants as kind
 use Rattle.kernel_syntax.specs.Program.{team_of}
@@ -25,32 +25,41 @@ free_after w team old a can free taken = record {
   holds_none = ap (λ (h : HandValue View). h.view.held) taken.hand ∙ free;
 }
 
-pub returns-in_err-fork-clause-goes : goal.returns-in_err-fork-clause-goes
-returns-in_err-fork-clause-goes g c =
+pub region-requires : goal.region-requires
+region-requires g c =
+    let team : TeamTree = team_of c.args.team.now in
+    let mid : Progress = record { hand = c.self.inside.hand; buffer = c.self.inside.buffer; tally = record { draws = c.self.inside.draws; next_loop = c.self.inside.next_loop; forked = c.self.inside.forked } } in
+    let taken = subst (λ (p : Progress). Takes (event kind.Region team.line 0 team.span) c.args.self.now.hand.view c.args.self.now p) (sym c.self.view_is) c.in_ok-logs.ensures.takes in
+    let free = free_after c.args.world.now team c.args.self.now mid c.requires.can c.requires.free taken in
+    let new = c.in_ok-logs.ensures.logs in
+    search (rules, free, new, c.requires.runs.accepted)
+
+pub returns-in_err-logs-clause-goes : goal.returns-in_err-logs-clause-goes
+returns-in_err-logs-clause-goes g c =
     let p = err_from_is_err_and c.from_residual.result c.from_residual.ensures.1 in
     let team : TeamTree = team_of c.args.team.now in
     rw (p.1, p.2)
     (goes_unready c.args.world.now (run (site c.args.world.now) (tree.Parallel team.span team.line team.end team.body tree.Done)) c.args.locals.now.slots.items team.line
     (run-grows (site c.args.world.now) (tree.Parallel team.span team.line team.end team.body tree.Done))
     (makes-Parallel_full (site c.args.world.now) c.args.locals.now.slots.items 0 team tree.Done refl)
-    c.args.self.now c.fork.new.self c.in_err-fork.field-0.0 c.requires.can c.in_err-fork.ensures.takes)
+    c.args.self.now c.fork.new.self c.in_err-logs.field-0.0 c.requires.can c.in_err-logs.ensures.takes)
 
 pub returns-in-Err-clause-goes : goal.returns-in-Err-clause-goes
 returns-in-Err-clause-goes g c =
     let team : TeamTree = team_of c.args.team.now in
-    let mid : Progress = record { hand = c.self.inside.hand; buffer = c.self.inside.buffer; tally = record { draws = c.self.inside.draws; next_loop = c.self.inside.next_loop } } in
-    let new : Progress = record { hand = c.region.new.arg2; buffer = c.self.inside.buffer; tally = record { draws = c.self.inside.draws; next_loop = c.self.inside.next_loop } } in
-    let taken = subst (λ (p : Progress). Takes (event kind.Region team.line 0 team.span) c.args.self.now.hand.view c.args.self.now p) (sym c.self.view_is) c.in_ok-fork.ensures.takes in
+    let mid : Progress = record { hand = c.self.inside.hand; buffer = c.self.inside.buffer; tally = record { draws = c.self.inside.draws; next_loop = c.self.inside.next_loop; forked = c.self.inside.forked } } in
+    let new : Progress = record { hand = c.region.new.arg2; buffer = c.self.inside.buffer; tally = record { draws = c.self.inside.draws; next_loop = c.self.inside.next_loop; forked = c.self.inside.forked + 1 } } in
+    let taken = subst (λ (p : Progress). Takes (event kind.Region team.line 0 team.span) c.args.self.now.hand.view c.args.self.now p) (sym c.self.view_is) c.in_ok-logs.ensures.takes in
     let free = free_after c.args.world.now team c.args.self.now mid c.requires.can c.requires.free taken in
-    let ran : RanRegion c.args.world.now team c.args.locals.now.slots.items mid.hand new.hand c.region.result = c.requires.runs.ran _ _ _ _ _ _ _ refl free c.region.ensures in
-    region_began c.args.world.now (site c.args.world.now) team c.requires.line c.args.locals.now.slots.items c.args.self.now mid new c.region.result taken ran refl refl c.in-Err.stop c.in-Err.is
+    let ran : RanRegion c.args.world.now team c.args.locals.now.slots.items c.args.self.now.buffer.path c.args.self.now.tally.forked mid.hand new.hand c.region.result = c.requires.runs.ran _ _ _ _ _ _ _ _ _ refl free c.in_ok-logs.ensures.logs c.region.ensures in
+    region_began c.args.world.now (site c.args.world.now) team c.requires.line c.args.locals.now.slots.items c.args.self.now mid new c.region.result taken ran refl refl c.in-Err.path c.in-Err.stop c.in-Err.is
 
 pub returns-clause-goes : goal.returns-clause-goes
 returns-clause-goes g c =
     let team : TeamTree = team_of c.args.team.now in
-    let mid : Progress = record { hand = c.self.inside.hand; buffer = c.self.inside.buffer; tally = record { draws = c.self.inside.draws; next_loop = c.self.inside.next_loop } } in
-    let new : Progress = record { hand = c.region.new.arg2; buffer = c.self.inside.buffer; tally = record { draws = c.self.inside.draws; next_loop = c.self.inside.next_loop } } in
-    let taken = subst (λ (p : Progress). Takes (event kind.Region team.line 0 team.span) c.args.self.now.hand.view c.args.self.now p) (sym c.self.view_is) c.in_ok-fork.ensures.takes in
+    let mid : Progress = record { hand = c.self.inside.hand; buffer = c.self.inside.buffer; tally = record { draws = c.self.inside.draws; next_loop = c.self.inside.next_loop; forked = c.self.inside.forked } } in
+    let new : Progress = record { hand = c.region.new.arg2; buffer = c.self.inside.buffer; tally = record { draws = c.self.inside.draws; next_loop = c.self.inside.next_loop; forked = c.self.inside.forked + 1 } } in
+    let taken = subst (λ (p : Progress). Takes (event kind.Region team.line 0 team.span) c.args.self.now.hand.view c.args.self.now p) (sym c.self.view_is) c.in_ok-logs.ensures.takes in
     let free = free_after c.args.world.now team c.args.self.now mid c.requires.can c.requires.free taken in
-    let ran : RanRegion c.args.world.now team c.args.locals.now.slots.items mid.hand new.hand c.region.result = c.requires.runs.ran _ _ _ _ _ _ _ refl free c.region.ensures in
+    let ran : RanRegion c.args.world.now team c.args.locals.now.slots.items c.args.self.now.buffer.path c.args.self.now.tally.forked mid.hand new.hand c.region.result = c.requires.runs.ran _ _ _ _ _ _ _ _ _ refl free c.in_ok-logs.ensures.logs c.region.ensures in
     region_made c.args.world.now (site c.args.world.now) team c.requires.line c.args.locals.now.slots.items c.args.self.now mid new c.region.result taken ran refl refl _ c.in_default.is

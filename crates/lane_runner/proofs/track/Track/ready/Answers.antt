@@ -6,9 +6,9 @@ use Rattle.lane_runner.proofs.track.Track.ready.Goals as goal
 
 pub returns-clause-room : goal.returns-clause-room
 returns-clause-room g c =
-    let now : Progress = record { hand = c.self.inside.hand; buffer = c.ready.new.self; tally = record { draws = c.self.inside.draws; next_loop = c.self.inside.next_loop } } in
+    let now : Progress = record { hand = c.self.inside.hand; buffer = c.ready.new.self; tally = record { draws = c.self.inside.draws; next_loop = c.self.inside.next_loop; forked = c.self.inside.forked } } in
     subst (λ (p : Progress). HasRoomFor p now) c.self.view_is
     (record {
-      waits = record { hand = refl; records = c.ready.ensures.records; count = c.ready.ensures.still.count; tally = refl };
+      waits = record { hand = refl; records = c.ready.ensures.records; count = c.ready.ensures.still.count; path = c.ready.ensures.still.path; tally = refl };
       may_put = not_refused (MayPut c.ready.new.self) c.ready.result c.in_default.not-Err c.ready.ensures.ready;
     })

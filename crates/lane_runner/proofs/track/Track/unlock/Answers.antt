@@ -13,13 +13,16 @@ use Rattle.lane_runner.proofs.track.Track.unlock.Goals as goal
 
 pub returns-clause-takes : goal.returns-clause-takes
 returns-clause-takes g c =
-    let mid : Progress = record { hand = c.self.inside.hand; buffer = c.self.inside.buffer; tally = record { draws = c.self.inside.draws; next_loop = c.self.inside.next_loop } } in
+    let mid : Progress = record { hand = c.self.inside.hand; buffer = c.self.inside.buffer; tally = record { draws = c.self.inside.draws; next_loop = c.self.inside.next_loop; forked = c.self.inside.forked } } in
     let room = subst (λ (p : Progress). HasRoomFor c.args.self.now p) (sym c.self.view_is) c.in_ok-ready.ensures.room in
     record {
       hand = c.unlock.ensures ∙ ap (λ (m : ℕ). with_view c.self.inside.hand (unlocked c.self.inside.hand.view m)) c.from.ensures ∙ ap (λ (h : HandValue View). with_view h (unlocked h.view c.args.mutex)) room.waits.hand;
-      records = λ header records holds.
-          subst (λ (r : Record). HoldsRecords header c.put.new.self (records ++ r ∷ [])) (c.event-event.ensures ∙ ap (λ (m : ℕ). event kind.Unlock c.args.line m 0) c.from-2.ensures) (c.put.ensures.records header records (room.waits.records header records holds));
-      count = ap (λ (b : Buffered). b.count) c.put.ensures.put ∙ ap (λ (n : ℕ). n + 1) room.waits.count;
+      log = record {
+        records = λ header records holds.
+            subst (λ (r : Record). HoldsRecords header c.put.new.self (records ++ r ∷ [])) (c.event-event.ensures ∙ ap (λ (m : ℕ). event kind.Unlock c.args.line m 0) c.from-2.ensures) (c.put.ensures.records header records (room.waits.records header records holds));
+        count = ap (λ (b : Buffered). b.count) c.put.ensures.put ∙ ap (λ (n : ℕ). n + 1) room.waits.count;
+        path = ap (λ (b : Buffered). b.path) c.put.ensures.put ∙ room.waits.path;
+      };
       below = subst (λ (n : ℕ). n < log_limit) room.waits.count room.may_put.below;
       tally = room.waits.tally;
       unrefused = ap (λ (b : Buffered). b.refused) c.put.ensures.put ∙ room.may_put.unrefused;

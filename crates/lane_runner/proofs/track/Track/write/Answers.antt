@@ -24,11 +24,15 @@ returns-in_err-ready-clause-goes g c =
 
 pub returns-clause-goes : goal.returns-clause-goes
 returns-clause-goes g c =
-    let mid : Progress = record { hand = c.self.inside.hand; buffer = c.self.inside.buffer; tally = record { draws = c.self.inside.draws; next_loop = c.self.inside.next_loop } } in
-    let new : Progress = record { hand = c.store.new.hand; buffer = c.put.new.self; tally = record { draws = c.self.inside.draws; next_loop = c.self.inside.next_loop } } in
+    let mid : Progress = record { hand = c.self.inside.hand; buffer = c.self.inside.buffer; tally = record { draws = c.self.inside.draws; next_loop = c.self.inside.next_loop; forked = c.self.inside.forked } } in
+    let new : Progress = record { hand = c.store.new.hand; buffer = c.put.new.self; tally = record { draws = c.self.inside.draws; next_loop = c.self.inside.next_loop; forked = c.self.inside.forked } } in
     let bits : ℕ = c.cast_unsigned-bits.result in
     let room = subst (λ (p : Progress). HasRoomFor c.args.self.now p) (sym c.self.view_is) c.in_ok-ready.ensures.room in
     λ slots.
     write_made c.args.world.now c.args.element.now c.requires.stands c.args.line c.args.site bits c.requires.line c.args.self.now mid new room
-    (ap (λ (b : Buffered). b.refused) c.put.ensures.put ∙ room.may_put.unrefused) (ap (λ (b : Buffered). b.count) c.put.ensures.put) refl slots c.args.value (ap (λ (z : ℤ). to_bits z) (sym (to_z-of_z w64 c.args.value c.ranges.value)) ∙ sym c.cast_unsigned-bits.ensures) c.store.ensures
-    (λ header records holds. subst (λ (r : Record). HoldsRecords header c.put.new.self (records ++ r ∷ [])) c.access-event.ensures (c.put.ensures.records header records holds))
+    (ap (λ (b : Buffered). b.refused) c.put.ensures.put ∙ room.may_put.unrefused) refl slots c.args.value (ap (λ (z : ℤ). to_bits z) (sym (to_z-of_z w64 c.args.value c.ranges.value)) ∙ sym c.cast_unsigned-bits.ensures) c.ranges.value c.requires.fits c.store.ensures
+    (record {
+      records = λ header records holds. subst (λ (r : Record). HoldsRecords header c.put.new.self (records ++ r ∷ [])) c.access-event.ensures (c.put.ensures.records header records holds);
+      count = ap (λ (b : Buffered). b.count) c.put.ensures.put;
+      path = ap (λ (b : Buffered). b.path) c.put.ensures.put;
+    })

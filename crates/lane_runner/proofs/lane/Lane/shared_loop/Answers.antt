@@ -8,7 +8,7 @@ use Rattle.lane_runner.specs.Alone.{turn_from}
 use Rattle.lane_runner.specs.Going.{Goes, site}
 use Rattle.lane_runner.proofs.Dealing.{for_first_stops, for_last_stops, for_goes}
 use Rattle.lane_runner.proofs.Values.{can_follow}
-use Rattle.lane_runner.proofs.lane.Lane.dealt_loop.Goals as goal
+use Rattle.lane_runner.proofs.lane.Lane.shared_loop.Goals as goal
 
 pub returns-in_err-first-clause-goes : goal.returns-in_err-first-clause-goes
 returns-in_err-first-clause-goes g c =
@@ -29,7 +29,7 @@ returns-clause-goes g c =
     (subst (λ (n : ℕ). Goes c.args.world.now (shared c.args.schedule (site c.args.world.now) c.args.line n (turn_from (site c.args.world.now) (code_of c.args.body.now.stmts.items) c.args.slot c.in_ok-first.first)) c.args.self.now.locals.slots.items c.share.new.self.locals.slots.items c.value-2.new.track c.share.new.self.track c.share.result)
     (c.total_of.ensures ∙ ap (λ (z : ℤ). total_of z (to_z w64 (of_z w64 c.in_ok-last.last))) first_is ∙ ap (λ (z : ℤ). total_of c.in_ok-first.first z) last_is)
     (subst (λ (z : ℤ). Goes c.args.world.now (shared c.args.schedule (site c.args.world.now) c.args.line c.total_of.result (turn_from (site c.args.world.now) (code_of c.args.body.now.stmts.items) c.args.slot z)) c.args.self.now.locals.slots.items c.share.new.self.locals.slots.items c.value-2.new.track c.share.new.self.track c.share.result) first_is
-    (c.share.ensures.goes c.args.line)))
+    (c.share.ensures.goes)))
 
 pub value-requires-2-clause-can : goal.value-requires-2-clause-can
 value-requires-2-clause-can g c κs given = can_follow _ _ _ _ _ _ _ c.requires.can c.in_ok-first.ensures.goes

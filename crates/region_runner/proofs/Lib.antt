@@ -1,0 +1,5 @@
+pub mod Numbers
+pub mod WholeTree
+pub mod TaskListing
+pub mod FinishedRun
+pub mod JoinedHands

@@ -1,0 +1,11 @@
+-- What the lanes of a team drew, by their hands on the counters and by their logs.
+use Rattle.std.specs.Prelude.{◌≡◌, ℕ, List, [], ◌∷◌, ◌++◌}
+use Rattle.log_format.specs.declared.record.Record.{Record}
+use Rattle.kernel_model.specs.Chunking.{TellFirst}
+use Rattle.lane_runner.specs.Drawing.{TellDraws}
+
+-- The log of each lane tells what the lane drew, and how many chunks each loop has; all that was drawn, lane after lane.
+pub data DrewByLogs (counts : List ℕ) : List (List Record) → List (ℕ × ℕ) → Type 0 where
+  no_lane : DrewByLogs counts [] []
+  lane : (records : List Record) (mine drawn : List (ℕ × ℕ)) (last : ℕ) (logs : List (List Record)) → TellDraws 0 records mine last → TellFirst counts records
+      → DrewByLogs counts logs drawn → DrewByLogs counts (records ∷ logs) (mine ++ drawn)
