@@ -1,12 +1,12 @@
 -- The first broken rule of statements, by the parts of the first of them.
-use Rattle.std.proofs.Common.{◌≡◌, ℕ, ◌*◌, Bool, true, false, not, List, [], ◌++◌, Option, refl, sym, ap, subst, ◌∙◌, append_assoc}
+use Rattle.std.proofs.Common.{◌≡◌, ℕ, ◌*◌, Bool, true, false, not, List, [], ◌++◌, Option, subst, append_assoc}
 use Rattle.std.specs.Prelude.{ℤ, nat_lt, nat_le, is_some}
 use Rattle.kernel_text.specs.declared.fault.KernelWhy.{KernelWhy}
 use Rattle.kernel_text.specs.declared.fault.KernelWhy.TheVariants as why
 use Rattle.kernel_text.specs.Tokens.{Refusal}
-use Rattle.kernel_text.specs.Grammar.{Tree, ScheduleTree, Stmts, Loop, Parallel, For, CriticalOf}
-use Rattle.kernel_reader.specs.Scope.{Place, slots, with_local, past, count_literal, is_among, is_between}
-use Rattle.kernel_reader.specs.Rules.{fault_if, tree_faults, declared_faults, schedule_faults, stmts_faults, critical_faults, mutex_of, is_fixed, in_branch, in_region, in_work, in_critical, is_misplaced, weight}
+use Rattle.kernel_text.specs.Grammar.{Tree, ScheduleTree, Stmts, Loop, For}
+use Rattle.kernel_reader.specs.Scope.{Place, with_local, count_literal, is_between}
+use Rattle.kernel_reader.specs.Rules.{fault_if, tree_faults, declared_faults, schedule_faults, stmts_faults, is_fixed, in_branch, in_work, is_misplaced}
 use Rattle.kernel_reader.specs.declared.fault.ReadKernelFault.{ReadKernelFault}
 use Rattle.kernel_reader.specs.Settled.{IsFirstOf}
 use Rattle.kernel_reader.proofs.Broken.{first-before, first-behind}

@@ -1,5 +1,5 @@
 -- How many sites, slots and statements there are: those of the first statement, and those of the rest.
-use Rattle.std.proofs.Common.{◌≡◌, ℕ, ◌+◌, ap, sym, ◌∙◌, subst, arith}
+use Rattle.std.proofs.Common.{◌≡◌, ℕ, ◌+◌, arith}
 use Rattle.kernel_text.specs.Grammar.{Stmts, NoMore, Let, Assign, Store, If, IfElse, Loop, Parallel, For, Barrier, Critical, CriticalOf}
 use Rattle.kernel_parser.specs.declared.tree.Statement.{Statement}
 use Rattle.kernel_parser.specs.declared.tree.Statement.TheOpen as layer

@@ -1,5 +1,5 @@
 -- Entering a section: what is broken there, and what is around then, as the code keeps it.
-use Rattle.std.specs.Prelude.{ℕ, ◌+◌, ◌*◌, ◌==◌, true, false, not, ◌||◌, ◌++◌, List, [], Option, Some, None, is_some, nat_le, nat_lt, ℤ}
+use Rattle.std.specs.Prelude.{ℕ, ◌+◌, ◌*◌, ◌==◌, true, false, not, ◌||◌, ◌++◌, List, Some, None, is_some, nat_le, nat_lt, ℤ}
 use Rattle.kernel_text.specs.declared.fault.KernelWhy.{KernelWhy}
 use Rattle.kernel_text.specs.declared.fault.KernelWhy.TheVariants as why
 use Rattle.kernel_text.specs.Tokens.{Refusal}

@@ -1,6 +1,5 @@
-use Rattle.std.proofs.Common.{◌≡◌, ◌+◌, ◌<◌, ◌≤◌, length, subst, sym, arith}
+use Rattle.std.proofs.Common.{◌<◌, ◌≤◌, length, subst, sym, arith}
 use Rattle.kernel_text.specs.Grammar.{KernelTree}
-use Rattle.kernel_parser.specs.Trees.{kernel_of}
 use Rattle.kernel_reader.specs.Scope.{slots}
 use Rattle.kernel_reader.specs.Resolve.{stmts_sites}
 use Rattle.kernel_reader.proofs.Rooms.{kernel-room}

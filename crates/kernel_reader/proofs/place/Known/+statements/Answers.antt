@@ -1,4 +1,4 @@
-use Rattle.std.proofs.Common.{◌≡◌, ℕ, ◌+◌, ◌*◌, ◌<◌, ◌≤◌, Ok, true, false, not, ◌||◌, List, ◌∷◌, length, [], w64, subst, Result, refl, sym, ap, ◌∙◌, arith, rules}
+use Rattle.std.proofs.Common.{◌≡◌, ℕ, ◌+◌, ◌≤◌, false, not, ◌||◌, List, ◌∷◌, length, [], w64, subst, Result, refl, sym, ap, ◌∙◌, arith, rules}
 use Rattle.std.proofs.lemmas.Result.{err_from_is_err_and}
 use Rattle.std.proofs.lemmas.List.{nil_from_length}
 use Rattle.std.proofs.lemmas.Int.{to_z-of_z}
@@ -10,11 +10,10 @@ use Rattle.kernel_text.specs.Grammar.{Stmts, NoMore}
 use Rattle.kernel_parser.specs.Trees.{tree_of, schedule_tree, stmt_before, stmts_of}
 use Rattle.kernel_parser.specs.declared.tree.Statement.{Statement}
 use Rattle.kernel_parser.proofs.Equations.{before_let, before_assign, before_store, before_if, before_if_else, before_loop, before_parallel, before_for, before_barrier, before_critical, before_critical_of}
-use Rattle.kernel_reader.specs.Scope.{Place, count_literal, slots}
+use Rattle.kernel_reader.specs.Scope.{count_literal, slots}
 use Rattle.kernel_text.specs.declared.fault.KernelWhy.TheVariants as why
-use Rattle.kernel_reader.specs.Rules.{fault_if, is_misplaced, declared_faults, assigned_faults, array_faults, tree_faults, critical_faults, in_critical, is_fixed, stmts_faults}
+use Rattle.kernel_reader.specs.Rules.{fault_if, is_misplaced, declared_faults, assigned_faults, array_faults, tree_faults, critical_faults, in_critical, is_fixed}
 use Rattle.kernel_reader.specs.Resolve.{sites, stmts_sites}
-use Rattle.kernel_reader.specs.Naming.{names_of}
 use Rattle.kernel_reader.specs.Sections.{region_faults, region_section}
 use Rattle.kernel_reader.specs.Folding.{place_of, IsFirstRead, IsLeft}
 use Rattle.kernel_reader.specs.declared.fault.ReadKernelFault.{ReadKernelFault}
@@ -23,9 +22,8 @@ use Rattle.kernel_reader.specs.declared.place.Section.{Section}
 use Rattle.kernel_reader.specs.declared.statements.Added.{Added}
 use Rattle.kernel_reader.proofs.Sizes.{apart, size}
 use Rattle.kernel_reader.proofs.Firsts.{part-2, part-3, loop-range-first, loop-body-first, for-range-first, for-schedule-first, for-body-first}
-use Rattle.kernel_reader.proofs.Broken.{first-before, first-behind}
-use Rattle.kernel_reader.proofs.Advances.{let-read, assign-read, store-read, barrier-read, if-read, if-else-read, loop-read, for-read, region-read, critical-read, critical-of-read, place-branch, place-other, place-loop, place-work, take-back}
-use Rattle.kernel_reader.proofs.Lefts.{left-begins, left-ends, left-fails, left-steps, take-through}
+use Rattle.kernel_reader.proofs.Advances.{let-read, assign-read, store-read, barrier-read, if-read, if-else-read, loop-read, for-read, region-read, critical-read, critical-of-read, place-branch, place-loop, place-work, take-back}
+use Rattle.kernel_reader.proofs.Lefts.{left-ends, left-fails, left-steps, take-through}
 use Rattle.kernel_reader.proofs.place.Known.+statements.Goals as goal
 
 -- a statement by its variant
