@@ -50,16 +50,6 @@ declarations-end all made ts us t leaves split tells ds line after is =
     last [] whole e = (sym (append-nil (map declaration_of made)) ∙ whole, e)
     last (d ∷ rest) whole e = absurd (tells d (declarations_tokens rest ++ reserved line word.Main ∷ after) (sym split ∙ (e ∙ append_assoc (declaration_tokens d) (declarations_tokens rest) _)))
 
-pub declarations-some : (all : List Token) (made : List code.Declaration) (ts : List Token) → LeavesDeclarations all made ts → ts ≡ []
-    → (ds : List Declaration) (line : ℕ) (after : List Token) → all ≡ declarations_tokens ds ++ reserved line word.Main ∷ after → ⊥
-declarations-some all made ts leaves none ds line after is =
-    let l = leaves ds line after is in some l.rest (sym none ∙ l.parts)
-  where
-    some : (rest : List Declaration) → [] ≡ declarations_tokens rest ++ reserved line word.Main ∷ after → ⊥
-    some [] e = absurd cc
-    some (ArrayOf _ _ _ _ _ _ _ ∷ rest) e = absurd cc
-    some (MutexOf _ _ _ ∷ rest) e = absurd cc
-
 -- a kernel by its parts
 pub kernel-is : (k : KernelTree) (made : List Declaration) (line opened : ℕ) (body : Stmts) (closed : ℕ) → made ≡ k.declarations → line ≡ k.line → opened ≡ k.opened → body ≡ k.body → closed ≡ k.closed
     → record { declarations = made; line = line; opened = opened; body = body; closed = closed } ≡ k

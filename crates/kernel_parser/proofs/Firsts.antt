@@ -171,9 +171,3 @@ critical-parsed t ts r f g is b end tail n e d s = same b (seen lead.Critical b 
         let a = heads-is _ _ _ _ e in
         first-is (CriticalOf t.line name_line name opened body closed) (CriticalOf line name_line name opened body closed rest) end tail r (ap (λ (l : ℕ). CriticalOf l name_line name opened body closed rest) a.0)
         (g name_line name opened body closed _ _ a.2 (block-before (n - 1) opened body closed rest end tail d.0 s.1))
-
-pub end-parsed : (t : Token) (ts : List Token) (r : Parsed) → lead_of t.lexeme ts ≡ lead.End → (b : Stmts) (end : ℕ) (tail : List Token) → AreSome b → t ∷ ts ≡ inside b end tail → ⊥
-end-parsed t ts r is b end tail some e = absurd (ended b (seen lead.End b end tail t ts is e) some)
-  where
-    ended : (b : Stmts) → View lead.End b → AreSome b → ⊥
-    ended _ IsEnd some = some

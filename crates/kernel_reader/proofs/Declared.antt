@@ -1,7 +1,6 @@
 -- Declarations one after the other, as a loop reads them.
-use Rattle.std.proofs.Common.{◌≡◌, ℕ, ◌+◌, not, ◌||◌, List, [], ◌∷◌, ◌++◌, length, refl, sym, ap, subst, ◌∙◌, append_assoc}
+use Rattle.std.proofs.Common.{◌≡◌, ℕ, ◌+◌, not, ◌||◌, List, [], ◌∷◌, ◌++◌, length, sym, ap, subst, ◌∙◌, append_assoc}
 use Rattle.std.specs.Prelude.{ℤ, nat_le, nat_lt, is_none, unwrap_or}
-use Rattle.std.proofs.lemmas.List.{append-nil}
 use Rattle.kernel_syntax.specs.declared.syntax.Array.{Array}
 use Rattle.kernel_syntax.specs.Layout.{elements}
 use Rattle.kernel_text.specs.declared.fault.KernelWhy.TheVariants as why
@@ -40,21 +39,10 @@ pub record AreLeft (ds es : List Declaration) (arrays : List Array) (mutexes : L
   pub arrays_are : arrays_of ds ≡ arrays ++ arrays_of es
   pub mutexes_are : mutex_names ds ≡ mutexes ++ mutex_names es
 
-pub left-begin : (ds : List Declaration) → AreLeft ds ds [] []
-left-begin ds = record { faults = refl; arrays_are = refl; mutexes_are = refl }
-
-pub left-end : (ds : List Declaration) (arrays : List Array) (mutexes : List (List ℕ)) → AreLeft ds [] arrays mutexes → (declarations_faults [] [] ds ≡ []) × ((arrays ≡ arrays_of ds) × (mutexes ≡ mutex_names ds))
-left-end ds arrays mutexes l = (l.faults, (sym (l.arrays_are ∙ append-nil arrays), sym (l.mutexes_are ∙ append-nil mutexes)))
-
 pub array-fails : (ds es : List Declaration) (arrays : List Array) (mutexes : List (List ℕ)) (line nl : ℕ) (name : List ℕ) (wl : ℕ) (width : List ℕ) (cl : ℕ) (count : ℤ) (f : ReadKernelFault) → AreLeft ds (ArrayOf line nl name wl width cl count ∷ es) arrays mutexes
     → IsFirstOf (ArrayFaults arrays mutexes nl name wl width cl count) f → IsFirstOf (declarations_faults [] [] ds) f
 array-fails ds es arrays mutexes line nl name wl width cl count f l told =
     subst (λ (z : List Refusal). IsFirstOf z f) (array-joined arrays mutexes line nl name wl width cl count es ∙ sym l.faults) (first-before (ArrayFaults arrays mutexes nl name wl width cl count) _ f told)
-
-pub mutex-fails : (ds es : List Declaration) (arrays : List Array) (mutexes : List (List ℕ)) (line nl : ℕ) (name : List ℕ) (f : ReadKernelFault) → AreLeft ds (MutexOf line nl name ∷ es) arrays mutexes
-    → IsFirstOf (MutexFaults arrays mutexes nl name) f → IsFirstOf (declarations_faults [] [] ds) f
-mutex-fails ds es arrays mutexes line nl name f l told =
-    subst (λ (z : List Refusal). IsFirstOf z f) (mutex-joined arrays mutexes line nl name es ∙ sym l.faults) (first-before (MutexFaults arrays mutexes nl name) _ f told)
 
 pub array-steps : (ds es : List Declaration) (arrays more : List Array) (mutexes : List (List ℕ)) (line nl : ℕ) (name : List ℕ) (wl : ℕ) (width : List ℕ) (cl : ℕ) (count : ℤ) (x : Array) → AreLeft ds (ArrayOf line nl name wl width cl count ∷ es) arrays mutexes
     → ArrayFaults arrays mutexes nl name wl width cl count ≡ [] → x ≡ array_of name (unwrap_or (width_of width) 0) count → more ≡ arrays ++ x ∷ [] → AreLeft ds es more mutexes
@@ -66,14 +54,4 @@ array-steps ds es arrays more mutexes line nl name wl width cl count x l fine is
           ∙ ap (λ (a : List Array). declarations_faults a mutexes es) (sym grown);
       arrays_are = l.arrays_are ∙ sym (append_assoc arrays (made ∷ []) (arrays_of es)) ∙ ap (λ (a : List Array). a ++ arrays_of es) (sym grown);
       mutexes_are = l.mutexes_are;
-    }
-
-pub mutex-steps : (ds es : List Declaration) (arrays : List Array) (mutexes more : List (List ℕ)) (line nl : ℕ) (name : List ℕ) (x : List ℕ) → AreLeft ds (MutexOf line nl name ∷ es) arrays mutexes
-    → MutexFaults arrays mutexes nl name ≡ [] → x ≡ name → more ≡ mutexes ++ x ∷ [] → AreLeft ds es arrays more
-mutex-steps ds es arrays mutexes more line nl name x l fine is more_is =
-    let grown : more ≡ mutexes ++ name ∷ [] = more_is ∙ ap (λ (m : List ℕ). mutexes ++ m ∷ []) is in
-    record {
-      faults = l.faults ∙ sym (mutex-joined arrays mutexes line nl name es) ∙ ap (λ (z : List Refusal). z ++ declarations_faults arrays (mutexes ++ name ∷ []) es) fine ∙ ap (λ (m : List (List ℕ)). declarations_faults arrays m es) (sym grown);
-      arrays_are = l.arrays_are;
-      mutexes_are = l.mutexes_are ∙ sym (append_assoc mutexes (name ∷ []) (mutex_names es)) ∙ ap (λ (m : List (List ℕ)). m ++ mutex_names es) (sym grown);
     }

@@ -21,18 +21,12 @@ part-2 a b z f is = subst (λ (l : List Refusal). IsFirstOf l f) (append_assoc a
 pub part-3 : (a b c z : List Refusal) (f : ReadKernelFault) → IsFirstOf (a ++ (b ++ c)) f → IsFirstOf (a ++ (b ++ (c ++ z))) f
 part-3 a b c z f is = subst (λ (l : List Refusal). IsFirstOf (a ++ l) f) (append_assoc b c z) (part-2 a (b ++ c) z f is)
 
-pub part-4 : (a b c d z : List Refusal) (f : ReadKernelFault) → IsFirstOf (a ++ (b ++ (c ++ d))) f → IsFirstOf (a ++ (b ++ (c ++ (d ++ z)))) f
-part-4 a b c d z f is = subst (λ (l : List Refusal). IsFirstOf (a ++ (b ++ l)) f) (append_assoc c d z) (part-3 a b (c ++ d) z f is)
-
 -- behind parts that break none
 pub skip-2 : (a b z : List Refusal) (f : ReadKernelFault) → a ++ b ≡ [] → IsFirstOf z f → IsFirstOf (a ++ (b ++ z)) f
 skip-2 a b z f none is = subst (λ (l : List Refusal). IsFirstOf l f) (append_assoc a b z) (first-behind (a ++ b) z f none is)
 
 pub skip-3 : (a b c z : List Refusal) (f : ReadKernelFault) → a ++ (b ++ c) ≡ [] → IsFirstOf z f → IsFirstOf (a ++ (b ++ (c ++ z))) f
 skip-3 a b c z f none is = subst (λ (l : List Refusal). IsFirstOf (a ++ l) f) (append_assoc b c z) (skip-2 a (b ++ c) z f none is)
-
-pub skip-4 : (a b c d z : List Refusal) (f : ReadKernelFault) → a ++ (b ++ (c ++ d)) ≡ [] → IsFirstOf z f → IsFirstOf (a ++ (b ++ (c ++ (d ++ z)))) f
-skip-4 a b c d z f none is = subst (λ (l : List Refusal). IsFirstOf (a ++ (b ++ l)) f) (append_assoc c d z) (skip-3 a b (c ++ d) z f none is)
 
 -- the rules of a region
 abbrev pub RegionFaults : Place → ℕ → ℕ → ℤ → List Refusal

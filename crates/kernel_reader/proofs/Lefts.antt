@@ -24,9 +24,6 @@ or-false : (a : Bool) → (a || false) ≡ a
 or-false true = refl
 or-false false = refl
 
-pub left-begins : (arrays : List Array) (mutexes : List (List ℕ)) (old : State) (section : Section) (b : Stmts) → IsLeft arrays mutexes old old section b b [] 0 false
-left-begins arrays mutexes old section b = record { faults = refl; code_is = refl; slots_are = refl; sites_are = refl; weighs = omega arith; works_is = refl }
-
 weighs-more : (w x k v : ℕ) → v ≡ capped (w + x) → capped (w + x + k) ≡ capped (v + k)
 weighs-more w x k v e = omega (arith, e)
 

@@ -5,12 +5,10 @@ use Rattle.std.proofs.lemmas.Result.{err_from_is_err_and}
 use Rattle.std.proofs.lemmas.List.Sums.{sum_by_push}
 use Rattle.kernel_syntax.specs.declared.syntax.Array.{Array}
 use Rattle.kernel_syntax.specs.Layout.{elements}
-use Rattle.kernel_text.specs.Grammar.{Declaration, ArrayOf}
-use Rattle.kernel_parser.specs.declared.tree.Declaration as code
 use Rattle.kernel_parser.specs.Trees.{declaration_of}
 use Rattle.kernel_reader.specs.Rules.{width_of, array_of}
 use Rattle.kernel_reader.specs.Settled.{IsFirstOf}
-use Rattle.kernel_reader.proofs.Declared.{ArrayFaults, AreLeft, array-fails, array-steps}
+use Rattle.kernel_reader.proofs.Declared.{ArrayFaults, array-fails, array-steps}
 use Rattle.kernel_reader.proofs.declarations.declarations.Goals as goal
 
 pub returns-in_err-array-in-Array-clause-declared : goal.returns-in_err-array-in-Array-clause-declared
@@ -21,8 +19,7 @@ returns-in_err-array-in-Array-clause-declared c =
     let arrays = c.declarations.arrays in
     let mutexes = c.declarations.mutexes in
     let fault = c.in_err-array-in-Array.field-0.0 in
-    let here : map declaration_of c.declarations.rest.now ≡ ArrayOf a.line a.name_line a.name a.width_line a.width a.count_line a.count ∷ es = ap (map declaration_of) c.in-Some.ensures.cases.0 ∙ ap (λ (d : code.Declaration). declaration_of d ∷ es) a.is in
-    let l = subst (λ (left : List Declaration). AreLeft ds left arrays mutexes) here c.declarations.invariant.left in
+    let l = rw (c.in-Some.ensures.cases.0, a.is) at c.declarations.invariant.left in
     let Told : ℤ → Type 0 = λ n. IsFirstOf (ArrayFaults arrays mutexes a.name_line a.name a.width_line a.width a.count_line n) fault in
     let seen : Told (to_z w64 (of_z w64 a.count)) = rw (← c.as_slice.ensures, ← c.as_slice-in-Array.ensures) c.in_err-array-in-Array.ensures.array in
     let p = err_from_is_err_and c.from_residual.result c.from_residual.ensures.1 in
@@ -36,8 +33,7 @@ declarations-preserved-in_ok-push-in-Array c =
     let es = map declaration_of c.in-Some.others.now in
     let arrays = c.declarations.arrays in
     let mutexes = c.declarations.mutexes in
-    let here : map declaration_of c.declarations.rest.now ≡ ArrayOf a.line a.name_line a.name a.width_line a.width a.count_line a.count ∷ es = ap (map declaration_of) c.in-Some.ensures.cases.0 ∙ ap (λ (d : code.Declaration). declaration_of d ∷ es) a.is in
-    let l = subst (λ (left : List Declaration). AreLeft ds left arrays mutexes) here c.declarations.invariant.left in
+    let l = rw (c.in-Some.ensures.cases.0, a.is) at c.declarations.invariant.left in
     let Read : ℤ → Type 0 = λ n. (ArrayFaults arrays mutexes a.name_line a.name a.width_line a.width a.count_line n ≡ []) × (x ≡ array_of a.name (unwrap_or (width_of a.width) 0) n) in
     let seen : Read (to_z w64 (of_z w64 a.count)) = rw (← c.as_slice.ensures, ← c.as_slice-in-Array.ensures) c.in_ok-array-in-Array.ensures.array in
     let read = subst Read (to_z-of_z w64 a.count (search rules)) seen in
