@@ -6,49 +6,12 @@ use Rattle.kernel_text.specs.declared.token.Sign.TheVariants as sign
 use Rattle.kernel_text.specs.declared.token.Lexeme.TheVariants.{Named, Number}
 use Rattle.kernel_text.specs.declared.token.Token.{Token}
 use Rattle.kernel_text.specs.Grammar.{Tree, tree_tokens, Derives, expr, IsFlat, mark, reserved, block, ScheduleTree, Unsaid, Static, StaticBy, Dynamic, DynamicBy, schedule_tokens, nowait_tokens, Stmts, NoMore, Let, Assign, Store, If, IfElse, Loop, Parallel, For, Barrier, Critical, CriticalOf, stmts_tokens, StmtsDerive, AreShallow, Declaration, ArrayOf, MutexOf, declarations_tokens, KernelTree, kernel_tokens, IsKernel, IsShallow}
-use Rattle.kernel_reader.specs.declared.heads.Lead.{Lead}
-use Rattle.kernel_reader.specs.declared.heads.Lead.TheVariants as lead
-use Rattle.kernel_reader.specs.Machine.{expression_from}
-use Rattle.kernel_reader.specs.Heads.{IsExpression, lead_of, lead_of_stmts, inside, is_else, line_of, number_of, is_number, is_static, is_dynamic, is_nowait}
-use Rattle.kernel_reader.proofs.Completing.{expression-is, expression-same}
-use Rattle.kernel_reader.proofs.Heading.{follows-inside, follows-schedule, lead-is}
-use Rattle.kernel_reader.proofs.Firsts.{no-else}
-
--- statements of which the lead is known
-data View : Lead → Stmts → Type 0 where
-  IsEnd : View lead.End NoMore
-  IsLet : (line name_line : ℕ) → (name : List ℕ) → (sign_line : ℕ) → (value : Tree) → (rest : Stmts) → View lead.Let (Let line name_line name sign_line value rest)
-  IsAssign : (line : ℕ) → (name : List ℕ) → (sign_line : ℕ) → (value : Tree) → (rest : Stmts) → View lead.Assign (Assign line name sign_line value rest)
-  IsStore : (line : ℕ) → (name : List ℕ) → (opened : ℕ) → (index : Tree) → (closed sign_line : ℕ) → (value : Tree) → (rest : Stmts) → View lead.Store (Store line name opened index closed sign_line value rest)
-  IsIf : (line : ℕ) → (test : Tree) → (opened : ℕ) → (if_true : Stmts) → (closed : ℕ) → (rest : Stmts) → View lead.If (If line test opened if_true closed rest)
-  IsIfElse : (line : ℕ) → (test : Tree) → (opened : ℕ) → (if_true : Stmts) → (closed else_line else_opened : ℕ) → (if_false : Stmts) → (else_closed : ℕ) → (rest : Stmts)
-      → View lead.If (IfElse line test opened if_true closed else_line else_opened if_false else_closed rest)
-  IsLoop : (line name_line : ℕ) → (name : List ℕ) → (in_line : ℕ) → (from : Tree) → (dots : ℕ) → (to : Tree) → (opened : ℕ) → (body : Stmts) → (closed : ℕ) → (rest : Stmts)
-      → View lead.Loop (Loop line name_line name in_line from dots to opened body closed rest)
-  IsParallel : (line number_line : ℕ) → (span : ℤ) → (opened : ℕ) → (body : Stmts) → (closed : ℕ) → (rest : Stmts) → View lead.Parallel (Parallel line number_line span opened body closed rest)
-  IsFor : (line name_line : ℕ) → (name : List ℕ) → (in_line : ℕ) → (from : Tree) → (dots : ℕ) → (to : Tree) → (schedule : ScheduleTree) → (nowait : Option ℕ) → (opened : ℕ) → (body : Stmts) → (closed : ℕ) → (rest : Stmts)
-      → View lead.For (For line name_line name in_line from dots to schedule nowait opened body closed rest)
-  IsBarrier : (line : ℕ) → (rest : Stmts) → View lead.Barrier (Barrier line rest)
-  IsCritical : (line opened : ℕ) → (body : Stmts) → (closed : ℕ) → (rest : Stmts) → View lead.Critical (Critical line opened body closed rest)
-  IsCriticalOf : (line name_line : ℕ) → (name : List ℕ) → (opened : ℕ) → (body : Stmts) → (closed : ℕ) → (rest : Stmts) → View lead.Critical (CriticalOf line name_line name opened body closed rest)
-
-view : (b : Stmts) → View (lead_of_stmts b) b
-view NoMore = IsEnd
-view (Let line name_line name sign_line value rest) = IsLet line name_line name sign_line value rest
-view (Assign line name sign_line value rest) = IsAssign line name sign_line value rest
-view (Store line name opened index closed sign_line value rest) = IsStore line name opened index closed sign_line value rest
-view (If line test opened if_true closed rest) = IsIf line test opened if_true closed rest
-view (IfElse line test opened if_true closed else_line else_opened if_false else_closed rest) = IsIfElse line test opened if_true closed else_line else_opened if_false else_closed rest
-view (Loop line name_line name in_line from dots to opened body closed rest) = IsLoop line name_line name in_line from dots to opened body closed rest
-view (Parallel line number_line span opened body closed rest) = IsParallel line number_line span opened body closed rest
-view (For line name_line name in_line from dots to schedule nowait opened body closed rest) = IsFor line name_line name in_line from dots to schedule nowait opened body closed rest
-view (Barrier line rest) = IsBarrier line rest
-view (Critical line opened body closed rest) = IsCritical line opened body closed rest
-view (CriticalOf line name_line name opened body closed rest) = IsCriticalOf line name_line name opened body closed rest
-
--- the first two tokens tell the lead
-seen : (l : Lead) (b : Stmts) (end : ℕ) (tail : List Token) (t : Token) (ts : List Token) → lead_of t.lexeme ts ≡ l → t ∷ ts ≡ inside b end tail → View l b
-seen l b end tail t ts is e = subst (λ (l : Lead). View l b) (sym (lead-is b end tail t ts e) ∙ is) (view b)
+use Rattle.kernel_parser.specs.declared.lookahead.Lead.{Lead}
+use Rattle.kernel_parser.specs.declared.lookahead.Lead.TheVariants as lead
+use Rattle.kernel_parser.specs.Machine.{expression_from}
+use Rattle.kernel_parser.specs.Parsing.{IsExpression, lead_of, lead_of_stmts, inside, is_else, line_of, number_of, is_number, is_static, is_dynamic, is_nowait}
+use Rattle.kernel_parser.proofs.Completing.{expression-is, expression-same}
+use Rattle.kernel_parser.proofs.Heading.{follows-inside, follows-schedule, no-else, before-stmts, block-opens, body-opens, View, IsEnd, IsLet, IsAssign, IsStore, IsIf, IsIfElse, IsLoop, IsParallel, IsFor, IsBarrier, IsCritical, IsCriticalOf, seen, heads-is}
 
 -- statements with these tokens, the brace behind them, and the tokens behind it
 abbrev AreOnly : Stmts → Type 0
@@ -57,19 +20,6 @@ AreOnly b = (c : Stmts) (n m end last : ℕ) (tail after : List Token) → insid
 -- one expression stands at the beginning of tokens
 one-expression : (ts us : List Token) (t u : Tree) (after behind : List Token) → ts ≡ us → IsExpression ts t after → IsExpression us u behind → (t ≡ u) × (after ≡ behind)
 one-expression ts us t u after behind e first second = expression-same us u behind t after second (ap (expression_from None []) (sym e) ∙ expression-is ts t after first)
-
-before-stmts : (v : Tree) (b : Stmts) (end : ℕ) (tail : List Token) → Derives expr v → IsFlat v
-    → IsExpression ((tree_tokens v ++ stmts_tokens b) ++ mark end sign.CloseBrace ∷ tail) v (inside b end tail)
-before-stmts v b end tail d f = record { parts = append_assoc (tree_tokens v) (stmts_tokens b) _; derives = d; flat = f; ends = follows-inside b end tail }
-
-line-is : (t u : Token) → t ≡ u → t.line ≡ u.line
-line-is t u e = ap (λ (t : Token). t.line) e
-
-lexeme-is : (t u : Token) → t ≡ u → t.lexeme ≡ u.lexeme
-lexeme-is t u e = ap (λ (t : Token). t.lexeme) e
-
-heads-is : (t u : Token) (ts us : List Token) → t ∷ ts ≡ u ∷ us → (t.line ≡ u.line) × (t.lexeme ≡ u.lexeme) × (ts ≡ us)
-heads-is t u ts us e = let one : t ≡ u = cc in (line-is t u one, lexeme-is t u one, cc)
 
 only-let : (line name_line : ℕ) (name : List ℕ) (sign_line : ℕ) (value : Tree) (rest : Stmts) → AreOnly rest → AreOnly (Let line name_line name sign_line value rest)
 only-let line name_line name sign_line value rest more c n m end last tail after e d g s h = same c (seen lead.Let c last after _ _ refl e) e g h
@@ -82,14 +32,6 @@ only-let line name_line name sign_line value rest more c n m end last tail after
         let c = heads-is _ _ _ _ b.2 in
         let v = one-expression _ _ value value2 _ _ c.2 (before-stmts value rest end tail d.0 s.0) (before-stmts value2 rest2 last after g.0 h.0) in
         let r = more rest2 n m end last tail after v.1 d.1 g.1 s.1 h.1 in (cc, r.1, r.2)
-
--- a block before statements
-block-opens : (opened : ℕ) (body : Stmts) (closed : ℕ) (after : List Token) → block opened (stmts_tokens body) closed ++ after ≡ mark opened sign.OpenBrace ∷ inside body closed after
-block-opens opened body closed after = ap (λ (ts : List Token). mark opened sign.OpenBrace ∷ ts) (append_assoc (stmts_tokens body) (mark closed sign.CloseBrace ∷ []) after)
-
-body-opens : (opened : ℕ) (body : Stmts) (closed : ℕ) (b : Stmts) (end : ℕ) (tail : List Token)
-    → (block opened (stmts_tokens body) closed ++ stmts_tokens b) ++ mark end sign.CloseBrace ∷ tail ≡ mark opened sign.OpenBrace ∷ inside body closed (inside b end tail)
-body-opens opened body closed b end tail = append_assoc (block opened (stmts_tokens body) closed) (stmts_tokens b) _ ∙ block-opens opened body closed (inside b end tail)
 
 only-end : AreOnly NoMore
 only-end c n m end last tail after e d g s h = same c (seen lead.End c last after _ _ refl e) e

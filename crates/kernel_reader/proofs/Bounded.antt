@@ -26,7 +26,7 @@ use Rattle.kernel_reader.specs.KernelOf.{IsKernelOf}
 use Rattle.kernel_reader.proofs.Broken.{nil_left, nil_right, fault_if-none, not-false, between-le}
 use Rattle.kernel_text.proofs.Few.{tokens_of-few}
 use Rattle.kernel_text.proofs.Lines.{AreLined, lined-split, tokens_of-lined}
-use Rattle.kernel_reader.proofs.Rooms.{stmts_sites-bound}
+use Rattle.kernel_reader.proofs.Rooms.{kernel-room}
 
 -- ---- numbers that are counted
 
@@ -322,8 +322,7 @@ program-bounded k lined few lawful =
     let limits = within.limits in
     let behind = (lined-split (declarations_tokens k.declarations) main lined).1 in
     let body = lined-split (stmts_tokens k.body) (mark k.closed sign.CloseBrace ∷ []) behind.1.1 in
-    let room : 0 + stmts_sites k.body ≤ 65536 =
-    omega (arith, few, stmts_sites-bound k.body, length-append (declarations_tokens k.declarations) main, length-append (stmts_tokens k.body) (mark k.closed sign.CloseBrace ∷ [])) in
+    let room : 0 + stmts_sites k.body ≤ 65536 = omega (arith, kernel-room k few) in
     record {
       limits = record { few = omega (arith, limits.few, length-laid arrays); small = omega (arith, limits.small, elements-laid arrays) };
       widths = widths-laid arrays within.widths;

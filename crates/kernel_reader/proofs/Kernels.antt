@@ -9,12 +9,8 @@ use Rattle.kernel_text.specs.declared.judging.Verdict.TheVariants as verdict
 use Rattle.kernel_text.specs.Tokens.{Refusal, tokens_of}
 use Rattle.kernel_text.specs.Grammar.{KernelTree, kernel_tokens, IsKernel, IsShallow}
 use Rattle.kernel_text.specs.Judging.{IsVerdict}
-use Rattle.kernel_syntax.specs.declared.syntax.Array.{Array}
-use Rattle.kernel_syntax.specs.Layout.{laid}
-use Rattle.kernel_syntax.specs.Tree.{Code}
-use Rattle.kernel_reader.specs.Scope.{slots}
-use Rattle.kernel_reader.specs.Rules.{arrays_of, mutex_names, at_main, kernel_faults}
-use Rattle.kernel_reader.specs.Resolve.{code, program}
+use Rattle.kernel_reader.specs.Rules.{kernel_faults}
+use Rattle.kernel_reader.specs.Resolve.{program}
 use Rattle.kernel_reader.specs.Settled.{first, Settles}
 use Rattle.kernel_reader.specs.KernelOf.{IsKernelOf, AtRule, IsFaultOf, HasNoKernel}
 use Rattle.kernel_reader.specs.declared.fault.ReadKernelFault.{ReadKernelFault}
@@ -62,9 +58,3 @@ gives-none text ts (Err (read.Refused line why)) e reads = λ p is.
     let s : first (kernel_faults is.tree) ≡ Some (record { line = line; why = why }) = reads is.tree (sym (tree-tokens text ts p is e)) is.derives is.shallow in
     let none : first (kernel_faults is.tree) ≡ None = ap first is.lawful in absurd cc
 gives-none text ts (Err read.Memory) e reads = tt
-
--- the kernel of a tree, by its parts
-pub program-is : (k : KernelTree) (arrays : List Array) (mutexes : List (List ℕ)) (line end count : ℕ) (body : Code) → arrays ≡ arrays_of k.declarations → mutexes ≡ mutex_names k.declarations → line ≡ k.line → end ≡ k.closed
-    → body ≡ code (at_main k.declarations) 0 k.body → count ≡ slots k.body
-    → program k ≡ record { arrays = laid arrays; mutexes = mutexes; main = record { span = 1; line = line; end = end; body = body }; slots = count }
-program-is k arrays mutexes line end count body a m l e b s = cc

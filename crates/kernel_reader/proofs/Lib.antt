@@ -1,10 +1,6 @@
-pub mod Stacks
-pub mod Roles
-pub mod Completing
-pub mod Sounding
+pub mod Sizes
 pub mod Rooms
 pub mod Broken
-pub mod Heading
 pub mod Alike
 pub mod Firsts
 pub mod Advances

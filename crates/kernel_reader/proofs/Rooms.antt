@@ -1,15 +1,14 @@
--- How many sites there are: in an expression at most one in three of its tokens, in statements at most one a token.
-use Rattle.std.proofs.Common.{◌≡◌, ℕ, ◌+◌, ◌*◌, ◌<◌, ◌≤◌, List, [], ◌∷◌, ◌++◌, length, Some, None, ap, arith, length-append}
+-- How many sites and slots there are: in an expression at most one in three of its tokens, in statements at most one a token.
+use Rattle.std.proofs.Common.{◌≡◌, ℕ, ◌+◌, ◌*◌, ◌<◌, ◌≤◌, List, [], ◌∷◌, ◌++◌, length, arith, length-append}
 use Rattle.kernel_text.specs.declared.token.Word.TheVariants as word
 use Rattle.kernel_text.specs.declared.token.Sign.TheVariants as sign
 use Rattle.kernel_text.specs.declared.token.Token.{Token}
-use Rattle.kernel_text.specs.Grammar.{Tree, NumberAt, NameAt, TidAt, SpanAt, Element, Group, Minus, Binary, tree_tokens, reserved, mark, sign_of, block, range, schedule_tokens, nowait_tokens, Stmts, NoMore, Let, Assign, Store, If, IfElse, Loop, Parallel, For, Barrier, Critical, CriticalOf, stmts_tokens}
+use Rattle.kernel_text.specs.Grammar.{Tree, NumberAt, NameAt, TidAt, SpanAt, Element, Group, Minus, Binary, tree_tokens, reserved, mark, sign_of, block, range, schedule_tokens, nowait_tokens, Stmts, NoMore, Let, Assign, Store, If, IfElse, Loop, Parallel, For, Barrier, Critical, CriticalOf, stmts_tokens, declarations_tokens, KernelTree, kernel_tokens}
+use Rattle.kernel_reader.specs.Scope.{slots}
 use Rattle.kernel_reader.specs.Resolve.{sites, stmts_sites}
-use Rattle.kernel_reader.specs.Machine.{expression_from}
-use Rattle.kernel_reader.proofs.Sounding.{expression-sound}
 
 -- each site of an expression has a name and two brackets
-pub tree_sites-bound : (t : Tree) → 3 * sites t + 1 ≤ length (tree_tokens t)
+tree_sites-bound : (t : Tree) → 3 * sites t + 1 ≤ length (tree_tokens t)
 tree_sites-bound (NumberAt line value) = omega arith
 tree_sites-bound (NameAt line name) = omega arith
 tree_sites-bound (TidAt line) = omega arith
@@ -31,52 +30,52 @@ range-length : (name_line : ℕ) (name : List ℕ) (in_line : ℕ) (from : Tree)
 range-length name_line name in_line from dots to after =
     omega (arith, length-append (range name_line name in_line from dots to) after, length-append (tree_tokens from) (mark dots sign.Dots ∷ tree_tokens to))
 
--- statements have at most one site a token
-pub stmts_sites-bound : (s : Stmts) → stmts_sites s ≤ length (stmts_tokens s)
-stmts_sites-bound NoMore = omega arith
-stmts_sites-bound (Let line name_line name sign_line value rest) =
-    omega (arith, stmts_sites-bound rest, tree_sites-bound value, length-append (tree_tokens value) (stmts_tokens rest))
-stmts_sites-bound (Assign line name sign_line value rest) =
-    omega (arith, stmts_sites-bound rest, tree_sites-bound value, length-append (tree_tokens value) (stmts_tokens rest))
-stmts_sites-bound (Store line name opened index closed sign_line value rest) =
+-- statements have at most one site or slot a token
+stmts-bound : (s : Stmts) → stmts_sites s + slots s ≤ length (stmts_tokens s)
+stmts-bound NoMore = omega arith
+stmts-bound (Let line name_line name sign_line value rest) =
+    omega (arith, stmts-bound rest, tree_sites-bound value, length-append (tree_tokens value) (stmts_tokens rest))
+stmts-bound (Assign line name sign_line value rest) =
+    omega (arith, stmts-bound rest, tree_sites-bound value, length-append (tree_tokens value) (stmts_tokens rest))
+stmts-bound (Store line name opened index closed sign_line value rest) =
     let behind = mark closed sign.CloseBracket ∷ mark sign_line sign.Assign ∷ tree_tokens value ++ stmts_tokens rest in
-    omega (arith, stmts_sites-bound rest, tree_sites-bound index, tree_sites-bound value, length-append (tree_tokens index) behind, length-append (tree_tokens value) (stmts_tokens rest))
-stmts_sites-bound (If line test opened if_true closed rest) =
+    omega (arith, stmts-bound rest, tree_sites-bound index, tree_sites-bound value, length-append (tree_tokens index) behind, length-append (tree_tokens value) (stmts_tokens rest))
+stmts-bound (If line test opened if_true closed rest) =
     let behind = block opened (stmts_tokens if_true) closed ++ stmts_tokens rest in
-    omega (arith, stmts_sites-bound if_true, stmts_sites-bound rest, tree_sites-bound test, length-append (tree_tokens test) behind, block-length opened (stmts_tokens if_true) closed (stmts_tokens rest))
-stmts_sites-bound (IfElse line test opened if_true closed else_line else_opened if_false else_closed rest) =
+    omega (arith, stmts-bound if_true, stmts-bound rest, tree_sites-bound test, length-append (tree_tokens test) behind, block-length opened (stmts_tokens if_true) closed (stmts_tokens rest))
+stmts-bound (IfElse line test opened if_true closed else_line else_opened if_false else_closed rest) =
     let other = reserved else_line word.Else ∷ block else_opened (stmts_tokens if_false) else_closed ++ stmts_tokens rest in
     let behind = block opened (stmts_tokens if_true) closed ++ other in
     omega (
       arith,
-      stmts_sites-bound if_true,
-      stmts_sites-bound if_false,
-      stmts_sites-bound rest,
+      stmts-bound if_true,
+      stmts-bound if_false,
+      stmts-bound rest,
       tree_sites-bound test,
       length-append (tree_tokens test) behind,
       block-length opened (stmts_tokens if_true) closed other,
       block-length else_opened (stmts_tokens if_false) else_closed (stmts_tokens rest),
     )
-stmts_sites-bound (Loop line name_line name in_line from dots to opened body closed rest) =
+stmts-bound (Loop line name_line name in_line from dots to opened body closed rest) =
     let behind = block opened (stmts_tokens body) closed ++ stmts_tokens rest in
     omega (
       arith,
-      stmts_sites-bound body,
-      stmts_sites-bound rest,
+      stmts-bound body,
+      stmts-bound rest,
       tree_sites-bound from,
       tree_sites-bound to,
       range-length name_line name in_line from dots to behind,
       block-length opened (stmts_tokens body) closed (stmts_tokens rest),
     )
-stmts_sites-bound (Parallel line number_line span opened body closed rest) =
-    omega (arith, stmts_sites-bound body, stmts_sites-bound rest, block-length opened (stmts_tokens body) closed (stmts_tokens rest))
-stmts_sites-bound (For line name_line name in_line from dots to schedule nowait opened body closed rest) =
+stmts-bound (Parallel line number_line span opened body closed rest) =
+    omega (arith, stmts-bound body, stmts-bound rest, block-length opened (stmts_tokens body) closed (stmts_tokens rest))
+stmts-bound (For line name_line name in_line from dots to schedule nowait opened body closed rest) =
     let inside = block opened (stmts_tokens body) closed ++ stmts_tokens rest in
     let behind = schedule_tokens schedule ++ (nowait_tokens nowait ++ inside) in
     omega (
       arith,
-      stmts_sites-bound body,
-      stmts_sites-bound rest,
+      stmts-bound body,
+      stmts-bound rest,
       tree_sites-bound from,
       tree_sites-bound to,
       range-length name_line name in_line from dots to behind,
@@ -84,13 +83,13 @@ stmts_sites-bound (For line name_line name in_line from dots to schedule nowait 
       length-append (nowait_tokens nowait) inside,
       block-length opened (stmts_tokens body) closed (stmts_tokens rest),
     )
-stmts_sites-bound (Barrier line rest) = omega (arith, stmts_sites-bound rest)
-stmts_sites-bound (Critical line opened body closed rest) =
-    omega (arith, stmts_sites-bound body, stmts_sites-bound rest, block-length opened (stmts_tokens body) closed (stmts_tokens rest))
-stmts_sites-bound (CriticalOf line name_line name opened body closed rest) =
-    omega (arith, stmts_sites-bound body, stmts_sites-bound rest, block-length opened (stmts_tokens body) closed (stmts_tokens rest))
+stmts-bound (Barrier line rest) = omega (arith, stmts-bound rest)
+stmts-bound (Critical line opened body closed rest) =
+    omega (arith, stmts-bound body, stmts-bound rest, block-length opened (stmts_tokens body) closed (stmts_tokens rest))
+stmts-bound (CriticalOf line name_line name opened body closed rest) =
+    omega (arith, stmts-bound body, stmts-bound rest, block-length opened (stmts_tokens body) closed (stmts_tokens rest))
 
-pub expression-room : (ts : List Token) (t : Tree) (rest : List Token) → expression_from None [] ts ≡ Some (t, rest) → 3 * sites t + length rest < length ts
-expression-room ts t rest e =
-    let n = ap length (expression-sound ts t rest e).tokens in
-    omega (arith, n, length-append (tree_tokens t) rest, tree_sites-bound t)
+-- a kernel of so few tokens has fewer sites and slots
+pub kernel-room : (k : KernelTree) → length (kernel_tokens k) ≤ 65536 → stmts_sites k.body + slots k.body < 65536
+kernel-room k few =
+    omega (arith, few, stmts-bound k.body, length-append (declarations_tokens k.declarations) (reserved k.line word.Main ∷ block k.opened (stmts_tokens k.body) k.closed), length-append (stmts_tokens k.body) (mark k.closed sign.CloseBrace ∷ []))

@@ -11,7 +11,7 @@ use Rattle.kernel_reader.specs.declared.fault.ReadKernelFault.{ReadKernelFault}
 use Rattle.kernel_reader.specs.Scope.{Names}
 use Rattle.kernel_reader.specs.Resolve.{sites, term}
 use Rattle.kernel_reader.specs.Rules.{tree_faults, fault_if, is_unfit}
-use Rattle.kernel_reader.specs.Machine.{tree_of}
+use Rattle.kernel_parser.specs.Trees.{tree_of}
 use Rattle.kernel_reader.specs.Rows.{in_row}
 use Rattle.kernel_reader.specs.Settled.{IsFirstOf}
 use Rattle.kernel_reader.proofs.Broken.{first-before, first-behind, none-of-both}

@@ -2,11 +2,8 @@ pub mod Scope
 pub mod Rules
 pub mod Resolve
 pub mod KernelOf
-pub mod Machine
 pub mod Settled
-pub mod Heads
 pub mod Naming
 pub mod Sections
 pub mod Folding
-pub mod Declaring
 pub mod Rows

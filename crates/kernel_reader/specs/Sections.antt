@@ -1,15 +1,11 @@
 -- Entering a section: what is broken there, and what is around then, as the code keeps it.
-use Rattle.std.specs.Prelude.{ℕ, ◌+◌, ◌*◌, ◌==◌, true, false, not, ◌||◌, ◌++◌, List, [], Option, Some, None, is_some, nat_le, nat_lt, ℤ}
-use Rattle.kernel_syntax.specs.declared.syntax.Schedule.{Schedule}
-use Rattle.kernel_syntax.specs.declared.syntax.Schedule.TheVariants as schedule
+use Rattle.std.specs.Prelude.{ℕ, ◌+◌, ◌*◌, ◌==◌, true, false, not, ◌||◌, ◌++◌, List, Some, None, is_some, nat_le, nat_lt, ℤ}
 use Rattle.kernel_text.specs.declared.fault.KernelWhy.{KernelWhy}
 use Rattle.kernel_text.specs.declared.fault.KernelWhy.TheVariants as why
 use Rattle.kernel_text.specs.Tokens.{Refusal}
-use Rattle.kernel_reader.specs.Scope.{number_of, is_among, count_literal, is_between}
-use Rattle.kernel_reader.specs.Rules.{fault_if, chunk_faults}
+use Rattle.kernel_reader.specs.Scope.{number_of, count_literal, is_between}
+use Rattle.kernel_reader.specs.Rules.{fault_if}
 use Rattle.kernel_reader.specs.declared.place.Section.{Section}
-use Rattle.kernel_reader.specs.declared.heads.Sharing.{Sharing}
-use Rattle.kernel_reader.specs.declared.heads.Sharing.TheVariants as sharing
 
 -- a region
 abbrev pub region_faults : Section → ℕ → ℕ → ℤ → List Refusal
@@ -24,31 +20,14 @@ region_section s span = record s { regions = s.regions + 1; spans = s.spans * co
 abbrev pub shared_faults : Section → ℕ → KernelWhy → List Refusal
 shared_faults s line w = fault_if ((s.regions == 0) || s.divided) line w ++ fault_if s.uneven line why.NotUniform
 
--- the mutex of a critical section
-abbrev pub mutex_number : List (List ℕ) → Option (List ℕ) → ℕ
-mutex_number mutexes None = 0
-mutex_number mutexes (Some name) = elim (number_of name mutexes) [ None ↦ 0 | Some n ↦ n + 1 ]
+-- the number of a declared mutex
+abbrev pub mutex_number : List (List ℕ) → List ℕ → ℕ
+mutex_number mutexes name = elim (number_of name mutexes) [ None ↦ 0 | Some n ↦ n + 1 ]
 
-abbrev pub mutex_faults : List (List ℕ) → ℕ → Option (List ℕ) → List Refusal
-mutex_faults mutexes line None = []
-mutex_faults mutexes line (Some name) = fault_if (not (is_among name mutexes)) line why.Unknown
-
+-- a critical section
 abbrev pub nested_faults : Section → ℕ → ℕ → List Refusal
 nested_faults s line mutex =
     fault_if (elim s.critical [ None ↦ false | Some around ↦ nat_le mutex around ]) line why.CriticalOrder ++ fault_if (nat_le 8 s.criticals) line why.Deep
 
 abbrev pub critical_section : Section → ℕ → Section
 critical_section s mutex = record s { critical = Some mutex; criticals = s.criticals + 1; divided = true }
-
--- the schedule of a worksharing loop
-abbrev pub sharing_faults : Sharing → List Refusal
-sharing_faults sharing.Even = []
-sharing_faults (sharing.Static line chunk) = chunk_faults line chunk
-sharing_faults sharing.Single = []
-sharing_faults (sharing.Dynamic line chunk) = chunk_faults line chunk
-
-abbrev pub schedule_from : Sharing → Schedule
-schedule_from sharing.Even = schedule.Even
-schedule_from (sharing.Static line chunk) = schedule.Static (count_literal chunk)
-schedule_from sharing.Single = schedule.Dynamic 1
-schedule_from (sharing.Dynamic line chunk) = schedule.Dynamic (count_literal chunk)

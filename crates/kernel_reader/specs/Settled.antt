@@ -19,12 +19,6 @@ abbrev pub Settles : {X : Type 0} → Result X ReadKernelFault → List Refusal 
 Settles (Ok x) faults IsDue = (faults ≡ []) × IsDue x
 Settles (Err fault) faults IsDue = IsFirstOf faults fault
 
--- only memory can be wanting
-abbrev pub Makes : {X : Type 0} → Result X ReadKernelFault → (X → Type 0) → Type 0
-Makes (Ok x) IsDue = IsDue x
-Makes (Err (read.Refused line why)) IsDue = ⊥
-Makes (Err read.Memory) IsDue = Unit {0}
-
 -- a region's weight as far as the rule asks for it
 abbrev pub capped : ℕ → ℕ
 capped n = min n 65537

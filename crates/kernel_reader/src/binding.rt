@@ -6,12 +6,12 @@ ghost use Rattle.kernel_reader.specs.declared.fault.ReadKernelFault.TheVariants.
 ghost use Rattle.kernel_reader.specs.Scope.{array_number, is_array, variable_of};
 ghost use Rattle.kernel_reader.specs.Resolve.{sites, term, slot_of, array_at};
 ghost use Rattle.kernel_reader.specs.Rules.{is_unfit, name_faults, array_faults, tree_faults, fault_if};
-ghost use Rattle.kernel_reader.specs.Machine.{tree_of};
+ghost use Rattle.kernel_parser.specs.Trees.{tree_of};
 ghost use Rattle.kernel_reader.specs.Settled.{Settles};
 ghost use Rattle.kernel_reader.specs.Rows.{in_row};
 
 use crate::fault::ReadKernelFault;
-use crate::tree::Tree;
+use kernel_parser::Tree;
 use kernel_syntax::{Array, Expr, Name, Op};
 use kernel_text::KernelWhy;
 use std::alloc::Global;

@@ -31,31 +31,3 @@ impl<T: Drop> From<AllocFailed<T>> for ReadKernelFault {
         ReadKernelFault::Memory
     }
 }
-
-/// Why no expression was read.
-#[derive(Clone, Copy, Debug, PartialEq, Eq)]
-pub enum BuildFault {
-    /// The tokens are none.
-    NotBuilt,
-    Memory,
-}
-
-impl From<AllocError> for BuildFault {
-    ghost use Rattle.kernel_reader.specs.declared.fault.BuildFault.TheVariants as read;
-
-    ghost from_gives = { λ _ e. e ≡ read.Memory };
-
-    fn from(_e: AllocError) -> BuildFault {
-        BuildFault::Memory
-    }
-}
-
-impl<T: Drop> From<AllocFailed<T>> for BuildFault {
-    ghost use Rattle.kernel_reader.specs.declared.fault.BuildFault.TheVariants as read;
-
-    ghost from_gives = { λ _ e. e ≡ read.Memory };
-
-    fn from(_e: AllocFailed<T>) -> BuildFault {
-        BuildFault::Memory
-    }
-}

@@ -1,48 +1,66 @@
 //! The kernel of a text.
-ghost use Rattle.std.specs.Prelude.{◌≡◌, ◌≤◌, length, Ok, IfOk, IfErr};
+ghost use Rattle.std.specs.Prelude.{◌≡◌, ◌<◌, ◌≤◌, length, Ok, IfOk, IfErr};
 ghost use Rattle.kernel_syntax.specs.Program.{Program, program_of};
 ghost use Rattle.kernel_syntax.specs.Bounds.{IsBounded};
 ghost use Rattle.kernel_text.specs.Tokens.{tokens_of};
-ghost use Rattle.kernel_text.specs.Grammar.{KernelTree, kernel_tokens, IsKernel, IsShallow};
+ghost use Rattle.kernel_text.specs.Grammar as grammar;
+ghost use Rattle.kernel_text.specs.Grammar.{kernel_tokens, IsKernel, IsShallow};
+ghost use Rattle.kernel_parser.specs.Trees.{kernel_of};
+ghost use Rattle.kernel_reader.specs.Scope.{slots};
 ghost use Rattle.kernel_reader.specs.Rules.{kernel_faults};
-ghost use Rattle.kernel_reader.specs.Resolve.{program};
+ghost use Rattle.kernel_reader.specs.Resolve.{program, stmts_sites};
 ghost use Rattle.kernel_reader.specs.Settled.{Settles};
 ghost use Rattle.kernel_reader.specs.KernelOf.{IsKernelOf, IsFaultOf, HasNoKernel};
 
-use crate::declarations::declarations;
+use crate::declarations::{Declared, declarations};
 use crate::fault::ReadKernelFault;
-use crate::heads::skip;
 use crate::place::{Known, Section, State};
+use kernel_parser::{KernelTree, ParseFault, parse};
 use kernel_syntax::{Kernel, Team, layout};
 use kernel_text::{KernelWhy, TextFault, Token, Verdict, judge, line_at, tokens};
 use std::alloc::Global;
 
 /// The kernel of tokens that are one by the grammar.
 fn kernel_at(alloc: Global, tokens: &[Token]) -> Result<Kernel, ReadKernelFault>
-    requires { length tokens.now ≤ 65536 }
-    ensures { (k : KernelTree) → tokens.now ≡ kernel_tokens k → IsKernel k → IsShallow k → Settles result (kernel_faults k) (λ x. program_of x ≡ program k) }
+    requires few { length tokens.now ≤ 65536 }
+    requires some { (k : grammar.KernelTree) × (tokens.now ≡ kernel_tokens k) × IsKernel k × IsShallow k }
+    ensures { (k : grammar.KernelTree) → tokens.now ≡ kernel_tokens k → IsKernel k → IsShallow k → Settles result (kernel_faults k) (λ x. program_of x ≡ program k) }
 {
-    let declared = declarations(alloc, tokens)?;
-    let (line, rest) = skip(declared.rest);
-    let (_, rest) = skip(rest);
+    match parse(alloc, tokens) {
+        Ok(tree) => resolved(alloc, &tree),
+        Err(ParseFault::Memory) => Err(ReadKernelFault::Memory),
+        Err(ParseFault::NoKernel) => Err(ReadKernelFault::Refused {
+            line: 0,
+            why: KernelWhy::Syntax,
+        }),
+    }
+}
+
+/// The kernel of a tree.
+fn resolved(alloc: Global, tree: &KernelTree) -> Result<Kernel, ReadKernelFault>
+    requires room { stmts_sites (kernel_of tree.now).body < 65536 }
+    requires slots { slots (kernel_of tree.now).body ≤ 65536 }
+    ensures { Settles result (kernel_faults (kernel_of tree.now)) (λ x. program_of x ≡ program (kernel_of tree.now)) }
+{
+    let Declared { arrays, mutexes } = declarations(alloc, tree.declarations.as_slice())?;
     let known = Known {
         alloc,
-        arrays: declared.arrays.as_slice(),
-        mutexes: declared.mutexes.as_slice(),
+        arrays: arrays.as_slice(),
+        mutexes: mutexes.as_slice(),
     };
     let mut state = State {
         variables: Vec::new(alloc),
         slot: 0,
         site: 0,
     };
-    let main = known.stmts(&mut state, OUTSIDE, rest)?;
+    let main = known.stmts(&mut state, OUTSIDE, &tree.body)?;
     let mut kernel = Kernel {
-        arrays: declared.arrays,
-        mutexes: declared.mutexes,
+        arrays,
+        mutexes,
         main: Team {
             span: 1,
-            line,
-            end: main.end,
+            line: tree.line,
+            end: tree.body.closed,
             body: main.body,
         },
         slots: state.slot,

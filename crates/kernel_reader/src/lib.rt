@@ -3,7 +3,7 @@
 //!
 //! Promised here, exactly. `read_kernel` answers the kernel of a text, which is the only one that
 //! it has, or the line and the reason of its first fault: of the tokens and the grammar, which
-//! `kernel_text` tells, and then of the rules, in the order of the text. Of a kernel that is read
+//! `kernel_text` tells, and then of the rules, in the order of the text, by the parse tree. Of a kernel that is read
 //! the sizes, lines, sites, spans, chunks and mutexes are within the bounds that the rules set.
 //! What the kernel of a text is, or why and where the language refuses a text, is defined in
 //! `specs/`; the bounds are defined in `kernel_syntax`.
@@ -11,14 +11,11 @@
 
 mod binding;
 mod declarations;
-mod expression;
 mod fault;
-mod heads;
 mod kernel;
 mod place;
 mod sections;
 mod statements;
-mod tree;
 mod weight;
 
 pub use crate::fault::ReadKernelFault;

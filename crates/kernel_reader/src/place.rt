@@ -5,13 +5,13 @@ ghost use Rattle.kernel_reader.specs.declared.fault.ReadKernelFault.TheVariants.
 ghost use Rattle.kernel_reader.specs.Scope.{number_of, is_among, is_array, variable_of};
 ghost use Rattle.kernel_reader.specs.Resolve.{sites, term, slot_of, array_at};
 ghost use Rattle.kernel_reader.specs.Rules.{fault_if, tree_faults, array_faults};
-ghost use Rattle.kernel_reader.specs.Machine.{tree_of};
+ghost use Rattle.kernel_parser.specs.Trees.{tree_of};
 ghost use Rattle.kernel_reader.specs.Settled.{Settles};
 ghost use Rattle.kernel_reader.specs.Naming.{names_of, assigned_to, taken_faults};
 
 use crate::binding::{Binder, Variable, is_array, is_same, refused, variable_of};
 use crate::fault::ReadKernelFault;
-use crate::tree::Tree;
+use kernel_parser::Tree;
 use kernel_syntax::{Array, Expr, Name};
 use kernel_text::KernelWhy;
 use std::alloc::Global;

@@ -1,14 +1,16 @@
 //! Entering a section of a kernel: a region, a worksharing loop, a critical section.
 ghost use Rattle.std.specs.Prelude.{◌≡◌, ◌+◌, ◌<◌, ◌≤◌, ◌||◌, true, not, length, option_map, IfSome};
-ghost use Rattle.kernel_reader.specs.Scope.{number_of, is_between, count_literal};
-ghost use Rattle.kernel_reader.specs.Rules.{chunk_faults, fault_if};
+ghost use Rattle.kernel_reader.specs.Scope.{number_of, is_among, is_between, count_literal};
+ghost use Rattle.kernel_reader.specs.Rules.{chunk_faults, fault_if, schedule_faults};
+ghost use Rattle.kernel_reader.specs.Resolve.{schedule_of};
+ghost use Rattle.kernel_parser.specs.Trees.{schedule_tree};
 ghost use Rattle.kernel_reader.specs.Settled.{Settles};
-ghost use Rattle.kernel_reader.specs.Sections.{region_faults, region_section, shared_faults, mutex_number, mutex_faults, nested_faults, critical_section, sharing_faults, schedule_from};
+ghost use Rattle.kernel_reader.specs.Sections.{region_faults, region_section, shared_faults, mutex_number, nested_faults, critical_section};
 
 use crate::binding::refused;
 use crate::fault::ReadKernelFault;
-use crate::heads::Sharing;
 use crate::place::{Section, number_of};
+use kernel_parser::ScheduleTree;
 use kernel_syntax::{Name, Schedule};
 use kernel_text::KernelWhy;
 
@@ -35,18 +37,18 @@ pub fn counted(line: u32, value: i64, most: u32) -> Result<u32, ReadKernelFault>
 }
 
 /// The schedule of a worksharing loop.
-pub fn schedule_of(shared: Sharing) -> Result<Schedule, ReadKernelFault>
-    ensures { Settles result (sharing_faults shared) (λ s. s ≡ schedule_from shared) }
+pub fn schedule_of(schedule: ScheduleTree) -> Result<Schedule, ReadKernelFault>
+    ensures { Settles result (schedule_faults (schedule_tree schedule)) (λ s. s ≡ schedule_of (schedule_tree schedule)) }
 {
-    match shared {
-        Sharing::Even => Ok(Schedule::Even),
-        Sharing::Static { line, chunk } => {
-            Ok(Schedule::Static(counted(line, chunk, MOST_ITERATIONS)?))
-        }
-        Sharing::Single => Ok(Schedule::Dynamic(1)),
-        Sharing::Dynamic { line, chunk } => {
-            Ok(Schedule::Dynamic(counted(line, chunk, MOST_ITERATIONS)?))
-        }
+    match schedule {
+        ScheduleTree::Unsaid | ScheduleTree::Static { .. } => Ok(Schedule::Even),
+        ScheduleTree::StaticBy {
+            number_line, chunk, ..
+        } => Ok(Schedule::Static(counted(number_line, chunk, MOST_ITERATIONS)?)),
+        ScheduleTree::Dynamic { .. } => Ok(Schedule::Dynamic(1)),
+        ScheduleTree::DynamicBy {
+            number_line, chunk, ..
+        } => Ok(Schedule::Dynamic(counted(number_line, chunk, MOST_ITERATIONS)?)),
     }
 }
 
@@ -136,18 +138,11 @@ impl Section {
     }
 }
 
-/// The number of the mutex of a critical section: that of all unnamed ones is 0.
-pub fn mutex_number(
-    mutexes: &[Name],
-    line: u32,
-    name: &Option<Name>,
-) -> Result<u16, ReadKernelFault>
+/// The number of a declared mutex; that of all unnamed critical sections is 0.
+pub fn mutex_number(mutexes: &[Name], line: u32, name: &Name) -> Result<u16, ReadKernelFault>
     requires few { length mutexes.now ≤ 63 }
-    ensures { Settles result (mutex_faults mutexes.now line name.now) (λ n. n ≡ mutex_number mutexes.now name.now) }
+    ensures { Settles result (fault_if (not (is_among name.now mutexes.now)) line KernelWhy.Unknown) (λ n. n ≡ mutex_number mutexes.now name.now) }
 {
-    let Some(name) = name else {
-        return Ok(0);
-    };
     let Some(number) = number_of(mutexes, name) else {
         return Err(refused(line, KernelWhy::Unknown));
     };

@@ -1,56 +1,49 @@
-//! The statements of a kernel: from tokens to what they are resolved to, where no rule is broken.
+//! The statements of a kernel: from the parse tree to what they are resolved to, where no rule is
+//! broken.
 //!
 //! A call inside a call follows a block; statements in a row are a loop.
-ghost use Rattle.std.specs.Prelude.{◌≡◌, ◌+◌, ◌*◌, ◌<◌, ◌≤◌, ◌^◌, ◌++◌, ◌∷◌, [], ◌||◌, length, ℕ, List, true, false, not, is_some, IsTrue, OnOk, IfOk, IfErr, take, Option, Some, None, ℤ};
+ghost use Rattle.std.specs.Prelude.{◌≡◌, ◌+◌, ◌<◌, ◌≤◌, ◌^◌, ◌++◌, ◌∷◌, [], ◌||◌, length, ℕ, true, false, OnOk, IfOk, take};
 ghost use Rattle.kernel_syntax.specs.Program.{term_of, stmt_code, code_of};
 ghost use Rattle.kernel_syntax.specs.Tree.{Code};
 ghost use Rattle.kernel_syntax.specs.Tree as kernel;
-ghost use Rattle.kernel_text.specs.declared.token.Token.{Token as AToken};
-ghost use Rattle.kernel_text.specs.Grammar.{Stmts, NoMore, StmtsDerive, AreShallow};
-ghost use Rattle.kernel_reader.specs.declared.fault.ReadKernelFault.TheVariants.{Memory};
-ghost use Rattle.kernel_reader.specs.Scope.{slots, count_literal, with_local, past};
-ghost use Rattle.kernel_reader.specs.Resolve.{sites, stmts_sites, term, slot_of, array_at, code};
-ghost use Rattle.kernel_reader.specs.Rules.{fault_if, tree_faults, array_faults, declared_faults, assigned_faults, stmts_faults, is_fixed, in_branch, is_misplaced, fixed_value, loop_weight, holds_work, weight};
-ghost use Rattle.kernel_reader.specs.Machine.{tree_of};
-ghost use Rattle.kernel_reader.specs.Settled.{Settles, capped};
+ghost use Rattle.kernel_text.specs.Grammar as grammar;
+ghost use Rattle.kernel_text.specs.Grammar.{Stmts, NoMore};
+ghost use Rattle.kernel_parser.specs.Trees.{tree_of, schedule_tree, stmt_before, stmts_of};
+ghost use Rattle.kernel_reader.specs.Scope.{slots};
+ghost use Rattle.kernel_reader.specs.Resolve.{sites, stmts_sites, term, slot_of, array_at};
+ghost use Rattle.kernel_reader.specs.Rules.{tree_faults, array_faults, stmts_faults};
+ghost use Rattle.kernel_reader.specs.Settled.{Settles};
 ghost use Rattle.kernel_reader.specs.Naming.{names_of, assigned_to, taken_faults};
-ghost use Rattle.kernel_reader.specs.Folding.{ReadsBlock, ReadsFirst, ReadsPlain, AreSome};
-ghost use Rattle.kernel_reader.specs.Sections.{region_section};
-ghost use Rattle.kernel_reader.specs.Heads.{HeadTree, IfHead, LoopHead, ParallelHead, ForHead, CriticalHead, head_tree, head_of, head_sites, inside, behind_head, is_plain};
+ghost use Rattle.kernel_reader.specs.Folding.{place_of, IsRead, IsFirstRead};
 
 use crate::binding::refused;
 use crate::fault::ReadKernelFault;
-use crate::heads::{Head, Sharing, head_at, is_else, skip};
 use crate::place::{Known, Section, State};
 use crate::sections::{mutex_number, schedule_of};
-use crate::tree::Tree;
 use crate::weight::{is_fixed, loop_weight, sum};
+use kernel_parser::{Block, Range, ScheduleTree, Statement, Tree};
 use kernel_syntax::{Body, Expr, Name, Schedule, Stmt, Team};
-use kernel_text::{KernelWhy, Token};
+use kernel_text::KernelWhy;
 
 /// A region's weight that is too large.
 const TOO_HEAVY: u64 = 65_537;
 
-/// The statements of a block, and the tokens behind its closing brace.
+/// The statements of a block, resolved.
 #[derive(Debug, Drop)]
-pub struct Block<'a> {
+pub struct Folded {
     pub body: Body,
-    /// The line of the closing brace.
-    pub end: u32,
     /// The weight, or 65,537 where it is more.
     pub weight: u64,
     /// Whether a worksharing loop or a barrier of the same region stands in it.
     pub works: bool,
-    pub rest: &'a [Token],
 }
 
-/// A statement, and the tokens behind it.
+/// A statement, resolved.
 #[derive(Debug, Drop)]
-pub struct Added<'a> {
+pub struct Added {
     pub stmt: Stmt,
     pub weight: u64,
     pub works: bool,
-    pub rest: &'a [Token],
 }
 
 fn made_set(slot: u32, value: Expr) -> Stmt
@@ -130,15 +123,14 @@ fn either(left: bool, right: bool) -> bool
     left || right
 }
 
-/// A statement without a block.
-fn plain(stmt: Stmt, works: bool, rest: &[Token]) -> Added<'_>
-    ensures { result ≡ record { stmt = stmt; weight = 1; works = works; rest = rest.entry } }
+/// A statement of weight 1.
+fn plain(stmt: Stmt, works: bool) -> Added
+    ensures { result ≡ record { stmt = stmt; weight = 1; works = works } }
 {
     Added {
         stmt,
         weight: 1,
         works,
-        rest,
     }
 }
 
@@ -251,314 +243,287 @@ impl Known<'_> {
         Ok((slot, from, to))
     }
 
-    /// The blocks of an `if`.
+    /// `if` expr block
     #[cycle(statements)]
-    fn if_stmt<'a>(
+    fn if_stmt(
         &self,
         state: &mut State,
         section: Section,
+        yes: &Block,
         test: &Tree,
-        tokens: &'a [Token],
-    ) -> Result<Added<'a>, ReadKernelFault>
+    ) -> Result<Added, ReadKernelFault>
         requires few { length self.now.arrays.now ≤ 64 }
         requires few_mutexes { length self.now.mutexes.now ≤ 63 }
-        requires room { 3 * (state.old.site + sites (tree_of test.now)) + length tokens.now ≤ 65536 }
-        requires slots { state.old.slot + 1 + length tokens.now ≤ 65536 }
-        ensures reads { ReadsFirst self.now.arrays.now self.now.mutexes.now state.old state.new section (IfHead (tree_of test.now)) tokens.now result }
-        ensures room { IfOk result (λ x. 3 * state.new.site + length x.rest.now ≤ 3 * (state.old.site + sites (tree_of test.now)) + length tokens.now) }
-        ensures slots { IfOk result (λ x. state.new.slot + length x.rest.now ≤ state.old.slot + 1 + length tokens.now) }
-        ensures shorter { IfOk result (λ x. length x.rest.now ≤ length tokens.now) }
+        requires room { state.old.site + sites (tree_of test.now) + stmts_sites (stmts_of yes.now.stmts.items) < 65536 }
+        requires slots { state.old.slot + slots (stmts_of yes.now.stmts.items) ≤ 65536 }
+        ensures reads { (line : ℕ) (rest : Stmts) → IsFirstRead self.now.arrays.now self.now.mutexes.now state.old state.new section (grammar.If line (tree_of test.now) yes.now.opened (stmts_of yes.now.stmts.items) yes.now.closed rest) rest result }
+        ensures weight { IfOk result (λ x. x.weight ≤ 65537) }
+        ensures variables { OnOk result (state.new.variables.items ≡ state.old.variables.items) }
+    {
+        let test = self.expr(state, false, test)?;
+        let yes = self.stmts(state, section.inside_branch(true), yes)?;
+        let no = Body {
+            stmts: Vec::new(self.alloc),
+        };
+        Ok(plain(made_if(test, yes.body, no), yes.works))
+    }
+
+    /// `if` expr block `else` block
+    #[cycle(statements)]
+    fn if_else_stmt(
+        &self,
+        state: &mut State,
+        section: Section,
+        yes: &Block,
+        no: &Block,
+        test: &Tree,
+    ) -> Result<Added, ReadKernelFault>
+        requires few { length self.now.arrays.now ≤ 64 }
+        requires few_mutexes { length self.now.mutexes.now ≤ 63 }
+        requires room { state.old.site + sites (tree_of test.now) + stmts_sites (stmts_of yes.now.stmts.items) + stmts_sites (stmts_of no.now.stmts.items) < 65536 }
+        requires slots { state.old.slot + slots (stmts_of yes.now.stmts.items) + slots (stmts_of no.now.stmts.items) ≤ 65536 }
+        ensures reads { (line else_line : ℕ) (rest : Stmts) → IsFirstRead self.now.arrays.now self.now.mutexes.now state.old state.new section (grammar.IfElse line (tree_of test.now) yes.now.opened (stmts_of yes.now.stmts.items) yes.now.closed else_line no.now.opened (stmts_of no.now.stmts.items) no.now.closed rest) rest result }
         ensures weight { IfOk result (λ x. x.weight ≤ 65537) }
         ensures variables { OnOk result (state.new.variables.items ≡ state.old.variables.items) }
     {
         let test = self.expr(state, false, test)?;
         let inner = section.inside_branch(true);
-        let yes = self.stmts(state, inner, tokens)?;
-        if !is_else(yes.rest) {
-            let no = Body {
-                stmts: Vec::new(self.alloc),
-            };
-            return Ok(Added {
-                stmt: made_if(test, yes.body, no),
-                weight: 1,
-                works: yes.works,
-                rest: yes.rest,
-            });
-        }
-        let (_, rest) = skip(yes.rest);
-        let (_, rest) = skip(rest);
-        let no = self.stmts(state, inner, rest)?;
-        Ok(Added {
-            stmt: made_if(test, yes.body, no.body),
-            weight: 1,
-            works: either(yes.works, no.works),
-            rest: no.rest,
-        })
+        let yes = self.stmts(state, inner, yes)?;
+        let no = self.stmts(state, inner, no)?;
+        let works = either(yes.works, no.works);
+        Ok(plain(made_if(test, yes.body, no.body), works))
     }
 
-    /// The block of a loop.
+    /// `loop` range block
     #[cycle(statements)]
-    fn loop_stmt<'a>(
+    fn loop_stmt(
         &self,
         state: &mut State,
         section: Section,
-        name_line: u32,
-        name: Name,
-        from: &Tree,
-        to: &Tree,
-        tokens: &'a [Token],
-    ) -> Result<Added<'a>, ReadKernelFault>
+        body: &Block,
+        range: &Range,
+    ) -> Result<Added, ReadKernelFault>
         requires few { length self.now.arrays.now ≤ 64 }
         requires few_mutexes { length self.now.mutexes.now ≤ 63 }
-        requires room { 3 * (state.old.site + sites (tree_of from.now) + sites (tree_of to.now)) + length tokens.now ≤ 65536 }
-        requires slots { state.old.slot + 1 + length tokens.now ≤ 65536 }
-        ensures reads { ReadsFirst self.now.arrays.now self.now.mutexes.now state.old state.new section (LoopHead name_line name (tree_of from.now) (tree_of to.now)) tokens.now result }
-        ensures room { IfOk result (λ x. 3 * state.new.site + length x.rest.now ≤ 3 * (state.old.site + sites (tree_of from.now) + sites (tree_of to.now)) + length tokens.now) }
-        ensures slots { IfOk result (λ x. state.new.slot + length x.rest.now ≤ state.old.slot + 1 + length tokens.now) }
-        ensures shorter { IfOk result (λ x. length x.rest.now ≤ length tokens.now) }
+        requires room { state.old.site + sites (tree_of range.now.from) + sites (tree_of range.now.to) + stmts_sites (stmts_of body.now.stmts.items) < 65536 }
+        requires slots { state.old.slot + 1 + slots (stmts_of body.now.stmts.items) ≤ 65536 }
+        ensures reads { (line : ℕ) (rest : Stmts) → IsFirstRead self.now.arrays.now self.now.mutexes.now state.old state.new section (grammar.Loop line range.now.name_line range.now.name range.now.in_line (tree_of range.now.from) range.now.dots (tree_of range.now.to) body.now.opened (stmts_of body.now.stmts.items) body.now.closed rest) rest result }
         ensures weight { IfOk result (λ x. x.weight ≤ 65537) }
         ensures variables { OnOk result (state.new.variables.items ≡ state.old.variables.items) }
     {
         let known = state.variables.len();
-        let (slot, first, last) = self.range(state, false, name_line, name, from, to)?;
-        let inner = section.inside_branch(!is_fixed(from, to));
-        let block = self.stmts(state, inner, tokens)?;
+        let name = range.name.copy();
+        let (slot, first, last) =
+            self.range(state, false, range.name_line, name, &range.from, &range.to)?;
+        let inner = section.inside_branch(!is_fixed(&range.from, &range.to));
+        let block = self.stmts(state, inner, body)?;
         state.variables.truncate(known);
         Ok(Added {
             stmt: made_loop(slot, first, last, block.body),
-            weight: loop_weight(from, to, block.works, block.weight),
+            weight: loop_weight(&range.from, &range.to, block.works, block.weight),
             works: block.works,
-            rest: block.rest,
         })
     }
 
-    /// The block of a region.
+    /// `parallel` NUMBER block
     #[cycle(statements)]
-    fn parallel_stmt<'a>(
+    fn parallel_stmt(
         &self,
         state: &mut State,
         section: Section,
+        body: &Block,
         line: u32,
         number_line: u32,
         span: i64,
-        tokens: &'a [Token],
-    ) -> Result<Added<'a>, ReadKernelFault>
+    ) -> Result<Added, ReadKernelFault>
         requires few { length self.now.arrays.now ≤ 64 }
         requires few_mutexes { length self.now.mutexes.now ≤ 63 }
-        requires room { 3 * state.old.site + length tokens.now ≤ 65536 }
-        requires slots { state.old.slot + 1 + length tokens.now ≤ 65536 }
-        ensures reads { ReadsFirst self.now.arrays.now self.now.mutexes.now state.old state.new section (ParallelHead line number_line span) tokens.now result }
-        ensures room { IfOk result (λ x. 3 * state.new.site + length x.rest.now ≤ 3 * state.old.site + length tokens.now) }
-        ensures slots { IfOk result (λ x. state.new.slot + length x.rest.now ≤ state.old.slot + 1 + length tokens.now) }
-        ensures shorter { IfOk result (λ x. length x.rest.now ≤ length tokens.now) }
+        requires room { state.old.site + stmts_sites (stmts_of body.now.stmts.items) < 65536 }
+        requires slots { state.old.slot + slots (stmts_of body.now.stmts.items) ≤ 65536 }
+        ensures reads { (rest : Stmts) → IsFirstRead self.now.arrays.now self.now.mutexes.now state.old state.new section (grammar.Parallel line number_line span body.now.opened (stmts_of body.now.stmts.items) body.now.closed rest) rest result }
         ensures weight { IfOk result (λ x. x.weight ≤ 65537) }
         ensures variables { OnOk result (state.new.variables.items ≡ state.old.variables.items) }
     {
         let (span, inner) = section.region(line, number_line, span)?;
-        let block = self.stmts(state, inner, tokens)?;
+        let block = self.stmts(state, inner, body)?;
         if block.weight >= TOO_HEAVY {
-            return Err(refused(block.end, KernelWhy::Large));
+            return Err(refused(body.closed, KernelWhy::Large));
         }
-        Ok(Added {
-            stmt: made_parallel(span, line, block.end, block.body),
-            weight: 1,
-            works: false,
-            rest: block.rest,
-        })
+        Ok(plain(
+            made_parallel(span, line, body.closed, block.body),
+            false,
+        ))
     }
 
-    /// The block of a worksharing loop.
+    /// `for` range schedule `nowait` block
     #[cycle(statements)]
-    fn for_stmt<'a>(
+    fn for_stmt(
         &self,
         state: &mut State,
         section: Section,
+        body: &Block,
         line: u32,
-        name_line: u32,
-        name: Name,
-        from: &Tree,
-        to: &Tree,
-        shared: Sharing,
-        nowait: bool,
-        tokens: &'a [Token],
-    ) -> Result<Added<'a>, ReadKernelFault>
+        range: &Range,
+        schedule: ScheduleTree,
+        nowait: Option<u32>,
+    ) -> Result<Added, ReadKernelFault>
         requires few { length self.now.arrays.now ≤ 64 }
         requires few_mutexes { length self.now.mutexes.now ≤ 63 }
-        requires room { 3 * (state.old.site + sites (tree_of from.now) + sites (tree_of to.now)) + length tokens.now ≤ 65536 }
-        requires slots { state.old.slot + 1 + length tokens.now ≤ 65536 }
-        ensures reads { ReadsFirst self.now.arrays.now self.now.mutexes.now state.old state.new section (ForHead line name_line name (tree_of from.now) (tree_of to.now) shared nowait) tokens.now result }
-        ensures room { IfOk result (λ x. 3 * state.new.site + length x.rest.now ≤ 3 * (state.old.site + sites (tree_of from.now) + sites (tree_of to.now)) + length tokens.now) }
-        ensures slots { IfOk result (λ x. state.new.slot + length x.rest.now ≤ state.old.slot + 1 + length tokens.now) }
-        ensures shorter { IfOk result (λ x. length x.rest.now ≤ length tokens.now) }
+        requires room { state.old.site + sites (tree_of range.now.from) + sites (tree_of range.now.to) + stmts_sites (stmts_of body.now.stmts.items) < 65536 }
+        requires slots { state.old.slot + 1 + slots (stmts_of body.now.stmts.items) ≤ 65536 }
+        ensures reads { (rest : Stmts) → IsFirstRead self.now.arrays.now self.now.mutexes.now state.old state.new section (grammar.For line range.now.name_line range.now.name range.now.in_line (tree_of range.now.from) range.now.dots (tree_of range.now.to) (schedule_tree schedule) nowait body.now.opened (stmts_of body.now.stmts.items) body.now.closed rest) rest result }
         ensures weight { IfOk result (λ x. x.weight ≤ 65537) }
         ensures variables { OnOk result (state.new.variables.items ≡ state.old.variables.items) }
     {
         let known = state.variables.len();
         section.check_shared(line, KernelWhy::WorkHere)?;
-        let (slot, from, to) = self.range(state, true, name_line, name, from, to)?;
-        let schedule = schedule_of(shared)?;
-        let inner = section.inside_work();
-        let block = self.stmts(state, inner, tokens)?;
+        let name = range.name.copy();
+        let (slot, from, to) =
+            self.range(state, true, range.name_line, name, &range.from, &range.to)?;
+        let schedule = schedule_of(schedule)?;
+        let block = self.stmts(state, section.inside_work(), body)?;
         state.variables.truncate(known);
         let stmt = made_for(
             slot,
             (from, to),
             schedule,
-            nowait,
+            nowait.is_some(),
             line,
-            block.end,
+            body.closed,
             block.body,
         );
-        Ok(Added {
-            stmt,
-            weight: 1,
-            works: true,
-            rest: block.rest,
-        })
+        Ok(plain(stmt, true))
     }
 
-    /// The block of a critical section.
+    /// `critical` block
     #[cycle(statements)]
-    fn critical_stmt<'a>(
+    fn critical_stmt(
         &self,
         state: &mut State,
         section: Section,
+        body: &Block,
         line: u32,
-        name: &Option<Name>,
-        tokens: &'a [Token],
-    ) -> Result<Added<'a>, ReadKernelFault>
+    ) -> Result<Added, ReadKernelFault>
         requires few { length self.now.arrays.now ≤ 64 }
         requires few_mutexes { length self.now.mutexes.now ≤ 63 }
-        requires room { 3 * state.old.site + length tokens.now ≤ 65536 }
-        requires slots { state.old.slot + 1 + length tokens.now ≤ 65536 }
-        ensures reads { ReadsFirst self.now.arrays.now self.now.mutexes.now state.old state.new section (CriticalHead line name.now) tokens.now result }
-        ensures room { IfOk result (λ x. 3 * state.new.site + length x.rest.now ≤ 3 * state.old.site + length tokens.now) }
-        ensures slots { IfOk result (λ x. state.new.slot + length x.rest.now ≤ state.old.slot + 1 + length tokens.now) }
-        ensures shorter { IfOk result (λ x. length x.rest.now ≤ length tokens.now) }
+        requires room { state.old.site + stmts_sites (stmts_of body.now.stmts.items) < 65536 }
+        requires slots { state.old.slot + slots (stmts_of body.now.stmts.items) ≤ 65536 }
+        ensures reads { (rest : Stmts) → IsFirstRead self.now.arrays.now self.now.mutexes.now state.old state.new section (grammar.Critical line body.now.opened (stmts_of body.now.stmts.items) body.now.closed rest) rest result }
+        ensures weight { IfOk result (λ x. x.weight ≤ 65537) }
+        ensures variables { OnOk result (state.new.variables.items ≡ state.old.variables.items) }
+    {
+        let inner = section.critical(line, 0)?;
+        let block = self.stmts(state, inner, body)?;
+        let stmt = made_critical(0, line, body.closed, block.body);
+        Ok(plain(stmt, block.works))
+    }
+
+    /// `critical` NAME block
+    #[cycle(statements)]
+    fn critical_of_stmt(
+        &self,
+        state: &mut State,
+        section: Section,
+        body: &Block,
+        line: u32,
+        name: &Name,
+    ) -> Result<Added, ReadKernelFault>
+        requires few { length self.now.arrays.now ≤ 64 }
+        requires few_mutexes { length self.now.mutexes.now ≤ 63 }
+        requires room { state.old.site + stmts_sites (stmts_of body.now.stmts.items) < 65536 }
+        requires slots { state.old.slot + slots (stmts_of body.now.stmts.items) ≤ 65536 }
+        ensures reads { (name_line : ℕ) (rest : Stmts) → IsFirstRead self.now.arrays.now self.now.mutexes.now state.old state.new section (grammar.CriticalOf line name_line name.now body.now.opened (stmts_of body.now.stmts.items) body.now.closed rest) rest result }
         ensures weight { IfOk result (λ x. x.weight ≤ 65537) }
         ensures variables { OnOk result (state.new.variables.items ≡ state.old.variables.items) }
     {
         let mutex = mutex_number(self.mutexes, line, name)?;
         let inner = section.critical(line, mutex)?;
-        let block = self.stmts(state, inner, tokens)?;
-        Ok(Added {
-            stmt: made_critical(mutex, line, block.end, block.body),
-            weight: 1,
-            works: block.works,
-            rest: block.rest,
-        })
+        let block = self.stmts(state, inner, body)?;
+        let stmt = made_critical(mutex, line, body.closed, block.body);
+        Ok(plain(stmt, block.works))
     }
 
-    /// The statement that begins so, where no block follows, and whether it is a barrier.
-    fn plain_stmt(
+    /// A statement.
+    #[cycle(statements)]
+    fn stmt(
         &self,
         state: &mut State,
         section: Section,
-        head: Head,
-    ) -> Result<(Stmt, bool), ReadKernelFault>
-        requires plain { IsTrue (is_plain (head_tree head)) }
+        stmt: &Statement,
+    ) -> Result<Added, ReadKernelFault>
         requires few { length self.now.arrays.now ≤ 64 }
-        requires room { state.old.site + head_sites (head_tree head) < 65536 }
-        requires slots { state.old.slot + 1 < 2 ^ 32 }
-        ensures reads { ReadsPlain self.now.arrays.now self.now.mutexes.now state.old state.new section (head_tree head) result }
-        ensures site { OnOk result (state.new.site ≡ state.old.site + head_sites (head_tree head)) }
-        ensures slot { OnOk result (state.new.slot ≤ state.old.slot + 1) }
+        requires few_mutexes { length self.now.mutexes.now ≤ 63 }
+        requires room { state.old.site + stmts_sites (stmt_before stmt.now NoMore) < 65536 }
+        requires slots { state.old.slot + slots (stmt_before stmt.now NoMore) ≤ 65536 }
+        ensures reads { (rest : Stmts) → IsFirstRead self.now.arrays.now self.now.mutexes.now state.old state.new section (stmt_before stmt.now rest) rest result }
+        ensures weight { IfOk result (λ x. x.weight ≤ 65537) }
         ensures variables { OnOk result (take (length state.old.variables.items) state.new.variables.items ≡ state.old.variables.items) }
     {
-        match head {
-            Head::Let {
+        match stmt {
+            Statement::Let {
                 name_line,
                 name,
                 value,
-            } => Ok((self.let_stmt(state, name_line, name, &value)?, false)),
-            Head::Assign { line, name, value } => {
-                Ok((self.assign_stmt(state, line, &name, &value)?, false))
-            }
-            Head::Store {
+                ..
+            } => Ok(plain(
+                self.let_stmt(state, *name_line, name.copy(), value)?,
+                false,
+            )),
+            Statement::Assign {
+                line, name, value, ..
+            } => Ok(plain(self.assign_stmt(state, *line, name, value)?, false)),
+            Statement::Store {
                 line,
                 name,
                 index,
                 value,
-            } => Ok((self.store_stmt(state, line, &name, &index, &value)?, false)),
-            Head::Barrier { line } => {
-                section.check_shared(line, KernelWhy::BarrierHere)?;
-                Ok((made_barrier(line), true))
+                ..
+            } => Ok(plain(
+                self.store_stmt(state, *line, name, index, value)?,
+                false,
+            )),
+            Statement::If { test, yes, .. } => self.if_stmt(state, section, yes, test),
+            Statement::IfElse { test, yes, no, .. } => {
+                self.if_else_stmt(state, section, yes, no, test)
             }
-            _ => Err(refused(0, KernelWhy::Syntax)),
-        }
-    }
-
-    /// The statement that begins so.
-    #[cycle(statements)]
-    fn stmt<'a>(
-        &self,
-        state: &mut State,
-        section: Section,
-        head: Head,
-        tokens: &'a [Token],
-    ) -> Result<Added<'a>, ReadKernelFault>
-        requires few { length self.now.arrays.now ≤ 64 }
-        requires few_mutexes { length self.now.mutexes.now ≤ 63 }
-        requires room { 3 * (state.old.site + head_sites (head_tree head)) + length tokens.now ≤ 65536 }
-        requires slots { state.old.slot + 1 + length tokens.now ≤ 65536 }
-        ensures reads { ReadsFirst self.now.arrays.now self.now.mutexes.now state.old state.new section (head_tree head) tokens.now result }
-        ensures room { IfOk result (λ x. 3 * state.new.site + length x.rest.now ≤ 3 * (state.old.site + head_sites (head_tree head)) + length tokens.now) }
-        ensures slots { IfOk result (λ x. state.new.slot + length x.rest.now ≤ state.old.slot + 1 + length tokens.now) }
-        ensures shorter { IfOk result (λ x. length x.rest.now ≤ length tokens.now) }
-        ensures weight { IfOk result (λ x. x.weight ≤ 65537) }
-        ensures variables { OnOk result (take (length state.old.variables.items) state.new.variables.items ≡ state.old.variables.items) }
-    {
-        match head {
-            Head::If { test } => self.if_stmt(state, section, &test, tokens),
-            Head::Loop {
-                name_line,
-                name,
-                from,
-                to,
-            } => self.loop_stmt(state, section, name_line, name, &from, &to, tokens),
-            Head::Parallel {
+            Statement::Loop { range, body, .. } => self.loop_stmt(state, section, body, range),
+            Statement::Parallel {
                 line,
                 number_line,
                 span,
-            } => self.parallel_stmt(state, section, line, number_line, span, tokens),
-            Head::For {
+                body,
+            } => self.parallel_stmt(state, section, body, *line, *number_line, *span),
+            Statement::For {
                 line,
-                name_line,
-                name,
-                from,
-                to,
-                shared,
+                range,
+                schedule,
                 nowait,
-            } => self.for_stmt(
-                state, section, line, name_line, name, &from, &to, shared, nowait, tokens,
-            ),
-            Head::Critical { line, name } => {
-                self.critical_stmt(state, section, line, &name, tokens)
+                body,
+            } => self.for_stmt(state, section, body, *line, range, *schedule, *nowait),
+            Statement::Barrier { line } => {
+                section.check_shared(*line, KernelWhy::BarrierHere)?;
+                Ok(plain(made_barrier(*line), true))
             }
-            Head::End { line } => Err(refused(line, KernelWhy::Syntax)),
-            other => {
-                let (stmt, works) = self.plain_stmt(state, section, other)?;
-                Ok(plain(stmt, works, tokens))
-            }
+            Statement::Critical { line, body } => self.critical_stmt(state, section, body, *line),
+            Statement::CriticalOf {
+                line, name, body, ..
+            } => self.critical_of_stmt(state, section, body, *line, name),
         }
     }
 
-    /// Statements up to the brace behind them.
+    /// The statements of a block.
     #[cycle(statements)]
-    pub fn stmts<'a>(
+    pub fn stmts(
         &self,
         state: &mut State,
         section: Section,
-        tokens: &'a [Token],
-    ) -> Result<Block<'a>, ReadKernelFault>
+        block: &Block,
+    ) -> Result<Folded, ReadKernelFault>
         requires few { length self.now.arrays.now ≤ 64 }
         requires few_mutexes { length self.now.mutexes.now ≤ 63 }
-        requires room { 3 * state.old.site + length tokens.now ≤ 65536 }
-        requires slots { state.old.slot + length tokens.now ≤ 65536 }
-        ensures reads { ReadsBlock self.now.arrays.now self.now.mutexes.now state.old state.new section tokens.now result }
-        ensures room { IfOk result (λ x. 3 * state.new.site + length x.rest.now ≤ 3 * state.old.site + length tokens.now) }
-        ensures slots { IfOk result (λ x. state.new.slot + length x.rest.now ≤ state.old.slot + length tokens.now) }
-        ensures shorter { IfOk result (λ x. length x.rest.now ≤ length tokens.now) }
+        requires room { state.old.site + stmts_sites (stmts_of block.now.stmts.items) < 65536 }
+        requires slots { state.old.slot + slots (stmts_of block.now.stmts.items) ≤ 65536 }
+        ensures reads { Settles result (stmts_faults (place_of self.now.arrays.now self.now.mutexes.now state.old section) (stmts_of block.now.stmts.items)) (IsRead self.now.arrays.now self.now.mutexes.now state.old state.new section (stmts_of block.now.stmts.items)) }
         ensures weight { IfOk result (λ x. x.weight ≤ 65537) }
         ensures variables { OnOk result (state.new.variables.items ≡ state.old.variables.items) }
     {
@@ -566,34 +531,24 @@ impl Known<'_> {
         let mut stmts = Vec::new(self.alloc);
         let mut weight = 0;
         let mut works = false;
-        let mut rest = tokens;
-        'stmts: while let Some((token, after)) = rest.split_first() {
-            let (head, behind) = head_at(self.alloc, token, after)?;
-            let head = match head {
-                Head::End { line } => {
-                    state.variables.truncate(known);
-                    return Ok(Block {
-                        body: Body { stmts },
-                        end: line,
-                        weight,
-                        works,
-                        rest: behind,
-                    });
-                }
-                other => other,
-            };
-            let added = self.stmt(state, section, head, behind)?;
+        let mut rest = block.stmts.as_slice();
+        'stmts: while let Some((first, others)) = rest.split_first() {
+            let added = self.stmt(state, section, first)?;
             let Added {
                 stmt,
                 weight: more,
                 works: working,
-                rest: left,
             } = added;
             stmts.push(stmt)?;
             weight = sum(weight, more);
             works = either(works, working);
-            rest = left;
+            rest = others;
         }
-        Err(refused(0, KernelWhy::Syntax))
+        state.variables.truncate(known);
+        Ok(Folded {
+            body: Body { stmts },
+            weight,
+            works,
+        })
     }
 }

@@ -1,11 +1,11 @@
 //! The weight of a region, as far as a rule asks for it.
 ghost use Rattle.std.specs.Prelude.{◌≡◌, ◌+◌, ◌≤◌, ◌≤ℤ◌, ℕ, pos, negsuc, ◌*◌, ◌-ℤ◌, IfSome};
-ghost use Rattle.kernel_reader.specs.Machine.{tree_of};
+ghost use Rattle.kernel_parser.specs.Trees.{tree_of};
 ghost use Rattle.kernel_reader.specs.Rules.{plain_value, fixed_value, is_fixed, loop_weight};
 ghost use Rattle.kernel_reader.specs.Scope.{count_literal};
 ghost use Rattle.kernel_reader.specs.Settled.{capped};
 
-use crate::tree::Tree;
+use kernel_parser::Tree;
 
 /// A weight above which nothing is asked.
 const MOST: u64 = 65_537;

@@ -1,5 +1,5 @@
 use Rattle.std.proofs.Common.{rules, arith}
-use Rattle.kernel_reader.specs.Machine.{tree_of}
+use Rattle.kernel_parser.specs.Trees.{tree_of}
 use Rattle.kernel_reader.proofs.Rowing.{row-push}
 use Rattle.kernel_reader.proofs.binding.unwound.Goals as goal
 

@@ -1,5 +1,5 @@
 use Rattle.std.proofs.Common.{◌≡◌, ◌≤◌, ◌∷◌, [], length}
-use Rattle.kernel_reader.specs.Machine.{tree_of}
+use Rattle.kernel_parser.specs.Trees.{tree_of}
 use Rattle.kernel_reader.specs.Rows.{in_row}
 use Rattle.kernel_reader.proofs.binding.unwound.Given as goal
 

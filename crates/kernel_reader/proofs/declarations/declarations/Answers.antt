@@ -1,60 +1,51 @@
-use Rattle.std.proofs.Common.{ℕ, List, ◌+◌, ◌∷◌, [], sym, ap, ◌∙◌, arith, length, length-append}
+use Rattle.std.proofs.Common.{◌≡◌, ℕ, List, ◌+◌, ◌∷◌, [], w64, to_z, of_z, subst, sym, ap, ◌∙◌, arith, rules, length, length-append}
+use Rattle.std.specs.Prelude.{ℤ, map, unwrap_or}
+use Rattle.std.proofs.lemmas.Int.{to_z-of_z}
 use Rattle.std.proofs.lemmas.Result.{err_from_is_err_and}
 use Rattle.std.proofs.lemmas.List.Sums.{sum_by_push}
 use Rattle.kernel_syntax.specs.declared.syntax.Array.{Array}
 use Rattle.kernel_syntax.specs.Layout.{elements}
-use Rattle.kernel_text.specs.declared.token.Token.{Token}
-use Rattle.kernel_reader.proofs.Declared.{ArrayTells, ArrayReads, MutexTells, MutexReads, array-fails, mutex-fails, array-steps, mutex-steps, declarations-end}
+use Rattle.kernel_parser.specs.Trees.{declaration_of}
+use Rattle.kernel_reader.specs.Rules.{width_of, array_of}
+use Rattle.kernel_reader.specs.Settled.{IsFirstOf}
+use Rattle.kernel_reader.proofs.Declared.{ArrayFaults, array-fails, array-steps}
 use Rattle.kernel_reader.proofs.declarations.declarations.Goals as goal
 
 pub returns-in_err-array-in-Array-clause-declared : goal.returns-in_err-array-in-Array-clause-declared
 returns-in_err-array-in-Array-clause-declared c =
-    let tells : ArrayTells c.declarations.arrays c.declarations.mutexes c.in-Some.after.now c.in_err-array-in-Array.field-0.0 = rw (← c.as_slice.ensures, ← c.as_slice-in-Array.ensures) c.in_err-array-in-Array.ensures.array in
+    let a = c.in-Array in
+    let ds = map declaration_of c.args.written.now in
+    let es = map declaration_of c.in-Some.others.now in
+    let arrays = c.declarations.arrays in
+    let mutexes = c.declarations.mutexes in
+    let fault = c.in_err-array-in-Array.field-0.0 in
+    let l = rw (c.in-Some.ensures.cases.0, a.is) at c.declarations.invariant.left in
+    let Told : ℤ → Type 0 = λ n. IsFirstOf (ArrayFaults arrays mutexes a.name_line a.name a.width_line a.width a.count_line n) fault in
+    let seen : Told (to_z w64 (of_z w64 a.count)) = rw (← c.as_slice.ensures, ← c.as_slice-in-Array.ensures) c.in_err-array-in-Array.ensures.array in
     let p = err_from_is_err_and c.from_residual.result c.from_residual.ensures.1 in
-    λ ds line after e. rw (p.1, p.2) (array-fails c.args.tokens.now c.declarations.arrays c.declarations.mutexes c.declarations.rest.now c.in-Some.token.now c.in-Some.after.now c.in_err-array-in-Array.field-0.0 c.declarations.invariant.left c.in-Some.ensures.cases.0 (sym c.in-Array.ensures) tells ds line after e)
+    rw (p.1, p.2) (array-fails ds es arrays mutexes a.line a.name_line a.name a.width_line a.width a.count_line a.count fault l (subst Told (to_z-of_z w64 a.count (search rules)) seen))
 
-pub returns-in_err-mutex-in-Mutex-clause-declared : goal.returns-in_err-mutex-in-Mutex-clause-declared
-returns-in_err-mutex-in-Mutex-clause-declared c =
-    let tells : MutexTells c.declarations.arrays c.declarations.mutexes c.in-Some.after.now c.in_err-mutex-in-Mutex.field-0.0 = rw (← c.as_slice-in-Mutex.ensures, ← c.as_slice-in-Mutex-2.ensures) c.in_err-mutex-in-Mutex.ensures.mutex in
-    let p = err_from_is_err_and c.from_residual-in_err-mutex-in-Mutex.result c.from_residual-in_err-mutex-in-Mutex.ensures.1 in
-    λ ds line after e. rw (p.1, p.2) (mutex-fails c.args.tokens.now c.declarations.arrays c.declarations.mutexes c.declarations.rest.now c.in-Some.token.now c.in-Some.after.now c.in_err-mutex-in-Mutex.field-0.0 c.declarations.invariant.left c.in-Some.ensures.cases.0 (sym c.in-Mutex.ensures) tells ds line after e)
-
-pub declarations-preserved-in-Array : goal.declarations-preserved-in-Array
-declarations-preserved-in-Array c =
-    let reads : ArrayReads c.declarations.arrays c.declarations.mutexes c.in-Some.after.now c.in_ok-array-in-Array.array c.in_ok-array-in-Array.behind.now = rw (← c.as_slice.ensures, ← c.as_slice-in-Array.ensures) c.in_ok-array-in-Array.ensures.array in
+pub declarations-preserved-in_ok-push-in-Array : goal.declarations-preserved-in_ok-push-in-Array
+declarations-preserved-in_ok-push-in-Array c =
+    let a = c.in-Array in
+    let x = c.in_ok-array-in-Array.array in
+    let ds = map declaration_of c.args.written.now in
+    let es = map declaration_of c.in-Some.others.now in
+    let arrays = c.declarations.arrays in
+    let mutexes = c.declarations.mutexes in
+    let l = rw (c.in-Some.ensures.cases.0, a.is) at c.declarations.invariant.left in
+    let Read : ℤ → Type 0 = λ n. (ArrayFaults arrays mutexes a.name_line a.name a.width_line a.width a.count_line n ≡ []) × (x ≡ array_of a.name (unwrap_or (width_of a.width) 0) n) in
+    let seen : Read (to_z w64 (of_z w64 a.count)) = rw (← c.as_slice.ensures, ← c.as_slice-in-Array.ensures) c.in_ok-array-in-Array.ensures.array in
+    let read = subst Read (to_z-of_z w64 a.count (search rules)) seen in
     let ok = c.in_ok-push-in-Array.ensures.ok in
-    let more = sum_by_push (λ (b : Array). b.count) c.declarations.arrays c.in_ok-array-in-Array.array in
-    let seen = ap (λ (xs : List Array). length xs) c.as_slice.ensures in
+    let more = sum_by_push (λ (b : Array). b.count) arrays x in
+    let shown = ap (λ (xs : List Array). length xs) c.as_slice.ensures in
     let pushed = ap (λ (xs : List Array). length xs) ok in
-    let split = ap (λ (ts : List Token). length ts) c.in-Some.ensures.cases.0 in
     let small = c.in_ok-array-in-Array.ensures.few in
-    let short = c.in_ok-array-in-Array.ensures.shorter in
     record {
-      left = array-steps c.args.tokens.now c.declarations.arrays c.push.new.self c.declarations.mutexes c.declarations.rest.now c.in-Some.token.now c.in-Some.after.now c.in_ok-array-in-Array.array c.in_ok-array-in-Array.behind.now c.declarations.invariant.left c.in-Some.ensures.cases.0 (sym c.in-Array.ensures) reads ok;
-      total_is = ap (λ (n : ℕ). n + c.in_ok-array-in-Array.array.count) c.declarations.invariant.total_is ∙ sym (ap elements ok ∙ more);
+      left = array-steps ds es arrays c.push.new.self mutexes a.line a.name_line a.name a.width_line a.width a.count_line a.count x l read.0 read.1 ok;
+      total_is = ap (λ (n : ℕ). n + x.count) c.declarations.invariant.total_is ∙ sym (ap elements ok ∙ more);
       small = c.in_ok-array-in-Array.ensures.small;
-      few = omega (arith, length-append c.declarations.arrays (c.in_ok-array-in-Array.array ∷ []));
+      few = omega (arith, length-append arrays (x ∷ []));
       few_mutexes = c.declarations.invariant.few_mutexes;
-      shorter = omega arith;
     }
-
-pub declarations-preserved : goal.declarations-preserved
-declarations-preserved c =
-    let reads : MutexReads c.declarations.arrays c.declarations.mutexes c.in-Some.after.now c.in_ok-mutex-in-Mutex.mutex c.in_ok-mutex-in-Mutex.behind.now = rw (← c.as_slice-in-Mutex.ensures, ← c.as_slice-in-Mutex-2.ensures) c.in_ok-mutex-in-Mutex.ensures.mutex in
-    let ok = c.in_ok-push-in-Mutex.ensures.ok in
-    let seen = ap (λ (xs : List (List ℕ)). length xs) c.as_slice-in-Mutex-2.ensures in
-    let pushed = ap (λ (xs : List (List ℕ)). length xs) ok in
-    let split = ap (λ (ts : List Token). length ts) c.in-Some.ensures.cases.0 in
-    let small = c.in_ok-mutex-in-Mutex.ensures.few in
-    let short = c.in_ok-mutex-in-Mutex.ensures.shorter in
-    record {
-      left = mutex-steps c.args.tokens.now c.declarations.arrays c.declarations.mutexes c.push-in-Mutex.new.self c.declarations.rest.now c.in-Some.token.now c.in-Some.after.now c.in_ok-mutex-in-Mutex.mutex c.in_ok-mutex-in-Mutex.behind.now c.declarations.invariant.left c.in-Some.ensures.cases.0 (sym c.in-Mutex.ensures) reads ok;
-      total_is = c.declarations.invariant.total_is;
-      small = c.declarations.invariant.small;
-      few = c.declarations.invariant.few;
-      few_mutexes = omega (arith, length-append c.declarations.mutexes (c.in_ok-mutex-in-Mutex.mutex ∷ []));
-      shorter = omega arith;
-    }
-
-pub returns-in-Nothing-clause-declared : goal.returns-in-Nothing-clause-declared
-returns-in-Nothing-clause-declared c = declarations-end c.args.tokens.now c.declarations.arrays c.declarations.mutexes c.declarations.rest.now c.in-Some.token.now c.in-Some.after.now c.declarations.invariant.left c.in-Some.ensures.cases.0 (sym c.in-Nothing.ensures)

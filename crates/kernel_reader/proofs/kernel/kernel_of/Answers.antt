@@ -1,10 +1,14 @@
+use Rattle.std.proofs.Common.{sym}
 use Rattle.kernel_text.proofs.Few.{tokens_of-few}
 use Rattle.kernel_reader.proofs.Kernels.{gives-kernel, gives-bounded, gives-only, gives-fault, gives-none}
 use Rattle.kernel_reader.proofs.Refusing.{no_syntax_fault, not_too_deep, refused_syntax, refused_deep, refused_early}
 use Rattle.kernel_reader.proofs.kernel.kernel_of.Goals as goal
 
-pub kernel_at-requires : goal.kernel_at-requires
-kernel_at-requires c = tokens_of-few c.args.text.now c.args.found.now c.requires.tokens
+pub kernel_at-requires-clause-few : goal.kernel_at-requires-clause-few
+kernel_at-requires-clause-few c = tokens_of-few c.args.text.now c.args.found.now c.requires.tokens
+
+pub kernel_at-requires-clause-some : goal.kernel_at-requires-clause-some
+kernel_at-requires-clause-some c = let v = rw c.in-Kernel.is at c.in_ok-judge.ensures in (v.0, sym v.3, v.1, v.2)
 
 pub returns-in-Kernel-clause-kernel : goal.returns-in-Kernel-clause-kernel
 returns-in-Kernel-clause-kernel c = gives-kernel c.args.text.now c.args.found.now c.kernel_at.result c.requires.tokens (rw c.in-Kernel.is at c.in_ok-judge.ensures) c.kernel_at.ensures

@@ -4,7 +4,7 @@ use Rattle.kernel_text.specs.declared.fault.KernelWhy.TheVariants as why
 use Rattle.kernel_reader.specs.Scope.{Names}
 use Rattle.kernel_reader.specs.Rules.{fault_if, is_unfit}
 use Rattle.kernel_reader.proofs.Broken.{first-before, first-behind}
-use Rattle.kernel_reader.specs.Machine.{tree_of}
+use Rattle.kernel_parser.specs.Trees.{tree_of}
 use Rattle.kernel_reader.specs.Rows.{in_row}
 use Rattle.kernel_reader.proofs.Rowing.{head-is, broken-head, next-is, broken-next, begun-next}
 use Rattle.kernel_reader.proofs.binding.Binder.+bind.Goals as goal

@@ -1,5 +1,5 @@
 use Rattle.std.proofs.Common.{length, reverse}
-use Rattle.kernel_reader.specs.Machine.{tree_of}
+use Rattle.kernel_parser.specs.Trees.{tree_of}
 use Rattle.kernel_reader.proofs.Rowing.{parts, IsBegun}
 use Rattle.kernel_reader.proofs.binding.Binder.+bind.Given as goal
 

@@ -1,0 +1,6 @@
+use Rattle.std.proofs.Common.{◌≤◌}
+use Rattle.kernel_parser.proofs.tree.Tree.TheLaws.{the_size}
+use Rattle.kernel_parser.proofs.tree.Tree.+drop.Given as goal
+
+abbrev pub invariant-loop-self : goal.invariant-loop-self
+invariant-loop-self l = the_size l.self ≤ the_size l.initial.self

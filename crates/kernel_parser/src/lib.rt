@@ -1,0 +1,24 @@
+//! The parse tree of a kernel.
+//!
+//! Promised here, exactly. Where tokens are those of a tree by the grammar whose levels are at most
+//! 32, `parse` answers that tree, with the line of each token; only memory can be wanting. The
+//! trees that contracts name are those of the grammar in `kernel_text`; `specs/Trees.antt` tells
+//! which of them a tree of the code is.
+//!
+//! Calls inside a call follow blocks, whose levels are few. Statements in a row, and the operators
+//! and brackets of an expression, are loops, so that no text exhausts the stack.
+#![tactic(auto)]
+
+mod expression;
+mod fault;
+mod kernel;
+mod lookahead;
+mod statements;
+mod tree;
+
+pub use crate::fault::ParseFault;
+pub use crate::kernel::parse;
+pub use crate::tree::{Block, Declaration, KernelTree, Range, ScheduleTree, Statement, Tree};
+
+#[cfg(test)]
+mod tests;
