@@ -132,10 +132,7 @@ pub struct Declared {
 }
 
 /// What declarations declare.
-pub fn declarations(
-    alloc: Global,
-    written: &[Declaration],
-) -> Result<Declared, ReadKernelFault>
+pub fn declarations(alloc: Global, written: &[Declaration]) -> Result<Declared, ReadKernelFault>
     ensures declared { Settles result (declarations_faults [] [] (map declaration_of written.now)) (λ x. (x.arrays ≡ arrays_of (map declaration_of written.now)) × (x.mutexes ≡ mutex_names (map declaration_of written.now))) }
     ensures limits { IfOk result (λ x. IsWithinLimits x.arrays) }
     ensures few { IfOk result (λ x. length x.mutexes ≤ 63) }
@@ -170,7 +167,9 @@ pub fn declarations(
                 arrays.push(array)?;
             }
             Declaration::Mutex {
-                name_line, name, ..
+                name_line,
+                name,
+                ..
             } => {
                 let mutex = mutex_at(arrays.as_slice(), mutexes.as_slice(), *name_line, name)?;
                 mutexes.push(mutex)?;

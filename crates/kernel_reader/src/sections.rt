@@ -43,11 +43,15 @@ pub fn schedule_of(schedule: ScheduleTree) -> Result<Schedule, ReadKernelFault>
     match schedule {
         ScheduleTree::Unsaid | ScheduleTree::Static { .. } => Ok(Schedule::Even),
         ScheduleTree::StaticBy {
-            number_line, chunk, ..
+            number_line,
+            chunk,
+            ..
         } => Ok(Schedule::Static(counted(number_line, chunk, MOST_ITERATIONS)?)),
         ScheduleTree::Dynamic { .. } => Ok(Schedule::Dynamic(1)),
         ScheduleTree::DynamicBy {
-            number_line, chunk, ..
+            number_line,
+            chunk,
+            ..
         } => Ok(Schedule::Dynamic(counted(number_line, chunk, MOST_ITERATIONS)?)),
     }
 }

@@ -313,8 +313,14 @@ impl Known<'_> {
     {
         let known = state.variables.len();
         let name = range.name.copy();
-        let (slot, first, last) =
-            self.range(state, false, range.name_line, name, &range.from, &range.to)?;
+        let (slot, first, last) = self.range(
+            state,
+            false,
+            range.name_line,
+            name,
+            &range.from,
+            &range.to,
+        )?;
         let inner = section.inside_branch(!is_fixed(&range.from, &range.to));
         let block = self.stmts(state, inner, body)?;
         state.variables.truncate(known);
@@ -349,10 +355,7 @@ impl Known<'_> {
         if block.weight >= TOO_HEAVY {
             return Err(refused(body.closed, KernelWhy::Large));
         }
-        Ok(plain(
-            made_parallel(span, line, body.closed, block.body),
-            false,
-        ))
+        Ok(plain(made_parallel(span, line, body.closed, block.body), false))
     }
 
     /// `for` range schedule `nowait` block
@@ -378,8 +381,14 @@ impl Known<'_> {
         let known = state.variables.len();
         section.check_shared(line, KernelWhy::WorkHere)?;
         let name = range.name.copy();
-        let (slot, from, to) =
-            self.range(state, true, range.name_line, name, &range.from, &range.to)?;
+        let (slot, from, to) = self.range(
+            state,
+            true,
+            range.name_line,
+            name,
+            &range.from,
+            &range.to,
+        )?;
         let schedule = schedule_of(schedule)?;
         let block = self.stmts(state, section.inside_work(), body)?;
         state.variables.truncate(known);
@@ -465,12 +474,12 @@ impl Known<'_> {
                 name,
                 value,
                 ..
-            } => Ok(plain(
-                self.let_stmt(state, *name_line, name.copy(), value)?,
-                false,
-            )),
+            } => Ok(plain(self.let_stmt(state, *name_line, name.copy(), value)?, false)),
             Statement::Assign {
-                line, name, value, ..
+                line,
+                name,
+                value,
+                ..
             } => Ok(plain(self.assign_stmt(state, *line, name, value)?, false)),
             Statement::Store {
                 line,
@@ -478,10 +487,7 @@ impl Known<'_> {
                 index,
                 value,
                 ..
-            } => Ok(plain(
-                self.store_stmt(state, *line, name, index, value)?,
-                false,
-            )),
+            } => Ok(plain(self.store_stmt(state, *line, name, index, value)?, false)),
             Statement::If { test, yes, .. } => self.if_stmt(state, section, yes, test),
             Statement::IfElse { test, yes, no, .. } => {
                 self.if_else_stmt(state, section, yes, no, test)
@@ -506,7 +512,10 @@ impl Known<'_> {
             }
             Statement::Critical { line, body } => self.critical_stmt(state, section, body, *line),
             Statement::CriticalOf {
-                line, name, body, ..
+                line,
+                name,
+                body,
+                ..
             } => self.critical_of_stmt(state, section, body, *line, name),
         }
     }

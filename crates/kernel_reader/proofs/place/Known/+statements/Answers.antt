@@ -98,11 +98,11 @@ stmt-returns-in-Parallel-clause-reads t c =
 
 pub stmt-returns-in-For-clause-reads : goal.stmt-returns-in-For-clause-reads
 stmt-returns-in-For-clause-reads t c =
-    λ rest. first-at c.args.self.now.arrays.now c.args.self.now.mutexes.now c.args.state.now c.for_stmt.new.state c.args.section c.args.stmt.now _ _ rest c.for_stmt.result c.in-For.is (before_for c.in-For.line c.in-For.range c.in-For.schedule c.in-For.nowait c.in-For.body rest) (c.for_stmt.ensures.reads  rest)
+    λ rest. first-at c.args.self.now.arrays.now c.args.self.now.mutexes.now c.args.state.now c.for_stmt.new.state c.args.section c.args.stmt.now _ _ rest c.for_stmt.result c.in-For.is (before_for c.in-For.line c.in-For.range c.in-For.schedule c.in-For.nowait c.in-For.body rest) (c.for_stmt.ensures.reads rest)
 
 pub stmt-returns-in-Critical-clause-reads : goal.stmt-returns-in-Critical-clause-reads
 stmt-returns-in-Critical-clause-reads t c =
-    λ rest. first-at c.args.self.now.arrays.now c.args.self.now.mutexes.now c.args.state.now c.critical_stmt.new.state c.args.section c.args.stmt.now _ _ rest c.critical_stmt.result c.in-Critical.is (before_critical c.in-Critical.line c.in-Critical.body rest) (c.critical_stmt.ensures.reads  rest)
+    λ rest. first-at c.args.self.now.arrays.now c.args.self.now.mutexes.now c.args.state.now c.critical_stmt.new.state c.args.section c.args.stmt.now _ _ rest c.critical_stmt.result c.in-Critical.is (before_critical c.in-Critical.line c.in-Critical.body rest) (c.critical_stmt.ensures.reads rest)
 
 pub stmt-returns-in-CriticalOf-clause-reads : goal.stmt-returns-in-CriticalOf-clause-reads
 stmt-returns-in-CriticalOf-clause-reads t c =
