@@ -17,3 +17,4 @@ pub mod AccessOrder
 pub mod Swept
 pub mod Cutting
 pub mod Reaching
+pub mod Activity

@@ -1,43 +1,28 @@
 -- Members of a group, whose conflicts are those of their segments.
-use Rattle.std.proofs.Common.{◌≡◌, ◌⊎◌, ℕ, ◌<◌, ◌≤◌, List, [], ◌∷◌, ◌++◌, All, Bor, Contains, IsTrue, false, map, inl, inr, refl, sym, ap, ◌∙◌, subst}
+use Rattle.std.proofs.Common.{◌≡◌, ◌↔◌, ◌⊎◌, ℕ, ◌+◌, ◌<◌, ◌≤◌, List, [], ◌∷◌, ◌++◌, All, Bor, Contains, false, get_or, length, take, inl, inr, refl, sym, ap, ◌∙◌, subst, arith}
 use Rattle.std.specs.Prelude.{Ok, Err, IfOk, Result}
 use Rattle.std.proofs.lemmas.Bool.{cases_order}
 use Rattle.std.specs.List.Sorted.{IsPermutation}
-use Rattle.std.proofs.lemmas.List.Elements.{All-contains}
+use Rattle.std.proofs.lemmas.List.Elements.{All-contains, All-more}
 use Rattle.std.proofs.lemmas.List.Sorted.{Contains-permutation}
 use Rattle.log_segment.specs.declared.segment.Segment.{Segment}
 use Rattle.race_model.specs.Label.{Triple, IsConcurrent}
 use Rattle.stride_summary.specs.declared.run.Run.{Run}
+use Rattle.stride_summary.specs.Run.{last_byte}
 use Rattle.pair_compare.specs.Compare.{IsSegmentPair}
 use Rattle.pair_compare.specs.Conflict.{GrowsBy, IsPairOfRuns, OneHas}
-use Rattle.pair_compare.specs.Fields.{Agrees, AreAlike, AreWithin, CanDivide, IsApartPair, Parts, label_value, in_part}
+use Rattle.pair_compare.specs.Fields.{Agrees, AreAlike, AreWithin, CanDivide, IsApartPair, IsRunIn, Parts, label_value}
 use Rattle.pair_compare.specs.Groups.{IsGroupPair, IsNumbered, IsPartedPair, IsRunOf, pointed}
 use Rattle.pair_compare.specs.declared.field.Field.{Field}
 use Rattle.pair_compare.specs.declared.field.Field.TheVariants.{Depth, Span, Barrier, Residue, Offset}
 use Rattle.pair_compare.specs.declared.group.Group.{Group}
-use Rattle.pair_compare.specs.declared.group.Member.{Member}
-use Rattle.pair_compare.proofs.Adds.{Adds-pushed, Adds-same, OneHas-cons, OneHas-first, OneHas-later, not_in_nothing}
+use Rattle.pair_compare.specs.declared.member.Member.{Member}
+use Rattle.std.proofs.lemmas.List.{append_assoc, append-nil}
+use Rattle.pair_compare.proofs.Adds.{Adds-none, Adds-pushed, Adds-same}
+use Rattle.pair_compare.proofs.Tasks.{Adds-append}
 use Rattle.pair_compare.proofs.Dividing.{Parted, parted, pointed_by, points_to, same_value}
 use Rattle.pair_compare.proofs.FieldOrder.{AreOrdered, not_concurrent}
 use Rattle.pair_compare.proofs.Meeting.{IsConflictPair-from, IsPairOfRuns-from}
-
--- what an element of a list of images has, the element imaged has
-pub OneHas-map : {X Y K : Type 0} (f : X → Y) (P : Y → K → Type 0) (xs : List X) (pair : K) → OneHas P (map f xs) pair → OneHas (λ x. P (f x)) xs pair
-OneHas-map f P [] pair h = absurd (not_in_nothing h.one h.listed)
-OneHas-map f P (x ∷ xs) pair h = elim (OneHas-cons P (f x) (map f xs) pair h) [
-  | inl has ↦ OneHas-first (λ y. P (f y)) x xs pair has
-  | inr later ↦ OneHas-later (λ y. P (f y)) x xs pair (OneHas-map f P xs pair later)
-]
-
-pub map-OneHas : {X Y K : Type 0} (f : X → Y) (P : Y → K → Type 0) (xs : List X) (pair : K) → OneHas (λ x. P (f x)) xs pair → OneHas P (map f xs) pair
-map-OneHas f P [] pair h = absurd (not_in_nothing h.one h.listed)
-map-OneHas f P (x ∷ xs) pair h = elim (OneHas-cons (λ y. P (f y)) x xs pair h) [
-  | inl has ↦ OneHas-first P (f x) (map f xs) pair has
-  | inr later ↦ OneHas-later P (f x) (map f xs) pair (map-OneHas f P xs pair later)
-]
-
-pub OneHas-weaker : {X K : Type 0} (P Q : X → K → Type 0) (xs : List X) (pair : K) → ((x : X) → P x pair → Q x pair) → OneHas P xs pair → OneHas Q xs pair
-OneHas-weaker P Q xs pair there h = record { one = h.one; listed = h.listed; has = there h.one h.has }
 
 pub Adds-nothing : {K : Type 0} (O P : K → Type 0) → ((pair : K) → P pair → ⊥) → GrowsBy O O P
 Adds-nothing O P none = record { kept = λ pair h. h; added = λ pair h. absurd (none pair h); only = λ pair h. inl h }
@@ -46,26 +31,6 @@ pub IfOk-two : {X Y : Type 0} (r : Result X Y) (P Q R : X → Type 0) → ((x : 
 IfOk-two (Ok x) P Q R both p q = both x p q
 IfOk-two (Err e) P Q R both p q = tt
 
--- where nobody writes, nothing conflicts
-abbrev pub AllRead : List Member → Type 0
-AllRead members = All (λ member. All (λ run. run.write ≡ false) member.segment.now.runs.items) members
-
-reads_only : (members : List Member) (n : ℕ × Run) → AllRead members → OneHas IsRunOf members n → IsTrue n.1.write → ⊥
-reads_only members n reads h writes =
-    let all = All-contains (λ m. All (λ r. r.write ≡ false) m.segment.now.runs.items) members h.one reads h.listed in
-    let none : h.has.one.write ≡ false = All-contains (λ r. r.write ≡ false) h.one.segment.now.runs.items h.has.one all h.has.listed in
-    let same : n.1 ≡ h.has.one = ap (λ (m : ℕ × Run). m.1) h.has.has in
-    absurd_write (subst (λ (r : Run). IsTrue r.write) same writes) none
-  where
-    absurd_write : {b : _} → IsTrue b → b ≡ false → ⊥
-    absurd_write w e = cc
-
-pub no_pair : (members : List Member) (pair : ℕ × ℕ) → AllRead members → IsPartedPair (OneHas IsRunOf members) pair → ⊥
-no_pair members pair reads h = elim h.lines.conflict.writes [
-  | inl writes ↦ reads_only members h.a reads h.a_in writes
-  | inr writes ↦ reads_only members h.b reads h.b_in writes
-]
-
 -- the segment that a member's run is of
 record Owner (level : ℕ) (field : Field) (refs : List (Bor Segment)) (n : ℕ × Run) : Type 0 where
   pub owner : Bor Segment
@@ -73,16 +38,18 @@ record Owner (level : ℕ) (field : Field) (refs : List (Bor Segment)) (n : ℕ 
   pub inside : Contains owner.now.runs.items n.1
   pub value : n.0 ≡ label_value level field owner.now.label
 
-owner_of : (level : ℕ) (field : Field) (refs : List (Bor Segment)) (n : ℕ × Run) → OneHas IsRunOf (map (in_part level field) refs) n → Owner level field refs n
+owner_of : (level : ℕ) (field : Field) (refs : List (Bor Segment)) (n : ℕ × Run) → OneHas (IsRunIn level field) refs n → Owner level field refs n
 owner_of level field refs n h =
-    let at = OneHas-map (in_part level field) IsRunOf refs n h in
-    let same : n ≡ (label_value level field at.one.now.label, at.has.one) = at.has.has in
+    let same : n ≡ (label_value level field h.one.now.label, h.has.one) = h.has.has in
     record {
-      owner = at.one;
-      listed = at.listed;
-      inside = subst (λ (r : Run). Contains at.one.now.runs.items r) (sym (ap (λ (m : ℕ × Run). m.1) same)) at.has.listed;
+      owner = h.one;
+      listed = h.listed;
+      inside = subst (λ (r : Run). Contains h.one.now.runs.items r) (sym (ap (λ (m : ℕ × Run). m.1) same)) h.has.listed;
       value = ap (λ (m : ℕ × Run). m.0) same;
     }
+
+parted_within : (Has Those : ℕ × Run → Type 0) (pair : ℕ × ℕ) → ((n : ℕ × Run) → Has n → Those n) → IsPartedPair Has pair → IsPartedPair Those pair
+parted_within Has Those pair within h = record { a = h.a; b = h.b; a_in = within h.a h.a_in; b_in = within h.b h.b_in; apart = h.apart; lines = h.lines }
 
 -- labels that differ in a field are concurrent if the field parts them, and else in order
 parted_concurrent : (field : Field) (l m : List Triple) → Parts field → Parted field l m → IsConcurrent l m
@@ -126,7 +93,7 @@ module _ (level : ℕ) (field : Field) (refs : List (Bor Segment)) (alike : AreA
     | inr (inr more) ↦ not_concurrent h.two.b.label h.two.a.label (parted_ordered field h.two.b.label h.two.a.label none (labels h.two.b h.two.a h.two.b_in h.two.a_in more)) (concurrent_sym h.two.a.label h.two.b.label h.two.racing.concurrent)
   ]
 
-  group_apart : Parts field → (pair : ℕ × ℕ) → IsPartedPair (OneHas IsRunOf (map (in_part level field) refs)) pair → IsApartPair level field (pointed refs) pair
+  group_apart : Parts field → (pair : ℕ × ℕ) → IsPartedPair (OneHas (IsRunIn level field) refs) pair → IsApartPair level field (pointed refs) pair
   group_apart parts pair h =
       let a = owner_of level field refs h.a h.a_in in
       let b = owner_of level field refs h.b h.b_in in
@@ -147,16 +114,16 @@ module _ (level : ℕ) (field : Field) (refs : List (Bor Segment)) (alike : AreA
         apart = differ;
       }
 
-  member_run : (a : Segment) (run : Run) → Contains (pointed refs) a → Contains a.runs.items run → OneHas IsRunOf (map (in_part level field) refs) (label_value level field a.label, run)
+  member_run : (a : Segment) (run : Run) → Contains (pointed refs) a → Contains a.runs.items run → OneHas (IsRunIn level field) refs (label_value level field a.label, run)
   member_run a run a_in inside =
       let to = points_to refs a a_in in
-      map-OneHas (in_part level field) IsRunOf refs (label_value level field a.label, run) (record {
+      record {
         one = to.pointer;
         listed = to.listed;
         has = subst (λ (s : Segment). OneHas (IsNumbered (label_value level field s.label)) s.runs.items (label_value level field a.label, run)) (sym to.is) (record { one = run; listed = inside; has = refl });
-      })
+      }
 
-  apart_group : (pair : ℕ × ℕ) → IsApartPair level field (pointed refs) pair → IsPartedPair (OneHas IsRunOf (map (in_part level field) refs)) pair
+  apart_group : (pair : ℕ × ℕ) → IsApartPair level field (pointed refs) pair → IsPartedPair (OneHas (IsRunIn level field) refs) pair
   apart_group pair h =
       let found = IsPairOfRuns-from h.two.a.runs.items h.two.b.runs.items pair h.two.racing.conflict in
       record {
@@ -169,11 +136,12 @@ module _ (level : ℕ) (field : Field) (refs : List (Bor Segment)) (alike : AreA
       }
 
   -- one more group has the pairs that it parts
-  pub Adds-group : (groups more : List Group) (group : Group) → Parts field → group.members.items ≡ map (in_part level field) refs → more ≡ groups ++ group ∷ [] → GrowsBy (OneHas IsGroupPair groups) (OneHas IsGroupPair more) (IsApartPair level field (pointed refs))
+  pub Adds-group : (groups more : List Group) (group : Group) → Parts field → ((n : ℕ × Run) → OneHas IsRunOf group.members.items n ↔ OneHas (IsRunIn level field) refs n) → more ≡ groups ++ group ∷ []
+      → GrowsBy (OneHas IsGroupPair groups) (OneHas IsGroupPair more) (IsApartPair level field (pointed refs))
   Adds-group groups more group parts members is = subst (λ (gs : List Group). GrowsBy (OneHas IsGroupPair groups) (OneHas IsGroupPair gs) (IsApartPair level field (pointed refs))) (sym is)
       (Adds-same (OneHas IsGroupPair groups) (OneHas IsGroupPair (groups ++ group ∷ [])) (IsGroupPair group) (IsApartPair level field (pointed refs))
-      (λ pair h. group_apart parts pair (subst (λ (ms : List Member). IsPartedPair (OneHas IsRunOf ms) pair) members h))
-      (λ pair h. subst (λ (ms : List Member). IsPartedPair (OneHas IsRunOf ms) pair) (sym members) (apart_group pair h))
+      (λ pair h. group_apart parts pair (parted_within (OneHas IsRunOf group.members.items) (OneHas (IsRunIn level field) refs) pair (λ n. (members n).0) h))
+      (λ pair h. parted_within (OneHas (IsRunIn level field) refs) (OneHas IsRunOf group.members.items) pair (λ n. (members n).1) (apart_group pair h))
       (Adds-pushed IsGroupPair groups group))
 
 -- where all values of the field are the same
@@ -188,3 +156,43 @@ none_differ level field least most refs pair within same h = h.apart (value_of l
 
 pub OneHas-permuted : {X K : Type 0} (P : X → K → Type 0) (xs ys : List X) (k : K) → IsPermutation xs ys → OneHas P xs k → OneHas P ys k
 OneHas-permuted P xs ys k same h = record { one = h.one; listed = Contains-permutation xs ys h.one same h.listed; has = h.has }
+
+-- the new members are the old ones and those of the first of some runs
+pub record Taken (part : ℕ) (runs rest : List Run) (old new : List Member) : Type 0 where
+  pub taken : List Run
+  pub whole : runs ≡ taken ++ rest
+  pub grows : GrowsBy (OneHas IsRunOf old) (OneHas IsRunOf new) (OneHas (IsNumbered part) taken)
+
+pub taken_none : (part : ℕ) (runs : List Run) (old : List Member) → Taken part runs runs old old
+taken_none part runs old = record { taken = []; whole = refl; grows = Adds-none (OneHas IsRunOf old) (IsNumbered part) }
+
+pub taken_more : (part : ℕ) (runs some others : List Run) (old new more : List Member) (member : Member) → member.part ≡ part → member.runs.now ≡ some → more ≡ new ++ member ∷ [] → Taken part runs (some ++ others) old new → Taken part runs others old more
+taken_more part runs some others old new more member parted has is before = record {
+  taken = before.taken ++ some;
+  whole = before.whole ∙ sym (append_assoc before.taken some others);
+  grows = Adds-append (OneHas IsRunOf old) (OneHas IsRunOf new) (OneHas IsRunOf more) (IsNumbered part) before.taken some before.grows
+      (subst (λ (ms : List Member). GrowsBy (OneHas IsRunOf new) (OneHas IsRunOf ms) (OneHas (IsNumbered part) some)) (sym is)
+      (subst (λ (rs : List Run). GrowsBy (OneHas IsRunOf new) (OneHas IsRunOf (new ++ member ∷ [])) (OneHas (IsNumbered part) rs)) has
+      (subst (λ (p : ℕ). GrowsBy (OneHas IsRunOf new) (OneHas IsRunOf (new ++ member ∷ [])) (OneHas (IsNumbered p) member.runs.now)) parted (Adds-pushed IsRunOf new member))));
+}
+
+pub taken_all : (part : ℕ) (runs rest : List Run) (old new : List Member) → rest ≡ [] → Taken part runs rest old new → GrowsBy (OneHas IsRunOf old) (OneHas IsRunOf new) (OneHas (IsNumbered part) runs)
+taken_all part runs rest old new none h =
+    let same : runs ≡ h.taken = h.whole ∙ (ap (λ (rs : List Run). h.taken ++ rs) none ∙ append-nil h.taken) in
+    subst (λ (rs : List Run). GrowsBy (OneHas IsRunOf old) (OneHas IsRunOf new) (OneHas (IsNumbered part) rs)) (sym same) h.grows
+
+pub nothing_left : (runs : List Run) → length runs ≡ 0 → runs ≡ []
+nothing_left [] none = refl
+nothing_left (run ∷ runs) none = absurd (omega arith)
+
+-- one more run between wider bounds
+pub in_bounds_more : (runs : List Run) (i : ℕ) (run : Run) (low lower high higher : ℕ) → i < length runs → run ≡ get_or runs i run → lower ≤ low → lower ≤ run.base → high ≤ higher → last_byte run ≤ higher
+    → All (λ r. (low ≤ r.base) × (last_byte r ≤ high)) (take i runs) → All (λ r. (lower ≤ r.base) × (last_byte r ≤ higher)) (take (i + 1) runs)
+in_bounds_more runs i run low lower high higher inside is down own up own_up before =
+    All-more (λ r. (lower ≤ r.base) × (last_byte r ≤ higher)) runs i run inside
+    (λ k d within. let bounds = before k d within in let first = bounds.0 in let last = bounds.1 in (omega arith, omega arith))
+    (subst (λ (r : Run). (lower ≤ r.base) × (last_byte r ≤ higher)) is (own, own_up))
+
+-- one more read
+pub quiet_more : (runs : List Run) (i : ℕ) (run : Run) → i < length runs → run ≡ get_or runs i run → run.write ≡ false → All (λ r. r.write ≡ false) (take i runs) → All (λ r. r.write ≡ false) (take (i + 1) runs)
+quiet_more runs i run inside is read before = All-more (λ r. r.write ≡ false) runs i run inside before (subst (λ (r : Run). r.write ≡ false) is read)

@@ -1,10 +1,12 @@
 -- The stretches of a run have all its bytes.
-use Rattle.std.proofs.Common.{◌≡◌, ◌⊎◌, ℕ, zero, suc, ◌+◌, ◌-◌, ◌*◌, ◌<◌, ◌≤◌, List, [], ◌∷◌, ◌++◌, Bool, true, false, cond, nat_eq, Contains, inl, inr, refl, sym, ap, ◌∙◌, subst, arith}
+use Rattle.std.proofs.Common.{◌≡◌, ◌⊎◌, ℕ, zero, suc, ◌+◌, ◌-◌, ◌*◌, ◌<◌, ◌≤◌, List, [], ◌∷◌, ◌++◌, All, Bool, IsTrue, true, false, cond, nat_eq, Contains, inl, inr, refl, sym, ap, ◌∙◌, subst, arith}
+use Rattle.std.proofs.lemmas.List.Elements.{All-contains}
 use Rattle.stride_summary.specs.declared.run.Run.{Run}
 use Rattle.stride_summary.specs.Run.{HasRunByte, address_at, last_address, last_byte}
 use Rattle.pair_compare.specs.Conflict.{GrowsBy, OneHas}
 use Rattle.pair_compare.specs.Sweeps.{IsHullOf, IsReachOf, Reach, stretches_of}
-use Rattle.pair_compare.specs.Work.{IsMetReach, IsMetStretch}
+use Rattle.pair_compare.specs.Work.{IsMemberReach, IsMetReach, IsMetStretch, IsPairAt, IsStill}
+use Rattle.pair_compare.specs.declared.member.Member.{Member}
 use Rattle.pair_compare.specs.declared.hull.Hull.{Hull}
 use Rattle.pair_compare.proofs.Adds.{Adds-both, Adds-pushed, Adds-same, not_in_nothing}
 use Rattle.pair_compare.proofs.Meeting.{from_first, to_last}
@@ -72,6 +74,52 @@ one_of_one x y (suc k, within, is) = absurd (omega arith)
 one_of_two : (x y z : ℕ × ℕ) → Contains (x ∷ y ∷ []) z → (z ≡ x) ⊎ (z ≡ y)
 one_of_two x y z (zero, within, is) = inl (sym is)
 one_of_two x y z (suc k, within, is) = inr (one_of_one y z (k, omega arith, is))
+
+-- a stretch of a run lies between its first byte and its last
+stretch_in : (run : Run) (bytes : ℕ × ℕ) → Contains (stretches_of run) bytes → (run.base ≤ bytes.0) × (bytes.1 ≤ last_byte run)
+stretch_in run bytes h = at (nat_eq run.count 2) refl
+  where
+    end_in : (n : ℕ) → run.base + (run.size - 1) ≤ run.base + n * run.stride + (run.size - 1)
+    end_in n = omega arith
+
+    at : (b : Bool) → nat_eq run.count 2 ≡ b → (run.base ≤ bytes.0) × (bytes.1 ≤ last_byte run)
+    at true e = elim (one_of_two (run.base, run.base + (run.size - 1)) (last_address run, last_byte run) bytes (subst (λ (b : Bool). Contains (cond b (each_of run) (whole_of run)) bytes) e h)) [
+      | inl is ↦ subst (λ (p : ℕ × ℕ). (run.base ≤ p.0) × (p.1 ≤ last_byte run)) (sym is) (omega arith, end_in (run.count - 1))
+      | inr is ↦ subst (λ (p : ℕ × ℕ). (run.base ≤ p.0) × (p.1 ≤ last_byte run)) (sym is) (omega arith, omega arith)
+    ]
+    at false e = subst (λ (p : ℕ × ℕ). (run.base ≤ p.0) × (p.1 ≤ last_byte run)) (sym (one_of_one (run.base, last_byte run) bytes (subst (λ (b : Bool). Contains (cond b (each_of run) (whole_of run)) bytes) e h))) (omega arith, omega arith)
+
+-- what of a member reaches into a range is in one that the member's own meets
+pub member_meets : (low high : ℕ) (member : Member) (reach : Reach) → IsMemberReach low high member reach → (member.low ≤ high) × (low ≤ member.high)
+member_meets low high member reach h =
+    let run = h.has.0.of_run in
+    let inside = stretch_in reach.run (reach.low, reach.high) (subst (λ (r : Run). Contains (stretches_of r) (reach.low, reach.high)) (sym run) h.has.0.listed) in
+    let bounds = All-contains (λ (r : Run). (member.low ≤ r.base) × (last_byte r ≤ member.high)) member.runs.now h.one member.within h.listed in
+    let mine : (member.low ≤ reach.run.base) × (last_byte reach.run ≤ member.high) = subst (λ (r : Run). (member.low ≤ r.base) × (last_byte r ≤ member.high)) (sym run) bounds in
+    let from = h.has.1 in
+    let to = h.has.2 in
+    let low_in = inside.0 in
+    let high_in = inside.1 in
+    let mine_low = mine.0 in
+    let mine_high = mine.1 in
+    (omega arith, omega arith)
+
+-- a member that doesn't write
+pub still_quiet : (low high : ℕ) (member : Member) → member.writes ≡ false → IsStill low high member
+still_quiet low high member none reach h = subst (λ (r : Run). r.write ≡ false) (sym h.has.0.of_run) (All-contains (λ (r : Run). r.write ≡ false) member.runs.now h.one (member.quiet none) h.listed)
+
+-- where nobody writes, nothing conflicts
+pub not_so : {b : Bool} → IsTrue b → b ≡ false → ⊥
+not_so w e = cc
+
+still_one : (low high : ℕ) (members : List Member) (reach : Reach) → All (IsStill low high) members → OneHas (IsMemberReach low high) members reach → reach.run.write ≡ false
+still_one low high members reach still h = All-contains (IsStill low high) members h.one still h.listed reach h.has
+
+pub no_pair : (members : List Member) (low high : ℕ) (pair : ℕ × ℕ) → All (IsStill low high) members → IsPairAt members low high pair → ⊥
+no_pair members low high pair still h = elim h.lines.conflict.writes [
+  | inl writes ↦ not_so writes (still_one low high members h.a still h.a_in)
+  | inr writes ↦ not_so writes (still_one low high members h.b still h.b_in)
+]
 
 module _ (old new : List Hull) (low high part : ℕ) (run : Run) where
   -- a run that isn't of two addresses has one stretch

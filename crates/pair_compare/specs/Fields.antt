@@ -3,11 +3,13 @@ use Rattle.std.specs.Prelude.{◌≡◌, ℕ, ◌+◌, ◌%◌, ◌≤◌, List,
 use Rattle.std.specs.Borrow.{Bor}
 use Rattle.race_model.specs.Label.{Triple}
 use Rattle.log_segment.specs.declared.segment.Segment.{Segment}
+use Rattle.stride_summary.specs.declared.run.Run.{Run}
 use Rattle.pair_compare.specs.Compare.{IsSegmentPair}
+use Rattle.pair_compare.specs.Conflict.{OneHas}
+use Rattle.pair_compare.specs.Groups.{IsNumbered}
 use Rattle.pair_compare.specs.declared.field.Field.{Field}
 use Rattle.pair_compare.specs.declared.field.Field.TheVariants.{Depth, Span, Barrier, Residue, Offset}
 use Rattle.pair_compare.specs.declared.field.Split.{Split}
-use Rattle.pair_compare.specs.declared.group.Member.{Member}
 
 abbrev pub field_value : Field → Option Triple → ℕ
 field_value field None = 0
@@ -97,9 +99,9 @@ Parts Barrier = ⊥
 Parts Residue = Unit {0}
 Parts Offset = ⊥
 
--- the segment with its value of the field
-abbrev pub in_part : ℕ → Field → Bor Segment → Member
-in_part level field s = record { part = label_value level field s.now.label; segment = s }
+-- one of the segment's runs, with the segment's value of the field
+abbrev pub IsRunIn : ℕ → Field → Bor Segment → ℕ × Run → Type 0
+IsRunIn level field s numbered = OneHas (IsNumbered (label_value level field s.now.label)) s.now.runs.items numbered
 
 -- the pair of two of the segments whose values of the field are the same
 pub record IsSamePair (level : ℕ) (field : Field) (segments : List Segment) (pair : ℕ × ℕ) : Type 0 where

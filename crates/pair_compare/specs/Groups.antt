@@ -5,7 +5,7 @@ use Rattle.log_segment.specs.declared.segment.Segment.{Segment}
 use Rattle.stride_summary.specs.declared.run.Run.{Run}
 use Rattle.pair_compare.specs.Conflict.{IsLinesOf, OneHas}
 use Rattle.pair_compare.specs.declared.group.Group.{Group}
-use Rattle.pair_compare.specs.declared.group.Member.{Member}
+use Rattle.pair_compare.specs.declared.member.Member.{Member}
 
 -- the segments that are pointed to
 abbrev pub pointed : List (Bor Segment) → List Segment
@@ -26,8 +26,8 @@ IsNumbered part run numbered = numbered ≡ (part, run)
 
 -- one of the member's runs
 abbrev pub IsRunOf : Member → ℕ × Run → Type 0
-IsRunOf member numbered = OneHas (IsNumbered member.part) member.segment.now.runs.items numbered
+IsRunOf member numbered = OneHas (IsNumbered member.part) member.runs.now numbered
 
--- the line pair of a conflict of two members of different parts
+-- the line pair of a conflict of runs of members of different parts
 abbrev pub IsGroupPair : Group → ℕ × ℕ → Type 0
 IsGroupPair group pair = IsPartedPair (OneHas IsRunOf group.members.items) pair

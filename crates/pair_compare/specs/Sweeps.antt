@@ -1,8 +1,9 @@
 -- Stretches of bytes in which the addresses of runs lie, and those that meet.
-use Rattle.std.specs.Prelude.{◌≡◌, ℕ, ◌+◌, ◌-◌, ◌≤◌, List, [], ◌∷◌, Bool, cond, nat_eq, nat_le, Contains}
+use Rattle.std.specs.Prelude.{◌≡◌, ◌⊎◌, ℕ, ◌+◌, ◌-◌, ◌≤◌, List, [], ◌∷◌, All, Bool, false, cond, nat_eq, nat_le, Contains, IsTrue}
 use Rattle.stride_summary.specs.declared.run.Run.{Run}
 use Rattle.stride_summary.specs.Run.{last_address, last_byte}
 use Rattle.pair_compare.specs.Conflict.{IsLinesOf}
+use Rattle.pair_compare.specs.declared.active.Active.{Active}
 use Rattle.pair_compare.specs.declared.hull.Hull.{Hull}
 
 -- a run, the number of its part, and a stretch of bytes
@@ -22,15 +23,16 @@ pub record IsReachOf (part : ℕ) (run : Run) (reach : Reach) : Type 0 where
   pub of_run : reach.run ≡ run
   pub listed : Contains (stretches_of run) (reach.low, reach.high)
 
--- the line pair of a conflict of two runs of different parts, which reach over a common byte
-pub record IsMetPair (Has : Reach → Type 0) (pair : ℕ × ℕ) : Type 0 where
+-- the line pair of a conflict of two runs of different parts: the second begins where the first reaches, and not before a byte
+pub record IsMetPair (from : ℕ) (Has : Reach → Type 0) (pair : ℕ × ℕ) : Type 0 where
   pub a : Reach
   pub b : Reach
   pub a_in : Has a
   pub b_in : Has b
   pub apart : a.part ≡ b.part → ⊥
-  pub before : a.low ≤ b.high
-  pub after : b.low ≤ a.high
+  pub begins : a.low ≤ b.low
+  pub reaches : b.low ≤ a.high
+  pub late : from ≤ b.low
   pub lines : IsLinesOf a.run b.run pair
 
 abbrev pub reach_of : Hull → Reach
@@ -47,3 +49,44 @@ pub record IsHullPair (a b : Hull) (pair : ℕ × ℕ) : Type 0 where
 -- the hull doesn't end before the byte
 abbrev pub reaches : ℕ → Hull → Bool
 reaches byte hull = nat_le byte hull.high
+
+-- one of the active hulls
+abbrev pub IsActive : Active → Hull → Type 0
+IsActive active hull = Contains active.reads.items hull ⊎ Contains active.writes.items hull
+
+-- the reads don't write
+abbrev pub AreReads : Active → Type 0
+AreReads active = All (λ hull. hull.run.now.write ≡ false) active.reads.items
+
+-- of what was active only hulls that end before this one were dropped, and all that may conflict with it and do so
+pub record Settles (hull : Hull) (old new : Active) : Type 0 where
+  pub kept : (other : Hull) → IsActive old other → hull.low ≤ other.high → IsActive new other
+  pub only : (other : Hull) → IsActive new other → IsActive old other
+  pub ended : (other : Hull) → IsActive new other → IsTrue hull.run.now.write ⊎ IsTrue other.run.now.write → hull.low ≤ other.high
+  pub reads : AreReads new
+
+-- one more hull is active
+pub record Puts (hull : Hull) (old new : Active) : Type 0 where
+  pub own : IsActive new hull
+  pub kept : (other : Hull) → IsActive old other → IsActive new other
+  pub only : (other : Hull) → IsActive new other → IsActive old other ⊎ (hull ≡ other)
+  pub reads : AreReads new
+
+-- the hull is active now, beside those that don't end before it and perhaps others that were active
+pub record Activates (hull : Hull) (old new : Active) : Type 0 where
+  pub own : IsActive new hull
+  pub kept : (other : Hull) → IsActive old other → hull.low ≤ other.high → IsActive new other
+  pub only : (other : Hull) → IsActive new other → IsActive old other ⊎ (hull ≡ other)
+  pub reads : AreReads new
+
+-- the line pair of the hull and an active one, where the hull doesn't begin before the byte
+pub record IsActivePair (from : ℕ) (hull : Hull) (active : Active) (pair : ℕ × ℕ) : Type 0 where
+  pub late : from ≤ hull.low
+  pub other : Hull
+  pub among : IsActive active other
+  pub lines : IsHullPair hull other pair
+
+-- the same of an active one that doesn't end before the hull
+pub record IsReachedPair (from : ℕ) (hull : Hull) (active : Active) (pair : ℕ × ℕ) : Type 0 where
+  pub two : IsActivePair from hull active pair
+  pub meets : hull.low ≤ two.other.high

@@ -1,9 +1,9 @@
 -- The work of comparing groups: runs of some members that meet a range of bytes.
-use Rattle.std.specs.Prelude.{◌≡◌, ℕ, ◌≤◌, [], false, Contains}
+use Rattle.std.specs.Prelude.{◌≡◌, ℕ, ◌≤◌, List, [], false, Contains}
 use Rattle.stride_summary.specs.declared.run.Run.{Run}
 use Rattle.pair_compare.specs.Conflict.{AddsPairs, OneHas}
 use Rattle.pair_compare.specs.Sweeps.{IsMetPair, IsReachOf, Reach}
-use Rattle.pair_compare.specs.declared.group.Member.{Member}
+use Rattle.pair_compare.specs.declared.member.Member.{Member}
 use Rattle.pair_compare.specs.declared.task.Task.{Task}
 use Rattle.pair_compare.specs.declared.worker.Worker.{Worker}
 
@@ -17,11 +17,18 @@ IsMetReach low high part run reach = IsReachOf part run reach × (reach.low ≤ 
 
 -- a reach of one of the member's runs that meets the range
 abbrev pub IsMemberReach : ℕ → ℕ → Member → Reach → Type 0
-IsMemberReach low high member reach = OneHas (IsMetReach low high member.part) member.segment.now.runs.items reach
+IsMemberReach low high member reach = OneHas (IsMetReach low high member.part) member.runs.now reach
 
--- the line pair of a conflict of runs of members of different parts, which reach over a common byte and into the task's range
+-- what of the member reaches into the range doesn't write
+abbrev pub IsStill : ℕ → ℕ → Member → Type 0
+IsStill low high member = (reach : Reach) → IsMemberReach low high member reach → reach.run.write ≡ false
+
+-- the line pair of a conflict of runs of members of different parts, which reach over a common byte: the later one begins in the range
+abbrev pub IsPairAt : List Member → ℕ → ℕ → ℕ × ℕ → Type 0
+IsPairAt members low high pair = IsMetPair low (OneHas (IsMemberReach low high) members) pair
+
 abbrev pub IsTaskPair : Task → ℕ × ℕ → Type 0
-IsTaskPair task pair = IsMetPair (OneHas (IsMemberReach task.low task.high) task.members.now) pair
+IsTaskPair task pair = IsPairAt task.members.now task.low task.high pair
 
 -- the line pair of one of the worker's tasks
 abbrev pub IsWorkerPair : Worker → ℕ × ℕ → Type 0

@@ -1,11 +1,11 @@
-ghost use Rattle.std.specs.Prelude.{◌↔◌, ◌≤◌, OnOk, IfOk};
+ghost use Rattle.std.specs.Prelude.{◌↔◌, ◌≤◌, OnOk};
 ghost use Rattle.std.specs.List.Sorted.{IsNonDecreasingBy};
 ghost use Rattle.pair_compare.specs.Conflict.{AddsPairs, GrowsBy, OneHas};
 ghost use Rattle.pair_compare.specs.Sweeps.{IsHullOf, Reach};
 ghost use Rattle.pair_compare.specs.Work.{IsMemberReach, IsMetReach, IsMetStretch, IsTaskPair};
 
-use crate::group::Member;
 use crate::hull::Hull;
+use crate::member::Member;
 use crate::sweeping::sweep;
 use crate::task::Task;
 use std::alloc::Global;
@@ -56,32 +56,37 @@ fn add_run<'r>(
 fn add_member<'s>(member: &Member<'s>, task: &Task, hulls: &mut Vec<Hull<'s>>) -> Result<(), Memory>
     ensures { OnOk result (GrowsBy (OneHas IsHullOf hulls.old.items) (OneHas IsHullOf hulls.new.items) (IsMemberReach task.now.low task.now.high member.now)) }
 {
-    for run in member.segment.runs.as_slice() {
+    if !member.meets(task.low, task.high) {
+        return Ok(());
+    }
+    for run in member.runs {
         add_run(run, member.part, task, hulls)?;
     }
     Ok(())
 }
 
-fn hulls_of<'s>(alloc: Global, task: &Task<'_, 's>) -> Result<Vec<Hull<'s>>, Memory>
-    ensures same { IfOk result (λ hulls. (reach : Reach) → OneHas IsHullOf hulls.items reach ↔ OneHas (IsMemberReach task.now.low task.now.high) task.now.members.now reach) }
-    ensures ascends { IfOk result (λ hulls. IsNonDecreasingBy (λ hull. hull.low) hulls.items) }
+// What was in the vector goes.
+fn collect<'s>(task: &Task<'_, 's>, hulls: &mut Vec<Hull<'s>>) -> Result<(), Memory>
+    ensures same { OnOk result ((reach : Reach) → OneHas IsHullOf hulls.new.items reach ↔ OneHas (IsMemberReach task.now.low task.now.high) task.now.members.now reach) }
+    ensures ascends { OnOk result (IsNonDecreasingBy (λ hull. hull.low) hulls.new.items) }
 {
-    let mut hulls = Vec::new(alloc);
+    hulls.clear();
     for member in task.members {
-        add_member(member, task, &mut hulls)?;
+        add_member(member, task, hulls)?;
     }
     hulls.sort_by_key(|hull| hull.low)?;
-    Ok(hulls)
+    Ok(())
 }
 
-/// Adds the pairs of the task.
-pub fn search_task(
+/// Adds the pairs of the task. What was in the vector of hulls goes.
+pub fn search_task<'s>(
     alloc: Global,
-    task: &Task,
+    task: &Task<'_, 's>,
+    hulls: &mut Vec<Hull<'s>>,
     pairs: &mut BTreeSet<(u32, u32)>,
 ) -> Result<(), Memory>
     ensures { OnOk result (AddsPairs pairs.old.keys pairs.new.keys (IsTaskPair task.now)) }
 {
-    let hulls = hulls_of(alloc, task)?;
-    sweep(alloc, hulls.as_slice(), pairs)
+    collect(task, hulls)?;
+    sweep(alloc, hulls.as_slice(), task.low, pairs)
 }

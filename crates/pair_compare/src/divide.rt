@@ -1,10 +1,11 @@
-ghost use Rattle.std.specs.Prelude.{◌≡◌, ◌↔◌, ◌≤◌, IsTrue, map, IfOk, OnOk};
+ghost use Rattle.std.specs.Prelude.{◌≡◌, ◌↔◌, ◌≤◌, IsTrue, OnOk};
 ghost use Rattle.pair_compare.specs.Conflict.{GrowsBy, OneHas};
-ghost use Rattle.pair_compare.specs.Fields.{CanDivide, HasNoLevel, IsApartPair, IsSamePair, Parts, next_field, next_level, in_part};
+ghost use Rattle.pair_compare.specs.Fields.{CanDivide, HasNoLevel, IsApartPair, IsSamePair, Parts, next_field, next_level};
 ghost use Rattle.pair_compare.specs.Groups.{IsGroupPair, pointed};
 
-use crate::field::{Field, extremes, halves, value};
-use crate::group::{Group, Member};
+use crate::field::{Field, extremes, halves};
+use crate::group::Group;
+use crate::parting::members_of;
 use log_segment::Segment;
 use std::alloc::Global;
 use sw_base::Memory;
@@ -45,22 +46,6 @@ fn next(level: usize, field: Field) -> (usize, Field)
         Field::Residue => (level, Field::Offset),
         Field::Offset => (level + 1, Field::Depth),
     }
-}
-
-fn members_of<'s>(
-    alloc: Global,
-    segments: &[&'s Segment],
-    level: usize,
-    field: Field,
-) -> Result<Vec<Member<'s>>, Memory>
-    ensures { IfOk result (λ members. members.items ≡ map (in_part level field) segments.now) }
-{
-    let mut members = Vec::new(alloc);
-    for segment in segments {
-        let part = value(&segment.label, level, field);
-        members.push(Member { part, segment })?;
-    }
-    Ok(members)
 }
 
 // Adds the group of segments whose values of the field are in the range, if those with different ones are concurrent.

@@ -5,16 +5,10 @@ ghost use Rattle.pair_compare.specs.Groups.{IsGroupPair, pointed};
 
 use crate::divide::divide;
 use crate::field::{Field, extremes};
+use crate::member::Member;
 use log_segment::Segment;
 use std::alloc::Global;
 use sw_base::Memory;
-
-/// A segment and the number of its part.
-#[derive(Clone, Copy)]
-pub struct Member<'s> {
-    pub part: u64,
-    pub segment: &'s Segment,
-}
 
 /// Segments in parts: those of two parts are concurrent.
 #[derive(Drop)]

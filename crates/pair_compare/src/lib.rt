@@ -12,6 +12,7 @@
 //! `labels_order_accesses` that the labels of two intervals are ordered as their accesses are by happens-before.
 #![tactic(auto)]
 
+mod active;
 mod all;
 mod collecting;
 mod comparing;
@@ -20,7 +21,9 @@ mod divide;
 mod field;
 mod group;
 mod hull;
+mod member;
 mod ordering;
+mod parting;
 mod regions;
 mod searching;
 mod sweeping;

@@ -1,8 +1,9 @@
-ghost use Rattle.std.specs.Prelude.{◌≡◌, ◌++◌, [], ◌∷◌, ◌≤◌, filter, nat_le, OnOk};
+ghost use Rattle.std.specs.Prelude.{◌≡◌, ◌≤◌, OnOk};
 ghost use Rattle.std.specs.List.Sorted.{IsNonDecreasingBy};
 ghost use Rattle.pair_compare.specs.Conflict.{AddsPairs, OneHas};
-ghost use Rattle.pair_compare.specs.Sweeps.{IsHullOf, IsHullPair, IsMetPair, reaches};
+ghost use Rattle.pair_compare.specs.Sweeps.{Activates, AreReads, IsActivePair, IsHullOf, IsHullPair, IsMetPair, IsReachedPair};
 
+use crate::active::Active;
 use crate::conflict::add_conflict;
 use crate::hull::Hull;
 use std::alloc::Global;
@@ -19,40 +20,64 @@ fn meet(a: &Hull, b: &Hull, pairs: &mut BTreeSet<(u32, u32)>) -> Result<(), Memo
     add_conflict(a.run, b.run, pairs)
 }
 
-fn meet_all(hull: &Hull, active: &[Hull], pairs: &mut BTreeSet<(u32, u32)>) -> Result<(), Memory>
-    ensures { OnOk result (AddsPairs pairs.old.keys pairs.new.keys (OneHas (IsHullPair hull.now) active.now)) }
+fn meet_all(hull: &Hull, others: &[Hull], pairs: &mut BTreeSet<(u32, u32)>) -> Result<(), Memory>
+    ensures { OnOk result (AddsPairs pairs.old.keys pairs.new.keys (OneHas (IsHullPair hull.now) others.now)) }
 {
-    for other in active {
+    for other in others {
         meet(hull, other, pairs)?;
     }
     Ok(())
 }
 
-// Drops the hulls that end before this one, compares it with the others, and puts it behind them.
-fn step<'r>(
-    hull: &Hull<'r>,
-    active: &mut Vec<Hull<'r>>,
+// Compares a hull that doesn't begin before the byte with the active ones, and a read with the writes alone.
+fn meet_active(
+    hull: &Hull,
+    from: u64,
+    active: &Active,
     pairs: &mut BTreeSet<(u32, u32)>,
 ) -> Result<(), Memory>
-    ensures active { OnOk result (active.new.items ≡ filter (reaches hull.now.low) active.old.items ++ hull.now ∷ []) }
-    ensures added { OnOk result (AddsPairs pairs.old.keys pairs.new.keys (OneHas (IsHullPair hull.now) (filter (reaches hull.now.low) active.old.items))) }
+    requires { AreReads active.now }
+    ensures { OnOk result (AddsPairs pairs.old.keys pairs.new.keys (IsActivePair from hull.now active.now)) }
 {
-    let low = hull.low;
-    active.retain(|other| other.high >= low);
-    meet_all(hull, active.as_slice(), pairs)?;
-    active.push(*hull)?;
-    Ok(())
+    if hull.low < from {
+        return Ok(());
+    }
+    if !hull.run.write {
+        return meet_all(hull, active.writes.as_slice(), pairs);
+    }
+    meet_all(hull, active.reads.as_slice(), pairs)?;
+    meet_all(hull, active.writes.as_slice(), pairs)
 }
 
-/// Adds the line pairs of the conflicts of runs of different parts whose hulls meet. These are in order of their first bytes: each is
-/// compared with those before it that haven't ended.
-pub fn sweep(alloc: Global, hulls: &[Hull], pairs: &mut BTreeSet<(u32, u32)>) -> Result<(), Memory>
-    requires { IsNonDecreasingBy (λ hull. hull.low) hulls.now }
-    ensures { OnOk result (AddsPairs pairs.old.keys pairs.new.keys (IsMetPair (OneHas IsHullOf hulls.now))) }
+fn step<'r>(
+    hull: &Hull<'r>,
+    from: u64,
+    active: &mut Active<'r>,
+    pairs: &mut BTreeSet<(u32, u32)>,
+) -> Result<(), Memory>
+    requires { AreReads active.old }
+    ensures active { OnOk result (Activates hull.now active.old active.new) }
+    ensures added { OnOk result (AddsPairs pairs.old.keys pairs.new.keys (IsReachedPair from hull.now active.old)) }
 {
-    let mut active = Vec::new(alloc);
+    active.settle(hull);
+    meet_active(hull, from, active, pairs)?;
+    active.put(hull)
+}
+
+/// Adds the line pairs of the conflicts of runs of different parts whose hulls meet, where the later one doesn't begin before
+/// the byte. The hulls are in order of their first bytes: each is compared with those before it that haven't ended.
+pub fn sweep(
+    alloc: Global,
+    hulls: &[Hull],
+    from: u64,
+    pairs: &mut BTreeSet<(u32, u32)>,
+) -> Result<(), Memory>
+    requires { IsNonDecreasingBy (λ hull. hull.low) hulls.now }
+    ensures { OnOk result (AddsPairs pairs.old.keys pairs.new.keys (IsMetPair from (OneHas IsHullOf hulls.now))) }
+{
+    let mut active = Active::new(alloc);
     for hull in hulls {
-        step(hull, &mut active, pairs)?;
+        step(hull, from, &mut active, pairs)?;
     }
     Ok(())
 }

@@ -1,23 +1,20 @@
 ghost use Rattle.std.specs.Prelude.{◌≡◌, ◌↔◌, ◌≤◌, ℕ, All, false, true, OnOk, IfOk};
 ghost use Rattle.pair_compare.specs.Conflict.{GrowsBy, OneHas};
 ghost use Rattle.pair_compare.specs.Groups.{IsGroupPair, IsPartedPair, IsRunOf};
-ghost use Rattle.pair_compare.specs.Work.{IsTaskPair};
+ghost use Rattle.pair_compare.specs.Work.{IsPairAt, IsStill, IsTaskPair};
 
-use crate::group::{Group, Member};
+use crate::group::Group;
+use crate::member::Member;
 use std::alloc::Global;
-use stride_summary::Run;
 use sw_base::Memory;
-
-/// About how many runs of a group are looked at, to cut them evenly.
-const SAMPLES: usize = 1024;
 
 /// A task has more runs than these only where a group has so many, which aren't worth two tasks.
 const LEAST: usize = 4096;
 
-/// About the most runs of a task, so that what a worker keeps of them stays small.
-const MOST: usize = 262_144;
+/// About the most runs of a task, so that what a worker keeps of them stays in the processor's caches.
+const MOST: usize = 16_384;
 
-/// Members of a group, whose runs that meet these bytes are compared: those from the first to the last.
+/// Members of a group and the bytes from a first to a last: a run that begins there is compared with those before it.
 #[derive(Drop)]
 pub struct Task<'g, 's> {
     pub members: &'g [Member<'s>],
@@ -27,23 +24,22 @@ pub struct Task<'g, 's> {
     pub runs: usize,
 }
 
-fn has_write(runs: &[Run]) -> bool
-    ensures { result ≡ false → All (λ run. run.write ≡ false) runs.now }
+// Whether a run of the member may write and reach over one of the bytes.
+fn may_write(member: &Member, low: u64, high: u64) -> bool
+    ensures { result ≡ false → IsStill low high member.now }
 {
-    for run in runs {
-        if run.write {
-            return true;
-        }
+    if !member.writes {
+        return false;
     }
-    false
+    member.meets(low, high)
 }
 
-// Whether nobody writes, so that nothing conflicts.
-fn is_idle(members: &[Member]) -> bool
-    ensures { result ≡ true → (pair : ℕ × ℕ) → IsPartedPair (OneHas IsRunOf members.now) pair → ⊥ }
+// Whether nobody writes there, so that nothing conflicts.
+fn is_idle(members: &[Member], low: u64, high: u64) -> bool
+    ensures { result ≡ true → All (IsStill low high) members.now }
 {
     for member in members {
-        if has_write(member.segment.runs.as_slice()) {
+        if may_write(member, low, high) {
             return false;
         }
     }
@@ -53,49 +49,60 @@ fn is_idle(members: &[Member]) -> bool
 fn runs_in(members: &[Member]) -> usize {
     let mut runs = 0usize;
     for member in members {
-        runs = runs.saturating_add(member.segment.runs.len());
+        runs = runs.saturating_add(member.runs.len());
     }
     runs
 }
 
-fn add_samples(runs: &[Run], step: usize, samples: &mut Vec<u64>) -> Result<(), Memory>
-    requires { 1 ≤ step }
-{
-    for run in runs.iter().step_by(step) {
-        samples.push(run.low())?;
-    }
-    Ok(())
-}
-
-// The first bytes of some of the runs, in order.
-fn samples_of(alloc: Global, members: &[Member], step: usize) -> Result<Vec<u64>, Memory>
-    requires { 1 ≤ step }
-{
-    let mut samples = Vec::new(alloc);
+// Where the members begin, in order.
+fn begins(alloc: Global, members: &[Member]) -> Result<Vec<u64>, Memory> {
+    let mut lows = Vec::new(alloc);
     for member in members {
-        add_samples(member.segment.runs.as_slice(), step, &mut samples)?;
+        lows.push(member.low)?;
     }
-    samples.sort()?;
-    Ok(samples)
+    lows.sort_unstable();
+    Ok(lows)
 }
 
-// Bytes that cut the runs in about so many even parts.
-fn cuts_of(alloc: Global, members: &[Member], runs: usize, parts: usize) -> Result<Vec<u64>, Memory>
+// Bytes that cut the members' runs in about so many even parts.
+fn cuts_of(alloc: Global, members: &[Member], parts: usize) -> Result<Vec<u64>, Memory>
     requires { 1 ≤ parts }
 {
     let mut cuts = Vec::new(alloc);
     if parts == 1 {
         return Ok(cuts);
     }
-    let samples = samples_of(alloc, members, runs / SAMPLES + 1)?;
-    let size = samples.len() / parts + 1;
-    for cut in samples.iter().skip(size).step_by(size) {
+    let lows = begins(alloc, members)?;
+    let size = lows.len() / parts + 1;
+    for cut in lows.iter().skip(size).step_by(size) {
         cuts.push(*cut)?;
     }
     Ok(cuts)
 }
 
-// Adds tasks that have all bytes together, cut behind these ones, and about so many runs each.
+// Adds a task of the members at these bytes, of about so many runs, unless nobody writes there.
+fn add_task<'g, 's>(
+    members: &'g [Member<'s>],
+    bytes: (u64, u64),
+    runs: usize,
+    tasks: &mut Vec<Task<'g, 's>>,
+) -> Result<(), Memory>
+    ensures { OnOk result (GrowsBy (OneHas IsTaskPair tasks.old.items) (OneHas IsTaskPair tasks.new.items) (IsPairAt members.now bytes.0 bytes.1)) }
+{
+    let (low, high) = bytes;
+    if is_idle(members, low, high) {
+        return Ok(());
+    }
+    tasks.push(Task {
+        members,
+        low,
+        high,
+        runs,
+    })?;
+    Ok(())
+}
+
+// Adds tasks for all bytes, cut behind these ones, of about so many runs each.
 fn cut_at<'g, 's>(
     members: &'g [Member<'s>],
     cuts: &[u64],
@@ -107,24 +114,13 @@ fn cut_at<'g, 's>(
     let mut low = 0u64;
     for cut in cuts {
         let high = low.max(*cut);
-        tasks.push(Task {
-            members,
-            low,
-            high,
-            runs,
-        })?;
+        add_task(members, (low, high), runs, tasks)?;
         low = high.saturating_add(1);
     }
-    tasks.push(Task {
-        members,
-        low,
-        high: u64::MAX,
-        runs,
-    })?;
-    Ok(())
+    add_task(members, (low, u64::MAX), runs, tasks)
 }
 
-// Adds the tasks of a group, of about so many runs at most; there are none where nobody writes.
+// Adds the tasks of a group, of about so many runs at most.
 fn cut_group<'g, 's>(
     alloc: Global,
     group: &'g Group<'s>,
@@ -135,12 +131,9 @@ fn cut_group<'g, 's>(
     ensures { OnOk result (GrowsBy (OneHas IsTaskPair tasks.old.items) (OneHas IsTaskPair tasks.new.items) (IsGroupPair group.now)) }
 {
     let members = group.members.as_slice();
-    if is_idle(members) {
-        return Ok(());
-    }
     let runs = runs_in(members);
     let parts = (runs / most).saturating_add(1);
-    let cuts = cuts_of(alloc, members, runs, parts)?;
+    let cuts = cuts_of(alloc, members, parts)?;
     cut_at(members, cuts.as_slice(), runs / parts, tasks)
 }
 

@@ -23,8 +23,10 @@ fn search_tasks(
 ) -> Result<(), Memory>
     ensures { OnOk result (AddsPairs pairs.old.keys pairs.new.keys (OneHas IsTaskPair tasks.now)) }
 {
+    // One vector serves all tasks.
+    let mut hulls = Vec::new(alloc);
     for task in tasks {
-        search_task(alloc, task, pairs)?;
+        search_task(alloc, task, &mut hulls, pairs)?;
     }
     Ok(())
 }

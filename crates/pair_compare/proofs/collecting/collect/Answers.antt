@@ -4,11 +4,11 @@ use Rattle.std.proofs.lemmas.List.Sorted.{IsNonDecreasingBy-from_sort_by_key, Is
 use Rattle.pair_compare.specs.Conflict.{GrowsBy, OneHas}
 use Rattle.pair_compare.specs.Sweeps.{IsHullOf}
 use Rattle.pair_compare.specs.Work.{IsMemberReach}
-use Rattle.pair_compare.specs.declared.group.Member.{Member}
+use Rattle.pair_compare.specs.declared.member.Member.{Member}
 use Rattle.pair_compare.proofs.Adds.{Adds-next}
 use Rattle.pair_compare.proofs.Members.{OneHas-permuted}
 use Rattle.pair_compare.proofs.Tasks.{all_from_none}
-use Rattle.pair_compare.proofs.collecting.hulls_of.Goals as goal
+use Rattle.pair_compare.proofs.collecting.collect.Goals as goal
 
 pub loop-member-preserved : goal.loop-member-preserved
 loop-member-preserved c = Adds-next _ _ _ _ _ _ _ c.loop-member-test.true c.member-item.is c.loop-member.invariant c.in_ok-add_member.ensures
