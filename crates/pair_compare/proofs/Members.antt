@@ -1,9 +1,9 @@
 -- Members of a group, whose conflicts are those of their segments.
-use Rattle.std.proofs.Common.{◌≡◌, ◌↔◌, ◌⊎◌, ℕ, ◌+◌, ◌<◌, ◌≤◌, List, [], ◌∷◌, ◌++◌, All, Bor, Contains, false, get_or, length, take, inl, inr, refl, sym, ap, ◌∙◌, subst, arith}
+use Rattle.std.proofs.Common.{◌≡◌, ◌↔◌, ◌⊎◌, ℕ, ◌+◌, ◌<◌, ◌≤◌, List, [], ◌∷◌, ◌++◌, All, Bor, Contains, drop, false, get_or, length, set, take, inl, inr, refl, sym, ap, ◌∙◌, subst, arith}
 use Rattle.std.specs.Prelude.{Ok, Err, IfOk, Result}
 use Rattle.std.proofs.lemmas.Bool.{cases_order}
 use Rattle.std.specs.List.Sorted.{IsPermutation}
-use Rattle.std.proofs.lemmas.List.Elements.{All-contains, All-more}
+use Rattle.std.proofs.lemmas.List.Elements.{All-contains, All-more, Contains-get_or}
 use Rattle.std.proofs.lemmas.List.Sorted.{Contains-permutation}
 use Rattle.log_segment.specs.declared.segment.Segment.{Segment}
 use Rattle.race_model.specs.Label.{Triple, IsConcurrent}
@@ -12,12 +12,13 @@ use Rattle.stride_summary.specs.Run.{last_byte}
 use Rattle.pair_compare.specs.Compare.{IsSegmentPair}
 use Rattle.pair_compare.specs.Conflict.{GrowsBy, IsPairOfRuns, OneHas}
 use Rattle.pair_compare.specs.Fields.{Agrees, AreAlike, AreWithin, CanDivide, IsApartPair, IsRunIn, Parts, label_value}
-use Rattle.pair_compare.specs.Groups.{IsGroupPair, IsNumbered, IsPartedPair, IsRunOf, pointed}
+use Rattle.pair_compare.specs.Groups.{IsGroupPair, IsNumbered, IsPartedPair, IsRunOf, IsSameGroup, IsSameMember, pointed}
 use Rattle.pair_compare.specs.declared.field.Field.{Field}
 use Rattle.pair_compare.specs.declared.field.Field.TheVariants.{Depth, Span, Barrier, Residue, Offset}
 use Rattle.pair_compare.specs.declared.group.Group.{Group}
 use Rattle.pair_compare.specs.declared.member.Member.{Member}
-use Rattle.std.proofs.lemmas.List.{append_assoc, append-nil}
+use Rattle.std.proofs.Math.Seq.{take-append_seam}
+use Rattle.std.proofs.lemmas.List.{append_assoc, append-nil, get_or-set_other, get_or-set_same, get_or_default, length-set}
 use Rattle.pair_compare.proofs.Adds.{Adds-none, Adds-pushed, Adds-same}
 use Rattle.pair_compare.proofs.Tasks.{Adds-append}
 use Rattle.pair_compare.proofs.Dividing.{Parted, parted, pointed_by, points_to, same_value}
@@ -196,3 +197,47 @@ in_bounds_more runs i run low lower high higher inside is down own up own_up bef
 -- one more read
 pub quiet_more : (runs : List Run) (i : ℕ) (run : Run) → i < length runs → run ≡ get_or runs i run → run.write ≡ false → All (λ r. r.write ≡ false) (take i runs) → All (λ r. r.write ≡ false) (take (i + 1) runs)
 quiet_more runs i run inside is read before = All-more (λ r. r.write ≡ false) runs i run inside before (subst (λ (r : Run). r.write ≡ false) is read)
+
+-- what one of a list has, one of the other has, place by place
+pub OneHas-each : {X K : Type 0} (P : X → K → Type 0) (xs ys : List X) (k : K) → length ys ≡ length xs → ((i : ℕ) (d : X) → i < length xs → P (get_or xs i d) k → P (get_or ys i d) k) → OneHas P xs k → OneHas P ys k
+OneHas-each P xs ys k same each h =
+    let (i, within, is) = h.listed in
+    record { one = get_or ys i h.one; listed = Contains-get_or ys i h.one (omega arith); has = each i h.one within (subst (λ x. P x k) (sym is) h.has) }
+
+pub same_members : (olds news : List Member) → length news ≡ length olds → ((i : ℕ) (d : Member) → i < length olds → IsSameMember (get_or olds i d) (get_or news i d)) → (n : ℕ × Run) → OneHas IsRunOf news n ↔ OneHas IsRunOf olds n
+same_members olds news same each n = (
+  OneHas-each IsRunOf news olds n (sym same) (λ i d inside h. one_member (get_or news i d) (get_or olds i d) n (sym (each i d (omega arith)).part) (sym (each i d (omega arith)).runs) h),
+  OneHas-each IsRunOf olds news n same (λ i d inside h. one_member (get_or olds i d) (get_or news i d) n (each i d inside).part (each i d inside).runs h),
+) where
+  one_member : (m other : Member) (n : ℕ × Run) → other.part ≡ m.part → other.runs.now ≡ m.runs.now → IsRunOf m n → IsRunOf other n
+  one_member m other n part runs h = subst (λ (p : ℕ). OneHas (IsNumbered p) other.runs.now n) (sym part) (subst (λ (rs : List Run). OneHas (IsNumbered m.part) rs n) (sym runs) h)
+
+-- a list in which one was put for another that has the same
+set_within : {X K : Type 0} (P : X → K → Type 0) (xs : List X) (i : ℕ) (x : X) (k : K) → i < length xs → ((d : X) → P (get_or xs i d) k ↔ P x k) → OneHas P (set xs i x) k ↔ OneHas P xs k
+set_within P xs i x k inside same = (
+  OneHas-each P (set xs i x) xs k (sym (length-set xs i x)) (λ j d within h. elim (cases_order j i) [
+    | inl at ↦ subst (λ (n : ℕ). P (get_or xs n d) k) (sym at) ((same d).1 (subst (λ y. P y k) (put j d at) h))
+    | inr (inl less) ↦ subst (λ y. P y k) (get_or-set_other xs i j x d (λ e. omega arith)) h
+    | inr (inr more) ↦ subst (λ y. P y k) (get_or-set_other xs i j x d (λ e. omega arith)) h
+  ]),
+  OneHas-each P xs (set xs i x) k (length-set xs i x) (λ j d within h. elim (cases_order j i) [
+    | inl at ↦ subst (λ y. P y k) (sym (put j d at)) ((same d).0 (subst (λ (n : ℕ). P (get_or xs n d) k) at h))
+    | inr (inl less) ↦ subst (λ y. P y k) (sym (get_or-set_other xs i j x d (λ e. omega arith))) h
+    | inr (inr more) ↦ subst (λ y. P y k) (sym (get_or-set_other xs i j x d (λ e. omega arith))) h
+  ]),
+) where
+  put : (j : ℕ) (d : _) → j ≡ i → get_or (set xs i x) j d ≡ x
+  put j d at = subst (λ (n : ℕ). get_or (set xs i x) n d ≡ x) (sym at) (get_or-set_same xs i x d inside)
+
+-- one more group has the same runs as before
+pub same_more : (groups : List Group) (i : ℕ) (d new : Group) (pair : ℕ × ℕ) → i < length groups → IsSameGroup (get_or groups i d) new → OneHas IsGroupPair (set groups i new) pair ↔ OneHas IsGroupPair groups pair
+same_more groups i d new pair inside same = set_within IsGroupPair groups i new pair inside (λ e.
+  let old : Group = get_or groups i d in
+  let there : get_or groups i e ≡ old = get_or_default groups i e d inside in (
+    λ h. parted_within (OneHas IsRunOf old.members.items) (OneHas IsRunOf new.members.items) pair (λ n. (same n).1) (subst (λ (g : Group). IsGroupPair g pair) there h),
+    λ h. subst (λ (g : Group). IsGroupPair g pair) (sym there) (parted_within (OneHas IsRunOf new.members.items) (OneHas IsRunOf old.members.items) pair (λ n. (same n).0) h),
+  ))
+
+-- a vector whose elements were lent out
+pub restored : {X : Type 0} (xs news : List X) (count : ℕ) → length news ≡ length xs → count ≡ length xs → take count (news ++ drop (length news) xs) ≡ news
+restored xs news count same counted = subst (λ (n : ℕ). take n (news ++ drop (length news) xs) ≡ news) (same ∙ sym counted) (take-append_seam news (drop (length news) xs))

@@ -1,5 +1,5 @@
 -- Groups of segments in parts, and the conflicts of runs of different parts.
-use Rattle.std.specs.Prelude.{◌≡◌, ℕ, List, map}
+use Rattle.std.specs.Prelude.{◌≡◌, ◌↔◌, ℕ, List, map}
 use Rattle.std.specs.Borrow.{Bor}
 use Rattle.log_segment.specs.declared.segment.Segment.{Segment}
 use Rattle.stride_summary.specs.declared.run.Run.{Run}
@@ -31,3 +31,12 @@ IsRunOf member numbered = OneHas (IsNumbered member.part) member.runs.now number
 -- the line pair of a conflict of runs of members of different parts
 abbrev pub IsGroupPair : Group → ℕ × ℕ → Type 0
 IsGroupPair group pair = IsPartedPair (OneHas IsRunOf group.members.items) pair
+
+-- the members have the same runs, of the same part
+pub record IsSameMember (old new : Member) : Type 0 where
+  pub part : new.part ≡ old.part
+  pub runs : new.runs.now ≡ old.runs.now
+
+-- the groups have the same runs
+abbrev pub IsSameGroup : Group → Group → Type 0
+IsSameGroup old new = (numbered : ℕ × Run) → OneHas IsRunOf new.members.items numbered ↔ OneHas IsRunOf old.members.items numbered

@@ -2,7 +2,7 @@ ghost use Rattle.std.specs.Prelude.{◌≤◌, IfOk};
 ghost use Rattle.race_model.specs.Race.{Lists};
 ghost use Rattle.pair_compare.specs.Compare.{IsSegmentPair};
 
-use crate::group::groups;
+use crate::measuring::measured_groups;
 use crate::task::cut;
 use crate::team::search_all;
 use log_segment::Segment;
@@ -23,7 +23,7 @@ pub fn compare_all<R: Threads + Sync, G: Gate>(
     requires { (1 ≤ workers) × (workers ≤ 64) }
     ensures { IfOk result (λ pairs. Lists (IsSegmentPair segments.now) pairs.keys) }
 {
-    let groups = groups(alloc, segments)?;
+    let groups = measured_groups(rt, alloc, segments, workers)?;
     let tasks = cut(alloc, &groups, workers)?;
     search_all(rt, alloc, &tasks, workers, gate)
 }

@@ -21,6 +21,7 @@ mod divide;
 mod field;
 mod group;
 mod hull;
+mod measuring;
 mod member;
 mod ordering;
 mod parting;

@@ -3,7 +3,7 @@ ghost use Rattle.stride_summary.specs.Run.{last_byte};
 
 use stride_summary::Run;
 
-/// Some runs of a segment and the number of its part. All bytes of the runs are in a range.
+/// Some runs of a segment and the number of its part. All their bytes are in a range, which is the least one after `measure`.
 #[derive(Clone, Copy)]
 pub struct Member<'s> {
     pub part: u64,
@@ -15,7 +15,49 @@ pub struct Member<'s> {
     ghost quiet: { writes ≡ false → All (λ run. run.write ≡ false) runs.now },
 }
 
+fn measured<'s>(part: u64, runs: &'s [Run]) -> Member<'s>
+    ensures part { result.part ≡ part }
+    ensures runs { result.runs.now ≡ runs.now }
+{
+    let mut low = u64::MAX;
+    let mut high = 0;
+    let mut writes = false;
+    for run in runs {
+        low = low.min(run.low());
+        high = high.max(run.high());
+        writes = writes || run.write;
+    }
+    Member {
+        part,
+        runs,
+        low,
+        high,
+        writes,
+    }
+}
+
 impl<'s> Member<'s> {
+    pub fn new(part: u64, runs: &'s [Run]) -> Member<'s>
+        ensures part { result.part ≡ part }
+        ensures runs { result.runs.now ≡ runs.now }
+    {
+        Member {
+            part,
+            runs,
+            low: 0,
+            high: u64::MAX,
+            writes: true,
+        }
+    }
+
+    /// Finds the bytes from the first to the last of the runs, and whether one of them writes.
+    pub fn measure(&mut self)
+        ensures part { self.new.part ≡ self.old.part }
+        ensures runs { self.new.runs.now ≡ self.old.runs.now }
+    {
+        *self = measured(self.part, self.runs);
+    }
+
     /// Whether its range meets the bytes from the first to the last.
     pub fn meets(&self, low: u64, high: u64) -> bool
         ensures { IsTrue result ↔ ((self.now.low ≤ high) × (low ≤ self.now.high)) }

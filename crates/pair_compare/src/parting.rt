@@ -13,27 +13,6 @@ use sw_base::Memory;
 /// How many runs a member has at most: a task looks at all of a member that meets its bytes.
 const MOST: usize = 128;
 
-fn member_of<'s>(part: u64, runs: &'s [Run]) -> Member<'s>
-    ensures part { result.part ≡ part }
-    ensures runs { result.runs.now ≡ runs.now }
-{
-    let mut low = u64::MAX;
-    let mut high = 0;
-    let mut writes = false;
-    for run in runs {
-        low = low.min(run.low());
-        high = high.max(run.high());
-        writes = writes || run.write;
-    }
-    Member {
-        part,
-        runs,
-        low,
-        high,
-        writes,
-    }
-}
-
 // Adds the runs, which are of this part, as members.
 fn add_members<'s>(part: u64, runs: &'s [Run], members: &mut Vec<Member<'s>>) -> Result<(), Memory>
     ensures { OnOk result (GrowsBy (OneHas IsRunOf members.old.items) (OneHas IsRunOf members.new.items) (OneHas (IsNumbered part) runs.now)) }
@@ -41,7 +20,7 @@ fn add_members<'s>(part: u64, runs: &'s [Run], members: &mut Vec<Member<'s>>) ->
     let mut rest = runs;
     'rest: while !rest.is_empty() {
         let (some, others) = rest.split_at(rest.len().min(MOST));
-        members.push(member_of(part, some))?;
+        members.push(Member::new(part, some))?;
         rest = others;
     }
     Ok(())

@@ -9,7 +9,7 @@ use std::alloc::Global;
 use sw_base::Memory;
 
 /// A task has more runs than these only where a group has so many, which aren't worth two tasks.
-const LEAST: usize = 4096;
+const LEAST: usize = 1024;
 
 /// About the most runs of a task, so that what a worker keeps of them stays in the processor's caches.
 const MOST: usize = 16_384;

@@ -12,8 +12,8 @@ rest-smaller c =
     omega (arith, some, c.split_at.ensures.back_len)
 
 pub rest-preserved : goal.rest-preserved
-rest-preserved c = taken_more c.args.part c.args.runs.now c.split_at.result.0.now c.split_at.result.1.now c.args.members.now.items c.rest.members.items c.push.new.self.items c.member_of.result
-    c.member_of.ensures.part c.member_of.ensures.runs c.in_ok-push.ensures.items
+rest-preserved c = taken_more c.args.part c.args.runs.now c.split_at.result.0.now c.split_at.result.1.now c.args.members.now.items c.rest.members.items c.push.new.self.items c.new.result
+    c.new.ensures.part c.new.ensures.runs c.in_ok-push.ensures.items
     (subst (λ (runs : List Run). Taken c.args.part c.args.runs.now runs c.args.members.now.items c.rest.members.items) c.split_at.ensures.by_index.0 c.rest.invariant)
 
 pub returns : goal.returns

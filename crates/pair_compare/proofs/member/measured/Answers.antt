@@ -3,8 +3,8 @@ use Rattle.std.proofs.lemmas.List.{take_all}
 use Rattle.stride_summary.specs.Run.{last_byte}
 use Rattle.stride_summary.specs.declared.run.Run.{Run}
 use Rattle.pair_compare.proofs.Members.{in_bounds_more, quiet_more}
-use Rattle.pair_compare.proofs.parting.member_of.Goals as goal
-use Rattle.pair_compare.proofs.parting.member_of.Goals.{then-writes, else-writes}
+use Rattle.pair_compare.proofs.member.measured.Goals as goal
+use Rattle.pair_compare.proofs.member.measured.Goals.{then-writes, else-writes}
 
 pub loop-run-preserved : goal.loop-run-preserved
 loop-run-preserved c =

@@ -1,0 +1,67 @@
+ghost use Rattle.std.specs.Prelude.{◌≡◌, ◌↔◌, ◌<◌, ◌≤◌, ℕ, length, slice_index_or, IfOk};
+ghost use Rattle.pair_compare.specs.Compare.{IsSegmentPair};
+ghost use Rattle.pair_compare.specs.Conflict.{OneHas};
+ghost use Rattle.pair_compare.specs.Groups.{IsGroupPair, IsSameGroup, IsSameMember};
+
+use crate::group::{Group, groups};
+use crate::member::Member;
+use log_segment::Segment;
+use std::alloc::Global;
+use std::thread;
+use std::thread::Threads;
+use sw_base::Memory;
+
+/// Fewer members than these aren't worth a thread.
+const FEW: usize = 512;
+
+fn threads_for(members: usize, workers: usize) -> usize
+    requires { 1 ≤ workers }
+    ensures { 1 ≤ result }
+{
+    if members < FEW {
+        return 1;
+    }
+    workers
+}
+
+fn measure_members<R: Threads + Sync>(rt: &R, members: &mut [Member], workers: usize)
+    requires { 1 ≤ workers }
+    ensures count { length members.new ≡ length members.old }
+    ensures same { (i : ℕ) (d : _) → i < length members.old → IsSameMember (slice_index_or members.old i d) (slice_index_or members.new i d) }
+{
+    let threads = threads_for(members.len(), workers);
+    thread::for_each_mut(rt, members, threads, &|_place, member| { member.measure() });
+}
+
+fn measure_group<R: Threads + Sync>(rt: &R, group: &mut Group, workers: usize)
+    requires { 1 ≤ workers }
+    ensures { IsSameGroup group.old group.new }
+{
+    measure_members(rt, &mut group.members, workers);
+}
+
+// One group after another, each by as many threads as there are workers if it is long.
+fn measure<R: Threads + Sync>(rt: &R, groups: &mut [Group], workers: usize)
+    requires { 1 ≤ workers }
+    ensures count { length groups.new ≡ length groups.old }
+    ensures same { (pair : ℕ × ℕ) → OneHas IsGroupPair groups.new pair ↔ OneHas IsGroupPair groups.old pair }
+{
+    for group in groups {
+        measure_group(rt, group, workers);
+    }
+}
+
+/// Groups in which each two concurrent segments stand in two parts, and no others do. Their members are measured.
+pub fn measured_groups<'s, R: Threads + Sync>(
+    rt: &R,
+    alloc: Global,
+    segments: &'s [Segment],
+    workers: usize,
+) -> Result<Vec<Group<'s>>, Memory>
+    requires { 1 ≤ workers }
+    ensures { IfOk result (λ found. (pair : ℕ × ℕ) → OneHas IsGroupPair found.items pair ↔ IsSegmentPair segments.now pair) }
+{
+    let mut found = groups(alloc, segments)?;
+    measure(rt, &mut found, workers);
+    Ok(found)
+}
