@@ -9,7 +9,6 @@ use Rattle.pair_compare.proofs.Adds.{AddsPairs-both, AddsPairs-same}
 use Rattle.pair_compare.proofs.Dividing.{Contains-filter, filter-Contains}
 use Rattle.pair_compare.proofs.Reaching.{not_so}
 
-
 reaches_yes : (low : ℕ) (hull : Hull) → low ≤ hull.high → reaches low hull ≡ true
 reaches_yes low hull h = grind arith
 

@@ -232,11 +232,11 @@ set_within P xs i x k inside same = (
 -- one more group has the same runs as before
 pub same_more : (groups : List Group) (i : ℕ) (d new : Group) (pair : ℕ × ℕ) → i < length groups → IsSameGroup (get_or groups i d) new → OneHas IsGroupPair (set groups i new) pair ↔ OneHas IsGroupPair groups pair
 same_more groups i d new pair inside same = set_within IsGroupPair groups i new pair inside (λ e.
-  let old : Group = get_or groups i d in
-  let there : get_or groups i e ≡ old = get_or_default groups i e d inside in (
-    λ h. parted_within (OneHas IsRunOf old.members.items) (OneHas IsRunOf new.members.items) pair (λ n. (same n).1) (subst (λ (g : Group). IsGroupPair g pair) there h),
-    λ h. subst (λ (g : Group). IsGroupPair g pair) (sym there) (parted_within (OneHas IsRunOf new.members.items) (OneHas IsRunOf old.members.items) pair (λ n. (same n).0) h),
-  ))
+    let old : Group = get_or groups i d in
+    let there : get_or groups i e ≡ old = get_or_default groups i e d inside in (
+      λ h. parted_within (OneHas IsRunOf old.members.items) (OneHas IsRunOf new.members.items) pair (λ n. (same n).1) (subst (λ (g : Group). IsGroupPair g pair) there h),
+      λ h. subst (λ (g : Group). IsGroupPair g pair) (sym there) (parted_within (OneHas IsRunOf new.members.items) (OneHas IsRunOf old.members.items) pair (λ n. (same n).0) h),
+    ))
 
 -- a vector whose elements were lent out
 pub restored : {X : Type 0} (xs news : List X) (count : ℕ) → length news ≡ length xs → count ≡ length xs → take count (news ++ drop (length news) xs) ≡ news

@@ -4,7 +4,7 @@
 //! order, for every number of workers: two accesses of intervals with concurrent labels, of a common byte, one a write, under
 //! no common mutex. Labels are compared level by level: intervals that are the same there stand in groups, as the lanes of a team
 //! between two barriers. A group's runs are swept in order of their first bytes. The workers sweep at once, each the runs that meet
-//! its ranges of bytes.
+//! its ranges of bytes: two runs are compared in the range in which the later one begins.
 //!
 //! `compare` adds the race pairs of two intervals, over a tree of the second's runs, and counts its steps. After an error some
 //! of the pairs may be there, and nothing else was added or lost. `unite` adds one set of pairs to another.

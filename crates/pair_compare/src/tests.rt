@@ -245,3 +245,31 @@ fn one_write_among_reads_of_one_element(rt: HostRuntime) -> Result<(), Fail> {
     }
     Ok(())
 }
+
+// So many lanes that read one element, which the last of them writes.
+fn reading_team(alloc: Global, span: u16) -> Result<Vec<Segment>, Fail>
+    requires { span < 2 ^ 14 }
+{
+    let mut segments = Vec::new(alloc);
+    for lane in 0..span {
+        let line = 1 + u32::from(lane);
+        let runs = vec![in alloc; run(lane + 1 == span, line, 64, &[])?]?;
+        segments.push(segment(Label::root().fork(lane, span), runs))?;
+    }
+    Ok(segments)
+}
+
+#[test]
+fn each_of_many_reads_meets_the_write(rt: HostRuntime) -> Result<(), Fail> {
+    let alloc = rt.alloc();
+    let segments = reading_team(alloc, 500)?;
+    let mut races = Vec::new(alloc);
+    for line in 1..500u32 {
+        races.push((line, 500))?;
+    }
+    for workers in [1, 3] {
+        let pairs = compare_all(&rt, alloc, segments.as_slice(), workers, &NoGate)?;
+        assert_eq!(rt; listed(alloc, &pairs)?.as_slice(), races.as_slice());
+    }
+    Ok(())
+}
