@@ -9,7 +9,8 @@ SWORD is the program, and PLAIN a sweep that takes a folder's path alone. The fo
   tenth     the flat folder with a tenth of the rounds
   barriers  64 lanes with 500 barrier intervals, ten writes in each
   guarded   8 lanes that each read and write one guarded element N times
-  readers   64 lanes that read one element, each at 1000 lines, and one of which writes it
+  readers   64 lanes that read one element, each at 320 lines, and one of which writes it
+  fewer     the same with a quarter of the lines
   walked    the flat folder with a byte too many at its end: `check` goes through it, names that place and compares nothing
 Each time is the least of so many runs, in seconds. Each turn runs the plain sweep, `check` with 1 and with 4 workers, and, on the flat
 folder, the walk. What comparing takes alone is the time of `check` without that of the walk. Memory is the most that was resident.
@@ -84,9 +85,9 @@ def guarded(rounds):
     return records
 
 
-def readers(lane):
-    """Reads of one element at 1000 lines, and in one lane a write of it."""
-    records = [record(READ, 8, 0, 100 + number, 4096, 0) for number in range(1000)]
+def readers(lane, lines):
+    """Reads of one element at so many lines, and in one lane a write of it."""
+    records = [record(READ, 8, 0, 100 + number, 4096, 0) for number in range(lines)]
     return [record(WRITE, 8, 1, 10, 4096, 0)] + records if lane == 5 else records
 
 
@@ -97,7 +98,8 @@ def lanes_of(name, rounds):
         "tenth": lambda: [neighbours(lane, 8, rounds // 10) for lane in range(8)],
         "barriers": lambda: [intervals(lane, 64) for lane in range(64)],
         "guarded": lambda: [guarded(rounds) for _ in range(8)],
-        "readers": lambda: [readers(lane) for lane in range(64)],
+        "readers": lambda: [readers(lane, 320) for lane in range(64)],
+        "fewer": lambda: [readers(lane, 80) for lane in range(64)],
         "walked": lambda: [neighbours(lane, 8, rounds) for lane in range(8)],
     }[name]()
 
@@ -159,7 +161,7 @@ def main():
     times = {}
     with tempfile.TemporaryDirectory() as top:
         print("folder", "plain", *(f"W {count}" for count in WORKERS), sep="\t")
-        for name in ("flat", "wide", "tenth", "barriers", "guarded", "readers"):
+        for name in ("flat", "wide", "tenth", "barriers", "guarded", "readers", "fewer"):
             folder = make(os.path.join(top, name), name, args.rounds)
             checks = [[args.sword, "check", folder, str(count)] for count in WORKERS]
             times[name] = least_times([[args.plain, folder], *checks], args.runs)
@@ -177,7 +179,8 @@ def main():
         goal(f"flat, W {count}", took / plain, "at most", 3 if count == 1 else 1.3, "times the plain sweep")
         goal(f"wide, W {count}", times["wide"][place] / took, "at most", 1.6, "times the time of flat")
         goal(f"from tenth to flat, W {count}", took / times["tenth"][place], "at most", 12, "times as long")
-        for name, limit in (("barriers", 5), ("guarded", 1), ("readers", 1)):
+        goal(f"from fewer to readers, W {count}", times["readers"][place] / times["fewer"][place], "at most", 5, "times as long")
+        for name, limit in (("barriers", 5), ("guarded", 1)):
             goal(f"{name}, W {count}", times[name][place] / times[name][0], "at most", limit, "times the plain sweep")
     alone = [each - taken[0] for each in taken[1:]]
     print(f"comparing flat alone: {', '.join(f'W {count} {each:.3f} s' for count, each in zip(WORKERS, alone))}, beside a walk of {taken[0]:.3f} s")

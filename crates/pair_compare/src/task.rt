@@ -14,6 +14,9 @@ const LEAST: usize = 1024;
 /// About the most runs of a task, so that what a worker keeps of them stays in the processor's caches.
 const MOST: usize = 16_384;
 
+/// A group is cut in so many tasks at most, since each of them looks at all members.
+const PARTS: usize = 1024;
+
 /// Members of a group and the bytes from a first to a last: a run that begins there is compared with those before it.
 #[derive(Drop)]
 pub struct Task<'g, 's> {
@@ -132,7 +135,7 @@ fn cut_group<'g, 's>(
 {
     let members = group.members.as_slice();
     let runs = runs_in(members);
-    let parts = (runs / most).saturating_add(1);
+    let parts = (runs / most).saturating_add(1).min(PARTS);
     let cuts = cuts_of(alloc, members, parts)?;
     cut_at(members, cuts.as_slice(), runs / parts, tasks)
 }

@@ -133,25 +133,40 @@ fn each_number_of_workers_finds_all_races(rt: HostRuntime) -> Result<(), Fail> {
     Ok(())
 }
 
+// A lane of the outer team forks two, of which the second forks one alone, and this one three: the second of them does nothing.
 #[test]
 fn the_intervals_of_nested_teams_are_compared_by_labels(rt: HostRuntime) -> Result<(), Fail> {
     let alloc = rt.alloc();
     let outer = Label::root().fork(0, 2);
+    let alone = outer.fork(1, 2).fork(0, 1);
     let segments = [
         segment(outer.copy(), vec![in alloc; run(true, 1, 64, &[])?]?),
         segment(outer.fork(0, 2), vec![in alloc; run(true, 2, 64, &[])?]?),
         segment(outer.fork(1, 2), vec![in alloc; run(true, 3, 64, &[])?]?),
+        segment(alone.fork(0, 3), vec![in alloc; run(true, 6, 64, &[])?]?),
+        segment(alone.fork(1, 3), Vec::new(alloc)),
+        segment(alone.fork(2, 3), vec![in alloc; run(true, 7, 64, &[])?]?),
         segment(outer.barrier(), vec![in alloc; run(true, 4, 64, &[])?]?),
         segment(
             Label::root().fork(1, 2),
             vec![in alloc; run(true, 5, 64, &[])?]?,
         ),
     ];
-    let pairs = compare_all(&rt, alloc, segments.as_slice(), 2, &NoGate)?;
-    assert_eq!(rt;
-        listed(alloc, &pairs)?.as_slice(),
-        [(1, 5), (2, 3), (2, 5), (3, 5)].as_slice()
-    );
+    let races = [
+        (1, 5),
+        (2, 3),
+        (2, 5),
+        (2, 6),
+        (2, 7),
+        (3, 5),
+        (5, 6),
+        (5, 7),
+        (6, 7),
+    ];
+    for workers in [1, 2, 3, 7, 64] {
+        let pairs = compare_all(&rt, alloc, segments.as_slice(), workers, &NoGate)?;
+        assert_eq!(rt; listed(alloc, &pairs)?.as_slice(), races.as_slice());
+    }
     Ok(())
 }
 
