@@ -1,8 +1,8 @@
 -- The hulls of a sweep that are active, and what the next one meets among them.
 use Rattle.std.proofs.Common.{◌≡◌, ◌⊎◌, ℕ, ◌<◌, ◌≤◌, List, [], ◌∷◌, ◌++◌, All, Bool, IsTrue, true, false, nat_le, filter, Contains, inl, inr, refl, sym, ◌∙◌, subst, arith}
-use Rattle.std.proofs.lemmas.List.Elements.{All-contains, All-filter, All-push, Contains-append_left, Contains-push, Contains-push_cases}
+use Rattle.std.proofs.lemmas.List.Elements.{All-contains, All-filter}
 use Rattle.pair_compare.specs.Conflict.{AddsPairs, OneHas}
-use Rattle.pair_compare.specs.Sweeps.{Activates, AreReads, IsActive, IsActivePair, IsHullPair, IsReachedPair, Puts, Settles, reaches}
+use Rattle.pair_compare.specs.Sweeps.{Activates, AreReads, IsActive, IsActivePair, IsHullPair, IsReachedPair, AddsHull, DropsEnded, reaches}
 use Rattle.pair_compare.specs.declared.active.Active.{Active}
 use Rattle.pair_compare.specs.declared.hull.Hull.{Hull}
 use Rattle.pair_compare.proofs.Adds.{AddsPairs-both, AddsPairs-same}
@@ -24,7 +24,7 @@ module _ (hull : Hull) (old new : Active) (quiet : AreReads old) where
       let both = filter-Contains (reaches hull.low) xs other (subst (λ (hs : List Hull). Contains hs other) is h) in
       (both.0, reaches_to hull.low other both.1)
 
-  pub settles_all : new.writes.items ≡ filter (reaches hull.low) old.writes.items → new.reads.items ≡ filter (reaches hull.low) old.reads.items → Settles hull old new
+  pub settles_all : new.writes.items ≡ filter (reaches hull.low) old.writes.items → new.reads.items ≡ filter (reaches hull.low) old.reads.items → DropsEnded hull old new
   settles_all writes reads = record {
     kept = λ other h long. elim h [ inl r ↦ inl (from_kept old.reads.items new.reads.items other reads r long) | inr w ↦ inr (from_kept old.writes.items new.writes.items other writes w long) ];
     only = λ other h. elim h [ inl r ↦ inl (kept_from old.reads.items new.reads.items other reads r).0 | inr w ↦ inr (kept_from old.writes.items new.writes.items other writes w).0 ];
@@ -33,7 +33,7 @@ module _ (hull : Hull) (old new : Active) (quiet : AreReads old) where
   }
 
   -- a read leaves the reads as they are
-  pub settles_read : new.writes.items ≡ filter (reaches hull.low) old.writes.items → new.reads.items ≡ old.reads.items → hull.run.now.write ≡ false → Settles hull old new
+  pub settles_read : new.writes.items ≡ filter (reaches hull.low) old.writes.items → new.reads.items ≡ old.reads.items → hull.run.now.write ≡ false → DropsEnded hull old new
   settles_read writes reads read = record {
     kept = λ other h long. elim h [ inl r ↦ inl (subst (λ (hs : List Hull). Contains hs other) (sym reads) r) | inr w ↦ inr (from_kept old.writes.items new.writes.items other writes w long) ];
     only = λ other h. elim h [ inl r ↦ inl (subst (λ (hs : List Hull). Contains hs other) reads r) | inr w ↦ inr (kept_from old.writes.items new.writes.items other writes w).0 ];
@@ -47,36 +47,8 @@ module _ (hull : Hull) (old new : Active) (quiet : AreReads old) where
     reads = subst (λ (hs : List Hull). All (λ h. h.run.now.write ≡ false) hs) (sym reads) quiet;
   }
 
-  pub puts_write : new.writes.items ≡ old.writes.items ++ hull ∷ [] → new.reads.items ≡ old.reads.items → Puts hull old new
-  puts_write writes reads = record {
-    own = inr (subst (λ (hs : List Hull). Contains hs hull) (sym writes) (Contains-push old.writes.items hull));
-    kept = λ other h. elim h [
-      | inl r ↦ inl (subst (λ (hs : List Hull). Contains hs other) (sym reads) r)
-      | inr w ↦ inr (subst (λ (hs : List Hull). Contains hs other) (sym writes) (Contains-append_left old.writes.items (hull ∷ []) other w))
-    ];
-    only = λ other h. elim h [
-      | inl r ↦ inl (inl (subst (λ (hs : List Hull). Contains hs other) reads r))
-      | inr w ↦ elim (Contains-push_cases old.writes.items hull other (subst (λ (hs : List Hull). Contains hs other) writes w)) [ inl was ↦ inl (inr was) | inr same ↦ inr same ]
-    ];
-    reads = subst (λ (hs : List Hull). All (λ h. h.run.now.write ≡ false) hs) (sym reads) quiet;
-  }
-
-  pub puts_read : new.reads.items ≡ old.reads.items ++ hull ∷ [] → new.writes.items ≡ old.writes.items → hull.run.now.write ≡ false → Puts hull old new
-  puts_read reads writes read = record {
-    own = inl (subst (λ (hs : List Hull). Contains hs hull) (sym reads) (Contains-push old.reads.items hull));
-    kept = λ other h. elim h [
-      | inl r ↦ inl (subst (λ (hs : List Hull). Contains hs other) (sym reads) (Contains-append_left old.reads.items (hull ∷ []) other r))
-      | inr w ↦ inr (subst (λ (hs : List Hull). Contains hs other) (sym writes) w)
-    ];
-    only = λ other h. elim h [
-      | inl r ↦ elim (Contains-push_cases old.reads.items hull other (subst (λ (hs : List Hull). Contains hs other) reads r)) [ inl was ↦ inl (inl was) | inr same ↦ inr same ]
-      | inr w ↦ inl (inr (subst (λ (hs : List Hull). Contains hs other) writes w))
-    ];
-    reads = subst (λ (hs : List Hull). All (λ h. h.run.now.write ≡ false) hs) (sym reads) (All-push (λ h. h.run.now.write ≡ false) old.reads.items hull quiet read);
-  }
-
 -- a hull is put where what ended before it was dropped
-pub activates : (hull : Hull) (old settled new : Active) → Settles hull old settled → Puts hull settled new → Activates hull old new
+pub activates : (hull : Hull) (old settled new : Active) → DropsEnded hull old settled → AddsHull hull settled new → Activates hull old new
 activates hull old settled new settles puts = record {
   own = puts.own;
   kept = λ other h long. puts.kept other (settles.kept other h long);
@@ -112,7 +84,7 @@ module _ (k0 k1 : List (ℕ × ℕ)) (from : ℕ) (hull : Hull) (active : Active
       ])
 
   -- of what was active the hull meets what is left
-  pub adds_reached : (old : Active) → Settles hull old active → AddsPairs k0 k1 (IsActivePair from hull active) → AddsPairs k0 k1 (IsReachedPair from hull old)
+  pub adds_reached : (old : Active) → DropsEnded hull old active → AddsPairs k0 k1 (IsActivePair from hull active) → AddsPairs k0 k1 (IsReachedPair from hull old)
   adds_reached old settles adds = AddsPairs-same k0 k1 (IsActivePair from hull active) (IsReachedPair from hull old)
       (λ pair h. record {
         two = record { late = h.late; other = h.other; among = settles.only h.other h.among; lines = h.lines };

@@ -59,14 +59,14 @@ abbrev pub AreReads : Active → Type 0
 AreReads active = All (λ hull. hull.run.now.write ≡ false) active.reads.items
 
 -- of what was active only hulls that end before this one were dropped, and all that may conflict with it and do so
-pub record Settles (hull : Hull) (old new : Active) : Type 0 where
+pub record DropsEnded (hull : Hull) (old new : Active) : Type 0 where
   pub kept : (other : Hull) → IsActive old other → hull.low ≤ other.high → IsActive new other
   pub only : (other : Hull) → IsActive new other → IsActive old other
   pub ended : (other : Hull) → IsActive new other → IsTrue hull.run.now.write ⊎ IsTrue other.run.now.write → hull.low ≤ other.high
   pub reads : AreReads new
 
 -- one more hull is active
-pub record Puts (hull : Hull) (old new : Active) : Type 0 where
+pub record AddsHull (hull : Hull) (old new : Active) : Type 0 where
   pub own : IsActive new hull
   pub kept : (other : Hull) → IsActive old other → IsActive new other
   pub only : (other : Hull) → IsActive new other → IsActive old other ⊎ (hull ≡ other)

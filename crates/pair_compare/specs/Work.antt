@@ -20,8 +20,8 @@ abbrev pub IsMemberReach : ℕ → ℕ → Member → Reach → Type 0
 IsMemberReach low high member reach = OneHas (IsMetReach low high member.part) member.runs.now reach
 
 -- what of the member reaches into the range doesn't write
-abbrev pub IsStill : ℕ → ℕ → Member → Type 0
-IsStill low high member = (reach : Reach) → IsMemberReach low high member reach → reach.run.write ≡ false
+abbrev pub OnlyReads : ℕ → ℕ → Member → Type 0
+OnlyReads low high member = (reach : Reach) → IsMemberReach low high member reach → reach.run.write ≡ false
 
 -- the line pair of a conflict of runs of members of different parts, which reach over a common byte: the later one begins in the range
 abbrev pub IsPairAt : List Member → ℕ → ℕ → ℕ × ℕ → Type 0

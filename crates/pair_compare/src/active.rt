@@ -1,5 +1,5 @@
 ghost use Rattle.std.specs.Prelude.{OnOk};
-ghost use Rattle.pair_compare.specs.Sweeps.{AreReads, IsActive, Puts, Settles};
+ghost use Rattle.pair_compare.specs.Sweeps.{AreReads, IsActive, AddsHull, DropsEnded};
 
 use crate::hull::Hull;
 use std::alloc::Global;
@@ -32,7 +32,7 @@ impl<'r> Active<'r> {
     /// Drops what ends before this hull, but reads only where it may meet them, or where there are many.
     pub fn settle(&mut self, hull: &Hull)
         requires { AreReads self.old }
-        ensures { Settles hull.now self.old self.new }
+        ensures { DropsEnded hull.now self.old self.new }
     {
         let low = hull.low;
         self.writes.retain(|other| other.high >= low);
@@ -45,7 +45,7 @@ impl<'r> Active<'r> {
 
     pub fn put(&mut self, hull: &Hull<'r>) -> Result<(), Memory>
         requires { AreReads self.old }
-        ensures { OnOk result (Puts hull.now self.old self.new) }
+        ensures { OnOk result (AddsHull hull.now self.old self.new) }
     {
         if hull.run.write {
             self.writes.push(*hull)?;
