@@ -1,8 +1,8 @@
 -- The hulls of a sweep that are active, and what the next one meets among them.
-use Rattle.std.proofs.Common.{◌≡◌, ◌⊎◌, ℕ, ◌<◌, ◌≤◌, List, [], ◌∷◌, ◌++◌, All, Bool, IsTrue, true, false, nat_le, filter, Contains, inl, inr, refl, sym, ◌∙◌, subst, arith}
+use Rattle.std.proofs.Common.{◌≡◌, ℕ, ◌<◌, ◌≤◌, List, All, true, false, filter, Contains, inl, inr, sym, subst, arith}
 use Rattle.std.proofs.lemmas.List.Elements.{All-contains, All-filter}
 use Rattle.pair_compare.specs.Conflict.{AddsPairs, OneHas}
-use Rattle.pair_compare.specs.Sweeps.{Activates, AreReads, IsActive, IsActivePair, IsHullPair, IsReachedPair, AddsHull, DropsEnded, reaches}
+use Rattle.pair_compare.specs.Sweeps.{Activates, AreReads, IsActivePair, IsHullPair, IsReachedPair, AddsHull, DropsEnded, reaches}
 use Rattle.pair_compare.specs.declared.active.Active.{Active}
 use Rattle.pair_compare.specs.declared.hull.Hull.{Hull}
 use Rattle.pair_compare.proofs.Adds.{AddsPairs-both, AddsPairs-same}

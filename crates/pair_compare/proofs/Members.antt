@@ -1,5 +1,5 @@
 -- Members of a group, whose conflicts are those of their segments.
-use Rattle.std.proofs.Common.{◌≡◌, ◌↔◌, ◌⊎◌, ℕ, ◌+◌, ◌<◌, ◌≤◌, List, [], ◌∷◌, ◌++◌, All, Bor, Contains, drop, false, get_or, length, set, take, inl, inr, refl, sym, ap, ◌∙◌, subst, arith}
+use Rattle.std.proofs.Common.{◌≡◌, ◌↔◌, ℕ, ◌+◌, ◌<◌, ◌≤◌, List, [], ◌∷◌, ◌++◌, All, Bor, Contains, drop, false, get_or, length, set, take, inl, inr, refl, sym, ap, ◌∙◌, subst, arith}
 use Rattle.std.specs.Prelude.{Ok, Err, IfOk, Result}
 use Rattle.std.proofs.lemmas.Bool.{cases_order}
 use Rattle.std.specs.List.Sorted.{IsPermutation}
@@ -9,9 +9,8 @@ use Rattle.log_segment.specs.declared.segment.Segment.{Segment}
 use Rattle.race_model.specs.Label.{Triple, IsConcurrent}
 use Rattle.stride_summary.specs.declared.run.Run.{Run}
 use Rattle.stride_summary.specs.Run.{last_byte}
-use Rattle.pair_compare.specs.Compare.{IsSegmentPair}
-use Rattle.pair_compare.specs.Conflict.{GrowsBy, IsPairOfRuns, OneHas}
-use Rattle.pair_compare.specs.Fields.{Agrees, AreAlike, AreWithin, CanDivide, IsApartPair, IsRunIn, Parts, label_value}
+use Rattle.pair_compare.specs.Conflict.{GrowsBy, OneHas}
+use Rattle.pair_compare.specs.Fields.{Agrees, AreAlike, AreWithin, IsApartPair, IsRunIn, Parts, label_value}
 use Rattle.pair_compare.specs.Groups.{IsGroupPair, IsNumbered, IsPartedPair, IsRunOf, IsSameGroup, IsSameMember, pointed}
 use Rattle.pair_compare.specs.declared.field.Field.{Field}
 use Rattle.pair_compare.specs.declared.field.Field.TheVariants.{Depth, Span, Barrier, Residue, Offset}

@@ -1,14 +1,14 @@
 -- The stretches of a run have all its bytes.
-use Rattle.std.proofs.Common.{◌≡◌, ◌⊎◌, ℕ, zero, suc, ◌+◌, ◌-◌, ◌*◌, ◌<◌, ◌≤◌, List, [], ◌∷◌, ◌++◌, All, Bool, IsTrue, true, false, cond, nat_eq, Contains, inl, inr, refl, sym, ap, ◌∙◌, subst, arith}
+use Rattle.std.proofs.Common.{◌≡◌, ◌⊎◌, ℕ, zero, suc, ◌+◌, ◌-◌, ◌*◌, ◌<◌, ◌≤◌, List, [], ◌∷◌, ◌++◌, All, Bool, IsTrue, true, false, cond, nat_eq, Contains, inl, inr, refl, sym, ap, subst, arith}
 use Rattle.std.proofs.lemmas.List.Elements.{All-contains}
 use Rattle.stride_summary.specs.declared.run.Run.{Run}
 use Rattle.stride_summary.specs.Run.{HasRunByte, address_at, last_address, last_byte}
 use Rattle.pair_compare.specs.Conflict.{GrowsBy, OneHas}
-use Rattle.pair_compare.specs.Sweeps.{IsHullOf, IsReachOf, Reach, stretches_of}
+use Rattle.pair_compare.specs.Sweeps.{IsHullOf, Reach, stretches_of}
 use Rattle.pair_compare.specs.Work.{IsMemberReach, IsMetReach, IsMetStretch, IsPairAt, OnlyReads}
 use Rattle.pair_compare.specs.declared.member.Member.{Member}
 use Rattle.pair_compare.specs.declared.hull.Hull.{Hull}
-use Rattle.pair_compare.proofs.Adds.{Adds-both, Adds-pushed, Adds-same, not_in_nothing}
+use Rattle.pair_compare.proofs.Adds.{Adds-both, Adds-pushed, Adds-same}
 use Rattle.pair_compare.proofs.Meeting.{from_first, to_last}
 
 abbrev each_of : Run → List (ℕ × ℕ)

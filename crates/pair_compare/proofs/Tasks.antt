@@ -1,5 +1,5 @@
 -- What the parts of a list have, the list has.
-use Rattle.std.proofs.Common.{◌↔◌, ℕ, List, [], ◌++◌, inl, inr}
+use Rattle.std.proofs.Common.{◌↔◌, List, [], ◌++◌, inl, inr}
 use Rattle.std.proofs.lemmas.List.Elements.{Contains-append_cases, Contains-append_left, Contains-append_right}
 use Rattle.pair_compare.specs.Conflict.{GrowsBy, OneHas}
 use Rattle.pair_compare.proofs.Adds.{Adds-both, not_in_nothing}

@@ -1,4 +1,4 @@
-ghost use Rattle.std.specs.Prelude.{◌≡◌, ◌↔◌, ◌≤◌, ◌<◌, ℕ, IfOk, OnOk};
+ghost use Rattle.std.specs.Prelude.{◌↔◌, ◌<◌, ℕ, IfOk, OnOk};
 ghost use Rattle.pair_compare.specs.Conflict.{GrowsBy, OneHas};
 ghost use Rattle.pair_compare.specs.Fields.{IsRunIn};
 ghost use Rattle.pair_compare.specs.Groups.{IsNumbered, IsRunOf};

@@ -1,4 +1,4 @@
-ghost use Rattle.std.specs.Prelude.{◌≡◌, ◌≤◌, OnOk};
+ghost use Rattle.std.specs.Prelude.{OnOk};
 ghost use Rattle.std.specs.List.Sorted.{IsNonDecreasingBy};
 ghost use Rattle.pair_compare.specs.Conflict.{AddsPairs, OneHas};
 ghost use Rattle.pair_compare.specs.Sweeps.{Activates, AreReads, IsActivePair, IsHullOf, IsHullPair, IsMetPair, IsReachedPair};

@@ -1,4 +1,4 @@
-use Rattle.std.proofs.Common.{◌≡◌, rules, subst, take, List}
+use Rattle.std.proofs.Common.{rules, subst, List}
 use Rattle.std.proofs.lemmas.List.{take_all}
 use Rattle.stride_summary.specs.declared.run.Run.{Run}
 use Rattle.pair_compare.specs.Conflict.{GrowsBy, OneHas}

@@ -1,10 +1,9 @@
-use Rattle.std.proofs.Common.{◌≡◌, ◌+◌, ◌-◌, ℕ, List, Bool, nat_eq, true, false, ap, rules, subst, arith}
+use Rattle.std.proofs.Common.{◌≡◌, ◌+◌, ◌-◌, ℕ, nat_eq, true, ap, rules, subst, arith}
 use Rattle.std.proofs.lemmas.Result.{on_ok_weaker}
-use Rattle.stride_summary.specs.Run.{last_address, last_byte}
+use Rattle.stride_summary.specs.Run.{last_address}
 use Rattle.pair_compare.specs.Conflict.{GrowsBy, OneHas}
 use Rattle.pair_compare.specs.Sweeps.{IsHullOf}
 use Rattle.pair_compare.specs.Work.{IsMetStretch}
-use Rattle.pair_compare.specs.declared.hull.Hull.{Hull}
 use Rattle.pair_compare.proofs.Reaching.{Adds-each, Adds-whole, not_two}
 use Rattle.pair_compare.proofs.collecting.add_run.Goals as goal
 

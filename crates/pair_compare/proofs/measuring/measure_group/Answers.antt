@@ -1,5 +1,4 @@
 use Rattle.std.proofs.Common.{◌≡◌, ◌↔◌, ◌<◌, ℕ, List, get_or, length, rules, subst, sym}
-use Rattle.stride_summary.specs.declared.run.Run.{Run}
 use Rattle.pair_compare.specs.Conflict.{OneHas}
 use Rattle.pair_compare.specs.Groups.{IsRunOf, IsSameMember}
 use Rattle.pair_compare.specs.declared.member.Member.{Member}

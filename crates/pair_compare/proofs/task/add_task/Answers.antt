@@ -1,4 +1,4 @@
-use Rattle.std.proofs.Common.{rules, sym, subst, List, ◌++◌, ◌∷◌, []}
+use Rattle.std.proofs.Common.{sym, subst, List}
 use Rattle.pair_compare.specs.Conflict.{GrowsBy, OneHas}
 use Rattle.pair_compare.specs.Work.{IsPairAt, IsTaskPair}
 use Rattle.pair_compare.specs.declared.task.Task.{Task}

@@ -1,4 +1,4 @@
-use Rattle.std.proofs.Common.{◌≡◌, false, rules}
+use Rattle.std.proofs.Common.{rules}
 use Rattle.pair_compare.proofs.Reaching.{member_meets, not_so, still_quiet}
 use Rattle.pair_compare.proofs.task.may_write.Goals as goal
 
