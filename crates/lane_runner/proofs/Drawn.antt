@@ -1,5 +1,5 @@
 -- A draw of a lane, with its record.
-use Rattle.std.proofs.Common.{◌≡◌, refl, ap, sym, ◌∙◌, subst, ℕ, suc, ◌+◌, ◌-◌, ◌<◌, ◌≤◌, min, true, List, [], ◌∷◌, ℤ, None, ⊎_elim, arith}
+use Rattle.std.proofs.Common.{◌≡◌, refl, inr, ap, sym, ◌∙◌, subst, ℕ, suc, ◌+◌, ◌-◌, ◌<◌, ◌≤◌, min, true, List, [], ◌∷◌, ℤ, None, ⊎_elim, arith}
 use Rattle.std.specs.Prelude.{reverse}
 use Rattle.std.proofs.lemmas.List.{append-nil}
 use Rattle.std.proofs.lemmas.Bool.{cases_lt}
@@ -82,6 +82,7 @@ module _ (w : WorldValue) (line n number : ℕ) (some : 1 ≤ line) (old mid new
     released = record {
       records = sym (put_one told some) ∙ sym (append-nil (log_of (Put told Rest)));
       held = ap (λ (rs : List Record). held_after (reverse old.hand.view.held) rs) (put_one told some);
+      apart = inr refl;
     };
     closes = refl;
     ended = ended_none;

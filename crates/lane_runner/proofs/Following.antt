@@ -29,7 +29,7 @@ fit_first (x ∷ xs) ys all =
     All-cons (λ (r : Record). IsFittingRead r.kind r) x xs (All-head (λ (r : Record). IsFittingRead r.kind r) x (xs ++ ys) all)
     (fit_first xs ys (All-tail (λ (r : Record). IsFittingRead r.kind r) x (xs ++ ys) all))
 
-fit_last : (xs ys : List Record) → ReadsFit (xs ++ ys) → ReadsFit ys
+pub fit_last : (xs ys : List Record) → ReadsFit (xs ++ ys) → ReadsFit ys
 fit_last [] ys all = all
 fit_last (x ∷ xs) ys all = fit_last xs ys (All-tail (λ (r : Record). IsFittingRead r.kind r) x (xs ++ ys) all)
 
@@ -119,7 +119,7 @@ module _ (w : WorldValue) {A B : Type 0} (part : State → Outcome A) (next : A 
     own = m.own;
     done = done m.work m.done;
     released = released m.work m.own m.released;
-    ends = subst (λ (rs : List Record). EndsBy cause rs) (sym (log_then one.work m.work)) (ends_then cause (log_of one.work) (log_of m.work) m.ends);
+    ends = subst (λ (rs : List Record). EndsBy cause m.own rs) (sym (log_then one.work m.work)) (ends_then cause m.own (log_of one.work) (log_of m.work) m.ends);
     stops = stops_then w.arrays old mid cause one.forks m.forks one.work m.work one.done.log.path one.done.forked one.ended m.stops;
     begins = λ fit.
         subst (λ (rs : List Record). BeginsPart (λ s. and_then (part s) next) slots (log_limit - old.buffer.count) rs (one.forks ++ m.forks)) (sym (log_then one.work m.work))

@@ -1,5 +1,5 @@
 -- Regions: the record of the fork, and what the lanes of the region did.
-use Rattle.std.proofs.Common.{◌≡◌, refl, ap, sym, ◌∙◌, subst, ℕ, ◌+◌, ◌-◌, ◌≤◌, List, [], ◌∷◌, ◌++◌, length, ℤ, arith}
+use Rattle.std.proofs.Common.{◌≡◌, inl, refl, ap, sym, ◌∙◌, subst, ℕ, ◌+◌, ◌-◌, ◌≤◌, List, [], ◌∷◌, ◌++◌, length, ℤ, arith}
 use Rattle.std.specs.Prelude.{reverse, Ok, Err}
 use Rattle.sw_base.specs.declared.path.Step.{Step}
 use Rattle.std.proofs.lemmas.List.{append-nil}
@@ -37,7 +37,7 @@ use Rattle.lane_runner.proofs.Beginning.{begins_made}
 
 module _ (w : WorldValue) (at : Site) (team : TeamTree) (some : 1 ≤ team.line) (slots : List ℤ) (old a new : Progress) (r : Answer)
     (taken : Takes (event kind.Region team.line 0 team.span) old.hand.view old a) (ran : RanRegion w team slots old.buffer.path old.tally.forked a.hand new.hand r)
-    (still : new.buffer ≡ a.buffer) (tally : new.tally ≡ record a.tally { forked = a.tally.forked + 1 }) where
+    (free : old.hand.view.held ≡ []) (still : new.buffer ≡ a.buffer) (tally : new.tally ≡ record a.tally { forked = a.tally.forked + 1 }) where
   abbrev region_work : Work
   region_work = work.Fork team.line team.span ran.phases Rest
 
@@ -80,6 +80,7 @@ module _ (w : WorldValue) (at : Site) (team : TeamTree) (some : 1 ≤ team.line)
   region_released = record {
     records = sym region_log ∙ sym (append-nil (log_of region_work));
     held = ap (λ (rs : List Record). held_after (reverse old.hand.view.held) rs) region_log;
+    apart = inl free;
   }
 
   region_makes : Makes (run at region_code) slots (log_limit - old.buffer.count) (effect_of slots region_work (this_fork ∷ [])) (Returned tt)
@@ -115,7 +116,7 @@ module _ (w : WorldValue) (at : Site) (team : TeamTree) (some : 1 ≤ team.line)
     own = [];
     done = region_done;
     released = region_released;
-    ends = record { prefix = []; last = work.fork_record team.line team.span; parts = region_log; forks = refl };
+    ends = (refl, record { prefix = []; last = work.fork_record team.line team.span; parts = region_log; forks = refl });
     stops = record { earlier = []; fork = this_fork; forks_are = refl; before = []; region = this_region; regions_are = refl; ended = ended_none; joined = ran.joined; stopped = at_number (subst (λ (x : Answer). EndsAs w.arrays old.buffer.path old.tally.forked this_fork ran.phases x) is ran.ends) };
     begins = λ fit. begins_made (run at region_code) slots (log_limit - old.buffer.count) (effect_of slots region_work (this_fork ∷ [])) (Returned tt) region_makes;
     regions = region_runs;

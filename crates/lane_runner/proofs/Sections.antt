@@ -1,5 +1,5 @@
 -- Critical sections: the steps on the mutex with what is done between them, by which the section ends or is left at a stop.
-use Rattle.std.proofs.Common.{◌≡◌, refl, ap, sym, ◌∙◌, subst, ⊎_elim, ℕ, ◌+◌, ◌-◌, ◌<◌, ◌≤◌, Bool, true, false, not, List, [], ◌∷◌, ◌++◌, length, ℤ, Err, append_assoc, arith}
+use Rattle.std.proofs.Common.{◌≡◌, refl, inr, ap, sym, ◌∙◌, subst, ⊎_elim, ℕ, ◌+◌, ◌-◌, ◌<◌, ◌≤◌, Bool, true, false, not, List, [], ◌∷◌, ◌++◌, length, ℤ, Err, append_assoc, arith}
 use Rattle.std.specs.Prelude.{map, filter, reverse, All, ◌==◌}
 use Rattle.std.proofs.lemmas.List.{append-nil, reverse-append, map-append, length-append}
 use Rattle.std.proofs.lemmas.List.Elements.{All-head, All-tail, filter-append}
@@ -48,7 +48,7 @@ use Rattle.lane_runner.specs.Fitting.{WorkFits}
 use Rattle.lane_runner.specs.Stopping.{HaveEnded, StopsAtLast}
 use Rattle.lane_runner.proofs.Ending.{fits_then}
 use Rattle.lane_runner.proofs.Stepping.{put_first}
-use Rattle.lane_runner.proofs.Releasing.{held_both, ends_then}
+use Rattle.lane_runner.proofs.Releasing.{held_both}
 use Rattle.lane_runner.proofs.Following.{fit_first, after_is}
 use Rattle.lane_runner.proofs.Beginning.{begins_then, begins_same}
 use Rattle.lane_runner.proofs.Running.{after_done}
@@ -133,6 +133,14 @@ module _ (mutex line end : ℕ) (some : 1 ≤ line) (body : Work) where
       ∙ ap (λ (held : List ℕ). held_after (held_after held (log_of body)) tail_log) (held_more mutex h)
       ∙ ap (λ (held : List ℕ). held_after held tail_log) r.held
 
+-- who holds a mutex forks no region
+apart_within : (mutex : ℕ) (body : Work) (h own : List ℕ) → HasReleased (mutex ∷ h) body own → work_regions body ≡ []
+apart_within mutex body h own r = ⊎_elim (λ none. cc) (λ none. none) r.apart
+
+section_is_apart : (mutex line end : ℕ) (body : Work) (h own : List ℕ) → HasReleased (mutex ∷ h) body own → work_regions (section mutex line end body) ≡ []
+section_is_apart mutex line end body h own r =
+    regions_then body (Put (event kind.Unlock end mutex 0) Rest) ∙ append-nil (work_regions body) ∙ apart_within mutex body h own r
+
 -- a section that ends holds no more than before it
 released_at_end : (mutex line end : ℕ) (some : 1 ≤ line) (at_end : 1 ≤ end) (body : Work) (h : List ℕ) → All (λ (o : ℕ). o < mutex) h → HasReleased (mutex ∷ h) body [] → HasReleased h (section mutex line end body) []
 released_at_end mutex line end some at_end body h all r = record {
@@ -146,6 +154,7 @@ released_at_end mutex line end some at_end body h all r = record {
       held_within mutex line end some body h [] r
       ∙ ap (λ (rs : List Record). held_after (reverse (mutex ∷ h)) rs) (put_first (event kind.Unlock end mutex 0) Rest at_end)
       ∙ given_back mutex h all;
+  apart = inr (section_is_apart mutex line end body h [] r);
 }
 
 -- a section that is left at a stop releases its own mutex last
@@ -161,6 +170,7 @@ released_at_stop mutex line some body h own r = record {
   held =
       held_within mutex line 0 some body h own r
       ∙ ap (λ (l : List ℕ). reverse l) (sym (append_assoc own (mutex ∷ []) h));
+  apart = inr (section_is_apart mutex line 0 body h own r);
 }
 
 -- ---- what was done
@@ -306,6 +316,10 @@ module _ (w : WorldValue) (at : Site) (code : Code) (mutex line end : ℕ) (some
 
 -- ---- sections that are left at a stop
 
+no_last : (before : List RegionWork) (region : RegionWork) → before ++ region ∷ [] ≡ [] → ⊥
+no_last [] region is = cc
+no_last (b ∷ before) region is = cc
+
 -- regions of a task that took a lock before
 stops_from : (arrays : List Array) (old a : Progress) (cause : Cause) (forks : List Fork) (regions : List RegionWork) {event : Record} {after : View} → Takes event after old a → StopsBy arrays a cause forks regions → StopsBy arrays old cause forks regions
 stops_from arrays old a AtLog forks regions taken stops = stops
@@ -360,6 +374,14 @@ module _ (w : WorldValue) (part inner : State → Outcome (Unit {0})) (mutex lin
     regions = λ fit program is. section_regions w mutex line 0 some old a b new m.work taken hand_is gained tallied forked (λ rs. RunsRegions program m.forks rs) (m.regions (section_reads w mutex line 0 some old a b new m.work taken hand_is gained tallied forked fit) program is);
   }
 
+  -- no region was forked in the section
+  left_ends : (cause : Cause) (forks : List Fork) (work : Work) (own : List ℕ) → HasReleased a.hand.view.held work own → StopsBy w.arrays a cause forks (work_regions work)
+      → EndsBy cause (own ++ mutex ∷ []) (log_of (section mutex line 0 work))
+  left_ends AtLog forks work own r stops = tt
+  left_ends (AtRegion path why) forks work own r stops =
+      let none = apart_within mutex work old.hand.view.held own (subst (λ (h : List ℕ). HasReleased h work own) (held_is w mutex line 0 some old a b new work taken hand_is gained tallied forked) r) in
+      absurd (no_last stops.before stops.region (sym stops.regions_are ∙ none))
+
   left_begins : (cause : Cause) → Began w inner slots a b cause → Began w part slots old new cause
   left_begins cause m = record {
     work = section mutex line 0 m.work;
@@ -367,7 +389,7 @@ module _ (w : WorldValue) (part inner : State → Outcome (Unit {0})) (mutex lin
     own = m.own ++ mutex ∷ [];
     done = section_done w mutex line 0 some old a b new m.work taken hand_is gained tallied forked m.done;
     released = left_released m.work m.own m.released;
-    ends = subst (λ (rs : List Record). EndsBy cause rs) (left_log m.work) (ends_then cause (lock_record ∷ []) (log_of m.work) m.ends);
+    ends = left_ends cause m.forks m.work m.own m.released m.stops;
     stops = section_regions w mutex line 0 some old a b new m.work taken hand_is gained tallied forked (λ rs. StopsBy w.arrays old cause m.forks rs) (stops_from w.arrays old a cause m.forks (work_regions m.work) taken m.stops);
     begins = λ fit.
         begins_same (λ s. and_then (put lock_record s) (λ u t. inner t)) part slots (log_limit - old.buffer.count) (log_of (section mutex line 0 m.work)) m.forks (λ s. same s ∙ after_is (put lock_record s) inner)

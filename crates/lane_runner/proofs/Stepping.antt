@@ -1,5 +1,5 @@
 -- One step of a lane, with its record.
-use Rattle.std.proofs.Common.{◌≡◌, ◌≢◌, refl, ap, sym, ◌∙◌, subst, ℕ, ◌+◌, ◌-◌, ◌<◌, ◌≤◌, Bool, true, false, not, List, [], ◌∷◌, ◌++◌, ℤ, None, Result, Ok, Err, arith}
+use Rattle.std.proofs.Common.{◌≡◌, ◌≢◌, refl, inr, ap, sym, ◌∙◌, subst, ℕ, ◌+◌, ◌-◌, ◌<◌, ◌≤◌, Bool, true, false, not, List, [], ◌∷◌, ◌++◌, ℤ, None, Result, Ok, Err, arith}
 use Rattle.std.specs.Prelude.{OnOk, ◌==◌, map, reverse}
 use Rattle.std.proofs.lemmas.List.{append-nil}
 use Rattle.std.proofs.lemmas.List.Elements.{All-head}
@@ -156,6 +156,7 @@ module _ (w : WorldValue) (old mid new : Progress) (event : Record) (deed : Deed
     released = record {
       records = sym (put_one event some) ∙ sym (append-nil (log_of (Put event Rest)));
       held = ap (λ (rs : List Record). held_after (reverse old.hand.view.held) rs) (put_one event some) ∙ holds (reverse old.hand.view.held);
+      apart = inr refl;
     };
     closes = refl;
     ended = ended_none;

@@ -1,5 +1,5 @@
 -- How a lane goes on: what its records, its hand and its locals have to do with the meaning of what it executes.
-use Rattle.std.specs.Prelude.{◌≡◌, ℕ, ◌+◌, ◌-◌, ◌≤◌, List, [], ◌∷◌, ◌++◌, length, map, reverse, ◌<◌, ℤ, Some, None, Result, Ok, Err, is_some}
+use Rattle.std.specs.Prelude.{◌≡◌, ◌⊎◌, ℕ, ◌+◌, ◌-◌, ◌≤◌, List, [], ◌∷◌, ◌++◌, length, map, reverse, ◌<◌, ℤ, Some, None, Result, Ok, Err, is_some}
 use Rattle.sw_base.specs.declared.trouble.Trouble.{Trouble}
 use Rattle.sw_base.specs.declared.trouble.Trouble.TheVariants.{Memory}
 use Rattle.log_format.specs.declared.record.Record.{Record}
@@ -102,10 +102,11 @@ pub record BeginsPart {A : Type 0} (part : State → Outcome A) (slots : List �
       GoesOnFrom (state_of (part (state_with slots records before room (reads_of added ++ reads) (chunks_of added ++ chunks)))) (records ++ added) (before ++ forks)
 
 -- What a work put is its log, and then the unlocks of what it holds at its end: these mutexes, the innermost first, beside those
--- that it held before.
+-- that it held before. Who holds one forks no region.
 pub record HasReleased (before : List ℕ) (work : Work) (own : List ℕ) : Type 0 where
   pub records : work_records work ≡ log_of work ++ map release own
   pub held : held_after (reverse before) (log_of work) ≡ reverse (own ++ before)
+  pub apart : (before ≡ []) ⊎ (work_regions work ≡ [])
 
 -- who executes a part to its end holds nothing of it any more
 abbrev pub ClosesAll : {A : Type 0} → Finish A → List ℕ → Type 0
@@ -124,9 +125,10 @@ pub data Cause : Type 0 where
   AtLog : Cause
   AtRegion : (path : List Step) → (why : Stop) → Cause
 
-abbrev pub EndsBy : Cause → List Record → Type 0
-EndsBy AtLog records = Unit {0}
-EndsBy (AtRegion path why) records = LastIsRegion records
+-- how the records of who doesn't go on end, where it held these mutexes
+abbrev pub EndsBy : Cause → List ℕ → List Record → Type 0
+EndsBy AtLog own records = Unit {0}
+EndsBy (AtRegion path why) own records = (own ≡ []) × LastIsRegion records
 
 -- what the regions forked have to do with it, where the task has forked others before
 abbrev pub StopsBy : List Array → Progress → Cause → List Fork → List RegionWork → Type 0
@@ -157,7 +159,7 @@ pub record Began {A : Type 0} (w : WorldValue) (part : State → Outcome A) (slo
   pub own : List ℕ
   pub done : HasDone w old new work
   pub released : HasReleased old.hand.view.held work own
-  pub ends : EndsBy cause (log_of work)
+  pub ends : EndsBy cause own (log_of work)
   pub stops : StopsBy w.arrays old cause forks (work_regions work)
   pub begins : ReadsFit (work_records work) → BeginsPart part slots (log_limit - old.buffer.count) (log_of work) forks
   pub regions : WorkFits work → (program : Program) → program.arrays ≡ w.arrays → RunsRegions program forks (work_regions work)

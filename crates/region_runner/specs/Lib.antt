@@ -1,3 +1,4 @@
 pub mod Drawing
 pub mod Nesting
 pub mod Hands
+pub mod Ran

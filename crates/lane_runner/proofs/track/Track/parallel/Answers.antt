@@ -52,7 +52,7 @@ returns-in-Err-clause-goes g c =
     let taken = subst (λ (p : Progress). Takes (event kind.Region team.line 0 team.span) c.args.self.now.hand.view c.args.self.now p) (sym c.self.view_is) c.in_ok-logs.ensures.takes in
     let free = free_after c.args.world.now team c.args.self.now mid c.requires.can c.requires.free taken in
     let ran : RanRegion c.args.world.now team c.args.locals.now.slots.items c.args.self.now.buffer.path c.args.self.now.tally.forked mid.hand new.hand c.region.result = c.requires.runs.ran _ _ _ _ _ _ _ _ _ refl free c.in_ok-logs.ensures.logs c.region.ensures in
-    region_began c.args.world.now (site c.args.world.now) team c.requires.line c.args.locals.now.slots.items c.args.self.now mid new c.region.result taken ran refl refl c.in-Err.path c.in-Err.stop c.in-Err.is
+    region_began c.args.world.now (site c.args.world.now) team c.requires.line c.args.locals.now.slots.items c.args.self.now mid new c.region.result taken ran c.requires.free refl refl c.in-Err.path c.in-Err.stop c.in-Err.is
 
 pub returns-clause-goes : goal.returns-clause-goes
 returns-clause-goes g c =
@@ -62,4 +62,4 @@ returns-clause-goes g c =
     let taken = subst (λ (p : Progress). Takes (event kind.Region team.line 0 team.span) c.args.self.now.hand.view c.args.self.now p) (sym c.self.view_is) c.in_ok-logs.ensures.takes in
     let free = free_after c.args.world.now team c.args.self.now mid c.requires.can c.requires.free taken in
     let ran : RanRegion c.args.world.now team c.args.locals.now.slots.items c.args.self.now.buffer.path c.args.self.now.tally.forked mid.hand new.hand c.region.result = c.requires.runs.ran _ _ _ _ _ _ _ _ _ refl free c.in_ok-logs.ensures.logs c.region.ensures in
-    region_made c.args.world.now (site c.args.world.now) team c.requires.line c.args.locals.now.slots.items c.args.self.now mid new c.region.result taken ran refl refl _ c.in_default.is
+    region_made c.args.world.now (site c.args.world.now) team c.requires.line c.args.locals.now.slots.items c.args.self.now mid new c.region.result taken ran c.requires.free refl refl _ c.in_default.is
