@@ -33,7 +33,7 @@ pub fit_last : (xs ys : List Record) → ReadsFit (xs ++ ys) → ReadsFit ys
 fit_last [] ys all = all
 fit_last (x ∷ xs) ys all = fit_last xs ys (All-tail (λ (r : Record). IsFittingRead r.kind r) x (xs ++ ys) all)
 
-effect_then : (one two : Work) (slots slots' : List ℤ) (forks later : List Fork) → then_effect (effect_of slots one forks) (effect_of slots' two later) ≡ effect_of slots' (then_work one two) (forks ++ later)
+pub effect_then : (one two : Work) (slots slots' : List ℤ) (forks later : List Fork) → then_effect (effect_of slots one forks) (effect_of slots' two later) ≡ effect_of slots' (then_work one two) (forks ++ later)
 effect_then one two slots slots' forks later = λ i. record { slots = slots'; added = sym (log_then one two) i; forks = forks ++ later }
 
 module _ (w : WorldValue) {A B : Type 0} (part : State → Outcome A) (next : A → State → Outcome B) (slots slots' : List ℤ) (old new : Progress) where

@@ -115,8 +115,8 @@ module _ (w : WorldValue) (part next : State → Outcome (Unit {0})) (slots mid_
     logged = subst (λ (x : Work). HasLogged old new x) (sym (one_more works m.work)) (logged_on w old mid start new (in_one works) m.work ran.logged up m.done);
     released = subst (λ (x : Work). HasReleased [] x m.own) (sym (one_more works m.work)) (released m.work m.own m.released);
     ends =
-        subst (λ (x : Work). EndsBy cause (log_of x)) (sym (one_more works m.work))
-        (subst (λ (rs : List Record). EndsBy cause rs) (sym (log_then (in_one works) m.work)) (ends_then cause (log_of (in_one works)) (log_of m.work) m.ends));
+        subst (λ (x : Work). EndsBy cause m.own (log_of x)) (sym (one_more works m.work))
+        (subst (λ (rs : List Record). EndsBy cause m.own rs) (sym (log_then (in_one works) m.work)) (ends_then cause m.own (log_of (in_one works)) (log_of m.work) m.ends));
     stops =
         subst (λ (x : Work). StopsBy w.arrays old cause (ran.forks ++ m.forks) (work_regions x)) (sym (one_more works m.work))
         (stops_then w.arrays old start cause ran.forks m.forks (in_one works) m.work path_is forked_is ran.ended m.stops);

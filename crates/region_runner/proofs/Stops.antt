@@ -16,7 +16,7 @@ use Rattle.history_model.specs.Work.{Work, Rest, Put, RegionWork, Phases, work_r
 use Rattle.execution_model.specs.Runs.{RunsRegions, lane_begin, works_log}
 use Rattle.lane_runner.specs.declared.stop.Stop.{Stop}
 use Rattle.lane_runner.specs.Fitting.{WorkFits, PhasesFit}
-use Rattle.lane_runner.specs.Stopping.{ending_for, EndsBelow, EndsInLane, StopsAtLast}
+use Rattle.lane_runner.specs.Stopping.{ending_for, EndsBelow, EndsInLane, StopsAtLast, below as under}
 use Rattle.lane_runner.specs.Going.{Cause, AtRegion, Progress, log_of}
 use Rattle.region_runner.specs.Ran.{in_one}
 use Rattle.region_runner.proofs.Traced.{TracesFirst, one_log, one_regions}
@@ -24,7 +24,7 @@ use Rattle.region_runner.proofs.Traced.{TracesFirst, one_log, one_regions}
 -- the regions of a work that reads what elements can have do so too
 regions_fit : (work : Work) → WorkFits work → All (λ (r : RegionWork). PhasesFit r.phases) (work_regions work)
 regions_fit Rest fit = All-nil (λ (r : RegionWork). PhasesFit r.phases)
-regions_fit (Put r more) fit = regions_fit more fit
+regions_fit (Put r more) fit = regions_fit more fit.1
 regions_fit (Work.Fork line span phases more) fit = All-cons (λ (r : RegionWork). PhasesFit r.phases) (record { span = span; phases = phases }) (work_regions more) fit.0 (regions_fit more fit.1)
 
 all_at : (P : RegionWork → Type 0) (before : List RegionWork) (region : RegionWork) (after : List RegionWork) → All P (before ++ region ∷ after) → P region
@@ -70,18 +70,19 @@ module _ (program : Program) (end : Ending) (at : List Step) (number : ℕ) (for
         ∙ append_assoc at (record { region = number; lane = lane; span = fork.team.span } ∷ []) (record { region = length s.before; lane = inner.lane; span = s.fork.team.span } ∷ inner.below)
         ∙ ap (λ (n : ℕ). at ++ record { region = number; lane = lane; span = fork.team.span } ∷ (record { region = length s.before; lane = inner.lane; span = n } ∷ inner.below)) (sym meet.1);
     ends = subst (λ (ws : List Work). EndsBelow program end (lane_begin fork lane) ws (record { region = length s.before; lane = inner.lane; span = s.region.span } ∷ inner.below)) (sym works_are)
-        (EndsBelow.below (lane_begin fork lane) works (length s.before) s.fork s.region inner.lane inner.below fork_is region_is (subst (λ (n : ℕ). inner.lane < n) (sym meet.1) inner.within) inner.ends);
+        (under (lane_begin fork lane) works (length s.before) s.fork s.region inner.lane inner.below fork_is region_is (subst (λ (n : ℕ). inner.lane < n) (sym meet.1) inner.within) inner.ends);
   }
     where
       meet : (length s.earlier ≡ length s.before) × (s.region.span ≡ s.fork.team.span)
       meet = lasts_meet program s.earlier s.fork s.before s.region
           (subst (λ (fs : List Fork). RunsRegions program fs (s.before ++ s.region ∷ [])) s.forks_are (subst (λ (rs : List RegionWork). RunsRegions program forks rs) s.regions_are runs))
 
-      inner : EndsInLane program end own_path (0 + length s.before) path s.fork s.region.phases
-      inner = s.stopped
+      inner : EndsInLane program end own_path (length s.before) path s.fork s.region.phases
+      inner = subst (λ (n : ℕ). EndsInLane program end own_path n path s.fork s.region.phases) (let e : 0 + length s.before ≡ length s.before = omega arith in e)
+          (s.stopped
           (all_at (λ (r : RegionWork). PhasesFit r.phases) s.before s.region []
           (subst (λ (rs : List RegionWork). All (λ (r : RegionWork). PhasesFit r.phases) rs) s.regions_are (regions_fit (in_one works) fit)))
-          program same end ending
+          program same end ending)
 
       fork_is : slice_get (own_trace program (lane_begin fork lane) (works_log works)).forks (length s.before) ≡ Some s.fork
       fork_is =

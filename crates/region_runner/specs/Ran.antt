@@ -51,7 +51,7 @@ pub record TaskBegan (w : WorldValue) (part : State → Outcome (Unit {0})) (slo
   pub own : List ℕ
   pub logged : HasLogged old new (in_one works)
   pub released : HasReleased [] (in_one works) own
-  pub ends : EndsBy cause (log_of (in_one works))
+  pub ends : EndsBy cause own (log_of (in_one works))
   pub stops : StopsBy w.arrays old cause forks (work_regions (in_one works))
   pub begins : ReadsFit (work_records (in_one works)) → BeginsPart part slots (log_limit - old.buffer.count) (log_of (in_one works)) forks
   pub regions : WorkFits (in_one works) → (program : Program) → program.arrays ≡ w.arrays → RunsRegions program forks (work_regions (in_one works))
