@@ -5,7 +5,7 @@ ghost use Rattle.step_history.specs.History.{HasHistory};
 ghost use Rattle.step_history.specs.declared.item.Deed.TheVariants.{Read, Write};
 ghost use Rattle.shared_words.specs.Handles.{WordsValue, Belongs, IsHome, hand_with, with_view};
 ghost use Rattle.shared_words.specs.Rule.{ELEMENTS};
-ghost use Rattle.shared_words.specs.Views.{newcomer, did, locked, unlocked, rest, parted, child, after_meeting};
+ghost use Rattle.shared_words.specs.Views.{IsAtRest, newcomer, did, locked, unlocked, rest, parted, child, after_meeting};
 
 use crate::hand::Hand;
 use crate::rule::{Announces, Law, Loads, Locks, Meets, Parts, Stores, Unlocks};
@@ -150,6 +150,7 @@ impl Words {
     /// A new hand, for a lane of a team.
     pub fn split(&self, hand: &mut Hand, lane: u16, span: u16) -> Hand
         requires { Belongs hand.old self.now.table }
+        ensures rests { IsAtRest hand.old.view }
         ensures kept { hand.new ≡ with_view hand.old (parted hand.old.view lane span) }
         ensures given { result ≡ with_view hand.old (child hand.old.view) }
     {
