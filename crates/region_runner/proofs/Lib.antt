@@ -6,3 +6,5 @@ pub mod JoinedHands
 pub mod Continuing
 pub mod Traced
 pub mod Stops
+pub mod TeamPhases
+pub mod JoinedWork
