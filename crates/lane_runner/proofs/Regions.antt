@@ -90,7 +90,7 @@ module _ (w : WorldValue) (at : Site) (team : TeamTree) (some : 1 ≤ team.line)
       (makes-Done at slots (log_limit - old.buffer.count - 1)))
 
   region_runs : WorkFits region_work → (program : Program) → program.arrays ≡ w.arrays → RunsRegions program (this_fork ∷ []) (work_regions region_work)
-  region_runs fit program is = RunsRegions.region this_fork [] (record { span = team.span; phases = ran.phases }) [] refl (ran.lanes fit.0 program is) ran.drawn RunsRegions.no_region
+  region_runs fit program is = RunsRegions.region this_fork [] (record { span = team.span; phases = ran.phases }) [] refl (ran.lanes fit.0 program is) (ran.drawn fit.0 program is) RunsRegions.no_region
 
   abbrev this_region : RegionWork
   this_region = record { span = team.span; phases = ran.phases }
