@@ -8,3 +8,4 @@ pub mod Traced
 pub mod Stops
 pub mod TeamPhases
 pub mod JoinedWork
+pub mod TeamDraws
