@@ -9,3 +9,5 @@ pub mod Stops
 pub mod TeamPhases
 pub mod JoinedWork
 pub mod TeamDraws
+pub mod SplitHands
+pub mod Pointwise

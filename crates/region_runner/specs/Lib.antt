@@ -3,3 +3,4 @@ pub mod Nesting
 pub mod Hands
 pub mod Ran
 pub mod Team
+pub mod Member

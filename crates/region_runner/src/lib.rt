@@ -10,8 +10,10 @@
 mod drawn;
 mod executions;
 mod finished;
+mod handing;
 mod hands;
 mod listing;
+mod member;
 
 pub use drawn::hands_tell_each_chunk_once;
 pub use executions::works_are_executions;
