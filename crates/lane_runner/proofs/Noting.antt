@@ -1,5 +1,5 @@
 -- Records that no step on the shared words belongs to: a barrier, and the end of a task.
-use Rattle.std.proofs.Common.{◌≡◌, refl, ap, sym, ◌∙◌, subst, ℕ, ◌-◌, ◌<◌, ◌≤◌, false, List, [], ◌∷◌, ℤ, None, Result, Ok, Err, ⊎_elim, arith}
+use Rattle.std.proofs.Common.{◌≡◌, refl, ap, sym, ◌∙◌, subst, ℕ, ◌-◌, ◌≤◌, false, List, [], ◌∷◌, ℤ, None, Result, Ok, Err, ⊎_elim, arith}
 use Rattle.std.specs.Prelude.{reverse}
 use Rattle.std.proofs.lemmas.List.{append-nil}
 use Rattle.log_format.specs.declared.record.Record.{Record}

@@ -51,12 +51,13 @@ pub record RanRegion (w : WorldValue) (team : TeamTree) (slots : List ℤ) (at :
   pub ends : EndsAs w.arrays at number (record { team = team; slots = slots }) phases r
 
 -- What a lane asks of the function that runs regions, for a region of this team of a task with this log: it may be called with each
--- hand that holds nothing and with new logs for the lanes, which tell the region's number among those of the task, and runs the region
--- from the locals given.
-pub record RunsTeam {T Done : Type 0} (w : WorldValue) (accepts : MutBor (HandValue View) → Bor Locals → Vec T → Bor Team → MutBor Done → Type 0)
-    (gives : MutBor (HandValue View) → Bor Locals → Vec T → Bor Team → MutBor Done → Answer → MutBor (HandValue View) → MutBor Done → Type 0)
+-- hand that holds nothing, with the region's number among those of the task and with new logs for its lanes, and runs the region from
+-- the locals given.
+pub record RunsTeam {T : Type 0} (w : WorldValue) (accepts : MutBor (HandValue View) → Bor Locals → ℕ → Vec T → Bor Team → MutBor (Vec (List Step × T × ℕ)) → Type 0)
+    (gives : MutBor (HandValue View) → Bor Locals → ℕ → Vec T → Bor Team → MutBor (Vec (List Step × T × ℕ)) → Answer → MutBor (HandValue View) → MutBor (Vec (List Step × T × ℕ)) → Type 0)
     (seen : LogView T) (task : Buffered) (team : TeamTree) : Type 0 where
-  pub accepted : (hand : MutBor (HandValue View)) (locals : Bor Locals) (logs : Vec T) (given : Bor Team) (done : MutBor Done) (number : ℕ) → team_of given.now ≡ team → IsFree hand.now w.words.table
-      → AreNewLogs seen task number team.span logs.items → accepts hand locals logs given done
-  pub ran : (hand after : MutBor (HandValue View)) (locals : Bor Locals) (logs : Vec T) (given : Bor Team) (done now_done : MutBor Done) (number : ℕ) (r : Answer) → team_of given.now ≡ team → IsFree hand.now w.words.table
-      → AreNewLogs seen task number team.span logs.items → gives hand locals logs given done r after now_done → RanRegion w team locals.now.slots.items task.path number hand.now after.now r
+  pub accepted : (hand : MutBor (HandValue View)) (locals : Bor Locals) (number : ℕ) (logs : Vec T) (given : Bor Team) (done : MutBor (Vec (List Step × T × ℕ))) → team_of given.now ≡ team
+      → IsFree hand.now w.words.table → AreNewLogs seen task number team.span logs.items → accepts hand locals number logs given done
+  pub ran : (hand after : MutBor (HandValue View)) (locals : Bor Locals) (number : ℕ) (logs : Vec T) (given : Bor Team) (done now_done : MutBor (Vec (List Step × T × ℕ))) (r : Answer) → team_of given.now ≡ team
+      → IsFree hand.now w.words.table → AreNewLogs seen task number team.span logs.items → gives hand locals number logs given done r after now_done
+      → RanRegion w team locals.now.slots.items task.path number hand.now after.now r

@@ -32,6 +32,7 @@ use Rattle.lane_runner.specs.declared.stop.Stop.{Stop}
 use Rattle.lane_runner.specs.declared.stop.Halt.TheVariants as halt
 use Rattle.lane_runner.specs.Drawing.{Tally, HasDrawn}
 use Rattle.lane_runner.specs.Fitting.{WorkFits, AccessesElements}
+use Rattle.lane_runner.specs.Handed.{Entry}
 use Rattle.lane_runner.specs.Stopping.{HaveEnded, StopsAtLast}
 use Rattle.lane_runner.specs.World.{WorldValue, element_word, element_width, layout_of}
 
@@ -39,11 +40,12 @@ use Rattle.lane_runner.specs.World.{WorldValue, element_word, element_width, lay
 abbrev pub site : WorldValue → Site
 site w = record { arrays = w.arrays; lane = w.lane; span = w.span }
 
--- what of a lane changes with each step: its hand, the buffer before its log, and what it drew
+-- what of a lane changes with each step: its hand, the buffer before its log, what it drew, and the logs that its regions handed on
 pub record Progress : Type 0 where
   pub hand : HandValue View
   pub buffer : Buffered
   pub tally : Tally
+  pub done : List Entry
 
 -- the lane can go on: its hands belong to the words and to the counters, its log has refused nothing and tells each fork, and it may
 -- draw as often as its log has room
@@ -177,6 +179,7 @@ pub record Waits (old new : Progress) : Type 0 where
   pub count : new.buffer.count ≡ old.buffer.count
   pub path : new.buffer.path ≡ old.buffer.path
   pub tally : new.tally ≡ old.tally
+  pub done : new.done ≡ old.done
 
 -- and one record more may be put
 pub record HasRoomFor (old new : Progress) : Type 0 where
@@ -207,6 +210,7 @@ pub record Takes (event : Record) (after : View) (old new : Progress) : Type 0 w
   pub below : old.buffer.count < log_limit
   pub unrefused : new.buffer.refused ≡ None
   pub tally : new.tally ≡ old.tally
+  pub done : new.done ≡ old.done
 
 -- the stop of a record that has no place
 abbrev pub stop_for : BufferFault → ℕ → Halt

@@ -4,6 +4,7 @@ pub mod Drawing
 pub mod Fitting
 pub mod Forking
 pub mod Going
+pub mod Handed
 pub mod Phase
 pub mod Placing
 pub mod Stopping

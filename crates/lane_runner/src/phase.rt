@@ -33,19 +33,12 @@ impl<L: Log> Lane<L> {
         F: Fn(
             &mut Hand,
             &Locals,
+            u32,
             Vec<L>,
             &Team,
             &mut Vec<(Path, L, u32)>,
         ) -> Result<(), (Path, Stop)>,
-    >(
-        &mut self,
-        stmt: &Stmt,
-        rt: &R,
-        alloc: Global,
-        world: &World,
-        done: &mut Vec<(Path, L, u32)>,
-        region: &F,
-    ) -> Result<(), Halt>
+    >(&mut self, stmt: &Stmt, rt: &R, alloc: Global, world: &World, region: &F) -> Result<(), Halt>
         requires can { CanGo world.now self.old.track }
         requires free { self.old.track.hand.view.held ≡ [] }
         requires bounded { IsBoundedCode (stmt_code stmt.now Done) }
@@ -61,7 +54,7 @@ impl<L: Log> Lane<L> {
         match stmt {
             Stmt::Parallel { team } => {
                 self.track
-                    .parallel(alloc, world, &self.locals, team, done, region)
+                    .parallel(alloc, world, &self.locals, team, region)
             }
             Stmt::For {
                 slot,
@@ -85,19 +78,12 @@ impl<L: Log> Lane<L> {
         F: Fn(
             &mut Hand,
             &Locals,
+            u32,
             Vec<L>,
             &Team,
             &mut Vec<(Path, L, u32)>,
         ) -> Result<(), (Path, Stop)>,
-    >(
-        &mut self,
-        item: &Item,
-        rt: &R,
-        alloc: Global,
-        world: &World,
-        done: &mut Vec<(Path, L, u32)>,
-        region: &F,
-    ) -> Result<(), Halt>
+    >(&mut self, item: &Item, rt: &R, alloc: Global, world: &World, region: &F) -> Result<(), Halt>
         requires can { CanGo world.now self.old.track }
         requires free { self.old.track.hand.view.held ≡ [] }
         requires item { IsItem world.now.words.locks item.now }
@@ -114,7 +100,7 @@ impl<L: Log> Lane<L> {
                 self.locals.set(*slot, *value);
                 Ok(())
             }
-            Item::Run { stmt, .. } => self.part(stmt, rt, alloc, world, done, region),
+            Item::Run { stmt, .. } => self.part(stmt, rt, alloc, world, region),
             Item::Bar { line } => self.track.meet(alloc, *line),
         }
     }

@@ -26,6 +26,7 @@ impl<L: Log> Lane<L> {
         F: Fn(
             &mut Hand,
             &Locals,
+            u32,
             Vec<L>,
             &Team,
             &mut Vec<(Path, L, u32)>,
@@ -36,7 +37,6 @@ impl<L: Log> Lane<L> {
         rt: &R,
         alloc: Global,
         world: &World,
-        done: &mut Vec<(Path, L, u32)>,
         region: &F,
     ) -> Result<(), Halt>
         requires can { CanGo world.now self.old.track }
@@ -52,7 +52,7 @@ impl<L: Log> Lane<L> {
         ensures free { self.new.track.hand.view.held ≡ [] }
     {
         for item in phase.items() {
-            self.step(item, rt, alloc, world, done, region)?;
+            self.step(item, rt, alloc, world, region)?;
         }
         Ok(())
     }

@@ -47,7 +47,7 @@ fn buffer(alloc: Global) -> Result<Buffer<MemLog>, Fail>
 
 // What a lane's log has at its end.
 fn bytes_of(alloc: Global, track: Track<MemLog>) -> Result<Vec<u8>, Fail> {
-    let (_, buffer, _) = track.into_parts();
+    let (_, buffer, _, _) = track.into_parts();
     match buffer.close(alloc) {
         Ok(log) => Ok(log.bytes().to_vec(alloc)?),
         Err((trouble, _)) => Err(trouble.into()),
@@ -63,8 +63,8 @@ fn a_mutex_released_at_a_stop_is_won_by_another(rt: HostRuntime) -> Result<(), F
     let (chunks, mut draws) = Chunks::new(alloc, 0)?;
     let lent = chunks.split(&mut draws);
     let world = World::new(&arrays, &words, &chunks, 0, 1);
-    let mut first = Track::new(hand, buffer(alloc)?, draws, 0, 0);
-    let mut second = Track::new(other, buffer(alloc)?, lent, 0, 0);
+    let mut first = Track::new(alloc, hand, buffer(alloc)?, draws);
+    let mut second = Track::new(alloc, other, buffer(alloc)?, lent);
 
     let Ok(()) = first.lock(&rt, alloc, &world, 1, 5) else {
         panic!(rt; "no room");

@@ -13,6 +13,7 @@ ghost use Rattle.kernel_syntax.specs.Tree as tree;
 ghost use Rattle.kernel_model.specs.Trace.{run, draw, log_limit};
 ghost use Rattle.lane_runner.specs.Children.{AreNewLogs};
 ghost use Rattle.lane_runner.specs.Forking.{RunsTeam};
+ghost use Rattle.lane_runner.specs.Handed.{entries_of};
 ghost use Rattle.shared_words.specs.Views.{locked, unlocked, rest};
 ghost use Rattle.kernel_syntax.specs.Arithmetic.{fitted};
 ghost use Rattle.lane_runner.specs.Placing.{StandsIn, meant};
@@ -28,10 +29,12 @@ use log_format::{Kind, Record};
 use shared_words::{ChunkHand, Hand};
 use std::alloc::Global;
 use std::marker::Model;
+use std::mem;
 use std::sync::Wait;
 use sw_base::{Log, Path};
 
-/// A lane's hand on the shared words, the buffer before its log, and its hand on the counters of its team's loops.
+/// A lane's hand on the shared words, the buffer before its log, its hand on the counters of its team's loops, and the logs that the
+/// regions of its task handed on: each with its task's path and number of records.
 #[derive(Drop)]
 pub struct Track<L: Log> {
     hand: Hand,
@@ -39,14 +42,21 @@ pub struct Track<L: Log> {
     draws: ChunkHand,
     next_loop: usize,
     forked: u32,
+    done: Vec<(Path, L, u32)>,
 }
 
 impl<L: Log> Model for Track<L> {
     ghost use Rattle.lane_runner.specs.Going.{Progress};
+    ghost use Rattle.lane_runner.specs.Handed.{entries_of};
 
     ghost Value = { Progress };
 
-    ghost view = { λ t. record { hand = t.hand; buffer = t.buffer; tally = record { draws = t.draws; next_loop = t.next_loop; forked = t.forked } } };
+    ghost view = { λ t. record {
+      hand = t.hand;
+      buffer = t.buffer;
+      tally = record { draws = t.draws; next_loop = t.next_loop; forked = t.forked };
+      done = entries_of (record { dir = L.dir; path = L.path; text = L.text; faults = L.faults }) t.done.items;
+    } };
 }
 
 // Why a record of this line has no place.
@@ -101,32 +111,36 @@ fn event(kind: Kind, line: u32, addr: u64, value: u64) -> Record
 }
 
 impl<L: Log> Track<L> {
-    /// A lane's steps from here on, where this is its next loop whose chunks are drawn, and its task has forked so many regions.
-    pub fn new(
-        hand: Hand,
-        buffer: Buffer<L>,
-        draws: ChunkHand,
-        next_loop: usize,
-        forked: u32,
-    ) -> Track<L>
-        ensures { result ≡ record { hand = hand; buffer = buffer; tally = record { draws = draws; next_loop = next_loop; forked = forked } } }
+    /// The steps of a lane that begins: it has drawn from no loop and forked no region.
+    pub fn new(alloc: Global, hand: Hand, buffer: Buffer<L>, draws: ChunkHand) -> Track<L>
+        ensures { result ≡ record { hand = hand; buffer = buffer; tally = record { draws = draws; next_loop = 0; forked = 0 }; done = [] } }
     {
         Track {
             hand,
             buffer,
             draws,
-            next_loop,
-            forked,
+            next_loop: 0,
+            forked: 0,
+            done: Vec::new(alloc),
         }
     }
 
-    /// The hand, the buffer, and the hand on the counters.
-    pub fn into_parts(self) -> (Hand, Buffer<L>, ChunkHand)
+    /// The lane goes on with this hand, and gives back the one that it had.
+    pub fn trade(&mut self, hand: Hand) -> Hand
+        ensures given { result ≡ self.old.hand }
+        ensures goes_on { self.new ≡ record self.old { hand = hand } }
+    {
+        mem::replace(&mut self.hand, hand)
+    }
+
+    /// The hand, the buffer, the hand on the counters, and the logs handed on.
+    pub fn into_parts(self) -> (Hand, Buffer<L>, ChunkHand, Vec<(Path, L, u32)>)
         ensures hand { result.0 ≡ self.hand }
         ensures buffer { result.1 ≡ self.buffer }
         ensures draws { result.2 ≡ self.tally.draws }
+        ensures done { entries_of (record { dir = L.dir; path = L.path; text = L.text; faults = L.faults }) result.3.items ≡ self.done }
     {
-        (self.hand, self.buffer, self.draws)
+        (self.hand, self.buffer, self.draws, self.done)
     }
 
     // Makes room for the record of a line.
@@ -245,6 +259,7 @@ impl<L: Log> Track<L> {
         ensures hand { self.new.hand ≡ with_view self.old.hand (unlocked self.old.hand.view mutex) }
         ensures log { self.new.buffer ≡ self.old.buffer }
         ensures tally { self.new.tally ≡ self.old.tally }
+        ensures done { self.new.done ≡ self.old.done }
     {
         world.words().unlock(&mut self.hand, usize::from(mutex));
     }
@@ -312,6 +327,7 @@ impl<L: Log> Track<L> {
         F: Fn(
             &mut Hand,
             &Locals,
+            u32,
             Vec<L>,
             &Team,
             &mut Vec<(Path, L, u32)>,
@@ -322,7 +338,6 @@ impl<L: Log> Track<L> {
         world: &World,
         locals: &Locals,
         team: &Team,
-        done: &mut Vec<(Path, L, u32)>,
         region: &F,
     ) -> Result<(), Halt>
         requires can { CanGo world.now self.old }
@@ -335,8 +350,16 @@ impl<L: Log> Track<L> {
         ensures loops { self.new.tally.next_loop ≡ self.old.tally.next_loop }
     {
         let logs = self.fork(alloc, team.line, team.span)?;
+        let number = self.forked;
         self.forked += 1;
-        if let Err((path, stop)) = region(&mut self.hand, locals, logs, team, done) {
+        if let Err((path, stop)) = region(
+            &mut self.hand,
+            locals,
+            number,
+            logs,
+            team,
+            &mut self.done,
+        ) {
             return Err(Halt::Region(path, stop));
         }
         Ok(())

@@ -1,4 +1,4 @@
-use Rattle.std.proofs.Common.{refl, ap, sym, ◌∙◌, subst, ℕ, ◌+◌, ◌≤◌, ◌-◌, List, [], ◌∷◌, ℤ, Ok, w64, FitsSigned, rules, arith}
+use Rattle.std.proofs.Common.{refl, ap, sym, ◌∙◌, subst, ◌-◌, List, [], ◌∷◌, ℤ, Ok, w64, FitsSigned, rules}
 use Rattle.std.specs.Prelude.{slice_set}
 use Rattle.std.proofs.lemmas.Int.{to_z-of_z}
 use Rattle.kernel_syntax.specs.Program.{stmt_code}

@@ -7,6 +7,7 @@ use Rattle.event_buffer.specs.Buffered.{Buffered, MayPut}
 use Rattle.event_buffer.specs.Logged.{HoldsRecords}
 use Rattle.lane_runner.specs.Going.{Progress, HasRoomFor, Waits}
 use Rattle.lane_runner.proofs.Working.{hand_still}
+use Rattle.lane_runner.specs.Handed.{entries_of}
 use Rattle.lane_runner.proofs.track.Track.fork.Goals as goal
 
 module _ (old mid : Progress) (new : Buffered) (room : HasRoomFor old mid) (same : new ≡ record mid.buffer { faults = new.faults; refused = new.refused }) where
@@ -24,24 +25,25 @@ module _ (old mid : Progress) (new : Buffered) (room : HasRoomFor old mid) (same
     count = ap (λ (b : Buffered). b.count) same ∙ room.waits.count;
     path = ap (λ (b : Buffered). b.path) same ∙ room.waits.path;
     tally = room.waits.tally;
+    done = room.waits.done;
   }
 
 pub put-requires : goal.put-requires
 put-requires g c =
     let room = subst (λ (p : Progress). HasRoomFor c.args.self.now p) (sym c.self.view_is) c.in_ok-ready.ensures.room in
-    (search rules, may_still c.args.self.now (record { hand = c.self.inside.hand; buffer = c.self.inside.buffer; tally = record { draws = c.self.inside.draws; next_loop = c.self.inside.next_loop; forked = c.self.inside.forked } }) c.children.new.buffer room c.children.ensures.same c.in-Ok.ensures.unrefused)
+    (search rules, may_still c.args.self.now (record { hand = c.self.inside.hand; buffer = c.self.inside.buffer; tally = record { draws = c.self.inside.draws; next_loop = c.self.inside.next_loop; forked = c.self.inside.forked }; done = entries_of (record { dir = g.L.Log.dir; path = g.L.Log.path; text = g.L.Log.text; faults = g.L.Log.faults }) c.self.inside.done.items }) c.children.new.buffer room c.children.ensures.same c.in-Ok.ensures.unrefused)
 
 pub returns-in-Err-clause-takes : goal.returns-in-Err-clause-takes
 returns-in-Err-clause-takes g c =
     let room = subst (λ (p : Progress). HasRoomFor c.args.self.now p) (sym c.self.view_is) c.in_ok-ready.ensures.room in (
-      still_waits c.args.self.now (record { hand = c.self.inside.hand; buffer = c.self.inside.buffer; tally = record { draws = c.self.inside.draws; next_loop = c.self.inside.next_loop; forked = c.self.inside.forked } }) c.children.new.buffer room c.children.ensures.same c.children.ensures.records,
+      still_waits c.args.self.now (record { hand = c.self.inside.hand; buffer = c.self.inside.buffer; tally = record { draws = c.self.inside.draws; next_loop = c.self.inside.next_loop; forked = c.self.inside.forked }; done = entries_of (record { dir = g.L.Log.dir; path = g.L.Log.path; text = g.L.Log.text; faults = g.L.Log.faults }) c.self.inside.done.items }) c.children.new.buffer room c.children.ensures.same c.children.ensures.records,
       record { refused = c.in-Err.ensures.refused },
     )
 
 pub returns-clause-takes : goal.returns-clause-takes
 returns-clause-takes g c =
     let room = subst (λ (p : Progress). HasRoomFor c.args.self.now p) (sym c.self.view_is) c.in_ok-ready.ensures.room in
-    let waits = still_waits c.args.self.now (record { hand = c.self.inside.hand; buffer = c.self.inside.buffer; tally = record { draws = c.self.inside.draws; next_loop = c.self.inside.next_loop; forked = c.self.inside.forked } }) c.children.new.buffer room c.children.ensures.same c.children.ensures.records in
+    let waits = still_waits c.args.self.now (record { hand = c.self.inside.hand; buffer = c.self.inside.buffer; tally = record { draws = c.self.inside.draws; next_loop = c.self.inside.next_loop; forked = c.self.inside.forked }; done = entries_of (record { dir = g.L.Log.dir; path = g.L.Log.path; text = g.L.Log.text; faults = g.L.Log.faults }) c.self.inside.done.items }) c.children.new.buffer room c.children.ensures.same c.children.ensures.records in
     record {
       hand = room.waits.hand ∙ hand_still c.args.self.now.hand c.requires.there;
       log = record {
@@ -52,5 +54,6 @@ returns-clause-takes g c =
       };
       below = subst (λ (n : ℕ). n < log_limit) room.waits.count room.may_put.below;
       tally = room.waits.tally;
+      done = room.waits.done;
       unrefused = ap (λ (b : Buffered). b.refused) c.put.ensures.put ∙ c.in-Ok.ensures.unrefused;
     }

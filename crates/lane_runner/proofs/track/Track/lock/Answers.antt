@@ -10,11 +10,12 @@ use Rattle.shared_words.specs.Handles.{HandValue, with_view}
 use Rattle.shared_words.specs.Views.{locked}
 use Rattle.lane_runner.specs.Going.{Progress, HasRoomFor}
 use Rattle.lane_runner.proofs.Sections.{can_taken}
+use Rattle.lane_runner.specs.Handed.{entries_of}
 use Rattle.lane_runner.proofs.track.Track.lock.Goals as goal
 
 pub returns-clause-takes : goal.returns-clause-takes
 returns-clause-takes g c =
-    let mid : Progress = record { hand = c.self.inside.hand; buffer = c.self.inside.buffer; tally = record { draws = c.self.inside.draws; next_loop = c.self.inside.next_loop; forked = c.self.inside.forked } } in
+    let mid : Progress = record { hand = c.self.inside.hand; buffer = c.self.inside.buffer; tally = record { draws = c.self.inside.draws; next_loop = c.self.inside.next_loop; forked = c.self.inside.forked }; done = entries_of (record { dir = g.L.Log.dir; path = g.L.Log.path; text = g.L.Log.text; faults = g.L.Log.faults }) c.self.inside.done.items } in
     let room = subst (λ (p : Progress). HasRoomFor c.args.self.now p) (sym c.self.view_is) c.in_ok-ready.ensures.room in
     record {
       hand = c.lock.ensures ∙ ap (λ (m : ℕ). with_view c.self.inside.hand (locked c.self.inside.hand.view m)) c.from.ensures ∙ ap (λ (h : HandValue View). with_view h (locked h.view c.args.mutex)) room.waits.hand;
@@ -26,6 +27,7 @@ returns-clause-takes g c =
       };
       below = subst (λ (n : ℕ). n < log_limit) room.waits.count room.may_put.below;
       tally = room.waits.tally;
+      done = room.waits.done;
       unrefused = ap (λ (b : Buffered). b.refused) c.put.ensures.put ∙ room.may_put.unrefused;
     }
 

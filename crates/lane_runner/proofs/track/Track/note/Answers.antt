@@ -20,5 +20,6 @@ returns-clause-takes g c =
       };
       below = subst (λ (n : ℕ). n < log_limit) room.waits.count room.may_put.below;
       tally = room.waits.tally;
+      done = room.waits.done;
       unrefused = ap (λ (b : Buffered). b.refused) c.put.ensures.put ∙ room.may_put.unrefused;
     }

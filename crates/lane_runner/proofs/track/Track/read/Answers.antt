@@ -11,6 +11,7 @@ use Rattle.lane_runner.specs.Placing.{meant}
 use Rattle.lane_runner.specs.Going.{Progress, Made, HasRoomFor}
 use Rattle.lane_runner.proofs.Stepping.{goes_unready}
 use Rattle.lane_runner.proofs.Accesses.{read_grows, read_made}
+use Rattle.lane_runner.specs.Handed.{entries_of}
 use Rattle.lane_runner.proofs.track.Track.read.Goals as goal
 
 pub returns-in_err-ready-clause-goes : goal.returns-in_err-ready-clause-goes
@@ -22,8 +23,8 @@ returns-in_err-ready-clause-goes g c =
 
 pub returns-clause-goes : goal.returns-clause-goes
 returns-clause-goes g c =
-    let mid : Progress = record { hand = c.self.inside.hand; buffer = c.self.inside.buffer; tally = record { draws = c.self.inside.draws; next_loop = c.self.inside.next_loop; forked = c.self.inside.forked } } in
-    let new : Progress = record { hand = c.load-bits.new.hand; buffer = c.put.new.self; tally = record { draws = c.self.inside.draws; next_loop = c.self.inside.next_loop; forked = c.self.inside.forked } } in
+    let mid : Progress = record { hand = c.self.inside.hand; buffer = c.self.inside.buffer; tally = record { draws = c.self.inside.draws; next_loop = c.self.inside.next_loop; forked = c.self.inside.forked }; done = entries_of (record { dir = g.L.Log.dir; path = g.L.Log.path; text = g.L.Log.text; faults = g.L.Log.faults }) c.self.inside.done.items } in
+    let new : Progress = record { hand = c.load-bits.new.hand; buffer = c.put.new.self; tally = record { draws = c.self.inside.draws; next_loop = c.self.inside.next_loop; forked = c.self.inside.forked }; done = entries_of (record { dir = g.L.Log.dir; path = g.L.Log.path; text = g.L.Log.text; faults = g.L.Log.faults }) c.self.inside.done.items } in
     let bits : ℕ = c.load-bits.result in
     let below : bits < 2 ^ 64 = search rules in
     let fits : FitsSigned w64 c.cast_signed.result = search rules in
