@@ -77,7 +77,7 @@ module _ (w : WorldValue) (line n number : ℕ) (some : 1 ≤ line) (old mid new
       told = omega arith;
       elements = (tt, tt);
       sound = (record { no_region = λ is. cc; element = λ is. absurd (⊎_elim (λ e. cc) (λ e. cc) is) }, (λ is. refl), tt);
-      no_barrier = refl;
+      barriers = refl;
     };
     released = record {
       records = sym (put_one told some) ∙ sym (append-nil (log_of (Put told Rest)));

@@ -14,7 +14,7 @@ use Rattle.execution_model.specs.Fitting.{ReadsFit, IsFittingRead}
 use Rattle.lane_runner.specs.declared.stop.Halt.{Halt}
 use Rattle.lane_runner.specs.declared.stop.Halt.TheVariants as halt
 use Rattle.lane_runner.specs.World.{WorldValue}
-use Rattle.lane_runner.specs.Going.{Progress, HasDone, HasReleased, Cause, AtLog, AtRegion, EndsBy, log_of, BeginsPart, effect_of, Made, Began, Goes}
+use Rattle.lane_runner.specs.Going.{Progress, HasDonePast, HasReleased, Cause, AtLog, AtRegion, EndsBy, log_of, BeginsPart, effect_of, MadePast, Made, Began, GoesPast, Goes}
 use Rattle.shared_words.specs.declared.view.View.{View}
 use Rattle.shared_words.specs.Handles.{HandValue}
 use Rattle.lane_runner.proofs.Working.{log_then, done_then, runs_then}
@@ -78,7 +78,7 @@ module _ (w : WorldValue) {A B : Type 0} (part : State → Outcome A) (next : A 
   left : log_limit - mid.buffer.count ≡ log_limit - old.buffer.count - length (log_of one.work)
   left = let count = one.done.log.count in omega arith
 
-  done : (work : Work) → HasDone w mid new work → HasDone w old new (then_work one.work work)
+  done : {bars : ℕ} (work : Work) → HasDonePast bars w mid new work → HasDonePast bars w old new (then_work one.work work)
   done work d = done_then w old mid new one.work work one.done d
 
   fits_one : (work : Work) → ReadsFit (work_records (then_work one.work work)) → ReadsFit (work_records one.work)
@@ -95,7 +95,7 @@ module _ (w : WorldValue) {A B : Type 0} (part : State → Outcome A) (next : A 
       released_then old.hand.view.held one.work work own (subst (λ (l : List ℕ). HasReleased old.hand.view.held one.work l) one.closes one.released)
       (subst (λ (h : List ℕ). HasReleased h work own) held_is r)
 
-  follows : (finish : Finish B) → Made w (next a) mid_slots slots' mid new finish → Made w (λ s. and_then (part s) next) slots slots' old new finish
+  follows : {bars : ℕ} (finish : Finish B) → MadePast bars w (next a) mid_slots slots' mid new finish → MadePast bars w (λ s. and_then (part s) next) slots slots' old new finish
   follows finish m = record {
     work = then_work one.work m.work;
     forks = one.forks ++ m.forks;
@@ -128,17 +128,20 @@ module _ (w : WorldValue) {A B : Type 0} (part : State → Outcome A) (next : A 
     regions = λ fit program is. let both = fits_then one.work m.work fit in runs_then program one.forks m.forks one.work m.work (one.regions both.0 program is) (m.regions both.1 program is);
   }
 
+  pub past_then : (bars : ℕ) (r : Result B Halt) → GoesPast bars w (next a) mid_slots slots' mid new r → GoesPast bars w (λ s. and_then (part s) next) slots slots' old new r
+  past_then bars (Ok b) m = follows (Returned b) m
+  past_then bars (Err (halt.DivZero line)) m = follows (Halted model.DivZero line) m
+  past_then bars (Err (halt.Index line)) m = follows (Halted model.Index line) m
+  past_then bars (Err (halt.LogFull line)) m = follows (Halted model.LogFull line) m
+  past_then bars (Err (halt.Region path why)) m = begins_follow (AtRegion path why) m
+  past_then bars (Err (halt.Trouble trouble)) (m, refused) = (begins_follow AtLog m, refused)
+
   pub goes_then : (r : Result B Halt) → Goes w (next a) mid_slots slots' mid new r → Goes w (λ s. and_then (part s) next) slots slots' old new r
-  goes_then (Ok b) m = follows (Returned b) m
-  goes_then (Err (halt.DivZero line)) m = follows (Halted model.DivZero line) m
-  goes_then (Err (halt.Index line)) m = follows (Halted model.Index line) m
-  goes_then (Err (halt.LogFull line)) m = follows (Halted model.LogFull line) m
-  goes_then (Err (halt.Region path why)) m = begins_follow (AtRegion path why) m
-  goes_then (Err (halt.Trouble trouble)) (m, refused) = (begins_follow AtLog m, refused)
+  goes_then r goes = past_then 0 r goes
 
 -- the same part, told otherwise
 module _ (w : WorldValue) {A : Type 0} (part other : State → Outcome A) (slots slots' : List ℤ) (old new : Progress) (same : (s : State) → other s ≡ part s) where
-  made_same : (finish : Finish A) → Made w part slots slots' old new finish → Made w other slots slots' old new finish
+  made_same : {bars : ℕ} (finish : Finish A) → MadePast bars w part slots slots' old new finish → MadePast bars w other slots slots' old new finish
   made_same finish m = record {
     work = m.work;
     forks = m.forks;
@@ -165,13 +168,16 @@ module _ (w : WorldValue) {A : Type 0} (part other : State → Outcome A) (slots
     regions = m.regions;
   }
 
+  pub past_same : (bars : ℕ) (r : Result A Halt) → GoesPast bars w part slots slots' old new r → GoesPast bars w other slots slots' old new r
+  past_same bars (Ok v) m = made_same (Returned v) m
+  past_same bars (Err (halt.DivZero line)) m = made_same (Halted model.DivZero line) m
+  past_same bars (Err (halt.Index line)) m = made_same (Halted model.Index line) m
+  past_same bars (Err (halt.LogFull line)) m = made_same (Halted model.LogFull line) m
+  past_same bars (Err (halt.Region path why)) m = begun_same (AtRegion path why) m
+  past_same bars (Err (halt.Trouble trouble)) (m, refused) = (begun_same AtLog m, refused)
+
   pub goes_same : (r : Result A Halt) → Goes w part slots slots' old new r → Goes w other slots slots' old new r
-  goes_same (Ok v) m = made_same (Returned v) m
-  goes_same (Err (halt.DivZero line)) m = made_same (Halted model.DivZero line) m
-  goes_same (Err (halt.Index line)) m = made_same (Halted model.Index line) m
-  goes_same (Err (halt.LogFull line)) m = made_same (Halted model.LogFull line) m
-  goes_same (Err (halt.Region path why)) m = begun_same (AtRegion path why) m
-  goes_same (Err (halt.Trouble trouble)) (m, refused) = (begun_same AtLog m, refused)
+  goes_same r goes = past_same 0 r goes
 
 -- what follows where a part gives no value
 pub after_is : (m : Outcome (Unit {0})) (f : State → Outcome (Unit {0})) → after m f ≡ and_then m (λ a t. f t)

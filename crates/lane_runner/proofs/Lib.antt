@@ -10,8 +10,10 @@ pub mod Elements
 pub mod Ending
 pub mod Following
 pub mod NewLogs
+pub mod Noting
 pub mod OwnWords
 pub mod Parting
+pub mod Phases
 pub mod Regions
 pub mod Releasing
 pub mod Running

@@ -73,7 +73,7 @@ module _ (w : WorldValue) (at : Site) (team : TeamTree) (some : 1 ≤ team.line)
     told = let one = ap (λ (rs : List Record). length rs) region_log in omega (arith, one);
     elements = (ran.elements, tt);
     sound = (ran.sound, tt);
-    no_barrier = refl;
+    barriers = refl;
   }
 
   region_released : HasReleased old.hand.view.held region_work []

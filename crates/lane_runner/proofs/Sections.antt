@@ -43,7 +43,7 @@ use Rattle.lane_runner.specs.Drawing.{Tally, HasDrawn}
 use Rattle.lane_runner.proofs.Drawing.{drew_none, drew_nothing, drew_then}
 use Rattle.lane_runner.specs.World.{WorldValue, element_word, element_width, layout_of}
 use Rattle.lane_runner.specs.Going.{Progress, CanGo, HasDone, HasReleased, GainsRecords, Cause, AtLog, AtRegion, EndsBy, StopsBy, log_of, worked, BeginsPart, effect_of, Made, Began, Goes, Takes}
-use Rattle.lane_runner.proofs.Working.{log_then, view_same, gains_then, barriers_none, regions_then, elements_then}
+use Rattle.lane_runner.proofs.Working.{log_then, view_same, gains_then, barriers_later, regions_then, elements_then}
 use Rattle.lane_runner.specs.Fitting.{WorkFits}
 use Rattle.lane_runner.specs.Stopping.{HaveEnded, StopsAtLast}
 use Rattle.lane_runner.proofs.Ending.{fits_then}
@@ -209,11 +209,11 @@ module _ (w : WorldValue) (mutex line end : ℕ) (some : 1 ≤ line) (old a b ne
     sound = (
       lock_sound w mutex line,
       (λ is. cc),
-      then_sound (layout_of w.arrays) body (Put (event kind.Unlock end mutex 0) Rest) done.sound (unlock_sound w mutex end, (λ is. cc), tt) done.no_barrier,
+      then_sound (layout_of w.arrays) body (Put (event kind.Unlock end mutex 0) Rest) done.sound (unlock_sound w mutex end, (λ is. cc), tt) done.barriers,
     );
-    no_barrier =
-        barriers_none (event kind.Lock line mutex 0 ∷ []) (work_records (then_work body (Put (event kind.Unlock end mutex 0) Rest))) refl
-        (ap (λ (rs : List Record). barrier_count rs) (then_records body (Put (event kind.Unlock end mutex 0) Rest)) ∙ barriers_none (work_records body) (event kind.Unlock end mutex 0 ∷ []) done.no_barrier refl);
+    barriers =
+        barriers_later 0 (event kind.Lock line mutex 0 ∷ []) (work_records (then_work body (Put (event kind.Unlock end mutex 0) Rest))) refl
+        (ap (λ (rs : List Record). barrier_count rs) (then_records body (Put (event kind.Unlock end mutex 0) Rest)) ∙ barriers_later 0 (work_records body) (event kind.Unlock end mutex 0 ∷ []) done.barriers refl);
   }
 
   held_is : a.hand.view.held ≡ mutex ∷ old.hand.view.held

@@ -55,7 +55,7 @@ waits_done w old new there waits =
       told = omega arith;
       elements = tt;
       sound = tt;
-      no_barrier = refl;
+      barriers = refl;
     }
 
 module _ (w : WorldValue) {A : Type 0} (part : State → Outcome A) (slots : List ℤ) (line : ℕ) (grows : (s : State) → Grows s (state_of (part s)))
@@ -140,7 +140,7 @@ module _ (w : WorldValue) (old mid new : Progress) (event : Record) (deed : Deed
     told = omega arith;
     elements = (element, tt);
     sound = (sound, (λ is. refl), tt);
-    no_barrier = rw plain refl;
+    barriers = rw plain refl;
   }
 
   -- the record was put, and its step taken

@@ -78,8 +78,9 @@ pub record IsSameLog (old new : Buffered) : Type 0 where
   pub tells : is_some new.text ≡ is_some old.text
   pub later : old.faults ≤ new.faults
 
--- the lane did the work: its hand has the steps, its log the records, and its counts the draws and the forks
-pub record HasDone (w : WorldValue) (old new : Progress) (work : Work) : Type 0 where
+-- the lane did the work, past so many barriers of the team: its hand has the steps, its log the records, and its counts the draws and
+-- the forks
+pub record HasDonePast (bars : ℕ) (w : WorldValue) (old new : Progress) (work : Work) : Type 0 where
   pub hand : new.hand ≡ with_view old.hand (worked (element_word w.arrays) old.hand.view work)
   pub log : GainsRecords old.buffer new.buffer (log_of work)
   pub draws : HasDrawn old.tally new.tally (log_of work)
@@ -87,7 +88,11 @@ pub record HasDone (w : WorldValue) (old new : Progress) (work : Work) : Type 0 
   pub told : length (work_regions work) ≤ length (log_of work)
   pub elements : AccessesElements (element_width w.arrays) work
   pub sound : IsSound (layout_of w.arrays) work
-  pub no_barrier : barrier_count (work_records work) ≡ 0
+  pub barriers : barrier_count (work_records work) ≡ bars
+
+-- and past none
+abbrev pub HasDone : WorldValue → Progress → Progress → Work → Type 0
+HasDone w old new work = HasDonePast 0 w old new work
 
 -- the state goes on from these records and forks
 pub record GoesOnFrom (s : State) (records : List Record) (forks : List Fork) : Type 0 where
@@ -141,18 +146,21 @@ StopsBy arrays before (AtRegion path why) forks regions = StopsAtLast arrays bef
 abbrev pub effect_of : List ℤ → Work → List Fork → Effect
 effect_of slots work forks = record { slots = slots; added = log_of work; forks = forks }
 
--- The lane executed the part, which ends so and leaves these locals.
-pub record Made {A : Type 0} (w : WorldValue) (part : State → Outcome A) (slots slots' : List ℤ) (old new : Progress) (finish : Finish A) : Type 0 where
+-- The lane executed the part, past so many barriers of the team; it ends so and leaves these locals.
+pub record MadePast {A : Type 0} (bars : ℕ) (w : WorldValue) (part : State → Outcome A) (slots slots' : List ℤ) (old new : Progress) (finish : Finish A) : Type 0 where
   pub work : Work
   pub forks : List Fork
   pub own : List ℕ
-  pub done : HasDone w old new work
+  pub done : HasDonePast bars w old new work
   pub released : HasReleased old.hand.view.held work own
   pub closes : ClosesAll finish own
   pub ended : HaveEnded (work_regions work)
   pub unrefused : new.buffer.refused ≡ None
   pub makes : ReadsFit (work_records work) → Makes part slots (log_limit - old.buffer.count) (effect_of slots' work forks) finish
   pub regions : WorkFits work → (program : Program) → program.arrays ≡ w.arrays → RunsRegions program forks (work_regions work)
+
+abbrev pub Made : {A : Type 0} → WorldValue → (State → Outcome A) → List ℤ → List ℤ → Progress → Progress → Finish A → Type 0
+Made w part slots slots' old new finish = MadePast 0 w part slots slots' old new finish
 
 -- The lane executed the part up to a record that its log, or a region that its lanes, didn't take.
 pub record Began {A : Type 0} (w : WorldValue) (part : State → Outcome A) (slots : List ℤ) (old new : Progress) (cause : Cause) : Type 0 where
@@ -184,14 +192,18 @@ pub record HasRoomFor (old new : Progress) : Type 0 where
 pub record Refused (trouble : Trouble) (new : Progress) : Type 0 where
   pub refused : (trouble ≡ Memory → ⊥) → new.buffer.refused ≡ Some trouble
 
--- how the execution of a part ends, by what is answered
+-- How the execution of a part ends, by what is answered: past so many barriers of the team where it ends without a stop, and else past
+-- none.
+abbrev pub GoesPast : {A : Type 0} → ℕ → WorldValue → (State → Outcome A) → List ℤ → List ℤ → Progress → Progress → Result A Halt → Type 0
+GoesPast bars w part slots slots' old new (Ok v) = MadePast bars w part slots slots' old new (Returned v)
+GoesPast bars w part slots slots' old new (Err (halt.DivZero line)) = Made w part slots slots' old new (Halted model.DivZero line)
+GoesPast bars w part slots slots' old new (Err (halt.Index line)) = Made w part slots slots' old new (Halted model.Index line)
+GoesPast bars w part slots slots' old new (Err (halt.LogFull line)) = Made w part slots slots' old new (Halted model.LogFull line)
+GoesPast bars w part slots slots' old new (Err (halt.Region path why)) = Began w part slots old new (AtRegion path why)
+GoesPast bars w part slots slots' old new (Err (halt.Trouble trouble)) = Began w part slots old new AtLog × Refused trouble new
+
 abbrev pub Goes : {A : Type 0} → WorldValue → (State → Outcome A) → List ℤ → List ℤ → Progress → Progress → Result A Halt → Type 0
-Goes w part slots slots' old new (Ok v) = Made w part slots slots' old new (Returned v)
-Goes w part slots slots' old new (Err (halt.DivZero line)) = Made w part slots slots' old new (Halted model.DivZero line)
-Goes w part slots slots' old new (Err (halt.Index line)) = Made w part slots slots' old new (Halted model.Index line)
-Goes w part slots slots' old new (Err (halt.LogFull line)) = Made w part slots slots' old new (Halted model.LogFull line)
-Goes w part slots slots' old new (Err (halt.Region path why)) = Began w part slots old new (AtRegion path why)
-Goes w part slots slots' old new (Err (halt.Trouble trouble)) = Began w part slots old new AtLog × Refused trouble new
+Goes w part slots slots' old new r = GoesPast 0 w part slots slots' old new r
 
 -- one record was put, after its step, which left this view
 pub record Takes (event : Record) (after : View) (old new : Progress) : Type 0 where

@@ -23,6 +23,7 @@ mod lane;
 mod laws;
 mod locals;
 mod phase;
+mod run_phase;
 mod sharing;
 mod stop;
 #[cfg(test)]

@@ -8,12 +8,12 @@ ghost use Rattle.kernel_syntax.specs.Tree.{Done};
 ghost use Rattle.kernel_syntax.specs.declared.syntax.Stmt.{Stmt};
 ghost use denote.Ref.{Bor};
 ghost use Rattle.kernel_model.specs.declared.phase.Item.TheVariants as phase_item;
-ghost use Rattle.kernel_model.specs.Parts.{drawn_count, run_part};
+ghost use Rattle.kernel_model.specs.Parts.{bar_count, drawn_count, run_part};
 ghost use Rattle.kernel_model.specs.Phases.{part_of, part_of_stmt, without_barrier};
 ghost use Rattle.kernel_model.specs.Trace.{run};
 ghost use Rattle.lane_runner.specs.Forking.{RunsTeam};
-ghost use Rattle.lane_runner.specs.Going.{CanGo, Goes, IsSameLog, site};
-ghost use Rattle.lane_runner.specs.Phase.{IsOfTeam, IsPlainItem};
+ghost use Rattle.lane_runner.specs.Going.{CanGo, Goes, GoesPast, IsSameLog, site};
+ghost use Rattle.lane_runner.specs.Phase.{IsItem, IsOfTeam};
 
 use crate::lane::Lane;
 use crate::locals::Locals;
@@ -45,7 +45,7 @@ impl<L: Log> Lane<L> {
         requires own { IsOfTeam world.now.words.locks (stmt_code stmt.now Done) }
         requires counters { self.old.track.tally.next_loop + drawn_count (part_of_stmt stmt.now ∷ []) ≤ world.now.chunks.loops }
         requires number { self.old.track.tally.next_loop < 4294967296 }
-        requires path { length self.old.track.buffer.path < 4 }
+        requires path { (team : Team) → stmt.now ≡ variant.Parallel team → length self.old.track.buffer.path < 4 }
         requires runs { (team : Team) → stmt.now ≡ variant.Parallel team → RunsTeam world.now (F.pre region.now) (F.post region.now) (record { dir = L.dir; path = L.path; text = L.text; faults = L.faults }) self.old.track.buffer (team_of team) }
         ensures goes { Goes world.now (run (site world.now) (without_barrier (stmt_code stmt.now Done))) self.old.locals.slots.items self.new.locals.slots.items self.old.track self.new.track result }
         ensures log { IsSameLog self.old.track.buffer self.new.track.buffer }
@@ -72,7 +72,7 @@ impl<L: Log> Lane<L> {
         }
     }
 
-    /// Executes an item that is no barrier.
+    /// Executes an item.
     pub fn step<
         R: Wait,
         F: Fn(
@@ -86,12 +86,12 @@ impl<L: Log> Lane<L> {
     >(&mut self, item: &Item, rt: &R, alloc: Global, world: &World, region: &F) -> Result<(), Halt>
         requires can { CanGo world.now self.old.track }
         requires free { self.old.track.hand.view.held ≡ [] }
-        requires step { IsPlainItem world.now.words.locks item.now }
+        requires item { IsItem world.now.words.locks item.now }
         requires counters { self.old.track.tally.next_loop + drawn_count (part_of item.now ∷ []) ≤ world.now.chunks.loops }
         requires number { self.old.track.tally.next_loop < 4294967296 }
-        requires path { length self.old.track.buffer.path < 4 }
+        requires path { (stmt : Bor Stmt) (which : ℕ) (team : Team) → item.now ≡ phase_item.Run stmt which → stmt.now ≡ variant.Parallel team → length self.old.track.buffer.path < 4 }
         requires runs { (stmt : Bor Stmt) (which : ℕ) (team : Team) → item.now ≡ phase_item.Run stmt which → stmt.now ≡ variant.Parallel team → RunsTeam world.now (F.pre region.now) (F.post region.now) (record { dir = L.dir; path = L.path; text = L.text; faults = L.faults }) self.old.track.buffer (team_of team) }
-        ensures goes { Goes world.now (run_part (site world.now) (part_of item.now)) self.old.locals.slots.items self.new.locals.slots.items self.old.track self.new.track result }
+        ensures goes { GoesPast (bar_count (part_of item.now ∷ [])) world.now (run_part (site world.now) (part_of item.now)) self.old.locals.slots.items self.new.locals.slots.items self.old.track self.new.track result }
         ensures log { IsSameLog self.old.track.buffer self.new.track.buffer }
         ensures loops { IfOk result (λ _. self.new.track.tally.next_loop ≡ self.old.track.tally.next_loop + drawn_count (part_of item.now ∷ [])) }
     {
@@ -101,7 +101,7 @@ impl<L: Log> Lane<L> {
                 Ok(())
             }
             Item::Run { stmt, .. } => self.part(stmt, rt, alloc, world, region),
-            Item::Bar { .. } => unreachable!(),
+            Item::Bar { line } => self.track.meet(alloc, *line),
         }
     }
 }

@@ -5,7 +5,8 @@ ghost use Rattle.kernel_model.specs.Value as model;
 ghost use Rattle.kernel_model.specs.Value.{read};
 ghost use Rattle.kernel_model.specs.State.{put, event};
 ghost use Rattle.log_format.specs.declared.record.Kind.TheVariants as kind;
-ghost use Rattle.lane_runner.specs.Going.{CanGo, Goes, IsSameLog, MakesRoom, site, TakesOrHalts, stop_for};
+ghost use Rattle.lane_runner.specs.World.{WorldValue};
+ghost use Rattle.lane_runner.specs.Going.{CanGo, Goes, GoesPast, IsSameLog, MakesRoom, site, TakesOrHalts, stop_for};
 ghost use Rattle.shared_words.specs.Handles.{Belongs, with_view};
 ghost use Rattle.kernel_syntax.specs.Program.{team_of, code_of};
 ghost use Rattle.kernel_syntax.specs.Tree as tree;
@@ -263,18 +264,42 @@ impl<L: Log> Track<L> {
         world.words().unlock(&mut self.hand, usize::from(mutex));
     }
 
-    /// Puts the record of a barrier of the team.
-    pub fn meet(&mut self, alloc: Global, line: u32) -> Result<(), Halt>
+    // Puts a record that no step on the shared words belongs to.
+    fn note(&mut self, alloc: Global, kind: Kind, line: u32) -> Result<(), Halt>
         requires there { self.old.hand.there ≡ true }
         requires unrefused { self.old.buffer.refused ≡ None }
-        ensures takes { TakesOrHalts (event kind.Barrier line 0 0) self.old.hand.view self.old self.new result }
+        ensures takes { TakesOrHalts (event kind line 0 0) self.old.hand.view self.old self.new result }
         ensures log { IsSameLog self.old.buffer self.new.buffer }
         ensures tally { self.new.tally ≡ self.old.tally }
     {
         self.ready(alloc, line)?;
-        let event = event(Kind::Barrier, line, 0, 0);
+        let event = event(kind, line, 0, 0);
         self.buffer.put(&event);
         Ok(())
+    }
+
+    /// Puts the record of a barrier of the team.
+    pub fn meet(&mut self, alloc: Global, line: u32) -> Result<(), Halt>
+        requires there { self.old.hand.there ≡ true }
+        requires unrefused { self.old.buffer.refused ≡ None }
+        requires line { 1 ≤ line }
+        ensures goes { (w : WorldValue) (slots : List ℤ) → CanGo w self.old → GoesPast 1 w (put (event kind.Barrier line 0 0)) slots slots self.old self.new result }
+        ensures log { IsSameLog self.old.buffer self.new.buffer }
+        ensures tally { self.new.tally ≡ self.old.tally }
+    {
+        self.note(alloc, Kind::Barrier, line)
+    }
+
+    /// Puts the record of the task's end.
+    pub fn finish(&mut self, alloc: Global, line: u32) -> Result<(), Halt>
+        requires there { self.old.hand.there ≡ true }
+        requires unrefused { self.old.buffer.refused ≡ None }
+        requires line { 1 ≤ line }
+        ensures goes { (w : WorldValue) (slots : List ℤ) → CanGo w self.old → Goes w (put (event kind.End line 0 0)) slots slots self.old self.new result }
+        ensures log { IsSameLog self.old.buffer self.new.buffer }
+        ensures tally { self.new.tally ≡ self.old.tally }
+    {
+        self.note(alloc, Kind::End, line)
     }
 
     // Makes new logs for the lanes of a region, and puts the record of the fork.
