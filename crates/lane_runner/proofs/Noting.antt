@@ -1,5 +1,5 @@
 -- Records that no step on the shared words belongs to: a barrier, and the end of a task.
-use Rattle.std.proofs.Common.{◌≡◌, refl, ap, sym, ◌∙◌, subst, ℕ, ◌-◌, ◌≤◌, false, List, [], ◌∷◌, ℤ, None, Result, Ok, Err, ⊎_elim, arith}
+use Rattle.std.proofs.Common.{◌≡◌, refl, inr, ap, sym, ◌∙◌, subst, ℕ, ◌-◌, ◌≤◌, false, List, [], ◌∷◌, ℤ, None, Result, Ok, Err, ⊎_elim, arith}
 use Rattle.std.specs.Prelude.{reverse}
 use Rattle.std.proofs.lemmas.List.{append-nil}
 use Rattle.log_format.specs.declared.record.Record.{Record}
@@ -109,6 +109,7 @@ module _ (w : WorldValue) (event : Record) (bars : ℕ) (note : IsNote w event b
     released = record {
       records = sym (put_one event note.some) ∙ sym (append-nil (log_of (Put event Rest)));
       held = ap (λ (rs : List Record). held_after (reverse old.hand.view.held) rs) (put_one event note.some) ∙ note.holds (reverse old.hand.view.held);
+      apart = inr refl;
     };
     closes = refl;
     ended = ended_none;

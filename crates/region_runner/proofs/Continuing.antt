@@ -16,7 +16,7 @@ use Rattle.execution_model.specs.Runs.{RunsRegions}
 use Rattle.lane_runner.specs.declared.stop.Halt.{Halt}
 use Rattle.lane_runner.specs.declared.stop.Halt.TheVariants as halt
 use Rattle.lane_runner.specs.World.{WorldValue}
-use Rattle.lane_runner.specs.Going.{Progress, HasDone, GainsRecords, HasReleased, Cause, AtLog, AtRegion, EndsBy, StopsBy, log_of, BeginsPart, effect_of, Made, Began, Goes}
+use Rattle.lane_runner.specs.Going.{Progress, HasDonePast, GainsRecords, HasReleased, Cause, AtLog, AtRegion, EndsBy, StopsBy, log_of, BeginsPart, effect_of, MadePast, Began, GoesPast}
 use Rattle.lane_runner.specs.Drawing.{HasDrawn}
 use Rattle.lane_runner.specs.Fitting.{WorkFits}
 use Rattle.lane_runner.specs.Stopping.{HaveEnded}
@@ -46,8 +46,8 @@ one_more (first ∷ works) work = ap (λ (m : Work). then_work first m) (one_mor
 
 -- ---- logs
 
-logged_on : (w : WorldValue) (old mid start new : Progress) (one work : Work) → HasLogged old mid one → TakesUp mid start → HasDone w start new work → HasLogged old new (then_work one work)
-logged_on w old mid start new one work l up d = record {
+logged_on : (bars : ℕ) (w : WorldValue) (old mid start new : Progress) (one work : Work) → HasLogged old mid one → TakesUp mid start → HasDonePast bars w start new work → HasLogged old new (then_work one work)
+logged_on bars w old mid start new one work l up d = record {
   log =
       subst (λ (rs : List Record). GainsRecords old.buffer new.buffer rs) (sym (log_then one work))
       (gains_then old.buffer mid.buffer new.buffer (log_of one) (log_of work) l.log (subst (λ b. GainsRecords b new.buffer (log_of work)) up.buffer d.log));
@@ -87,11 +87,11 @@ module _ (w : WorldValue) (part next : State → Outcome (Unit {0})) (slots mid_
   abbrev both : State → Outcome (Unit {0})
   both s = after (part s) next
 
-  pub ran_on : (finish : Finish (Unit {0})) (m : Made w next mid_slots slots' start new finish) → TaskRan w both slots slots' old new (works ++ m.work ∷ []) finish
-  ran_on finish m = record {
+  pub ran_on : (bars : ℕ) (finish : Finish (Unit {0})) (m : MadePast bars w next mid_slots slots' start new finish) → TaskRan w both slots slots' old new (works ++ m.work ∷ []) finish
+  ran_on bars finish m = record {
     forks = ran.forks ++ m.forks;
     own = m.own;
-    logged = subst (λ (x : Work). HasLogged old new x) (sym (one_more works m.work)) (logged_on w old mid start new (in_one works) m.work ran.logged up m.done);
+    logged = subst (λ (x : Work). HasLogged old new x) (sym (one_more works m.work)) (logged_on bars w old mid start new (in_one works) m.work ran.logged up m.done);
     released = subst (λ (x : Work). HasReleased [] x m.own) (sym (one_more works m.work)) (released m.work m.own m.released);
     closes = m.closes;
     ended = subst (λ (x : Work). HaveEnded (work_regions x)) (sym (one_more works m.work)) (ended_then (in_one works) m.work ran.ended m.ended);
@@ -112,7 +112,7 @@ module _ (w : WorldValue) (part next : State → Outcome (Unit {0})) (slots mid_
   began_on cause m = record {
     forks = ran.forks ++ m.forks;
     own = m.own;
-    logged = subst (λ (x : Work). HasLogged old new x) (sym (one_more works m.work)) (logged_on w old mid start new (in_one works) m.work ran.logged up m.done);
+    logged = subst (λ (x : Work). HasLogged old new x) (sym (one_more works m.work)) (logged_on 0 w old mid start new (in_one works) m.work ran.logged up m.done);
     released = subst (λ (x : Work). HasReleased [] x m.own) (sym (one_more works m.work)) (released m.work m.own m.released);
     ends =
         subst (λ (x : Work). EndsBy cause m.own (log_of x)) (sym (one_more works m.work))
@@ -133,18 +133,18 @@ module _ (w : WorldValue) (part next : State → Outcome (Unit {0})) (slots mid_
   }
 
   -- by what the phase answers
-  abbrev pub phase_work : (r : Result (Unit {0}) Halt) → Goes w next mid_slots slots' start new r → Work
-  phase_work (Ok u) m = m.work
-  phase_work (Err (halt.DivZero line)) m = m.work
-  phase_work (Err (halt.Index line)) m = m.work
-  phase_work (Err (halt.LogFull line)) m = m.work
-  phase_work (Err (halt.Region path why)) m = m.work
-  phase_work (Err (halt.Trouble trouble)) (m, refused) = m.work
+  abbrev pub phase_work : (bars : ℕ) (r : Result (Unit {0}) Halt) → GoesPast bars w next mid_slots slots' start new r → Work
+  phase_work bars (Ok u) m = m.work
+  phase_work bars (Err (halt.DivZero line)) m = m.work
+  phase_work bars (Err (halt.Index line)) m = m.work
+  phase_work bars (Err (halt.LogFull line)) m = m.work
+  phase_work bars (Err (halt.Region path why)) m = m.work
+  phase_work bars (Err (halt.Trouble trouble)) (m, refused) = m.work
 
-  pub goes_on : (r : Result (Unit {0}) Halt) (m : Goes w next mid_slots slots' start new r) → TaskGoes w both slots slots' old new (works ++ phase_work r m ∷ []) r
-  goes_on (Ok u) m = ran_on (Returned tt) m
-  goes_on (Err (halt.DivZero line)) m = ran_on (Halted model.DivZero line) m
-  goes_on (Err (halt.Index line)) m = ran_on (Halted model.Index line) m
-  goes_on (Err (halt.LogFull line)) m = ran_on (Halted model.LogFull line) m
-  goes_on (Err (halt.Region path why)) m = began_on (AtRegion path why) m
-  goes_on (Err (halt.Trouble trouble)) (m, refused) = (began_on AtLog m, refused)
+  pub goes_on : (bars : ℕ) (r : Result (Unit {0}) Halt) (m : GoesPast bars w next mid_slots slots' start new r) → TaskGoes w both slots slots' old new (works ++ phase_work bars r m ∷ []) r
+  goes_on bars (Ok u) m = ran_on bars (Returned tt) m
+  goes_on bars (Err (halt.DivZero line)) m = ran_on 0 (Halted model.DivZero line) m
+  goes_on bars (Err (halt.Index line)) m = ran_on 0 (Halted model.Index line) m
+  goes_on bars (Err (halt.LogFull line)) m = ran_on 0 (Halted model.LogFull line) m
+  goes_on bars (Err (halt.Region path why)) m = began_on (AtRegion path why) m
+  goes_on bars (Err (halt.Trouble trouble)) (m, refused) = (began_on AtLog m, refused)

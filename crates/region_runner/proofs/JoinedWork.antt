@@ -6,7 +6,10 @@ use Rattle.std.proofs.lemmas.List.Elements.{All-head, All-tail}
 use Rattle.log_format.specs.declared.record.Record.{Record}
 use Rattle.log_format.specs.declared.record.Kind.TheVariants.{Region}
 use Rattle.race_model.specs.History.{release}
+use Rattle.kernel_model.specs.State as model
 use Rattle.kernel_model.specs.State.{State, Fork, Outcome}
+use Rattle.kernel_model.specs.Effect.{Finish, Returned, Halted}
+use Rattle.race_model.specs.Trace.{barrier_count}
 use Rattle.history_model.specs.Work.{Work, Rest, Put, RegionWork, fork_record, work_records, work_regions}
 use Rattle.history_model.specs.Sound.{WordLayout, IsSound}
 use Rattle.history_model.specs.Joined.{IsJoined, PhasesEnd, ArePhasesJoined}
@@ -15,7 +18,7 @@ use Rattle.lane_runner.specs.declared.stop.Halt.{Halt}
 use Rattle.lane_runner.specs.declared.stop.Halt.TheVariants as halt
 use Rattle.lane_runner.specs.Stopping.{HaveEnded}
 use Rattle.lane_runner.specs.World.{WorldValue, element_word, element_width, layout_of}
-use Rattle.lane_runner.specs.Going.{Progress, HasDone, HasReleased, Cause, AtLog, AtRegion, EndsBy, StopsBy, LastIsRegion, log_of, Made, Began, Goes}
+use Rattle.lane_runner.specs.Going.{Progress, HasReleased, Cause, AtLog, AtRegion, EndsBy, StopsBy, LastIsRegion, log_of, MadePast, Began, GoesPast}
 use Rattle.region_runner.specs.Team.{DidWork}
 
 -- all regions ended
@@ -109,8 +112,8 @@ began_joined w old new (AtRegion path why) work forks own sound released (none, 
     (subst (λ (rs : List Record). LastIsRegion rs) (sym (released.records ∙ ap (λ (l : List ℕ). log_of work ++ map release l) none ∙ append-nil (log_of work))) last)
 
 module _ (w : WorldValue) (part : State → Outcome (Unit {0})) (slots slots' : List ℤ) (old new : Progress) (free : old.hand.view.held ≡ []) where
-  made_did : (work : Work) → HasDone w old new work → HaveEnded (work_regions work) → DidWork w.arrays old.hand new.hand work
-  made_did work done ended = record { hand = done.hand; sound = done.sound; elements = done.elements; joined = ended_joined work ended }
+  made_did : (bars : ℕ) (finish : Finish (Unit {0})) (m : MadePast bars w part slots slots' old new finish) → DidWork w.arrays old.hand new.hand m.work
+  made_did bars finish m = record { hand = m.done.hand; sound = m.done.sound; elements = m.done.elements; joined = ended_joined m.work m.ended }
 
   began_did : (cause : Cause) (m : Began w part slots old new cause) → DidWork w.arrays old.hand new.hand m.work
   began_did cause m = record {
@@ -119,3 +122,24 @@ module _ (w : WorldValue) (part : State → Outcome (Unit {0})) (slots slots' : 
     elements = m.done.elements;
     joined = began_joined w old new cause m.work m.forks m.own m.done.sound (subst (λ (h : List ℕ). HasReleased h m.work m.own) free m.released) m.ends m.stops;
   }
+
+  -- by what the phase answers
+  abbrev pub work_of : (bars : ℕ) (r : Result (Unit {0}) Halt) → GoesPast bars w part slots slots' old new r → Work
+  work_of bars (Ok u) m = m.work
+  work_of bars (Err (halt.DivZero line)) m = m.work
+  work_of bars (Err (halt.Index line)) m = m.work
+  work_of bars (Err (halt.LogFull line)) m = m.work
+  work_of bars (Err (halt.Region path why)) m = m.work
+  work_of bars (Err (halt.Trouble trouble)) (m, refused) = m.work
+
+  pub phase_did_work : (bars : ℕ) (r : Result (Unit {0}) Halt) (m : GoesPast bars w part slots slots' old new r) → DidWork w.arrays old.hand new.hand (work_of bars r m)
+  phase_did_work bars (Ok u) m = made_did bars (Returned tt) m
+  phase_did_work bars (Err (halt.DivZero line)) m = made_did 0 (Halted model.DivZero line) m
+  phase_did_work bars (Err (halt.Index line)) m = made_did 0 (Halted model.Index line) m
+  phase_did_work bars (Err (halt.LogFull line)) m = made_did 0 (Halted model.LogFull line) m
+  phase_did_work bars (Err (halt.Region path why)) m = began_did (AtRegion path why) m
+  phase_did_work bars (Err (halt.Trouble trouble)) (m, refused) = began_did AtLog m
+
+  -- and it passed so many barriers, where it ended
+  pub phase_passed : (bars : ℕ) (m : GoesPast bars w part slots slots' old new (Ok tt)) → barrier_count (work_records (work_of bars (Ok tt) m)) ≡ bars
+  phase_passed bars m = m.done.barriers
