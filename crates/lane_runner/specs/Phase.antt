@@ -8,11 +8,10 @@ use Rattle.kernel_model.specs.declared.phase.Item.{Item}
 use Rattle.kernel_model.specs.declared.phase.Item.TheVariants as item
 use Rattle.lane_runner.specs.Alone.{IsAlone}
 
--- A statement of a team, by so many mutexes: a worksharing loop whose body a lane executes alone, a region, or another statement that a
--- lane executes alone.
+-- A statement of a team, by so many mutexes: a worksharing loop whose body a lane executes alone, or another statement that a lane
+-- executes alone.
 abbrev pub IsOfTeam : ℕ → Code → Type 0
 IsOfTeam locks (tree.For slot from to schedule nowait line end body rest) = IsAlone locks [] body
-IsOfTeam locks (tree.Parallel span line end body rest) = Unit {0}
 IsOfTeam locks code = IsAlone locks [] code
 
 -- a value, or a statement of a team within the bounds of the language: no barrier
