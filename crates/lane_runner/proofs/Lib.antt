@@ -19,5 +19,6 @@ pub mod Releasing
 pub mod Running
 pub mod Sections
 pub mod Stepping
+pub mod Teams
 pub mod Values
 pub mod Working

@@ -3,16 +3,8 @@ use Rattle.std.proofs.Common.{◌≡◌, refl, ap, sym, ◌∙◌, subst, ℕ, �
 use Rattle.std.specs.Prelude.{map, All}
 use Rattle.std.proofs.lemmas.List.{length-append, map-append, take_more, drop_more, take-append-drop, take-append-le}
 use Rattle.std.proofs.lemmas.List.Elements.{All-head, All-tail, All-take, All-get_or}
-use Rattle.std.proofs.lemmas.Option.{slice_get_read}
 use Rattle.std.proofs.lemmas.List.Sums.{sum_by-append}
-use Rattle.sw_base.specs.declared.path.Step.{Step}
 use Rattle.log_format.specs.declared.record.Kind.TheVariants as kind
-use denote.Ref.{Bor, MutBor}
-use Rattle.std.specs.Global.{Vec}
-use Rattle.kernel_syntax.specs.declared.syntax.Stmt.{Stmt}
-use Rattle.kernel_syntax.specs.declared.syntax.Stmt.TheVariants as variant
-use Rattle.kernel_syntax.specs.declared.syntax.Team.{Team}
-use Rattle.kernel_syntax.specs.Tree.{TeamTree}
 use Rattle.kernel_model.specs.declared.phase.Item.{Item}
 use Rattle.kernel_model.specs.declared.phase.Item.TheVariants as item
 use Rattle.kernel_model.specs.State.{State, Outcome, after, event, state_of}
@@ -28,17 +20,13 @@ use Rattle.kernel_model.proofs.Joining.{after-after, after-same, after-nothing}
 use Rattle.kernel_model.proofs.Steps.{kept-after}
 use Rattle.shared_words.specs.declared.view.View.{View}
 use Rattle.shared_words.specs.Handles.{HandValue}
-use Rattle.event_buffer.specs.Buffered.{Buffered}
 use Rattle.lane_runner.specs.declared.stop.Halt.{Halt}
 use Rattle.lane_runner.specs.declared.stop.Halt.TheVariants as halt
-use Rattle.lane_runner.specs.Children.{LogView, AreNewLogs}
-use Rattle.lane_runner.specs.declared.locals.Locals.{Locals}
-use Rattle.lane_runner.specs.Forking.{Answer, RanRegion, RunsTeam}
 use Rattle.lane_runner.specs.World.{WorldValue}
-use Rattle.lane_runner.specs.Going.{Progress, CanGo, IsSameLog, Made, MadePast, GoesPast, Goes}
+use Rattle.lane_runner.specs.Going.{Progress, CanGo, Made, MadePast, GoesPast, Goes}
 use Rattle.lane_runner.proofs.Following.{past_same, goes_same}
 use Rattle.lane_runner.proofs.Running.{after_past, after_goes, after_stop}
-use Rattle.lane_runner.specs.Phase.{ForksTeam, IsItem, IsPhase}
+use Rattle.lane_runner.specs.Phase.{IsItem, IsPhase}
 use Rattle.lane_runner.proofs.Values.{can_follow, made_still}
 use Rattle.lane_runner.proofs.Noting.{note_grows, past_stop}
 
@@ -97,17 +85,11 @@ item_at others items i x same within is = record {
 }
 
 module _ (items : List Item) (i : ℕ) (x : Item) (this : IsItemAt items i x) where
-  pub item_is : (locks : ℕ) → IsPhase locks items → IsItem locks x
-  item_is locks phase = subst (λ (y : Item). IsItem locks y) (sym this.is) (All-get_or (λ (y : Item). IsItem locks y) items i x this.within phase.0)
+  pub item_has : (P : Item → Type 0) → All P items → P x
+  item_has P all = subst P (sym this.is) (All-get_or P items i x this.within all)
 
-  pub item_forks : (stmt : Bor Stmt) (which : ℕ) (team : Team) → x ≡ item.Run stmt which → stmt.now ≡ variant.Parallel team → ForksTeam items team
-  item_forks stmt which team is_run is_fork = record {
-    place = i;
-    stmt = stmt;
-    which = which;
-    item_is = slice_get_read items (length items) i x refl this.within this.is ∙ ap (λ (y : Item). Some y) is_run;
-    stmt_is = is_fork;
-  }
+  pub item_is : (locks : ℕ) → IsPhase locks items → IsItem locks x
+  item_is locks phase = item_has (λ (y : Item). IsItem locks y) phase.0
 
   parts_more : map part_of (take (i + 1) items) ≡ map part_of (take i items) ++ part_of x ∷ []
   parts_more =
@@ -184,27 +166,3 @@ held_stays bars w part slots slots' old new (Err (halt.Index line)) m = ap (λ (
 held_stays bars w part slots slots' old new (Err (halt.LogFull line)) m = ap (λ (h : HandValue View). h.view.held) m.done.hand
 held_stays bars w part slots slots' old new (Err (halt.Region path why)) m = ap (λ (h : HandValue View). h.view.held) m.done.hand
 held_stays bars w part slots slots' old new (Err (halt.Trouble trouble)) (m, refused) = ap (λ (h : HandValue View). h.view.held) m.done.hand
-
--- new logs for the lanes of a task are those for the same log later
-news_same : {T : Type 0} (seen : LogView T) (old new : Buffered) (number span : ℕ) (logs : List T) → IsSameLog old new → AreNewLogs seen new number span logs → AreNewLogs seen old number span logs
-news_same {T} seen old new number span logs same news = record {
-  count = news.count;
-  each = λ k d within. let one = news.each k d within in record {
-    dir = one.dir ∙ same.dir;
-    path = one.path ∙ ap (λ (at : List Step). at ++ record { region = number; lane = k; span = span } ∷ []) same.path;
-    tells = one.tells ∙ same.tells;
-    empty = one.empty;
-    no_faults = one.no_faults;
-  };
-}
-
--- who runs a region for the task runs it later, too
-pub runs_later : {T : Type 0} (w : WorldValue) (accepts : MutBor (HandValue View) → Bor Locals → ℕ → Vec T → Bor Team → MutBor (Vec (List Step × T × ℕ)) → Type 0)
-    (gives : MutBor (HandValue View) → Bor Locals → ℕ → Vec T → Bor Team → MutBor (Vec (List Step × T × ℕ)) → Answer → MutBor (HandValue View) → MutBor (Vec (List Step × T × ℕ)) → Type 0)
-    (seen : LogView T) (old new : Buffered) (team : TeamTree) → IsSameLog old new → RunsTeam w accepts gives seen old team → RunsTeam w accepts gives seen new team
-runs_later w accepts gives seen old new team same runs = record {
-  accepted = λ hand locals number logs given done is free news. runs.accepted hand locals number logs given done is free (news_same seen old new number team.span logs.items same news);
-  ran = λ hand after locals number logs given done now_done r is free news gave.
-      subst (λ (at : List Step). RanRegion w team locals.now.slots.items at number hand.now after.now r) (sym same.path)
-      (runs.ran hand after locals number logs given done now_done r is free (news_same seen old new number team.span logs.items same news) gave);
-}

@@ -8,4 +8,5 @@ pub mod Handed
 pub mod Phase
 pub mod Placing
 pub mod Stopping
+pub mod Teams
 pub mod World

@@ -1,9 +1,5 @@
 -- A lane's phase: what it executes up to a barrier of its team, or to the end.
-use Rattle.std.specs.Prelude.{◌≡◌, ◌⊎◌, ℕ, ◌≤◌, List, [], All, slice_get, Some}
-use denote.Ref.{Bor}
-use Rattle.kernel_syntax.specs.declared.syntax.Stmt.{Stmt}
-use Rattle.kernel_syntax.specs.declared.syntax.Stmt.TheVariants as variant
-use Rattle.kernel_syntax.specs.declared.syntax.Team.{Team}
+use Rattle.std.specs.Prelude.{◌⊎◌, ℕ, ◌≤◌, List, [], All}
 use Rattle.kernel_syntax.specs.Tree as tree
 use Rattle.kernel_syntax.specs.Tree.{Code, Done}
 use Rattle.kernel_syntax.specs.Bounds.{IsBoundedCode}
@@ -13,11 +9,10 @@ use Rattle.kernel_model.specs.declared.phase.Item.TheVariants as item
 use Rattle.kernel_model.specs.Phases.{EndsInBar, IsNoBar}
 use Rattle.lane_runner.specs.Alone.{IsAlone}
 
--- A statement of a team, by so many mutexes: a worksharing loop whose body a lane executes alone, a region, or another statement that a
--- lane executes alone.
+-- A statement of a team, by so many mutexes: a worksharing loop whose body a lane executes alone, or another statement that a lane
+-- executes alone.
 abbrev pub IsOfTeam : ℕ → Code → Type 0
 IsOfTeam locks (tree.For slot from to schedule nowait line end body rest) = IsAlone locks [] body
-IsOfTeam locks (tree.Parallel span line end body rest) = Unit {0}
 IsOfTeam locks code = IsAlone locks [] code
 
 -- a value, a statement of a team within the bounds of the language, or a barrier at a line
@@ -29,11 +24,3 @@ IsItem locks (item.Bar line) = 1 ≤ line
 -- such items, of which only the last can be a barrier
 abbrev pub IsPhase : ℕ → List Item → Type 0
 IsPhase locks items = All (IsItem locks) items × (EndsInBar items ⊎ All IsNoBar items)
-
--- one of the items forks a region of this team
-pub record ForksTeam (items : List Item) (team : Team) : Type 0 where
-  pub place : ℕ
-  pub stmt : Bor Stmt
-  pub which : ℕ
-  pub item_is : slice_get items place ≡ Some (item.Run stmt which)
-  pub stmt_is : stmt.now ≡ variant.Parallel team

@@ -1,12 +1,10 @@
 //! A whole phase.
-ghost use Rattle.std.specs.Prelude.{◌≡◌, ◌+◌, ◌<◌, ◌≤◌, [], map, length, IfOk};
-ghost use Rattle.kernel_syntax.specs.declared.syntax.Team.{Team};
-ghost use Rattle.kernel_syntax.specs.Program.{team_of};
+ghost use Rattle.std.specs.Prelude.{◌≡◌, ◌+◌, ◌<◌, ◌≤◌, [], map, All, IfOk};
 ghost use Rattle.kernel_model.specs.Parts.{bar_count, drawn_count, run_parts};
 ghost use Rattle.kernel_model.specs.Phases.{part_of};
-ghost use Rattle.lane_runner.specs.Forking.{RunsTeam};
 ghost use Rattle.lane_runner.specs.Going.{CanGo, GoesPast, IsSameLog, site};
-ghost use Rattle.lane_runner.specs.Phase.{ForksTeam, IsPhase};
+ghost use Rattle.lane_runner.specs.Phase.{IsPhase};
+ghost use Rattle.lane_runner.specs.Teams.{EachTeamIn, MayFork};
 
 use crate::lane::Lane;
 use crate::locals::Locals;
@@ -44,8 +42,7 @@ impl<L: Log> Lane<L> {
         requires phase { IsPhase world.now.words.locks phase.now }
         requires counters { self.old.track.tally.next_loop + drawn_count (map part_of phase.now) ≤ world.now.chunks.loops }
         requires number { world.now.chunks.loops < 4294967296 }
-        requires path { (team : Team) → ForksTeam phase.now team → length self.old.track.buffer.path < 4 }
-        requires runs { (team : Team) → ForksTeam phase.now team → RunsTeam world.now (F.pre region.now) (F.post region.now) (record { dir = L.dir; path = L.path; text = L.text; faults = L.faults }) self.old.track.buffer (team_of team) }
+        requires runs { All (EachTeamIn (MayFork world.now (F.pre region.now) (F.post region.now) (record { dir = L.dir; path = L.path; text = L.text; faults = L.faults }) self.old.track.buffer)) phase.now }
         ensures goes { GoesPast (bar_count (map part_of phase.now)) world.now (run_parts (site world.now) (map part_of phase.now)) self.old.locals.slots.items self.new.locals.slots.items self.old.track self.new.track result }
         ensures log { IsSameLog self.old.track.buffer self.new.track.buffer }
         ensures loops { IfOk result (λ _. self.new.track.tally.next_loop ≡ self.old.track.tally.next_loop + drawn_count (map part_of phase.now)) }

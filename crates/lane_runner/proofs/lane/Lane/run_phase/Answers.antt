@@ -2,14 +2,14 @@ use Rattle.std.proofs.Common.{◌≡◌, ap, sym, ◌∙◌, subst, ℕ, ◌+◌
 use Rattle.std.proofs.lemmas.List.{take_all}
 use Rattle.std.proofs.lemmas.Result.{err_from_is_err_and}
 use Rattle.std.specs.Prelude.{map, IfOk}
-use Rattle.kernel_syntax.specs.Program.{team_of}
 use Rattle.kernel_model.specs.declared.phase.Item.{Item}
 use Rattle.kernel_model.specs.Parts.{bar_count, drawn_count, run_parts}
 use Rattle.kernel_model.specs.Phases.{part_of}
 use Rattle.kernel_model.specs.Effect.{Returned}
 use Rattle.lane_runner.specs.Going.{MadePast, GoesPast, site}
 use Rattle.lane_runner.proofs.Bodies.{log_still, log_later}
-use Rattle.lane_runner.proofs.Phases.{IsItemAt, item_at, item_is, item_forks, drawn_more, drawn_within, phase_begins, can_before, phase_next, phase_stop, held_stays, runs_later}
+use Rattle.lane_runner.proofs.Phases.{IsItemAt, item_at, item_is, drawn_more, drawn_within, phase_begins, can_before, phase_next, phase_stop, held_stays}
+use Rattle.lane_runner.proofs.Teams.{teams_of_item_at}
 use Rattle.lane_runner.proofs.lane.Lane.run_phase.Goals as goal
 
 pub loop-item-init : goal.loop-item-init
@@ -56,18 +56,11 @@ step-requires-clause-number g c κs given =
     let more = drawn_within c.args.phase.now c.loop-item.item-index c.item-item.result this in
     omega (arith, so_far, all, limit, more)
 
-pub step-requires-clause-path : goal.step-requires-clause-path
-step-requires-clause-path g c κs given = λ stmt which team is_run is_fork.
-    let inside : c.loop-item.item-index < length c.items-item-items.result.now = omega arith in
-    let this = item_at c.items-item-items.result.now c.args.phase.now c.loop-item.item-index c.item-item.result c.loop-item.invariant.items inside c.item-item.is in
-    subst (λ path. length path < 4) (sym c.loop-item.invariant.log.path) (c.requires.path team (item_forks c.args.phase.now c.loop-item.item-index c.item-item.result this stmt which team is_run is_fork))
-
 pub step-requires-clause-runs : goal.step-requires-clause-runs
-step-requires-clause-runs g c κs given = λ stmt which team is_run is_fork.
+step-requires-clause-runs g c κs given =
     let inside : c.loop-item.item-index < length c.items-item-items.result.now = omega arith in
     let this = item_at c.items-item-items.result.now c.args.phase.now c.loop-item.item-index c.item-item.result c.loop-item.invariant.items inside c.item-item.is in
-    runs_later c.args.world.now _ _ _ c.args.self.now.track.buffer c.loop-item.self.track.buffer (team_of team) c.loop-item.invariant.log
-    (c.requires.runs team (item_forks c.args.phase.now c.loop-item.item-index c.item-item.result this stmt which team is_run is_fork))
+    teams_of_item_at c.args.world.now _ _ _ c.args.self.now.track.buffer c.loop-item.self.track.buffer c.loop-item.invariant.log c.args.phase.now c.loop-item.item-index c.item-item.result this c.requires.runs
 
 pub returns-in_err-step-clause-goes : goal.returns-in_err-step-clause-goes
 returns-in_err-step-clause-goes g c =

@@ -16,10 +16,11 @@ use Rattle.lane_runner.proofs.Following.{goes_same}
 use Rattle.lane_runner.proofs.Running.{goes_assigned}
 use Rattle.lane_runner.proofs.Values.{made_still}
 use Rattle.lane_runner.specs.Phase.{IsItem}
+use Rattle.lane_runner.proofs.Teams.{teams_of_item}
 use Rattle.lane_runner.proofs.lane.Lane.step.Goals as goal
 
 pub part-requires-clause-runs : goal.part-requires-clause-runs
-part-requires-clause-runs g c κs within = λ team is. c.requires.runs c.in-Run.stmt c.in-Run.which team c.in-Run.is is
+part-requires-clause-runs g c κs within = teams_of_item _ _ _ _ _ c.in-Run.is c.requires.runs
 
 pub returns-in-Set-clause-goes : goal.returns-in-Set-clause-goes
 returns-in-Set-clause-goes g c =
