@@ -29,6 +29,7 @@ use Rattle.lane_runner.proofs.Working.{done_none}
 use Rattle.lane_runner.proofs.Releasing.{released_none}
 use Rattle.lane_runner.proofs.Following.{goes_stop, goes_then, goes_same}
 use Rattle.lane_runner.proofs.Ending.{ended_none}
+use Rattle.lane_runner.proofs.Handing.{work_hands_none}
 
 -- a lane that executed a part can go on
 pub can_follow : {A : Type 0} (w : WorldValue) (part : State → Outcome A) (slots slots' : List ℤ) (old new : Progress) (finish : Finish A) → CanGo w old → Made w part slots slots' old new finish → CanGo w new
@@ -55,6 +56,8 @@ made_still w part slots p finish can m = record {
   released = released_none p.hand.view.held;
   closes = closes_none finish;
   ended = ended_none;
+  handed = work_hands_none None p p Rest refl refl;
+  few = λ less. less;
   unrefused = can.unrefused;
   makes = λ fit. m;
   regions = λ fit program is. RunsRegions.no_region;
