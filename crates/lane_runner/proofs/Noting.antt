@@ -28,6 +28,7 @@ use Rattle.lane_runner.proofs.Drawing.{drew_nothing}
 use Rattle.lane_runner.proofs.Working.{worked_put_nothing}
 use Rattle.lane_runner.proofs.Stepping.{put_one, goes_unready}
 use Rattle.lane_runner.proofs.Ending.{ended_none}
+use Rattle.lane_runner.proofs.Handing.{work_hands_none, few_still}
 
 -- who doesn't go on passed no barrier
 pub past_stop : {A : Type 0} (bars other : ℕ) (w : WorldValue) (part : State → Outcome A) (slots slots' : List ℤ) (old new : Progress) (why : Halt)
@@ -36,6 +37,7 @@ past_stop bars other w part slots slots' old new (halt.DivZero line) goes = goes
 past_stop bars other w part slots slots' old new (halt.Index line) goes = goes
 past_stop bars other w part slots slots' old new (halt.LogFull line) goes = goes
 past_stop bars other w part slots slots' old new (halt.Region path why) goes = goes
+past_stop bars other w part slots slots' old new (halt.Tasks line) goes = goes
 past_stop bars other w part slots slots' old new (halt.Trouble trouble) goes = goes
 
 -- such a record, which is that of so many barriers
@@ -112,6 +114,8 @@ module _ (w : WorldValue) (event : Record) (bars : ℕ) (note : IsNote w event b
     };
     closes = refl;
     ended = ended_none;
+    handed = work_hands_none None old new (Put event Rest) taken.done refl;
+    few = few_still old.done new.done taken.done;
     unrefused = taken.unrefused;
     makes = λ fit.
         subst (λ (rs : List Record). Makes (put event) slots (log_limit - old.buffer.count) (adds slots rs) (Returned tt)) (sym (put_one event note.some))

@@ -27,15 +27,17 @@ use Rattle.kernel_model.proofs.Growing.{grows-plain, run-grows}
 use Rattle.kernel_model.proofs.Joining.{after-after, after-same, after-nothing}
 use Rattle.kernel_model.proofs.Steps.{kept-after}
 use Rattle.shared_words.specs.declared.view.View.{View}
-use Rattle.shared_words.specs.Handles.{HandValue}
+use Rattle.shared_words.specs.Handles.{HandValue, with_view}
+use Rattle.history_model.specs.Work.{Work}
 use Rattle.event_buffer.specs.Buffered.{Buffered}
 use Rattle.lane_runner.specs.declared.stop.Halt.{Halt}
 use Rattle.lane_runner.specs.declared.stop.Halt.TheVariants as halt
 use Rattle.lane_runner.specs.Children.{LogView, AreNewLogs}
 use Rattle.lane_runner.specs.declared.locals.Locals.{Locals}
-use Rattle.lane_runner.specs.Forking.{Answer, RanRegion, RunsTeam}
-use Rattle.lane_runner.specs.World.{WorldValue}
-use Rattle.lane_runner.specs.Going.{Progress, CanGo, IsSameLog, Made, MadePast, GoesPast, Goes}
+use Rattle.lane_runner.specs.Forking.{Answer, EndsAs, stop_in, RunsTeam}
+use Rattle.lane_runner.specs.Handed.{HandsOn, LogPlace, entries_of, place_of}
+use Rattle.lane_runner.specs.World.{WorldValue, element_word}
+use Rattle.lane_runner.specs.Going.{Progress, CanGo, IsSameLog, worked, Made, MadePast, GoesPast, Goes}
 use Rattle.lane_runner.proofs.Following.{past_same, goes_same}
 use Rattle.lane_runner.proofs.Running.{after_past, after_goes, after_stop}
 use Rattle.lane_runner.specs.Phase.{ForksTeam, IsItem, IsPhase}
@@ -176,14 +178,27 @@ phase_begins w at slots p can = made_still w (run_parts at []) slots p (Returned
 
 -- ---- what stays
 
-pub held_stays : (bars : ℕ) (w : WorldValue) (part : State → Outcome (Unit {0})) (slots slots' : List ℤ) (old new : Progress) (r : Result (Unit {0}) Halt)
-    → GoesPast bars w part slots slots' old new r → new.hand.view.held ≡ old.hand.view.held
-held_stays bars w part slots slots' old new (Ok u) m = ap (λ (h : HandValue View). h.view.held) m.done.hand
-held_stays bars w part slots slots' old new (Err (halt.DivZero line)) m = ap (λ (h : HandValue View). h.view.held) m.done.hand
-held_stays bars w part slots slots' old new (Err (halt.Index line)) m = ap (λ (h : HandValue View). h.view.held) m.done.hand
-held_stays bars w part slots slots' old new (Err (halt.LogFull line)) m = ap (λ (h : HandValue View). h.view.held) m.done.hand
-held_stays bars w part slots slots' old new (Err (halt.Region path why)) m = ap (λ (h : HandValue View). h.view.held) m.done.hand
-held_stays bars w part slots slots' old new (Err (halt.Trouble trouble)) (m, refused) = ap (λ (h : HandValue View). h.view.held) m.done.hand
+-- a hand's place among the others, which no work changes
+module _ {T : Type 0} (seen : View → T) (still : (word : ℕ → ℕ) (v : View) (work : Work) → seen (worked word v work) ≡ seen v)
+    (bars : ℕ) (w : WorldValue) (part : State → Outcome (Unit {0})) (slots slots' : List ℤ) (old new : Progress) where
+  by_work : (work : Work) → new.hand ≡ with_view old.hand (worked (element_word w.arrays) old.hand.view work) → seen new.hand.view ≡ seen old.hand.view
+  by_work work is = ap (λ (h : HandValue View). seen h.view) is ∙ still (element_word w.arrays) old.hand.view work
+
+  pub stays : (r : Result (Unit {0}) Halt) → GoesPast bars w part slots slots' old new r → seen new.hand.view ≡ seen old.hand.view
+  stays (Ok u) m = by_work m.work m.done.hand
+  stays (Err (halt.DivZero line)) m = by_work m.work m.done.hand
+  stays (Err (halt.Index line)) m = by_work m.work m.done.hand
+  stays (Err (halt.LogFull line)) m = by_work m.work m.done.hand
+  stays (Err (halt.Region path why)) m = by_work m.work m.done.hand
+  stays (Err (halt.Tasks line)) m = by_work m.work m.done.hand
+  stays (Err (halt.Trouble trouble)) (m, refused) = by_work m.work m.done.hand
+
+module _ (bars : ℕ) (w : WorldValue) (part : State → Outcome (Unit {0})) (slots slots' : List ℤ) (old new : Progress) (r : Result (Unit {0}) Halt) (goes : GoesPast bars w part slots slots' old new r) where
+  pub held_stays : new.hand.view.held ≡ old.hand.view.held
+  held_stays = stays (λ v. v.held) (λ word v work. refl) bars w part slots slots' old new r goes
+
+  pub out_stays : new.hand.view.out ≡ old.hand.view.out
+  out_stays = stays (λ v. v.out) (λ word v work. refl) bars w part slots slots' old new r goes
 
 -- new logs for the lanes of a task are those for the same log later
 news_same : {T : Type 0} (seen : LogView T) (old new : Buffered) (number span : ℕ) (logs : List T) → IsSameLog old new → AreNewLogs seen new number span logs → AreNewLogs seen old number span logs
@@ -198,13 +213,28 @@ news_same {T} seen old new number span logs same news = record {
   };
 }
 
+place_same : (old new : Buffered) → IsSameLog old new → place_of new ≡ place_of old
+place_same old new same = λ i. record { dir = same.dir i; size = same.size i; tells = same.tells i }
+
 -- who runs a region for the task runs it later, too
 pub runs_later : {T : Type 0} (w : WorldValue) (accepts : MutBor (HandValue View) → Bor Locals → ℕ → Vec T → Bor Team → MutBor (Vec (List Step × T × ℕ)) → Type 0)
     (gives : MutBor (HandValue View) → Bor Locals → ℕ → Vec T → Bor Team → MutBor (Vec (List Step × T × ℕ)) → Answer → MutBor (HandValue View) → MutBor (Vec (List Step × T × ℕ)) → Type 0)
     (seen : LogView T) (old new : Buffered) (team : TeamTree) → IsSameLog old new → RunsTeam w accepts gives seen old team → RunsTeam w accepts gives seen new team
 runs_later w accepts gives seen old new team same runs = record {
-  accepted = λ hand locals number logs given done is free news. runs.accepted hand locals number logs given done is free (news_same seen old new number team.span logs.items same news);
-  ran = λ hand after locals number logs given done now_done r is free news gave.
-      subst (λ (at : List Step). RanRegion w team locals.now.slots.items at number hand.now after.now r) (sym same.path)
-      (runs.ran hand after locals number logs given done now_done r is free (news_same seen old new number team.span logs.items same news) gave);
+  accepted = λ hand locals number logs given done is ready news. runs.accepted hand locals number logs given done is ready (news_same seen old new number team.span logs.items same news);
+  ran = λ hand after locals number logs given done now_done r is ready news gave.
+      let ran = runs.ran hand after locals number logs given done now_done r is ready (news_same seen old new number team.span logs.items same news) gave in
+      record {
+        phases = ran.phases;
+        sound = ran.sound;
+        elements = ran.elements;
+        hand = ran.hand;
+        lanes = ran.lanes;
+        drawn = ran.drawn;
+        joined = ran.joined;
+        ends = subst (λ (at : List Step). EndsAs w.arrays at number (record { team = team; slots = locals.now.slots.items }) ran.phases r) (sym same.path) ran.ends;
+        handed =
+            subst (λ (at : List Step). HandsOn (place_of new) (stop_in r) at number (record { span = team.span; phases = ran.phases } ∷ []) (entries_of seen done.now.items) (entries_of seen now_done.now.items)) (sym same.path)
+            (subst (λ (place : LogPlace). HandsOn place (stop_in r) old.path number (record { span = team.span; phases = ran.phases } ∷ []) (entries_of seen done.now.items) (entries_of seen now_done.now.items)) (sym (place_same old new same)) ran.handed);
+      };
 }

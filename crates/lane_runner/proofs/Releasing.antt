@@ -7,7 +7,7 @@ use Rattle.race_model.specs.Race.{held_after, held_after_kind}
 use Rattle.race_model.specs.History.{release}
 use Rattle.history_model.specs.Work.{Work, Rest, work_records, then_work}
 use Rattle.history_model.proofs.TaskEntries.{then_records}
-use Rattle.lane_runner.specs.Going.{log_of, HasReleased, Cause, AtLog, AtRegion, EndsBy}
+use Rattle.lane_runner.specs.Going.{log_of, HasReleased, Cause, AtLog, AtRegion, AtTasks, EndsBy}
 use Rattle.lane_runner.proofs.Working.{log_then}
 
 pub held_both : (held : List ℕ) (xs ys : List Record) → held_after held (xs ++ ys) ≡ held_after (held_after held xs) ys
@@ -39,4 +39,13 @@ ends_then (AtRegion path why) xs ys e = record {
   last = e.last;
   parts = ap (λ (rs : List Record). xs ++ rs) e.parts ∙ sym (append_assoc xs e.prefix (e.last ∷ []));
   forks = e.forks;
+}
+ends_then (AtTasks line) xs ys e = record {
+  region = record {
+    prefix = xs ++ e.region.prefix;
+    last = e.region.last;
+    parts = ap (λ (rs : List Record). xs ++ rs) e.region.parts ∙ sym (append_assoc xs e.region.prefix (e.region.last ∷ []));
+    forks = e.region.forks;
+  };
+  line_is = e.line_is;
 }

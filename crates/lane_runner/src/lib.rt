@@ -36,6 +36,6 @@ pub use element::Element;
 pub use lane::Lane;
 pub use laws::{arrays_of_a_kernel_have_words, elements_of_a_kernel_have_widths};
 pub use locals::Locals;
-pub use stop::{Halt, Stop};
+pub use stop::{Halt, Stop, TASK_LIMIT};
 pub use track::Track;
 pub use world::World;

@@ -41,6 +41,7 @@ impl<L: Log> Lane<L> {
     >(&mut self, stmt: &Stmt, rt: &R, alloc: Global, world: &World, region: &F) -> Result<(), Halt>
         requires can { CanGo world.now self.old.track }
         requires free { self.old.track.hand.view.held ≡ [] }
+        requires home { self.old.track.hand.view.out ≡ [] }
         requires bounded { IsBoundedCode (stmt_code stmt.now Done) }
         requires own { IsOfTeam world.now.words.locks (stmt_code stmt.now Done) }
         requires counters { self.old.track.tally.next_loop + drawn_count (part_of_stmt stmt.now ∷ []) ≤ world.now.chunks.loops }
@@ -86,6 +87,7 @@ impl<L: Log> Lane<L> {
     >(&mut self, item: &Item, rt: &R, alloc: Global, world: &World, region: &F) -> Result<(), Halt>
         requires can { CanGo world.now self.old.track }
         requires free { self.old.track.hand.view.held ≡ [] }
+        requires home { self.old.track.hand.view.out ≡ [] }
         requires item { IsItem world.now.words.locks item.now }
         requires counters { self.old.track.tally.next_loop + drawn_count (part_of item.now ∷ []) ≤ world.now.chunks.loops }
         requires number { self.old.track.tally.next_loop < 4294967296 }

@@ -21,7 +21,7 @@ ghost use Rattle.lane_runner.specs.Placing.{StandsIn, meant};
 use crate::children::children;
 use crate::element::Element;
 use crate::locals::Locals;
-use crate::stop::{Halt, Stop};
+use crate::stop::{Halt, Stop, TASK_LIMIT};
 use crate::world::World;
 use event_buffer::{Buffer, BufferFault};
 use kernel_syntax::Team;
@@ -322,7 +322,8 @@ impl<L: Log> Track<L> {
         Ok(logs)
     }
 
-    /// Executes a region: makes the logs of its lanes, puts its record, and has the lanes run from these locals.
+    /// Executes a region: makes the logs of its lanes, puts its record, and has the lanes run from these locals. The logs of the
+    /// region's tasks are kept with those of the regions before.
     pub fn parallel<
         F: Fn(
             &mut Hand,
@@ -342,6 +343,7 @@ impl<L: Log> Track<L> {
     ) -> Result<(), Halt>
         requires can { CanGo world.now self.old }
         requires free { self.old.hand.view.held ≡ [] }
+        requires home { self.old.hand.view.out ≡ [] }
         requires line { 1 ≤ team.now.line }
         requires path { length self.old.buffer.path < 4 }
         requires runs { RunsTeam world.now (F.pre region.now) (F.post region.now) (record { dir = L.dir; path = L.path; text = L.text; faults = L.faults }) self.old.buffer (team_of team.now) }
@@ -361,6 +363,9 @@ impl<L: Log> Track<L> {
             &mut self.done,
         ) {
             return Err(Halt::Region(path, stop));
+        }
+        if self.done.len() > TASK_LIMIT {
+            return Err(Halt::Tasks { line: team.line });
         }
         Ok(())
     }
