@@ -1,6 +1,6 @@
 -- The logs that the regions of a task hand on: those of all tasks below it, region by region and lane by lane, each before those of the
 -- tasks below it.
-use Rattle.std.specs.Prelude.{◌≡◌, ◌⊎◌, ℕ, suc, ◌+◌, ◌<◌, ◌≤◌, Bool, List, [], ◌∷◌, ◌++◌, length, map, Option, Some, None, is_some}
+use Rattle.std.specs.Prelude.{◌≡◌, ◌⊎◌, ℕ, suc, ◌+◌, ◌<◌, ◌≤◌, Bool, List, [], ◌∷◌, ◌++◌, length, map, All, Option, Some, None, is_some}
 use Rattle.std.specs.List.{flat_map}
 use Rattle.sw_base.specs.declared.path.Step.{Step}
 use Rattle.sw_base.specs.declared.trouble.Trouble.TheVariants.{Memory}
@@ -9,6 +9,7 @@ use Rattle.log_format.specs.declared.record.Record.{Record}
 use Rattle.log_format.specs.declared.format.TheConstants.{FORMAT}
 use Rattle.log_format.specs.Format.{log_header}
 use Rattle.race_model.specs.Listing.{lane_of}
+use Rattle.race_model.specs.Trace.{TaskLog, Trace}
 use Rattle.history_model.specs.Work.{Work, RegionWork, work_regions, lane_works}
 use Rattle.execution_model.specs.Runs.{works_log}
 use Rattle.event_buffer.specs.Buffered.{Buffered}
@@ -94,3 +95,14 @@ pub record HandsOn (place : LogPlace) (stop : Option Stop) (path : List Step) (n
   pub added : List Entry
   pub grows : new ≡ old ++ added
   pub hands : RegionsHand place stop path number regions added
+
+-- these are the logs of these tasks, in their order: one may be missing where no memory was found
+pub data AreEntriesOf (place : LogPlace) (stop : Option Stop) : Trace → List Entry → Type 0 where
+  no_task : AreEntriesOf place stop [] []
+  given : (task : TaskLog) (tasks : Trace) (e : Entry) (entries : List Entry) → IsEntryOf place stop task.path task.records e → AreEntriesOf place stop tasks entries
+      → AreEntriesOf place stop (task ∷ tasks) (e ∷ entries)
+  missing : (task : TaskLog) (tasks : Trace) (entries : List Entry) → IsForMemory stop → AreEntriesOf place stop tasks entries → AreEntriesOf place stop (task ∷ tasks) entries
+
+-- no path of theirs has more steps
+abbrev pub AreWithin : ℕ → List Entry → Type 0
+AreWithin depth entries = All (λ (e : Entry). length e.task ≤ depth) entries
