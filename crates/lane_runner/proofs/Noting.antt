@@ -1,6 +1,6 @@
 -- Records that no step on the shared words belongs to: a barrier, and the end of a task.
 use Rattle.std.proofs.Common.{◌≡◌, refl, ap, sym, ◌∙◌, subst, ℕ, ◌-◌, ◌≤◌, false, List, [], ◌∷◌, ℤ, None, Result, Ok, Err, ⊎_elim, arith}
-use Rattle.std.specs.Prelude.{reverse}
+use Rattle.std.specs.Prelude.{OnOk, reverse}
 use Rattle.std.proofs.lemmas.List.{append-nil}
 use Rattle.log_format.specs.declared.record.Record.{Record}
 use Rattle.log_format.specs.declared.record.Kind.TheVariants as kind
@@ -27,6 +27,7 @@ use Rattle.lane_runner.specs.Going.{Progress, CanGo, GainsRecords, HasDonePast, 
 use Rattle.lane_runner.proofs.Drawing.{drew_nothing}
 use Rattle.lane_runner.proofs.Working.{worked_put_nothing}
 use Rattle.lane_runner.proofs.Stepping.{put_one, goes_unready}
+use Rattle.lane_runner.proofs.Values.{can_past}
 use Rattle.lane_runner.proofs.Ending.{ended_none}
 use Rattle.lane_runner.proofs.Handing.{work_hands_none, few_still}
 
@@ -129,3 +130,7 @@ module _ (w : WorldValue) (event : Record) (bars : ℕ) (note : IsNote w event b
   note_goes (Err why) can room =
       past_stop 0 bars w (put event) slots slots old new why
       (goes_unready w (put event) slots event.line (λ s. note_grows event s note.region) (makes-put_full event slots) old new why can room)
+
+  pub note_can : (r : Result (Unit {0}) Halt) → CanGo w old → TakesOrHalts event old.hand.view old new r → OnOk r (CanGo w new)
+  note_can (Ok u) can taken = can_past bars w (put event) slots slots old new (Returned tt) can (note_made taken)
+  note_can (Err why) can room = tt

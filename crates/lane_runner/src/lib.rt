@@ -23,6 +23,8 @@ mod lane;
 mod laws;
 mod locals;
 mod phase;
+#[cfg(test)]
+mod phase_tests;
 mod run_phase;
 mod sharing;
 mod stop;

@@ -284,6 +284,7 @@ impl<L: Log> Track<L> {
         requires unrefused { self.old.buffer.refused ≡ None }
         requires line { 1 ≤ line }
         ensures goes { (w : WorldValue) (slots : List ℤ) → CanGo w self.old → GoesPast 1 w (put (event kind.Barrier line 0 0)) slots slots self.old self.new result }
+        ensures can { (w : WorldValue) → CanGo w self.old → OnOk result (CanGo w self.new) }
         ensures log { IsSameLog self.old.buffer self.new.buffer }
         ensures tally { self.new.tally ≡ self.old.tally }
     {
@@ -296,6 +297,7 @@ impl<L: Log> Track<L> {
         requires unrefused { self.old.buffer.refused ≡ None }
         requires line { 1 ≤ line }
         ensures goes { (w : WorldValue) (slots : List ℤ) → CanGo w self.old → Goes w (put (event kind.End line 0 0)) slots slots self.old self.new result }
+        ensures can { (w : WorldValue) → CanGo w self.old → OnOk result (CanGo w self.new) }
         ensures log { IsSameLog self.old.buffer self.new.buffer }
         ensures tally { self.new.tally ≡ self.old.tally }
     {
