@@ -10,7 +10,7 @@ use Rattle.history_model.specs.Joined.{PhasesEnd, ArePhasesJoined}
 use Rattle.lane_runner.specs.Fitting.{WorkFits}
 use Rattle.lane_runner.specs.Stopping.{HaveEnded, StopsRegion, StopsAtLast}
 use Rattle.lane_runner.specs.declared.stop.Stop.{Stop}
-use Rattle.lane_runner.specs.Going.{Progress, Cause, AtLog, AtRegion, StopsBy}
+use Rattle.lane_runner.specs.Going.{Progress, Cause, AtLog, AtRegion, AtTasks, StopsBy}
 use Rattle.lane_runner.proofs.Working.{regions_then}
 
 pub fits_then : (work other : Work) → WorkFits (then_work work other) → WorkFits work × WorkFits other
@@ -41,10 +41,16 @@ stops_both arrays at number path why earlier forks xs ys x y = record {
 pub ended_then : (work other : Work) → HaveEnded (work_regions work) → HaveEnded (work_regions other) → HaveEnded (work_regions (then_work work other))
 ended_then work other x y = subst (λ (rs : List RegionWork). HaveEnded rs) (sym (regions_then work other)) (ended_both (work_regions work) (work_regions other) x y)
 
-pub stops_then : (arrays : List Array) (old mid : Progress) (cause : Cause) (earlier forks : List model.Fork) (work other : Work) → mid.buffer.path ≡ old.buffer.path → mid.tally.forked ≡ old.tally.forked + length (work_regions work)
-    → HaveEnded (work_regions work) → StopsBy arrays mid cause forks (work_regions other) → StopsBy arrays old cause (earlier ++ forks) (work_regions (then_work work other))
-stops_then arrays old mid AtLog earlier forks work other path forked x y = ended_then work other x y
-stops_then arrays old mid (AtRegion path why) earlier forks work other same forked x y =
+none_later : (xs ys : List RegionWork) → xs ++ ys ≡ [] → ys ≡ []
+none_later [] ys is = is
+none_later (x ∷ xs) ys is = cc
+
+pub stops_then : (arrays : List Array) (old mid new : Progress) (cause : Cause) (earlier forks : List model.Fork) (work other : Work) → mid.buffer.path ≡ old.buffer.path → mid.tally.forked ≡ old.tally.forked + length (work_regions work)
+    → HaveEnded (work_regions work) → StopsBy arrays mid new cause forks (work_regions other) → StopsBy arrays old new cause (earlier ++ forks) (work_regions (then_work work other))
+stops_then arrays old mid new AtLog earlier forks work other path forked x y = ended_then work other x y
+stops_then arrays old mid new (AtTasks line) earlier forks work other path forked x y =
+    (ended_then work other x y.0, (λ none. y.1 (none_later (work_regions work) (work_regions other) (sym (regions_then work other) ∙ none))), y.2)
+stops_then arrays old mid new (AtRegion path why) earlier forks work other same forked x y =
     subst (λ (rs : List RegionWork). StopsAtLast arrays old.buffer.path old.tally.forked path why (earlier ++ forks) rs) (sym (regions_then work other))
     (stops_both arrays old.buffer.path old.tally.forked path why earlier forks (work_regions work) (work_regions other) x
     (subst (λ (n : ℕ). StopsAtLast arrays old.buffer.path n path why forks (work_regions other)) forked

@@ -9,6 +9,8 @@ pub mod Drawn
 pub mod Elements
 pub mod Ending
 pub mod Following
+pub mod HandedTasks
+pub mod Handing
 pub mod NewLogs
 pub mod Noting
 pub mod OwnWords

@@ -1,6 +1,6 @@
 -- Records that no step on the shared words belongs to: a barrier, and the end of a task.
 use Rattle.std.proofs.Common.{◌≡◌, refl, inr, ap, sym, ◌∙◌, subst, ℕ, ◌-◌, ◌≤◌, false, List, [], ◌∷◌, ℤ, None, Result, Ok, Err, ⊎_elim, arith}
-use Rattle.std.specs.Prelude.{reverse}
+use Rattle.std.specs.Prelude.{OnOk, reverse}
 use Rattle.std.proofs.lemmas.List.{append-nil}
 use Rattle.log_format.specs.declared.record.Record.{Record}
 use Rattle.log_format.specs.declared.record.Kind.TheVariants as kind
@@ -27,7 +27,9 @@ use Rattle.lane_runner.specs.Going.{Progress, CanGo, GainsRecords, HasDonePast, 
 use Rattle.lane_runner.proofs.Drawing.{drew_nothing}
 use Rattle.lane_runner.proofs.Working.{worked_put_nothing}
 use Rattle.lane_runner.proofs.Stepping.{put_one, goes_unready}
+use Rattle.lane_runner.proofs.Values.{can_past}
 use Rattle.lane_runner.proofs.Ending.{ended_none}
+use Rattle.lane_runner.proofs.Handing.{work_hands_none, few_still}
 
 -- who doesn't go on passed no barrier
 pub past_stop : {A : Type 0} (bars other : ℕ) (w : WorldValue) (part : State → Outcome A) (slots slots' : List ℤ) (old new : Progress) (why : Halt)
@@ -36,6 +38,7 @@ past_stop bars other w part slots slots' old new (halt.DivZero line) goes = goes
 past_stop bars other w part slots slots' old new (halt.Index line) goes = goes
 past_stop bars other w part slots slots' old new (halt.LogFull line) goes = goes
 past_stop bars other w part slots slots' old new (halt.Region path why) goes = goes
+past_stop bars other w part slots slots' old new (halt.Tasks line) goes = goes
 past_stop bars other w part slots slots' old new (halt.Trouble trouble) goes = goes
 
 -- such a record, which is that of so many barriers
@@ -113,6 +116,8 @@ module _ (w : WorldValue) (event : Record) (bars : ℕ) (note : IsNote w event b
     };
     closes = refl;
     ended = ended_none;
+    handed = work_hands_none None old new (Put event Rest) taken.done refl;
+    few = few_still old.done new.done taken.done;
     unrefused = taken.unrefused;
     makes = λ fit.
         subst (λ (rs : List Record). Makes (put event) slots (log_limit - old.buffer.count) (adds slots rs) (Returned tt)) (sym (put_one event note.some))
@@ -126,3 +131,7 @@ module _ (w : WorldValue) (event : Record) (bars : ℕ) (note : IsNote w event b
   note_goes (Err why) can room =
       past_stop 0 bars w (put event) slots slots old new why
       (goes_unready w (put event) slots event.line (λ s. note_grows event s note.region) (makes-put_full event slots) old new why can room)
+
+  pub note_can : (r : Result (Unit {0}) Halt) → CanGo w old → TakesOrHalts event old.hand.view old new r → OnOk r (CanGo w new)
+  note_can (Ok u) can taken = can_past bars w (put event) slots slots old new (Returned tt) can (note_made taken)
+  note_can (Err why) can room = tt

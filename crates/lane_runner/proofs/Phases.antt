@@ -19,11 +19,12 @@ use Rattle.kernel_model.proofs.Growing.{grows-plain, run-grows}
 use Rattle.kernel_model.proofs.Joining.{after-after, after-same, after-nothing}
 use Rattle.kernel_model.proofs.Steps.{kept-after}
 use Rattle.shared_words.specs.declared.view.View.{View}
-use Rattle.shared_words.specs.Handles.{HandValue}
+use Rattle.shared_words.specs.Handles.{HandValue, with_view}
+use Rattle.history_model.specs.Work.{Work}
 use Rattle.lane_runner.specs.declared.stop.Halt.{Halt}
 use Rattle.lane_runner.specs.declared.stop.Halt.TheVariants as halt
-use Rattle.lane_runner.specs.World.{WorldValue}
-use Rattle.lane_runner.specs.Going.{Progress, CanGo, Made, MadePast, GoesPast, Goes}
+use Rattle.lane_runner.specs.World.{WorldValue, element_word}
+use Rattle.lane_runner.specs.Going.{Progress, CanGo, worked, Made, MadePast, GoesPast, Goes}
 use Rattle.lane_runner.proofs.Following.{past_same, goes_same}
 use Rattle.lane_runner.proofs.Running.{after_past, after_goes, after_stop}
 use Rattle.lane_runner.specs.Phase.{IsItem, IsPhase}
@@ -158,11 +159,24 @@ phase_begins w at slots p can = made_still w (run_parts at []) slots p (Returned
 
 -- ---- what stays
 
-pub held_stays : (bars : ℕ) (w : WorldValue) (part : State → Outcome (Unit {0})) (slots slots' : List ℤ) (old new : Progress) (r : Result (Unit {0}) Halt)
-    → GoesPast bars w part slots slots' old new r → new.hand.view.held ≡ old.hand.view.held
-held_stays bars w part slots slots' old new (Ok u) m = ap (λ (h : HandValue View). h.view.held) m.done.hand
-held_stays bars w part slots slots' old new (Err (halt.DivZero line)) m = ap (λ (h : HandValue View). h.view.held) m.done.hand
-held_stays bars w part slots slots' old new (Err (halt.Index line)) m = ap (λ (h : HandValue View). h.view.held) m.done.hand
-held_stays bars w part slots slots' old new (Err (halt.LogFull line)) m = ap (λ (h : HandValue View). h.view.held) m.done.hand
-held_stays bars w part slots slots' old new (Err (halt.Region path why)) m = ap (λ (h : HandValue View). h.view.held) m.done.hand
-held_stays bars w part slots slots' old new (Err (halt.Trouble trouble)) (m, refused) = ap (λ (h : HandValue View). h.view.held) m.done.hand
+-- a hand's place among the others, which no work changes
+module _ {T : Type 0} (seen : View → T) (still : (word : ℕ → ℕ) (v : View) (work : Work) → seen (worked word v work) ≡ seen v)
+    (bars : ℕ) (w : WorldValue) (part : State → Outcome (Unit {0})) (slots slots' : List ℤ) (old new : Progress) where
+  by_work : (work : Work) → new.hand ≡ with_view old.hand (worked (element_word w.arrays) old.hand.view work) → seen new.hand.view ≡ seen old.hand.view
+  by_work work is = ap (λ (h : HandValue View). seen h.view) is ∙ still (element_word w.arrays) old.hand.view work
+
+  pub stays : (r : Result (Unit {0}) Halt) → GoesPast bars w part slots slots' old new r → seen new.hand.view ≡ seen old.hand.view
+  stays (Ok u) m = by_work m.work m.done.hand
+  stays (Err (halt.DivZero line)) m = by_work m.work m.done.hand
+  stays (Err (halt.Index line)) m = by_work m.work m.done.hand
+  stays (Err (halt.LogFull line)) m = by_work m.work m.done.hand
+  stays (Err (halt.Region path why)) m = by_work m.work m.done.hand
+  stays (Err (halt.Tasks line)) m = by_work m.work m.done.hand
+  stays (Err (halt.Trouble trouble)) (m, refused) = by_work m.work m.done.hand
+
+module _ (bars : ℕ) (w : WorldValue) (part : State → Outcome (Unit {0})) (slots slots' : List ℤ) (old new : Progress) (r : Result (Unit {0}) Halt) (goes : GoesPast bars w part slots slots' old new r) where
+  pub held_stays : new.hand.view.held ≡ old.hand.view.held
+  held_stays = stays (λ v. v.held) (λ word v work. refl) bars w part slots slots' old new r goes
+
+  pub out_stays : new.hand.view.out ≡ old.hand.view.out
+  out_stays = stays (λ v. v.out) (λ word v work. refl) bars w part slots slots' old new r goes

@@ -1,5 +1,5 @@
 -- Regions: the record of the fork, and what the lanes of the region did.
-use Rattle.std.proofs.Common.{◌≡◌, inl, refl, ap, sym, ◌∙◌, subst, ℕ, ◌+◌, ◌-◌, ◌≤◌, List, [], ◌∷◌, ◌++◌, length, ℤ, arith}
+use Rattle.std.proofs.Common.{◌≡◌, inl, refl, ap, sym, ◌∙◌, subst, ℕ, ◌+◌, ◌-◌, ◌<◌, ◌≤◌, List, [], ◌∷◌, ◌++◌, length, ℤ, arith}
 use Rattle.std.specs.Prelude.{reverse, Ok, Err}
 use Rattle.sw_base.specs.declared.path.Step.{Step}
 use Rattle.std.proofs.lemmas.List.{append-nil}
@@ -25,10 +25,11 @@ use Rattle.event_buffer.specs.Buffered.{Buffered}
 use Rattle.lane_runner.specs.Drawing.{Tally, HasDrawn}
 use Rattle.lane_runner.proofs.Drawing.{drew_forked}
 use Rattle.lane_runner.specs.World.{WorldValue, element_word}
-use Rattle.lane_runner.specs.Going.{Progress, HasDone, HasReleased, GainsRecords, AtRegion, log_of, worked, effect_of, Made, Began, Takes}
-use Rattle.lane_runner.specs.Forking.{Answer, RanRegion, EndsAs, after_phases}
+use Rattle.lane_runner.specs.Going.{Progress, HasDone, HasReleased, GainsRecords, AtRegion, AtTasks, WorkHandsOn, log_of, worked, BeginsPart, effect_of, Made, Began, Takes}
+use Rattle.lane_runner.specs.Forking.{Answer, RanRegion, EndsAs, after_phases, stop_in}
 use Rattle.lane_runner.specs.Fitting.{WorkFits}
-use Rattle.lane_runner.specs.Stopping.{StopsRegion}
+use Rattle.lane_runner.specs.Handed.{Entry, HandsOn, AreFew, place_of, task_limit}
+use Rattle.lane_runner.specs.Stopping.{StopsRegion, HaveEnded}
 use Rattle.lane_runner.specs.declared.stop.Stop.{Stop}
 use Rattle.lane_runner.proofs.Working.{view_same}
 use Rattle.lane_runner.proofs.Ending.{ended_none, ended_one}
@@ -36,7 +37,7 @@ use Rattle.lane_runner.proofs.Stepping.{is_put_one}
 use Rattle.lane_runner.proofs.Beginning.{begins_made}
 
 module _ (w : WorldValue) (at : Site) (team : TeamTree) (some : 1 ≤ team.line) (slots : List ℤ) (old a new : Progress) (r : Answer)
-    (taken : Takes (event kind.Region team.line 0 team.span) old.hand.view old a) (ran : RanRegion w team slots old.buffer.path old.tally.forked a.hand new.hand r)
+    (taken : Takes (event kind.Region team.line 0 team.span) old.hand.view old a) (ran : RanRegion w team slots old.buffer old.tally.forked a.hand new.hand a.done new.done r)
     (free : old.hand.view.held ≡ []) (still : new.buffer ≡ a.buffer) (tally : new.tally ≡ record a.tally { forked = a.tally.forked + 1 }) where
   abbrev region_work : Work
   region_work = work.Fork team.line team.span ran.phases Rest
@@ -95,15 +96,26 @@ module _ (w : WorldValue) (at : Site) (team : TeamTree) (some : 1 ≤ team.line)
   abbrev this_region : RegionWork
   this_region = record { span = team.span; phases = ran.phases }
 
-  pub region_made : (u : Unit {0}) → r ≡ Ok u → Made w (run at region_code) slots slots old new (Returned tt)
-  region_made u is = record {
+  region_hands : WorkHandsOn (stop_in r) old new region_work
+  region_hands = subst (λ (es : List Entry). HandsOn (place_of old.buffer) (stop_in r) old.buffer.path old.tally.forked (this_region ∷ []) es new.done) taken.done ran.handed
+
+  region_ends : (u : Unit {0}) → r ≡ Ok u → HaveEnded (this_region ∷ [])
+  region_ends u is = ended_one this_region (subst (λ (x : Answer). EndsAs w.arrays old.buffer.path old.tally.forked this_fork ran.phases x) is ran.ends) ran.joined
+
+  region_begins : BeginsPart (run at region_code) slots (log_limit - old.buffer.count) (log_of region_work) (this_fork ∷ [])
+  region_begins = begins_made (run at region_code) slots (log_limit - old.buffer.count) (effect_of slots region_work (this_fork ∷ [])) (Returned tt) region_makes
+
+  pub region_made : (u : Unit {0}) → r ≡ Ok u → AreFew new.done → Made w (run at region_code) slots slots old new (Returned tt)
+  region_made u is few = record {
     work = region_work;
     forks = this_fork ∷ [];
     own = [];
     done = region_done;
     released = region_released;
     closes = refl;
-    ended = ended_one this_region (subst (λ (x : Answer). EndsAs w.arrays old.buffer.path old.tally.forked this_fork ran.phases x) is ran.ends) ran.joined;
+    ended = region_ends u is;
+    handed = subst (λ (x : Answer). WorkHandsOn (stop_in x) old new region_work) is region_hands;
+    few = λ less. few;
     unrefused = ap (λ (b : Buffered). b.refused) still ∙ taken.unrefused;
     makes = λ fit. region_makes;
     regions = region_runs;
@@ -118,9 +130,25 @@ module _ (w : WorldValue) (at : Site) (team : TeamTree) (some : 1 ≤ team.line)
     released = region_released;
     ends = (refl, record { prefix = []; last = work.fork_record team.line team.span; parts = region_log; forks = refl });
     stops = record { earlier = []; fork = this_fork; forks_are = refl; before = []; region = this_region; regions_are = refl; ended = ended_none; joined = ran.joined; stopped = at_number (subst (λ (x : Answer). EndsAs w.arrays old.buffer.path old.tally.forked this_fork ran.phases x) is ran.ends) };
-    begins = λ fit. begins_made (run at region_code) slots (log_limit - old.buffer.count) (effect_of slots region_work (this_fork ∷ [])) (Returned tt) region_makes;
+    handed = subst (λ (x : Answer). WorkHandsOn (stop_in x) old new region_work) is region_hands;
+    begins = λ fit. region_begins;
     regions = region_runs;
   }
     where
       at_number : StopsRegion w.arrays old.buffer.path old.tally.forked path why this_fork ran.phases → StopsRegion w.arrays old.buffer.path (old.tally.forked + 0) path why this_fork ran.phases
       at_number = subst (λ (n : ℕ). StopsRegion w.arrays old.buffer.path n path why this_fork ran.phases) (let e : old.tally.forked ≡ old.tally.forked + 0 = omega arith in e)
+
+  -- the region ended, and now too many tasks are below its own
+  pub region_crowded : (u : Unit {0}) → r ≡ Ok u → task_limit < length new.done → Began w (run at region_code) slots old new (AtTasks team.line)
+  region_crowded u is many = record {
+    work = region_work;
+    forks = this_fork ∷ [];
+    own = [];
+    done = region_done;
+    released = region_released;
+    ends = (refl, record { region = record { prefix = []; last = work.fork_record team.line team.span; parts = region_log; forks = refl }; line_is = refl });
+    stops = (region_ends u is, (λ none. cc), many);
+    handed = subst (λ (x : Answer). WorkHandsOn (stop_in x) old new region_work) is region_hands;
+    begins = λ fit. region_begins;
+    regions = region_runs;
+  }

@@ -7,7 +7,7 @@ use Rattle.race_model.specs.Race.{held_after, held_after_kind}
 use Rattle.race_model.specs.History.{release}
 use Rattle.history_model.specs.Work.{Work, Rest, RegionWork, work_records, work_regions, then_work}
 use Rattle.history_model.proofs.TaskEntries.{then_records}
-use Rattle.lane_runner.specs.Going.{log_of, HasReleased, Cause, AtLog, AtRegion, EndsBy}
+use Rattle.lane_runner.specs.Going.{log_of, HasReleased, Cause, AtLog, AtRegion, AtTasks, LastIsRegion, EndsBy}
 use Rattle.lane_runner.proofs.Working.{log_then, regions_then}
 
 pub held_both : (held : List ℕ) (xs ys : List Record) → held_after held (xs ++ ys) ≡ held_after (held_after held xs) ys
@@ -38,14 +38,16 @@ released_then before one two own x y = record {
     both (inr first) (inl none) = inl none
     both (inr first) (inr second) = inr (regions_then one two ∙ ap₂ (λ (rs more : List RegionWork). rs ++ more) first second)
 
+last_then : (xs ys : List Record) → LastIsRegion ys → LastIsRegion (xs ++ ys)
+last_then xs ys e = record {
+  prefix = xs ++ e.prefix;
+  last = e.last;
+  parts = ap (λ (rs : List Record). xs ++ rs) e.parts ∙ sym (append_assoc xs e.prefix (e.last ∷ []));
+  forks = e.forks;
+}
+
 pub ends_then : (cause : Cause) (own : List ℕ) (xs ys : List Record) → EndsBy cause own ys → EndsBy cause own (xs ++ ys)
+unfolding last_then
 ends_then AtLog own xs ys e = tt
-ends_then (AtRegion path why) own xs ys (none, e) = (
-  none,
-  record {
-    prefix = xs ++ e.prefix;
-    last = e.last;
-    parts = ap (λ (rs : List Record). xs ++ rs) e.parts ∙ sym (append_assoc xs e.prefix (e.last ∷ []));
-    forks = e.forks;
-  },
-)
+ends_then (AtRegion path why) own xs ys (none, e) = (none, last_then xs ys e)
+ends_then (AtTasks line) own xs ys (none, e) = (none, record { region = last_then xs ys e.region; line_is = e.line_is })

@@ -19,7 +19,7 @@ use Rattle.kernel_model.proofs.Steps.{kept-and_then, kept-after, kept-stored}
 use Rattle.lane_runner.specs.declared.stop.Halt.{Halt}
 use Rattle.lane_runner.specs.declared.stop.Halt.TheVariants as halt
 use Rattle.lane_runner.specs.World.{WorldValue}
-use Rattle.lane_runner.specs.Going.{Progress, CanGo, Cause, AtLog, AtRegion, effect_of, Made, Began, GoesPast, Goes}
+use Rattle.lane_runner.specs.Going.{Progress, CanGo, Cause, AtLog, AtRegion, AtTasks, effect_of, Made, Began, GoesPast, Goes}
 use Rattle.lane_runner.proofs.Following.{goes_stop, past_then, goes_then, past_same, goes_same, after_is}
 use Rattle.lane_runner.proofs.Values.{can_follow, made_still}
 
@@ -53,6 +53,8 @@ module _ (w : WorldValue) (part : State → Outcome (Unit {0})) (slot : ℕ) (v 
     released = m.released;
     closes = m.closes;
     ended = m.ended;
+    handed = m.handed;
+    few = m.few;
     unrefused = m.unrefused;
     makes = λ fit. makes-assign part slot v slots (log_limit - old.buffer.count) (effect_of slots' m.work m.forks) finish (m.makes fit);
     regions = m.regions;
@@ -67,6 +69,7 @@ module _ (w : WorldValue) (part : State → Outcome (Unit {0})) (slot : ℕ) (v 
     released = m.released;
     ends = m.ends;
     stops = m.stops;
+    handed = m.handed;
     begins = λ fit. let b = m.begins fit in record { within = b.within; begins = λ records before reads chunks. b.begins records before reads chunks };
     regions = m.regions;
   }
@@ -77,6 +80,7 @@ module _ (w : WorldValue) (part : State → Outcome (Unit {0})) (slot : ℕ) (v 
   goes_assigned (Err (halt.Index line)) m = made_assigned (Halted model.Index line) m
   goes_assigned (Err (halt.LogFull line)) m = made_assigned (Halted model.LogFull line) m
   goes_assigned (Err (halt.Region path why)) m = begun_assigned (AtRegion path why) m
+  goes_assigned (Err (halt.Tasks line)) m = begun_assigned (AtTasks line) m
   goes_assigned (Err (halt.Trouble trouble)) (m, refused) = (begun_assigned AtLog m, refused)
 
 -- no statement

@@ -1,5 +1,5 @@
 -- What is asked for the regions of statements, of some of them and as a lane goes on.
-use Rattle.std.proofs.Common.{◌≡◌, ap, sym, subst, ℕ, ◌<◌, List}
+use Rattle.std.proofs.Common.{◌≡◌, ap, sym, subst, ℕ, ◌<◌, List, [], ◌∷◌}
 use Rattle.std.specs.Prelude.{Some, All, length, slice_get}
 use denote.Ref.{Bor, MutBor}
 use Rattle.std.specs.Global.{Vec}
@@ -15,7 +15,8 @@ use Rattle.shared_words.specs.declared.view.View.{View}
 use Rattle.shared_words.specs.Handles.{HandValue}
 use Rattle.lane_runner.specs.declared.locals.Locals.{Locals}
 use Rattle.lane_runner.specs.Children.{LogView}
-use Rattle.lane_runner.specs.Forking.{Answer, RanRegion, RunsTeam}
+use Rattle.lane_runner.specs.Forking.{Answer, EndsAs, stop_in, RunsTeam}
+use Rattle.lane_runner.specs.Handed.{HandsOn, LogPlace, entries_of, place_of}
 use Rattle.lane_runner.specs.Going.{IsSameLog}
 use Rattle.lane_runner.specs.Teams.{EachTeam, EachTeamIn, MayFork}
 use Rattle.lane_runner.specs.World.{WorldValue}
@@ -48,12 +49,27 @@ module _ {T : Type 0} (w : WorldValue) (accepts : MutBor (HandValue View) → Bo
   team_of_region is all = (subst (EachTeam (MayFork w accepts gives seen old)) is all).0
 
   module _ (mid : Buffered) (same : IsSameLog old mid) where
+    place_same : place_of mid ≡ place_of old
+    place_same = λ i. record { dir = same.dir i; size = same.size i; tells = same.tells i }
+
     runs_later : (team : TeamTree) → RunsTeam w accepts gives seen old team → RunsTeam w accepts gives seen mid team
     runs_later team runs = record {
-      accepted = λ hand locals number logs given done is free new. runs.accepted hand locals number logs given done is free (new_logs_later seen old mid number team.span logs.items same new);
-      ran = λ hand after locals number logs given done now_done r is free new gave.
-          subst (λ (at : List Step). RanRegion w team locals.now.slots.items at number hand.now after.now r) (sym same.path)
-          (runs.ran hand after locals number logs given done now_done r is free (new_logs_later seen old mid number team.span logs.items same new) gave);
+      accepted = λ hand locals number logs given done is ready new. runs.accepted hand locals number logs given done is ready (new_logs_later seen old mid number team.span logs.items same new);
+      ran = λ hand after locals number logs given done now_done r is ready new gave.
+          let ran = runs.ran hand after locals number logs given done now_done r is ready (new_logs_later seen old mid number team.span logs.items same new) gave in
+          record {
+            phases = ran.phases;
+            sound = ran.sound;
+            elements = ran.elements;
+            hand = ran.hand;
+            lanes = ran.lanes;
+            drawn = ran.drawn;
+            joined = ran.joined;
+            ends = subst (λ (at : List Step). EndsAs w.arrays at number (record { team = team; slots = locals.now.slots.items }) ran.phases r) (sym same.path) ran.ends;
+            handed =
+                subst (λ (at : List Step). HandsOn (place_of mid) (stop_in r) at number (record { span = team.span; phases = ran.phases } ∷ []) (entries_of seen done.now.items) (entries_of seen now_done.now.items)) (sym same.path)
+                (subst (λ (place : LogPlace). HandsOn place (stop_in r) old.path number (record { span = team.span; phases = ran.phases } ∷ []) (entries_of seen done.now.items) (entries_of seen now_done.now.items)) (sym place_same) ran.handed);
+          };
     }
 
     may_fork_later : (team : TeamTree) → MayFork w accepts gives seen old team → MayFork w accepts gives seen mid team

@@ -68,6 +68,7 @@ gains_then a b c one more x y = record {
   records = λ header records holds. subst (λ (rs : List Record). HoldsRecords header c rs) (append_assoc records one more) (y.records header (records ++ one) (x.records header records holds));
   count = omega (arith, x.count, y.count, length-append one more);
   path = y.path ∙ x.path;
+  place = y.place ∙ x.place;
 }
 
 pub elements_then : (width : ℕ → ℕ) (work other : Work) → AccessesElements width work → AccessesElements width other → AccessesElements width (then_work work other)
@@ -110,6 +111,7 @@ done_none w a there = record {
     records = λ header records holds. subst (λ (rs : List Record). HoldsRecords header a.buffer rs) (sym (append-nil records)) holds;
     count = omega arith;
     path = refl;
+    place = refl;
   };
   draws = drew_none a.tally;
   forked = omega arith;

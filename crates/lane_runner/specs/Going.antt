@@ -1,5 +1,5 @@
 -- How a lane goes on: what its records, its hand and its locals have to do with the meaning of what it executes.
-use Rattle.std.specs.Prelude.{◌≡◌, ◌⊎◌, ℕ, ◌+◌, ◌-◌, ◌≤◌, List, [], ◌∷◌, ◌++◌, length, map, reverse, ◌<◌, ℤ, Some, None, Result, Ok, Err, is_some}
+use Rattle.std.specs.Prelude.{◌≡◌, ◌⊎◌, ℕ, ◌+◌, ◌-◌, ◌≤◌, List, [], ◌∷◌, ◌++◌, length, map, reverse, ◌<◌, ℤ, Option, Some, None, Result, Ok, Err, is_some}
 use Rattle.sw_base.specs.declared.trouble.Trouble.{Trouble}
 use Rattle.sw_base.specs.declared.trouble.Trouble.TheVariants.{Memory}
 use Rattle.log_format.specs.declared.record.Record.{Record}
@@ -32,7 +32,7 @@ use Rattle.lane_runner.specs.declared.stop.Stop.{Stop}
 use Rattle.lane_runner.specs.declared.stop.Halt.TheVariants as halt
 use Rattle.lane_runner.specs.Drawing.{Tally, HasDrawn}
 use Rattle.lane_runner.specs.Fitting.{WorkFits, AccessesElements}
-use Rattle.lane_runner.specs.Handed.{Entry}
+use Rattle.lane_runner.specs.Handed.{Entry, HandsOn, AreFew, place_of, task_limit}
 use Rattle.lane_runner.specs.Stopping.{HaveEnded, StopsAtLast}
 use Rattle.lane_runner.specs.World.{WorldValue, element_word, element_width, layout_of}
 
@@ -47,10 +47,11 @@ pub record Progress : Type 0 where
   pub tally : Tally
   pub done : List Entry
 
--- the lane can go on: its hands belong to the words and to the counters, its log has refused nothing and tells each fork, and it may
--- draw as often as its log has room
+-- the lane can go on: its hands belong to the words and to the counters, all that were split off the first are home, its log has
+-- refused nothing and tells each fork, and it may draw as often as its log has room
 pub record CanGo (w : WorldValue) (p : Progress) : Type 0 where
   pub belongs : Belongs p.hand w.words.table
+  pub home : p.hand.view.out ≡ []
   pub unrefused : p.buffer.refused ≡ None
   pub drawing : Belongs p.tally.draws w.chunks.table
   pub enough : log_limit ≤ p.tally.draws.view.left + p.buffer.count
@@ -69,6 +70,7 @@ pub record GainsRecords (old new : Buffered) (added : List Record) : Type 0 wher
   pub records : (header : List ℕ) (records : List Record) → HoldsRecords header old records → HoldsRecords header new (records ++ added)
   pub count : new.count ≡ old.count + length added
   pub path : new.path ≡ old.path
+  pub place : place_of new ≡ place_of old
 
 -- it is the same log before and after
 pub record IsSameLog (old new : Buffered) : Type 0 where
@@ -127,20 +129,39 @@ pub record LastIsRegion (records : List Record) : Type 0 where
   pub parts : records ≡ prefix ++ last ∷ []
   pub forks : last.kind ≡ Region
 
--- what keeps a lane from going on: its log refused a record, or in the region that it forked last the task of this path stopped so
+-- and it has this line
+pub record LastIsRegionAt (line : ℕ) (records : List Record) : Type 0 where
+  pub region : LastIsRegion records
+  pub line_is : region.last.line ≡ line
+
+-- what keeps a lane from going on: its log refused a record, in the region that it forked last the task of this path stopped so, or
+-- once that region, at this line, had ended, too many tasks were below its own
 pub data Cause : Type 0 where
   AtLog : Cause
   AtRegion : (path : List Step) → (why : Stop) → Cause
+  AtTasks : (line : ℕ) → Cause
 
 -- how the records of who doesn't go on end, where it held these mutexes
 abbrev pub EndsBy : Cause → List ℕ → List Record → Type 0
 EndsBy AtLog own records = Unit {0}
 EndsBy (AtRegion path why) own records = (own ≡ []) × LastIsRegion records
+EndsBy (AtTasks line) own records = (own ≡ []) × LastIsRegionAt line records
 
 -- what the regions forked have to do with it, where the task has forked others before
-abbrev pub StopsBy : List Array → Progress → Cause → List Fork → List RegionWork → Type 0
-StopsBy arrays before AtLog forks regions = HaveEnded regions
-StopsBy arrays before (AtRegion path why) forks regions = StopsAtLast arrays before.buffer.path before.tally.forked path why forks regions
+abbrev pub StopsBy : List Array → Progress → Progress → Cause → List Fork → List RegionWork → Type 0
+StopsBy arrays before after AtLog forks regions = HaveEnded regions
+StopsBy arrays before after (AtRegion path why) forks regions = StopsAtLast arrays before.buffer.path before.tally.forked path why forks regions
+StopsBy arrays before after (AtTasks line) forks regions = HaveEnded regions × (regions ≡ [] → ⊥) × (task_limit < length after.done)
+
+-- how the last of them stopped, if it did
+abbrev pub stop_by : Cause → Option Stop
+stop_by AtLog = None
+stop_by (AtRegion path why) = Some why
+stop_by (AtTasks line) = None
+
+-- the regions that the work forked added their logs to those handed on before
+abbrev pub WorkHandsOn : Option Stop → Progress → Progress → Work → Type 0
+WorkHandsOn stop old new work = HandsOn (place_of old.buffer) stop old.buffer.path old.tally.forked (work_regions work) old.done new.done
 
 -- what of the meaning of a part its work has made
 abbrev pub effect_of : List ℤ → Work → List Fork → Effect
@@ -155,6 +176,8 @@ pub record MadePast {A : Type 0} (bars : ℕ) (w : WorldValue) (part : State →
   pub released : HasReleased old.hand.view.held work own
   pub closes : ClosesAll finish own
   pub ended : HaveEnded (work_regions work)
+  pub handed : WorkHandsOn None old new work
+  pub few : AreFew old.done → AreFew new.done
   pub unrefused : new.buffer.refused ≡ None
   pub makes : ReadsFit (work_records work) → Makes part slots (log_limit - old.buffer.count) (effect_of slots' work forks) finish
   pub regions : WorkFits work → (program : Program) → program.arrays ≡ w.arrays → RunsRegions program forks (work_regions work)
@@ -170,7 +193,8 @@ pub record Began {A : Type 0} (w : WorldValue) (part : State → Outcome A) (slo
   pub done : HasDone w old new work
   pub released : HasReleased old.hand.view.held work own
   pub ends : EndsBy cause own (log_of work)
-  pub stops : StopsBy w.arrays old cause forks (work_regions work)
+  pub stops : StopsBy w.arrays old new cause forks (work_regions work)
+  pub handed : WorkHandsOn (stop_by cause) old new work
   pub begins : ReadsFit (work_records work) → BeginsPart part slots (log_limit - old.buffer.count) (log_of work) forks
   pub regions : WorkFits work → (program : Program) → program.arrays ≡ w.arrays → RunsRegions program forks (work_regions work)
 
@@ -180,6 +204,7 @@ pub record Waits (old new : Progress) : Type 0 where
   pub records : (header : List ℕ) (records : List Record) → HoldsRecords header old.buffer records → HoldsRecords header new.buffer records
   pub count : new.buffer.count ≡ old.buffer.count
   pub path : new.buffer.path ≡ old.buffer.path
+  pub place : place_of new.buffer ≡ place_of old.buffer
   pub tally : new.tally ≡ old.tally
   pub done : new.done ≡ old.done
 
@@ -200,6 +225,7 @@ GoesPast bars w part slots slots' old new (Err (halt.DivZero line)) = Made w par
 GoesPast bars w part slots slots' old new (Err (halt.Index line)) = Made w part slots slots' old new (Halted model.Index line)
 GoesPast bars w part slots slots' old new (Err (halt.LogFull line)) = Made w part slots slots' old new (Halted model.LogFull line)
 GoesPast bars w part slots slots' old new (Err (halt.Region path why)) = Began w part slots old new (AtRegion path why)
+GoesPast bars w part slots slots' old new (Err (halt.Tasks line)) = Began w part slots old new (AtTasks line)
 GoesPast bars w part slots slots' old new (Err (halt.Trouble trouble)) = Began w part slots old new AtLog × Refused trouble new
 
 abbrev pub Goes : {A : Type 0} → WorldValue → (State → Outcome A) → List ℤ → List ℤ → Progress → Progress → Result A Halt → Type 0

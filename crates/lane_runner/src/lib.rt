@@ -23,6 +23,8 @@ mod lane;
 mod laws;
 mod locals;
 mod phase;
+#[cfg(test)]
+mod phase_tests;
 mod run_phase;
 mod sharing;
 mod stop;
@@ -34,8 +36,11 @@ mod world;
 
 pub use element::Element;
 pub use lane::Lane;
-pub use laws::{arrays_of_a_kernel_have_words, elements_of_a_kernel_have_widths};
+pub use laws::{
+    arrays_of_a_kernel_have_words, elements_of_a_kernel_have_widths,
+    handed_logs_are_those_of_the_tasks,
+};
 pub use locals::Locals;
-pub use stop::{Halt, Stop};
+pub use stop::{Halt, Stop, TASK_LIMIT};
 pub use track::Track;
 pub use world::World;

@@ -1,7 +1,8 @@
 //! A whole phase.
-ghost use Rattle.std.specs.Prelude.{◌≡◌, ◌+◌, ◌<◌, ◌≤◌, [], map, All, IfOk};
+ghost use Rattle.std.specs.Prelude.{◌≡◌, ◌+◌, ◌<◌, ◌≤◌, [], map, All, IfOk, OnOk};
 ghost use Rattle.kernel_model.specs.Parts.{bar_count, drawn_count, run_parts};
 ghost use Rattle.kernel_model.specs.Phases.{part_of};
+ghost use Rattle.lane_runner.specs.Forking.{IsReady};
 ghost use Rattle.lane_runner.specs.Going.{CanGo, GoesPast, IsSameLog, site};
 ghost use Rattle.lane_runner.specs.Phase.{IsPhase};
 ghost use Rattle.lane_runner.specs.Teams.{EachTeamIn, MayFork};
@@ -46,7 +47,8 @@ impl<L: Log> Lane<L> {
         ensures goes { GoesPast (bar_count (map part_of phase.now)) world.now (run_parts (site world.now) (map part_of phase.now)) self.old.locals.slots.items self.new.locals.slots.items self.old.track self.new.track result }
         ensures log { IsSameLog self.old.track.buffer self.new.track.buffer }
         ensures loops { IfOk result (λ _. self.new.track.tally.next_loop ≡ self.old.track.tally.next_loop + drawn_count (map part_of phase.now)) }
-        ensures free { self.new.track.hand.view.held ≡ [] }
+        ensures ready { IsReady self.new.track.hand world.now.words }
+        ensures can { OnOk result (CanGo world.now self.new.track) }
     {
         for item in phase.items() {
             self.step(item, rt, alloc, world, region)?;

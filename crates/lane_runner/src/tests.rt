@@ -25,7 +25,7 @@ fn step(kind: Kind, mutex: u64, line: u32) -> Record {
 }
 
 // The bytes of a log of these records.
-fn log_of(alloc: Global, records: &[Record]) -> Result<Vec<u8>, Fail> {
+pub(crate) fn log_of(alloc: Global, records: &[Record]) -> Result<Vec<u8>, Fail> {
     let mut bytes = LOG_HEADER.to_vec(alloc)?;
     for record in records {
         bytes.extend_from_slice(&encode(record))?;
@@ -34,7 +34,7 @@ fn log_of(alloc: Global, records: &[Record]) -> Result<Vec<u8>, Fail> {
 }
 
 // A buffer before the empty log of a new folder.
-fn buffer(alloc: Global) -> Result<Buffer<MemLog>, Fail>
+pub(crate) fn buffer(alloc: Global) -> Result<Buffer<MemLog>, Fail>
     ensures unrefused { IfOk result (λ b. b.refused ≡ None) }
     ensures empty { IfOk result (λ b. b.count ≡ 0) }
 {
@@ -46,7 +46,7 @@ fn buffer(alloc: Global) -> Result<Buffer<MemLog>, Fail>
 }
 
 // What a lane's log has at its end.
-fn bytes_of(alloc: Global, track: Track<MemLog>) -> Result<Vec<u8>, Fail> {
+pub(crate) fn bytes_of(alloc: Global, track: Track<MemLog>) -> Result<Vec<u8>, Fail> {
     let (_, buffer, _, _) = track.into_parts();
     match buffer.close(alloc) {
         Ok(log) => Ok(log.bytes().to_vec(alloc)?),

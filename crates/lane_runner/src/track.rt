@@ -21,7 +21,7 @@ ghost use Rattle.lane_runner.specs.Placing.{StandsIn, meant};
 use crate::children::children;
 use crate::element::Element;
 use crate::locals::Locals;
-use crate::stop::{Halt, Stop};
+use crate::stop::{Halt, Stop, TASK_LIMIT};
 use crate::world::World;
 use event_buffer::{Buffer, BufferFault};
 use kernel_syntax::Team;
@@ -284,6 +284,7 @@ impl<L: Log> Track<L> {
         requires unrefused { self.old.buffer.refused ≡ None }
         requires line { 1 ≤ line }
         ensures goes { (w : WorldValue) (slots : List ℤ) → CanGo w self.old → GoesPast 1 w (put (event kind.Barrier line 0 0)) slots slots self.old self.new result }
+        ensures can { (w : WorldValue) → CanGo w self.old → OnOk result (CanGo w self.new) }
         ensures log { IsSameLog self.old.buffer self.new.buffer }
         ensures tally { self.new.tally ≡ self.old.tally }
     {
@@ -296,6 +297,7 @@ impl<L: Log> Track<L> {
         requires unrefused { self.old.buffer.refused ≡ None }
         requires line { 1 ≤ line }
         ensures goes { (w : WorldValue) (slots : List ℤ) → CanGo w self.old → Goes w (put (event kind.End line 0 0)) slots slots self.old self.new result }
+        ensures can { (w : WorldValue) → CanGo w self.old → OnOk result (CanGo w self.new) }
         ensures log { IsSameLog self.old.buffer self.new.buffer }
         ensures tally { self.new.tally ≡ self.old.tally }
     {
@@ -322,7 +324,8 @@ impl<L: Log> Track<L> {
         Ok(logs)
     }
 
-    /// Executes a region: makes the logs of its lanes, puts its record, and has the lanes run from these locals.
+    /// Executes a region: makes the logs of its lanes, puts its record, and has the lanes run from these locals. The logs of the
+    /// region's tasks are kept with those of the regions before.
     pub fn parallel<
         F: Fn(
             &mut Hand,
@@ -361,6 +364,9 @@ impl<L: Log> Track<L> {
             &mut self.done,
         ) {
             return Err(Halt::Region(path, stop));
+        }
+        if self.done.len() > TASK_LIMIT {
+            return Err(Halt::Tasks { line: team.line });
         }
         Ok(())
     }

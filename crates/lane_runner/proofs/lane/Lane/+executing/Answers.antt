@@ -206,7 +206,7 @@ critical-returns-in-Err-clause-goes g t c =
     let at = site c.args.world.now in
     let code = code_of c.args.body.now.stmts.items in
     section_left c.args.world.now (run at (tree.Critical c.args.mutex c.args.line c.args.end (code_of c.args.body.now.stmts.items) Done)) (section_rest at code c.args.mutex c.args.end) c.args.mutex c.args.line c.requires.bounded.1.some c.args.self.now.locals.slots.items c.statements.new.self.locals.slots.items
-    c.args.self.now.track c.lock.new.self c.statements.new.self.track c.release.new.self (run-Critical at c.args.mutex c.args.line c.args.end code Done) c.in_ok-lock.ensures.takes c.release.ensures.hand c.release.ensures.log c.release.ensures.tally c.in-Err.halt
+    c.args.self.now.track c.lock.new.self c.statements.new.self.track c.release.new.self (run-Critical at c.args.mutex c.args.line c.args.end code Done) c.in_ok-lock.ensures.takes c.release.ensures.hand c.release.ensures.log c.release.ensures.tally c.release.ensures.done c.in-Err.halt
     (after_stop c.args.world.now (run at code) (λ (s : State). after (put (event kind.Unlock c.args.end c.args.mutex 0) s) (run at Done)) c.args.self.now.locals.slots.items c.statements.new.self.locals.slots.items c.lock.new.self c.statements.new.self.track c.in-Err.halt
     (unlocking_grows at c.args.mutex c.args.end) (subst (λ (r : Result (Unit {0}) Halt). Goes c.args.world.now (run at code) c.args.self.now.locals.slots.items c.statements.new.self.locals.slots.items c.lock.new.self c.statements.new.self.track r) c.in-Err.is c.statements.ensures.goes))
 
@@ -215,10 +215,10 @@ critical-returns-in-Err-unlock-clause-goes g t c =
     let at = site c.args.world.now in
     let code = code_of c.args.body.now.stmts.items in
     let view = c.args.self.now.track.hand.view in
-    let in_section = can_taken c.args.world.now (event kind.Lock c.args.line c.args.mutex 0) (locked view c.args.mutex) c.args.self.now.track c.lock.new.self c.requires.can c.in_ok-lock.ensures.takes in
+    let in_section = can_taken c.args.world.now (event kind.Lock c.args.line c.args.mutex 0) (locked view c.args.mutex) c.args.self.now.track c.lock.new.self c.requires.can refl c.in_ok-lock.ensures.takes in
     let after_body = can_follow c.args.world.now (run at code) c.args.self.now.locals.slots.items c.statements.new.self.locals.slots.items c.lock.new.self c.statements.new.self.track (Returned tt) in_section c.in_default.ensures.goes in
     section_left c.args.world.now (run at (tree.Critical c.args.mutex c.args.line c.args.end code Done)) (section_rest at code c.args.mutex c.args.end) c.args.mutex c.args.line c.requires.bounded.1.some c.args.self.now.locals.slots.items c.statements.new.self.locals.slots.items
-    c.args.self.now.track c.lock.new.self c.unlock.new.self c.release-in-Err-unlock.new.self (run-Critical at c.args.mutex c.args.line c.args.end code Done) c.in_ok-lock.ensures.takes c.release-in-Err-unlock.ensures.hand c.release-in-Err-unlock.ensures.log c.release-in-Err-unlock.ensures.tally c.in-Err-unlock.halt
+    c.args.self.now.track c.lock.new.self c.unlock.new.self c.release-in-Err-unlock.new.self (run-Critical at c.args.mutex c.args.line c.args.end code Done) c.in_ok-lock.ensures.takes c.release-in-Err-unlock.ensures.hand c.release-in-Err-unlock.ensures.log c.release-in-Err-unlock.ensures.tally c.release-in-Err-unlock.ensures.done c.in-Err-unlock.halt
     (after_goes c.args.world.now (run at code) (unlocking at c.args.mutex c.args.end) c.args.self.now.locals.slots.items c.statements.new.self.locals.slots.items c.statements.new.self.locals.slots.items c.lock.new.self c.statements.new.self.track c.unlock.new.self (Err c.in-Err-unlock.halt) c.in_default.ensures.goes
     (goes_unready c.args.world.now (unlocking at c.args.mutex c.args.end) c.statements.new.self.locals.slots.items c.args.end (unlocking_grows at c.args.mutex c.args.end) (full_at_unlock at c.statements.new.self.locals.slots.items c.args.mutex c.args.end)
     c.statements.new.self.track c.unlock.new.self c.in-Err-unlock.halt after_body c.in-Err-unlock.ensures.takes))
@@ -305,7 +305,7 @@ pub repeat-statements-requires-clause-can : goal.repeat-statements-requires-clau
 repeat-statements-requires-clause-can g t c κs given = can_follow _ _ _ _ _ _ _ c.requires.can c.loop-i.invariant.made
 
 pub critical-unlock-requires-clause-can : goal.critical-unlock-requires-clause-can
-critical-unlock-requires-clause-can g t c κs given = can_follow _ _ _ _ _ _ _ (can_taken _ _ _ _ _ c.requires.can c.in_ok-lock.ensures.takes) c.in_default.ensures.goes
+critical-unlock-requires-clause-can g t c κs given = can_follow _ _ _ _ _ _ _ (can_taken _ _ _ _ _ c.requires.can refl c.in_ok-lock.ensures.takes) c.in_default.ensures.goes
 
 -- ---- regions
 

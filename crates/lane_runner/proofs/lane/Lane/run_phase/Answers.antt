@@ -1,14 +1,15 @@
-use Rattle.std.proofs.Common.{◌≡◌, ap, sym, ◌∙◌, subst, ℕ, ◌+◌, ◌<◌, ◌≤◌, length, List, Ok, Err, arith}
+use Rattle.std.proofs.Common.{sym, ◌∙◌, subst, ◌<◌, ◌≤◌, length, List, Ok, arith}
 use Rattle.std.proofs.lemmas.List.{take_all}
 use Rattle.std.proofs.lemmas.Result.{err_from_is_err_and}
-use Rattle.std.specs.Prelude.{map, IfOk}
+use Rattle.std.specs.Prelude.{map}
 use Rattle.kernel_model.specs.declared.phase.Item.{Item}
-use Rattle.kernel_model.specs.Parts.{bar_count, drawn_count, run_parts}
+use Rattle.kernel_model.specs.Parts.{bar_count, run_parts}
 use Rattle.kernel_model.specs.Phases.{part_of}
 use Rattle.kernel_model.specs.Effect.{Returned}
-use Rattle.lane_runner.specs.Going.{MadePast, GoesPast, site}
+use Rattle.lane_runner.specs.Going.{MadePast, site}
 use Rattle.lane_runner.proofs.Bodies.{log_still, log_later}
-use Rattle.lane_runner.proofs.Phases.{IsItemAt, item_at, item_is, drawn_more, drawn_within, phase_begins, can_before, phase_next, phase_stop, held_stays}
+use Rattle.lane_runner.proofs.Values.{can_past}
+use Rattle.lane_runner.proofs.Phases.{IsItemAt, item_at, item_is, drawn_more, drawn_within, phase_begins, can_before, phase_next, phase_stop, held_stays, out_stays}
 use Rattle.lane_runner.proofs.Teams.{teams_of_item_at}
 use Rattle.lane_runner.proofs.lane.Lane.run_phase.Goals as goal
 
@@ -92,3 +93,7 @@ returns-clause-goes g c =
     let past' : length c.args.phase.now ≤ c.loop-item.item-index = subst (λ (xs : List Item). length xs ≤ c.loop-item.item-index) c.loop-item.invariant.items past in
     subst (λ (xs : List Item). MadePast (bar_count (map part_of xs)) c.args.world.now (run_parts (site c.args.world.now) (map part_of xs)) c.args.self.now.locals.slots.items c.loop-item.self.locals.slots.items c.args.self.now.track c.loop-item.self.track (Returned tt))
     (take_all c.loop-item.item-index c.args.phase.now past') c.loop-item.invariant.made
+
+pub returns-clause-can : goal.returns-clause-can
+returns-clause-can g c =
+    can_past _ c.args.world.now _ c.args.self.now.locals.slots.items c.loop-item.self.locals.slots.items c.args.self.now.track c.loop-item.self.track (Returned tt) c.requires.can c.loop-item.invariant.made

@@ -13,7 +13,7 @@ use Rattle.lane_runner.specs.Drawing.{Tally}
 use Rattle.lane_runner.specs.Going.{Progress, HasRoomFor, Made}
 use Rattle.lane_runner.proofs.Stepping.{goes_unready}
 use Rattle.lane_runner.proofs.Drawn.{draw_grows, draw_made, same_hand}
-use Rattle.lane_runner.specs.Handed.{entries_of}
+use Rattle.lane_runner.specs.Handed.{entries_of, place_of}
 use Rattle.lane_runner.proofs.track.Track.draw.Goals as goal
 
 pub returns-in_err-ready-clause-goes : goal.returns-in_err-ready-clause-goes
@@ -43,11 +43,12 @@ returns-clause-goes g c =
     (c.draw-number.ensures.drawn ∙ same_hand c.self.inside.draws (drew c.self.inside.draws.view c.self.inside.next_loop number) there)
     (λ less. c.loop_after-self-inside.ensures.open (subst (λ (k : ℕ). k < c.args.chunks) (sym least) less))
     (λ past. c.loop_after-self-inside.ensures.closed (subst (λ (k : ℕ). c.args.chunks ≤ k) (sym least) past))
-    refl (ap (λ (b : Buffered). b.refused) c.put.ensures.put ∙ room.may_put.unrefused)
+    refl refl (ap (λ (b : Buffered). b.refused) c.put.ensures.put ∙ room.may_put.unrefused)
     (record {
       records = λ header records holds. subst (λ (r : Record). HoldsRecords header c.put.new.self (records ++ r ∷ [])) (c.event-event.ensures ∙ ap (λ (k : ℕ). event kind.Chunk c.args.line k c.args.chunks) least) (c.put.ensures.records header records holds);
       count = ap (λ (b : Buffered). b.count) c.put.ensures.put;
       path = ap (λ (b : Buffered). b.path) c.put.ensures.put;
+      place = ap place_of c.put.ensures.put;
     }) slots)
 
 pub returns-clause-open : goal.returns-clause-open

@@ -7,7 +7,7 @@ use Rattle.event_buffer.specs.Buffered.{Buffered, MayPut}
 use Rattle.event_buffer.specs.Logged.{HoldsRecords}
 use Rattle.lane_runner.specs.Going.{Progress, HasRoomFor, Waits}
 use Rattle.lane_runner.proofs.Working.{hand_still}
-use Rattle.lane_runner.specs.Handed.{entries_of}
+use Rattle.lane_runner.specs.Handed.{entries_of, place_of}
 use Rattle.lane_runner.proofs.track.Track.fork.Goals as goal
 
 module _ (old mid : Progress) (new : Buffered) (room : HasRoomFor old mid) (same : new ≡ record mid.buffer { faults = new.faults; refused = new.refused }) where
@@ -24,6 +24,7 @@ module _ (old mid : Progress) (new : Buffered) (room : HasRoomFor old mid) (same
     records = λ header rs holds. records header rs (room.waits.records header rs holds);
     count = ap (λ (b : Buffered). b.count) same ∙ room.waits.count;
     path = ap (λ (b : Buffered). b.path) same ∙ room.waits.path;
+    place = ap place_of same ∙ room.waits.place;
     tally = room.waits.tally;
     done = room.waits.done;
   }
@@ -51,6 +52,7 @@ returns-clause-takes g c =
             subst (λ (r : Record). HoldsRecords header c.put.new.self (records ++ r ∷ [])) (c.event-event.ensures ∙ ap (λ (n : ℕ). event kind.Region c.args.line 0 n) c.from.ensures) (c.put.ensures.records header records (waits.records header records holds));
         count = ap (λ (b : Buffered). b.count) c.put.ensures.put ∙ ap (λ (n : ℕ). n + 1) waits.count;
         path = ap (λ (b : Buffered). b.path) c.put.ensures.put ∙ waits.path;
+        place = ap place_of c.put.ensures.put ∙ waits.place;
       };
       below = subst (λ (n : ℕ). n < log_limit) room.waits.count room.may_put.below;
       tally = room.waits.tally;

@@ -1,5 +1,5 @@
 use Rattle.kernel_model.specs.Trace.{log_limit}
-use Rattle.std.proofs.Common.{ℕ, ◌+◌, ◌<◌, [], ap, sym, ◌∙◌, subst, ◌++◌, ◌∷◌}
+use Rattle.std.proofs.Common.{refl, ℕ, ◌+◌, ◌<◌, [], ap, sym, ◌∙◌, subst, ◌++◌, ◌∷◌}
 use Rattle.log_format.specs.declared.record.Record.{Record}
 use Rattle.log_format.specs.declared.record.Kind.TheVariants as kind
 use Rattle.kernel_model.specs.State.{event}
@@ -10,7 +10,7 @@ use Rattle.shared_words.specs.Handles.{HandValue, with_view}
 use Rattle.shared_words.specs.Views.{locked}
 use Rattle.lane_runner.specs.Going.{Progress, HasRoomFor}
 use Rattle.lane_runner.proofs.Sections.{can_taken}
-use Rattle.lane_runner.specs.Handed.{entries_of}
+use Rattle.lane_runner.specs.Handed.{entries_of, place_of}
 use Rattle.lane_runner.proofs.track.Track.lock.Goals as goal
 
 pub returns-clause-takes : goal.returns-clause-takes
@@ -24,6 +24,7 @@ returns-clause-takes g c =
             subst (λ (r : Record). HoldsRecords header c.put.new.self (records ++ r ∷ [])) (c.event-event.ensures ∙ ap (λ (m : ℕ). event kind.Lock c.args.line m 0) c.from-2.ensures) (c.put.ensures.records header records (room.waits.records header records holds));
         count = ap (λ (b : Buffered). b.count) c.put.ensures.put ∙ ap (λ (n : ℕ). n + 1) room.waits.count;
         path = ap (λ (b : Buffered). b.path) c.put.ensures.put ∙ room.waits.path;
+        place = ap place_of c.put.ensures.put ∙ room.waits.place;
       };
       below = subst (λ (n : ℕ). n < log_limit) room.waits.count room.may_put.below;
       tally = room.waits.tally;
@@ -32,4 +33,4 @@ returns-clause-takes g c =
     }
 
 pub returns-clause-can : goal.returns-clause-can
-returns-clause-can g c = can_taken c.args.world.now (event kind.Lock c.args.line c.args.mutex 0) (locked c.args.self.now.hand.view c.args.mutex) c.args.self.now _ c.requires.can (returns-clause-takes g c)
+returns-clause-can g c = can_taken c.args.world.now (event kind.Lock c.args.line c.args.mutex 0) (locked c.args.self.now.hand.view c.args.mutex) c.args.self.now _ c.requires.can refl (returns-clause-takes g c)

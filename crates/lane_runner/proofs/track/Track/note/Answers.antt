@@ -5,6 +5,7 @@ use Rattle.event_buffer.specs.Buffered.{Buffered}
 use Rattle.event_buffer.specs.Logged.{HoldsRecords}
 use Rattle.lane_runner.specs.Going.{Progress, HasRoomFor}
 use Rattle.lane_runner.proofs.Working.{hand_still}
+use Rattle.lane_runner.specs.Handed.{place_of}
 use Rattle.lane_runner.proofs.track.Track.note.Goals as goal
 
 pub returns-clause-takes : goal.returns-clause-takes
@@ -17,6 +18,7 @@ returns-clause-takes g c =
             subst (λ (r : Record). HoldsRecords header c.put.new.self (records ++ r ∷ [])) c.event-event.ensures (c.put.ensures.records header records (room.waits.records header records holds));
         count = ap (λ (b : Buffered). b.count) c.put.ensures.put ∙ ap (λ (n : ℕ). n + 1) room.waits.count;
         path = ap (λ (b : Buffered). b.path) c.put.ensures.put ∙ room.waits.path;
+        place = ap place_of c.put.ensures.put ∙ room.waits.place;
       };
       below = subst (λ (n : ℕ). n < log_limit) room.waits.count room.may_put.below;
       tally = room.waits.tally;

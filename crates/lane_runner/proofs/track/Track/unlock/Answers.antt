@@ -9,7 +9,7 @@ use Rattle.shared_words.specs.declared.view.View.{View}
 use Rattle.shared_words.specs.Handles.{HandValue, with_view}
 use Rattle.shared_words.specs.Views.{unlocked}
 use Rattle.lane_runner.specs.Going.{Progress, HasRoomFor}
-use Rattle.lane_runner.specs.Handed.{entries_of}
+use Rattle.lane_runner.specs.Handed.{entries_of, place_of}
 use Rattle.lane_runner.proofs.track.Track.unlock.Goals as goal
 
 pub returns-clause-takes : goal.returns-clause-takes
@@ -23,6 +23,7 @@ returns-clause-takes g c =
             subst (λ (r : Record). HoldsRecords header c.put.new.self (records ++ r ∷ [])) (c.event-event.ensures ∙ ap (λ (m : ℕ). event kind.Unlock c.args.line m 0) c.from-2.ensures) (c.put.ensures.records header records (room.waits.records header records holds));
         count = ap (λ (b : Buffered). b.count) c.put.ensures.put ∙ ap (λ (n : ℕ). n + 1) room.waits.count;
         path = ap (λ (b : Buffered). b.path) c.put.ensures.put ∙ room.waits.path;
+        place = ap place_of c.put.ensures.put ∙ room.waits.place;
       };
       below = subst (λ (n : ℕ). n < log_limit) room.waits.count room.may_put.below;
       tally = room.waits.tally;

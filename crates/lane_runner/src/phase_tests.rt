@@ -1,0 +1,44 @@
+//! The ends of phases and tasks, with what a log tells of them.
+ghost use Rattle.std.specs.Prelude.{◌≡◌, [], IfOk};
+
+use crate::tests::{buffer, bytes_of, log_of};
+use crate::{Halt, Track, World};
+use kernel_syntax::Array;
+use log_format::{Kind, Record};
+use shared_words::{Chunks, Words};
+use std::process::Abort;
+use std::test::Fail;
+use sw_base::MemLog;
+
+const FULL: u32 = 4_194_304;
+
+// The record of a step that is no access.
+fn event(kind: Kind, line: u32) -> Record {
+    Record {
+        kind,
+        size: 0,
+        site: 0,
+        line,
+        addr: 0,
+        value: 0,
+    }
+}
+
+#[test]
+fn a_barrier_and_an_end_are_recorded(rt: HostRuntime) -> Result<(), Fail> {
+    let alloc = rt.alloc();
+    let (words, hand) = Words::new(alloc, 0, 1)?;
+    let (chunks, draws) = Chunks::new(alloc, 0)?;
+    let arrays: [Array; 0] = [];
+    let world = World::new(&arrays, &words, &chunks, 0, 1);
+    let mut track = Track::new(alloc, hand, buffer(alloc)?, draws);
+    let Ok(()) = track.meet(alloc, 5) else {
+        panic!(rt; "no room");
+    };
+    let Ok(()) = track.finish(alloc, 9) else {
+        panic!(rt; "no room");
+    };
+    let expected = log_of(alloc, &[event(Kind::Barrier, 5), event(Kind::End, 9)])?;
+    assert!(rt; bytes_of(alloc, track)? == expected);
+    Ok(())
+}
