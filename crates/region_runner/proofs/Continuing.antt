@@ -16,10 +16,13 @@ use Rattle.execution_model.specs.Runs.{RunsRegions}
 use Rattle.lane_runner.specs.declared.stop.Halt.{Halt}
 use Rattle.lane_runner.specs.declared.stop.Halt.TheVariants as halt
 use Rattle.lane_runner.specs.World.{WorldValue}
-use Rattle.lane_runner.specs.Going.{Progress, HasDonePast, GainsRecords, HasReleased, Cause, AtLog, AtRegion, EndsBy, StopsBy, log_of, BeginsPart, effect_of, MadePast, Began, GoesPast}
+use Rattle.lane_runner.specs.Going.{Progress, HasDonePast, GainsRecords, HasReleased, Cause, AtLog, AtRegion, AtTasks, EndsBy, StopsBy, WorkHandsOn, stop_by, log_of, BeginsPart, effect_of, MadePast, Began, GoesPast}
 use Rattle.lane_runner.specs.Drawing.{HasDrawn}
 use Rattle.lane_runner.specs.Fitting.{WorkFits}
 use Rattle.lane_runner.specs.Stopping.{HaveEnded}
+use Rattle.lane_runner.specs.declared.stop.Stop.{Stop}
+use Rattle.lane_runner.specs.Handed.{Entry, HandsOn, AreFew, place_of}
+use Rattle.lane_runner.proofs.Handing.{work_hands_then}
 use Rattle.lane_runner.proofs.Drawing.{drew_then}
 use Rattle.lane_runner.proofs.Working.{log_then, gains_then, regions_then, runs_then}
 use Rattle.lane_runner.proofs.Releasing.{released_then, ends_then}
@@ -84,6 +87,11 @@ module _ (w : WorldValue) (part next : State → Outcome (Unit {0})) (slots mid_
   forked_is : start.tally.forked ≡ old.tally.forked + length (work_regions (in_one works))
   forked_is = ap (λ t. t.forked) up.tally ∙ ran.logged.forked
 
+  handed : (stop : Option Stop) (work : Work) → WorkHandsOn stop start new work → WorkHandsOn stop old new (then_work (in_one works) work)
+  handed stop work hands =
+      work_hands_then stop old start new (in_one works) work (ap (λ b. place_of b) up.buffer ∙ ran.logged.log.place) path_is forked_is
+      (subst (λ (es : List Entry). HandsOn (place_of old.buffer) None old.buffer.path old.tally.forked (work_regions (in_one works)) old.done es) (sym up.done) ran.handed) hands
+
   abbrev both : State → Outcome (Unit {0})
   both s = after (part s) next
 
@@ -95,6 +103,8 @@ module _ (w : WorldValue) (part next : State → Outcome (Unit {0})) (slots mid_
     released = subst (λ (x : Work). HasReleased [] x m.own) (sym (one_more works m.work)) (released m.work m.own m.released);
     closes = m.closes;
     ended = subst (λ (x : Work). HaveEnded (work_regions x)) (sym (one_more works m.work)) (ended_then (in_one works) m.work ran.ended m.ended);
+    handed = subst (λ (x : Work). WorkHandsOn None old new x) (sym (one_more works m.work)) (handed None m.work m.handed);
+    few = λ less. m.few (subst (λ (es : List Entry). AreFew es) (sym up.done) (ran.few less));
     unrefused = m.unrefused;
     makes =
         subst (λ (x : Work). ReadsFit (work_records x) → Makes both slots (log_limit - old.buffer.count) (effect_of slots' x (ran.forks ++ m.forks)) finish) (sym (one_more works m.work))
@@ -118,8 +128,9 @@ module _ (w : WorldValue) (part next : State → Outcome (Unit {0})) (slots mid_
         subst (λ (x : Work). EndsBy cause m.own (log_of x)) (sym (one_more works m.work))
         (subst (λ (rs : List Record). EndsBy cause m.own rs) (sym (log_then (in_one works) m.work)) (ends_then cause m.own (log_of (in_one works)) (log_of m.work) m.ends));
     stops =
-        subst (λ (x : Work). StopsBy w.arrays old cause (ran.forks ++ m.forks) (work_regions x)) (sym (one_more works m.work))
-        (stops_then w.arrays old start cause ran.forks m.forks (in_one works) m.work path_is forked_is ran.ended m.stops);
+        subst (λ (x : Work). StopsBy w.arrays old new cause (ran.forks ++ m.forks) (work_regions x)) (sym (one_more works m.work))
+        (stops_then w.arrays old start new cause ran.forks m.forks (in_one works) m.work path_is forked_is ran.ended m.stops);
+    handed = subst (λ (x : Work). WorkHandsOn (stop_by cause) old new x) (sym (one_more works m.work)) (handed (stop_by cause) m.work m.handed);
     begins =
         subst (λ (x : Work). ReadsFit (work_records x) → BeginsPart both slots (log_limit - old.buffer.count) (log_of x) (ran.forks ++ m.forks)) (sym (one_more works m.work))
         (λ fit.
@@ -139,6 +150,7 @@ module _ (w : WorldValue) (part next : State → Outcome (Unit {0})) (slots mid_
   phase_work bars (Err (halt.Index line)) m = m.work
   phase_work bars (Err (halt.LogFull line)) m = m.work
   phase_work bars (Err (halt.Region path why)) m = m.work
+  phase_work bars (Err (halt.Tasks line)) m = m.work
   phase_work bars (Err (halt.Trouble trouble)) (m, refused) = m.work
 
   pub goes_on : (bars : ℕ) (r : Result (Unit {0}) Halt) (m : GoesPast bars w next mid_slots slots' start new r) → TaskGoes w both slots slots' old new (works ++ phase_work bars r m ∷ []) r
@@ -147,4 +159,5 @@ module _ (w : WorldValue) (part next : State → Outcome (Unit {0})) (slots mid_
   goes_on bars (Err (halt.Index line)) m = ran_on 0 (Halted model.Index line) m
   goes_on bars (Err (halt.LogFull line)) m = ran_on 0 (Halted model.LogFull line) m
   goes_on bars (Err (halt.Region path why)) m = began_on (AtRegion path why) m
+  goes_on bars (Err (halt.Tasks line)) m = began_on (AtTasks line) m
   goes_on bars (Err (halt.Trouble trouble)) (m, refused) = (began_on AtLog m, refused)

@@ -18,7 +18,7 @@ use Rattle.lane_runner.specs.declared.stop.Halt.{Halt}
 use Rattle.lane_runner.specs.declared.stop.Halt.TheVariants as halt
 use Rattle.lane_runner.specs.Stopping.{HaveEnded}
 use Rattle.lane_runner.specs.World.{WorldValue, element_word, element_width, layout_of}
-use Rattle.lane_runner.specs.Going.{Progress, HasReleased, Cause, AtLog, AtRegion, EndsBy, StopsBy, LastIsRegion, log_of, MadePast, Began, GoesPast}
+use Rattle.lane_runner.specs.Going.{Progress, HasReleased, Cause, AtLog, AtRegion, AtTasks, EndsBy, StopsBy, LastIsRegion, log_of, MadePast, Began, GoesPast}
 use Rattle.region_runner.specs.Team.{DidWork}
 
 -- all regions ended
@@ -105,8 +105,9 @@ region_joined layout (Work.Fork line span phases more) (b ∷ before) region is 
 -- ---- a lane's phase
 
 began_joined : (w : WorldValue) (old new : Progress) (cause : Cause) (work : Work) (forks : List Fork) (own : List ℕ) → IsSound (layout_of w.arrays) work → HasReleased [] work own → EndsBy cause own (log_of work)
-    → StopsBy w.arrays old cause forks (work_regions work) → IsJoined work
+    → StopsBy w.arrays old new cause forks (work_regions work) → IsJoined work
 began_joined w old new AtLog work forks own sound released ends stops = ended_joined work stops
+began_joined w old new (AtTasks line) work forks own sound released ends stops = ended_joined work stops.0
 began_joined w old new (AtRegion path why) work forks own sound released (none, last) stops =
     region_joined (layout_of w.arrays) work stops.before stops.region stops.regions_are stops.ended stops.joined sound
     (subst (λ (rs : List Record). LastIsRegion rs) (sym (released.records ∙ ap (λ (l : List ℕ). log_of work ++ map release l) none ∙ append-nil (log_of work))) last)
@@ -130,6 +131,7 @@ module _ (w : WorldValue) (part : State → Outcome (Unit {0})) (slots slots' : 
   work_of bars (Err (halt.Index line)) m = m.work
   work_of bars (Err (halt.LogFull line)) m = m.work
   work_of bars (Err (halt.Region path why)) m = m.work
+  work_of bars (Err (halt.Tasks line)) m = m.work
   work_of bars (Err (halt.Trouble trouble)) (m, refused) = m.work
 
   pub phase_did_work : (bars : ℕ) (r : Result (Unit {0}) Halt) (m : GoesPast bars w part slots slots' old new r) → DidWork w.arrays old.hand new.hand (work_of bars r m)
@@ -138,6 +140,7 @@ module _ (w : WorldValue) (part : State → Outcome (Unit {0})) (slots slots' : 
   phase_did_work bars (Err (halt.Index line)) m = made_did 0 (Halted model.Index line) m
   phase_did_work bars (Err (halt.LogFull line)) m = made_did 0 (Halted model.LogFull line) m
   phase_did_work bars (Err (halt.Region path why)) m = began_did (AtRegion path why) m
+  phase_did_work bars (Err (halt.Tasks line)) m = began_did (AtTasks line) m
   phase_did_work bars (Err (halt.Trouble trouble)) (m, refused) = began_did AtLog m
 
   -- and it passed so many barriers, where it ended

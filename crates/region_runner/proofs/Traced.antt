@@ -25,7 +25,7 @@ use Rattle.lane_runner.specs.declared.stop.Halt.{Halt}
 use Rattle.lane_runner.specs.declared.stop.Halt.TheVariants as halt
 use Rattle.lane_runner.specs.Fitting.{WorkFits, PhasesFit, TeamFits}
 use Rattle.lane_runner.specs.World.{WorldValue}
-use Rattle.lane_runner.specs.Going.{Progress, HasReleased, Cause, AtLog, AtRegion, log_of, BeginsPart, GoesOnFrom, effect_of}
+use Rattle.lane_runner.specs.Going.{Progress, HasReleased, Cause, AtLog, AtRegion, AtTasks, log_of, BeginsPart, GoesOnFrom, effect_of}
 use Rattle.lane_runner.proofs.Beginning.{begins_first, begins_same, begins_made}
 use Rattle.lane_runner.proofs.Following.{after_is}
 use Rattle.lane_runner.proofs.Working.{regions_then}
@@ -136,6 +136,7 @@ module _ (program : Program) (start : Start) where
     runs_goes (Err (halt.Index line)) t = runs_ran (Halted model.Index line) t
     runs_goes (Err (halt.LogFull line)) t = runs_ran (Halted model.LogFull line) t
     runs_goes (Err (halt.Region path why)) t = runs_begun (AtRegion path why) t
+    runs_goes (Err (halt.Tasks line)) t = runs_begun (AtTasks line) t
     runs_goes (Err (halt.Trouble trouble)) t = runs_begun AtLog t.0
 
     -- a task that stopped: its trace ends so

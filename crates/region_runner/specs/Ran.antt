@@ -13,9 +13,10 @@ use Rattle.lane_runner.specs.declared.stop.Halt.{Halt}
 use Rattle.lane_runner.specs.declared.stop.Halt.TheVariants as halt
 use Rattle.lane_runner.specs.Drawing.{HasDrawn}
 use Rattle.lane_runner.specs.Fitting.{WorkFits}
+use Rattle.lane_runner.specs.Handed.{AreFew}
 use Rattle.lane_runner.specs.Stopping.{HaveEnded}
 use Rattle.lane_runner.specs.World.{WorldValue}
-use Rattle.lane_runner.specs.Going.{Progress, GainsRecords, log_of, effect_of, HasReleased, ClosesAll, BeginsPart, Cause, AtLog, AtRegion, EndsBy, StopsBy, Refused}
+use Rattle.lane_runner.specs.Going.{Progress, GainsRecords, log_of, effect_of, HasReleased, ClosesAll, BeginsPart, Cause, AtLog, AtRegion, AtTasks, EndsBy, StopsBy, WorkHandsOn, stop_by, Refused}
 
 -- the works of all phases as one
 abbrev pub in_one : List Work → Work
@@ -26,6 +27,7 @@ in_one (work ∷ works) = then_work work (in_one works)
 pub record TakesUp (mid start : Progress) : Type 0 where
   pub buffer : start.buffer ≡ mid.buffer
   pub tally : start.tally ≡ mid.tally
+  pub done : start.done ≡ mid.done
 
 -- the lane's log has gained the records of the work, and its counts the draws and the forks
 pub record HasLogged (old new : Progress) (work : Work) : Type 0 where
@@ -41,6 +43,8 @@ pub record TaskRan (w : WorldValue) (part : State → Outcome (Unit {0})) (slots
   pub released : HasReleased [] (in_one works) own
   pub closes : ClosesAll finish own
   pub ended : HaveEnded (work_regions (in_one works))
+  pub handed : WorkHandsOn None old new (in_one works)
+  pub few : AreFew old.done → AreFew new.done
   pub unrefused : new.buffer.refused ≡ None
   pub makes : ReadsFit (work_records (in_one works)) → Makes part slots (log_limit - old.buffer.count) (effect_of slots' (in_one works) forks) finish
   pub regions : WorkFits (in_one works) → (program : Program) → program.arrays ≡ w.arrays → RunsRegions program forks (work_regions (in_one works))
@@ -52,7 +56,8 @@ pub record TaskBegan (w : WorldValue) (part : State → Outcome (Unit {0})) (slo
   pub logged : HasLogged old new (in_one works)
   pub released : HasReleased [] (in_one works) own
   pub ends : EndsBy cause own (log_of (in_one works))
-  pub stops : StopsBy w.arrays old cause forks (work_regions (in_one works))
+  pub stops : StopsBy w.arrays old new cause forks (work_regions (in_one works))
+  pub handed : WorkHandsOn (stop_by cause) old new (in_one works)
   pub begins : ReadsFit (work_records (in_one works)) → BeginsPart part slots (log_limit - old.buffer.count) (log_of (in_one works)) forks
   pub regions : WorkFits (in_one works) → (program : Program) → program.arrays ≡ w.arrays → RunsRegions program forks (work_regions (in_one works))
 
@@ -63,4 +68,5 @@ TaskGoes w part slots slots' old new works (Err (halt.DivZero line)) = TaskRan w
 TaskGoes w part slots slots' old new works (Err (halt.Index line)) = TaskRan w part slots slots' old new works (Halted model.Index line)
 TaskGoes w part slots slots' old new works (Err (halt.LogFull line)) = TaskRan w part slots slots' old new works (Halted model.LogFull line)
 TaskGoes w part slots slots' old new works (Err (halt.Region path why)) = TaskBegan w part slots old new works (AtRegion path why)
+TaskGoes w part slots slots' old new works (Err (halt.Tasks line)) = TaskBegan w part slots old new works (AtTasks line)
 TaskGoes w part slots slots' old new works (Err (halt.Trouble trouble)) = TaskBegan w part slots old new works AtLog × Refused trouble new
