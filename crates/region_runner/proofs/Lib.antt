@@ -11,3 +11,4 @@ pub mod JoinedWork
 pub mod TeamDraws
 pub mod SplitHands
 pub mod Pointwise
+pub mod WentOn

@@ -3,4 +3,5 @@ pub mod Nesting
 pub mod Hands
 pub mod Ran
 pub mod Team
+pub mod Crew
 pub mod Member
