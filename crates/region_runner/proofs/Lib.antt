@@ -12,3 +12,4 @@ pub mod TeamDraws
 pub mod SplitHands
 pub mod Pointwise
 pub mod WentOn
+pub mod LawfulParts

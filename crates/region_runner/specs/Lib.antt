@@ -4,4 +4,5 @@ pub mod Hands
 pub mod Ran
 pub mod Team
 pub mod Crew
+pub mod Lawful
 pub mod Member
