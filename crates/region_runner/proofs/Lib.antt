@@ -13,3 +13,4 @@ pub mod SplitHands
 pub mod Pointwise
 pub mod WentOn
 pub mod LawfulParts
+pub mod LawfulPhases
