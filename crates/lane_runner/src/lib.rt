@@ -2,7 +2,8 @@
 //!
 //! So far: the value of an expression with its loads; lists of assignments, stores, tests, loops and critical sections; worksharing
 //! loops of every schedule; the fork of a region, which a function of the caller's runs, with new logs for its lanes; a team's
-//! statements and items, one at a time; and the record of a barrier. A whole phase comes next, and the program doesn't use the crate yet.
+//! statements and items, one at a time; a whole phase, with the record of its barrier; and the record of a task's end. A region inside a
+//! test or a loop that isn't unrolled comes next, and the program doesn't use the crate yet.
 //!
 //! Before each record the buffer makes room, then the step on the shared words is taken, and then the record is put: no step is
 //! taken that has no place in the log. Each call says by one witness, a tree of work, what it did: its records are those that the
