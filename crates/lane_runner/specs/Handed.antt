@@ -47,6 +47,7 @@ place_of b = record { dir = b.dir; size = b.size; tells = is_some b.text }
 abbrev pub task_limit : ℕ
 task_limit = 65535
 
+-- there are no more than that
 abbrev pub AreFew : List Entry → Type 0
 AreFew entries = length entries ≤ task_limit
 
