@@ -8,6 +8,7 @@ use Rattle.kernel_model.specs.State as model
 use Rattle.history_model.specs.Work.{Work, Rest, Put, Fork, RegionWork, work_regions, then_work}
 use Rattle.history_model.specs.Joined.{PhasesEnd, ArePhasesJoined}
 use Rattle.lane_runner.specs.Fitting.{WorkFits}
+use Rattle.lane_runner.specs.Handed.{AreFew}
 use Rattle.lane_runner.specs.Stopping.{HaveEnded, StopsRegion, StopsAtLast}
 use Rattle.lane_runner.specs.declared.stop.Stop.{Stop}
 use Rattle.lane_runner.specs.Going.{Progress, Cause, AtLog, AtRegion, AtTasks, StopsBy}
@@ -42,10 +43,10 @@ pub ended_then : (work other : Work) → HaveEnded (work_regions work) → HaveE
 ended_then work other x y = subst (λ (rs : List RegionWork). HaveEnded rs) (sym (regions_then work other)) (ended_both (work_regions work) (work_regions other) x y)
 
 pub stops_then : (arrays : List Array) (old mid new : Progress) (cause : Cause) (earlier forks : List model.Fork) (work other : Work) → mid.buffer.path ≡ old.buffer.path → mid.tally.forked ≡ old.tally.forked + length (work_regions work)
-    → HaveEnded (work_regions work) → StopsBy arrays mid new cause forks (work_regions other) → StopsBy arrays old new cause (earlier ++ forks) (work_regions (then_work work other))
-stops_then arrays old mid new AtLog earlier forks work other path forked x y = ended_then work other x y
-stops_then arrays old mid new (AtTasks line) earlier forks work other path forked x y = (ended_then work other x y.0, y.1)
-stops_then arrays old mid new (AtRegion path why) earlier forks work other same forked x y =
+    → HaveEnded (work_regions work) → (AreFew old.done → AreFew mid.done) → StopsBy arrays mid new cause forks (work_regions other) → StopsBy arrays old new cause (earlier ++ forks) (work_regions (then_work work other))
+stops_then arrays old mid new AtLog earlier forks work other path forked x few y = (ended_then work other x y.0, λ less. y.1 (few less))
+stops_then arrays old mid new (AtTasks line) earlier forks work other path forked x few y = (ended_then work other x y.0, y.1)
+stops_then arrays old mid new (AtRegion path why) earlier forks work other same forked x few y =
     subst (λ (rs : List RegionWork). StopsAtLast arrays old.buffer.path old.tally.forked path why (earlier ++ forks) rs) (sym (regions_then work other))
     (stops_both arrays old.buffer.path old.tally.forked path why earlier forks (work_regions work) (work_regions other) x
     (subst (λ (n : ℕ). StopsAtLast arrays old.buffer.path n path why forks (work_regions other)) forked

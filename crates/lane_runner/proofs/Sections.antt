@@ -320,7 +320,7 @@ module _ (w : WorldValue) (at : Site) (code : Code) (mutex line end : ℕ) (some
 -- regions of a task that took a lock before
 stops_from : (arrays : List Array) (old a b new : Progress) (cause : Cause) (forks : List Fork) (regions : List RegionWork) {event : Record} {after : View} → Takes event after old a → new.done ≡ b.done
     → StopsBy arrays a b cause forks regions → StopsBy arrays old new cause forks regions
-stops_from arrays old a b new AtLog forks regions taken same stops = stops
+stops_from arrays old a b new AtLog forks regions taken same stops = (stops.0, few_between old.done a.done b.done new.done taken.done same stops.1)
 stops_from arrays old a b new (AtTasks line) forks regions taken same stops = (stops.0, subst (λ (es : List Entry). task_limit < length es) (sym same) stops.1)
 stops_from arrays old a b new (AtRegion path why) forks regions taken same stops =
     subst (λ (at : List Step). StopsAtLast arrays at old.tally.forked path why forks regions) taken.log.path

@@ -92,7 +92,7 @@ module _ (w : WorldValue) {A : Type 0} (part : State → Outcome A) (slots : Lis
       done = waits_done w old new can.belongs.there waits;
       released = released_none old.hand.view.held;
       ends = tt;
-      stops = ended_none;
+      stops = (ended_none, few_still old.done new.done waits.done);
       handed = work_hands_none old new Rest waits.done refl;
       begins = λ fit. begins_none part slots (log_limit - old.buffer.count) grows;
       regions = λ fit program is. RunsRegions.no_region;

@@ -128,7 +128,7 @@ EndsBy (AtTasks line) records = LastIsRegionAt line records
 
 -- what the regions forked have to do with it, where the task has forked others before
 abbrev pub StopsBy : List Array → Progress → Progress → Cause → List Fork → List RegionWork → Type 0
-StopsBy arrays before after AtLog forks regions = HaveEnded regions
+StopsBy arrays before after AtLog forks regions = HaveEnded regions × (AreFew before.done → AreFew after.done)
 StopsBy arrays before after (AtRegion path why) forks regions = StopsAtLast arrays before.buffer.path before.tally.forked path why forks regions
 StopsBy arrays before after (AtTasks line) forks regions = HaveEnded regions × (task_limit < length after.done)
 
