@@ -4,7 +4,7 @@ use Rattle.std.specs.List.{flat_map}
 use Rattle.std.proofs.lemmas.List.{map-append, length-append}
 use Rattle.std.proofs.lemmas.List.Elements.{All-nil, All-cons, All-head, All-tail}
 use Rattle.sw_base.specs.declared.path.Step.{Step}
-use Rattle.race_model.specs.Trace.{TaskLog, Trace}
+use Rattle.race_model.specs.Trace.{Trace}
 use Rattle.race_model.specs.Listing.{lane_of}
 use Rattle.history_model.specs.Work.{Work, RegionWork, work_records, work_regions, lane_works}
 use Rattle.history_model.specs.Tasks.{lane_tasks, region_tasks, tasks_from}
