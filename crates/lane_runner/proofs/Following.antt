@@ -131,7 +131,7 @@ module _ (w : WorldValue) {A B : Type 0} (part : State → Outcome A) (next : A 
     done = done m.work m.done;
     released = released m.work m.own m.released;
     ends = subst (λ (rs : List Record). EndsBy cause rs) (sym (log_then one.work m.work)) (ends_then cause (log_of one.work) (log_of m.work) m.ends);
-    stops = stops_then w.arrays old mid new cause one.forks m.forks one.work m.work one.done.log.path one.done.forked one.ended one.few m.stops;
+    stops = stops_then w.arrays old mid new cause one.forks m.forks one.work m.work one.done.log.place one.done.log.path one.done.forked one.ended one.few m.stops;
     handed = handed (stop_by cause) m.work m.handed;
     begins = λ fit.
         subst (λ (rs : List Record). BeginsPart (λ s. and_then (part s) next) slots (log_limit - old.buffer.count) rs (one.forks ++ m.forks)) (sym (log_then one.work m.work))

@@ -1,6 +1,6 @@
 -- What regions hand on, one after another.
 use Rattle.std.proofs.Common.{◌≡◌, refl, ap, sym, ◌∙◌, subst, ℕ, suc, ◌+◌, List, [], ◌∷◌, ◌++◌, length, None, append_assoc, arith}
-use Rattle.std.proofs.lemmas.List.{append-nil}
+use Rattle.std.proofs.lemmas.List.{append-nil, length-append}
 use Rattle.std.proofs.lemmas.List.Elements.{Contains-append_right}
 use Rattle.std.specs.List.{flat_map}
 use Rattle.sw_base.specs.declared.path.Step.{Step}
@@ -10,7 +10,7 @@ use Rattle.race_model.specs.Listing.{lane_of}
 use Rattle.history_model.specs.Work.{Work, Rest, RegionWork, work_regions, then_work}
 use Rattle.event_buffer.specs.Buffered.{Buffered, IsStill}
 use Rattle.lane_runner.specs.Handed.{Entry, LogPlace, MaybeStop, IsForMemory, MayLack, Keeps, IsEntryOf, TaskHands, RegionsHand, LanesHand, HasFaultyLog, HasCrowdedTask, TellStop, HandsOn, AreFew, place_of}
-use Rattle.lane_runner.specs.Going.{Progress, WorkHandsOn}
+use Rattle.lane_runner.specs.Going.{Progress, WorkHandsOn, AreFewBefore}
 use Rattle.lane_runner.proofs.Working.{regions_then}
 
 -- what a region that stopped so hands on, one may that stopped otherwise: where all that may lack or be missing there may here
@@ -143,3 +143,33 @@ few_between old a b new before after few less = subst (λ (es : List Entry). Are
 
 pub few_still : (old new : List Entry) → new ≡ old → AreFew old → AreFew new
 few_still old new same less = subst (λ (es : List Entry). AreFew es) (sym same) less
+
+-- regions that ended, and then others, of which all but the last brought few
+pub few_before_then : (stop : MaybeStop) (old mid new : Progress) (xs ys : List RegionWork) → place_of mid.buffer ≡ place_of old.buffer → mid.buffer.path ≡ old.buffer.path
+    → mid.tally.forked ≡ old.tally.forked + length xs → (AreFew old.done → AreFew mid.done) → AreFewBefore stop mid new ys → AreFewBefore stop old new (xs ++ ys)
+few_before_then stop old mid new xs ys place path forked few y = record {
+  before = xs ++ y.before;
+  last = y.last;
+  regions_are = ap (λ (rs : List RegionWork). xs ++ rs) y.regions_are ∙ sym (append_assoc xs y.before (y.last ∷ []));
+  earlier = y.earlier;
+  few = λ less. y.few (few less);
+  handed =
+      subst (λ (n : ℕ). HandsOn (place_of old.buffer) stop old.buffer.path n (y.last ∷ []) y.earlier new.done)
+      (let e : mid.tally.forked + length y.before ≡ old.tally.forked + length (xs ++ y.before) = omega (arith, forked, length-append xs y.before) in e)
+      (subst (λ (at : List Step). HandsOn (place_of old.buffer) stop at (mid.tally.forked + length y.before) (y.last ∷ []) y.earlier new.done) path
+      (subst (λ (p : LogPlace). HandsOn p stop mid.buffer.path (mid.tally.forked + length y.before) (y.last ∷ []) y.earlier new.done) place y.handed));
+}
+
+-- between steps that hand on nothing
+pub few_before_between : (stop : MaybeStop) (old a b new : Progress) (regions : List RegionWork) → place_of a.buffer ≡ place_of old.buffer → a.buffer.path ≡ old.buffer.path
+    → a.tally.forked ≡ old.tally.forked → a.done ≡ old.done → new.done ≡ b.done → AreFewBefore stop a b regions → AreFewBefore stop old new regions
+few_before_between stop old a b new regions place path forked before after y =
+    few_before_then stop old a new [] regions place path (let e : a.tally.forked ≡ old.tally.forked + 0 = omega (arith, forked) in e) (few_still old.done a.done before)
+    (record {
+      before = y.before;
+      last = y.last;
+      regions_are = y.regions_are;
+      earlier = y.earlier;
+      few = y.few;
+      handed = subst (λ (es : List Entry). HandsOn (place_of a.buffer) stop a.buffer.path (a.tally.forked + length y.before) (y.last ∷ []) y.earlier es) (sym after) y.handed;
+    })

@@ -126,11 +126,20 @@ EndsBy AtLog records = Unit {0}
 EndsBy (AtRegion path why) records = LastIsRegion records
 EndsBy (AtTasks line) records = LastIsRegionAt line records
 
+-- the logs of these regions but the last, with those handed on before, are no more than may be, and those of the last follow them
+pub record AreFewBefore (stop : MaybeStop) (old new : Progress) (regions : List RegionWork) : Type 0 where
+  pub before : List RegionWork
+  pub last : RegionWork
+  pub regions_are : regions ≡ before ++ last ∷ []
+  pub earlier : List Entry
+  pub few : AreFew old.done → AreFew earlier
+  pub handed : HandsOn (place_of old.buffer) stop old.buffer.path (old.tally.forked + length before) (last ∷ []) earlier new.done
+
 -- what the regions forked have to do with it, where the task has forked others before
 abbrev pub StopsBy : List Array → Progress → Progress → Cause → List Fork → List RegionWork → Type 0
 StopsBy arrays before after AtLog forks regions = HaveEnded regions × (AreFew before.done → AreFew after.done)
-StopsBy arrays before after (AtRegion path why) forks regions = StopsAtLast arrays before.buffer.path before.tally.forked path why forks regions
-StopsBy arrays before after (AtTasks line) forks regions = HaveEnded regions × (task_limit < length after.done)
+StopsBy arrays before after (AtRegion path why) forks regions = StopsAtLast arrays before.buffer.path before.tally.forked path why forks regions × AreFewBefore (Some (path, why)) before after regions
+StopsBy arrays before after (AtTasks line) forks regions = HaveEnded regions × (task_limit < length after.done) × AreFewBefore None before after regions
 
 -- how the last of them stopped, if it did
 abbrev pub stop_by : Cause → MaybeStop
