@@ -87,7 +87,7 @@ module _ (w : WorldValue) (line n number : ℕ) (some : 1 ≤ line) (old mid new
     };
     closes = refl;
     ended = ended_none;
-    handed = work_hands_none None old new (Put told Rest) (done_is ∙ room.waits.done) refl;
+    handed = work_hands_none old new (Put told Rest) (done_is ∙ room.waits.done) refl;
     few = few_still old.done new.done (done_is ∙ room.waits.done);
     unrefused = unrefused;
     makes = λ fit.

@@ -1,5 +1,5 @@
 -- How a lane goes on: parts one after another.
-use Rattle.std.proofs.Common.{◌≡◌, refl, ap, sym, subst, ℕ, ◌-◌, List, [], ◌∷◌, ◌++◌, length, ℤ, Option, None, Result, Ok, Err, arith}
+use Rattle.std.proofs.Common.{◌≡◌, refl, ap, sym, subst, ℕ, ◌-◌, List, [], ◌∷◌, ◌++◌, length, ℤ, None, Result, Ok, Err, arith}
 use Rattle.std.proofs.lemmas.List.Elements.{All-nil, All-cons, All-head, All-tail}
 use Rattle.log_format.specs.declared.record.Record.{Record}
 use Rattle.kernel_model.specs.State as model
@@ -13,7 +13,7 @@ use Rattle.history_model.proofs.TaskEntries.{then_records}
 use Rattle.execution_model.specs.Fitting.{ReadsFit, IsFittingRead}
 use Rattle.lane_runner.specs.declared.stop.Halt.{Halt}
 use Rattle.lane_runner.specs.declared.stop.Halt.TheVariants as halt
-use Rattle.lane_runner.specs.declared.stop.Stop.{Stop}
+use Rattle.lane_runner.specs.Handed.{MaybeStop}
 use Rattle.lane_runner.specs.World.{WorldValue}
 use Rattle.lane_runner.specs.Going.{Progress, HasDonePast, HasReleased, Cause, AtLog, AtRegion, AtTasks, stop_by, WorkHandsOn, EndsBy, log_of, BeginsPart, effect_of, MadePast, Made, Began, GoesPast, Goes}
 use Rattle.shared_words.specs.declared.view.View.{View}
@@ -101,7 +101,7 @@ module _ (w : WorldValue) {A B : Type 0} (part : State → Outcome A) (next : A 
       released_then old.hand.view.held one.work work own (subst (λ (l : List ℕ). HasReleased old.hand.view.held one.work l) one.closes one.released)
       (subst (λ (h : List ℕ). HasReleased h work own) held_is r)
 
-  handed : (stop : Option Stop) (work : Work) → WorkHandsOn stop mid new work → WorkHandsOn stop old new (then_work one.work work)
+  handed : (stop : MaybeStop) (work : Work) → WorkHandsOn stop mid new work → WorkHandsOn stop old new (then_work one.work work)
   handed stop work hands = work_hands_then stop old mid new one.work work one.done.log.place one.done.log.path one.done.forked one.handed hands
 
   follows : {bars : ℕ} (finish : Finish B) → MadePast bars w (next a) mid_slots slots' mid new finish → MadePast bars w (λ s. and_then (part s) next) slots slots' old new finish
@@ -131,7 +131,7 @@ module _ (w : WorldValue) {A B : Type 0} (part : State → Outcome A) (next : A 
     done = done m.work m.done;
     released = released m.work m.own m.released;
     ends = subst (λ (rs : List Record). EndsBy cause m.own rs) (sym (log_then one.work m.work)) (ends_then cause m.own (log_of one.work) (log_of m.work) m.ends);
-    stops = stops_then w.arrays old mid new cause one.forks m.forks one.work m.work one.done.log.path one.done.forked one.ended m.stops;
+    stops = stops_then w.arrays old mid new cause one.forks m.forks one.work m.work one.done.log.place one.done.log.path one.done.forked one.ended one.few m.stops;
     handed = handed (stop_by cause) m.work m.handed;
     begins = λ fit.
         subst (λ (rs : List Record). BeginsPart (λ s. and_then (part s) next) slots (log_limit - old.buffer.count) rs (one.forks ++ m.forks)) (sym (log_then one.work m.work))

@@ -1,16 +1,15 @@
 -- The logs of a task and of all below it are those of the tasks of a tree of work.
-use Rattle.std.proofs.Common.{◌≡◌, refl, ap, sym, ◌∙◌, subst, ℕ, zero, suc, ◌+◌, ◌<◌, ◌≤◌, List, [], ◌∷◌, ◌++◌, length, map, Option, arith}
+use Rattle.std.proofs.Common.{◌≡◌, refl, ap, sym, ◌∙◌, subst, ℕ, zero, suc, ◌+◌, ◌<◌, ◌≤◌, List, [], ◌∷◌, ◌++◌, length, map, arith}
 use Rattle.std.specs.List.{flat_map}
 use Rattle.std.proofs.lemmas.List.{map-append, length-append}
 use Rattle.std.proofs.lemmas.List.Elements.{All-nil, All-cons, All-head, All-tail}
 use Rattle.sw_base.specs.declared.path.Step.{Step}
-use Rattle.race_model.specs.Trace.{TaskLog, Trace}
+use Rattle.race_model.specs.Trace.{Trace}
 use Rattle.race_model.specs.Listing.{lane_of}
 use Rattle.history_model.specs.Work.{Work, RegionWork, work_records, work_regions, lane_works}
 use Rattle.history_model.specs.Tasks.{lane_tasks, region_tasks, tasks_from}
 use Rattle.execution_model.specs.Runs.{as_logged, logged_tasks}
-use Rattle.lane_runner.specs.declared.stop.Stop.{Stop}
-use Rattle.lane_runner.specs.Handed.{Entry, LogPlace, TaskHands, RegionsHand, LanesHand, AreEntriesOf, AreWithin}
+use Rattle.lane_runner.specs.Handed.{Entry, LogPlace, MaybeStop, TaskHands, RegionsHand, LanesHand, AreEntriesOf, AreWithin}
 
 within_first : (n : ℕ) (es fs : List Entry) → AreWithin n (es ++ fs) → AreWithin n es
 within_first n [] fs all = All-nil (λ (e : Entry). length e.task ≤ n)
@@ -25,7 +24,7 @@ within_last n (e ∷ es) fs all = within_last n es fs (All-tail (λ (x : Entry).
 deeper : (path : List Step) (number lane span : ℕ) → length (lane_of path number lane span) ≡ length path + 1
 deeper path number lane span = length-append path (record { region = number; lane = lane; span = span } ∷ [])
 
-module _ (place : LogPlace) (stop : Option Stop) where
+module _ (place : LogPlace) (stop : MaybeStop) where
   entries_both : (xs ys : Trace) (es fs : List Entry) → AreEntriesOf place stop xs es → AreEntriesOf place stop ys fs → AreEntriesOf place stop (xs ++ ys) (es ++ fs)
   entries_both _ ys _ fs AreEntriesOf.no_task later = later
   entries_both _ ys _ fs (AreEntriesOf.given task tasks e es is rest) later = AreEntriesOf.given task (tasks ++ ys) e (es ++ fs) is (entries_both tasks ys es fs rest later)

@@ -116,7 +116,7 @@ module _ (w : WorldValue) (event : Record) (bars : ℕ) (note : IsNote w event b
     };
     closes = refl;
     ended = ended_none;
-    handed = work_hands_none None old new (Put event Rest) taken.done refl;
+    handed = work_hands_none old new (Put event Rest) taken.done refl;
     few = few_still old.done new.done taken.done;
     unrefused = taken.unrefused;
     makes = λ fit.

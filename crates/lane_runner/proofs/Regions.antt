@@ -1,6 +1,6 @@
 -- Regions: the record of the fork, and what the lanes of the region did.
 use Rattle.std.proofs.Common.{◌≡◌, inl, refl, ap, sym, ◌∙◌, subst, ℕ, ◌+◌, ◌-◌, ◌<◌, ◌≤◌, List, [], ◌∷◌, ◌++◌, length, ℤ, arith}
-use Rattle.std.specs.Prelude.{reverse, Ok, Err}
+use Rattle.std.specs.Prelude.{reverse, Some, None, Ok, Err}
 use Rattle.sw_base.specs.declared.path.Step.{Step}
 use Rattle.std.proofs.lemmas.List.{append-nil}
 use Rattle.log_format.specs.declared.record.Record.{Record}
@@ -25,10 +25,10 @@ use Rattle.event_buffer.specs.Buffered.{Buffered}
 use Rattle.lane_runner.specs.Drawing.{Tally, HasDrawn}
 use Rattle.lane_runner.proofs.Drawing.{drew_forked}
 use Rattle.lane_runner.specs.World.{WorldValue, element_word}
-use Rattle.lane_runner.specs.Going.{Progress, HasDone, HasReleased, GainsRecords, AtRegion, AtTasks, WorkHandsOn, log_of, worked, BeginsPart, effect_of, Made, Began, Takes}
+use Rattle.lane_runner.specs.Going.{Progress, HasDone, HasReleased, GainsRecords, AtRegion, AtTasks, WorkHandsOn, AreFewBefore, log_of, worked, BeginsPart, effect_of, Made, Began, Takes}
 use Rattle.lane_runner.specs.Forking.{Answer, RanRegion, EndsAs, after_phases, stop_in}
 use Rattle.lane_runner.specs.Fitting.{WorkFits}
-use Rattle.lane_runner.specs.Handed.{Entry, HandsOn, AreFew, place_of, task_limit}
+use Rattle.lane_runner.specs.Handed.{Entry, MaybeStop, HandsOn, AreFew, place_of, task_limit}
 use Rattle.lane_runner.specs.Stopping.{StopsRegion, HaveEnded}
 use Rattle.lane_runner.specs.declared.stop.Stop.{Stop}
 use Rattle.lane_runner.proofs.Working.{view_same}
@@ -99,6 +99,16 @@ module _ (w : WorldValue) (at : Site) (team : TeamTree) (some : 1 ≤ team.line)
   region_hands : WorkHandsOn (stop_in r) old new region_work
   region_hands = subst (λ (es : List Entry). HandsOn (place_of old.buffer) (stop_in r) old.buffer.path old.tally.forked (this_region ∷ []) es new.done) taken.done ran.handed
 
+  few_before : (stop : MaybeStop) → WorkHandsOn stop old new region_work → AreFewBefore stop old new (this_region ∷ [])
+  few_before stop hands = record {
+    before = [];
+    last = this_region;
+    regions_are = refl;
+    earlier = old.done;
+    few = λ less. less;
+    handed = subst (λ (n : ℕ). HandsOn (place_of old.buffer) stop old.buffer.path n (this_region ∷ []) old.done new.done) (let e : old.tally.forked ≡ old.tally.forked + 0 = omega arith in e) hands;
+  }
+
   region_ends : (u : Unit {0}) → r ≡ Ok u → HaveEnded (this_region ∷ [])
   region_ends u is = ended_one this_region (subst (λ (x : Answer). EndsAs w.arrays old.buffer.path old.tally.forked this_fork ran.phases x) is ran.ends) ran.joined
 
@@ -129,7 +139,7 @@ module _ (w : WorldValue) (at : Site) (team : TeamTree) (some : 1 ≤ team.line)
     done = region_done;
     released = region_released;
     ends = (refl, record { prefix = []; last = work.fork_record team.line team.span; parts = region_log; forks = refl });
-    stops = record { earlier = []; fork = this_fork; forks_are = refl; before = []; region = this_region; regions_are = refl; ended = ended_none; joined = ran.joined; stopped = at_number (subst (λ (x : Answer). EndsAs w.arrays old.buffer.path old.tally.forked this_fork ran.phases x) is ran.ends) };
+    stops = (record { earlier = []; fork = this_fork; forks_are = refl; before = []; region = this_region; regions_are = refl; ended = ended_none; joined = ran.joined; stopped = at_number (subst (λ (x : Answer). EndsAs w.arrays old.buffer.path old.tally.forked this_fork ran.phases x) is ran.ends) }, few_before (Some (path, why)) (subst (λ (x : Answer). WorkHandsOn (stop_in x) old new region_work) is region_hands));
     handed = subst (λ (x : Answer). WorkHandsOn (stop_in x) old new region_work) is region_hands;
     begins = λ fit. region_begins;
     regions = region_runs;
@@ -147,7 +157,7 @@ module _ (w : WorldValue) (at : Site) (team : TeamTree) (some : 1 ≤ team.line)
     done = region_done;
     released = region_released;
     ends = (refl, record { region = record { prefix = []; last = work.fork_record team.line team.span; parts = region_log; forks = refl }; line_is = refl });
-    stops = (region_ends u is, (λ none. cc), many);
+    stops = (region_ends u is, many, few_before None (subst (λ (x : Answer). WorkHandsOn (stop_in x) old new region_work) is region_hands));
     handed = subst (λ (x : Answer). WorkHandsOn (stop_in x) old new region_work) is region_hands;
     begins = λ fit. region_begins;
     regions = region_runs;

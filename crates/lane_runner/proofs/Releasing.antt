@@ -7,7 +7,8 @@ use Rattle.race_model.specs.Race.{held_after, held_after_kind}
 use Rattle.race_model.specs.History.{release}
 use Rattle.history_model.specs.Work.{Work, Rest, RegionWork, work_records, work_regions, then_work}
 use Rattle.history_model.proofs.TaskEntries.{then_records}
-use Rattle.lane_runner.specs.Going.{log_of, HasReleased, Cause, AtLog, AtRegion, AtTasks, LastIsRegion, EndsBy}
+use Rattle.lane_runner.specs.Going.{log_of, HasReleased, Cause, AtLog, AtRegion, AtTasks, EndsBy}
+use Rattle.lane_runner.specs.Stopping.{LastIsRegion}
 use Rattle.lane_runner.proofs.Working.{log_then, regions_then}
 
 pub held_both : (held : List ℕ) (xs ys : List Record) → held_after held (xs ++ ys) ≡ held_after (held_after held xs) ys

@@ -1,5 +1,5 @@
 -- Critical sections: the steps on the mutex with what is done between them, by which the section ends or is left at a stop.
-use Rattle.std.proofs.Common.{◌≡◌, refl, inr, ap, sym, ◌∙◌, subst, ⊎_elim, ℕ, ◌+◌, ◌-◌, ◌<◌, ◌≤◌, Bool, true, false, not, List, [], ◌∷◌, ◌++◌, length, ℤ, Option, None, Err, append_assoc, arith}
+use Rattle.std.proofs.Common.{◌≡◌, refl, inr, ap, sym, ◌∙◌, subst, ⊎_elim, ℕ, ◌+◌, ◌-◌, ◌<◌, ◌≤◌, Bool, true, false, not, List, [], ◌∷◌, ◌++◌, length, ℤ, Some, None, Err, append_assoc, arith}
 use Rattle.std.specs.Prelude.{map, filter, reverse, All, ◌==◌}
 use Rattle.std.proofs.lemmas.List.{append-nil, reverse-append, map-append, length-append}
 use Rattle.std.proofs.lemmas.List.Elements.{All-head, All-tail, filter-append}
@@ -42,9 +42,8 @@ use Rattle.lane_runner.specs.declared.stop.Halt.TheVariants as halt
 use Rattle.lane_runner.specs.Drawing.{Tally, HasDrawn}
 use Rattle.lane_runner.proofs.Drawing.{drew_none, drew_nothing, drew_then}
 use Rattle.lane_runner.specs.World.{WorldValue, element_word, element_width, layout_of}
-use Rattle.lane_runner.specs.declared.stop.Stop.{Stop}
-use Rattle.lane_runner.specs.Handed.{Entry, place_of, task_limit}
-use Rattle.lane_runner.proofs.Handing.{work_hands, few_between}
+use Rattle.lane_runner.specs.Handed.{Entry, MaybeStop, place_of, task_limit}
+use Rattle.lane_runner.proofs.Handing.{work_hands, few_between, few_before_between}
 use Rattle.lane_runner.specs.Going.{Progress, CanGo, HasDone, HasReleased, GainsRecords, Cause, AtLog, AtRegion, AtTasks, stop_by, WorkHandsOn, EndsBy, StopsBy, log_of, worked, BeginsPart, effect_of, Made, Began, Goes, Takes}
 use Rattle.lane_runner.proofs.Working.{log_then, view_same, gains_then, barriers_later, regions_then, elements_then}
 use Rattle.lane_runner.specs.Fitting.{WorkFits}
@@ -245,7 +244,7 @@ module _ (w : WorldValue) (mutex line end : ℕ) (some : 1 ≤ line) (old a b ne
   some_room = let below = taken.below in omega arith
 
 -- the regions forked in a section
-section_hands : (stop : Option Stop) (mutex line end : ℕ) (old a b new : Progress) → Takes (event kind.Lock line mutex 0) (locked old.hand.view mutex) old a → (body : Work) → new.done ≡ b.done
+section_hands : (stop : MaybeStop) (mutex line end : ℕ) (old a b new : Progress) → Takes (event kind.Lock line mutex 0) (locked old.hand.view mutex) old a → (body : Work) → new.done ≡ b.done
     → WorkHandsOn stop a b body → WorkHandsOn stop old new (section mutex line end body)
 section_hands stop mutex line end old a b new taken body same hands =
     work_hands stop old a b new body (section mutex line end body) taken.log.place taken.log.path (ap (λ (t : Tally). t.forked) taken.tally) taken.done same
@@ -335,11 +334,17 @@ no_last (b ∷ before) region is = cc
 -- regions of a task that took a lock before
 stops_from : (arrays : List Array) (old a b new : Progress) (cause : Cause) (forks : List Fork) (regions : List RegionWork) {event : Record} {after : View} → Takes event after old a → new.done ≡ b.done
     → StopsBy arrays a b cause forks regions → StopsBy arrays old new cause forks regions
-stops_from arrays old a b new AtLog forks regions taken same stops = stops
-stops_from arrays old a b new (AtTasks line) forks regions taken same stops = (stops.0, stops.1, subst (λ (es : List Entry). task_limit < length es) (sym same) stops.2)
-stops_from arrays old a b new (AtRegion path why) forks regions taken same stops =
-    subst (λ (at : List Step). StopsAtLast arrays at old.tally.forked path why forks regions) taken.log.path
-    (subst (λ (t : Tally). StopsAtLast arrays a.buffer.path t.forked path why forks regions) taken.tally stops)
+stops_from arrays old a b new AtLog forks regions taken same stops = (stops.0, few_between old.done a.done b.done new.done taken.done same stops.1)
+stops_from arrays old a b new (AtTasks line) forks regions taken same stops = (
+  stops.0,
+  subst (λ (es : List Entry). task_limit < length es) (sym same) stops.1,
+  few_before_between None old a b new regions taken.log.place taken.log.path (ap (λ (t : Tally). t.forked) taken.tally) taken.done same stops.2,
+)
+stops_from arrays old a b new (AtRegion path why) forks regions taken same stops = (
+  subst (λ (at : List Step). StopsAtLast arrays at old.tally.forked path why forks regions) taken.log.path
+      (subst (λ (t : Tally). StopsAtLast arrays a.buffer.path t.forked path why forks regions) taken.tally stops.0),
+  few_before_between (Some (path, why)) old a b new regions taken.log.place taken.log.path (ap (λ (t : Tally). t.forked) taken.tally) taken.done same stops.1,
+)
 
 module _ (w : WorldValue) (part inner : State → Outcome (Unit {0})) (mutex line : ℕ) (some : 1 ≤ line) (slots slots' : List ℤ) (old a b new : Progress)
     (same : (s : State) → part s ≡ after (put (event kind.Lock line mutex 0) s) inner)
@@ -397,9 +402,10 @@ module _ (w : WorldValue) (part inner : State → Outcome (Unit {0})) (mutex lin
   left_ends AtLog forks work own r stops = tt
   left_ends (AtRegion path why) forks work own r stops =
       let none = apart_within mutex work old.hand.view.held own (subst (λ (h : List ℕ). HasReleased h work own) (held_is w mutex line 0 some old a b new work taken hand_is gained tallied forked) r) in
-      absurd (no_last stops.before stops.region (sym stops.regions_are ∙ none))
+      absurd (no_last stops.1.before stops.1.last (sym stops.1.regions_are ∙ none))
   left_ends (AtTasks at_line) forks work own r stops =
-      absurd (stops.1 (apart_within mutex work old.hand.view.held own (subst (λ (h : List ℕ). HasReleased h work own) (held_is w mutex line 0 some old a b new work taken hand_is gained tallied forked) r)))
+      let none = apart_within mutex work old.hand.view.held own (subst (λ (h : List ℕ). HasReleased h work own) (held_is w mutex line 0 some old a b new work taken hand_is gained tallied forked) r) in
+      absurd (no_last stops.2.before stops.2.last (sym stops.2.regions_are ∙ none))
 
   left_begins : (cause : Cause) → Began w inner slots a b cause → Began w part slots old new cause
   left_begins cause m = record {

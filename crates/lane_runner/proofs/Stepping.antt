@@ -74,7 +74,7 @@ module _ (w : WorldValue) {A : Type 0} (part : State → Outcome A) (slots : Lis
         released = released_none old.hand.view.held;
         closes = tt;
         ended = ended_none;
-        handed = work_hands_none None old old Rest refl refl;
+        handed = work_hands_none old old Rest refl refl;
         few = λ less. less;
         unrefused = can.unrefused;
         makes = λ fit. subst (λ (room : ℕ). Makes part slots room (adds slots []) (Halted model.LogFull line)) (let none_left : 0 ≡ log_limit - old.buffer.count = omega arith in none_left) full;
@@ -92,8 +92,8 @@ module _ (w : WorldValue) {A : Type 0} (part : State → Outcome A) (slots : Lis
       done = waits_done w old new can.belongs.there waits;
       released = released_none old.hand.view.held;
       ends = tt;
-      stops = ended_none;
-      handed = work_hands_none None old new Rest waits.done refl;
+      stops = (ended_none, few_still old.done new.done waits.done);
+      handed = work_hands_none old new Rest waits.done refl;
       begins = λ fit. begins_none part slots (log_limit - old.buffer.count) grows;
       regions = λ fit program is. RunsRegions.no_region;
     },
@@ -167,7 +167,7 @@ module _ (w : WorldValue) (old mid new : Progress) (event : Record) (deed : Deed
     };
     closes = refl;
     ended = ended_none;
-    handed = work_hands_none None old new (Put event Rest) (same ∙ room.waits.done) refl;
+    handed = work_hands_none old new (Put event Rest) (same ∙ room.waits.done) refl;
     few = few_still old.done new.done (same ∙ room.waits.done);
     unrefused = unrefused;
     makes = λ fit.

@@ -1,5 +1,5 @@
 -- Regions that a lane forks: what it asks of who runs them, and what that gives.
-use Rattle.std.specs.Prelude.{◌≡◌, ℕ, ◌+◌, ◌<◌, List, [], ◌∷◌, ◌++◌, ℤ, Option, Some, None, Result, Ok, Err}
+use Rattle.std.specs.Prelude.{◌≡◌, ℕ, ◌+◌, ◌<◌, List, [], ◌∷◌, ◌++◌, ℤ, Some, None, Result, Ok, Err}
 use Rattle.sw_base.specs.declared.path.Step.{Step}
 use denote.Ref.{Bor, MutBor}
 use Rattle.std.specs.Global.{Vec}
@@ -21,7 +21,7 @@ use Rattle.lane_runner.specs.declared.locals.Locals.{Locals}
 use Rattle.lane_runner.specs.declared.stop.Stop.{Stop}
 use Rattle.lane_runner.specs.Children.{LogView, AreNewLogs}
 use Rattle.lane_runner.specs.Fitting.{PhasesFit, PhasesAccessElements}
-use Rattle.lane_runner.specs.Handed.{Entry, HandsOn, entries_of, place_of}
+use Rattle.lane_runner.specs.Handed.{Entry, HandsOn, MaybeStop, entries_of, place_of}
 use Rattle.lane_runner.specs.Stopping.{StopsRegion}
 use Rattle.lane_runner.specs.World.{WorldValue, element_word, element_width, layout_of}
 
@@ -39,9 +39,9 @@ EndsAs arrays at number fork phases (Ok _) = PhasesEnd phases
 EndsAs arrays at number fork phases (Err stopped) = StopsRegion arrays at number stopped.0 stopped.1 fork phases
 
 -- how the region stopped, if it did
-abbrev pub stop_in : Answer → Option Stop
+abbrev pub stop_in : Answer → MaybeStop
 stop_in (Ok _) = None
-stop_in (Err stopped) = Some stopped.1
+stop_in (Err stopped) = Some stopped
 
 -- The lanes of a region of this team, that of this number of a task with this log, did these phases, from these locals at the fork,
 -- ended by this answer, all their hands are home, and their logs are handed on.

@@ -1,5 +1,5 @@
 -- How a lane goes on: what its records, its hand and its locals have to do with the meaning of what it executes.
-use Rattle.std.specs.Prelude.{◌≡◌, ◌⊎◌, ℕ, ◌+◌, ◌-◌, ◌≤◌, List, [], ◌∷◌, ◌++◌, length, map, reverse, ◌<◌, ℤ, Option, Some, None, Result, Ok, Err, is_some}
+use Rattle.std.specs.Prelude.{◌≡◌, ◌⊎◌, ℕ, ◌+◌, ◌-◌, ◌≤◌, List, [], ◌∷◌, ◌++◌, length, map, reverse, ◌<◌, ℤ, Some, None, Result, Ok, Err, is_some}
 use Rattle.sw_base.specs.declared.trouble.Trouble.{Trouble}
 use Rattle.sw_base.specs.declared.trouble.Trouble.TheVariants.{Memory}
 use Rattle.log_format.specs.declared.record.Record.{Record}
@@ -14,7 +14,6 @@ use Rattle.kernel_model.specs.Effect.{Finish, Returned, Halted, Makes, Effect, s
 use Rattle.shared_words.specs.declared.view.View.{View}
 use Rattle.shared_words.specs.Handles.{HandValue, Belongs, with_view}
 use Rattle.history_model.specs.Work.{Work, RegionWork, work_records, work_regions}
-use Rattle.log_format.specs.declared.record.Kind.TheVariants.{Region}
 use Rattle.race_model.specs.Trace.{barrier_count}
 use Rattle.race_model.specs.Race.{held_after}
 use Rattle.race_model.specs.History.{release}
@@ -32,8 +31,8 @@ use Rattle.lane_runner.specs.declared.stop.Stop.{Stop}
 use Rattle.lane_runner.specs.declared.stop.Halt.TheVariants as halt
 use Rattle.lane_runner.specs.Drawing.{Tally, HasDrawn}
 use Rattle.lane_runner.specs.Fitting.{WorkFits, AccessesElements}
-use Rattle.lane_runner.specs.Handed.{Entry, HandsOn, AreFew, place_of, task_limit}
-use Rattle.lane_runner.specs.Stopping.{HaveEnded, StopsAtLast}
+use Rattle.lane_runner.specs.Handed.{Entry, HandsOn, MaybeStop, AreFew, place_of, task_limit}
+use Rattle.lane_runner.specs.Stopping.{HaveEnded, LastIsRegion, LastIsRegionAt, StopsAtLast}
 use Rattle.lane_runner.specs.World.{WorldValue, element_word, element_width, layout_of}
 
 -- where a lane runs
@@ -122,18 +121,6 @@ abbrev pub ClosesAll : {A : Type 0} → Finish A → List ℕ → Type 0
 ClosesAll (Returned a) own = own ≡ []
 ClosesAll (Halted why line) own = Unit {0}
 
--- the last of these records is that of a region
-pub record LastIsRegion (records : List Record) : Type 0 where
-  pub prefix : List Record
-  pub last : Record
-  pub parts : records ≡ prefix ++ last ∷ []
-  pub forks : last.kind ≡ Region
-
--- and it has this line
-pub record LastIsRegionAt (line : ℕ) (records : List Record) : Type 0 where
-  pub region : LastIsRegion records
-  pub line_is : region.last.line ≡ line
-
 -- what keeps a lane from going on: its log refused a record, in the region that it forked last the task of this path stopped so, or
 -- once that region, at this line, had ended, too many tasks were below its own
 pub data Cause : Type 0 where
@@ -147,20 +134,29 @@ EndsBy AtLog own records = Unit {0}
 EndsBy (AtRegion path why) own records = (own ≡ []) × LastIsRegion records
 EndsBy (AtTasks line) own records = (own ≡ []) × LastIsRegionAt line records
 
+-- the logs of these regions but the last, with those handed on before, are no more than may be, and those of the last follow them
+pub record AreFewBefore (stop : MaybeStop) (old new : Progress) (regions : List RegionWork) : Type 0 where
+  pub before : List RegionWork
+  pub last : RegionWork
+  pub regions_are : regions ≡ before ++ last ∷ []
+  pub earlier : List Entry
+  pub few : AreFew old.done → AreFew earlier
+  pub handed : HandsOn (place_of old.buffer) stop old.buffer.path (old.tally.forked + length before) (last ∷ []) earlier new.done
+
 -- what the regions forked have to do with it, where the task has forked others before
 abbrev pub StopsBy : List Array → Progress → Progress → Cause → List Fork → List RegionWork → Type 0
-StopsBy arrays before after AtLog forks regions = HaveEnded regions
-StopsBy arrays before after (AtRegion path why) forks regions = StopsAtLast arrays before.buffer.path before.tally.forked path why forks regions
-StopsBy arrays before after (AtTasks line) forks regions = HaveEnded regions × (regions ≡ [] → ⊥) × (task_limit < length after.done)
+StopsBy arrays before after AtLog forks regions = HaveEnded regions × (AreFew before.done → AreFew after.done)
+StopsBy arrays before after (AtRegion path why) forks regions = StopsAtLast arrays before.buffer.path before.tally.forked path why forks regions × AreFewBefore (Some (path, why)) before after regions
+StopsBy arrays before after (AtTasks line) forks regions = HaveEnded regions × (task_limit < length after.done) × AreFewBefore None before after regions
 
 -- how the last of them stopped, if it did
-abbrev pub stop_by : Cause → Option Stop
+abbrev pub stop_by : Cause → MaybeStop
 stop_by AtLog = None
-stop_by (AtRegion path why) = Some why
+stop_by (AtRegion path why) = Some (path, why)
 stop_by (AtTasks line) = None
 
 -- the regions that the work forked added their logs to those handed on before
-abbrev pub WorkHandsOn : Option Stop → Progress → Progress → Work → Type 0
+abbrev pub WorkHandsOn : MaybeStop → Progress → Progress → Work → Type 0
 WorkHandsOn stop old new work = HandsOn (place_of old.buffer) stop old.buffer.path old.tally.forked (work_regions work) old.done new.done
 
 -- what of the meaning of a part its work has made

@@ -1,6 +1,6 @@
 //! That the arrays of a kernel are where a lane can run, and what widths their elements have; and that the logs handed on are those of the
 //! tasks of a tree of work.
-ghost use Rattle.std.specs.Prelude.{◌≡◌, ◌<◌, ℕ, List, [], ◌∷◌, Option};
+ghost use Rattle.std.specs.Prelude.{◌≡◌, ◌<◌, ℕ, List, [], ◌∷◌};
 ghost use Rattle.kernel_syntax.specs.Layout.{elements};
 ghost use Rattle.kernel_syntax.specs.Program.{Program};
 ghost use Rattle.kernel_syntax.specs.Bounds.{IsBounded};
@@ -8,8 +8,7 @@ ghost use Rattle.shared_words.specs.Handles.{WordsValue, ChunksValue};
 ghost use Rattle.kernel_syntax.specs.Arithmetic.{IsWidth};
 ghost use Rattle.history_model.specs.Work.{Work};
 ghost use Rattle.execution_model.specs.Runs.{logged_tasks};
-ghost use Rattle.lane_runner.specs.declared.stop.Stop.{Stop};
-ghost use Rattle.lane_runner.specs.Handed.{Entry, LogPlace, TaskHands, AreEntriesOf, AreWithin};
+ghost use Rattle.lane_runner.specs.Handed.{Entry, LogPlace, MaybeStop, TaskHands, AreEntriesOf, AreWithin};
 ghost use Rattle.lane_runner.specs.World.{IsWorld, element_width};
 
 /// The arrays of a kernel within the bounds of the language, with a table of as many words as they have elements, are where a lane of a
@@ -27,6 +26,6 @@ pub fn elements_of_a_kernel_have_widths()
 /// The logs of the root and of all tasks below it are those of the tasks of its tree of work, in the order of an index, where no path has
 /// more steps than the tree is listed to.
 pub fn handed_logs_are_those_of_the_tasks()
-    ensures { (place : LogPlace) (stop : Option Stop) (depth : ℕ) (root : Work) (entries : List Entry) → TaskHands place stop [] (root ∷ []) entries → AreWithin depth entries →
+    ensures { (place : LogPlace) (stop : MaybeStop) (depth : ℕ) (root : Work) (entries : List Entry) → TaskHands place stop [] (root ∷ []) entries → AreWithin depth entries →
         AreEntriesOf place stop (logged_tasks depth root) entries }
 {}

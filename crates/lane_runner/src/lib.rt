@@ -2,7 +2,8 @@
 //!
 //! So far: the value of an expression with its loads; lists of assignments, stores, tests, loops and critical sections; worksharing
 //! loops of every schedule; the fork of a region, which a function of the caller's runs, with new logs for its lanes; a team's
-//! statements and items, one at a time; and the record of a barrier. A whole phase comes next, and the program doesn't use the crate yet.
+//! statements and items, one at a time; a whole phase, with the record of its barrier; and the record of a task's end. A region inside a
+//! test or a loop that isn't unrolled comes next, and the program doesn't use the crate yet.
 //!
 //! Before each record the buffer makes room, then the step on the shared words is taken, and then the record is put: no step is
 //! taken that has no place in the log. Each call says by one witness, a tree of work, what it did: its records are those that the
@@ -12,6 +13,11 @@
 //! their mutexes back, the innermost first, without a record; one that goes on holds no more than before. That a value read is one
 //! that its element can have is a premise there: it holds of each legal history whose stores fit their elements, and that these do is said
 //! of each witness without that premise. A region that stopped is told with the path of the task that did.
+//!
+//! What a region hands on, the logs of its tasks, is kept behind that of the regions before: lane by lane, each task's log before those
+//! of the tasks below it. Where the region ended, none is missing and each has all its records; where it stopped, a log may have a
+//! prefix of them, if no memory was found or it counts a fault, and only for want of memory one is missing. A lane stops where a
+//! region that it forked has ended and then more than 65,535 tasks are below its own, and nowhere else for that reason.
 #![tactic(auto)]
 
 mod assign;

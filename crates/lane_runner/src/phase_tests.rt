@@ -1,12 +1,13 @@
 //! The ends of phases and tasks, with what a log tells of them.
-ghost use Rattle.std.specs.Prelude.{◌≡◌, [], IfOk};
+ghost use Rattle.std.specs.Prelude.{OnOk};
+ghost use Rattle.lane_runner.specs.Going.{CanGo};
 
 use crate::tests::{buffer, bytes_of, log_of};
 use crate::{Halt, Track, World};
 use kernel_syntax::Array;
 use log_format::{Kind, Record};
 use shared_words::{Chunks, Words};
-use std::process::Abort;
+use std::alloc::Global;
 use std::test::Fail;
 use sw_base::MemLog;
 
@@ -40,5 +41,38 @@ fn a_barrier_and_an_end_are_recorded(rt: HostRuntime) -> Result<(), Fail> {
     };
     let expected = log_of(alloc, &[event(Kind::Barrier, 5), event(Kind::End, 9)])?;
     assert!(rt; bytes_of(alloc, track)? == expected);
+    Ok(())
+}
+
+// Fills a log with barriers.
+fn fill(alloc: Global, world: &World, track: &mut Track<MemLog>) -> Result<(), Halt>
+    requires can { CanGo world.now track.old }
+    ensures can { OnOk result (CanGo world.now track.new) }
+{
+    for _ in 0..FULL {
+        track.meet(alloc, 5)?;
+    }
+    Ok(())
+}
+
+#[test]
+fn a_full_log_takes_no_barrier_and_no_end(rt: HostRuntime) -> Result<(), Fail> {
+    let alloc = rt.alloc();
+    let (words, hand) = Words::new(alloc, 0, 1)?;
+    let (chunks, draws) = Chunks::new(alloc, 0)?;
+    let arrays: [Array; 0] = [];
+    let world = World::new(&arrays, &words, &chunks, 0, 1);
+    let mut track = Track::new(alloc, hand, buffer(alloc)?, draws);
+    let Ok(()) = fill(alloc, &world, &mut track) else {
+        panic!(rt; "no room");
+    };
+    let Err(Halt::LogFull { line }) = track.meet(alloc, 6) else {
+        panic!(rt; "a barrier too many");
+    };
+    assert_eq!(rt; line, 6);
+    let Err(Halt::LogFull { line }) = track.finish(alloc, 7) else {
+        panic!(rt; "an end too many");
+    };
+    assert_eq!(rt; line, 7);
     Ok(())
 }

@@ -83,3 +83,28 @@ fn a_mutex_released_at_a_stop_is_won_by_another(rt: HostRuntime) -> Result<(), F
     assert!(rt; bytes_of(alloc, second)? == two);
     Ok(())
 }
+
+#[test]
+fn a_lane_goes_on_in_its_log_with_another_hand(rt: HostRuntime) -> Result<(), Fail> {
+    let alloc = rt.alloc();
+    let (words, mut first) = Words::new(alloc, 0, 2)?;
+    let one = words.split(&mut first, 0, 1);
+    let two = words.split(&mut first, 0, 1);
+    let arrays: [Array; 0] = [];
+    let (chunks, draws) = Chunks::new(alloc, 0)?;
+    let world = World::new(&arrays, &words, &chunks, 0, 1);
+    let mut track = Track::new(alloc, one, buffer(alloc)?, draws);
+
+    let Ok(()) = track.lock(&rt, alloc, &world, 1, 5) else {
+        panic!(rt; "no room");
+    };
+    let mut one = track.trade(two);
+    words.unlock(&mut one, 1);
+    let Ok(()) = track.lock(&rt, alloc, &world, 1, 6) else {
+        panic!(rt; "no room");
+    };
+
+    let both = log_of(alloc, &[step(Kind::Lock, 1, 5), step(Kind::Lock, 1, 6)])?;
+    assert!(rt; bytes_of(alloc, track)? == both);
+    Ok(())
+}
