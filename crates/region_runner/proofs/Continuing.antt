@@ -20,8 +20,7 @@ use Rattle.lane_runner.specs.Going.{Progress, HasDonePast, GainsRecords, HasRele
 use Rattle.lane_runner.specs.Drawing.{HasDrawn}
 use Rattle.lane_runner.specs.Fitting.{WorkFits}
 use Rattle.lane_runner.specs.Stopping.{HaveEnded}
-use Rattle.lane_runner.specs.declared.stop.Stop.{Stop}
-use Rattle.lane_runner.specs.Handed.{Entry, HandsOn, AreFew, place_of}
+use Rattle.lane_runner.specs.Handed.{Entry, HandsOn, MaybeStop, AreFew, place_of}
 use Rattle.lane_runner.proofs.Handing.{work_hands_then}
 use Rattle.lane_runner.proofs.Drawing.{drew_then}
 use Rattle.lane_runner.proofs.Working.{log_then, gains_then, regions_then, runs_then}
@@ -87,9 +86,15 @@ module _ (w : WorldValue) (part next : State → Outcome (Unit {0})) (slots mid_
   forked_is : start.tally.forked ≡ old.tally.forked + length (work_regions (in_one works))
   forked_is = ap (λ t. t.forked) up.tally ∙ ran.logged.forked
 
-  handed : (stop : Option Stop) (work : Work) → WorkHandsOn stop start new work → WorkHandsOn stop old new (then_work (in_one works) work)
+  place_is : place_of start.buffer ≡ place_of old.buffer
+  place_is = ap (λ b. place_of b) up.buffer ∙ ran.logged.log.place
+
+  few : AreFew old.done → AreFew start.done
+  few less = subst (λ (es : List Entry). AreFew es) (sym up.done) (ran.few less)
+
+  handed : (stop : MaybeStop) (work : Work) → WorkHandsOn stop start new work → WorkHandsOn stop old new (then_work (in_one works) work)
   handed stop work hands =
-      work_hands_then stop old start new (in_one works) work (ap (λ b. place_of b) up.buffer ∙ ran.logged.log.place) path_is forked_is
+      work_hands_then stop old start new (in_one works) work place_is path_is forked_is
       (subst (λ (es : List Entry). HandsOn (place_of old.buffer) None old.buffer.path old.tally.forked (work_regions (in_one works)) old.done es) (sym up.done) ran.handed) hands
 
   abbrev both : State → Outcome (Unit {0})
@@ -104,7 +109,7 @@ module _ (w : WorldValue) (part next : State → Outcome (Unit {0})) (slots mid_
     closes = m.closes;
     ended = subst (λ (x : Work). HaveEnded (work_regions x)) (sym (one_more works m.work)) (ended_then (in_one works) m.work ran.ended m.ended);
     handed = subst (λ (x : Work). WorkHandsOn None old new x) (sym (one_more works m.work)) (handed None m.work m.handed);
-    few = λ less. m.few (subst (λ (es : List Entry). AreFew es) (sym up.done) (ran.few less));
+    few = λ less. m.few (few less);
     unrefused = m.unrefused;
     makes =
         subst (λ (x : Work). ReadsFit (work_records x) → Makes both slots (log_limit - old.buffer.count) (effect_of slots' x (ran.forks ++ m.forks)) finish) (sym (one_more works m.work))
@@ -129,7 +134,7 @@ module _ (w : WorldValue) (part next : State → Outcome (Unit {0})) (slots mid_
         (subst (λ (rs : List Record). EndsBy cause m.own rs) (sym (log_then (in_one works) m.work)) (ends_then cause m.own (log_of (in_one works)) (log_of m.work) m.ends));
     stops =
         subst (λ (x : Work). StopsBy w.arrays old new cause (ran.forks ++ m.forks) (work_regions x)) (sym (one_more works m.work))
-        (stops_then w.arrays old start new cause ran.forks m.forks (in_one works) m.work path_is forked_is ran.ended m.stops);
+        (stops_then w.arrays old start new cause ran.forks m.forks (in_one works) m.work place_is path_is forked_is ran.ended few m.stops);
     handed = subst (λ (x : Work). WorkHandsOn (stop_by cause) old new x) (sym (one_more works m.work)) (handed (stop_by cause) m.work m.handed);
     begins =
         subst (λ (x : Work). ReadsFit (work_records x) → BeginsPart both slots (log_limit - old.buffer.count) (log_of x) (ran.forks ++ m.forks)) (sym (one_more works m.work))

@@ -16,9 +16,9 @@ use Rattle.history_model.specs.Joined.{IsJoined, PhasesEnd, ArePhasesJoined}
 use Rattle.kernel_syntax.specs.declared.syntax.Array.{Array}
 use Rattle.lane_runner.specs.declared.stop.Halt.{Halt}
 use Rattle.lane_runner.specs.declared.stop.Halt.TheVariants as halt
-use Rattle.lane_runner.specs.Stopping.{HaveEnded}
+use Rattle.lane_runner.specs.Stopping.{HaveEnded, LastIsRegion}
 use Rattle.lane_runner.specs.World.{WorldValue, element_word, element_width, layout_of}
-use Rattle.lane_runner.specs.Going.{Progress, HasReleased, Cause, AtLog, AtRegion, AtTasks, EndsBy, StopsBy, LastIsRegion, log_of, MadePast, Began, GoesPast}
+use Rattle.lane_runner.specs.Going.{Progress, HasReleased, Cause, AtLog, AtRegion, AtTasks, EndsBy, StopsBy, log_of, MadePast, Began, GoesPast}
 use Rattle.region_runner.specs.Team.{DidWork}
 
 -- all regions ended
@@ -106,10 +106,10 @@ region_joined layout (Work.Fork line span phases more) (b ∷ before) region is 
 
 began_joined : (w : WorldValue) (old new : Progress) (cause : Cause) (work : Work) (forks : List Fork) (own : List ℕ) → IsSound (layout_of w.arrays) work → HasReleased [] work own → EndsBy cause own (log_of work)
     → StopsBy w.arrays old new cause forks (work_regions work) → IsJoined work
-began_joined w old new AtLog work forks own sound released ends stops = ended_joined work stops
+began_joined w old new AtLog work forks own sound released ends stops = ended_joined work stops.0
 began_joined w old new (AtTasks line) work forks own sound released ends stops = ended_joined work stops.0
 began_joined w old new (AtRegion path why) work forks own sound released (none, last) stops =
-    region_joined (layout_of w.arrays) work stops.before stops.region stops.regions_are stops.ended stops.joined sound
+    region_joined (layout_of w.arrays) work stops.0.before stops.0.region stops.0.regions_are stops.0.ended stops.0.joined sound
     (subst (λ (rs : List Record). LastIsRegion rs) (sym (released.records ∙ ap (λ (l : List ℕ). log_of work ++ map release l) none ∙ append-nil (log_of work))) last)
 
 module _ (w : WorldValue) (part : State → Outcome (Unit {0})) (slots slots' : List ℤ) (old new : Progress) (free : old.hand.view.held ≡ []) where

@@ -79,7 +79,7 @@ module _ (program : Program) (end : Ending) (at : List Step) (number : ℕ) (for
 
       inner : EndsInLane program end own_path (length s.before) path s.fork s.region.phases
       inner = subst (λ (n : ℕ). EndsInLane program end own_path n path s.fork s.region.phases) (let e : 0 + length s.before ≡ length s.before = omega arith in e)
-          (s.stopped
+          (s.stopped.traced
           (all_at (λ (r : RegionWork). PhasesFit r.phases) s.before s.region []
           (subst (λ (rs : List RegionWork). All (λ (r : RegionWork). PhasesFit r.phases) rs) s.regions_are (regions_fit (in_one works) fit)))
           program same end ending)
