@@ -99,6 +99,9 @@ module _ (w : WorldValue) (at : Site) (team : TeamTree) (some : 1 ≤ team.line)
   region_hands : WorkHandsOn (stop_in r) old new region_work
   region_hands = subst (λ (es : List Entry). HandsOn (place_of old.buffer) (stop_in r) old.buffer.path old.tally.forked (this_region ∷ []) es new.done) taken.done ran.handed
 
+  hands_by : (x : Answer) → r ≡ x → WorkHandsOn (stop_in x) old new region_work
+  hands_by x is = subst (λ (y : Answer). WorkHandsOn (stop_in y) old new region_work) is region_hands
+
   few_before : (stop : MaybeStop) → WorkHandsOn stop old new region_work → AreFewBefore stop old new (this_region ∷ [])
   few_before stop hands = record {
     before = [];
@@ -124,7 +127,7 @@ module _ (w : WorldValue) (at : Site) (team : TeamTree) (some : 1 ≤ team.line)
     released = region_released;
     closes = refl;
     ended = region_ends u is;
-    handed = subst (λ (x : Answer). WorkHandsOn (stop_in x) old new region_work) is region_hands;
+    handed = hands_by (Ok u) is;
     few = λ less. few;
     unrefused = ap (λ (b : Buffered). b.refused) still ∙ taken.unrefused;
     makes = λ fit. region_makes;
@@ -139,8 +142,21 @@ module _ (w : WorldValue) (at : Site) (team : TeamTree) (some : 1 ≤ team.line)
     done = region_done;
     released = region_released;
     ends = (refl, record { prefix = []; last = work.fork_record team.line team.span; parts = region_log; forks = refl });
-    stops = (record { earlier = []; fork = this_fork; forks_are = refl; before = []; region = this_region; regions_are = refl; ended = ended_none; joined = ran.joined; stopped = at_number (subst (λ (x : Answer). EndsAs w.arrays old.buffer.path old.tally.forked this_fork ran.phases x) is ran.ends) }, few_before (Some (path, why)) (subst (λ (x : Answer). WorkHandsOn (stop_in x) old new region_work) is region_hands));
-    handed = subst (λ (x : Answer). WorkHandsOn (stop_in x) old new region_work) is region_hands;
+    stops = (
+      record {
+        earlier = [];
+        fork = this_fork;
+        forks_are = refl;
+        before = [];
+        region = this_region;
+        regions_are = refl;
+        ended = ended_none;
+        joined = ran.joined;
+        stopped = at_number (subst (λ (x : Answer). EndsAs w.arrays old.buffer.path old.tally.forked this_fork ran.phases x) is ran.ends);
+      },
+      few_before (Some (path, why)) (hands_by (Err (path, why)) is),
+    );
+    handed = hands_by (Err (path, why)) is;
     begins = λ fit. region_begins;
     regions = region_runs;
   }
@@ -157,8 +173,8 @@ module _ (w : WorldValue) (at : Site) (team : TeamTree) (some : 1 ≤ team.line)
     done = region_done;
     released = region_released;
     ends = (refl, record { region = record { prefix = []; last = work.fork_record team.line team.span; parts = region_log; forks = refl }; line_is = refl });
-    stops = (region_ends u is, many, few_before None (subst (λ (x : Answer). WorkHandsOn (stop_in x) old new region_work) is region_hands));
-    handed = subst (λ (x : Answer). WorkHandsOn (stop_in x) old new region_work) is region_hands;
+    stops = (region_ends u is, many, few_before None (hands_by (Ok u) is));
+    handed = hands_by (Ok u) is;
     begins = λ fit. region_begins;
     regions = region_runs;
   }

@@ -91,7 +91,7 @@ pub record HasDonePast (bars : ℕ) (w : WorldValue) (old new : Progress) (work 
   pub sound : IsSound (layout_of w.arrays) work
   pub barriers : barrier_count (work_records work) ≡ bars
 
--- and past none
+-- past none
 abbrev pub HasDone : WorldValue → Progress → Progress → Work → Type 0
 HasDone w old new work = HasDonePast 0 w old new work
 
@@ -178,6 +178,7 @@ pub record MadePast {A : Type 0} (bars : ℕ) (w : WorldValue) (part : State →
   pub makes : ReadsFit (work_records work) → Makes part slots (log_limit - old.buffer.count) (effect_of slots' work forks) finish
   pub regions : WorkFits work → (program : Program) → program.arrays ≡ w.arrays → RunsRegions program forks (work_regions work)
 
+-- past none
 abbrev pub Made : {A : Type 0} → WorldValue → (State → Outcome A) → List ℤ → List ℤ → Progress → Progress → Finish A → Type 0
 Made w part slots slots' old new finish = MadePast 0 w part slots slots' old new finish
 
@@ -224,6 +225,7 @@ GoesPast bars w part slots slots' old new (Err (halt.Region path why)) = Began w
 GoesPast bars w part slots slots' old new (Err (halt.Tasks line)) = Began w part slots old new (AtTasks line)
 GoesPast bars w part slots slots' old new (Err (halt.Trouble trouble)) = Began w part slots old new AtLog × Refused trouble new
 
+-- past none
 abbrev pub Goes : {A : Type 0} → WorldValue → (State → Outcome A) → List ℤ → List ℤ → Progress → Progress → Result A Halt → Type 0
 Goes w part slots slots' old new r = GoesPast 0 w part slots slots' old new r
 
