@@ -1,7 +1,7 @@
 //! What a lane of a team executes, over shared words and a bounded buffer before its log.
 //!
-//! So far: the value of an expression with its loads; lists of assignments, stores, tests, loops and critical sections; worksharing
-//! loops of every schedule; the fork of a region, which a function of the caller's runs, with new logs for its lanes; a team's
+//! So far: the value of an expression with its loads; lists of assignments, stores, tests, loops, critical sections and regions, which a
+//! function of the caller's runs, with new logs for their lanes; worksharing loops of every schedule, also with regions in them; a team's
 //! statements and items, one at a time; and the record of a barrier. A whole phase comes next, and the program doesn't use the crate yet.
 //!
 //! Before each record the buffer makes room, then the step on the shared words is taken, and then the record is put: no step is
