@@ -49,14 +49,7 @@ impl<L: Log> Lane<L> {
             &Team,
             &mut Vec<(Path, L, u32)>,
         ) -> Result<(), (Path, Stop)>,
-    >(
-        &mut self,
-        body: &Body,
-        rt: &R,
-        alloc: Global,
-        world: &World,
-        region: &F,
-    ) -> Result<(), Halt>
+    >(&mut self, body: &Body, rt: &R, alloc: Global, world: &World, region: &F) -> Result<(), Halt>
         requires can { CanGo world.now self.old.track }
         requires bounded { IsBoundedCode (code_of body.now.stmts.items) }
         requires alone { IsAlone world.now.words.locks self.old.track.hand.view.held (code_of body.now.stmts.items) }
@@ -166,14 +159,7 @@ impl<L: Log> Lane<L> {
             &Team,
             &mut Vec<(Path, L, u32)>,
         ) -> Result<(), (Path, Stop)>,
-    >(
-        &mut self,
-        stmt: &Stmt,
-        rt: &R,
-        alloc: Global,
-        world: &World,
-        region: &F,
-    ) -> Result<(), Halt>
+    >(&mut self, stmt: &Stmt, rt: &R, alloc: Global, world: &World, region: &F) -> Result<(), Halt>
         requires can { CanGo world.now self.old.track }
         requires bounded { IsBoundedCode (stmt_code stmt.now Done) }
         requires alone { IsAlone world.now.words.locks self.old.track.hand.view.held (stmt_code stmt.now Done) }

@@ -117,7 +117,9 @@ impl<L: Log> Lane<L> {
         ensures loops { IfOk result (λ _. self.new.track.tally.next_loop ≡ self.old.track.tally.next_loop + 1) }
     {
         'draws: loop {
-            if !self.drawn_chunk(body, rt, alloc, world, region, slot, from, total, chunk, line)? {
+            if !self.drawn_chunk(
+                body, rt, alloc, world, region, slot, from, total, chunk, line,
+            )? {
                 return Ok(());
             }
         }
