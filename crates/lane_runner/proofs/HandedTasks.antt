@@ -1,9 +1,11 @@
 -- The logs of a task and of all below it are those of the tasks of a tree of work.
-use Rattle.std.proofs.Common.{◌≡◌, refl, ap, sym, ◌∙◌, subst, ℕ, zero, suc, ◌+◌, ◌<◌, ◌≤◌, List, [], ◌∷◌, ◌++◌, length, map, arith}
+use Rattle.std.proofs.Common.{◌≡◌, refl, ap, sym, ◌∙◌, subst, ℕ, zero, suc, ◌+◌, ◌<◌, ◌≤◌, List, [], ◌∷◌, ◌++◌, length, map, append_assoc, arith}
 use Rattle.std.specs.List.{flat_map}
 use Rattle.std.proofs.lemmas.List.{map-append, length-append}
-use Rattle.std.proofs.lemmas.List.Elements.{All-nil, All-cons, All-head, All-tail}
+use Rattle.std.proofs.lemmas.List.Elements.{All-nil, All-cons, All-head, All-tail, All-append}
+use Rattle.std.specs.Prelude.{All}
 use Rattle.sw_base.specs.declared.path.Step.{Step}
+use Rattle.sw_base.specs.Names.{IsUnder}
 use Rattle.race_model.specs.Trace.{Trace}
 use Rattle.race_model.specs.Listing.{lane_of}
 use Rattle.history_model.specs.Work.{Work, RegionWork, work_records, work_regions, lane_works}
@@ -91,3 +93,40 @@ module _ (place : LogPlace) (stop : MaybeStop) where
 
   pub tree_listed : (depth : ℕ) (root : Work) (es : List Entry) → TaskHands place stop [] (root ∷ []) es → AreWithin depth es → AreEntriesOf place stop (logged_tasks depth root) es
   tree_listed depth root es hand within = task_listed depth [] (root ∷ []) es hand (subst (λ (n : ℕ). AreWithin n es) (let e : depth ≡ 0 + depth = omega arith in e) within)
+
+-- ---- below a task
+
+abbrev AreUnder : List Step → List Entry → Type 0
+AreUnder path entries = All (λ (e : Entry). IsUnder e.task path) entries
+
+under_lane : (path : List Step) (number lane span : ℕ) (es : List Entry) → AreUnder (lane_of path number lane span) es → AreUnder path es
+under_lane path number lane span [] all = All-nil (λ (e : Entry). IsUnder e.task path)
+under_lane path number lane span (e ∷ es) all =
+    let here = lane_of path number lane span in
+    let step : Step = record { region = number; lane = lane; span = span } in
+    let first = All-head (λ (x : Entry). IsUnder x.task here) e es all in
+    All-cons (λ (x : Entry). IsUnder x.task path) e es
+    (record { first = step; rest = first.first ∷ first.rest; parts = first.parts ∙ append_assoc path (step ∷ []) (first.first ∷ first.rest) })
+    (under_lane path number lane span es (All-tail (λ (x : Entry). IsUnder x.task here) e es all))
+
+module _ (place : LogPlace) (stop : MaybeStop) where
+  mutual
+    task_under : (path here : List Step) (number lane span : ℕ) (works : List Work) (es : List Entry) → TaskHands place stop here works es → here ≡ lane_of path number lane span → AreUnder path es
+    task_under path _ number lane span _ _ (TaskHands.given here works e below is hand) same =
+        All-cons (λ (x : Entry). IsUnder x.task path) e below
+        (record { first = record { region = number; lane = lane; span = span }; rest = []; parts = is.task ∙ same })
+        (under_lane path number lane span below (subst (λ (p : List Step). AreUnder p below) same (regions_under here 0 (flat_map work_regions works) below hand)))
+    task_under path _ number lane span _ _ (TaskHands.missing here works below none hand) same =
+        under_lane path number lane span below (subst (λ (p : List Step). AreUnder p below) same (regions_under here 0 (flat_map work_regions works) below hand))
+
+    pub regions_under : (path : List Step) (number : ℕ) (regions : List RegionWork) (es : List Entry) → RegionsHand place stop path number regions es → AreUnder path es
+    regions_under _ _ _ _ (RegionsHand.no_region path number) = All-nil (λ (e : Entry). IsUnder e.task path)
+    regions_under _ _ _ _ (RegionsHand.region path number first regions mine others lanes later) =
+        All-append (λ (e : Entry). IsUnder e.task path) mine others (lanes_under path number first 0 first.span mine lanes) (regions_under path (number + 1) regions others later)
+
+    lanes_under : (path : List Step) (number : ℕ) (region : RegionWork) (lane left : ℕ) (es : List Entry) → LanesHand place stop path number region lane left es → AreUnder path es
+    lanes_under _ _ _ _ _ _ (LanesHand.no_lane path number region lane) = All-nil (λ (e : Entry). IsUnder e.task path)
+    lanes_under _ _ _ _ _ _ (LanesHand.lane path number region lane left mine others hand later) =
+        All-append (λ (e : Entry). IsUnder e.task path) mine others
+        (task_under path (lane_of path number lane region.span) number lane region.span (lane_works lane region.phases) mine hand refl)
+        (lanes_under path number region (suc lane) left others later)

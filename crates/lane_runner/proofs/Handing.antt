@@ -61,7 +61,7 @@ module _ (place : LogPlace) (stop other : MaybeStop) (memory : IsForMemory stop 
 
 -- ---- why a region stopped
 
-tell_none : (entries : List Entry) → TellStop None entries
+pub tell_none : (entries : List Entry) → TellStop None entries
 tell_none entries = record { failed = λ path is. absurd cc; crowded = λ path line is. absurd cc }
 
 faulty_later : (path : List Step) (xs ys : List Entry) → HasFaultyLog path ys → HasFaultyLog path (xs ++ ys)
@@ -79,14 +79,14 @@ crowded_later path xs ys has = record {
   many = has.many;
 }
 
-tell_later : (stop : MaybeStop) (xs ys : List Entry) → TellStop stop ys → TellStop stop (xs ++ ys)
+pub tell_later : (stop : MaybeStop) (xs ys : List Entry) → TellStop stop ys → TellStop stop (xs ++ ys)
 tell_later stop xs ys tell = record {
   failed = λ path is. faulty_later path xs ys (tell.failed path is);
   crowded = λ path line is. crowded_later path xs ys (tell.crowded path line is);
 }
 
 module _ (place : LogPlace) (stop : MaybeStop) where
-  regions_both : (path : List Step) (number : ℕ) (xs ys : List RegionWork) (es fs : List Entry) → RegionsHand place stop path number xs es → RegionsHand place stop path (number + length xs) ys fs
+  pub regions_both : (path : List Step) (number : ℕ) (xs ys : List RegionWork) (es fs : List Entry) → RegionsHand place stop path number xs es → RegionsHand place stop path (number + length xs) ys fs
       → RegionsHand place stop path number (xs ++ ys) (es ++ fs)
   regions_both _ _ _ ys _ fs (RegionsHand.no_region path number) later =
       subst (λ (n : ℕ). RegionsHand place stop path n ys fs) (let e : number + 0 ≡ number = omega arith in e) later
@@ -107,7 +107,7 @@ module _ (place : LogPlace) (stop : MaybeStop) where
 
 -- ---- works
 
-hand_none : (place : LogPlace) (path : List Step) (number : ℕ) (entries : List Entry) → HandsOn place None path number [] entries entries
+pub hand_none : (place : LogPlace) (path : List Step) (number : ℕ) (entries : List Entry) → HandsOn place None path number [] entries entries
 hand_none place path number entries = record { added = []; grows = sym (append-nil entries); hands = RegionsHand.no_region path number; tell = tell_none [] }
 
 pub same_place : (old new : Buffered) → IsStill old new → place_of new ≡ place_of old

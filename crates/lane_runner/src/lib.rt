@@ -44,7 +44,7 @@ pub use element::Element;
 pub use lane::Lane;
 pub use laws::{
     arrays_of_a_kernel_have_words, elements_of_a_kernel_have_widths,
-    handed_logs_are_those_of_the_tasks,
+    handed_logs_are_of_tasks_below, handed_logs_are_those_of_the_tasks,
 };
 pub use locals::Locals;
 pub use stop::{Halt, Stop, TASK_LIMIT};
