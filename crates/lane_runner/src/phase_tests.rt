@@ -3,13 +3,14 @@ ghost use Rattle.std.specs.Prelude.{OnOk};
 ghost use Rattle.lane_runner.specs.Going.{CanGo};
 
 use crate::tests::{buffer, bytes_of, log_of};
-use crate::{Halt, Track, World};
-use kernel_syntax::Array;
+use crate::{Halt, Lane, Locals, Stop, Track, World};
+use kernel_model::Item;
+use kernel_syntax::{Array, Team};
 use log_format::{Kind, Record};
-use shared_words::{Chunks, Words};
+use shared_words::{Chunks, Hand, Words};
 use std::alloc::Global;
 use std::test::Fail;
-use sw_base::MemLog;
+use sw_base::{MemLog, Path, Trouble};
 
 const FULL: u32 = 4_194_304;
 
@@ -74,5 +75,44 @@ fn a_full_log_takes_no_barrier_and_no_end(rt: HostRuntime) -> Result<(), Fail> {
         panic!(rt; "an end too many");
     };
     assert_eq!(rt; line, 7);
+    Ok(())
+}
+
+// Runs no region: no memory is found.
+fn stuck(
+    _: &mut Hand,
+    _: &Locals,
+    _: u32,
+    _: Vec<MemLog>,
+    _: &Team,
+    _: &mut Vec<(Path, MemLog, u32)>,
+) -> Result<(), (Path, Stop)> {
+    Err((Path::root(), Stop::Trouble(Trouble::Memory)))
+}
+
+#[test]
+fn a_value_is_set_before_the_lanes_meet(rt: HostRuntime) -> Result<(), Fail> {
+    let alloc = rt.alloc();
+    let (words, hand) = Words::new(alloc, 0, 1)?;
+    let (chunks, draws) = Chunks::new(alloc, 0)?;
+    let arrays: [Array; 0] = [];
+    let world = World::new(&arrays, &words, &chunks, 0, 1);
+    let track = Track::new(alloc, hand, buffer(alloc)?, draws);
+    let slots = vec![in alloc; 7i64, 7]?;
+    let mut lane = Lane {
+        locals: Locals { slots },
+        track,
+    };
+    let set = Item::Set { slot: 1, value: 3 };
+    let Ok(()) = lane.step(&set, &rt, alloc, &world, &stuck) else {
+        panic!(rt; "no room");
+    };
+    let bar = Item::Bar { line: 5 };
+    let Ok(()) = lane.step(&bar, &rt, alloc, &world, &stuck) else {
+        panic!(rt; "no room");
+    };
+    assert_eq!(rt; lane.locals.get(0), 7);
+    assert_eq!(rt; lane.locals.get(1), 3);
+    assert!(rt; bytes_of(alloc, lane.track)? == log_of(alloc, &[event(Kind::Barrier, 5)])?);
     Ok(())
 }
