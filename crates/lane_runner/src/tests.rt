@@ -67,12 +67,13 @@ pub(crate) fn bytes_of(alloc: Global, track: Track<MemLog>) -> Result<Vec<u8>, F
 fn a_mutex_released_at_a_stop_is_won_by_another(rt: HostRuntime) -> Result<(), Fail> {
     let alloc = rt.alloc();
     let (words, mut hand) = Words::new(alloc, 0, 2)?;
-    let other = words.split(&mut hand, 0, 1);
+    let one = words.split(&mut hand, 0, 2);
+    let other = words.split(&mut hand, 1, 2);
     let arrays: [Array; 0] = [];
     let (chunks, mut draws) = Chunks::new(alloc, 0)?;
     let lent = chunks.split(&mut draws);
     let world = World::new(&arrays, &words, &chunks, 0, 1);
-    let mut first = Track::new(alloc, hand, buffer(alloc)?, draws);
+    let mut first = Track::new(alloc, one, buffer(alloc)?, draws);
     let mut second = Track::new(alloc, other, buffer(alloc)?, lent);
 
     let Ok(()) = first.lock(&rt, alloc, &world, 1, 5) else {
@@ -128,6 +129,7 @@ fn without_memory(
     _done: &mut Vec<(Path, MemLog, u32)>,
 ) -> Result<(), (Path, Stop)>
     ensures hand { hand.new ≡ hand.old }
+    ensures done { _done.new ≡ _done.old }
     ensures stop { result ≡ Err (record { region = number; lane = 0; span = team.now.span } ∷ [], Stop.Trouble Trouble.Memory) }
 {
     let first = Path::root().child(number, 0, team.span);
