@@ -30,7 +30,7 @@ pub put_grows : (r : Record) (s : State) → r.kind ≡ kind.Write → Grows s (
 put_grows r s write = kept-put Grows grows-plain r s (λ room is. grows-plain.writes r room s is write)
 
 module _ (w : WorldValue) (e : Element) (stands : StandsIn w e) (line site bits : ℕ) (some : 1 ≤ line) (old mid new : Progress) (room : HasRoomFor old mid)
-    (unrefused : new.buffer.refused ≡ None) (tally : new.tally ≡ mid.tally) where
+    (unrefused : new.buffer.refused ≡ None) (tally : new.tally ≡ mid.tally) (done_is : new.done ≡ mid.done) where
   abbrev pub read_event : Record
   read_event = record { kind = kind.Read; size = e.width; site = site; line = line; addr = e.addr; value = bits }
 
@@ -45,7 +45,7 @@ module _ (w : WorldValue) (e : Element) (stands : StandsIn w e) (line site bits 
   read_made slots below fits hand_is gains =
       made_one w old mid new read_event (deed.Read e.word bits) (read (meant e) site line) slots (cast_signed w64 bits) room hand_is
       (ap (λ (n : ℕ). deed.Read n bits ∷ []) stands.word) unrefused gains some
-      (record { no_region = λ is. cc; element = λ is. address_is }) refl tally refl (sym stands.bytes) (λ held. refl)
+      (record { no_region = λ is. cc; element = λ is. address_is }) refl tally done_is refl (sym stands.bytes) (λ held. refl)
       (λ n left fit. subst (λ (b : ℕ). Makes (read (meant e) site line) slots n (adds slots (record { kind = kind.Read; size = e.width; site = site; line = line; addr = e.addr; value = b } ∷ [])) (Returned (cast_signed w64 bits)))
       (of_z-to_z w64 bits below) (makes-read (meant e) site line slots n (cast_signed w64 bits) left fit fits))
 
@@ -55,6 +55,6 @@ module _ (w : WorldValue) (e : Element) (stands : StandsIn w e) (line site bits 
       subst (λ (b : ℕ). Made w (put (record { kind = kind.Write; size = e.width; site = site; line = line; addr = e.addr; value = b })) slots slots old new (Returned tt)) (sym bits_are)
       (made_one w old mid new write_event (deed.Write e.word bits) (put write_event) slots tt room hand_is
       (ap (λ (n : ℕ). deed.Write n bits ∷ []) stands.word) unrefused gains some
-      (record { no_region = λ is. cc; element = λ is. address_is }) refl tally refl
+      (record { no_region = λ is. cc; element = λ is. address_is }) refl tally done_is refl
       (sym stands.bytes, subst (λ (b : ℕ). CanHave e.width b) bits_are (subst (λ (x : ℤ). fitted x e.width ≡ x) (sym (to_z-of_z w64 v signed)) fits)) (λ held. refl)
       (λ n left fit. makes-put write_event slots n left refl refl))

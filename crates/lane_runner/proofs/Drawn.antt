@@ -1,5 +1,5 @@
 -- A draw of a lane, with its record.
-use Rattle.std.proofs.Common.{◌≡◌, refl, ap, sym, ◌∙◌, subst, ℕ, suc, ◌+◌, ◌-◌, ◌<◌, ◌≤◌, min, true, List, [], ◌∷◌, ℤ, None, ⊎_elim, arith}
+use Rattle.std.proofs.Common.{◌≡◌, refl, inr, ap, sym, ◌∙◌, subst, ℕ, suc, ◌+◌, ◌-◌, ◌<◌, ◌≤◌, min, true, List, [], ◌∷◌, ℤ, None, ⊎_elim, arith}
 use Rattle.std.specs.Prelude.{reverse}
 use Rattle.std.proofs.lemmas.List.{append-nil}
 use Rattle.std.proofs.lemmas.Bool.{cases_lt}
@@ -24,6 +24,7 @@ use Rattle.lane_runner.specs.Going.{Progress, GainsRecords, HasRoomFor, Made, lo
 use Rattle.lane_runner.proofs.Working.{hand_still, worked_put_nothing}
 use Rattle.lane_runner.proofs.Stepping.{put_one, gains_after}
 use Rattle.lane_runner.proofs.Ending.{ended_none}
+use Rattle.lane_runner.proofs.Handing.{work_hands_none, few_still}
 
 pub draw_grows : (line n : ℕ) (s : State) → Grows s (state_of (draw line n s))
 draw_grows line n s = kept-draw Grows grows-plain line n s
@@ -34,7 +35,7 @@ same_hand h v there = λ i. record { table = h.table; there = sym there i; view 
 module _ (w : WorldValue) (line n number : ℕ) (some : 1 ≤ line) (old mid new : Progress) (there : old.hand.there ≡ true) (room : HasRoomFor old mid)
     (hand_is : new.hand ≡ mid.hand) (draws_are : new.tally.draws ≡ record mid.tally.draws { view = drew mid.tally.draws.view mid.tally.next_loop number })
     (opened : min number n < n → new.tally.next_loop ≡ mid.tally.next_loop) (closed : n ≤ min number n → new.tally.next_loop ≡ mid.tally.next_loop + 1)
-    (forked : new.tally.forked ≡ mid.tally.forked) (unrefused : new.buffer.refused ≡ None) (gains : GainsRecords mid.buffer new.buffer (event kind.Chunk line (min number n) n ∷ [])) where
+    (forked : new.tally.forked ≡ mid.tally.forked) (done_is : new.done ≡ mid.done) (unrefused : new.buffer.refused ≡ None) (gains : GainsRecords mid.buffer new.buffer (event kind.Chunk line (min number n) n ∷ [])) where
   abbrev told : Record
   told = event kind.Chunk line (min number n) n
 
@@ -77,14 +78,17 @@ module _ (w : WorldValue) (line n number : ℕ) (some : 1 ≤ line) (old mid new
       told = omega arith;
       elements = (tt, tt);
       sound = (record { no_region = λ is. cc; element = λ is. absurd (⊎_elim (λ e. cc) (λ e. cc) is) }, (λ is. refl), tt);
-      no_barrier = refl;
+      barriers = refl;
     };
     released = record {
       records = sym (put_one told some) ∙ sym (append-nil (log_of (Put told Rest)));
       held = ap (λ (rs : List Record). held_after (reverse old.hand.view.held) rs) (put_one told some);
+      apart = inr refl;
     };
     closes = refl;
     ended = ended_none;
+    handed = work_hands_none old new (Put told Rest) (done_is ∙ room.waits.done) refl;
+    few = few_still old.done new.done (done_is ∙ room.waits.done);
     unrefused = unrefused;
     makes = λ fit.
         let below = room.may_put.below in

@@ -1,5 +1,5 @@
 -- How a lane goes on: parts one after another.
-use Rattle.std.proofs.Common.{◌≡◌, refl, ap, sym, subst, ℕ, ◌-◌, List, [], ◌∷◌, ◌++◌, length, ℤ, Result, Ok, Err, arith}
+use Rattle.std.proofs.Common.{◌≡◌, refl, ap, sym, subst, ℕ, ◌-◌, List, [], ◌∷◌, ◌++◌, length, ℤ, None, Result, Ok, Err, arith}
 use Rattle.std.proofs.lemmas.List.Elements.{All-nil, All-cons, All-head, All-tail}
 use Rattle.log_format.specs.declared.record.Record.{Record}
 use Rattle.kernel_model.specs.State as model
@@ -13,13 +13,15 @@ use Rattle.history_model.proofs.TaskEntries.{then_records}
 use Rattle.execution_model.specs.Fitting.{ReadsFit, IsFittingRead}
 use Rattle.lane_runner.specs.declared.stop.Halt.{Halt}
 use Rattle.lane_runner.specs.declared.stop.Halt.TheVariants as halt
+use Rattle.lane_runner.specs.Handed.{MaybeStop}
 use Rattle.lane_runner.specs.World.{WorldValue}
-use Rattle.lane_runner.specs.Going.{Progress, HasDone, HasReleased, Cause, AtLog, AtRegion, EndsBy, log_of, BeginsPart, effect_of, Made, Began, Goes}
+use Rattle.lane_runner.specs.Going.{Progress, HasDonePast, HasReleased, Cause, AtLog, AtRegion, AtTasks, stop_by, WorkHandsOn, EndsBy, log_of, BeginsPart, effect_of, MadePast, Made, Began, GoesPast, Goes}
 use Rattle.shared_words.specs.declared.view.View.{View}
 use Rattle.shared_words.specs.Handles.{HandValue}
 use Rattle.lane_runner.proofs.Working.{log_then, done_then, runs_then}
 use Rattle.lane_runner.proofs.Releasing.{released_then, ends_then}
 use Rattle.lane_runner.proofs.Ending.{fits_then, ended_then, stops_then}
+use Rattle.lane_runner.proofs.Handing.{work_hands_then}
 use Rattle.lane_runner.proofs.Beginning.{begins_first, begins_then, begins_same}
 
 -- the reads of both parts
@@ -29,11 +31,11 @@ fit_first (x ∷ xs) ys all =
     All-cons (λ (r : Record). IsFittingRead r.kind r) x xs (All-head (λ (r : Record). IsFittingRead r.kind r) x (xs ++ ys) all)
     (fit_first xs ys (All-tail (λ (r : Record). IsFittingRead r.kind r) x (xs ++ ys) all))
 
-fit_last : (xs ys : List Record) → ReadsFit (xs ++ ys) → ReadsFit ys
+pub fit_last : (xs ys : List Record) → ReadsFit (xs ++ ys) → ReadsFit ys
 fit_last [] ys all = all
 fit_last (x ∷ xs) ys all = fit_last xs ys (All-tail (λ (r : Record). IsFittingRead r.kind r) x (xs ++ ys) all)
 
-effect_then : (one two : Work) (slots slots' : List ℤ) (forks later : List Fork) → then_effect (effect_of slots one forks) (effect_of slots' two later) ≡ effect_of slots' (then_work one two) (forks ++ later)
+pub effect_then : (one two : Work) (slots slots' : List ℤ) (forks later : List Fork) → then_effect (effect_of slots one forks) (effect_of slots' two later) ≡ effect_of slots' (then_work one two) (forks ++ later)
 effect_then one two slots slots' forks later = λ i. record { slots = slots'; added = sym (log_then one two) i; forks = forks ++ later }
 
 module _ (w : WorldValue) {A B : Type 0} (part : State → Outcome A) (next : A → State → Outcome B) (slots slots' : List ℤ) (old new : Progress) where
@@ -47,6 +49,8 @@ module _ (w : WorldValue) {A B : Type 0} (part : State → Outcome A) (next : A 
     released = m.released;
     closes = tt;
     ended = m.ended;
+    handed = m.handed;
+    few = m.few;
     unrefused = m.unrefused;
     makes = λ fit. makes-halt part next slots (log_limit - old.buffer.count) (effect_of slots' m.work m.forks) why line (m.makes fit);
     regions = m.regions;
@@ -61,6 +65,7 @@ module _ (w : WorldValue) {A B : Type 0} (part : State → Outcome A) (next : A 
     released = m.released;
     ends = m.ends;
     stops = m.stops;
+    handed = m.handed;
     begins = λ fit. begins_first part next slots (log_limit - old.buffer.count) (log_of m.work) m.forks grows (m.begins fit);
     regions = m.regions;
   }
@@ -70,6 +75,7 @@ module _ (w : WorldValue) {A B : Type 0} (part : State → Outcome A) (next : A 
   goes_stop (halt.Index line) grows m = halts model.Index line m
   goes_stop (halt.LogFull line) grows m = halts model.LogFull line m
   goes_stop (halt.Region path why) grows m = begins_stop (AtRegion path why) grows m
+  goes_stop (halt.Tasks line) grows m = begins_stop (AtTasks line) grows m
   goes_stop (halt.Trouble trouble) grows (m, refused) = (begins_stop AtLog grows m, refused)
 
 -- a part, and what follows it
@@ -78,7 +84,7 @@ module _ (w : WorldValue) {A B : Type 0} (part : State → Outcome A) (next : A 
   left : log_limit - mid.buffer.count ≡ log_limit - old.buffer.count - length (log_of one.work)
   left = let count = one.done.log.count in omega arith
 
-  done : (work : Work) → HasDone w mid new work → HasDone w old new (then_work one.work work)
+  done : {bars : ℕ} (work : Work) → HasDonePast bars w mid new work → HasDonePast bars w old new (then_work one.work work)
   done work d = done_then w old mid new one.work work one.done d
 
   fits_one : (work : Work) → ReadsFit (work_records (then_work one.work work)) → ReadsFit (work_records one.work)
@@ -95,7 +101,10 @@ module _ (w : WorldValue) {A B : Type 0} (part : State → Outcome A) (next : A 
       released_then old.hand.view.held one.work work own (subst (λ (l : List ℕ). HasReleased old.hand.view.held one.work l) one.closes one.released)
       (subst (λ (h : List ℕ). HasReleased h work own) held_is r)
 
-  follows : (finish : Finish B) → Made w (next a) mid_slots slots' mid new finish → Made w (λ s. and_then (part s) next) slots slots' old new finish
+  handed : (stop : MaybeStop) (work : Work) → WorkHandsOn stop mid new work → WorkHandsOn stop old new (then_work one.work work)
+  handed stop work hands = work_hands_then stop old mid new one.work work one.done.log.place one.done.log.path one.done.forked one.handed hands
+
+  follows : {bars : ℕ} (finish : Finish B) → MadePast bars w (next a) mid_slots slots' mid new finish → MadePast bars w (λ s. and_then (part s) next) slots slots' old new finish
   follows finish m = record {
     work = then_work one.work m.work;
     forks = one.forks ++ m.forks;
@@ -104,6 +113,8 @@ module _ (w : WorldValue) {A B : Type 0} (part : State → Outcome A) (next : A 
     released = released m.work m.own m.released;
     closes = m.closes;
     ended = ended_then one.work m.work one.ended m.ended;
+    handed = handed None m.work m.handed;
+    few = λ less. m.few (one.few less);
     unrefused = m.unrefused;
     makes = λ fit.
         subst (λ (e : Effect). Makes (λ s. and_then (part s) next) slots (log_limit - old.buffer.count) e finish) (effect_then one.work m.work mid_slots slots' one.forks m.forks)
@@ -119,8 +130,9 @@ module _ (w : WorldValue) {A B : Type 0} (part : State → Outcome A) (next : A 
     own = m.own;
     done = done m.work m.done;
     released = released m.work m.own m.released;
-    ends = subst (λ (rs : List Record). EndsBy cause rs) (sym (log_then one.work m.work)) (ends_then cause (log_of one.work) (log_of m.work) m.ends);
-    stops = stops_then w.arrays old mid cause one.forks m.forks one.work m.work one.done.log.path one.done.forked one.ended m.stops;
+    ends = subst (λ (rs : List Record). EndsBy cause m.own rs) (sym (log_then one.work m.work)) (ends_then cause m.own (log_of one.work) (log_of m.work) m.ends);
+    stops = stops_then w.arrays old mid new cause one.forks m.forks one.work m.work one.done.log.place one.done.log.path one.done.forked one.ended one.few m.stops;
+    handed = handed (stop_by cause) m.work m.handed;
     begins = λ fit.
         subst (λ (rs : List Record). BeginsPart (λ s. and_then (part s) next) slots (log_limit - old.buffer.count) rs (one.forks ++ m.forks)) (sym (log_then one.work m.work))
         (begins_then part next slots (log_limit - old.buffer.count) (effect_of mid_slots one.work one.forks) a (log_of m.work) m.forks (one.makes (fits_one m.work fit))
@@ -128,17 +140,21 @@ module _ (w : WorldValue) {A B : Type 0} (part : State → Outcome A) (next : A 
     regions = λ fit program is. let both = fits_then one.work m.work fit in runs_then program one.forks m.forks one.work m.work (one.regions both.0 program is) (m.regions both.1 program is);
   }
 
+  pub past_then : (bars : ℕ) (r : Result B Halt) → GoesPast bars w (next a) mid_slots slots' mid new r → GoesPast bars w (λ s. and_then (part s) next) slots slots' old new r
+  past_then bars (Ok b) m = follows (Returned b) m
+  past_then bars (Err (halt.DivZero line)) m = follows (Halted model.DivZero line) m
+  past_then bars (Err (halt.Index line)) m = follows (Halted model.Index line) m
+  past_then bars (Err (halt.LogFull line)) m = follows (Halted model.LogFull line) m
+  past_then bars (Err (halt.Region path why)) m = begins_follow (AtRegion path why) m
+  past_then bars (Err (halt.Tasks line)) m = begins_follow (AtTasks line) m
+  past_then bars (Err (halt.Trouble trouble)) (m, refused) = (begins_follow AtLog m, refused)
+
   pub goes_then : (r : Result B Halt) → Goes w (next a) mid_slots slots' mid new r → Goes w (λ s. and_then (part s) next) slots slots' old new r
-  goes_then (Ok b) m = follows (Returned b) m
-  goes_then (Err (halt.DivZero line)) m = follows (Halted model.DivZero line) m
-  goes_then (Err (halt.Index line)) m = follows (Halted model.Index line) m
-  goes_then (Err (halt.LogFull line)) m = follows (Halted model.LogFull line) m
-  goes_then (Err (halt.Region path why)) m = begins_follow (AtRegion path why) m
-  goes_then (Err (halt.Trouble trouble)) (m, refused) = (begins_follow AtLog m, refused)
+  goes_then r goes = past_then 0 r goes
 
 -- the same part, told otherwise
 module _ (w : WorldValue) {A : Type 0} (part other : State → Outcome A) (slots slots' : List ℤ) (old new : Progress) (same : (s : State) → other s ≡ part s) where
-  made_same : (finish : Finish A) → Made w part slots slots' old new finish → Made w other slots slots' old new finish
+  made_same : {bars : ℕ} (finish : Finish A) → MadePast bars w part slots slots' old new finish → MadePast bars w other slots slots' old new finish
   made_same finish m = record {
     work = m.work;
     forks = m.forks;
@@ -147,6 +163,8 @@ module _ (w : WorldValue) {A : Type 0} (part other : State → Outcome A) (slots
     released = m.released;
     closes = m.closes;
     ended = m.ended;
+    handed = m.handed;
+    few = m.few;
     unrefused = m.unrefused;
     makes = λ fit. makes-same part other slots (log_limit - old.buffer.count) (effect_of slots' m.work m.forks) finish same (m.makes fit);
     regions = m.regions;
@@ -161,17 +179,22 @@ module _ (w : WorldValue) {A : Type 0} (part other : State → Outcome A) (slots
     released = m.released;
     ends = m.ends;
     stops = m.stops;
+    handed = m.handed;
     begins = λ fit. begins_same part other slots (log_limit - old.buffer.count) (log_of m.work) m.forks same (m.begins fit);
     regions = m.regions;
   }
 
+  pub past_same : (bars : ℕ) (r : Result A Halt) → GoesPast bars w part slots slots' old new r → GoesPast bars w other slots slots' old new r
+  past_same bars (Ok v) m = made_same (Returned v) m
+  past_same bars (Err (halt.DivZero line)) m = made_same (Halted model.DivZero line) m
+  past_same bars (Err (halt.Index line)) m = made_same (Halted model.Index line) m
+  past_same bars (Err (halt.LogFull line)) m = made_same (Halted model.LogFull line) m
+  past_same bars (Err (halt.Region path why)) m = begun_same (AtRegion path why) m
+  past_same bars (Err (halt.Tasks line)) m = begun_same (AtTasks line) m
+  past_same bars (Err (halt.Trouble trouble)) (m, refused) = (begun_same AtLog m, refused)
+
   pub goes_same : (r : Result A Halt) → Goes w part slots slots' old new r → Goes w other slots slots' old new r
-  goes_same (Ok v) m = made_same (Returned v) m
-  goes_same (Err (halt.DivZero line)) m = made_same (Halted model.DivZero line) m
-  goes_same (Err (halt.Index line)) m = made_same (Halted model.Index line) m
-  goes_same (Err (halt.LogFull line)) m = made_same (Halted model.LogFull line) m
-  goes_same (Err (halt.Region path why)) m = begun_same (AtRegion path why) m
-  goes_same (Err (halt.Trouble trouble)) (m, refused) = (begun_same AtLog m, refused)
+  goes_same r goes = past_same 0 r goes
 
 -- what follows where a part gives no value
 pub after_is : (m : Outcome (Unit {0})) (f : State → Outcome (Unit {0})) → after m f ≡ and_then m (λ a t. f t)

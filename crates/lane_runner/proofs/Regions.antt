@@ -1,6 +1,6 @@
 -- Regions: the record of the fork, and what the lanes of the region did.
-use Rattle.std.proofs.Common.{◌≡◌, refl, ap, sym, ◌∙◌, subst, ℕ, ◌+◌, ◌-◌, ◌≤◌, List, [], ◌∷◌, ◌++◌, length, ℤ, arith}
-use Rattle.std.specs.Prelude.{reverse, Ok, Err}
+use Rattle.std.proofs.Common.{◌≡◌, inl, refl, ap, sym, ◌∙◌, subst, ℕ, ◌+◌, ◌-◌, ◌<◌, ◌≤◌, List, [], ◌∷◌, ◌++◌, length, ℤ, arith}
+use Rattle.std.specs.Prelude.{reverse, Some, None, Ok, Err}
 use Rattle.sw_base.specs.declared.path.Step.{Step}
 use Rattle.std.proofs.lemmas.List.{append-nil}
 use Rattle.log_format.specs.declared.record.Record.{Record}
@@ -25,10 +25,11 @@ use Rattle.event_buffer.specs.Buffered.{Buffered}
 use Rattle.lane_runner.specs.Drawing.{Tally, HasDrawn}
 use Rattle.lane_runner.proofs.Drawing.{drew_forked}
 use Rattle.lane_runner.specs.World.{WorldValue, element_word}
-use Rattle.lane_runner.specs.Going.{Progress, HasDone, HasReleased, GainsRecords, AtRegion, log_of, worked, effect_of, Made, Began, Takes}
-use Rattle.lane_runner.specs.Forking.{Answer, RanRegion, EndsAs, after_phases}
+use Rattle.lane_runner.specs.Going.{Progress, HasDone, HasReleased, GainsRecords, AtRegion, AtTasks, WorkHandsOn, AreFewBefore, log_of, worked, BeginsPart, effect_of, Made, Began, Takes}
+use Rattle.lane_runner.specs.Forking.{Answer, RanRegion, EndsAs, after_phases, stop_in}
 use Rattle.lane_runner.specs.Fitting.{WorkFits}
-use Rattle.lane_runner.specs.Stopping.{StopsRegion}
+use Rattle.lane_runner.specs.Handed.{Entry, MaybeStop, HandsOn, AreFew, place_of, task_limit}
+use Rattle.lane_runner.specs.Stopping.{StopsRegion, HaveEnded}
 use Rattle.lane_runner.specs.declared.stop.Stop.{Stop}
 use Rattle.lane_runner.proofs.Working.{view_same}
 use Rattle.lane_runner.proofs.Ending.{ended_none, ended_one}
@@ -36,8 +37,8 @@ use Rattle.lane_runner.proofs.Stepping.{is_put_one}
 use Rattle.lane_runner.proofs.Beginning.{begins_made}
 
 module _ (w : WorldValue) (at : Site) (team : TeamTree) (some : 1 ≤ team.line) (slots : List ℤ) (old a new : Progress) (r : Answer)
-    (taken : Takes (event kind.Region team.line 0 team.span) old.hand.view old a) (ran : RanRegion w team slots old.buffer.path old.tally.forked a.hand new.hand r)
-    (still : new.buffer ≡ a.buffer) (tally : new.tally ≡ record a.tally { forked = a.tally.forked + 1 }) where
+    (taken : Takes (event kind.Region team.line 0 team.span) old.hand.view old a) (ran : RanRegion w team slots old.buffer old.tally.forked a.hand new.hand a.done new.done r)
+    (free : old.hand.view.held ≡ []) (still : new.buffer ≡ a.buffer) (tally : new.tally ≡ record a.tally { forked = a.tally.forked + 1 }) where
   abbrev region_work : Work
   region_work = work.Fork team.line team.span ran.phases Rest
 
@@ -73,13 +74,14 @@ module _ (w : WorldValue) (at : Site) (team : TeamTree) (some : 1 ≤ team.line)
     told = let one = ap (λ (rs : List Record). length rs) region_log in omega (arith, one);
     elements = (ran.elements, tt);
     sound = (ran.sound, tt);
-    no_barrier = refl;
+    barriers = refl;
   }
 
   region_released : HasReleased old.hand.view.held region_work []
   region_released = record {
     records = sym region_log ∙ sym (append-nil (log_of region_work));
     held = ap (λ (rs : List Record). held_after (reverse old.hand.view.held) rs) region_log;
+    apart = inl free;
   }
 
   region_makes : Makes (run at region_code) slots (log_limit - old.buffer.count) (effect_of slots region_work (this_fork ∷ [])) (Returned tt)
@@ -89,20 +91,44 @@ module _ (w : WorldValue) (at : Site) (team : TeamTree) (some : 1 ≤ team.line)
       (makes-Done at slots (log_limit - old.buffer.count - 1)))
 
   region_runs : WorkFits region_work → (program : Program) → program.arrays ≡ w.arrays → RunsRegions program (this_fork ∷ []) (work_regions region_work)
-  region_runs fit program is = RunsRegions.region this_fork [] (record { span = team.span; phases = ran.phases }) [] refl (ran.lanes fit.0 program is) ran.drawn RunsRegions.no_region
+  region_runs fit program is = RunsRegions.region this_fork [] (record { span = team.span; phases = ran.phases }) [] refl (ran.lanes fit.0 program is) (ran.drawn fit.0 program is) RunsRegions.no_region
 
   abbrev this_region : RegionWork
   this_region = record { span = team.span; phases = ran.phases }
 
-  pub region_made : (u : Unit {0}) → r ≡ Ok u → Made w (run at region_code) slots slots old new (Returned tt)
-  region_made u is = record {
+  region_hands : WorkHandsOn (stop_in r) old new region_work
+  region_hands = subst (λ (es : List Entry). HandsOn (place_of old.buffer) (stop_in r) old.buffer.path old.tally.forked (this_region ∷ []) es new.done) taken.done ran.handed
+
+  hands_by : (x : Answer) → r ≡ x → WorkHandsOn (stop_in x) old new region_work
+  hands_by x is = subst (λ (y : Answer). WorkHandsOn (stop_in y) old new region_work) is region_hands
+
+  few_before : (stop : MaybeStop) → WorkHandsOn stop old new region_work → AreFewBefore stop old new (this_region ∷ [])
+  few_before stop hands = record {
+    before = [];
+    last = this_region;
+    regions_are = refl;
+    earlier = old.done;
+    few = λ less. less;
+    handed = subst (λ (n : ℕ). HandsOn (place_of old.buffer) stop old.buffer.path n (this_region ∷ []) old.done new.done) (let e : old.tally.forked ≡ old.tally.forked + 0 = omega arith in e) hands;
+  }
+
+  region_ends : (u : Unit {0}) → r ≡ Ok u → HaveEnded (this_region ∷ [])
+  region_ends u is = ended_one this_region (subst (λ (x : Answer). EndsAs w.arrays old.buffer.path old.tally.forked this_fork ran.phases x) is ran.ends) ran.joined
+
+  region_begins : BeginsPart (run at region_code) slots (log_limit - old.buffer.count) (log_of region_work) (this_fork ∷ [])
+  region_begins = begins_made (run at region_code) slots (log_limit - old.buffer.count) (effect_of slots region_work (this_fork ∷ [])) (Returned tt) region_makes
+
+  pub region_made : (u : Unit {0}) → r ≡ Ok u → AreFew new.done → Made w (run at region_code) slots slots old new (Returned tt)
+  region_made u is few = record {
     work = region_work;
     forks = this_fork ∷ [];
     own = [];
     done = region_done;
     released = region_released;
     closes = refl;
-    ended = ended_one this_region (subst (λ (x : Answer). EndsAs w.arrays old.buffer.path old.tally.forked this_fork ran.phases x) is ran.ends) ran.joined;
+    ended = region_ends u is;
+    handed = hands_by (Ok u) is;
+    few = λ less. few;
     unrefused = ap (λ (b : Buffered). b.refused) still ∙ taken.unrefused;
     makes = λ fit. region_makes;
     regions = region_runs;
@@ -115,11 +141,40 @@ module _ (w : WorldValue) (at : Site) (team : TeamTree) (some : 1 ≤ team.line)
     own = [];
     done = region_done;
     released = region_released;
-    ends = record { prefix = []; last = work.fork_record team.line team.span; parts = region_log; forks = refl };
-    stops = record { earlier = []; fork = this_fork; forks_are = refl; before = []; region = this_region; regions_are = refl; ended = ended_none; joined = ran.joined; stopped = at_number (subst (λ (x : Answer). EndsAs w.arrays old.buffer.path old.tally.forked this_fork ran.phases x) is ran.ends) };
-    begins = λ fit. begins_made (run at region_code) slots (log_limit - old.buffer.count) (effect_of slots region_work (this_fork ∷ [])) (Returned tt) region_makes;
+    ends = (refl, record { prefix = []; last = work.fork_record team.line team.span; parts = region_log; forks = refl });
+    stops = (
+      record {
+        earlier = [];
+        fork = this_fork;
+        forks_are = refl;
+        before = [];
+        region = this_region;
+        regions_are = refl;
+        ended = ended_none;
+        joined = ran.joined;
+        stopped = at_number (subst (λ (x : Answer). EndsAs w.arrays old.buffer.path old.tally.forked this_fork ran.phases x) is ran.ends);
+      },
+      few_before (Some (path, why)) (hands_by (Err (path, why)) is),
+    );
+    handed = hands_by (Err (path, why)) is;
+    begins = λ fit. region_begins;
     regions = region_runs;
   }
     where
       at_number : StopsRegion w.arrays old.buffer.path old.tally.forked path why this_fork ran.phases → StopsRegion w.arrays old.buffer.path (old.tally.forked + 0) path why this_fork ran.phases
       at_number = subst (λ (n : ℕ). StopsRegion w.arrays old.buffer.path n path why this_fork ran.phases) (let e : old.tally.forked ≡ old.tally.forked + 0 = omega arith in e)
+
+  -- the region ended, and now too many tasks are below its own
+  pub region_crowded : (u : Unit {0}) → r ≡ Ok u → task_limit < length new.done → Began w (run at region_code) slots old new (AtTasks team.line)
+  region_crowded u is many = record {
+    work = region_work;
+    forks = this_fork ∷ [];
+    own = [];
+    done = region_done;
+    released = region_released;
+    ends = (refl, record { region = record { prefix = []; last = work.fork_record team.line team.span; parts = region_log; forks = refl }; line_is = refl });
+    stops = (region_ends u is, many, few_before None (hands_by (Ok u) is));
+    handed = hands_by (Ok u) is;
+    begins = λ fit. region_begins;
+    regions = region_runs;
+  }

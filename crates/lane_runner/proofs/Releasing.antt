@@ -1,21 +1,22 @@
 -- What a work releases at its end: works one after another, and what ends them.
-use Rattle.std.proofs.Common.{◌≡◌, refl, ap, sym, ◌∙◌, ℕ, List, [], ◌∷◌, ◌++◌, append_assoc}
+use Rattle.std.proofs.Common.{◌≡◌, ◌⊎◌, inl, inr, refl, ap, ap₂, sym, ◌∙◌, ℕ, List, [], ◌∷◌, ◌++◌, append_assoc}
 use Rattle.std.specs.Prelude.{map, reverse}
 use Rattle.std.proofs.lemmas.List.{append-nil}
 use Rattle.log_format.specs.declared.record.Record.{Record}
 use Rattle.race_model.specs.Race.{held_after, held_after_kind}
 use Rattle.race_model.specs.History.{release}
-use Rattle.history_model.specs.Work.{Work, Rest, work_records, then_work}
+use Rattle.history_model.specs.Work.{Work, Rest, RegionWork, work_records, work_regions, then_work}
 use Rattle.history_model.proofs.TaskEntries.{then_records}
-use Rattle.lane_runner.specs.Going.{log_of, HasReleased, Cause, AtLog, AtRegion, EndsBy}
-use Rattle.lane_runner.proofs.Working.{log_then}
+use Rattle.lane_runner.specs.Going.{log_of, HasReleased, Cause, AtLog, AtRegion, AtTasks, EndsBy}
+use Rattle.lane_runner.specs.Stopping.{LastIsRegion}
+use Rattle.lane_runner.proofs.Working.{log_then, regions_then}
 
 pub held_both : (held : List ℕ) (xs ys : List Record) → held_after held (xs ++ ys) ≡ held_after (held_after held xs) ys
 held_both held [] ys = refl
 held_both held (x ∷ xs) ys = held_both (held_after_kind x.kind x.addr held) xs ys
 
 pub released_none : (before : List ℕ) → HasReleased before Rest []
-released_none before = record { records = refl; held = refl }
+released_none before = record { records = refl; held = refl; apart = inr refl }
 
 pub released_then : (before : List ℕ) (one two : Work) (own : List ℕ) → HasReleased before one [] → HasReleased before two own → HasReleased before (then_work one two) own
 released_then before one two own x y = record {
@@ -30,13 +31,24 @@ released_then before one two own x y = record {
       ∙ held_both (reverse before) (log_of one) (log_of two)
       ∙ ap (λ (held : List ℕ). held_after held (log_of two)) x.held
       ∙ y.held;
+  apart = both x.apart y.apart;
 }
+  where
+    both : (before ≡ []) ⊎ (work_regions one ≡ []) → (before ≡ []) ⊎ (work_regions two ≡ []) → (before ≡ []) ⊎ (work_regions (then_work one two) ≡ [])
+    both (inl none) second = inl none
+    both (inr first) (inl none) = inl none
+    both (inr first) (inr second) = inr (regions_then one two ∙ ap₂ (λ (rs more : List RegionWork). rs ++ more) first second)
 
-pub ends_then : (cause : Cause) (xs ys : List Record) → EndsBy cause ys → EndsBy cause (xs ++ ys)
-ends_then AtLog xs ys e = tt
-ends_then (AtRegion path why) xs ys e = record {
+last_then : (xs ys : List Record) → LastIsRegion ys → LastIsRegion (xs ++ ys)
+last_then xs ys e = record {
   prefix = xs ++ e.prefix;
   last = e.last;
   parts = ap (λ (rs : List Record). xs ++ rs) e.parts ∙ sym (append_assoc xs e.prefix (e.last ∷ []));
   forks = e.forks;
 }
+
+pub ends_then : (cause : Cause) (own : List ℕ) (xs ys : List Record) → EndsBy cause own ys → EndsBy cause own (xs ++ ys)
+unfolding last_then
+ends_then AtLog own xs ys e = tt
+ends_then (AtRegion path why) own xs ys (none, e) = (none, last_then xs ys e)
+ends_then (AtTasks line) own xs ys (none, e) = (none, record { region = last_then xs ys e.region; line_is = e.line_is })

@@ -19,8 +19,8 @@ use Rattle.kernel_model.proofs.Steps.{kept-and_then, kept-after, kept-stored}
 use Rattle.lane_runner.specs.declared.stop.Halt.{Halt}
 use Rattle.lane_runner.specs.declared.stop.Halt.TheVariants as halt
 use Rattle.lane_runner.specs.World.{WorldValue}
-use Rattle.lane_runner.specs.Going.{Progress, CanGo, Cause, AtLog, AtRegion, effect_of, Made, Began, Goes}
-use Rattle.lane_runner.proofs.Following.{goes_stop, goes_then, goes_same, after_is}
+use Rattle.lane_runner.specs.Going.{Progress, CanGo, Cause, AtLog, AtRegion, AtTasks, effect_of, Made, Began, GoesPast, Goes}
+use Rattle.lane_runner.proofs.Following.{goes_stop, past_then, goes_then, past_same, goes_same, after_is}
 use Rattle.lane_runner.proofs.Values.{can_follow, made_still}
 
 -- ---- parts that give no value
@@ -32,11 +32,15 @@ module _ (w : WorldValue) (part next : State → Outcome (Unit {0})) (slots : Li
       goes_same w _ (λ (s : State). after (part s) next) slots slots' old new (λ s. after_is (part s) next) (Err why)
       (goes_stop w part (λ (a : Unit {0}) (s : State). next s) slots slots' old new why (λ a s. grows s) goes)
 
+  pub after_past : (bars : ℕ) (mid_slots slots' : List ℤ) (old mid new : Progress) (r : Result (Unit {0}) Halt) → Made w part slots mid_slots old mid (Returned tt) → GoesPast bars w next mid_slots slots' mid new r
+      → GoesPast bars w (λ s. after (part s) next) slots slots' old new r
+  after_past bars mid_slots slots' old mid new r made goes =
+      past_same w _ (λ (s : State). after (part s) next) slots slots' old new (λ s. after_is (part s) next) bars r
+      (past_then w part (λ (a : Unit {0}) (s : State). next s) slots mid_slots slots' old mid new tt made bars r goes)
+
   pub after_goes : (mid_slots slots' : List ℤ) (old mid new : Progress) (r : Result (Unit {0}) Halt) → Made w part slots mid_slots old mid (Returned tt) → Goes w next mid_slots slots' mid new r
       → Goes w (λ s. after (part s) next) slots slots' old new r
-  after_goes mid_slots slots' old mid new r made goes =
-      goes_same w _ (λ (s : State). after (part s) next) slots slots' old new (λ s. after_is (part s) next) r
-      (goes_then w part (λ (a : Unit {0}) (s : State). next s) slots mid_slots slots' old mid new tt made r goes)
+  after_goes mid_slots slots' old mid new r made goes = after_past 0 mid_slots slots' old mid new r made goes
 
 -- a local is set, and then a part goes on
 module _ (w : WorldValue) (part : State → Outcome (Unit {0})) (slot : ℕ) (v : ℤ) (slots slots' : List ℤ) (old new : Progress) where
@@ -49,6 +53,8 @@ module _ (w : WorldValue) (part : State → Outcome (Unit {0})) (slot : ℕ) (v 
     released = m.released;
     closes = m.closes;
     ended = m.ended;
+    handed = m.handed;
+    few = m.few;
     unrefused = m.unrefused;
     makes = λ fit. makes-assign part slot v slots (log_limit - old.buffer.count) (effect_of slots' m.work m.forks) finish (m.makes fit);
     regions = m.regions;
@@ -63,6 +69,7 @@ module _ (w : WorldValue) (part : State → Outcome (Unit {0})) (slot : ℕ) (v 
     released = m.released;
     ends = m.ends;
     stops = m.stops;
+    handed = m.handed;
     begins = λ fit. let b = m.begins fit in record { within = b.within; begins = λ records before reads chunks. b.begins records before reads chunks };
     regions = m.regions;
   }
@@ -73,6 +80,7 @@ module _ (w : WorldValue) (part : State → Outcome (Unit {0})) (slot : ℕ) (v 
   goes_assigned (Err (halt.Index line)) m = made_assigned (Halted model.Index line) m
   goes_assigned (Err (halt.LogFull line)) m = made_assigned (Halted model.LogFull line) m
   goes_assigned (Err (halt.Region path why)) m = begun_assigned (AtRegion path why) m
+  goes_assigned (Err (halt.Tasks line)) m = begun_assigned (AtTasks line) m
   goes_assigned (Err (halt.Trouble trouble)) (m, refused) = (begun_assigned AtLog m, refused)
 
 -- no statement

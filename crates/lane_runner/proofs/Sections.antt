@@ -1,5 +1,5 @@
 -- Critical sections: the steps on the mutex with what is done between them, by which the section ends or is left at a stop.
-use Rattle.std.proofs.Common.{◌≡◌, refl, ap, sym, ◌∙◌, subst, ⊎_elim, ℕ, ◌+◌, ◌-◌, ◌<◌, ◌≤◌, Bool, true, false, not, List, [], ◌∷◌, ◌++◌, length, ℤ, Err, append_assoc, arith}
+use Rattle.std.proofs.Common.{◌≡◌, refl, inr, ap, sym, ◌∙◌, subst, ⊎_elim, ℕ, ◌+◌, ◌-◌, ◌<◌, ◌≤◌, Bool, true, false, not, List, [], ◌∷◌, ◌++◌, length, ℤ, Some, None, Err, append_assoc, arith}
 use Rattle.std.specs.Prelude.{map, filter, reverse, All, ◌==◌}
 use Rattle.std.proofs.lemmas.List.{append-nil, reverse-append, map-append, length-append}
 use Rattle.std.proofs.lemmas.List.Elements.{All-head, All-tail, filter-append}
@@ -42,13 +42,15 @@ use Rattle.lane_runner.specs.declared.stop.Halt.TheVariants as halt
 use Rattle.lane_runner.specs.Drawing.{Tally, HasDrawn}
 use Rattle.lane_runner.proofs.Drawing.{drew_none, drew_nothing, drew_then}
 use Rattle.lane_runner.specs.World.{WorldValue, element_word, element_width, layout_of}
-use Rattle.lane_runner.specs.Going.{Progress, CanGo, HasDone, HasReleased, GainsRecords, Cause, AtLog, AtRegion, EndsBy, StopsBy, log_of, worked, BeginsPart, effect_of, Made, Began, Goes, Takes}
-use Rattle.lane_runner.proofs.Working.{log_then, view_same, gains_then, barriers_none, regions_then, elements_then}
+use Rattle.lane_runner.specs.Handed.{Entry, MaybeStop, place_of, task_limit}
+use Rattle.lane_runner.proofs.Handing.{work_hands, few_between, few_before_between}
+use Rattle.lane_runner.specs.Going.{Progress, CanGo, HasDone, HasReleased, GainsRecords, Cause, AtLog, AtRegion, AtTasks, stop_by, WorkHandsOn, EndsBy, StopsBy, log_of, worked, BeginsPart, effect_of, Made, Began, Goes, Takes}
+use Rattle.lane_runner.proofs.Working.{log_then, view_same, gains_then, barriers_later, regions_then, elements_then}
 use Rattle.lane_runner.specs.Fitting.{WorkFits}
 use Rattle.lane_runner.specs.Stopping.{HaveEnded, StopsAtLast}
 use Rattle.lane_runner.proofs.Ending.{fits_then}
 use Rattle.lane_runner.proofs.Stepping.{put_first}
-use Rattle.lane_runner.proofs.Releasing.{held_both, ends_then}
+use Rattle.lane_runner.proofs.Releasing.{held_both}
 use Rattle.lane_runner.proofs.Following.{fit_first, after_is}
 use Rattle.lane_runner.proofs.Beginning.{begins_then, begins_same}
 use Rattle.lane_runner.proofs.Running.{after_done}
@@ -133,6 +135,14 @@ module _ (mutex line end : ℕ) (some : 1 ≤ line) (body : Work) where
       ∙ ap (λ (held : List ℕ). held_after (held_after held (log_of body)) tail_log) (held_more mutex h)
       ∙ ap (λ (held : List ℕ). held_after held tail_log) r.held
 
+-- who holds a mutex forks no region
+apart_within : (mutex : ℕ) (body : Work) (h own : List ℕ) → HasReleased (mutex ∷ h) body own → work_regions body ≡ []
+apart_within mutex body h own r = ⊎_elim (λ none. cc) (λ none. none) r.apart
+
+section_is_apart : (mutex line end : ℕ) (body : Work) (h own : List ℕ) → HasReleased (mutex ∷ h) body own → work_regions (section mutex line end body) ≡ []
+section_is_apart mutex line end body h own r =
+    regions_then body (Put (event kind.Unlock end mutex 0) Rest) ∙ append-nil (work_regions body) ∙ apart_within mutex body h own r
+
 -- a section that ends holds no more than before it
 released_at_end : (mutex line end : ℕ) (some : 1 ≤ line) (at_end : 1 ≤ end) (body : Work) (h : List ℕ) → All (λ (o : ℕ). o < mutex) h → HasReleased (mutex ∷ h) body [] → HasReleased h (section mutex line end body) []
 released_at_end mutex line end some at_end body h all r = record {
@@ -146,6 +156,7 @@ released_at_end mutex line end some at_end body h all r = record {
       held_within mutex line end some body h [] r
       ∙ ap (λ (rs : List Record). held_after (reverse (mutex ∷ h)) rs) (put_first (event kind.Unlock end mutex 0) Rest at_end)
       ∙ given_back mutex h all;
+  apart = inr (section_is_apart mutex line end body h [] r);
 }
 
 -- a section that is left at a stop releases its own mutex last
@@ -161,6 +172,7 @@ released_at_stop mutex line some body h own r = record {
   held =
       held_within mutex line 0 some body h own r
       ∙ ap (λ (l : List ℕ). reverse l) (sym (append_assoc own (mutex ∷ []) h));
+  apart = inr (section_is_apart mutex line 0 body h own r);
 }
 
 -- ---- what was done
@@ -199,11 +211,11 @@ module _ (w : WorldValue) (mutex line end : ℕ) (some : 1 ≤ line) (old a b ne
     sound = (
       lock_sound w mutex line,
       (λ is. cc),
-      then_sound (layout_of w.arrays) body (Put (event kind.Unlock end mutex 0) Rest) done.sound (unlock_sound w mutex end, (λ is. cc), tt) done.no_barrier,
+      then_sound (layout_of w.arrays) body (Put (event kind.Unlock end mutex 0) Rest) done.sound (unlock_sound w mutex end, (λ is. cc), tt) done.barriers,
     );
-    no_barrier =
-        barriers_none (event kind.Lock line mutex 0 ∷ []) (work_records (then_work body (Put (event kind.Unlock end mutex 0) Rest))) refl
-        (ap (λ (rs : List Record). barrier_count rs) (then_records body (Put (event kind.Unlock end mutex 0) Rest)) ∙ barriers_none (work_records body) (event kind.Unlock end mutex 0 ∷ []) done.no_barrier refl);
+    barriers =
+        barriers_later 0 (event kind.Lock line mutex 0 ∷ []) (work_records (then_work body (Put (event kind.Unlock end mutex 0) Rest))) refl
+        (ap (λ (rs : List Record). barrier_count rs) (then_records body (Put (event kind.Unlock end mutex 0) Rest)) ∙ barriers_later 0 (work_records body) (event kind.Unlock end mutex 0 ∷ []) done.barriers refl);
   }
 
   held_is : a.hand.view.held ≡ mutex ∷ old.hand.view.held
@@ -230,6 +242,13 @@ module _ (w : WorldValue) (mutex line end : ℕ) (some : 1 ≤ line) (old a b ne
 
   some_room : 0 < log_limit - old.buffer.count
   some_room = let below = taken.below in omega arith
+
+-- the regions forked in a section
+section_hands : (stop : MaybeStop) (mutex line end : ℕ) (old a b new : Progress) → Takes (event kind.Lock line mutex 0) (locked old.hand.view mutex) old a → (body : Work) → new.done ≡ b.done
+    → WorkHandsOn stop a b body → WorkHandsOn stop old new (section mutex line end body)
+section_hands stop mutex line end old a b new taken body same hands =
+    work_hands stop old a b new body (section mutex line end body) taken.log.place taken.log.path (ap (λ (t : Tally). t.forked) taken.tally) taken.done same
+    (regions_then body (Put (event kind.Unlock end mutex 0) Rest) ∙ append-nil (work_regions body)) hands
 
 -- ---- the meaning of a section after its lock
 
@@ -273,6 +292,8 @@ module _ (w : WorldValue) (at : Site) (code : Code) (mutex line end : ℕ) (some
         (subst (λ (h : List ℕ). HasReleased h m.work m.own) (held_is w mutex line end some old a b new m.work taken given.hand gained tallied forked) m.released));
     closes = refl;
     ended = section_regions w mutex line end some old a b new m.work taken given.hand gained tallied forked (λ rs. HaveEnded rs) m.ended;
+    handed = section_hands None mutex line end old a b new taken m.work given.done m.handed;
+    few = few_between old.done a.done b.done new.done taken.done given.done m.few;
     unrefused = given.unrefused;
     makes = λ fit.
         subst (λ (e : Effect). Makes (run at (tree.Critical mutex line end code tree.Done)) slots (log_limit - old.buffer.count) e (Returned tt)) effect_is
@@ -306,16 +327,28 @@ module _ (w : WorldValue) (at : Site) (code : Code) (mutex line end : ℕ) (some
 
 -- ---- sections that are left at a stop
 
+no_last : (before : List RegionWork) (region : RegionWork) → before ++ region ∷ [] ≡ [] → ⊥
+no_last [] region is = cc
+no_last (b ∷ before) region is = cc
+
 -- regions of a task that took a lock before
-stops_from : (arrays : List Array) (old a : Progress) (cause : Cause) (forks : List Fork) (regions : List RegionWork) {event : Record} {after : View} → Takes event after old a → StopsBy arrays a cause forks regions → StopsBy arrays old cause forks regions
-stops_from arrays old a AtLog forks regions taken stops = stops
-stops_from arrays old a (AtRegion path why) forks regions taken stops =
-    subst (λ (at : List Step). StopsAtLast arrays at old.tally.forked path why forks regions) taken.log.path
-    (subst (λ (t : Tally). StopsAtLast arrays a.buffer.path t.forked path why forks regions) taken.tally stops)
+stops_from : (arrays : List Array) (old a b new : Progress) (cause : Cause) (forks : List Fork) (regions : List RegionWork) {event : Record} {after : View} → Takes event after old a → new.done ≡ b.done
+    → StopsBy arrays a b cause forks regions → StopsBy arrays old new cause forks regions
+stops_from arrays old a b new AtLog forks regions taken same stops = (stops.0, few_between old.done a.done b.done new.done taken.done same stops.1)
+stops_from arrays old a b new (AtTasks line) forks regions taken same stops = (
+  stops.0,
+  subst (λ (es : List Entry). task_limit < length es) (sym same) stops.1,
+  few_before_between None old a b new regions taken.log.place taken.log.path (ap (λ (t : Tally). t.forked) taken.tally) taken.done same stops.2,
+)
+stops_from arrays old a b new (AtRegion path why) forks regions taken same stops = (
+  subst (λ (at : List Step). StopsAtLast arrays at old.tally.forked path why forks regions) taken.log.path
+      (subst (λ (t : Tally). StopsAtLast arrays a.buffer.path t.forked path why forks regions) taken.tally stops.0),
+  few_before_between (Some (path, why)) old a b new regions taken.log.place taken.log.path (ap (λ (t : Tally). t.forked) taken.tally) taken.done same stops.1,
+)
 
 module _ (w : WorldValue) (part inner : State → Outcome (Unit {0})) (mutex line : ℕ) (some : 1 ≤ line) (slots slots' : List ℤ) (old a b new : Progress)
     (same : (s : State) → part s ≡ after (put (event kind.Lock line mutex 0) s) inner)
-    (taken : Takes (event kind.Lock line mutex 0) (locked old.hand.view mutex) old a) (hand_is : new.hand ≡ with_view b.hand (unlocked b.hand.view mutex)) (buffer_is : new.buffer ≡ b.buffer) (same_tally : new.tally ≡ b.tally) where
+    (taken : Takes (event kind.Lock line mutex 0) (locked old.hand.view mutex) old a) (hand_is : new.hand ≡ with_view b.hand (unlocked b.hand.view mutex)) (buffer_is : new.buffer ≡ b.buffer) (same_tally : new.tally ≡ b.tally) (done_is : new.done ≡ b.done) where
   abbrev lock_record : Record
   lock_record = event kind.Lock line mutex 0
 
@@ -330,6 +363,7 @@ module _ (w : WorldValue) (part inner : State → Outcome (Unit {0})) (mutex lin
     records = λ header records holds. subst (λ (rs : List Record). HoldsRecords header new.buffer rs) (sym (append-nil records)) (subst (λ (x : Buffered). HoldsRecords header x records) (sym buffer_is) holds);
     count = ap (λ (x : Buffered). x.count) buffer_is ∙ (let e : b.buffer.count ≡ b.buffer.count + 0 = omega arith in e);
     path = ap (λ (x : Buffered). x.path) buffer_is;
+    place = ap place_of buffer_is;
   }
 
   left_log : (work : Work) → lock_record ∷ log_of work ≡ log_of (section mutex line 0 work)
@@ -349,6 +383,8 @@ module _ (w : WorldValue) (part inner : State → Outcome (Unit {0})) (mutex lin
     released = left_released m.work m.own m.released;
     closes = tt;
     ended = section_regions w mutex line 0 some old a b new m.work taken hand_is gained tallied forked (λ rs. HaveEnded rs) m.ended;
+    handed = section_hands None mutex line 0 old a b new taken m.work done_is m.handed;
+    few = few_between old.done a.done b.done new.done taken.done done_is m.few;
     unrefused = ap (λ (x : Buffered). x.refused) buffer_is ∙ m.unrefused;
     makes = λ fit.
         makes-same (λ s. after (put lock_record s) inner) part slots (log_limit - old.buffer.count) (effect_of slots' (section mutex line 0 m.work) m.forks) (Halted why at_line) same
@@ -360,6 +396,17 @@ module _ (w : WorldValue) (part inner : State → Outcome (Unit {0})) (mutex lin
     regions = λ fit program is. section_regions w mutex line 0 some old a b new m.work taken hand_is gained tallied forked (λ rs. RunsRegions program m.forks rs) (m.regions (section_reads w mutex line 0 some old a b new m.work taken hand_is gained tallied forked fit) program is);
   }
 
+  -- no region was forked in the section
+  left_ends : (cause : Cause) (forks : List Fork) (work : Work) (own : List ℕ) → HasReleased a.hand.view.held work own → StopsBy w.arrays a b cause forks (work_regions work)
+      → EndsBy cause (own ++ mutex ∷ []) (log_of (section mutex line 0 work))
+  left_ends AtLog forks work own r stops = tt
+  left_ends (AtRegion path why) forks work own r stops =
+      let none = apart_within mutex work old.hand.view.held own (subst (λ (h : List ℕ). HasReleased h work own) (held_is w mutex line 0 some old a b new work taken hand_is gained tallied forked) r) in
+      absurd (no_last stops.1.before stops.1.last (sym stops.1.regions_are ∙ none))
+  left_ends (AtTasks at_line) forks work own r stops =
+      let none = apart_within mutex work old.hand.view.held own (subst (λ (h : List ℕ). HasReleased h work own) (held_is w mutex line 0 some old a b new work taken hand_is gained tallied forked) r) in
+      absurd (no_last stops.2.before stops.2.last (sym stops.2.regions_are ∙ none))
+
   left_begins : (cause : Cause) → Began w inner slots a b cause → Began w part slots old new cause
   left_begins cause m = record {
     work = section mutex line 0 m.work;
@@ -367,8 +414,9 @@ module _ (w : WorldValue) (part inner : State → Outcome (Unit {0})) (mutex lin
     own = m.own ++ mutex ∷ [];
     done = section_done w mutex line 0 some old a b new m.work taken hand_is gained tallied forked m.done;
     released = left_released m.work m.own m.released;
-    ends = subst (λ (rs : List Record). EndsBy cause rs) (left_log m.work) (ends_then cause (lock_record ∷ []) (log_of m.work) m.ends);
-    stops = section_regions w mutex line 0 some old a b new m.work taken hand_is gained tallied forked (λ rs. StopsBy w.arrays old cause m.forks rs) (stops_from w.arrays old a cause m.forks (work_regions m.work) taken m.stops);
+    ends = left_ends cause m.forks m.work m.own m.released m.stops;
+    stops = section_regions w mutex line 0 some old a b new m.work taken hand_is gained tallied forked (λ rs. StopsBy w.arrays old new cause m.forks rs) (stops_from w.arrays old a b new cause m.forks (work_regions m.work) taken done_is m.stops);
+    handed = section_hands (stop_by cause) mutex line 0 old a b new taken m.work done_is m.handed;
     begins = λ fit.
         begins_same (λ s. and_then (put lock_record s) (λ u t. inner t)) part slots (log_limit - old.buffer.count) (log_of (section mutex line 0 m.work)) m.forks (λ s. same s ∙ after_is (put lock_record s) inner)
         (subst (λ (rs : List Record). BeginsPart (λ s. and_then (put lock_record s) (λ u t. inner t)) slots (log_limit - old.buffer.count) rs m.forks) (left_log m.work)
@@ -384,11 +432,13 @@ module _ (w : WorldValue) (part inner : State → Outcome (Unit {0})) (mutex lin
   section_left (halt.Index at_line) m = left_halts model.Index at_line m
   section_left (halt.LogFull at_line) m = left_halts model.LogFull at_line m
   section_left (halt.Region path why) m = left_begins (AtRegion path why) m
+  section_left (halt.Tasks at_line) m = left_begins (AtTasks at_line) m
   section_left (halt.Trouble trouble) (m, refused) = (left_begins AtLog m, record { refused = λ other. ap (λ (x : Buffered). x.refused) buffer_is ∙ refused.refused other })
 
 -- a lane that put a record after its step can go on
-pub can_taken : (w : WorldValue) (event : Record) (after : View) (old new : Progress) → CanGo w old → Takes event after old new → CanGo w new
-can_taken w event after old new can taken = record {
+pub can_taken : (w : WorldValue) (event : Record) (after : View) (old new : Progress) → CanGo w old → after.out ≡ old.hand.view.out → Takes event after old new → CanGo w new
+can_taken w event after old new can same taken = record {
+  home = ap (λ (h : HandValue View). h.view.out) taken.hand ∙ same ∙ can.home;
   belongs = record { here = ap (λ (h : HandValue View). h.table) taken.hand ∙ can.belongs.here; there = ap (λ (h : HandValue View). h.there) taken.hand };
   unrefused = taken.unrefused;
   drawing = subst (λ (t : Tally). Belongs t.draws w.chunks.table) (sym taken.tally) can.drawing;

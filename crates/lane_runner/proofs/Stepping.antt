@@ -1,5 +1,5 @@
 -- One step of a lane, with its record.
-use Rattle.std.proofs.Common.{◌≡◌, ◌≢◌, refl, ap, sym, ◌∙◌, subst, ℕ, ◌+◌, ◌-◌, ◌<◌, ◌≤◌, Bool, true, false, not, List, [], ◌∷◌, ◌++◌, ℤ, None, Result, Ok, Err, arith}
+use Rattle.std.proofs.Common.{◌≡◌, ◌≢◌, refl, inr, ap, sym, ◌∙◌, subst, ℕ, ◌+◌, ◌-◌, ◌<◌, ◌≤◌, Bool, true, false, not, List, [], ◌∷◌, ◌++◌, ℤ, None, Result, Ok, Err, arith}
 use Rattle.std.specs.Prelude.{OnOk, ◌==◌, map, reverse}
 use Rattle.std.proofs.lemmas.List.{append-nil}
 use Rattle.std.proofs.lemmas.List.Elements.{All-head}
@@ -33,6 +33,7 @@ use Rattle.lane_runner.proofs.Working.{done_none, view_same}
 use Rattle.lane_runner.proofs.Beginning.{begins_none}
 use Rattle.lane_runner.proofs.Releasing.{released_none}
 use Rattle.lane_runner.proofs.Ending.{ended_none}
+use Rattle.lane_runner.proofs.Handing.{work_hands_none, few_still}
 
 pub not_refused : (P : Type 0) (r : Result (Unit {0}) BufferFault) → ((f : BufferFault) → r ≢ Err f) → OnOk r P → P
 not_refused P (Ok u) no' h = h
@@ -49,13 +50,14 @@ waits_done w old new there waits =
         records = λ header records holds. subst (λ (rs : List Record). HoldsRecords header new.buffer rs) (sym (append-nil records)) (waits.records header records holds);
         count = let same = waits.count in omega arith;
         path = waits.path;
+        place = waits.place;
       };
       draws = subst (λ (t : Tally). HasDrawn old.tally t []) (sym waits.tally) (drew_none old.tally);
       forked = let same = ap (λ (t : Tally). t.forked) waits.tally in omega (arith, same);
       told = omega arith;
       elements = tt;
       sound = tt;
-      no_barrier = refl;
+      barriers = refl;
     }
 
 module _ (w : WorldValue) {A : Type 0} (part : State → Outcome A) (slots : List ℤ) (line : ℕ) (grows : (s : State) → Grows s (state_of (part s)))
@@ -72,6 +74,8 @@ module _ (w : WorldValue) {A : Type 0} (part : State → Outcome A) (slots : Lis
         released = released_none old.hand.view.held;
         closes = tt;
         ended = ended_none;
+        handed = work_hands_none old old Rest refl refl;
+        few = λ less. less;
         unrefused = can.unrefused;
         makes = λ fit. subst (λ (room : ℕ). Makes part slots room (adds slots []) (Halted model.LogFull line)) (let none_left : 0 ≡ log_limit - old.buffer.count = omega arith in none_left) full;
         regions = λ fit program is. RunsRegions.no_region;
@@ -88,7 +92,8 @@ module _ (w : WorldValue) {A : Type 0} (part : State → Outcome A) (slots : Lis
       done = waits_done w old new can.belongs.there waits;
       released = released_none old.hand.view.held;
       ends = tt;
-      stops = ended_none;
+      stops = (ended_none, few_still old.done new.done waits.done);
+      handed = work_hands_none old new Rest waits.done refl;
       begins = λ fit. begins_none part slots (log_limit - old.buffer.count) grows;
       regions = λ fit program is. RunsRegions.no_region;
     },
@@ -97,6 +102,7 @@ module _ (w : WorldValue) {A : Type 0} (part : State → Outcome A) (slots : Lis
   goes_unready old new (halt.DivZero at_line) can room = absurd room
   goes_unready old new (halt.Index at_line) can room = absurd room
   goes_unready old new (halt.Region path why) can room = absurd room
+  goes_unready old new (halt.Tasks at_line) can room = absurd room
 
 -- ---- one record
 
@@ -123,6 +129,7 @@ gains_after old mid new event room gains = record {
   records = λ header before holds. gains.records header before (room.waits.records header before holds);
   count = let same = room.waits.count in let count = gains.count in omega arith;
   path = gains.path ∙ room.waits.path;
+  place = gains.place ∙ room.waits.place;
 }
 
 module _ (w : WorldValue) (old mid new : Progress) (event : Record) (deed : Deed) where
@@ -140,15 +147,15 @@ module _ (w : WorldValue) (old mid new : Progress) (event : Record) (deed : Deed
     told = omega arith;
     elements = (element, tt);
     sound = (sound, (λ is. refl), tt);
-    no_barrier = rw plain refl;
+    barriers = rw plain refl;
   }
 
   -- the record was put, and its step taken
   pub made_one : {A : Type 0} (part : State → Outcome A) (slots : List ℤ) (a : A) → HasRoomFor old mid → new.hand ≡ with_view mid.hand (hand.did mid.hand.view deed)
       → deeds_of (element_word w.arrays) event.kind event ≡ deed ∷ [] → new.buffer.refused ≡ None → GainsRecords mid.buffer new.buffer (event ∷ [])
       → 1 ≤ event.line → IsSoundRecord (layout_of w.arrays) event → is_barrier_kind event.kind ≡ false
-      → new.tally ≡ mid.tally → number_drawn event.kind event.addr ≡ None → IsOfElement (element_width w.arrays) event.kind event → ((held : List ℕ) → held_after_kind event.kind event.addr held ≡ held) → ((room : ℕ) → 0 < room → IsFittingRead event.kind event → Makes part slots room (adds slots (event ∷ [])) (Returned a)) → Made w part slots slots old new (Returned a)
-  made_one part slots a room hand_is deeds unrefused gains some sound plain tally none element holds makes = record {
+      → new.tally ≡ mid.tally → new.done ≡ mid.done → number_drawn event.kind event.addr ≡ None → IsOfElement (element_width w.arrays) event.kind event → ((held : List ℕ) → held_after_kind event.kind event.addr held ≡ held) → ((room : ℕ) → 0 < room → IsFittingRead event.kind event → Makes part slots room (adds slots (event ∷ [])) (Returned a)) → Made w part slots slots old new (Returned a)
+  made_one part slots a room hand_is deeds unrefused gains some sound plain tally same none element holds makes = record {
     work = Put event Rest;
     forks = [];
     own = [];
@@ -156,14 +163,17 @@ module _ (w : WorldValue) (old mid new : Progress) (event : Record) (deed : Deed
     released = record {
       records = sym (put_one event some) ∙ sym (append-nil (log_of (Put event Rest)));
       held = ap (λ (rs : List Record). held_after (reverse old.hand.view.held) rs) (put_one event some) ∙ holds (reverse old.hand.view.held);
+      apart = inr refl;
     };
     closes = refl;
     ended = ended_none;
+    handed = work_hands_none old new (Put event Rest) (same ∙ room.waits.done) refl;
+    few = few_still old.done new.done (same ∙ room.waits.done);
     unrefused = unrefused;
     makes = λ fit.
         let below = room.may_put.below in
-        let same = room.waits.count in
+        let count = room.waits.count in
         subst (λ (rs : List Record). Makes part slots (log_limit - old.buffer.count) (adds slots rs) (Returned a)) (sym (put_one event some))
-        (makes (log_limit - old.buffer.count) (omega (arith, below, same)) (All-head (λ (r : Record). IsFittingRead r.kind r) event [] fit));
+        (makes (log_limit - old.buffer.count) (omega (arith, below, count)) (All-head (λ (r : Record). IsFittingRead r.kind r) event [] fit));
     regions = λ fit program is. RunsRegions.no_region;
   }

@@ -24,21 +24,26 @@ use Rattle.lane_runner.specs.declared.stop.Halt.TheVariants.{DivZero}
 use Rattle.lane_runner.specs.World.{WorldValue}
 use Rattle.shared_words.specs.declared.share.Share.{Share}
 use Rattle.lane_runner.proofs.Drawing.{draws_left}
-use Rattle.lane_runner.specs.Going.{Progress, log_of, CanGo, ClosesAll, Made, Goes}
+use Rattle.lane_runner.specs.Going.{Progress, log_of, CanGo, ClosesAll, MadePast, Made, Goes}
 use Rattle.lane_runner.proofs.Working.{done_none}
 use Rattle.lane_runner.proofs.Releasing.{released_none}
 use Rattle.lane_runner.proofs.Following.{goes_stop, goes_then, goes_same}
 use Rattle.lane_runner.proofs.Ending.{ended_none}
+use Rattle.lane_runner.proofs.Handing.{work_hands_none}
 
 -- a lane that executed a part can go on
-pub can_follow : {A : Type 0} (w : WorldValue) (part : State → Outcome A) (slots slots' : List ℤ) (old new : Progress) (finish : Finish A) → CanGo w old → Made w part slots slots' old new finish → CanGo w new
-can_follow w part slots slots' old new finish can m = record {
+pub can_past : {A : Type 0} (bars : ℕ) (w : WorldValue) (part : State → Outcome A) (slots slots' : List ℤ) (old new : Progress) (finish : Finish A) → CanGo w old → MadePast bars w part slots slots' old new finish → CanGo w new
+can_past bars w part slots slots' old new finish can m = record {
   belongs = record { here = ap (λ (h : HandValue View). h.table) m.done.hand ∙ can.belongs.here; there = ap (λ (h : HandValue View). h.there) m.done.hand };
+  home = ap (λ (h : HandValue View). h.view.out) m.done.hand ∙ can.home;
   unrefused = m.unrefused;
   drawing = record { here = ap (λ (h : HandValue Share). h.table) m.done.draws.draws ∙ can.drawing.here; there = ap (λ (h : HandValue Share). h.there) m.done.draws.draws ∙ can.drawing.there };
   forks = let forks = can.forks in let more = m.done.forked in let told = m.done.told in let count = m.done.log.count in omega arith;
   enough = draws_left old.tally new.tally (log_of m.work) old.buffer.count new.buffer.count m.done.draws m.done.log.count can.enough;
 }
+
+pub can_follow : {A : Type 0} (w : WorldValue) (part : State → Outcome A) (slots slots' : List ℤ) (old new : Progress) (finish : Finish A) → CanGo w old → Made w part slots slots' old new finish → CanGo w new
+can_follow w part slots slots' old new finish can m = can_past 0 w part slots slots' old new finish can m
 
 closes_none : {A : Type 0} (finish : Finish A) → ClosesAll finish []
 closes_none (Returned a) = refl
@@ -55,6 +60,8 @@ made_still w part slots p finish can m = record {
   released = released_none p.hand.view.held;
   closes = closes_none finish;
   ended = ended_none;
+  handed = work_hands_none p p Rest refl refl;
+  few = λ less. less;
   unrefused = can.unrefused;
   makes = λ fit. m;
   regions = λ fit program is. RunsRegions.no_region;

@@ -1,18 +1,19 @@
--- Statements that a lane executes by itself: no worksharing loop and no barrier is among them.
-use Rattle.std.specs.Prelude.{ℕ, ◌<◌, nat_lt, if◌then◌else◌, Bool, true, false, List, ◌∷◌, All, ℤ, pos, ◌+ℤ◌}
+-- Statements that a lane executes alone, without the other lanes of its team: no worksharing loop and no barrier is among them.
+use Rattle.std.specs.Prelude.{◌≡◌, ℕ, ◌<◌, nat_lt, if◌then◌else◌, Bool, true, false, List, [], ◌∷◌, All, ℤ, pos, ◌+ℤ◌}
 use Rattle.kernel_model.specs.State.{State, Outcome, Gives, and_then, assign}
 use Rattle.kernel_model.specs.Trace.{run, draw, draws}
 use Rattle.kernel_model.specs.Value.{Site}
-use Rattle.kernel_syntax.specs.Tree.{Code, Done, Set, Store, If, Loop, Critical}
+use Rattle.kernel_syntax.specs.Tree.{Code, Done, Set, Store, If, Loop, Parallel, Critical}
 
 -- With these mutexes held, of so many that there are: assignments and stores, under tests, in loops, and in critical sections
--- whose mutexes ascend.
+-- whose mutexes ascend; and regions where none is held, each with a team of its own.
 abbrev pub IsAlone : ℕ → List ℕ → Code → Type 0
 IsAlone locks held Done = Unit {0}
 IsAlone locks held (Set slot value rest) = IsAlone locks held rest
 IsAlone locks held (Store array index value line site rest) = IsAlone locks held rest
 IsAlone locks held (If test if_true if_false rest) = IsAlone locks held if_true × IsAlone locks held if_false × IsAlone locks held rest
 IsAlone locks held (Loop slot from to body rest) = IsAlone locks held body × IsAlone locks held rest
+IsAlone locks held (Parallel span line end body rest) = (held ≡ []) × IsAlone locks held rest
 IsAlone locks held (Critical mutex line end body rest) =
     (mutex < locks) × All (λ outer. outer < mutex) held × IsAlone locks (mutex ∷ held) body × IsAlone locks held rest
 IsAlone locks held _ = ⊥

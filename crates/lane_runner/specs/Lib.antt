@@ -4,7 +4,9 @@ pub mod Drawing
 pub mod Fitting
 pub mod Forking
 pub mod Going
+pub mod Handed
 pub mod Phase
 pub mod Placing
 pub mod Stopping
+pub mod Teams
 pub mod World

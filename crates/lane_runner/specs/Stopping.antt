@@ -1,6 +1,8 @@
 -- How regions end, and how one stops.
 use Rattle.std.specs.Prelude.{◌≡◌, ℕ, ◌+◌, ◌<◌, List, [], ◌∷◌, ◌++◌, length, All, Option, Some, None, slice_get}
 use Rattle.sw_base.specs.declared.path.Step.{Step}
+use Rattle.log_format.specs.declared.record.Record.{Record}
+use Rattle.log_format.specs.declared.record.Kind.TheVariants.{Region}
 use Rattle.std.specs.List.{flat_map}
 use Rattle.kernel_syntax.specs.declared.syntax.Array.{Array}
 use Rattle.kernel_syntax.specs.Program.{Program}
@@ -44,9 +46,37 @@ pub record EndsInLane (program : Program) (end : Ending) (at : List Step) (numbe
   pub path_is : path ≡ at ++ record { region = number; lane = lane; span = fork.team.span } ∷ below
   pub ends : EndsBelow program end (lane_begin fork lane) (lane_works lane phases) below
 
--- the task of this path stopped so in the region, in each kernel of these arrays: a stop that traces tell is how its trace ends
-abbrev pub StopsRegion : List Array → List Step → ℕ → List Step → Stop → Fork → Phases → Type 0
-StopsRegion arrays at number path why fork phases = PhasesFit phases → (program : Program) → program.arrays ≡ arrays → (end : Ending) → ending_for why ≡ Some end → EndsInLane program end at number path fork phases
+-- the last of these records is that of a region
+pub record LastIsRegion (records : List Record) : Type 0 where
+  pub prefix : List Record
+  pub last : Record
+  pub parts : records ≡ prefix ++ last ∷ []
+  pub forks : last.kind ≡ Region
+
+-- and it has this line
+pub record LastIsRegionAt (line : ℕ) (records : List Record) : Type 0 where
+  pub region : LastIsRegion records
+  pub line_is : region.last.line ≡ line
+
+-- under a task with these works, the regions of the task at this path ended, and after the last one, at this line, it put no record
+pub data RestsBelow (line : ℕ) : List Work → List Step → Type 0 where
+  itself : (works : List Work) → LastIsRegionAt line (works_log works) → HaveEnded (flat_map work_regions works) → RestsBelow line works []
+  below : (works : List Work) (number : ℕ) (region : RegionWork) (lane : ℕ) (path : List Step) → slice_get (flat_map work_regions works) number ≡ Some region → lane < region.span
+      → RestsBelow line (lane_works lane region.phases) path → RestsBelow line works (record { region = number; lane = lane; span = region.span } ∷ path)
+
+-- so did the task of this path, a lane of the region or a task below one
+pub record RestsInLane (line : ℕ) (at : List Step) (number span : ℕ) (path : List Step) (phases : Phases) : Type 0 where
+  pub lane : ℕ
+  pub within : lane < span
+  pub below : List Step
+  pub path_is : path ≡ at ++ record { region = number; lane = lane; span = span } ∷ below
+  pub rests : RestsBelow line (lane_works lane phases) below
+
+-- The task of this path stopped so in the region: a stop that traces tell is how its trace ends, in each kernel of these arrays; and
+-- where too many tasks were below it, it did so after a region.
+pub record StopsRegion (arrays : List Array) (at : List Step) (number : ℕ) (path : List Step) (why : Stop) (fork : Fork) (phases : Phases) : Type 0 where
+  pub traced : PhasesFit phases → (program : Program) → program.arrays ≡ arrays → (end : Ending) → ending_for why ≡ Some end → EndsInLane program end at number path fork phases
+  pub crowded : (line : ℕ) → why ≡ stop.Tasks line → RestsInLane line at number fork.team.span path phases
 
 -- In the last of these regions the task of this path stopped so, and those before it ended: they are the regions of the task `at`
 -- from this number on.

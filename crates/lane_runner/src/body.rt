@@ -8,15 +8,18 @@ ghost use Rattle.kernel_model.specs.Trace.{run, turns};
 ghost use Rattle.kernel_model.specs.Iterations.{total_of};
 ghost use Rattle.lane_runner.specs.Alone.{IsAlone, turn_from};
 ghost use Rattle.lane_runner.specs.Going.{CanGo, Goes, IsSameLog, site};
+ghost use Rattle.lane_runner.specs.Teams.{EachTeam, MayFork};
 
 use crate::lane::Lane;
-use crate::stop::Halt;
+use crate::locals::Locals;
+use crate::stop::{Halt, Stop};
 use crate::value::value;
 use crate::world::World;
-use kernel_syntax::{Body, Stmt};
+use kernel_syntax::{Body, Stmt, Team};
+use shared_words::Hand;
 use std::alloc::Global;
 use std::sync::Wait;
-use sw_base::Log;
+use sw_base::{Log, Path};
 
 /// How many turns a loop has.
 pub(crate) fn total_of(from: i64, to: i64) -> u64
@@ -36,34 +39,50 @@ fn number_at(from: i64, first: u64, i: u64) -> i64
 impl<L: Log> Lane<L> {
     /// Executes the statements of a body.
     #[cycle(executing)]
-    pub fn statements<R: Wait>(
-        &mut self,
-        body: &Body,
-        rt: &R,
-        alloc: Global,
-        world: &World,
-    ) -> Result<(), Halt>
+    pub fn statements<
+        R: Wait,
+        F: Fn(
+            &mut Hand,
+            &Locals,
+            u32,
+            Vec<L>,
+            &Team,
+            &mut Vec<(Path, L, u32)>,
+        ) -> Result<(), (Path, Stop)>,
+    >(&mut self, body: &Body, rt: &R, alloc: Global, world: &World, region: &F) -> Result<(), Halt>
         requires can { CanGo world.now self.old.track }
         requires bounded { IsBoundedCode (code_of body.now.stmts.items) }
         requires alone { IsAlone world.now.words.locks self.old.track.hand.view.held (code_of body.now.stmts.items) }
+        requires runs { EachTeam (MayFork world.now (F.pre region.now) (F.post region.now) (record { dir = L.dir; path = L.path; text = L.text; faults = L.faults }) self.old.track.buffer) (code_of body.now.stmts.items) }
         ensures goes { Goes world.now (run (site world.now) (code_of body.now.stmts.items)) self.old.locals.slots.items self.new.locals.slots.items self.old.track self.new.track result }
         ensures log { IsSameLog self.old.track.buffer self.new.track.buffer }
-        ensures tally { self.new.track.tally ≡ self.old.track.tally }
+        ensures loops { self.new.track.tally.next_loop ≡ self.old.track.tally.next_loop }
     {
         for stmt in &body.stmts {
-            self.statement(stmt, rt, alloc, world)?;
+            self.statement(stmt, rt, alloc, world, region)?;
         }
         Ok(())
     }
 
     /// Executes so many turns of a loop that begins at this value of its variable, from this turn on.
     #[cycle(executing)]
-    pub(crate) fn repeat<R: Wait>(
+    pub(crate) fn repeat<
+        R: Wait,
+        F: Fn(
+            &mut Hand,
+            &Locals,
+            u32,
+            Vec<L>,
+            &Team,
+            &mut Vec<(Path, L, u32)>,
+        ) -> Result<(), (Path, Stop)>,
+    >(
         &mut self,
         body: &Body,
         rt: &R,
         alloc: Global,
         world: &World,
+        region: &F,
         slot: u32,
         from: i64,
         first: u64,
@@ -72,26 +91,38 @@ impl<L: Log> Lane<L> {
         requires can { CanGo world.now self.old.track }
         requires bounded { IsBoundedCode (code_of body.now.stmts.items) }
         requires alone { IsAlone world.now.words.locks self.old.track.hand.view.held (code_of body.now.stmts.items) }
+        requires runs { EachTeam (MayFork world.now (F.pre region.now) (F.post region.now) (record { dir = L.dir; path = L.path; text = L.text; faults = L.faults }) self.old.track.buffer) (code_of body.now.stmts.items) }
         requires top { (from +ℤ pos (first + count)) ≤ℤ pos (2 ^ 63 - 1) }
         ensures goes { Goes world.now (turns count first (turn_from (site world.now) (code_of body.now.stmts.items) slot from)) self.old.locals.slots.items self.new.locals.slots.items self.old.track self.new.track result }
         ensures log { IsSameLog self.old.track.buffer self.new.track.buffer }
-        ensures tally { self.new.track.tally ≡ self.old.track.tally }
+        ensures loops { self.new.track.tally.next_loop ≡ self.old.track.tally.next_loop }
     {
         for i in 0..count {
             self.locals.set(slot, number_at(from, first, i));
-            self.statements(body, rt, alloc, world)?;
+            self.statements(body, rt, alloc, world, region)?;
         }
         Ok(())
     }
 
     /// Executes a critical section.
     #[cycle(executing)]
-    fn critical<R: Wait>(
+    fn critical<
+        R: Wait,
+        F: Fn(
+            &mut Hand,
+            &Locals,
+            u32,
+            Vec<L>,
+            &Team,
+            &mut Vec<(Path, L, u32)>,
+        ) -> Result<(), (Path, Stop)>,
+    >(
         &mut self,
         body: &Body,
         rt: &R,
         alloc: Global,
         world: &World,
+        region: &F,
         mutex: u16,
         line: u32,
         end: u32,
@@ -99,12 +130,13 @@ impl<L: Log> Lane<L> {
         requires can { CanGo world.now self.old.track }
         requires bounded { IsBoundedCode (tree.Critical mutex line end (code_of body.now.stmts.items) Done) }
         requires alone { IsAlone world.now.words.locks self.old.track.hand.view.held (tree.Critical mutex line end (code_of body.now.stmts.items) Done) }
+        requires runs { EachTeam (MayFork world.now (F.pre region.now) (F.post region.now) (record { dir = L.dir; path = L.path; text = L.text; faults = L.faults }) self.old.track.buffer) (tree.Critical mutex line end (code_of body.now.stmts.items) Done) }
         ensures goes { Goes world.now (run (site world.now) (tree.Critical mutex line end (code_of body.now.stmts.items) Done)) self.old.locals.slots.items self.new.locals.slots.items self.old.track self.new.track result }
         ensures log { IsSameLog self.old.track.buffer self.new.track.buffer }
-        ensures tally { self.new.track.tally ≡ self.old.track.tally }
+        ensures loops { self.new.track.tally.next_loop ≡ self.old.track.tally.next_loop }
     {
         self.track.lock(rt, alloc, world, mutex, line)?;
-        if let Err(halt) = self.statements(body, rt, alloc, world) {
+        if let Err(halt) = self.statements(body, rt, alloc, world, region) {
             self.track.release(world, mutex);
             return Err(halt);
         }
@@ -117,19 +149,24 @@ impl<L: Log> Lane<L> {
 
     /// Executes a statement.
     #[cycle(executing)]
-    pub(crate) fn statement<R: Wait>(
-        &mut self,
-        stmt: &Stmt,
-        rt: &R,
-        alloc: Global,
-        world: &World,
-    ) -> Result<(), Halt>
+    pub(crate) fn statement<
+        R: Wait,
+        F: Fn(
+            &mut Hand,
+            &Locals,
+            u32,
+            Vec<L>,
+            &Team,
+            &mut Vec<(Path, L, u32)>,
+        ) -> Result<(), (Path, Stop)>,
+    >(&mut self, stmt: &Stmt, rt: &R, alloc: Global, world: &World, region: &F) -> Result<(), Halt>
         requires can { CanGo world.now self.old.track }
         requires bounded { IsBoundedCode (stmt_code stmt.now Done) }
         requires alone { IsAlone world.now.words.locks self.old.track.hand.view.held (stmt_code stmt.now Done) }
+        requires runs { EachTeam (MayFork world.now (F.pre region.now) (F.post region.now) (record { dir = L.dir; path = L.path; text = L.text; faults = L.faults }) self.old.track.buffer) (stmt_code stmt.now Done) }
         ensures goes { Goes world.now (run (site world.now) (stmt_code stmt.now Done)) self.old.locals.slots.items self.new.locals.slots.items self.old.track self.new.track result }
         ensures log { IsSameLog self.old.track.buffer self.new.track.buffer }
-        ensures tally { self.new.track.tally ≡ self.old.track.tally }
+        ensures loops { self.new.track.tally.next_loop ≡ self.old.track.tally.next_loop }
     {
         match stmt {
             Stmt::Set { slot, value: expr } => self.set(alloc, world, *slot, expr),
@@ -143,9 +180,9 @@ impl<L: Log> Lane<L> {
             Stmt::If { test, yes, no } => {
                 let chosen = value(alloc, world, &self.locals, &mut self.track, test)?;
                 if chosen == 0 {
-                    self.statements(no, rt, alloc, world)
+                    self.statements(no, rt, alloc, world, region)
                 } else {
-                    self.statements(yes, rt, alloc, world)
+                    self.statements(yes, rt, alloc, world, region)
                 }
             }
             Stmt::Loop {
@@ -161,6 +198,7 @@ impl<L: Log> Lane<L> {
                     rt,
                     alloc,
                     world,
+                    region,
                     *slot,
                     first,
                     0,
@@ -172,7 +210,11 @@ impl<L: Log> Lane<L> {
                 line,
                 end,
                 body,
-            } => self.critical(body, rt, alloc, world, *mutex, *line, *end),
+            } => self.critical(body, rt, alloc, world, region, *mutex, *line, *end),
+            Stmt::Parallel { team } => {
+                self.track
+                    .parallel(alloc, world, &self.locals, team, region)
+            }
             _ => unreachable!(),
         }
     }

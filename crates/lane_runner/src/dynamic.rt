@@ -7,23 +7,37 @@ ghost use Rattle.kernel_model.specs.Trace.{each, log_limit};
 ghost use Rattle.lane_runner.specs.Alone.{IsAlone, turn_from, draw_once, draw_all};
 ghost use Rattle.lane_runner.specs.Drawing.{open_past};
 ghost use Rattle.lane_runner.specs.Going.{CanGo, Goes, IsSameLog, site};
+ghost use Rattle.lane_runner.specs.Teams.{EachTeam, MayFork};
 
 use crate::lane::Lane;
-use crate::stop::Halt;
+use crate::locals::Locals;
+use crate::stop::{Halt, Stop};
 use crate::world::World;
-use kernel_syntax::Body;
+use kernel_syntax::{Body, Team};
+use shared_words::Hand;
 use std::alloc::Global;
 use std::sync::Wait;
-use sw_base::Log;
+use sw_base::{Log, Path};
 
 impl<L: Log> Lane<L> {
     /// Draws a chunk of the loop that is open, and executes it. False where none is left.
-    fn drawn_chunk<R: Wait>(
+    fn drawn_chunk<
+        R: Wait,
+        F: Fn(
+            &mut Hand,
+            &Locals,
+            u32,
+            Vec<L>,
+            &Team,
+            &mut Vec<(Path, L, u32)>,
+        ) -> Result<(), (Path, Stop)>,
+    >(
         &mut self,
         body: &Body,
         rt: &R,
         alloc: Global,
         world: &World,
+        region: &F,
         slot: u32,
         from: i64,
         total: u64,
@@ -33,6 +47,7 @@ impl<L: Log> Lane<L> {
         requires can { CanGo world.now self.old.track }
         requires bounded { IsBoundedCode (code_of body.now.stmts.items) }
         requires alone { IsAlone world.now.words.locks self.old.track.hand.view.held (code_of body.now.stmts.items) }
+        requires runs { EachTeam (MayFork world.now (F.pre region.now) (F.post region.now) (record { dir = L.dir; path = L.path; text = L.text; faults = L.faults }) self.old.track.buffer) (code_of body.now.stmts.items) }
         requires some { 0 < chunk }
         requires top { (from +ℤ pos total) ≤ℤ pos (2 ^ 63 - 1) }
         requires open { self.old.track.tally.next_loop < world.now.chunks.loops }
@@ -55,6 +70,7 @@ impl<L: Log> Lane<L> {
             rt,
             alloc,
             world,
+            region,
             slot,
             from,
             first,
@@ -64,12 +80,23 @@ impl<L: Log> Lane<L> {
     }
 
     /// Draws chunks of the loop that is open, and executes them, until none is left.
-    pub(crate) fn drawn_chunks<R: Wait>(
+    pub(crate) fn drawn_chunks<
+        R: Wait,
+        F: Fn(
+            &mut Hand,
+            &Locals,
+            u32,
+            Vec<L>,
+            &Team,
+            &mut Vec<(Path, L, u32)>,
+        ) -> Result<(), (Path, Stop)>,
+    >(
         &mut self,
         body: &Body,
         rt: &R,
         alloc: Global,
         world: &World,
+        region: &F,
         slot: u32,
         from: i64,
         total: u64,
@@ -79,6 +106,7 @@ impl<L: Log> Lane<L> {
         requires can { CanGo world.now self.old.track }
         requires bounded { IsBoundedCode (code_of body.now.stmts.items) }
         requires alone { IsAlone world.now.words.locks self.old.track.hand.view.held (code_of body.now.stmts.items) }
+        requires runs { EachTeam (MayFork world.now (F.pre region.now) (F.post region.now) (record { dir = L.dir; path = L.path; text = L.text; faults = L.faults }) self.old.track.buffer) (code_of body.now.stmts.items) }
         requires some { 0 < chunk }
         requires top { (from +ℤ pos total) ≤ℤ pos (2 ^ 63 - 1) }
         requires open { self.old.track.tally.next_loop < world.now.chunks.loops }
@@ -89,7 +117,9 @@ impl<L: Log> Lane<L> {
         ensures loops { IfOk result (λ _. self.new.track.tally.next_loop ≡ self.old.track.tally.next_loop + 1) }
     {
         'draws: loop {
-            if !self.drawn_chunk(body, rt, alloc, world, slot, from, total, chunk, line)? {
+            if !self.drawn_chunk(
+                body, rt, alloc, world, region, slot, from, total, chunk, line,
+            )? {
                 return Ok(());
             }
         }

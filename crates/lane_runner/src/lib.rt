@@ -1,8 +1,8 @@
 //! What a lane of a team executes, over shared words and a bounded buffer before its log.
 //!
-//! So far: the value of an expression with its loads; lists of assignments, stores, tests, loops and critical sections; worksharing
-//! loops of every schedule; the fork of a region, which a function of the caller's runs, with new logs for its lanes; a team's
-//! statements and items, one at a time; and the record of a barrier. A whole phase comes next, and the program doesn't use the crate yet.
+//! So far: the value of an expression with its loads; lists of assignments, stores, tests, loops, critical sections and regions, which a
+//! function of the caller's runs, with new logs for their lanes; worksharing loops of every schedule, also with regions in them; a
+//! team's phases, with the records of their barriers; and the record of a task's end. The program doesn't use the crate yet.
 //!
 //! Before each record the buffer makes room, then the step on the shared words is taken, and then the record is put: no step is
 //! taken that has no place in the log. Each call says by one witness, a tree of work, what it did: its records are those that the
@@ -12,6 +12,11 @@
 //! their mutexes back, the innermost first, without a record; one that goes on holds no more than before. That a value read is one
 //! that its element can have is a premise there: it holds of each legal history whose stores fit their elements, and that these do is said
 //! of each witness without that premise. A region that stopped is told with the path of the task that did.
+//!
+//! What a region hands on, the logs of its tasks, is kept behind that of the regions before: lane by lane, each task's log before those
+//! of the tasks below it. Where the region ended, none is missing and each has all its records; where it stopped, a log may have a
+//! prefix of them, if no memory was found or it counts a fault, and only for want of memory one is missing. A lane stops where a
+//! region that it forked has ended and then more than 65,535 tasks are below its own, and nowhere else for that reason.
 #![tactic(auto)]
 
 mod assign;
@@ -23,6 +28,9 @@ mod lane;
 mod laws;
 mod locals;
 mod phase;
+#[cfg(test)]
+mod phase_tests;
+mod run_phase;
 mod sharing;
 mod stop;
 #[cfg(test)]
@@ -33,8 +41,11 @@ mod world;
 
 pub use element::Element;
 pub use lane::Lane;
-pub use laws::{arrays_of_a_kernel_have_words, elements_of_a_kernel_have_widths};
+pub use laws::{
+    arrays_of_a_kernel_have_words, elements_of_a_kernel_have_widths,
+    handed_logs_are_of_tasks_below, handed_logs_are_those_of_the_tasks,
+};
 pub use locals::Locals;
-pub use stop::{Halt, Stop};
+pub use stop::{Halt, Stop, TASK_LIMIT};
 pub use track::Track;
 pub use world::World;

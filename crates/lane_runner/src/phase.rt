@@ -1,19 +1,14 @@
 //! A lane's phase: what it executes up to a barrier of its team, or to the end.
-ghost use Rattle.std.specs.Prelude.{ℕ, ◌≡◌, ◌+◌, ◌<◌, ◌≤◌, [], ◌∷◌, length, IfOk};
-ghost use Rattle.kernel_syntax.specs.declared.syntax.Stmt.TheVariants as variant;
-ghost use Rattle.kernel_syntax.specs.declared.syntax.Team.{Team};
+ghost use Rattle.std.specs.Prelude.{◌≡◌, ◌+◌, ◌<◌, ◌≤◌, [], ◌∷◌, IfOk};
 ghost use Rattle.kernel_syntax.specs.Bounds.{IsBoundedCode};
-ghost use Rattle.kernel_syntax.specs.Program.{stmt_code, team_of};
+ghost use Rattle.kernel_syntax.specs.Program.{stmt_code};
 ghost use Rattle.kernel_syntax.specs.Tree.{Done};
-ghost use Rattle.kernel_syntax.specs.declared.syntax.Stmt.{Stmt};
-ghost use denote.Ref.{Bor};
-ghost use Rattle.kernel_model.specs.declared.phase.Item.TheVariants as phase_item;
-ghost use Rattle.kernel_model.specs.Parts.{drawn_count, run_part};
+ghost use Rattle.kernel_model.specs.Parts.{bar_count, drawn_count, run_part};
 ghost use Rattle.kernel_model.specs.Phases.{part_of, part_of_stmt, without_barrier};
 ghost use Rattle.kernel_model.specs.Trace.{run};
-ghost use Rattle.lane_runner.specs.Forking.{RunsTeam};
-ghost use Rattle.lane_runner.specs.Going.{CanGo, Goes, IsSameLog, site};
-ghost use Rattle.lane_runner.specs.Phase.{IsOfTeam, IsPlainItem};
+ghost use Rattle.lane_runner.specs.Going.{CanGo, Goes, GoesPast, IsSameLog, site};
+ghost use Rattle.lane_runner.specs.Phase.{IsItem, IsOfTeam};
+ghost use Rattle.lane_runner.specs.Teams.{EachTeam, EachTeamIn, MayFork};
 
 use crate::lane::Lane;
 use crate::locals::Locals;
@@ -33,36 +28,24 @@ impl<L: Log> Lane<L> {
         F: Fn(
             &mut Hand,
             &Locals,
+            u32,
             Vec<L>,
             &Team,
             &mut Vec<(Path, L, u32)>,
         ) -> Result<(), (Path, Stop)>,
-    >(
-        &mut self,
-        stmt: &Stmt,
-        rt: &R,
-        alloc: Global,
-        world: &World,
-        done: &mut Vec<(Path, L, u32)>,
-        region: &F,
-    ) -> Result<(), Halt>
+    >(&mut self, stmt: &Stmt, rt: &R, alloc: Global, world: &World, region: &F) -> Result<(), Halt>
         requires can { CanGo world.now self.old.track }
         requires free { self.old.track.hand.view.held ≡ [] }
         requires bounded { IsBoundedCode (stmt_code stmt.now Done) }
         requires own { IsOfTeam world.now.words.locks (stmt_code stmt.now Done) }
         requires counters { self.old.track.tally.next_loop + drawn_count (part_of_stmt stmt.now ∷ []) ≤ world.now.chunks.loops }
         requires number { self.old.track.tally.next_loop < 4294967296 }
-        requires path { length self.old.track.buffer.path < 4 }
-        requires runs { (team : Team) → stmt.now ≡ variant.Parallel team → RunsTeam world.now (F.pre region.now) (F.post region.now) (record { dir = L.dir; path = L.path; text = L.text; faults = L.faults }) self.old.track.buffer (team_of team) }
+        requires runs { EachTeam (MayFork world.now (F.pre region.now) (F.post region.now) (record { dir = L.dir; path = L.path; text = L.text; faults = L.faults }) self.old.track.buffer) (stmt_code stmt.now Done) }
         ensures goes { Goes world.now (run (site world.now) (without_barrier (stmt_code stmt.now Done))) self.old.locals.slots.items self.new.locals.slots.items self.old.track self.new.track result }
         ensures log { IsSameLog self.old.track.buffer self.new.track.buffer }
         ensures loops { IfOk result (λ _. self.new.track.tally.next_loop ≡ self.old.track.tally.next_loop + drawn_count (part_of_stmt stmt.now ∷ [])) }
     {
         match stmt {
-            Stmt::Parallel { team } => {
-                self.track
-                    .parallel(alloc, world, &self.locals, team, done, region)
-            }
             Stmt::For {
                 slot,
                 from,
@@ -73,39 +56,31 @@ impl<L: Log> Lane<L> {
                 end,
                 body,
             } => self.shared_loop(
-                body, rt, alloc, world, *slot, from, to, *schedule, *line, *end,
+                body, rt, alloc, world, region, *slot, from, to, *schedule, *line, *end,
             ),
-            _ => self.statement(stmt, rt, alloc, world),
+            _ => self.statement(stmt, rt, alloc, world, region),
         }
     }
 
-    /// Executes an item that is no barrier.
+    /// Executes an item.
     pub fn step<
         R: Wait,
         F: Fn(
             &mut Hand,
             &Locals,
+            u32,
             Vec<L>,
             &Team,
             &mut Vec<(Path, L, u32)>,
         ) -> Result<(), (Path, Stop)>,
-    >(
-        &mut self,
-        item: &Item,
-        rt: &R,
-        alloc: Global,
-        world: &World,
-        done: &mut Vec<(Path, L, u32)>,
-        region: &F,
-    ) -> Result<(), Halt>
+    >(&mut self, item: &Item, rt: &R, alloc: Global, world: &World, region: &F) -> Result<(), Halt>
         requires can { CanGo world.now self.old.track }
         requires free { self.old.track.hand.view.held ≡ [] }
-        requires step { IsPlainItem world.now.words.locks item.now }
+        requires item { IsItem world.now.words.locks item.now }
         requires counters { self.old.track.tally.next_loop + drawn_count (part_of item.now ∷ []) ≤ world.now.chunks.loops }
         requires number { self.old.track.tally.next_loop < 4294967296 }
-        requires path { length self.old.track.buffer.path < 4 }
-        requires runs { (stmt : Bor Stmt) (which : ℕ) (team : Team) → item.now ≡ phase_item.Run stmt which → stmt.now ≡ variant.Parallel team → RunsTeam world.now (F.pre region.now) (F.post region.now) (record { dir = L.dir; path = L.path; text = L.text; faults = L.faults }) self.old.track.buffer (team_of team) }
-        ensures goes { Goes world.now (run_part (site world.now) (part_of item.now)) self.old.locals.slots.items self.new.locals.slots.items self.old.track self.new.track result }
+        requires runs { EachTeamIn (MayFork world.now (F.pre region.now) (F.post region.now) (record { dir = L.dir; path = L.path; text = L.text; faults = L.faults }) self.old.track.buffer) item.now }
+        ensures goes { GoesPast (bar_count (part_of item.now ∷ [])) world.now (run_part (site world.now) (part_of item.now)) self.old.locals.slots.items self.new.locals.slots.items self.old.track self.new.track result }
         ensures log { IsSameLog self.old.track.buffer self.new.track.buffer }
         ensures loops { IfOk result (λ _. self.new.track.tally.next_loop ≡ self.old.track.tally.next_loop + drawn_count (part_of item.now ∷ [])) }
     {
@@ -114,8 +89,8 @@ impl<L: Log> Lane<L> {
                 self.locals.set(*slot, *value);
                 Ok(())
             }
-            Item::Run { stmt, .. } => self.part(stmt, rt, alloc, world, done, region),
-            Item::Bar { .. } => unreachable!(),
+            Item::Run { stmt, .. } => self.part(stmt, rt, alloc, world, region),
+            Item::Bar { line } => self.track.meet(alloc, *line),
         }
     }
 }

@@ -9,25 +9,39 @@ ghost use Rattle.kernel_model.specs.Trace.{run, each, shared};
 ghost use Rattle.lane_runner.specs.Alone.{IsAlone, turn_from};
 ghost use Rattle.lane_runner.specs.Drawing.{HasCounters, counters_of};
 ghost use Rattle.lane_runner.specs.Going.{CanGo, Goes, IsSameLog, site};
+ghost use Rattle.lane_runner.specs.Teams.{EachTeam, MayFork};
 
 use crate::body::total_of;
 use crate::lane::Lane;
-use crate::stop::Halt;
+use crate::locals::Locals;
+use crate::stop::{Halt, Stop};
 use crate::value::value;
 use crate::world::World;
-use kernel_syntax::{Body, Expr, Schedule, even_share};
+use kernel_syntax::{Body, Expr, Schedule, Team, even_share};
+use shared_words::Hand;
 use std::alloc::Global;
 use std::sync::Wait;
-use sw_base::Log;
+use sw_base::{Log, Path};
 
 impl<L: Log> Lane<L> {
     /// Executes the lane's chunks of a loop whose chunks are dealt in turn.
-    fn chunks<R: Wait>(
+    fn chunks<
+        R: Wait,
+        F: Fn(
+            &mut Hand,
+            &Locals,
+            u32,
+            Vec<L>,
+            &Team,
+            &mut Vec<(Path, L, u32)>,
+        ) -> Result<(), (Path, Stop)>,
+    >(
         &mut self,
         body: &Body,
         rt: &R,
         alloc: Global,
         world: &World,
+        region: &F,
         slot: u32,
         from: i64,
         total: u64,
@@ -36,30 +50,42 @@ impl<L: Log> Lane<L> {
         requires can { CanGo world.now self.old.track }
         requires bounded { IsBoundedCode (code_of body.now.stmts.items) }
         requires alone { IsAlone world.now.words.locks self.old.track.hand.view.held (code_of body.now.stmts.items) }
+        requires runs { EachTeam (MayFork world.now (F.pre region.now) (F.post region.now) (record { dir = L.dir; path = L.path; text = L.text; faults = L.faults }) self.old.track.buffer) (code_of body.now.stmts.items) }
         requires some { 0 < chunk }
         requires top { (from +ℤ pos total) ≤ℤ pos (2 ^ 63 - 1) }
         ensures goes { Goes world.now (each (static_iterations chunk total world.now.lane world.now.span) (turn_from (site world.now) (code_of body.now.stmts.items) slot from)) self.old.locals.slots.items self.new.locals.slots.items self.old.track self.new.track result }
         ensures log { IsSameLog self.old.track.buffer self.new.track.buffer }
-        ensures tally { self.new.track.tally ≡ self.old.track.tally }
+        ensures loops { self.new.track.tally.next_loop ≡ self.old.track.tally.next_loop }
     {
         let chunk = u64::from(chunk);
         let stride = chunk * u64::from(world.span());
         let mut first = chunk * u64::from(world.lane());
         'chunks: while first < total {
             let count = chunk.min(total - first);
-            self.repeat(body, rt, alloc, world, slot, from, first, count)?;
+            self.repeat(body, rt, alloc, world, region, slot, from, first, count)?;
             first = first.saturating_add(stride);
         }
         Ok(())
     }
 
     /// Executes the lane's share of a loop of so many iterations, of which the first has this value.
-    fn share<R: Wait>(
+    fn share<
+        R: Wait,
+        F: Fn(
+            &mut Hand,
+            &Locals,
+            u32,
+            Vec<L>,
+            &Team,
+            &mut Vec<(Path, L, u32)>,
+        ) -> Result<(), (Path, Stop)>,
+    >(
         &mut self,
         body: &Body,
         rt: &R,
         alloc: Global,
         world: &World,
+        region: &F,
         slot: u32,
         from: i64,
         total: u64,
@@ -69,6 +95,7 @@ impl<L: Log> Lane<L> {
         requires can { CanGo world.now self.old.track }
         requires bounded { IsBoundedCode (code_of body.now.stmts.items) }
         requires alone { IsAlone world.now.words.locks self.old.track.hand.view.held (code_of body.now.stmts.items) }
+        requires runs { EachTeam (MayFork world.now (F.pre region.now) (F.post region.now) (record { dir = L.dir; path = L.path; text = L.text; faults = L.faults }) self.old.track.buffer) (code_of body.now.stmts.items) }
         requires chunk { IsBoundedSchedule schedule }
         requires counters { HasCounters schedule self.old.track.tally.next_loop world.now.chunks }
         requires line { 1 ≤ line }
@@ -80,16 +107,17 @@ impl<L: Log> Lane<L> {
         match schedule {
             Schedule::Even => {
                 let (first, count) = even_share(total, world.lane(), world.span());
-                self.repeat(body, rt, alloc, world, slot, from, first, count)
+                self.repeat(body, rt, alloc, world, region, slot, from, first, count)
             }
             Schedule::Static(chunk) => {
-                self.chunks(body, rt, alloc, world, slot, from, total, chunk)
+                self.chunks(body, rt, alloc, world, region, slot, from, total, chunk)
             }
             Schedule::Dynamic(chunk) => self.drawn_chunks(
                 body,
                 rt,
                 alloc,
                 world,
+                region,
                 slot,
                 from,
                 total,
@@ -100,12 +128,23 @@ impl<L: Log> Lane<L> {
     }
 
     /// Executes the lane's share of a worksharing loop, without the barrier at its end.
-    pub fn shared_loop<R: Wait>(
+    pub fn shared_loop<
+        R: Wait,
+        F: Fn(
+            &mut Hand,
+            &Locals,
+            u32,
+            Vec<L>,
+            &Team,
+            &mut Vec<(Path, L, u32)>,
+        ) -> Result<(), (Path, Stop)>,
+    >(
         &mut self,
         body: &Body,
         rt: &R,
         alloc: Global,
         world: &World,
+        region: &F,
         slot: u32,
         from: &Expr,
         to: &Expr,
@@ -116,6 +155,7 @@ impl<L: Log> Lane<L> {
         requires can { CanGo world.now self.old.track }
         requires bounded { IsBoundedCode (tree.For slot (term_of from.now) (term_of to.now) schedule true line end (code_of body.now.stmts.items) Done) }
         requires alone { IsAlone world.now.words.locks self.old.track.hand.view.held (code_of body.now.stmts.items) }
+        requires runs { EachTeam (MayFork world.now (F.pre region.now) (F.post region.now) (record { dir = L.dir; path = L.path; text = L.text; faults = L.faults }) self.old.track.buffer) (code_of body.now.stmts.items) }
         requires counters { HasCounters schedule self.old.track.tally.next_loop world.now.chunks }
         ensures goes { Goes world.now (run (site world.now) (tree.For slot (term_of from.now) (term_of to.now) schedule true line end (code_of body.now.stmts.items) Done)) self.old.locals.slots.items self.new.locals.slots.items self.old.track self.new.track result }
         ensures log { IsSameLog self.old.track.buffer self.new.track.buffer }
@@ -128,6 +168,7 @@ impl<L: Log> Lane<L> {
             rt,
             alloc,
             world,
+            region,
             slot,
             first,
             total_of(first, last),

@@ -17,6 +17,9 @@ pub enum Stop {
     Trouble(Trouble),
 }
 
+/// How many tasks may be below one.
+pub const TASK_LIMIT: usize = 65_535;
+
 /// Why a lane doesn't go on: it stops itself, or a region that it forked did.
 #[derive(Debug, Drop)]
 pub enum Halt {
@@ -28,6 +31,8 @@ pub enum Halt {
     LogFull { line: u32 },
     /// In the region that it forked last, the task of this path stopped so.
     Region(Path, Stop),
+    /// The region that it forked last, at this line, ended, and too many tasks are below its own.
+    Tasks { line: u32 },
     /// No memory was found, or a call on its log failed.
     Trouble(Trouble),
 }

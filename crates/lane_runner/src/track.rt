@@ -5,13 +5,15 @@ ghost use Rattle.kernel_model.specs.Value as model;
 ghost use Rattle.kernel_model.specs.Value.{read};
 ghost use Rattle.kernel_model.specs.State.{put, event};
 ghost use Rattle.log_format.specs.declared.record.Kind.TheVariants as kind;
-ghost use Rattle.lane_runner.specs.Going.{CanGo, Goes, IsSameLog, MakesRoom, site, TakesOrHalts, stop_for};
+ghost use Rattle.lane_runner.specs.World.{WorldValue};
+ghost use Rattle.lane_runner.specs.Going.{CanGo, Goes, GoesPast, IsSameLog, MakesRoom, site, TakesOrHalts, stop_for};
 ghost use Rattle.shared_words.specs.Handles.{Belongs, with_view};
 ghost use Rattle.kernel_syntax.specs.Program.{team_of, code_of};
 ghost use Rattle.kernel_syntax.specs.Tree as tree;
 ghost use Rattle.kernel_model.specs.Trace.{run, draw, log_limit};
 ghost use Rattle.lane_runner.specs.Children.{AreNewLogs};
 ghost use Rattle.lane_runner.specs.Forking.{RunsTeam};
+ghost use Rattle.lane_runner.specs.Handed.{entries_of};
 ghost use Rattle.shared_words.specs.Views.{locked, unlocked, rest};
 ghost use Rattle.kernel_syntax.specs.Arithmetic.{fitted};
 ghost use Rattle.lane_runner.specs.Placing.{StandsIn, meant};
@@ -19,7 +21,7 @@ ghost use Rattle.lane_runner.specs.Placing.{StandsIn, meant};
 use crate::children::children;
 use crate::element::Element;
 use crate::locals::Locals;
-use crate::stop::{Halt, Stop};
+use crate::stop::{Halt, Stop, TASK_LIMIT};
 use crate::world::World;
 use event_buffer::{Buffer, BufferFault};
 use kernel_syntax::Team;
@@ -27,10 +29,12 @@ use log_format::{Kind, Record};
 use shared_words::{ChunkHand, Hand};
 use std::alloc::Global;
 use std::marker::Model;
+use std::mem;
 use std::sync::Wait;
 use sw_base::{Log, Path};
 
-/// A lane's hand on the shared words, the buffer before its log, and its hand on the counters of its team's loops.
+/// A lane's hand on the shared words, the buffer before its log, its hand on the counters of its team's loops, and the logs that the
+/// regions of its task handed on: each with its task's path and number of records.
 #[derive(Drop)]
 pub struct Track<L: Log> {
     hand: Hand,
@@ -38,14 +42,21 @@ pub struct Track<L: Log> {
     draws: ChunkHand,
     next_loop: usize,
     forked: u32,
+    done: Vec<(Path, L, u32)>,
 }
 
 impl<L: Log> Model for Track<L> {
     ghost use Rattle.lane_runner.specs.Going.{Progress};
+    ghost use Rattle.lane_runner.specs.Handed.{entries_of};
 
     ghost Value = { Progress };
 
-    ghost view = { λ t. record { hand = t.hand; buffer = t.buffer; tally = record { draws = t.draws; next_loop = t.next_loop; forked = t.forked } } };
+    ghost view = { λ t. record {
+      hand = t.hand;
+      buffer = t.buffer;
+      tally = record { draws = t.draws; next_loop = t.next_loop; forked = t.forked };
+      done = entries_of (record { dir = L.dir; path = L.path; text = L.text; faults = L.faults }) t.done.items;
+    } };
 }
 
 // Why a record of this line has no place.
@@ -100,32 +111,36 @@ fn event(kind: Kind, line: u32, addr: u64, value: u64) -> Record
 }
 
 impl<L: Log> Track<L> {
-    /// A lane's steps from here on, where this is its next loop whose chunks are drawn, and its task has forked so many regions.
-    pub fn new(
-        hand: Hand,
-        buffer: Buffer<L>,
-        draws: ChunkHand,
-        next_loop: usize,
-        forked: u32,
-    ) -> Track<L>
-        ensures { result ≡ record { hand = hand; buffer = buffer; tally = record { draws = draws; next_loop = next_loop; forked = forked } } }
+    /// The steps of a lane that begins: it has drawn from no loop and forked no region.
+    pub fn new(alloc: Global, hand: Hand, buffer: Buffer<L>, draws: ChunkHand) -> Track<L>
+        ensures { result ≡ record { hand = hand; buffer = buffer; tally = record { draws = draws; next_loop = 0; forked = 0 }; done = [] } }
     {
         Track {
             hand,
             buffer,
             draws,
-            next_loop,
-            forked,
+            next_loop: 0,
+            forked: 0,
+            done: Vec::new(alloc),
         }
     }
 
-    /// The hand, the buffer, and the hand on the counters.
-    pub fn into_parts(self) -> (Hand, Buffer<L>, ChunkHand)
+    /// The lane goes on with this hand, and gives back the one that it had.
+    pub fn trade(&mut self, hand: Hand) -> Hand
+        ensures given { result ≡ self.old.hand }
+        ensures goes_on { self.new ≡ record self.old { hand = hand } }
+    {
+        mem::replace(&mut self.hand, hand)
+    }
+
+    /// The hand, the buffer, the hand on the counters, and the logs handed on.
+    pub fn into_parts(self) -> (Hand, Buffer<L>, ChunkHand, Vec<(Path, L, u32)>)
         ensures hand { result.0 ≡ self.hand }
         ensures buffer { result.1 ≡ self.buffer }
         ensures draws { result.2 ≡ self.tally.draws }
+        ensures done { entries_of (record { dir = L.dir; path = L.path; text = L.text; faults = L.faults }) result.3.items ≡ self.done }
     {
-        (self.hand, self.buffer, self.draws)
+        (self.hand, self.buffer, self.draws, self.done)
     }
 
     // Makes room for the record of a line.
@@ -244,22 +259,49 @@ impl<L: Log> Track<L> {
         ensures hand { self.new.hand ≡ with_view self.old.hand (unlocked self.old.hand.view mutex) }
         ensures log { self.new.buffer ≡ self.old.buffer }
         ensures tally { self.new.tally ≡ self.old.tally }
+        ensures done { self.new.done ≡ self.old.done }
     {
         world.words().unlock(&mut self.hand, usize::from(mutex));
+    }
+
+    // Puts a record that no step on the shared words belongs to.
+    fn note(&mut self, alloc: Global, kind: Kind, line: u32) -> Result<(), Halt>
+        requires there { self.old.hand.there ≡ true }
+        requires unrefused { self.old.buffer.refused ≡ None }
+        ensures takes { TakesOrHalts (event kind line 0 0) self.old.hand.view self.old self.new result }
+        ensures log { IsSameLog self.old.buffer self.new.buffer }
+        ensures tally { self.new.tally ≡ self.old.tally }
+    {
+        self.ready(alloc, line)?;
+        let event = event(kind, line, 0, 0);
+        self.buffer.put(&event);
+        Ok(())
     }
 
     /// Puts the record of a barrier of the team.
     pub fn meet(&mut self, alloc: Global, line: u32) -> Result<(), Halt>
         requires there { self.old.hand.there ≡ true }
         requires unrefused { self.old.buffer.refused ≡ None }
-        ensures takes { TakesOrHalts (event kind.Barrier line 0 0) self.old.hand.view self.old self.new result }
+        requires line { 1 ≤ line }
+        ensures goes { (w : WorldValue) (slots : List ℤ) → CanGo w self.old → GoesPast 1 w (put (event kind.Barrier line 0 0)) slots slots self.old self.new result }
+        ensures can { (w : WorldValue) → CanGo w self.old → OnOk result (CanGo w self.new) }
         ensures log { IsSameLog self.old.buffer self.new.buffer }
         ensures tally { self.new.tally ≡ self.old.tally }
     {
-        self.ready(alloc, line)?;
-        let event = event(Kind::Barrier, line, 0, 0);
-        self.buffer.put(&event);
-        Ok(())
+        self.note(alloc, Kind::Barrier, line)
+    }
+
+    /// Puts the record of the task's end.
+    pub fn finish(&mut self, alloc: Global, line: u32) -> Result<(), Halt>
+        requires there { self.old.hand.there ≡ true }
+        requires unrefused { self.old.buffer.refused ≡ None }
+        requires line { 1 ≤ line }
+        ensures goes { (w : WorldValue) (slots : List ℤ) → CanGo w self.old → Goes w (put (event kind.End line 0 0)) slots slots self.old self.new result }
+        ensures can { (w : WorldValue) → CanGo w self.old → OnOk result (CanGo w self.new) }
+        ensures log { IsSameLog self.old.buffer self.new.buffer }
+        ensures tally { self.new.tally ≡ self.old.tally }
+    {
+        self.note(alloc, Kind::End, line)
     }
 
     // Makes new logs for the lanes of a region, and puts the record of the fork.
@@ -282,11 +324,13 @@ impl<L: Log> Track<L> {
         Ok(logs)
     }
 
-    /// Executes a region: makes the logs of its lanes, puts its record, and has the lanes run from these locals.
+    /// Executes a region: makes the logs of its lanes, puts its record, and has the lanes run from these locals. The logs of the
+    /// region's tasks are kept with those of the regions before.
     pub fn parallel<
         F: Fn(
             &mut Hand,
             &Locals,
+            u32,
             Vec<L>,
             &Team,
             &mut Vec<(Path, L, u32)>,
@@ -297,7 +341,6 @@ impl<L: Log> Track<L> {
         world: &World,
         locals: &Locals,
         team: &Team,
-        done: &mut Vec<(Path, L, u32)>,
         region: &F,
     ) -> Result<(), Halt>
         requires can { CanGo world.now self.old }
@@ -310,9 +353,20 @@ impl<L: Log> Track<L> {
         ensures loops { self.new.tally.next_loop ≡ self.old.tally.next_loop }
     {
         let logs = self.fork(alloc, team.line, team.span)?;
+        let number = self.forked;
         self.forked += 1;
-        if let Err((path, stop)) = region(&mut self.hand, locals, logs, team, done) {
+        if let Err((path, stop)) = region(
+            &mut self.hand,
+            locals,
+            number,
+            logs,
+            team,
+            &mut self.done,
+        ) {
             return Err(Halt::Region(path, stop));
+        }
+        if self.done.len() > TASK_LIMIT {
+            return Err(Halt::Tasks { line: team.line });
         }
         Ok(())
     }

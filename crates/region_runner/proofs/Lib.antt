@@ -3,3 +3,14 @@ pub mod WholeTree
 pub mod TaskListing
 pub mod FinishedRun
 pub mod JoinedHands
+pub mod Continuing
+pub mod Traced
+pub mod Stops
+pub mod TeamPhases
+pub mod JoinedWork
+pub mod TeamDraws
+pub mod SplitHands
+pub mod Pointwise
+pub mod WentOn
+pub mod LawfulParts
+pub mod LawfulPhases

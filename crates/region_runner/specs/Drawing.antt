@@ -1,5 +1,5 @@
 -- What the lanes of a team drew, by their hands on the counters and by their logs.
-use Rattle.std.specs.Prelude.{◌≡◌, ℕ, List, [], ◌∷◌, ◌++◌}
+use Rattle.std.specs.Prelude.{◌≡◌, ℕ, zero, suc, List, [], ◌∷◌, ◌++◌}
 use Rattle.log_format.specs.declared.record.Record.{Record}
 use Rattle.kernel_model.specs.Chunking.{TellFirst}
 use Rattle.lane_runner.specs.Drawing.{TellDraws}
@@ -9,3 +9,8 @@ pub data DrewByLogs (counts : List ℕ) : List (List Record) → List (ℕ × �
   no_lane : DrewByLogs counts [] []
   lane : (records : List Record) (mine drawn : List (ℕ × ℕ)) (last : ℕ) (logs : List (List Record)) → TellDraws 0 records mine last → TellFirst counts records
       → DrewByLogs counts logs drawn → DrewByLogs counts (records ∷ logs) (mine ++ drawn)
+
+-- what so many lanes drew, from this one on
+abbrev pub drawn_by : (ℕ → List (ℕ × ℕ)) → ℕ → ℕ → List (ℕ × ℕ)
+drawn_by mine first zero = []
+drawn_by mine first (suc count) = mine first ++ drawn_by mine (suc first) count

@@ -7,11 +7,14 @@
 //! whole run. `joined_hands_did_a_phase`: a hand that split off one for each lane and joined them has the steps of the phase.
 #![tactic(auto)]
 
+mod crew;
 mod drawn;
 mod executions;
 mod finished;
+mod handing;
 mod hands;
 mod listing;
+mod member;
 
 pub use drawn::hands_tell_each_chunk_once;
 pub use executions::works_are_executions;

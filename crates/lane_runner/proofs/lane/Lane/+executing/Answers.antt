@@ -9,7 +9,7 @@ use Rattle.kernel_syntax.specs.Bounds.{IsBoundedCode}
 use Rattle.kernel_syntax.specs.Program.{code_of, stmt_code, term_of}
 use Rattle.kernel_syntax.specs.Tree as tree
 use Rattle.kernel_syntax.specs.Tree.{Code, Done}
-use Rattle.kernel_syntax.proofs.Equations.{stmt_code-Set, stmt_code-Store, stmt_code-If, stmt_code-Loop, stmt_code-Critical}
+use Rattle.kernel_syntax.proofs.Equations.{stmt_code-Set, stmt_code-Store, stmt_code-If, stmt_code-Loop, stmt_code-Parallel, stmt_code-Critical}
 use Rattle.kernel_model.specs.Iterations.{total_of}
 use Rattle.kernel_model.specs.Trace.{run, turns}
 use Rattle.kernel_model.specs.Effect.{Returned}
@@ -20,6 +20,7 @@ use Rattle.lane_runner.specs.declared.locals.Locals.{Locals}
 use Rattle.lane_runner.specs.Going.{Goes, Made, site}
 use Rattle.lane_runner.proofs.Running.{made_done, goes_assigned}
 use Rattle.lane_runner.proofs.Bodies.{log_still, log_later, split_at, grown, test_stops, else_goes, then_goes, from_stops, to_stops, loop_goes, turns_none, turns_next, turns_stop, statements_next, statements_stop}
+use Rattle.lane_runner.proofs.Teams.{teams_of, team_of_region, teams_later, teams_at_later}
 use Rattle.lane_runner.proofs.Parting.{bounded_at, alone_at, alone_only}
 use Rattle.log_format.specs.declared.record.Kind.TheVariants as kind
 use Rattle.kernel_model.specs.State.{State, after, put, event}
@@ -107,7 +108,7 @@ statement-returns-in_ok-last-in-Loop-clause-goes g t c =
     c.repeat.ensures.goes)))
 
 pub statement-unreachable-requires : goal.statement-unreachable-requires
-statement-unreachable-requires g t c = alone_only c.args.world.now.words.locks c.args.self.now.track.hand.view.held c.args.stmt.now c.requires.alone c.in_default.not-Set c.in_default.not-Store c.in_default.not-If c.in_default.not-Loop c.in_default.not-Critical
+statement-unreachable-requires g t c = alone_only c.args.world.now.words.locks c.args.self.now.track.hand.view.held c.args.stmt.now c.requires.alone c.in_default.not-Set c.in_default.not-Store c.in_default.not-If c.in_default.not-Loop c.in_default.not-Parallel c.in_default.not-Critical
 
 pub statement-statements-requires-clause-bounded : goal.statement-statements-requires-clause-bounded
 statement-statements-requires-clause-bounded g t c κs within = (subst IsBoundedCode (ap (λ (s : Stmt). stmt_code s Done) c.in-If.is ∙ stmt_code-If c.in-If.test c.in-If.yes c.in-If.no Done) c.requires.bounded).2
@@ -145,7 +146,7 @@ pub repeat-loop-i-init : goal.repeat-loop-i-init
 repeat-loop-i-init g t c = record {
   made = turns_none c.args.world.now (site c.args.world.now) (code_of c.args.body.now.stmts.items) c.args.slot (to_z w64 (of_z w64 c.args.from)) c.args.first c.args.self.now.locals.slots.items c.args.self.now.track c.requires.can;
   log = log_still c.args.self.now.track.buffer;
-  tally = refl;
+  loops = refl;
 }
 
 pub repeat-statements-requires-clause-alone : goal.repeat-statements-requires-clause-alone
@@ -180,7 +181,7 @@ repeat-loop-i-preserved g t c =
           (goes_assigned c.args.world.now (run (site c.args.world.now) (code_of c.args.body.now.stmts.items)) c.args.slot (c.args.from +ℤ pos (c.args.first + c.loop-i.i)) c.loop-i.self.locals.slots.items c.statements.new.self.locals.slots.items c.loop-i.self.track c.statements.new.self.track (Ok tt)
           (subst (λ (l : List ℤ). Made c.args.world.now (run (site c.args.world.now) (code_of c.args.body.now.stmts.items)) l c.statements.new.self.locals.slots.items c.loop-i.self.track c.statements.new.self.track (Returned tt)) (c.set.ensures ∙ ap (λ (z : ℤ). slice_set c.loop-i.self.locals.slots.items c.args.slot z) number_is) c.in_ok-statements.ensures.goes)));
       log = log_later c.args.self.now.track.buffer c.loop-i.self.track.buffer c.statements.new.self.track.buffer c.loop-i.invariant.log c.in_ok-statements.ensures.log;
-      tally = c.statements.ensures.tally ∙ c.loop-i.invariant.tally;
+      loops = c.statements.ensures.loops ∙ c.loop-i.invariant.loops;
     }
 
 pub repeat-returns-clause-goes : goal.repeat-returns-clause-goes
@@ -205,7 +206,7 @@ critical-returns-in-Err-clause-goes g t c =
     let at = site c.args.world.now in
     let code = code_of c.args.body.now.stmts.items in
     section_left c.args.world.now (run at (tree.Critical c.args.mutex c.args.line c.args.end (code_of c.args.body.now.stmts.items) Done)) (section_rest at code c.args.mutex c.args.end) c.args.mutex c.args.line c.requires.bounded.1.some c.args.self.now.locals.slots.items c.statements.new.self.locals.slots.items
-    c.args.self.now.track c.lock.new.self c.statements.new.self.track c.release.new.self (run-Critical at c.args.mutex c.args.line c.args.end code Done) c.in_ok-lock.ensures.takes c.release.ensures.hand c.release.ensures.log c.release.ensures.tally c.in-Err.halt
+    c.args.self.now.track c.lock.new.self c.statements.new.self.track c.release.new.self (run-Critical at c.args.mutex c.args.line c.args.end code Done) c.in_ok-lock.ensures.takes c.release.ensures.hand c.release.ensures.log c.release.ensures.tally c.release.ensures.done c.in-Err.halt
     (after_stop c.args.world.now (run at code) (λ (s : State). after (put (event kind.Unlock c.args.end c.args.mutex 0) s) (run at Done)) c.args.self.now.locals.slots.items c.statements.new.self.locals.slots.items c.lock.new.self c.statements.new.self.track c.in-Err.halt
     (unlocking_grows at c.args.mutex c.args.end) (subst (λ (r : Result (Unit {0}) Halt). Goes c.args.world.now (run at code) c.args.self.now.locals.slots.items c.statements.new.self.locals.slots.items c.lock.new.self c.statements.new.self.track r) c.in-Err.is c.statements.ensures.goes))
 
@@ -214,10 +215,10 @@ critical-returns-in-Err-unlock-clause-goes g t c =
     let at = site c.args.world.now in
     let code = code_of c.args.body.now.stmts.items in
     let view = c.args.self.now.track.hand.view in
-    let in_section = can_taken c.args.world.now (event kind.Lock c.args.line c.args.mutex 0) (locked view c.args.mutex) c.args.self.now.track c.lock.new.self c.requires.can c.in_ok-lock.ensures.takes in
+    let in_section = can_taken c.args.world.now (event kind.Lock c.args.line c.args.mutex 0) (locked view c.args.mutex) c.args.self.now.track c.lock.new.self c.requires.can refl c.in_ok-lock.ensures.takes in
     let after_body = can_follow c.args.world.now (run at code) c.args.self.now.locals.slots.items c.statements.new.self.locals.slots.items c.lock.new.self c.statements.new.self.track (Returned tt) in_section c.in_default.ensures.goes in
     section_left c.args.world.now (run at (tree.Critical c.args.mutex c.args.line c.args.end code Done)) (section_rest at code c.args.mutex c.args.end) c.args.mutex c.args.line c.requires.bounded.1.some c.args.self.now.locals.slots.items c.statements.new.self.locals.slots.items
-    c.args.self.now.track c.lock.new.self c.unlock.new.self c.release-in-Err-unlock.new.self (run-Critical at c.args.mutex c.args.line c.args.end code Done) c.in_ok-lock.ensures.takes c.release-in-Err-unlock.ensures.hand c.release-in-Err-unlock.ensures.log c.release-in-Err-unlock.ensures.tally c.in-Err-unlock.halt
+    c.args.self.now.track c.lock.new.self c.unlock.new.self c.release-in-Err-unlock.new.self (run-Critical at c.args.mutex c.args.line c.args.end code Done) c.in_ok-lock.ensures.takes c.release-in-Err-unlock.ensures.hand c.release-in-Err-unlock.ensures.log c.release-in-Err-unlock.ensures.tally c.release-in-Err-unlock.ensures.done c.in-Err-unlock.halt
     (after_goes c.args.world.now (run at code) (unlocking at c.args.mutex c.args.end) c.args.self.now.locals.slots.items c.statements.new.self.locals.slots.items c.statements.new.self.locals.slots.items c.lock.new.self c.statements.new.self.track c.unlock.new.self (Err c.in-Err-unlock.halt) c.in_default.ensures.goes
     (goes_unready c.args.world.now (unlocking at c.args.mutex c.args.end) c.statements.new.self.locals.slots.items c.args.end (unlocking_grows at c.args.mutex c.args.end) (full_at_unlock at c.statements.new.self.locals.slots.items c.args.mutex c.args.end)
     c.statements.new.self.track c.unlock.new.self c.in-Err-unlock.halt after_body c.in-Err-unlock.ensures.takes))
@@ -245,7 +246,7 @@ statements-loop-stmt-init g t c = record {
   items = c.deref-stmt-items.ensures.value;
   made = made_done c.args.world.now (site c.args.world.now) c.args.self.now.locals.slots.items c.args.self.now.track c.requires.can;
   log = log_still c.args.self.now.track.buffer;
-  tally = refl;
+  loops = refl;
 }
 
 pub statements-statement-requires-clause-bounded : goal.statements-statement-requires-clause-bounded
@@ -282,7 +283,7 @@ statements-loop-stmt-preserved g t c =
           subst (λ (ss : List Stmt). Made c.args.world.now (run (site c.args.world.now) (code_of ss)) c.args.self.now.locals.slots.items c.statement.new.self.locals.slots.items c.args.self.now.track c.statement.new.self.track (Returned tt)) (sym (grown c.args.body.now.stmts.items c.loop-stmt.stmt-index c.stmt-item.result within is))
           (statements_next c.args.world.now (site c.args.world.now) c.args.self.now.locals.slots.items c.loop-stmt.self.locals.slots.items c.statement.new.self.locals.slots.items (take c.loop-stmt.stmt-index c.args.body.now.stmts.items) c.stmt-item.result c.args.self.now.track c.loop-stmt.self.track c.statement.new.self.track c.loop-stmt.invariant.made c.in_ok-statement.ensures.goes);
       log = log_later c.args.self.now.track.buffer c.loop-stmt.self.track.buffer c.statement.new.self.track.buffer c.loop-stmt.invariant.log c.in_ok-statement.ensures.log;
-      tally = c.statement.ensures.tally ∙ c.loop-stmt.invariant.tally;
+      loops = c.statement.ensures.loops ∙ c.loop-stmt.invariant.loops;
     }
 
 pub statement-statements-requires-clause-can : goal.statement-statements-requires-clause-can
@@ -304,4 +305,49 @@ pub repeat-statements-requires-clause-can : goal.repeat-statements-requires-clau
 repeat-statements-requires-clause-can g t c κs given = can_follow _ _ _ _ _ _ _ c.requires.can c.loop-i.invariant.made
 
 pub critical-unlock-requires-clause-can : goal.critical-unlock-requires-clause-can
-critical-unlock-requires-clause-can g t c κs given = can_follow _ _ _ _ _ _ _ (can_taken _ _ _ _ _ c.requires.can c.in_ok-lock.ensures.takes) c.in_default.ensures.goes
+critical-unlock-requires-clause-can g t c κs given = can_follow _ _ _ _ _ _ _ (can_taken _ _ _ _ _ c.requires.can refl c.in_ok-lock.ensures.takes) c.in_default.ensures.goes
+
+-- ---- regions
+
+pub statement-parallel-requires-clause-free : goal.statement-parallel-requires-clause-free
+statement-parallel-requires-clause-free g t c κs within = (subst (IsAlone c.args.world.now.words.locks c.args.self.now.track.hand.view.held) (ap (λ (s : Stmt). stmt_code s Done) c.in-Parallel.is ∙ stmt_code-Parallel c.in-Parallel.team Done) c.requires.alone).0
+
+pub statement-parallel-requires-clause-line : goal.statement-parallel-requires-clause-line
+statement-parallel-requires-clause-line g t c κs within = (subst IsBoundedCode (ap (λ (s : Stmt). stmt_code s Done) c.in-Parallel.is ∙ stmt_code-Parallel c.in-Parallel.team Done) c.requires.bounded).1.some
+
+pub statement-parallel-requires-clause-path : goal.statement-parallel-requires-clause-path
+statement-parallel-requires-clause-path g t c κs within = (team_of_region _ _ _ _ _ (ap (λ (s : Stmt). stmt_code s Done) c.in-Parallel.is ∙ stmt_code-Parallel c.in-Parallel.team Done) c.requires.runs).path
+
+pub statement-parallel-requires-clause-runs : goal.statement-parallel-requires-clause-runs
+statement-parallel-requires-clause-runs g t c κs within = (team_of_region _ _ _ _ _ (ap (λ (s : Stmt). stmt_code s Done) c.in-Parallel.is ∙ stmt_code-Parallel c.in-Parallel.team Done) c.requires.runs).runs
+
+pub statement-returns-in-Parallel-clause-goes : goal.statement-returns-in-Parallel-clause-goes
+statement-returns-in-Parallel-clause-goes g t c =
+    subst (λ (x : Code). Goes c.args.world.now (run (site c.args.world.now) x) c.args.self.now.locals.slots.items c.args.self.now.locals.slots.items c.args.self.now.track c.parallel.new.self c.parallel.result) (sym (ap (λ (s : Stmt). stmt_code s Done) c.in-Parallel.is ∙ stmt_code-Parallel c.in-Parallel.team Done)) c.parallel.ensures.goes
+
+pub statement-statements-requires-clause-runs : goal.statement-statements-requires-clause-runs
+statement-statements-requires-clause-runs g t c κs within =
+    teams_later _ _ _ _ _ _ c.in_ok-chosen-in-If.ensures.log (code_of c.in-If.no.stmts.items) (teams_of _ _ _ _ _ (ap (λ (s : Stmt). stmt_code s Done) c.in-If.is ∙ stmt_code-If c.in-If.test c.in-If.yes c.in-If.no Done) c.requires.runs).1
+
+pub statement-statements-requires-else-chosen-eq0-clause-runs : goal.statement-statements-requires-else-chosen-eq0-clause-runs
+statement-statements-requires-else-chosen-eq0-clause-runs g t c κs within =
+    teams_later _ _ _ _ _ _ c.in_ok-chosen-in-If.ensures.log (code_of c.in-If.yes.stmts.items) (teams_of _ _ _ _ _ (ap (λ (s : Stmt). stmt_code s Done) c.in-If.is ∙ stmt_code-If c.in-If.test c.in-If.yes c.in-If.no Done) c.requires.runs).0
+
+pub statement-repeat-requires-clause-runs : goal.statement-repeat-requires-clause-runs
+statement-repeat-requires-clause-runs g t c κs within =
+    teams_later _ _ _ _ _ _ (log_later _ _ _ c.in_ok-first-in-Loop.ensures.log c.in_ok-last-in-Loop.ensures.log) (code_of c.in-Loop.body.stmts.items) (teams_of _ _ _ _ _ (ap (λ (s : Stmt). stmt_code s Done) c.in-Loop.is ∙ stmt_code-Loop c.in-Loop.slot c.in-Loop.from c.in-Loop.to c.in-Loop.body Done) c.requires.runs).0
+
+pub statement-critical-requires-clause-runs : goal.statement-critical-requires-clause-runs
+statement-critical-requires-clause-runs g t c κs within = teams_of _ _ _ _ _ (ap (λ (s : Stmt). stmt_code s Done) c.in-Critical.is ∙ stmt_code-Critical c.in-Critical.mutex c.in-Critical.line c.in-Critical.end c.in-Critical.body Done) c.requires.runs
+
+pub critical-statements-requires-clause-runs : goal.critical-statements-requires-clause-runs
+critical-statements-requires-clause-runs g t c κs within = teams_later _ _ _ _ _ _ c.in_ok-lock.ensures.log (code_of c.args.body.now.stmts.items) c.requires.runs.0
+
+pub repeat-statements-requires-clause-runs : goal.repeat-statements-requires-clause-runs
+repeat-statements-requires-clause-runs g t c κs given = teams_later _ _ _ _ _ _ c.loop-i.invariant.log (code_of c.args.body.now.stmts.items) c.requires.runs
+
+pub statements-statement-requires-clause-runs : goal.statements-statement-requires-clause-runs
+statements-statement-requires-clause-runs g t c κs given =
+    let within : c.loop-stmt.stmt-index < length c.deref-stmt-items.result.now = omega arith in
+    teams_at_later _ _ _ _ _ _ c.loop-stmt.invariant.log c.args.body.now.stmts.items c.deref-stmt-items.result.now c.deref-stmt-items.ensures.value c.loop-stmt.stmt-index c.stmt-item.result
+    (slice_get_read c.deref-stmt-items.result.now (length c.deref-stmt-items.result.now) c.loop-stmt.stmt-index c.stmt-item.result refl within c.stmt-item.is) c.requires.runs

@@ -10,7 +10,7 @@ abbrev pub invariant-repeat-loop-i : goal.invariant-repeat-loop-i
 invariant-repeat-loop-i g l = record {
   made : Made l.world (turns l.i l.fn.first (turn_from (site l.world) (code_of l.body.stmts.items) l.slot l.from)) l.fn.self.locals.slots.items l.self.locals.slots.items l.fn.self.track l.self.track (Returned tt);
   log : IsSameLog l.fn.self.track.buffer l.self.track.buffer;
-  tally : l.self.track.tally ≡ l.fn.self.track.tally;
+  loops : l.self.track.tally.next_loop ≡ l.fn.self.track.tally.next_loop;
 }
 
 abbrev pub invariant-statements-loop-stmt : goal.invariant-statements-loop-stmt
@@ -18,5 +18,5 @@ invariant-statements-loop-stmt g l = record {
   items : l.stmt-items ≡ l.body.stmts.items;
   made : Made l.world (run (site l.world) (code_of (take l.stmt-index l.body.stmts.items))) l.fn.self.locals.slots.items l.self.locals.slots.items l.fn.self.track l.self.track (Returned tt);
   log : IsSameLog l.fn.self.track.buffer l.self.track.buffer;
-  tally : l.self.track.tally ≡ l.fn.self.track.tally;
+  loops : l.self.track.tally.next_loop ≡ l.fn.self.track.tally.next_loop;
 }

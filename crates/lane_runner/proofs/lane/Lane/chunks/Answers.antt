@@ -12,6 +12,7 @@ use Rattle.lane_runner.proofs.Values.{can_follow}
 use Rattle.lane_runner.specs.Going.{Made, Goes, site}
 use Rattle.lane_runner.proofs.Bodies.{log_still, log_later}
 use Rattle.lane_runner.proofs.Dealing.{MadeChunks, below_top, chunks_none, chunks_all, chunks_grow, chunks_stop}
+use Rattle.lane_runner.proofs.Teams.{teams_later}
 use Rattle.lane_runner.proofs.lane.Lane.chunks.Goals as goal
 
 within_is : (lane span given : ℕ) → given ≡ span → lane < given → lane < span
@@ -27,7 +28,7 @@ chunks-init g c =
           subst (λ (n : ℕ). MadeChunks c.args.world.now (site c.args.world.now) (code_of c.args.body.now.stmts.items) c.args.slot (to_z w64 (of_z w64 c.args.from)) c.args.chunk c.args.total n c.args.self.now.locals.slots.items c.args.self.now.locals.slots.items c.args.self.now.track c.args.self.now.track) begins
           (chunks_none c.args.world.now (site c.args.world.now) (code_of c.args.body.now.stmts.items) c.args.slot (to_z w64 (of_z w64 c.args.from)) c.args.chunk c.args.total c.requires.some within c.args.self.now.locals.slots.items c.args.self.now.track c.requires.can small);
       log = log_still c.args.self.now.track.buffer;
-      tally = refl;
+      loops = refl;
       stride = search rules;
     }
 
@@ -38,6 +39,9 @@ repeat-requires-clause-can g c κs given =
 pub repeat-requires-clause-alone : goal.repeat-requires-clause-alone
 repeat-requires-clause-alone g c κs given =
     subst (λ (h : List ℕ). IsAlone c.args.world.now.words.locks h (code_of c.args.body.now.stmts.items)) (sym (ap (λ (h : HandValue View). h.view.held) c.chunks.invariant.made.made.done.hand)) c.requires.alone
+
+pub repeat-requires-clause-runs : goal.repeat-requires-clause-runs
+repeat-requires-clause-runs g c κs given = teams_later _ _ _ _ _ _ c.chunks.invariant.log (code_of c.args.body.now.stmts.items) c.requires.runs
 
 pub repeat-requires-clause-top : goal.repeat-requires-clause-top
 repeat-requires-clause-top g c κs given =
@@ -73,7 +77,7 @@ chunks-preserved g c =
           c.args.self.now.track c.chunks.self.track c.repeat.new.self.track c.chunks.invariant.made within_loop small
           (subst (λ (n : ℕ). Made c.args.world.now (turns n c.chunks.first (turn_from (site c.args.world.now) (code_of c.args.body.now.stmts.items) c.args.slot (to_z w64 (of_z w64 c.args.from)))) c.chunks.self.locals.slots.items c.repeat.new.self.locals.slots.items c.chunks.self.track c.repeat.new.self.track (Returned tt)) count c.in_ok-repeat.ensures.goes));
       log = log_later c.args.self.now.track.buffer c.chunks.self.track.buffer c.repeat.new.self.track.buffer c.chunks.invariant.log c.in_ok-repeat.ensures.log;
-      tally = c.repeat.ensures.tally ∙ c.chunks.invariant.tally;
+      loops = c.repeat.ensures.loops ∙ c.chunks.invariant.loops;
       stride = c.chunks.invariant.stride;
     }
 

@@ -8,7 +8,7 @@ abbrev pub invariant-chunks : goal.invariant-chunks
 invariant-chunks g l = record {
   made : MadeChunks l.world (site l.world) (code_of l.body.stmts.items) l.fn.slot l.fn.from l.fn.chunk l.fn.total l.first l.fn.self.locals.slots.items l.self.locals.slots.items l.fn.self.track l.self.track;
   log : IsSameLog l.fn.self.track.buffer l.self.track.buffer;
-  tally : l.self.track.tally ≡ l.fn.self.track.tally;
+  loops : l.self.track.tally.next_loop ≡ l.fn.self.track.tally.next_loop;
   stride : l.stride ≡ l.fn.chunk * l.world.span;
 }
 

@@ -1,4 +1,3 @@
-use Rattle.lane_runner.specs.Drawing.{Tally}
 use Rattle.std.proofs.Common.{◌≡◌, ap, sym, ◌∙◌, subst, ℕ, suc, ◌+◌, ◌-◌, ◌*◌, ◌^◌, ◌<◌, ◌≤◌, min, true, List, ℤ, pos, ◌+ℤ◌, ◌≤ℤ◌, Err, nat_lt, w64, rules, arith}
 use Rattle.std.proofs.lemmas.Result.{err_from_is_err_and}
 use Rattle.std.proofs.lemmas.Int.{to_z-of_z}
@@ -13,6 +12,7 @@ use Rattle.lane_runner.specs.Going.{Goes, Made, site}
 use Rattle.lane_runner.proofs.Values.{can_follow}
 use Rattle.lane_runner.proofs.Dealing.{below_top}
 use Rattle.lane_runner.proofs.Chunking.{chunk_begins, draw_stops, none_left, chunk_stops, chunk_ends}
+use Rattle.lane_runner.proofs.Teams.{teams_later}
 use Rattle.lane_runner.proofs.lane.Lane.drawn_chunk.Goals as goal
 
 below : (q n given : ℕ) → given ≡ n → q ≤ given → (q ≡ given → ⊥) → q < n
@@ -56,6 +56,9 @@ repeat-requires-clause-alone g c κs given =
     let made : Made c.args.world.now (draw c.args.line c.div_ceil-chunks.result) c.args.self.now.locals.slots.items c.args.self.now.locals.slots.items c.args.self.now.track c.draw.new.self (Returned c.in_ok-number.number) = c.in_ok-number.ensures.goes c.args.self.now.locals.slots.items in
     subst (λ (h : List ℕ). IsAlone c.args.world.now.words.locks h (code_of c.args.body.now.stmts.items)) (sym (ap (λ (h : HandValue View). h.view.held) made.done.hand)) c.requires.alone
 
+pub repeat-requires-clause-runs : goal.repeat-requires-clause-runs
+repeat-requires-clause-runs g c κs given = teams_later _ _ _ _ _ _ c.in_ok-number.ensures.log (code_of c.args.body.now.stmts.items) c.requires.runs
+
 pub repeat-requires-clause-top : goal.repeat-requires-clause-top
 repeat-requires-clause-top g c κs given =
     let count : c.div_ceil-chunks.result ≡ chunk_count c.args.chunk c.args.total = search rules in
@@ -98,7 +101,7 @@ pub returns-clause-loops : goal.returns-clause-loops
 returns-clause-loops g c =
     let count : c.div_ceil-chunks.result ≡ chunk_count c.args.chunk c.args.total = search rules in
     let less = below c.in_ok-number.number (chunk_count c.args.chunk c.args.total) c.div_ceil-chunks.result count c.in_ok-number.ensures.within c.if-number-chunks.false in
-    ap (λ (t : Tally). t.next_loop) c.repeat.ensures.tally ∙ c.in_ok-number.ensures.open (subst (λ (n : ℕ). c.in_ok-number.number < n) (sym count) less)
+    c.repeat.ensures.loops ∙ c.in_ok-number.ensures.open (subst (λ (n : ℕ). c.in_ok-number.number < n) (sym count) less)
 
 pub returns-clause-count : goal.returns-clause-count
 returns-clause-count g c =

@@ -13,6 +13,7 @@ use Rattle.lane_runner.specs.Going.{Goes, Made, site}
 use Rattle.lane_runner.proofs.Bodies.{log_later}
 use Rattle.lane_runner.proofs.Draining.{chunk_grows, draws_more, draws_end, draws_stop}
 use Rattle.lane_runner.proofs.Values.{can_follow}
+use Rattle.lane_runner.proofs.Teams.{teams_later}
 use Rattle.lane_runner.proofs.lane.Lane.drawn_chunks.Goals as goal
 
 pub returns-in_err-drawn_chunk-clause-goes : goal.returns-in_err-drawn_chunk-clause-goes
@@ -51,3 +52,6 @@ draws-preserved g c =
           c.args.world.now c.args.self.now.locals.slots.items c.draws.self.locals.slots.items c.drawn_chunk.new.self.locals.slots.items c.args.self.now.track c.draws.self.track c.drawn_chunk.new.self.track c.draws.invariant.on
           (subst (λ (b : Bool). Made c.args.world.now (draw_once c.args.line (chunk_count c.args.chunk c.args.total) (λ q. each (chunk_iterations c.args.chunk c.args.total q) (turn_from (site c.args.world.now) (code_of c.args.body.now.stmts.items) c.args.slot from))) c.draws.self.locals.slots.items c.drawn_chunk.new.self.locals.slots.items c.draws.self.track c.drawn_chunk.new.self.track (Returned b)) c.if-not-branch.false made);
     }
+
+pub drawn_chunk-requires-clause-runs : goal.drawn_chunk-requires-clause-runs
+drawn_chunk-requires-clause-runs g c κs given = teams_later _ _ _ _ _ _ c.draws.invariant.log (code_of c.args.body.now.stmts.items) c.requires.runs

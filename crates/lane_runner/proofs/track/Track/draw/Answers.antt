@@ -13,6 +13,7 @@ use Rattle.lane_runner.specs.Drawing.{Tally}
 use Rattle.lane_runner.specs.Going.{Progress, HasRoomFor, Made}
 use Rattle.lane_runner.proofs.Stepping.{goes_unready}
 use Rattle.lane_runner.proofs.Drawn.{draw_grows, draw_made, same_hand}
+use Rattle.lane_runner.specs.Handed.{entries_of, place_of}
 use Rattle.lane_runner.proofs.track.Track.draw.Goals as goal
 
 pub returns-in_err-ready-clause-goes : goal.returns-in_err-ready-clause-goes
@@ -31,8 +32,8 @@ loop_after-self-inside-requires g c =
 
 pub returns-clause-goes : goal.returns-clause-goes
 returns-clause-goes g c =
-    let mid : Progress = record { hand = c.self.inside.hand; buffer = c.self.inside.buffer; tally = record { draws = c.self.inside.draws; next_loop = c.self.inside.next_loop; forked = c.self.inside.forked } } in
-    let new : Progress = record { hand = c.self.inside.hand; buffer = c.put.new.self; tally = record { draws = c.draw-number.new.hand; next_loop = c.loop_after-self-inside.result; forked = c.self.inside.forked } } in
+    let mid : Progress = record { hand = c.self.inside.hand; buffer = c.self.inside.buffer; tally = record { draws = c.self.inside.draws; next_loop = c.self.inside.next_loop; forked = c.self.inside.forked }; done = entries_of (record { dir = g.L.Log.dir; path = g.L.Log.path; text = g.L.Log.text; faults = g.L.Log.faults }) c.self.inside.done.items } in
+    let new : Progress = record { hand = c.self.inside.hand; buffer = c.put.new.self; tally = record { draws = c.draw-number.new.hand; next_loop = c.loop_after-self-inside.result; forked = c.self.inside.forked }; done = entries_of (record { dir = g.L.Log.dir; path = g.L.Log.path; text = g.L.Log.text; faults = g.L.Log.faults }) c.self.inside.done.items } in
     let number : ℕ = c.draw-number.result in
     let room = subst (λ (p : Progress). HasRoomFor c.args.self.now p) (sym c.self.view_is) c.in_ok-ready.ensures.room in
     let least : c.min-drawn.result ≡ min number c.args.chunks = search rules in
@@ -42,11 +43,12 @@ returns-clause-goes g c =
     (c.draw-number.ensures.drawn ∙ same_hand c.self.inside.draws (drew c.self.inside.draws.view c.self.inside.next_loop number) there)
     (λ less. c.loop_after-self-inside.ensures.open (subst (λ (k : ℕ). k < c.args.chunks) (sym least) less))
     (λ past. c.loop_after-self-inside.ensures.closed (subst (λ (k : ℕ). c.args.chunks ≤ k) (sym least) past))
-    refl (ap (λ (b : Buffered). b.refused) c.put.ensures.put ∙ room.may_put.unrefused)
+    refl refl (ap (λ (b : Buffered). b.refused) c.put.ensures.put ∙ room.may_put.unrefused)
     (record {
       records = λ header records holds. subst (λ (r : Record). HoldsRecords header c.put.new.self (records ++ r ∷ [])) (c.event-event.ensures ∙ ap (λ (k : ℕ). event kind.Chunk c.args.line k c.args.chunks) least) (c.put.ensures.records header records holds);
       count = ap (λ (b : Buffered). b.count) c.put.ensures.put;
       path = ap (λ (b : Buffered). b.path) c.put.ensures.put;
+      place = ap place_of c.put.ensures.put;
     }) slots)
 
 pub returns-clause-open : goal.returns-clause-open

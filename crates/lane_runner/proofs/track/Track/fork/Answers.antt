@@ -7,6 +7,7 @@ use Rattle.event_buffer.specs.Buffered.{Buffered, MayPut}
 use Rattle.event_buffer.specs.Logged.{HoldsRecords}
 use Rattle.lane_runner.specs.Going.{Progress, HasRoomFor, Waits}
 use Rattle.lane_runner.proofs.Working.{hand_still}
+use Rattle.lane_runner.specs.Handed.{entries_of, place_of}
 use Rattle.lane_runner.proofs.track.Track.fork.Goals as goal
 
 module _ (old mid : Progress) (new : Buffered) (room : HasRoomFor old mid) (same : new ≡ record mid.buffer { faults = new.faults; refused = new.refused }) where
@@ -23,25 +24,27 @@ module _ (old mid : Progress) (new : Buffered) (room : HasRoomFor old mid) (same
     records = λ header rs holds. records header rs (room.waits.records header rs holds);
     count = ap (λ (b : Buffered). b.count) same ∙ room.waits.count;
     path = ap (λ (b : Buffered). b.path) same ∙ room.waits.path;
+    place = ap place_of same ∙ room.waits.place;
     tally = room.waits.tally;
+    done = room.waits.done;
   }
 
 pub put-requires : goal.put-requires
 put-requires g c =
     let room = subst (λ (p : Progress). HasRoomFor c.args.self.now p) (sym c.self.view_is) c.in_ok-ready.ensures.room in
-    (search rules, may_still c.args.self.now (record { hand = c.self.inside.hand; buffer = c.self.inside.buffer; tally = record { draws = c.self.inside.draws; next_loop = c.self.inside.next_loop; forked = c.self.inside.forked } }) c.children.new.buffer room c.children.ensures.same c.in-Ok.ensures.unrefused)
+    (search rules, may_still c.args.self.now (record { hand = c.self.inside.hand; buffer = c.self.inside.buffer; tally = record { draws = c.self.inside.draws; next_loop = c.self.inside.next_loop; forked = c.self.inside.forked }; done = entries_of (record { dir = g.L.Log.dir; path = g.L.Log.path; text = g.L.Log.text; faults = g.L.Log.faults }) c.self.inside.done.items }) c.children.new.buffer room c.children.ensures.same c.in-Ok.ensures.unrefused)
 
 pub returns-in-Err-clause-takes : goal.returns-in-Err-clause-takes
 returns-in-Err-clause-takes g c =
     let room = subst (λ (p : Progress). HasRoomFor c.args.self.now p) (sym c.self.view_is) c.in_ok-ready.ensures.room in (
-      still_waits c.args.self.now (record { hand = c.self.inside.hand; buffer = c.self.inside.buffer; tally = record { draws = c.self.inside.draws; next_loop = c.self.inside.next_loop; forked = c.self.inside.forked } }) c.children.new.buffer room c.children.ensures.same c.children.ensures.records,
+      still_waits c.args.self.now (record { hand = c.self.inside.hand; buffer = c.self.inside.buffer; tally = record { draws = c.self.inside.draws; next_loop = c.self.inside.next_loop; forked = c.self.inside.forked }; done = entries_of (record { dir = g.L.Log.dir; path = g.L.Log.path; text = g.L.Log.text; faults = g.L.Log.faults }) c.self.inside.done.items }) c.children.new.buffer room c.children.ensures.same c.children.ensures.records,
       record { refused = c.in-Err.ensures.refused },
     )
 
 pub returns-clause-takes : goal.returns-clause-takes
 returns-clause-takes g c =
     let room = subst (λ (p : Progress). HasRoomFor c.args.self.now p) (sym c.self.view_is) c.in_ok-ready.ensures.room in
-    let waits = still_waits c.args.self.now (record { hand = c.self.inside.hand; buffer = c.self.inside.buffer; tally = record { draws = c.self.inside.draws; next_loop = c.self.inside.next_loop; forked = c.self.inside.forked } }) c.children.new.buffer room c.children.ensures.same c.children.ensures.records in
+    let waits = still_waits c.args.self.now (record { hand = c.self.inside.hand; buffer = c.self.inside.buffer; tally = record { draws = c.self.inside.draws; next_loop = c.self.inside.next_loop; forked = c.self.inside.forked }; done = entries_of (record { dir = g.L.Log.dir; path = g.L.Log.path; text = g.L.Log.text; faults = g.L.Log.faults }) c.self.inside.done.items }) c.children.new.buffer room c.children.ensures.same c.children.ensures.records in
     record {
       hand = room.waits.hand ∙ hand_still c.args.self.now.hand c.requires.there;
       log = record {
@@ -49,8 +52,10 @@ returns-clause-takes g c =
             subst (λ (r : Record). HoldsRecords header c.put.new.self (records ++ r ∷ [])) (c.event-event.ensures ∙ ap (λ (n : ℕ). event kind.Region c.args.line 0 n) c.from.ensures) (c.put.ensures.records header records (waits.records header records holds));
         count = ap (λ (b : Buffered). b.count) c.put.ensures.put ∙ ap (λ (n : ℕ). n + 1) waits.count;
         path = ap (λ (b : Buffered). b.path) c.put.ensures.put ∙ waits.path;
+        place = ap place_of c.put.ensures.put ∙ waits.place;
       };
       below = subst (λ (n : ℕ). n < log_limit) room.waits.count room.may_put.below;
       tally = room.waits.tally;
+      done = room.waits.done;
       unrefused = ap (λ (b : Buffered). b.refused) c.put.ensures.put ∙ c.in-Ok.ensures.unrefused;
     }

@@ -1,4 +1,5 @@
-use Rattle.std.proofs.Common.{◌≡◌, refl, ap, sym, ◌∙◌, subst, ◌+◌, [], rules}
+use Rattle.std.proofs.Common.{◌≡◌, refl, ap, sym, ◌∙◌, subst, ℕ, ◌+◌, ◌<◌, ◌≤◌, [], length, rules}
+use Rattle.std.proofs.lemmas.List.{length-map}
 use Rattle.std.proofs.lemmas.Result.{err_from_is_err_and}
 use Rattle.log_format.specs.declared.record.Kind.TheVariants as kind
 use Rattle.kernel_syntax.specs.Program.{team_of}
@@ -9,30 +10,36 @@ use Rattle.kernel_model.specs.Trace.{run}
 use Rattle.kernel_model.proofs.Growing.{run-grows}
 use Rattle.kernel_model.proofs.RunEffects.{makes-Parallel_full}
 use Rattle.shared_words.specs.declared.view.View.{View}
-use Rattle.shared_words.specs.Handles.{HandValue, IsFree}
-use Rattle.lane_runner.specs.Forking.{RanRegion}
+use Rattle.shared_words.specs.Handles.{HandValue}
+use Rattle.lane_runner.specs.Children.{AreNewLogs}
+use Rattle.lane_runner.specs.Drawing.{Tally}
+use Rattle.lane_runner.specs.Forking.{RanRegion, IsReady}
 use Rattle.lane_runner.specs.Going.{Progress, Takes, site}
 use Rattle.lane_runner.specs.World.{WorldValue}
 use Rattle.lane_runner.specs.Going.{CanGo}
 use Rattle.lane_runner.proofs.Stepping.{goes_unready}
-use Rattle.lane_runner.proofs.Regions.{region_made, region_began}
+use Rattle.lane_runner.proofs.Regions.{region_made, region_began, region_crowded}
+use Rattle.lane_runner.specs.Handed.{entry_of, entries_of, task_limit}
 use Rattle.lane_runner.proofs.track.Track.parallel.Goals as goal
 
 -- the hand after the record of the fork
-free_after : (w : WorldValue) (team : TeamTree) (old a : Progress) → CanGo w old → old.hand.view.held ≡ [] → Takes (event kind.Region team.line 0 team.span) old.hand.view old a → IsFree a.hand w.words.table
-free_after w team old a can free taken = record {
-  belongs = record { here = ap (λ (h : HandValue View). h.table) taken.hand ∙ can.belongs.here; there = ap (λ (h : HandValue View). h.there) taken.hand };
-  holds_none = ap (λ (h : HandValue View). h.view.held) taken.hand ∙ free;
+ready_after : (w : WorldValue) (team : TeamTree) (old a : Progress) → CanGo w old → old.hand.view.held ≡ [] → Takes (event kind.Region team.line 0 team.span) old.hand.view old a → IsReady a.hand w.words
+ready_after w team old a can free taken = record {
+  free = record {
+    belongs = record { here = ap (λ (h : HandValue View). h.table) taken.hand ∙ can.belongs.here; there = ap (λ (h : HandValue View). h.there) taken.hand };
+    holds_none = ap (λ (h : HandValue View). h.view.held) taken.hand ∙ free;
+  };
+  none_out = ap (λ (h : HandValue View). h.view.out) taken.hand ∙ can.home;
 }
 
 pub region-requires : goal.region-requires
 region-requires g c =
     let team : TeamTree = team_of c.args.team.now in
-    let mid : Progress = record { hand = c.self.inside.hand; buffer = c.self.inside.buffer; tally = record { draws = c.self.inside.draws; next_loop = c.self.inside.next_loop; forked = c.self.inside.forked } } in
+    let mid : Progress = record { hand = c.self.inside.hand; buffer = c.self.inside.buffer; tally = record { draws = c.self.inside.draws; next_loop = c.self.inside.next_loop; forked = c.self.inside.forked }; done = entries_of (record { dir = g.L.Log.dir; path = g.L.Log.path; text = g.L.Log.text; faults = g.L.Log.faults }) c.self.inside.done.items } in
     let taken = subst (λ (p : Progress). Takes (event kind.Region team.line 0 team.span) c.args.self.now.hand.view c.args.self.now p) (sym c.self.view_is) c.in_ok-logs.ensures.takes in
-    let free = free_after c.args.world.now team c.args.self.now mid c.requires.can c.requires.free taken in
+    let ready = ready_after c.args.world.now team c.args.self.now mid c.requires.can c.requires.free taken in
     let new = c.in_ok-logs.ensures.logs in
-    search (rules, free, new, c.requires.runs.accepted)
+    search (rules, ready, new, c.requires.runs.accepted)
 
 pub returns-in_err-logs-clause-goes : goal.returns-in_err-logs-clause-goes
 returns-in_err-logs-clause-goes g c =
@@ -47,19 +54,44 @@ returns-in_err-logs-clause-goes g c =
 pub returns-in-Err-clause-goes : goal.returns-in-Err-clause-goes
 returns-in-Err-clause-goes g c =
     let team : TeamTree = team_of c.args.team.now in
-    let mid : Progress = record { hand = c.self.inside.hand; buffer = c.self.inside.buffer; tally = record { draws = c.self.inside.draws; next_loop = c.self.inside.next_loop; forked = c.self.inside.forked } } in
-    let new : Progress = record { hand = c.region.new.arg2; buffer = c.self.inside.buffer; tally = record { draws = c.self.inside.draws; next_loop = c.self.inside.next_loop; forked = c.self.inside.forked + 1 } } in
+    let mid : Progress = record { hand = c.self.inside.hand; buffer = c.self.inside.buffer; tally = record { draws = c.self.inside.draws; next_loop = c.self.inside.next_loop; forked = c.self.inside.forked }; done = entries_of (record { dir = g.L.Log.dir; path = g.L.Log.path; text = g.L.Log.text; faults = g.L.Log.faults }) c.self.inside.done.items } in
+    let new : Progress = record { hand = c.region.new.arg2; buffer = c.self.inside.buffer; tally = record { draws = c.self.inside.draws; next_loop = c.self.inside.next_loop; forked = c.self.inside.forked + 1 }; done = entries_of (record { dir = g.L.Log.dir; path = g.L.Log.path; text = g.L.Log.text; faults = g.L.Log.faults }) c.region.new.arg7.items } in
     let taken = subst (λ (p : Progress). Takes (event kind.Region team.line 0 team.span) c.args.self.now.hand.view c.args.self.now p) (sym c.self.view_is) c.in_ok-logs.ensures.takes in
-    let free = free_after c.args.world.now team c.args.self.now mid c.requires.can c.requires.free taken in
-    let ran : RanRegion c.args.world.now team c.args.locals.now.slots.items c.args.self.now.buffer.path c.args.self.now.tally.forked mid.hand new.hand c.region.result = c.requires.runs.ran _ _ _ _ _ _ _ _ _ refl free c.in_ok-logs.ensures.logs c.region.ensures in
-    region_began c.args.world.now (site c.args.world.now) team c.requires.line c.args.locals.now.slots.items c.args.self.now mid new c.region.result taken ran refl refl c.in-Err.path c.in-Err.stop c.in-Err.is
+    let ready = ready_after c.args.world.now team c.args.self.now mid c.requires.can c.requires.free taken in
+    let number : c.args.self.now.tally.forked ≡ c.self.inside.forked = sym (ap (λ (t : Tally). t.forked) taken.tally) in
+    let logs = subst (λ (n : ℕ). AreNewLogs (record { dir = g.L.Log.dir; path = g.L.Log.path; text = g.L.Log.text; faults = g.L.Log.faults }) c.args.self.now.buffer n team.span c.in_ok-logs.logs.items) number c.in_ok-logs.ensures.logs in
+    let ran : RanRegion c.args.world.now team c.args.locals.now.slots.items c.args.self.now.buffer c.args.self.now.tally.forked mid.hand new.hand mid.done new.done c.region.result =
+    subst (λ (n : ℕ). RanRegion c.args.world.now team c.args.locals.now.slots.items c.args.self.now.buffer n mid.hand new.hand mid.done new.done c.region.result) (sym number) (c.requires.runs.ran _ _ _ c.self.inside.forked _ _ _ _ _ refl ready logs c.region.ensures) in
+    region_began c.args.world.now (site c.args.world.now) team c.requires.line c.args.locals.now.slots.items c.args.self.now mid new c.region.result taken ran c.requires.free refl refl c.in-Err.path c.in-Err.stop c.in-Err.is
+
+pub returns-then-len-gt-TASK_LIMIT-clause-goes : goal.returns-then-len-gt-TASK_LIMIT-clause-goes
+returns-then-len-gt-TASK_LIMIT-clause-goes g c =
+    let team : TeamTree = team_of c.args.team.now in
+    let mid : Progress = record { hand = c.self.inside.hand; buffer = c.self.inside.buffer; tally = record { draws = c.self.inside.draws; next_loop = c.self.inside.next_loop; forked = c.self.inside.forked }; done = entries_of (record { dir = g.L.Log.dir; path = g.L.Log.path; text = g.L.Log.text; faults = g.L.Log.faults }) c.self.inside.done.items } in
+    let new : Progress = record { hand = c.region.new.arg2; buffer = c.self.inside.buffer; tally = record { draws = c.self.inside.draws; next_loop = c.self.inside.next_loop; forked = c.self.inside.forked + 1 }; done = entries_of (record { dir = g.L.Log.dir; path = g.L.Log.path; text = g.L.Log.text; faults = g.L.Log.faults }) c.region.new.arg7.items } in
+    let taken = subst (λ (p : Progress). Takes (event kind.Region team.line 0 team.span) c.args.self.now.hand.view c.args.self.now p) (sym c.self.view_is) c.in_ok-logs.ensures.takes in
+    let ready = ready_after c.args.world.now team c.args.self.now mid c.requires.can c.requires.free taken in
+    let number : c.args.self.now.tally.forked ≡ c.self.inside.forked = sym (ap (λ (t : Tally). t.forked) taken.tally) in
+    let logs = subst (λ (n : ℕ). AreNewLogs (record { dir = g.L.Log.dir; path = g.L.Log.path; text = g.L.Log.text; faults = g.L.Log.faults }) c.args.self.now.buffer n team.span c.in_ok-logs.logs.items) number c.in_ok-logs.ensures.logs in
+    let ran : RanRegion c.args.world.now team c.args.locals.now.slots.items c.args.self.now.buffer c.args.self.now.tally.forked mid.hand new.hand mid.done new.done c.region.result =
+    subst (λ (n : ℕ). RanRegion c.args.world.now team c.args.locals.now.slots.items c.args.self.now.buffer n mid.hand new.hand mid.done new.done c.region.result) (sym number) (c.requires.runs.ran _ _ _ c.self.inside.forked _ _ _ _ _ refl ready logs c.region.ensures) in
+    let entries = c.region.new.arg7.items in
+    let same = length-map entries (entry_of (record { dir = g.L.Log.dir; path = g.L.Log.path; text = g.L.Log.text; faults = g.L.Log.faults })) in
+    let many : task_limit < length entries = search rules in
+    region_crowded c.args.world.now (site c.args.world.now) team c.requires.line c.args.locals.now.slots.items c.args.self.now mid new c.region.result taken ran c.requires.free refl refl _ c.in_default.is (subst (λ (n : ℕ). task_limit < n) (sym same) many)
 
 pub returns-clause-goes : goal.returns-clause-goes
 returns-clause-goes g c =
     let team : TeamTree = team_of c.args.team.now in
-    let mid : Progress = record { hand = c.self.inside.hand; buffer = c.self.inside.buffer; tally = record { draws = c.self.inside.draws; next_loop = c.self.inside.next_loop; forked = c.self.inside.forked } } in
-    let new : Progress = record { hand = c.region.new.arg2; buffer = c.self.inside.buffer; tally = record { draws = c.self.inside.draws; next_loop = c.self.inside.next_loop; forked = c.self.inside.forked + 1 } } in
+    let mid : Progress = record { hand = c.self.inside.hand; buffer = c.self.inside.buffer; tally = record { draws = c.self.inside.draws; next_loop = c.self.inside.next_loop; forked = c.self.inside.forked }; done = entries_of (record { dir = g.L.Log.dir; path = g.L.Log.path; text = g.L.Log.text; faults = g.L.Log.faults }) c.self.inside.done.items } in
+    let new : Progress = record { hand = c.region.new.arg2; buffer = c.self.inside.buffer; tally = record { draws = c.self.inside.draws; next_loop = c.self.inside.next_loop; forked = c.self.inside.forked + 1 }; done = entries_of (record { dir = g.L.Log.dir; path = g.L.Log.path; text = g.L.Log.text; faults = g.L.Log.faults }) c.region.new.arg7.items } in
     let taken = subst (λ (p : Progress). Takes (event kind.Region team.line 0 team.span) c.args.self.now.hand.view c.args.self.now p) (sym c.self.view_is) c.in_ok-logs.ensures.takes in
-    let free = free_after c.args.world.now team c.args.self.now mid c.requires.can c.requires.free taken in
-    let ran : RanRegion c.args.world.now team c.args.locals.now.slots.items c.args.self.now.buffer.path c.args.self.now.tally.forked mid.hand new.hand c.region.result = c.requires.runs.ran _ _ _ _ _ _ _ _ _ refl free c.in_ok-logs.ensures.logs c.region.ensures in
-    region_made c.args.world.now (site c.args.world.now) team c.requires.line c.args.locals.now.slots.items c.args.self.now mid new c.region.result taken ran refl refl _ c.in_default.is
+    let ready = ready_after c.args.world.now team c.args.self.now mid c.requires.can c.requires.free taken in
+    let number : c.args.self.now.tally.forked ≡ c.self.inside.forked = sym (ap (λ (t : Tally). t.forked) taken.tally) in
+    let logs = subst (λ (n : ℕ). AreNewLogs (record { dir = g.L.Log.dir; path = g.L.Log.path; text = g.L.Log.text; faults = g.L.Log.faults }) c.args.self.now.buffer n team.span c.in_ok-logs.logs.items) number c.in_ok-logs.ensures.logs in
+    let ran : RanRegion c.args.world.now team c.args.locals.now.slots.items c.args.self.now.buffer c.args.self.now.tally.forked mid.hand new.hand mid.done new.done c.region.result =
+    subst (λ (n : ℕ). RanRegion c.args.world.now team c.args.locals.now.slots.items c.args.self.now.buffer n mid.hand new.hand mid.done new.done c.region.result) (sym number) (c.requires.runs.ran _ _ _ c.self.inside.forked _ _ _ _ _ refl ready logs c.region.ensures) in
+    let entries = c.region.new.arg7.items in
+    let same = length-map entries (entry_of (record { dir = g.L.Log.dir; path = g.L.Log.path; text = g.L.Log.text; faults = g.L.Log.faults })) in
+    let few : length entries ≤ task_limit = search rules in
+    region_made c.args.world.now (site c.args.world.now) team c.requires.line c.args.locals.now.slots.items c.args.self.now mid new c.region.result taken ran c.requires.free refl refl _ c.in_default.is (subst (λ (n : ℕ). n ≤ task_limit) (sym same) few)

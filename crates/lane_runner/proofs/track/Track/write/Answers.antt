@@ -12,6 +12,7 @@ use Rattle.lane_runner.specs.Placing.{meant}
 use Rattle.lane_runner.specs.Going.{Progress, HasRoomFor}
 use Rattle.lane_runner.proofs.Stepping.{goes_unready}
 use Rattle.lane_runner.proofs.Accesses.{put_grows, write_made}
+use Rattle.lane_runner.specs.Handed.{entries_of, place_of}
 use Rattle.lane_runner.proofs.track.Track.write.Goals as goal
 
 pub returns-in_err-ready-clause-goes : goal.returns-in_err-ready-clause-goes
@@ -24,15 +25,16 @@ returns-in_err-ready-clause-goes g c =
 
 pub returns-clause-goes : goal.returns-clause-goes
 returns-clause-goes g c =
-    let mid : Progress = record { hand = c.self.inside.hand; buffer = c.self.inside.buffer; tally = record { draws = c.self.inside.draws; next_loop = c.self.inside.next_loop; forked = c.self.inside.forked } } in
-    let new : Progress = record { hand = c.store.new.hand; buffer = c.put.new.self; tally = record { draws = c.self.inside.draws; next_loop = c.self.inside.next_loop; forked = c.self.inside.forked } } in
+    let mid : Progress = record { hand = c.self.inside.hand; buffer = c.self.inside.buffer; tally = record { draws = c.self.inside.draws; next_loop = c.self.inside.next_loop; forked = c.self.inside.forked }; done = entries_of (record { dir = g.L.Log.dir; path = g.L.Log.path; text = g.L.Log.text; faults = g.L.Log.faults }) c.self.inside.done.items } in
+    let new : Progress = record { hand = c.store.new.hand; buffer = c.put.new.self; tally = record { draws = c.self.inside.draws; next_loop = c.self.inside.next_loop; forked = c.self.inside.forked }; done = entries_of (record { dir = g.L.Log.dir; path = g.L.Log.path; text = g.L.Log.text; faults = g.L.Log.faults }) c.self.inside.done.items } in
     let bits : ℕ = c.cast_unsigned-bits.result in
     let room = subst (λ (p : Progress). HasRoomFor c.args.self.now p) (sym c.self.view_is) c.in_ok-ready.ensures.room in
     λ slots.
     write_made c.args.world.now c.args.element.now c.requires.stands c.args.line c.args.site bits c.requires.line c.args.self.now mid new room
-    (ap (λ (b : Buffered). b.refused) c.put.ensures.put ∙ room.may_put.unrefused) refl slots c.args.value (ap (λ (z : ℤ). to_bits z) (sym (to_z-of_z w64 c.args.value c.ranges.value)) ∙ sym c.cast_unsigned-bits.ensures) c.ranges.value c.requires.fits c.store.ensures
+    (ap (λ (b : Buffered). b.refused) c.put.ensures.put ∙ room.may_put.unrefused) refl refl slots c.args.value (ap (λ (z : ℤ). to_bits z) (sym (to_z-of_z w64 c.args.value c.ranges.value)) ∙ sym c.cast_unsigned-bits.ensures) c.ranges.value c.requires.fits c.store.ensures
     (record {
       records = λ header records holds. subst (λ (r : Record). HoldsRecords header c.put.new.self (records ++ r ∷ [])) c.access-event.ensures (c.put.ensures.records header records holds);
       count = ap (λ (b : Buffered). b.count) c.put.ensures.put;
       path = ap (λ (b : Buffered). b.path) c.put.ensures.put;
+      place = ap place_of c.put.ensures.put;
     })

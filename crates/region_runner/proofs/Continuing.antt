@@ -1,0 +1,168 @@
+-- A task goes on with one phase more.
+use Rattle.std.proofs.Common.{◌≡◌, refl, ap, sym, ◌∙◌, subst, ℕ, ◌+◌, ◌-◌, List, [], ◌∷◌, ◌++◌, length, ℤ, Option, Some, None, Result, Ok, Err, arith}
+use Rattle.std.proofs.lemmas.List.{append-nil, length-append}
+use Rattle.log_format.specs.declared.record.Record.{Record}
+use Rattle.kernel_syntax.specs.Program.{Program}
+use Rattle.kernel_model.specs.State as model
+use Rattle.kernel_model.specs.State.{State, Fork, Outcome, and_then, after, state_of}
+use Rattle.kernel_model.specs.Growth.{Grows}
+use Rattle.kernel_model.specs.Trace.{log_limit}
+use Rattle.kernel_model.specs.Effect.{Effect, Finish, Returned, Halted, Makes, then_effect}
+use Rattle.kernel_model.proofs.Effects.{makes-then, makes-same}
+use Rattle.history_model.specs.Work.{Work, Rest, Put, RegionWork, work_records, work_regions, then_work}
+use Rattle.history_model.proofs.TaskEntries.{then_records}
+use Rattle.execution_model.specs.Fitting.{ReadsFit}
+use Rattle.execution_model.specs.Runs.{RunsRegions}
+use Rattle.lane_runner.specs.declared.stop.Halt.{Halt}
+use Rattle.lane_runner.specs.declared.stop.Halt.TheVariants as halt
+use Rattle.lane_runner.specs.World.{WorldValue}
+use Rattle.lane_runner.specs.Going.{Progress, HasDonePast, GainsRecords, HasReleased, Cause, AtLog, AtRegion, AtTasks, EndsBy, StopsBy, WorkHandsOn, stop_by, log_of, BeginsPart, effect_of, MadePast, Began, GoesPast}
+use Rattle.lane_runner.specs.Drawing.{HasDrawn}
+use Rattle.lane_runner.specs.Fitting.{WorkFits}
+use Rattle.lane_runner.specs.Stopping.{HaveEnded}
+use Rattle.lane_runner.specs.Handed.{Entry, HandsOn, MaybeStop, AreFew, place_of}
+use Rattle.lane_runner.proofs.Handing.{work_hands_then}
+use Rattle.lane_runner.proofs.Drawing.{drew_then}
+use Rattle.lane_runner.proofs.Working.{log_then, gains_then, regions_then, runs_then}
+use Rattle.lane_runner.proofs.Releasing.{released_then, ends_then}
+use Rattle.lane_runner.proofs.Ending.{fits_then, ended_then, stops_then}
+use Rattle.lane_runner.proofs.Beginning.{begins_then, begins_same}
+use Rattle.lane_runner.proofs.Following.{fit_first, fit_last, effect_then, after_is}
+use Rattle.region_runner.specs.Ran.{in_one, TakesUp, HasLogged, TaskRan, TaskBegan, TaskGoes}
+
+-- ---- works in one
+
+then_rest : (work : Work) → then_work work Rest ≡ work
+then_rest Rest = refl
+then_rest (Put r more) = ap (λ (m : Work). Put r m) (then_rest more)
+then_rest (Work.Fork line span phases more) = ap (λ (m : Work). Work.Fork line span phases m) (then_rest more)
+
+then_assoc : (a b c : Work) → then_work (then_work a b) c ≡ then_work a (then_work b c)
+then_assoc Rest b c = refl
+then_assoc (Put r more) b c = ap (λ (m : Work). Put r m) (then_assoc more b c)
+then_assoc (Work.Fork line span phases more) b c = ap (λ (m : Work). Work.Fork line span phases m) (then_assoc more b c)
+
+pub one_more : (works : List Work) (work : Work) → in_one (works ++ work ∷ []) ≡ then_work (in_one works) work
+one_more [] work = then_rest work
+one_more (first ∷ works) work = ap (λ (m : Work). then_work first m) (one_more works work) ∙ sym (then_assoc first (in_one works) work)
+
+-- ---- logs
+
+logged_on : (bars : ℕ) (w : WorldValue) (old mid start new : Progress) (one work : Work) → HasLogged old mid one → TakesUp mid start → HasDonePast bars w start new work → HasLogged old new (then_work one work)
+logged_on bars w old mid start new one work l up d = record {
+  log =
+      subst (λ (rs : List Record). GainsRecords old.buffer new.buffer rs) (sym (log_then one work))
+      (gains_then old.buffer mid.buffer new.buffer (log_of one) (log_of work) l.log (subst (λ b. GainsRecords b new.buffer (log_of work)) up.buffer d.log));
+  draws =
+      subst (λ (rs : List Record). HasDrawn old.tally new.tally rs) (sym (log_then one work))
+      (drew_then old.tally mid.tally new.tally (log_of one) (log_of work) l.draws (subst (λ t. HasDrawn t new.tally (log_of work)) up.tally d.draws));
+  forked =
+      let sum = ap (λ (rs : List RegionWork). length rs) (regions_then one work) ∙ length-append (work_regions one) (work_regions work) in
+      let same : start.tally.forked ≡ mid.tally.forked = ap (λ t. t.forked) up.tally in
+      omega (arith, sum, l.forked, d.forked, same);
+}
+
+-- ---- a part, and what follows it
+
+module _ (w : WorldValue) (part next : State → Outcome (Unit {0})) (slots mid_slots slots' : List ℤ) (old mid start new : Progress) (works : List Work)
+    (ran : TaskRan w part slots mid_slots old mid works (Returned tt)) (up : TakesUp mid start) (free : start.hand.view.held ≡ []) where
+  left : log_limit - start.buffer.count ≡ log_limit - old.buffer.count - length (log_of (in_one works))
+  left = let count = ran.logged.log.count in let same : start.buffer.count ≡ mid.buffer.count = ap (λ b. b.count) up.buffer in omega (arith, count, same)
+
+  fits_one : (work : Work) → ReadsFit (work_records (then_work (in_one works) work)) → ReadsFit (work_records (in_one works))
+  fits_one work fit = fit_first (work_records (in_one works)) (work_records work) (subst (λ (rs : List Record). ReadsFit rs) (then_records (in_one works) work) fit)
+
+  fits_two : (work : Work) → ReadsFit (work_records (then_work (in_one works) work)) → ReadsFit (work_records work)
+  fits_two work fit = fit_last (work_records (in_one works)) (work_records work) (subst (λ (rs : List Record). ReadsFit rs) (then_records (in_one works) work) fit)
+
+  released : (work : Work) (own : List ℕ) → HasReleased start.hand.view.held work own → HasReleased [] (then_work (in_one works) work) own
+  released work own r =
+      released_then [] (in_one works) work own (subst (λ (l : List ℕ). HasReleased [] (in_one works) l) ran.closes ran.released)
+      (subst (λ (h : List ℕ). HasReleased h work own) free r)
+
+  path_is : start.buffer.path ≡ old.buffer.path
+  path_is = ap (λ b. b.path) up.buffer ∙ ran.logged.log.path
+
+  forked_is : start.tally.forked ≡ old.tally.forked + length (work_regions (in_one works))
+  forked_is = ap (λ t. t.forked) up.tally ∙ ran.logged.forked
+
+  place_is : place_of start.buffer ≡ place_of old.buffer
+  place_is = ap (λ b. place_of b) up.buffer ∙ ran.logged.log.place
+
+  few : AreFew old.done → AreFew start.done
+  few less = subst (λ (es : List Entry). AreFew es) (sym up.done) (ran.few less)
+
+  handed : (stop : MaybeStop) (work : Work) → WorkHandsOn stop start new work → WorkHandsOn stop old new (then_work (in_one works) work)
+  handed stop work hands =
+      work_hands_then stop old start new (in_one works) work place_is path_is forked_is
+      (subst (λ (es : List Entry). HandsOn (place_of old.buffer) None old.buffer.path old.tally.forked (work_regions (in_one works)) old.done es) (sym up.done) ran.handed) hands
+
+  abbrev both : State → Outcome (Unit {0})
+  both s = after (part s) next
+
+  pub ran_on : (bars : ℕ) (finish : Finish (Unit {0})) (m : MadePast bars w next mid_slots slots' start new finish) → TaskRan w both slots slots' old new (works ++ m.work ∷ []) finish
+  ran_on bars finish m = record {
+    forks = ran.forks ++ m.forks;
+    own = m.own;
+    logged = subst (λ (x : Work). HasLogged old new x) (sym (one_more works m.work)) (logged_on bars w old mid start new (in_one works) m.work ran.logged up m.done);
+    released = subst (λ (x : Work). HasReleased [] x m.own) (sym (one_more works m.work)) (released m.work m.own m.released);
+    closes = m.closes;
+    ended = subst (λ (x : Work). HaveEnded (work_regions x)) (sym (one_more works m.work)) (ended_then (in_one works) m.work ran.ended m.ended);
+    handed = subst (λ (x : Work). WorkHandsOn None old new x) (sym (one_more works m.work)) (handed None m.work m.handed);
+    few = λ less. m.few (few less);
+    unrefused = m.unrefused;
+    makes =
+        subst (λ (x : Work). ReadsFit (work_records x) → Makes both slots (log_limit - old.buffer.count) (effect_of slots' x (ran.forks ++ m.forks)) finish) (sym (one_more works m.work))
+        (λ fit.
+        makes-same (λ s. and_then (part s) (λ a t. next t)) both slots (log_limit - old.buffer.count) (effect_of slots' (then_work (in_one works) m.work) (ran.forks ++ m.forks)) finish (λ s. after_is (part s) next)
+        (subst (λ (e : Effect). Makes (λ s. and_then (part s) (λ a t. next t)) slots (log_limit - old.buffer.count) e finish) (effect_then (in_one works) m.work mid_slots slots' ran.forks m.forks)
+        (makes-then part (λ a t. next t) slots (log_limit - old.buffer.count) (effect_of mid_slots (in_one works) ran.forks) tt (effect_of slots' m.work m.forks) finish (ran.makes (fits_one m.work fit))
+        (subst (λ (room : ℕ). Makes next mid_slots room (effect_of slots' m.work m.forks) finish) left (m.makes (fits_two m.work fit))))));
+    regions =
+        subst (λ (x : Work). WorkFits x → (program : Program) → program.arrays ≡ w.arrays → RunsRegions program (ran.forks ++ m.forks) (work_regions x)) (sym (one_more works m.work))
+        (λ fit program same. let fits = fits_then (in_one works) m.work fit in runs_then program ran.forks m.forks (in_one works) m.work (ran.regions fits.0 program same) (m.regions fits.1 program same));
+  }
+
+  pub began_on : (cause : Cause) (m : Began w next mid_slots start new cause) → TaskBegan w both slots old new (works ++ m.work ∷ []) cause
+  began_on cause m = record {
+    forks = ran.forks ++ m.forks;
+    own = m.own;
+    logged = subst (λ (x : Work). HasLogged old new x) (sym (one_more works m.work)) (logged_on 0 w old mid start new (in_one works) m.work ran.logged up m.done);
+    released = subst (λ (x : Work). HasReleased [] x m.own) (sym (one_more works m.work)) (released m.work m.own m.released);
+    ends =
+        subst (λ (x : Work). EndsBy cause m.own (log_of x)) (sym (one_more works m.work))
+        (subst (λ (rs : List Record). EndsBy cause m.own rs) (sym (log_then (in_one works) m.work)) (ends_then cause m.own (log_of (in_one works)) (log_of m.work) m.ends));
+    stops =
+        subst (λ (x : Work). StopsBy w.arrays old new cause (ran.forks ++ m.forks) (work_regions x)) (sym (one_more works m.work))
+        (stops_then w.arrays old start new cause ran.forks m.forks (in_one works) m.work place_is path_is forked_is ran.ended few m.stops);
+    handed = subst (λ (x : Work). WorkHandsOn (stop_by cause) old new x) (sym (one_more works m.work)) (handed (stop_by cause) m.work m.handed);
+    begins =
+        subst (λ (x : Work). ReadsFit (work_records x) → BeginsPart both slots (log_limit - old.buffer.count) (log_of x) (ran.forks ++ m.forks)) (sym (one_more works m.work))
+        (λ fit.
+        begins_same (λ s. and_then (part s) (λ a t. next t)) both slots (log_limit - old.buffer.count) (log_of (then_work (in_one works) m.work)) (ran.forks ++ m.forks) (λ s. after_is (part s) next)
+        (subst (λ (rs : List Record). BeginsPart (λ s. and_then (part s) (λ a t. next t)) slots (log_limit - old.buffer.count) rs (ran.forks ++ m.forks)) (sym (log_then (in_one works) m.work))
+        (begins_then part (λ a t. next t) slots (log_limit - old.buffer.count) (effect_of mid_slots (in_one works) ran.forks) tt (log_of m.work) m.forks (ran.makes (fits_one m.work fit))
+        (subst (λ (room : ℕ). BeginsPart next mid_slots room (log_of m.work) m.forks) left (m.begins (fits_two m.work fit))))));
+    regions =
+        subst (λ (x : Work). WorkFits x → (program : Program) → program.arrays ≡ w.arrays → RunsRegions program (ran.forks ++ m.forks) (work_regions x)) (sym (one_more works m.work))
+        (λ fit program same. let fits = fits_then (in_one works) m.work fit in runs_then program ran.forks m.forks (in_one works) m.work (ran.regions fits.0 program same) (m.regions fits.1 program same));
+  }
+
+  -- by what the phase answers
+  abbrev pub phase_work : (bars : ℕ) (r : Result (Unit {0}) Halt) → GoesPast bars w next mid_slots slots' start new r → Work
+  phase_work bars (Ok u) m = m.work
+  phase_work bars (Err (halt.DivZero line)) m = m.work
+  phase_work bars (Err (halt.Index line)) m = m.work
+  phase_work bars (Err (halt.LogFull line)) m = m.work
+  phase_work bars (Err (halt.Region path why)) m = m.work
+  phase_work bars (Err (halt.Tasks line)) m = m.work
+  phase_work bars (Err (halt.Trouble trouble)) (m, refused) = m.work
+
+  pub goes_on : (bars : ℕ) (r : Result (Unit {0}) Halt) (m : GoesPast bars w next mid_slots slots' start new r) → TaskGoes w both slots slots' old new (works ++ phase_work bars r m ∷ []) r
+  goes_on bars (Ok u) m = ran_on bars (Returned tt) m
+  goes_on bars (Err (halt.DivZero line)) m = ran_on 0 (Halted model.DivZero line) m
+  goes_on bars (Err (halt.Index line)) m = ran_on 0 (Halted model.Index line) m
+  goes_on bars (Err (halt.LogFull line)) m = ran_on 0 (Halted model.LogFull line) m
+  goes_on bars (Err (halt.Region path why)) m = began_on (AtRegion path why) m
+  goes_on bars (Err (halt.Tasks line)) m = began_on (AtTasks line) m
+  goes_on bars (Err (halt.Trouble trouble)) (m, refused) = (began_on AtLog m, refused)

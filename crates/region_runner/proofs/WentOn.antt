@@ -1,0 +1,59 @@
+-- A member of a team after a phase.
+use Rattle.std.proofs.Common.{◌≡◌, refl, ap, sym, ◌∙◌, subst, ℕ, ◌+◌, List, map, ℤ, Option, Some, None, Result, Ok, Err, IfOk}
+use Rattle.std.specs.Prelude.{OnOk, All}
+use denote.Ref.{Bor, MutBor}
+use Rattle.std.specs.Global.{Vec}
+use Rattle.kernel_syntax.specs.declared.syntax.Team.{Team}
+use Rattle.event_buffer.specs.Buffered.{Buffered}
+use Rattle.shared_words.specs.declared.view.View.{View}
+use Rattle.shared_words.specs.Handles.{HandValue}
+use Rattle.lane_runner.specs.declared.locals.Locals.{Locals}
+use Rattle.lane_runner.specs.Children.{LogView}
+use Rattle.lane_runner.specs.Teams.{EachTeamIn, MayFork}
+use Rattle.sw_base.specs.declared.path.Step.{Step}
+use Rattle.kernel_model.specs.declared.phase.Item.{Item}
+use Rattle.kernel_model.specs.Parts.{bar_count, drawn_count, run_parts}
+use Rattle.kernel_model.specs.Phases.{part_of}
+use Rattle.lane_runner.specs.declared.stop.Halt.{Halt}
+use Rattle.lane_runner.specs.Forking.{Answer, IsReady}
+use Rattle.lane_runner.specs.Going.{Progress, CanGo, GoesPast, IsSameLog, site}
+use Rattle.lane_runner.specs.World.{WorldValue}
+use Rattle.region_runner.specs.Crew.{CrewValue, world_of}
+use Rattle.region_runner.specs.Member.{MemberValue, WentOn, answer_of}
+
+module _ (crew : CrewValue) (items : List Item) (lane : ℕ) (path : List Step) (slots slots' : List ℤ) (at after : Progress) where
+  with_answer : (r : Result (Unit {0}) Halt) (halt : Option Halt) → r ≡ answer_of halt → GoesPast (bar_count (map part_of items)) (world_of crew lane) (run_parts (site (world_of crew lane)) (map part_of items)) slots slots' at after r
+      → IsSameLog at.buffer after.buffer → IfOk r (λ _. after.tally.next_loop ≡ at.tally.next_loop + drawn_count (map part_of items)) → IsReady after.hand crew.words → OnOk r (CanGo (world_of crew lane) after)
+      → WentOn crew items lane (record { path = path; slots = slots; at = at; halt = None }) (record { path = path; slots = slots'; at = after; halt = halt })
+  with_answer r halt is goes log loops ready can = record {
+    path = refl;
+    goes = subst (λ (x : Result (Unit {0}) Halt). GoesPast (bar_count (map part_of items)) (world_of crew lane) (run_parts (site (world_of crew lane)) (map part_of items)) slots slots' at after x) is goes;
+    log = log;
+    loops = λ none. loops_of (subst (λ (x : Result (Unit {0}) Halt). IfOk x (λ _. after.tally.next_loop ≡ at.tally.next_loop + drawn_count (map part_of items))) (is ∙ ap answer_of none) loops);
+    ready = ready;
+    can = λ none. can_of (subst (λ (x : Result (Unit {0}) Halt). OnOk x (CanGo (world_of crew lane) after)) (is ∙ ap answer_of none) can);
+  }
+    where
+      loops_of : after.tally.next_loop ≡ at.tally.next_loop + drawn_count (map part_of items) → after.tally.next_loop ≡ at.tally.next_loop + drawn_count (map part_of items)
+      loops_of x = x
+
+      can_of : CanGo (world_of crew lane) after → CanGo (world_of crew lane) after
+      can_of x = x
+
+pub went_on : (crew : CrewValue) (items : List Item) (lane : ℕ) (w : WorldValue) → w ≡ world_of crew lane → (old inside : MemberValue) → inside ≡ old → old.halt ≡ None → (slots' : List ℤ) (after : Progress) (r : Result (Unit {0}) Halt) (halt : Option Halt)
+    → r ≡ answer_of halt → GoesPast (bar_count (map part_of items)) w (run_parts (site w) (map part_of items)) inside.slots slots' inside.at after r → IsSameLog inside.at.buffer after.buffer
+    → IfOk r (λ _. after.tally.next_loop ≡ inside.at.tally.next_loop + drawn_count (map part_of items)) → IsReady after.hand w.words → OnOk r (CanGo w after)
+    → WentOn crew items lane old (record { path = inside.path; slots = slots'; at = after; halt = halt })
+went_on crew items lane w w_is old inside same none slots' after r halt is goes log loops ready can =
+    subst (λ (m : MemberValue). WentOn crew items lane m (record { path = inside.path; slots = slots'; at = after; halt = halt }))
+    (λ i. record { path = (same i).path; slots = (same i).slots; at = (same i).at; halt = (sym none) i })
+    (with_answer crew items lane inside.path inside.slots slots' inside.at after r halt is
+    (subst (λ (v : WorldValue). GoesPast (bar_count (map part_of items)) v (run_parts (site v) (map part_of items)) inside.slots slots' inside.at after r) w_is goes) log loops
+    (subst (λ (v : WorldValue). IsReady after.hand v.words) w_is ready) (subst (λ (v : WorldValue). OnOk r (CanGo v after)) w_is can))
+
+-- what is asked for the regions of a phase, told of the same world and log
+pub forks_same : {T : Type 0} (w w' : WorldValue) (accepts : MutBor (HandValue View) → Bor Locals → ℕ → Vec T → Bor Team → MutBor (Vec (List Step × T × ℕ)) → Type 0)
+    (gives : MutBor (HandValue View) → Bor Locals → ℕ → Vec T → Bor Team → MutBor (Vec (List Step × T × ℕ)) → Answer → MutBor (HandValue View) → MutBor (Vec (List Step × T × ℕ)) → Type 0)
+    (seen : LogView T) (b b' : Buffered) (items : List Item) → w' ≡ w → b' ≡ b → All (EachTeamIn (MayFork w accepts gives seen b)) items → All (EachTeamIn (MayFork w' accepts gives seen b')) items
+forks_same w w' accepts gives seen b b' items is same all =
+    subst (λ (x : Buffered). All (EachTeamIn (MayFork w' accepts gives seen x)) items) (sym same) (subst (λ (x : WorldValue). All (EachTeamIn (MayFork x accepts gives seen b)) items) (sym is) all)

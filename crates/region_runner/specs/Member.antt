@@ -1,0 +1,57 @@
+-- A lane of a team as the run of its region sees it.
+use Rattle.std.specs.Prelude.{◌≡◌, ℕ, ◌+◌, List, [], ◌∷◌, map, ℤ, Option, Some, None, Result, Ok, Err}
+use Rattle.sw_base.specs.declared.path.Step.{Step}
+use Rattle.atomic_table.specs.Seated.{TableId}
+use Rattle.step_history.specs.History.{Name}
+use Rattle.shared_words.specs.declared.view.View.{View}
+use Rattle.shared_words.specs.Handles.{HandValue, Belongs, with_view}
+use Rattle.shared_words.specs.Views.{newcomer, split_number}
+use Rattle.lane_runner.specs.declared.stop.Halt.{Halt}
+use Rattle.lane_runner.specs.Forking.{IsReady}
+use Rattle.lane_runner.specs.Going.{Progress, CanGo, GoesPast, IsSameLog, site}
+use Rattle.kernel_model.specs.declared.phase.Item.{Item}
+use Rattle.kernel_model.specs.Parts.{bar_count, drawn_count, run_parts}
+use Rattle.kernel_model.specs.Phases.{part_of}
+use Rattle.region_runner.specs.Crew.{CrewValue, world_of}
+
+-- its path, its locals, where it stands, and why it doesn't go on, if it doesn't
+pub record MemberValue : Type 0 where
+  pub path : List Step
+  pub slots : List ℤ
+  pub at : Progress
+  pub halt : Option Halt
+
+abbrev pub with_hand : MemberValue → HandValue View → MemberValue
+with_hand m hand = record m { at = record m.at { hand = hand } }
+
+-- the hand that a hand splits off for a lane of a team, where it splits one off for each
+abbrev pub lane_hand : HandValue View → ℕ → HandValue View
+lane_hand hand lane = with_view hand (newcomer ((hand.view.splits + lane) ∷ hand.view.name))
+
+-- the hand was split off that of this name, holds no mutex, and has none out
+pub record IsLaneHand (table : TableId) (name : Name) (hand : HandValue View) : Type 0 where
+  pub belongs : Belongs hand table
+  pub split : hand.view.name ≡ split_number hand.view.name ∷ name
+  pub holds_none : hand.view.held ≡ []
+  pub none_out : hand.view.out ≡ []
+
+abbrev pub hand_view : MemberValue → View
+hand_view m = m.at.hand.view
+
+-- the same but for its hand
+abbrev pub IsWithoutHand : MemberValue → MemberValue → Type 0
+IsWithoutHand old new = new ≡ with_hand old new.at.hand
+
+-- what the lane's last phase answered
+abbrev pub answer_of : Option Halt → Result (Unit {0}) Halt
+answer_of None = Ok tt
+answer_of (Some halt) = Err halt
+
+-- A lane of the team executed the items of a phase.
+pub record WentOn (crew : CrewValue) (items : List Item) (lane : ℕ) (old new : MemberValue) : Type 0 where
+  pub path : new.path ≡ old.path
+  pub goes : GoesPast (bar_count (map part_of items)) (world_of crew lane) (run_parts (site (world_of crew lane)) (map part_of items)) old.slots new.slots old.at new.at (answer_of new.halt)
+  pub log : IsSameLog old.at.buffer new.at.buffer
+  pub loops : new.halt ≡ None → new.at.tally.next_loop ≡ old.at.tally.next_loop + drawn_count (map part_of items)
+  pub ready : IsReady new.at.hand crew.words
+  pub can : new.halt ≡ None → CanGo (world_of crew lane) new.at

@@ -1,0 +1,72 @@
+-- What a lane did in the phases so far, as one task: a new hand in each phase, one log, one meaning.
+use Rattle.std.specs.Prelude.{◌≡◌, ℕ, ◌+◌, ◌-◌, List, [], ◌∷◌, length, ℤ, None, Result, Ok, Err}
+use Rattle.log_format.specs.declared.record.Record.{Record}
+use Rattle.kernel_syntax.specs.Program.{Program}
+use Rattle.kernel_model.specs.State as model
+use Rattle.kernel_model.specs.State.{State, Fork, Outcome}
+use Rattle.kernel_model.specs.Trace.{log_limit}
+use Rattle.kernel_model.specs.Effect.{Finish, Returned, Halted, Makes}
+use Rattle.history_model.specs.Work.{Work, Rest, then_work, work_records, work_regions}
+use Rattle.execution_model.specs.Fitting.{ReadsFit}
+use Rattle.execution_model.specs.Runs.{RunsRegions}
+use Rattle.lane_runner.specs.declared.stop.Halt.{Halt}
+use Rattle.lane_runner.specs.declared.stop.Halt.TheVariants as halt
+use Rattle.lane_runner.specs.Drawing.{HasDrawn}
+use Rattle.lane_runner.specs.Fitting.{WorkFits}
+use Rattle.lane_runner.specs.Handed.{AreFew}
+use Rattle.lane_runner.specs.Stopping.{HaveEnded}
+use Rattle.lane_runner.specs.World.{WorldValue}
+use Rattle.lane_runner.specs.Going.{Progress, GainsRecords, log_of, effect_of, HasReleased, ClosesAll, BeginsPart, Cause, AtLog, AtRegion, AtTasks, EndsBy, StopsBy, WorkHandsOn, stop_by, Refused}
+
+-- the works of all phases as one
+abbrev pub in_one : List Work → Work
+in_one [] = Rest
+in_one (work ∷ works) = then_work work (in_one works)
+
+-- a new hand, and all else as the last phase left it
+pub record TakesUp (mid start : Progress) : Type 0 where
+  pub buffer : start.buffer ≡ mid.buffer
+  pub tally : start.tally ≡ mid.tally
+  pub done : start.done ≡ mid.done
+
+-- the lane's log has gained the records of the work, and its counts the draws and the forks
+pub record HasLogged (old new : Progress) (work : Work) : Type 0 where
+  pub log : GainsRecords old.buffer new.buffer (log_of work)
+  pub draws : HasDrawn old.tally new.tally (log_of work)
+  pub forked : new.tally.forked ≡ old.tally.forked + length (work_regions work)
+
+-- The task executed the part in these works, one a phase: it ends so and leaves these locals.
+pub record TaskRan (w : WorldValue) (part : State → Outcome (Unit {0})) (slots slots' : List ℤ) (old new : Progress) (works : List Work) (finish : Finish (Unit {0})) : Type 0 where
+  pub forks : List Fork
+  pub own : List ℕ
+  pub logged : HasLogged old new (in_one works)
+  pub released : HasReleased [] (in_one works) own
+  pub closes : ClosesAll finish own
+  pub ended : HaveEnded (work_regions (in_one works))
+  pub handed : WorkHandsOn None old new (in_one works)
+  pub few : AreFew old.done → AreFew new.done
+  pub unrefused : new.buffer.refused ≡ None
+  pub makes : ReadsFit (work_records (in_one works)) → Makes part slots (log_limit - old.buffer.count) (effect_of slots' (in_one works) forks) finish
+  pub regions : WorkFits (in_one works) → (program : Program) → program.arrays ≡ w.arrays → RunsRegions program forks (work_regions (in_one works))
+
+-- The task executed the part in these works up to a record that its log, or a region that its lanes, didn't take.
+pub record TaskBegan (w : WorldValue) (part : State → Outcome (Unit {0})) (slots : List ℤ) (old new : Progress) (works : List Work) (cause : Cause) : Type 0 where
+  pub forks : List Fork
+  pub own : List ℕ
+  pub logged : HasLogged old new (in_one works)
+  pub released : HasReleased [] (in_one works) own
+  pub ends : EndsBy cause own (log_of (in_one works))
+  pub stops : StopsBy w.arrays old new cause forks (work_regions (in_one works))
+  pub handed : WorkHandsOn (stop_by cause) old new (in_one works)
+  pub begins : ReadsFit (work_records (in_one works)) → BeginsPart part slots (log_limit - old.buffer.count) (log_of (in_one works)) forks
+  pub regions : WorkFits (in_one works) → (program : Program) → program.arrays ≡ w.arrays → RunsRegions program forks (work_regions (in_one works))
+
+-- how a task stands after these works, by what its last phase answered
+abbrev pub TaskGoes : WorldValue → (State → Outcome (Unit {0})) → List ℤ → List ℤ → Progress → Progress → List Work → Result (Unit {0}) Halt → Type 0
+TaskGoes w part slots slots' old new works (Ok _) = TaskRan w part slots slots' old new works (Returned tt)
+TaskGoes w part slots slots' old new works (Err (halt.DivZero line)) = TaskRan w part slots slots' old new works (Halted model.DivZero line)
+TaskGoes w part slots slots' old new works (Err (halt.Index line)) = TaskRan w part slots slots' old new works (Halted model.Index line)
+TaskGoes w part slots slots' old new works (Err (halt.LogFull line)) = TaskRan w part slots slots' old new works (Halted model.LogFull line)
+TaskGoes w part slots slots' old new works (Err (halt.Region path why)) = TaskBegan w part slots old new works (AtRegion path why)
+TaskGoes w part slots slots' old new works (Err (halt.Tasks line)) = TaskBegan w part slots old new works (AtTasks line)
+TaskGoes w part slots slots' old new works (Err (halt.Trouble trouble)) = TaskBegan w part slots old new works AtLog × Refused trouble new

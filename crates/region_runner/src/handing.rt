@@ -1,0 +1,46 @@
+//! The hands of a team: split off for a phase, and joined after it.
+ghost use Rattle.std.specs.Prelude.{◌≡◌, ◌<◌, ◌≤◌, ℕ, length, map, slice_index_or};
+ghost use Rattle.shared_words.specs.Handles.{Belongs, with_view};
+ghost use Rattle.shared_words.specs.Views.{IsAtRest};
+ghost use Rattle.region_runner.specs.Hands.{parted_for, joined_with};
+ghost use Rattle.region_runner.specs.Member.{IsLaneHand, IsWithoutHand, hand_view, lane_hand, with_hand};
+
+use crate::member::Member;
+use shared_words::{Hand, Words};
+use sw_base::Log;
+
+// Each lane of the team gets a hand that is split off this one.
+pub(crate) fn split_hands<L: Log>(
+    words: &Words,
+    hand: &mut Hand,
+    members: &mut [Member<L>],
+    span: u16,
+)
+    requires belongs { Belongs hand.old words.now.table }
+    requires count { length members.old ≡ span }
+    ensures hand { hand.new ≡ with_view hand.old (parted_for 0 span span hand.old.view) }
+    ensures rests { 1 ≤ span → IsAtRest hand.old.view }
+    ensures count { length members.new ≡ span }
+    ensures given { (i : ℕ) (d : _) → i < span → slice_index_or members.new i d ≡ with_hand (slice_index_or members.old i d) (lane_hand hand.old i) }
+{
+    let mut lane = 0u16;
+    for member in members.iter_mut() {
+        let own = words.split(hand, lane, span);
+        member.trade(own);
+        lane += 1;
+    }
+}
+
+// The hands of all lanes are joined to this one, in the order of the lanes.
+pub(crate) fn join_hands<L: Log>(words: &Words, hand: &mut Hand, members: &mut [Member<L>])
+    requires belongs { Belongs hand.old words.now.table }
+    requires home { (i : ℕ) (d : _) → i < length members.old → IsLaneHand words.now.table hand.old.view.name (slice_index_or members.old i d).at.hand }
+    ensures hand { hand.new ≡ with_view hand.old (joined_with (map hand_view members.old) hand.old.view) }
+    ensures count { length members.new ≡ length members.old }
+    ensures same { (i : ℕ) (d : _) → i < length members.old → IsWithoutHand (slice_index_or members.old i d) (slice_index_or members.new i d) }
+{
+    for member in members.iter_mut() {
+        let own = member.trade(Hand::blank());
+        words.join(hand, own);
+    }
+}

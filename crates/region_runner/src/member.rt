@@ -1,0 +1,73 @@
+//! A lane of a team as the run of its region sees it.
+ghost use Rattle.std.specs.Prelude.{◌≡◌, ◌+◌, ◌<◌, ◌≤◌, [], map, All, None};
+ghost use Rattle.kernel_model.specs.Parts.{drawn_count};
+ghost use Rattle.kernel_model.specs.Phases.{part_of};
+ghost use Rattle.lane_runner.specs.Going.{CanGo};
+ghost use Rattle.lane_runner.specs.Phase.{IsPhase};
+ghost use Rattle.lane_runner.specs.Teams.{EachTeamIn, MayFork};
+ghost use Rattle.region_runner.specs.Crew.{world_of};
+ghost use Rattle.region_runner.specs.Member.{WentOn, with_hand};
+
+use crate::crew::Crew;
+use kernel_model::Phase;
+use kernel_syntax::Team;
+use lane_runner::{Halt, Lane, Locals, Stop};
+use shared_words::Hand;
+use std::alloc::Global;
+use std::marker::Model;
+use std::sync::Wait;
+use sw_base::{Log, Path};
+
+// The lane's path, the lane, and why it doesn't go on, if it doesn't.
+#[derive(Drop)]
+pub(crate) struct Member<L: Log> {
+    path: Path,
+    lane: Lane<L>,
+    halt: Option<Halt>,
+}
+
+impl<L: Log> Model for Member<L> {
+    ghost use Rattle.region_runner.specs.Member.{MemberValue};
+
+    ghost Value = { MemberValue };
+
+    ghost view = { λ m. record { path = m.path; slots = m.lane.locals.slots.items; at = m.lane.track; halt = m.halt } };
+}
+
+impl<L: Log> Member<L> {
+    // The lane goes on with this hand, and gives back the one that it had.
+    pub(crate) fn trade(&mut self, hand: Hand) -> Hand
+        ensures given { result ≡ self.old.at.hand }
+        ensures goes_on { self.new ≡ with_hand self.old hand }
+    {
+        self.lane.track.trade(hand)
+    }
+
+    // Executes a phase, and notes why it doesn't go on, if it doesn't.
+    pub(crate) fn go<
+        R: Wait,
+        F: Fn(
+            &mut Hand,
+            &Locals,
+            u32,
+            Vec<L>,
+            &Team,
+            &mut Vec<(Path, L, u32)>,
+        ) -> Result<(), (Path, Stop)>,
+    >(&mut self, phase: &Phase, lane: u16, rt: &R, alloc: Global, crew: &Crew, region: &F)
+        requires lane { lane < crew.now.span }
+        requires going { self.old.halt ≡ None }
+        requires can { CanGo (world_of crew.now lane) self.old.at }
+        requires free { self.old.at.hand.view.held ≡ [] }
+        requires phase { IsPhase crew.now.words.locks phase.now }
+        requires counters { self.old.at.tally.next_loop + drawn_count (map part_of phase.now) ≤ crew.now.chunks.loops }
+        requires number { crew.now.chunks.loops < 4294967296 }
+        requires runs { All (EachTeamIn (MayFork (world_of crew.now lane) (F.pre region.now) (F.post region.now) (record { dir = L.dir; path = L.path; text = L.text; faults = L.faults }) self.old.at.buffer)) phase.now }
+        ensures went { WentOn crew.now phase.now lane self.old self.new }
+    {
+        let world = crew.world(lane);
+        if let Err(halt) = self.lane.run_phase(phase, rt, alloc, &world, region) {
+            self.halt = Some(halt);
+        }
+    }
+}
