@@ -94,3 +94,7 @@ module _ (told : Option Content) (m next : State → Outcome (Unit {0})) (old : 
   stop_after new new' e grows follows =
       follows_same told (λ s. and_then (m s) (λ u t. next t)) (λ s. after (m s) next) old new' (Err e) (λ s. after_is (m s) next)
       (follows_stop told m (λ u t. next t) old new new' e (λ u s. grows s) follows)
+
+-- the folder tells the same later
+pub retold : {A : Type 0} (told told' : Option Content) (part : State → Outcome A) (old new : Standing) (r : Result A Stray) → told' ≡ told → Follows told' part old new r → Follows told part old new r
+retold {A = A} told told' part old new r same follows = subst (λ (t : Option Content). Follows {A = A} t part old new r) same follows

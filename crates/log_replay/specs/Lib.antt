@@ -4,3 +4,4 @@ pub mod Trouble
 pub mod Placing
 pub mod Forks
 pub mod Differing
+pub mod Sharing

@@ -5,6 +5,7 @@
 //! not kept.
 #![tactic(auto)]
 
+mod body;
 mod lane;
 mod place;
 mod stray;
