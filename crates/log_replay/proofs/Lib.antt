@@ -5,3 +5,4 @@ pub mod Values
 pub mod Statements
 pub mod Draws
 pub mod Bounded
+pub mod Tasks

@@ -59,13 +59,13 @@ state_is : (slots slots' : List ℤ) (records : List Record) (forks forks' : Lis
 state_is slots slots' records forks forks' room reads reads' chunks chunks' a b c d = rw (a, b, c, d) refl
 
 module _ (told : Option Content) (log done rest : List Record) (x : Standing) (at : IsAt told log done rest x) (r : Record) (y : Standing) (took : Took told rest r x y) where
-  is_log : log ≡ done ++ r ∷ took.others
+  pub is_log : log ≡ done ++ r ∷ took.others
   is_log = at.parts ∙ ap (λ (l : List Record). done ++ l) took.rest_is
 
   size : length done + suc (length took.others) ≡ length log
   size = sym (ap length is_log ∙ length-append done (r ∷ took.others))
 
-  room_left : log_limit - length done ≡ suc (log_limit - length (done ++ r ∷ []))
+  pub room_left : log_limit - length done ≡ suc (log_limit - length (done ++ r ∷ []))
   room_left = omega (arith, size, at.fits, length-append done (r ∷ []))
 
   pub number_is : y.count ≡ length done + 1
@@ -83,7 +83,7 @@ module _ (told : Option Content) (log done rest : List Record) (x : Standing) (a
   }
 
   -- whatever the trace has next, it isn't the log's
-  strays_next : (own : Record) (others : List Record) (number : ℕ) → (own ≡ r → ⊥) → number ≡ y.count → Strays (done ++ own ∷ others) log number
+  pub strays_next : (own : Record) (others : List Record) (number : ℕ) → (own ≡ r → ⊥) → number ≡ y.count → Strays (done ++ own ∷ others) log number
   strays_next own others number apart is = record {
     before = done;
     own = own;

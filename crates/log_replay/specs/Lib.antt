@@ -5,3 +5,4 @@ pub mod Placing
 pub mod Forks
 pub mod Differing
 pub mod Sharing
+pub mod Task

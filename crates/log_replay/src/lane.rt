@@ -44,7 +44,7 @@ fn is_same_kind(a: Kind, b: Kind) -> bool
     a == b
 }
 
-fn is_same(a: &Record, b: &Record) -> bool
+pub(crate) fn is_same(a: &Record, b: &Record) -> bool
     ensures { IsTrue result ↔ (a.now ≡ b.now) }
 {
     is_same_kind(a.kind, b.kind)
@@ -117,7 +117,7 @@ impl<'k> Lane<'k> {
     }
 
     // The next record of the log.
-    fn next<F: Folder>(&mut self, alloc: Global, folder: &mut F) -> Result<Record, Stray>
+    pub(crate) fn next<F: Folder>(&mut self, alloc: Global, folder: &mut F) -> Result<Record, Stray>
         ensures takes { (log done rest : List Record) → IsAt (F.content folder.old) log done rest (standing self.old) → Takes (F.content folder.old) rest (standing self.old) (standing self.new) result }
         ensures less { IfOk result (λ _. self.new.reader.left < self.old.reader.left) }
         ensures same { F.content folder.new ≡ F.content folder.old }

@@ -6,7 +6,13 @@
 #![tactic(auto)]
 
 mod body;
+mod comparing;
+
 mod lane;
 mod place;
 mod stray;
 mod value;
+
+pub use comparing::follow;
+pub use lane::Forked;
+pub use stray::Stray;
