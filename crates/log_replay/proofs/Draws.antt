@@ -172,9 +172,6 @@ module _ (told : Option Content) (at : Site) (body : Code) (slot : ℕ) (from : 
 pub record FollowsOn (told : Option Content) (part : State → Outcome (Unit {0})) (old mid : Standing) : Type 0 where
   pub on : (new : Standing) (r : Result (Unit {0}) Stray) → Follows told part mid new r → Follows told part old new r
 
-pub begins_on : (told : Option Content) (part : State → Outcome (Unit {0})) (x : Standing) → FollowsOn told part x x
-begins_on told part x = record { on = λ new r goes. goes }
-
 module _ (line n : ℕ) (chunk : ℕ → State → Outcome (Unit {0})) (grows : (q : ℕ) (s : State) → Grows s (state_of (chunk q s))) where
   -- after a draw that found a chunk, and after one that found none
   abbrev pub again : Bool → State → Outcome (Unit {0})

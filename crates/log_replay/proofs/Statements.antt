@@ -196,9 +196,6 @@ pub turn_grows : (at : Site) (body : Code) (slot : ℕ) (from : ℤ) (i : ℕ) (
 turn_grows at body slot from i s = grows-plain.chain s (assign slot (from +ℤ pos i) s) _ (grows-plain.assigns slot (from +ℤ pos i) s) (run-grows at body (assign slot (from +ℤ pos i) s))
 
 module _ (told : Option Content) (at : Site) (body : Code) (slot : ℕ) (from : ℤ) (first : ℕ) where
-  pub turns_none : (x : Standing) → Follows told (turns 0 first (turn_from at body slot from)) x x (Ok tt)
-  turns_none x = follows_nothing told tt x
-
   module _ (i : ℕ) (old mid new : Standing) (before : Follows told (turns i first (turn_from at body slot from)) old mid (Ok tt)) where
     turns_more : (n : ℕ) (r : Result (Unit {0}) Stray) → Follows told (turns n (first + i) (turn_from at body slot from)) mid new r → Follows told (turns (i + n) first (turn_from at body slot from)) old new r
     turns_more n r next =
@@ -254,6 +251,7 @@ bounds_done at from to rest s = by_from (value at from s) where
   by_to a (Gives b t) = after_done at (rest a b t)
   by_to a (Outcome.Stops why line t) = refl
   by_to a (Outcome.Wants t) = refl
+
   by_from : (m : Outcome ℤ) → and_then m (λ a s. and_then (value at to s) (λ b s. after (rest a b s) (run at tree.Done))) ≡ and_then m (λ a s. and_then (value at to s) (rest a))
   by_from (Gives a t) = by_to a (value at to t)
   by_from (Outcome.Stops why line t) = refl
@@ -271,10 +269,12 @@ for_is at slot from to schedule nowait line end body s = run-For at slot from to
   by_share (Gives u t) = after_done at (loop_end nowait end t)
   by_share (Outcome.Stops why at_line t) = refl
   by_share (Outcome.Wants t) = refl
+
   by_to : (a : ℤ) (m : Outcome ℤ) → and_then m (λ b s. after (share_of at slot body schedule line a b s) (λ s. after (loop_end nowait end s) (run at tree.Done))) ≡ after (and_then m (share_of at slot body schedule line a)) (loop_end nowait end)
   by_to a (Gives b t) = by_share (share_of at slot body schedule line a b t)
   by_to a (Outcome.Stops why at_line t) = refl
   by_to a (Outcome.Wants t) = refl
+
   by_from : (m : Outcome ℤ) → and_then m (λ a s. and_then (value at to s) (λ b s. after (share_of at slot body schedule line a b s) (λ s. after (loop_end nowait end s) (run at tree.Done))))
       ≡ after (and_then m (λ a s. and_then (value at to s) (share_of at slot body schedule line a))) (loop_end nowait end)
   by_from (Gives a t) = by_to a (value at to t)
@@ -300,13 +300,6 @@ module _ (told : Option Content) (at : Site) (slot : ℕ) (from to : Term) (sche
   for_goes new r first second =
       follows_same told (λ s. after (sharing at slot from to schedule line body s) (loop_end nowait end)) for_loop old new r (for_is at slot from to schedule nowait line end body)
       (then_after told (sharing at slot from to schedule line body) (loop_end nowait end) old told refl mid new r first second)
-
-pub ends_loop : (told : Option Content) (nowait : Bool) (end : ℕ) (x : Standing) → nowait ≡ true → Follows told (loop_end nowait end) x x (Ok tt)
-ends_loop told nowait end x is = follows_same told (λ s. Gives tt s) (loop_end nowait end) x x (Ok tt) (λ s. ap (λ (b : Bool). loop_end b end s) is) (follows_nothing told tt x)
-
-pub waits_at_end : (told : Option Content) (nowait : Bool) (end : ℕ) (old new : Standing) (r : Result (Unit {0}) Stray) → nowait ≡ false → Follows told (put (event kind.Barrier end 0 0)) old new r
-    → Follows told (loop_end nowait end) old new r
-waits_at_end told nowait end old new r is follows = follows_same told (put (event kind.Barrier end 0 0)) (loop_end nowait end) old new r (λ s. ap (λ (b : Bool). loop_end b end s) is) follows
 
 pub barrier_goes : (told : Option Content) (at : Site) (line : ℕ) (old new : Standing) (r : Result (Unit {0}) Stray) → Follows told (put (event kind.Barrier line 0 0)) old new r
     → Follows told (run at (tree.Barrier line tree.Done)) old new r

@@ -397,7 +397,9 @@ impl<'k> Lane<'k> {
         let first = self.value(from, alloc, folder, place)?;
         let last = self.value(to, alloc, folder, place)?;
         let total = total_of(first, last);
-        self.share(body, alloc, folder, place, slot, first, total, schedule, line)
+        self.share(
+            body, alloc, folder, place, slot, first, total, schedule, line,
+        )
     }
 
     /// Runs a loop.
@@ -477,12 +479,12 @@ impl<'k> Lane<'k> {
                 end,
                 body,
             } => {
-                self.worksharing(body, from, to, alloc, folder, place, *slot, *schedule, *line)?;
+                self.worksharing(
+                    body, from, to, alloc, folder, place, *slot, *schedule, *line,
+                )?;
                 self.end_loop(alloc, folder, *nowait, *end)
             }
-            Stmt::Barrier { line } => {
-                self.put(alloc, folder, event(Kind::Barrier, *line, 0, 0))
-            }
+            Stmt::Barrier { line } => { self.put(alloc, folder, event(Kind::Barrier, *line, 0, 0)) }
             Stmt::Critical {
                 mutex,
                 line,

@@ -7,7 +7,6 @@
 
 mod body;
 mod comparing;
-
 mod lane;
 mod place;
 mod stray;

@@ -69,7 +69,7 @@ chunks-chunks-preserved g t c =
           subst (λ (n : ℕ). FollowedChunks (g.F.Folder.content c.args.folder.now) c.args.place.now (code_of c.args.body.now.stmts.items) c.args.slot (to_z w64 (of_z w64 c.args.from)) c.args.chunk c.args.total n (standing c.args.self.now) (standing c.repeat.new.self)) next
           (chunks_grow (g.F.Folder.content c.args.folder.now) c.args.place.now (code_of c.args.body.now.stmts.items) c.args.slot (to_z w64 (of_z w64 c.args.from)) c.args.chunk c.args.total c.requires.some within c.chunks.first (standing c.args.self.now) (standing c.chunks.self) (standing c.repeat.new.self) c.chunks.invariant.followed within_loop small
           (subst (λ (n : ℕ). Follows (g.F.Folder.content c.args.folder.now) (turns n c.chunks.first (turn_from c.args.place.now (code_of c.args.body.now.stmts.items) c.args.slot (to_z w64 (of_z w64 c.args.from)))) (standing c.chunks.self) (standing c.repeat.new.self) (Ok tt)) count
-    (retold (g.F.Folder.content c.args.folder.now) (g.F.Folder.content c.chunks.folder) (turns c.min-count.result c.chunks.first (turn_from c.args.place.now (code_of c.args.body.now.stmts.items) c.args.slot (to_z w64 (of_z w64 c.args.from)))) (standing c.chunks.self) (standing c.repeat.new.self) (Ok tt) c.chunks.invariant.same c.in_ok-repeat.ensures.follows)));
+          (retold (g.F.Folder.content c.args.folder.now) (g.F.Folder.content c.chunks.folder) (turns c.min-count.result c.chunks.first (turn_from c.args.place.now (code_of c.args.body.now.stmts.items) c.args.slot (to_z w64 (of_z w64 c.args.from)))) (standing c.chunks.self) (standing c.repeat.new.self) (Ok tt) c.chunks.invariant.same c.in_ok-repeat.ensures.follows)));
       stride = c.chunks.invariant.stride;
       fewer = omega (arith, c.in_ok-repeat.ensures.fewer, c.chunks.invariant.fewer);
       same = c.in_ok-repeat.ensures.same ∙ c.chunks.invariant.same;
@@ -178,7 +178,7 @@ drawn_chunks-draws-preserved g t c =
     record {
       on = draws_more c.args.line (chunk_count c.args.chunk c.args.total) (λ q. each (chunk_iterations c.args.chunk c.args.total q) (turn_from c.args.place.now (code_of c.args.body.now.stmts.items) c.args.slot (to_z w64 (of_z w64 c.args.from)))) grows (g.F.Folder.content c.args.folder.now) (standing c.args.self.now) (standing c.draws.self) (standing c.drawn_chunk.new.self) c.draws.invariant.on
           (subst (λ (b : Bool). Follows (g.F.Folder.content c.args.folder.now) (draw_once c.args.line (chunk_count c.args.chunk c.args.total) (λ q. each (chunk_iterations c.args.chunk c.args.total q) (turn_from c.args.place.now (code_of c.args.body.now.stmts.items) c.args.slot (to_z w64 (of_z w64 c.args.from))))) (standing c.draws.self) (standing c.drawn_chunk.new.self) (Ok b)) c.if-not-branch.false
-    (retold (g.F.Folder.content c.args.folder.now) (g.F.Folder.content c.draws.folder) (draw_once c.args.line (chunk_count c.args.chunk c.args.total) (λ q. each (chunk_iterations c.args.chunk c.args.total q) (turn_from c.args.place.now (code_of c.args.body.now.stmts.items) c.args.slot (to_z w64 (of_z w64 c.args.from))))) (standing c.draws.self) (standing c.drawn_chunk.new.self) (Ok c.in_ok-drawn_chunk.field-0) c.draws.invariant.same c.in_ok-drawn_chunk.ensures.follows));
+          (retold (g.F.Folder.content c.args.folder.now) (g.F.Folder.content c.draws.folder) (draw_once c.args.line (chunk_count c.args.chunk c.args.total) (λ q. each (chunk_iterations c.args.chunk c.args.total q) (turn_from c.args.place.now (code_of c.args.body.now.stmts.items) c.args.slot (to_z w64 (of_z w64 c.args.from))))) (standing c.draws.self) (standing c.drawn_chunk.new.self) (Ok c.in_ok-drawn_chunk.field-0) c.draws.invariant.same c.in_ok-drawn_chunk.ensures.follows));
       fewer = omega (arith, c.in_ok-drawn_chunk.ensures.fewer, c.draws.invariant.fewer);
       same = c.in_ok-drawn_chunk.ensures.same ∙ c.draws.invariant.same;
       later = omega (arith, c.in_ok-drawn_chunk.ensures.later, c.draws.invariant.later);
@@ -265,8 +265,8 @@ repeat-loop-i-preserved g t c =
           subst (λ (z : ℤ). Follows (g.F.Folder.content c.args.folder.now) (turns (c.loop-i.i + 1) c.args.first (turn_from c.args.place.now (code_of c.args.body.now.stmts.items) c.args.slot z)) (standing c.args.self.now) (standing c.statements.new.self) (Ok tt)) (sym from_is)
           (turns_next (g.F.Folder.content c.args.folder.now) c.args.place.now (code_of c.args.body.now.stmts.items) c.args.slot c.args.from c.args.first c.loop-i.i (standing c.args.self.now) (standing c.loop-i.self) (standing c.statements.new.self) before
           (follows_assigned (g.F.Folder.content c.args.folder.now) (run c.args.place.now (code_of c.args.body.now.stmts.items)) c.args.slot (c.args.from +ℤ pos (c.args.first + c.loop-i.i)) (standing c.loop-i.self) (standing c.statements.new.self) (Ok tt)
-    (subst (λ (x : Standing). Follows (g.F.Folder.content c.args.folder.now) (run c.args.place.now (code_of c.args.body.now.stmts.items)) x (standing c.statements.new.self) (Ok tt)) set_is
-    (retold (g.F.Folder.content c.args.folder.now) (g.F.Folder.content c.loop-i.folder) (run c.args.place.now (code_of c.args.body.now.stmts.items)) (standing c.set.new.self) (standing c.statements.new.self) (Ok tt) c.loop-i.invariant.same c.in_ok-statements.ensures.follows))));
+          (subst (λ (x : Standing). Follows (g.F.Folder.content c.args.folder.now) (run c.args.place.now (code_of c.args.body.now.stmts.items)) x (standing c.statements.new.self) (Ok tt)) set_is
+          (retold (g.F.Folder.content c.args.folder.now) (g.F.Folder.content c.loop-i.folder) (run c.args.place.now (code_of c.args.body.now.stmts.items)) (standing c.set.new.self) (standing c.statements.new.self) (Ok tt) c.loop-i.invariant.same c.in_ok-statements.ensures.follows))));
       fewer = subst (λ (n : ℕ). c.statements.new.self.reader.left ≤ n) refl (omega (arith, c.in_ok-statements.ensures.fewer, ap (λ (r : Reading). r.left) c.set.ensures.reader, c.loop-i.invariant.fewer));
       same = c.in_ok-statements.ensures.same ∙ c.loop-i.invariant.same;
       later = omega (arith, c.in_ok-statements.ensures.later, c.loop-i.invariant.later);
