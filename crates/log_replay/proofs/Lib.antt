@@ -1,0 +1,8 @@
+pub mod Elements
+pub mod Following
+pub mod Stepping
+pub mod Values
+pub mod Statements
+pub mod Draws
+pub mod Bounded
+pub mod Tasks

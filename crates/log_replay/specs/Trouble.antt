@@ -1,0 +1,9 @@
+-- What a trouble is for a task that follows its log.
+use Rattle.sw_base.specs.declared.trouble.Trouble.{Trouble}
+use Rattle.sw_base.specs.declared.trouble.Trouble.TheVariants as trouble
+use Rattle.log_replay.specs.declared.stray.Stray.{Stray}
+use Rattle.log_replay.specs.declared.stray.Stray.TheVariants as stray
+
+abbrev pub of_trouble : Trouble → Stray
+of_trouble trouble.Memory = stray.Memory
+of_trouble trouble.Failed = stray.ReadFault

@@ -1,0 +1,496 @@
+//! Lists of statements.
+ghost use Rattle.std.specs.Prelude.{◌≡◌, ◌+◌, ◌-◌, ◌*◌, ◌^◌, ◌<◌, ◌≤◌, pos, ◌+ℤ◌, ◌≤ℤ◌, IfOk, IsErrOf, ℕ};
+ghost use Rattle.kernel_syntax.specs.Bounds.{IsBoundedCode, IsBoundedSchedule};
+ghost use Rattle.kernel_syntax.specs.Program.{code_of, stmt_code, team_of, term_of};
+ghost use Rattle.kernel_syntax.specs.Tree as tree;
+ghost use Rattle.kernel_syntax.specs.Tree.{Done};
+ghost use Rattle.log_format.specs.declared.record.Kind.TheVariants as kind;
+ghost use Rattle.kernel_model.specs.Iterations.{chunk_count, chunk_iterations, static_iterations, total_of};
+ghost use Rattle.kernel_model.specs.Trace.{each, loop_end, run, shared, stored, turns};
+ghost use Rattle.kernel_model.specs.Value.{element_at};
+ghost use Rattle.log_replay.specs.Drawing.{draw_all, draw_once};
+ghost use Rattle.log_replay.specs.Following.{Follows, turn_from};
+ghost use Rattle.log_replay.specs.Forks.{standing};
+ghost use Rattle.log_replay.specs.Sharing.{sharing};
+ghost use Rattle.sw_base.specs.Environment.{Rose};
+
+use crate::lane::{Forked, Lane, access, event};
+use crate::place::Place;
+use crate::stray::Stray;
+use kernel_syntax::{Body, Expr, Schedule, Stmt, Team, even_share, fit};
+use log_format::Kind;
+use std::alloc::Global;
+use sw_base::Folder;
+
+/// How many turns a loop has.
+fn total_of(from: i64, to: i64) -> u64
+    ensures count { result ≡ total_of from to }
+    ensures top { (from +ℤ pos result) ≤ℤ pos (2 ^ 63 - 1) }
+{
+    if from < to { to.abs_diff(from) } else { 0 }
+}
+
+/// The number of a turn.
+fn number_at(from: i64, first: u64, i: u64) -> i64
+    requires { (from +ℤ pos (first + i)) ≤ℤ pos (2 ^ 63 - 1) }
+    ensures { result ≡ from +ℤ pos (first + i) }
+{
+    from.wrapping_add_unsigned(first + i)
+}
+
+impl<'k> Lane<'k> {
+    /// Stores a value, after the index and the value.
+    fn put_value<F: Folder>(
+        &mut self,
+        alloc: Global,
+        folder: &mut F,
+        place: &Place,
+        array: u32,
+        index: i64,
+        number: i64,
+        line: u32,
+        site: u16,
+    ) -> Result<(), Stray>
+        ensures follows { Follows (F.content folder.old) (stored (element_at place.now.arrays array index) number line site) (standing self.old) (standing self.new) result }
+        ensures fewer { IfOk result (λ _. self.new.reader.left ≤ self.old.reader.left) }
+        ensures same { F.content folder.new ≡ F.content folder.old }
+        ensures later { F.read_faults folder.old ≤ F.read_faults folder.new }
+        ensures cause { IsErrOf result Stray.ReadFault → Rose (F.read_faults folder.old) (F.read_faults folder.new) }
+        ensures same_writes { F.write_faults folder.new ≡ F.write_faults folder.old }
+    {
+        let Some(element) = place.element(array, index) else {
+            return Err(self.stray());
+        };
+        let stored = fit(number, element.width);
+        let due = access(Kind::Write, &element, line, site, stored);
+        self.put(alloc, folder, due)
+    }
+
+    /// Sets a variable.
+    fn assign<F: Folder>(
+        &mut self,
+        expr: &Expr,
+        alloc: Global,
+        folder: &mut F,
+        place: &Place,
+        slot: u32,
+    ) -> Result<(), Stray>
+        ensures follows { Follows (F.content folder.old) (run place.now (tree.Set slot (term_of expr.now) Done)) (standing self.old) (standing self.new) result }
+        ensures fewer { IfOk result (λ _. self.new.reader.left ≤ self.old.reader.left) }
+        ensures same { F.content folder.new ≡ F.content folder.old }
+        ensures later { F.read_faults folder.old ≤ F.read_faults folder.new }
+        ensures cause { IsErrOf result Stray.ReadFault → Rose (F.read_faults folder.old) (F.read_faults folder.new) }
+        ensures same_writes { F.write_faults folder.new ≡ F.write_faults folder.old }
+    {
+        let number = self.value(expr, alloc, folder, place)?;
+        self.set(slot, number);
+        Ok(())
+    }
+
+    /// Stores a value to an element.
+    fn store<F: Folder>(
+        &mut self,
+        index: &Expr,
+        expr: &Expr,
+        alloc: Global,
+        folder: &mut F,
+        place: &Place,
+        array: u32,
+        line: u32,
+        site: u16,
+    ) -> Result<(), Stray>
+        ensures follows { Follows (F.content folder.old) (run place.now (tree.Store array (term_of index.now) (term_of expr.now) line site Done)) (standing self.old) (standing self.new) result }
+        ensures fewer { IfOk result (λ _. self.new.reader.left ≤ self.old.reader.left) }
+        ensures same { F.content folder.new ≡ F.content folder.old }
+        ensures later { F.read_faults folder.old ≤ F.read_faults folder.new }
+        ensures cause { IsErrOf result Stray.ReadFault → Rose (F.read_faults folder.old) (F.read_faults folder.new) }
+        ensures same_writes { F.write_faults folder.new ≡ F.write_faults folder.old }
+    {
+        let at = self.value(index, alloc, folder, place)?;
+        let number = self.value(expr, alloc, folder, place)?;
+        self.put_value(alloc, folder, place, array, at, number, line, site)
+    }
+
+    /// Forks a region: its lanes start from the locals that the task has now.
+    fn fork<F: Folder>(
+        &mut self,
+        team: &'k Team,
+        alloc: Global,
+        folder: &mut F,
+        place: &Place,
+    ) -> Result<(), Stray>
+        ensures follows { Follows (F.content folder.old) (run place.now (tree.Parallel team.now.span team.now.line team.now.end (code_of team.now.body.stmts.items) Done)) (standing self.old) (standing self.new) result }
+        ensures fewer { IfOk result (λ _. self.new.reader.left ≤ self.old.reader.left) }
+        ensures same { F.content folder.new ≡ F.content folder.old }
+        ensures later { F.read_faults folder.old ≤ F.read_faults folder.new }
+        ensures cause { IsErrOf result Stray.ReadFault → Rose (F.read_faults folder.old) (F.read_faults folder.new) }
+        ensures same_writes { F.write_faults folder.new ≡ F.write_faults folder.old }
+    {
+        let due = event(Kind::Region, team.line, 0, u64::from(team.span));
+        self.put(alloc, folder, due)?;
+        let slots = self.slots.as_slice().to_vec(alloc)?;
+        self.forks.push(Forked { team, slots })?;
+        Ok(())
+    }
+
+    /// Meets the barrier at the end of a worksharing loop.
+    fn end_loop<F: Folder>(
+        &mut self,
+        alloc: Global,
+        folder: &mut F,
+        nowait: bool,
+        end: u32,
+    ) -> Result<(), Stray>
+        ensures follows { Follows (F.content folder.old) (loop_end nowait end) (standing self.old) (standing self.new) result }
+        ensures fewer { IfOk result (λ _. self.new.reader.left ≤ self.old.reader.left) }
+        ensures same { F.content folder.new ≡ F.content folder.old }
+        ensures later { F.read_faults folder.old ≤ F.read_faults folder.new }
+        ensures cause { IsErrOf result Stray.ReadFault → Rose (F.read_faults folder.old) (F.read_faults folder.new) }
+        ensures same_writes { F.write_faults folder.new ≡ F.write_faults folder.old }
+    {
+        if nowait {
+            return Ok(());
+        }
+        self.put(alloc, folder, event(Kind::Barrier, end, 0, 0))
+    }
+
+    /// Runs the statements of a body.
+    #[cycle(executing)]
+    pub fn statements<F: Folder>(
+        &mut self,
+        body: &'k Body,
+        alloc: Global,
+        folder: &mut F,
+        place: &Place,
+    ) -> Result<(), Stray>
+        requires bounded { IsBoundedCode (code_of body.now.stmts.items) }
+        ensures follows { Follows (F.content folder.old) (run place.now (code_of body.now.stmts.items)) (standing self.old) (standing self.new) result }
+        ensures fewer { IfOk result (λ _. self.new.reader.left ≤ self.old.reader.left) }
+        ensures same { F.content folder.new ≡ F.content folder.old }
+        ensures later { F.read_faults folder.old ≤ F.read_faults folder.new }
+        ensures cause { IsErrOf result Stray.ReadFault → Rose (F.read_faults folder.old) (F.read_faults folder.new) }
+        ensures same_writes { F.write_faults folder.new ≡ F.write_faults folder.old }
+    {
+        for stmt in &body.stmts {
+            self.statement(stmt, alloc, folder, place)?;
+        }
+        Ok(())
+    }
+
+    /// Runs so many turns of a loop that begins at this value of its variable, from this turn on.
+    #[cycle(executing)]
+    fn repeat<F: Folder>(
+        &mut self,
+        body: &'k Body,
+        alloc: Global,
+        folder: &mut F,
+        place: &Place,
+        slot: u32,
+        from: i64,
+        first: u64,
+        count: u64,
+    ) -> Result<(), Stray>
+        requires bounded { IsBoundedCode (code_of body.now.stmts.items) }
+        requires top { (from +ℤ pos (first + count)) ≤ℤ pos (2 ^ 63 - 1) }
+        ensures follows { Follows (F.content folder.old) (turns count first (turn_from place.now (code_of body.now.stmts.items) slot from)) (standing self.old) (standing self.new) result }
+        ensures fewer { IfOk result (λ _. self.new.reader.left ≤ self.old.reader.left) }
+        ensures same { F.content folder.new ≡ F.content folder.old }
+        ensures later { F.read_faults folder.old ≤ F.read_faults folder.new }
+        ensures cause { IsErrOf result Stray.ReadFault → Rose (F.read_faults folder.old) (F.read_faults folder.new) }
+        ensures same_writes { F.write_faults folder.new ≡ F.write_faults folder.old }
+    {
+        for i in 0..count {
+            self.set(slot, number_at(from, first, i));
+            self.statements(body, alloc, folder, place)?;
+        }
+        Ok(())
+    }
+
+    /// Runs a critical section.
+    #[cycle(executing)]
+    fn critical<F: Folder>(
+        &mut self,
+        body: &'k Body,
+        alloc: Global,
+        folder: &mut F,
+        place: &Place,
+        mutex: u16,
+        line: u32,
+        end: u32,
+    ) -> Result<(), Stray>
+        requires bounded { IsBoundedCode (code_of body.now.stmts.items) }
+        ensures follows { Follows (F.content folder.old) (run place.now (tree.Critical mutex line end (code_of body.now.stmts.items) Done)) (standing self.old) (standing self.new) result }
+        ensures fewer { IfOk result (λ _. self.new.reader.left ≤ self.old.reader.left) }
+        ensures same { F.content folder.new ≡ F.content folder.old }
+        ensures later { F.read_faults folder.old ≤ F.read_faults folder.new }
+        ensures cause { IsErrOf result Stray.ReadFault → Rose (F.read_faults folder.old) (F.read_faults folder.new) }
+        ensures same_writes { F.write_faults folder.new ≡ F.write_faults folder.old }
+    {
+        self.put(alloc, folder, event(Kind::Lock, line, u64::from(mutex), 0))?;
+        self.statements(body, alloc, folder, place)?;
+        self.put(alloc, folder, event(Kind::Unlock, end, u64::from(mutex), 0))
+    }
+
+    /// Runs the lane's chunks of a loop whose chunks are dealt in turn.
+    #[cycle(executing)]
+    fn chunks<F: Folder>(
+        &mut self,
+        body: &'k Body,
+        alloc: Global,
+        folder: &mut F,
+        place: &Place,
+        slot: u32,
+        from: i64,
+        total: u64,
+        chunk: u32,
+    ) -> Result<(), Stray>
+        requires bounded { IsBoundedCode (code_of body.now.stmts.items) }
+        requires some { 0 < chunk }
+        requires top { (from +ℤ pos total) ≤ℤ pos (2 ^ 63 - 1) }
+        ensures follows { Follows (F.content folder.old) (each (static_iterations chunk total place.now.lane place.now.span) (turn_from place.now (code_of body.now.stmts.items) slot from)) (standing self.old) (standing self.new) result }
+        ensures fewer { IfOk result (λ _. self.new.reader.left ≤ self.old.reader.left) }
+        ensures same { F.content folder.new ≡ F.content folder.old }
+        ensures later { F.read_faults folder.old ≤ F.read_faults folder.new }
+        ensures cause { IsErrOf result Stray.ReadFault → Rose (F.read_faults folder.old) (F.read_faults folder.new) }
+        ensures same_writes { F.write_faults folder.new ≡ F.write_faults folder.old }
+    {
+        let chunk = u64::from(chunk);
+        let stride = chunk * u64::from(place.span());
+        let mut first = chunk * u64::from(place.lane());
+        'chunks: while first < total {
+            let count = chunk.min(total - first);
+            self.repeat(body, alloc, folder, place, slot, from, first, count)?;
+            first = first.saturating_add(stride);
+        }
+        Ok(())
+    }
+
+    /// Draws a chunk, and runs it. False where none is left.
+    #[cycle(executing)]
+    fn drawn_chunk<F: Folder>(
+        &mut self,
+        body: &'k Body,
+        alloc: Global,
+        folder: &mut F,
+        place: &Place,
+        slot: u32,
+        from: i64,
+        total: u64,
+        chunk: u64,
+        line: u32,
+    ) -> Result<bool, Stray>
+        requires bounded { IsBoundedCode (code_of body.now.stmts.items) }
+        requires some { 0 < chunk }
+        requires top { (from +ℤ pos total) ≤ℤ pos (2 ^ 63 - 1) }
+        ensures follows { Follows (F.content folder.old) (draw_once line (chunk_count chunk total) (λ q. each (chunk_iterations chunk total q) (turn_from place.now (code_of body.now.stmts.items) slot from))) (standing self.old) (standing self.new) result }
+        ensures less { IfOk result (λ _. self.new.reader.left < self.old.reader.left) }
+        ensures fewer { IfOk result (λ _. self.new.reader.left ≤ self.old.reader.left) }
+        ensures same { F.content folder.new ≡ F.content folder.old }
+        ensures later { F.read_faults folder.old ≤ F.read_faults folder.new }
+        ensures cause { IsErrOf result Stray.ReadFault → Rose (F.read_faults folder.old) (F.read_faults folder.new) }
+        ensures same_writes { F.write_faults folder.new ≡ F.write_faults folder.old }
+    {
+        let chunks = total.div_ceil(chunk);
+        let number = self.draw(alloc, folder, line, chunks)?;
+        if number >= chunks {
+            return Ok(false);
+        }
+        let first = number * chunk;
+        let count = chunk.min(total - first);
+        self.repeat(body, alloc, folder, place, slot, from, first, count)?;
+        Ok(true)
+    }
+
+    /// Draws chunks, and runs them, until none is left.
+    #[cycle(executing)]
+    fn drawn_chunks<F: Folder>(
+        &mut self,
+        body: &'k Body,
+        alloc: Global,
+        folder: &mut F,
+        place: &Place,
+        slot: u32,
+        from: i64,
+        total: u64,
+        chunk: u64,
+        line: u32,
+    ) -> Result<(), Stray>
+        requires bounded { IsBoundedCode (code_of body.now.stmts.items) }
+        requires some { 0 < chunk }
+        requires top { (from +ℤ pos total) ≤ℤ pos (2 ^ 63 - 1) }
+        ensures follows { Follows (F.content folder.old) (draw_all line (chunk_count chunk total) (λ q. each (chunk_iterations chunk total q) (turn_from place.now (code_of body.now.stmts.items) slot from))) (standing self.old) (standing self.new) result }
+        ensures fewer { IfOk result (λ _. self.new.reader.left ≤ self.old.reader.left) }
+        ensures same { F.content folder.new ≡ F.content folder.old }
+        ensures later { F.read_faults folder.old ≤ F.read_faults folder.new }
+        ensures cause { IsErrOf result Stray.ReadFault → Rose (F.read_faults folder.old) (F.read_faults folder.new) }
+        ensures same_writes { F.write_faults folder.new ≡ F.write_faults folder.old }
+    {
+        'draws: loop {
+            if !self.drawn_chunk(body, alloc, folder, place, slot, from, total, chunk, line)? {
+                return Ok(());
+            }
+        }
+    }
+
+    /// Runs the lane's share of a loop of so many iterations, of which the first has this value.
+    #[cycle(executing)]
+    fn share<F: Folder>(
+        &mut self,
+        body: &'k Body,
+        alloc: Global,
+        folder: &mut F,
+        place: &Place,
+        slot: u32,
+        from: i64,
+        total: u64,
+        schedule: Schedule,
+        line: u32,
+    ) -> Result<(), Stray>
+        requires bounded { IsBoundedCode (code_of body.now.stmts.items) }
+        requires chunk { IsBoundedSchedule schedule }
+        requires top { (from +ℤ pos total) ≤ℤ pos (2 ^ 63 - 1) }
+        ensures follows { Follows (F.content folder.old) (shared schedule place.now line total (turn_from place.now (code_of body.now.stmts.items) slot from)) (standing self.old) (standing self.new) result }
+        ensures fewer { IfOk result (λ _. self.new.reader.left ≤ self.old.reader.left) }
+        ensures same { F.content folder.new ≡ F.content folder.old }
+        ensures later { F.read_faults folder.old ≤ F.read_faults folder.new }
+        ensures cause { IsErrOf result Stray.ReadFault → Rose (F.read_faults folder.old) (F.read_faults folder.new) }
+        ensures same_writes { F.write_faults folder.new ≡ F.write_faults folder.old }
+    {
+        match schedule {
+            Schedule::Even => {
+                let (first, count) = even_share(total, place.lane(), place.span());
+                self.repeat(body, alloc, folder, place, slot, from, first, count)
+            }
+            Schedule::Static(chunk) => {
+                self.chunks(body, alloc, folder, place, slot, from, total, chunk)
+            }
+            Schedule::Dynamic(chunk) => {
+                let chunk = u64::from(chunk);
+                self.drawn_chunks(body, alloc, folder, place, slot, from, total, chunk, line)
+            }
+        }
+    }
+
+    /// Runs the lane's share of a worksharing loop, without the barrier at its end.
+    #[cycle(executing)]
+    fn worksharing<F: Folder>(
+        &mut self,
+        body: &'k Body,
+        from: &Expr,
+        to: &Expr,
+        alloc: Global,
+        folder: &mut F,
+        place: &Place,
+        slot: u32,
+        schedule: Schedule,
+        line: u32,
+    ) -> Result<(), Stray>
+        requires bounded { IsBoundedCode (code_of body.now.stmts.items) }
+        requires chunk { IsBoundedSchedule schedule }
+        ensures follows { Follows (F.content folder.old) (sharing place.now slot (term_of from.now) (term_of to.now) schedule line (code_of body.now.stmts.items)) (standing self.old) (standing self.new) result }
+        ensures fewer { IfOk result (λ _. self.new.reader.left ≤ self.old.reader.left) }
+        ensures same { F.content folder.new ≡ F.content folder.old }
+        ensures later { F.read_faults folder.old ≤ F.read_faults folder.new }
+        ensures cause { IsErrOf result Stray.ReadFault → Rose (F.read_faults folder.old) (F.read_faults folder.new) }
+        ensures same_writes { F.write_faults folder.new ≡ F.write_faults folder.old }
+    {
+        let first = self.value(from, alloc, folder, place)?;
+        let last = self.value(to, alloc, folder, place)?;
+        let total = total_of(first, last);
+        self.share(
+            body, alloc, folder, place, slot, first, total, schedule, line,
+        )
+    }
+
+    /// Runs a loop.
+    #[cycle(executing)]
+    fn looped<F: Folder>(
+        &mut self,
+        body: &'k Body,
+        from: &Expr,
+        to: &Expr,
+        alloc: Global,
+        folder: &mut F,
+        place: &Place,
+        slot: u32,
+    ) -> Result<(), Stray>
+        requires bounded { IsBoundedCode (code_of body.now.stmts.items) }
+        ensures follows { Follows (F.content folder.old) (run place.now (tree.Loop slot (term_of from.now) (term_of to.now) (code_of body.now.stmts.items) Done)) (standing self.old) (standing self.new) result }
+        ensures fewer { IfOk result (λ _. self.new.reader.left ≤ self.old.reader.left) }
+        ensures same { F.content folder.new ≡ F.content folder.old }
+        ensures later { F.read_faults folder.old ≤ F.read_faults folder.new }
+        ensures cause { IsErrOf result Stray.ReadFault → Rose (F.read_faults folder.old) (F.read_faults folder.new) }
+        ensures same_writes { F.write_faults folder.new ≡ F.write_faults folder.old }
+    {
+        let first = self.value(from, alloc, folder, place)?;
+        let last = self.value(to, alloc, folder, place)?;
+        let total = total_of(first, last);
+        self.repeat(body, alloc, folder, place, slot, first, 0, total)
+    }
+
+    /// Runs a statement.
+    #[cycle(executing)]
+    fn statement<F: Folder>(
+        &mut self,
+        stmt: &'k Stmt,
+        alloc: Global,
+        folder: &mut F,
+        place: &Place,
+    ) -> Result<(), Stray>
+        requires bounded { IsBoundedCode (stmt_code stmt.now Done) }
+        ensures follows { Follows (F.content folder.old) (run place.now (stmt_code stmt.now Done)) (standing self.old) (standing self.new) result }
+        ensures fewer { IfOk result (λ _. self.new.reader.left ≤ self.old.reader.left) }
+        ensures same { F.content folder.new ≡ F.content folder.old }
+        ensures later { F.read_faults folder.old ≤ F.read_faults folder.new }
+        ensures cause { IsErrOf result Stray.ReadFault → Rose (F.read_faults folder.old) (F.read_faults folder.new) }
+        ensures same_writes { F.write_faults folder.new ≡ F.write_faults folder.old }
+    {
+        match stmt {
+            Stmt::Set { slot, value } => self.assign(value, alloc, folder, place, *slot),
+            Stmt::Store {
+                array,
+                index,
+                value,
+                line,
+                site,
+            } => self.store(index, value, alloc, folder, place, *array, *line, *site),
+            Stmt::If { test, yes, no } => {
+                let chosen = self.value(test, alloc, folder, place)?;
+                if chosen == 0 {
+                    self.statements(no, alloc, folder, place)
+                } else {
+                    self.statements(yes, alloc, folder, place)
+                }
+            }
+            Stmt::Loop {
+                slot,
+                from,
+                to,
+                body,
+            } => self.looped(body, from, to, alloc, folder, place, *slot),
+            Stmt::Parallel { team } => self.fork(team, alloc, folder, place),
+            Stmt::For {
+                slot,
+                from,
+                to,
+                schedule,
+                nowait,
+                line,
+                end,
+                body,
+            } => {
+                self.worksharing(
+                    body, from, to, alloc, folder, place, *slot, *schedule, *line,
+                )?;
+                self.end_loop(alloc, folder, *nowait, *end)
+            }
+            Stmt::Barrier { line } => { self.put(alloc, folder, event(Kind::Barrier, *line, 0, 0)) }
+            Stmt::Critical {
+                mutex,
+                line,
+                end,
+                body,
+            } => self.critical(body, alloc, folder, place, *mutex, *line, *end),
+        }
+    }
+}

@@ -1,0 +1,208 @@
+//! A task that follows its log: its locals, the regions that it forked, and the log, read record by record.
+ghost use Rattle.std.specs.Prelude.{◌≡◌, ◌↔◌, ◌+◌, ◌≤◌, ◌<◌, min, List, IfOk, IsErrOf, IsTrue, pos, slice_index_or, slice_set};
+ghost use Rattle.log_format.specs.declared.record.Kind.{Kind};
+ghost use Rattle.log_format.specs.declared.record.Record.{Record};
+ghost use Rattle.log_format.specs.declared.record.Kind.TheVariants as kind;
+ghost use Rattle.kernel_model.specs.State.{put, event};
+ghost use Rattle.kernel_model.specs.Trace.{draw};
+ghost use Rattle.kernel_model.specs.Value.{access, read};
+ghost use Rattle.kernel_syntax.specs.Arithmetic.{IsWidth};
+ghost use Rattle.log_replay.specs.Following.{Follows, IsAt, IsMark, Takes};
+ghost use Rattle.log_replay.specs.Forks.{standing};
+ghost use Rattle.log_replay.specs.Placing.{meant};
+ghost use Rattle.log_replay.specs.declared.stray.Stray.TheVariants as stray;
+ghost use Rattle.sw_base.specs.Environment.{Rose};
+
+use crate::place::Element;
+use crate::stray::Stray;
+use kernel_syntax::{Team, fit};
+use log_format::{Kind, Record};
+use log_reader::LogReader;
+use std::alloc::Global;
+use sw_base::Folder;
+
+/// A region that a task forked: its team, and the task's locals at that point.
+#[derive(Drop)]
+pub struct Forked<'k> {
+    pub team: &'k Team,
+    pub slots: Vec<i64>,
+}
+
+/// A task that follows its log.
+#[derive(Drop)]
+pub struct Lane<'k> {
+    pub slots: Vec<i64>,
+    pub forks: Vec<Forked<'k>>,
+    pub reader: LogReader,
+    /// How many records were read.
+    pub count: u32,
+}
+
+fn is_same_kind(a: Kind, b: Kind) -> bool
+    ensures { IsTrue result ↔ (a ≡ b) }
+{
+    a == b
+}
+
+pub(crate) fn is_same(a: &Record, b: &Record) -> bool
+    ensures { IsTrue result ↔ (a.now ≡ b.now) }
+{
+    is_same_kind(a.kind, b.kind)
+        && a.size == b.size
+        && a.site == b.site
+        && a.line == b.line
+        && a.addr == b.addr
+        && a.value == b.value
+}
+
+/// The record of an access.
+pub(crate) fn access(kind: Kind, element: &Element, line: u32, site: u16, value: i64) -> Record
+    ensures { result ≡ access kind (meant element.now) site line value }
+{
+    Record {
+        kind,
+        size: element.width,
+        site,
+        line,
+        addr: element.addr,
+        value: value.cast_unsigned(),
+    }
+}
+
+/// The record of a step that is no access.
+pub(crate) fn event(kind: Kind, line: u32, addr: u64, value: u64) -> Record
+    ensures { result ≡ event kind line addr value }
+{
+    Record {
+        kind,
+        size: 0,
+        site: 0,
+        line,
+        addr,
+        value,
+    }
+}
+
+impl<'k> Lane<'k> {
+    /// A local variable.
+    pub fn get(&self, slot: u32) -> i64
+        ensures { result ≡ slice_index_or self.now.slots.items slot (pos 0) }
+    {
+        let slot = slot as usize;
+        if slot < self.slots.len() {
+            self.slots[slot]
+        } else {
+            0
+        }
+    }
+
+    /// Sets a local variable.
+    pub fn set(&mut self, slot: u32, value: i64)
+        ensures set { standing self.new ≡ record (standing self.old) { slots = slice_set self.old.slots.items slot value } }
+        ensures reader { self.new.reader ≡ self.old.reader }
+    {
+        let slot = slot as usize;
+        if slot < self.slots.len() {
+            self.slots[slot] = value;
+        }
+    }
+
+    /// The task leaves its log here: the next record isn't the trace's.
+    pub fn stray(&self) -> Stray
+        ensures { result ≡ stray.Differs (min (self.now.count + 1) 4294967295) }
+    {
+        Stray::Differs {
+            number: self.count.saturating_add(1),
+        }
+    }
+
+    // The next record of the log.
+    pub(crate) fn next<F: Folder>(&mut self, alloc: Global, folder: &mut F) -> Result<Record, Stray>
+        ensures takes { (log done rest : List Record) → IsAt (F.content folder.old) log done rest (standing self.old) → Takes (F.content folder.old) rest (standing self.old) (standing self.new) result }
+        ensures less { IfOk result (λ _. self.new.reader.left < self.old.reader.left) }
+        ensures same { F.content folder.new ≡ F.content folder.old }
+        ensures later { F.read_faults folder.old ≤ F.read_faults folder.new }
+        ensures cause { IsErrOf result Stray.ReadFault → Rose (F.read_faults folder.old) (F.read_faults folder.new) }
+        ensures same_writes { F.write_faults folder.new ≡ F.write_faults folder.old }
+    {
+        match self.reader.next(alloc, folder)? {
+            Some(next) => {
+                self.count = self.count.saturating_add(1);
+                Ok(next)
+            }
+            None => Err(self.stray()),
+        }
+    }
+
+    /// Reads an element: its value is that of the log's next record, which is to be this read.
+    pub fn read<F: Folder>(
+        &mut self,
+        alloc: Global,
+        folder: &mut F,
+        element: &Element,
+        line: u32,
+        site: u16,
+    ) -> Result<i64, Stray>
+        requires { IsWidth element.now.width }
+        ensures follows { Follows (F.content folder.old) (read (meant element.now) site line) (standing self.old) (standing self.new) result }
+        ensures fewer { IfOk result (λ _. self.new.reader.left ≤ self.old.reader.left) }
+        ensures same { F.content folder.new ≡ F.content folder.old }
+        ensures later { F.read_faults folder.old ≤ F.read_faults folder.new }
+        ensures cause { IsErrOf result Stray.ReadFault → Rose (F.read_faults folder.old) (F.read_faults folder.new) }
+        ensures same_writes { F.write_faults folder.new ≡ F.write_faults folder.old }
+    {
+        let next = self.next(alloc, folder)?;
+        let value = fit(next.value.cast_signed(), element.width);
+        let due = access(Kind::Read, element, line, site, value);
+        if !is_same(&next, &due) {
+            return Err(Stray::Differs { number: self.count });
+        }
+        Ok(value)
+    }
+
+    /// Puts a record that tells no value: the log's next one is to be the same.
+    pub fn put<F: Folder>(
+        &mut self,
+        alloc: Global,
+        folder: &mut F,
+        due: Record,
+    ) -> Result<(), Stray>
+        requires { IsMark due.kind }
+        ensures follows { Follows (F.content folder.old) (put due) (standing self.old) (standing self.new) result }
+        ensures fewer { IfOk result (λ _. self.new.reader.left ≤ self.old.reader.left) }
+        ensures same { F.content folder.new ≡ F.content folder.old }
+        ensures later { F.read_faults folder.old ≤ F.read_faults folder.new }
+        ensures cause { IsErrOf result Stray.ReadFault → Rose (F.read_faults folder.old) (F.read_faults folder.new) }
+        ensures same_writes { F.write_faults folder.new ≡ F.write_faults folder.old }
+    {
+        let next = self.next(alloc, folder)?;
+        if !is_same(&next, &due) {
+            return Err(Stray::Differs { number: self.count });
+        }
+        Ok(())
+    }
+
+    /// Draws a chunk of a loop of so many: its number is that of the log's next record, which is to be this draw.
+    pub fn draw<F: Folder>(
+        &mut self,
+        alloc: Global,
+        folder: &mut F,
+        line: u32,
+        chunks: u64,
+    ) -> Result<u64, Stray>
+        ensures follows { Follows (F.content folder.old) (draw line chunks) (standing self.old) (standing self.new) result }
+        ensures within { IfOk result (λ number. number ≤ chunks) }
+        ensures less { IfOk result (λ _. self.new.reader.left < self.old.reader.left) }
+        ensures same { F.content folder.new ≡ F.content folder.old }
+        ensures later { F.read_faults folder.old ≤ F.read_faults folder.new }
+        ensures cause { IsErrOf result Stray.ReadFault → Rose (F.read_faults folder.old) (F.read_faults folder.new) }
+        ensures same_writes { F.write_faults folder.new ≡ F.write_faults folder.old }
+    {
+        let next = self.next(alloc, folder)?;
+        let due = event(Kind::Chunk, line, next.addr.min(chunks), chunks);
+        if !is_same(&next, &due) {
+            return Err(Stray::Differs { number: self.count });
+        }
+        Ok(next.addr)
+    }
+}

@@ -1,0 +1,17 @@
+//! Whether a folder belongs to a kernel: each log against the trace of its task.
+//!
+//! Each task is run again, alone, under the values that its own log reads and the chunk numbers that it draws, from the locals of
+//! its parent at the fork. Each record that it puts is compared with the next one of the log, which is read record by record and
+//! not kept.
+#![tactic(auto)]
+
+mod body;
+mod comparing;
+mod lane;
+mod place;
+mod stray;
+mod value;
+
+pub use comparing::follow;
+pub use lane::Forked;
+pub use stray::Stray;

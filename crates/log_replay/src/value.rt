@@ -1,0 +1,102 @@
+//! The value of an expression.
+ghost use Rattle.std.specs.Prelude.{◌≡◌, ◌≤◌, ◌+◌, min, ok_or, IfOk, IsErrOf};
+ghost use Rattle.log_replay.specs.declared.stray.Stray.TheVariants as stray;
+ghost use Rattle.kernel_syntax.specs.Arithmetic.{applied, negated};
+ghost use Rattle.kernel_syntax.specs.Program.{term_of};
+ghost use Rattle.kernel_model.specs.Value.{element_at, loaded, value};
+ghost use Rattle.log_replay.specs.Following.{Follows};
+ghost use Rattle.log_replay.specs.Forks.{standing};
+ghost use Rattle.sw_base.specs.Environment.{Rose};
+
+use crate::lane::Lane;
+use crate::place::Place;
+use crate::stray::Stray;
+use kernel_syntax::{Expr, Op, apply};
+use std::alloc::Global;
+use sw_base::Folder;
+
+/// The negative of a value.
+fn negate(value: i64) -> i64
+    ensures { result ≡ negated value }
+{
+    0i64.wrapping_sub(value)
+}
+
+impl<'k> Lane<'k> {
+    /// Reads an element, after its index.
+    fn load<F: Folder>(
+        &mut self,
+        alloc: Global,
+        folder: &mut F,
+        place: &Place,
+        array: u32,
+        index: i64,
+        line: u32,
+        site: u16,
+    ) -> Result<i64, Stray>
+        ensures follows { Follows (F.content folder.old) (loaded (element_at place.now.arrays array index) line site) (standing self.old) (standing self.new) result }
+        ensures fewer { IfOk result (λ _. self.new.reader.left ≤ self.old.reader.left) }
+        ensures same { F.content folder.new ≡ F.content folder.old }
+        ensures later { F.read_faults folder.old ≤ F.read_faults folder.new }
+        ensures cause { IsErrOf result Stray.ReadFault → Rose (F.read_faults folder.old) (F.read_faults folder.new) }
+        ensures same_writes { F.write_faults folder.new ≡ F.write_faults folder.old }
+    {
+        let Some(element) = place.element(array, index) else {
+            return Err(self.stray());
+        };
+        self.read(alloc, folder, &element, line, site)
+    }
+
+    // The operation on two values; a zero divisor stops the task.
+    fn operate(&self, op: Op, left: i64, right: i64) -> Result<i64, Stray>
+        ensures { result ≡ ok_or (applied op left right) (stray.Differs (min (self.now.count + 1) 4294967295)) }
+    {
+        apply(op, left, right).ok_or(self.stray())
+    }
+
+    /// The value of an expression.
+    pub fn value<F: Folder>(
+        &mut self,
+        expr: &Expr,
+        alloc: Global,
+        folder: &mut F,
+        place: &Place,
+    ) -> Result<i64, Stray>
+        ensures follows { Follows (F.content folder.old) (value place.now (term_of expr.now)) (standing self.old) (standing self.new) result }
+        ensures fewer { IfOk result (λ _. self.new.reader.left ≤ self.old.reader.left) }
+        ensures same { F.content folder.new ≡ F.content folder.old }
+        ensures later { F.read_faults folder.old ≤ F.read_faults folder.new }
+        ensures cause { IsErrOf result Stray.ReadFault → Rose (F.read_faults folder.old) (F.read_faults folder.new) }
+        ensures same_writes { F.write_faults folder.new ≡ F.write_faults folder.old }
+    {
+        match expr {
+            Expr::Number(number) => Ok(*number),
+            Expr::Slot(slot) => Ok(self.get(*slot)),
+            Expr::Tid => Ok(i64::from(place.lane())),
+            Expr::Span => Ok(i64::from(place.span())),
+            Expr::Load {
+                array,
+                index,
+                line,
+                site,
+            } => {
+                let at = self.value(index, alloc, folder, place)?;
+                self.load(alloc, folder, place, *array, at, *line, *site)
+            }
+            Expr::Neg(operand) => {
+                let negated = self.value(operand, alloc, folder, place)?;
+                Ok(negate(negated))
+            }
+            Expr::Binary {
+                op,
+                line: _,
+                left,
+                right,
+            } => {
+                let first = self.value(left, alloc, folder, place)?;
+                let second = self.value(right, alloc, folder, place)?;
+                self.operate(*op, first, second)
+            }
+        }
+    }
+}
