@@ -14,3 +14,4 @@ pub mod Pointwise
 pub mod WentOn
 pub mod LawfulParts
 pub mod LawfulPhases
+pub mod RegionLanes
