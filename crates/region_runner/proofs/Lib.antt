@@ -15,3 +15,4 @@ pub mod WentOn
 pub mod LawfulParts
 pub mod LawfulPhases
 pub mod RegionLanes
+pub mod RegionDraws
