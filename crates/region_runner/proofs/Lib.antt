@@ -16,3 +16,4 @@ pub mod LawfulParts
 pub mod LawfulPhases
 pub mod RegionLanes
 pub mod RegionDraws
+pub mod RegionStops

@@ -39,7 +39,7 @@ parts_both done left = ap (λ (items : List Item). map part_of items) (flat_map-
 abbrev pub left_of : Site → ℕ → List (List Item) → State → Outcome (Unit {0})
 left_of at end left s = after (run_parts at (parts_in left) s) (put (event kind.End end 0 0))
 
-left_grows : (at : Site) (end : ℕ) (left : List (List Item)) (s : State) → Grows s (state_of (left_of at end left s))
+pub left_grows : (at : Site) (end : ℕ) (left : List (List Item)) (s : State) → Grows s (state_of (left_of at end left s))
 left_grows at end left s =
     kept-after Grows grows-plain s (run_parts at (parts_in left) s) (put (event kind.End end 0 0)) (parts_grow at (parts_in left) s)
     (λ t. note_grows (event kind.End end 0 0) t refl)
@@ -55,16 +55,20 @@ module _ (program : Program) (start : Start) (phases : List (List Item)) (runs :
       ∙ run_parts_both (site_of program start) (parts_in done) (parts_in left) s)
       ∙ after-after (run_parts (site_of program start) (parts_in done) s) (run_parts (site_of program start) (parts_in left)) (put (event kind.End start.team.end 0 0))
 
--- a lane that stands after some phases, wherever it came to rest, ran its task
-pub lane_ran : (program : Program) (fork : Fork) (lane : ℕ) (w : WorldValue) → program.arrays ≡ w.arrays → w.lane ≡ lane → w.span ≡ fork.team.span → (items done left : List (List Item)) → items ≡ done ++ left
-    → ((at : Site) (s : State) → run_parts at (parts_in items) s ≡ run at fork.team.body s) → (slots' : List ℤ) (old new : Progress) → old.buffer.count ≡ 0 → (phases : Phases) → PhasesFit phases → (r : Result (Unit {0}) Halt)
-    → TaskGoes w (run_parts (site w) (parts_in done)) fork.slots slots' old new (lane_works lane phases) r → RunsTask program (lane_begin fork lane) (lane_works lane phases)
-lane_ran program fork lane w arrays lane_is span_is items done left is runs slots' old new none phases fit r goes =
-    runs_goes program (lane_begin fork lane) w arrays (run_parts (site w) (parts_in done)) (left_of (site w) fork.team.end left) (left_grows (site w) fork.team.end left)
-    (λ s.
-    subst (λ (at : Site). parts program (lane_begin fork lane) s ≡ after (run_parts at (parts_in done) s) (left_of at fork.team.end left)) site_is
-    (task_is program (lane_begin fork lane) items runs done left is s))
-    slots' old new none (lane_works lane phases) (lane_fits lane phases fit) r goes
-  where
-    site_is : site_of program (lane_begin fork lane) ≡ site w
-    site_is = λ i. record { arrays = arrays i; lane = (sym lane_is) i; span = (sym span_is) i }
+-- a lane that stands after some phases, wherever it came to rest
+module _ (program : Program) (fork : Fork) (lane : ℕ) (w : WorldValue) (arrays : program.arrays ≡ w.arrays) (lane_is : w.lane ≡ lane) (span_is : w.span ≡ fork.team.span) (items done left : List (List Item)) (is : items ≡ done ++ left)
+    (runs : (at : Site) (s : State) → run_parts at (parts_in items) s ≡ run at fork.team.body s) where
+  site_is : site_of program (lane_begin fork lane) ≡ site w
+  site_is = λ i. record { arrays = arrays i; lane = (sym lane_is) i; span = (sym span_is) i }
+
+  pub lane_is_at : (s : State) → parts program (lane_begin fork lane) s ≡ after (run_parts (site w) (parts_in done) s) (left_of (site w) fork.team.end left)
+  lane_is_at s =
+      subst (λ (at : Site). parts program (lane_begin fork lane) s ≡ after (run_parts at (parts_in done) s) (left_of at fork.team.end left)) site_is
+      (task_is program (lane_begin fork lane) items runs done left is s)
+
+  -- it ran its task
+  pub lane_ran : (slots' : List ℤ) (old new : Progress) → old.buffer.count ≡ 0 → (phases : Phases) → PhasesFit phases → (r : Result (Unit {0}) Halt)
+      → TaskGoes w (run_parts (site w) (parts_in done)) fork.slots slots' old new (lane_works lane phases) r → RunsTask program (lane_begin fork lane) (lane_works lane phases)
+  lane_ran slots' old new none phases fit r goes =
+      runs_goes program (lane_begin fork lane) w arrays (run_parts (site w) (parts_in done)) (left_of (site w) fork.team.end left) (left_grows (site w) fork.team.end left) lane_is_at slots' old new none (lane_works lane phases)
+      (lane_fits lane phases fit) r goes

@@ -6,3 +6,4 @@ pub mod Team
 pub mod Crew
 pub mod Lawful
 pub mod Member
+pub mod Stopping
