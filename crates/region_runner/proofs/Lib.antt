@@ -17,3 +17,4 @@ pub mod LawfulPhases
 pub mod RegionLanes
 pub mod RegionDraws
 pub mod RegionStops
+pub mod RegionHands
