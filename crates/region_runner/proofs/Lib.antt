@@ -18,3 +18,4 @@ pub mod RegionLanes
 pub mod RegionDraws
 pub mod RegionStops
 pub mod RegionHands
+pub mod ClosedLogs
