@@ -1,19 +1,23 @@
 -- The logs of a lane and of all tasks below it, once its own is closed.
-use Rattle.std.proofs.Common.{◌≡◌, refl, ap, sym, ◌∙◌, subst, ℕ, List, [], ◌∷◌, ◌++◌, length}
-use Rattle.std.specs.Prelude.{is_some}
+use Rattle.std.proofs.Common.{◌≡◌, refl, ap, sym, ◌∙◌, subst, ℕ, List, [], ◌∷◌, ◌++◌, length, ◌<◌, Some, None, Result, Ok, Err}
+use Rattle.std.specs.Prelude.{is_some, IsErr}
+use Rattle.std.proofs.lemmas.Option.{same_Some}
+use Rattle.sw_base.specs.declared.trouble.Trouble.{Trouble}
+use Rattle.sw_base.specs.declared.trouble.Trouble.TheVariants.{Failed}
 use Rattle.std.specs.List.{flat_map}
 use Rattle.sw_base.specs.declared.path.Step.{Step}
 use Rattle.sw_base.specs.Environment.{Text, WhereTold}
 use Rattle.log_format.specs.declared.record.Record.{Record}
 use Rattle.log_format.specs.declared.format.TheConstants.{FORMAT}
 use Rattle.log_format.specs.Format.{log_header}
-use Rattle.event_buffer.specs.Buffered.{Buffered}
+use Rattle.event_buffer.specs.Buffered.{Buffered, CountsFault}
 use Rattle.event_buffer.specs.Logged.{HoldsRecords, HasAll, KeepsPrefix}
 use Rattle.history_model.specs.Work.{Work, RegionWork, work_regions}
 use Rattle.execution_model.specs.Runs.{works_log}
 use Rattle.lane_runner.specs.Going.{Progress, WorkHandsOn, log_of}
 use Rattle.lane_runner.specs.Handed.{Entry, LogPlace, MaybeStop, IsForMemory, MayLack, Keeps, IsEntryOf, TaskHands, RegionsHand, HandsOn, place_of}
 use Rattle.lane_runner.proofs.Handing.{regions_weaker}
+use Rattle.region_runner.specs.Closing.{IsClosedAs}
 use Rattle.region_runner.specs.Ran.{in_one, HasLogged}
 use Rattle.region_runner.proofs.Traced.{one_log, one_regions}
 
@@ -67,3 +71,28 @@ lane_hands place lane_stop stop memory old new works h none first is too e own =
         (subst (λ (rs : List RegionWork). RegionsHand place lane_stop old.buffer.path 0 rs h.added) (one_regions works)
         (subst (λ (n : ℕ). RegionsHand place lane_stop old.buffer.path n (work_regions (in_one works)) h.added) first
         (subst (λ (p : LogPlace). RegionsHand p lane_stop old.buffer.path old.tally.forked (work_regions (in_one works)) h.added) is h.hands)))
+
+-- ---- a buffer that is closed
+
+-- it took all that waited
+pub closed_ok : (e : Entry) (path : List Step) (b held : Buffered) → held ≡ b → e.task ≡ path → (e.dir ≡ held.dir) × (e.path ≡ held.path) → is_some e.text ≡ is_some held.text → e.count ≡ held.count
+    → ((header : List ℕ) (records : List Record) → HoldsRecords header held records → WhereTold e.text (HasAll header records held.size)) → ((trouble : Trouble) → held.refused ≡ Some trouble → ⊥) → IsClosedAs e None path b
+closed_ok e path b held is task places tells count taken again =
+    subst (λ (x : Buffered). IsClosedAs e None path x) is
+    (record { task = task; dir = places.0; own = places.1; tells = tells; count = count; taken = taken; failed = λ told. no_trouble told; again = λ trouble told. absurd (again trouble told) })
+  where
+    no_trouble : None ≡ Some Failed → 0 < e.faults
+    no_trouble told = absurd cc
+
+-- it didn't
+pub closed_err : (e : Entry) (path : List Step) (b held : Buffered) (trouble : Trouble) → held ≡ b → e.task ≡ path → (e.dir ≡ held.dir) × (e.path ≡ held.path) → is_some e.text ≡ is_some held.text → e.count ≡ held.count
+    → ((header : List ℕ) (records : List Record) → HoldsRecords header held records → WhereTold e.text (KeepsPrefix header records held.size)) → CountsFault trouble e.faults → ((other : Trouble) → held.refused ≡ Some other → trouble ≡ other)
+    → IsClosedAs e (Some trouble) path b
+closed_err e path b held trouble is task places tells count taken fault again =
+    subst (λ (x : Buffered). IsClosedAs e (Some trouble) path x) is
+    (record { task = task; dir = places.0; own = places.1; tells = tells; count = count; taken = taken; failed = λ told. fault (same_Some trouble Failed told); again = λ other told. ap (λ (t : Trouble). Some t) (again other told) })
+
+pub none_refused : {T E : Type 0} (r : Result T E) (x : T) → r ≡ Ok x → IsErr r → ⊥
+none_refused {T} {E} r x is err = absurd_ok (subst (λ (y : Result T E). IsErr y) is err) where
+  absurd_ok : IsErr {T = T} {E = E} (Ok x) → ⊥
+  absurd_ok e = cc

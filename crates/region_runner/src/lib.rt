@@ -8,6 +8,7 @@
 //! whole run. `joined_hands_did_a_phase`: a hand that split off one for each lane and joined them has the steps of the phase.
 #![tactic(auto)]
 
+mod closing;
 mod crew;
 mod drawn;
 mod executions;

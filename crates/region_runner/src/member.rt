@@ -11,7 +11,7 @@ ghost use Rattle.region_runner.specs.Member.{CanGoOn, WentOn, with_hand};
 use crate::crew::Crew;
 use kernel_model::Phase;
 use kernel_syntax::Team;
-use lane_runner::{Halt, Lane, Locals, Stop};
+use lane_runner::{Halt, Lane, Locals, Stop, Track};
 use shared_words::Hand;
 use std::alloc::Global;
 use std::marker::Model;
@@ -40,6 +40,17 @@ impl<L: Log> Member<L> {
         ensures { result ≡ self.now.path }
     {
         self.path.copy()
+    }
+
+    // The lane's path, what it steps with, and why it doesn't go on.
+    pub(crate) fn into_parts(self) -> (Path, Track<L>, Option<Halt>)
+        ensures path { result.0 ≡ self.path }
+        ensures track { result.1 ≡ self.at }
+        ensures halt { result.2 ≡ self.halt }
+    {
+        let Member { path, lane, halt } = self;
+        let Lane { track, locals: _ } = lane;
+        (path, track, halt)
     }
 
     // The lane goes on with this hand, and gives back the one that it had.
