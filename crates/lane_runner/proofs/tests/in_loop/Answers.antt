@@ -12,7 +12,7 @@ pub returns-clause-bounded : goal.returns-clause-bounded
 returns-clause-bounded c = subst IsBoundedCode (sym (stmt_code-Loop c.args.slot (expr.Number (pos 0)) (expr.Number (pos 2)) c.args.body Done)) (tt, tt, c.requires.bounded, tt)
 
 pub returns-clause-own : goal.returns-clause-own
-returns-clause-own c = subst (IsOfTeam 0) (sym (stmt_code-Loop c.args.slot (expr.Number (pos 0)) (expr.Number (pos 2)) c.args.body Done)) (c.requires.alone, tt)
+returns-clause-own c = subst (IsOfTeam 1) (sym (stmt_code-Loop c.args.slot (expr.Number (pos 0)) (expr.Number (pos 2)) c.args.body Done)) (c.requires.alone, tt)
 
 pub returns-clause-undrawn : goal.returns-clause-undrawn
 returns-clause-undrawn c = ap (λ (code : Code). drawn_count (Run (without_barrier code) ∷ [])) (stmt_code-Loop c.args.slot (expr.Number (pos 0)) (expr.Number (pos 2)) c.args.body Done)
