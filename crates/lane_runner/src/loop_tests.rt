@@ -1,5 +1,5 @@
 //! Worksharing loops of every schedule that one lane executes, with the records that it puts.
-ghost use Rattle.std.specs.Prelude.{◌≡◌, ◌≤◌, [], ◌∷◌};
+ghost use Rattle.std.specs.Prelude.{◌≡◌, ◌≤◌, true, [], ◌∷◌};
 ghost use Rattle.kernel_syntax.specs.Bounds.{IsBoundedCode, IsBoundedSchedule};
 ghost use Rattle.kernel_syntax.specs.Program.{code_of, stmt_code};
 ghost use Rattle.kernel_syntax.specs.Tree.{Done};

@@ -210,6 +210,7 @@ pub(crate) fn in_loop(slot: u32, body: Body) -> Stmt
     requires bounded { IsBoundedCode (code_of body.stmts.items) }
     requires alone { IsAlone 1 [] (code_of body.stmts.items) }
     ensures bounded { IsBoundedCode (stmt_code result Done) }
+    ensures alone { IsAlone 1 [] (stmt_code result Done) }
     ensures own { IsOfTeam 1 (stmt_code result Done) }
     ensures undrawn { drawn_count (part_of_stmt result ∷ []) ≡ 0 }
 {
