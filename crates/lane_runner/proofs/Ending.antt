@@ -33,6 +33,7 @@ stops_both arrays at number path why earlier forks xs ys x y = record {
   before = xs ++ y.before;
   region = y.region;
   regions_are = ap (λ (rs : List RegionWork). xs ++ rs) y.regions_are ∙ sym (append_assoc xs y.before (y.region ∷ []));
+  span_is = y.span_is;
   ended = ended_both xs y.before x y.ended;
   joined = y.joined;
   stopped =

@@ -33,7 +33,7 @@ use Rattle.lane_runner.proofs.Noting.{note_grows, past_stop}
 
 -- ---- what parts mean, one after another
 
-run_parts_both : (at : Site) (xs ys : List Part) (s : State) → run_parts at (xs ++ ys) s ≡ after (run_parts at xs s) (run_parts at ys)
+pub run_parts_both : (at : Site) (xs ys : List Part) (s : State) → run_parts at (xs ++ ys) s ≡ after (run_parts at xs s) (run_parts at ys)
 run_parts_both at [] ys s = refl
 run_parts_both at (x ∷ xs) ys s =
     after-same (run_part at x s) _ _ (run_parts_both at xs ys) ∙ sym (after-after (run_part at x s) (run_parts at xs) (run_parts at ys))
@@ -43,7 +43,7 @@ part_grows at (Set slot value) s = grows-plain.assigns slot value s
 part_grows at (Run code) s = run-grows at code s
 part_grows at (Bar line) s = note_grows (event kind.Barrier line 0 0) s refl
 
-parts_grow : (at : Site) (parts : List Part) (s : State) → Grows s (state_of (run_parts at parts s))
+pub parts_grow : (at : Site) (parts : List Part) (s : State) → Grows s (state_of (run_parts at parts s))
 parts_grow at [] s = grows-plain.same s
 parts_grow at (part ∷ parts) s = kept-after Grows grows-plain s (run_part at part s) (run_parts at parts) (part_grows at part s) (parts_grow at parts)
 

@@ -150,6 +150,7 @@ module _ (w : WorldValue) (at : Site) (team : TeamTree) (some : 1 ≤ team.line)
         before = [];
         region = this_region;
         regions_are = refl;
+        span_is = refl;
         ended = ended_none;
         joined = ran.joined;
         stopped = at_number (subst (λ (x : Answer). EndsAs w.arrays old.buffer.path old.tally.forked this_fork ran.phases x) is ran.ends);

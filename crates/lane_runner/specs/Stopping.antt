@@ -87,6 +87,7 @@ pub record StopsAtLast (arrays : List Array) (at : List Step) (number : ℕ) (pa
   pub before : List RegionWork
   pub region : RegionWork
   pub regions_are : regions ≡ before ++ region ∷ []
+  pub span_is : region.span ≡ fork.team.span
   pub ended : HaveEnded before
   pub joined : ArePhasesJoined region.phases
   pub stopped : StopsRegion arrays at (number + length before) path why fork region.phases

@@ -193,17 +193,8 @@ impl<L: Log> Lane<L> {
             } => {
                 let first = value(alloc, world, &self.locals, &mut self.track, from)?;
                 let last = value(alloc, world, &self.locals, &mut self.track, to)?;
-                self.repeat(
-                    body,
-                    rt,
-                    alloc,
-                    world,
-                    region,
-                    *slot,
-                    first,
-                    0,
-                    total_of(first, last),
-                )
+                let total = total_of(first, last);
+                self.repeat(body, rt, alloc, world, region, *slot, first, 0, total)
             }
             Stmt::Critical {
                 mutex,

@@ -10,7 +10,8 @@ ghost use Rattle.lane_runner.specs.Phase.{IsOfTeam};
 ghost use Rattle.sw_base.specs.Environment.{empty_text};
 ghost use Rattle.sw_base.specs.MemLog.{path_of, text_of, faults_of};
 
-use crate::{Lane, Locals, Stop, Track, World};
+use crate::one_lane::{executed, lane_over};
+use crate::{Locals, Stop, Track, World};
 use event_buffer::Buffer;
 use kernel_syntax::{Array, Body, Expr, Schedule, Stmt, Team};
 use log_format::{Kind, Record, encode};
@@ -21,7 +22,7 @@ use std::test::Fail;
 use sw_base::{Folder, LOG_HEADER, MemFolder, MemLog, Path, Trouble};
 
 // The record of a step on a mutex.
-fn step(kind: Kind, mutex: u64, line: u32) -> Record {
+pub(crate) fn step(kind: Kind, mutex: u64, line: u32) -> Record {
     Record {
         kind,
         size: 0,
@@ -47,19 +48,29 @@ pub(crate) fn buffer(alloc: Global) -> Result<Buffer<MemLog>, Fail>
     ensures empty { IfOk result (λ b. b.count ≡ 0) }
     ensures root { IfOk result (λ b. b.path ≡ []) }
 {
+    buffer_failing(alloc, 0)
+}
+
+// A buffer for two records, before the empty log of a new folder, of which this call fails. The first call has the number 1.
+pub(crate) fn buffer_failing(alloc: Global, call: u64) -> Result<Buffer<MemLog>, Fail>
+    ensures unrefused { IfOk result (λ b. b.refused ≡ None) }
+    ensures empty { IfOk result (λ b. b.count ≡ 0) }
+    ensures root { IfOk result (λ b. b.path ≡ []) }
+{
     let mut folder = MemFolder::new(alloc)?;
+    folder.fail_log(&Path::root(), &[call])?;
     match Buffer::start(alloc, folder.root(alloc, "d")?, 48) {
         Ok(buffer) => Ok(buffer),
         Err((trouble, _)) => Err(trouble.into()),
     }
 }
 
-// What a lane's log has at its end.
+// What a lane's log has at its end, also where its last call failed.
 pub(crate) fn bytes_of(alloc: Global, track: Track<MemLog>) -> Result<Vec<u8>, Fail> {
     let (_, buffer, _, _) = track.into_parts();
     match buffer.close(alloc) {
         Ok(log) => Ok(log.bytes().to_vec(alloc)?),
-        Err((trouble, _)) => Err(trouble.into()),
+        Err((_, log)) => Ok(log.bytes().to_vec(alloc)?),
     }
 }
 
@@ -120,7 +131,7 @@ fn a_lane_goes_on_in_its_log_with_another_hand(rt: HostRuntime) -> Result<(), Fa
 }
 
 // What is called to run a region, where no memory is found for it: no lane runs.
-fn without_memory(
+pub(crate) fn without_memory(
     hand: &mut Hand,
     _locals: &Locals,
     number: u32,
@@ -136,20 +147,20 @@ fn without_memory(
     Err((first, Stop::Trouble(Trouble::Memory)))
 }
 
-fn nothing(alloc: Global) -> Body
+pub(crate) fn nothing(alloc: Global) -> Body
     ensures bounded { IsBoundedCode (code_of result.stmts.items) }
-    ensures alone { IsAlone 0 [] (code_of result.stmts.items) }
+    ensures alone { IsAlone 1 [] (code_of result.stmts.items) }
 {
     Body {
         stmts: Vec::new(alloc),
     }
 }
 
-fn only(alloc: Global, stmt: Stmt) -> Result<Body, Fail>
+pub(crate) fn only(alloc: Global, stmt: Stmt) -> Result<Body, Fail>
     requires bounded { IsBoundedCode (stmt_code stmt Done) }
-    requires alone { IsAlone 0 [] (stmt_code stmt Done) }
+    requires alone { IsAlone 1 [] (stmt_code stmt Done) }
     ensures bounded { IfOk result (λ b. IsBoundedCode (code_of b.stmts.items)) }
-    ensures alone { IfOk result (λ b. IsAlone 0 [] (code_of b.stmts.items)) }
+    ensures alone { IfOk result (λ b. IsAlone 1 [] (code_of b.stmts.items)) }
 {
     let stmts = vec![in alloc; stmt]?;
     Ok(Body { stmts })
@@ -158,7 +169,7 @@ fn only(alloc: Global, stmt: Stmt) -> Result<Body, Fail>
 fn region(body: Body) -> Stmt
     requires bounded { IsBoundedCode (code_of body.stmts.items) }
     ensures bounded { IsBoundedCode (stmt_code result Done) }
-    ensures alone { IsAlone 0 [] (stmt_code result Done) }
+    ensures alone { IsAlone 1 [] (stmt_code result Done) }
 {
     let team = Team {
         span: 2,
@@ -170,13 +181,13 @@ fn region(body: Body) -> Stmt
 }
 
 // A test of variable 0.
-fn tested(yes: Body, no: Body) -> Stmt
+pub(crate) fn tested(yes: Body, no: Body) -> Stmt
     requires bounded { IsBoundedCode (code_of yes.stmts.items) }
-    requires alone { IsAlone 0 [] (code_of yes.stmts.items) }
+    requires alone { IsAlone 1 [] (code_of yes.stmts.items) }
     requires no_bounded { IsBoundedCode (code_of no.stmts.items) }
-    requires no_alone { IsAlone 0 [] (code_of no.stmts.items) }
+    requires no_alone { IsAlone 1 [] (code_of no.stmts.items) }
     ensures bounded { IsBoundedCode (stmt_code result Done) }
-    ensures alone { IsAlone 0 [] (stmt_code result Done) }
+    ensures alone { IsAlone 1 [] (stmt_code result Done) }
 {
     Stmt::If {
         test: Expr::Slot(0),
@@ -188,18 +199,19 @@ fn tested(yes: Body, no: Body) -> Stmt
 // A region where variable 0 isn't 0.
 fn region_past_zero(alloc: Global) -> Result<Body, Fail>
     ensures bounded { IfOk result (λ b. IsBoundedCode (code_of b.stmts.items)) }
-    ensures alone { IfOk result (λ b. IsAlone 0 [] (code_of b.stmts.items)) }
+    ensures alone { IfOk result (λ b. IsAlone 1 [] (code_of b.stmts.items)) }
 {
     let region = only(alloc, region(nothing(alloc)))?;
     only(alloc, tested(region, nothing(alloc)))
 }
 
 // A loop over a variable, from 0 to 1.
-fn in_loop(slot: u32, body: Body) -> Stmt
+pub(crate) fn in_loop(slot: u32, body: Body) -> Stmt
     requires bounded { IsBoundedCode (code_of body.stmts.items) }
-    requires alone { IsAlone 0 [] (code_of body.stmts.items) }
+    requires alone { IsAlone 1 [] (code_of body.stmts.items) }
     ensures bounded { IsBoundedCode (stmt_code result Done) }
-    ensures own { IsOfTeam 0 (stmt_code result Done) }
+    ensures alone { IsAlone 1 [] (stmt_code result Done) }
+    ensures own { IsOfTeam 1 (stmt_code result Done) }
     ensures undrawn { drawn_count (part_of_stmt result ∷ []) ≡ 0 }
 {
     Stmt::Loop {
@@ -213,9 +225,9 @@ fn in_loop(slot: u32, body: Body) -> Stmt
 // A worksharing loop over variable 0, from 0 to 1, in even shares.
 fn in_shares(body: Body) -> Stmt
     requires bounded { IsBoundedCode (code_of body.stmts.items) }
-    requires alone { IsAlone 0 [] (code_of body.stmts.items) }
+    requires alone { IsAlone 1 [] (code_of body.stmts.items) }
     ensures bounded { IsBoundedCode (stmt_code result Done) }
-    ensures own { IsOfTeam 0 (stmt_code result Done) }
+    ensures own { IsOfTeam 1 (stmt_code result Done) }
     ensures undrawn { drawn_count (part_of_stmt result ∷ []) ≡ 0 }
 {
     Stmt::For {
@@ -234,20 +246,11 @@ fn in_shares(body: Body) -> Stmt
 fn stops_in_region<R: Wait>(rt: &R, alloc: Global, lane: u16, stmt: &Stmt) -> Result<bool, Fail>
     requires lane { lane < 2 }
     requires bounded { IsBoundedCode (stmt_code stmt.now Done) }
-    requires own { IsOfTeam 0 (stmt_code stmt.now Done) }
+    requires own { IsOfTeam 1 (stmt_code stmt.now Done) }
     requires undrawn { drawn_count (part_of_stmt stmt.now ∷ []) ≡ 0 }
 {
-    let (words, hand) = Words::new(alloc, 0, 0)?;
-    let arrays: [Array; 0] = [];
-    let (chunks, draws) = Chunks::new(alloc, 0)?;
-    let world = World::new(&arrays, &words, &chunks, lane, 2);
-    let track = Track::new(alloc, hand, buffer(alloc)?, draws);
-    let locals = Locals {
-        slots: vec![in alloc; 0, 0]?,
-    };
-    let mut lane = Lane { locals, track };
-    let stopped = lane.part(stmt, rt, alloc, &world, &without_memory).is_err();
-    Ok(stopped && bytes_of(alloc, lane.track)? == log_of(alloc, &[fork()])?)
+    let left = executed(rt, alloc, &lane_over(8, lane), stmt)?;
+    Ok(left.halt.is_some() && left.bytes == log_of(alloc, &[fork()])?)
 }
 
 // The record of the fork of the region.

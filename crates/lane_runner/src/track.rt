@@ -197,8 +197,8 @@ impl<L: Log> Track<L> {
         ensures log { IsSameLog self.old.buffer self.new.buffer }
         ensures tally { self.new.tally ≡ self.old.tally }
     {
-        self.ready(alloc, line)?;
         let bits = value.cast_unsigned();
+        self.ready(alloc, line)?;
         world.words().store(&mut self.hand, element.word, bits);
         let event = access(Kind::Write, element, line, site, bits);
         self.buffer.put(&event);

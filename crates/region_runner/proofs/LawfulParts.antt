@@ -51,21 +51,25 @@ alone_of mutexes regions lanes held own Done same idle nested = tt
 alone_of mutexes regions lanes held own (tree.Set slot value rest) same idle nested = alone_of mutexes regions lanes held own rest same idle nested
 alone_of mutexes regions lanes held own (tree.Store array index value line site rest) same idle nested = alone_of mutexes regions lanes held own rest same idle nested
 alone_of mutexes regions lanes held own (tree.If test a b rest) same idle nested =
-    let more = or_last (code_holds_work a) (code_holds_work b || code_holds_work rest) idle in
-    (alone_of mutexes regions lanes held own a same (or_first (code_holds_work a) (code_holds_work b || code_holds_work rest) idle) nested.0,
-    alone_of mutexes regions lanes held own b same (or_first (code_holds_work b) (code_holds_work rest) more) nested.1,
-    alone_of mutexes regions lanes held own rest same (or_last (code_holds_work b) (code_holds_work rest) more) nested.2)
-alone_of mutexes regions lanes held own (tree.Loop slot from to body rest) same idle nested =
-    (alone_of mutexes regions lanes held own body same (or_first (code_holds_work body) (code_holds_work rest) idle) nested.0,
-    alone_of mutexes regions lanes held own rest same (or_last (code_holds_work body) (code_holds_work rest) idle) nested.1)
+    let more = or_last (code_holds_work a) (code_holds_work b || code_holds_work rest) idle in (
+      alone_of mutexes regions lanes held own a same (or_first (code_holds_work a) (code_holds_work b || code_holds_work rest) idle) nested.0,
+      alone_of mutexes regions lanes held own b same (or_first (code_holds_work b) (code_holds_work rest) more) nested.1,
+      alone_of mutexes regions lanes held own rest same (or_last (code_holds_work b) (code_holds_work rest) more) nested.2,
+    )
+alone_of mutexes regions lanes held own (tree.Loop slot from to body rest) same idle nested = (
+  alone_of mutexes regions lanes held own body same (or_first (code_holds_work body) (code_holds_work rest) idle) nested.0,
+  alone_of mutexes regions lanes held own rest same (or_last (code_holds_work body) (code_holds_work rest) idle) nested.1,
+)
 alone_of mutexes regions lanes held own (tree.Parallel span line end body rest) same idle nested =
     (same.none nested.0, alone_of mutexes regions lanes held own rest same idle nested.4)
 alone_of mutexes regions lanes held own (tree.For slot from to schedule nowait line end body rest) same idle nested = absurd cc
 alone_of mutexes regions lanes held own (tree.Barrier line rest) same idle nested = absurd cc
-alone_of mutexes regions lanes held own (tree.Critical mutex line end body rest) same idle nested =
-    (omega (arith, nested.0), same.below mutex nested.1,
-    alone_of mutexes regions lanes (held ++ mutex ∷ []) (mutex ∷ own) body (held_more held own mutex same) (or_first (code_holds_work body) (code_holds_work rest) idle) nested.3,
-    alone_of mutexes regions lanes held own rest same (or_last (code_holds_work body) (code_holds_work rest) idle) nested.4)
+alone_of mutexes regions lanes held own (tree.Critical mutex line end body rest) same idle nested = (
+  omega (arith, nested.0),
+  same.below mutex nested.1,
+  alone_of mutexes regions lanes (held ++ mutex ∷ []) (mutex ∷ own) body (held_more held own mutex same) (or_first (code_holds_work body) (code_holds_work rest) idle) nested.3,
+  alone_of mutexes regions lanes held own rest same (or_last (code_holds_work body) (code_holds_work rest) idle) nested.4,
+)
 
 no_mutex : SameHeld [] []
 no_mutex = record { below = λ m all. all; none = λ is. is }
@@ -80,11 +84,13 @@ teams_of mutexes regions lanes n held (tree.If test x y rest) b s e k =
     (teams_of mutexes regions lanes n held x b.1 s.1 e.2 k.0, teams_of mutexes regions lanes n held y b.2 s.2 e.3 k.1, teams_of mutexes regions lanes n held rest b.3 s.3 e.4 k.2)
 teams_of mutexes regions lanes n held (tree.Loop slot from to body rest) b s e k =
     (teams_of mutexes regions lanes (with_variable n slot false) held body b.2 s.3 e.1 k.0, teams_of mutexes regions lanes n held rest b.3 s.4 e.2 k.1)
-teams_of mutexes regions lanes n held (tree.Parallel span line end body rest) b s e k =
-    (record {
-      deeper = k.1;
-      lawful = record { span = b.0; line = b.1; end_line = b.2; bounded = b.3; names = n; scoped = s.0; even = e.0; lanes = lanes * span; nested = k.3 };
-    }, teams_of mutexes regions lanes n held rest b.4 s.1 e.1 k.4)
+teams_of mutexes regions lanes n held (tree.Parallel span line end body rest) b s e k = (
+  record {
+    deeper = k.1;
+    lawful = record { span = b.0; line = b.1; end_line = b.2; bounded = b.3; names = n; scoped = s.0; even = e.0; lanes = lanes * span; nested = k.3 };
+  },
+  teams_of mutexes regions lanes n held rest b.4 s.1 e.1 k.4,
+)
 teams_of mutexes regions lanes n held (tree.For slot from to schedule nowait line end body rest) b s e k =
     (teams_of mutexes regions lanes (with_variable n slot false) held body b.5 s.3 e.1 k.0, teams_of mutexes regions lanes n held rest b.6 s.4 e.2 k.1)
 teams_of mutexes regions lanes n held (tree.Barrier line rest) b s e k = teams_of mutexes regions lanes n held rest b.1 s e k
@@ -126,24 +132,33 @@ module _ (mutexes regions lanes : ℕ) where
   parts_lawful n (tree.Store array index value line site rest) b s e k =
       one_and (tree.Store array index value line site Done) (parts_of rest) ((b.0, b.1, b.2, tt), tt, tt) (parts_lawful n rest b.3 s.3 e k)
   parts_lawful n (tree.If test x y rest) b s e k =
-      one_and (tree.If test x y Done) (parts_of rest)
-      ((b.0, b.1, b.2, tt), (alone_of mutexes regions lanes [] [] x no_mutex e.0 k.0, alone_of mutexes regions lanes [] [] y no_mutex e.1 k.1, tt),
-      (teams_of mutexes regions lanes n [] x b.1 s.1 e.2 k.0, teams_of mutexes regions lanes n [] y b.2 s.2 e.3 k.1, tt))
+      one_and (tree.If test x y Done) (parts_of rest) (
+        (b.0, b.1, b.2, tt),
+        (alone_of mutexes regions lanes [] [] x no_mutex e.0 k.0, alone_of mutexes regions lanes [] [] y no_mutex e.1 k.1, tt),
+        (teams_of mutexes regions lanes n [] x b.1 s.1 e.2 k.0, teams_of mutexes regions lanes n [] y b.2 s.2 e.3 k.1, tt),
+      )
       (parts_lawful n rest b.3 s.3 e.4 k.2)
   parts_lawful n (tree.Loop slot from to body rest) b s e k =
       All-append (IsLawfulPart mutexes regions) (loop_parts (bounds_of from to body) slot (parts_of body) (tree.Loop slot from to body Done)) (parts_of rest)
       (loop_lawful mutexes regions slot (bounds_of from to body) (parts_of body) (tree.Loop slot from to body Done) (parts_lawful (with_variable n slot false) body b.2 s.3 e.1 k.0)
-      (λ none.
-      ((b.0, b.1, b.2, tt), (alone_of mutexes regions lanes [] [] body no_mutex (unless_fixed (fixed_bound from) (fixed_bound to) (code_holds_work body) e.0 none) k.0, tt),
-      (teams_of mutexes regions lanes (with_variable n slot false) [] body b.2 s.3 e.1 k.0, tt))))
+      (λ none. (
+        (b.0, b.1, b.2, tt),
+        (alone_of mutexes regions lanes [] [] body no_mutex (unless_fixed (fixed_bound from) (fixed_bound to) (code_holds_work body) e.0 none) k.0, tt),
+        (teams_of mutexes regions lanes (with_variable n slot false) [] body b.2 s.3 e.1 k.0, tt),
+      )))
       (parts_lawful n rest b.3 s.4 e.2 k.1)
   parts_lawful n (tree.Parallel span line end body rest) b s e k =
-      one_and (tree.Parallel span line end body Done) (parts_of rest)
-      ((b.0, b.1, b.2, b.3, tt), (refl, tt),
-      (record {
-        deeper = k.1;
-        lawful = record { span = b.0; line = b.1; end_line = b.2; bounded = b.3; names = n; scoped = s.0; even = e.0; lanes = lanes * span; nested = k.3 };
-      }, tt))
+      one_and (tree.Parallel span line end body Done) (parts_of rest) (
+        (b.0, b.1, b.2, b.3, tt),
+        (refl, tt),
+        (
+          record {
+            deeper = k.1;
+            lawful = record { span = b.0; line = b.1; end_line = b.2; bounded = b.3; names = n; scoped = s.0; even = e.0; lanes = lanes * span; nested = k.3 };
+          },
+          tt,
+        ),
+      )
       (parts_lawful n rest b.4 s.1 e.1 k.4)
   parts_lawful n (tree.For slot from to schedule nowait line end body rest) b s e k =
       one_and (tree.For slot from to schedule true line end body Done) (end_parts nowait end ++ parts_of rest)
@@ -152,10 +167,11 @@ module _ (mutexes regions lanes : ℕ) where
   parts_lawful n (tree.Barrier line rest) b s e k =
       All-cons (IsLawfulPart mutexes regions) (Bar line) (parts_of rest) b.0.some (parts_lawful n rest b.1 s e k)
   parts_lawful n (tree.Critical mutex line end body rest) b s e k =
-      one_and (tree.Critical mutex line end body Done) (parts_of rest)
-      ((b.0, b.1, b.2, b.3, tt),
-      (omega (arith, k.0), All-nil (λ (o : ℕ). o < mutex), alone_of mutexes regions lanes (mutex ∷ []) (mutex ∷ []) body (held_more [] [] mutex no_mutex) e.0 k.3, tt),
-      (teams_of mutexes regions lanes n (mutex ∷ []) body b.3 s.0 e.1 k.3, tt))
+      one_and (tree.Critical mutex line end body Done) (parts_of rest) (
+        (b.0, b.1, b.2, b.3, tt),
+        (omega (arith, k.0), All-nil (λ (o : ℕ). o < mutex), alone_of mutexes regions lanes (mutex ∷ []) (mutex ∷ []) body (held_more [] [] mutex no_mutex) e.0 k.3, tt),
+        (teams_of mutexes regions lanes n (mutex ∷ []) body b.3 s.0 e.1 k.3, tt),
+      )
       (parts_lawful n rest b.4 s.1 e.2 k.4)
 
 -- those of a team

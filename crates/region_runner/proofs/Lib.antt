@@ -14,3 +14,8 @@ pub mod Pointwise
 pub mod WentOn
 pub mod LawfulParts
 pub mod LawfulPhases
+pub mod RegionLanes
+pub mod RegionDraws
+pub mod RegionStops
+pub mod RegionHands
+pub mod ClosedLogs

@@ -31,7 +31,7 @@ all_at : (P : RegionWork → Type 0) (before : List RegionWork) (region : Region
 all_at P [] region after all = All-head P region after all
 all_at P (b ∷ before) region after all = all_at P before region after (All-tail P b (before ++ region ∷ after) all)
 
-get_at : {A : Type 0} (before : List A) (x : A) (after : List A) → slice_get (before ++ x ∷ after) (length before) ≡ Some x
+pub get_at : {A : Type 0} (before : List A) (x : A) (after : List A) → slice_get (before ++ x ∷ after) (length before) ≡ Some x
 get_at [] x after = refl
 get_at (b ∷ before) x after = get_at before x after
 

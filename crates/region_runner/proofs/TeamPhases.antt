@@ -87,11 +87,11 @@ hands_from : (word : ℕ → ℕ) (name : Name) (first k count : ℕ) (works : �
 hands_from word name first k zero works view each = tt
 hands_from word name first k (suc count) works view each = (
   subst (λ (n : ℕ). view n ≡ worked word (newcomer (k ∷ name)) (works n)) (let e : first + 0 ≡ first = omega arith in e)
-  (each 0 (omega arith) ∙ ap (λ (n : ℕ). worked word (newcomer (n ∷ name)) (works (first + 0))) (let e : k + 0 ≡ k = omega arith in e)),
+      (each 0 (omega arith) ∙ ap (λ (n : ℕ). worked word (newcomer (n ∷ name)) (works (first + 0))) (let e : k + 0 ≡ k = omega arith in e)),
   hands_from word name (suc first) (suc k) count works view
-  (λ i less.
-  subst (λ (n : ℕ). view n ≡ worked word (newcomer ((suc k + i) ∷ name)) (works n)) (let e : first + suc i ≡ suc first + i = omega arith in e)
-  (each (suc i) (omega arith) ∙ ap (λ (n : ℕ). worked word (newcomer (n ∷ name)) (works (first + suc i))) (let e : k + suc i ≡ suc k + i = omega arith in e))),
+      (λ i less.
+      subst (λ (n : ℕ). view n ≡ worked word (newcomer ((suc k + i) ∷ name)) (works n)) (let e : first + suc i ≡ suc first + i = omega arith in e)
+      (each (suc i) (omega arith) ∙ ap (λ (n : ℕ). worked word (newcomer (n ∷ name)) (works (first + suc i))) (let e : k + suc i ≡ suc k + i = omega arith in e))),
 )
 
 -- what the lanes did in a phase, once their hands are joined

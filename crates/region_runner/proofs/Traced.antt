@@ -123,12 +123,11 @@ module _ (program : Program) (start : Start) where
         (begins_made part start.slots (log_limit - old.buffer.count) (effect_of slots' (in_one works) t.forks) finish (t.makes (reads_fit (in_one works) fit)))))
         t.released (t.regions fit program same)
 
+    pub traces_begun : (cause : Cause) (t : TaskBegan w part start.slots old new works cause) → TracesFirst program start (log_of (in_one works)) t.forks
+    traces_begun cause t = begun_trace (log_of (in_one works)) t.forks (whole_begins (log_of (in_one works)) t.forks (t.begins (reads_fit (in_one works) fit)))
+
     runs_begun : (cause : Cause) → TaskBegan w part start.slots old new works cause → RunsTask program start works
-    runs_begun cause t =
-        runs_first works t.own t.forks
-        (begun_trace (log_of (in_one works)) t.forks
-        (whole_begins (log_of (in_one works)) t.forks (t.begins (reads_fit (in_one works) fit))))
-        t.released (t.regions fit program same)
+    runs_begun cause t = runs_first works t.own t.forks (traces_begun cause t) t.released (t.regions fit program same)
 
     pub runs_goes : (r : Result (Unit {0}) Halt) → TaskGoes w part start.slots slots' old new works r → RunsTask program start works
     runs_goes (Ok u) t = runs_ran (Returned tt) t

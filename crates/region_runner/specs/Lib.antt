@@ -6,3 +6,5 @@ pub mod Team
 pub mod Crew
 pub mod Lawful
 pub mod Member
+pub mod Closing
+pub mod Stopping

@@ -1,5 +1,5 @@
 -- A lane of a team as the run of its region sees it.
-use Rattle.std.specs.Prelude.{◌≡◌, ℕ, ◌+◌, List, [], ◌∷◌, map, ℤ, Option, Some, None, Result, Ok, Err}
+use Rattle.std.specs.Prelude.{◌≡◌, ℕ, ◌+◌, ◌≤◌, List, [], ◌∷◌, map, ℤ, Option, Some, None, Result, Ok, Err}
 use Rattle.sw_base.specs.declared.path.Step.{Step}
 use Rattle.atomic_table.specs.Seated.{TableId}
 use Rattle.step_history.specs.History.{Name}
@@ -46,6 +46,13 @@ IsWithoutHand old new = new ≡ with_hand old new.at.hand
 abbrev pub answer_of : Option Halt → Result (Unit {0}) Halt
 answer_of None = Ok tt
 answer_of (Some halt) = Err halt
+
+-- A lane of the team can execute the items of a phase.
+pub record CanGoOn (crew : CrewValue) (items : List Item) (lane : ℕ) (m : MemberValue) : Type 0 where
+  pub going : m.halt ≡ None
+  pub can : CanGo (world_of crew lane) m.at
+  pub free : m.at.hand.view.held ≡ []
+  pub counters : m.at.tally.next_loop + drawn_count (map part_of items) ≤ crew.chunks.loops
 
 -- A lane of the team executed the items of a phase.
 pub record WentOn (crew : CrewValue) (items : List Item) (lane : ℕ) (old new : MemberValue) : Type 0 where

@@ -1,5 +1,5 @@
 -- What the lanes of a team did: in one phase, and in all phases so far.
-use Rattle.std.specs.Prelude.{◌≡◌, ℕ, zero, suc, List, [], ◌∷◌}
+use Rattle.std.specs.Prelude.{◌≡◌, ℕ, zero, suc, List, [], ◌++◌}
 use Rattle.shared_words.specs.declared.view.View.{View}
 use Rattle.shared_words.specs.Handles.{HandValue, with_view}
 use Rattle.history_model.specs.Work.{Work, Phases, TeamWork, NoWork, Beside}
@@ -9,6 +9,7 @@ use Rattle.kernel_syntax.specs.declared.syntax.Array.{Array}
 use Rattle.lane_runner.specs.Fitting.{AccessesElements, PhasesAccessElements}
 use Rattle.lane_runner.specs.Forking.{after_phases}
 use Rattle.lane_runner.specs.Going.{worked}
+use Rattle.lane_runner.specs.Handed.{Entry}
 use Rattle.lane_runner.specs.World.{element_word, element_width, layout_of}
 
 -- the works of so many lanes, from this one on
@@ -29,3 +30,8 @@ pub record DidPhases (arrays : List Array) (span : ℕ) (old new : HandValue Vie
   pub elements : PhasesAccessElements (element_width arrays) phases
   pub joined : ArePhasesJoined phases
   pub hand : new ≡ with_view old (after_phases (element_word arrays) span phases old.view)
+
+-- what so many lanes hand on, from this one on
+abbrev pub handed_by : (ℕ → List Entry) → ℕ → ℕ → List Entry
+handed_by entries lane zero = []
+handed_by entries lane (suc count) = entries lane ++ handed_by entries (suc lane) count

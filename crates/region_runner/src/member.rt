@@ -6,12 +6,12 @@ ghost use Rattle.lane_runner.specs.Going.{CanGo};
 ghost use Rattle.lane_runner.specs.Phase.{IsPhase};
 ghost use Rattle.lane_runner.specs.Teams.{EachTeamIn, MayFork};
 ghost use Rattle.region_runner.specs.Crew.{world_of};
-ghost use Rattle.region_runner.specs.Member.{WentOn, with_hand};
+ghost use Rattle.region_runner.specs.Member.{CanGoOn, WentOn, with_hand};
 
 use crate::crew::Crew;
 use kernel_model::Phase;
 use kernel_syntax::Team;
-use lane_runner::{Halt, Lane, Locals, Stop};
+use lane_runner::{Halt, Lane, Locals, Stop, Track};
 use shared_words::Hand;
 use std::alloc::Global;
 use std::marker::Model;
@@ -35,6 +35,24 @@ impl<L: Log> Model for Member<L> {
 }
 
 impl<L: Log> Member<L> {
+    // The lane's path.
+    pub(crate) fn path(&self) -> Path
+        ensures { result ≡ self.now.path }
+    {
+        self.path.copy()
+    }
+
+    // The lane's path, what it steps with, and why it doesn't go on.
+    pub(crate) fn into_parts(self) -> (Path, Track<L>, Option<Halt>)
+        ensures path { result.0 ≡ self.path }
+        ensures track { result.1 ≡ self.at }
+        ensures halt { result.2 ≡ self.halt }
+    {
+        let Member { path, lane, halt } = self;
+        let Lane { track, locals: _ } = lane;
+        (path, track, halt)
+    }
+
     // The lane goes on with this hand, and gives back the one that it had.
     pub(crate) fn trade(&mut self, hand: Hand) -> Hand
         ensures given { result ≡ self.old.at.hand }
@@ -56,11 +74,8 @@ impl<L: Log> Member<L> {
         ) -> Result<(), (Path, Stop)>,
     >(&mut self, phase: &Phase, lane: u16, rt: &R, alloc: Global, crew: &Crew, region: &F)
         requires lane { lane < crew.now.span }
-        requires going { self.old.halt ≡ None }
-        requires can { CanGo (world_of crew.now lane) self.old.at }
-        requires free { self.old.at.hand.view.held ≡ [] }
+        requires can { CanGoOn crew.now phase.now lane self.old }
         requires phase { IsPhase crew.now.words.locks phase.now }
-        requires counters { self.old.at.tally.next_loop + drawn_count (map part_of phase.now) ≤ crew.now.chunks.loops }
         requires number { crew.now.chunks.loops < 4294967296 }
         requires runs { All (EachTeamIn (MayFork (world_of crew.now lane) (F.pre region.now) (F.post region.now) (record { dir = L.dir; path = L.path; text = L.text; faults = L.faults }) self.old.at.buffer)) phase.now }
         ensures went { WentOn crew.now phase.now lane self.old self.new }

@@ -15,7 +15,7 @@ returns-clause-bounded c =
     (tt, tt, tt, record { some = omega arith; fits = omega arith }, record { some = omega arith; fits = omega arith }, c.requires.bounded, tt)
 
 pub returns-clause-own : goal.returns-clause-own
-returns-clause-own c = subst (IsOfTeam 0) (sym (stmt_code-For 0 (expr.Number (pos 0)) (expr.Number (pos 2)) Even false 5 9 c.args.body Done)) c.requires.alone
+returns-clause-own c = subst (IsOfTeam 1) (sym (stmt_code-For 0 (expr.Number (pos 0)) (expr.Number (pos 2)) Even false 5 9 c.args.body Done)) c.requires.alone
 
 pub returns-clause-undrawn : goal.returns-clause-undrawn
 returns-clause-undrawn c = ap (λ (code : Code). drawn_count (Run (without_barrier code) ∷ [])) (stmt_code-For 0 (expr.Number (pos 0)) (expr.Number (pos 2)) Even false 5 9 c.args.body Done)

@@ -9,4 +9,4 @@ pub returns-clause-bounded : goal.returns-clause-bounded
 returns-clause-bounded c = subst (λ (l : List Stmt). IsBoundedCode (code_of l)) (sym c.in_ok-stmts.ensures.items) c.requires.bounded
 
 pub returns-clause-alone : goal.returns-clause-alone
-returns-clause-alone c = subst (λ (l : List Stmt). IsAlone 0 [] (code_of l)) (sym c.in_ok-stmts.ensures.items) c.requires.alone
+returns-clause-alone c = subst (λ (l : List Stmt). IsAlone 1 [] (code_of l)) (sym c.in_ok-stmts.ensures.items) c.requires.alone

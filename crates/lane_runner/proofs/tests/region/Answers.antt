@@ -11,4 +11,4 @@ returns-clause-bounded c =
     (record { some = omega arith; limit = omega arith }, record { some = omega arith; fits = omega arith }, record { some = omega arith; fits = omega arith }, c.requires.bounded, tt)
 
 pub returns-clause-alone : goal.returns-clause-alone
-returns-clause-alone c = subst (IsAlone 0 []) (sym (stmt_code-Parallel _ Done)) (refl, tt)
+returns-clause-alone c = subst (IsAlone 1 []) (sym (stmt_code-Parallel _ Done)) (refl, tt)

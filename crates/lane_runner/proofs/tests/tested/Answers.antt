@@ -10,4 +10,4 @@ pub returns-clause-bounded : goal.returns-clause-bounded
 returns-clause-bounded c = subst IsBoundedCode (sym (stmt_code-If (expr.Slot 0) c.args.yes c.args.no Done)) (tt, c.requires.bounded, c.requires.no_bounded, tt)
 
 pub returns-clause-alone : goal.returns-clause-alone
-returns-clause-alone c = subst (IsAlone 0 []) (sym (stmt_code-If (expr.Slot 0) c.args.yes c.args.no Done)) (c.requires.alone, c.requires.no_alone, tt)
+returns-clause-alone c = subst (IsAlone 1 []) (sym (stmt_code-If (expr.Slot 0) c.args.yes c.args.no Done)) (c.requires.alone, c.requires.no_alone, tt)

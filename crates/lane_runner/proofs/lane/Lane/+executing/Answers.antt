@@ -103,8 +103,8 @@ statement-returns-in_ok-last-in-Loop-clause-goes g t c =
     (loop_goes c.args.world.now (site c.args.world.now) c.args.self.now.locals.slots.items c.in-Loop.slot (term_of c.in-Loop.from) (term_of c.in-Loop.to) (code_of c.in-Loop.body.stmts.items) c.in_ok-first-in-Loop.first c.args.self.now.track c.value-in-Loop.new.track c.repeat.new.self.track c.in_ok-first-in-Loop.ensures.goes
     c.value-in-Loop-2.new.track c.in_ok-last-in-Loop.last c.repeat.new.self.locals.slots.items c.repeat.result c.in_ok-last-in-Loop.ensures.goes
     (subst (λ (n : ℕ). Goes c.args.world.now (turns n 0 (turn_from (site c.args.world.now) (code_of c.in-Loop.body.stmts.items) c.in-Loop.slot c.in_ok-first-in-Loop.first)) c.args.self.now.locals.slots.items c.repeat.new.self.locals.slots.items c.value-in-Loop-2.new.track c.repeat.new.self.track c.repeat.result)
-    (c.total_of.ensures ∙ ap (λ (z : ℤ). total_of z (to_z w64 (of_z w64 c.in_ok-last-in-Loop.last))) first_is ∙ ap (λ (z : ℤ). total_of c.in_ok-first-in-Loop.first z) last_is)
-    (subst (λ (z : ℤ). Goes c.args.world.now (turns c.total_of.result 0 (turn_from (site c.args.world.now) (code_of c.in-Loop.body.stmts.items) c.in-Loop.slot z)) c.args.self.now.locals.slots.items c.repeat.new.self.locals.slots.items c.value-in-Loop-2.new.track c.repeat.new.self.track c.repeat.result) first_is
+    (c.total_of-total.ensures ∙ ap (λ (z : ℤ). total_of z (to_z w64 (of_z w64 c.in_ok-last-in-Loop.last))) first_is ∙ ap (λ (z : ℤ). total_of c.in_ok-first-in-Loop.first z) last_is)
+    (subst (λ (z : ℤ). Goes c.args.world.now (turns c.total_of-total.result 0 (turn_from (site c.args.world.now) (code_of c.in-Loop.body.stmts.items) c.in-Loop.slot z)) c.args.self.now.locals.slots.items c.repeat.new.self.locals.slots.items c.value-in-Loop-2.new.track c.repeat.new.self.track c.repeat.result) first_is
     c.repeat.ensures.goes)))
 
 pub statement-unreachable-requires : goal.statement-unreachable-requires

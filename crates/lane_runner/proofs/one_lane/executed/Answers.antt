@@ -17,7 +17,7 @@ use Rattle.kernel_syntax.specs.Tree.{TeamTree, Code, Done, Set, Store, If, Loop,
 use Rattle.kernel_model.specs.Folder.{own_trace}
 use Rattle.kernel_model.specs.Trace.{Ending}
 use Rattle.shared_words.specs.declared.view.View.{View}
-use Rattle.shared_words.specs.Handles.{HandValue, with_view}
+use Rattle.shared_words.specs.Handles.{HandValue, WordsValue, ChunksValue, with_view}
 use Rattle.history_model.specs.Work.{Phases, NoPhase, RegionWork, lane_works}
 use Rattle.execution_model.specs.Execution.{DrewSome}
 use Rattle.execution_model.specs.Runs.{RunsTask, RunsRegions, lane_begin, region_logs, works_log}
@@ -33,9 +33,11 @@ use Rattle.kernel_syntax.specs.declared.syntax.Array.{Array}
 use Rattle.kernel_model.specs.State.{Fork}
 use Rattle.std.proofs.lemmas.Option.{same_Some}
 use Rattle.lane_runner.specs.Teams.{EachTeam, MayFork}
-use Rattle.lane_runner.specs.World.{WorldValue}
+use Rattle.lane_runner.specs.World.{WorldValue, IsWorld}
+use Rattle.kernel_syntax.specs.Arithmetic.{IsWidth}
+use Rattle.lane_runner.proofs.OwnWords.{bounded_world}
 use Rattle.lane_runner.proofs.Working.{hand_still, view_same}
-use Rattle.lane_runner.proofs.tests.stops_in_region.Goals as goal
+use Rattle.lane_runner.proofs.one_lane.executed.Goals as goal
 
 no_draws : (loop : ℕ) → loop_draws loop [] ≡ []
 no_draws zero = refl
@@ -141,3 +143,23 @@ module _ {T : Type 0} (w : WorldValue) (accepts : MutBor (HandValue View) → Bo
 pub part-requires-clause-runs : goal.part-requires-clause-runs
 part-requires-clause-runs g c κs within =
     any_team _ _ _ _ _ (search rules) (λ hand locals number logs given done. search rules) (λ hand after locals number logs given done now_done r gave. search (rules, gave)) (stmt_code c.args.stmt.now Done)
+
+-- one array of eight elements, over as many words
+over : (a : Array) (words : WordsValue) (chunks : ChunksValue) (lane : ℕ) → a.base ≡ 4096 → a.first ≡ 0 → a.count ≡ 8 → IsWidth a.width → words.elements ≡ 8 → lane < 2
+    → IsWorld (record { arrays = a ∷ []; words = words; chunks = chunks; lane = lane; span = 2 })
+over a words chunks lane base first count width elements less =
+    bounded_world (record { arrays = a ∷ []; mutexes = []; main = record { span = 1; line = 1; end = 1; body = Done }; slots = 0 }) words chunks lane 2
+    (record {
+      limits = record { few = omega arith; small = omega (arith, count) };
+      widths = All-cons (λ (x : Array). IsWidth x.width) a [] width (All-nil (λ (x : Array). IsWidth x.width));
+      placed = subst (λ (b : ℕ). a ∷ [] ≡ record a { base = b; first = 0 } ∷ []) base (subst (λ (f : ℕ). a ∷ [] ≡ record a { base = a.base; first = f } ∷ []) first refl);
+      line = record { some = omega arith; fits = omega arith };
+      end_line = record { some = omega arith; fits = omega arith };
+      body = tt;
+    })
+    (omega (arith, elements, count)) less
+
+pub new-world-requires : goal.new-world-requires
+new-world-requires g c =
+    let a = c.in_ok-array.ensures in
+    over c.in_ok-array.field-0 c.in_ok-words.words c.in_ok-chunks.chunks c.args.setting.now.lane a.0 a.1 a.2 (subst IsWidth (sym a.3) c.requires.width) c.in_ok-words.ensures.counts.0 c.requires.lane

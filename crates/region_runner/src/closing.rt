@@ -1,0 +1,49 @@
+//! The logs of a team, closed.
+ghost use Rattle.std.specs.Prelude.{◌≡◌, IfOk};
+ghost use Rattle.lane_runner.specs.Handed.{entries_of, entry_of};
+ghost use Rattle.region_runner.specs.Closing.{IsClosedAs};
+
+use crate::member::Member;
+use lane_runner::Halt;
+use shared_words::ChunkHand;
+use std::alloc::Global;
+use sw_base::{Log, Path, Trouble};
+
+// A lane whose log is closed: its path, its log and its number of records; the logs of the tasks below it; its hand on the counters; why
+// it didn't go on, if it didn't; and why its log refused a record or what waited, if it did.
+#[derive(Drop)]
+pub(crate) struct Closed<L: Log> {
+    pub(crate) own: (Path, L, u32),
+    pub(crate) below: Vec<(Path, L, u32)>,
+    pub(crate) draws: ChunkHand,
+    pub(crate) halt: Option<Halt>,
+    pub(crate) refused: Option<Trouble>,
+}
+
+// Closes the log of a lane.
+pub(crate) fn close<L: Log>(alloc: Global, member: Member<L>) -> Closed<L>
+    ensures closed { IsClosedAs (entry_of (record { dir = L.dir; path = L.path; text = L.text; faults = L.faults }) result.own) result.refused member.path member.at.buffer }
+    ensures below { entries_of (record { dir = L.dir; path = L.path; text = L.text; faults = L.faults }) result.below.items ≡ member.at.done }
+    ensures draws { result.draws ≡ member.at.tally.draws }
+    ensures halt { result.halt ≡ member.halt }
+{
+    let (path, track, halt) = member.into_parts();
+    let (_hand, buffer, draws, below) = track.into_parts();
+    let count = buffer.count();
+    match buffer.close(alloc) {
+        Ok(log) => Closed {
+            own: (path, log, count),
+            below,
+            draws,
+            halt,
+            refused: None,
+        },
+        Err((trouble, log)) => Closed {
+            own: (path, log, count),
+            below,
+            draws,
+            halt,
+            refused: Some(trouble),
+        },
+    }
+}
