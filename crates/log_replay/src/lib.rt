@@ -15,3 +15,6 @@ mod value;
 pub use comparing::follow;
 pub use lane::Forked;
 pub use stray::Stray;
+
+#[cfg(test)]
+mod tests;
