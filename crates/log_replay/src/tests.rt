@@ -102,13 +102,43 @@ fn each_field_of_a_record_counts(rt: HostRuntime) -> Result<(), Fail> {
     let alloc = rt.alloc();
     assert_eq!(rt; answer(alloc, COPY, 0, &copied())?, (0, 0));
     let [read, write, _end] = copied();
-    assert_eq!(rt; with(alloc, 0, Record { kind: Kind::Write, ..read })?, 1);
+    assert_eq!(rt;
+        with(
+            alloc,
+            0,
+            Record {
+                kind: Kind::Write,
+                ..read
+            }
+        )?,
+        1
+    );
     assert_eq!(rt; with(alloc, 0, Record { value: 9, ..read })?, 2);
-    assert_eq!(rt; with(alloc, 1, Record { kind: Kind::Read, ..write })?, 2);
+    assert_eq!(rt;
+        with(
+            alloc,
+            1,
+            Record {
+                kind: Kind::Read,
+                ..write
+            }
+        )?,
+        2
+    );
     assert_eq!(rt; with(alloc, 1, Record { size: 4, ..write })?, 2);
     assert_eq!(rt; with(alloc, 1, Record { site: 0, ..write })?, 2);
     assert_eq!(rt; with(alloc, 1, Record { line: 3, ..write })?, 2);
-    assert_eq!(rt; with(alloc, 1, Record { addr: 4096, ..write })?, 2);
+    assert_eq!(rt;
+        with(
+            alloc,
+            1,
+            Record {
+                addr: 4096,
+                ..write
+            }
+        )?,
+        2
+    );
     assert_eq!(rt; with(alloc, 1, Record { value: 9, ..write })?, 2);
     assert_eq!(rt; with(alloc, 2, event(Kind::End, 4, 0, 0))?, 3);
     Ok(())
@@ -122,7 +152,12 @@ fn a_log_is_neither_shorter_nor_longer_than_the_trace(rt: HostRuntime) -> Result
     assert_eq!(rt; answer(alloc, COPY, 0, &[read, end])?, (2, 0));
     assert_eq!(rt; answer(alloc, COPY, 0, &[read, write])?, (3, 0));
     assert_eq!(rt;
-        answer(alloc, "main {\nlet x = 1 / 0\n}", 0, &[event(Kind::End, 3, 0, 0)])?,
+        answer(
+            alloc,
+            "main {\nlet x = 1 / 0\n}",
+            0,
+            &[event(Kind::End, 3, 0, 0)]
+        )?,
         (1, 0)
     );
     Ok(())
@@ -152,7 +187,8 @@ fn chunks_are_those_that_the_log_draws(rt: HostRuntime) -> Result<(), Fail> {
     Ok(())
 }
 
-const SECTIONS: &str = "array a i8 4\nmutex m\nmain {\nparallel 2 {\nloop k in 0 .. 2 {\ncritical m {\na[k] = a[k] + 100\n}\n}\nbarrier\n}\n}";
+const SECTIONS: &str =
+    "array a i8 4\nmutex m\nmain {\nparallel 2 {\nloop k in 0 .. 2 {\ncritical m {\na[k] = a[k] + 100\n}\n}\nbarrier\n}\n}";
 
 #[test]
 fn a_value_is_that_of_its_element(rt: HostRuntime) -> Result<(), Fail> {
@@ -182,7 +218,13 @@ fn a_region_has_its_span_and_starts_from_the_locals(rt: HostRuntime) -> Result<(
     let alloc = rt.alloc();
     let text = "main {\nlet x = 5\nparallel 2 {\n}\n}";
     let end = event(Kind::End, 5, 0, 0);
-    assert_eq!(rt; answer(alloc, text, 0, &[event(Kind::Region, 3, 0, 2), end])?, (0, 1));
-    assert_eq!(rt; answer(alloc, text, 0, &[event(Kind::Region, 3, 0, 3), end])?, (1, 0));
+    assert_eq!(rt;
+        answer(alloc, text, 0, &[event(Kind::Region, 3, 0, 2), end])?,
+        (0, 1)
+    );
+    assert_eq!(rt;
+        answer(alloc, text, 0, &[event(Kind::Region, 3, 0, 3), end])?,
+        (1, 0)
+    );
     Ok(())
 }
