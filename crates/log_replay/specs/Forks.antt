@@ -3,7 +3,7 @@ use Rattle.std.specs.Prelude.{List, map}
 use Rattle.kernel_syntax.specs.Program.{team_of}
 use Rattle.kernel_model.specs.State.{Fork}
 use Rattle.log_replay.specs.Following.{Standing}
-use Rattle.log_replay.specs.declared.lane.Forked.{Forked}
+use Rattle.log_replay.specs.declared.forked.Forked.{Forked}
 use Rattle.log_replay.specs.declared.lane.Lane.{Lane}
 
 -- the region that was forked, as the meaning of kernels has it

@@ -6,3 +6,4 @@ pub mod Forks
 pub mod Differing
 pub mod Sharing
 pub mod Task
+pub mod Sole

@@ -14,7 +14,8 @@ ghost use Rattle.log_replay.specs.Forks.{standing};
 ghost use Rattle.log_replay.specs.Sharing.{sharing};
 ghost use Rattle.sw_base.specs.Environment.{Rose};
 
-use crate::lane::{Forked, Lane, access, event};
+use crate::forked::Forked;
+use crate::lane::{Lane, access, event};
 use crate::place::Place;
 use crate::stray::Stray;
 use kernel_syntax::{Body, Expr, Schedule, Stmt, Team, even_share, fit};
@@ -119,6 +120,7 @@ impl<'k> Lane<'k> {
         folder: &mut F,
         place: &Place,
     ) -> Result<(), Stray>
+        requires bounded { IsBoundedCode (code_of team.now.body.stmts.items) }
         ensures follows { Follows (F.content folder.old) (run place.now (tree.Parallel team.now.span team.now.line team.now.end (code_of team.now.body.stmts.items) Done)) (standing self.old) (standing self.new) result }
         ensures fewer { IfOk result (λ _. self.new.reader.left ≤ self.old.reader.left) }
         ensures same { F.content folder.new ≡ F.content folder.old }

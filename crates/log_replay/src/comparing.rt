@@ -13,7 +13,8 @@ ghost use Rattle.log_replay.specs.Placing.{IsPlace};
 ghost use Rattle.log_replay.specs.Task.{Compares, EndsLog, IsFollowed, StraysSo};
 ghost use Rattle.sw_base.specs.Environment.{HasCause, Rose, WhereTold};
 
-use crate::lane::{Forked, Lane, event, is_same};
+use crate::forked::Forked;
+use crate::lane::{Lane, event, is_same};
 use crate::place::Place;
 use crate::stray::Stray;
 use kernel_syntax::{Array, Team};

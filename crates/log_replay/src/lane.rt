@@ -13,20 +13,14 @@ ghost use Rattle.log_replay.specs.Placing.{meant};
 ghost use Rattle.log_replay.specs.declared.stray.Stray.TheVariants as stray;
 ghost use Rattle.sw_base.specs.Environment.{Rose};
 
+use crate::forked::Forked;
 use crate::place::Element;
 use crate::stray::Stray;
-use kernel_syntax::{Team, fit};
+use kernel_syntax::fit;
 use log_format::{Kind, Record};
 use log_reader::LogReader;
 use std::alloc::Global;
 use sw_base::Folder;
-
-/// A region that a task forked: its team, and the task's locals at that point.
-#[derive(Drop)]
-pub struct Forked<'k> {
-    pub team: &'k Team,
-    pub slots: Vec<i64>,
-}
 
 /// A task that follows its log.
 #[derive(Drop)]

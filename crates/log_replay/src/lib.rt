@@ -7,11 +7,15 @@
 
 mod body;
 mod comparing;
+mod forked;
 mod lane;
 mod place;
 mod stray;
 mod value;
 
 pub use comparing::follow;
-pub use lane::Forked;
+pub use forked::Forked;
 pub use stray::Stray;
+
+#[cfg(test)]
+mod tests;

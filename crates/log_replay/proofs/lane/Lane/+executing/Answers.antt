@@ -369,6 +369,9 @@ statement-returns-in-Loop-clause-follows g t c =
     subst (λ (x : Code). Follows (g.F.Folder.content c.args.folder.now) (run c.args.place.now x) (standing c.args.self.now) (standing c.looped.new.self) c.looped.result) (sym (ap (λ (s : Stmt). stmt_code s Done) c.in-Loop.is ∙ stmt_code-Loop c.in-Loop.slot c.in-Loop.from c.in-Loop.to c.in-Loop.body Done))
     (c.looped.ensures.follows)
 
+pub statement-fork-requires-clause-bounded : goal.statement-fork-requires-clause-bounded
+statement-fork-requires-clause-bounded g t c κs given = (subst IsBoundedCode (ap (λ (s : Stmt). stmt_code s Done) c.in-Parallel.is ∙ stmt_code-Parallel c.in-Parallel.team Done) c.requires.bounded).3
+
 pub statement-returns-in-Parallel-clause-follows : goal.statement-returns-in-Parallel-clause-follows
 statement-returns-in-Parallel-clause-follows g t c =
     subst (λ (x : Code). Follows (g.F.Folder.content c.args.folder.now) (run c.args.place.now x) (standing c.args.self.now) (standing c.fork.new.self) c.fork.result) (sym (ap (λ (s : Stmt). stmt_code s Done) c.in-Parallel.is ∙ stmt_code-Parallel c.in-Parallel.team Done))

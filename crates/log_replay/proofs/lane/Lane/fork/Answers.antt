@@ -1,7 +1,7 @@
 use Rattle.std.proofs.Common.{◌≡◌, ap, sym, ◌∙◌, subst, Ok, Err, List, [], ◌∷◌, ◌++◌, ℤ, map, rules}
 use Rattle.std.proofs.lemmas.List.{map-append}
 use Rattle.kernel_syntax.specs.Tree as tree
-use Rattle.log_replay.specs.declared.lane.Forked.{Forked}
+use Rattle.log_replay.specs.declared.forked.Forked.{Forked}
 use Rattle.std.proofs.lemmas.Result.{err_from_is_err_and}
 use Rattle.log_format.specs.declared.record.Record.{Record}
 use Rattle.kernel_model.specs.State.{Fork, put}

@@ -4,7 +4,7 @@ use Rattle.sw_base.specs.Environment.{Content}
 use Rattle.kernel_syntax.specs.Program.{team_of}
 use Rattle.log_replay.specs.Following.{IsAt}
 use Rattle.log_replay.specs.Forks.{fork_of, standing}
-use Rattle.log_replay.specs.declared.lane.Forked.{Forked}
+use Rattle.log_replay.specs.declared.forked.Forked.{Forked}
 use Rattle.log_replay.proofs.Tasks.{body_stops, task_ends, site_of_start}
 use Rattle.log_replay.proofs.lane.Lane.task.Goals as goal
 
