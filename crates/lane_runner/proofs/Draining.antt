@@ -22,9 +22,6 @@ use Rattle.lane_runner.proofs.Following.{goes_stop, goes_then, goes_same}
 pub record GoesOnIn (w : WorldValue) (part : State → Outcome (Unit {0})) (slots mid_slots : List ℤ) (old mid : Progress) : Type 0 where
   pub on : (slots' : List ℤ) (new : Progress) (r : Result (Unit {0}) Halt) → Goes w part mid_slots slots' mid new r → Goes w part slots slots' old new r
 
-pub begins_in : (w : WorldValue) (part : State → Outcome (Unit {0})) (slots : List ℤ) (p : Progress) → GoesOnIn w part slots slots p p
-begins_in w part slots p = record { on = λ slots' new r goes. goes }
-
 module _ (line n : ℕ) (chunk : ℕ → State → Outcome (Unit {0})) (grows : (q : ℕ) (s : State) → Grows s (state_of (chunk q s))) where
   -- after a draw that found a chunk, and after one that found none
   abbrev pub again : Bool → State → Outcome (Unit {0})

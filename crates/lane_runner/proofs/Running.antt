@@ -3,7 +3,7 @@ use Rattle.std.proofs.Common.{◌≡◌, refl, ap, sym, subst, ℕ, ◌-◌, Lis
 use Rattle.std.specs.Prelude.{slice_set}
 use Rattle.kernel_syntax.specs.Arithmetic.{fitted}
 use Rattle.kernel_syntax.specs.Tree as tree
-use Rattle.kernel_syntax.specs.Tree.{Term, Code}
+use Rattle.kernel_syntax.specs.Tree.{Term}
 use Rattle.log_format.specs.declared.record.Kind.TheVariants as kind
 use Rattle.kernel_model.specs.State as model
 use Rattle.kernel_model.specs.State.{State, Outcome, Gives, and_then, after, assign, put, state_of}

@@ -1,5 +1,5 @@
 -- What is asked for the regions of statements, of some of them and as a lane goes on.
-use Rattle.std.proofs.Common.{◌≡◌, ap, sym, subst, ℕ, ◌<◌, List, [], ◌∷◌}
+use Rattle.std.proofs.Common.{◌≡◌, sym, subst, ℕ, ◌<◌, List, [], ◌∷◌}
 use Rattle.std.specs.Prelude.{Some, All, length, slice_get}
 use denote.Ref.{Bor, MutBor}
 use Rattle.std.specs.Global.{Vec}

@@ -7,7 +7,6 @@ use Rattle.kernel_syntax.specs.declared.syntax.Expr.{Expr}
 use Rattle.kernel_syntax.specs.Program.{term_of}
 use Rattle.kernel_syntax.specs.Arithmetic.{negated, applied}
 use Rattle.kernel_syntax.specs.Tree as tree
-use Rattle.kernel_syntax.specs.Tree.{Term}
 use Rattle.kernel_model.specs.Value.{element_at, loaded, value}
 use Rattle.kernel_model.specs.Trace.{log_limit}
 use Rattle.kernel_model.specs.Effect.{Returned}

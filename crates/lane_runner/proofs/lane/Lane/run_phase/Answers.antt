@@ -1,4 +1,4 @@
-use Rattle.std.proofs.Common.{sym, ◌∙◌, subst, ◌<◌, ◌≤◌, length, List, Ok, arith}
+use Rattle.std.proofs.Common.{◌∙◌, subst, ◌<◌, ◌≤◌, length, List, Ok, arith}
 use Rattle.std.proofs.lemmas.List.{take_all}
 use Rattle.std.proofs.lemmas.Result.{err_from_is_err_and}
 use Rattle.std.specs.Prelude.{map}
@@ -9,7 +9,7 @@ use Rattle.kernel_model.specs.Effect.{Returned}
 use Rattle.lane_runner.specs.Going.{MadePast, site}
 use Rattle.lane_runner.proofs.Bodies.{log_still, log_later}
 use Rattle.lane_runner.proofs.Values.{can_past}
-use Rattle.lane_runner.proofs.Phases.{IsItemAt, item_at, item_is, drawn_more, drawn_within, phase_begins, can_before, phase_next, phase_stop, held_stays, out_stays}
+use Rattle.lane_runner.proofs.Phases.{item_at, item_is, drawn_more, drawn_within, phase_begins, can_before, phase_next, phase_stop, held_stays}
 use Rattle.lane_runner.proofs.Teams.{teams_of_item_at}
 use Rattle.lane_runner.proofs.lane.Lane.run_phase.Goals as goal
 
