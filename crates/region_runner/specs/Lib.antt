@@ -8,3 +8,4 @@ pub mod Lawful
 pub mod Member
 pub mod Closing
 pub mod Stopping
+pub mod Answer
