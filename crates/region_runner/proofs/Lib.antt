@@ -19,3 +19,4 @@ pub mod RegionDraws
 pub mod RegionStops
 pub mod RegionHands
 pub mod ClosedLogs
+pub mod LastPhase
