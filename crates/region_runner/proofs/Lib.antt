@@ -20,3 +20,4 @@ pub mod RegionStops
 pub mod RegionHands
 pub mod ClosedLogs
 pub mod LastPhase
+pub mod Forks

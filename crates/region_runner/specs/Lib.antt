@@ -9,3 +9,4 @@ pub mod Member
 pub mod Closing
 pub mod Stopping
 pub mod Answer
+pub mod Ground

@@ -13,10 +13,12 @@ mod crew;
 mod drawn;
 mod executions;
 mod finished;
+mod ground;
 mod handing;
 mod hands;
 mod listing;
 mod member;
+mod region;
 mod run;
 
 pub use drawn::hands_tell_each_chunk_once;
