@@ -21,3 +21,4 @@ pub mod RegionHands
 pub mod ClosedLogs
 pub mod LastPhase
 pub mod Forks
+pub mod Standing

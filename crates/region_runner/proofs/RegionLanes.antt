@@ -32,7 +32,7 @@ use Rattle.region_runner.specs.Ran.{in_one, task_part, TaskGoes}
 use Rattle.region_runner.proofs.Traced.{lane_fits, runs_goes}
 
 -- the parts of phases, one after another
-parts_both : (done left : List (List Item)) → parts_in (done ++ left) ≡ parts_in done ++ parts_in left
+pub parts_both : (done left : List (List Item)) → parts_in (done ++ left) ≡ parts_in done ++ parts_in left
 parts_both done left = ap (λ (items : List Item). map part_of items) (flat_map-append (λ (phase : List Item). phase) done left) ∙ map-append part_of (items_in done) (items_in left)
 
 -- what is left of a task after some phases: those that follow, and its End

@@ -10,3 +10,4 @@ pub mod Closing
 pub mod Stopping
 pub mod Answer
 pub mod Ground
+pub mod Stands
