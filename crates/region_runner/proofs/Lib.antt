@@ -22,3 +22,5 @@ pub mod ClosedLogs
 pub mod LastPhase
 pub mod Forks
 pub mod Standing
+pub mod TeamSteps
+pub mod PhaseHands

@@ -1,9 +1,10 @@
 -- How a team stands after some of its phases.
-use Rattle.std.specs.Prelude.{◌≡◌, ℕ, ◌+◌, ◌<◌, ◌≤◌, List, [], ◌∷◌, length, map, slice_index_or, Option, Some, None}
+use Rattle.std.specs.Prelude.{◌≡◌, ◌⊎◌, ◌++◌, ℕ, ◌+◌, ◌<◌, ◌≤◌, List, [], ◌∷◌, length, map, slice_index_or, Option, Some, None}
 use Rattle.shared_words.specs.declared.view.View.{View}
 use Rattle.shared_words.specs.Handles.{Belongs, HandValue, with_view}
 use Rattle.shared_words.specs.Views.{IsAtRest}
 use Rattle.history_model.specs.Work.{Phases, lane_works}
+use Rattle.history_model.specs.Joined.{PhasesEnd}
 use Rattle.kernel_model.specs.declared.phase.Item.{Item}
 use Rattle.kernel_model.specs.Parts.{drawn_count}
 use Rattle.kernel_model.specs.Phases.{part_of, parts_in}
@@ -57,3 +58,20 @@ pub record TeamStands (crew : CrewValue) (done : List (List Item)) (end : Option
 -- all lanes go on
 abbrev pub AllGo : List MemberValue → Type 0
 AllGo members = (k : ℕ) (d : MemberValue) → k < length members → (slice_index_or members k d).halt ≡ None
+
+-- The lane has executed no phase yet: it has drawn from no counter, forked no region, and put no record.
+pub record IsFresh (crew : CrewValue) (m : MemberValue) : Type 0 where
+  pub going : m.halt ≡ None
+  pub may : MayStep crew m.at
+  pub no_loop : m.at.tally.next_loop ≡ 0
+
+-- The lanes of a team executed its phases, until one didn't go on. After all of them each that did put its End, at this line.
+pub record TeamRan (crew : CrewValue) (items : List (List Item)) (line : ℕ) (old new : HandValue View) (before after : List MemberValue) : Type 0 where
+  pub done : List (List Item)
+  pub left : List (List Item)
+  pub is : items ≡ done ++ left
+  pub end : Option ℕ
+  pub end_is : (end ≡ None) ⊎ ((end ≡ Some line) × (left ≡ []))
+  pub phases : Phases
+  pub stands : TeamStands crew done end phases old new before after
+  pub ends : AllGo after → PhasesEnd phases

@@ -1,5 +1,5 @@
 //! A lane of a team as the run of its region sees it.
-ghost use Rattle.std.specs.Prelude.{◌≡◌, ◌+◌, ◌<◌, ◌≤◌, ℕ, [], map, All, None, Some, IfOk, OnOk};
+ghost use Rattle.std.specs.Prelude.{◌≡◌, ◌≢◌, true, false, ◌+◌, ◌<◌, ◌≤◌, ℕ, [], map, All, None, Some, IfOk, OnOk};
 ghost use Rattle.kernel_model.specs.Parts.{bar_count, drawn_count};
 ghost use Rattle.kernel_model.specs.Phases.{part_of};
 ghost use Rattle.lane_runner.specs.Forking.{IsReady};
@@ -76,6 +76,14 @@ impl<L: Log> Member<L> {
         ensures { result ≡ self.now.path }
     {
         self.path.copy()
+    }
+
+    // Whether the lane goes on.
+    pub(crate) fn goes(&self) -> bool
+        ensures goes { result ≡ true → self.now.halt ≡ None }
+        ensures halted { result ≡ false → self.now.halt ≢ None }
+    {
+        self.halt.is_none()
     }
 
     // The lane's path, what it steps with, and why it doesn't go on.

@@ -1,5 +1,5 @@
 //! A region: its lanes on threads of their own, phase by phase.
-ghost use Rattle.std.specs.Prelude.{◌≡◌, ◌+◌, ◌*◌, ◌-◌, ◌<◌, ◌≤◌, ℕ, length, Some, slice_index_or};
+ghost use Rattle.std.specs.Prelude.{◌≡◌, ◌+◌, ◌*◌, ◌-◌, ◌<◌, ◌≤◌, ℕ, [], true, false, length, All, Some, slice_index_or};
 ghost use Rattle.std.specs.Thread.{IsSend, IsSync};
 ghost use Rattle.event_buffer.specs.Buffered.{Buffered};
 ghost use Rattle.kernel_syntax.specs.Program.{team_of};
@@ -8,10 +8,15 @@ ghost use Rattle.lane_runner.specs.Forking.{IsReady, RanRegion};
 ghost use Rattle.lane_runner.specs.Handed.{entries_of};
 ghost use Rattle.lane_runner.specs.World.{WorldValue};
 ghost use Rattle.region_runner.specs.Ground.{AreLanesLogs, IsMemberOf, IsOurPhase, IsOurTeam, crew_of};
+ghost use Rattle.kernel_model.specs.Parts.{drawn_count};
+ghost use Rattle.kernel_model.specs.Phases.{AreDivided, parts_in};
+ghost use Rattle.shared_words.specs.Handles.{Belongs};
 ghost use Rattle.region_runner.specs.Member.{CanGoOn, IsLast, WentOn};
+ghost use Rattle.region_runner.specs.Stands.{AllGo, IsFresh, MayGoOn, RanPhase, TeamRan};
 
 use crate::crew::Crew;
 use crate::ground::Ground;
+use crate::handing::{join_hands, split_hands};
 use crate::member::Member;
 use kernel_model::Phase;
 use kernel_syntax::Team;
@@ -118,6 +123,88 @@ fn run_lanes<R: Threads + Wait + Sync, L: Log, G: Gate>(
     {
         start_lane(rt, alloc, depth, ground, crew, phase, end, lane, member);
     });
+}
+
+// The lanes of a team execute a phase, each with a hand that is split off for it and joined after it.
+fn run_phase<R: Threads + Wait + Sync, L: Log, G: Gate>(
+    rt: &R,
+    alloc: Global,
+    depth: u32,
+    ground: &Ground<'_, G>,
+    crew: &Crew<'_>,
+    phase: &Phase<'_>,
+    end: Option<u32>,
+    hand: &mut Hand,
+    members: &mut [Member<L>],
+)
+    requires crew { crew.now ≡ crew_of ground.now crew.now.chunks crew.now.span }
+    requires number { crew.now.chunks.loops < 4294967296 }
+    requires span { crew.now.span ≤ 64 }
+    requires phase { IsOurPhase ground.now (4 - depth) phase.now }
+    requires last { (line : ℕ) → end ≡ Some line → IsLast phase.now line }
+    requires count { length members.old ≡ crew.now.span }
+    requires some { 1 ≤ crew.now.span }
+    requires belongs { Belongs hand.old ground.now.words.table }
+    requires can { (i : ℕ) (d : _) → i < length members.old → MayGoOn crew.now phase.now (slice_index_or members.old i d) }
+    requires own { (i : ℕ) (d : _) → i < length members.old → IsMemberOf ground.now depth (slice_index_or members.old i d) }
+    ensures ran { RanPhase crew.now phase.now end hand.old hand.new members.old members.new }
+{
+    let words = ground.words();
+    split_hands(words, hand, members, crew.span());
+    run_lanes(rt, alloc, depth, ground, crew, phase, end, members);
+    join_hands(words, hand, members);
+}
+
+// Whether each lane goes on.
+fn all_go<L: Log>(members: &[Member<L>]) -> bool
+    ensures all { result ≡ true → AllGo members.now }
+    ensures some { result ≡ false → AllGo members.now → ⊥ }
+{
+    for member in members {
+        if !member.goes() {
+            return false;
+        }
+    }
+    true
+}
+
+// The lanes of a team execute its phases, until a lane doesn't go on. After the last phase each that does puts its End.
+fn run_phases<R: Threads + Wait + Sync, L: Log, G: Gate>(
+    rt: &R,
+    alloc: Global,
+    depth: u32,
+    ground: &Ground<'_, G>,
+    crew: &Crew<'_>,
+    phases: &[Phase<'_>],
+    end: u32,
+    hand: &mut Hand,
+    members: &mut [Member<L>],
+)
+    requires crew { crew.now ≡ crew_of ground.now crew.now.chunks crew.now.span }
+    requires number { crew.now.chunks.loops < 4294967296 }
+    requires span { crew.now.span ≤ 64 }
+    requires lawful { All (IsOurPhase ground.now (4 - depth)) phases.now }
+    requires divided { AreDivided phases.now }
+    requires counters { drawn_count (parts_in phases.now) ≤ crew.now.chunks.loops }
+    requires end { 1 ≤ end }
+    requires count { length members.old ≡ crew.now.span }
+    requires some { 1 ≤ crew.now.span }
+    requires belongs { Belongs hand.old ground.now.words.table }
+    requires none_out { hand.old.view.out ≡ [] }
+    requires fresh { (i : ℕ) (d : _) → i < length members.old → IsFresh crew.now (slice_index_or members.old i d) }
+    requires own { (i : ℕ) (d : _) → i < length members.old → IsMemberOf ground.now depth (slice_index_or members.old i d) }
+    ensures ran { TeamRan crew.now phases.now end hand.old hand.new members.old members.new }
+{
+    let Some((last, earlier)) = phases.split_last() else {
+        unreachable!()
+    };
+    for phase in earlier {
+        run_phase(rt, alloc, depth, ground, crew, phase, None, hand, members);
+        if !all_go(members) {
+            return;
+        }
+    }
+    run_phase(rt, alloc, depth, ground, crew, last, Some(end), hand, members);
 }
 
 // Runs the region of this number of the task at this path, from these locals.
