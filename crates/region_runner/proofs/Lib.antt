@@ -24,3 +24,4 @@ pub mod Forks
 pub mod Standing
 pub mod TeamSteps
 pub mod PhaseHands
+pub mod TeamLoop

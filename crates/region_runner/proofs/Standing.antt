@@ -83,7 +83,7 @@ part_after at done items (Some line) s =
     ap (λ (o : Outcome (Unit {0})). after o (put (event kind.End line 0 0))) (phase_after at done items s)
     ∙ after-after (run_parts at (parts_in done) s) (run_parts at (map part_of items)) (put (event kind.End line 0 0))
 
-drawn_both : (xs ys : List Part) → drawn_count (xs ++ ys) ≡ drawn_count xs + drawn_count ys
+pub drawn_both : (xs ys : List Part) → drawn_count (xs ++ ys) ≡ drawn_count xs + drawn_count ys
 drawn_both [] ys = omega arith
 drawn_both (x ∷ xs) ys =
     let whole = count_cons is_drawn x (xs ++ ys) in
