@@ -24,7 +24,7 @@ use Rattle.lane_runner.specs.declared.stop.Stop.{Stop}
 use Rattle.lane_runner.specs.declared.stop.Stop.TheVariants as stop
 use Rattle.lane_runner.specs.Fitting.{WorkFits, PhasesFit}
 use Rattle.lane_runner.specs.Going.{Progress, AtRegion, AtTasks, site, log_of}
-use Rattle.lane_runner.specs.Stopping.{HaveEnded, EndsInLane, LastIsRegionAt, RestsBelow, RestsInLane, StopsRegion, StopsAtLast, ending_for, itself}
+use Rattle.lane_runner.specs.Stopping.{HaveEnded, EndsInLane, IsInRegion, LastIsRegionAt, RestsBelow, RestsInLane, StopsRegion, StopsAtLast, ending_for, itself}
 use Rattle.lane_runner.specs.Stopping.{RestsBelow, below as further}
 use Rattle.lane_runner.specs.World.{WorldValue}
 use Rattle.region_runner.specs.Ran.{in_one, TaskRan, TaskBegan, TaskGoes}
@@ -35,10 +35,14 @@ use Rattle.region_runner.proofs.Traced.{lane_fits, one_log, one_regions, stopped
 
 module _ (fork : Fork) (lane : ℕ) (w : WorldValue) (within : lane < fork.team.span) (part : State → Outcome (Unit {0})) (first_part : BeginsLane fork lane w part) (slots' : List ℤ) (old new : Progress) (none : old.buffer.count ≡ 0) (phases : Phases)
     (at : List Step) (number : ℕ) (own_path : List Step) (path_is : own_path ≡ at ++ record { region = number; lane = lane; span = fork.team.span } ∷ []) where
+  own_inside : IsInRegion at number fork.team.span own_path
+  own_inside = record { lane = lane; below = []; path_is = path_is }
+
   -- the lane's own stop
   itself_stops : (why : model.Stop) (line : ℕ) (it : Stop) → ending_for it ≡ Some (Stopped why line) → ((l : ℕ) → it ≡ stop.Tasks l → ⊥) → TaskRan w part fork.slots slots' old new (lane_works lane phases) (Halted why line)
       → StopsRegion w.arrays at number own_path it fork phases
   itself_stops why line it ending other t = record {
+    inside = own_inside;
     traced = λ fit program same end told.
         subst (λ (p : List Step). EndsInLane program end at number p fork phases) (sym path_is)
         (lane_stops program end at number fork phases lane within
@@ -62,6 +66,7 @@ module _ (fork : Fork) (lane : ℕ) (w : WorldValue) (within : lane < fork.team.
 
   tasks_stop : (line : ℕ) → TaskBegan w part fork.slots old new (lane_works lane phases) (AtTasks line) → StopsRegion w.arrays at number own_path (stop.Tasks line) fork phases
   tasks_stop line t = record {
+    inside = own_inside;
     traced = λ fit program same end told. absurd (no_ending told);
     crowded = λ l told. subst (λ (n : ℕ). RestsInLane n at number fork.team.span own_path phases) (line_of told) (itself_rests line t);
   }
@@ -73,7 +78,7 @@ module _ (fork : Fork) (lane : ℕ) (w : WorldValue) (within : lane < fork.team.
       line_of e = cc
 
   trouble_stops : (it : Stop) → ending_for it ≡ None → ((l : ℕ) → it ≡ stop.Tasks l → ⊥) → StopsRegion w.arrays at number own_path it fork phases
-  trouble_stops it none_told other = record { traced = λ fit program same end told. absurd (no_ending (sym none_told ∙ told)); crowded = λ l told. absurd (other l told) } where
+  trouble_stops it none_told other = record { inside = own_inside; traced = λ fit program same end told. absurd (no_ending (sym none_told ∙ told)); crowded = λ l told. absurd (other l told) } where
     no_ending : {end : Ending} → None ≡ Some end → ⊥
     no_ending e = cc
 
@@ -81,6 +86,15 @@ module _ (fork : Fork) (lane : ℕ) (w : WorldValue) (within : lane < fork.team.
   below_stops : old.buffer.path ≡ own_path → old.tally.forked ≡ 0 → (path : List Step) (why : Stop) → TaskBegan w part fork.slots old new (lane_works lane phases) (AtRegion path why)
       → StopsRegion w.arrays at number path why fork phases
   below_stops own first path why t = record {
+    inside = record {
+      lane = lane;
+      below = record { region = length stops.before; lane = stops.stopped.inside.lane; span = stops.fork.team.span } ∷ stops.stopped.inside.below;
+      path_is =
+          stops.stopped.inside.path_is
+          ∙ ap (λ (n : ℕ). own_path ++ record { region = n; lane = stops.stopped.inside.lane; span = stops.fork.team.span } ∷ stops.stopped.inside.below) (let e : 0 + length stops.before ≡ length stops.before = omega arith in e)
+          ∙ ap (λ (p : List Step). p ++ record { region = length stops.before; lane = stops.stopped.inside.lane; span = stops.fork.team.span } ∷ stops.stopped.inside.below) path_is
+          ∙ append_assoc at (record { region = number; lane = lane; span = fork.team.span } ∷ []) (record { region = length stops.before; lane = stops.stopped.inside.lane; span = stops.fork.team.span } ∷ stops.stopped.inside.below);
+    };
     traced = λ fit program same end told.
         task_stops program end at number fork phases lane within w.arrays own_path path why t.forks (lane_works lane phases) refl same told path_is (lane_fits lane phases fit) stops
         (t.regions (lane_fits lane phases fit) program same)
