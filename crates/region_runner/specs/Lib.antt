@@ -11,3 +11,4 @@ pub mod Stopping
 pub mod Answer
 pub mod Ground
 pub mod Stands
+pub mod Gathering
