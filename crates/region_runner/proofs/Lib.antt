@@ -25,3 +25,4 @@ pub mod Standing
 pub mod TeamSteps
 pub mod PhaseHands
 pub mod TeamLoop
+pub mod RanRegions

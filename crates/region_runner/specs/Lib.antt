@@ -12,3 +12,4 @@ pub mod Answer
 pub mod Ground
 pub mod Stands
 pub mod Gathering
+pub mod Begins

@@ -1,0 +1,84 @@
+-- What the lanes of a region did, once it rests.
+use Rattle.std.proofs.Common.{◌≡◌, refl, ap, sym, ◌∙◌, subst, ℕ, ◌+◌, ◌<◌, List, [], ◌∷◌, ◌++◌, length, ℤ, Option, Some, None, Result, Err, slice_index_or, arith}
+use Rattle.sw_base.specs.declared.path.Step.{Step}
+use Rattle.race_model.specs.Listing.{lane_of}
+use Rattle.kernel_syntax.specs.Program.{Program}
+use Rattle.kernel_syntax.specs.Tree.{TeamTree}
+use Rattle.kernel_model.specs.Chunking.{HasCounts}
+use Rattle.kernel_model.specs.State.{Fork, State}
+use Rattle.kernel_model.specs.Trace.{run}
+use Rattle.kernel_model.specs.Value.{Site}
+use Rattle.kernel_model.specs.declared.phase.Item.{Item}
+use Rattle.kernel_model.specs.Parts.{run_parts}
+use Rattle.kernel_model.specs.Phases.{parts_in}
+use Rattle.history_model.specs.Work.{Phases, lane_works}
+use Rattle.execution_model.specs.Execution.{DrewSome}
+use Rattle.execution_model.specs.Runs.{RunsTask, lane_begin, region_logs, works_log}
+use Rattle.shared_words.specs.declared.share.Share.{Share}
+use Rattle.shared_words.specs.declared.view.View.{View}
+use Rattle.shared_words.specs.Draws.{AreEachOnce, numbers}
+use Rattle.shared_words.specs.Handles.{HandValue}
+use Rattle.lane_runner.specs.declared.stop.Halt.{Halt}
+use Rattle.lane_runner.specs.Drawing.{Tally, TellDraws}
+use Rattle.lane_runner.specs.Fitting.{PhasesFit}
+use Rattle.lane_runner.specs.Going.{site}
+use Rattle.lane_runner.specs.Handed.{LogPlace}
+use Rattle.lane_runner.specs.Stopping.{StopsRegion}
+use Rattle.region_runner.specs.Begins.{LaneBegins}
+use Rattle.region_runner.specs.Crew.{CrewValue, world_of}
+use Rattle.region_runner.specs.Drawing.{drawn_by}
+use Rattle.region_runner.specs.Member.{MemberValue, answer_of}
+use Rattle.region_runner.specs.Ran.{TaskGoes, task_part}
+use Rattle.region_runner.specs.Stands.{LaneStands, TeamRan}
+use Rattle.region_runner.specs.Stopping.{stop_of}
+use Rattle.region_runner.proofs.RegionDraws.{goes_logged, lane_drew, region_draws}
+use Rattle.region_runner.proofs.RegionLanes.{BeginsLane, lane_ran, task_begins}
+use Rattle.region_runner.proofs.RegionStops.{region_stops}
+
+module _ (crew : CrewValue) (team : TeamTree) (slots : List ℤ) (items : List (List Item)) (old new : HandValue View) (before after : List MemberValue) (place : LogPlace) (at : List Step) (number : ℕ)
+    (draws : ℕ → HandValue Share) (span_is : crew.span ≡ team.span) (runs : (site : Site) (s : State) → run_parts site (parts_in items) s ≡ run site team.body s) (ran : TeamRan crew items team.end old new before after)
+    (begins : (k : ℕ) (d : MemberValue) → k < crew.span → LaneBegins place (lane_of at number k team.span) slots (draws k) (slice_index_or before k d)) (unused : (k : ℕ) → k < crew.span → (draws k).view.drawn ≡ []) (d : MemberValue) where
+  abbrev fork : Fork
+  fork = record { team = team; slots = slots }
+
+  abbrev start : ℕ → MemberValue
+  start k = slice_index_or before k d
+
+  abbrev now : ℕ → MemberValue
+  now k = slice_index_or after k d
+
+  first : (k : ℕ) → BeginsLane fork k (world_of crew k) (task_part (site (world_of crew k)) ran.done ran.end)
+  first k = task_begins fork k (world_of crew k) refl span_is items runs ran.done ran.left ran.is ran.end ran.end_is
+
+  pub lane_goes : (k : ℕ) (less : k < crew.span)
+      → TaskGoes (world_of crew k) (task_part (site (world_of crew k)) ran.done ran.end) slots (now k).slots (start k).at (ran.stands.lanes k d less).last (lane_works k ran.phases) (answer_of (now k).halt)
+  lane_goes k less =
+      subst (λ (ss : List ℤ). TaskGoes (world_of crew k) (task_part (site (world_of crew k)) ran.done ran.end) ss (now k).slots (start k).at (ran.stands.lanes k d less).last (lane_works k ran.phases) (answer_of (now k).halt))
+      (begins k d less).slots_are (ran.stands.lanes k d less).goes
+
+  pub ran_lanes : PhasesFit ran.phases → (program : Program) → program.arrays ≡ crew.arrays → (k : ℕ) → k < crew.span → RunsTask program (lane_begin fork k) (lane_works k ran.phases)
+  ran_lanes fit program arrays k less =
+      lane_ran program fork k (world_of crew k) arrays (task_part (site (world_of crew k)) ran.done ran.end) (first k) (now k).slots (start k).at (ran.stands.lanes k d less).last (begins k d less).none_put ran.phases fit
+      (answer_of (now k).halt) (lane_goes k less)
+
+  drew : (k : ℕ) → k < crew.span → TellDraws 0 (works_log (lane_works k ran.phases)) (now k).at.tally.draws.view.drawn (now k).at.tally.next_loop
+  drew k less =
+      let b = begins k d less in
+      let stands = ran.stands.lanes k d less in
+      subst (λ (t : Tally). TellDraws 0 (works_log (lane_works k ran.phases)) t.draws.view.drawn t.next_loop) (sym stands.up.tally)
+      (lane_drew (start k).at stands.last (lane_works k ran.phases)
+      (goes_logged (world_of crew k) (task_part (site (world_of crew k)) ran.done ran.end) slots (now k).slots (start k).at stands.last (lane_works k ran.phases) (answer_of (now k).halt) (lane_goes k less))
+      (ap (λ (t : Tally). t.next_loop) b.tally) (ap (λ (t : Tally). t.draws.view.drawn) b.tally ∙ unused k less))
+
+  pub ran_draws : HasCounts team slots → ((loop : ℕ) → AreEachOnce (numbers loop (drawn_by (λ k. (now k).at.tally.draws.view.drawn) 0 crew.span)))
+      → PhasesFit ran.phases → (program : Program) → program.arrays ≡ crew.arrays → (loop : ℕ) → DrewSome (region_logs ran.phases crew.span) loop
+  ran_draws has once fit program arrays loop =
+      region_draws program fork has crew.span ran.phases (λ k. (now k).at) drew (ran_lanes fit program arrays) once loop
+
+  pub ran_stops : (k : ℕ) (less : k < crew.span) (h : Halt) → (now k).halt ≡ Some h
+      → StopsRegion crew.arrays at number (stop_of (lane_of at number k team.span) h).0 (stop_of (lane_of at number k team.span) h).1 fork ran.phases
+  ran_stops k less h is =
+      let b = begins k d less in
+      region_stops fork k (world_of crew k) (subst (λ (n : ℕ). k < n) span_is less) (task_part (site (world_of crew k)) ran.done ran.end) (first k) (now k).slots (start k).at (ran.stands.lanes k d less).last b.none_put ran.phases at number
+      (lane_of at number k team.span) refl b.own (ap (λ (t : Tally). t.forked) b.tally) h
+      (subst (λ (x : Option Halt). TaskGoes (world_of crew k) (task_part (site (world_of crew k)) ran.done ran.end) slots (now k).slots (start k).at (ran.stands.lanes k d less).last (lane_works k ran.phases) (answer_of x)) is (lane_goes k less))

@@ -1,0 +1,24 @@
+-- A lane of a team before its first phase.
+use Rattle.std.specs.Prelude.{◌≡◌, ℕ, List, [], ℤ, None}
+use Rattle.sw_base.specs.declared.path.Step.{Step}
+use Rattle.log_format.specs.declared.format.TheConstants.{FORMAT}
+use Rattle.log_format.specs.Format.{log_header}
+use Rattle.event_buffer.specs.Logged.{HoldsRecords}
+use Rattle.shared_words.specs.declared.share.Share.{Share}
+use Rattle.shared_words.specs.Handles.{HandValue}
+use Rattle.lane_runner.specs.Handed.{LogPlace, place_of}
+use Rattle.region_runner.specs.Member.{MemberValue}
+
+-- The lane at this path has these locals and this hand on the counters. Its log, which is of this place, has no record, and it has
+-- forked no region.
+pub record LaneBegins (place : LogPlace) (path : List Step) (slots : List ℤ) (draws : HandValue Share) (m : MemberValue) : Type 0 where
+  pub path_is : m.path ≡ path
+  pub slots_are : m.slots ≡ slots
+  pub going : m.halt ≡ None
+  pub own : m.at.buffer.path ≡ path
+  pub place_is : place_of m.at.buffer ≡ place
+  pub none_put : m.at.buffer.count ≡ 0
+  pub unrefused : m.at.buffer.refused ≡ None
+  pub holds : HoldsRecords (log_header FORMAT) m.at.buffer []
+  pub tally : m.at.tally ≡ record { draws = draws; next_loop = 0; forked = 0 }
+  pub none_handed : m.at.done ≡ []
