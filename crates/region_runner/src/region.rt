@@ -59,13 +59,9 @@ fn start_lane<R: Threads + Wait + Sync, L: Log, G: Gate>(
         rt,
         alloc,
         crew,
-        &|hand: &mut Hand,
-          locals: &Locals,
-          number: u32,
-          logs: Vec<L>,
-          team: &Team,
-          done: &mut Vec<(Path, L, u32)>|
-         -> Result<(), (Path, Stop)>
+        &|hand: &mut Hand, locals: &Locals, number: u32, logs: Vec<L>, team: &Team, done: &mut Vec<
+            (Path, L, u32),
+        >| -> Result<(), (Path, Stop)>
             requires sync { IsSync R.row × IsSend L.row }
             requires inner { 0 < depth }
             requires deep { length path + depth ≡ 4 }
@@ -75,11 +71,21 @@ fn start_lane<R: Threads + Wait + Sync, L: Log, G: Gate>(
             ensures ran { (w : WorldValue) (task : Buffered) → w.arrays ≡ ground.entry.now.arrays → task.path ≡ path → task.size ≡ ground.entry.now.size
                 → AreNewLogs (record { dir = L.dir; path = L.path; text = L.text; faults = L.faults }) task number team.now.span logs.items
                 → RanRegion w (team_of team.now) locals.now.slots.items task number hand.old hand.new
-                    (entries_of (record { dir = L.dir; path = L.path; text = L.text; faults = L.faults }) done.old.items)
-                    (entries_of (record { dir = L.dir; path = L.path; text = L.text; faults = L.faults }) done.new.items) result }
+                (entries_of (record { dir = L.dir; path = L.path; text = L.text; faults = L.faults }) done.old.items)
+                (entries_of (record { dir = L.dir; path = L.path; text = L.text; faults = L.faults }) done.new.items) result }
         {
             region(
-                rt, alloc, depth - 1, ground, &path, hand, locals, number, logs, team, done,
+                rt,
+                alloc,
+                depth - 1,
+                ground,
+                &path,
+                hand,
+                locals,
+                number,
+                logs,
+                team,
+                done,
             )
         },
     );
@@ -109,20 +115,25 @@ fn run_lanes<R: Threads + Wait + Sync, L: Log, G: Gate>(
     ensures went { (i : ℕ) (d : _) → i < length members.old → WentOn crew.now phase.now end i (slice_index_or members.old i d) (slice_index_or members.new i d) }
 {
     let count = members.len();
-    thread::for_each_mut(rt, members, count, &|lane: usize, member: &mut Member<L>|
-        requires sync { IsSync R.row × IsSend L.row }
-        requires crew { crew.now ≡ crew_of ground.now crew.now.chunks crew.now.span }
-        requires number { crew.now.chunks.loops < 4294967296 }
-        requires span { crew.now.span ≤ 64 }
-        requires phase { IsOurPhase ground.now (4 - depth) phase.now }
-        requires last { (line : ℕ) → end ≡ Some line → IsLast phase.now line }
-        requires lane { lane < crew.now.span }
-        requires can { CanGoOn crew.now phase.now lane member.old }
-        requires own { IsMemberOf ground.now depth member.old }
-        ensures went { WentOn crew.entry.now phase.entry.now end lane member.old member.new }
-    {
-        start_lane(rt, alloc, depth, ground, crew, phase, end, lane, member);
-    });
+    thread::for_each_mut(
+        rt,
+        members,
+        count,
+        &|lane: usize, member: &mut Member<L>|
+            requires sync { IsSync R.row × IsSend L.row }
+            requires crew { crew.now ≡ crew_of ground.now crew.now.chunks crew.now.span }
+            requires number { crew.now.chunks.loops < 4294967296 }
+            requires span { crew.now.span ≤ 64 }
+            requires phase { IsOurPhase ground.now (4 - depth) phase.now }
+            requires last { (line : ℕ) → end ≡ Some line → IsLast phase.now line }
+            requires lane { lane < crew.now.span }
+            requires can { CanGoOn crew.now phase.now lane member.old }
+            requires own { IsMemberOf ground.now depth member.old }
+            ensures went { WentOn crew.entry.now phase.entry.now end lane member.old member.new }
+        {
+            start_lane(rt, alloc, depth, ground, crew, phase, end, lane, member);
+        },
+    );
 }
 
 // The lanes of a team execute a phase, each with a hand that is split off for it and joined after it.
@@ -204,7 +215,17 @@ fn run_phases<R: Threads + Wait + Sync, L: Log, G: Gate>(
             return;
         }
     }
-    run_phase(rt, alloc, depth, ground, crew, last, Some(end), hand, members);
+    run_phase(
+        rt,
+        alloc,
+        depth,
+        ground,
+        crew,
+        last,
+        Some(end),
+        hand,
+        members,
+    );
 }
 
 // Runs the region of this number of the task at this path, from these locals.
@@ -228,8 +249,8 @@ pub(crate) fn region<R: Threads + Wait + Sync, L: Log, G: Gate>(
     ensures ran { (w : WorldValue) (task : Buffered) → w.arrays ≡ ground.now.arrays → task.path ≡ path.now → task.size ≡ ground.now.size
         → AreNewLogs (record { dir = L.dir; path = L.path; text = L.text; faults = L.faults }) task number team.now.span logs.items
         → RanRegion w (team_of team.now) locals.now.slots.items task number hand.old hand.new
-            (entries_of (record { dir = L.dir; path = L.path; text = L.text; faults = L.faults }) done.old.items)
-            (entries_of (record { dir = L.dir; path = L.path; text = L.text; faults = L.faults }) done.new.items) result }
+        (entries_of (record { dir = L.dir; path = L.path; text = L.text; faults = L.faults }) done.old.items)
+        (entries_of (record { dir = L.dir; path = L.path; text = L.text; faults = L.faults }) done.new.items) result }
 {
     for _ in rt.forever() {}
     unreachable!()

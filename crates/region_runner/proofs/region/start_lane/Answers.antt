@@ -25,22 +25,32 @@ go-requires-clause-runs g c κs within =
       runs = record {
         accepted = λ hand locals number logs given done is ready new. (
           (record { shared = c.type_bounds.sync-R.shared }, record { owned = c.type_bounds.send-L.owned; leaving = λ k. Quiet-if (k (of_param 1)) _ _ (λ x w. tt) (λ x w. tt) }),
-          ((let i = inner.deeper in omega (arith, i)),
-          (deep,
-          (record {
-            mutexes = mutexes;
-            locks = c.requires.phase.locks;
-            lawful = subst (λ (t : TeamTree). IsTeam mutexes (length c.path-path.result + 1) t) (sym is)
-                (subst (λ (n : ℕ). IsTeam mutexes n team) (let e : 4 - c.args.depth + 1 ≡ length c.path-path.result + 1 = omega (arith, deep) in e) inner.lawful);
-          },
-          (subst (λ (words : WordsValue). IsReady hand.now words) (ap (λ (v : CrewValue). v.words) c.requires.crew) ready,
-          (record {
-            task = c.args.member.now.at.buffer;
-            path_is = own.path_is ∙ sym c.path-path.ensures;
-            size_is = own.size_is;
-            new = subst (λ (t : TeamTree). AreNewLogs {T = g.row.L.Denot} seen c.args.member.now.at.buffer number t.span logs.items) (sym is) new;
-          },
-          (record { owned = c.type_bounds.send-L.owned; leaving = λ k. Quiet-if (k (of_param 1)) _ _ (λ x w. tt) (λ x w. tt) }, record { shared = c.type_bounds.sync-R.shared }, record { shared = c.type_bounds.sync-G.shared }))))))
+          (
+            (let i = inner.deeper in omega (arith, i)),
+            (
+              deep,
+              (
+                record {
+                  mutexes = mutexes;
+                  locks = c.requires.phase.locks;
+                  lawful = subst (λ (t : TeamTree). IsTeam mutexes (length c.path-path.result + 1) t) (sym is)
+                      (subst (λ (n : ℕ). IsTeam mutexes n team) (let e : 4 - c.args.depth + 1 ≡ length c.path-path.result + 1 = omega (arith, deep) in e) inner.lawful);
+                },
+                (
+                  subst (λ (words : WordsValue). IsReady hand.now words) (ap (λ (v : CrewValue). v.words) c.requires.crew) ready,
+                  (
+                    record {
+                      task = c.args.member.now.at.buffer;
+                      path_is = own.path_is ∙ sym c.path-path.ensures;
+                      size_is = own.size_is;
+                      new = subst (λ (t : TeamTree). AreNewLogs {T = g.row.L.Denot} seen c.args.member.now.at.buffer number t.span logs.items) (sym is) new;
+                    },
+                    (record { owned = c.type_bounds.send-L.owned; leaving = λ k. Quiet-if (k (of_param 1)) _ _ (λ x w. tt) (λ x w. tt) }, record { shared = c.type_bounds.sync-R.shared }, record { shared = c.type_bounds.sync-G.shared }),
+                  ),
+                ),
+              ),
+            ),
+          ),
         );
         ran = λ hand after locals number logs given done now_done r is ready new gives.
             subst (λ (t : TeamTree). RanRegion (world_of c.args.crew.now c.args.lane) t locals.now.slots.items c.args.member.now.at.buffer number hand.now after.now (entries_of {T = g.row.L.Denot} seen done.now.items) (entries_of {T = g.row.L.Denot} seen now_done.now.items) r) is
