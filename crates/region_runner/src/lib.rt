@@ -17,6 +17,7 @@ mod ground;
 mod handing;
 mod hands;
 mod listing;
+mod loops;
 mod member;
 mod region;
 mod run;

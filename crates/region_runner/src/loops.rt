@@ -1,0 +1,61 @@
+//! The loops of a team whose chunks are drawn.
+ghost use Rattle.std.specs.Prelude.{◌≡◌, ◌+◌, ◌<◌, IfSome, map};
+ghost use Rattle.kernel_model.specs.Parts.{drawn_count, is_drawn, is_drawn_schedule};
+ghost use Rattle.kernel_model.specs.Phases.{part_of, part_of_stmt, parts_in};
+
+use kernel_model::{Item, Phase};
+use kernel_syntax::{Schedule, Stmt};
+
+// Whether chunks are drawn.
+fn is_dynamic(schedule: Schedule) -> bool
+    ensures { result ≡ is_drawn_schedule schedule }
+{
+    match schedule {
+        Schedule::Dynamic(_) => true,
+        Schedule::Even | Schedule::Static(_) => false,
+    }
+}
+
+// Whether the statement is a worksharing loop whose chunks are drawn.
+fn is_drawing(stmt: &Stmt) -> bool
+    ensures { result ≡ is_drawn (part_of_stmt stmt.now) }
+{
+    match stmt {
+        Stmt::For { schedule, .. } => is_dynamic(*schedule),
+        _ => false,
+    }
+}
+
+// Whether the item is such a loop.
+fn is_drawn(item: &Item<'_>) -> bool
+    ensures { result ≡ is_drawn (part_of item.now) }
+{
+    match item {
+        Item::Run { stmt, .. } => is_drawing(stmt),
+        Item::Set { .. } | Item::Bar { .. } => false,
+    }
+}
+
+// This number, and how many of the items are such loops; none where that is too many.
+fn with_drawn(count: u32, items: &[Item<'_>]) -> Option<u32>
+    ensures { IfSome result (λ n. n ≡ count + drawn_count (map part_of items.now)) }
+{
+    let mut count = count;
+    for item in items {
+        if is_drawn(item) {
+            count = count.checked_add(1)?;
+        }
+    }
+    Some(count)
+}
+
+// How many such loops the phases have; none where they are too many.
+pub(crate) fn drawn_in(phases: &[Phase<'_>]) -> Option<u32>
+    ensures { IfSome result (λ n. n ≡ drawn_count (parts_in phases.now)) }
+{
+    let mut count = 0;
+    for phase in phases {
+        count = with_drawn(count, phase.items())?;
+    }
+    Some(count)
+}
