@@ -9,6 +9,8 @@ use Rattle.log_format.specs.declared.format.TheConstants.{FORMAT}
 use Rattle.log_format.specs.Format.{log_header}
 use Rattle.history_model.specs.Work.{Work, work_regions}
 use Rattle.execution_model.specs.Runs.{works_log}
+use Rattle.shared_words.specs.declared.share.Share.{Share}
+use Rattle.shared_words.specs.Handles.{HandValue}
 use Rattle.lane_runner.specs.declared.stop.Halt.{Halt}
 use Rattle.lane_runner.specs.declared.stop.Halt.TheVariants as halt
 use Rattle.lane_runner.specs.declared.stop.Stop.{Stop}
@@ -17,15 +19,17 @@ use Rattle.lane_runner.specs.Forking.{Answer}
 use Rattle.lane_runner.specs.Handed.{Entry, HandsOn, LogPlace, MaybeStop, task_limit}
 use Rattle.region_runner.specs.Closing.{HasTaken}
 use Rattle.region_runner.specs.Stopping.{stop_of}
+use Rattle.region_runner.specs.Team.{handed_by}
 
--- A lane's path and its log, the logs of the tasks below it, why it didn't go on, if it didn't, and why its log refused a record or what
--- waited, if it did.
+-- A lane's path and its log, the logs of the tasks below it, why it didn't go on, if it didn't, why its log refused a record or what
+-- waited, if it did, and its hand on the counters.
 pub record ClosedValue : Type 0 where
   pub path : List Step
   pub own : Entry
   pub below : List Entry
   pub halt : Option Halt
   pub refused : Option Trouble
+  pub draws : HandValue Share
 
 -- how the region that a lane forked last stopped, if that keeps the lane from going on
 abbrev pub region_stop : Option Halt → MaybeStop
@@ -89,3 +93,10 @@ pub data IsAnswer (span : ℕ) (lanes : ℕ → ClosedValue) (kept : ℕ → Boo
       → ((j : ℕ) → j < k → HasMemory (lanes j) (kept j)) → IsAnswer span lanes kept (Err (path, stop.Trouble Memory))
   stopped : (k : ℕ) (path : List Step) (why : Stop) → k < span → closed_stop (lanes k) ≡ Some (path, why) → ((j : ℕ) → j < span → HasMemory (lanes j) (kept j))
       → ((j : ℕ) → j < span → GoesBefore k (lanes k) j (lanes j)) → IsAnswer span lanes kept (Err (path, why))
+
+-- The lanes were gathered: each handed on its own log and then those below it, or none of them where no memory was found for it; and
+-- this is what their region answers.
+pub record Gathered (span : ℕ) (lanes : ℕ → ClosedValue) (before after : List Entry) (r : Answer) : Type 0 where
+  pub kept : ℕ → Bool
+  pub grows : after ≡ before ++ handed_by (λ k. kept_by (kept k) (lanes k)) 0 span
+  pub answer : IsAnswer span lanes kept r

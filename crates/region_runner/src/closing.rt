@@ -1,12 +1,12 @@
 //! The logs of a team, closed.
 ghost use Rattle.std.specs.Prelude.{◌≡◌, IfOk};
-ghost use Rattle.lane_runner.specs.Handed.{entries_of, entry_of};
 ghost use Rattle.region_runner.specs.Closing.{IsClosedAs};
 
 use crate::member::Member;
 use lane_runner::Halt;
 use shared_words::ChunkHand;
 use std::alloc::Global;
+use std::marker::Model;
 use sw_base::{Log, Path, Trouble};
 
 // A lane whose log is closed: its path, its log and its number of records; the logs of the tasks below it; its hand on the counters; why
@@ -20,10 +20,27 @@ pub(crate) struct Closed<L: Log> {
     pub(crate) refused: Option<Trouble>,
 }
 
+impl<L: Log> Model for Closed<L> {
+    ghost use Rattle.lane_runner.specs.Handed.{entries_of, entry_of};
+    ghost use Rattle.region_runner.specs.Gathering.{ClosedValue};
+
+    ghost Value = { ClosedValue };
+
+    ghost view = { λ c. record {
+      path = c.own.0;
+      own = entry_of (record { dir = L.dir; path = L.path; text = L.text; faults = L.faults }) c.own;
+      below = entries_of (record { dir = L.dir; path = L.path; text = L.text; faults = L.faults }) c.below.items;
+      halt = c.halt;
+      refused = c.refused;
+      draws = c.draws;
+    } };
+}
+
 // Closes the log of a lane.
 pub(crate) fn close<L: Log>(alloc: Global, member: Member<L>) -> Closed<L>
-    ensures closed { IsClosedAs (entry_of (record { dir = L.dir; path = L.path; text = L.text; faults = L.faults }) result.own) result.refused member.path member.at.buffer }
-    ensures below { entries_of (record { dir = L.dir; path = L.path; text = L.text; faults = L.faults }) result.below.items ≡ member.at.done }
+    ensures path { result.path ≡ member.path }
+    ensures closed { IsClosedAs result.own result.refused member.path member.at.buffer }
+    ensures below { result.below ≡ member.at.done }
     ensures draws { result.draws ≡ member.at.tally.draws }
     ensures halt { result.halt ≡ member.halt }
 {
