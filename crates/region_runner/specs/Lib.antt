@@ -13,3 +13,4 @@ pub mod Ground
 pub mod Stands
 pub mod Gathering
 pub mod Begins
+pub mod Opening

@@ -19,6 +19,7 @@ mod hands;
 mod listing;
 mod loops;
 mod member;
+mod opening;
 mod region;
 mod run;
 

@@ -78,6 +78,17 @@ fn run_through<
 }
 
 impl<L: Log> Member<L> {
+    // A lane at this path, before its first phase.
+    pub(crate) fn new(path: Path, lane: Lane<L>) -> Member<L>
+        ensures { result ≡ record { path = path; slots = lane.locals.slots.items; at = lane.track; halt = None } }
+    {
+        Member {
+            path,
+            lane,
+            halt: None,
+        }
+    }
+
     // The lane's path.
     pub(crate) fn path(&self) -> Path
         ensures { result ≡ self.now.path }

@@ -1,0 +1,158 @@
+//! The logs of a team's lanes, opened.
+ghost use Rattle.std.specs.Prelude.{◌≡◌, ◌<◌, ◌≤◌, ℕ, [], true, false, length, map, is_some, IfSome, None, Ok, slice_index_or};
+ghost use Rattle.sw_base.specs.Environment.{WhereTold, empty_text};
+ghost use Rattle.event_buffer.specs.Buffered.{Buffered};
+ghost use Rattle.race_model.specs.Listing.{lane_of};
+ghost use Rattle.shared_words.specs.Draws.{whole_share};
+ghost use Rattle.shared_words.specs.Handles.{Belongs};
+ghost use Rattle.lane_runner.specs.Handed.{LogPlace, place_of};
+ghost use Rattle.lane_runner.specs.Children.{AreNewLogs};
+ghost use Rattle.region_runner.specs.Answer.{IsBufferSize};
+ghost use Rattle.region_runner.specs.Ground.{AreLanesLogs};
+ghost use Rattle.region_runner.specs.Opening.{AllOpen, ClosesAs, OneTorn, OpensAs, lent_hand, lent_to};
+
+use crate::closing::{Closed, close};
+use crate::ground::Ground;
+use crate::member::Member;
+use event_buffer::Buffer;
+use lane_runner::{Lane, Locals, Track};
+use shared_words::{ChunkHand, Chunks, Hand};
+use std::alloc::Global;
+use sw_base::{Gate, Log, Path, Trouble};
+
+// The lanes of a team, which begin; or what they gave, where the log of one refused; or nothing, where no memory was found for them.
+#[derive(Drop)]
+pub(crate) enum Opened<L: Log> {
+    Team(Vec<Member<L>>),
+    Torn(Vec<Closed<L>>),
+    Nothing,
+}
+
+// A lane whose log could not be opened.
+fn torn<L: Log>(
+    alloc: Global,
+    path: Path,
+    log: L,
+    draws: ChunkHand,
+    trouble: Trouble,
+) -> Closed<L> {
+    Closed {
+        own: (path, log, 0),
+        below: Vec::new(alloc),
+        draws,
+        halt: None,
+        refused: Some(trouble),
+    }
+}
+
+// Opens the log of a lane with these locals.
+fn open_lane<L: Log>(
+    alloc: Global,
+    size: usize,
+    path: Path,
+    locals: &Locals,
+    draws: ChunkHand,
+    log: L,
+) -> Result<Member<L>, Closed<L>>
+    requires size { IsBufferSize size }
+    requires path { L.path log ≡ path }
+    requires empty { WhereTold (L.text log) (λ text. text ≡ empty_text) }
+    requires no_faults { L.faults log ≡ 0 }
+    ensures opens { OpensAs (record { dir = L.dir log; size = size; tells = is_some (L.text log) }) path locals.now.slots.items draws result }
+{
+    let Ok(slots) = locals.slots.clone() else {
+        return Err(torn(alloc, path, log, draws, Trouble::Memory));
+    };
+    match Buffer::start(alloc, log, size) {
+        Ok(buffer) => {
+            let track = Track::new(alloc, Hand::blank(), buffer, draws);
+            let locals = Locals { slots };
+            Ok(Member::new(path, Lane { locals, track }))
+        }
+        Err((trouble, log)) => Err(torn(alloc, path, log, draws, trouble)),
+    }
+}
+
+// Opens the logs of all lanes of the region of this number.
+fn open_all<L: Log, G: Gate>(
+    alloc: Global,
+    ground: &Ground<'_, G>,
+    at: &Path,
+    number: u32,
+    span: u16,
+    locals: &Locals,
+    chunks: &Chunks,
+    share: &mut ChunkHand,
+    logs: Vec<L>,
+) -> Option<Vec<Result<Member<L>, Closed<L>>>>
+    requires depth { length at.now < 4 }
+    requires span { span ≤ 64 }
+    requires share { Belongs share.old chunks.now.table }
+    requires whole { share.old.view ≡ whole_share }
+    requires logs { AreLanesLogs ground.now (record { dir = L.dir; path = L.path; text = L.text; faults = L.faults }) at.now number span logs.items }
+    ensures count { IfSome result (λ opened. length opened.items ≡ span) }
+    ensures share { IfSome result (λ opened. share.new ≡ lent_to span share.old) }
+    ensures opens { (task : Buffered) → task.path ≡ at.now → task.size ≡ ground.now.size
+        → AreNewLogs (record { dir = L.dir; path = L.path; text = L.text; faults = L.faults }) task number span logs.items
+        → IfSome result (λ opened. (k : ℕ) (d : _) → k < span → OpensAs (place_of task) (lane_of at.now number k span) locals.now.slots.items (lent_hand share.old) (slice_index_or opened.items k d)) }
+{
+    let mut opened = Vec::new(alloc);
+    let mut lane = 0u16;
+    for log in logs {
+        let own = at.child(number, lane, span);
+        let draws = chunks.split(share);
+        opened
+            .push(open_lane(alloc, ground.size(), own, locals, draws, log))
+            .ok()?;
+        lane += 1;
+    }
+    Some(opened)
+}
+
+// Whether all logs were opened.
+fn all_open<L: Log>(opened: &[Result<Member<L>, Closed<L>>]) -> bool
+    ensures all { result ≡ true → AllOpen opened.now }
+    ensures some { result ≡ false → OneTorn opened.now }
+{
+    for lane in opened {
+        if lane.is_err() {
+            return false;
+        }
+    }
+    true
+}
+
+// The lanes, all of whose logs were opened.
+fn lanes_of<L: Log>(
+    alloc: Global,
+    opened: Vec<Result<Member<L>, Closed<L>>>,
+) -> Option<Vec<Member<L>>>
+    requires { AllOpen opened.items }
+    ensures { IfSome result (λ members. opened.items ≡ map (λ m. Ok m) members.items) }
+{
+    let mut members = Vec::new(alloc);
+    for lane in opened {
+        let Ok(member) = lane else { unreachable!() };
+        members.push(member).ok()?;
+    }
+    Some(members)
+}
+
+// What the lanes gave, none of which executed anything.
+fn closed_of<L: Log>(
+    alloc: Global,
+    opened: Vec<Result<Member<L>, Closed<L>>>,
+) -> Option<Vec<Closed<L>>>
+    ensures { IfSome result (λ lanes. (length lanes.items ≡ length opened.items)
+        × ((k : ℕ) (d : _) (e : _) → k < length opened.items → ClosesAs (slice_index_or opened.items k d) (slice_index_or lanes.items k e))) }
+{
+    let mut lanes = Vec::new(alloc);
+    for lane in opened {
+        let lane = match lane {
+            Ok(member) => close(alloc, member),
+            Err(torn) => torn,
+        };
+        lanes.push(lane).ok()?;
+    }
+    Some(lanes)
+}
