@@ -87,10 +87,6 @@ module _ (crew : CrewValue) (lane : ℕ) (part : State → Outcome (Unit {0})) (
       record { first = step; rest = inside.below; parts = inside.path_is ∙ ap (λ (p : List Step). p ++ step ∷ inside.below) own }
 
   by : (h : Option Halt) → c.halt ≡ h → TaskGoes (world_of crew lane) part slots slots' old new works (answer_of h) → LaneGave place works c
-  by None h_is t = given None h_is t.logged t.handed (λ trouble told other. absurd cc) (λ line told. absurd cc) (λ path why told. absurd cc)
-  by (Some (halt.DivZero line)) h_is t = given (Some (halt.DivZero line)) h_is t.logged t.handed (λ trouble told other. absurd cc) (λ l told. absurd cc) (λ path why told. absurd cc)
-  by (Some (halt.Index line)) h_is t = given (Some (halt.Index line)) h_is t.logged t.handed (λ trouble told other. absurd cc) (λ l told. absurd cc) (λ path why told. absurd cc)
-  by (Some (halt.LogFull line)) h_is t = given (Some (halt.LogFull line)) h_is t.logged t.handed (λ trouble told other. absurd cc) (λ l told. absurd cc) (λ path why told. absurd cc)
   by (Some (halt.Region path why)) h_is t =
       given (Some (halt.Region path why)) h_is t.logged t.handed (λ trouble told other. absurd cc) (λ l told. absurd cc)
       (λ path' why' told. subst (λ (p : List Step). IsUnder p c.path) (path_of path path' why why' told) (is_under path why t.forks (work_regions (in_one works)) t.stops.0))
@@ -102,6 +98,7 @@ module _ (crew : CrewValue) (lane : ℕ) (part : State → Outcome (Unit {0})) (
       (λ other told some. closed.again other
       (subst (λ (x : Trouble). new.buffer.refused ≡ Some x) (trouble_of trouble other told) (t.1.refused (λ memory. some (sym (trouble_of trouble other told) ∙ memory)))))
       (λ l told. absurd cc) (λ path why told. absurd cc)
+  by h h_is t = given h h_is t.logged t.handed (λ trouble told other. absurd cc) (λ line told. absurd cc) (λ path why told. absurd cc)
 
   pub lane_gave : TaskGoes (world_of crew lane) part slots slots' old new works (answer_of c.halt) → LaneGave place works c
   lane_gave t = by c.halt refl t

@@ -8,7 +8,7 @@ use Rattle.lane_runner.specs.Handed.{Entry, LogPlace, MaybeStop, IsForMemory, Ta
 
 module _ (place : LogPlace) (stop other : MaybeStop) (wanted : IsForMemory other) where
   mutual
-    pub task_missing : (path : List Step) (works : List Work) (es : List Entry) → TaskHands place stop path works es → TaskHands place other path works []
+    task_missing : (path : List Step) (works : List Work) (es : List Entry) → TaskHands place stop path works es → TaskHands place other path works []
     task_missing _ _ _ (TaskHands.given path works e below is hand) = TaskHands.missing path works [] wanted (hands_missing path 0 (flat_map work_regions works) below hand)
     task_missing _ _ _ (TaskHands.missing path works below none hand) = TaskHands.missing path works [] wanted (hands_missing path 0 (flat_map work_regions works) below hand)
 

@@ -40,7 +40,7 @@ use Rattle.region_runner.proofs.RegionHands.{region_hands, lanes_apart, lacks_fo
 -- ---- how a lane stopped
 
 -- in a region that it forked, by itself, or since its log refused what waited
-pub data StoppedAs (c : ClosedValue) (path : List Step) (why : Stop) : Type 0 where
+data StoppedAs (c : ClosedValue) (path : List Step) (why : Stop) : Type 0 where
   by_region : c.halt ≡ Some (halt.Region path why) → StoppedAs c path why
   by_itself : (h : Halt) → c.halt ≡ Some h → c.refused ≡ None → path ≡ c.path → stop_of c.path h ≡ (path, why) → StoppedAs c path why
   by_log : (trouble : Trouble) → c.refused ≡ Some trouble → path ≡ c.path → why ≡ stop.Trouble trouble → StoppedAs c path why
@@ -54,7 +54,7 @@ path_of s path why is = sym (ap (λ (p : List Step × Stop). p.0) (same_Some s (
 why_of : (s : List Step × Stop) (path : List Step) (why : Stop) → IsStop (Some s) path why → why ≡ s.1
 why_of s path why is = sym (ap (λ (p : List Step × Stop). p.1) (same_Some s (path, why) is))
 
-pub stopped_as : (c : ClosedValue) (path : List Step) (why : Stop) → closed_stop c ≡ Some (path, why) → StoppedAs c path why
+stopped_as : (c : ClosedValue) (path : List Step) (why : Stop) → closed_stop c ≡ Some (path, why) → StoppedAs c path why
 stopped_as c path why = by c.halt refl c.refused refl where
   at_region : (p : List Step) (w : Stop) → c.halt ≡ Some (halt.Region p w) → IsStop (Some (p, w)) path why → StoppedAs c path why
   at_region p w h_is is = StoppedAs.by_region (h_is ∙ ap (λ (s : List Step × Stop). Some (halt.Region s.0 s.1)) (same_Some (p, w) (path, why) is))
@@ -67,31 +67,17 @@ stopped_as c path why = by c.halt refl c.refused refl where
 
   by : (h : Option Halt) → c.halt ≡ h → (r : Option Trouble) → c.refused ≡ r → lane_stop c.path h r ≡ Some (path, why) → StoppedAs c path why
   by None h_is None r_is is = absurd cc
-  by None h_is (Some trouble) r_is is = at_log trouble r_is is
-  by (Some (halt.DivZero line)) h_is None r_is is = itself (halt.DivZero line) h_is r_is refl is
-  by (Some (halt.Index line)) h_is None r_is is = itself (halt.Index line) h_is r_is refl is
-  by (Some (halt.LogFull line)) h_is None r_is is = itself (halt.LogFull line) h_is r_is refl is
   by (Some (halt.Region p w)) h_is None r_is is = at_region p w h_is is
-  by (Some (halt.Tasks line)) h_is None r_is is = itself (halt.Tasks line) h_is r_is refl is
-  by (Some (halt.Trouble trouble)) h_is None r_is is = itself (halt.Trouble trouble) h_is r_is refl is
-  by (Some (halt.DivZero line)) h_is (Some trouble) r_is is = at_log trouble r_is is
-  by (Some (halt.Index line)) h_is (Some trouble) r_is is = at_log trouble r_is is
-  by (Some (halt.LogFull line)) h_is (Some trouble) r_is is = at_log trouble r_is is
   by (Some (halt.Region p w)) h_is (Some Failed) r_is is = at_region p w h_is is
-  by (Some (halt.Region p w)) h_is (Some Memory) r_is is = at_log Memory r_is is
-  by (Some (halt.Tasks line)) h_is (Some trouble) r_is is = at_log trouble r_is is
-  by (Some (halt.Trouble other)) h_is (Some trouble) r_is is = at_log trouble r_is is
+  by (Some h) h_is None r_is is = itself h h_is r_is refl is
+  by _ h_is (Some trouble) r_is is = at_log trouble r_is is
 
 -- ---- a lane for which memory was found
 
 wants_log : (path : List Step) (h : Option Halt) → WantsMemory (lane_stop path h (Some Memory))
 wants_log path None = refl
-wants_log path (Some (halt.DivZero line)) = refl
-wants_log path (Some (halt.Index line)) = refl
-wants_log path (Some (halt.LogFull line)) = refl
 wants_log path (Some (halt.Region p w)) = refl
-wants_log path (Some (halt.Tasks line)) = refl
-wants_log path (Some (halt.Trouble trouble)) = refl
+wants_log path (Some h) = refl
 
 module _ (c : ClosedValue) (found : WantsMemory (closed_stop c) → ⊥) where
   -- its log refused only for a fault
@@ -128,13 +114,13 @@ module _ (place : LogPlace) (stop : MaybeStop) (works : List Work) (c : ClosedVa
     by (Some trouble) is text prefix = Keeps.torn (lacks trouble is) prefix
 
   -- they are there, and what may lack in them may in a region that stopped so
-  pub lane_given : ((trouble : Trouble) → c.refused ≡ Some trouble → MayLack stop c.path c.own.faults) → (IsForMemory (region_stop c.halt) → IsForMemory stop)
+  lane_given : ((trouble : Trouble) → c.refused ≡ Some trouble → MayLack stop c.path c.own.faults) → (IsForMemory (region_stop c.halt) → IsForMemory stop)
       → ((rest : List Step) (faults : ℕ) → MayLack (region_stop c.halt) (c.path ++ rest) faults → MayLack stop (c.path ++ rest) faults) → TaskHands place stop c.path works (c.own ∷ c.below)
   lane_given lacks memory too =
       TaskHands.given c.path works c.own c.below (own_entry lacks) (regions_weaker place (region_stop c.halt) stop memory c.path 0 (flat_map work_regions works) c.below below_hand too)
 
   -- they may be missing
-  pub lane_missing : IsForMemory stop → TaskHands place stop c.path works []
+  lane_missing : IsForMemory stop → TaskHands place stop c.path works []
   lane_missing wanted = TaskHands.missing c.path works [] wanted (hands_missing place (region_stop c.halt) stop wanted c.path 0 (flat_map work_regions works) c.below below_hand)
 
 -- ---- why a region stopped, told by one of its lanes
@@ -258,7 +244,7 @@ module _ (place : LogPlace) (works : List Work) (c : ClosedValue) (gave : LaneGa
     refuses : None ≡ Some Failed → ⊥
     refuses e = cc
 
-  pub lane_tells : StoppedAs c path why → Told
+  lane_tells : StoppedAs c path why → Told
   lane_tells (StoppedAs.by_region is) = tells_region is
   lane_tells (StoppedAs.by_itself h halt_is none own is) = itself_tells h halt_is none own is
   lane_tells (StoppedAs.by_log trouble refused own is) = tells_fault trouble refused own is
@@ -381,21 +367,11 @@ module _ (place : LogPlace) (arrays : List Array) (at : List Step) (number : ℕ
     below_lacks j within (inr other) (Some (halt.Region p w)) h_is rest faults lacks =
         lacks_for_another at number k j fork.team.span here.rest path w why (λ same. other (sym same)) here_is (λ none. absurd (region_found (lanes j) (found j within).0 p w h_is none))
         (lanes j).path p rest faults (paths j within) lacks
-    below_lacks j within which None h_is rest faults lacks = absurd lacks
-    below_lacks j within which (Some (halt.DivZero line)) h_is rest faults lacks = absurd lacks
-    below_lacks j within which (Some (halt.Index line)) h_is rest faults lacks = absurd lacks
-    below_lacks j within which (Some (halt.LogFull line)) h_is rest faults lacks = absurd lacks
-    below_lacks j within which (Some (halt.Tasks line)) h_is rest faults lacks = absurd lacks
-    below_lacks j within which (Some (halt.Trouble trouble)) h_is rest faults lacks = absurd lacks
+    below_lacks j within which _ h_is rest faults lacks = absurd lacks
 
     no_memory : (j : ℕ) → j < fork.team.span → (h : Option Halt) → (lanes j).halt ≡ h → IsForMemory (region_stop h) → IsForMemory (Some (path, why))
-    no_memory j within None h_is none = absurd none
-    no_memory j within (Some (halt.DivZero line)) h_is none = absurd none
-    no_memory j within (Some (halt.Index line)) h_is none = absurd none
-    no_memory j within (Some (halt.LogFull line)) h_is none = absurd none
     no_memory j within (Some (halt.Region p w)) h_is none = absurd (region_found (lanes j) (found j within).0 p w h_is none)
-    no_memory j within (Some (halt.Tasks line)) h_is none = absurd none
-    no_memory j within (Some (halt.Trouble trouble)) h_is none = absurd none
+    no_memory j within _ h_is none = absurd none
 
     stopped_hands : (j : ℕ) → j < fork.team.span → LaneHands (Some (path, why)) j (handed j)
     stopped_hands j within =
@@ -411,7 +387,7 @@ module _ (place : LogPlace) (arrays : List Array) (at : List Step) (number : ℕ
 
   -- what a region answers is how it ends, and its lanes' logs are handed on
   pub settles : (before : List Entry) (r : Answer) → (((k : ℕ) → k < fork.team.span → (lanes k).halt ≡ None) → PhasesEnd phases) → IsAnswer fork.team.span lanes kept r
-      → EndsAs arrays at number fork phases r × HandsOn place (stop_in r) at number (record { span = fork.team.span; phases = phases } ∷ []) before (before ++ handed_by handed 0 fork.team.span)
+      → EndsAs arrays at number fork phases r × HandsOn place (stop_in r) at number (record { span = fork.team.span; phases = phases } ∷ []) before (before ++ handed_by (λ k. kept_by (kept k) (lanes k)) 0 fork.team.span)
   settles before _ ends (IsAnswer.all_ended all) =
       (ends (λ k less. (all k less).0),
       region_hands place None at number fork.team.span phases handed before (λ k less. ended_hands k less (all k less).0 (all k less).1 (all k less).2) (tell_none (handed_by handed 0 fork.team.span)))
