@@ -1,5 +1,5 @@
 -- What a lane gave, once its log is closed.
-use Rattle.std.proofs.Common.{◌≡◌, refl, ap, sym, ◌∙◌, subst, ℕ, ◌+◌, ◌<◌, List, [], ◌∷◌, ◌++◌, length, ℤ, Bool, Option, Some, None, Result, Ok, Err, arith}
+use Rattle.std.proofs.Common.{◌≡◌, refl, ap, sym, ◌∙◌, subst, ℕ, ◌+◌, ◌<◌, List, [], ◌∷◌, ◌++◌, length, ℤ, Option, Some, None, arith}
 use Rattle.std.specs.Prelude.{◌≢◌, is_some}
 use Rattle.std.specs.List.{flat_map}
 use Rattle.std.specs.Option.{option_map}
@@ -11,7 +11,6 @@ use Rattle.sw_base.specs.declared.trouble.Trouble.TheVariants.{Failed, Memory}
 use Rattle.sw_base.specs.Environment.{Text, TearsPiece, WhereTold, empty_text, with_torn}
 use Rattle.sw_base.specs.Names.{IsUnder}
 use Rattle.log_format.specs.declared.format.TheConstants.{FORMAT}
-use Rattle.log_format.specs.declared.record.Record.{Record}
 use Rattle.log_format.specs.Format.{log_header}
 use Rattle.event_buffer.specs.Logged.{HoldsRecords, KeepsPrefix}
 use Rattle.kernel_model.specs.State.{State, Fork, Outcome}

@@ -1,5 +1,5 @@
 -- Where no memory was found, all logs of a task may be missing.
-use Rattle.std.proofs.Common.{ℕ, suc, ◌+◌, List, [], ◌∷◌, ◌++◌}
+use Rattle.std.proofs.Common.{ℕ, suc, ◌+◌, List, []}
 use Rattle.std.specs.List.{flat_map}
 use Rattle.sw_base.specs.declared.path.Step.{Step}
 use Rattle.race_model.specs.Listing.{lane_of}

@@ -1,6 +1,6 @@
 -- What a region answers for its lanes: how it ends, and the logs that it hands on.
-use Rattle.std.proofs.Common.{◌≡◌, ◌⊎◌, inl, inr, refl, ap, sym, ◌∙◌, subst, ℕ, zero, suc, ◌+◌, ◌<◌, ◌≤◌, Bool, true, false, List, [], ◌∷◌, ◌++◌, length, Option, Some, None, Result, Ok, Err, append_assoc, arith}
-use Rattle.std.specs.Prelude.{All, Contains}
+use Rattle.std.proofs.Common.{◌≡◌, ◌⊎◌, inl, inr, refl, ap, sym, ◌∙◌, subst, ℕ, zero, suc, ◌+◌, ◌<◌, Bool, true, false, List, [], ◌∷◌, ◌++◌, length, Option, Some, None, append_assoc, arith}
+use Rattle.std.specs.Prelude.{All}
 use Rattle.std.specs.List.{flat_map}
 use Rattle.std.proofs.lemmas.Bool.{cases_eq}
 use Rattle.std.proofs.lemmas.List.{append-nil, length-append}
@@ -9,16 +9,14 @@ use Rattle.std.proofs.lemmas.Option.{same_Some}
 use Rattle.sw_base.specs.declared.path.Step.{Step}
 use Rattle.sw_base.specs.declared.trouble.Trouble.{Trouble}
 use Rattle.sw_base.specs.declared.trouble.Trouble.TheVariants.{Failed, Memory}
-use Rattle.sw_base.specs.Environment.{Text, WhereTold}
+use Rattle.sw_base.specs.Environment.{Text}
 use Rattle.sw_base.specs.Names.{IsUnder}
 use Rattle.log_format.specs.declared.format.TheConstants.{FORMAT}
-use Rattle.log_format.specs.declared.record.Record.{Record}
 use Rattle.log_format.specs.Format.{log_header}
-use Rattle.event_buffer.specs.Logged.{HasAll, KeepsPrefix}
 use Rattle.race_model.specs.Listing.{lane_of}
 use Rattle.kernel_syntax.specs.declared.syntax.Array.{Array}
 use Rattle.kernel_model.specs.State.{Fork}
-use Rattle.history_model.specs.Work.{Work, RegionWork, Phases, work_regions, lane_works}
+use Rattle.history_model.specs.Work.{Work, Phases, work_regions, lane_works}
 use Rattle.history_model.specs.Joined.{PhasesEnd}
 use Rattle.execution_model.specs.Runs.{works_log}
 use Rattle.lane_runner.specs.declared.stop.Halt.{Halt}
@@ -26,7 +24,7 @@ use Rattle.lane_runner.specs.declared.stop.Halt.TheVariants as halt
 use Rattle.lane_runner.specs.declared.stop.Stop.{Stop}
 use Rattle.lane_runner.specs.declared.stop.Stop.TheVariants as stop
 use Rattle.lane_runner.specs.Forking.{Answer, EndsAs, stop_in}
-use Rattle.lane_runner.specs.Handed.{Entry, LogPlace, MaybeStop, IsForMemory, IsTrouble, MayLack, Keeps, IsEntryOf, TaskHands, RegionsHand, HasFaultyLog, HasCrowdedTask, TellStop, HandsOn, task_limit}
+use Rattle.lane_runner.specs.Handed.{Entry, LogPlace, MaybeStop, IsForMemory, IsTrouble, MayLack, Keeps, IsEntryOf, TaskHands, RegionsHand, HasCrowdedTask, TellStop, HandsOn}
 use Rattle.lane_runner.specs.Stopping.{StopsRegion}
 use Rattle.lane_runner.proofs.HandedTasks.{regions_under}
 use Rattle.lane_runner.proofs.Handing.{regions_weaker, tell_later, tell_none}
@@ -172,20 +170,14 @@ tell_part : (s : MaybeStop) (mine all : List Entry) → IsPart mine all → Tell
 tell_part s mine all part tell =
     subst (λ (es : List Entry). TellStop s es) (sym part.parts) (tell_later s part.before (mine ++ part.after) (tell_first s mine part.after tell))
 
+-- by nothing that logs tell
+tells_none : (path : List Step) (why : Stop) (es : List Entry) → (stop.Trouble Failed ≡ why → ⊥) → ((line : ℕ) → stop.Tasks line ≡ why → ⊥) → TellStop (Some (path, why)) es
+tells_none path why es fault crowd = record { failed = λ p told. absurd (fault (why_of (path, why) p (stop.Trouble Failed) told)); crowded = λ p line told. absurd (crowd line (why_of (path, why) p (stop.Tasks line) told)) }
+
 -- a lane that stopped tells why
 module _ (place : LogPlace) (works : List Work) (c : ClosedValue) (gave : LaneGave place works c) (path : List Step) (why : Stop) where
   abbrev Told : Type 0
   Told = TellStop (Some (path, why)) (c.own ∷ c.below)
-
-  fault_of : (it : Stop) → why ≡ it → (p : List Step) → IsStop (Some (path, why)) p (stop.Trouble Failed) → it ≡ stop.Trouble Failed
-  fault_of it is p told = sym is ∙ sym (why_of (path, why) p (stop.Trouble Failed) told)
-
-  crowd_of : (it : Stop) → why ≡ it → (p : List Step) (line : ℕ) → IsStop (Some (path, why)) p (stop.Tasks line) → it ≡ stop.Tasks line
-  crowd_of it is p line told = sym is ∙ sym (why_of (path, why) p (stop.Tasks line) told)
-
-  -- by nothing that logs tell
-  tells_none : (it : Stop) → why ≡ it → (it ≡ stop.Trouble Failed → ⊥) → ((line : ℕ) → it ≡ stop.Tasks line → ⊥) → Told
-  tells_none it is fault crowd = record { failed = λ p told. absurd (fault (fault_of it is p told)); crowded = λ p line told. absurd (crowd line (crowd_of it is p line told)) }
 
   -- by a fault of its log
   tells_fault : (trouble : Trouble) → c.refused ≡ Some trouble → path ≡ c.path → why ≡ stop.Trouble trouble → Told
@@ -194,21 +186,21 @@ module _ (place : LogPlace) (works : List Work) (c : ClosedValue) (gave : LaneGa
       log = c.own;
       is = let first : 0 < length (c.own ∷ c.below) = omega arith in (0, first, refl);
       task = gave.task ∙ sym own ∙ sym (path_of (path, why) p (stop.Trouble Failed) told);
-      faulty = gave.failed (refused ∙ ap (λ (t : Trouble). Some t) (trouble_of (fault_of (stop.Trouble trouble) is p told)));
+      faulty = gave.failed (refused ∙ ap (λ (t : Trouble). Some t) (trouble_of (why_of (path, why) p (stop.Trouble Failed) told ∙ is)));
     };
-    crowded = λ p line told. absurd (no_tasks line (crowd_of (stop.Trouble trouble) is p line told));
+    crowded = λ p line told. absurd (no_tasks line (why_of (path, why) p (stop.Tasks line) told ∙ is));
   }
     where
-      trouble_of : stop.Trouble trouble ≡ stop.Trouble Failed → trouble ≡ Failed
+      trouble_of : stop.Trouble Failed ≡ stop.Trouble trouble → trouble ≡ Failed
       trouble_of e = cc
 
-      no_tasks : (line : ℕ) → stop.Trouble trouble ≡ stop.Tasks line → ⊥
+      no_tasks : (line : ℕ) → stop.Tasks line ≡ stop.Trouble trouble → ⊥
       no_tasks line e = cc
 
   -- by too many tasks below it
   tells_crowd : (line : ℕ) → c.halt ≡ Some (halt.Tasks line) → path ≡ c.path → why ≡ stop.Tasks line → Told
   tells_crowd line halt_is own is = record {
-    failed = λ p told. absurd (no_fault (fault_of (stop.Tasks line) is p told));
+    failed = λ p told. absurd (no_fault (why_of (path, why) p (stop.Trouble Failed) told ∙ is));
     crowded = λ p l told. record {
       before = [];
       own = c.own;
@@ -223,7 +215,7 @@ module _ (place : LogPlace) (works : List Work) (c : ClosedValue) (gave : LaneGa
     };
   }
     where
-      no_fault : stop.Tasks line ≡ stop.Trouble Failed → ⊥
+      no_fault : stop.Trouble Failed ≡ stop.Tasks line → ⊥
       no_fault e = cc
 
   -- by a task below it
@@ -234,15 +226,12 @@ module _ (place : LogPlace) (works : List Work) (c : ClosedValue) (gave : LaneGa
       (subst (λ (es : List Entry). TellStop (region_stop c.halt) es) (sym gave.hands.grows) gave.hands.tell))
 
   itself_tells : (h : Halt) → c.halt ≡ Some h → c.refused ≡ None → path ≡ c.path → stop_of c.path h ≡ (path, why) → Told
-  itself_tells (halt.DivZero line) halt_is none own is = tells_none (stop.DivZero line) (sym (ap (λ (s : List Step × Stop). s.1) is)) (λ e. cc) (λ l e. cc)
-  itself_tells (halt.Index line) halt_is none own is = tells_none (stop.Index line) (sym (ap (λ (s : List Step × Stop). s.1) is)) (λ e. cc) (λ l e. cc)
-  itself_tells (halt.LogFull line) halt_is none own is = tells_none (stop.LogFull line) (sym (ap (λ (s : List Step × Stop). s.1) is)) (λ e. cc) (λ l e. cc)
   itself_tells (halt.Region p w) halt_is none own is = tells_region (halt_is ∙ ap (λ (s : List Step × Stop). Some (halt.Region s.0 s.1)) is)
   itself_tells (halt.Tasks line) halt_is none own is = tells_crowd line halt_is own (sym (ap (λ (s : List Step × Stop). s.1) is))
-  itself_tells (halt.Trouble Memory) halt_is none own is = tells_none (stop.Trouble Memory) (sym (ap (λ (s : List Step × Stop). s.1) is)) (λ e. cc) (λ l e. cc)
   itself_tells (halt.Trouble Failed) halt_is none own is = absurd (refuses (sym none ∙ gave.refusal Failed halt_is (λ e. cc))) where
     refuses : None ≡ Some Failed → ⊥
     refuses e = cc
+  itself_tells h halt_is none own is = subst (λ (w : Stop). TellStop (Some (path, w)) (c.own ∷ c.below)) (ap (λ (s : List Step × Stop). s.1) is) (tells_none path (stop_of c.path h).1 (c.own ∷ c.below) (λ e. cc) (λ l e. cc))
 
   lane_tells : StoppedAs c path why → Told
   lane_tells (StoppedAs.by_region is) = tells_region is
@@ -326,18 +315,6 @@ module _ (place : LogPlace) (arrays : List Array) (at : List Step) (number : ℕ
         (subst (λ (p : List Step). TaskHands place (Some (path, stop.Trouble Memory)) p (lane_works k phases) []) (paths k less)
         (lane_missing place (Some (path, stop.Trouble Memory)) (lane_works k phases) (lanes k) (gave k less) refl))
 
-  wanted_tells : (path : List Step) (es : List Entry) → TellStop (Some (path, stop.Trouble Memory)) es
-  wanted_tells path es = record {
-    failed = λ p told. absurd (no_fault (why_of (path, stop.Trouble Memory) p (stop.Trouble Failed) told));
-    crowded = λ p line told. absurd (no_tasks line (why_of (path, stop.Trouble Memory) p (stop.Tasks line) told));
-  }
-    where
-      no_fault : stop.Trouble Failed ≡ stop.Trouble Memory → ⊥
-      no_fault e = cc
-
-      no_tasks : (line : ℕ) → stop.Tasks line ≡ stop.Trouble Memory → ⊥
-      no_tasks line e = cc
-
   -- where a lane stopped, and memory was found for each
   module _ (k : ℕ) (less : k < fork.team.span) (path : List Step) (why : Stop) (is : closed_stop (lanes k) ≡ Some (path, why)) (found : (j : ℕ) → j < fork.team.span → HasMemory (lanes j) (kept j)) where
     here : InLane place (lane_works k phases) (lanes k) (gave k less) path why
@@ -388,16 +365,19 @@ module _ (place : LogPlace) (arrays : List Array) (at : List Step) (number : ℕ
   -- what a region answers is how it ends, and its lanes' logs are handed on
   pub settles : (before : List Entry) (r : Answer) → (((k : ℕ) → k < fork.team.span → (lanes k).halt ≡ None) → PhasesEnd phases) → IsAnswer fork.team.span lanes kept r
       → EndsAs arrays at number fork phases r × HandsOn place (stop_in r) at number (record { span = fork.team.span; phases = phases } ∷ []) before (before ++ handed_by (λ k. kept_by (kept k) (lanes k)) 0 fork.team.span)
-  settles before _ ends (IsAnswer.all_ended all) =
-      (ends (λ k less. (all k less).0),
-      region_hands place None at number fork.team.span phases handed before (λ k less. ended_hands k less (all k less).0 (all k less).1 (all k less).2) (tell_none (handed_by handed 0 fork.team.span)))
-  settles before _ ends (IsAnswer.wanted k path less where_is found) =
-      (by where_is,
-      region_hands place (Some (path, stop.Trouble Memory)) at number fork.team.span phases handed before (wanted_hands path) (wanted_tells path (handed_by handed 0 fork.team.span)))
+  settles before _ ends (IsAnswer.all_ended all) = (
+    ends (λ k less. (all k less).0),
+    region_hands place None at number fork.team.span phases handed before (λ k less. ended_hands k less (all k less).0 (all k less).1 (all k less).2) (tell_none (handed_by handed 0 fork.team.span)),
+  )
+  settles before _ ends (IsAnswer.wanted k path less where_is found) = (
+    by where_is,
+    region_hands place (Some (path, stop.Trouble Memory)) at number fork.team.span phases handed before (wanted_hands path) (tells_none path (stop.Trouble Memory) (handed_by handed 0 fork.team.span) (λ e. cc) (λ line e. cc)),
+  )
     where
       by : (closed_stop (lanes k) ≡ Some (path, stop.Trouble Memory)) ⊎ (path ≡ (lanes k).path) → StopsRegion arrays at number path (stop.Trouble Memory) fork phases
       by (inl is) = lane_stops k less path (stop.Trouble Memory) (stopped_as (lanes k) path (stop.Trouble Memory) is)
       by (inr own) = log_stops k less path Memory own
-  settles before _ ends (IsAnswer.stopped k path why less is found goes) =
-      (lane_stops k less path why (stopped_as (lanes k) path why is),
-      region_hands place (Some (path, why)) at number fork.team.span phases handed before (stopped_hands k less path why is found) (stopped_tells k less path why is found))
+  settles before _ ends (IsAnswer.stopped k path why less is found goes) = (
+    lane_stops k less path why (stopped_as (lanes k) path why is),
+    region_hands place (Some (path, why)) at number fork.team.span phases handed before (stopped_hands k less path why is found) (stopped_tells k less path why is found),
+  )
