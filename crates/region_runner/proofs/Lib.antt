@@ -26,3 +26,6 @@ pub mod TeamSteps
 pub mod PhaseHands
 pub mod TeamLoop
 pub mod RanRegions
+pub mod GivenLogs
+pub mod MissingLogs
+pub mod Settling

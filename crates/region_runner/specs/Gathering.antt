@@ -5,6 +5,7 @@ use Rattle.sw_base.specs.declared.path.Step.{Step}
 use Rattle.sw_base.specs.declared.trouble.Trouble.{Trouble}
 use Rattle.sw_base.specs.declared.trouble.Trouble.TheVariants.{Failed, Memory}
 use Rattle.sw_base.specs.Environment.{WhereTold}
+use Rattle.sw_base.specs.Names.{IsUnder}
 use Rattle.log_format.specs.declared.format.TheConstants.{FORMAT}
 use Rattle.log_format.specs.Format.{log_header}
 use Rattle.history_model.specs.Work.{Work, work_regions}
@@ -48,6 +49,7 @@ pub record LaneGave (place : LogPlace) (works : List Work) (c : ClosedValue) : T
   pub hands : HandsOn place (region_stop c.halt) c.path 0 (flat_map work_regions works) [] c.below
   pub refusal : (trouble : Trouble) → c.halt ≡ Some (halt.Trouble trouble) → trouble ≢ Memory → c.refused ≡ Some trouble
   pub crowded : (line : ℕ) → c.halt ≡ Some (halt.Tasks line) → task_limit < length c.below
+  pub under : (path : List Step) (why : Stop) → c.halt ≡ Some (halt.Region path why) → IsUnder path c.path
 
 -- A lane that made a stop, and whose log refused what waited then, stops by that. A lane of whose region a task stopped hands that on,
 -- unless no memory was found to close its log.
