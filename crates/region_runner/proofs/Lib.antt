@@ -29,3 +29,4 @@ pub mod RanRegions
 pub mod GivenLogs
 pub mod MissingLogs
 pub mod Settling
+pub mod OpenedLanes
