@@ -1,8 +1,10 @@
 -- A lane whose log was opened, and one whose log refused.
-use Rattle.std.proofs.Common.{◌≡◌, ◌≢◌, refl, ap, sym, ◌∙◌, subst, ℕ, ◌<◌, List, [], ◌++◌, ℤ, Option, Some, None}
-use Rattle.std.specs.Prelude.{Bool, is_some}
+use Rattle.std.proofs.Common.{◌≡◌, ◌≢◌, refl, ap, sym, ◌∙◌, subst, ℕ, ◌+◌, ◌<◌, true, false, List, [], ◌∷◌, ◌++◌, length, ℤ, Option, Some, None, Result, slice_index_or, arith}
+use Rattle.std.specs.Prelude.{Bool, is_some, nat_lt}
+use Rattle.std.proofs.lemmas.Bool.{ltb-true, ltb-false}
+use Rattle.std.proofs.Math.Seq.{get_or-append_seam}
 use Rattle.std.specs.Option.{option_map}
-use Rattle.std.proofs.lemmas.List.{append-nil}
+use Rattle.std.proofs.lemmas.List.{append-nil, get_or_append_left}
 use Rattle.sw_base.specs.declared.path.Step.{Step}
 use Rattle.sw_base.specs.declared.trouble.Trouble.{Trouble}
 use Rattle.sw_base.specs.declared.trouble.Trouble.TheVariants.{Failed}
@@ -11,15 +13,17 @@ use Rattle.log_format.specs.declared.format.TheConstants.{FORMAT}
 use Rattle.log_format.specs.Format.{log_header}
 use Rattle.event_buffer.specs.Buffered.{Buffered}
 use Rattle.event_buffer.specs.Logged.{HoldsRecords}
+use Rattle.race_model.specs.Listing.{lane_of}
 use Rattle.shared_words.specs.declared.share.Share.{Share}
+use Rattle.shared_words.specs.Draws.{lent, lent_share}
 use Rattle.shared_words.specs.declared.view.View.{View}
-use Rattle.shared_words.specs.Handles.{HandValue}
+use Rattle.shared_words.specs.Handles.{HandValue, with_view}
 use Rattle.lane_runner.specs.Going.{Progress}
 use Rattle.lane_runner.specs.Handed.{Entry, LogPlace, place_of}
 use Rattle.region_runner.specs.Begins.{LaneBegins}
 use Rattle.region_runner.specs.Gathering.{ClosedValue}
 use Rattle.region_runner.specs.Member.{MemberValue}
-use Rattle.region_runner.specs.Opening.{GaveNothing}
+use Rattle.region_runner.specs.Opening.{GaveNothing, OpensAs, lent_hand, lent_to}
 use Rattle.region_runner.proofs.GivenLogs.{gave_nothing}
 
 -- nothing was written of the header
@@ -72,3 +76,24 @@ lane_begins place path slots own_slots draws hand dir log_path text faults size 
       tally = refl;
       none_handed = refl;
     }))
+
+-- ---- one lane after another
+
+pub opens_more : (place : LogPlace) (at : List Step) (number span : ℕ) (slots : List ℤ) (draws : HandValue Share) (n : ℕ) (opened : List (Result MemberValue ClosedValue)) (r : Result MemberValue ClosedValue) → length opened ≡ n
+    → ((k : ℕ) (d : Result MemberValue ClosedValue) → k < n → OpensAs place (lane_of at number k span) slots draws (slice_index_or opened k d)) → OpensAs place (lane_of at number n span) slots draws r
+    → (k : ℕ) (d : Result MemberValue ClosedValue) → k < n + 1 → OpensAs place (lane_of at number k span) slots draws (slice_index_or (opened ++ r ∷ []) k d)
+opens_more place at number span slots draws n opened r count so_far next k d less = by (nat_lt k n) refl where
+  by : (below : Bool) → nat_lt k n ≡ below → OpensAs place (lane_of at number k span) slots draws (slice_index_or (opened ++ r ∷ []) k d)
+  by true below =
+      let inside : k < length opened = let l = ltb-true k n below in omega (arith, l, count) in
+      subst (λ (x : Result MemberValue ClosedValue). OpensAs place (lane_of at number k span) slots draws x) (sym (get_or_append_left opened (r ∷ []) d k inside)) (so_far k d (ltb-true k n below))
+  by false below =
+      let same : length opened ≡ k = let past = ltb-false k n below in omega (arith, past, less, count) in
+      subst (λ (x : Result MemberValue ClosedValue). OpensAs place (lane_of at number k span) slots draws x) (sym (ap (λ (j : ℕ). slice_index_or (opened ++ r ∷ []) j d) (sym same) ∙ get_or-append_seam opened r [] d))
+      (subst (λ (j : ℕ). OpensAs place (lane_of at number j span) slots draws r) (sym count ∙ same) next)
+
+pub lent_more : (n : ℕ) (share old new : HandValue Share) → old ≡ lent_to n share → new ≡ with_view old (lent old.view) → new ≡ lent_to (n + 1) share
+lent_more n share old new is kept = kept ∙ ap (λ (h : HandValue Share). with_view h (lent h.view)) is
+
+pub lent_same : (n : ℕ) (share old given : HandValue Share) → old ≡ lent_to n share → given ≡ with_view old lent_share → given ≡ lent_hand share
+lent_same n share old given is lends = lends ∙ ap (λ (h : HandValue Share). with_view h lent_share) is
