@@ -25,3 +25,6 @@ pub mod Standing
 pub mod TeamSteps
 pub mod PhaseHands
 pub mod TeamLoop
+pub mod Verdicts
+pub mod GatheredLanes
+pub mod JoinedDraws
