@@ -117,7 +117,10 @@ module _ (n : ℕ) (lanes : ℕ → ClosedValue) (kept : ℕ → Bool) where
     halted = is.0;
     before = going_of v a (omega arith);
   }
-  goes_first v (Wanted at) a is less = record { lane = n; within = omega arith; stops = is; before = memory_of v a (omega arith) }
+  goes_first v (Wanted at) a is less = record { lane = n; within = omega arith; stops = by is; before = memory_of v a (omega arith) } where
+    by : IsVerdict (lanes n).path (lanes n).halt (lanes n).refused (kept n) (Wanted at) → (closed_stop (lanes n) ≡ Some (at, stop.Trouble Memory)) ⊎ (at ≡ (lanes n).path)
+    by (inl stops) = inl stops
+    by (inr dropped) = inr dropped.0
 
   -- one more, which doesn't
   pub goes_after : (v w : Verdict) → Answered n lanes kept v → IsVerdict (lanes n).path (lanes n).halt (lanes n).refused (kept n) w → urgency_of w ≤ urgency_of v → Answered (n + 1) lanes kept v

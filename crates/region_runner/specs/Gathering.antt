@@ -125,7 +125,7 @@ abbrev pub IsVerdict : List Step → Option Halt → Option Trouble → Bool →
 IsVerdict path halt refused kept Ended = (halt ≡ None) × (refused ≡ None) × (kept ≡ true)
 IsVerdict path halt refused kept (Refused at why) = (halt ≡ None) × (why ≢ stop.Trouble Memory) × (kept ≡ true) × (lane_stop path halt refused ≡ Some (at, why))
 IsVerdict path halt refused kept (Halted at why) = (halt ≢ None) × (why ≢ stop.Trouble Memory) × (kept ≡ true) × (lane_stop path halt refused ≡ Some (at, why))
-IsVerdict path halt refused kept (Wanted at) = (lane_stop path halt refused ≡ Some (at, stop.Trouble Memory)) ⊎ (at ≡ path)
+IsVerdict path halt refused kept (Wanted at) = (lane_stop path halt refused ≡ Some (at, stop.Trouble Memory)) ⊎ ((at ≡ path) × (kept ≡ false))
 
 -- A lane's logs were put after others, or none of them, and it answers this.
 pub record TookIn (c : ClosedValue) (before after : List Entry) (v : Verdict) : Type 0 where

@@ -65,11 +65,8 @@ fn stop_of(path: &Path, halt: Halt) -> (Path, Stop)
 fn stop_despite(path: &Path, halt: Halt, trouble: Trouble) -> (Path, Stop)
     ensures { result ≡ stop_despite path.now halt trouble }
 {
-    match halt {
-        Halt::Region(below, why) => match trouble {
-            Trouble::Failed => (below, why),
-            Trouble::Memory => (path.copy(), Stop::Trouble(trouble)),
-        },
+    match (halt, trouble) {
+        (Halt::Region(below, why), Trouble::Failed) => (below, why),
         _ => (path.copy(), Stop::Trouble(trouble)),
     }
 }
@@ -90,13 +87,7 @@ fn lane_stop(path: &Path, halt: Option<Halt>, refused: Option<Trouble>) -> Optio
 fn is_want(why: Stop) -> bool
     ensures { IsTrue result ↔ (why ≡ Stop.Trouble Trouble.Memory) }
 {
-    match why {
-        Stop::Trouble(trouble) => match trouble {
-            Trouble::Memory => true,
-            Trouble::Failed => false
-        },
-        _ => false,
-    }
+    matches!(why, Stop::Trouble(Trouble::Memory))
 }
 
 // What the lane at this path answers, whose logs found a place or not.
@@ -105,14 +96,11 @@ fn judge(path: Path, halt: Option<Halt>, refused: Option<Trouble>, kept: bool) -
 {
     let halted = halt.is_some();
     match lane_stop(&path, halt, refused) {
-        None if kept => Verdict::Ended,
         Some((at, why)) if is_want(why) => Verdict::Wanted(at),
-        Some((at, why)) if kept => if halted {
-            Verdict::Halted(at, why)
-        } else {
-            Verdict::Refused(at, why)
-        },
-        _ => Verdict::Wanted(path),
+        _ if !kept => Verdict::Wanted(path),
+        Some((at, why)) if halted => Verdict::Halted(at, why),
+        Some((at, why)) => Verdict::Refused(at, why),
+        None => Verdict::Ended,
     }
 }
 
