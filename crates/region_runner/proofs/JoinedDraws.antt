@@ -1,5 +1,5 @@
 -- The first hand on the counters, once those of lanes were joined to it one after another.
-use Rattle.std.proofs.Common.{◌≡◌, refl, ap, sym, ◌∙◌, subst, ℕ, zero, suc, ◌+◌, ◌-◌, List, [], ◌∷◌, ◌++◌, append_assoc, length, map, true, slice_index_or, arith}
+use Rattle.std.proofs.Common.{◌≡◌, refl, ap, sym, ◌∙◌, ℕ, zero, suc, ◌-◌, List, [], ◌∷◌, ◌++◌, append_assoc, length, map, true, slice_index_or, arith}
 use Rattle.std.proofs.lemmas.List.{append-nil, map-append}
 use Rattle.shared_words.specs.declared.share.Share.{Share}
 use Rattle.shared_words.specs.Draws.{regained}
@@ -45,3 +45,8 @@ regained_drawn (c ∷ cs) d v =
 pub regained_out : (cs : List ClosedValue) (v : Share) → (regained_all (map draws_view cs) v).out ≡ v.out - length cs
 regained_out [] v = omega arith
 regained_out (c ∷ cs) v = let rest = regained_out cs (regained v c.draws.view) in omega arith
+
+-- the hand on the counters that gathered the lanes
+pub gathered_draws : (cs : List ClosedValue) (d : ClosedValue) (old new : HandValue Share) → new ≡ with_view old (regained_all (map draws_view cs) old.view)
+    → (new.view.drawn ≡ old.view.drawn ++ drawn_by (λ k. (slice_index_or cs k d).draws.view.drawn) 0 (length cs)) × (new.view.out ≡ old.view.out - length cs)
+gathered_draws cs d old new is = (ap (λ (h : HandValue Share). h.view.drawn) is ∙ regained_drawn cs d old.view, ap (λ (h : HandValue Share). h.view.out) is ∙ regained_out cs old.view)

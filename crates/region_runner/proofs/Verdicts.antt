@@ -1,5 +1,5 @@
 -- What the lanes of a region answer, one after another: the first of the greatest urgency.
-use Rattle.std.proofs.Common.{◌≡◌, ◌≢◌, ◌⊎◌, inl, inr, refl, ap, sym, ◌∙◌, subst, ℕ, ◌+◌, ◌<◌, ◌≤◌, Bool, true, List, Option, Some, None, arith, below_none, below_more}
+use Rattle.std.proofs.Common.{◌≡◌, ◌≢◌, ◌⊎◌, inl, inr, ap, sym, ◌∙◌, subst, ℕ, ◌+◌, ◌<◌, ◌≤◌, Bool, List, Option, Some, None, arith, below_more}
 use Rattle.std.proofs.lemmas.Bool.{cases_lt}
 use Rattle.sw_base.specs.declared.path.Step.{Step}
 use Rattle.sw_base.specs.declared.trouble.Trouble.{Trouble}
@@ -10,7 +10,7 @@ use Rattle.lane_runner.specs.declared.stop.Stop.TheVariants as stop
 use Rattle.lane_runner.specs.Handed.{MaybeStop}
 use Rattle.region_runner.specs.declared.gathering.Verdict.{Verdict}
 use Rattle.region_runner.specs.declared.gathering.Verdict.TheVariants.{Ended, Refused, Halted, Wanted}
-use Rattle.region_runner.specs.Gathering.{ClosedValue, GoesBefore, HasMemory, IsAnswer, IsVerdict, WantsMemory, answer_for, closed_stop, lane_stop, urgency_of}
+use Rattle.region_runner.specs.Gathering.{ClosedValue, HasMemory, IsAnswer, IsVerdict, WantsMemory, answer_for, closed_stop, lane_stop, urgency_of}
 
 -- ---- one lane
 

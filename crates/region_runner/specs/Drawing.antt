@@ -1,5 +1,5 @@
 -- What the lanes of a team drew, by their hands on the counters and by their logs.
-use Rattle.std.specs.Prelude.{◌≡◌, ℕ, zero, suc, List, [], ◌∷◌, ◌++◌}
+use Rattle.std.specs.Prelude.{ℕ, zero, suc, List, [], ◌∷◌, ◌++◌}
 use Rattle.log_format.specs.declared.record.Record.{Record}
 use Rattle.kernel_model.specs.Chunking.{TellFirst}
 use Rattle.shared_words.specs.declared.share.Share.{Share}

@@ -1,5 +1,5 @@
 -- What the lanes of a team gave when their logs were closed, and what their region answers for it.
-use Rattle.std.specs.Prelude.{◌≡◌, ◌≢◌, ◌⊎◌, ℕ, ◌<◌, ◌≤◌, List, [], ◌∷◌, ◌++◌, length, Bool, true, false, if◌then◌else◌, Option, Some, None, Result, Ok, Err, is_some}
+use Rattle.std.specs.Prelude.{◌≡◌, ◌≢◌, ◌⊎◌, ℕ, ◌<◌, ◌≤◌, List, [], ◌∷◌, ◌++◌, length, Bool, true, false, if◌then◌else◌, Option, Some, None, Ok, Err, is_some}
 use Rattle.std.specs.List.{flat_map}
 use Rattle.sw_base.specs.declared.path.Step.{Step}
 use Rattle.sw_base.specs.declared.trouble.Trouble.{Trouble}

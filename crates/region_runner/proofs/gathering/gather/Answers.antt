@@ -1,4 +1,4 @@
-use Rattle.std.proofs.Common.{rules, ◌≡◌, refl, ap, sym, ◌∙◌, subst, ◌<◌, ◌≤◌, ℕ, true, false, length, map, slice_index_or, List, [], arith}
+use Rattle.std.proofs.Common.{rules, refl, ap, sym, ◌∙◌, subst, ℕ, length, map, slice_index_or, List, arith}
 use Rattle.std.proofs.lemmas.List.{map-id, get_or_default, length_push}
 use Rattle.std.proofs.lemmas.Iterator.Adapters.{YieldsList-from_vec}
 use Rattle.std.proofs.lemmas.Iterator.Consumers.{YieldsList-turn, YieldsList-end}
