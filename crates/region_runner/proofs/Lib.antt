@@ -33,3 +33,5 @@ pub mod GivenLogs
 pub mod MissingLogs
 pub mod Settling
 pub mod OpenedLanes
+pub mod NoRegion
+pub mod TeamRegion

@@ -363,10 +363,10 @@ module _ (place : LogPlace) (arrays : List Array) (at : List Step) (number : ℕ
         (lane_tells place (lane_works k phases) (lanes k) (gave k less) path why (stopped_as (lanes k) path why is)))
 
   -- what a region answers is how it ends, and its lanes' logs are handed on
-  pub settles : (before : List Entry) (r : Answer) → (((k : ℕ) → k < fork.team.span → (lanes k).halt ≡ None) → PhasesEnd phases) → IsAnswer fork.team.span lanes kept r
+  pub settles : (before : List Entry) (r : Answer) → (((k : ℕ) → k < fork.team.span → ((lanes k).halt ≡ None) × ((lanes k).refused ≡ None)) → PhasesEnd phases) → IsAnswer fork.team.span lanes kept r
       → EndsAs arrays at number fork phases r × HandsOn place (stop_in r) at number (record { span = fork.team.span; phases = phases } ∷ []) before (before ++ handed_by (λ k. kept_by (kept k) (lanes k)) 0 fork.team.span)
   settles before _ ends (IsAnswer.all_ended all) = (
-    ends (λ k less. (all k less).0),
+    ends (λ k less. ((all k less).0, (all k less).1)),
     region_hands place None at number fork.team.span phases handed before (λ k less. ended_hands k less (all k less).0 (all k less).1 (all k less).2) (tell_none (handed_by handed 0 fork.team.span)),
   )
   settles before _ ends (IsAnswer.wanted k path less where_is found) = (
