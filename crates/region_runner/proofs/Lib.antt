@@ -26,3 +26,4 @@ pub mod TeamSteps
 pub mod PhaseHands
 pub mod TeamLoop
 pub mod RanRegions
+pub mod OpenedLogs
