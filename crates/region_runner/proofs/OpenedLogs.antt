@@ -11,7 +11,7 @@ use Rattle.shared_words.specs.declared.share.Share.{Share}
 use Rattle.shared_words.specs.Handles.{HandValue}
 use Rattle.lane_runner.specs.declared.stop.Halt.{Halt}
 use Rattle.lane_runner.specs.Handed.{Entry, HandsOn, LogPlace, place_of}
-use Rattle.lane_runner.specs.Going.{Tally}
+use Rattle.lane_runner.specs.Drawing.{Tally}
 use Rattle.lane_runner.proofs.Handing.{hand_none}
 use Rattle.region_runner.specs.Begins.{LaneBegins}
 use Rattle.region_runner.specs.Closing.{HasTaken}
