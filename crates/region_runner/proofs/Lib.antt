@@ -3,6 +3,9 @@ pub mod WholeTree
 pub mod TaskListing
 pub mod FinishedRun
 pub mod JoinedHands
+pub mod Verdicts
+pub mod GatheredLanes
+pub mod JoinedDraws
 pub mod Continuing
 pub mod Traced
 pub mod Stops
@@ -27,3 +30,7 @@ pub mod PhaseHands
 pub mod TeamLoop
 pub mod RanRegions
 pub mod OpenedLogs
+pub mod GivenLogs
+pub mod MissingLogs
+pub mod Settling
+pub mod OpenedLanes

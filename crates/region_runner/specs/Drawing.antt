@@ -1,7 +1,9 @@
 -- What the lanes of a team drew, by their hands on the counters and by their logs.
-use Rattle.std.specs.Prelude.{◌≡◌, ℕ, zero, suc, List, [], ◌∷◌, ◌++◌}
+use Rattle.std.specs.Prelude.{ℕ, zero, suc, List, [], ◌∷◌, ◌++◌}
 use Rattle.log_format.specs.declared.record.Record.{Record}
 use Rattle.kernel_model.specs.Chunking.{TellFirst}
+use Rattle.shared_words.specs.declared.share.Share.{Share}
+use Rattle.shared_words.specs.Draws.{regained}
 use Rattle.lane_runner.specs.Drawing.{TellDraws}
 
 -- The log of each lane tells what the lane drew, and how many chunks each loop has; all that was drawn, lane after lane.
@@ -14,3 +16,8 @@ pub data DrewByLogs (counts : List ℕ) : List (List Record) → List (ℕ × �
 abbrev pub drawn_by : (ℕ → List (ℕ × ℕ)) → ℕ → ℕ → List (ℕ × ℕ)
 drawn_by mine first zero = []
 drawn_by mine first (suc count) = mine first ++ drawn_by mine (suc first) count
+
+-- the first hand on the counters once these were joined to it, one after another
+abbrev pub regained_all : List Share → Share → Share
+regained_all [] v = v
+regained_all (w ∷ ws) v = regained_all ws (regained v w)

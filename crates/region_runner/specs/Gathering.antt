@@ -1,10 +1,11 @@
 -- What the lanes of a team gave when their logs were closed, and what their region answers for it.
-use Rattle.std.specs.Prelude.{◌≡◌, ◌≢◌, ◌⊎◌, ℕ, ◌<◌, ◌≤◌, List, [], ◌∷◌, ◌++◌, length, Bool, true, false, if◌then◌else◌, Option, Some, None, Result, Ok, Err, is_some}
+use Rattle.std.specs.Prelude.{◌≡◌, ◌≢◌, ◌⊎◌, ℕ, ◌<◌, ◌≤◌, List, [], ◌∷◌, ◌++◌, length, Bool, true, false, if◌then◌else◌, Option, Some, None, Ok, Err, is_some}
 use Rattle.std.specs.List.{flat_map}
 use Rattle.sw_base.specs.declared.path.Step.{Step}
 use Rattle.sw_base.specs.declared.trouble.Trouble.{Trouble}
 use Rattle.sw_base.specs.declared.trouble.Trouble.TheVariants.{Failed, Memory}
 use Rattle.sw_base.specs.Environment.{WhereTold}
+use Rattle.sw_base.specs.Names.{IsUnder}
 use Rattle.log_format.specs.declared.format.TheConstants.{FORMAT}
 use Rattle.log_format.specs.Format.{log_header}
 use Rattle.history_model.specs.Work.{Work, work_regions}
@@ -17,6 +18,8 @@ use Rattle.lane_runner.specs.declared.stop.Stop.{Stop}
 use Rattle.lane_runner.specs.declared.stop.Stop.TheVariants as stop
 use Rattle.lane_runner.specs.Forking.{Answer}
 use Rattle.lane_runner.specs.Handed.{Entry, HandsOn, LogPlace, MaybeStop, task_limit}
+use Rattle.region_runner.specs.declared.gathering.Verdict.{Verdict}
+use Rattle.region_runner.specs.declared.gathering.Verdict.TheVariants.{Ended, Refused, Halted, Wanted}
 use Rattle.region_runner.specs.Closing.{HasTaken}
 use Rattle.region_runner.specs.Stopping.{stop_of}
 use Rattle.region_runner.specs.Team.{handed_by}
@@ -30,6 +33,10 @@ pub record ClosedValue : Type 0 where
   pub halt : Option Halt
   pub refused : Option Trouble
   pub draws : HandValue Share
+
+-- what its hand on the counters knows
+abbrev pub draws_view : ClosedValue → Share
+draws_view c = c.draws.view
 
 -- how the region that a lane forked last stopped, if that keeps the lane from going on
 abbrev pub region_stop : Option Halt → MaybeStop
@@ -48,6 +55,7 @@ pub record LaneGave (place : LogPlace) (works : List Work) (c : ClosedValue) : T
   pub hands : HandsOn place (region_stop c.halt) c.path 0 (flat_map work_regions works) [] c.below
   pub refusal : (trouble : Trouble) → c.halt ≡ Some (halt.Trouble trouble) → trouble ≢ Memory → c.refused ≡ Some trouble
   pub crowded : (line : ℕ) → c.halt ≡ Some (halt.Tasks line) → task_limit < length c.below
+  pub under : (path : List Step) (why : Stop) → c.halt ≡ Some (halt.Region path why) → IsUnder path c.path
 
 -- A lane that made a stop, and whose log refused what waited then, stops by that. A lane of whose region a task stopped hands that on,
 -- unless no memory was found to close its log.
@@ -100,3 +108,29 @@ pub record Gathered (span : ℕ) (lanes : ℕ → ClosedValue) (before after : L
   pub kept : ℕ → Bool
   pub grows : after ≡ before ++ handed_by (λ k. kept_by (kept k) (lanes k)) 0 span
   pub answer : IsAnswer span lanes kept r
+
+-- Of what lanes answer the one with the greatest urgency is their region's.
+abbrev pub urgency_of : Verdict → ℕ
+urgency_of Ended = 0
+urgency_of (Refused path why) = 1
+urgency_of (Halted path why) = 2
+urgency_of (Wanted path) = 3
+
+abbrev pub answer_for : Verdict → Answer
+answer_for Ended = Ok tt
+answer_for (Refused path why) = Err (path, why)
+answer_for (Halted path why) = Err (path, why)
+answer_for (Wanted path) = Err (path, stop.Trouble Memory)
+
+-- what a lane answers, whose logs found a place or not
+abbrev pub IsVerdict : List Step → Option Halt → Option Trouble → Bool → Verdict → Type 0
+IsVerdict path halt refused kept Ended = (halt ≡ None) × (refused ≡ None) × (kept ≡ true)
+IsVerdict path halt refused kept (Refused at why) = (halt ≡ None) × (why ≢ stop.Trouble Memory) × (kept ≡ true) × (lane_stop path halt refused ≡ Some (at, why))
+IsVerdict path halt refused kept (Halted at why) = (halt ≢ None) × (why ≢ stop.Trouble Memory) × (kept ≡ true) × (lane_stop path halt refused ≡ Some (at, why))
+IsVerdict path halt refused kept (Wanted at) = (lane_stop path halt refused ≡ Some (at, stop.Trouble Memory)) ⊎ ((at ≡ path) × (kept ≡ false))
+
+-- A lane's logs were put after others, or none of them, and it answers this.
+pub record TookIn (c : ClosedValue) (before after : List Entry) (v : Verdict) : Type 0 where
+  pub kept : Bool
+  pub grows : after ≡ before ++ kept_by kept c
+  pub verdict : IsVerdict c.path c.halt c.refused kept v

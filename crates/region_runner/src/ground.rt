@@ -1,6 +1,6 @@
 //! What all regions of a run have in common.
 ghost use Rattle.std.specs.Prelude.{◌≡◌};
-ghost use Rattle.region_runner.specs.Crew.{CrewValue};
+ghost use Rattle.region_runner.specs.Answer.{IsBufferSize};
 ghost use Rattle.region_runner.specs.Ground.{IsGround, crew_of};
 
 use crate::crew::Crew;
@@ -62,7 +62,8 @@ impl<'a, G: Gate> Ground<'a, G> {
 
     // The size of a buffer.
     pub(crate) fn size(&self) -> usize
-        ensures { result ≡ self.now.size }
+        ensures is { result ≡ self.now.size }
+        ensures bounds { IsBufferSize result }
     {
         self.size
     }

@@ -13,6 +13,7 @@ mod crew;
 mod drawn;
 mod executions;
 mod finished;
+mod gathering;
 mod ground;
 mod handing;
 mod hands;

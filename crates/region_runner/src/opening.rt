@@ -1,11 +1,11 @@
 //! The logs of a team's lanes, opened.
-ghost use Rattle.std.specs.Prelude.{◌≡◌, ◌<◌, ◌≤◌, ℕ, [], true, false, length, map, is_some, IfSome, None, Ok, slice_index_or};
+ghost use Rattle.std.specs.Prelude.{◌≡◌, ◌<◌, ◌≤◌, ℕ, [], true, false, length, map, is_some, IfSome, None, Some, Ok, slice_index_or};
 ghost use Rattle.sw_base.specs.Environment.{WhereTold, empty_text};
 ghost use Rattle.event_buffer.specs.Buffered.{Buffered};
 ghost use Rattle.race_model.specs.Listing.{lane_of};
 ghost use Rattle.shared_words.specs.Draws.{whole_share};
 ghost use Rattle.shared_words.specs.Handles.{Belongs};
-ghost use Rattle.lane_runner.specs.Handed.{LogPlace, place_of};
+ghost use Rattle.lane_runner.specs.Handed.{entry_of, place_of};
 ghost use Rattle.lane_runner.specs.Children.{AreNewLogs};
 ghost use Rattle.region_runner.specs.Answer.{IsBufferSize};
 ghost use Rattle.region_runner.specs.Ground.{AreLanesLogs};
@@ -35,7 +35,10 @@ fn torn<L: Log>(
     log: L,
     draws: ChunkHand,
     trouble: Trouble,
-) -> Closed<L> {
+) -> Closed<L>
+    ensures { result ≡ record { path = path; own = entry_of (record { dir = L.dir; path = L.path; text = L.text; faults = L.faults }) (path, log, 0);
+        below = []; halt = None; refused = Some trouble; draws = draws } }
+{
     Closed {
         own: (path, log, 0),
         below: Vec::new(alloc),

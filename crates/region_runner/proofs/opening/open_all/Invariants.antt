@@ -7,4 +7,10 @@ use Rattle.region_runner.specs.Opening.{OpensAs, lent_hand, lent_to}
 use Rattle.region_runner.proofs.opening.open_all.Given as goal
 
 abbrev pub invariant-loop-log : goal.invariant-loop-log
-invariant-loop-log g l = record { lane : l.lane ≡ l.log-index; count : length l.opened.items ≡ l.log-index; share : l.share ≡ lent_to l.log-index l.fn.share; }
+invariant-loop-log g l = record {
+  lane : l.lane ≡ length l.yielded;
+  count : length l.opened.items ≡ length l.yielded;
+  share : l.share ≡ lent_to (length l.yielded) l.fn.share;
+  opens : (task : Buffered) → task.path ≡ l.at → task.size ≡ l.ground.size → AreNewLogs (record { dir = g.L.Log.dir; path = g.L.Log.path; text = g.L.Log.text; faults = g.L.Log.faults }) task l.number l.span l.fn.logs.items
+      → (k : ℕ) (d : _) → k < length l.yielded → OpensAs (place_of task) (lane_of l.at l.number k l.span) l.locals.slots.items (lent_hand l.fn.share) (slice_index_or l.opened.items k d);
+}
