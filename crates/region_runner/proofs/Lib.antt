@@ -29,6 +29,7 @@ pub mod TeamSteps
 pub mod PhaseHands
 pub mod TeamLoop
 pub mod RanRegions
+pub mod OpenedLogs
 pub mod GivenLogs
 pub mod MissingLogs
 pub mod Settling

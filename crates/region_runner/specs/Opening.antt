@@ -10,6 +10,8 @@ use Rattle.region_runner.specs.Begins.{LaneBegins}
 use Rattle.region_runner.specs.Closing.{IsClosedAs}
 use Rattle.region_runner.specs.Gathering.{ClosedValue, LaneGave}
 use Rattle.region_runner.specs.Member.{MemberValue}
+use Rattle.region_runner.specs.declared.opening.Opened.{Opened}
+use Rattle.region_runner.specs.declared.opening.Opened.TheVariants.{Team, Torn, Nothing}
 
 -- The lane at this path executed nothing, and its log is closed.
 pub record GaveNothing (place : LogPlace) (path : List Step) (draws : HandValue Share) (c : ClosedValue) : Type 0 where
@@ -59,3 +61,9 @@ abbrev pub ClosesAs : Result MemberValue ClosedValue → ClosedValue → Type 0
 ClosesAs (Ok m) c =
     (c.path ≡ m.path) × IsClosedAs c.own c.refused m.path m.at.buffer × (c.below ≡ m.at.done) × (c.draws ≡ m.at.tally.draws) × (c.halt ≡ m.halt)
 ClosesAs (Err torn) c = c ≡ torn
+
+-- The first hand on the counters has split off a hand for each lane; and all lanes begin, or none of them executed anything.
+abbrev pub OpensTeam : {T : Type 0} → LogPlace → List Step → ℕ → ℕ → List ℤ → HandValue Share → HandValue Share → Opened T → Type 0
+OpensTeam place at number span slots old new (Team members) = AreLanes place at number span slots old members.items × (new ≡ lent_to span old)
+OpensTeam place at number span slots old new (Torn lanes) = AreTorn place at number span old lanes.items × (new ≡ lent_to span old)
+OpensTeam place at number span slots old new Nothing = Unit {0}

@@ -9,7 +9,7 @@ ghost use Rattle.lane_runner.specs.Handed.{entry_of, place_of};
 ghost use Rattle.lane_runner.specs.Children.{AreNewLogs};
 ghost use Rattle.region_runner.specs.Answer.{IsBufferSize};
 ghost use Rattle.region_runner.specs.Ground.{AreLanesLogs};
-ghost use Rattle.region_runner.specs.Opening.{AllOpen, ClosesAs, OneTorn, OpensAs, lent_hand, lent_to};
+ghost use Rattle.region_runner.specs.Opening.{AllOpen, ClosesAs, OneTorn, OpensAs, OpensTeam, lent_hand, lent_to};
 
 use crate::closing::{Closed, close};
 use crate::ground::Ground;
@@ -158,4 +158,41 @@ fn closed_of<L: Log>(
         lanes.push(lane).ok()?;
     }
     Some(lanes)
+}
+
+// Opens the logs of all lanes of the region of this number; where one refuses, closes the others.
+pub(crate) fn open<L: Log, G: Gate>(
+    alloc: Global,
+    ground: &Ground<'_, G>,
+    at: &Path,
+    number: u32,
+    span: u16,
+    locals: &Locals,
+    chunks: &Chunks,
+    share: &mut ChunkHand,
+    logs: Vec<L>,
+) -> Opened<L>
+    requires depth { length at.now < 4 }
+    requires span { span ≤ 64 }
+    requires share { Belongs share.old chunks.now.table }
+    requires whole { share.old.view ≡ whole_share }
+    requires logs { AreLanesLogs ground.now (record { dir = L.dir; path = L.path; text = L.text; faults = L.faults }) at.now number span logs.items }
+    ensures opens { (task : Buffered) → task.path ≡ at.now → task.size ≡ ground.now.size
+        → AreNewLogs (record { dir = L.dir; path = L.path; text = L.text; faults = L.faults }) task number span logs.items
+        → OpensTeam (place_of task) at.now number span locals.now.slots.items share.old share.new result }
+{
+    let Some(opened) = open_all(alloc, ground, at, number, span, locals, chunks, share, logs) else {
+        return Opened::Nothing;
+    };
+    if all_open(&opened) {
+        match lanes_of(alloc, opened) {
+            Some(members) => Opened::Team(members),
+            None => Opened::Nothing,
+        }
+    } else {
+        match closed_of(alloc, opened) {
+            Some(lanes) => Opened::Torn(lanes),
+            None => Opened::Nothing,
+        }
+    }
 }
