@@ -1,5 +1,5 @@
 -- How a team stands after some of its phases.
-use Rattle.std.specs.Prelude.{◌≡◌, ◌⊎◌, ◌++◌, ℕ, ◌+◌, ◌<◌, ◌≤◌, List, [], ◌∷◌, length, map, slice_index_or, Option, Some, None}
+use Rattle.std.specs.Prelude.{◌≡◌, ◌⊎◌, ◌++◌, ℕ, ◌+◌, ◌<◌, ◌≤◌, List, [], ◌∷◌, length, map, slice_index_or, Option, Some, None, Ok}
 use Rattle.shared_words.specs.declared.view.View.{View}
 use Rattle.shared_words.specs.Handles.{Belongs, HandValue, with_view}
 use Rattle.shared_words.specs.Views.{IsAtRest}
@@ -11,7 +11,9 @@ use Rattle.kernel_model.specs.Phases.{part_of, parts_in}
 use Rattle.kernel_model.specs.Trace.{log_limit}
 use Rattle.lane_runner.specs.Going.{IsSameLog, Progress, site}
 use Rattle.region_runner.specs.Crew.{CrewValue, world_of}
+use Rattle.region_runner.specs.Gathering.{ClosedValue}
 use Rattle.region_runner.specs.Hands.{joined_with, parted_for}
+use Rattle.region_runner.specs.Opening.{ClosesAs}
 use Rattle.region_runner.specs.Member.{IsWithoutHand, MemberValue, WentOn, answer_of, hand_view, lane_hand, with_hand}
 use Rattle.region_runner.specs.Ran.{TaskGoes, TakesUp, task_part}
 use Rattle.region_runner.specs.Team.{DidPhases}
@@ -75,3 +77,10 @@ pub record TeamRan (crew : CrewValue) (items : List (List Item)) (line : ℕ) (o
   pub phases : Phases
   pub stands : TeamStands crew done end phases old new before after
   pub ends : AllGo after → PhasesEnd phases
+
+-- The lanes of a team executed its phases, and their logs were closed.
+pub record TeamClosed (crew : CrewValue) (items : List (List Item)) (line : ℕ) (old new : HandValue View) (before : List MemberValue) (lanes : List ClosedValue) : Type 0 where
+  pub after : List MemberValue
+  pub ran : TeamRan crew items line old new before after
+  pub count : length lanes ≡ crew.span
+  pub closes : (k : ℕ) (d : MemberValue) (e : ClosedValue) → k < crew.span → ClosesAs (Ok (slice_index_or after k d)) (slice_index_or lanes k e)

@@ -1,6 +1,8 @@
 //! The logs of a team, closed.
-ghost use Rattle.std.specs.Prelude.{◌≡◌, IfOk};
+ghost use Rattle.std.specs.Prelude.{◌≡◌, ◌<◌, ◌≤◌, ℕ, [], length, Ok, slice_index_or};
+ghost use Rattle.std.specs.Vec.{vec_capacity, vec_len};
 ghost use Rattle.region_runner.specs.Closing.{IsClosedAs};
+ghost use Rattle.region_runner.specs.Opening.{ClosesAs};
 
 use crate::member::Member;
 use lane_runner::Halt;
@@ -63,4 +65,25 @@ pub(crate) fn close<L: Log>(alloc: Global, member: Member<L>) -> Closed<L>
             refused: Some(trouble),
         },
     }
+}
+
+// Closes the logs of all lanes, for which there is room.
+pub(crate) fn close_all<L: Log>(
+    alloc: Global,
+    members: Vec<Member<L>>,
+    room: Vec<Closed<L>>,
+) -> Vec<Closed<L>>
+    requires empty { room.items ≡ [] }
+    requires none { vec_len room ≡ 0 }
+    requires room { length members.items ≤ vec_capacity room }
+    ensures count { length result.items ≡ length members.items }
+    ensures each { (k : ℕ) (d : _) (e : _) → k < length members.items → ClosesAs (Ok (slice_index_or members.items k d)) (slice_index_or result.items k e) }
+{
+    let mut lanes = room;
+    for member in members {
+        let Ok(()) = lanes.push(close(alloc, member)) else {
+            unreachable!()
+        };
+    }
+    lanes
 }

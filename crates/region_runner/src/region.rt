@@ -1,6 +1,8 @@
 //! A region: its lanes on threads of their own, phase by phase.
 ghost use Rattle.std.specs.Prelude.{◌≡◌, ◌+◌, ◌*◌, ◌-◌, ◌<◌, ◌≤◌, ℕ, [], true, false, length, All, Some, slice_index_or};
 ghost use Rattle.std.specs.Thread.{IsSend, IsSync};
+ghost use Rattle.std.specs.Vec.{vec_capacity, vec_len};
+ghost use Rattle.race_model.specs.Listing.{lane_of};
 ghost use Rattle.event_buffer.specs.Buffered.{Buffered};
 ghost use Rattle.kernel_syntax.specs.Program.{team_of};
 ghost use Rattle.lane_runner.specs.Children.{AreNewLogs};
@@ -12,21 +14,25 @@ ghost use Rattle.kernel_model.specs.Parts.{drawn_count};
 ghost use Rattle.kernel_model.specs.Phases.{AreDivided, parts_in};
 ghost use Rattle.shared_words.specs.Handles.{Belongs};
 ghost use Rattle.region_runner.specs.Member.{CanGoOn, IsLast, WentOn};
-ghost use Rattle.region_runner.specs.Stands.{AllGo, IsFresh, MayGoOn, RanPhase, TeamRan};
+ghost use Rattle.region_runner.specs.Stands.{AllGo, IsFresh, MayGoOn, RanPhase, TeamClosed, TeamRan};
 
+use crate::closing::{Closed, close_all};
 use crate::crew::Crew;
+use crate::gathering::gather;
 use crate::ground::Ground;
 use crate::handing::{join_hands, split_hands};
+use crate::loops::drawn_in;
 use crate::member::Member;
-use kernel_model::Phase;
+use crate::opening::{Opened, open};
+use kernel_model::{Phase, phases};
 use kernel_syntax::Team;
 use lane_runner::{Locals, Stop};
-use shared_words::Hand;
+use shared_words::{Chunks, Hand};
 use std::alloc::Global;
 use std::sync::Wait;
 use std::thread;
 use std::thread::Threads;
-use sw_base::{Gate, Log, Path};
+use sw_base::{Gate, Log, Path, Trouble};
 
 // A lane enters the gate and executes its phase; the regions that it forks are run in turn.
 fn start_lane<R: Threads + Wait + Sync, L: Log, G: Gate>(
@@ -228,6 +234,55 @@ fn run_phases<R: Threads + Wait + Sync, L: Log, G: Gate>(
     );
 }
 
+// The lanes of a team execute its phases, and their logs are closed.
+fn run_team<R: Threads + Wait + Sync, L: Log, G: Gate>(
+    rt: &R,
+    alloc: Global,
+    depth: u32,
+    ground: &Ground<'_, G>,
+    crew: &Crew<'_>,
+    phases: &[Phase<'_>],
+    end: u32,
+    hand: &mut Hand,
+    members: Vec<Member<L>>,
+    room: Vec<Closed<L>>,
+) -> Vec<Closed<L>>
+    requires crew { crew.now ≡ crew_of ground.now crew.now.chunks crew.now.span }
+    requires number { crew.now.chunks.loops < 4294967296 }
+    requires span { crew.now.span ≤ 64 }
+    requires lawful { All (IsOurPhase ground.now (4 - depth)) phases.now }
+    requires divided { AreDivided phases.now }
+    requires counters { drawn_count (parts_in phases.now) ≤ crew.now.chunks.loops }
+    requires end { 1 ≤ end }
+    requires count { length members.items ≡ crew.now.span }
+    requires some { 1 ≤ crew.now.span }
+    requires belongs { Belongs hand.old ground.now.words.table }
+    requires none_out { hand.old.view.out ≡ [] }
+    requires fresh { (i : ℕ) (d : _) → i < length members.items → IsFresh crew.now (slice_index_or members.items i d) }
+    requires own { (i : ℕ) (d : _) → i < length members.items → IsMemberOf ground.now depth (slice_index_or members.items i d) }
+    requires empty { room.items ≡ [] }
+    requires none { vec_len room ≡ 0 }
+    requires room { crew.now.span ≤ vec_capacity room }
+    ensures closed { TeamClosed crew.now phases.now end hand.old hand.new members.items result.items }
+{
+    let mut members = members;
+    run_phases(
+        rt, alloc, depth, ground, crew, phases, end, hand, &mut members,
+    );
+    close_all(alloc, members, room)
+}
+
+// What a region answers for which no memory was found: the first of its lanes is named.
+fn no_memory(path: &Path, number: u32, span: u16) -> (Path, Stop)
+    requires { length path.now < 4 }
+    ensures { result ≡ (lane_of path.now number 0 span, Stop.Trouble Trouble.Memory) }
+{
+    (
+        path.child(number, 0, span),
+        Stop::Trouble(Trouble::Memory),
+    )
+}
+
 // Runs the region of this number of the task at this path, from these locals.
 pub(crate) fn region<R: Threads + Wait + Sync, L: Log, G: Gate>(
     rt: &R,
@@ -252,6 +307,29 @@ pub(crate) fn region<R: Threads + Wait + Sync, L: Log, G: Gate>(
         (entries_of (record { dir = L.dir; path = L.path; text = L.text; faults = L.faults }) done.old.items)
         (entries_of (record { dir = L.dir; path = L.path; text = L.text; faults = L.faults }) done.new.items) result }
 {
-    for _ in rt.forever() {}
-    unreachable!()
+    let (Ok(phases), Ok(room)) = (
+        phases(alloc, team),
+        Vec::with_capacity(alloc, usize::from(team.span)),
+    ) else {
+        return Err(no_memory(path, number, team.span));
+    };
+    let Some(loops) = drawn_in(&phases) else {
+        return Err(no_memory(path, number, team.span));
+    };
+    let Ok((chunks, mut share)) = Chunks::new(alloc, loops as usize) else {
+        return Err(no_memory(path, number, team.span));
+    };
+    let lanes = match open(
+        alloc, ground, path, number, team.span, locals, &chunks, &mut share, logs,
+    ) {
+        Opened::Team(members) => {
+            let crew = ground.crew(&chunks, team.span);
+            run_team(
+                rt, alloc, depth, ground, &crew, &phases, team.end, hand, members, room,
+            )
+        }
+        Opened::Torn(lanes) => lanes,
+        Opened::Nothing => return Err(no_memory(path, number, team.span)),
+    };
+    gather(&chunks, &mut share, lanes, done)
 }

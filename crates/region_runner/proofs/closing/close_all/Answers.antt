@@ -1,0 +1,50 @@
+use Rattle.std.proofs.Common.{rules, ◌≡◌, ◌∙◌, refl, ap, sym, subst, arith, ◌≤◌, ◌<◌, ℕ, List, [], ◌∷◌, ◌++◌, length, Ok, Err, Result}
+use Rattle.std.specs.Prelude.{IsOk}
+use Rattle.std.specs.Vec.{vec_capacity, vec_len}
+use Rattle.std.proofs.lemmas.List.{length_push, map-id}
+use Rattle.std.proofs.lemmas.Iterator.Adapters.{YieldsList-from_vec}
+use Rattle.std.proofs.lemmas.Iterator.Consumers.{YieldsList-turn, YieldsList-end}
+use Rattle.region_runner.specs.Gathering.{ClosedValue}
+use Rattle.region_runner.specs.Member.{MemberValue}
+use Rattle.region_runner.specs.Opening.{ClosesAs}
+use Rattle.region_runner.proofs.Pointwise.{push_both}
+use Rattle.region_runner.proofs.closing.close_all.Goals as goal
+
+not_ok : {E : Type 0} (r : Result (Unit {0}) E) → IsOk r → ((x : Unit {0}) → r ≡ Ok x → ⊥) → ⊥
+not_ok (Ok x) is none = none x refl
+not_ok (Err e) is none = absurd cc
+
+pub loop-member-init : goal.loop-member-init
+loop-member-init g c = record {
+  len = c.requires.none;
+  room = c.requires.room;
+  count = ap (λ (xs : List ClosedValue). length xs) c.requires.empty;
+  each = λ k d e less. absurd (omega (arith, less));
+}
+
+pub unreachable-requires : goal.unreachable-requires
+unreachable-requires g c =
+    let turn = YieldsList-turn (YieldsList-from_vec {s = c.into_iter-member-iterator.result} c.args.members.items (search rules) (search rules)) c.loop-member.yielded c.loop-member.member-iterator c.loop-member.yielded_by c.next.result c.next.new.self c.in-Some.member c.in-Some.is c.next.ensures.steps in
+    let len = c.loop-member.invariant.len in
+    let room = c.loop-member.invariant.room in
+    let inside = turn.0 in
+    not_ok c.push.result (c.push.ensures.succeeds (omega (arith, len, room, inside))) c.in_default.not-Ok
+
+pub loop-member-preserved : goal.loop-member-preserved
+loop-member-preserved g c =
+    let pushed : c.push.new.self.items ≡ c.loop-member.lanes.items ++ c.close.result ∷ [] = search rules in
+    let e = c.close.ensures in
+    record {
+      len = search (length_push c.loop-member.yielded c.in-Some.member, c.loop-member.invariant.len, rules);
+      room = let wide = c.push.ensures.capacity in let room = c.loop-member.invariant.room in omega (arith, wide, room);
+      count = omega (arith, c.loop-member.invariant.count, length_push c.loop-member.yielded c.in-Some.member, ap (λ (xs : List ClosedValue). length xs) pushed, length_push c.loop-member.lanes.items c.close.result);
+      each = rw (pushed)
+          (push_both (λ (m : MemberValue) (lane : ClosedValue). ClosesAs (Ok m) lane) c.loop-member.yielded c.loop-member.lanes.items c.in-Some.member c.close.result c.loop-member.invariant.count c.loop-member.invariant.each
+          (e.path, e.closed, e.below, e.draws, e.halt));
+    }
+
+pub returns : goal.returns
+returns g c =
+    let end = YieldsList-end (YieldsList-from_vec {s = c.into_iter-member-iterator.result} c.args.members.items (search rules) (search rules)) c.loop-member.yielded _ c.loop-member.yielded_by _ c.next.new.self c.in-None.is c.next.ensures.steps in
+    let whole : c.loop-member.yielded ≡ c.args.members.items = sym (map-id _) ∙ end.0 in
+    rw (← whole) (record { count = c.loop-member.invariant.count; each = c.loop-member.invariant.each })
