@@ -47,7 +47,7 @@ impl<'a, G: Gate> Ground<'a, G> {
     }
 
     // The crew of a team of so many lanes with these counters.
-    pub(crate) fn crew(&self, chunks: &'a Chunks, span: u16) -> Crew<'a>
+    pub(crate) fn crew<'c>(&'c self, chunks: &'c Chunks, span: u16) -> Crew<'c>
         ensures { result ≡ crew_of self.now chunks.now span }
     {
         Crew::new(self.arrays, self.words, chunks, span)

@@ -35,6 +35,7 @@ use std::thread::Threads;
 use sw_base::{Gate, Log, Path, Trouble};
 
 // A lane enters the gate and executes its phase; the regions that it forks are run in turn.
+#[cycle(region)]
 fn start_lane<R: Threads + Wait + Sync, L: Log, G: Gate>(
     rt: &R,
     alloc: Global,
@@ -98,6 +99,7 @@ fn start_lane<R: Threads + Wait + Sync, L: Log, G: Gate>(
 }
 
 // The lanes of a team execute a phase, each on a thread of its own.
+#[cycle(region)]
 fn run_lanes<R: Threads + Wait + Sync, L: Log, G: Gate>(
     rt: &R,
     alloc: Global,
@@ -143,6 +145,7 @@ fn run_lanes<R: Threads + Wait + Sync, L: Log, G: Gate>(
 }
 
 // The lanes of a team execute a phase, each with a hand that is split off for it and joined after it.
+#[cycle(region)]
 fn run_phase<R: Threads + Wait + Sync, L: Log, G: Gate>(
     rt: &R,
     alloc: Global,
@@ -186,6 +189,7 @@ fn all_go<L: Log>(members: &[Member<L>]) -> bool
 }
 
 // The lanes of a team execute its phases, until a lane doesn't go on. After the last phase each that does puts its End.
+#[cycle(region)]
 fn run_phases<R: Threads + Wait + Sync, L: Log, G: Gate>(
     rt: &R,
     alloc: Global,
@@ -235,6 +239,7 @@ fn run_phases<R: Threads + Wait + Sync, L: Log, G: Gate>(
 }
 
 // The lanes of a team execute its phases, and their logs are closed.
+#[cycle(region)]
 fn run_team<R: Threads + Wait + Sync, L: Log, G: Gate>(
     rt: &R,
     alloc: Global,
@@ -284,6 +289,7 @@ fn no_memory(path: &Path, number: u32, span: u16) -> (Path, Stop)
 }
 
 // Runs the region of this number of the task at this path, from these locals.
+#[cycle(region)]
 pub(crate) fn region<R: Threads + Wait + Sync, L: Log, G: Gate>(
     rt: &R,
     alloc: Global,

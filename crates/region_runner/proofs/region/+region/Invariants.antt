@@ -1,0 +1,30 @@
+use Rattle.std.proofs.Common.{◌≡◌, ◌+◌, ◌*◌, ◌-◌, take}
+use Rattle.region_runner.proofs.TeamLoop.{HasPassed}
+use Rattle.region_runner.proofs.region.+region.Given as goal
+
+abbrev pub invariant-run_phases-loop-phase : goal.invariant-run_phases-loop-phase
+invariant-run_phases-loop-phase g l = record { passed : HasPassed l.crew (take l.phase-index l.earlier) l.fn.hand l.hand l.fn.members l.members }
+
+abbrev pub decreases-region : goal.decreases-region
+decreases-region g l = 8 * l.depth + 7
+
+abbrev pub decreases-run_team : goal.decreases-run_team
+decreases-run_team g l = 8 * l.depth + 6
+
+abbrev pub decreases-run_phases : goal.decreases-run_phases
+decreases-run_phases g l = 8 * l.depth + 5
+
+abbrev pub decreases-run_phase : goal.decreases-run_phase
+decreases-run_phase g l = 8 * l.depth + 4
+
+abbrev pub decreases-run_lanes : goal.decreases-run_lanes
+decreases-run_lanes g l = 8 * l.depth + 3
+
+abbrev pub decreases-for_each_mut+arg3 : goal.decreases-for_each_mut+arg3
+decreases-for_each_mut+arg3 g l = 8 * l.depth + 2
+
+abbrev pub decreases-start_lane : goal.decreases-start_lane
+decreases-start_lane g l = 8 * l.depth + 1
+
+abbrev pub decreases-go+arg7 : goal.decreases-go+arg7
+decreases-go+arg7 g l = 8 * l.depth
