@@ -1,10 +1,8 @@
 -- The logs of a team's lanes, once all are opened or closed.
 use Rattle.std.proofs.Common.{◌≡◌, ◌≢◌, refl, ap, sym, ◌∙◌, subst, ℕ, ◌<◌, List, [], length, map, ℤ, Option, Some, None, Result, Ok, Err, slice_index_or, arith}
-use Rattle.std.specs.Prelude.{All, IsErr}
+use Rattle.std.specs.Prelude.{IsErr}
 use Rattle.std.proofs.lemmas.List.{get_or-map, length-map}
-use Rattle.std.proofs.lemmas.List.Elements.{All-nil}
 use Rattle.sw_base.specs.declared.path.Step.{Step}
-use Rattle.sw_base.specs.Names.{IsUnder}
 use Rattle.sw_base.specs.Environment.{Text}
 use Rattle.race_model.specs.Listing.{lane_of}
 use Rattle.log_format.specs.declared.format.TheConstants.{FORMAT}
@@ -40,7 +38,7 @@ module _ (place : LogPlace) (path : List Step) (slots : List ℤ) (draws : HandV
       hands =
           subst (λ (es : List Entry). HandsOn place (region_stop c.halt) c.path 0 [] [] es) (sym (closes.2 ∙ begins.none_handed))
           (subst (λ (h : Option Halt). HandsOn place (region_stop h) c.path 0 [] [] []) (sym none) (hand_none place c.path 0 []));
-      under = subst (λ (es : List Entry). All (λ (e : Entry). IsUnder e.task c.path) es) (sym (closes.2 ∙ begins.none_handed)) (All-nil (λ (e : Entry). IsUnder e.task c.path));
+      under = λ below why is. absurd (no_halt (sym none ∙ is));
       refusal = λ trouble is other. absurd (no_halt (sym none ∙ is));
       crowded = λ line is. absurd (no_halt (sym none ∙ is));
     };
