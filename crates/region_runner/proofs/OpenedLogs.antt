@@ -38,6 +38,7 @@ module _ (place : LogPlace) (path : List Step) (slots : List ℤ) (draws : HandV
       hands =
           subst (λ (es : List Entry). HandsOn place (region_stop c.halt) c.path 0 [] [] es) (sym (closes.2 ∙ begins.none_handed))
           (subst (λ (h : Option Halt). HandsOn place (region_stop h) c.path 0 [] [] []) (sym none) (hand_none place c.path 0 []));
+      under = λ below why is. absurd (no_halt (sym none ∙ is));
       refusal = λ trouble is other. absurd (no_halt (sym none ∙ is));
       crowded = λ line is. absurd (no_halt (sym none ∙ is));
     };
