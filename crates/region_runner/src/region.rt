@@ -329,7 +329,7 @@ pub(crate) fn region<R: Threads + Wait + Sync, L: Log, G: Gate>(
         alloc, ground, path, number, team.span, locals, &chunks, &mut share, logs,
     ) {
         Opened::Team(members) => {
-            let crew = ground.crew(&chunks, team.span);
+            let crew = (&*ground).crew(&chunks, team.span);
             run_team(
                 rt, alloc, depth, ground, &crew, &phases, team.end, hand, members, room,
             )
