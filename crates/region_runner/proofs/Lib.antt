@@ -36,3 +36,4 @@ pub mod Settling
 pub mod OpenedLanes
 pub mod NoRegion
 pub mod TeamRegion
+pub mod ReturnedHands

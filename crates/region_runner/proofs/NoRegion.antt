@@ -1,6 +1,6 @@
 -- A region none of whose lanes executed anything.
 use Rattle.std.proofs.Common.{◌≡◌, refl, inl, ap, sym, ◌∙◌, subst, ℕ, zero, suc, ◌+◌, ◌<◌, ◌==◌, true, List, [], ◌∷◌, ◌++◌, ℤ, Some, None, Err, arith}
-use Rattle.std.specs.Prelude.{All, count_by, map, slice_get}
+use Rattle.std.specs.Prelude.{All, count_by, map, slice_get, slice_index_or}
 use Rattle.std.specs.List.{flat_map, range_with_len}
 use Rattle.std.proofs.lemmas.List.{append-nil}
 use Rattle.std.proofs.lemmas.List.Elements.{All-nil, All-cons}
@@ -14,11 +14,13 @@ use Rattle.event_buffer.specs.Buffered.{Buffered}
 use Rattle.kernel_syntax.specs.Tree.{TeamTree}
 use Rattle.kernel_model.specs.Folder.{own_trace}
 use Rattle.kernel_model.specs.Trace.{Ending}
+use Rattle.shared_words.specs.declared.share.Share.{Share}
 use Rattle.shared_words.specs.declared.view.View.{View}
 use Rattle.shared_words.specs.Handles.{HandValue, with_view}
 use Rattle.history_model.specs.Work.{Phases, NoPhase, RegionWork, lane_works}
 use Rattle.execution_model.specs.Execution.{DrewSome}
 use Rattle.execution_model.specs.Runs.{RunsTask, RunsRegions, lane_begin, region_logs, works_log}
+use Rattle.lane_runner.specs.declared.stop.Halt.{Halt}
 use Rattle.lane_runner.specs.declared.stop.Stop.{Stop}
 use Rattle.lane_runner.specs.declared.stop.Stop.TheVariants as stop
 use Rattle.lane_runner.specs.Forking.{Answer, EndsAs, RanRegion, stop_in}
@@ -26,6 +28,9 @@ use Rattle.lane_runner.specs.Handed.{Entry, LogPlace, MaybeStop, IsForMemory, Ha
 use Rattle.lane_runner.specs.Stopping.{IsInRegion, StopsRegion}
 use Rattle.lane_runner.specs.World.{WorldValue}
 use Rattle.lane_runner.proofs.Working.{hand_still, view_same}
+use Rattle.region_runner.specs.Gathering.{ClosedValue, Gathered}
+use Rattle.region_runner.specs.Opening.{AreTorn}
+use Rattle.region_runner.proofs.Settling.{settles}
 
 no_draws : (loop : ℕ) → loop_draws loop [] ≡ []
 no_draws zero = refl
@@ -102,3 +107,16 @@ module _ (w : WorldValue) (team : TeamTree) (slots : List ℤ) (task : Buffered)
 
       other_stop : (a b : List Step × Stop) (line : ℕ) → a ≡ b → a.1 ≡ stop.Trouble trouble.Memory → b.1 ≡ stop.Tasks line → ⊥
       other_stop a b line e one two = let same_stop = ap (λ (x : List Step × Stop). x.1) e in cc
+
+-- the log of a lane refused before any of them executed anything
+pub torn_region : (w : WorldValue) (team : TeamTree) (slots : List ℤ) (task : Buffered) (number : ℕ) (hand : HandValue View) (share : HandValue Share) (lanes : List ClosedValue) (given handed : List Entry) (r : Answer) (e : ClosedValue) → hand.there ≡ true
+    → AreTorn (place_of task) task.path number team.span share lanes → Gathered team.span (λ k. slice_index_or lanes k e) given handed r → RanRegion w team slots task number hand hand given handed r
+torn_region w team slots task number hand share lanes given handed r e there torn gathered =
+    let settled =
+    settles (place_of task) w.arrays task.path number (record { team = team; slots = slots }) NoPhase (λ k. slice_index_or lanes k e) gathered.kept (λ k less. (torn.each k e less).path_is) (λ k less. (torn.each k e less).gave)
+    (λ k h less is. absurd (no_halt (sym (torn.each k e less).none_halted ∙ is))) given r (λ all. absurd (torn.refused e (all torn.torn torn.within).1)) gathered.answer in
+    nothing_ran w team slots task number hand given handed there r settled.0
+    (subst (λ (es : List Entry). HandsOn (place_of task) (stop_in r) task.path number (record { span = team.span; phases = NoPhase } ∷ []) given es) (sym gathered.grows) settled.1)
+  where
+    no_halt : {h : Halt} → None ≡ Some h → ⊥
+    no_halt is = cc

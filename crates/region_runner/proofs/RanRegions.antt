@@ -19,7 +19,7 @@ use Rattle.shared_words.specs.declared.view.View.{View}
 use Rattle.shared_words.specs.Draws.{AreEachOnce, numbers}
 use Rattle.shared_words.specs.Handles.{HandValue}
 use Rattle.lane_runner.specs.declared.stop.Halt.{Halt}
-use Rattle.lane_runner.specs.Drawing.{Tally, TellDraws}
+use Rattle.lane_runner.specs.Drawing.{Tally, TellDraws, after_draws}
 use Rattle.lane_runner.specs.Fitting.{PhasesFit}
 use Rattle.lane_runner.specs.Going.{site}
 use Rattle.lane_runner.specs.Handed.{LogPlace}
@@ -69,6 +69,19 @@ module _ (crew : CrewValue) (team : TeamTree) (slots : List ℤ) (items : List (
       (lane_drew (start k).at stands.last (lane_works k ran.phases)
       (goes_logged (world_of crew k) (task_part (site (world_of crew k)) ran.done ran.end) slots (now k).slots (start k).at stands.last (lane_works k ran.phases) (answer_of (now k).halt) (lane_goes k less))
       (ap (λ (t : Tally). t.next_loop) b.tally) (ap (λ (t : Tally). t.draws.view.drawn) b.tally ∙ unused k less))
+
+  -- each lane's hand on the counters is the one that it got
+  pub same_hand : (k : ℕ) → k < crew.span → ((now k).at.tally.draws.table ≡ (draws k).table) × ((now k).at.tally.draws.there ≡ (draws k).there) × ((now k).at.tally.draws.view.first ≡ (draws k).view.first)
+  same_hand k less =
+      let stands = ran.stands.lanes k d less in
+      let logged = goes_logged (world_of crew k) (task_part (site (world_of crew k)) ran.done ran.end) slots (now k).slots (start k).at stands.last (lane_works k ran.phases) (answer_of (now k).halt) (lane_goes k less) in
+      let mine : (start k).at.tally.draws ≡ draws k = ap (λ (t : Tally). t.draws) (begins k d less).tally in
+      let drew : (now k).at.tally.draws ≡ record (start k).at.tally.draws { view = after_draws logged.draws.drawn (start k).at.tally.draws.view } = ap (λ (t : Tally). t.draws) stands.up.tally ∙ logged.draws.draws in
+      (
+        ap (λ (h : HandValue Share). h.table) drew ∙ ap (λ (h : HandValue Share). h.table) mine,
+        ap (λ (h : HandValue Share). h.there) drew ∙ ap (λ (h : HandValue Share). h.there) mine,
+        ap (λ (h : HandValue Share). h.view.first) drew ∙ ap (λ (h : HandValue Share). h.view.first) mine,
+      )
 
   pub ran_draws : HasCounts team slots → ((loop : ℕ) → AreEachOnce (numbers loop (drawn_by (λ k. (now k).at.tally.draws.view.drawn) 0 crew.span)))
       → PhasesFit ran.phases → (program : Program) → program.arrays ≡ crew.arrays → (loop : ℕ) → DrewSome (region_logs ran.phases crew.span) loop

@@ -20,11 +20,11 @@ decreases-run_phase g l = 8 * l.depth + 4
 abbrev pub decreases-run_lanes : goal.decreases-run_lanes
 decreases-run_lanes g l = 8 * l.depth + 3
 
-abbrev pub decreases-for_each_mut+arg3 : goal.decreases-for_each_mut+arg3
-decreases-for_each_mut+arg3 g l = 8 * l.depth + 2
+abbrev pub decreases-run_lanes-for_each_mut : goal.decreases-run_lanes-for_each_mut
+decreases-run_lanes-for_each_mut g l = 8 * l.depth + 2
 
 abbrev pub decreases-start_lane : goal.decreases-start_lane
 decreases-start_lane g l = 8 * l.depth + 1
 
-abbrev pub decreases-go+arg7 : goal.decreases-go+arg7
-decreases-go+arg7 g l = 8 * l.depth
+abbrev pub decreases-start_lane-go : goal.decreases-start_lane-go
+decreases-start_lane-go g l = 8 * l.depth
