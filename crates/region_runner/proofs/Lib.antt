@@ -37,3 +37,4 @@ pub mod OpenedLanes
 pub mod NoRegion
 pub mod TeamRegion
 pub mod ReturnedHands
+pub mod OpenedTeam

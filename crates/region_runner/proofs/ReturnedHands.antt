@@ -1,5 +1,5 @@
 -- The lanes' hands on the counters, when they come back.
-use Rattle.std.proofs.Common.{◌≡◌, refl, ap, sym, ◌∙◌, subst, ℕ, ◌<◌, ◌-◌, List, [], ◌++◌, length, map, false, true, ℤ, Ok, slice_index_or, arith}
+use Rattle.std.proofs.Common.{◌≡◌, refl, ap, sym, ◌∙◌, subst, ℕ, ◌<◌, ◌≤◌, ◌-◌, List, [], ◌∷◌, ◌++◌, length, map, false, true, ℤ, Ok, slice_index_or, arith}
 use Rattle.sw_base.specs.declared.path.Step.{Step}
 use Rattle.kernel_syntax.specs.Tree.{TeamTree}
 use Rattle.kernel_model.specs.State.{State}
@@ -19,7 +19,7 @@ use Rattle.region_runner.specs.Drawing.{drawn_by, regained_all}
 use Rattle.region_runner.specs.Gathering.{ClosedValue, draws_view}
 use Rattle.region_runner.specs.Member.{MemberValue}
 use Rattle.region_runner.specs.Opening.{AreLanes, AreTorn, ClosesAs, lent_hand, lent_to}
-use Rattle.region_runner.specs.Stands.{TeamRan}
+use Rattle.region_runner.specs.Stands.{TeamClosed}
 use Rattle.region_runner.proofs.JoinedDraws.{gathered_draws, regained_first}
 use Rattle.region_runner.proofs.RanRegions.{same_hand}
 
@@ -33,14 +33,20 @@ pub torn_returned : (table : TableId) (place : LogPlace) (at : List Step) (numbe
 torn_returned table place at number span share lanes here torn k d less =
     subst (λ (h : HandValue Share). IsReturned table h) (sym (torn.each k d (let n = torn.count in omega (arith, less, n))).draws_are) (record { belongs = record { here = here; there = refl }; split = refl })
 
-pub team_returned : (crew : CrewValue) (team : TeamTree) (slots : List ℤ) (items : List (List Item)) (old new : HandValue View) (before after : List MemberValue) (place : LogPlace) (at : List Step) (number : ℕ) (share : HandValue Share) (lanes : List ClosedValue)
-    → crew.span ≡ team.span → ((site : Site) (s : State) → run_parts site (parts_in items) s ≡ run site team.body s) → TeamRan crew items team.end old new before after → AreLanes place at number team.span slots share before
-    → length lanes ≡ crew.span → ((k : ℕ) (d : MemberValue) (e : ClosedValue) → k < crew.span → ClosesAs (Ok (slice_index_or after k d)) (slice_index_or lanes k e)) → MemberValue → (table : TableId) → share.table ≡ table
-    → (k : ℕ) (e : ClosedValue) → k < length lanes → IsReturned table (slice_index_or lanes k e).draws
-team_returned crew team slots items old new before after place at number share lanes span_is runs ran begin count closes d table here k e less =
+-- the first of some
+pub head_of : {A : Type 0} (xs : List A) → 1 ≤ length xs → A
+head_of [] some = absurd (omega (arith, some))
+head_of (x ∷ xs) some = x
+
+pub team_returned : (crew : CrewValue) (team : TeamTree) (slots : List ℤ) (items : List (List Item)) (old new : HandValue View) (before : List MemberValue) (place : LogPlace) (at : List Step) (number : ℕ) (share : HandValue Share) (lanes : List ClosedValue)
+    → crew.span ≡ team.span → ((site : Site) (s : State) → run_parts site (parts_in items) s ≡ run site team.body s) → TeamClosed crew items team.end old new before lanes → AreLanes place at number team.span slots share before
+    → (table : TableId) → share.table ≡ table → (k : ℕ) (e : ClosedValue) → k < length lanes → IsReturned table (slice_index_or lanes k e).draws
+team_returned crew team slots items old new before place at number share lanes span_is runs team_closed begin table here k e less =
+    let count = team_closed.count in
     let under : k < crew.span = omega (arith, less, count) in
-    let same = same_hand crew team slots items old new before after place at number (λ j. lent_hand share) span_is runs ran (λ j x inside. begin.each j x (subst (λ (n : ℕ). j < n) span_is inside)) (λ j inside. refl) d k under in
-    let closed : (slice_index_or lanes k e).draws ≡ (slice_index_or after k d).at.tally.draws = (closes k d e under).3 in
+    let d = head_of team_closed.after (let n = team_closed.ran.stands.count in omega (arith, under, n)) in
+    let same = same_hand crew team slots items old new before team_closed.after place at number (λ j. lent_hand share) span_is runs team_closed.ran (λ j x inside. begin.each j x (subst (λ (n : ℕ). j < n) span_is inside)) (λ j inside. refl) d k under in
+    let closed : (slice_index_or lanes k e).draws ≡ (slice_index_or team_closed.after k d).at.tally.draws = (team_closed.closes k d e under).3 in
     record {
       belongs = record { here = ap (λ (h : HandValue Share). h.table) closed ∙ same.0 ∙ here; there = ap (λ (h : HandValue Share). h.there) closed ∙ same.1 };
       split = ap (λ (h : HandValue Share). h.view.first) closed ∙ same.2;

@@ -1,4 +1,5 @@
 -- A region whose lanes executed their phases, and whose logs were closed and gathered.
+use Rattle.std.specs.Prelude.{map}
 use Rattle.std.proofs.Common.{◌≡◌, refl, ap, sym, ◌∙◌, subst, ℕ, zero, suc, ◌+◌, ◌<◌, ◌≤◌, List, [], ◌∷◌, ◌++◌, length, ℤ, Option, Some, None, Ok, slice_index_or, arith}
 use Rattle.sw_base.specs.declared.path.Step.{Step}
 use Rattle.race_model.specs.Listing.{lane_of}
@@ -19,8 +20,8 @@ use Rattle.execution_model.specs.Execution.{DrewSome}
 use Rattle.execution_model.specs.Runs.{region_logs}
 use Rattle.shared_words.specs.declared.share.Share.{Share}
 use Rattle.shared_words.specs.declared.view.View.{View}
-use Rattle.shared_words.specs.Draws.{AreEachOnce, numbers}
-use Rattle.shared_words.specs.Handles.{HandValue}
+use Rattle.shared_words.specs.Draws.{AreEachOnce, HasEachOnce, IsFirstAlone, numbers}
+use Rattle.shared_words.specs.Handles.{HandValue, with_view}
 use Rattle.lane_runner.specs.declared.stop.Halt.{Halt}
 use Rattle.lane_runner.specs.Drawing.{Tally}
 use Rattle.lane_runner.specs.Fitting.{PhasesFit}
@@ -32,16 +33,17 @@ use Rattle.lane_runner.specs.World.{WorldValue, element_width, element_word, lay
 use Rattle.region_runner.specs.Begins.{LaneBegins}
 use Rattle.region_runner.specs.Closing.{IsClosedAs}
 use Rattle.region_runner.specs.Crew.{CrewValue, world_of}
-use Rattle.region_runner.specs.Drawing.{drawn_by}
-use Rattle.region_runner.specs.Gathering.{ClosedValue, Gathered, LaneGave}
+use Rattle.region_runner.specs.Drawing.{drawn_by, regained_all}
+use Rattle.region_runner.specs.Gathering.{ClosedValue, Gathered, LaneGave, draws_view}
 use Rattle.region_runner.specs.Member.{MemberValue, answer_of}
-use Rattle.region_runner.specs.Opening.{AreLanes, ClosesAs, lent_hand}
+use Rattle.region_runner.specs.Opening.{AreLanes, ClosesAs, lent_hand, lent_to}
 use Rattle.region_runner.specs.Ran.{TaskGoes, task_part}
-use Rattle.region_runner.specs.Stands.{AllGo, TeamRan}
+use Rattle.region_runner.specs.Stands.{AllGo, TeamClosed, TeamRan}
 use Rattle.region_runner.specs.Stopping.{stop_of}
 use Rattle.region_runner.specs.Team.{DidPhases}
 use Rattle.region_runner.proofs.GivenLogs.{lane_gave}
 use Rattle.region_runner.proofs.RanRegions.{lane_goes, ran_draws, ran_lanes, ran_stops}
+use Rattle.region_runner.proofs.ReturnedHands.{all_returned, head_of}
 use Rattle.region_runner.proofs.Settling.{settles}
 
 -- what lanes drew, told of each
@@ -143,3 +145,16 @@ module _ (w : WorldValue) (crew : CrewValue) (team : TeamTree) (slots : List ℤ
       drawn_once loop = subst (λ (ds : List (ℕ × ℕ)). AreEachOnce (numbers loop ds)) 
           (drawn_same (λ k. (slice_index_or lanes k e).draws.view.drawn) (λ k. (slice_index_or after k d).at.tally.draws.view.drawn) 0 crew.span
           (λ k less. ap (λ (h : HandValue Share). h.view.drawn) (closes (0 + k) d e (omega (arith, less))).3)) (once loop)
+
+-- the same of what was closed and gathered, with all hands on the counters joined
+pub closed_region : (w : WorldValue) (crew : CrewValue) (team : TeamTree) (slots : List ℤ) (task : Buffered) (number : ℕ) (share mid last : HandValue Share) (items : List (List Item)) (old new : HandValue View) (before : List MemberValue) (lanes : List ClosedValue)
+    (given handed : List Entry) (r : Answer) → w.arrays ≡ crew.arrays → crew.span ≡ team.span → 1 ≤ team.span → ((at : Site) (s : State) → run_parts at (parts_in items) s ≡ run at team.body s) → TeamClosed crew items team.end old new before lanes
+    → AreLanes (place_of task) task.path number team.span slots share before → HasCounts team slots → ((e : ClosedValue) → Gathered (length lanes) (λ k. slice_index_or lanes k e) given handed r)
+    → mid ≡ lent_to team.span share → last ≡ with_view mid (regained_all (map draws_view lanes) mid.view) → (1 ≤ length lanes → IsFirstAlone last.view → HasEachOnce last.view) → RanRegion w team slots task number old new given handed r
+closed_region w crew team slots task number share mid last items old new before lanes given handed r arrays span_is some runs closed begin has gathered lent joined once =
+    let count : length lanes ≡ team.span = closed.count ∙ span_is in
+    let d = head_of closed.after (let n = closed.ran.stands.count in omega (arith, n, span_is, some)) in
+    let e = head_of lanes (omega (arith, count, some)) in
+    team_region w crew team slots task number share items old new before closed.after lanes given handed r arrays span_is runs closed.ran begin closed.closes has d e
+    (subst (λ (n : ℕ). Gathered n (λ k. slice_index_or lanes k e) given handed r) count (gathered e))
+    (all_returned crew.span share mid last lanes e closed.count (lent ∙ ap (λ (n : ℕ). lent_to n share) (sym span_is)) joined (once (omega (arith, count, some))))

@@ -1,0 +1,39 @@
+-- What a lane is whose log was just opened.
+use Rattle.std.proofs.Common.{◌≡◌, refl, ap, sym, ◌∙◌, subst, ℕ, ◌+◌, ◌≤◌, List, length, ℤ, arith}
+use Rattle.std.proofs.lemmas.List.{length-append}
+use Rattle.sw_base.specs.declared.path.Step.{Step}
+use Rattle.race_model.specs.Listing.{lane_of}
+use Rattle.event_buffer.specs.Buffered.{Buffered}
+use Rattle.kernel_model.specs.Trace.{log_limit}
+use Rattle.shared_words.specs.declared.share.Share.{Share}
+use Rattle.shared_words.specs.Handles.{Belongs, HandValue}
+use Rattle.lane_runner.specs.Drawing.{Tally}
+use Rattle.lane_runner.specs.Handed.{LogPlace, place_of}
+use Rattle.region_runner.specs.Begins.{LaneBegins}
+use Rattle.region_runner.specs.Crew.{CrewValue}
+use Rattle.region_runner.specs.Ground.{GroundValue, IsMemberOf}
+use Rattle.region_runner.specs.Member.{MemberValue}
+use Rattle.region_runner.specs.Opening.{lent_hand}
+use Rattle.region_runner.specs.Stands.{IsFresh}
+
+-- it has executed nothing yet
+pub lane_fresh : (place : LogPlace) (path : List Step) (slots : List ℤ) (share : HandValue Share) (crew : CrewValue) (m : MemberValue) → share.table ≡ crew.chunks.table → LaneBegins place path slots (lent_hand share) m → IsFresh crew m
+lane_fresh place path slots share crew m here b = record {
+  going = b.going;
+  may = record {
+    unrefused = b.unrefused;
+    drawing = subst (λ (t : Tally). Belongs t.draws crew.chunks.table) (sym b.tally) (record { here = here; there = refl });
+    enough = subst (λ (t : Tally). log_limit ≤ t.draws.view.left + m.at.buffer.count) (sym b.tally) (omega arith);
+    forks = let f = ap (λ (t : Tally). t.forked) b.tally in omega (arith, f);
+  };
+  no_loop = ap (λ (t : Tally). t.next_loop) b.tally;
+}
+
+-- and its log is its own
+pub lane_member : (g : GroundValue) (depth : ℕ) (task : Buffered) (at : List Step) (number lane span : ℕ) (slots : List ℤ) (draws : HandValue Share) (m : MemberValue) → task.size ≡ g.size → length at + depth + 1 ≡ 4
+    → LaneBegins (place_of task) (lane_of at number lane span) slots draws m → IsMemberOf g depth m
+lane_member g depth task at number lane span slots draws m size deep b = record {
+  path_is = b.own ∙ sym b.path_is;
+  deep = let one = ap (λ (p : List Step). length p) b.path_is ∙ length-append at _ in omega (arith, one, deep);
+  size_is = ap (λ (p : LogPlace). p.size) b.place_is ∙ size;
+}
