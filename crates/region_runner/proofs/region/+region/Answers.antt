@@ -57,9 +57,9 @@ start_lane-go-requires-clause-runs g n c κs within =
       path = let d = own.deep in let i = inner.deeper in omega (arith, d, i, in_log);
       runs = record {
         accepted = λ hand locals number logs given done is ready new. (
-          ?,
-          (
-          (record { shared = c.type_bounds.sync-R.shared }, record { owned = c.type_bounds.send-L.owned; leaving = λ k. Quiet-if (k (of_param 1)) _ _ (λ x w. tt) (λ x w. tt) }),
+          (let d = c.decreases in let i = inner.deeper in omega (arith, d, i)),
+          (λ a m. m, (λ a m. m, (λ a m. m, (
+          ((search rules), (search rules)),
           (
             (let i = inner.deeper in omega (arith, i)),
             (
@@ -80,13 +80,12 @@ start_lane-go-requires-clause-runs g n c κs within =
                       size_is = own.size_is;
                       new = subst (λ (t : TeamTree). AreNewLogs {T = g.row.L.Denot} seen c.args.member.now.at.buffer number t.span logs.items) (sym is) new;
                     },
-                    (record { owned = c.type_bounds.send-L.owned; leaving = λ k. Quiet-if (k (of_param 1)) _ _ (λ x w. tt) (λ x w. tt) }, record { shared = c.type_bounds.sync-R.shared }, record { shared = c.type_bounds.sync-G.shared }),
+                    ((search rules), (search rules), (search rules)),
                   ),
                 ),
               ),
             ),
-          ),
-          ),
+          ))))),
         );
         ran = λ hand after locals number logs given done now_done r is ready new gives.
             subst (λ (t : TeamTree). RanRegion (world_of c.args.crew.now c.args.lane) t locals.now.slots.items c.args.member.now.at.buffer number hand.now after.now (entries_of {T = g.row.L.Denot} seen done.now.items) (entries_of {T = g.row.L.Denot} seen now_done.now.items) r) is
@@ -97,9 +96,9 @@ start_lane-go-requires-clause-runs g n c κs within =
 
 pub run_lanes-for_each_mut-requires-clause-accepts : goal.run_lanes-for_each_mut-requires-clause-accepts
 run_lanes-for_each_mut-requires-clause-accepts g n c κs within = λ i p less is. (
-  ?,
-  (
-  (record { shared = c.type_bounds.sync-R.shared }, record { owned = c.type_bounds.send-L.owned; leaving = λ k. Quiet-if (k (of_param 1)) _ _ (λ x w. tt) (λ x w. tt) }),
+  (let d = c.decreases in omega (arith, d)),
+  (λ a m. m, (λ a m. m, (λ a m. m, (
+  ((search rules), (search rules)),
   (
     c.requires.crew,
     (
@@ -116,7 +115,7 @@ run_lanes-for_each_mut-requires-clause-accepts g n c κs within = λ i p less is
                 subst (λ (m : MemberValue). CanGoOn c.args.crew.now c.args.phase.now i m) (sym is) (c.requires.can i p.now less),
                 (
                   subst (λ (m : MemberValue). IsMemberOf c.args.ground.now c.args.depth m) (sym is) (c.requires.own i p.now less),
-                  (record { owned = c.type_bounds.send-L.owned; leaving = λ k. Quiet-if (k (of_param 1)) _ _ (λ x w. tt) (λ x w. tt) }, record { shared = c.type_bounds.sync-R.shared }, record { shared = c.type_bounds.sync-G.shared }),
+                  ((search rules), (search rules), (search rules)),
                 ),
               ),
             ),
@@ -124,8 +123,7 @@ run_lanes-for_each_mut-requires-clause-accepts g n c κs within = λ i p less is
         ),
       ),
     ),
-  ),
-),
+  ))))),
 )
 
 pub run_lanes-returns-clause-went : goal.run_lanes-returns-clause-went
