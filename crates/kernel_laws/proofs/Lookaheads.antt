@@ -1,5 +1,5 @@
 -- What stands at the beginning of a kernel's tokens.
-use Rattle.std.proofs.Common.{◌≡◌, ℕ, Bool, true, false, List, [], ◌∷◌, refl, sym, ap, ◌∙◌}
+use Rattle.std.proofs.Common.{◌≡◌, ℕ, Bool, true, false, List, [], ◌∷◌, Option, Some, None, refl, sym, ap, ◌∙◌}
 use Rattle.std.specs.Prelude.{ℤ, pos, if◌then◌else◌}
 use Rattle.kernel_text.specs.declared.token.Word.TheVariants as word
 use Rattle.kernel_text.specs.declared.token.Sign.TheVariants as sign
@@ -64,19 +64,19 @@ is_bracketed [] = false
 is_bracketed (t ∷ ts) = is_bracket t.lexeme
 
 -- the lead of a statement by its first two tokens
-abbrev lead_of : Lexeme → List Token → Lead
-lead_of (Reserved word.Let) rest = lead.Let
-lead_of (Reserved word.If) rest = lead.If
-lead_of (Reserved word.Loop) rest = lead.Loop
-lead_of (Reserved word.Parallel) rest = lead.Parallel
-lead_of (Reserved word.For) rest = lead.For
-lead_of (Reserved word.Barrier) rest = lead.Barrier
-lead_of (Reserved word.Critical) rest = lead.Critical
-lead_of (Named name) rest = if is_bracketed rest then lead.Store else lead.Assign
-lead_of _ rest = lead.End
+abbrev lead_of : Lexeme → List Token → Option Lead
+lead_of (Reserved word.Let) rest = Some lead.Let
+lead_of (Reserved word.If) rest = Some lead.If
+lead_of (Reserved word.Loop) rest = Some lead.Loop
+lead_of (Reserved word.Parallel) rest = Some lead.Parallel
+lead_of (Reserved word.For) rest = Some lead.For
+lead_of (Reserved word.Barrier) rest = Some lead.Barrier
+lead_of (Reserved word.Critical) rest = Some lead.Critical
+lead_of (Named name) rest = if is_bracketed rest then Some lead.Store else Some lead.Assign
+lead_of _ rest = None
 
-abbrev lead_at : List Token → Lead
-lead_at [] = lead.End
+abbrev lead_at : List Token → Option Lead
+lead_at [] = None
 lead_at (t ∷ ts) = lead_of t.lexeme ts
 
 lead-inside : (b : Stmts) (end : ℕ) (tail : List Token) → lead_at (inside b end tail) ≡ lead_of_stmts b

@@ -18,9 +18,9 @@ abbrev AreOnly : Stmts → Type 0
 AreOnly b = (c : Stmts) (n m end last : ℕ) (tail after : List Token) → inside b end tail ≡ inside c last after → StmtsDerive b → StmtsDerive c → AreShallow n b → AreShallow m c → (b ≡ c) × (end ≡ last) × (tail ≡ after)
 
 only-let : (line name_line : ℕ) (name : List ℕ) (sign_line : ℕ) (value : Tree) (rest : Stmts) → AreOnly rest → AreOnly (Let line name_line name sign_line value rest)
-only-let line name_line name sign_line value rest more c n m end last tail after e d g s h = same c (seen lead.Let c (lead-same (Let line name_line name sign_line value rest) c end last tail after e)) e g h
+only-let line name_line name sign_line value rest more c n m end last tail after e d g s h = same c (seen (Some lead.Let) c (lead-same (Let line name_line name sign_line value rest) c end last tail after e)) e g h
   where
-    same : (c : Stmts) → View lead.Let c → inside (Let line name_line name sign_line value rest) end tail ≡ inside c last after → StmtsDerive c → AreShallow m c
+    same : (c : Stmts) → View (Some lead.Let) c → inside (Let line name_line name sign_line value rest) end tail ≡ inside c last after → StmtsDerive c → AreShallow m c
         → (Let line name_line name sign_line value rest ≡ c) × (end ≡ last) × (tail ≡ after)
     same _ (IsLet line2 name_line2 name2 sign_line2 value2 rest2) e g h =
         let a = heads-is _ _ _ _ e in
@@ -30,15 +30,15 @@ only-let line name_line name sign_line value rest more c n m end last tail after
         let r = more rest2 n m end last tail after v.1 d.1 g.1 s.1 h.1 in (cc, r.1, r.2)
 
 only-end : AreOnly NoMore
-only-end c n m end last tail after e d g s h = same c (seen lead.End c (lead-same NoMore c end last tail after e)) e
+only-end c n m end last tail after e d g s h = same c (seen None c (lead-same NoMore c end last tail after e)) e
   where
-    same : (c : Stmts) → View lead.End c → inside NoMore end tail ≡ inside c last after → (NoMore ≡ c) × (end ≡ last) × (tail ≡ after)
+    same : (c : Stmts) → View None c → inside NoMore end tail ≡ inside c last after → (NoMore ≡ c) × (end ≡ last) × (tail ≡ after)
     same _ IsEnd e = let a = heads-is _ _ _ _ e in (refl, a.0, a.2)
 
 only-assign : (line : ℕ) (name : List ℕ) (sign_line : ℕ) (value : Tree) (rest : Stmts) → AreOnly rest → AreOnly (Assign line name sign_line value rest)
-only-assign line name sign_line value rest more c n m end last tail after e d g s h = same c (seen lead.Assign c (lead-same (Assign line name sign_line value rest) c end last tail after e)) e g h
+only-assign line name sign_line value rest more c n m end last tail after e d g s h = same c (seen (Some lead.Assign) c (lead-same (Assign line name sign_line value rest) c end last tail after e)) e g h
   where
-    same : (c : Stmts) → View lead.Assign c → inside (Assign line name sign_line value rest) end tail ≡ inside c last after → StmtsDerive c → AreShallow m c
+    same : (c : Stmts) → View (Some lead.Assign) c → inside (Assign line name sign_line value rest) end tail ≡ inside c last after → StmtsDerive c → AreShallow m c
         → (Assign line name sign_line value rest ≡ c) × (end ≡ last) × (tail ≡ after)
     same _ (IsAssign line2 name2 sign_line2 value2 rest2) e g h =
         let a = heads-is _ _ _ _ e in
@@ -47,9 +47,9 @@ only-assign line name sign_line value rest more c n m end last tail after e d g 
         let r = more rest2 n m end last tail after v.1 d.1 g.1 s.1 h.1 in (cc, r.1, r.2)
 
 only-barrier : (line : ℕ) (rest : Stmts) → AreOnly rest → AreOnly (Barrier line rest)
-only-barrier line rest more c n m end last tail after e d g s h = same c (seen lead.Barrier c (lead-same (Barrier line rest) c end last tail after e)) e g h
+only-barrier line rest more c n m end last tail after e d g s h = same c (seen (Some lead.Barrier) c (lead-same (Barrier line rest) c end last tail after e)) e g h
   where
-    same : (c : Stmts) → View lead.Barrier c → inside (Barrier line rest) end tail ≡ inside c last after → StmtsDerive c → AreShallow m c → (Barrier line rest ≡ c) × (end ≡ last) × (tail ≡ after)
+    same : (c : Stmts) → View (Some lead.Barrier) c → inside (Barrier line rest) end tail ≡ inside c last after → StmtsDerive c → AreShallow m c → (Barrier line rest ≡ c) × (end ≡ last) × (tail ≡ after)
     same _ (IsBarrier line2 rest2) e g h =
         let a = heads-is _ _ _ _ e in
         let r = more rest2 n m end last tail after a.2 d g s h in (cc, r.1, r.2)
@@ -62,9 +62,9 @@ one-block opened opened2 body body2 closed closed2 behind behind2 n m only e d g
     let a = heads-is _ _ _ _ e in let r = only body2 n m closed closed2 behind behind2 a.2 d g s h in (a.0, r.0, r.1, r.2)
 
 only-parallel : (line number_line : ℕ) (span : ℤ) (opened : ℕ) (body : Stmts) (closed : ℕ) (rest : Stmts) → AreOnly body → AreOnly rest → AreOnly (Parallel line number_line span opened body closed rest)
-only-parallel line number_line span opened body closed rest only more c n m end last tail after e d g s h = same c (seen lead.Parallel c (lead-same (Parallel line number_line span opened body closed rest) c end last tail after e)) e g h
+only-parallel line number_line span opened body closed rest only more c n m end last tail after e d g s h = same c (seen (Some lead.Parallel) c (lead-same (Parallel line number_line span opened body closed rest) c end last tail after e)) e g h
   where
-    same : (c : Stmts) → View lead.Parallel c → inside (Parallel line number_line span opened body closed rest) end tail ≡ inside c last after → StmtsDerive c → AreShallow m c
+    same : (c : Stmts) → View (Some lead.Parallel) c → inside (Parallel line number_line span opened body closed rest) end tail ≡ inside c last after → StmtsDerive c → AreShallow m c
         → (Parallel line number_line span opened body closed rest ≡ c) × (end ≡ last) × (tail ≡ after)
     same _ (IsParallel line2 number_line2 span2 opened2 body2 closed2 rest2) e g h =
         let a = heads-is _ _ _ _ e in
@@ -73,9 +73,9 @@ only-parallel line number_line span opened body closed rest only more c n m end 
         let r = more rest2 n m end last tail after k.3 d.1 g.1 s.2 h.2 in (cc, r.1, r.2)
 
 only-critical : (line opened : ℕ) (body : Stmts) (closed : ℕ) (rest : Stmts) → AreOnly body → AreOnly rest → AreOnly (Critical line opened body closed rest)
-only-critical line opened body closed rest only more c n m end last tail after e d g s h = same c (seen lead.Critical c (lead-same (Critical line opened body closed rest) c end last tail after e)) e g h
+only-critical line opened body closed rest only more c n m end last tail after e d g s h = same c (seen (Some lead.Critical) c (lead-same (Critical line opened body closed rest) c end last tail after e)) e g h
   where
-    same : (c : Stmts) → View lead.Critical c → inside (Critical line opened body closed rest) end tail ≡ inside c last after → StmtsDerive c → AreShallow m c
+    same : (c : Stmts) → View (Some lead.Critical) c → inside (Critical line opened body closed rest) end tail ≡ inside c last after → StmtsDerive c → AreShallow m c
         → (Critical line opened body closed rest ≡ c) × (end ≡ last) × (tail ≡ after)
     same _ (IsCritical line2 opened2 body2 closed2 rest2) e g h =
         let a = heads-is _ _ _ _ e in
@@ -87,9 +87,9 @@ only-critical line opened body closed rest only more c n m end last tail after e
         let l = b.1 in absurd cc
 
 only-critical-of : (line name_line : ℕ) (name : List ℕ) (opened : ℕ) (body : Stmts) (closed : ℕ) (rest : Stmts) → AreOnly body → AreOnly rest → AreOnly (CriticalOf line name_line name opened body closed rest)
-only-critical-of line name_line name opened body closed rest only more c n m end last tail after e d g s h = same c (seen lead.Critical c (lead-same (CriticalOf line name_line name opened body closed rest) c end last tail after e)) e g h
+only-critical-of line name_line name opened body closed rest only more c n m end last tail after e d g s h = same c (seen (Some lead.Critical) c (lead-same (CriticalOf line name_line name opened body closed rest) c end last tail after e)) e g h
   where
-    same : (c : Stmts) → View lead.Critical c → inside (CriticalOf line name_line name opened body closed rest) end tail ≡ inside c last after → StmtsDerive c → AreShallow m c
+    same : (c : Stmts) → View (Some lead.Critical) c → inside (CriticalOf line name_line name opened body closed rest) end tail ≡ inside c last after → StmtsDerive c → AreShallow m c
         → (CriticalOf line name_line name opened body closed rest ≡ c) × (end ≡ last) × (tail ≡ after)
     same _ (IsCritical line2 opened2 body2 closed2 rest2) e g h =
         let a = heads-is _ _ _ _ e in
@@ -109,9 +109,9 @@ index-first : (index : Tree) (closed sign_line : ℕ) (value : Tree) (b : Stmts)
 index-first index closed sign_line value b end tail d f = record { parts = append_assoc (tree_tokens index) _ _; derives = d; flat = f; ends = stops-at expr _ (refl, refl) }
 
 only-store : (line : ℕ) (name : List ℕ) (opened : ℕ) (index : Tree) (closed sign_line : ℕ) (value : Tree) (rest : Stmts) → AreOnly rest → AreOnly (Store line name opened index closed sign_line value rest)
-only-store line name opened index closed sign_line value rest more c n m end last tail after e d g s h = same c (seen lead.Store c (lead-same (Store line name opened index closed sign_line value rest) c end last tail after e)) e g h
+only-store line name opened index closed sign_line value rest more c n m end last tail after e d g s h = same c (seen (Some lead.Store) c (lead-same (Store line name opened index closed sign_line value rest) c end last tail after e)) e g h
   where
-    same : (c : Stmts) → View lead.Store c → inside (Store line name opened index closed sign_line value rest) end tail ≡ inside c last after → StmtsDerive c → AreShallow m c
+    same : (c : Stmts) → View (Some lead.Store) c → inside (Store line name opened index closed sign_line value rest) end tail ≡ inside c last after → StmtsDerive c → AreShallow m c
         → (Store line name opened index closed sign_line value rest ≡ c) × (end ≡ last) × (tail ≡ after)
     same _ (IsStore line2 name2 opened2 index2 closed2 sign_line2 value2 rest2) e g h =
         let a = heads-is _ _ _ _ e in
@@ -146,9 +146,9 @@ no-else-here : (b : Stmts) (end : ℕ) (tail : List Token) (line : ℕ) (ts : Li
 no-else-here b end tail line ts e = no-else b end tail (begins-with (reserved line word.Else) ts _ e)
 
 only-if : (line : ℕ) (test : Tree) (opened : ℕ) (if_true : Stmts) (closed : ℕ) (rest : Stmts) → AreOnly if_true → AreOnly rest → AreOnly (If line test opened if_true closed rest)
-only-if line test opened if_true closed rest only more c n m end last tail after e d g s h = same c (seen lead.If c (lead-same (If line test opened if_true closed rest) c end last tail after e)) e g h
+only-if line test opened if_true closed rest only more c n m end last tail after e d g s h = same c (seen (Some lead.If) c (lead-same (If line test opened if_true closed rest) c end last tail after e)) e g h
   where
-    same : (c : Stmts) → View lead.If c → inside (If line test opened if_true closed rest) end tail ≡ inside c last after → StmtsDerive c → AreShallow m c
+    same : (c : Stmts) → View (Some lead.If) c → inside (If line test opened if_true closed rest) end tail ≡ inside c last after → StmtsDerive c → AreShallow m c
         → (If line test opened if_true closed rest ≡ c) × (end ≡ last) × (tail ≡ after)
     same _ (IsIf line2 test2 opened2 if_true2 closed2 rest2) e g h =
         let a = heads-is _ _ _ _ e in
@@ -164,9 +164,9 @@ only-if line test opened if_true closed rest only more c n m end last tail after
 
 only-if-else : (line : ℕ) (test : Tree) (opened : ℕ) (if_true : Stmts) (closed else_line else_opened : ℕ) (if_false : Stmts) (else_closed : ℕ) (rest : Stmts) → AreOnly if_true → AreOnly if_false → AreOnly rest
     → AreOnly (IfElse line test opened if_true closed else_line else_opened if_false else_closed rest)
-only-if-else line test opened if_true closed else_line else_opened if_false else_closed rest only other more c n m end last tail after e d g s h = same c (seen lead.If c (lead-same (IfElse line test opened if_true closed else_line else_opened if_false else_closed rest) c end last tail after e)) e g h
+only-if-else line test opened if_true closed else_line else_opened if_false else_closed rest only other more c n m end last tail after e d g s h = same c (seen (Some lead.If) c (lead-same (IfElse line test opened if_true closed else_line else_opened if_false else_closed rest) c end last tail after e)) e g h
   where
-    same : (c : Stmts) → View lead.If c → inside (IfElse line test opened if_true closed else_line else_opened if_false else_closed rest) end tail ≡ inside c last after → StmtsDerive c → AreShallow m c
+    same : (c : Stmts) → View (Some lead.If) c → inside (IfElse line test opened if_true closed else_line else_opened if_false else_closed rest) end tail ≡ inside c last after → StmtsDerive c → AreShallow m c
         → (IfElse line test opened if_true closed else_line else_opened if_false else_closed rest ≡ c) × (end ≡ last) × (tail ≡ after)
     same _ (IsIf line2 test2 opened2 if_true2 closed2 rest2) e g h =
         let a = heads-is _ _ _ _ e in
@@ -191,9 +191,9 @@ range-first from dots to behind more d f =
 
 only-loop : (line name_line : ℕ) (name : List ℕ) (in_line : ℕ) (from : Tree) (dots : ℕ) (to : Tree) (opened : ℕ) (body : Stmts) (closed : ℕ) (rest : Stmts) → AreOnly body → AreOnly rest
     → AreOnly (Loop line name_line name in_line from dots to opened body closed rest)
-only-loop line name_line name in_line from dots to opened body closed rest only more c n m end last tail after e d g s h = same c (seen lead.Loop c (lead-same (Loop line name_line name in_line from dots to opened body closed rest) c end last tail after e)) e g h
+only-loop line name_line name in_line from dots to opened body closed rest only more c n m end last tail after e d g s h = same c (seen (Some lead.Loop) c (lead-same (Loop line name_line name in_line from dots to opened body closed rest) c end last tail after e)) e g h
   where
-    same : (c : Stmts) → View lead.Loop c → inside (Loop line name_line name in_line from dots to opened body closed rest) end tail ≡ inside c last after → StmtsDerive c → AreShallow m c
+    same : (c : Stmts) → View (Some lead.Loop) c → inside (Loop line name_line name in_line from dots to opened body closed rest) end tail ≡ inside c last after → StmtsDerive c → AreShallow m c
         → (Loop line name_line name in_line from dots to opened body closed rest ≡ c) × (end ≡ last) × (tail ≡ after)
     same _ (IsLoop line2 name_line2 name2 in_line2 from2 dots2 to2 opened2 body2 closed2 rest2) e g h =
         let a = heads-is _ _ _ _ e in
@@ -273,9 +273,9 @@ before-schedule to schedule nowait opened body closed b end tail d f =
 
 only-for : (line name_line : ℕ) (name : List ℕ) (in_line : ℕ) (from : Tree) (dots : ℕ) (to : Tree) (schedule : ScheduleTree) (nowait : Option ℕ) (opened : ℕ) (body : Stmts) (closed : ℕ) (rest : Stmts) → AreOnly body → AreOnly rest
     → AreOnly (For line name_line name in_line from dots to schedule nowait opened body closed rest)
-only-for line name_line name in_line from dots to schedule nowait opened body closed rest only more c n m end last tail after e d g s h = same c (seen lead.For c (lead-same (For line name_line name in_line from dots to schedule nowait opened body closed rest) c end last tail after e)) e g h
+only-for line name_line name in_line from dots to schedule nowait opened body closed rest only more c n m end last tail after e d g s h = same c (seen (Some lead.For) c (lead-same (For line name_line name in_line from dots to schedule nowait opened body closed rest) c end last tail after e)) e g h
   where
-    same : (c : Stmts) → View lead.For c → inside (For line name_line name in_line from dots to schedule nowait opened body closed rest) end tail ≡ inside c last after → StmtsDerive c → AreShallow m c
+    same : (c : Stmts) → View (Some lead.For) c → inside (For line name_line name in_line from dots to schedule nowait opened body closed rest) end tail ≡ inside c last after → StmtsDerive c → AreShallow m c
         → (For line name_line name in_line from dots to schedule nowait opened body closed rest ≡ c) × (end ≡ last) × (tail ≡ after)
     same _ (IsFor line2 name_line2 name2 in_line2 from2 dots2 to2 schedule2 nowait2 opened2 body2 closed2 rest2) e g h =
         let a = heads-is _ _ _ _ e in

@@ -64,22 +64,22 @@ no-else (Critical line opened body closed rest) end tail e = absurd cc
 no-else (CriticalOf line name_line name opened body closed rest) end tail e = absurd cc
 
 -- statements of which the lead is known
-pub data View : Lead → Stmts → Type 0 where
-  IsEnd : View lead.End NoMore
-  IsLet : (line name_line : ℕ) → (name : List ℕ) → (sign_line : ℕ) → (value : Tree) → (rest : Stmts) → View lead.Let (Let line name_line name sign_line value rest)
-  IsAssign : (line : ℕ) → (name : List ℕ) → (sign_line : ℕ) → (value : Tree) → (rest : Stmts) → View lead.Assign (Assign line name sign_line value rest)
-  IsStore : (line : ℕ) → (name : List ℕ) → (opened : ℕ) → (index : Tree) → (closed sign_line : ℕ) → (value : Tree) → (rest : Stmts) → View lead.Store (Store line name opened index closed sign_line value rest)
-  IsIf : (line : ℕ) → (test : Tree) → (opened : ℕ) → (if_true : Stmts) → (closed : ℕ) → (rest : Stmts) → View lead.If (If line test opened if_true closed rest)
+pub data View : Option Lead → Stmts → Type 0 where
+  IsEnd : View None NoMore
+  IsLet : (line name_line : ℕ) → (name : List ℕ) → (sign_line : ℕ) → (value : Tree) → (rest : Stmts) → View (Some lead.Let) (Let line name_line name sign_line value rest)
+  IsAssign : (line : ℕ) → (name : List ℕ) → (sign_line : ℕ) → (value : Tree) → (rest : Stmts) → View (Some lead.Assign) (Assign line name sign_line value rest)
+  IsStore : (line : ℕ) → (name : List ℕ) → (opened : ℕ) → (index : Tree) → (closed sign_line : ℕ) → (value : Tree) → (rest : Stmts) → View (Some lead.Store) (Store line name opened index closed sign_line value rest)
+  IsIf : (line : ℕ) → (test : Tree) → (opened : ℕ) → (if_true : Stmts) → (closed : ℕ) → (rest : Stmts) → View (Some lead.If) (If line test opened if_true closed rest)
   IsIfElse : (line : ℕ) → (test : Tree) → (opened : ℕ) → (if_true : Stmts) → (closed else_line else_opened : ℕ) → (if_false : Stmts) → (else_closed : ℕ) → (rest : Stmts)
-      → View lead.If (IfElse line test opened if_true closed else_line else_opened if_false else_closed rest)
+      → View (Some lead.If) (IfElse line test opened if_true closed else_line else_opened if_false else_closed rest)
   IsLoop : (line name_line : ℕ) → (name : List ℕ) → (in_line : ℕ) → (from : Tree) → (dots : ℕ) → (to : Tree) → (opened : ℕ) → (body : Stmts) → (closed : ℕ) → (rest : Stmts)
-      → View lead.Loop (Loop line name_line name in_line from dots to opened body closed rest)
-  IsParallel : (line number_line : ℕ) → (span : ℤ) → (opened : ℕ) → (body : Stmts) → (closed : ℕ) → (rest : Stmts) → View lead.Parallel (Parallel line number_line span opened body closed rest)
+      → View (Some lead.Loop) (Loop line name_line name in_line from dots to opened body closed rest)
+  IsParallel : (line number_line : ℕ) → (span : ℤ) → (opened : ℕ) → (body : Stmts) → (closed : ℕ) → (rest : Stmts) → View (Some lead.Parallel) (Parallel line number_line span opened body closed rest)
   IsFor : (line name_line : ℕ) → (name : List ℕ) → (in_line : ℕ) → (from : Tree) → (dots : ℕ) → (to : Tree) → (schedule : ScheduleTree) → (nowait : Option ℕ) → (opened : ℕ) → (body : Stmts) → (closed : ℕ) → (rest : Stmts)
-      → View lead.For (For line name_line name in_line from dots to schedule nowait opened body closed rest)
-  IsBarrier : (line : ℕ) → (rest : Stmts) → View lead.Barrier (Barrier line rest)
-  IsCritical : (line opened : ℕ) → (body : Stmts) → (closed : ℕ) → (rest : Stmts) → View lead.Critical (Critical line opened body closed rest)
-  IsCriticalOf : (line name_line : ℕ) → (name : List ℕ) → (opened : ℕ) → (body : Stmts) → (closed : ℕ) → (rest : Stmts) → View lead.Critical (CriticalOf line name_line name opened body closed rest)
+      → View (Some lead.For) (For line name_line name in_line from dots to schedule nowait opened body closed rest)
+  IsBarrier : (line : ℕ) → (rest : Stmts) → View (Some lead.Barrier) (Barrier line rest)
+  IsCritical : (line opened : ℕ) → (body : Stmts) → (closed : ℕ) → (rest : Stmts) → View (Some lead.Critical) (Critical line opened body closed rest)
+  IsCriticalOf : (line name_line : ℕ) → (name : List ℕ) → (opened : ℕ) → (body : Stmts) → (closed : ℕ) → (rest : Stmts) → View (Some lead.Critical) (CriticalOf line name_line name opened body closed rest)
 
 view : (b : Stmts) → View (lead_of_stmts b) b
 view NoMore = IsEnd
@@ -96,5 +96,5 @@ view (Critical line opened body closed rest) = IsCritical line opened body close
 view (CriticalOf line name_line name opened body closed rest) = IsCriticalOf line name_line name opened body closed rest
 
 -- statements by their lead
-pub seen : (l : Lead) (b : Stmts) → l ≡ lead_of_stmts b → View l b
-seen l b is = subst (λ (l : Lead). View l b) (sym is) (view b)
+pub seen : (l : Option Lead) (b : Stmts) → l ≡ lead_of_stmts b → View l b
+seen l b is = subst (λ (l : Option Lead). View l b) (sym is) (view b)

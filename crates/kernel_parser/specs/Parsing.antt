@@ -43,19 +43,20 @@ Begins x (t ∷ ts) = t.lexeme ≡ x
 
 -- ---- which statement it is
 
-abbrev pub lead_of_stmts : Stmts → Lead
-lead_of_stmts NoMore = lead.End
-lead_of_stmts (Let line name_line name sign_line value rest) = lead.Let
-lead_of_stmts (Assign line name sign_line value rest) = lead.Assign
-lead_of_stmts (Store line name opened index closed sign_line value rest) = lead.Store
-lead_of_stmts (If line test opened if_true closed rest) = lead.If
-lead_of_stmts (IfElse line test opened if_true closed else_line else_opened if_false else_closed rest) = lead.If
-lead_of_stmts (Loop line name_line name in_line from dots to opened body closed rest) = lead.Loop
-lead_of_stmts (Parallel line number_line span opened body closed rest) = lead.Parallel
-lead_of_stmts (For line name_line name in_line from dots to schedule nowait opened body closed rest) = lead.For
-lead_of_stmts (Barrier line rest) = lead.Barrier
-lead_of_stmts (Critical line opened body closed rest) = lead.Critical
-lead_of_stmts (CriticalOf line name_line name opened body closed rest) = lead.Critical
+-- the first of the statements, if there is one
+abbrev pub lead_of_stmts : Stmts → Option Lead
+lead_of_stmts NoMore = None
+lead_of_stmts (Let line name_line name sign_line value rest) = Some lead.Let
+lead_of_stmts (Assign line name sign_line value rest) = Some lead.Assign
+lead_of_stmts (Store line name opened index closed sign_line value rest) = Some lead.Store
+lead_of_stmts (If line test opened if_true closed rest) = Some lead.If
+lead_of_stmts (IfElse line test opened if_true closed else_line else_opened if_false else_closed rest) = Some lead.If
+lead_of_stmts (Loop line name_line name in_line from dots to opened body closed rest) = Some lead.Loop
+lead_of_stmts (Parallel line number_line span opened body closed rest) = Some lead.Parallel
+lead_of_stmts (For line name_line name in_line from dots to schedule nowait opened body closed rest) = Some lead.For
+lead_of_stmts (Barrier line rest) = Some lead.Barrier
+lead_of_stmts (Critical line opened body closed rest) = Some lead.Critical
+lead_of_stmts (CriticalOf line name_line name opened body closed rest) = Some lead.Critical
 
 -- ---- what the code reads
 
@@ -80,29 +81,13 @@ Reads (Err fault.Memory) IsDue = Unit {0}
 abbrev pub IsRead : (Stmts → Stmts) → List Token → Statement → List Token → Type 0
 IsRead view after x left = ((rest : Stmts) → stmt_before x rest ≡ view rest) × (left ≡ after)
 
--- there is a first of the statements
-abbrev pub AreSome : Stmts → Type 0
-AreSome NoMore = ⊥
-AreSome _ = Unit {0}
-
--- the statements behind the first
-abbrev pub rest_of : Stmts → Stmts
-rest_of NoMore = NoMore
-rest_of (Let line name_line name sign_line value rest) = rest
-rest_of (Assign line name sign_line value rest) = rest
-rest_of (Store line name opened index closed sign_line value rest) = rest
-rest_of (If line test opened if_true closed rest) = rest
-rest_of (IfElse line test opened if_true closed else_line else_opened if_false else_closed rest) = rest
-rest_of (Loop line name_line name in_line from dots to opened body closed rest) = rest
-rest_of (Parallel line number_line span opened body closed rest) = rest
-rest_of (For line name_line name in_line from dots to schedule nowait opened body closed rest) = rest
-rest_of (Barrier line rest) = rest
-rest_of (Critical line opened body closed rest) = rest
-rest_of (CriticalOf line name_line name opened body closed rest) = rest
-
 -- the first of the statements was read, and the others are left
-abbrev pub IsFirst : Stmts → ℕ → List Token → Statement → List Token → Type 0
-IsFirst b end tail x left = (stmt_before x (rest_of b) ≡ b) × (left ≡ inside (rest_of b) end tail)
+pub record IsFirst (levels : ℕ) (b : Stmts) (end : ℕ) (tail : List Token) (x : Statement) (left : List Token) : Type 0 where
+  pub rest : Stmts
+  pub whole : stmt_before x rest ≡ b
+  pub parts : left ≡ inside rest end tail
+  pub derives : StmtsDerive rest
+  pub shallow : AreShallow levels rest
 
 -- a declaration was read
 abbrev pub IsDeclared : Declaration → List Token → Option (code.Declaration × Bor (List Token)) → Type 0

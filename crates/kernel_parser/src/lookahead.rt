@@ -25,8 +25,6 @@ pub enum Lead {
     For,
     Barrier,
     Critical,
-    /// None: the brace behind the last one.
-    End,
 }
 
 /// The line of the first token, and the tokens behind it.
@@ -125,26 +123,26 @@ pub fn is_else(tokens: &[Token]) -> bool
     }
 }
 
-/// The statement that begins with a token, behind which are these.
-pub fn lead_of(token: &Token, rest: &[Token]) -> Lead
+/// The statement that begins with a token, behind which are these; none at the closing brace.
+pub fn lead_of(token: &Token, rest: &[Token]) -> Option<Lead>
     ensures { (b : Stmts) (end : ℕ) (tail : List AToken) → token.now ∷ rest.now ≡ inside b end tail → result ≡ lead_of_stmts b }
 {
     match &token.lexeme {
-        Lexeme::Reserved(Word::Let) => Lead::Let,
-        Lexeme::Reserved(Word::If) => Lead::If,
-        Lexeme::Reserved(Word::Loop) => Lead::Loop,
-        Lexeme::Reserved(Word::Parallel) => Lead::Parallel,
-        Lexeme::Reserved(Word::For) => Lead::For,
-        Lexeme::Reserved(Word::Barrier) => Lead::Barrier,
-        Lexeme::Reserved(Word::Critical) => Lead::Critical,
+        Lexeme::Reserved(Word::Let) => Some(Lead::Let),
+        Lexeme::Reserved(Word::If) => Some(Lead::If),
+        Lexeme::Reserved(Word::Loop) => Some(Lead::Loop),
+        Lexeme::Reserved(Word::Parallel) => Some(Lead::Parallel),
+        Lexeme::Reserved(Word::For) => Some(Lead::For),
+        Lexeme::Reserved(Word::Barrier) => Some(Lead::Barrier),
+        Lexeme::Reserved(Word::Critical) => Some(Lead::Critical),
         Lexeme::Named(_) => {
             if is_open_bracket(rest) {
-                Lead::Store
+                Some(Lead::Store)
             } else {
-                Lead::Assign
+                Some(Lead::Assign)
             }
         }
-        _ => Lead::End,
+        _ => None,
     }
 }
 

@@ -1,7 +1,7 @@
 //! From tokens to statements.
 //!
 //! A call inside a call follows a block; statements in a row are a loop.
-ghost use Rattle.std.specs.Prelude.{◌≡◌, ◌≤◌, ℕ, ℤ, List, ◌∷◌, ◌++◌, length, IfOk, true, false, Option};
+ghost use Rattle.std.specs.Prelude.{◌≡◌, ◌≤◌, ℕ, ℤ, List, ◌∷◌, ◌++◌, length, IfOk, Option, Some};
 ghost use Rattle.kernel_text.specs.declared.token.Token.{Token as AToken};
 ghost use Rattle.kernel_text.specs.declared.token.Lexeme.TheVariants.{Reserved};
 ghost use Rattle.kernel_text.specs.declared.token.Sign.TheVariants as sign;
@@ -9,7 +9,7 @@ ghost use Rattle.kernel_text.specs.declared.token.Word.TheVariants as word;
 ghost use Rattle.kernel_text.specs.Grammar as grammar;
 ghost use Rattle.kernel_text.specs.Grammar.{Stmts, StmtsDerive, AreShallow, named, mark, reserved, number, schedule_tokens, nowait_tokens};
 ghost use Rattle.kernel_parser.specs.Trees.{tree_of, schedule_tree, stmts_of};
-ghost use Rattle.kernel_parser.specs.Parsing.{IsExpression, IsBlock, IsRead, IsFirst, AreSome, Begins, Reads, inside, lead_of_stmts};
+ghost use Rattle.kernel_parser.specs.Parsing.{IsExpression, IsBlock, IsRead, IsFirst, Begins, Reads, inside, lead_of_stmts};
 
 use crate::expression::expression;
 use crate::fault::ParseFault;
@@ -284,8 +284,8 @@ fn stmt<'a>(
     token: &Token,
     rest: &'a [Token],
 ) -> Result<(Statement, &'a [Token]), ParseFault>
-    requires { (b : Stmts) (end : ℕ) (tail : List AToken) → token.now ∷ rest.now ≡ inside b end tail → lead ≡ lead_of_stmts b }
-    ensures parsed { (b : Stmts) (end : ℕ) (tail : List AToken) (n : ℕ) → AreSome b → token.now ∷ rest.now ≡ inside b end tail → StmtsDerive b → AreShallow n b → Reads result (λ x. IsFirst b end tail x.0 x.1.now) }
+    requires { (b : Stmts) (end : ℕ) (tail : List AToken) → token.now ∷ rest.now ≡ inside b end tail → Some lead ≡ lead_of_stmts b }
+    ensures parsed { (b : Stmts) (end : ℕ) (tail : List AToken) (n : ℕ) → token.now ∷ rest.now ≡ inside b end tail → StmtsDerive b → AreShallow n b → Reads result (λ x. IsFirst n b end tail x.0 x.1.now) }
     ensures shorter { IfOk result (λ x. length x.1.now ≤ length rest.now) }
 {
     let line = token.line;
@@ -299,7 +299,6 @@ fn stmt<'a>(
         Lead::For => for_stmt(alloc, line, rest),
         Lead::Barrier => Ok((Statement::Barrier { line }, rest)),
         Lead::Critical => critical_stmt(alloc, line, rest),
-        Lead::End => Err(ParseFault::NoKernel),
     }
 }
 
@@ -313,16 +312,13 @@ pub fn block(alloc: Global, tokens: &[Token]) -> Result<(Block, &[Token]), Parse
     let mut stmts = Vec::new(alloc);
     let mut rest = inner;
     'stmts: while let Some((token, after)) = rest.split_first() {
-        let lead = match lead_of(token, after) {
-            Lead::End => {
-                let block = Block {
-                    opened,
-                    stmts,
-                    closed: token.line,
-                };
-                return Ok((block, after));
-            }
-            other => other,
+        let Some(lead) = lead_of(token, after) else {
+            let block = Block {
+                opened,
+                stmts,
+                closed: token.line,
+            };
+            return Ok((block, after));
         };
         let (added, left) = stmt(alloc, lead, token, after)?;
         stmts.push(added)?;

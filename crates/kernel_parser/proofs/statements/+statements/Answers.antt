@@ -1,4 +1,4 @@
-use Rattle.std.proofs.Common.{◌≡◌, List, ◌∷◌, Ok, length, refl, sym, ap, subst, ◌∙◌, arith, rules, w64}
+use Rattle.std.proofs.Common.{◌≡◌, List, ◌∷◌, Some, Ok, length, refl, sym, ap, subst, ◌∙◌, arith, rules, w64}
 use Rattle.std.proofs.lemmas.Int.{to_z-of_z}
 use Rattle.std.proofs.lemmas.Result.{err_from_is_err_and}
 use Rattle.std.proofs.lemmas.List.{nil_from_length}
@@ -157,52 +157,52 @@ if_stmt-returns-clause-both t c =
 
 pub stmt-returns-in-Let-clause-parsed : goal.stmt-returns-in-Let-clause-parsed
 stmt-returns-in-Let-clause-parsed t c =
-    λ b end tail n some e d s. let-parsed c.args.token.now c.args.rest.now c.let_stmt.result c.let_stmt.ensures.parsed (λ b end tail e. sym c.in-Let.is ∙ c.requires b end tail e) b end tail n e d s
+    λ b end tail n e d s. let-parsed c.args.token.now c.args.rest.now c.let_stmt.result c.let_stmt.ensures.parsed (λ b end tail e. ap Some (sym c.in-Let.is) ∙ c.requires b end tail e) b end tail n e d s
 
 pub stmt-returns-in-Assign-clause-parsed : goal.stmt-returns-in-Assign-clause-parsed
 stmt-returns-in-Assign-clause-parsed t c =
-    λ b end tail n some e d s. assign-parsed c.args.token.now c.args.rest.now c.name_at.result c.assign_stmt.result c.name_at.ensures c.assign_stmt.ensures.parsed (λ b end tail e. sym c.in-Assign.is ∙ c.requires b end tail e) b end tail n e d s
+    λ b end tail n e d s. assign-parsed c.args.token.now c.args.rest.now c.name_at.result c.assign_stmt.result c.name_at.ensures c.assign_stmt.ensures.parsed (λ b end tail e. ap Some (sym c.in-Assign.is) ∙ c.requires b end tail e) b end tail n e d s
 
 pub stmt-returns-in-Store-clause-parsed : goal.stmt-returns-in-Store-clause-parsed
 stmt-returns-in-Store-clause-parsed t c =
-    λ b end tail n some e d s. store-parsed c.args.token.now c.args.rest.now c.name_at-in-Store.result c.store_stmt.result c.name_at-in-Store.ensures c.store_stmt.ensures.parsed (λ b end tail e. sym c.in-Store.is ∙ c.requires b end tail e) b end tail n e d s
+    λ b end tail n e d s. store-parsed c.args.token.now c.args.rest.now c.name_at-in-Store.result c.store_stmt.result c.name_at-in-Store.ensures c.store_stmt.ensures.parsed (λ b end tail e. ap Some (sym c.in-Store.is) ∙ c.requires b end tail e) b end tail n e d s
 
 pub stmt-returns-in-If-clause-parsed : goal.stmt-returns-in-If-clause-parsed
 stmt-returns-in-If-clause-parsed t c =
-    λ b end tail n some e d s. if-parsed c.args.token.now c.args.rest.now c.if_stmt.result c.if_stmt.ensures.alone c.if_stmt.ensures.both (λ b end tail e. sym c.in-If.is ∙ c.requires b end tail e) b end tail n e d s
+    λ b end tail n e d s. if-parsed c.args.token.now c.args.rest.now c.if_stmt.result c.if_stmt.ensures.alone c.if_stmt.ensures.both (λ b end tail e. ap Some (sym c.in-If.is) ∙ c.requires b end tail e) b end tail n e d s
 
 pub stmt-returns-in-Loop-clause-parsed : goal.stmt-returns-in-Loop-clause-parsed
 stmt-returns-in-Loop-clause-parsed t c =
-    λ b end tail n some e d s. loop-parsed c.args.token.now c.args.rest.now c.loop_stmt.result c.loop_stmt.ensures.parsed (λ b end tail e. sym c.in-Loop.is ∙ c.requires b end tail e) b end tail n e d s
+    λ b end tail n e d s. loop-parsed c.args.token.now c.args.rest.now c.loop_stmt.result c.loop_stmt.ensures.parsed (λ b end tail e. ap Some (sym c.in-Loop.is) ∙ c.requires b end tail e) b end tail n e d s
 
 pub stmt-returns-in-Parallel-clause-parsed : goal.stmt-returns-in-Parallel-clause-parsed
 stmt-returns-in-Parallel-clause-parsed t c =
-    λ b end tail n some e d s. parallel-parsed c.args.token.now c.args.rest.now c.parallel_stmt.result c.parallel_stmt.ensures.parsed (λ b end tail e. sym c.in-Parallel.is ∙ c.requires b end tail e) b end tail n e d s
+    λ b end tail n e d s. parallel-parsed c.args.token.now c.args.rest.now c.parallel_stmt.result c.parallel_stmt.ensures.parsed (λ b end tail e. ap Some (sym c.in-Parallel.is) ∙ c.requires b end tail e) b end tail n e d s
 
 pub stmt-returns-in-For-clause-parsed : goal.stmt-returns-in-For-clause-parsed
 stmt-returns-in-For-clause-parsed t c =
-    λ b end tail n some e d s. for-parsed c.args.token.now c.args.rest.now c.for_stmt.result c.for_stmt.ensures.parsed (λ b end tail e. sym c.in-For.is ∙ c.requires b end tail e) b end tail n e d s
+    λ b end tail n e d s. for-parsed c.args.token.now c.args.rest.now c.for_stmt.result c.for_stmt.ensures.parsed (λ b end tail e. ap Some (sym c.in-For.is) ∙ c.requires b end tail e) b end tail n e d s
 
 pub stmt-returns-in-Critical-clause-parsed : goal.stmt-returns-in-Critical-clause-parsed
 stmt-returns-in-Critical-clause-parsed t c =
-    λ b end tail n some e d s. critical-parsed c.args.token.now c.args.rest.now c.critical_stmt.result c.critical_stmt.ensures.plain c.critical_stmt.ensures.of (λ b end tail e. sym c.in-Critical.is ∙ c.requires b end tail e) b end tail n e d s
+    λ b end tail n e d s. critical-parsed c.args.token.now c.args.rest.now c.critical_stmt.result c.critical_stmt.ensures.plain c.critical_stmt.ensures.of (λ b end tail e. ap Some (sym c.in-Critical.is) ∙ c.requires b end tail e) b end tail n e d s
 
 pub stmt-returns-in-Barrier-clause-parsed : goal.stmt-returns-in-Barrier-clause-parsed
 stmt-returns-in-Barrier-clause-parsed t c =
     let read : IsRead (Barrier c.args.token.now.line) c.args.rest.now (variant.Barrier c.args.token.now.line) c.args.rest.now = (λ rest. before_barrier c.args.token.now.line rest, refl) in
-    λ b end tail n some e d s. barrier-parsed c.args.token.now c.args.rest.now (Ok (variant.Barrier c.args.token.now.line, c.args.rest)) read (λ b end tail e. sym c.in-Barrier.is ∙ c.requires b end tail e) b end tail n e d s
+    λ b end tail n e d s. barrier-parsed c.args.token.now c.args.rest.now (Ok (variant.Barrier c.args.token.now.line, c.args.rest)) read (λ b end tail e. ap Some (sym c.in-Barrier.is) ∙ c.requires b end tail e) b end tail n e d s
 
-pub block-returns-in-End-clause-parsed : goal.block-returns-in-End-clause-parsed
-block-returns-in-End-clause-parsed t c =
+pub block-returns-in_default-lead_of-clause-parsed : goal.block-returns-in_default-lead_of-clause-parsed
+block-returns-in_default-lead_of-clause-parsed t c =
     let split : c.stmts.rest.now ≡ c.in-Some.token.now ∷ c.in-Some.after.now = c.in-Some.ensures.cases.0 in
-    left-ends c.args.tokens.now c.skip-opened.result.0 c.stmts.stmts.items c.stmts.rest.now c.in-Some.after.now c.in-Some.token.now c.stmts.invariant.left split (λ b end tail e. sym c.in-End.is ∙ c.lead_of.ensures b end tail e)
+    left-ends c.args.tokens.now c.skip-opened.result.0 c.stmts.stmts.items c.stmts.rest.now c.in-Some.after.now c.in-Some.token.now c.stmts.invariant.left split c.in_default-lead_of.ensures
 
 pub block-returns-in_err-added : goal.block-returns-in_err-added
 block-returns-in_err-added t c =
     let split : c.stmts.rest.now ≡ c.in-Some.token.now ∷ c.in-Some.after.now = c.in-Some.ensures.cases.0 in
     let p = err_from_is_err_and c.from_residual.result c.from_residual.ensures.1 in
     record {
-      parsed = λ opened body closed after is. rw (p.1, p.2) (left-fails _ c.args.tokens.now c.skip-opened.result.0 c.stmts.stmts.items c.stmts.rest.now c.in-Some.after.now c.in-Some.token.now c.lead_of.result c.in_err-added.field-0.0 c.stmts.invariant.left split c.lead_of.ensures c.in_default-lead_of.not-End c.in_err-added.ensures.parsed opened body closed after is);
+      parsed = λ opened body closed after is. rw (p.1, p.2) (left-fails _ c.args.tokens.now c.skip-opened.result.0 c.stmts.stmts.items c.stmts.rest.now c.in-Some.after.now c.in-Some.token.now c.in_err-added.field-0.0 c.stmts.invariant.left split c.in_err-added.ensures.parsed opened body closed after is);
       shorter = rw p.1 tt;
     }
 
@@ -213,7 +213,7 @@ block-stmts-preserved t c =
     let so_far = c.stmts.invariant.shorter in
     let less = c.in_ok-added.ensures.shorter in
     record {
-      left = left-steps c.args.tokens.now c.skip-opened.result.0 c.stmts.stmts.items c.push.new.self.items c.stmts.rest.now c.in-Some.after.now c.in-Some.token.now c.lead_of.result (c.in_ok-added.added, c.in_ok-added.left) c.stmts.invariant.left split c.lead_of.ensures c.in_default-lead_of.not-End c.in_ok-added.ensures.parsed c.in_ok-push.ensures.items;
+      left = left-steps c.args.tokens.now c.skip-opened.result.0 c.stmts.stmts.items c.push.new.self.items c.stmts.rest.now c.in-Some.after.now c.in-Some.token.now (c.in_ok-added.added, c.in_ok-added.left) c.stmts.invariant.left split c.in_ok-added.ensures.parsed c.in_ok-push.ensures.items;
       shorter = omega (arith, ls, so_far, less);
     }
 
