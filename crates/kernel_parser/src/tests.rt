@@ -151,10 +151,10 @@ fn long_texts_are_parsed_and_dropped(rt: HostRuntime) -> Result<(), Fail> {
     let rows: [(&[u8], &[u8], usize, &[u8], usize); 5] = [
         (b"main{a=1", b"+1", 32_000, b"}", 1),
         (
-            b"main{a=",
+            b"main{if 1{if 1{if 1{if 1{if 1{if 1{if 1{if 1{if 1{if 1{if 1{if 1{if 1{if 1{if 1{if 1{if 1{if 1{if 1{if 1{if 1{if 1{if 1{if 1{if 1{if 1{if 1{if 1{if 1{if 1{if 1{a=",
             b"1<1+1*(",
             32,
-            b"1))))))))))))))))))))))))))))))))}",
+            b"1))))))))))))))))))))))))))))))))}}}}}}}}}}}}}}}}}}}}}}}}}}}}}}}}",
             1,
         ),
         (b"main{", b"a=1 ", 10_000, b"}", 10_000),
