@@ -11,7 +11,7 @@ use Rattle.kernel_parser.specs.declared.fault.ParseFault.TheVariants as fault
 use Rattle.kernel_parser.specs.declared.lookahead.Lead.{Lead}
 use Rattle.kernel_parser.specs.declared.lookahead.Lead.TheVariants as lead
 use Rattle.kernel_parser.specs.declared.tree.Statement.{Statement}
-use Rattle.kernel_parser.specs.Parsing.{IsExpression, IsBlock, IsRead, IsFirst, Reads, Begins, inside, lead_of_stmts}
+use Rattle.kernel_parser.specs.Parsing.{IsExpression, IsBlock, IsRead, IsFirst, Reads, StartsWith, inside, lead_of_stmts}
 use Rattle.kernel_parser.proofs.Signs.{heads-is, stops-at}
 use Rattle.kernel_parser.proofs.Heading.{View, IsLet, IsAssign, IsStore, IsIf, IsIfElse, IsLoop, IsParallel, IsFor, IsBarrier, IsCritical, IsCriticalOf, seen, before-stmts, body-opens, follows-schedule, no-else}
 
@@ -80,7 +80,7 @@ block-more opened body closed us vs =
     append_assoc (block opened (stmts_tokens body) closed) us vs ∙ ap (λ (ts : List Token). mark opened sign.OpenBrace ∷ ts) (append_assoc (stmts_tokens body) (mark closed sign.CloseBrace ∷ []) (us ++ vs))
 
 pub if-parsed : (t : Token) (ts : List Token) (r : Parsed)
-    → ((test : Tree) (opened : ℕ) (body : Stmts) (closed : ℕ) (us after : List Token) → IsExpression ts test us → IsBlock us opened body closed after → (Begins (Reserved word.Else) after → ⊥) → Reads r (λ x. IsRead (If t.line test opened body closed) after x.0 x.1.now))
+    → ((test : Tree) (opened : ℕ) (body : Stmts) (closed : ℕ) (us after : List Token) → IsExpression ts test us → IsBlock us opened body closed after → (StartsWith (Reserved word.Else) after → ⊥) → Reads r (λ x. IsRead (If t.line test opened body closed) after x.0 x.1.now))
     → ((test : Tree) (opened : ℕ) (body : Stmts) (closed else_line else_opened : ℕ) (other : Stmts) (else_closed : ℕ) (us vs after : List Token) → IsExpression ts test us → IsBlock us opened body closed (reserved else_line word.Else ∷ vs) → IsBlock vs else_opened other else_closed after
     → Reads r (λ x. IsRead (IfElse t.line test opened body closed else_line else_opened other else_closed) after x.0 x.1.now))
     → IsParsed lead.If t ts r

@@ -9,7 +9,7 @@ use Rattle.kernel_text.specs.Grammar.{Tree, tree_tokens, Derives, expr, IsFlat, 
 use Rattle.kernel_parser.specs.declared.lookahead.Lead.{Lead}
 use Rattle.kernel_parser.specs.declared.lookahead.Lead.TheVariants as lead
 use Rattle.kernel_parser.proofs.Signs.{stops-at}
-use Rattle.kernel_parser.specs.Parsing.{IsExpression, Stops, Begins, lead_of_stmts, inside}
+use Rattle.kernel_parser.specs.Parsing.{IsExpression, Stops, StartsWith, lead_of_stmts, inside}
 
 -- statements and the brace behind them don't go on with an expression
 pub follows-inside : (b : Stmts) (end : ℕ) (tail : List Token) → Stops expr (inside b end tail)
@@ -49,7 +49,7 @@ follows-schedule (Dynamic line) nowait opened after = stops-at expr _ (refl, ref
 follows-schedule (DynamicBy line number_line chunk) nowait opened after = stops-at expr _ (refl, refl)
 
 -- no `else` follows
-pub no-else : (b : Stmts) (end : ℕ) (tail : List Token) → Begins (Reserved word.Else) (inside b end tail) → ⊥
+pub no-else : (b : Stmts) (end : ℕ) (tail : List Token) → StartsWith (Reserved word.Else) (inside b end tail) → ⊥
 no-else NoMore end tail e = absurd cc
 no-else (Let line name_line name sign_line value rest) end tail e = absurd cc
 no-else (Assign line name sign_line value rest) end tail e = absurd cc

@@ -11,7 +11,7 @@ use Rattle.kernel_text.specs.declared.token.Lexeme.TheVariants.{Named, Number, R
 use Rattle.kernel_text.specs.declared.token.Token.{Token}
 use Rattle.kernel_text.specs.Grammar.{Tree, NumberAt, NameAt, TidAt, SpanAt, Element, Group, Minus, Binary, Derives, depth, tree_tokens, rank_of, left_rank, right_rank, sign_of, unary, expr, named, number, reserved, mark}
 use Rattle.kernel_text.proofs.Operators.{ranks}
-use Rattle.kernel_parser.specs.Parsing.{IsPart, Stops, Begins}
+use Rattle.kernel_parser.specs.Parsing.{IsPart, Stops, StartsWith}
 use Rattle.kernel_parser.proofs.Signs.{heads-is, begins-with, same-operation, stops-at, stops-operator, stops-below, stops-less, no-bracket-behind}
 
 pub part-at : (rank levels : ℕ) (ts us : List Token) (t : Tree) (after : List Token) → us ≡ ts → IsPart rank levels ts t after → IsPart rank levels us t after
@@ -135,14 +135,14 @@ pub record ElementOf (levels line : ℕ) (name : List ℕ) (ts : List Token) (t 
   pub is : IsPart expr (levels - 1) inner index (mark closed sign.CloseBracket ∷ after)
 
 -- a name without one
-pub name-alone : (levels line : ℕ) (name : List ℕ) (ts : List Token) (t : Tree) (after : List Token) → (Begins (Mark sign.OpenBracket) ts → ⊥) → IsPart unary levels (named line name ∷ ts) t after → (NameAt line name ≡ t) × (ts ≡ after)
+pub name-alone : (levels line : ℕ) (name : List ℕ) (ts : List Token) (t : Tree) (after : List Token) → (StartsWith (Mark sign.OpenBracket) ts → ⊥) → IsPart unary levels (named line name ∷ ts) t after → (NameAt line name ≡ t) × (ts ≡ after)
 name-alone levels line name ts t after none is = same t (starts t _ ts after is.parts is.derives) is.parts
   where
     same : (t : Tree) → Starts (Named name) t → named line name ∷ ts ≡ tree_tokens t ++ after → (NameAt line name ≡ t) × (ts ≡ after)
     same _ (IsName line2 _) e = let a = heads-is _ _ _ _ e in (ap (λ (l : ℕ). NameAt l name) a.0, a.2)
     same _ (IsElement line2 _ opened index closed) e = let a = heads-is _ _ _ _ e in absurd (none (begins-with (mark opened sign.OpenBracket) _ ts a.2))
 
-pub element-of : (levels line : ℕ) (name : List ℕ) (ts : List Token) (t : Tree) (after : List Token) → Begins (Mark sign.OpenBracket) ts → IsPart unary levels (named line name ∷ ts) t after → ElementOf levels line name ts t after
+pub element-of : (levels line : ℕ) (name : List ℕ) (ts : List Token) (t : Tree) (after : List Token) → StartsWith (Mark sign.OpenBracket) ts → IsPart unary levels (named line name ∷ ts) t after → ElementOf levels line name ts t after
 element-of levels line name ts t after some is = same t (starts t _ ts after is.parts is.derives) is
   where
     same : (t : Tree) → Starts (Named name) t → IsPart unary levels (named line name ∷ ts) t after → ElementOf levels line name ts t after

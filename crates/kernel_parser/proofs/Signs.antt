@@ -10,7 +10,7 @@ use Rattle.kernel_text.specs.declared.token.Token.{Token}
 use Rattle.kernel_text.specs.Grammar.{sign_of, rank_of, mark}
 use Rattle.kernel_text.specs.Judging.{op_of}
 use Rattle.kernel_text.proofs.Operators.{op_of-sign}
-use Rattle.kernel_parser.specs.Parsing.{Stops, Begins}
+use Rattle.kernel_parser.specs.Parsing.{Stops, StartsWith}
 
 line-is : (t u : Token) → t ≡ u → t.line ≡ u.line
 line-is t u e = ap (λ (t : Token). t.line) e
@@ -22,8 +22,8 @@ pub heads-is : (t u : Token) (ts us : List Token) → t ∷ ts ≡ u ∷ us → 
 heads-is t u ts us e = let one : t ≡ u = cc in (line-is t u one, lexeme-is t u one, cc)
 
 -- the first of the tokens is this one
-pub begins-with : (t : Token) (ts us : List Token) → us ≡ t ∷ ts → Begins t.lexeme us
-begins-with t ts us e = subst (λ (vs : List Token). Begins t.lexeme vs) (sym e) refl
+pub begins-with : (t : Token) (ts us : List Token) → us ≡ t ∷ ts → StartsWith t.lexeme us
+begins-with t ts us e = subst (λ (vs : List Token). StartsWith t.lexeme vs) (sym e) refl
 
 pub not-true : IsTrue false → ⊥
 not-true same = absurd cc
@@ -81,7 +81,7 @@ pub stops-less : (rank : ℕ) (o : Op) (line : ℕ) (ts us : List Token) → Sto
 unfolding Stops
 stops-less rank o line ts us stops e = let s : Stops rank (mark line (sign_of o) ∷ ts) = subst (λ (vs : List Token). Stops rank vs) e stops in s.1 o refl
 
-pub no-bracket-behind : (rank : ℕ) (ts us : List Token) → Begins (Mark sign.OpenBracket) ts → ts ≡ us → Stops rank us → ⊥
+pub no-bracket-behind : (rank : ℕ) (ts us : List Token) → StartsWith (Mark sign.OpenBracket) ts → ts ≡ us → Stops rank us → ⊥
 unfolding Stops
 no-bracket-behind rank [] us some e stops = some
 no-bracket-behind rank (t ∷ ts) us some e stops = let s : Stops rank (t ∷ ts) = subst (λ (vs : List Token). Stops rank vs) (sym e) stops in s.0 some

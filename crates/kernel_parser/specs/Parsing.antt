@@ -37,9 +37,9 @@ IsOperator ts rank (Some x) = (ts ≡ mark x.1 (sign_of x.0) ∷ x.2.now) × (ra
 IsOperator ts rank None = (o : Op) (line : ℕ) (us : List Token) → ts ≡ mark line (sign_of o) ∷ us → rank < rank_of o
 
 -- this lexeme comes first
-abbrev pub Begins : Lexeme → List Token → Type 0
-Begins x [] = ⊥
-Begins x (t ∷ ts) = t.lexeme ≡ x
+abbrev pub StartsWith : Lexeme → List Token → Type 0
+StartsWith x [] = ⊥
+StartsWith x (t ∷ ts) = t.lexeme ≡ x
 
 -- ---- which statement it is
 

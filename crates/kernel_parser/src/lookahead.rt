@@ -8,7 +8,7 @@ ghost use Rattle.kernel_text.specs.declared.token.Sign.TheVariants as sign;
 ghost use Rattle.kernel_text.specs.declared.token.Token.{Token as AToken};
 ghost use Rattle.kernel_text.specs.declared.token.Word.TheVariants as word;
 ghost use Rattle.kernel_text.specs.Grammar.{Stmts, named, number};
-ghost use Rattle.kernel_parser.specs.Parsing.{Begins, inside, lead_of_stmts};
+ghost use Rattle.kernel_parser.specs.Parsing.{StartsWith, inside, lead_of_stmts};
 
 use kernel_syntax::Name;
 use kernel_text::{Lexeme, Sign, Token, Word};
@@ -78,7 +78,7 @@ pub fn number_of(tokens: &[Token]) -> i64
 }
 
 pub fn is_number(tokens: &[Token]) -> bool
-    ensures { IsTrue result ↔ ((n : ℤ) × Begins (Number n) tokens.now) }
+    ensures { IsTrue result ↔ ((n : ℤ) × StartsWith (Number n) tokens.now) }
 {
     match tokens.first() {
         Some(token) => matches!(&token.lexeme, Lexeme::Number(_)),
@@ -87,7 +87,7 @@ pub fn is_number(tokens: &[Token]) -> bool
 }
 
 pub fn is_name(tokens: &[Token]) -> bool
-    ensures { IsTrue result ↔ ((name : List ℕ) × Begins (Named name) tokens.now) }
+    ensures { IsTrue result ↔ ((name : List ℕ) × StartsWith (Named name) tokens.now) }
 {
     match tokens.first() {
         Some(token) => matches!(&token.lexeme, Lexeme::Named(_)),
@@ -96,7 +96,7 @@ pub fn is_name(tokens: &[Token]) -> bool
 }
 
 pub fn is_open_bracket(tokens: &[Token]) -> bool
-    ensures { IsTrue result ↔ Begins (Mark sign.OpenBracket) tokens.now }
+    ensures { IsTrue result ↔ StartsWith (Mark sign.OpenBracket) tokens.now }
 {
     match tokens.first() {
         Some(token) => matches!(&token.lexeme, Lexeme::Mark(Sign::OpenBracket)),
@@ -105,7 +105,7 @@ pub fn is_open_bracket(tokens: &[Token]) -> bool
 }
 
 pub fn is_nowait(tokens: &[Token]) -> bool
-    ensures { IsTrue result ↔ Begins (Reserved word.Nowait) tokens.now }
+    ensures { IsTrue result ↔ StartsWith (Reserved word.Nowait) tokens.now }
 {
     match tokens.first() {
         Some(token) => matches!(&token.lexeme, Lexeme::Reserved(Word::Nowait)),
@@ -115,7 +115,7 @@ pub fn is_nowait(tokens: &[Token]) -> bool
 
 /// Whether `else` is next.
 pub fn is_else(tokens: &[Token]) -> bool
-    ensures { IsTrue result ↔ Begins (Reserved word.Else) tokens.now }
+    ensures { IsTrue result ↔ StartsWith (Reserved word.Else) tokens.now }
 {
     match tokens.first() {
         Some(token) => matches!(&token.lexeme, Lexeme::Reserved(Word::Else)),
@@ -147,7 +147,7 @@ pub fn lead_of(token: &Token, rest: &[Token]) -> Option<Lead>
 }
 
 pub fn is_static(tokens: &[Token]) -> bool
-    ensures { IsTrue result ↔ Begins (Reserved word.Static) tokens.now }
+    ensures { IsTrue result ↔ StartsWith (Reserved word.Static) tokens.now }
 {
     match tokens.first() {
         Some(token) => matches!(&token.lexeme, Lexeme::Reserved(Word::Static)),
@@ -156,7 +156,7 @@ pub fn is_static(tokens: &[Token]) -> bool
 }
 
 pub fn is_dynamic(tokens: &[Token]) -> bool
-    ensures { IsTrue result ↔ Begins (Reserved word.Dynamic) tokens.now }
+    ensures { IsTrue result ↔ StartsWith (Reserved word.Dynamic) tokens.now }
 {
     match tokens.first() {
         Some(token) => matches!(&token.lexeme, Lexeme::Reserved(Word::Dynamic)),

@@ -9,7 +9,7 @@ ghost use Rattle.kernel_text.specs.declared.token.Word.TheVariants as word;
 ghost use Rattle.kernel_text.specs.Grammar as grammar;
 ghost use Rattle.kernel_text.specs.Grammar.{Stmts, StmtsDerive, AreShallow, named, mark, reserved, number, schedule_tokens, nowait_tokens};
 ghost use Rattle.kernel_parser.specs.Trees.{tree_of, schedule_tree, stmts_of};
-ghost use Rattle.kernel_parser.specs.Parsing.{IsExpression, IsBlock, IsRead, IsFirst, Begins, Reads, inside, lead_of_stmts};
+ghost use Rattle.kernel_parser.specs.Parsing.{IsExpression, IsBlock, IsRead, IsFirst, StartsWith, Reads, inside, lead_of_stmts};
 
 use crate::expression::expression;
 use crate::fault::ParseFault;
@@ -167,7 +167,7 @@ fn nowait(tokens: &[Token]) -> (Option<u32>, &[Token])
 #[cycle(statements)]
 #[tactic(auto, using(crate::proofs::Equations::before_if, crate::proofs::Equations::before_if_else))]
 fn if_stmt(alloc: Global, line: u32, tokens: &[Token]) -> Result<(Statement, &[Token]), ParseFault>
-    ensures alone { (test : grammar.Tree) (opened : ℕ) (body : Stmts) (closed : ℕ) (ts after : List AToken) → IsExpression tokens.now test ts → IsBlock ts opened body closed after → (Begins (Reserved word.Else) after → ⊥) → Reads result (λ x. IsRead (grammar.If line test opened body closed) after x.0 x.1.now) }
+    ensures alone { (test : grammar.Tree) (opened : ℕ) (body : Stmts) (closed : ℕ) (ts after : List AToken) → IsExpression tokens.now test ts → IsBlock ts opened body closed after → (StartsWith (Reserved word.Else) after → ⊥) → Reads result (λ x. IsRead (grammar.If line test opened body closed) after x.0 x.1.now) }
     ensures both { (test : grammar.Tree) (opened : ℕ) (yes : Stmts) (closed else_line else_opened : ℕ) (other : Stmts) (else_closed : ℕ) (ts us after : List AToken) → IsExpression tokens.now test ts → IsBlock ts opened yes closed (reserved else_line word.Else ∷ us) → IsBlock us else_opened other else_closed after → Reads result (λ x. IsRead (grammar.IfElse line test opened yes closed else_line else_opened other else_closed) after x.0 x.1.now) }
     ensures shorter { IfOk result (λ x. length x.1.now ≤ length tokens.now) }
 {

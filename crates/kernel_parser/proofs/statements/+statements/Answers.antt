@@ -7,7 +7,7 @@ use Rattle.kernel_text.specs.declared.token.Word.TheVariants as word
 use Rattle.kernel_text.specs.Grammar.{named, reserved, Barrier}
 use Rattle.kernel_parser.specs.declared.tree.Statement.TheVariants as variant
 use Rattle.kernel_text.specs.declared.token.Lexeme.TheVariants.{Reserved}
-use Rattle.kernel_parser.specs.Parsing.{Begins, IsRead}
+use Rattle.kernel_parser.specs.Parsing.{StartsWith, IsRead}
 use Rattle.kernel_parser.proofs.Equations.{before_if, before_if_else, before_loop, before_for, before_barrier, before_critical, made_parallel, made_critical_of}
 use Rattle.kernel_parser.proofs.Signs.{begins-with, not-true}
 use Rattle.kernel_parser.proofs.Firsts.{let-parsed, assign-parsed, store-parsed, if-parsed, loop-parsed, parallel-parsed, for-parsed, barrier-parsed, critical-parsed}
@@ -127,7 +127,7 @@ if_stmt-returns-in_err-no-clause-alone t c =
     λ test opened body closed ts after first is no_else.
     let q = c.in_ok-test.ensures.read test ts first in
     let r = c.in_ok-yes.ensures.parsed opened body closed after (block-at _ ts opened body closed after q.1 is) in
-    absurd (no_else (subst (λ (us : List Token). Begins (Reserved word.Else) us) r.3 (c.if-not-is_else.ensures.0 refl)))
+    absurd (no_else (subst (λ (us : List Token). StartsWith (Reserved word.Else) us) r.3 (c.if-not-is_else.ensures.0 refl)))
 
 pub if_stmt-returns-in_err-no-clause-both : goal.if_stmt-returns-in_err-no-clause-both
 if_stmt-returns-in_err-no-clause-both t c =
@@ -142,7 +142,7 @@ if_stmt-returns-clause-alone t c =
     λ test opened body closed ts after first is no_else.
     let q = c.in_ok-test.ensures.read test ts first in
     let r = c.in_ok-yes.ensures.parsed opened body closed after (block-at _ ts opened body closed after q.1 is) in
-    absurd (no_else (subst (λ (us : List Token). Begins (Reserved word.Else) us) r.3 (c.if-not-is_else.ensures.0 refl)))
+    absurd (no_else (subst (λ (us : List Token). StartsWith (Reserved word.Else) us) r.3 (c.if-not-is_else.ensures.0 refl)))
 
 pub if_stmt-returns-clause-both : goal.if_stmt-returns-clause-both
 if_stmt-returns-clause-both t c =
