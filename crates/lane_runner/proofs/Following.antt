@@ -104,8 +104,9 @@ module _ (w : WorldValue) {A B : Type 0} (part : State → Outcome A) (next : A 
   handed : (stop : MaybeStop) (work : Work) → WorkHandsOn stop mid new work → WorkHandsOn stop old new (then_work one.work work)
   handed stop work hands = work_hands_then stop old mid new one.work work one.done.log.place one.done.log.path one.done.forked one.handed hands
 
-  follows : {bars : ℕ} (finish : Finish B) → MadePast bars w (next a) mid_slots slots' mid new finish → MadePast bars w (λ s. and_then (part s) next) slots slots' old new finish
-  follows finish m = record {
+  pub then_made : {bars : ℕ} (finish : Finish B) (m : MadePast bars w (next a) mid_slots slots' mid new finish)
+      → (both : MadePast bars w (λ s. and_then (part s) next) slots slots' old new finish) × (both.work ≡ then_work one.work m.work)
+  then_made finish m = (record {
     work = then_work one.work m.work;
     forks = one.forks ++ m.forks;
     own = m.own;
@@ -121,7 +122,10 @@ module _ (w : WorldValue) {A B : Type 0} (part : State → Outcome A) (next : A 
         (makes-then part next slots (log_limit - old.buffer.count) (effect_of mid_slots one.work one.forks) a (effect_of slots' m.work m.forks) finish (one.makes (fits_one m.work fit))
         (subst (λ (room : ℕ). Makes (next a) mid_slots room (effect_of slots' m.work m.forks) finish) left (m.makes (fits_two m.work fit))));
     regions = λ fit program is. let both = fits_then one.work m.work fit in runs_then program one.forks m.forks one.work m.work (one.regions both.0 program is) (m.regions both.1 program is);
-  }
+  }, refl)
+
+  follows : {bars : ℕ} (finish : Finish B) → MadePast bars w (next a) mid_slots slots' mid new finish → MadePast bars w (λ s. and_then (part s) next) slots slots' old new finish
+  follows finish m = (then_made finish m).0
 
   begins_follow : (cause : Cause) → Began w (next a) mid_slots mid new cause → Began w (λ s. and_then (part s) next) slots old new cause
   begins_follow cause m = record {
@@ -154,8 +158,8 @@ module _ (w : WorldValue) {A B : Type 0} (part : State → Outcome A) (next : A 
 
 -- the same part, told otherwise
 module _ (w : WorldValue) {A : Type 0} (part other : State → Outcome A) (slots slots' : List ℤ) (old new : Progress) (same : (s : State) → other s ≡ part s) where
-  made_same : {bars : ℕ} (finish : Finish A) → MadePast bars w part slots slots' old new finish → MadePast bars w other slots slots' old new finish
-  made_same finish m = record {
+  pub same_made : {bars : ℕ} (finish : Finish A) (m : MadePast bars w part slots slots' old new finish) → (x : MadePast bars w other slots slots' old new finish) × (x.work ≡ m.work)
+  same_made finish m = (record {
     work = m.work;
     forks = m.forks;
     own = m.own;
@@ -168,7 +172,10 @@ module _ (w : WorldValue) {A : Type 0} (part other : State → Outcome A) (slots
     unrefused = m.unrefused;
     makes = λ fit. makes-same part other slots (log_limit - old.buffer.count) (effect_of slots' m.work m.forks) finish same (m.makes fit);
     regions = m.regions;
-  }
+  }, refl)
+
+  made_same : {bars : ℕ} (finish : Finish A) → MadePast bars w part slots slots' old new finish → MadePast bars w other slots slots' old new finish
+  made_same finish m = (same_made finish m).0
 
   begun_same : (cause : Cause) → Began w part slots old new cause → Began w other slots old new cause
   begun_same cause m = record {

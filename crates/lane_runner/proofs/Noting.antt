@@ -103,8 +103,8 @@ module _ (w : WorldValue) (event : Record) (bars : ℕ) (note : IsNote w event b
     barriers = note.count;
   }
 
-  note_made : Takes event old.hand.view old new → MadePast bars w (put event) slots slots old new (Returned tt)
-  note_made taken = record {
+  pub note_made : Takes event old.hand.view old new → (m : MadePast bars w (put event) slots slots old new (Returned tt)) × (m.work ≡ Put event Rest)
+  note_made taken = (record {
     work = Put event Rest;
     forks = [];
     own = [];
@@ -123,15 +123,15 @@ module _ (w : WorldValue) (event : Record) (bars : ℕ) (note : IsNote w event b
         subst (λ (rs : List Record). Makes (put event) slots (log_limit - old.buffer.count) (adds slots rs) (Returned tt)) (sym (put_one event note.some))
         (makes-put event slots (log_limit - old.buffer.count) (let below = taken.below in omega arith) note.unread note.undrawn);
     regions = λ fit program is. RunsRegions.no_region;
-  }
+  }, refl)
 
   -- the record was put, or has no place
   pub note_goes : (r : Result (Unit {0}) Halt) → CanGo w old → TakesOrHalts event old.hand.view old new r → GoesPast bars w (put event) slots slots old new r
-  note_goes (Ok u) can taken = note_made taken
+  note_goes (Ok u) can taken = (note_made taken).0
   note_goes (Err why) can room =
       past_stop 0 bars w (put event) slots slots old new why
       (goes_unready w (put event) slots event.line (λ s. note_grows event s note.region) (makes-put_full event slots) old new why can room)
 
   pub note_can : (r : Result (Unit {0}) Halt) → CanGo w old → TakesOrHalts event old.hand.view old new r → OnOk r (CanGo w new)
-  note_can (Ok u) can taken = can_past bars w (put event) slots slots old new (Returned tt) can (note_made taken)
+  note_can (Ok u) can taken = can_past bars w (put event) slots slots old new (Returned tt) can (note_made taken).0
   note_can (Err why) can room = tt

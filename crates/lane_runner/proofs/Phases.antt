@@ -55,7 +55,7 @@ one_if b = cond b 1 0
 abbrev none_and : Bool → ℕ
 none_and b = 0 + one_if b
 
-no_bars : (items : List Item) → All IsNoBar items → bar_count (map part_of items) ≡ 0
+pub no_bars : (items : List Item) → All IsNoBar items → bar_count (map part_of items) ≡ 0
 no_bars [] none = refl
 no_bars (x ∷ items) none =
     let first : bar_count (part_of x ∷ []) ≡ 0 = ap none_and (All-head IsNoBar x items none) in

@@ -1,5 +1,5 @@
 -- How a lane goes on: statements.
-use Rattle.std.proofs.Common.{◌≡◌, refl, ap, sym, subst, ℕ, ◌-◌, List, ℤ, Option, Some, None, Result, Ok, Err}
+use Rattle.std.proofs.Common.{◌≡◌, ◌∙◌, refl, ap, sym, subst, ℕ, ◌-◌, List, ℤ, Option, Some, None, Result, Ok, Err}
 use Rattle.std.specs.Prelude.{slice_set}
 use Rattle.kernel_syntax.specs.Arithmetic.{fitted}
 use Rattle.kernel_syntax.specs.Tree as tree
@@ -18,9 +18,10 @@ use Rattle.kernel_model.proofs.Growing.{grows-plain, run-grows, value-grows}
 use Rattle.kernel_model.proofs.Steps.{kept-and_then, kept-after, kept-stored}
 use Rattle.lane_runner.specs.declared.stop.Halt.{Halt}
 use Rattle.lane_runner.specs.declared.stop.Halt.TheVariants as halt
+use Rattle.history_model.specs.Work.{then_work}
 use Rattle.lane_runner.specs.World.{WorldValue}
 use Rattle.lane_runner.specs.Going.{Progress, CanGo, Cause, AtLog, AtRegion, AtTasks, effect_of, Made, Began, GoesPast, Goes}
-use Rattle.lane_runner.proofs.Following.{goes_stop, past_then, goes_then, past_same, goes_same, after_is}
+use Rattle.lane_runner.proofs.Following.{goes_stop, past_then, goes_then, past_same, goes_same, same_made, then_made, after_is}
 use Rattle.lane_runner.proofs.Values.{can_follow, made_still}
 
 -- ---- parts that give no value
@@ -37,6 +38,14 @@ module _ (w : WorldValue) (part next : State → Outcome (Unit {0})) (slots : Li
   after_past bars mid_slots slots' old mid new r made goes =
       past_same w _ (λ (s : State). after (part s) next) slots slots' old new (λ s. after_is (part s) next) bars r
       (past_then w part (λ (a : Unit {0}) (s : State). next s) slots mid_slots slots' old mid new tt made bars r goes)
+
+  -- what was done of both
+  pub after_made : (mid_slots slots' : List ℤ) (old mid new : Progress) (one : Made w part slots mid_slots old mid (Returned tt)) (more : Made w next mid_slots slots' mid new (Returned tt))
+      → (both : Made w (λ s. after (part s) next) slots slots' old new (Returned tt)) × (both.work ≡ then_work one.work more.work)
+  after_made mid_slots slots' old mid new one more =
+      let both = then_made w part (λ (a : Unit {0}) (s : State). next s) slots mid_slots slots' old mid new tt one (Returned tt) more in
+      let same = same_made w _ (λ (s : State). after (part s) next) slots slots' old new (λ s. after_is (part s) next) (Returned tt) both.0 in
+      (same.0, same.1 ∙ both.1)
 
   pub after_goes : (mid_slots slots' : List ℤ) (old mid new : Progress) (r : Result (Unit {0}) Halt) → Made w part slots mid_slots old mid (Returned tt) → Goes w next mid_slots slots' mid new r
       → Goes w (λ s. after (part s) next) slots slots' old new r

@@ -24,7 +24,7 @@ use Rattle.lane_runner.proofs.NewLogs.{new_logs_later}
 use Rattle.lane_runner.proofs.Parting.{teams_at}
 use Rattle.lane_runner.proofs.Phases.{IsItemAt, item_has}
 
-teams_all : (P Q : TeamTree → Type 0) → ((team : TeamTree) → P team → Q team) → (code : Code) → EachTeam P code → EachTeam Q code
+pub teams_all : (P Q : TeamTree → Type 0) → ((team : TeamTree) → P team → Q team) → (code : Code) → EachTeam P code → EachTeam Q code
 teams_all P Q each Done all = tt
 teams_all P Q each (Set slot value rest) all = teams_all P Q each rest all
 teams_all P Q each (Store array index value line site rest) all = teams_all P Q each rest all

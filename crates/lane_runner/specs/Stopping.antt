@@ -72,9 +72,16 @@ pub record RestsInLane (line : ℕ) (at : List Step) (number span : ℕ) (path :
   pub path_is : path ≡ at ++ record { region = number; lane = lane; span = span } ∷ below
   pub rests : RestsBelow line (lane_works lane phases) below
 
+-- the path is that of a task of the region of this number of the task `at`: a lane, or a task below one
+pub record IsInRegion (at : List Step) (number span : ℕ) (path : List Step) : Type 0 where
+  pub lane : ℕ
+  pub below : List Step
+  pub path_is : path ≡ at ++ record { region = number; lane = lane; span = span } ∷ below
+
 -- The task of this path stopped so in the region: a stop that traces tell is how its trace ends, in each kernel of these arrays; and
 -- where too many tasks were below it, it did so after a region.
 pub record StopsRegion (arrays : List Array) (at : List Step) (number : ℕ) (path : List Step) (why : Stop) (fork : Fork) (phases : Phases) : Type 0 where
+  pub inside : IsInRegion at number fork.team.span path
   pub traced : PhasesFit phases → (program : Program) → program.arrays ≡ arrays → (end : Ending) → ending_for why ≡ Some end → EndsInLane program end at number path fork phases
   pub crowded : (line : ℕ) → why ≡ stop.Tasks line → RestsInLane line at number fork.team.span path phases
 

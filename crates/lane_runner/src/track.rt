@@ -296,6 +296,7 @@ impl<L: Log> Track<L> {
         requires there { self.old.hand.there ≡ true }
         requires unrefused { self.old.buffer.refused ≡ None }
         requires line { 1 ≤ line }
+        ensures takes { TakesOrHalts (event kind.End line 0 0) self.old.hand.view self.old self.new result }
         ensures goes { (w : WorldValue) (slots : List ℤ) → CanGo w self.old → Goes w (put (event kind.End line 0 0)) slots slots self.old self.new result }
         ensures can { (w : WorldValue) → CanGo w self.old → OnOk result (CanGo w self.new) }
         ensures log { IsSameLog self.old.buffer self.new.buffer }

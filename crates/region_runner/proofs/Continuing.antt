@@ -28,6 +28,7 @@ use Rattle.lane_runner.proofs.Releasing.{released_then, ends_then}
 use Rattle.lane_runner.proofs.Ending.{fits_then, ended_then, stops_then}
 use Rattle.lane_runner.proofs.Beginning.{begins_then, begins_same}
 use Rattle.lane_runner.proofs.Following.{fit_first, fit_last, effect_then, after_is}
+use Rattle.region_runner.proofs.JoinedWork.{work_of}
 use Rattle.region_runner.specs.Ran.{in_one, TakesUp, HasLogged, TaskRan, TaskBegan, TaskGoes}
 
 -- ---- works in one
@@ -149,16 +150,7 @@ module _ (w : WorldValue) (part next : State → Outcome (Unit {0})) (slots mid_
   }
 
   -- by what the phase answers
-  abbrev pub phase_work : (bars : ℕ) (r : Result (Unit {0}) Halt) → GoesPast bars w next mid_slots slots' start new r → Work
-  phase_work bars (Ok u) m = m.work
-  phase_work bars (Err (halt.DivZero line)) m = m.work
-  phase_work bars (Err (halt.Index line)) m = m.work
-  phase_work bars (Err (halt.LogFull line)) m = m.work
-  phase_work bars (Err (halt.Region path why)) m = m.work
-  phase_work bars (Err (halt.Tasks line)) m = m.work
-  phase_work bars (Err (halt.Trouble trouble)) (m, refused) = m.work
-
-  pub goes_on : (bars : ℕ) (r : Result (Unit {0}) Halt) (m : GoesPast bars w next mid_slots slots' start new r) → TaskGoes w both slots slots' old new (works ++ phase_work bars r m ∷ []) r
+  pub goes_on : (bars : ℕ) (r : Result (Unit {0}) Halt) (m : GoesPast bars w next mid_slots slots' start new r) → TaskGoes w both slots slots' old new (works ++ work_of w next mid_slots slots' start new free bars r m ∷ []) r
   goes_on bars (Ok u) m = ran_on bars (Returned tt) m
   goes_on bars (Err (halt.DivZero line)) m = ran_on 0 (Halted model.DivZero line) m
   goes_on bars (Err (halt.Index line)) m = ran_on 0 (Halted model.Index line) m

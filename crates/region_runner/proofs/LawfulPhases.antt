@@ -45,7 +45,7 @@ all_first : {A : Type 0} (P : A → Type 0) (xs ys : List A) → All P (xs ++ ys
 all_first P [] ys all = (All-nil P, all)
 all_first P (x ∷ xs) ys all = let rest = all_first P xs ys (All-tail P x (xs ++ ys) all) in (All-cons P x xs (All-head P x (xs ++ ys) all) rest.0, rest.1)
 
-all_map : {A : Type 0} (P Q : A → Type 0) → ((x : A) → P x → Q x) → (xs : List A) → All P xs → All Q xs
+pub all_map : {A : Type 0} (P Q : A → Type 0) → ((x : A) → P x → Q x) → (xs : List A) → All P xs → All Q xs
 all_map P Q each [] all = All-nil Q
 all_map P Q each (x ∷ xs) all = All-cons Q x xs (each x (All-head P x xs all)) (all_map P Q each xs (All-tail P x xs all))
 

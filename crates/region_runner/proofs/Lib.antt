@@ -19,3 +19,9 @@ pub mod RegionDraws
 pub mod RegionStops
 pub mod RegionHands
 pub mod ClosedLogs
+pub mod LastPhase
+pub mod Forks
+pub mod Standing
+pub mod TeamSteps
+pub mod PhaseHands
+pub mod TeamLoop

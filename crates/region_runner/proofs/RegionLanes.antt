@@ -1,5 +1,5 @@
 -- The lanes of a region, once it rests: each ran its task, as far as it came.
-use Rattle.std.proofs.Common.{◌≡◌, refl, ap, sym, ◌∙◌, subst, ℕ, ◌+◌, ◌<◌, List, [], ◌∷◌, ◌++◌, ℤ, Option, Some, None, Result, Ok, Err}
+use Rattle.std.proofs.Common.{◌≡◌, ◌⊎◌, inl, inr, refl, ap, sym, ◌∙◌, subst, ℕ, ◌+◌, ◌<◌, List, [], ◌∷◌, ◌++◌, ℤ, Option, Some, None, Result, Ok, Err}
 use Rattle.std.specs.Prelude.{map}
 use Rattle.std.proofs.lemmas.List.{map-append}
 use Rattle.std.proofs.lemmas.Grind.{flat_map-append}
@@ -9,7 +9,7 @@ use Rattle.kernel_syntax.specs.declared.syntax.Array.{Array}
 use Rattle.kernel_syntax.specs.Program.{Program}
 use Rattle.kernel_syntax.specs.Tree.{TeamTree}
 use Rattle.kernel_model.specs.State as model
-use Rattle.kernel_model.specs.State.{State, Fork, Outcome, after, put, event, state_of}
+use Rattle.kernel_model.specs.State.{State, Fork, Outcome, Gives, Stops, Wants, after, put, event, state_of}
 use Rattle.kernel_model.specs.Growth.{Grows}
 use Rattle.kernel_model.specs.Value.{Site}
 use Rattle.kernel_model.specs.Trace.{Start, run, site_of}
@@ -28,11 +28,11 @@ use Rattle.lane_runner.specs.Going.{Progress, site}
 use Rattle.lane_runner.specs.World.{WorldValue}
 use Rattle.lane_runner.proofs.Noting.{note_grows}
 use Rattle.lane_runner.proofs.Phases.{run_parts_both, parts_grow}
-use Rattle.region_runner.specs.Ran.{in_one, TaskGoes}
+use Rattle.region_runner.specs.Ran.{in_one, task_part, TaskGoes}
 use Rattle.region_runner.proofs.Traced.{lane_fits, runs_goes}
 
 -- the parts of phases, one after another
-parts_both : (done left : List (List Item)) → parts_in (done ++ left) ≡ parts_in done ++ parts_in left
+pub parts_both : (done left : List (List Item)) → parts_in (done ++ left) ≡ parts_in done ++ parts_in left
 parts_both done left = ap (λ (items : List Item). map part_of items) (flat_map-append (λ (phase : List Item). phase) done left) ∙ map-append part_of (items_in done) (items_in left)
 
 -- what is left of a task after some phases: those that follow, and its End
@@ -55,20 +55,47 @@ module _ (program : Program) (start : Start) (phases : List (List Item)) (runs :
       ∙ run_parts_both (site_of program start) (parts_in done) (parts_in left) s)
       ∙ after-after (run_parts (site_of program start) (parts_in done) s) (run_parts (site_of program start) (parts_in left)) (put (event kind.End start.team.end 0 0))
 
--- a lane that stands after some phases, wherever it came to rest
-module _ (program : Program) (fork : Fork) (lane : ℕ) (w : WorldValue) (arrays : program.arrays ≡ w.arrays) (lane_is : w.lane ≡ lane) (span_is : w.span ≡ fork.team.span) (items done left : List (List Item)) (is : items ≡ done ++ left)
-    (runs : (at : Site) (s : State) → run_parts at (parts_in items) s ≡ run at fork.team.body s) where
-  site_is : site_of program (lane_begin fork lane) ≡ site w
-  site_is = λ i. record { arrays = arrays i; lane = (sym lane_is) i; span = (sym span_is) i }
+-- A part with which the lane's task begins, in each kernel of these arrays, and what follows it.
+pub record BeginsLane (fork : Fork) (lane : ℕ) (w : WorldValue) (part : State → Outcome (Unit {0})) : Type 0 where
+  pub rest : State → Outcome (Unit {0})
+  pub grows : (s : State) → Grows s (state_of (rest s))
+  pub is : (program : Program) → program.arrays ≡ w.arrays → (s : State) → parts program (lane_begin fork lane) s ≡ after (part s) rest
 
-  pub lane_is_at : (s : State) → parts program (lane_begin fork lane) s ≡ after (run_parts (site w) (parts_in done) s) (left_of (site w) fork.team.end left)
-  lane_is_at s =
-      subst (λ (at : Site). parts program (lane_begin fork lane) s ≡ after (run_parts at (parts_in done) s) (left_of at fork.team.end left)) site_is
+after_none : (m : Outcome (Unit {0})) → m ≡ after m (λ s. Gives tt s)
+after_none (Gives u s) = refl
+after_none (Stops why line s) = refl
+after_none (Wants s) = refl
+
+-- a lane that stands after some phases, and perhaps its End, wherever it came to rest
+module _ (fork : Fork) (lane : ℕ) (w : WorldValue) (lane_is : w.lane ≡ lane) (span_is : w.span ≡ fork.team.span) (items : List (List Item))
+    (runs : (at : Site) (s : State) → run_parts at (parts_in items) s ≡ run at fork.team.body s) where
+  site_is : (program : Program) → program.arrays ≡ w.arrays → site_of program (lane_begin fork lane) ≡ site w
+  site_is program arrays = λ i. record { arrays = arrays i; lane = (sym lane_is) i; span = (sym span_is) i }
+
+  lane_is_at : (done left : List (List Item)) → items ≡ done ++ left → (program : Program) → program.arrays ≡ w.arrays → (s : State)
+      → parts program (lane_begin fork lane) s ≡ after (run_parts (site w) (parts_in done) s) (left_of (site w) fork.team.end left)
+  lane_is_at done left is program arrays s =
+      subst (λ (at : Site). parts program (lane_begin fork lane) s ≡ after (run_parts at (parts_in done) s) (left_of at fork.team.end left)) (site_is program arrays)
       (task_is program (lane_begin fork lane) items runs done left is s)
 
+  pub task_begins : (done left : List (List Item)) → items ≡ done ++ left → (end : Option ℕ) → (end ≡ None) ⊎ ((end ≡ Some fork.team.end) × (left ≡ [])) → BeginsLane fork lane w (task_part (site w) done end)
+  task_begins done left is end (inl none) = subst (λ (e : Option ℕ). BeginsLane fork lane w (task_part (site w) done e)) (sym none) (record {
+    rest = left_of (site w) fork.team.end left;
+    grows = left_grows (site w) fork.team.end left;
+    is = lane_is_at done left is;
+  })
+  task_begins done left is end (inr (ended, all)) = subst (λ (e : Option ℕ). BeginsLane fork lane w (task_part (site w) done e)) (sym ended) (record {
+    rest = λ s. Gives tt s;
+    grows = grows-plain.same;
+    is = λ program arrays s.
+        subst (λ (more : List (List Item)). parts program (lane_begin fork lane) s ≡ after (run_parts (site w) (parts_in done) s) (left_of (site w) fork.team.end more)) all (lane_is_at done left is program arrays s)
+        ∙ after_none (task_part (site w) done (Some fork.team.end) s);
+  })
+
+module _ (program : Program) (fork : Fork) (lane : ℕ) (w : WorldValue) (arrays : program.arrays ≡ w.arrays) (part : State → Outcome (Unit {0})) (first : BeginsLane fork lane w part) where
   -- it ran its task
   pub lane_ran : (slots' : List ℤ) (old new : Progress) → old.buffer.count ≡ 0 → (phases : Phases) → PhasesFit phases → (r : Result (Unit {0}) Halt)
-      → TaskGoes w (run_parts (site w) (parts_in done)) fork.slots slots' old new (lane_works lane phases) r → RunsTask program (lane_begin fork lane) (lane_works lane phases)
+      → TaskGoes w part fork.slots slots' old new (lane_works lane phases) r → RunsTask program (lane_begin fork lane) (lane_works lane phases)
   lane_ran slots' old new none phases fit r goes =
-      runs_goes program (lane_begin fork lane) w arrays (run_parts (site w) (parts_in done)) (left_of (site w) fork.team.end left) (left_grows (site w) fork.team.end left) lane_is_at slots' old new none (lane_works lane phases)
+      runs_goes program (lane_begin fork lane) w arrays part first.rest first.grows (first.is program arrays) slots' old new none (lane_works lane phases)
       (lane_fits lane phases fit) r goes

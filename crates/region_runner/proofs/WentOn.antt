@@ -19,36 +19,42 @@ use Rattle.lane_runner.specs.Forking.{Answer, IsReady}
 use Rattle.lane_runner.specs.Going.{Progress, CanGo, GoesPast, IsSameLog, site}
 use Rattle.lane_runner.specs.World.{WorldValue}
 use Rattle.region_runner.specs.Crew.{CrewValue, world_of}
-use Rattle.region_runner.specs.Member.{MemberValue, WentOn, answer_of}
+use Rattle.region_runner.specs.Member.{HasEnded, MemberValue, WentOn, answer_of, phase_part}
 
-module _ (crew : CrewValue) (items : List Item) (lane : ℕ) (path : List Step) (slots slots' : List ℤ) (at after : Progress) where
-  with_answer : (r : Result (Unit {0}) Halt) (halt : Option Halt) → r ≡ answer_of halt → GoesPast (bar_count (map part_of items)) (world_of crew lane) (run_parts (site (world_of crew lane)) (map part_of items)) slots slots' at after r
-      → IsSameLog at.buffer after.buffer → IfOk r (λ _. after.tally.next_loop ≡ at.tally.next_loop + drawn_count (map part_of items)) → IsReady after.hand crew.words → OnOk r (CanGo (world_of crew lane) after)
-      → WentOn crew items lane (record { path = path; slots = slots; at = at; halt = None }) (record { path = path; slots = slots'; at = after; halt = halt })
-  with_answer r halt is goes log loops ready can = record {
+module _ (crew : CrewValue) (items : List Item) (end : Option ℕ) (lane : ℕ) (path : List Step) (slots slots' : List ℤ) (at after : Progress) where
+  with_answer : (r : Result (Unit {0}) Halt) (halt : Option Halt) → r ≡ answer_of halt → GoesPast (bar_count (map part_of items)) (world_of crew lane) (phase_part items end (site (world_of crew lane))) slots slots' at after r
+      → ((line : ℕ) → end ≡ Some line → OnOk r (HasEnded (world_of crew lane) items line slots slots' at after)) → IsSameLog at.buffer after.buffer → IfOk r (λ _. after.tally.next_loop ≡ at.tally.next_loop + drawn_count (map part_of items)) → IsReady after.hand crew.words → OnOk r (CanGo (world_of crew lane) after)
+      → WentOn crew items end lane (record { path = path; slots = slots; at = at; halt = None }) (record { path = path; slots = slots'; at = after; halt = halt })
+  with_answer r halt is goes ended log loops ready can = record {
     path = refl;
-    goes = subst (λ (x : Result (Unit {0}) Halt). GoesPast (bar_count (map part_of items)) (world_of crew lane) (run_parts (site (world_of crew lane)) (map part_of items)) slots slots' at after x) is goes;
+    goes = subst (λ (x : Result (Unit {0}) Halt). GoesPast (bar_count (map part_of items)) (world_of crew lane) (phase_part items end (site (world_of crew lane))) slots slots' at after x) is goes;
+    ended = λ line is_line none. ended_of line (subst (λ (x : Result (Unit {0}) Halt). OnOk x (HasEnded (world_of crew lane) items line slots slots' at after)) (is ∙ ap answer_of none) (ended line is_line));
     log = log;
     loops = λ none. loops_of (subst (λ (x : Result (Unit {0}) Halt). IfOk x (λ _. after.tally.next_loop ≡ at.tally.next_loop + drawn_count (map part_of items))) (is ∙ ap answer_of none) loops);
     ready = ready;
     can = λ none. can_of (subst (λ (x : Result (Unit {0}) Halt). OnOk x (CanGo (world_of crew lane) after)) (is ∙ ap answer_of none) can);
   }
     where
+      ended_of : (line : ℕ) → HasEnded (world_of crew lane) items line slots slots' at after → HasEnded (world_of crew lane) items line slots slots' at after
+      ended_of line x = x
+
       loops_of : after.tally.next_loop ≡ at.tally.next_loop + drawn_count (map part_of items) → after.tally.next_loop ≡ at.tally.next_loop + drawn_count (map part_of items)
       loops_of x = x
 
       can_of : CanGo (world_of crew lane) after → CanGo (world_of crew lane) after
       can_of x = x
 
-pub went_on : (crew : CrewValue) (items : List Item) (lane : ℕ) (w : WorldValue) → w ≡ world_of crew lane → (old inside : MemberValue) → inside ≡ old → old.halt ≡ None → (slots' : List ℤ) (after : Progress) (r : Result (Unit {0}) Halt) (halt : Option Halt)
-    → r ≡ answer_of halt → GoesPast (bar_count (map part_of items)) w (run_parts (site w) (map part_of items)) inside.slots slots' inside.at after r → IsSameLog inside.at.buffer after.buffer
+pub went_on : (crew : CrewValue) (items : List Item) (end : Option ℕ) (lane : ℕ) (w : WorldValue) → w ≡ world_of crew lane → (old inside : MemberValue) → inside ≡ old → old.halt ≡ None → (slots' : List ℤ) (after : Progress) (r : Result (Unit {0}) Halt) (halt : Option Halt)
+    → r ≡ answer_of halt → GoesPast (bar_count (map part_of items)) w (phase_part items end (site w)) inside.slots slots' inside.at after r
+    → ((line : ℕ) → end ≡ Some line → OnOk r (HasEnded w items line inside.slots slots' inside.at after)) → IsSameLog inside.at.buffer after.buffer
     → IfOk r (λ _. after.tally.next_loop ≡ inside.at.tally.next_loop + drawn_count (map part_of items)) → IsReady after.hand w.words → OnOk r (CanGo w after)
-    → WentOn crew items lane old (record { path = inside.path; slots = slots'; at = after; halt = halt })
-went_on crew items lane w w_is old inside same none slots' after r halt is goes log loops ready can =
-    subst (λ (m : MemberValue). WentOn crew items lane m (record { path = inside.path; slots = slots'; at = after; halt = halt }))
+    → WentOn crew items end lane old (record { path = inside.path; slots = slots'; at = after; halt = halt })
+went_on crew items end lane w w_is old inside same none slots' after r halt is goes ended log loops ready can =
+    subst (λ (m : MemberValue). WentOn crew items end lane m (record { path = inside.path; slots = slots'; at = after; halt = halt }))
     (λ i. record { path = (same i).path; slots = (same i).slots; at = (same i).at; halt = (sym none) i })
-    (with_answer crew items lane inside.path inside.slots slots' inside.at after r halt is
-    (subst (λ (v : WorldValue). GoesPast (bar_count (map part_of items)) v (run_parts (site v) (map part_of items)) inside.slots slots' inside.at after r) w_is goes) log loops
+    (with_answer crew items end lane inside.path inside.slots slots' inside.at after r halt is
+    (subst (λ (v : WorldValue). GoesPast (bar_count (map part_of items)) v (phase_part items end (site v)) inside.slots slots' inside.at after r) w_is goes)
+    (λ line is_line. subst (λ (v : WorldValue). OnOk r (HasEnded v items line inside.slots slots' inside.at after)) w_is (ended line is_line)) log loops
     (subst (λ (v : WorldValue). IsReady after.hand v.words) w_is ready) (subst (λ (v : WorldValue). OnOk r (CanGo v after)) w_is can))
 
 -- what is asked for the regions of a phase, told of the same world and log

@@ -8,3 +8,7 @@ pub mod Lawful
 pub mod Member
 pub mod Closing
 pub mod Stopping
+pub mod Answer
+pub mod Ground
+pub mod Stands
+pub mod Gathering

@@ -1,9 +1,14 @@
 -- What a lane did in the phases so far, as one task: a new hand in each phase, one log, one meaning.
-use Rattle.std.specs.Prelude.{◌≡◌, ℕ, ◌+◌, ◌-◌, List, [], ◌∷◌, length, ℤ, None, Result, Ok, Err}
+use Rattle.std.specs.Prelude.{◌≡◌, ℕ, ◌+◌, ◌-◌, List, [], ◌∷◌, length, ℤ, Option, Some, None, Result, Ok, Err}
+use Rattle.log_format.specs.declared.record.Kind.TheVariants as kind
 use Rattle.log_format.specs.declared.record.Record.{Record}
 use Rattle.kernel_syntax.specs.Program.{Program}
 use Rattle.kernel_model.specs.State as model
-use Rattle.kernel_model.specs.State.{State, Fork, Outcome}
+use Rattle.kernel_model.specs.State.{State, Fork, Outcome, after, event, put}
+use Rattle.kernel_model.specs.Value.{Site}
+use Rattle.kernel_model.specs.declared.phase.Item.{Item}
+use Rattle.kernel_model.specs.Parts.{run_parts}
+use Rattle.kernel_model.specs.Phases.{parts_in}
 use Rattle.kernel_model.specs.Trace.{log_limit}
 use Rattle.kernel_model.specs.Effect.{Finish, Returned, Halted, Makes}
 use Rattle.history_model.specs.Work.{Work, Rest, then_work, work_records, work_regions}
@@ -17,6 +22,11 @@ use Rattle.lane_runner.specs.Handed.{AreFew}
 use Rattle.lane_runner.specs.Stopping.{HaveEnded}
 use Rattle.lane_runner.specs.World.{WorldValue}
 use Rattle.lane_runner.specs.Going.{Progress, GainsRecords, log_of, effect_of, HasReleased, ClosesAll, BeginsPart, Cause, AtLog, AtRegion, AtTasks, EndsBy, StopsBy, WorkHandsOn, stop_by, Refused}
+
+-- what a task does of its team's phases: these, one after another, and then its End, if it puts one
+abbrev pub task_part : Site → List (List Item) → Option ℕ → State → Outcome (Unit {0})
+task_part at done None s = run_parts at (parts_in done) s
+task_part at done (Some line) s = after (run_parts at (parts_in done) s) (put (event kind.End line 0 0))
 
 -- the works of all phases as one
 abbrev pub in_one : List Work → Work

@@ -51,4 +51,11 @@ impl<'a> Crew<'a> {
     {
         World::new(self.arrays, self.words, self.chunks, lane, self.span)
     }
+
+    // How many lanes the team has.
+    pub(crate) fn span(&self) -> u16
+        ensures { result ≡ self.now.span }
+    {
+        self.span
+    }
 }

@@ -26,7 +26,7 @@ use Rattle.lane_runner.specs.declared.stop.Stop.TheVariants as stop
 use Rattle.lane_runner.specs.Children.{LogView}
 use Rattle.lane_runner.specs.Forking.{Answer, EndsAs, RanRegion, stop_in}
 use Rattle.lane_runner.specs.Handed.{Entry, LogPlace, MaybeStop, IsForMemory, HandsOn, TaskHands, RegionsHand, LanesHand, entries_of, place_of}
-use Rattle.lane_runner.specs.Stopping.{StopsRegion}
+use Rattle.lane_runner.specs.Stopping.{IsInRegion, StopsRegion}
 use Rattle.lane_runner.specs.declared.stop.Stop.{Stop}
 use Rattle.race_model.specs.Listing.{lane_of}
 use Rattle.kernel_syntax.specs.declared.syntax.Array.{Array}
@@ -76,14 +76,14 @@ lanes_none place stopped path number region none empty lane (suc left) =
     (lanes_none place stopped path number region none empty (suc lane) left)
 
 -- what is told of a region for which no memory was found
-stops_none : (arrays : List Array) (at path : List Step) (number : ℕ) (fork : Fork) → StopsRegion arrays at number path (stop.Trouble trouble.Memory) fork NoPhase
-stops_none arrays at path number fork = record { traced = λ fit program same end some. absurd (no_end some); crowded = λ line is. absurd cc } where
+stops_none : (arrays : List Array) (at path : List Step) (number : ℕ) (fork : Fork) → IsInRegion at number fork.team.span path → StopsRegion arrays at number path (stop.Trouble trouble.Memory) fork NoPhase
+stops_none arrays at path number fork inside = record { inside = inside; traced = λ fit program same end some. absurd (no_end some); crowded = λ line is. absurd cc } where
   no_end : {end : Ending} → None ≡ Some end → ⊥
   no_end e = cc
 
 ran_none : (w : WorldValue) (team : TeamTree) (slots : List ℤ) (task : Buffered) (path : List Step) (number : ℕ) (hand after : HandValue View) (before later : List Entry) (r : Answer) → hand.there ≡ true → after ≡ hand → later ≡ before
-    → r ≡ Err (path, stop.Trouble trouble.Memory) → RanRegion w team slots task number hand after before later r
-ran_none w team slots task path number hand after before later r there same kept is = record {
+    → r ≡ Err (path, stop.Trouble trouble.Memory) → IsInRegion task.path number team.span path → RanRegion w team slots task number hand after before later r
+ran_none w team slots task path number hand after before later r there same kept is inside = record {
   phases = NoPhase;
   sound = tt;
   elements = tt;
@@ -93,7 +93,7 @@ ran_none w team slots task path number hand after before later r there same kept
       RunsTask.runs start [] [] (own_trace program start []).forks (record { rest = (own_trace program start []).records; begins = refl }) (inl refl) refl RunsRegions.no_region;
   drawn = λ fit program is loop. drew_none team.span loop;
   joined = tt;
-  ends = subst (λ (x : Answer). EndsAs w.arrays task.path number (record { team = team; slots = slots }) NoPhase x) (sym is) (stops_none w.arrays task.path path number (record { team = team; slots = slots }));
+  ends = subst (λ (x : Answer). EndsAs w.arrays task.path number (record { team = team; slots = slots }) NoPhase x) (sym is) (stops_none w.arrays task.path path number (record { team = team; slots = slots }) inside);
   handed =
       subst (λ (x : Answer). HandsOn (place_of task) (stop_in x) task.path number (record { span = team.span; phases = NoPhase } ∷ []) before later) (sym is)
       (record {
@@ -114,18 +114,23 @@ ran_none w team slots task path number hand after before later r there same kept
 
 module _ {T : Type 0} (w : WorldValue) (accepts : MutBor (HandValue View) → Bor Locals → ℕ → Vec T → Bor Team → MutBor (Vec (List Step × T × ℕ)) → Type 0)
     (gives : MutBor (HandValue View) → Bor Locals → ℕ → Vec T → Bor Team → MutBor (Vec (List Step × T × ℕ)) → Answer → MutBor (HandValue View) → MutBor (Vec (List Step × T × ℕ)) → Type 0)
-    (seen : LogView T) (task : Buffered) (near : length task.path < 4)
+    (seen : LogView T) (task : Buffered) (root : task.path ≡ [])
     (accepted : (hand : MutBor (HandValue View)) (locals : Bor Locals) (number : ℕ) (logs : Vec T) (given : Bor Team) (done : MutBor (Vec (List Step × T × ℕ))) → accepts hand locals number logs given done)
     (told : (hand after : MutBor (HandValue View)) (locals : Bor Locals) (number : ℕ) (logs : Vec T) (given : Bor Team) (done now_done : MutBor (Vec (List Step × T × ℕ))) (r : Answer) → gives hand locals number logs given done r after now_done
     → (after.now ≡ hand.now) × (now_done.now ≡ done.now) × (r ≡ Err (record { region = number; lane = 0; span = given.now.span } ∷ [], stop.Trouble trouble.Memory))) where
   may_fork : (team : TeamTree) → MayFork w accepts gives seen task team
   may_fork team = record {
-    path = near;
+    path = subst (λ (p : List Step). length p < 4) (sym root) (omega arith);
     runs = record {
       accepted = λ hand locals number logs given done is free new. accepted hand locals number logs given done;
       ran = λ hand after locals number logs given done now_done r is free new gave.
           let t = told hand after locals number logs given done now_done r gave in
-          ran_none w team locals.now.slots.items task _ number hand.now after.now (entries_of seen done.now.items) (entries_of seen now_done.now.items) r free.free.belongs.there t.0 (ap (λ (v : Vec (List Step × T × ℕ)). entries_of seen v.items) t.1) t.2;
+          ran_none w team locals.now.slots.items task _ number hand.now after.now (entries_of seen done.now.items) (entries_of seen now_done.now.items) r free.free.belongs.there t.0 (ap (λ (v : Vec (List Step × T × ℕ)). entries_of seen v.items) t.1) t.2
+          (record {
+            lane = 0;
+            below = [];
+            path_is = ap (λ (p : List Step). p ++ record { region = number; lane = 0; span = given.now.span } ∷ []) (sym root) ∙ ap (λ (n : ℕ). task.path ++ record { region = number; lane = 0; span = n } ∷ []) (ap (λ (t : TeamTree). t.span) is);
+          });
     };
   }
 

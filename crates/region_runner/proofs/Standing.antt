@@ -1,0 +1,171 @@
+-- A team goes on with one phase more.
+use Rattle.std.proofs.Common.{◌≡◌, refl, ap, sym, ◌∙◌, subst, ℕ, zero, suc, Bool, true, false, ◌+◌, ◌-◌, ◌<◌, ◌≤◌, List, [], ◌∷◌, ◌++◌, length, map, ℤ, Option, Some, None, Result, Ok, Err, slice_index_or, arith}
+use Rattle.std.specs.Prelude.{count_by}
+use Rattle.std.proofs.lemmas.List.{append-nil, map-append}
+use Rattle.log_format.specs.declared.record.Kind.TheVariants as kind
+use Rattle.log_format.specs.declared.record.Record.{Record}
+use Rattle.race_model.specs.Trace.{barrier_count}
+use Rattle.kernel_model.specs.declared.phase.Item.{Item}
+use Rattle.kernel_model.specs.Parts.{Part, bar_count, drawn_count, is_drawn, run_parts}
+use Rattle.kernel_model.specs.Phases.{part_of, items_in, parts_in}
+use Rattle.kernel_model.specs.State.{State, Outcome, after, event, put}
+use Rattle.kernel_model.specs.Trace.{log_limit}
+use Rattle.kernel_model.specs.Value.{Site}
+use Rattle.kernel_model.specs.Effect.{Returned}
+use Rattle.kernel_model.proofs.Effects.{makes-stays}
+use Rattle.kernel_model.proofs.Joining.{after-after, after-same}
+use Rattle.event_buffer.specs.Buffered.{Buffered}
+use Rattle.event_buffer.specs.Logged.{HoldsRecords}
+use Rattle.shared_words.specs.declared.view.View.{View}
+use Rattle.shared_words.specs.Handles.{HandValue}
+use Rattle.history_model.specs.Work.{Work, Rest, Phases, lane_works, work_records}
+use Rattle.history_model.specs.Joined.{LastIsEnd}
+use Rattle.execution_model.specs.Runs.{RunsRegions}
+use Rattle.history_model.proofs.ActsOrder.{count_cons}
+use Rattle.lane_runner.specs.declared.stop.Halt.{Halt}
+use Rattle.lane_runner.specs.Going.{GainsRecords, GoesPast, IsSameLog, MadePast, Progress, site}
+use Rattle.lane_runner.specs.World.{WorldValue}
+use Rattle.lane_runner.proofs.Drawing.{drew_none}
+use Rattle.lane_runner.proofs.Ending.{ended_none}
+use Rattle.lane_runner.proofs.Handing.{work_hands_none}
+use Rattle.lane_runner.proofs.Releasing.{released_none}
+use Rattle.lane_runner.proofs.Bodies.{log_later}
+use Rattle.lane_runner.proofs.Phases.{run_parts_both}
+use Rattle.region_runner.specs.Crew.{CrewValue, world_of}
+use Rattle.region_runner.specs.Member.{HasEnded, IsLast, IsWithoutHand, MemberValue, WentOn, answer_of, phase_part, with_hand}
+use Rattle.region_runner.specs.Ran.{TakesUp, TaskGoes, TaskRan, task_part}
+use Rattle.region_runner.specs.Stands.{LaneStands, MayStep}
+use Rattle.region_runner.specs.Team.{DidWork}
+use Rattle.region_runner.proofs.Continuing.{goes_on}
+use Rattle.region_runner.proofs.JoinedWork.{phase_did_work, phase_passed, work_of}
+use Rattle.region_runner.proofs.RegionLanes.{parts_both}
+
+-- ---- before the first phase
+
+gains_none : (b : Buffered) → GainsRecords b b []
+gains_none b = record {
+  records = λ header records held. subst (λ (rs : List Record). HoldsRecords header b rs) (sym (append-nil records)) held;
+  count = omega arith;
+  path = refl;
+  place = refl;
+}
+
+pub ran_none : (w : WorldValue) (at : Site) (slots : List ℤ) (p : Progress) → p.buffer.refused ≡ None → TaskRan w (task_part at [] None) slots slots p p [] (Returned tt)
+ran_none w at slots p unrefused = record {
+  forks = [];
+  own = [];
+  logged = record { log = gains_none p.buffer; draws = drew_none p.tally; forked = omega arith };
+  released = released_none [];
+  closes = refl;
+  ended = ended_none;
+  handed = work_hands_none p p Rest refl refl;
+  few = λ less. less;
+  unrefused = unrefused;
+  makes = λ fit. makes-stays (task_part at [] None) slots (log_limit - p.buffer.count) (Returned tt) (λ s same full. refl);
+  regions = λ fit program is. RunsRegions.no_region;
+}
+
+-- ---- one phase more
+
+one_phase : (items : List Item) → parts_in (items ∷ []) ≡ map part_of items
+one_phase items = ap (λ (xs : List Item). map part_of xs) (append-nil items)
+
+phase_after : (at : Site) (done : List (List Item)) (items : List Item) (s : State)
+    → run_parts at (parts_in (done ++ items ∷ [])) s ≡ after (run_parts at (parts_in done) s) (run_parts at (map part_of items))
+phase_after at done items s =
+    ap (λ (ps : List Part). run_parts at ps s) (parts_both done (items ∷ []) ∙ ap (λ (ps : List Part). parts_in done ++ ps) (one_phase items))
+    ∙ run_parts_both at (parts_in done) (map part_of items) s
+
+part_after : (at : Site) (done : List (List Item)) (items : List Item) (end : Option ℕ) (s : State)
+    → task_part at (done ++ items ∷ []) end s ≡ after (task_part at done None s) (phase_part items end at)
+part_after at done items None s = phase_after at done items s
+part_after at done items (Some line) s =
+    ap (λ (o : Outcome (Unit {0})). after o (put (event kind.End line 0 0))) (phase_after at done items s)
+    ∙ after-after (run_parts at (parts_in done) s) (run_parts at (map part_of items)) (put (event kind.End line 0 0))
+
+pub drawn_both : (xs ys : List Part) → drawn_count (xs ++ ys) ≡ drawn_count xs + drawn_count ys
+drawn_both [] ys = omega arith
+drawn_both (x ∷ xs) ys =
+    let whole = count_cons is_drawn x (xs ++ ys) in
+    let first = count_cons is_drawn x xs in
+    let rest = drawn_both xs ys in
+    omega (arith, whole, first, rest)
+
+pub drawn_after : (done : List (List Item)) (items : List Item) → drawn_count (parts_in (done ++ items ∷ [])) ≡ drawn_count (parts_in done) + drawn_count (map part_of items)
+drawn_after done items =
+    ap (λ (ps : List Part). drawn_count ps) (parts_both done (items ∷ []) ∙ ap (λ (ps : List Part). parts_in done ++ ps) (one_phase items))
+    ∙ drawn_both (parts_in done) (map part_of items)
+
+-- what a lane did in a phase, and how it stands then
+pub record StepsOn (crew : CrewValue) (items : List Item) (end : Option ℕ) (lane : ℕ) (start : MemberValue) (done : List (List Item)) (phases : Phases) (hand : HandValue View) (mid : MemberValue) : Type 0 where
+  pub work : Work
+  pub did : DidWork crew.arrays hand mid.at.hand work
+  pub goes : TaskGoes (world_of crew lane) (task_part (site (world_of crew lane)) (done ++ items ∷ []) end) start.slots mid.slots start.at mid.at (lane_works lane phases ++ work ∷ []) (answer_of mid.halt)
+  pub passes : mid.halt ≡ None → barrier_count (work_records work) ≡ bar_count (map part_of items)
+  pub ends : (line : ℕ) → end ≡ Some line → mid.halt ≡ None → LastIsEnd (work_records work)
+
+module _ (crew : CrewValue) (items : List Item) (lane : ℕ) (start prev mid : MemberValue) (done : List (List Item)) (phases : Phases) (hand : HandValue View)
+    (stands : LaneStands crew start done None phases lane prev) (going : prev.halt ≡ None) (free : hand.view.held ≡ []) where
+  abbrev at : Site
+  at = site (world_of crew lane)
+
+  abbrev Went : ℕ → Option ℕ → Result (Unit {0}) Halt → Type 0
+  Went bars end r = GoesPast bars (world_of crew lane) (phase_part items end at) prev.slots mid.slots (with_hand prev hand).at mid.at r
+
+  abbrev work_in : (bars : ℕ) (end : Option ℕ) (r : Result (Unit {0}) Halt) → Went bars end r → Work
+  work_in bars end r m = work_of (world_of crew lane) (phase_part items end at) prev.slots mid.slots (with_hand prev hand).at mid.at free bars r m
+
+  abbrev Stood : Option ℕ → Work → Result (Unit {0}) Halt → Type 0
+  Stood end work r = TaskGoes (world_of crew lane) (task_part at (done ++ items ∷ []) end) start.slots mid.slots start.at mid.at (lane_works lane phases ++ work ∷ []) r
+
+  ran : TaskRan (world_of crew lane) (task_part at done None) start.slots prev.slots start.at stands.last (lane_works lane phases) (Returned tt)
+  ran = subst (λ (h : Option Halt). TaskGoes (world_of crew lane) (task_part at done None) start.slots prev.slots start.at stands.last (lane_works lane phases) (answer_of h)) going stands.goes
+
+  up : TakesUp stands.last (with_hand prev hand).at
+  up = record { buffer = stands.up.buffer; tally = stands.up.tally; done = stands.up.done }
+
+  step : (bars : ℕ) (end : Option ℕ) (r : Result (Unit {0}) Halt) (m : Went bars end r) → Stood end (work_in bars end r m) r
+  step bars end r m =
+      subst (λ (part : State → Outcome (Unit {0})). TaskGoes (world_of crew lane) part start.slots mid.slots start.at mid.at (lane_works lane phases ++ work_in bars end r m ∷ []) r)
+      (λ i s. sym (part_after at done items end s) i)
+      (goes_on (world_of crew lane) (task_part at done None) (phase_part items end at) start.slots prev.slots mid.slots start.at stands.last (with_hand prev hand).at mid.at (lane_works lane phases) ran up free bars r m)
+
+  did : (bars : ℕ) (end : Option ℕ) (r : Result (Unit {0}) Halt) (m : Went bars end r) → DidWork crew.arrays hand mid.at.hand (work_in bars end r m)
+  did bars end r m = phase_did_work (world_of crew lane) (phase_part items end at) prev.slots mid.slots (with_hand prev hand).at mid.at free bars r m
+
+  -- by why it doesn't go on, and whether the phase is the last
+  by_halt : (h : Option Halt) → mid.halt ≡ h → (end : Option ℕ) → WentOn crew items end lane (with_hand prev hand) mid → ((line : ℕ) → end ≡ Some line → IsLast items line) → StepsOn crew items end lane start done phases hand mid
+  by_halt (Some why) is end went last = record {
+    work = work_in (bar_count (map part_of items)) end (answer_of mid.halt) went.goes;
+    did = did (bar_count (map part_of items)) end (answer_of mid.halt) went.goes;
+    goes = step (bar_count (map part_of items)) end (answer_of mid.halt) went.goes;
+    passes = λ none. absurd (not_both (sym is ∙ none));
+    ends = λ line is_line none. absurd (not_both (sym is ∙ none));
+  }
+    where
+      not_both : Some why ≡ None → ⊥
+      not_both e = cc
+  by_halt None is None went last =
+      let m = subst (λ (h : Option Halt). Went (bar_count (map part_of items)) None (answer_of h)) is went.goes in
+      record {
+        work = m.work;
+        did = did (bar_count (map part_of items)) None (Ok tt) m;
+        goes = subst (λ (h : Option Halt). Stood None m.work (answer_of h)) (sym is) (step (bar_count (map part_of items)) None (Ok tt) m);
+        passes = λ none. m.done.barriers;
+        ends = λ line is_line none. absurd (no_end is_line);
+      }
+    where
+      no_end : {line : ℕ} → None ≡ Some line → ⊥
+      no_end e = cc
+  by_halt None is (Some line) went last =
+      let ended = went.ended line refl is in
+      record {
+        work = ended.made.work;
+        did = did 0 (Some line) (Ok tt) ended.made;
+        goes = subst (λ (h : Option Halt). Stood (Some line) ended.made.work (answer_of h)) (sym is) (step 0 (Some line) (Ok tt) ended.made);
+        passes = λ none. ended.made.done.barriers ∙ sym (last line refl).none;
+        ends = λ other is_other none. ended.last;
+      }
+
+  pub lane_steps : (end : Option ℕ) → WentOn crew items end lane (with_hand prev hand) mid → ((line : ℕ) → end ≡ Some line → IsLast items line) → StepsOn crew items end lane start done phases hand mid
+  lane_steps end went last = by_halt mid.halt refl end went last

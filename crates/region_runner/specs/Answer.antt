@@ -1,0 +1,85 @@
+-- What a run of a kernel answers.
+use Rattle.std.specs.Prelude.{◌≡◌, ◌⊎◌, ℕ, ◌≤◌, List, [], length, map, Option, Some, is_some}
+use Rattle.std.specs.Option.{option_map}
+use Rattle.log_format.specs.declared.format.TheConstants.{FORMAT}
+use Rattle.log_format.specs.declared.record.Record.{Record}
+use Rattle.log_format.specs.Format.{log_header}
+use Rattle.log_format.specs.Spelling.{log_bytes}
+use Rattle.sw_base.specs.declared.path.Step.{Step}
+use Rattle.sw_base.specs.declared.trouble.Trouble.TheVariants.{Memory}
+use Rattle.sw_base.specs.Environment.{Outline, Text}
+use Rattle.sw_base.specs.HandedLog.{HandedLog}
+use Rattle.sw_base.specs.Pieces.{cut}
+use Rattle.race_model.specs.ForkJoin.{ListsTask}
+use Rattle.race_model.specs.IndexFault.{max_rows}
+use Rattle.race_model.specs.KeepsRules.{KeepsRules}
+use Rattle.race_model.specs.Listing.{IsListing}
+use Rattle.race_model.specs.Trace.{TaskLog, Trace, logs_of}
+use Rattle.kernel_syntax.specs.Program.{Program}
+use Rattle.kernel_model.specs.Folder.{IsTracedFolder, IsTracedTo, paths_of, start_at}
+use Rattle.kernel_model.specs.Trace.{Start, Ending}
+use Rattle.execution_model.specs.Execution.{IsExecution}
+use Rattle.lane_runner.specs.declared.stop.Stop.{Stop}
+use Rattle.lane_runner.specs.declared.stop.Stop.TheVariants as stop
+use Rattle.lane_runner.specs.Handed.{AreEntriesOf, Entry, TellStop}
+use Rattle.lane_runner.specs.Stopping.{LastIsRegionAt, ending_for}
+use Rattle.lane_runner.specs.World.{element_address}
+
+-- a buffer holds at least one record, and at most 4,194,304 bytes
+pub record IsBufferSize (size : ℕ) : Type 0 where
+  pub least : 24 ≤ size
+  pub most : size ≤ 4194304
+
+-- the bytes of a whole log and the lengths of its pieces, from a buffer of this size
+abbrev pub whole_outline : ℕ → List Record → Outline
+whole_outline size records = record { bytes = log_bytes (log_header FORMAT) records; lengths = cut (length records) size }
+
+-- the whole log of a task, in the folder `dir`; it tells its content where the root's log, `root`, does
+abbrev pub whole_log : List ℕ → ℕ → Option Text → TaskLog → HandedLog
+whole_log dir size root task = record {
+  task = task.path;
+  dir = dir;
+  path = task.path;
+  told = option_map (λ _. whole_outline size task.records) root;
+  count = length task.records;
+}
+
+-- The tasks of a run that ended are those of the kernel, each with its trace; their logs keep the rules of a folder; and their accesses
+-- and mutex steps have one legal history that respects happens-before and ends in these words.
+pub record IsRun (program : Program) (tasks : Trace) (words : List ℕ) : Type 0 where
+  pub traced : IsTracedFolder program tasks
+  pub rules : KeepsRules FORMAT tasks
+  pub execution : IsExecution program tasks (element_address program.arrays) words
+
+-- the logs are those of a whole run, in the order of their paths
+pub record HasRun (program : Program) (dir : List ℕ) (size : ℕ) (root : Option Text) (logs : List HandedLog) (words : List ℕ) : Type 0 where
+  pub tasks : Trace
+  pub run : IsRun program tasks words
+  pub logs_are : logs ≡ map (whole_log dir size root) tasks
+  pub few : length tasks ≤ max_rows
+
+-- the task of this path starts where the run forks it, and its log is its whole trace, which ends so
+pub record EndsTask (program : Program) (tasks : Trace) (path : List Step) (end : Ending) : Type 0 where
+  pub listed : ListsTask tasks path
+  pub start : Start
+  pub starts : start_at program (logs_of tasks) path ≡ Some start
+  pub traced : IsTracedTo program start (logs_of tasks path) end
+
+-- The run stopped so in the task of this path: a stop that traces tell is how its trace ends, and where too many tasks were below it,
+-- its last record is that of a region at this line.
+pub record StopsIn (program : Program) (tasks : Trace) (path : List Step) (why : Stop) : Type 0 where
+  pub traced : (end : Ending) → ending_for why ≡ Some end → EndsTask program tasks path end
+  pub crowded : (line : ℕ) → why ≡ stop.Tasks line → LastIsRegionAt line (logs_of tasks path)
+
+-- The logs of a run that stopped so in the task of this path. They are those of an execution of the kernel, in the order of their paths:
+-- each with all its records, or a prefix of them, where it may lack some; one may be missing where no memory was found. The words
+-- are the last ones of its history; there are none where no memory was found for them.
+pub record HasStoppedRun (program : Program) (dir : List ℕ) (size : ℕ) (root : Option Text) (logs : List Entry) (path : List Step) (why : Stop) (words : List ℕ) : Type 0 where
+  pub tasks : Trace
+  pub final : List ℕ
+  pub execution : IsExecution program tasks (element_address program.arrays) final
+  pub words_are : (words ≡ final) ⊎ ((why ≡ stop.Trouble Memory) × (words ≡ []))
+  pub listed : IsListing (paths_of tasks)
+  pub logs_are : AreEntriesOf (record { dir = dir; size = size; tells = is_some root }) (Some (path, why)) tasks logs
+  pub stops : StopsIn program tasks path why
+  pub tell : TellStop (Some (path, why)) logs

@@ -1,0 +1,77 @@
+-- How a team stands after some of its phases.
+use Rattle.std.specs.Prelude.{◌≡◌, ◌⊎◌, ◌++◌, ℕ, ◌+◌, ◌<◌, ◌≤◌, List, [], ◌∷◌, length, map, slice_index_or, Option, Some, None}
+use Rattle.shared_words.specs.declared.view.View.{View}
+use Rattle.shared_words.specs.Handles.{Belongs, HandValue, with_view}
+use Rattle.shared_words.specs.Views.{IsAtRest}
+use Rattle.history_model.specs.Work.{Phases, lane_works}
+use Rattle.history_model.specs.Joined.{PhasesEnd}
+use Rattle.kernel_model.specs.declared.phase.Item.{Item}
+use Rattle.kernel_model.specs.Parts.{drawn_count}
+use Rattle.kernel_model.specs.Phases.{part_of, parts_in}
+use Rattle.kernel_model.specs.Trace.{log_limit}
+use Rattle.lane_runner.specs.Going.{IsSameLog, Progress, site}
+use Rattle.region_runner.specs.Crew.{CrewValue, world_of}
+use Rattle.region_runner.specs.Hands.{joined_with, parted_for}
+use Rattle.region_runner.specs.Member.{IsWithoutHand, MemberValue, WentOn, answer_of, hand_view, lane_hand, with_hand}
+use Rattle.region_runner.specs.Ran.{TaskGoes, TakesUp, task_part}
+use Rattle.region_runner.specs.Team.{DidPhases}
+
+-- A lane that goes on can, with a new hand: its log has refused nothing and tells each fork, and it may draw as often as its log has room.
+pub record MayStep (crew : CrewValue) (p : Progress) : Type 0 where
+  pub unrefused : p.buffer.refused ≡ None
+  pub drawing : Belongs p.tally.draws crew.chunks.table
+  pub enough : log_limit ≤ p.tally.draws.view.left + p.buffer.count
+  pub forks : p.tally.forked ≤ p.buffer.count
+
+-- and it has the counters for the items of a phase
+pub record MayGoOn (crew : CrewValue) (items : List Item) (m : MemberValue) : Type 0 where
+  pub going : m.halt ≡ None
+  pub may : MayStep crew m.at
+  pub counters : m.at.tally.next_loop + drawn_count (map part_of items) ≤ crew.chunks.loops
+
+-- The lanes of the team executed a phase: each with a hand of its own, and all hands are home.
+pub record RanPhase (crew : CrewValue) (items : List Item) (end : Option ℕ) (old new : HandValue View) (before after : List MemberValue) : Type 0 where
+  pub mid : List MemberValue
+  pub mid_count : length mid ≡ length before
+  pub went : (k : ℕ) (d : MemberValue) → k < length before → WentOn crew items end k (with_hand (slice_index_or before k d) (lane_hand old k)) (slice_index_or mid k d)
+  pub rests : IsAtRest old.view
+  pub hand : new ≡ with_view old (joined_with (map hand_view mid) (parted_for 0 crew.span crew.span old.view))
+  pub count : length after ≡ length before
+  pub same : (k : ℕ) (d : MemberValue) → k < length before → IsWithoutHand (slice_index_or mid k d) (slice_index_or after k d)
+
+-- A lane, which was `start` before all phases, stands after these, and after its End, if it put one.
+pub record LaneStands (crew : CrewValue) (start : MemberValue) (done : List (List Item)) (end : Option ℕ) (phases : Phases) (lane : ℕ) (m : MemberValue) : Type 0 where
+  pub path : m.path ≡ start.path
+  pub last : Progress
+  pub up : TakesUp last m.at
+  pub goes : TaskGoes (world_of crew lane) (task_part (site (world_of crew lane)) done end) start.slots m.slots start.at last (lane_works lane phases) (answer_of m.halt)
+  pub log : IsSameLog start.at.buffer m.at.buffer
+  pub loops : m.halt ≡ None → m.at.tally.next_loop ≡ start.at.tally.next_loop + drawn_count (parts_in done)
+  pub may : m.halt ≡ None → MayStep crew m.at
+
+-- so do all lanes of a team, and their hands are home
+pub record TeamStands (crew : CrewValue) (done : List (List Item)) (end : Option ℕ) (phases : Phases) (old new : HandValue View) (before after : List MemberValue) : Type 0 where
+  pub count : length after ≡ crew.span
+  pub did : DidPhases crew.arrays crew.span old new phases
+  pub lanes : (k : ℕ) (d : MemberValue) → k < crew.span → LaneStands crew (slice_index_or before k d) done end phases k (slice_index_or after k d)
+
+-- all lanes go on
+abbrev pub AllGo : List MemberValue → Type 0
+AllGo members = (k : ℕ) (d : MemberValue) → k < length members → (slice_index_or members k d).halt ≡ None
+
+-- The lane has executed no phase yet: it has drawn from no counter, forked no region, and put no record.
+pub record IsFresh (crew : CrewValue) (m : MemberValue) : Type 0 where
+  pub going : m.halt ≡ None
+  pub may : MayStep crew m.at
+  pub no_loop : m.at.tally.next_loop ≡ 0
+
+-- The lanes of a team executed its phases, until one didn't go on. After all of them each that did put its End, at this line.
+pub record TeamRan (crew : CrewValue) (items : List (List Item)) (line : ℕ) (old new : HandValue View) (before after : List MemberValue) : Type 0 where
+  pub done : List (List Item)
+  pub left : List (List Item)
+  pub is : items ≡ done ++ left
+  pub end : Option ℕ
+  pub end_is : (end ≡ None) ⊎ ((end ≡ Some line) × (left ≡ []))
+  pub phases : Phases
+  pub stands : TeamStands crew done end phases old new before after
+  pub ends : AllGo after → PhasesEnd phases

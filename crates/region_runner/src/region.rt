@@ -1,0 +1,236 @@
+//! A region: its lanes on threads of their own, phase by phase.
+ghost use Rattle.std.specs.Prelude.{◌≡◌, ◌+◌, ◌*◌, ◌-◌, ◌<◌, ◌≤◌, ℕ, [], true, false, length, All, Some, slice_index_or};
+ghost use Rattle.std.specs.Thread.{IsSend, IsSync};
+ghost use Rattle.event_buffer.specs.Buffered.{Buffered};
+ghost use Rattle.kernel_syntax.specs.Program.{team_of};
+ghost use Rattle.lane_runner.specs.Children.{AreNewLogs};
+ghost use Rattle.lane_runner.specs.Forking.{IsReady, RanRegion};
+ghost use Rattle.lane_runner.specs.Handed.{entries_of};
+ghost use Rattle.lane_runner.specs.World.{WorldValue};
+ghost use Rattle.region_runner.specs.Ground.{AreLanesLogs, IsMemberOf, IsOurPhase, IsOurTeam, crew_of};
+ghost use Rattle.kernel_model.specs.Parts.{drawn_count};
+ghost use Rattle.kernel_model.specs.Phases.{AreDivided, parts_in};
+ghost use Rattle.shared_words.specs.Handles.{Belongs};
+ghost use Rattle.region_runner.specs.Member.{CanGoOn, IsLast, WentOn};
+ghost use Rattle.region_runner.specs.Stands.{AllGo, IsFresh, MayGoOn, RanPhase, TeamRan};
+
+use crate::crew::Crew;
+use crate::ground::Ground;
+use crate::handing::{join_hands, split_hands};
+use crate::member::Member;
+use kernel_model::Phase;
+use kernel_syntax::Team;
+use lane_runner::{Locals, Stop};
+use shared_words::Hand;
+use std::alloc::Global;
+use std::sync::Wait;
+use std::thread;
+use std::thread::Threads;
+use sw_base::{Gate, Log, Path};
+
+// A lane enters the gate and executes its phase; the regions that it forks are run in turn.
+fn start_lane<R: Threads + Wait + Sync, L: Log, G: Gate>(
+    rt: &R,
+    alloc: Global,
+    depth: u32,
+    ground: &Ground<'_, G>,
+    crew: &Crew<'_>,
+    phase: &Phase<'_>,
+    end: Option<u32>,
+    lane: usize,
+    member: &mut Member<L>,
+)
+    requires crew { crew.now ≡ crew_of ground.now crew.now.chunks crew.now.span }
+    requires number { crew.now.chunks.loops < 4294967296 }
+    requires span { crew.now.span ≤ 64 }
+    requires phase { IsOurPhase ground.now (4 - depth) phase.now }
+    requires last { (line : ℕ) → end ≡ Some line → IsLast phase.now line }
+    requires lane { lane < crew.now.span }
+    requires can { CanGoOn crew.now phase.now lane member.old }
+    requires own { IsMemberOf ground.now depth member.old }
+    ensures went { WentOn crew.now phase.now end lane member.old member.new }
+{
+    ground.enter(lane);
+    let path = member.path();
+    member.go(
+        phase,
+        end,
+        lane as u16,
+        rt,
+        alloc,
+        crew,
+        &|hand: &mut Hand,
+          locals: &Locals,
+          number: u32,
+          logs: Vec<L>,
+          team: &Team,
+          done: &mut Vec<(Path, L, u32)>|
+         -> Result<(), (Path, Stop)>
+            requires sync { IsSync R.row × IsSend L.row }
+            requires inner { 0 < depth }
+            requires deep { length path + depth ≡ 4 }
+            requires team { IsOurTeam ground.now (length path + 1) (team_of team.now) }
+            requires ready { IsReady hand.old ground.now.words }
+            requires logs { AreLanesLogs ground.now (record { dir = L.dir; path = L.path; text = L.text; faults = L.faults }) path number team.now.span logs.items }
+            ensures ran { (w : WorldValue) (task : Buffered) → w.arrays ≡ ground.entry.now.arrays → task.path ≡ path → task.size ≡ ground.entry.now.size
+                → AreNewLogs (record { dir = L.dir; path = L.path; text = L.text; faults = L.faults }) task number team.now.span logs.items
+                → RanRegion w (team_of team.now) locals.now.slots.items task number hand.old hand.new
+                    (entries_of (record { dir = L.dir; path = L.path; text = L.text; faults = L.faults }) done.old.items)
+                    (entries_of (record { dir = L.dir; path = L.path; text = L.text; faults = L.faults }) done.new.items) result }
+        {
+            region(
+                rt, alloc, depth - 1, ground, &path, hand, locals, number, logs, team, done,
+            )
+        },
+    );
+}
+
+// The lanes of a team execute a phase, each on a thread of its own.
+fn run_lanes<R: Threads + Wait + Sync, L: Log, G: Gate>(
+    rt: &R,
+    alloc: Global,
+    depth: u32,
+    ground: &Ground<'_, G>,
+    crew: &Crew<'_>,
+    phase: &Phase<'_>,
+    end: Option<u32>,
+    members: &mut [Member<L>],
+)
+    requires crew { crew.now ≡ crew_of ground.now crew.now.chunks crew.now.span }
+    requires number { crew.now.chunks.loops < 4294967296 }
+    requires span { crew.now.span ≤ 64 }
+    requires phase { IsOurPhase ground.now (4 - depth) phase.now }
+    requires last { (line : ℕ) → end ≡ Some line → IsLast phase.now line }
+    requires count { length members.old ≡ crew.now.span }
+    requires some { 1 ≤ crew.now.span }
+    requires can { (i : ℕ) (d : _) → i < length members.old → CanGoOn crew.now phase.now i (slice_index_or members.old i d) }
+    requires own { (i : ℕ) (d : _) → i < length members.old → IsMemberOf ground.now depth (slice_index_or members.old i d) }
+    ensures count { length members.new ≡ length members.old }
+    ensures went { (i : ℕ) (d : _) → i < length members.old → WentOn crew.now phase.now end i (slice_index_or members.old i d) (slice_index_or members.new i d) }
+{
+    let count = members.len();
+    thread::for_each_mut(rt, members, count, &|lane: usize, member: &mut Member<L>|
+        requires sync { IsSync R.row × IsSend L.row }
+        requires crew { crew.now ≡ crew_of ground.now crew.now.chunks crew.now.span }
+        requires number { crew.now.chunks.loops < 4294967296 }
+        requires span { crew.now.span ≤ 64 }
+        requires phase { IsOurPhase ground.now (4 - depth) phase.now }
+        requires last { (line : ℕ) → end ≡ Some line → IsLast phase.now line }
+        requires lane { lane < crew.now.span }
+        requires can { CanGoOn crew.now phase.now lane member.old }
+        requires own { IsMemberOf ground.now depth member.old }
+        ensures went { WentOn crew.entry.now phase.entry.now end lane member.old member.new }
+    {
+        start_lane(rt, alloc, depth, ground, crew, phase, end, lane, member);
+    });
+}
+
+// The lanes of a team execute a phase, each with a hand that is split off for it and joined after it.
+fn run_phase<R: Threads + Wait + Sync, L: Log, G: Gate>(
+    rt: &R,
+    alloc: Global,
+    depth: u32,
+    ground: &Ground<'_, G>,
+    crew: &Crew<'_>,
+    phase: &Phase<'_>,
+    end: Option<u32>,
+    hand: &mut Hand,
+    members: &mut [Member<L>],
+)
+    requires crew { crew.now ≡ crew_of ground.now crew.now.chunks crew.now.span }
+    requires number { crew.now.chunks.loops < 4294967296 }
+    requires span { crew.now.span ≤ 64 }
+    requires phase { IsOurPhase ground.now (4 - depth) phase.now }
+    requires last { (line : ℕ) → end ≡ Some line → IsLast phase.now line }
+    requires count { length members.old ≡ crew.now.span }
+    requires some { 1 ≤ crew.now.span }
+    requires belongs { Belongs hand.old ground.now.words.table }
+    requires can { (i : ℕ) (d : _) → i < length members.old → MayGoOn crew.now phase.now (slice_index_or members.old i d) }
+    requires own { (i : ℕ) (d : _) → i < length members.old → IsMemberOf ground.now depth (slice_index_or members.old i d) }
+    ensures ran { RanPhase crew.now phase.now end hand.old hand.new members.old members.new }
+{
+    let words = ground.words();
+    split_hands(words, hand, members, crew.span());
+    run_lanes(rt, alloc, depth, ground, crew, phase, end, members);
+    join_hands(words, hand, members);
+}
+
+// Whether each lane goes on.
+fn all_go<L: Log>(members: &[Member<L>]) -> bool
+    ensures all { result ≡ true → AllGo members.now }
+    ensures some { result ≡ false → AllGo members.now → ⊥ }
+{
+    for member in members {
+        if !member.goes() {
+            return false;
+        }
+    }
+    true
+}
+
+// The lanes of a team execute its phases, until a lane doesn't go on. After the last phase each that does puts its End.
+fn run_phases<R: Threads + Wait + Sync, L: Log, G: Gate>(
+    rt: &R,
+    alloc: Global,
+    depth: u32,
+    ground: &Ground<'_, G>,
+    crew: &Crew<'_>,
+    phases: &[Phase<'_>],
+    end: u32,
+    hand: &mut Hand,
+    members: &mut [Member<L>],
+)
+    requires crew { crew.now ≡ crew_of ground.now crew.now.chunks crew.now.span }
+    requires number { crew.now.chunks.loops < 4294967296 }
+    requires span { crew.now.span ≤ 64 }
+    requires lawful { All (IsOurPhase ground.now (4 - depth)) phases.now }
+    requires divided { AreDivided phases.now }
+    requires counters { drawn_count (parts_in phases.now) ≤ crew.now.chunks.loops }
+    requires end { 1 ≤ end }
+    requires count { length members.old ≡ crew.now.span }
+    requires some { 1 ≤ crew.now.span }
+    requires belongs { Belongs hand.old ground.now.words.table }
+    requires none_out { hand.old.view.out ≡ [] }
+    requires fresh { (i : ℕ) (d : _) → i < length members.old → IsFresh crew.now (slice_index_or members.old i d) }
+    requires own { (i : ℕ) (d : _) → i < length members.old → IsMemberOf ground.now depth (slice_index_or members.old i d) }
+    ensures ran { TeamRan crew.now phases.now end hand.old hand.new members.old members.new }
+{
+    let Some((last, earlier)) = phases.split_last() else {
+        unreachable!()
+    };
+    for phase in earlier {
+        run_phase(rt, alloc, depth, ground, crew, phase, None, hand, members);
+        if !all_go(members) {
+            return;
+        }
+    }
+    run_phase(rt, alloc, depth, ground, crew, last, Some(end), hand, members);
+}
+
+// Runs the region of this number of the task at this path, from these locals.
+pub(crate) fn region<R: Threads + Wait + Sync, L: Log, G: Gate>(
+    rt: &R,
+    alloc: Global,
+    depth: u32,
+    ground: &Ground<'_, G>,
+    path: &Path,
+    hand: &mut Hand,
+    locals: &Locals,
+    number: u32,
+    logs: Vec<L>,
+    team: &Team,
+    done: &mut Vec<(Path, L, u32)>,
+) -> Result<(), (Path, Stop)>
+    requires deep { length path.now + depth + 1 ≡ 4 }
+    requires team { IsOurTeam ground.now (length path.now + 1) (team_of team.now) }
+    requires ready { IsReady hand.old ground.now.words }
+    requires logs { AreLanesLogs ground.now (record { dir = L.dir; path = L.path; text = L.text; faults = L.faults }) path.now number team.now.span logs.items }
+    ensures ran { (w : WorldValue) (task : Buffered) → w.arrays ≡ ground.now.arrays → task.path ≡ path.now → task.size ≡ ground.now.size
+        → AreNewLogs (record { dir = L.dir; path = L.path; text = L.text; faults = L.faults }) task number team.now.span logs.items
+        → RanRegion w (team_of team.now) locals.now.slots.items task number hand.old hand.new
+            (entries_of (record { dir = L.dir; path = L.path; text = L.text; faults = L.faults }) done.old.items)
+            (entries_of (record { dir = L.dir; path = L.path; text = L.text; faults = L.faults }) done.new.items) result }
+{
+    for _ in rt.forever() {}
+    unreachable!()
+}
