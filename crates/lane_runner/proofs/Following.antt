@@ -106,23 +106,26 @@ module _ (w : WorldValue) {A B : Type 0} (part : State → Outcome A) (next : A 
 
   pub then_made : {bars : ℕ} (finish : Finish B) (m : MadePast bars w (next a) mid_slots slots' mid new finish)
       → (both : MadePast bars w (λ s. and_then (part s) next) slots slots' old new finish) × (both.work ≡ then_work one.work m.work)
-  then_made finish m = (record {
-    work = then_work one.work m.work;
-    forks = one.forks ++ m.forks;
-    own = m.own;
-    done = done m.work m.done;
-    released = released m.work m.own m.released;
-    closes = m.closes;
-    ended = ended_then one.work m.work one.ended m.ended;
-    handed = handed None m.work m.handed;
-    few = λ less. m.few (one.few less);
-    unrefused = m.unrefused;
-    makes = λ fit.
-        subst (λ (e : Effect). Makes (λ s. and_then (part s) next) slots (log_limit - old.buffer.count) e finish) (effect_then one.work m.work mid_slots slots' one.forks m.forks)
-        (makes-then part next slots (log_limit - old.buffer.count) (effect_of mid_slots one.work one.forks) a (effect_of slots' m.work m.forks) finish (one.makes (fits_one m.work fit))
-        (subst (λ (room : ℕ). Makes (next a) mid_slots room (effect_of slots' m.work m.forks) finish) left (m.makes (fits_two m.work fit))));
-    regions = λ fit program is. let both = fits_then one.work m.work fit in runs_then program one.forks m.forks one.work m.work (one.regions both.0 program is) (m.regions both.1 program is);
-  }, refl)
+  then_made finish m = (
+    record {
+      work = then_work one.work m.work;
+      forks = one.forks ++ m.forks;
+      own = m.own;
+      done = done m.work m.done;
+      released = released m.work m.own m.released;
+      closes = m.closes;
+      ended = ended_then one.work m.work one.ended m.ended;
+      handed = handed None m.work m.handed;
+      few = λ less. m.few (one.few less);
+      unrefused = m.unrefused;
+      makes = λ fit.
+          subst (λ (e : Effect). Makes (λ s. and_then (part s) next) slots (log_limit - old.buffer.count) e finish) (effect_then one.work m.work mid_slots slots' one.forks m.forks)
+          (makes-then part next slots (log_limit - old.buffer.count) (effect_of mid_slots one.work one.forks) a (effect_of slots' m.work m.forks) finish (one.makes (fits_one m.work fit))
+          (subst (λ (room : ℕ). Makes (next a) mid_slots room (effect_of slots' m.work m.forks) finish) left (m.makes (fits_two m.work fit))));
+      regions = λ fit program is. let both = fits_then one.work m.work fit in runs_then program one.forks m.forks one.work m.work (one.regions both.0 program is) (m.regions both.1 program is);
+    },
+    refl,
+  )
 
   follows : {bars : ℕ} (finish : Finish B) → MadePast bars w (next a) mid_slots slots' mid new finish → MadePast bars w (λ s. and_then (part s) next) slots slots' old new finish
   follows finish m = (then_made finish m).0
@@ -159,20 +162,23 @@ module _ (w : WorldValue) {A B : Type 0} (part : State → Outcome A) (next : A 
 -- the same part, told otherwise
 module _ (w : WorldValue) {A : Type 0} (part other : State → Outcome A) (slots slots' : List ℤ) (old new : Progress) (same : (s : State) → other s ≡ part s) where
   pub same_made : {bars : ℕ} (finish : Finish A) (m : MadePast bars w part slots slots' old new finish) → (x : MadePast bars w other slots slots' old new finish) × (x.work ≡ m.work)
-  same_made finish m = (record {
-    work = m.work;
-    forks = m.forks;
-    own = m.own;
-    done = m.done;
-    released = m.released;
-    closes = m.closes;
-    ended = m.ended;
-    handed = m.handed;
-    few = m.few;
-    unrefused = m.unrefused;
-    makes = λ fit. makes-same part other slots (log_limit - old.buffer.count) (effect_of slots' m.work m.forks) finish same (m.makes fit);
-    regions = m.regions;
-  }, refl)
+  same_made finish m = (
+    record {
+      work = m.work;
+      forks = m.forks;
+      own = m.own;
+      done = m.done;
+      released = m.released;
+      closes = m.closes;
+      ended = m.ended;
+      handed = m.handed;
+      few = m.few;
+      unrefused = m.unrefused;
+      makes = λ fit. makes-same part other slots (log_limit - old.buffer.count) (effect_of slots' m.work m.forks) finish same (m.makes fit);
+      regions = m.regions;
+    },
+    refl,
+  )
 
   made_same : {bars : ℕ} (finish : Finish A) → MadePast bars w part slots slots' old new finish → MadePast bars w other slots slots' old new finish
   made_same finish m = (same_made finish m).0

@@ -104,26 +104,29 @@ module _ (w : WorldValue) (event : Record) (bars : ℕ) (note : IsNote w event b
   }
 
   pub note_made : Takes event old.hand.view old new → (m : MadePast bars w (put event) slots slots old new (Returned tt)) × (m.work ≡ Put event Rest)
-  note_made taken = (record {
-    work = Put event Rest;
-    forks = [];
-    own = [];
-    done = note_done taken;
-    released = record {
-      records = sym (put_one event note.some) ∙ sym (append-nil (log_of (Put event Rest)));
-      held = ap (λ (rs : List Record). held_after (reverse old.hand.view.held) rs) (put_one event note.some) ∙ note.holds (reverse old.hand.view.held);
-      apart = inr refl;
-    };
-    closes = refl;
-    ended = ended_none;
-    handed = work_hands_none old new (Put event Rest) taken.done refl;
-    few = few_still old.done new.done taken.done;
-    unrefused = taken.unrefused;
-    makes = λ fit.
-        subst (λ (rs : List Record). Makes (put event) slots (log_limit - old.buffer.count) (adds slots rs) (Returned tt)) (sym (put_one event note.some))
-        (makes-put event slots (log_limit - old.buffer.count) (let below = taken.below in omega arith) note.unread note.undrawn);
-    regions = λ fit program is. RunsRegions.no_region;
-  }, refl)
+  note_made taken = (
+    record {
+      work = Put event Rest;
+      forks = [];
+      own = [];
+      done = note_done taken;
+      released = record {
+        records = sym (put_one event note.some) ∙ sym (append-nil (log_of (Put event Rest)));
+        held = ap (λ (rs : List Record). held_after (reverse old.hand.view.held) rs) (put_one event note.some) ∙ note.holds (reverse old.hand.view.held);
+        apart = inr refl;
+      };
+      closes = refl;
+      ended = ended_none;
+      handed = work_hands_none old new (Put event Rest) taken.done refl;
+      few = few_still old.done new.done taken.done;
+      unrefused = taken.unrefused;
+      makes = λ fit.
+          subst (λ (rs : List Record). Makes (put event) slots (log_limit - old.buffer.count) (adds slots rs) (Returned tt)) (sym (put_one event note.some))
+          (makes-put event slots (log_limit - old.buffer.count) (let below = taken.below in omega arith) note.unread note.undrawn);
+      regions = λ fit program is. RunsRegions.no_region;
+    },
+    refl,
+  )
 
   -- the record was put, or has no place
   pub note_goes : (r : Result (Unit {0}) Halt) → CanGo w old → TakesOrHalts event old.hand.view old new r → GoesPast bars w (put event) slots slots old new r

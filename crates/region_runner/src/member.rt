@@ -39,7 +39,14 @@ impl<L: Log> Model for Member<L> {
 fn run_through<
     L: Log,
     R: Wait,
-    F: Fn(&mut Hand, &Locals, u32, Vec<L>, &Team, &mut Vec<(Path, L, u32)>) -> Result<(), (Path, Stop)>,
+    F: Fn(
+        &mut Hand,
+        &Locals,
+        u32,
+        Vec<L>,
+        &Team,
+        &mut Vec<(Path, L, u32)>,
+    ) -> Result<(), (Path, Stop)>,
 >(
     lane: &mut Lane<L>,
     phase: &Phase,
