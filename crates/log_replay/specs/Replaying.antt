@@ -1,0 +1,37 @@
+-- What is answered of a kernel and the tasks of a folder: that they are a run of the kernel, or the first record that isn't its trace's.
+use Rattle.std.specs.Prelude.{◌≡◌, ℕ, ◌<◌, ◌≤◌, List, [], ◌∷◌, ◌++◌, length, take, map, All, Option, Some, None, slice_get}
+use Rattle.sw_base.specs.declared.path.Step.{Step}
+use Rattle.log_format.specs.declared.record.Record.{Record}
+use Rattle.race_model.specs.Trace.{TaskLog, Trace, Logs, logs_of}
+use Rattle.kernel_syntax.specs.Bounds.{IsBounded}
+use Rattle.kernel_syntax.specs.Program.{Program}
+use Rattle.kernel_model.specs.State.{Fork}
+use Rattle.kernel_model.specs.Trace.{Start}
+use Rattle.kernel_model.specs.Folder.{own_trace, start_at, IsTraced, IsTracedTask, IsTracedFolder}
+use Rattle.log_replay.specs.Differing.{DiffersAt}
+use Rattle.log_replay.specs.Forks.{fork_of}
+use Rattle.log_replay.specs.declared.forked.Forked.{Forked}
+use Rattle.log_replay.specs.declared.replaying.Replayed.{Replayed}
+use Rattle.log_replay.specs.declared.replaying.Replayed.TheVariants.{Same, Differs}
+
+-- the kernel's numbers are within their bounds, and its root is one lane, as in each kernel that is read
+pub record IsReplayable (program : Program) : Type 0 where
+  pub bounded : IsBounded program
+  pub alone : program.main.span ≡ 1
+
+-- The tasks before this one, in the order of their rows, are traced. It starts where they fork it, and its log differs from its
+-- trace first at the record of this number.
+pub record DiffersFirst (program : Program) (tasks : Trace) (path : List Step) (number : ℕ) : Type 0 where
+  pub earlier : Trace
+  pub task : TaskLog
+  pub later : Trace
+  pub tasks_are : tasks ≡ earlier ++ task ∷ later
+  pub traced : All (IsTracedTask program (logs_of tasks)) earlier
+  pub path_is : task.path ≡ path
+  pub start : Start
+  pub starts : start_at program (logs_of tasks) path ≡ Some start
+  pub differs : DiffersAt (own_trace program start task.records).records task.records number
+
+abbrev pub IsReplayed : Program → Trace → Replayed → Type 0
+IsReplayed program tasks Same = IsTracedFolder program tasks
+IsReplayed program tasks (Differs path number) = DiffersFirst program tasks path number
