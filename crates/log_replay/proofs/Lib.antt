@@ -6,3 +6,4 @@ pub mod Statements
 pub mod Draws
 pub mod Bounded
 pub mod Tasks
+pub mod Kept

@@ -1,16 +1,18 @@
 -- What is answered of a kernel and the tasks of a folder: that they are a run of the kernel, or the first record that isn't its trace's.
-use Rattle.std.specs.Prelude.{◌≡◌, ℕ, ◌<◌, ◌≤◌, List, [], ◌∷◌, ◌++◌, length, take, map, All, Option, Some, None, slice_get}
+use Rattle.std.specs.Prelude.{◌≡◌, ℕ, List, ◌∷◌, ◌++◌, All, Option, Some}
 use Rattle.sw_base.specs.declared.path.Step.{Step}
-use Rattle.log_format.specs.declared.record.Record.{Record}
-use Rattle.race_model.specs.Trace.{TaskLog, Trace, Logs, logs_of}
+use Rattle.sw_base.specs.Environment.{Content, WhereTold}
+use Rattle.log_format.specs.declared.format.TheConstants.{FORMAT}
+use Rattle.race_model.specs.FirstBad.{HoldsTrace}
+use Rattle.race_model.specs.Trace.{TaskLog, Trace, logs_of}
+use Rattle.race_model.specs.WellFormed.{IsWellFormed}
 use Rattle.kernel_syntax.specs.Bounds.{IsBounded}
 use Rattle.kernel_syntax.specs.Program.{Program}
-use Rattle.kernel_model.specs.State.{Fork}
 use Rattle.kernel_model.specs.Trace.{Start}
-use Rattle.kernel_model.specs.Folder.{own_trace, start_at, IsTraced, IsTracedTask, IsTracedFolder}
+use Rattle.kernel_model.specs.Folder.{own_trace, start_at, IsTracedTask, IsTracedFolder}
 use Rattle.log_replay.specs.Differing.{DiffersAt}
-use Rattle.log_replay.specs.Forks.{fork_of}
-use Rattle.log_replay.specs.declared.forked.Forked.{Forked}
+use Rattle.log_walk.specs.declared.fault.WalkFault.{WalkFault}
+use Rattle.log_walk.specs.declared.fault.WalkFault.TheVariants as fault
 use Rattle.log_replay.specs.declared.replaying.Replayed.{Replayed}
 use Rattle.log_replay.specs.declared.replaying.Replayed.TheVariants.{Same, Differs}
 
@@ -35,3 +37,16 @@ pub record DiffersFirst (program : Program) (tasks : Trace) (path : List Step) (
 abbrev pub IsReplayed : Program → Trace → Replayed → Type 0
 IsReplayed program tasks Same = IsTracedFolder program tasks
 IsReplayed program tasks (Differs path number) = DiffersFirst program tasks path number
+
+-- the folder has no bad place, and this is found of the run that it holds, where it tells what it holds
+pub record AnswersFolder (program : Program) (told : Option Content) (dir : List ℕ) (found : Replayed) : Type 0 where
+  pub tasks : Trace
+  pub holds : WhereTold told (λ c. HoldsTrace FORMAT c.held dir tasks)
+  pub well_formed : WhereTold told (λ c. IsWellFormed FORMAT c.held dir)
+  pub replayed : WhereTold told (λ c. IsReplayed program tasks found)
+
+-- a read failed, or no memory was found
+abbrev pub IsTroubled : WalkFault → Type 0
+IsTroubled fault.ReadFault = Unit {0}
+IsTroubled fault.Memory = Unit {0}
+IsTroubled _ = ⊥

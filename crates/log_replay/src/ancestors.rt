@@ -56,7 +56,7 @@ fn lane<'k>(
 }
 
 /// How the task of this path starts, where these are the regions that the tasks above it forked. None where none of them forks it.
-pub fn begin<'k>(
+pub fn find_start<'k>(
     alloc: Global,
     kernel: &'k Kernel,
     kept: &[Vec<Forked<'k>>],

@@ -5,16 +5,19 @@
 //! not kept.
 #![tactic(auto)]
 
+mod ancestors;
 mod body;
 mod comparing;
 mod forked;
 mod lane;
 mod place;
+mod replaying;
 mod stray;
 mod value;
 
 pub use comparing::follow;
 pub use forked::Forked;
+pub use replaying::{Replayed, replay};
 pub use stray::Stray;
 
 #[cfg(test)]

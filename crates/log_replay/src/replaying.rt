@@ -11,12 +11,12 @@ ghost use Rattle.race_model.specs.WellFormed.{IsWellFormed};
 ghost use Rattle.kernel_syntax.specs.Program.{program_of};
 ghost use Rattle.kernel_model.specs.Trace.{log_limit};
 ghost use Rattle.log_walk.specs.Walk.{TellsFirstBad};
-ghost use Rattle.log_walk.specs.declared.fault.WalkFault.TheVariants as fault;
-ghost use Rattle.log_replay.specs.Ancestors.{ComparesTask, KeepsAllForks, forks_kept};
+ghost use Rattle.log_replay.specs.Ancestors.{ComparesTask, IsFoundOf, KeepsAllForks, forks_kept};
 ghost use Rattle.log_replay.specs.Following.{HasEnd};
-ghost use Rattle.log_replay.specs.Replaying.{AnswersFolder, IsReplayable, IsReplayed};
+ghost use Rattle.log_replay.specs.declared.stray.Stray.TheVariants as strays;
+ghost use Rattle.log_replay.specs.Replaying.{AnswersFolder, IsReplayable, IsReplayed, IsTroubled};
 
-use crate::ancestors::begin;
+use crate::ancestors::find_start;
 use crate::comparing::follow;
 use crate::forked::Forked;
 use crate::stray::Stray;
@@ -32,10 +32,20 @@ pub enum Replayed {
     /// The folder holds a run of the kernel.
     Same,
     /// This record of this task's log is the first, in the order of the rows and then by number from 1, that isn't its trace's.
-    Differs {
-        path: Path,
-        number: u32,
-    },
+    Differs { path: Path, number: u32 },
+}
+
+/// The number of the record at which a task left its log.
+fn found_of(stray: Stray) -> Result<Option<u32>, WalkFault>
+    ensures found { IfOk result (λ found. IsFoundOf stray found) }
+    ensures only_faults { IfErr result (λ e. IsTroubled e) }
+    ensures fault { IsErrOf result WalkFault.ReadFault → stray ≡ strays.ReadFault }
+{
+    match stray {
+        Stray::Differs { number } => Ok(Some(number)),
+        Stray::ReadFault => Err(WalkFault::ReadFault),
+        Stray::Memory => Err(WalkFault::Memory),
+    }
 }
 
 /// Compares the log of a row with its task's trace. The number of the first record that isn't the trace's; none where the log is
@@ -59,21 +69,27 @@ fn compare_task<'k, F: Folder>(
     ensures cause { IsErrOf result WalkFault.ReadFault → Rose (F.read_faults folder.old) (F.read_faults folder.new) }
     ensures same_writes { F.write_faults folder.new ≡ F.write_faults folder.old }
 {
-    let Some(start) = begin(alloc, kernel, kept, &row.path)? else {
+    let Some(start) = find_start(alloc, kernel, kept, &row.path)? else {
         return Ok(Some(1));
     };
     let arrays = kernel.arrays.as_slice();
     match follow(
-        alloc, folder, dir, &row.path, row.records, arrays, start.team, start.lane, start.slots,
+        alloc,
+        folder,
+        dir,
+        &row.path,
+        row.records,
+        arrays,
+        start.team,
+        start.lane,
+        start.slots,
     ) {
         Ok(forks) => {
             kept.truncate(row.path.steps().len());
             kept.push(forks)?;
             Ok(None)
         }
-        Err(Stray::Differs { number }) => Ok(Some(number)),
-        Err(Stray::ReadFault) => Err(WalkFault::ReadFault),
-        Err(Stray::Memory) => Err(WalkFault::Memory),
+        Err(stray) => found_of(stray),
     }
 }
 
