@@ -7,3 +7,4 @@ pub mod Draws
 pub mod Bounded
 pub mod Tasks
 pub mod Kept
+pub mod AllTasks

@@ -1,5 +1,5 @@
 -- What is answered of a kernel and the tasks of a folder: that they are a run of the kernel, or the first record that isn't its trace's.
-use Rattle.std.specs.Prelude.{◌≡◌, ℕ, List, ◌∷◌, ◌++◌, All, Option, Some}
+use Rattle.std.specs.Prelude.{◌≡◌, ℕ, ◌<◌, List, Option, Some, slice_get}
 use Rattle.sw_base.specs.declared.path.Step.{Step}
 use Rattle.sw_base.specs.Environment.{Content, WhereTold}
 use Rattle.log_format.specs.declared.format.TheConstants.{FORMAT}
@@ -21,14 +21,13 @@ pub record IsReplayable (program : Program) : Type 0 where
   pub bounded : IsBounded program
   pub alone : program.main.span ≡ 1
 
--- The tasks before this one, in the order of their rows, are traced. It starts where they fork it, and its log differs from its
--- trace first at the record of this number.
+-- Each task before this one, in the order of the rows, is traced. This one starts where a task forks it, and its log differs from
+-- its trace first at the record of this number.
 pub record DiffersFirst (program : Program) (tasks : Trace) (path : List Step) (number : ℕ) : Type 0 where
-  pub earlier : Trace
+  pub index : ℕ
   pub task : TaskLog
-  pub later : Trace
-  pub tasks_are : tasks ≡ earlier ++ task ∷ later
-  pub traced : All (IsTracedTask program (logs_of tasks)) earlier
+  pub listed : slice_get tasks index ≡ Some task
+  pub earlier : (k : ℕ) (other : TaskLog) → k < index → slice_get tasks k ≡ Some other → IsTracedTask program (logs_of tasks) other
   pub path_is : task.path ≡ path
   pub start : Start
   pub starts : start_at program (logs_of tasks) path ≡ Some start

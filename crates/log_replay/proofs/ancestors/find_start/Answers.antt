@@ -1,4 +1,4 @@
-use Rattle.std.proofs.Common.{◌≡◌, ◌≤◌, List, length, Option, Some, None, ap, sym, ◌∙◌, arith, refl}
+use Rattle.std.proofs.Common.{◌≡◌, ◌≤◌, List, length, Some, ap, sym, ◌∙◌, arith, refl}
 use Rattle.std.specs.Prelude.{map, option_map, slice_get}
 use Rattle.std.specs.Global.{Vec}
 use Rattle.std.proofs.lemmas.Option.{slice_get-map, slice_get_read, slice_get_past}
