@@ -218,9 +218,9 @@ module _ (program : Program) (tasks : Trace) (rules : KeepsRules FORMAT tasks) w
         traced k other less there = elim (less_or_same k index (omega arith)) [
           | inl earlier ↦ compared.traced k other earlier there
           | inr same ↦
-            let one : task ≡ other = same_Some task other (sym found ∙ ap (λ (n : ℕ). slice_get tasks n) (sym same) ∙ there) in
-            subst (λ (t : TaskLog). IsTracedTask program logs t) one
-            (record { start = goes.start; starts = goes.starts; traced = subst (λ (rs : List Record). IsTraced program goes.start rs) own goes.traced })
+              let one : task ≡ other = same_Some task other (sym found ∙ ap (λ (n : ℕ). slice_get tasks n) (sym same) ∙ there) in
+              subst (λ (t : TaskLog). IsTracedTask program logs t) one
+              (record { start = goes.start; starts = goes.starts; traced = subst (λ (rs : List Record). IsTraced program goes.start rs) own goes.traced })
         ]
 
         long : (p : List Step) → KeepsAllForks program logs kept p → length p ≤ length kept
@@ -241,27 +241,27 @@ module _ (program : Program) (tasks : Trace) (rules : KeepsRules FORMAT tasks) w
             subst (λ (p : List Step). KeepsForks program logs new p depth) prefix
             (elim (less_or_same depth (length task.path) (let w = shape.within in omega (arith, low, w))) [
               | inl less ↦
-                let k = compared.keeps task found depth less in
-                record {
-                  start = k.start;
-                  starts = k.starts;
-                  traced = k.traced;
-                  forks =
-                      ap (λ (l : List (List Fork)). slice_get l depth) goes.kept
-                      ∙ push_before kept (own_trace program goes.start (logs task.path)).forks (own_trace program k.start (logs (take depth task.path))).forks (length task.path) depth less k.forks;
-                }
+                  let k = compared.keeps task found depth less in
+                  record {
+                    start = k.start;
+                    starts = k.starts;
+                    traced = k.traced;
+                    forks =
+                        ap (λ (l : List (List Fork)). slice_get l depth) goes.kept
+                        ∙ push_before kept (own_trace program goes.start (logs task.path)).forks (own_trace program k.start (logs (take depth task.path))).forks (length task.path) depth less k.forks;
+                  }
               | inr same ↦
-                let whole : take depth task.path ≡ task.path = ap (λ (n : ℕ). take n task.path) same ∙ take_all (length task.path) task.path (omega arith) in
-                subst (λ (p : List Step). KeepsForks program logs new p depth) (sym whole)
-                (record {
-                  start = goes.start;
-                  starts = goes.starts;
-                  traced = goes.traced;
-                  forks =
-                      ap (λ (l : List (List Fork)). slice_get l depth) goes.kept
-                      ∙ ap (λ (n : ℕ). slice_get (take (length task.path) kept ++ (own_trace program goes.start (logs task.path)).forks ∷ []) n) same
-                      ∙ push_here kept (own_trace program goes.start (logs task.path)).forks (length task.path) (long task.path (compared.keeps task found));
-                })
+                  let whole : take depth task.path ≡ task.path = ap (λ (n : ℕ). take n task.path) same ∙ take_all (length task.path) task.path (omega arith) in
+                  subst (λ (p : List Step). KeepsForks program logs new p depth) (sym whole)
+                  (record {
+                    start = goes.start;
+                    starts = goes.starts;
+                    traced = goes.traced;
+                    forks =
+                        ap (λ (l : List (List Fork)). slice_get l depth) goes.kept
+                        ∙ ap (λ (n : ℕ). slice_get (take (length task.path) kept ++ (own_trace program goes.start (logs task.path)).forks ∷ []) n) same
+                        ∙ push_here kept (own_trace program goes.start (logs task.path)).forks (length task.path) (long task.path (compared.keeps task found));
+                  })
             ])
 
     -- the first task that isn't traced

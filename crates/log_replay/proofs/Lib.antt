@@ -8,3 +8,4 @@ pub mod Bounded
 pub mod Tasks
 pub mod Kept
 pub mod AllTasks
+pub mod DiffersOnce

@@ -10,6 +10,7 @@ mod body;
 mod comparing;
 mod forked;
 mod lane;
+mod laws;
 mod place;
 mod replaying;
 mod stray;
@@ -17,6 +18,7 @@ mod value;
 
 pub use comparing::follow;
 pub use forked::Forked;
+pub use laws::{first_record_that_differs_is_unique, tasks_that_differ_are_no_run};
 pub use replaying::{Replayed, replay};
 pub use stray::Stray;
 
