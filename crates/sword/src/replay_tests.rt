@@ -131,42 +131,38 @@ const fn end(line: u32) -> Rec {
     (8, 0, line, 0, 0)
 }
 
-const fn chunk(number: u64) -> Rec {
-    (7, 0, 3, number, 3)
-}
-
 const MET: Rec = (5, 0, 3, 0, 0);
 
 // What a lane does that draws chunk 0, 1 or 2 of ten iterations, and then none.
 const FIRST_CHUNK: &[Rec] = &[
-    chunk(0),
-    store(3, 4096, 0),
-    store(3, 4104, 1),
-    store(3, 4112, 2),
-    store(3, 4120, 3),
-    chunk(3),
+    (7, 0, 3, 0, 3),
+    (2, 8, 3, 4096, 0),
+    (2, 8, 3, 4104, 1),
+    (2, 8, 3, 4112, 2),
+    (2, 8, 3, 4120, 3),
+    (7, 0, 3, 3, 3),
     MET,
-    end(4),
+    (8, 0, 4, 0, 0),
 ];
 
 const SECOND_CHUNK: &[Rec] = &[
-    chunk(1),
-    store(3, 4128, 4),
-    store(3, 4136, 5),
-    store(3, 4144, 6),
-    store(3, 4152, 7),
-    chunk(3),
+    (7, 0, 3, 1, 3),
+    (2, 8, 3, 4128, 4),
+    (2, 8, 3, 4136, 5),
+    (2, 8, 3, 4144, 6),
+    (2, 8, 3, 4152, 7),
+    (7, 0, 3, 3, 3),
     MET,
-    end(4),
+    (8, 0, 4, 0, 0),
 ];
 
 const THIRD_CHUNK: &[Rec] = &[
-    chunk(2),
-    store(3, 4160, 8),
-    store(3, 4168, 9),
-    chunk(3),
+    (7, 0, 3, 2, 3),
+    (2, 8, 3, 4160, 8),
+    (2, 8, 3, 4168, 9),
+    (7, 0, 3, 3, 3),
     MET,
-    end(4),
+    (8, 0, 4, 0, 0),
 ];
 
 #[test]
