@@ -6,3 +6,6 @@ pub mod Statements
 pub mod Draws
 pub mod Bounded
 pub mod Tasks
+pub mod Kept
+pub mod AllTasks
+pub mod DiffersOnce

@@ -3,7 +3,7 @@ use Rattle.log_format.specs.declared.format.TheConstants.{FORMAT}
 use Rattle.race_model.specs.Trace.{Trace}
 use Rattle.log_walk.specs.Sweep.{HasRefused, HasSwept, logs_left}
 use Rattle.log_walk.specs.declared.fault.WalkFault.{WalkFault}
-use Rattle.sword.proofs.showing.swept.Given as goal
+use Rattle.log_walk.proofs.swept.sweep_all.Given as goal
 
 abbrev pub invariant-regions : goal.invariant-regions
 invariant-regions g l = record {

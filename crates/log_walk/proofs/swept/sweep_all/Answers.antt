@@ -4,7 +4,7 @@ use Rattle.log_format.specs.declared.format.TheConstants.{FORMAT}
 use Rattle.sw_base.specs.Environment.{Content}
 use Rattle.log_walk.specs.Sweep.{HasSwept, HasSweptAll}
 use Rattle.log_walk.specs.declared.sweep.Sweep.{Sweep}
-use Rattle.sword.proofs.showing.swept.Goals as goal
+use Rattle.log_walk.proofs.swept.sweep_all.Goals as goal
 
 pub regions-init : goal.regions-init
 regions-init g c = record {
