@@ -9,3 +9,4 @@ pub mod Tasks
 pub mod Kept
 pub mod AllTasks
 pub mod DiffersOnce
+pub mod Spans

@@ -1,7 +1,6 @@
 -- Paths of a listing ascend, so each is listed once, and a trace's logs are found at its tasks.
 use Rattle.std.proofs.Common.{◌≡◌, ◌⊎◌, inl, inr, ℕ, zero, suc, ◌<◌, ◌≤◌, Bool, true, false, List, [], ◌∷◌, ◌++◌, length, take, Some, refl, sym, ap, subst, ◌∙◌, arith}
 use Rattle.std.specs.Prelude.{slice_get, map}
-use Rattle.std.specs.List.{AllByRecursion, IsDistinct}
 use Rattle.std.specs.Cmp.{IsTotalOrder, nat_cmp_is}
 use Rattle.std.specs.Ordering.{nat_cmp, ordering_then}
 use Rattle.std.specs.declared.cmp.Ordering.{Ordering}
@@ -13,7 +12,7 @@ use Rattle.sw_base.specs.Names.{path_cmp, step_cmp}
 use Rattle.sw_base.specs.PathOrder.{path_cmp_total, step_cmp_total}
 use Rattle.race_model.specs.Listing.{IsListing, IsNextPath, IsNextLane, IsNextRegion}
 use Rattle.race_model.specs.Trace.{TaskLog, Trace, logs_of, path_eq}
-use Rattle.race_model.proofs.Listings.{IsChain, lists_begins, lists_some, chain_of_begins, begins_at_root}
+use Rattle.race_model.proofs.Listings.{IsChain, lists_begins, chain_of_begins, begins_at_root}
 use Rattle.race_model.proofs.TraceLogs.{path_is, path_itself}
 
 -- the next path is a prefix of this one, and a step
@@ -133,27 +132,3 @@ next_path (p ∷ paths) lists k one next a b =
     let root : p ≡ [] = begins_at_root p paths (lists_begins (p ∷ paths) lists) in
     chain_at [] paths (chain_of_begins paths (lists_begins ([] ∷ paths) (subst (λ (q : List Step). IsListing (q ∷ paths)) root lists))) k one next
     (subst (λ (q : List Step). slice_get (q ∷ paths) k ≡ Some one) root a) b
-
--- each path is listed once
-apart : (path : List Step) (paths : List (List Step)) → ((k : ℕ) (later : List Step) → slice_get paths k ≡ Some later → path ≡ later → ⊥) → AllByRecursion (λ (p : List Step). path_eq path p ≡ false) paths
-apart path [] never = tt
-apart path (p ∷ paths) never = (at (path_eq path p) refl, apart path paths (λ k later found. never (suc k) later found))
-  where
-    at : (b : Bool) → path_eq path p ≡ b → path_eq path p ≡ false
-    at true same = absurd (never 0 p refl (path_is path p same))
-    at false same = same
-
-chain_once : (path : List Step) (paths : List (List Step)) → IsChain path paths → IsDistinct path_eq (path ∷ paths)
-unfolding IsDistinct
-chain_once path [] chain = (tt, tt)
-chain_once path (next ∷ paths) chain = (
-  apart path (next ∷ paths) (λ k later found. differ path later (chain_less path (next ∷ paths) chain k later found)),
-  chain_once next paths chain.1,
-)
-
-pub listed_once : (paths : List (List Step)) → IsListing paths → IsDistinct path_eq paths
-listed_once [] lists = absurd (lists_some lists)
-listed_once (p ∷ paths) lists =
-    let root : p ≡ [] = begins_at_root p paths (lists_begins (p ∷ paths) lists) in
-    subst (λ (q : List Step). IsDistinct path_eq (q ∷ paths)) (sym root)
-    (chain_once [] paths (chain_of_begins paths (lists_begins ([] ∷ paths) (subst (λ (q : List Step). IsListing (q ∷ paths)) root lists))))
