@@ -1,5 +1,6 @@
 #!/usr/bin/env python3
-"""Measures the program: a check of a large folder, and runs of a kernel of a million stores with a small and a large buffer.
+"""Measures the program: a check of a large folder, runs of a kernel of a million stores with a small and a large buffer, and the replay
+of such a run.
 
 usage: measure.py, at the top of the repository, after `./sword` was built
 """
@@ -9,6 +10,7 @@ import sys
 import tempfile
 import time
 
+PROGRAM = os.path.join("crates", "sword", "out", "sword")
 STORES = 1_000_000
 KERNEL = f"array a i64 {STORES} main {{ parallel 1 {{ for i in 0 .. {STORES} {{ a[i] = i }} }} }}\n"
 
@@ -33,13 +35,15 @@ def main():
     with tempfile.TemporaryDirectory() as place:
         folder = os.path.join(place, "generated")
         subprocess.run([sys.executable, os.path.join("bench", "generate.py"), folder, "12500"], check=True)
-        tell("check of 9 logs, 200,001 accesses", ["./sword", "check", folder, "4"], 200_001, "accesses")
+        tell("check of 9 logs, 200,001 accesses", [PROGRAM, "check", folder, "4"], 200_001, "accesses")
         kernel = os.path.join(place, "stores.kernel")
         with open(kernel, "w") as out:
             out.write(KERNEL)
         for size in ("24", "4096", "4194304"):
-            words = ["./sword", "run", kernel, os.path.join(place, "logs" + size), size]
+            words = [PROGRAM, "run", kernel, os.path.join(place, "logs" + size), size]
             tell(f"run of {STORES:,} stores, buffers of {size} bytes", words, STORES, "records")
+        words = [PROGRAM, "replay", kernel, os.path.join(place, "logs4096")]
+        tell(f"replay of {STORES:,} stores", words, STORES, "records")
 
 
 main()

@@ -1,13 +1,23 @@
 -- Printing a due text gives the answer.
-use Rattle.std.proofs.Common.{◌≡◌, ℕ, List, Option, sym, subst}
+use Rattle.std.proofs.Common.{◌≡◌, ℕ, List, Option, inr, sym, subst}
+use Rattle.std.specs.Prelude.{Result, Ok, Err, IfOk, OnErr, String, string_bytes}
+use Rattle.std.specs.declared.alloc.Global.{Global}
 use Rattle.sw_base.specs.Environment.{GainsPrefix}
 use Rattle.sw_base.proofs.Gains.{GainsPrefix-same}
+use Rattle.command_answer.specs.declared.status.TheConstants.{NO_MEMORY}
 use Rattle.command_answer.specs.Answer.{Answers, given, failed, Tries, done, broken_off, silent, Prints, whole, part}
 
 pub Tries-from_prints : (due : ℕ → List ℕ → Type 0) (status : ℕ) (text : List ℕ) (old new : Option (List ℕ)) (result : ℕ) → due status text → Prints status text old new result
     → Tries due old new result
 Tries-from_prints due status text old new result is_due (whole same all) = done text (subst (λ (s : ℕ). due s text) (sym same) is_due) all
 Tries-from_prints due status text old new result is_due (part failure prefix) = broken_off failure status text is_due prefix
+
+-- and so does printing it where memory was found for it
+pub Tries-from_made : {E : Type 0} (due : ℕ → List ℕ → Type 0) (made : Result (String Global) E) (status : ℕ) (text : List ℕ) (old new : Option (List ℕ)) (result : ℕ) → due status text
+    → IfOk made (λ t. string_bytes t ≡ text) → IfOk made (λ t. Prints status (string_bytes t) old new result) → OnErr made ((result ≡ NO_MEMORY) × (new ≡ old)) → Tries due old new result
+Tries-from_made due (Ok t) status text old new result is_due is prints none =
+    Tries-from_prints due status text old new result is_due (subst (λ (bytes : List ℕ). Prints status bytes old new result) is prints)
+Tries-from_made due (Err e) status text old new result is_due is prints none = silent (inr (inr none.0)) none.1
 
 -- an answer for one thing that is due is an answer for all that are
 pub Tries-weaker : (due more : ℕ → List ℕ → Type 0) (old new : Option (List ℕ)) (result : ℕ) → ((status : ℕ) (text : List ℕ) → due status text → more status text)

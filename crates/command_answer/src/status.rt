@@ -6,6 +6,9 @@ pub const DONE: u8 = 0;
 /// Races were printed.
 pub const RACES: u8 = 1;
 
+/// The logs aren't those of the kernel.
+pub const DIFFERS: u8 = 1;
+
 /// The words ask for nothing.
 pub const USAGE: u8 = 2;
 

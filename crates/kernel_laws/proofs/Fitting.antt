@@ -1,5 +1,5 @@
 -- The numbers of a resolved program fit 64 bits where those of its text do.
-use Rattle.std.proofs.Common.{ℕ, ◌+◌, true, false, List, [], ◌∷◌, ◌++◌, ℤ, pos, negsuc, FitsSigned, w64, arith}
+use Rattle.std.proofs.Common.{ℕ, ◌+◌, true, false, [], ◌∷◌, ◌++◌, ℤ, pos, negsuc, FitsSigned, w64}
 use Rattle.std.proofs.lemmas.Int.{fits_signed_from_abs}
 use Rattle.kernel_text.specs.declared.token.Word.TheVariants as word
 use Rattle.kernel_text.specs.declared.token.Sign.TheVariants as sign

@@ -7,6 +7,8 @@ pub mod Fitting
 pub mod Weights
 pub mod Scoping
 pub mod Lawfulness
+pub mod Lookaheads
+pub mod OneExpression
 pub mod Trees
 pub mod Stages
 pub mod OneAnswer

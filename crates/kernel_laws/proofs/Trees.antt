@@ -1,30 +1,26 @@
 -- The tokens of a kernel are those of one tree by the grammar.
-use Rattle.std.proofs.Common.{◌≡◌, ℕ, Bool, true, false, List, [], ◌∷◌, ◌++◌, drop, Option, Some, None, refl, sym, ap, subst, ◌∙◌, append_assoc}
+use Rattle.std.proofs.Common.{◌≡◌, ℕ, Bool, true, false, List, [], ◌∷◌, ◌++◌, drop, Option, Some, None, refl, sym, ap, ◌∙◌, append_assoc}
 use Rattle.std.specs.Prelude.{ℤ, ◌-◌}
 use Rattle.kernel_text.specs.declared.token.Word.TheVariants as word
 use Rattle.kernel_text.specs.declared.token.Sign.TheVariants as sign
 use Rattle.kernel_text.specs.declared.token.Lexeme.TheVariants.{Named, Number}
 use Rattle.kernel_text.specs.declared.token.Token.{Token}
 use Rattle.kernel_text.specs.Grammar.{Tree, tree_tokens, Derives, expr, IsFlat, mark, reserved, block, ScheduleTree, Unsaid, Static, StaticBy, Dynamic, DynamicBy, schedule_tokens, nowait_tokens, Stmts, NoMore, Let, Assign, Store, If, IfElse, Loop, Parallel, For, Barrier, Critical, CriticalOf, stmts_tokens, StmtsDerive, AreShallow, Declaration, ArrayOf, MutexOf, declarations_tokens, KernelTree, kernel_tokens, IsKernel, IsShallow}
-use Rattle.kernel_parser.specs.declared.lookahead.Lead.{Lead}
 use Rattle.kernel_parser.specs.declared.lookahead.Lead.TheVariants as lead
-use Rattle.kernel_parser.specs.Machine.{expression_from}
-use Rattle.kernel_parser.specs.Parsing.{IsExpression, lead_of, lead_of_stmts, inside, is_else, line_of, number_of, is_number, is_static, is_dynamic, is_nowait}
-use Rattle.kernel_parser.proofs.Completing.{expression-is, expression-same}
-use Rattle.kernel_parser.proofs.Heading.{follows-inside, follows-schedule, no-else, before-stmts, block-opens, body-opens, View, IsEnd, IsLet, IsAssign, IsStore, IsIf, IsIfElse, IsLoop, IsParallel, IsFor, IsBarrier, IsCritical, IsCriticalOf, seen, heads-is}
+use Rattle.kernel_parser.specs.Parsing.{IsExpression, inside}
+use Rattle.kernel_parser.proofs.Signs.{heads-is, begins-with, stops-at}
+use Rattle.kernel_laws.proofs.Lookaheads.{line_of, number_of, is_number, is_static, is_dynamic, is_nowait, lead-same}
+use Rattle.kernel_laws.proofs.OneExpression.{one-expression}
+use Rattle.kernel_parser.proofs.Heading.{follows-schedule, no-else, before-stmts, block-opens, body-opens, View, IsEnd, IsLet, IsAssign, IsStore, IsIf, IsIfElse, IsLoop, IsParallel, IsFor, IsBarrier, IsCritical, IsCriticalOf, seen}
 
 -- statements with these tokens, the brace behind them, and the tokens behind it
 abbrev AreOnly : Stmts → Type 0
 AreOnly b = (c : Stmts) (n m end last : ℕ) (tail after : List Token) → inside b end tail ≡ inside c last after → StmtsDerive b → StmtsDerive c → AreShallow n b → AreShallow m c → (b ≡ c) × (end ≡ last) × (tail ≡ after)
 
--- one expression stands at the beginning of tokens
-one-expression : (ts us : List Token) (t u : Tree) (after behind : List Token) → ts ≡ us → IsExpression ts t after → IsExpression us u behind → (t ≡ u) × (after ≡ behind)
-one-expression ts us t u after behind e first second = expression-same us u behind t after second (ap (expression_from None []) (sym e) ∙ expression-is ts t after first)
-
 only-let : (line name_line : ℕ) (name : List ℕ) (sign_line : ℕ) (value : Tree) (rest : Stmts) → AreOnly rest → AreOnly (Let line name_line name sign_line value rest)
-only-let line name_line name sign_line value rest more c n m end last tail after e d g s h = same c (seen lead.Let c last after _ _ refl e) e g h
+only-let line name_line name sign_line value rest more c n m end last tail after e d g s h = same c (seen (Some lead.Let) c (lead-same (Let line name_line name sign_line value rest) c end last tail after e)) e g h
   where
-    same : (c : Stmts) → View lead.Let c → inside (Let line name_line name sign_line value rest) end tail ≡ inside c last after → StmtsDerive c → AreShallow m c
+    same : (c : Stmts) → View (Some lead.Let) c → inside (Let line name_line name sign_line value rest) end tail ≡ inside c last after → StmtsDerive c → AreShallow m c
         → (Let line name_line name sign_line value rest ≡ c) × (end ≡ last) × (tail ≡ after)
     same _ (IsLet line2 name_line2 name2 sign_line2 value2 rest2) e g h =
         let a = heads-is _ _ _ _ e in
@@ -34,15 +30,15 @@ only-let line name_line name sign_line value rest more c n m end last tail after
         let r = more rest2 n m end last tail after v.1 d.1 g.1 s.1 h.1 in (cc, r.1, r.2)
 
 only-end : AreOnly NoMore
-only-end c n m end last tail after e d g s h = same c (seen lead.End c last after _ _ refl e) e
+only-end c n m end last tail after e d g s h = same c (seen None c (lead-same NoMore c end last tail after e)) e
   where
-    same : (c : Stmts) → View lead.End c → inside NoMore end tail ≡ inside c last after → (NoMore ≡ c) × (end ≡ last) × (tail ≡ after)
+    same : (c : Stmts) → View None c → inside NoMore end tail ≡ inside c last after → (NoMore ≡ c) × (end ≡ last) × (tail ≡ after)
     same _ IsEnd e = let a = heads-is _ _ _ _ e in (refl, a.0, a.2)
 
 only-assign : (line : ℕ) (name : List ℕ) (sign_line : ℕ) (value : Tree) (rest : Stmts) → AreOnly rest → AreOnly (Assign line name sign_line value rest)
-only-assign line name sign_line value rest more c n m end last tail after e d g s h = same c (seen lead.Assign c last after _ _ refl e) e g h
+only-assign line name sign_line value rest more c n m end last tail after e d g s h = same c (seen (Some lead.Assign) c (lead-same (Assign line name sign_line value rest) c end last tail after e)) e g h
   where
-    same : (c : Stmts) → View lead.Assign c → inside (Assign line name sign_line value rest) end tail ≡ inside c last after → StmtsDerive c → AreShallow m c
+    same : (c : Stmts) → View (Some lead.Assign) c → inside (Assign line name sign_line value rest) end tail ≡ inside c last after → StmtsDerive c → AreShallow m c
         → (Assign line name sign_line value rest ≡ c) × (end ≡ last) × (tail ≡ after)
     same _ (IsAssign line2 name2 sign_line2 value2 rest2) e g h =
         let a = heads-is _ _ _ _ e in
@@ -51,9 +47,9 @@ only-assign line name sign_line value rest more c n m end last tail after e d g 
         let r = more rest2 n m end last tail after v.1 d.1 g.1 s.1 h.1 in (cc, r.1, r.2)
 
 only-barrier : (line : ℕ) (rest : Stmts) → AreOnly rest → AreOnly (Barrier line rest)
-only-barrier line rest more c n m end last tail after e d g s h = same c (seen lead.Barrier c last after _ _ refl e) e g h
+only-barrier line rest more c n m end last tail after e d g s h = same c (seen (Some lead.Barrier) c (lead-same (Barrier line rest) c end last tail after e)) e g h
   where
-    same : (c : Stmts) → View lead.Barrier c → inside (Barrier line rest) end tail ≡ inside c last after → StmtsDerive c → AreShallow m c → (Barrier line rest ≡ c) × (end ≡ last) × (tail ≡ after)
+    same : (c : Stmts) → View (Some lead.Barrier) c → inside (Barrier line rest) end tail ≡ inside c last after → StmtsDerive c → AreShallow m c → (Barrier line rest ≡ c) × (end ≡ last) × (tail ≡ after)
     same _ (IsBarrier line2 rest2) e g h =
         let a = heads-is _ _ _ _ e in
         let r = more rest2 n m end last tail after a.2 d g s h in (cc, r.1, r.2)
@@ -66,9 +62,9 @@ one-block opened opened2 body body2 closed closed2 behind behind2 n m only e d g
     let a = heads-is _ _ _ _ e in let r = only body2 n m closed closed2 behind behind2 a.2 d g s h in (a.0, r.0, r.1, r.2)
 
 only-parallel : (line number_line : ℕ) (span : ℤ) (opened : ℕ) (body : Stmts) (closed : ℕ) (rest : Stmts) → AreOnly body → AreOnly rest → AreOnly (Parallel line number_line span opened body closed rest)
-only-parallel line number_line span opened body closed rest only more c n m end last tail after e d g s h = same c (seen lead.Parallel c last after _ _ refl e) e g h
+only-parallel line number_line span opened body closed rest only more c n m end last tail after e d g s h = same c (seen (Some lead.Parallel) c (lead-same (Parallel line number_line span opened body closed rest) c end last tail after e)) e g h
   where
-    same : (c : Stmts) → View lead.Parallel c → inside (Parallel line number_line span opened body closed rest) end tail ≡ inside c last after → StmtsDerive c → AreShallow m c
+    same : (c : Stmts) → View (Some lead.Parallel) c → inside (Parallel line number_line span opened body closed rest) end tail ≡ inside c last after → StmtsDerive c → AreShallow m c
         → (Parallel line number_line span opened body closed rest ≡ c) × (end ≡ last) × (tail ≡ after)
     same _ (IsParallel line2 number_line2 span2 opened2 body2 closed2 rest2) e g h =
         let a = heads-is _ _ _ _ e in
@@ -77,9 +73,9 @@ only-parallel line number_line span opened body closed rest only more c n m end 
         let r = more rest2 n m end last tail after k.3 d.1 g.1 s.2 h.2 in (cc, r.1, r.2)
 
 only-critical : (line opened : ℕ) (body : Stmts) (closed : ℕ) (rest : Stmts) → AreOnly body → AreOnly rest → AreOnly (Critical line opened body closed rest)
-only-critical line opened body closed rest only more c n m end last tail after e d g s h = same c (seen lead.Critical c last after _ _ refl e) e g h
+only-critical line opened body closed rest only more c n m end last tail after e d g s h = same c (seen (Some lead.Critical) c (lead-same (Critical line opened body closed rest) c end last tail after e)) e g h
   where
-    same : (c : Stmts) → View lead.Critical c → inside (Critical line opened body closed rest) end tail ≡ inside c last after → StmtsDerive c → AreShallow m c
+    same : (c : Stmts) → View (Some lead.Critical) c → inside (Critical line opened body closed rest) end tail ≡ inside c last after → StmtsDerive c → AreShallow m c
         → (Critical line opened body closed rest ≡ c) × (end ≡ last) × (tail ≡ after)
     same _ (IsCritical line2 opened2 body2 closed2 rest2) e g h =
         let a = heads-is _ _ _ _ e in
@@ -91,9 +87,9 @@ only-critical line opened body closed rest only more c n m end last tail after e
         let l = b.1 in absurd cc
 
 only-critical-of : (line name_line : ℕ) (name : List ℕ) (opened : ℕ) (body : Stmts) (closed : ℕ) (rest : Stmts) → AreOnly body → AreOnly rest → AreOnly (CriticalOf line name_line name opened body closed rest)
-only-critical-of line name_line name opened body closed rest only more c n m end last tail after e d g s h = same c (seen lead.Critical c last after _ _ refl e) e g h
+only-critical-of line name_line name opened body closed rest only more c n m end last tail after e d g s h = same c (seen (Some lead.Critical) c (lead-same (CriticalOf line name_line name opened body closed rest) c end last tail after e)) e g h
   where
-    same : (c : Stmts) → View lead.Critical c → inside (CriticalOf line name_line name opened body closed rest) end tail ≡ inside c last after → StmtsDerive c → AreShallow m c
+    same : (c : Stmts) → View (Some lead.Critical) c → inside (CriticalOf line name_line name opened body closed rest) end tail ≡ inside c last after → StmtsDerive c → AreShallow m c
         → (CriticalOf line name_line name opened body closed rest ≡ c) × (end ≡ last) × (tail ≡ after)
     same _ (IsCritical line2 opened2 body2 closed2 rest2) e g h =
         let a = heads-is _ _ _ _ e in
@@ -110,12 +106,12 @@ only-critical-of line name_line name opened body closed rest only more c n m end
 index-first : (index : Tree) (closed sign_line : ℕ) (value : Tree) (b : Stmts) (end : ℕ) (tail : List Token) → Derives expr index → IsFlat index
     → IsExpression ((tree_tokens index ++ (mark closed sign.CloseBracket ∷ mark sign_line sign.Assign ∷ tree_tokens value ++ stmts_tokens b)) ++ mark end sign.CloseBrace ∷ tail) index
     (mark closed sign.CloseBracket ∷ mark sign_line sign.Assign ∷ (tree_tokens value ++ stmts_tokens b) ++ mark end sign.CloseBrace ∷ tail)
-index-first index closed sign_line value b end tail d f = record { parts = append_assoc (tree_tokens index) _ _; derives = d; flat = f; ends = tt }
+index-first index closed sign_line value b end tail d f = record { parts = append_assoc (tree_tokens index) _ _; derives = d; flat = f; ends = stops-at expr _ (refl, refl) }
 
 only-store : (line : ℕ) (name : List ℕ) (opened : ℕ) (index : Tree) (closed sign_line : ℕ) (value : Tree) (rest : Stmts) → AreOnly rest → AreOnly (Store line name opened index closed sign_line value rest)
-only-store line name opened index closed sign_line value rest more c n m end last tail after e d g s h = same c (seen lead.Store c last after _ _ refl e) e g h
+only-store line name opened index closed sign_line value rest more c n m end last tail after e d g s h = same c (seen (Some lead.Store) c (lead-same (Store line name opened index closed sign_line value rest) c end last tail after e)) e g h
   where
-    same : (c : Stmts) → View lead.Store c → inside (Store line name opened index closed sign_line value rest) end tail ≡ inside c last after → StmtsDerive c → AreShallow m c
+    same : (c : Stmts) → View (Some lead.Store) c → inside (Store line name opened index closed sign_line value rest) end tail ≡ inside c last after → StmtsDerive c → AreShallow m c
         → (Store line name opened index closed sign_line value rest ≡ c) × (end ≡ last) × (tail ≡ after)
     same _ (IsStore line2 name2 opened2 index2 closed2 sign_line2 value2 rest2) e g h =
         let a = heads-is _ _ _ _ e in
@@ -130,7 +126,7 @@ only-store line name opened index closed sign_line value rest more c n m end las
 before-block : (test : Tree) (opened : ℕ) (body : Stmts) (closed : ℕ) (b : Stmts) (end : ℕ) (tail : List Token) → Derives expr test → IsFlat test
     → IsExpression ((tree_tokens test ++ (block opened (stmts_tokens body) closed ++ stmts_tokens b)) ++ mark end sign.CloseBrace ∷ tail) test (mark opened sign.OpenBrace ∷ inside body closed (inside b end tail))
 before-block test opened body closed b end tail d f =
-    record { parts = append_assoc (tree_tokens test) (block opened (stmts_tokens body) closed ++ stmts_tokens b) _ ∙ ap (λ (us : List Token). tree_tokens test ++ us) (body-opens opened body closed b end tail); derives = d; flat = f; ends = tt }
+    record { parts = append_assoc (tree_tokens test) (block opened (stmts_tokens body) closed ++ stmts_tokens b) _ ∙ ap (λ (us : List Token). tree_tokens test ++ us) (body-opens opened body closed b end tail); derives = d; flat = f; ends = stops-at expr _ (refl, refl) }
 
 else-opens : (opened : ℕ) (if_true : Stmts) (closed else_line else_opened : ℕ) (if_false : Stmts) (else_closed : ℕ) (b : Stmts) (end : ℕ) (tail : List Token)
     → (block opened (stmts_tokens if_true) closed ++ (reserved else_line word.Else ∷ block else_opened (stmts_tokens if_false) else_closed ++ stmts_tokens b)) ++ mark end sign.CloseBrace ∷ tail
@@ -144,15 +140,15 @@ before-else : (test : Tree) (opened : ℕ) (if_true : Stmts) (closed else_line e
     → IsExpression ((tree_tokens test ++ (block opened (stmts_tokens if_true) closed ++ (reserved else_line word.Else ∷ block else_opened (stmts_tokens if_false) else_closed ++ stmts_tokens b))) ++ mark end sign.CloseBrace ∷ tail) test
     (mark opened sign.OpenBrace ∷ inside if_true closed (reserved else_line word.Else ∷ mark else_opened sign.OpenBrace ∷ inside if_false else_closed (inside b end tail)))
 before-else test opened if_true closed else_line else_opened if_false else_closed b end tail d f =
-    record { parts = append_assoc (tree_tokens test) _ _ ∙ ap (λ (us : List Token). tree_tokens test ++ us) (else-opens opened if_true closed else_line else_opened if_false else_closed b end tail); derives = d; flat = f; ends = tt }
+    record { parts = append_assoc (tree_tokens test) _ _ ∙ ap (λ (us : List Token). tree_tokens test ++ us) (else-opens opened if_true closed else_line else_opened if_false else_closed b end tail); derives = d; flat = f; ends = stops-at expr _ (refl, refl) }
 
 no-else-here : (b : Stmts) (end : ℕ) (tail : List Token) (line : ℕ) (ts : List Token) → inside b end tail ≡ reserved line word.Else ∷ ts → ⊥
-no-else-here b end tail line ts e = let one = sym (no-else b end tail) ∙ ap is_else e in absurd cc
+no-else-here b end tail line ts e = no-else b end tail (begins-with (reserved line word.Else) ts _ e)
 
 only-if : (line : ℕ) (test : Tree) (opened : ℕ) (if_true : Stmts) (closed : ℕ) (rest : Stmts) → AreOnly if_true → AreOnly rest → AreOnly (If line test opened if_true closed rest)
-only-if line test opened if_true closed rest only more c n m end last tail after e d g s h = same c (seen lead.If c last after _ _ refl e) e g h
+only-if line test opened if_true closed rest only more c n m end last tail after e d g s h = same c (seen (Some lead.If) c (lead-same (If line test opened if_true closed rest) c end last tail after e)) e g h
   where
-    same : (c : Stmts) → View lead.If c → inside (If line test opened if_true closed rest) end tail ≡ inside c last after → StmtsDerive c → AreShallow m c
+    same : (c : Stmts) → View (Some lead.If) c → inside (If line test opened if_true closed rest) end tail ≡ inside c last after → StmtsDerive c → AreShallow m c
         → (If line test opened if_true closed rest ≡ c) × (end ≡ last) × (tail ≡ after)
     same _ (IsIf line2 test2 opened2 if_true2 closed2 rest2) e g h =
         let a = heads-is _ _ _ _ e in
@@ -168,9 +164,9 @@ only-if line test opened if_true closed rest only more c n m end last tail after
 
 only-if-else : (line : ℕ) (test : Tree) (opened : ℕ) (if_true : Stmts) (closed else_line else_opened : ℕ) (if_false : Stmts) (else_closed : ℕ) (rest : Stmts) → AreOnly if_true → AreOnly if_false → AreOnly rest
     → AreOnly (IfElse line test opened if_true closed else_line else_opened if_false else_closed rest)
-only-if-else line test opened if_true closed else_line else_opened if_false else_closed rest only other more c n m end last tail after e d g s h = same c (seen lead.If c last after _ _ refl e) e g h
+only-if-else line test opened if_true closed else_line else_opened if_false else_closed rest only other more c n m end last tail after e d g s h = same c (seen (Some lead.If) c (lead-same (IfElse line test opened if_true closed else_line else_opened if_false else_closed rest) c end last tail after e)) e g h
   where
-    same : (c : Stmts) → View lead.If c → inside (IfElse line test opened if_true closed else_line else_opened if_false else_closed rest) end tail ≡ inside c last after → StmtsDerive c → AreShallow m c
+    same : (c : Stmts) → View (Some lead.If) c → inside (IfElse line test opened if_true closed else_line else_opened if_false else_closed rest) end tail ≡ inside c last after → StmtsDerive c → AreShallow m c
         → (IfElse line test opened if_true closed else_line else_opened if_false else_closed rest ≡ c) × (end ≡ last) × (tail ≡ after)
     same _ (IsIf line2 test2 opened2 if_true2 closed2 rest2) e g h =
         let a = heads-is _ _ _ _ e in
@@ -191,13 +187,13 @@ only-if-else line test opened if_true closed else_line else_opened if_false else
 range-first : (from : Tree) (dots : ℕ) (to : Tree) (behind more : List Token) → Derives expr from → IsFlat from
     → IsExpression (((tree_tokens from ++ mark dots sign.Dots ∷ tree_tokens to) ++ behind) ++ more) from (mark dots sign.Dots ∷ (tree_tokens to ++ behind) ++ more)
 range-first from dots to behind more d f =
-    record { parts = ap (λ (us : List Token). us ++ more) (append_assoc (tree_tokens from) (mark dots sign.Dots ∷ tree_tokens to) behind) ∙ append_assoc (tree_tokens from) (mark dots sign.Dots ∷ tree_tokens to ++ behind) more; derives = d; flat = f; ends = tt }
+    record { parts = ap (λ (us : List Token). us ++ more) (append_assoc (tree_tokens from) (mark dots sign.Dots ∷ tree_tokens to) behind) ∙ append_assoc (tree_tokens from) (mark dots sign.Dots ∷ tree_tokens to ++ behind) more; derives = d; flat = f; ends = stops-at expr _ (refl, refl) }
 
 only-loop : (line name_line : ℕ) (name : List ℕ) (in_line : ℕ) (from : Tree) (dots : ℕ) (to : Tree) (opened : ℕ) (body : Stmts) (closed : ℕ) (rest : Stmts) → AreOnly body → AreOnly rest
     → AreOnly (Loop line name_line name in_line from dots to opened body closed rest)
-only-loop line name_line name in_line from dots to opened body closed rest only more c n m end last tail after e d g s h = same c (seen lead.Loop c last after _ _ refl e) e g h
+only-loop line name_line name in_line from dots to opened body closed rest only more c n m end last tail after e d g s h = same c (seen (Some lead.Loop) c (lead-same (Loop line name_line name in_line from dots to opened body closed rest) c end last tail after e)) e g h
   where
-    same : (c : Stmts) → View lead.Loop c → inside (Loop line name_line name in_line from dots to opened body closed rest) end tail ≡ inside c last after → StmtsDerive c → AreShallow m c
+    same : (c : Stmts) → View (Some lead.Loop) c → inside (Loop line name_line name in_line from dots to opened body closed rest) end tail ≡ inside c last after → StmtsDerive c → AreShallow m c
         → (Loop line name_line name in_line from dots to opened body closed rest ≡ c) × (end ≡ last) × (tail ≡ after)
     same _ (IsLoop line2 name_line2 name2 in_line2 from2 dots2 to2 opened2 body2 closed2 rest2) e g h =
         let a = heads-is _ _ _ _ e in
@@ -277,9 +273,9 @@ before-schedule to schedule nowait opened body closed b end tail d f =
 
 only-for : (line name_line : ℕ) (name : List ℕ) (in_line : ℕ) (from : Tree) (dots : ℕ) (to : Tree) (schedule : ScheduleTree) (nowait : Option ℕ) (opened : ℕ) (body : Stmts) (closed : ℕ) (rest : Stmts) → AreOnly body → AreOnly rest
     → AreOnly (For line name_line name in_line from dots to schedule nowait opened body closed rest)
-only-for line name_line name in_line from dots to schedule nowait opened body closed rest only more c n m end last tail after e d g s h = same c (seen lead.For c last after _ _ refl e) e g h
+only-for line name_line name in_line from dots to schedule nowait opened body closed rest only more c n m end last tail after e d g s h = same c (seen (Some lead.For) c (lead-same (For line name_line name in_line from dots to schedule nowait opened body closed rest) c end last tail after e)) e g h
   where
-    same : (c : Stmts) → View lead.For c → inside (For line name_line name in_line from dots to schedule nowait opened body closed rest) end tail ≡ inside c last after → StmtsDerive c → AreShallow m c
+    same : (c : Stmts) → View (Some lead.For) c → inside (For line name_line name in_line from dots to schedule nowait opened body closed rest) end tail ≡ inside c last after → StmtsDerive c → AreShallow m c
         → (For line name_line name in_line from dots to schedule nowait opened body closed rest ≡ c) × (end ≡ last) × (tail ≡ after)
     same _ (IsFor line2 name_line2 name2 in_line2 from2 dots2 to2 schedule2 nowait2 opened2 body2 closed2 rest2) e g h =
         let a = heads-is _ _ _ _ e in

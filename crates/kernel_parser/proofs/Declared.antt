@@ -4,7 +4,7 @@ use Rattle.std.specs.Prelude.{map}
 use Rattle.std.proofs.lemmas.List.{map-append}
 use Rattle.kernel_text.specs.declared.token.Word.TheVariants as word
 use Rattle.kernel_text.specs.declared.token.Token.{Token}
-use Rattle.kernel_text.specs.Grammar.{reserved, Declaration, ArrayOf, MutexOf, declaration_tokens, declarations_tokens, Stmts, KernelTree}
+use Rattle.kernel_text.specs.Grammar.{reserved, Declaration, declaration_tokens, declarations_tokens, Stmts, KernelTree}
 use Rattle.kernel_parser.specs.declared.tree.Declaration as code
 use Rattle.kernel_parser.specs.Trees.{declaration_of}
 use Rattle.kernel_parser.specs.Parsing.{IsDeclared}

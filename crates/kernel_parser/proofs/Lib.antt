@@ -1,7 +1,6 @@
 pub mod Equations
-pub mod Roles
-pub mod Stacks
-pub mod Completing
+pub mod Signs
+pub mod Parts
 pub mod Heading
 pub mod Firsts
 pub mod Rests

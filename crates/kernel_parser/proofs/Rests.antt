@@ -1,16 +1,15 @@
 -- Statements and declarations one after the other, as a loop reads them.
-use Rattle.std.proofs.Common.{◌≡◌, ℕ, List, [], ◌∷◌, ◌++◌, Ok, Err, Result, Bor, refl, sym, ap, ◌∙◌}
-use Rattle.kernel_text.specs.declared.token.Sign.TheVariants as sign
+use Rattle.std.proofs.Common.{◌≡◌, ℕ, List, [], ◌∷◌, ◌++◌, None, Ok, Err, Result, Bor, sym, ap, ◌∙◌}
 use Rattle.kernel_text.specs.declared.token.Token.{Token}
-use Rattle.kernel_text.specs.Grammar.{mark, Stmts, NoMore, Let, Assign, Store, If, IfElse, Loop, Parallel, For, Barrier, Critical, CriticalOf, StmtsDerive, AreShallow}
+use Rattle.kernel_text.specs.Grammar.{Stmts, NoMore, Let, Assign, Store, If, IfElse, Loop, Parallel, For, Barrier, Critical, CriticalOf, StmtsDerive, AreShallow}
 use Rattle.kernel_parser.specs.declared.fault.ParseFault.{ParseFault}
 use Rattle.kernel_parser.specs.declared.fault.ParseFault.TheVariants as fault
-use Rattle.kernel_parser.specs.declared.lookahead.Lead.TheVariants as lead
 use Rattle.kernel_parser.specs.declared.tree.Statement.{Statement}
 use Rattle.kernel_parser.specs.Trees.{stmts_before, stmts_of}
-use Rattle.kernel_parser.specs.Parsing.{IsBlock, IsFirst, AreSome, Reads, rest_of, inside, lead_of}
+use Rattle.kernel_parser.specs.Parsing.{IsBlock, IsFirst, Reads, inside, lead_of_stmts}
 use Rattle.kernel_parser.proofs.Equations.{before_push}
-use Rattle.kernel_parser.proofs.Heading.{View, IsEnd, seen, heads-is}
+use Rattle.kernel_parser.proofs.Signs.{heads-is}
+use Rattle.kernel_parser.proofs.Heading.{View, IsEnd, seen}
 
 -- a fault is the same for all that may be due
 pub only-fault : {X Y : Type 0} (IsDue : X → Type 0) (IsOther : Y → Type 0) (f : ParseFault) → Reads (Err f) IsDue → Reads (Err f) IsOther
@@ -33,91 +32,45 @@ pub record IsLeft (opened line : ℕ) (body : Stmts) (closed : ℕ) (after : Lis
 abbrev pub Leaves : List Token → ℕ → List Statement → List Token → Type 0
 Leaves ts line made left = (opened : ℕ) (body : Stmts) (closed : ℕ) (after : List Token) → IsBlock ts opened body closed after → IsLeft opened line body closed after made left
 
-pub rest-derives : (b : Stmts) → StmtsDerive b → StmtsDerive (rest_of b)
-rest-derives NoMore d = d
-rest-derives (Let line name_line name sign_line value rest) d = d.1
-rest-derives (Assign line name sign_line value rest) d = d.1
-rest-derives (Store line name opened index closed sign_line value rest) d = d.2
-rest-derives (If line test opened if_true closed rest) d = d.2
-rest-derives (IfElse line test opened if_true closed else_line else_opened if_false else_closed rest) d = d.3
-rest-derives (Loop line name_line name in_line from dots to opened body closed rest) d = d.3
-rest-derives (Parallel line number_line span opened body closed rest) d = d.1
-rest-derives (For line name_line name in_line from dots to schedule nowait opened body closed rest) d = d.3
-rest-derives (Barrier line rest) d = d
-rest-derives (Critical line opened body closed rest) d = d.1
-rest-derives (CriticalOf line name_line name opened body closed rest) d = d.1
-
-rest-shallow : (n : ℕ) (b : Stmts) → AreShallow n b → AreShallow n (rest_of b)
-rest-shallow n NoMore s = s
-rest-shallow n (Let line name_line name sign_line value rest) s = s.1
-rest-shallow n (Assign line name sign_line value rest) s = s.1
-rest-shallow n (Store line name opened index closed sign_line value rest) s = s.2
-rest-shallow n (If line test opened if_true closed rest) s = s.3
-rest-shallow n (IfElse line test opened if_true closed else_line else_opened if_false else_closed rest) s = s.4
-rest-shallow n (Loop line name_line name in_line from dots to opened body closed rest) s = s.4
-rest-shallow n (Parallel line number_line span opened body closed rest) s = s.2
-rest-shallow n (For line name_line name in_line from dots to schedule nowait opened body closed rest) s = s.4
-rest-shallow n (Barrier line rest) s = s
-rest-shallow n (Critical line opened body closed rest) s = s.2
-rest-shallow n (CriticalOf line name_line name opened body closed rest) s = s.2
-
--- a lead tells whether there is a first
-some-first : (b : Stmts) (end : ℕ) (tail : List Token) (t : Token) (ts : List Token) → (lead_of t.lexeme ts ≡ lead.End → ⊥) → t ∷ ts ≡ inside b end tail → AreSome b
-some-first NoMore end tail t ts more e = let a = heads-is _ _ _ _ e in absurd (more (first-end t ts a.1))
-  where
-    first-end : (t : Token) (ts : List Token) → t.lexeme ≡ (mark end sign.CloseBrace).lexeme → lead_of t.lexeme ts ≡ lead.End
-    first-end t ts is = rw is refl
-some-first (Let line name_line name sign_line value rest) end tail t ts more e = tt
-some-first (Assign line name sign_line value rest) end tail t ts more e = tt
-some-first (Store line name opened index closed sign_line value rest) end tail t ts more e = tt
-some-first (If line test opened if_true closed rest) end tail t ts more e = tt
-some-first (IfElse line test opened if_true closed else_line else_opened if_false else_closed rest) end tail t ts more e = tt
-some-first (Loop line name_line name in_line from dots to opened body closed rest) end tail t ts more e = tt
-some-first (Parallel line number_line span opened body closed rest) end tail t ts more e = tt
-some-first (For line name_line name in_line from dots to schedule nowait opened body closed rest) end tail t ts more e = tt
-some-first (Barrier line rest) end tail t ts more e = tt
-some-first (Critical line opened body closed rest) end tail t ts more e = tt
-some-first (CriticalOf line name_line name opened body closed rest) end tail t ts more e = tt
-
 -- what the first of the statements is read as
 abbrev FirstReads : Token → List Token → Result (Statement × Bor (List Token)) ParseFault → Type 0
-FirstReads t ts r = (b : Stmts) (end : ℕ) (tail : List Token) (n : ℕ) → AreSome b → t ∷ ts ≡ inside b end tail → StmtsDerive b → AreShallow n b → Reads r (λ x. IsFirst b end tail x.0 x.1.now)
+FirstReads t ts r = (b : Stmts) (end : ℕ) (tail : List Token) (n : ℕ) → t ∷ ts ≡ inside b end tail → StmtsDerive b → AreShallow n b → Reads r (λ x. IsFirst n b end tail x.0 x.1.now)
 
 -- the next of them is read, too
-pub left-steps : (all : List Token) (line : ℕ) (made more : List Statement) (ts us : List Token) (t : Token) (x : Statement × Bor (List Token)) → Leaves all line made ts → ts ≡ t ∷ us → (lead_of t.lexeme us ≡ lead.End → ⊥)
+pub left-steps : (all : List Token) (line : ℕ) (made more : List Statement) (ts us : List Token) (t : Token) (x : Statement × Bor (List Token)) → Leaves all line made ts → ts ≡ t ∷ us
     → FirstReads t us (Ok x) → more ≡ made ++ x.0 ∷ [] → Leaves all line more x.1.now
-left-steps all line made more ts us t x leaves split some reads more_is opened body closed after is =
+left-steps all line made more ts us t x leaves split reads more_is opened body closed after is =
     let l = leaves opened body closed after is in
     let e : t ∷ us ≡ inside l.rest closed after = sym split ∙ l.parts in
-    let r = reads l.rest closed after l.levels (some-first l.rest closed after t us some e) e l.derives l.shallow in
+    let r = reads l.rest closed after l.levels e l.derives l.shallow in
     record {
-      rest = rest_of l.rest;
+      rest = r.rest;
       levels = l.levels;
       opens = l.opens;
-      whole = ap (λ (xs : List Statement). stmts_before xs (rest_of l.rest)) more_is ∙ before_push made x.0 (rest_of l.rest) ∙ ap (stmts_before made) r.0 ∙ l.whole;
-      parts = r.1;
-      derives = rest-derives l.rest l.derives;
-      shallow = rest-shallow l.levels l.rest l.shallow;
+      whole = ap (λ (xs : List Statement). stmts_before xs r.rest) more_is ∙ before_push made x.0 r.rest ∙ ap (stmts_before made) r.whole ∙ l.whole;
+      parts = r.parts;
+      derives = r.derives;
+      shallow = r.shallow;
     }
 
 -- no first is refused
-pub left-fails : {X : Type 0} (IsDue : X → Type 0) (all : List Token) (line : ℕ) (made : List Statement) (ts us : List Token) (t : Token) (f : ParseFault) → Leaves all line made ts → ts ≡ t ∷ us → (lead_of t.lexeme us ≡ lead.End → ⊥)
+pub left-fails : {X : Type 0} (IsDue : X → Type 0) (all : List Token) (line : ℕ) (made : List Statement) (ts us : List Token) (t : Token) (f : ParseFault) → Leaves all line made ts → ts ≡ t ∷ us
     → FirstReads t us (Err f) → (opened : ℕ) (body : Stmts) (closed : ℕ) (after : List Token) → IsBlock all opened body closed after → Reads (Err f) IsDue
-left-fails IsDue all line made ts us t fault.NoKernel leaves split some reads opened body closed after is =
+left-fails IsDue all line made ts us t fault.NoKernel leaves split reads opened body closed after is =
     let l = leaves opened body closed after is in
     let e : t ∷ us ≡ inside l.rest closed after = sym split ∙ l.parts in
-    reads l.rest closed after l.levels (some-first l.rest closed after t us some e) e l.derives l.shallow
-left-fails IsDue all line made ts us t fault.Memory leaves split some reads opened body closed after is = tt
+    reads l.rest closed after l.levels e l.derives l.shallow
+left-fails IsDue all line made ts us t fault.Memory leaves split reads opened body closed after is = tt
 
 -- at the brace, all statements were read
-pub left-ends : (all : List Token) (line : ℕ) (made : List Statement) (ts us : List Token) (t : Token) → Leaves all line made ts → ts ≡ t ∷ us → lead_of t.lexeme us ≡ lead.End
+pub left-ends : (all : List Token) (line : ℕ) (made : List Statement) (ts us : List Token) (t : Token) → Leaves all line made ts → ts ≡ t ∷ us → ((b : Stmts) (end : ℕ) (tail : List Token) → t ∷ us ≡ inside b end tail → None ≡ lead_of_stmts b)
     → (opened : ℕ) (body : Stmts) (closed : ℕ) (after : List Token) → IsBlock all opened body closed after → (line ≡ opened) × (stmts_of made ≡ body) × (t.line ≡ closed) × (us ≡ after)
 left-ends all line made ts us t leaves split ended opened body closed after is =
     let l = leaves opened body closed after is in
     let e : t ∷ us ≡ inside l.rest closed after = sym split ∙ l.parts in
-    let r = ends l.rest (seen lead.End l.rest closed after t us ended e) e l.whole in (l.opens, r.0, r.1, r.2)
+    let r = ends l.rest (seen None l.rest (ended l.rest closed after e)) e l.whole in (l.opens, r.0, r.1, r.2)
   where
-    ends : (rest : Stmts) → View lead.End rest → t ∷ us ≡ inside rest closed after → stmts_before made rest ≡ body → (stmts_of made ≡ body) × (t.line ≡ closed) × (us ≡ after)
+    ends : (rest : Stmts) → View None rest → t ∷ us ≡ inside rest closed after → stmts_before made rest ≡ body → (stmts_of made ≡ body) × (t.line ≡ closed) × (us ≡ after)
     ends _ IsEnd e whole = let a = heads-is _ _ _ _ e in (whole, a.0, a.2)
 
 -- tokens of statements aren't none

@@ -1,5 +1,5 @@
 -- The trees of the code, as those of the grammar.
-use Rattle.std.specs.Prelude.{ℕ, List, [], ◌∷◌, map, Option, Some, None}
+use Rattle.std.specs.Prelude.{ℕ, List, [], ◌∷◌, map}
 use Rattle.kernel_text.specs.Grammar.{Tree, NumberAt, NameAt, TidAt, SpanAt, Element, Group, Minus, Binary, ScheduleTree, Unsaid, Static, StaticBy, Dynamic, DynamicBy, Stmts, NoMore, Let, Assign, Store, If, IfElse, Loop, Parallel, For, Barrier, Critical, CriticalOf, Declaration, ArrayOf, MutexOf, KernelTree}
 use Rattle.kernel_parser.specs.declared.tree.Tree as code
 use Rattle.kernel_parser.specs.declared.tree.Tree.TheVariants as written
@@ -23,11 +23,6 @@ tree_of (written.Element' line name opened _ index closed) = Element line name o
 tree_of (written.Group' opened _ inside closed) = Group opened (tree_of inside) closed
 tree_of (written.Minus' line _ operand) = Minus line (tree_of operand)
 tree_of (written.Binary' _ left op line _ right) = Binary (tree_of left) op line (tree_of right)
-
--- the name that an expression is, with its line
-abbrev pub name_in : Tree → Option (ℕ × List ℕ)
-name_in (NameAt line name) = Some (line, name)
-name_in _ = None
 
 abbrev pub schedule_tree : schedules.ScheduleTree → ScheduleTree
 schedule_tree schedule.Unsaid = Unsaid

@@ -1,70 +1,20 @@
-//! From tokens to an expression, by operator precedence.
+//! From tokens to an expression, by precedence climbing.
 //!
-//! What is still open around the place that is read stands on a stack, so nothing here calls
-//! itself.
-ghost use Rattle.std.specs.Prelude.{◌≡◌, ◌≤◌, List, length, count_by, IfOk, IfErr, option_map, [], ◌∷◌};
-ghost use Rattle.kernel_parser.specs.declared.fault.ParseFault.TheVariants.{Memory};
-ghost use Rattle.kernel_text.specs.Grammar.{rank_of, left_rank, right_rank, expr};
+//! A call inside a call follows a bracket, a prefix sign or the right operand of an operator, which
+//! binds more tightly than what is around it; a chain of operators is a loop.
+ghost use Rattle.std.specs.Prelude.{◌≡◌, ◌≤◌, ℕ, List, ◌∷◌, length, IfOk};
+ghost use Rattle.kernel_text.specs.declared.token.Sign.TheVariants as sign;
 ghost use Rattle.kernel_text.specs.declared.token.Token.{Token as AToken};
-ghost use Rattle.kernel_text.specs.Grammar.{Tree as ATree};
-ghost use Rattle.kernel_parser.specs.Parsing.{IsExpression, Reads};
+ghost use Rattle.kernel_text.specs.Grammar.{Tree as ATree, rank_of, right_rank, unary, named, reserved, mark};
+ghost use Rattle.kernel_parser.specs.Parsing.{IsExpression, IsPart, IsOperator, Reads};
 ghost use Rattle.kernel_parser.specs.Trees.{tree_of};
-ghost use Rattle.kernel_parser.specs.Machine.{role_of, around_of, stack_of, opens, levels, wanted, reduced, deeper, operand_step, open_index, close_group, close_index, take_left, finish, role_step, step, Makes};
 
 use crate::fault::ParseFault;
+use crate::lookahead::{is_open_bracket, skip};
 use crate::tree::Tree;
 use kernel_syntax::{Name, Op};
-use kernel_text::{Lexeme, Sign, Token, Word};
+use kernel_text::{Lexeme, Sign, Token, Word, operation};
 use std::alloc::Global;
-
-/// What is open around the operand that is wanted or was read.
-#[derive(Debug, Drop)]
-pub enum Frame {
-    /// A prefix sign before its operand.
-    Minus { line: u32 },
-    /// The left operand of an operator, and the operator.
-    Left { left: Tree, op: Op, line: u32 },
-    /// A bracket around an expression.
-    Group { opened: u32 },
-    /// An array's name and its bracket.
-    Index { line: u32, name: Name, opened: u32 },
-}
-
-/// What a token does behind an operand.
-#[derive(Clone, Copy, Debug, PartialEq, Eq)]
-pub enum Role {
-    OpenIndex,
-    CloseGroup,
-    CloseIndex,
-    Operator(Op),
-    /// It isn't part of the expression.
-    Other,
-}
-
-fn role_of(lexeme: &Lexeme) -> Role
-    ensures { result ≡ role_of lexeme.now }
-{
-    let Lexeme::Mark(sign) = lexeme else {
-        return Role::Other;
-    };
-    match sign {
-        Sign::OpenBracket => Role::OpenIndex,
-        Sign::CloseParen => Role::CloseGroup,
-        Sign::CloseBracket => Role::CloseIndex,
-        Sign::Plus => Role::Operator(Op::Add),
-        Sign::Minus => Role::Operator(Op::Sub),
-        Sign::Star => Role::Operator(Op::Mul),
-        Sign::Slash => Role::Operator(Op::Div),
-        Sign::Percent => Role::Operator(Op::Rem),
-        Sign::Equal => Role::Operator(Op::Eq),
-        Sign::NotEqual => Role::Operator(Op::Ne),
-        Sign::Less => Role::Operator(Op::Lt),
-        Sign::LessEqual => Role::Operator(Op::Le),
-        Sign::Greater => Role::Operator(Op::Gt),
-        Sign::GreaterEqual => Role::Operator(Op::Ge),
-        _ => Role::Other,
-    }
-}
 
 // The parts of an expression by how tightly they bind.
 const UNARY: u8 = 0;
@@ -75,6 +25,9 @@ const SUM: u8 = 2;
 
 const EXPR: u8 = 3;
 
+/// How many brackets and prefix signs may be open at once.
+const MOST_LEVELS: u8 = 32;
+
 fn rank_of(op: Op) -> u8
     ensures { result ≡ rank_of op }
 {
@@ -82,15 +35,6 @@ fn rank_of(op: Op) -> u8
         Op::Mul | Op::Div | Op::Rem => PRODUCT,
         Op::Add | Op::Sub => SUM,
         Op::Eq | Op::Ne | Op::Lt | Op::Le | Op::Gt | Op::Ge => EXPR,
-    }
-}
-
-fn left_rank(op: Op) -> u8
-    ensures { result ≡ left_rank op }
-{
-    match op {
-        Op::Mul | Op::Div | Op::Rem => PRODUCT,
-        _ => SUM,
     }
 }
 
@@ -104,240 +48,171 @@ fn right_rank(op: Op) -> u8
     }
 }
 
-/// What comes of a token.
-#[derive(Debug, Drop)]
-pub enum Moved {
-    /// The expression goes on, behind this operand or where one is wanted.
-    Goes(Option<Tree>),
-    /// The expression ended before the token.
-    Ends(Tree),
-}
-
-/// How many brackets and prefix signs may be open at once.
-const MOST_LEVELS: usize = 32;
-
-fn opens(frame: &Frame) -> bool
-    ensures { result ≡ opens (around_of frame.now) }
+/// The operator of at most this rank that comes first, its line, and the tokens behind it.
+fn operator(tokens: &[Token], rank: u8) -> Option<(Op, u32, &[Token])>
+    ensures { IsOperator tokens.now rank result }
 {
-    !matches!(frame, Frame::Left { .. })
-}
-
-fn levels(frames: &[Frame]) -> usize
-    ensures { result ≡ count_by (λ f. opens (around_of f)) frames.now }
-{
-    frames.iter().filter(|frame| opens(frame)).count()
-}
-
-fn wanted(frames: &[Frame]) -> u8
-    ensures { result ≡ wanted (stack_of frames.now) }
-{
-    match frames.split_last() {
-        None => EXPR,
-        Some((frame, _)) => wanted_by(frame),
+    let (token, rest) = tokens.split_first()?;
+    let op = operation(&token.lexeme)?;
+    if rank_of(op) > rank {
+        return None;
     }
+    Some((op, token.line, rest))
 }
 
-fn wanted_by(frame: &Frame) -> u8
-    ensures { result ≡ wanted (around_of frame.now ∷ []) }
+/// The operand behind a prefix sign.
+#[cycle(expression)]
+fn minus(
+    alloc: Global,
+    line: u32,
+    tokens: &[Token],
+    levels: u8,
+) -> Result<(Tree, &[Token]), ParseFault>
+    ensures read { (t : ATree) (after : List AToken) → IsPart unary levels (mark line sign.Minus ∷ tokens.now) t after → Reads result (λ x. (tree_of x.0 ≡ t) × (x.1.now ≡ after)) }
+    ensures shorter { IfOk result (λ x. length x.1.now ≤ length tokens.now) }
 {
-    match frame {
-        Frame::Minus { .. } => UNARY,
-        Frame::Left { op, .. } => right_rank(*op),
-        Frame::Group { .. } | Frame::Index { .. } => EXPR,
-    }
-}
-
-fn deeper(frames: &mut Vec<Frame>, frame: Frame) -> Result<Moved, ParseFault>
-    ensures { Makes result frames.new.items (deeper (around_of frame) (stack_of frames.old.items)) }
-{
-    if levels(frames) >= MOST_LEVELS {
+    if levels == 0 {
         return Err(ParseFault::NoKernel);
     }
-    frames.push(frame)?;
-    Ok(Moved::Goes(None))
+    let (operand, rest) = operand(alloc, tokens, levels - 1)?;
+    let minus = Tree::Minus {
+        line,
+        operand: Box::new(alloc, operand)?,
+    };
+    Ok((minus, rest))
 }
 
-/// A token where an operand is wanted.
-fn operand_step(frames: &mut Vec<Frame>, token: &Token) -> Result<Moved, ParseFault>
-    ensures { Makes result frames.new.items (operand_step (stack_of frames.old.items) token.now.line token.now.lexeme) }
+/// An expression and its closing bracket, behind the opening one.
+#[cycle(expression)]
+fn group(
+    alloc: Global,
+    opened: u32,
+    tokens: &[Token],
+    levels: u8,
+) -> Result<(Tree, &[Token]), ParseFault>
+    ensures read { (t : ATree) (after : List AToken) → IsPart unary levels (mark opened sign.OpenParen ∷ tokens.now) t after → Reads result (λ x. (tree_of x.0 ≡ t) × (x.1.now ≡ after)) }
+    ensures shorter { IfOk result (λ x. length x.1.now ≤ length tokens.now) }
 {
-    let line = token.line;
-    match &token.lexeme {
-        Lexeme::Number(value) => Ok(Moved::Goes(Some(Tree::Number {
-            line,
-            value: *value,
-        }))),
-        Lexeme::Named(name) => Ok(Moved::Goes(Some(Tree::Name {
-            line,
-            name: name.copy(),
-        }))),
-        Lexeme::Reserved(Word::Tid) => Ok(Moved::Goes(Some(Tree::Tid { line }))),
-        Lexeme::Reserved(Word::Span) => Ok(Moved::Goes(Some(Tree::Span { line }))),
-        Lexeme::Mark(Sign::Minus) => deeper(frames, Frame::Minus { line }),
-        Lexeme::Mark(Sign::OpenParen) => deeper(frames, Frame::Group { opened: line }),
+    if levels == 0 {
+        return Err(ParseFault::NoKernel);
+    }
+    let (inside, rest) = part(alloc, tokens, EXPR, levels - 1)?;
+    let (closed, rest) = skip(rest);
+    let group = Tree::Group {
+        opened,
+        inside: Box::new(alloc, inside)?,
+        closed,
+    };
+    Ok((group, rest))
+}
+
+/// A name, with an index behind it or without.
+#[cycle(expression)]
+fn name(
+    alloc: Global,
+    line: u32,
+    name: Name,
+    tokens: &[Token],
+    levels: u8,
+) -> Result<(Tree, &[Token]), ParseFault>
+    ensures read { (t : ATree) (after : List AToken) → IsPart unary levels (named line name ∷ tokens.now) t after → Reads result (λ x. (tree_of x.0 ≡ t) × (x.1.now ≡ after)) }
+    ensures shorter { IfOk result (λ x. length x.1.now ≤ length tokens.now) }
+{
+    if !is_open_bracket(tokens) {
+        return Ok((Tree::Name { line, name }, tokens));
+    }
+    if levels == 0 {
+        return Err(ParseFault::NoKernel);
+    }
+    let (opened, rest) = skip(tokens);
+    let (index, rest) = part(alloc, rest, EXPR, levels - 1)?;
+    let (closed, rest) = skip(rest);
+    let element = Tree::Element {
+        line,
+        name,
+        opened,
+        index: Box::new(alloc, index)?,
+        closed,
+    };
+    Ok((element, rest))
+}
+
+/// The operand that is a reserved name.
+fn word(line: u32, word: Word, tokens: &[Token]) -> Result<(Tree, &[Token]), ParseFault>
+    ensures read { (levels : ℕ) (t : ATree) (after : List AToken) → IsPart unary levels (reserved line word ∷ tokens.now) t after → Reads result (λ x. (tree_of x.0 ≡ t) × (x.1.now ≡ after)) }
+    ensures shorter { IfOk result (λ x. length x.1.now ≤ length tokens.now) }
+{
+    match word {
+        Word::Tid => Ok((Tree::Tid { line }, tokens)),
+        Word::Span => Ok((Tree::Span { line }, tokens)),
         _ => Err(ParseFault::NoKernel),
     }
 }
 
-/// An operand with the signs and the operators before it that bind as tightly as the rank.
-fn reduced(
+/// The operand that begins with a sign.
+#[cycle(expression)]
+fn sign(
     alloc: Global,
-    frames: &mut Vec<Frame>,
-    operand: Tree,
-    rank: u8,
-) -> Result<Tree, ParseFault>
-    ensures made { IfOk result (λ t. reduced rank (tree_of operand) (stack_of frames.old.items) ≡ (tree_of t, stack_of frames.new.items)) }
-    ensures fault { IfErr result (λ e. e ≡ Memory) }
-{
-    let mut held = operand;
-    'open: while let Some(frame) = frames.pop() {
-        match frame {
-            Frame::Minus { line } => {
-                held = Tree::Minus {
-                    line,
-                    operand: Box::new(alloc, held)?,
-                };
-            }
-            Frame::Left { left, op, line } if rank_of(op) <= rank => {
-                held = Tree::Binary {
-                    left: Box::new(alloc, left)?,
-                    op,
-                    line,
-                    right: Box::new(alloc, held)?,
-                };
-            }
-            other => {
-                frames.push(other)?;
-                return Ok(held);
-            }
-        }
-    }
-    Ok(held)
-}
-
-fn open_index(frames: &mut Vec<Frame>, held: Tree, opened: u32) -> Result<Moved, ParseFault>
-    ensures { Makes result frames.new.items (open_index opened (tree_of held) (stack_of frames.old.items)) }
-{
-    let Some((line, name)) = held.into_name() else {
-        return Err(ParseFault::NoKernel);
-    };
-    deeper(frames, Frame::Index { line, name, opened })
-}
-
-fn close_group(
-    alloc: Global,
-    frames: &mut Vec<Frame>,
-    inside: Tree,
-    closed: u32,
-) -> Result<Moved, ParseFault>
-    ensures { Makes result frames.new.items (close_group closed (tree_of inside) (stack_of frames.old.items)) }
-{
-    match frames.pop() {
-        None => Ok(Moved::Ends(inside)),
-        Some(Frame::Group { opened }) => Ok(Moved::Goes(Some(Tree::Group {
-            opened,
-            inside: Box::new(alloc, inside)?,
-            closed,
-        }))),
-        Some(_) => Err(ParseFault::NoKernel),
-    }
-}
-
-fn close_index(
-    alloc: Global,
-    frames: &mut Vec<Frame>,
-    index: Tree,
-    closed: u32,
-) -> Result<Moved, ParseFault>
-    ensures { Makes result frames.new.items (close_index closed (tree_of index) (stack_of frames.old.items)) }
-{
-    let Some(frame) = frames.pop() else {
-        return Ok(Moved::Ends(index));
-    };
-    let index = Box::new(alloc, index)?;
-    element(frame, index, closed)
-}
-
-/// The element behind its name and bracket.
-fn element(frame: Frame, index: Box<Tree>, closed: u32) -> Result<Moved, ParseFault>
-    ensures { Makes result [] (close_index closed (tree_of index.value) (around_of frame ∷ [])) }
-{
-    let Frame::Index { line, name, opened } = frame else {
-        return Err(ParseFault::NoKernel);
-    };
-    Ok(Moved::Goes(Some(Tree::Element {
-        line,
-        name,
-        opened,
-        index,
-        closed,
-    })))
-}
-
-fn take_left(frames: &mut Vec<Frame>, left: Tree, op: Op, line: u32) -> Result<Moved, ParseFault>
-    ensures { Makes result frames.new.items (take_left op line (tree_of left) (stack_of frames.old.items)) }
-{
-    if rank_of(op) > wanted(frames) {
-        return Err(ParseFault::NoKernel);
-    }
-    frames.push(Frame::Left { left, op, line })?;
-    Ok(Moved::Goes(None))
-}
-
-fn finish(frames: &[Frame], whole: Tree) -> Result<Moved, ParseFault>
-    ensures { Makes result frames.now (finish (tree_of whole) (stack_of frames.now)) }
-{
-    if frames.is_empty() {
-        Ok(Moved::Ends(whole))
-    } else {
-        Err(ParseFault::NoKernel)
-    }
-}
-
-/// A token behind an operand.
-fn role_step(
-    alloc: Global,
-    frames: &mut Vec<Frame>,
-    held: Tree,
     line: u32,
-    role: Role,
-) -> Result<Moved, ParseFault>
-    ensures { Makes result frames.new.items (role_step (tree_of held) (stack_of frames.old.items) line role) }
+    first: Sign,
+    tokens: &[Token],
+    levels: u8,
+) -> Result<(Tree, &[Token]), ParseFault>
+    ensures read { (t : ATree) (after : List AToken) → IsPart unary levels (mark line first ∷ tokens.now) t after → Reads result (λ x. (tree_of x.0 ≡ t) × (x.1.now ≡ after)) }
+    ensures shorter { IfOk result (λ x. length x.1.now ≤ length tokens.now) }
 {
-    match role {
-        Role::OpenIndex => open_index(frames, held, line),
-        Role::CloseGroup => {
-            let inside = reduced(alloc, frames, held, EXPR)?;
-            close_group(alloc, frames, inside, line)
-        }
-        Role::CloseIndex => {
-            let index = reduced(alloc, frames, held, EXPR)?;
-            close_index(alloc, frames, index, line)
-        }
-        Role::Operator(op) => {
-            let left = reduced(alloc, frames, held, left_rank(op))?;
-            take_left(frames, left, op, line)
-        }
-        Role::Other => {
-            let whole = reduced(alloc, frames, held, EXPR)?;
-            finish(frames, whole)
-        }
+    match first {
+        Sign::Minus => minus(alloc, line, tokens, levels),
+        Sign::OpenParen => group(alloc, line, tokens, levels),
+        _ => Err(ParseFault::NoKernel),
     }
 }
 
-/// A token, behind an operand or where one is wanted.
-fn step(
-    alloc: Global,
-    frames: &mut Vec<Frame>,
-    held: Option<Tree>,
-    token: &Token,
-) -> Result<Moved, ParseFault>
-    ensures { Makes result frames.new.items (step (option_map tree_of held) (stack_of frames.old.items) token.now) }
+/// What stands between operators.
+#[cycle(expression)]
+fn operand(alloc: Global, tokens: &[Token], levels: u8) -> Result<(Tree, &[Token]), ParseFault>
+    ensures read { (t : ATree) (after : List AToken) → IsPart unary levels tokens.now t after → Reads result (λ x. (tree_of x.0 ≡ t) × (x.1.now ≡ after)) }
+    ensures shorter { IfOk result (λ x. length x.1.now ≤ length tokens.now) }
 {
-    match held {
-        None => operand_step(frames, token),
-        Some(operand) => role_step(alloc, frames, operand, token.line, role_of(&token.lexeme)),
+    let Some((token, rest)) = tokens.split_first() else {
+        return Err(ParseFault::NoKernel);
+    };
+    let line = token.line;
+    match &token.lexeme {
+        Lexeme::Number(value) => {
+            let value = *value;
+            Ok((Tree::Number { line, value }, rest))
+        }
+        Lexeme::Named(found) => name(alloc, line, found.copy(), rest, levels),
+        Lexeme::Reserved(found) => word(line, *found, rest),
+        Lexeme::Mark(found) => sign(alloc, line, *found, rest, levels),
     }
+}
+
+/// A part of an expression: operands with operators of at most this rank between them.
+#[cycle(expression)]
+fn part(
+    alloc: Global,
+    tokens: &[Token],
+    rank: u8,
+    levels: u8,
+) -> Result<(Tree, &[Token]), ParseFault>
+    ensures read { (t : ATree) (after : List AToken) → IsPart rank levels tokens.now t after → Reads result (λ x. (tree_of x.0 ≡ t) × (x.1.now ≡ after)) }
+    ensures shorter { IfOk result (λ x. length x.1.now ≤ length tokens.now) }
+{
+    let (mut held, mut rest) = operand(alloc, tokens, levels)?;
+    'operators: while let Some((op, line, behind)) = operator(rest, rank) {
+        let inner = right_rank(op);
+        let (right, after) = part(alloc, behind, inner, levels)?;
+        held = Tree::Binary {
+            left: Box::new(alloc, held)?,
+            op,
+            line,
+            right: Box::new(alloc, right)?,
+        };
+        rest = after;
+    }
+    Ok((held, rest))
 }
 
 /// The expression at the start of tokens, and the tokens behind it.
@@ -345,15 +220,5 @@ pub fn expression(alloc: Global, tokens: &[Token]) -> Result<(Tree, &[Token]), P
     ensures read { (t : ATree) (after : List AToken) → IsExpression tokens.now t after → Reads result (λ x. (tree_of x.0 ≡ t) × (x.1.now ≡ after)) }
     ensures shorter { IfOk result (λ x. length x.1.now ≤ length tokens.now) }
 {
-    let mut frames = Vec::new(alloc);
-    let mut held = None;
-    let mut rest = tokens;
-    'tokens: while let Some((token, after)) = rest.split_first() {
-        match step(alloc, &mut frames, held, token)? {
-            Moved::Goes(next) => held = next,
-            Moved::Ends(whole) => return Ok((whole, rest)),
-        }
-        rest = after;
-    }
-    Err(ParseFault::NoKernel)
+    part(alloc, tokens, EXPR, MOST_LEVELS)
 }

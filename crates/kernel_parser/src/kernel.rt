@@ -1,11 +1,13 @@
 //! From tokens to a kernel's tree.
-ghost use Rattle.std.specs.Prelude.{◌≡◌, ◌≤◌, ℕ, List, ◌∷◌, ◌++◌, length, drop, map, None, IfOk, IfSome};
+ghost use Rattle.std.specs.Prelude.{◌≡◌, ◌≤◌, ◌↔◌, ℕ, ℤ, List, ◌∷◌, ◌++◌, length, map, None, IfOk, IfSome};
+ghost use Rattle.kernel_parser.specs.declared.kernel.Declares.TheVariants as declares;
+ghost use Rattle.kernel_text.specs.declared.token.Lexeme.TheVariants.{Reserved};
 ghost use Rattle.kernel_text.specs.declared.token.Token.{Token as AToken};
 ghost use Rattle.kernel_text.specs.declared.token.Word.TheVariants as word;
 ghost use Rattle.kernel_text.specs.Grammar as grammar;
-ghost use Rattle.kernel_text.specs.Grammar.{reserved, declaration_tokens, declarations_tokens, kernel_tokens, IsKernel, IsShallow};
+ghost use Rattle.kernel_text.specs.Grammar.{named, number, reserved, declaration_tokens, declarations_tokens, kernel_tokens, IsKernel, IsShallow};
 ghost use Rattle.kernel_parser.specs.Trees.{declaration_of, kernel_of};
-ghost use Rattle.kernel_parser.specs.Parsing.{Reads, IsDeclared, declared_by, line_of, name_of, number_of};
+ghost use Rattle.kernel_parser.specs.Parsing.{Reads, IsDeclared};
 
 use crate::fault::ParseFault;
 use crate::lookahead::{name_of, number_of, skip};
@@ -23,7 +25,8 @@ pub enum Declares {
 }
 
 fn declared_by(lexeme: &Lexeme) -> Declares
-    ensures { result ≡ declared_by lexeme.now }
+    ensures array { (lexeme.now ≡ Reserved word.Array) ↔ (result ≡ declares.Array) }
+    ensures mutex { (lexeme.now ≡ Reserved word.Mutex) ↔ (result ≡ declares.Mutex) }
 {
     match lexeme {
         Lexeme::Reserved(Word::Array) => Declares::Array,
@@ -34,8 +37,7 @@ fn declared_by(lexeme: &Lexeme) -> Declares
 
 /// NAME NAME NUMBER, behind `array`
 fn array(line: u32, tokens: &[Token]) -> (Declaration, &[Token])
-    ensures declared { declaration_of result.0 ≡ grammar.ArrayOf line (line_of tokens.now) (name_of tokens.now) (line_of (drop 1 tokens.now)) (name_of (drop 1 tokens.now)) (line_of (drop 1 (drop 1 tokens.now))) (number_of (drop 1 (drop 1 tokens.now))) }
-    ensures rest { result.1.now ≡ drop 1 (drop 1 (drop 1 tokens.now)) }
+    ensures declared { (name_line : ℕ) (name : List ℕ) (width_line : ℕ) (width : List ℕ) (count_line : ℕ) (count : ℤ) (ts : List AToken) → tokens.now ≡ named name_line name ∷ named width_line width ∷ number count_line count ∷ ts → (declaration_of result.0 ≡ grammar.ArrayOf line name_line name width_line width count_line count) × (result.1.now ≡ ts) }
     ensures shorter { length result.1.now ≤ length tokens.now }
 {
     let name = name_of(tokens);

@@ -5,8 +5,8 @@
 //! trees that contracts name are those of the grammar in `kernel_text`; `specs/Trees.antt` tells
 //! which of them a tree of the code is.
 //!
-//! Calls inside a call follow blocks, whose levels are few. Statements in a row, and the operators
-//! and brackets of an expression, are loops, so that no text exhausts the stack.
+//! Calls inside a call follow blocks, brackets, prefix signs and right operands, whose levels are
+//! few. Statements in a row and operators in a row are loops, so that no text exhausts the stack.
 #![tactic(auto)]
 
 mod expression;

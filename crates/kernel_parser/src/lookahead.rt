@@ -2,8 +2,13 @@
 //!
 //! The tokens are a kernel's by the grammar, so a token of another kind than the one that is read
 //! doesn't come; where it did, something would be read in its place.
-ghost use Rattle.std.specs.Prelude.{◌≡◌, ◌≤◌, length, drop};
-ghost use Rattle.kernel_parser.specs.Parsing.{line_of, name_in, name_of, number_of, is_number, is_name, is_open_bracket, is_nowait, is_else, is_static, is_dynamic, lead_of};
+ghost use Rattle.std.specs.Prelude.{◌≡◌, ◌≤◌, ◌↔◌, ℕ, ℤ, IsTrue, List, ◌∷◌, length};
+ghost use Rattle.kernel_text.specs.declared.token.Lexeme.TheVariants.{Named, Number, Reserved, Mark};
+ghost use Rattle.kernel_text.specs.declared.token.Sign.TheVariants as sign;
+ghost use Rattle.kernel_text.specs.declared.token.Token.{Token as AToken};
+ghost use Rattle.kernel_text.specs.declared.token.Word.TheVariants as word;
+ghost use Rattle.kernel_text.specs.Grammar.{Stmts, named, number};
+ghost use Rattle.kernel_parser.specs.Parsing.{StartsWith, inside, lead_of_stmts};
 
 use kernel_syntax::Name;
 use kernel_text::{Lexeme, Sign, Token, Word};
@@ -20,14 +25,11 @@ pub enum Lead {
     For,
     Barrier,
     Critical,
-    /// None: the brace behind the last one.
-    End,
 }
 
 /// The line of the first token, and the tokens behind it.
 pub fn skip(tokens: &[Token]) -> (u32, &[Token])
-    ensures line { result.0 ≡ line_of tokens.now }
-    ensures rest { result.1.now ≡ drop 1 tokens.now }
+    ensures told { (t : AToken) (ts : List AToken) → tokens.now ≡ t ∷ ts → (result.0 ≡ t.line) × (result.1.now ≡ ts) }
     ensures room { length result.1.now ≤ length tokens.now }
 {
     match tokens.split_first() {
@@ -44,7 +46,7 @@ fn nameless() -> Name
 }
 
 pub fn name_at(token: &Token) -> Name
-    ensures { result ≡ name_in token.now.lexeme }
+    ensures { (name : List ℕ) → token.now.lexeme ≡ Named name → result ≡ name }
 {
     match &token.lexeme {
         Lexeme::Named(name) => name.copy(),
@@ -54,7 +56,7 @@ pub fn name_at(token: &Token) -> Name
 
 /// The first token's name.
 pub fn name_of(tokens: &[Token]) -> Name
-    ensures { result ≡ name_of tokens.now }
+    ensures { (line : ℕ) (name : List ℕ) (ts : List AToken) → tokens.now ≡ named line name ∷ ts → result ≡ name }
 {
     match tokens.first() {
         Some(token) => name_at(token),
@@ -64,7 +66,7 @@ pub fn name_of(tokens: &[Token]) -> Name
 
 /// The first token's number.
 pub fn number_of(tokens: &[Token]) -> i64
-    ensures { result ≡ number_of tokens.now }
+    ensures { (line : ℕ) (n : ℤ) (ts : List AToken) → tokens.now ≡ number line n ∷ ts → result ≡ n }
 {
     match tokens.first() {
         Some(token) => match &token.lexeme {
@@ -76,7 +78,7 @@ pub fn number_of(tokens: &[Token]) -> i64
 }
 
 pub fn is_number(tokens: &[Token]) -> bool
-    ensures { result ≡ is_number tokens.now }
+    ensures { IsTrue result ↔ ((n : ℤ) × StartsWith (Number n) tokens.now) }
 {
     match tokens.first() {
         Some(token) => matches!(&token.lexeme, Lexeme::Number(_)),
@@ -85,7 +87,7 @@ pub fn is_number(tokens: &[Token]) -> bool
 }
 
 pub fn is_name(tokens: &[Token]) -> bool
-    ensures { result ≡ is_name tokens.now }
+    ensures { IsTrue result ↔ ((name : List ℕ) × StartsWith (Named name) tokens.now) }
 {
     match tokens.first() {
         Some(token) => matches!(&token.lexeme, Lexeme::Named(_)),
@@ -93,8 +95,8 @@ pub fn is_name(tokens: &[Token]) -> bool
     }
 }
 
-fn is_open_bracket(tokens: &[Token]) -> bool
-    ensures { result ≡ is_open_bracket tokens.now }
+pub fn is_open_bracket(tokens: &[Token]) -> bool
+    ensures { IsTrue result ↔ StartsWith (Mark sign.OpenBracket) tokens.now }
 {
     match tokens.first() {
         Some(token) => matches!(&token.lexeme, Lexeme::Mark(Sign::OpenBracket)),
@@ -103,7 +105,7 @@ fn is_open_bracket(tokens: &[Token]) -> bool
 }
 
 pub fn is_nowait(tokens: &[Token]) -> bool
-    ensures { result ≡ is_nowait tokens.now }
+    ensures { IsTrue result ↔ StartsWith (Reserved word.Nowait) tokens.now }
 {
     match tokens.first() {
         Some(token) => matches!(&token.lexeme, Lexeme::Reserved(Word::Nowait)),
@@ -113,7 +115,7 @@ pub fn is_nowait(tokens: &[Token]) -> bool
 
 /// Whether `else` is next.
 pub fn is_else(tokens: &[Token]) -> bool
-    ensures { result ≡ is_else tokens.now }
+    ensures { IsTrue result ↔ StartsWith (Reserved word.Else) tokens.now }
 {
     match tokens.first() {
         Some(token) => matches!(&token.lexeme, Lexeme::Reserved(Word::Else)),
@@ -121,30 +123,31 @@ pub fn is_else(tokens: &[Token]) -> bool
     }
 }
 
-pub fn lead_of(lexeme: &Lexeme, rest: &[Token]) -> Lead
-    ensures { result ≡ lead_of lexeme.now rest.now }
+/// The statement that begins with a token, behind which are these; none at the closing brace.
+pub fn lead_of(token: &Token, rest: &[Token]) -> Option<Lead>
+    ensures { (b : Stmts) (end : ℕ) (tail : List AToken) → token.now ∷ rest.now ≡ inside b end tail → result ≡ lead_of_stmts b }
 {
-    match lexeme {
-        Lexeme::Reserved(Word::Let) => Lead::Let,
-        Lexeme::Reserved(Word::If) => Lead::If,
-        Lexeme::Reserved(Word::Loop) => Lead::Loop,
-        Lexeme::Reserved(Word::Parallel) => Lead::Parallel,
-        Lexeme::Reserved(Word::For) => Lead::For,
-        Lexeme::Reserved(Word::Barrier) => Lead::Barrier,
-        Lexeme::Reserved(Word::Critical) => Lead::Critical,
+    match &token.lexeme {
+        Lexeme::Reserved(Word::Let) => Some(Lead::Let),
+        Lexeme::Reserved(Word::If) => Some(Lead::If),
+        Lexeme::Reserved(Word::Loop) => Some(Lead::Loop),
+        Lexeme::Reserved(Word::Parallel) => Some(Lead::Parallel),
+        Lexeme::Reserved(Word::For) => Some(Lead::For),
+        Lexeme::Reserved(Word::Barrier) => Some(Lead::Barrier),
+        Lexeme::Reserved(Word::Critical) => Some(Lead::Critical),
         Lexeme::Named(_) => {
             if is_open_bracket(rest) {
-                Lead::Store
+                Some(Lead::Store)
             } else {
-                Lead::Assign
+                Some(Lead::Assign)
             }
         }
-        _ => Lead::End,
+        _ => None,
     }
 }
 
 pub fn is_static(tokens: &[Token]) -> bool
-    ensures { result ≡ is_static tokens.now }
+    ensures { IsTrue result ↔ StartsWith (Reserved word.Static) tokens.now }
 {
     match tokens.first() {
         Some(token) => matches!(&token.lexeme, Lexeme::Reserved(Word::Static)),
@@ -153,7 +156,7 @@ pub fn is_static(tokens: &[Token]) -> bool
 }
 
 pub fn is_dynamic(tokens: &[Token]) -> bool
-    ensures { result ≡ is_dynamic tokens.now }
+    ensures { IsTrue result ↔ StartsWith (Reserved word.Dynamic) tokens.now }
 {
     match tokens.first() {
         Some(token) => matches!(&token.lexeme, Lexeme::Reserved(Word::Dynamic)),

@@ -1,14 +1,15 @@
 //! From tokens to statements.
 //!
 //! A call inside a call follows a block; statements in a row are a loop.
-ghost use Rattle.std.specs.Prelude.{◌≡◌, ◌≤◌, ℕ, ℤ, List, ◌∷◌, ◌++◌, length, IfOk, true, false, Option};
+ghost use Rattle.std.specs.Prelude.{◌≡◌, ◌≤◌, ℕ, ℤ, List, ◌∷◌, ◌++◌, length, IfOk, Option, Some};
 ghost use Rattle.kernel_text.specs.declared.token.Token.{Token as AToken};
+ghost use Rattle.kernel_text.specs.declared.token.Lexeme.TheVariants.{Reserved};
 ghost use Rattle.kernel_text.specs.declared.token.Sign.TheVariants as sign;
 ghost use Rattle.kernel_text.specs.declared.token.Word.TheVariants as word;
 ghost use Rattle.kernel_text.specs.Grammar as grammar;
 ghost use Rattle.kernel_text.specs.Grammar.{Stmts, StmtsDerive, AreShallow, named, mark, reserved, number, schedule_tokens, nowait_tokens};
 ghost use Rattle.kernel_parser.specs.Trees.{tree_of, schedule_tree, stmts_of};
-ghost use Rattle.kernel_parser.specs.Parsing.{IsExpression, IsBlock, IsRead, IsFirst, AreSome, Reads, inside, lead_of, is_else, name_in};
+ghost use Rattle.kernel_parser.specs.Parsing.{IsExpression, IsBlock, IsRead, IsFirst, StartsWith, Reads, inside, lead_of_stmts};
 
 use crate::expression::expression;
 use crate::fault::ParseFault;
@@ -166,7 +167,7 @@ fn nowait(tokens: &[Token]) -> (Option<u32>, &[Token])
 #[cycle(statements)]
 #[tactic(auto, using(crate::proofs::Equations::before_if, crate::proofs::Equations::before_if_else))]
 fn if_stmt(alloc: Global, line: u32, tokens: &[Token]) -> Result<(Statement, &[Token]), ParseFault>
-    ensures alone { (test : grammar.Tree) (opened : ℕ) (body : Stmts) (closed : ℕ) (ts after : List AToken) → IsExpression tokens.now test ts → IsBlock ts opened body closed after → is_else after ≡ false → Reads result (λ x. IsRead (grammar.If line test opened body closed) after x.0 x.1.now) }
+    ensures alone { (test : grammar.Tree) (opened : ℕ) (body : Stmts) (closed : ℕ) (ts after : List AToken) → IsExpression tokens.now test ts → IsBlock ts opened body closed after → (StartsWith (Reserved word.Else) after → ⊥) → Reads result (λ x. IsRead (grammar.If line test opened body closed) after x.0 x.1.now) }
     ensures both { (test : grammar.Tree) (opened : ℕ) (yes : Stmts) (closed else_line else_opened : ℕ) (other : Stmts) (else_closed : ℕ) (ts us after : List AToken) → IsExpression tokens.now test ts → IsBlock ts opened yes closed (reserved else_line word.Else ∷ us) → IsBlock us else_opened other else_closed after → Reads result (λ x. IsRead (grammar.IfElse line test opened yes closed else_line else_opened other else_closed) after x.0 x.1.now) }
     ensures shorter { IfOk result (λ x. length x.1.now ≤ length tokens.now) }
 {
@@ -283,8 +284,8 @@ fn stmt<'a>(
     token: &Token,
     rest: &'a [Token],
 ) -> Result<(Statement, &'a [Token]), ParseFault>
-    requires { lead ≡ lead_of token.now.lexeme rest.now }
-    ensures parsed { (b : Stmts) (end : ℕ) (tail : List AToken) (n : ℕ) → AreSome b → token.now ∷ rest.now ≡ inside b end tail → StmtsDerive b → AreShallow n b → Reads result (λ x. IsFirst b end tail x.0 x.1.now) }
+    requires { (b : Stmts) (end : ℕ) (tail : List AToken) → token.now ∷ rest.now ≡ inside b end tail → Some lead ≡ lead_of_stmts b }
+    ensures parsed { (b : Stmts) (end : ℕ) (tail : List AToken) (n : ℕ) → token.now ∷ rest.now ≡ inside b end tail → StmtsDerive b → AreShallow n b → Reads result (λ x. IsFirst n b end tail x.0 x.1.now) }
     ensures shorter { IfOk result (λ x. length x.1.now ≤ length rest.now) }
 {
     let line = token.line;
@@ -298,7 +299,6 @@ fn stmt<'a>(
         Lead::For => for_stmt(alloc, line, rest),
         Lead::Barrier => Ok((Statement::Barrier { line }, rest)),
         Lead::Critical => critical_stmt(alloc, line, rest),
-        Lead::End => Err(ParseFault::NoKernel),
     }
 }
 
@@ -312,16 +312,13 @@ pub fn block(alloc: Global, tokens: &[Token]) -> Result<(Block, &[Token]), Parse
     let mut stmts = Vec::new(alloc);
     let mut rest = inner;
     'stmts: while let Some((token, after)) = rest.split_first() {
-        let lead = match lead_of(&token.lexeme, after) {
-            Lead::End => {
-                let block = Block {
-                    opened,
-                    stmts,
-                    closed: token.line,
-                };
-                return Ok((block, after));
-            }
-            other => other,
+        let Some(lead) = lead_of(token, after) else {
+            let block = Block {
+                opened,
+                stmts,
+                closed: token.line,
+            };
+            return Ok((block, after));
         };
         let (added, left) = stmt(alloc, lead, token, after)?;
         stmts.push(added)?;

@@ -148,8 +148,15 @@ fn repeated(
 
 #[test]
 fn long_texts_are_parsed_and_dropped(rt: HostRuntime) -> Result<(), Fail> {
-    let rows: [(&[u8], &[u8], usize, &[u8], usize); 4] = [
+    let rows: [(&[u8], &[u8], usize, &[u8], usize); 5] = [
         (b"main{a=1", b"+1", 32_000, b"}", 1),
+        (
+            b"main{if 1{if 1{if 1{if 1{if 1{if 1{if 1{if 1{if 1{if 1{if 1{if 1{if 1{if 1{if 1{if 1{if 1{if 1{if 1{if 1{if 1{if 1{if 1{if 1{if 1{if 1{if 1{if 1{if 1{if 1{if 1{a=",
+            b"1<1+1*(",
+            32,
+            b"1))))))))))))))))))))))))))))))))}}}}}}}}}}}}}}}}}}}}}}}}}}}}}}}}",
+            1,
+        ),
         (b"main{", b"a=1 ", 10_000, b"}", 10_000),
         (b"main{if 1{}", b"else{}if 1{}", 5_000, b"}", 5_001),
         (

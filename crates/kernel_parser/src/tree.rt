@@ -1,7 +1,4 @@
 //! A kernel as it is written.
-ghost use Rattle.std.specs.Prelude.{◌≡◌};
-ghost use Rattle.kernel_parser.specs.Trees.{tree_of, name_in};
-
 use kernel_syntax::{Name, Op};
 
 /// An expression with the line of each of its tokens.
@@ -43,18 +40,6 @@ pub enum Tree {
         line: u32,
         right: Box<Tree>,
     },
-}
-
-impl Tree {
-    /// The name, where the expression is one.
-    pub fn into_name(self) -> Option<(u32, Name)>
-        ensures { result ≡ name_in (tree_of self) }
-    {
-        match self {
-            Tree::Name { line, name } => Some((line, name)),
-            _ => None,
-        }
-    }
 }
 
 impl Drop for Tree {

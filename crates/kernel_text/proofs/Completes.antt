@@ -1,5 +1,5 @@
 -- Each expression by the grammar is taken where one is wanted, and opens the levels that its tree tells.
-use Rattle.std.proofs.Common.{◌≡◌, ℕ, ◌+◌, ◌≤◌, Bool, true, false, List, [], ◌∷◌, ◌++◌, Some, None, refl, ap, ◌∙◌, arith}
+use Rattle.std.proofs.Common.{◌≡◌, ℕ, ◌+◌, ◌≤◌, Bool, true, false, List, [], ◌∷◌, ◌++◌, None, refl, ap, ◌∙◌, arith}
 use Rattle.kernel_syntax.specs.declared.syntax.Op.{Op}
 use Rattle.kernel_syntax.specs.declared.syntax.Op.TheVariants.{Add, Sub, Mul, Div, Rem, Eq, Ne, Lt, Le, Gt, Ge}
 use Rattle.kernel_text.specs.declared.token.Word.TheVariants as word
@@ -12,7 +12,7 @@ use Rattle.kernel_text.specs.declared.judging.Want.TheVariants as want
 use Rattle.kernel_text.specs.Grammar.{Tree, NumberAt, NameAt, TidAt, SpanAt, Element, Group, Minus, Binary, Derives, tree_tokens, rank_of, left_rank, right_rank, sign_of, unary, expr, mark}
 use Rattle.kernel_text.specs.Faults.{tree_levels}
 use Rattle.kernel_text.specs.Judging.{Skips, Takes, op_of, is_comparison, operator_move, operators_move, index_move, else_move, move, Step, step}
-use Rattle.kernel_text.proofs.Operators.{ranks}
+use Rattle.kernel_text.proofs.Operators.{ranks, op_of-sign}
 use Rattle.kernel_text.proofs.Running.{Trace, Next, run, through, run_after, run-skips, run-takes, run-joins}
 
 -- ---- what may follow
@@ -48,19 +48,6 @@ no_index [] f = absurd f
 no_index (t ∷ ts) f = f.no_index
 
 -- ---- operations
-
-op_of-sign : (o : Op) → op_of (Mark (sign_of o)) ≡ Some o
-op_of-sign Add = refl
-op_of-sign Sub = refl
-op_of-sign Mul = refl
-op_of-sign Div = refl
-op_of-sign Rem = refl
-op_of-sign Eq = refl
-op_of-sign Ne = refl
-op_of-sign Lt = refl
-op_of-sign Le = refl
-op_of-sign Gt = refl
-op_of-sign Ge = refl
 
 op-no-index : (o : Op) → NoIndex (Mark (sign_of o))
 op-no-index Add n = refl

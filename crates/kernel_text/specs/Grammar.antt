@@ -1,11 +1,12 @@
 -- The grammar of a kernel: its parse trees, in which each token has its line, and the tokens of each.
-use Rattle.std.specs.Prelude.{ℕ, ◌+◌, ◌-◌, ◌≤◌, ℤ, max, List, [], ◌∷◌, ◌++◌, Option, Some, None}
+use Rattle.std.specs.Prelude.{◌≡◌, ℕ, ◌+◌, ◌-◌, ◌≤◌, ℤ, max, List, [], ◌∷◌, ◌++◌, Option, Some, None}
 use Rattle.kernel_syntax.specs.declared.syntax.Op.{Op}
 use Rattle.kernel_syntax.specs.declared.syntax.Op.TheVariants.{Add, Sub, Mul, Div, Rem, Eq, Ne, Lt, Le, Gt, Ge}
 use Rattle.kernel_text.specs.declared.token.Word.{Word}
 use Rattle.kernel_text.specs.declared.token.Word.TheVariants as word
 use Rattle.kernel_text.specs.declared.token.Sign.{Sign}
 use Rattle.kernel_text.specs.declared.token.Sign.TheVariants as sign
+use Rattle.kernel_text.specs.declared.token.Lexeme.{Lexeme}
 use Rattle.kernel_text.specs.declared.token.Lexeme.TheVariants.{Named, Number, Reserved, Mark}
 use Rattle.kernel_text.specs.declared.token.Token.{Token}
 
@@ -37,6 +38,11 @@ sign_of Lt = sign.Less
 sign_of Le = sign.LessEqual
 sign_of Gt = sign.Greater
 sign_of Ge = sign.GreaterEqual
+
+-- the operation of a lexeme, if it is the sign of one
+abbrev pub IsOperation : Lexeme → Option Op → Type 0
+IsOperation x (Some o) = x ≡ Mark (sign_of o)
+IsOperation x None = (o : Op) → x ≡ Mark (sign_of o) → ⊥
 
 -- an expression, with the line of each of its tokens
 pub data Tree : Type 0 where

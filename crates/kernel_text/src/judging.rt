@@ -5,7 +5,7 @@ ghost use Rattle.std.specs.Prelude.{◌≡◌, ◌++◌, ◌∷◌, [], IfOk, �
 ghost use Rattle.kernel_text.specs.declared.judging.Want.TheVariants as want;
 ghost use Rattle.kernel_text.specs.Judging.{op_of, is_comparison, kernel_move, name_move, number_move, in_move, assign_move, close_bracket_move, close_paren_move, close_brace_move, dots_move, block_move, stmts_move, target_move, else_move, schedule_move, chunk_move, nowait_move, section_name_move, operand_move, behind, index_move, operators_move, move, step, judged, stack_of, Takes, Alone, Moves, Steps, IsVerdict};
 
-use crate::token::{Lexeme, Sign, Token, Word};
+use crate::token::{Lexeme, Sign, Token, Word, operation};
 use kernel_syntax::Op;
 use std::alloc::{AllocError, Global};
 
@@ -365,34 +365,13 @@ fn expr_move(stack: &mut Vec<Want>, level: u8, lexeme: &Lexeme) -> Result<Moved,
     operand_move(stack, level, lexeme)
 }
 
-fn op_of(lexeme: &Lexeme) -> Option<Op>
-    ensures { result ≡ op_of lexeme.now }
-{
-    let Lexeme::Mark(sign) = lexeme else {
-        return None;
-    };
-    match sign {
-        Sign::Plus => Some(Op::Add),
-        Sign::Minus => Some(Op::Sub),
-        Sign::Star => Some(Op::Mul),
-        Sign::Slash => Some(Op::Div),
-        Sign::Percent => Some(Op::Rem),
-        Sign::Equal => Some(Op::Eq),
-        Sign::NotEqual => Some(Op::Ne),
-        Sign::Less => Some(Op::Lt),
-        Sign::LessEqual => Some(Op::Le),
-        Sign::Greater => Some(Op::Gt),
-        Sign::GreaterEqual => Some(Op::Ge),
-        _ => None,
-    }
-}
-
 fn is_comparison(op: Op) -> bool
     ensures { result ≡ is_comparison op }
 {
     !matches!(op, Op::Add | Op::Sub | Op::Mul | Op::Div | Op::Rem)
 }
 
+#[tactic(auto, using(crate::proofs::Operators::operation_is))]
 fn operators_move(
     stack: &mut Vec<Want>,
     level: u8,
@@ -401,7 +380,7 @@ fn operators_move(
 ) -> Result<Moved, AllocError>
     ensures { Moves result (stack_of stack.old.items) (stack_of stack.new.items) (operators_move level compares (op_of lexeme.now)) }
 {
-    let Some(op) = op_of(lexeme) else {
+    let Some(op) = operation(lexeme) else {
         return Ok(Moved::Skips);
     };
     if !is_comparison(op) {

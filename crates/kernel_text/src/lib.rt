@@ -4,8 +4,8 @@
 //! is too large, that is no UTF-8, or that has a character, a number or a name that is no token.
 //! `judge` answers whether tokens are a kernel by the grammar with at most 32 levels, or which is
 //! the first token that no kernel goes on with or that opens level 33, or that they end too early.
-//! `levels_tell_the_depth` is a law: the depth of a kernel, by its tree, and the levels that its
-//! tokens open are one bound.
+//! `operation` answers the operation of a sign. `levels_tell_the_depth` is a law: the depth of a
+//! kernel, by its tree, and the levels that its tokens open are one bound.
 #![tactic(auto)]
 
 mod fault;
@@ -18,7 +18,7 @@ pub use crate::fault::{KernelWhy, TextFault};
 pub use crate::judging::{Verdict, judge};
 pub use crate::lexing::{line_at, tokens};
 pub use crate::nesting::levels_tell_the_depth;
-pub use crate::token::{Lexeme, Sign, Token, Word};
+pub use crate::token::{Lexeme, Sign, Token, Word, operation};
 
 #[cfg(test)]
 mod tests;

@@ -1,4 +1,5 @@
 use super::*;
+use kernel_syntax::Op;
 use std::alloc::Global;
 use std::test::Fail;
 
@@ -36,5 +37,18 @@ fn a_text_without_tokens_tells_its_line_and_why(rt: HostRuntime) {
     ];
     for (text, line, why) in rows {
         assert!(rt; has_no_tokens(rt.alloc(), text, line, why));
+    }
+}
+
+#[test]
+fn a_sign_tells_its_operation(rt: HostRuntime) {
+    let rows = [
+        (Lexeme::Mark(Sign::Minus), Some(Op::Sub)),
+        (Lexeme::Mark(Sign::LessEqual), Some(Op::Le)),
+        (Lexeme::Mark(Sign::Assign), None),
+        (Lexeme::Number(1), None),
+    ];
+    for (lexeme, op) in &rows {
+        assert!(rt; operation(lexeme) == *op);
     }
 }

@@ -1,5 +1,7 @@
 //! The tokens of a kernel.
-use kernel_syntax::Name;
+ghost use Rattle.kernel_text.specs.Grammar.{IsOperation};
+
+use kernel_syntax::{Name, Op};
 
 /// A reserved name.
 #[derive(Clone, Copy, Debug, PartialEq, Eq)]
@@ -64,4 +66,27 @@ pub enum Lexeme {
 pub struct Token {
     pub lexeme: Lexeme,
     pub line: u32,
+}
+
+/// The operation whose sign a lexeme is.
+pub fn operation(lexeme: &Lexeme) -> Option<Op>
+    ensures { IsOperation lexeme.now result }
+{
+    let Lexeme::Mark(sign) = lexeme else {
+        return None;
+    };
+    match sign {
+        Sign::Plus => Some(Op::Add),
+        Sign::Minus => Some(Op::Sub),
+        Sign::Star => Some(Op::Mul),
+        Sign::Slash => Some(Op::Div),
+        Sign::Percent => Some(Op::Rem),
+        Sign::Equal => Some(Op::Eq),
+        Sign::NotEqual => Some(Op::Ne),
+        Sign::Less => Some(Op::Lt),
+        Sign::LessEqual => Some(Op::Le),
+        Sign::Greater => Some(Op::Gt),
+        Sign::GreaterEqual => Some(Op::Ge),
+        _ => None,
+    }
 }

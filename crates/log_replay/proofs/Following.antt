@@ -1,11 +1,11 @@
 -- How parts that were followed make a longer one.
-use Rattle.std.proofs.Common.{◌≡◌, refl, ap, sym, ◌∙◌, subst, ℕ, ◌+◌, List, [], ◌∷◌, ◌++◌, append_assoc, min, Option, Result, Ok, Err}
+use Rattle.std.proofs.Common.{◌≡◌, refl, ap, sym, ◌∙◌, subst, ℕ, List, ◌∷◌, ◌++◌, append_assoc, Option, Result, Ok, Err}
 use Rattle.sw_base.specs.Environment.{Content}
 use Rattle.log_format.specs.declared.record.Record.{Record}
 use Rattle.kernel_model.specs.State.{State, Outcome, Gives, Stops, Wants, and_then, after, state_of}
 use Rattle.kernel_model.specs.Growth.{Grows}
 use Rattle.log_replay.specs.Differing.{DiffersAt}
-use Rattle.log_replay.specs.Following.{Standing, IsAt, here, Strays, IsOff, Reached, Ends, Follows}
+use Rattle.log_replay.specs.Following.{Standing, IsAt, here, Strays, IsOff, Ends, Follows}
 use Rattle.log_replay.specs.declared.stray.Stray.{Stray}
 use Rattle.log_replay.specs.declared.stray.Stray.TheVariants as stray
 

@@ -6,3 +6,7 @@ pub mod Statements
 pub mod Draws
 pub mod Bounded
 pub mod Tasks
+pub mod Kept
+pub mod AllTasks
+pub mod DiffersOnce
+pub mod Spans

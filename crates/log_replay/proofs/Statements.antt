@@ -1,5 +1,5 @@
 -- Statements, as far as they follow the log.
-use Rattle.std.proofs.Common.{◌≡◌, ◌≢◌, refl, ap, sym, ◌∙◌, subst, ℕ, zero, suc, ◌+◌, ◌-◌, ◌<◌, Bool, true, false, List, [], ◌∷◌, ◌++◌, ℤ, pos, negsuc, ◌+ℤ◌, map, Option, Some, None, Result, Ok, Err, arith}
+use Rattle.std.proofs.Common.{◌≡◌, ◌≢◌, refl, ap, sym, ◌∙◌, subst, ℕ, zero, suc, ◌+◌, ◌-◌, ◌<◌, Bool, true, false, List, [], ◌∷◌, ◌++◌, ℤ, pos, negsuc, ◌+ℤ◌, Option, Some, None, Result, Ok, Err, arith}
 use Rattle.std.specs.Prelude.{get_or, length, take, drop, slice_set}
 use Rattle.std.proofs.lemmas.List.{take_more, drop_more, take-append-drop}
 use Rattle.sw_base.specs.Environment.{Content}
@@ -12,7 +12,7 @@ use Rattle.kernel_syntax.specs.Program.{stmt_code, code_of}
 use Rattle.kernel_syntax.proofs.Equations.{stmts_code-append}
 use Rattle.kernel_syntax.specs.Tree as tree
 use Rattle.kernel_syntax.specs.Tree.{Term, Code, TeamTree}
-use Rattle.kernel_model.specs.State.{State, Fork, Outcome, Gives, Index, and_then, after, assign, put, event, state_of}
+use Rattle.kernel_model.specs.State.{State, Outcome, Gives, Index, and_then, after, assign, put, event, state_of}
 use Rattle.kernel_model.specs.Growth.{Grows}
 use Rattle.kernel_model.specs.Iterations.{total_of}
 use Rattle.kernel_model.specs.Trace.{run, branch, turns, stored, shared, loop_end, forked}

@@ -1,5 +1,5 @@
 -- From one record of a log to the next.
-use Rattle.std.proofs.Common.{◌≡◌, ◌⊎◌, inl, inr, refl, ap, sym, ◌∙◌, subst, ℕ, suc, ◌+◌, ◌-◌, ◌≤◌, ◌<◌, min, List, [], ◌∷◌, ◌++◌, length, length-append, append_assoc, append-nil, ℤ, Option, Some, None, Err, arith}
+use Rattle.std.proofs.Common.{◌≡◌, inl, inr, refl, ap, sym, ◌∙◌, subst, ℕ, suc, ◌+◌, ◌-◌, min, List, [], ◌∷◌, ◌++◌, length, length-append, append_assoc, append-nil, ℤ, Option, Some, None, Err, arith}
 use Rattle.std.specs.List.{cons_option}
 use Rattle.sw_base.specs.Environment.{Content}
 use Rattle.log_format.specs.declared.record.Record.{Record}
@@ -7,7 +7,7 @@ use Rattle.log_format.specs.declared.record.Kind.{Kind}
 use Rattle.log_format.specs.declared.record.Kind.TheVariants as kind
 use Rattle.log_reader.specs.Reading.{Reading, StandsBefore, GivesNext}
 use Rattle.kernel_syntax.specs.Arithmetic.{fitted}
-use Rattle.kernel_model.specs.State.{State, Fork, Stop, Outcome, Gives, Stops, Wants, put, event, from_bits, value_read, number_drawn, reads_of, chunks_of}
+use Rattle.kernel_model.specs.State.{State, Fork, Stop, Outcome, Gives, Stops, put, event, from_bits, value_read, number_drawn, reads_of, chunks_of}
 use Rattle.kernel_model.specs.Effect.{state_with}
 use Rattle.kernel_model.specs.Trace.{draw, log_limit}
 use Rattle.kernel_model.specs.Value.{Element, access, read}

@@ -20,8 +20,8 @@ use Rattle.log_format.specs.declared.record.Kind.{Kind}
 use Rattle.kernel_model.specs.Folder.{own_trace}
 use Rattle.kernel_model.proofs.Equations.{put-room}
 use Rattle.log_replay.specs.Differing.{DiffersAt}
-use Rattle.log_replay.specs.Following.{Standing, HasEnd, IsAt, here, Took, Takes, IsOff, Ends, Follows, Reached}
-use Rattle.log_replay.specs.Task.{IsFollowed, StraysSo, Compares, EndsLog}
+use Rattle.log_replay.specs.Following.{Standing, HasEnd, IsAt, here, Took, Takes, IsOff, Follows, Reached}
+use Rattle.log_replay.specs.Task.{StraysSo, Compares, EndsLog}
 use Rattle.log_replay.specs.declared.stray.Stray.{Stray}
 use Rattle.log_replay.specs.declared.stray.Stray.TheVariants as stray
 use Rattle.log_replay.proofs.Following.{strays_differ, off_differs, off_then, after_is}

@@ -1,5 +1,5 @@
 -- The value of an expression, as far as it follows the log.
-use Rattle.std.proofs.Common.{◌≡◌, refl, ap, sym, ◌∙◌, subst, ℕ, ◌+◌, ℤ, pos, min, Option, Some, None, Result, Ok, Err}
+use Rattle.std.proofs.Common.{◌≡◌, refl, sym, subst, ℕ, ◌+◌, ℤ, pos, min, Option, Some, None, Result, Ok, Err}
 use Rattle.std.specs.Prelude.{slice_index_or, ok_or}
 use Rattle.sw_base.specs.Environment.{Content}
 use Rattle.kernel_syntax.specs.declared.syntax.Op.{Op}

@@ -5,7 +5,6 @@ use Rattle.log_format.specs.declared.record.Record.{Record}
 use Rattle.log_format.specs.declared.record.Kind.{Kind}
 use Rattle.log_format.specs.declared.record.Kind.TheVariants as kind
 use Rattle.log_reader.specs.Reading.{Reading, StandsBefore}
-use Rattle.kernel_syntax.specs.Program.{team_of}
 use Rattle.kernel_syntax.specs.Tree.{Code}
 use Rattle.kernel_model.specs.State.{State, Fork, Outcome, Gives, Stops, Wants, assign, reads_of, chunks_of}
 use Rattle.kernel_model.specs.Effect.{state_with}

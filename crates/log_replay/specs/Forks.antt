@@ -1,5 +1,5 @@
 -- What is seen of a lane that follows its log.
-use Rattle.std.specs.Prelude.{List, map}
+use Rattle.std.specs.Prelude.{map}
 use Rattle.kernel_syntax.specs.Program.{team_of}
 use Rattle.kernel_model.specs.State.{Fork}
 use Rattle.log_replay.specs.Following.{Standing}

@@ -7,3 +7,5 @@ pub mod Differing
 pub mod Sharing
 pub mod Task
 pub mod Sole
+pub mod Ancestors
+pub mod Replaying

@@ -5,16 +5,21 @@
 //! not kept.
 #![tactic(auto)]
 
+mod ancestors;
 mod body;
 mod comparing;
 mod forked;
 mod lane;
+mod laws;
 mod place;
+mod replaying;
 mod stray;
 mod value;
 
 pub use comparing::follow;
 pub use forked::Forked;
+pub use laws::{first_record_that_differs_is_unique, tasks_that_differ_are_no_run};
+pub use replaying::{Replayed, replay};
 pub use stray::Stray;
 
 #[cfg(test)]

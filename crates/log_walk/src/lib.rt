@@ -18,6 +18,7 @@ mod spans;
 mod stack;
 mod state;
 mod sweep;
+mod swept;
 mod task;
 mod walking;
 
@@ -26,6 +27,7 @@ pub use laws::{first_bad_place_is_unique, row_tells_its_task, well_formed_folder
 pub use log_segment::Segment;
 pub use race_model::RecordWhy;
 pub use sweep::Sweep;
+pub use swept::sweep_all;
 pub use walking::{walk, walk_as};
 
 #[cfg(test)]

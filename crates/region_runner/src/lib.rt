@@ -1,11 +1,17 @@
 //! A region: its lanes on threads of their own, phase by phase.
 //!
-//! So far the hands of a team, which are split off for a phase and joined after it (`handing`), a lane that executes a phase
-//! (`member`), and five laws, on which the run of a region rests. `hands_tell_each_chunk_once`: what the hands of a team drew from its counters,
-//! the logs of its lanes tell. `works_are_executions`: where the works of all tasks access elements of their widths, and each
-//! task runs its trace as far as what it read is what elements can have, they are an execution of the kernel. `tasks_of_works_are_listed`: the tasks of a tree
-//! of work stand in the order of an index. `ended_executions_are_whole`: where the root of an execution ended, its tasks are those of a
-//! whole run. `joined_hands_did_a_phase`: a hand that split off one for each lane and joined them has the steps of the phase.
+//! So far the region of a team (`region`): the logs of its lanes are opened (`opening`), its phases run one after another, in each
+//! of them every lane on a thread of its own (`member`) with a hand of its own, which is split off for the phase and joined after it
+//! (`handing`), the regions that a lane forks run in turn, and in the end the logs are closed (`closing`) and handed on (`gathering`).
+//! What is told of it is what a lane asks of the function that runs its regions. The root of a kernel, and with it the whole run, is
+//! to come: nothing calls `region` yet but itself.
+//!
+//! Five laws, on which the run rests. `hands_tell_each_chunk_once`: what the hands of a team drew from its counters, the logs of its
+//! lanes tell. `works_are_executions`: where the works of all tasks access elements of their widths, and each task runs its trace as
+//! far as what it read is what elements can have, they are an execution of the kernel. `tasks_of_works_are_listed`: the tasks of a
+//! tree of work stand in the order of an index. `ended_executions_are_whole`: where the root of an execution ended, its tasks are
+//! those of a whole run. `joined_hands_did_a_phase`: a hand that split off one for each lane and joined them has the steps of the
+//! phase.
 #![tactic(auto)]
 
 mod closing;
@@ -22,11 +28,9 @@ mod loops;
 mod member;
 mod opening;
 mod region;
-mod run;
 
 pub use drawn::hands_tell_each_chunk_once;
 pub use executions::works_are_executions;
 pub use finished::ended_executions_are_whole;
 pub use hands::joined_hands_did_a_phase;
 pub use listing::tasks_of_works_are_listed;
-pub use run::{Finished, Stopped, run_kernel};

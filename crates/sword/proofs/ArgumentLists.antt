@@ -2,7 +2,7 @@
 use Rattle.std.proofs.Common.{◌≡◌, ℕ, ◌≤◌, ◌<◌, List, [], ◌∷◌, length, String, string_bytes, get_or, sym, subst, ◌∙◌, arith}
 use Rattle.std.specs.declared.alloc.Global.{Global}
 use Rattle.std.proofs.lemmas.Fmt.{decimal_injective}
-use Rattle.sword.specs.Arguments.{texts, SaysCheck, SaysGen, SaysRun, SaysShow}
+use Rattle.sword.specs.Arguments.{texts, SaysCheck, SaysGen, SaysReplay, SaysRun, SaysShow}
 
 pub texts-three : (arguments : List (String Global)) (a b c : String Global) → 3 ≤ length arguments → length arguments < 4 → a ≡ get_or arguments 0 a → b ≡ get_or arguments 1 b → c ≡ get_or arguments 2 c
     → texts arguments ≡ string_bytes a ∷ string_bytes b ∷ string_bytes c ∷ []
@@ -58,3 +58,12 @@ same_gen arguments rounds other_rounds workers other_workers a b =
     let most = a.rounds_are.most in
     let other_most = b.rounds_are.most in
     decimal_injective rounds other_rounds (omega arith) (omega arith) (sym a.rounds_are.digits ∙ number ∙ b.rounds_are.digits)
+
+-- arguments that ask for a replay name one kernel and one folder
+pub same_replay : (P : List ℕ → List ℕ → Type 0) (arguments : List (List ℕ)) (kernel dir other_kernel other_dir : List ℕ)
+    → SaysReplay arguments kernel dir → SaysReplay arguments other_kernel other_dir → P kernel dir → P other_kernel other_dir
+same_replay P arguments kernel dir other_kernel other_dir a b holds =
+    let both = sym a.are ∙ b.are in
+    let kernel_is : kernel ≡ other_kernel = cc both in
+    let dir_is : dir ≡ other_dir = cc both in
+    subst (λ (k : List ℕ). P k other_dir) kernel_is (subst (P kernel) dir_is holds)

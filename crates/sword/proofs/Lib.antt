@@ -4,3 +4,4 @@ pub mod OneSummary
 pub mod OneAnswer
 pub mod Sweeping
 pub mod Listed
+pub mod Refusals

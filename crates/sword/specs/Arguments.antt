@@ -10,6 +10,7 @@ use Rattle.sword.specs.Texts.{usage_text}
 pub data Request : Type 0 where
   check : (dir : List ℕ) → (workers : ℕ) → Request
   run : (kernel dir : List ℕ) → (size : ℕ) → Request
+  replay : (kernel dir : List ℕ) → Request
   show : (dir : List ℕ) → Request
   gen : (rounds workers : ℕ) → Request
 
@@ -52,6 +53,11 @@ pub record BeginsRun (arguments : List (List ℕ)) (files : Files) : Type 0 wher
   pub says : SaysRun arguments kernel dir size
   pub can : CanRun files kernel dir
 
+pub record SaysReplay (arguments : List (List ℕ)) (kernel dir : List ℕ) : Type 0 where
+  pub are : arguments ≡ codes "replay" ∷ kernel ∷ dir ∷ []
+  pub kernel_is : IsName kernel
+  pub dir_is : IsName dir
+
 pub record SaysShow (arguments : List (List ℕ)) (dir : List ℕ) : Type 0 where
   pub are : arguments ≡ codes "show" ∷ dir ∷ []
   pub dir_is : IsName dir
@@ -67,6 +73,7 @@ pub record SaysGen (arguments : List (List ℕ)) (rounds workers : ℕ) : Type 0
 abbrev pub Says : List (List ℕ) → Request → Type 0
 Says arguments (check dir workers) = SaysCheck arguments dir workers
 Says arguments (run kernel dir size) = SaysRun arguments kernel dir size
+Says arguments (replay kernel dir) = SaysReplay arguments kernel dir
 Says arguments (show dir) = SaysShow arguments dir
 Says arguments (gen rounds workers) = SaysGen arguments rounds workers
 

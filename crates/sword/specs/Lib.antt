@@ -4,3 +4,4 @@ pub mod Show
 pub mod Texts
 pub mod Arguments
 pub mod Gen
+pub mod Replay

@@ -59,3 +59,10 @@ bad_record_text path n why = codes "bad log " ++ bare_log_name path ++ codes " r
 -- record n of the log opens one segment too many
 abbrev pub too_many_segments_text : List Step → ℕ → List ℕ
 too_many_segments_text path n = codes "too many segments at " ++ bare_log_name path ++ codes " record " ++ decimal n ++ codes "\n"
+
+abbrev pub same_text : List ℕ
+same_text = codes "same\n"
+
+-- record n of the log is the first that isn't the kernel's
+abbrev pub differs_text : List Step → ℕ → List ℕ
+differs_text path n = codes "differs " ++ bare_log_name path ++ codes " record " ++ decimal n ++ codes "\n"

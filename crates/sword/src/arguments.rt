@@ -19,6 +19,11 @@ pub enum Command<'a> {
         dir: &'a str,
         size: u64,
     },
+    /// Compare a folder's logs with a kernel.
+    Replay {
+        kernel: &'a str,
+        dir: &'a str,
+    },
     /// Print the records of a folder's logs.
     Show {
         dir: &'a str,
@@ -95,7 +100,7 @@ fn two_arguments<'a>(
     alloc: Global,
     name: &str,
     first: &'a str,
-    second: &str,
+    second: &'a str,
 ) -> Result<Option<Command<'a>>, AllocError>
     ensures said { IfOk result (λ asked. IfSome asked (λ c. Says (name.now ∷ first.now ∷ second.now ∷ []) (request_of c))) }
     ensures usage { IfOk result (λ asked. IfNone asked (IsUsage (name.now ∷ first.now ∷ second.now ∷ []))) }
@@ -106,7 +111,20 @@ fn two_arguments<'a>(
     if name == "gen" {
         return gen_arguments(alloc, first, second);
     }
+    if name == "replay" {
+        return Ok(replay_arguments(first, second));
+    }
     Ok(None)
+}
+
+fn replay_arguments<'a>(kernel: &'a str, dir: &'a str) -> Option<Command<'a>>
+    ensures said { IfSome result (λ c. Says (codes "replay" ∷ kernel.now ∷ dir.now ∷ []) (request_of c)) }
+    ensures usage { IfNone result (IsUsage (codes "replay" ∷ kernel.now ∷ dir.now ∷ [])) }
+{
+    if !is_name(kernel) || !is_name(dir) {
+        return None;
+    }
+    Some(Command::Replay { kernel, dir })
 }
 
 fn gen_arguments<'a>(

@@ -2,7 +2,7 @@
 
 use crate::tests::{answers, arguments};
 use crate::top::sword;
-use command_answer::{DONE, KERNEL_STOPPED, RACES};
+use command_answer::{DIFFERS, DONE, KERNEL_STOPPED, RACES};
 use std::test::Fail;
 use sw_base::{MemFolder, MemOut, NoGate};
 
@@ -69,6 +69,12 @@ fn the_examples_print_what_the_readme_says(rt: HostRuntime) -> Result<(), Fail> 
             "tasks 3\nrecords 22\nsum a 8\n",
         ),
         (&["check", "counted", "2"], DONE, "races 0\n"),
+        (&["replay", "count.kernel", "counted"], DONE, "same\n"),
+        (
+            &["replay", "shift.kernel", "counted"],
+            DIFFERS,
+            "differs t-0.0.swl record 2\n",
+        ),
         (
             &["run", "beyond.kernel", "stopped", "4096"],
             KERNEL_STOPPED,

@@ -1,4 +1,4 @@
-//! `sword` runs fork-join loop kernels and logs their accesses, checks the logs for data races, and prints them.
+//! `sword` runs fork-join loop kernels and logs their accesses, checks the logs for data races, compares them with a kernel, and prints them.
 //!
 //! What it promises stands on `top::sword`: `check` prints exactly the line pairs of accesses that race or names the folder's
 //! first bad place, and a run that ends leaves each task's whole trace under the values that it read.
@@ -13,6 +13,7 @@ mod generating;
 mod host;
 mod printing;
 mod refusing;
+mod replaying;
 mod showing;
 mod texts;
 mod top;
@@ -79,6 +80,8 @@ mod example_tests;
 mod generated_tests;
 #[cfg(test)]
 mod graph_tests;
+#[cfg(test)]
+mod replay_tests;
 #[cfg(test)]
 mod run_tests;
 #[cfg(test)]

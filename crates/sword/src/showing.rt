@@ -1,10 +1,7 @@
 //! `show`: every record of a folder.
-ghost use Rattle.std.specs.Prelude.{◌≡◌, ◌≤◌, List, Ok, IfOk, IfErr, OnOk, IsErrOf};
+ghost use Rattle.std.specs.Prelude.{◌≡◌, IfErr, OnOk, IsErrOf};
 ghost use Rattle.log_format.specs.declared.format.TheConstants.{FORMAT};
 ghost use Rattle.sw_base.specs.Environment.{Rose, WhereTold};
-ghost use Rattle.race_model.specs.Trace.{Trace};
-ghost use Rattle.log_walk.specs.Sweep.{HasSweptAll};
-ghost use Rattle.log_walk.specs.Walk.{TellsFirstBad};
 ghost use Rattle.command_answer.specs.Answer.{Answers, IsFailure};
 ghost use Rattle.command_answer.specs.declared.status.TheConstants.{DONE, USAGE, READ_FAULT, WRITE_FAULT};
 ghost use Rattle.log_listing.specs.declared.unlisted.Unlisted.TheVariants as why;
@@ -14,24 +11,9 @@ ghost use Rattle.sword.specs.Show.{ShowsRecords};
 use crate::refusing::refuse;
 use command_answer::{DONE, NO_MEMORY, READ_FAULT, WRITE_FAULT};
 use log_listing::{Unlisted, list};
-use log_walk::{Sweep, WalkFault};
+use log_walk::sweep_all;
 use std::alloc::Global;
 use sw_base::{Folder, Out};
-
-/// Sweeps through a folder for its first bad place. Segments are dropped.
-fn swept<F: Folder>(alloc: Global, folder: &mut F, dir: &str) -> Result<Sweep, WalkFault>
-    ensures all { IfOk result (λ sweep. (trace : Trace) × HasSweptAll FORMAT (F.content folder.old) dir.now sweep trace) }
-    ensures refused { IfErr result (λ e. WhereTold (F.content folder.old) (λ c. TellsFirstBad FORMAT c.held dir.now e)) }
-
-    ensures same { F.content folder.new ≡ F.content folder.old }
-    ensures later { F.read_faults folder.old ≤ F.read_faults folder.new }
-    ensures cause { IsErrOf result WalkFault.ReadFault → Rose (F.read_faults folder.old) (F.read_faults folder.new) }
-    ensures same_writes { F.write_faults folder.new ≡ F.write_faults folder.old }
-{
-    let (mut sweep, _root) = Sweep::open(alloc, folder, dir)?;
-    'regions: while let Some(_segments) = sweep.next(alloc, folder)? {}
-    Ok(sweep)
-}
 
 /// The status of a listing.
 fn status_of(outcome: Result<(), Unlisted>) -> u8
@@ -58,7 +40,7 @@ pub fn show<F: Folder, O: Out>(alloc: Global, folder: &mut F, out: &mut O, dir: 
     ensures same_writes { F.write_faults folder.new ≡ F.write_faults folder.old }
     ensures no_usage { result ≡ USAGE → ⊥ }
 {
-    match swept(alloc, folder, dir) {
+    match sweep_all(alloc, folder, dir) {
         Ok(sweep) => status_of(list(alloc, folder, out, dir, sweep.rows())),
         Err(refused) => refuse(alloc, out, refused),
     }

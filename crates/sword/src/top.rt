@@ -5,13 +5,15 @@ ghost use Rattle.command_answer.specs.Answer.{Answers, IsFailure, Tries};
 ghost use Rattle.sword.specs.Check.{FolderDue, HasReport};
 ghost use Rattle.run_command.specs.Run.{LeavesPart, RunDue};
 ghost use Rattle.sword.specs.Gen.{GenDue};
+ghost use Rattle.sword.specs.Replay.{ReplayDue};
 ghost use Rattle.sword.specs.Show.{ShowsRecords};
-ghost use Rattle.sword.specs.Arguments.{AsksRun, BeginsRun, IsUsage, SaysCheck, SaysGen, SaysRun, SaysShow, UsageDue, texts};
+ghost use Rattle.sword.specs.Arguments.{AsksRun, BeginsRun, IsUsage, SaysCheck, SaysGen, SaysReplay, SaysRun, SaysShow, UsageDue, texts};
 ghost use Rattle.command_answer.specs.declared.status.TheConstants.{USAGE, READ_FAULT, WRITE_FAULT};
 
 use crate::arguments::{Command, read_arguments};
 use crate::checking::check;
 use crate::generating::check_generated;
+use crate::replaying::replay_file;
 use crate::showing::show;
 use command_answer::{NO_MEMORY, USAGE, print};
 use run_command::run;
@@ -47,6 +49,12 @@ pub fn sword<R: Threads + Sync, F: Folder, O: Out, G: Gate>(
     ensures show { (dir : List ℕ) → SaysShow (texts arguments.now) dir → WhereTold (F.content folder.old) (λ c.
         Answers (FolderDue ShowsRecords c.held dir) (O.written out.old) (O.written out.new) result) }
 
+    // `replay` answers that there is no kernel, or the first bad place of the folder; that the folder holds a run of the kernel, each log the
+    // whole trace of its task under what the log reads and draws; or the first record, in the order of the rows and then by number,
+    // that isn't the trace's.
+    ensures replay { (kernel dir : List ℕ) → SaysReplay (texts arguments.now) kernel dir → WhereTold (F.content folder.old) (λ c.
+        Tries (ReplayDue c.held kernel dir) (O.written out.old) (O.written out.new) result) }
+
     // `gen` answers how many accesses and barrier intervals the run of so many rounds has, and the line pairs of its races.
     ensures gen_ { (rounds workers : ℕ) → SaysGen (texts arguments.now) rounds workers → Answers (GenDue rounds) (O.written out.old) (O.written out.new) result }
 
@@ -79,6 +87,7 @@ pub fn sword<R: Threads + Sync, F: Folder, O: Out, G: Gate>(
         Ok(Some(Command::Run { kernel, dir, size })) => {
             run(rt, alloc, kernel, dir, size as usize, folder, out, gate)
         }
+        Ok(Some(Command::Replay { kernel, dir })) => replay_file(alloc, folder, out, kernel, dir),
         Ok(Some(Command::Show { dir })) => show(alloc, folder, out, dir),
         Ok(Some(Command::Gen { rounds, workers })) => {
             check_generated(rt, alloc, out, gate, rounds as u32, workers as usize)

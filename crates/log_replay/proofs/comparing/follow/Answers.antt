@@ -1,4 +1,4 @@
-use Rattle.std.proofs.Common.{List, [], ap, sym, ◌∙◌, subst, Option, Ok, Err}
+use Rattle.std.proofs.Common.{[], ap, sym, ◌∙◌, subst, Option, Ok, Err}
 use Rattle.std.proofs.lemmas.Result.{err_from_is_err_and}
 use Rattle.sw_base.specs.Environment.{Content}
 use Rattle.kernel_syntax.specs.Program.{team_of}

@@ -5,10 +5,11 @@ use Rattle.command_answer.proofs.Answering.{Answers-of, Tries-from_prints}
 use Rattle.sword.specs.Check.{FolderDue, HasReport}
 use Rattle.run_command.specs.Run.{LeavesPart, RunDue}
 use Rattle.sword.specs.Show.{ShowsRecords}
-use Rattle.sword.specs.Arguments.{UsageDue, check, gen, run, show, texts}
+use Rattle.sword.specs.Arguments.{UsageDue, check, gen, replay, run, show, texts}
 use Rattle.sword.proofs.FolderAnswers.{usage_once}
-use Rattle.sword.proofs.ArgumentLists.{same_check, same_gen, same_run, same_show}
+use Rattle.sword.proofs.ArgumentLists.{same_check, same_gen, same_replay, same_run, same_show}
 use Rattle.sword.specs.Gen.{GenDue}
+use Rattle.sword.specs.Replay.{ReplayDue}
 use Rattle.sword.proofs.OneSummary.{one_summary}
 use Rattle.sword.proofs.top.sword.Goals as goal
 
@@ -83,3 +84,12 @@ returns-in-Ok-Some-Gen-clause-gen_ g c = λ rounds workers says.
 
 pub returns-in-Err-clause-gen_ : goal.returns-in-Err-clause-gen_
 returns-in-Err-clause-gen_ g c = λ rounds workers says. Answers-of (GenDue rounds) (one_summary rounds) _ _ _ (silent (inr (inr refl)) refl)
+
+pub returns-in-Ok-None-clause-replay : goal.returns-in-Ok-None-clause-replay
+returns-in-Ok-None-clause-replay g c = λ kernel dir says. let usage = rw c.in-Ok-None.field-0-is at c.in-Ok-None.ensures.usage in absurd (usage (replay kernel dir) says)
+
+pub returns-in-Ok-Some-Replay-clause-replay : goal.returns-in-Ok-Some-Replay-clause-replay
+returns-in-Ok-Some-Replay-clause-replay g c = λ kernel dir says content told.
+    let said = rw (c.in-Ok-Some-Replay.field-0-is, c.in-Ok-Some-Replay.field-0-0-is) at c.in-Ok-Some-Replay.ensures.said in
+    same_replay (λ (k d : List ℕ). Tries (ReplayDue content.held k d) (g.O.Out.written c.args.out.now) (g.O.Out.written c.replay_file.new.out) c.replay_file.result) (texts c.args.arguments.now) _ _ kernel dir
+    said says (c.replay_file.ensures.answers content told)

@@ -1,4 +1,4 @@
-use Rattle.std.proofs.Common.{ap, sym, ◌∙◌, subst, ℤ, Ok, w64, FitsSigned, rules}
+use Rattle.std.proofs.Common.{ap, sym, ◌∙◌, subst, ℤ, Ok, w64, rules}
 use Rattle.std.proofs.lemmas.Result.{err_from_is_err_and}
 use Rattle.std.proofs.lemmas.Int.{to_z-of_z}
 use Rattle.kernel_syntax.specs.Program.{term_of}

@@ -1,4 +1,4 @@
-use Rattle.std.proofs.Common.{List, refl}
+use Rattle.std.proofs.Common.{refl}
 use Rattle.log_replay.proofs.lane.Lane.begin.Goals as goal
 
 pub returns-clause-begun : goal.returns-clause-begun

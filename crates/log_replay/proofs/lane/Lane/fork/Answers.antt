@@ -7,9 +7,9 @@ use Rattle.log_format.specs.declared.record.Record.{Record}
 use Rattle.kernel_model.specs.State.{Fork, put}
 use Rattle.kernel_syntax.specs.Program.{code_of, team_of}
 use Rattle.kernel_model.specs.Trace.{run}
-use Rattle.log_replay.specs.Following.{Standing, Follows}
+use Rattle.log_replay.specs.Following.{Follows}
 use Rattle.log_replay.specs.Forks.{fork_of, standing}
-use Rattle.log_replay.proofs.Statements.{with_fork, fork_stops, fork_goes}
+use Rattle.log_replay.proofs.Statements.{fork_stops, fork_goes}
 use Rattle.log_replay.proofs.lane.Lane.fork.Goals as goal
 
 pub returns-in_err-put-clause-follows : goal.returns-in_err-put-clause-follows

@@ -1,4 +1,4 @@
-use Rattle.std.proofs.Common.{List, Option, refl, subst, rules}
+use Rattle.std.proofs.Common.{Option, refl, subst, rules}
 use Rattle.log_format.specs.declared.record.Record.{Record}
 use Rattle.log_reader.specs.Reading.{GivesNext}
 use Rattle.log_replay.proofs.Stepping.{gives_took, none_is_left}

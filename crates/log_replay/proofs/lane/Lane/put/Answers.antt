@@ -1,4 +1,4 @@
-use Rattle.std.proofs.Common.{List, refl, rules}
+use Rattle.std.proofs.Common.{refl, rules}
 use Rattle.std.proofs.lemmas.Result.{err_from_is_err_and}
 use Rattle.log_replay.specs.Forks.{standing}
 use Rattle.log_replay.proofs.Stepping.{put_reaches, put_strays, unread}

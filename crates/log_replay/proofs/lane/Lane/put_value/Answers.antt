@@ -1,10 +1,9 @@
-use Rattle.std.proofs.Common.{◌≡◌, ap, sym, ◌∙◌, subst, ℤ, w64, to_z, of_z, FitsSigned, rules}
+use Rattle.std.proofs.Common.{◌≡◌, ap, sym, ◌∙◌, subst, ℤ, w64, to_z, of_z, rules}
 use Rattle.std.proofs.lemmas.Int.{to_z-of_z}
 use Rattle.kernel_syntax.specs.Arithmetic.{fitted}
 use Rattle.kernel_model.specs.State.{put}
-use Rattle.kernel_model.specs.Value.{element_at, access}
+use Rattle.kernel_model.specs.Value.{element_at}
 use Rattle.log_format.specs.declared.record.Record.{Record}
-use Rattle.log_format.specs.declared.record.Kind.TheVariants as kind
 use Rattle.log_replay.specs.Following.{Follows}
 use Rattle.log_replay.specs.Forks.{standing}
 use Rattle.log_replay.specs.Placing.{meant}

@@ -1,4 +1,4 @@
-use Rattle.std.proofs.Common.{◌≡◌, List, ℤ, refl, sym, ap, ◌∙◌, subst, w64, to_z, of_z, FitsSigned, rules}
+use Rattle.std.proofs.Common.{◌≡◌, ℤ, refl, sym, ap, ◌∙◌, subst, w64, to_z, of_z, rules}
 use Rattle.std.proofs.lemmas.Result.{err_from_is_err_and}
 use Rattle.std.proofs.lemmas.Int.{to_z-of_z}
 use Rattle.log_format.specs.declared.record.Kind.TheVariants as kind

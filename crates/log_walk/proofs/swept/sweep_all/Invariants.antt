@@ -1,0 +1,19 @@
+use Rattle.std.proofs.Common.{◌≡◌, ◌≤◌}
+use Rattle.log_format.specs.declared.format.TheConstants.{FORMAT}
+use Rattle.race_model.specs.Trace.{Trace}
+use Rattle.log_walk.specs.Sweep.{HasRefused, HasSwept, logs_left}
+use Rattle.log_walk.specs.declared.fault.WalkFault.{WalkFault}
+use Rattle.log_walk.proofs.swept.sweep_all.Given as goal
+
+abbrev pub invariant-regions : goal.invariant-regions
+invariant-regions g l = record {
+  trace : Trace;
+  swept : HasSwept FORMAT (g.F.Folder.content l.fn.folder) l.dir l.sweep trace;
+  fresh : (e : WalkFault) → HasRefused l.sweep e → ⊥;
+  same : g.F.Folder.content l.folder ≡ g.F.Folder.content l.fn.folder;
+  later : g.F.Folder.read_faults l.fn.folder ≤ g.F.Folder.read_faults l.folder;
+  same_writes : g.F.Folder.write_faults l.folder ≡ g.F.Folder.write_faults l.fn.folder;
+}
+
+abbrev pub decreases-regions : goal.decreases-regions
+decreases-regions g l = logs_left l.sweep

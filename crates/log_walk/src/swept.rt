@@ -1,0 +1,27 @@
+//! A folder gone over for its first bad place alone.
+ghost use Rattle.std.specs.Prelude.{◌≡◌, ◌≤◌, IfOk, IfErr, IsErrOf};
+ghost use Rattle.log_format.specs.declared.format.TheConstants.{FORMAT};
+ghost use Rattle.sw_base.specs.Environment.{Rose, WhereTold};
+ghost use Rattle.race_model.specs.Trace.{Trace};
+ghost use Rattle.log_walk.specs.Sweep.{HasSweptAll};
+ghost use Rattle.log_walk.specs.Walk.{TellsFirstBad};
+
+use crate::fault::WalkFault;
+use crate::sweep::Sweep;
+use std::alloc::Global;
+use sw_base::Folder;
+
+/// Sweeps through a folder for its first bad place. Segments are dropped.
+pub fn sweep_all<F: Folder>(alloc: Global, folder: &mut F, dir: &str) -> Result<Sweep, WalkFault>
+    ensures all { IfOk result (λ sweep. (trace : Trace) × HasSweptAll FORMAT (F.content folder.old) dir.now sweep trace) }
+    ensures refused { IfErr result (λ e. WhereTold (F.content folder.old) (λ c. TellsFirstBad FORMAT c.held dir.now e)) }
+
+    ensures same { F.content folder.new ≡ F.content folder.old }
+    ensures later { F.read_faults folder.old ≤ F.read_faults folder.new }
+    ensures cause { IsErrOf result WalkFault.ReadFault → Rose (F.read_faults folder.old) (F.read_faults folder.new) }
+    ensures same_writes { F.write_faults folder.new ≡ F.write_faults folder.old }
+{
+    let (mut sweep, _root) = Sweep::open(alloc, folder, dir)?;
+    'regions: while let Some(_segments) = sweep.next(alloc, folder)? {}
+    Ok(sweep)
+}
