@@ -1,12 +1,12 @@
 -- The logs of a lane and of all tasks below it, once its own is closed.
-use Rattle.std.proofs.Common.{◌≡◌, refl, ap, sym, ◌∙◌, subst, ℕ, List, [], ◌∷◌, ◌++◌, length, ◌<◌, Some, None, Result, Ok, Err}
+use Rattle.std.proofs.Common.{◌≡◌, ap, sym, ◌∙◌, subst, ℕ, List, [], ◌∷◌, ◌++◌, ◌<◌, Some, None, Result, Ok}
 use Rattle.std.specs.Prelude.{is_some, IsErr}
 use Rattle.std.proofs.lemmas.Option.{same_Some}
 use Rattle.sw_base.specs.declared.trouble.Trouble.{Trouble}
 use Rattle.sw_base.specs.declared.trouble.Trouble.TheVariants.{Failed}
 use Rattle.std.specs.List.{flat_map}
 use Rattle.sw_base.specs.declared.path.Step.{Step}
-use Rattle.sw_base.specs.Environment.{Text, WhereTold}
+use Rattle.sw_base.specs.Environment.{WhereTold}
 use Rattle.log_format.specs.declared.record.Record.{Record}
 use Rattle.log_format.specs.declared.format.TheConstants.{FORMAT}
 use Rattle.log_format.specs.Format.{log_header}
@@ -14,8 +14,8 @@ use Rattle.event_buffer.specs.Buffered.{Buffered, CountsFault}
 use Rattle.event_buffer.specs.Logged.{HoldsRecords, HasAll, KeepsPrefix}
 use Rattle.history_model.specs.Work.{Work, RegionWork, work_regions}
 use Rattle.execution_model.specs.Runs.{works_log}
-use Rattle.lane_runner.specs.Going.{Progress, WorkHandsOn, log_of}
-use Rattle.lane_runner.specs.Handed.{Entry, LogPlace, MaybeStop, IsForMemory, MayLack, Keeps, IsEntryOf, TaskHands, RegionsHand, HandsOn, place_of}
+use Rattle.lane_runner.specs.Going.{Progress, WorkHandsOn}
+use Rattle.lane_runner.specs.Handed.{Entry, LogPlace, MaybeStop, IsForMemory, MayLack, Keeps, IsEntryOf, TaskHands, RegionsHand, place_of}
 use Rattle.lane_runner.proofs.Handing.{regions_weaker}
 use Rattle.region_runner.specs.Closing.{IsClosedAs}
 use Rattle.region_runner.specs.Ran.{in_one, HasLogged}

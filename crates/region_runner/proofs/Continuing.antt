@@ -1,13 +1,12 @@
 -- A task goes on with one phase more.
-use Rattle.std.proofs.Common.{◌≡◌, refl, ap, sym, ◌∙◌, subst, ℕ, ◌+◌, ◌-◌, List, [], ◌∷◌, ◌++◌, length, ℤ, Option, Some, None, Result, Ok, Err, arith}
-use Rattle.std.proofs.lemmas.List.{append-nil, length-append}
+use Rattle.std.proofs.Common.{◌≡◌, refl, ap, sym, ◌∙◌, subst, ℕ, ◌+◌, ◌-◌, List, [], ◌∷◌, ◌++◌, length, ℤ, None, Result, Ok, Err, arith}
+use Rattle.std.proofs.lemmas.List.{length-append}
 use Rattle.log_format.specs.declared.record.Record.{Record}
 use Rattle.kernel_syntax.specs.Program.{Program}
 use Rattle.kernel_model.specs.State as model
 use Rattle.kernel_model.specs.State.{State, Fork, Outcome, and_then, after, state_of}
-use Rattle.kernel_model.specs.Growth.{Grows}
 use Rattle.kernel_model.specs.Trace.{log_limit}
-use Rattle.kernel_model.specs.Effect.{Effect, Finish, Returned, Halted, Makes, then_effect}
+use Rattle.kernel_model.specs.Effect.{Effect, Finish, Returned, Halted, Makes}
 use Rattle.kernel_model.proofs.Effects.{makes-then, makes-same}
 use Rattle.history_model.specs.Work.{Work, Rest, Put, RegionWork, work_records, work_regions, then_work}
 use Rattle.history_model.proofs.TaskEntries.{then_records}

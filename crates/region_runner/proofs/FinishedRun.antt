@@ -1,10 +1,9 @@
 -- Where the root of an execution ended, every task did, and the tasks are those of a whole run.
-use Rattle.std.proofs.Common.{◌≡◌, refl, ap, sym, ◌∙◌, subst, inl, inr, ◌⊎◌, ℕ, zero, suc, ◌+◌, ◌<◌, ◌≤◌, arith, Bool, true, false, cond, List, [], ◌∷◌, ◌++◌, length, take, map, replicate, slice_get, Option, Some, None, IsSome, All, length-append, true≢false}
-use Rattle.std.specs.Prelude.{Contains, option_map, is_some}
+use Rattle.std.proofs.Common.{◌≡◌, refl, ap, sym, ◌∙◌, subst, inl, inr, ◌⊎◌, ℕ, zero, suc, ◌+◌, ◌<◌, arith, Bool, true, false, cond, List, [], ◌∷◌, ◌++◌, length, take, replicate, slice_get, Option, Some, None, IsSome, length-append, true≢false}
+use Rattle.std.specs.Prelude.{option_map, is_some}
 use Rattle.std.specs.List.{AllByRecursion, IsDistinct, cons_option}
 use Rattle.std.proofs.lemmas.List.{length-replicate}
 use Rattle.std.proofs.lemmas.Option.{same_Some, slice_get-map}
-use Rattle.std.proofs.lemmas.List.Elements.{All-nil, All-cons}
 use Rattle.std.proofs.lemmas.List.Sums.{sum_by-cons}
 use Rattle.sw_base.specs.declared.path.Step.{Step}
 use Rattle.log_format.specs.declared.record.Record.{Record}
@@ -15,14 +14,14 @@ use Rattle.race_model.specs.ForkJoin.{ListsTask}
 use Rattle.race_model.specs.Order.{IsLane}
 use Rattle.race_model.specs.Trace.{TaskLog, Trace, Logs, Node, logs_of, path_eq, is_region_kind, region_count}
 use Rattle.race_model.proofs.ListedOnce.{logs_at}
-use Rattle.race_model.proofs.TraceLogs.{all_at, path_is}
+use Rattle.race_model.proofs.TraceLogs.{path_is}
 use Rattle.kernel_syntax.specs.Program.{Program}
 use Rattle.kernel_model.specs.State.{Fork}
 use Rattle.kernel_model.specs.Trace.{Start}
 use Rattle.kernel_model.specs.Folder.{own_trace, root_start, lane_start, start_at, IsTraced, IsTracedTask, IsTracedFolder, paths_of}
-use Rattle.kernel_model.proofs.EndedTraces.{EndsLast, IsWholeTrace, whole_trace}
-use Rattle.kernel_model.proofs.LawfulFolder.{IsLaneStart, lane_started, at_lane, at_root, each_task, descend}
-use Rattle.kernel_model.proofs.LawfulRecords.{span_told, spans_of, spans_forked}
+use Rattle.kernel_model.proofs.EndedTraces.{IsWholeTrace, whole_trace}
+use Rattle.kernel_model.proofs.LawfulFolder.{lane_started, at_lane, at_root, each_task, descend}
+use Rattle.kernel_model.proofs.LawfulRecords.{span_told, spans_of}
 use Rattle.history_model.specs.Joined.{LastIsEnd}
 use Rattle.execution_model.specs.Execution.{IsExecution, IsBegun}
 

@@ -1,5 +1,5 @@
 -- The regions that the lanes of a phase fork.
-use Rattle.std.proofs.Common.{◌≡◌, ℕ, List}
+use Rattle.std.proofs.Common.{ℕ, List}
 use denote.Ref.{Bor, MutBor}
 use Rattle.std.specs.Prelude.{All}
 use Rattle.std.specs.Global.{Vec}

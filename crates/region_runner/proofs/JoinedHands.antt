@@ -1,14 +1,14 @@
 -- Hands that were split off and joined add the steps of a phase.
-use Rattle.std.proofs.Common.{◌≡◌, refl, ap, sym, ◌∙◌, subst, ℕ, zero, suc, ◌+◌, ◌<◌, ◌≤◌, arith, Bool, true, false, cond, List, [], ◌∷◌, ◌++◌, append_assoc}
-use Rattle.std.specs.Prelude.{not, ◌==◌, filter}
+use Rattle.std.proofs.Common.{◌≡◌, refl, ap, sym, ◌∙◌, subst, ℕ, zero, suc, ◌+◌, ◌≤◌, arith, Bool, true, false, cond, List, [], ◌∷◌, ◌++◌, append_assoc}
+use Rattle.std.specs.Prelude.{not, ◌==◌}
 use Rattle.std.proofs.lemmas.List.{append-nil}
 use Rattle.std.proofs.lemmas.Bool.Decides.{nat_tests}
 use Rattle.step_history.specs.declared.item.Item.{Item}
 use Rattle.step_history.specs.declared.item.Deed.TheVariants as deed
-use Rattle.step_history.specs.History.{Name, item}
+use Rattle.step_history.specs.History.{item}
 use Rattle.shared_words.specs.declared.view.View.{View}
 use Rattle.shared_words.specs.Views.{newcomer, IsAtRest, parted, without, split_number, after_meeting}
-use Rattle.history_model.specs.Work.{Work, TeamWork, NoWork, Beside, NoPhase, Phase}
+use Rattle.history_model.specs.Work.{TeamWork, NoWork, Beside, NoPhase, Phase}
 use Rattle.history_model.specs.Did.{did, did_team, did_phases, splits_of, lane_count_of, phase_splits}
 use Rattle.lane_runner.specs.Going.{worked}
 use Rattle.lane_runner.specs.Forking.{after_phases}

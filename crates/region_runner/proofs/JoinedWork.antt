@@ -1,6 +1,6 @@
 -- Who goes on after a region has waited for its lanes.
-use Rattle.std.proofs.Common.{◌≡◌, ◌⊎◌, inl, inr, refl, ap, sym, ◌∙◌, subst, ℕ, List, [], ◌∷◌, ◌++◌, ℤ, Result, Ok, Err}
-use Rattle.std.specs.Prelude.{map, All, reverse}
+use Rattle.std.proofs.Common.{◌≡◌, inl, inr, refl, ap, sym, ◌∙◌, subst, ℕ, List, [], ◌∷◌, ◌++◌, ℤ, Result, Ok, Err}
+use Rattle.std.specs.Prelude.{map}
 use Rattle.std.proofs.lemmas.List.{append-nil}
 use Rattle.std.proofs.lemmas.List.Elements.{All-head, All-tail}
 use Rattle.log_format.specs.declared.record.Record.{Record}
@@ -13,11 +13,10 @@ use Rattle.race_model.specs.Trace.{barrier_count}
 use Rattle.history_model.specs.Work.{Work, Rest, Put, RegionWork, fork_record, work_records, work_regions}
 use Rattle.history_model.specs.Sound.{WordLayout, IsSound}
 use Rattle.history_model.specs.Joined.{IsJoined, PhasesEnd, ArePhasesJoined}
-use Rattle.kernel_syntax.specs.declared.syntax.Array.{Array}
 use Rattle.lane_runner.specs.declared.stop.Halt.{Halt}
 use Rattle.lane_runner.specs.declared.stop.Halt.TheVariants as halt
 use Rattle.lane_runner.specs.Stopping.{HaveEnded, LastIsRegion}
-use Rattle.lane_runner.specs.World.{WorldValue, element_word, element_width, layout_of}
+use Rattle.lane_runner.specs.World.{WorldValue, layout_of}
 use Rattle.lane_runner.specs.Going.{Progress, HasReleased, Cause, AtLog, AtRegion, AtTasks, EndsBy, StopsBy, log_of, MadePast, Began, GoesPast}
 use Rattle.region_runner.specs.Team.{DidWork}
 

@@ -1,15 +1,13 @@
 -- A phase, and the End that a lane puts after the last one.
-use Rattle.std.proofs.Common.{◌≡◌, refl, ap, sym, ◌∙◌, subst, ℕ, ◌≤◌, List, [], ◌∷◌, ◌++◌, map, ℤ, Option, Some, None, Result, Ok, Err}
+use Rattle.std.proofs.Common.{refl, ap, sym, ◌∙◌, subst, ℕ, List, map, ℤ, Option, Some, None, Result, Ok, Err}
 use Rattle.std.specs.Prelude.{OnOk}
-use Rattle.log_format.specs.declared.record.Record.{Record}
 use Rattle.log_format.specs.declared.record.Kind.TheVariants as kind
 use Rattle.kernel_model.specs.declared.phase.Item.{Item}
 use Rattle.kernel_model.specs.Parts.{bar_count, run_parts}
 use Rattle.kernel_model.specs.Phases.{part_of}
-use Rattle.kernel_model.specs.State.{State, event, put}
+use Rattle.kernel_model.specs.State.{event, put}
 use Rattle.kernel_model.specs.Effect.{Returned}
-use Rattle.history_model.specs.Work.{Work, Rest, Put, work_records, then_work}
-use Rattle.history_model.specs.Joined.{LastIsEnd}
+use Rattle.history_model.specs.Work.{Rest, Put, work_records, then_work}
 use Rattle.history_model.proofs.TaskEntries.{then_records}
 use Rattle.lane_runner.specs.declared.stop.Halt.{Halt}
 use Rattle.lane_runner.specs.Going.{Progress, CanGo, GoesPast, MadePast, TakesOrHalts, site}

@@ -1,15 +1,14 @@
 -- What the rules of the language say of the parts of a team's body.
-use Rattle.std.proofs.Common.{◌≡◌, ◌≢◌, refl, ap, sym, ◌∙◌, subst, ℕ, zero, suc, ◌+◌, ◌<◌, ◌≤◌, Bool, true, false, List, [], ◌∷◌, ◌++◌, length, map, ℤ, pos, ◌+ℤ◌, Option, Some, None, arith}
+use Rattle.std.proofs.Common.{◌≡◌, refl, ℕ, zero, suc, ◌+◌, ◌<◌, ◌≤◌, Bool, true, false, List, [], ◌∷◌, ◌++◌, ℤ, pos, ◌+ℤ◌, Option, Some, None, arith}
 use Rattle.std.specs.Prelude.{All, ◌||◌, ◌&&◌, ◌*◌, is_some}
 use Rattle.std.proofs.lemmas.List.Elements.{All-nil, All-cons, All-head, All-tail, All-append}
 use Rattle.kernel_syntax.specs.Bounds.{IsBoundedCode}
 use Rattle.kernel_syntax.specs.Tree as tree
 use Rattle.kernel_syntax.specs.Tree.{Term, Code, Done, TeamTree}
 use Rattle.kernel_model.specs.Iterations.{total_of}
-use Rattle.kernel_model.specs.Lawful.{Scope, IsScoped, IsEven, IsNested, code_holds_work, fixed_bound, has_fixed_bounds, bounds_of, unrolled_bounds, with_variable, variable_at, after_assigning}
+use Rattle.kernel_model.specs.Lawful.{Scope, IsScoped, IsEven, IsNested, code_holds_work, fixed_bound, bounds_of, unrolled_bounds, with_variable, variable_at, after_assigning}
 use Rattle.kernel_model.specs.Parts.{Part, Set, Run, Bar, unrolled, loop_parts, end_parts, parts_of}
 use Rattle.lane_runner.specs.Alone.{IsAlone}
-use Rattle.lane_runner.specs.Phase.{IsOfTeam}
 use Rattle.lane_runner.specs.Teams.{EachTeam}
 use Rattle.region_runner.specs.Lawful.{IsTeam, IsInnerTeam, IsLawfulPart}
 

@@ -1,7 +1,6 @@
 -- What the rules of the language say of the phases of a team.
-use Rattle.std.proofs.Common.{◌≡◌, ◌⊎◌, inl, inr, refl, ap, sym, ◌∙◌, subst, ℕ, ◌+◌, ◌≤◌, List, [], ◌∷◌, ◌++◌, map, arith}
+use Rattle.std.proofs.Common.{◌≡◌, ◌⊎◌, inl, inr, sym, subst, ℕ, ◌+◌, List, [], ◌∷◌, ◌++◌, map}
 use Rattle.std.specs.Prelude.{All}
-use Rattle.std.specs.List.{flat_map}
 use Rattle.std.proofs.lemmas.List.{map-append}
 use Rattle.std.proofs.lemmas.List.Elements.{All-nil, All-cons, All-head, All-tail, All-append}
 use Rattle.kernel_syntax.specs.Program.{stmt_code}
@@ -9,9 +8,9 @@ use Rattle.kernel_syntax.specs.Tree as tree
 use Rattle.kernel_syntax.specs.Tree.{Code, Done, TeamTree}
 use Rattle.kernel_model.specs.declared.phase.Item.{Item}
 use Rattle.kernel_model.specs.declared.phase.Item.TheVariants as item
-use Rattle.kernel_model.specs.Parts.{Part, Set, Run, Bar, parts_of}
+use Rattle.kernel_model.specs.Parts.{Part, Run, parts_of}
 use Rattle.kernel_model.specs.Phases.{part_of, without_barrier, items_in, parts_in, AreDivided, EndsInBar, IsNoBar}
-use Rattle.lane_runner.specs.Phase.{IsItem, IsPhase}
+use Rattle.lane_runner.specs.Phase.{IsItem}
 use Rattle.lane_runner.specs.Teams.{EachTeamIn}
 use Rattle.region_runner.specs.Lawful.{IsTeam, IsInnerTeam, IsLawfulPart, IsLawfulPhase}
 use Rattle.region_runner.proofs.LawfulParts.{team_parts}

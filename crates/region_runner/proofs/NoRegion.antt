@@ -1,5 +1,5 @@
 -- A region none of whose lanes executed anything.
-use Rattle.std.proofs.Common.{◌≡◌, refl, inl, ap, sym, ◌∙◌, subst, ℕ, zero, suc, ◌+◌, ◌<◌, ◌==◌, true, List, [], ◌∷◌, ◌++◌, ℤ, Some, None, Err, arith}
+use Rattle.std.proofs.Common.{◌≡◌, refl, inl, ap, sym, ◌∙◌, subst, ℕ, zero, suc, ◌+◌, ◌==◌, true, List, [], ◌∷◌, ◌++◌, ℤ, Some, None, Err, arith}
 use Rattle.std.specs.Prelude.{All, count_by, map, slice_get, slice_index_or}
 use Rattle.std.specs.List.{flat_map, range_with_len}
 use Rattle.std.proofs.lemmas.List.{append-nil}
@@ -25,7 +25,7 @@ use Rattle.lane_runner.specs.declared.stop.Stop.{Stop}
 use Rattle.lane_runner.specs.declared.stop.Stop.TheVariants as stop
 use Rattle.lane_runner.specs.Forking.{Answer, EndsAs, RanRegion, stop_in}
 use Rattle.lane_runner.specs.Handed.{Entry, LogPlace, MaybeStop, IsForMemory, HandsOn, TaskHands, RegionsHand, LanesHand, place_of}
-use Rattle.lane_runner.specs.Stopping.{IsInRegion, StopsRegion}
+use Rattle.lane_runner.specs.Stopping.{IsInRegion}
 use Rattle.lane_runner.specs.World.{WorldValue}
 use Rattle.lane_runner.proofs.Working.{hand_still, view_same}
 use Rattle.region_runner.specs.Gathering.{ClosedValue, Gathered}

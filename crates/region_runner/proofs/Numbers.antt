@@ -1,5 +1,5 @@
 -- From the numbers that hands drew to those that logs tell.
-use Rattle.std.proofs.Common.{◌≡◌, refl, ap, sym, ◌∙◌, subst, ℕ, zero, suc, ◌+◌, ◌<◌, ◌≤◌, min, arith, Bool, true, false, cond, List, [], ◌∷◌, ◌++◌, get_or, slice_get, slice_index_or, Option, Some, None, All, true≢false}
+use Rattle.std.proofs.Common.{◌≡◌, refl, ap, sym, ◌∙◌, subst, ℕ, zero, suc, ◌+◌, ◌<◌, ◌≤◌, min, arith, Bool, true, false, cond, List, [], ◌∷◌, ◌++◌, get_or, slice_get, slice_index_or, Some, None, All}
 use Rattle.std.specs.Prelude.{◌==◌, filter, map, nat_lt, Contains}
 use Rattle.std.specs.List.{flat_map}
 use Rattle.std.proofs.lemmas.List.Elements.{All-nil, All-cons}
@@ -8,7 +8,7 @@ use Rattle.std.proofs.lemmas.Option.{same_Some}
 use Rattle.log_format.specs.declared.record.Record.{Record}
 use Rattle.log_format.specs.declared.record.Kind.{Kind}
 use Rattle.log_format.specs.declared.record.Kind.TheVariants as kind
-use Rattle.race_model.specs.Draws.{in_first_loop, with_draw, draws_by_loop, loop_draws, with_closing, closed_loops, DrewEachOnce}
+use Rattle.race_model.specs.Draws.{in_first_loop, with_draw, draws_by_loop, with_closing, closed_loops, DrewEachOnce}
 use Rattle.history_model.specs.Drawn.{LaneDraws, TellsDraws, GaveEachOnce, times_given}
 use Rattle.kernel_model.specs.State.{number_drawn}
 use Rattle.kernel_model.specs.Chunking as count

@@ -8,7 +8,7 @@ use Rattle.std.proofs.lemmas.List.{append-nil, get_or_append_left}
 use Rattle.sw_base.specs.declared.path.Step.{Step}
 use Rattle.sw_base.specs.declared.trouble.Trouble.{Trouble}
 use Rattle.sw_base.specs.declared.trouble.Trouble.TheVariants.{Failed}
-use Rattle.sw_base.specs.Environment.{Text, TearsPiece, WhereTold, empty_text, with_piece, with_torn}
+use Rattle.sw_base.specs.Environment.{Text, TearsPiece, WhereTold, empty_text, with_piece}
 use Rattle.log_format.specs.declared.format.TheConstants.{FORMAT}
 use Rattle.log_format.specs.Format.{log_header}
 use Rattle.event_buffer.specs.Buffered.{Buffered}

@@ -1,21 +1,20 @@
 -- The logs of a team's lanes, once all are opened or closed.
-use Rattle.std.proofs.Common.{◌≡◌, ◌≢◌, refl, ap, sym, ◌∙◌, subst, ℕ, ◌<◌, List, [], length, map, ℤ, Option, Some, None, Result, Ok, Err, slice_index_or, arith}
+use Rattle.std.proofs.Common.{◌≡◌, ◌≢◌, ap, sym, ◌∙◌, subst, ℕ, ◌<◌, List, [], length, map, ℤ, Option, Some, None, Result, Ok, Err, slice_index_or, arith}
 use Rattle.std.specs.Prelude.{IsErr}
 use Rattle.std.proofs.lemmas.List.{get_or-map, length-map}
 use Rattle.sw_base.specs.declared.path.Step.{Step}
-use Rattle.sw_base.specs.Environment.{Text}
 use Rattle.race_model.specs.Listing.{lane_of}
 use Rattle.log_format.specs.declared.format.TheConstants.{FORMAT}
 use Rattle.log_format.specs.Format.{log_header}
 use Rattle.shared_words.specs.declared.share.Share.{Share}
 use Rattle.shared_words.specs.Handles.{HandValue}
 use Rattle.lane_runner.specs.declared.stop.Halt.{Halt}
-use Rattle.lane_runner.specs.Handed.{Entry, HandsOn, LogPlace, place_of}
+use Rattle.lane_runner.specs.Handed.{Entry, HandsOn, LogPlace}
 use Rattle.lane_runner.specs.Drawing.{Tally}
 use Rattle.lane_runner.proofs.Handing.{hand_none}
 use Rattle.region_runner.specs.Begins.{LaneBegins}
 use Rattle.region_runner.specs.Closing.{HasTaken}
-use Rattle.region_runner.specs.Gathering.{ClosedValue, LaneGave, region_stop}
+use Rattle.region_runner.specs.Gathering.{ClosedValue, region_stop}
 use Rattle.region_runner.specs.Member.{MemberValue}
 use Rattle.region_runner.specs.Opening.{AreLanes, AreTorn, ClosesAs, GaveNothing, OneTorn, OpensAs, lent_hand}
 

@@ -1,5 +1,5 @@
 -- What the lanes of a region did, once it rests.
-use Rattle.std.proofs.Common.{◌≡◌, refl, ap, sym, ◌∙◌, subst, ℕ, ◌+◌, ◌<◌, List, [], ◌∷◌, ◌++◌, length, ℤ, Option, Some, None, Result, Err, slice_index_or, arith}
+use Rattle.std.proofs.Common.{◌≡◌, refl, ap, sym, ◌∙◌, subst, ℕ, ◌<◌, List, [], ℤ, Option, Some, slice_index_or}
 use Rattle.sw_base.specs.declared.path.Step.{Step}
 use Rattle.race_model.specs.Listing.{lane_of}
 use Rattle.kernel_syntax.specs.Program.{Program}
@@ -11,7 +11,7 @@ use Rattle.kernel_model.specs.Value.{Site}
 use Rattle.kernel_model.specs.declared.phase.Item.{Item}
 use Rattle.kernel_model.specs.Parts.{run_parts}
 use Rattle.kernel_model.specs.Phases.{parts_in}
-use Rattle.history_model.specs.Work.{Phases, lane_works}
+use Rattle.history_model.specs.Work.{lane_works}
 use Rattle.execution_model.specs.Execution.{DrewSome}
 use Rattle.execution_model.specs.Runs.{RunsTask, lane_begin, region_logs, works_log}
 use Rattle.shared_words.specs.declared.share.Share.{Share}
@@ -29,7 +29,7 @@ use Rattle.region_runner.specs.Crew.{CrewValue, world_of}
 use Rattle.region_runner.specs.Drawing.{drawn_by}
 use Rattle.region_runner.specs.Member.{MemberValue, answer_of}
 use Rattle.region_runner.specs.Ran.{TaskGoes, task_part}
-use Rattle.region_runner.specs.Stands.{LaneStands, TeamRan}
+use Rattle.region_runner.specs.Stands.{TeamRan}
 use Rattle.region_runner.specs.Stopping.{stop_of}
 use Rattle.region_runner.proofs.RegionDraws.{goes_logged, lane_drew, region_draws}
 use Rattle.region_runner.proofs.RegionLanes.{BeginsLane, lane_ran, task_begins}
@@ -76,8 +76,7 @@ module _ (crew : CrewValue) (team : TeamTree) (slots : List ℤ) (items : List (
       let stands = ran.stands.lanes k d less in
       let logged = goes_logged (world_of crew k) (task_part (site (world_of crew k)) ran.done ran.end) slots (now k).slots (start k).at stands.last (lane_works k ran.phases) (answer_of (now k).halt) (lane_goes k less) in
       let mine : (start k).at.tally.draws ≡ draws k = ap (λ (t : Tally). t.draws) (begins k d less).tally in
-      let drew : (now k).at.tally.draws ≡ record (start k).at.tally.draws { view = after_draws logged.draws.drawn (start k).at.tally.draws.view } = ap (λ (t : Tally). t.draws) stands.up.tally ∙ logged.draws.draws in
-      (
+      let drew : (now k).at.tally.draws ≡ record (start k).at.tally.draws { view = after_draws logged.draws.drawn (start k).at.tally.draws.view } = ap (λ (t : Tally). t.draws) stands.up.tally ∙ logged.draws.draws in (
         ap (λ (h : HandValue Share). h.table) drew ∙ ap (λ (h : HandValue Share). h.table) mine,
         ap (λ (h : HandValue Share). h.there) drew ∙ ap (λ (h : HandValue Share). h.there) mine,
         ap (λ (h : HandValue Share). h.view.first) drew ∙ ap (λ (h : HandValue Share). h.view.first) mine,

@@ -1,10 +1,10 @@
 -- What the lanes of a region drew, once it rests.
-use Rattle.std.proofs.Common.{◌≡◌, ap, sym, ◌∙◌, subst, ℕ, ◌<◌, List, [], ◌∷◌, ◌++◌, ℤ, Result, Ok, Err}
+use Rattle.std.proofs.Common.{◌≡◌, ap, sym, ◌∙◌, subst, ℕ, ◌<◌, List, [], ◌++◌, ℤ, Result, Ok, Err}
 use Rattle.log_format.specs.declared.record.Record.{Record}
 use Rattle.kernel_syntax.specs.Program.{Program}
 use Rattle.kernel_model.specs.State.{State, Fork, Outcome}
 use Rattle.kernel_model.specs.Trace.{Start}
-use Rattle.kernel_model.specs.Chunking.{TellFirst, HasCounts}
+use Rattle.kernel_model.specs.Chunking.{HasCounts}
 use Rattle.history_model.specs.Work.{Work, Phases, lane_works}
 use Rattle.execution_model.specs.Execution.{BeginsTrace, DrewSome}
 use Rattle.execution_model.specs.Runs.{RunsTask, lane_begin, region_logs, works_log}
@@ -13,7 +13,7 @@ use Rattle.shared_words.specs.Draws.{AreEachOnce, numbers}
 use Rattle.shared_words.specs.Handles.{HandValue}
 use Rattle.lane_runner.specs.declared.stop.Halt.{Halt}
 use Rattle.lane_runner.specs.declared.stop.Halt.TheVariants as halt
-use Rattle.lane_runner.specs.Drawing.{TellDraws, after_draws}
+use Rattle.lane_runner.specs.Drawing.{TellDraws}
 use Rattle.lane_runner.specs.Going.{Progress, log_of}
 use Rattle.lane_runner.specs.World.{WorldValue}
 use Rattle.region_runner.specs.Drawing.{drawn_by}

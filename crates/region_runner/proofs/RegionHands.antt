@@ -1,10 +1,10 @@
 -- The logs that the lanes of a region hand on, lane after lane.
-use Rattle.std.proofs.Common.{◌≡◌, ◌⊎◌, inl, inr, refl, ap, sym, ◌∙◌, subst, ℕ, zero, suc, ◌+◌, ◌<◌, List, [], ◌∷◌, ◌++◌, Some, None, append_assoc, arith}
+use Rattle.std.proofs.Common.{◌≡◌, inl, inr, refl, ap, sym, ◌∙◌, subst, ℕ, zero, suc, ◌+◌, ◌<◌, List, [], ◌∷◌, ◌++◌, Some, append_assoc, arith}
 use Rattle.std.proofs.lemmas.List.{append-nil, append_cancel_left}
 use Rattle.sw_base.specs.declared.path.Step.{Step}
 use Rattle.sw_base.specs.declared.trouble.Trouble.TheVariants.{Memory}
 use Rattle.race_model.specs.Listing.{lane_of}
-use Rattle.history_model.specs.Work.{Work, RegionWork, Phases, lane_works}
+use Rattle.history_model.specs.Work.{Phases, lane_works}
 use Rattle.lane_runner.specs.declared.stop.Stop.{Stop}
 use Rattle.lane_runner.specs.declared.stop.Stop.TheVariants.{Trouble}
 use Rattle.lane_runner.specs.Handed.{Entry, LogPlace, MaybeStop, MayLack, TaskHands, RegionsHand, LanesHand, TellStop, HandsOn}

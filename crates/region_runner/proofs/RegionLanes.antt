@@ -1,14 +1,10 @@
 -- The lanes of a region, once it rests: each ran its task, as far as it came.
-use Rattle.std.proofs.Common.{◌≡◌, ◌⊎◌, inl, inr, refl, ap, sym, ◌∙◌, subst, ℕ, ◌+◌, ◌<◌, List, [], ◌∷◌, ◌++◌, ℤ, Option, Some, None, Result, Ok, Err}
+use Rattle.std.proofs.Common.{◌≡◌, ◌⊎◌, inl, inr, refl, ap, sym, ◌∙◌, subst, ℕ, List, [], ◌++◌, ℤ, Option, Some, None, Result}
 use Rattle.std.specs.Prelude.{map}
 use Rattle.std.proofs.lemmas.List.{map-append}
 use Rattle.std.proofs.lemmas.Grind.{flat_map-append}
-use Rattle.sw_base.specs.declared.path.Step.{Step}
 use Rattle.log_format.specs.declared.record.Kind.TheVariants as kind
-use Rattle.kernel_syntax.specs.declared.syntax.Array.{Array}
 use Rattle.kernel_syntax.specs.Program.{Program}
-use Rattle.kernel_syntax.specs.Tree.{TeamTree}
-use Rattle.kernel_model.specs.State as model
 use Rattle.kernel_model.specs.State.{State, Fork, Outcome, Gives, Stops, Wants, after, put, event, state_of}
 use Rattle.kernel_model.specs.Growth.{Grows}
 use Rattle.kernel_model.specs.Value.{Site}
@@ -17,18 +13,18 @@ use Rattle.kernel_model.specs.declared.phase.Item.{Item}
 use Rattle.kernel_model.specs.Parts.{Part, run_parts}
 use Rattle.kernel_model.specs.Phases.{part_of, items_in, parts_in}
 use Rattle.kernel_model.proofs.Growing.{grows-plain}
-use Rattle.kernel_model.proofs.Joining.{after-after, after-same}
+use Rattle.kernel_model.proofs.Joining.{after-after}
 use Rattle.kernel_model.proofs.RunEffects.{parts}
 use Rattle.kernel_model.proofs.Steps.{kept-after}
-use Rattle.history_model.specs.Work.{Work, Phases, lane_works}
+use Rattle.history_model.specs.Work.{Phases, lane_works}
 use Rattle.execution_model.specs.Runs.{RunsTask, lane_begin}
 use Rattle.lane_runner.specs.declared.stop.Halt.{Halt}
-use Rattle.lane_runner.specs.Fitting.{WorkFits, PhasesFit}
+use Rattle.lane_runner.specs.Fitting.{PhasesFit}
 use Rattle.lane_runner.specs.Going.{Progress, site}
 use Rattle.lane_runner.specs.World.{WorldValue}
 use Rattle.lane_runner.proofs.Noting.{note_grows}
 use Rattle.lane_runner.proofs.Phases.{run_parts_both, parts_grow}
-use Rattle.region_runner.specs.Ran.{in_one, task_part, TaskGoes}
+use Rattle.region_runner.specs.Ran.{task_part, TaskGoes}
 use Rattle.region_runner.proofs.Traced.{lane_fits, runs_goes}
 
 -- the parts of phases, one after another

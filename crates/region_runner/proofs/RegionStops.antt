@@ -1,29 +1,22 @@
 -- A region that rests since a lane stopped.
-use Rattle.std.proofs.Common.{◌≡◌, refl, ap, sym, ◌∙◌, subst, ℕ, ◌+◌, ◌<◌, List, [], ◌∷◌, ◌++◌, length, ℤ, Option, Some, None, Result, Ok, Err, append_assoc, arith}
+use Rattle.std.proofs.Common.{◌≡◌, refl, ap, sym, ◌∙◌, subst, ℕ, ◌+◌, ◌<◌, List, [], ◌∷◌, ◌++◌, length, ℤ, Some, None, Err, append_assoc, arith}
 use Rattle.std.specs.Prelude.{slice_get}
 use Rattle.std.specs.List.{flat_map}
 use Rattle.sw_base.specs.declared.path.Step.{Step}
 use Rattle.log_format.specs.declared.record.Record.{Record}
-use Rattle.kernel_syntax.specs.declared.syntax.Array.{Array}
-use Rattle.kernel_syntax.specs.Program.{Program}
 use Rattle.kernel_model.specs.State as model
 use Rattle.kernel_model.specs.State.{State, Fork, Outcome, after}
-use Rattle.kernel_model.specs.Value.{Site}
-use Rattle.kernel_model.specs.Trace.{Ending, Stopped, run}
+use Rattle.kernel_model.specs.Trace.{Ending, Stopped}
 use Rattle.kernel_model.specs.Folder.{IsTracedTo}
 use Rattle.std.proofs.lemmas.Option.{same_Some}
-use Rattle.kernel_model.specs.declared.phase.Item.{Item}
-use Rattle.kernel_model.specs.Parts.{run_parts}
-use Rattle.kernel_model.specs.Phases.{parts_in}
 use Rattle.kernel_model.specs.Effect.{Halted}
-use Rattle.history_model.specs.Work.{Work, RegionWork, Phases, work_regions, lane_works}
-use Rattle.execution_model.specs.Runs.{RunsRegions, lane_begin, works_log}
+use Rattle.history_model.specs.Work.{RegionWork, Phases, work_regions, lane_works}
+use Rattle.execution_model.specs.Runs.{lane_begin, works_log}
 use Rattle.lane_runner.specs.declared.stop.Halt.{Halt}
 use Rattle.lane_runner.specs.declared.stop.Halt.TheVariants as halt
 use Rattle.lane_runner.specs.declared.stop.Stop.{Stop}
 use Rattle.lane_runner.specs.declared.stop.Stop.TheVariants as stop
-use Rattle.lane_runner.specs.Fitting.{WorkFits, PhasesFit}
-use Rattle.lane_runner.specs.Going.{Progress, AtRegion, AtTasks, site, log_of}
+use Rattle.lane_runner.specs.Going.{Progress, AtRegion, AtTasks}
 use Rattle.lane_runner.specs.Stopping.{HaveEnded, EndsInLane, IsInRegion, LastIsRegionAt, RestsBelow, RestsInLane, StopsRegion, StopsAtLast, ending_for, itself}
 use Rattle.lane_runner.specs.Stopping.{RestsBelow, below as further}
 use Rattle.lane_runner.specs.World.{WorldValue}

@@ -1,5 +1,5 @@
 -- The lanes' hands on the counters, when they come back.
-use Rattle.std.proofs.Common.{◌≡◌, refl, ap, sym, ◌∙◌, subst, ℕ, ◌<◌, ◌≤◌, ◌-◌, List, [], ◌∷◌, ◌++◌, length, map, false, true, ℤ, Ok, slice_index_or, arith}
+use Rattle.std.proofs.Common.{◌≡◌, refl, ap, sym, ◌∙◌, subst, ℕ, ◌<◌, ◌≤◌, List, [], ◌∷◌, ◌++◌, length, map, false, true, ℤ, slice_index_or, arith}
 use Rattle.sw_base.specs.declared.path.Step.{Step}
 use Rattle.kernel_syntax.specs.Tree.{TeamTree}
 use Rattle.kernel_model.specs.State.{State}
@@ -11,14 +11,14 @@ use Rattle.kernel_model.specs.Phases.{parts_in}
 use Rattle.atomic_table.specs.Seated.{TableId}
 use Rattle.shared_words.specs.declared.share.Share.{Share}
 use Rattle.shared_words.specs.declared.view.View.{View}
-use Rattle.shared_words.specs.Draws.{AreEachOnce, HasEachOnce, IsFirstAlone, numbers, whole_share}
+use Rattle.shared_words.specs.Draws.{AreEachOnce, HasEachOnce, IsFirstAlone, numbers}
 use Rattle.shared_words.specs.Handles.{Belongs, HandValue, with_view}
 use Rattle.lane_runner.specs.Handed.{LogPlace}
 use Rattle.region_runner.specs.Crew.{CrewValue}
 use Rattle.region_runner.specs.Drawing.{drawn_by, regained_all}
 use Rattle.region_runner.specs.Gathering.{ClosedValue, draws_view}
 use Rattle.region_runner.specs.Member.{MemberValue}
-use Rattle.region_runner.specs.Opening.{AreLanes, AreTorn, ClosesAs, lent_hand, lent_to}
+use Rattle.region_runner.specs.Opening.{AreLanes, AreTorn, lent_hand, lent_to}
 use Rattle.region_runner.specs.Stands.{TeamClosed}
 use Rattle.region_runner.proofs.JoinedDraws.{gathered_draws, regained_first}
 use Rattle.region_runner.proofs.RanRegions.{same_hand}

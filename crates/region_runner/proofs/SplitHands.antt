@@ -1,6 +1,5 @@
 -- Hands that are split off one after another.
 use Rattle.std.proofs.Common.{◌≡◌, refl, ap, sym, ◌∙◌, subst, ℕ, zero, suc, ◌+◌, ◌-◌, ◌<◌, ◌≤◌, List, [], ◌∷◌, length, map, drop, get_or, true, arith}
-use Rattle.step_history.specs.History.{Name}
 use Rattle.shared_words.specs.declared.view.View.{View}
 use Rattle.shared_words.specs.Handles.{HandValue, with_view}
 use Rattle.shared_words.specs.Views.{IsAtRest, parted, child, newcomer, after_meeting}

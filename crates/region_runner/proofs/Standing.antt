@@ -1,19 +1,18 @@
 -- A team goes on with one phase more.
-use Rattle.std.proofs.Common.{◌≡◌, refl, ap, sym, ◌∙◌, subst, ℕ, zero, suc, Bool, true, false, ◌+◌, ◌-◌, ◌<◌, ◌≤◌, List, [], ◌∷◌, ◌++◌, length, map, ℤ, Option, Some, None, Result, Ok, Err, slice_index_or, arith}
-use Rattle.std.specs.Prelude.{count_by}
-use Rattle.std.proofs.lemmas.List.{append-nil, map-append}
+use Rattle.std.proofs.Common.{◌≡◌, refl, ap, sym, ◌∙◌, subst, ℕ, ◌+◌, ◌-◌, List, [], ◌∷◌, ◌++◌, map, ℤ, Option, Some, None, Result, Ok, arith}
+use Rattle.std.proofs.lemmas.List.{append-nil}
 use Rattle.log_format.specs.declared.record.Kind.TheVariants as kind
 use Rattle.log_format.specs.declared.record.Record.{Record}
 use Rattle.race_model.specs.Trace.{barrier_count}
 use Rattle.kernel_model.specs.declared.phase.Item.{Item}
 use Rattle.kernel_model.specs.Parts.{Part, bar_count, drawn_count, is_drawn, run_parts}
-use Rattle.kernel_model.specs.Phases.{part_of, items_in, parts_in}
+use Rattle.kernel_model.specs.Phases.{part_of, parts_in}
 use Rattle.kernel_model.specs.State.{State, Outcome, after, event, put}
 use Rattle.kernel_model.specs.Trace.{log_limit}
 use Rattle.kernel_model.specs.Value.{Site}
 use Rattle.kernel_model.specs.Effect.{Returned}
 use Rattle.kernel_model.proofs.Effects.{makes-stays}
-use Rattle.kernel_model.proofs.Joining.{after-after, after-same}
+use Rattle.kernel_model.proofs.Joining.{after-after}
 use Rattle.event_buffer.specs.Buffered.{Buffered}
 use Rattle.event_buffer.specs.Logged.{HoldsRecords}
 use Rattle.shared_words.specs.declared.view.View.{View}
@@ -23,21 +22,20 @@ use Rattle.history_model.specs.Joined.{LastIsEnd}
 use Rattle.execution_model.specs.Runs.{RunsRegions}
 use Rattle.history_model.proofs.ActsOrder.{count_cons}
 use Rattle.lane_runner.specs.declared.stop.Halt.{Halt}
-use Rattle.lane_runner.specs.Going.{GainsRecords, GoesPast, IsSameLog, MadePast, Progress, site}
+use Rattle.lane_runner.specs.Going.{GainsRecords, GoesPast, Progress, site}
 use Rattle.lane_runner.specs.World.{WorldValue}
 use Rattle.lane_runner.proofs.Drawing.{drew_none}
 use Rattle.lane_runner.proofs.Ending.{ended_none}
 use Rattle.lane_runner.proofs.Handing.{work_hands_none}
 use Rattle.lane_runner.proofs.Releasing.{released_none}
-use Rattle.lane_runner.proofs.Bodies.{log_later}
 use Rattle.lane_runner.proofs.Phases.{run_parts_both}
 use Rattle.region_runner.specs.Crew.{CrewValue, world_of}
-use Rattle.region_runner.specs.Member.{HasEnded, IsLast, IsWithoutHand, MemberValue, WentOn, answer_of, phase_part, with_hand}
+use Rattle.region_runner.specs.Member.{IsLast, MemberValue, WentOn, answer_of, phase_part, with_hand}
 use Rattle.region_runner.specs.Ran.{TakesUp, TaskGoes, TaskRan, task_part}
-use Rattle.region_runner.specs.Stands.{LaneStands, MayStep}
+use Rattle.region_runner.specs.Stands.{LaneStands}
 use Rattle.region_runner.specs.Team.{DidWork}
 use Rattle.region_runner.proofs.Continuing.{goes_on}
-use Rattle.region_runner.proofs.JoinedWork.{phase_did_work, phase_passed, work_of}
+use Rattle.region_runner.proofs.JoinedWork.{phase_did_work, work_of}
 use Rattle.region_runner.proofs.RegionLanes.{parts_both}
 
 -- ---- before the first phase

@@ -1,23 +1,21 @@
 -- Of a lane that stopped: which task of its region ends so.
-use Rattle.std.proofs.Common.{◌≡◌, refl, ap, sym, ◌∙◌, subst, ℕ, ◌+◌, ◌<◌, List, [], ◌∷◌, ◌++◌, length, ℤ, Option, Some, None, Result, Ok, Err, arith, append_assoc}
+use Rattle.std.proofs.Common.{◌≡◌, refl, ap, sym, ◌∙◌, subst, ℕ, ◌+◌, ◌<◌, List, [], ◌∷◌, ◌++◌, length, Some, arith, append_assoc}
 use Rattle.std.specs.Prelude.{slice_get, All}
 use Rattle.std.specs.List.{flat_map}
-use Rattle.std.proofs.lemmas.List.{length-append}
 use Rattle.std.proofs.lemmas.List.Elements.{All-nil, All-cons, All-head, All-tail}
 use Rattle.sw_base.specs.declared.path.Step.{Step}
 use Rattle.log_format.specs.declared.record.Record.{Record}
 use Rattle.kernel_syntax.specs.declared.syntax.Array.{Array}
 use Rattle.kernel_syntax.specs.Program.{Program}
-use Rattle.kernel_model.specs.State as model
-use Rattle.kernel_model.specs.State.{State, Fork}
-use Rattle.kernel_model.specs.Trace.{Start, Ending}
+use Rattle.kernel_model.specs.State.{Fork}
+use Rattle.kernel_model.specs.Trace.{Ending}
 use Rattle.kernel_model.specs.Folder.{own_trace}
-use Rattle.history_model.specs.Work.{Work, Rest, Put, RegionWork, Phases, work_records, work_regions, lane_works}
+use Rattle.history_model.specs.Work.{Work, Rest, Put, RegionWork, Phases, work_regions, lane_works}
 use Rattle.execution_model.specs.Runs.{RunsRegions, lane_begin, works_log}
 use Rattle.lane_runner.specs.declared.stop.Stop.{Stop}
 use Rattle.lane_runner.specs.Fitting.{WorkFits, PhasesFit}
 use Rattle.lane_runner.specs.Stopping.{ending_for, EndsBelow, EndsInLane, StopsAtLast, below as under}
-use Rattle.lane_runner.specs.Going.{Cause, AtRegion, Progress, log_of}
+use Rattle.lane_runner.specs.Going.{log_of}
 use Rattle.region_runner.specs.Ran.{in_one}
 use Rattle.region_runner.proofs.Traced.{TracesFirst, one_log, one_regions}
 

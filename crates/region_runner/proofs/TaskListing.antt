@@ -6,9 +6,9 @@ use Rattle.std.proofs.lemmas.List.{map-append}
 use Rattle.std.proofs.lemmas.Option.{same_Some}
 use Rattle.sw_base.specs.declared.path.Step.{Step}
 use Rattle.race_model.specs.Trace.{TaskLog, Trace}
-use Rattle.race_model.specs.Listing.{Task, Ends, Forks, Lanes, NoLane, Lane, lane_count, lane_of, under, lanes, listing, IsListing}
+use Rattle.race_model.specs.Listing.{Task, Ends, Forks, Lanes, NoLane, Lane, lane_count, lane_of, under, lanes, IsListing}
 use Rattle.kernel_model.specs.Folder.{paths_of}
-use Rattle.history_model.specs.Work.{Work, Rest, Put, Fork, Phases, NoPhase, Phase, TeamWork, NoWork, Beside, RegionWork, work_records, work_regions, work_at, lane_works, works_at_region, works_at_step, works_under, task_logs}
+use Rattle.history_model.specs.Work.{Work, Rest, Put, Fork, Phases, NoPhase, Phase, TeamWork, NoWork, Beside, RegionWork, work_records, work_regions, work_at, lane_works, works_at_region, works_under}
 use Rattle.history_model.specs.Tasks.{lane_tasks, region_tasks, tasks_from, tree_tasks}
 use Rattle.execution_model.specs.Runs.{IsWithin, as_logged, logged_tasks}
 use Rattle.region_runner.specs.Nesting.{NestsWithin, PhasesNest, TeamNests}

@@ -1,14 +1,11 @@
 -- What the lanes of a team drew, lane after lane.
-use Rattle.std.proofs.Common.{◌≡◌, refl, ap, sym, ◌∙◌, subst, ℕ, zero, suc, ◌+◌, ◌<◌, List, [], ◌∷◌, ◌++◌, map, arith}
+use Rattle.std.proofs.Common.{◌≡◌, subst, ℕ, zero, suc, ◌+◌, ◌<◌, List, [], ◌∷◌, ◌++◌, map, arith}
 use Rattle.std.specs.List.{range_with_len}
 use Rattle.log_format.specs.declared.record.Record.{Record}
 use Rattle.execution_model.specs.Execution.{DrewSome, BeginsTrace}
 use Rattle.execution_model.specs.Runs.{region_logs, works_log, lane_begin}
 use Rattle.kernel_syntax.specs.Program.{Program}
-use Rattle.kernel_syntax.specs.Tree.{TeamTree}
 use Rattle.kernel_model.specs.State.{Fork, reads_of, chunks_of}
-use Rattle.kernel_model.specs.Trace.{Start}
-use Rattle.kernel_model.specs.Folder.{own_trace}
 use Rattle.kernel_model.specs.Chunking.{TellCounts, TellFirst, HasCounts, no_record, other, draw, closing}
 use Rattle.history_model.specs.Work.{Phases, lane_works}
 use Rattle.shared_words.specs.Draws.{AreEachOnce, numbers}

@@ -1,5 +1,5 @@
 -- A team in the loop over its phases.
-use Rattle.std.proofs.Common.{◌≡◌, ◌⊎◌, inl, inr, refl, ap, sym, ◌∙◌, subst, ℕ, zero, suc, ◌+◌, ◌<◌, ◌≤◌, List, [], ◌∷◌, ◌++◌, length, map, take, drop, Option, Some, None, slice_index_or, arith}
+use Rattle.std.proofs.Common.{◌≡◌, inl, inr, refl, ap, sym, ◌∙◌, subst, ℕ, suc, ◌+◌, ◌<◌, ◌≤◌, List, [], ◌∷◌, ◌++◌, length, map, take, drop, Option, Some, None, slice_index_or, arith}
 use Rattle.std.specs.Prelude.{All, Bool, true, false, nat_lt}
 use Rattle.std.proofs.lemmas.Bool.{ltb-true, ltb-false}
 use Rattle.std.proofs.lemmas.List.{append-nil, get_or_append_left, get_or_default, length-append, take-append-drop}
@@ -15,7 +15,6 @@ use Rattle.shared_words.specs.declared.view.View.{View}
 use Rattle.shared_words.specs.Handles.{HandValue}
 use Rattle.history_model.specs.Work.{Phases, NoPhase}
 use Rattle.history_model.specs.Sound.{PassAllBarriers}
-use Rattle.history_model.specs.Joined.{PhasesEnd}
 use Rattle.lane_runner.specs.Going.{site}
 use Rattle.lane_runner.proofs.Bodies.{log_still}
 use Rattle.lane_runner.proofs.Phases.{no_bars}
@@ -23,7 +22,7 @@ use Rattle.region_runner.specs.Crew.{CrewValue, world_of}
 use Rattle.region_runner.specs.Ground.{GroundValue, IsMemberOf}
 use Rattle.region_runner.specs.Member.{IsLast, MemberValue, answer_of}
 use Rattle.region_runner.specs.Ran.{TaskGoes, task_part}
-use Rattle.region_runner.specs.Stands.{AllGo, IsFresh, LaneStands, MayGoOn, MayStep, TeamRan, TeamStands}
+use Rattle.region_runner.specs.Stands.{AllGo, IsFresh, LaneStands, MayGoOn, TeamRan, TeamStands}
 use Rattle.lane_runner.specs.declared.stop.Halt.{Halt}
 use Rattle.region_runner.proofs.RegionLanes.{parts_both}
 use Rattle.region_runner.proofs.Standing.{drawn_after, drawn_both, ran_none}

@@ -1,5 +1,5 @@
 -- Phases of a team, one after another.
-use Rattle.std.proofs.Common.{◌≡◌, ◌⊎◌, inl, inr, refl, ap, ap₂, sym, ◌∙◌, subst, ℕ, zero, suc, ◌+◌, ◌<◌, Bool, true, false, List, [], ◌∷◌, ◌++◌, length, arith, append_assoc}
+use Rattle.std.proofs.Common.{◌≡◌, inl, refl, ap, sym, ◌∙◌, subst, ℕ, zero, suc, ◌+◌, ◌<◌, Bool, true, false, List, [], ◌∷◌, ◌++◌, arith, append_assoc}
 use Rattle.std.specs.Prelude.{nat_lt}
 use Rattle.std.proofs.lemmas.Bool.{ltb-true, ltb-false}
 use Rattle.std.proofs.lemmas.List.{append-nil}
@@ -12,7 +12,7 @@ use Rattle.shared_words.specs.Handles.{HandValue, with_view}
 use Rattle.shared_words.specs.Views.{IsAtRest, newcomer}
 use Rattle.history_model.specs.Work.{Work, Rest, Phases, NoPhase, Phase, TeamWork, NoWork, Beside, work_records, work_at, lane_works, then_phases}
 use Rattle.history_model.specs.Did.{lane_count_of, phase_splits, did_phases}
-use Rattle.history_model.specs.Sound.{WordLayout, IsSound, IsTeamSound, ArePhasesSound, PassesBarrier, PassAllBarriers}
+use Rattle.history_model.specs.Sound.{WordLayout, IsSound, IsTeamSound, PassesBarrier, PassAllBarriers}
 use Rattle.history_model.specs.Joined.{LastIsEnd, IsJoined, IsTeamJoined, ArePhasesJoined, TeamEnds, PhasesEnd}
 use Rattle.history_model.proofs.Parts.{phases_splits_sum, phases_did, phases_works, phases_sound}
 use Rattle.lane_runner.specs.Fitting.{AccessesElements, TeamAccessesElements, PhasesAccessElements}

@@ -5,7 +5,6 @@ use Rattle.sw_base.specs.declared.path.Step.{Step}
 use Rattle.race_model.specs.Listing.{lane_of}
 use Rattle.event_buffer.specs.Buffered.{Buffered}
 use Rattle.kernel_syntax.specs.declared.syntax.Array.{Array}
-use Rattle.kernel_syntax.specs.Program.{Program}
 use Rattle.kernel_syntax.specs.Tree.{TeamTree}
 use Rattle.kernel_model.specs.Chunking.{HasCounts}
 use Rattle.kernel_model.specs.State.{Fork, State}
@@ -14,7 +13,7 @@ use Rattle.kernel_model.specs.Value.{Site}
 use Rattle.kernel_model.specs.declared.phase.Item.{Item}
 use Rattle.kernel_model.specs.Parts.{run_parts}
 use Rattle.kernel_model.specs.Phases.{parts_in}
-use Rattle.history_model.specs.Work.{Phases, lane_works}
+use Rattle.history_model.specs.Work.{lane_works}
 use Rattle.history_model.specs.Joined.{PhasesEnd}
 use Rattle.execution_model.specs.Execution.{DrewSome}
 use Rattle.execution_model.specs.Runs.{region_logs}
@@ -24,12 +23,11 @@ use Rattle.shared_words.specs.Draws.{AreEachOnce, HasEachOnce, IsFirstAlone, num
 use Rattle.shared_words.specs.Handles.{HandValue, with_view}
 use Rattle.lane_runner.specs.declared.stop.Halt.{Halt}
 use Rattle.lane_runner.specs.Drawing.{Tally}
-use Rattle.lane_runner.specs.Fitting.{PhasesFit}
 use Rattle.lane_runner.specs.Forking.{Answer, RanRegion, stop_in}
 use Rattle.lane_runner.specs.Going.{site}
 use Rattle.lane_runner.specs.Handed.{Entry, HandsOn, place_of}
 use Rattle.lane_runner.specs.Stopping.{StopsRegion}
-use Rattle.lane_runner.specs.World.{WorldValue, element_width, element_word, layout_of}
+use Rattle.lane_runner.specs.World.{WorldValue}
 use Rattle.region_runner.specs.Begins.{LaneBegins}
 use Rattle.region_runner.specs.Closing.{IsClosedAs}
 use Rattle.region_runner.specs.Crew.{CrewValue, world_of}
@@ -38,7 +36,7 @@ use Rattle.region_runner.specs.Gathering.{ClosedValue, Gathered, LaneGave, draws
 use Rattle.region_runner.specs.Member.{MemberValue, answer_of}
 use Rattle.region_runner.specs.Opening.{AreLanes, ClosesAs, lent_hand, lent_to}
 use Rattle.region_runner.specs.Ran.{TaskGoes, task_part}
-use Rattle.region_runner.specs.Stands.{AllGo, TeamClosed, TeamRan}
+use Rattle.region_runner.specs.Stands.{TeamClosed, TeamRan}
 use Rattle.region_runner.specs.Stopping.{stop_of}
 use Rattle.region_runner.specs.Team.{DidPhases}
 use Rattle.region_runner.proofs.GivenLogs.{lane_gave}
@@ -142,7 +140,7 @@ module _ (w : WorldValue) (crew : CrewValue) (team : TeamTree) (slots : List ℤ
       }
     where
       drawn_once : (loop : ℕ) → AreEachOnce (numbers loop (drawn_by (λ k. (slice_index_or after k d).at.tally.draws.view.drawn) 0 crew.span))
-      drawn_once loop = subst (λ (ds : List (ℕ × ℕ)). AreEachOnce (numbers loop ds)) 
+      drawn_once loop = subst (λ (ds : List (ℕ × ℕ)). AreEachOnce (numbers loop ds))
           (drawn_same (λ k. (slice_index_or lanes k e).draws.view.drawn) (λ k. (slice_index_or after k d).at.tally.draws.view.drawn) 0 crew.span
           (λ k less. ap (λ (h : HandValue Share). h.view.drawn) (closes (0 + k) d e (omega (arith, less))).3)) (once loop)
 

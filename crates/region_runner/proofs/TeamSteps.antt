@@ -1,23 +1,22 @@
 -- A team goes on with one phase more: all its lanes, and its hand.
-use Rattle.std.proofs.Common.{◌≡◌, ◌⊎◌, refl, ap, sym, ◌∙◌, subst, ℕ, zero, suc, ◌+◌, ◌<◌, ◌≤◌, List, [], ◌∷◌, ◌++◌, length, map, Option, Some, None, Result, slice_index_or, arith}
+use Rattle.std.proofs.Common.{◌≡◌, refl, ap, sym, ◌∙◌, subst, ℕ, suc, ◌+◌, ◌<◌, ◌≤◌, List, [], ◌∷◌, ◌++◌, length, map, Option, Some, None, slice_index_or, arith}
 use Rattle.std.proofs.lemmas.List.{get_or_default}
 use Rattle.race_model.specs.Trace.{barrier_count}
 use Rattle.kernel_model.specs.declared.phase.Item.{Item}
-use Rattle.kernel_model.specs.Parts.{bar_count, drawn_count}
-use Rattle.kernel_model.specs.Phases.{part_of, parts_in}
+use Rattle.kernel_model.specs.Parts.{bar_count}
+use Rattle.kernel_model.specs.Phases.{part_of}
 use Rattle.event_buffer.specs.Buffered.{Buffered}
 use Rattle.shared_words.specs.declared.view.View.{View}
 use Rattle.shared_words.specs.Handles.{HandValue, with_view}
 use Rattle.history_model.specs.Work.{Work, Phases, NoPhase, Phase, TeamWork, lane_works, then_phases, work_records}
 use Rattle.history_model.specs.Sound.{PassesBarrier, PassAllBarriers}
 use Rattle.history_model.specs.Joined.{LastIsEnd, PhasesEnd}
-use Rattle.lane_runner.specs.declared.stop.Halt.{Halt}
-use Rattle.lane_runner.specs.Going.{CanGo, IsSameLog, Progress, site}
+use Rattle.lane_runner.specs.Going.{IsSameLog, site}
 use Rattle.lane_runner.proofs.Bodies.{log_later}
 use Rattle.region_runner.specs.Crew.{CrewValue, world_of}
 use Rattle.region_runner.specs.Hands.{joined_with, parted_for}
 use Rattle.region_runner.specs.Member.{IsLast, MemberValue, WentOn, answer_of, hand_view, lane_hand, with_hand}
-use Rattle.region_runner.specs.Ran.{TakesUp, TaskGoes, task_part}
+use Rattle.region_runner.specs.Ran.{TaskGoes, task_part}
 use Rattle.region_runner.specs.Stands.{AllGo, LaneStands, MayStep, RanPhase, TeamStands}
 use Rattle.region_runner.specs.Team.{DidPhases, DidWork, team_of_works}
 use Rattle.region_runner.proofs.Standing.{StepsOn, drawn_after, lane_steps}

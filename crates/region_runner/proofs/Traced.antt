@@ -1,21 +1,20 @@
 -- What the works of a lane have to do with the trace of its task.
-use Rattle.std.proofs.Common.{◌≡◌, refl, ap, sym, ◌∙◌, subst, ℕ, ◌+◌, ◌-◌, List, [], ◌∷◌, ◌++◌, length, ℤ, Option, Some, None, Result, Ok, Err, arith, inr, append_assoc, map}
+use Rattle.std.proofs.Common.{◌≡◌, refl, ap, sym, ◌∙◌, subst, ℕ, ◌-◌, List, [], ◌∷◌, ◌++◌, ℤ, Result, Ok, Err, arith, inr, map}
 use Rattle.std.specs.Prelude.{reverse}
 use Rattle.std.specs.List.{flat_map}
 use Rattle.std.proofs.lemmas.List.{append-nil, reverse-reverse}
 use Rattle.std.proofs.lemmas.List.Elements.{All-nil, All-cons}
 use Rattle.log_format.specs.declared.record.Record.{Record}
-use Rattle.race_model.specs.Race.{held_after}
-use Rattle.race_model.specs.History.{release, released}
+use Rattle.race_model.specs.History.{release}
 use Rattle.kernel_syntax.specs.Program.{Program}
 use Rattle.kernel_model.specs.State as model
 use Rattle.kernel_model.specs.State.{State, Fork, Outcome, and_then, after, state_of, reads_of, chunks_of}
 use Rattle.kernel_model.specs.Growth.{Grows}
-use Rattle.kernel_model.specs.Trace.{Start, Ending, Ended, Stopped, log_limit, state_at, task}
+use Rattle.kernel_model.specs.Trace.{Start, Stopped, log_limit, task}
 use Rattle.kernel_model.specs.Folder.{own_trace, IsTracedTo}
-use Rattle.kernel_model.specs.Effect.{Effect, Finish, Returned, Halted, Makes, state_with}
+use Rattle.kernel_model.specs.Effect.{Finish, Returned, Halted, Makes, state_with}
 use Rattle.kernel_model.proofs.Effects.{makes-halt, makes-same}
-use Rattle.kernel_model.proofs.RunEffects.{parts, own_trace-is, end_of}
+use Rattle.kernel_model.proofs.RunEffects.{parts, own_trace-is}
 use Rattle.history_model.specs.Work.{Work, Rest, Put, RegionWork, Phases, NoPhase, Phase, TeamWork, NoWork, Beside, fork_record, work_records, work_regions, work_at, lane_works, then_work}
 use Rattle.history_model.proofs.TaskEntries.{then_records}
 use Rattle.execution_model.specs.Execution.{BeginsTrace}
@@ -25,7 +24,7 @@ use Rattle.lane_runner.specs.declared.stop.Halt.{Halt}
 use Rattle.lane_runner.specs.declared.stop.Halt.TheVariants as halt
 use Rattle.lane_runner.specs.Fitting.{WorkFits, PhasesFit, TeamFits}
 use Rattle.lane_runner.specs.World.{WorldValue}
-use Rattle.lane_runner.specs.Going.{Progress, HasReleased, Cause, AtLog, AtRegion, AtTasks, log_of, BeginsPart, GoesOnFrom, effect_of}
+use Rattle.lane_runner.specs.Going.{Progress, HasReleased, Cause, AtLog, AtRegion, AtTasks, log_of, BeginsPart, effect_of}
 use Rattle.lane_runner.proofs.Beginning.{begins_first, begins_same, begins_made}
 use Rattle.lane_runner.proofs.Following.{after_is}
 use Rattle.lane_runner.proofs.Working.{regions_then}

@@ -1,5 +1,5 @@
 -- A member of a team after a phase.
-use Rattle.std.proofs.Common.{◌≡◌, refl, ap, sym, ◌∙◌, subst, ℕ, ◌+◌, List, map, ℤ, Option, Some, None, Result, Ok, Err, IfOk}
+use Rattle.std.proofs.Common.{◌≡◌, refl, ap, sym, ◌∙◌, subst, ℕ, ◌+◌, List, map, ℤ, Option, Some, None, Result, IfOk}
 use Rattle.std.specs.Prelude.{OnOk, All}
 use denote.Ref.{Bor, MutBor}
 use Rattle.std.specs.Global.{Vec}
@@ -12,7 +12,7 @@ use Rattle.lane_runner.specs.Children.{LogView}
 use Rattle.lane_runner.specs.Teams.{EachTeamIn, MayFork}
 use Rattle.sw_base.specs.declared.path.Step.{Step}
 use Rattle.kernel_model.specs.declared.phase.Item.{Item}
-use Rattle.kernel_model.specs.Parts.{bar_count, drawn_count, run_parts}
+use Rattle.kernel_model.specs.Parts.{bar_count, drawn_count}
 use Rattle.kernel_model.specs.Phases.{part_of}
 use Rattle.lane_runner.specs.declared.stop.Halt.{Halt}
 use Rattle.lane_runner.specs.Forking.{Answer, IsReady}

@@ -1,5 +1,5 @@
 -- From the accesses of a tree of work to those of its logs, and from the reads of its logs back to the tree.
-use Rattle.std.proofs.Common.{◌≡◌, refl, ap, sym, ◌∙◌, subst, inl, inr, ⊎_elim, ◌⊎◌, ℕ, zero, suc, ◌+◌, ◌<◌, ◌≤◌, arith, Bool, true, false, cond, List, [], ◌∷◌, ◌++◌, append_assoc, length, slice_get, Option, Some, None, All}
+use Rattle.std.proofs.Common.{◌≡◌, refl, ap, sym, ◌∙◌, subst, inl, inr, ◌⊎◌, ℕ, zero, suc, ◌+◌, ◌<◌, ◌≤◌, arith, Bool, true, false, cond, List, [], ◌∷◌, ◌++◌, length, slice_get, Option, Some, None, All}
 use Rattle.std.specs.Prelude.{◌==◌}
 use Rattle.std.specs.List.{flat_map}
 use Rattle.std.proofs.lemmas.Bool.Decides.{nat_tests}
@@ -9,7 +9,6 @@ use Rattle.std.proofs.lemmas.Option.{same_Some}
 use Rattle.std.proofs.lemmas.List.Elements.{All-nil, All-cons, All-append, All-head, All-tail}
 use Rattle.sw_base.specs.declared.path.Step.{Step}
 use Rattle.log_format.specs.declared.record.Record.{Record}
-use Rattle.kernel_syntax.specs.Arithmetic.{IsWidth}
 use Rattle.kernel_syntax.specs.Bounds.{IsBounded}
 use Rattle.kernel_syntax.specs.Program.{Program}
 use Rattle.kernel_model.specs.Folder.{root_start}
@@ -17,7 +16,7 @@ use Rattle.step_history.specs.History.{HasHistory}
 use Rattle.race_model.specs.History.{HasLegalHistory}
 use Rattle.history_model.specs.Work.{Work, Rest, Put, Fork, Phases, NoPhase, Phase, TeamWork, NoWork, Beside, RegionWork, fork_record, work_records, work_regions, work_at, lane_works, works_at_region, works_at_step, works_under, task_logs}
 use Rattle.history_model.specs.Did.{did}
-use Rattle.history_model.specs.Sound.{WordLayout, IsSound, HasAddresses}
+use Rattle.history_model.specs.Sound.{IsSound, HasAddresses}
 use Rattle.history_model.specs.Joined.{IsJoined}
 use Rattle.execution_model.specs.Execution.{IsExecution}
 use Rattle.execution_model.specs.Fitting.{IsFittingRead, ReadsFit, IsOfElement, StoresFit}

@@ -1,5 +1,5 @@
 -- A lane of a team before its first phase.
-use Rattle.std.specs.Prelude.{◌≡◌, ℕ, List, [], ℤ, None}
+use Rattle.std.specs.Prelude.{◌≡◌, List, [], ℤ, None}
 use Rattle.sw_base.specs.declared.path.Step.{Step}
 use Rattle.log_format.specs.declared.format.TheConstants.{FORMAT}
 use Rattle.log_format.specs.Format.{log_header}

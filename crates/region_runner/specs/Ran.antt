@@ -1,7 +1,6 @@
 -- What a lane did in the phases so far, as one task: a new hand in each phase, one log, one meaning.
 use Rattle.std.specs.Prelude.{◌≡◌, ℕ, ◌+◌, ◌-◌, List, [], ◌∷◌, length, ℤ, Option, Some, None, Result, Ok, Err}
 use Rattle.log_format.specs.declared.record.Kind.TheVariants as kind
-use Rattle.log_format.specs.declared.record.Record.{Record}
 use Rattle.kernel_syntax.specs.Program.{Program}
 use Rattle.kernel_model.specs.State as model
 use Rattle.kernel_model.specs.State.{State, Fork, Outcome, after, event, put}

@@ -29,15 +29,15 @@ pub(crate) enum Opened<L: Log> {
 }
 
 // A lane whose log could not be opened.
-fn torn<L: Log>(
-    alloc: Global,
-    path: Path,
-    log: L,
-    draws: ChunkHand,
-    trouble: Trouble,
-) -> Closed<L>
-    ensures { result ≡ record { path = path; own = entry_of (record { dir = L.dir; path = L.path; text = L.text; faults = L.faults }) (path, log, 0);
-        below = []; halt = None; refused = Some trouble; draws = draws } }
+fn torn<L: Log>(alloc: Global, path: Path, log: L, draws: ChunkHand, trouble: Trouble) -> Closed<L>
+    ensures { result ≡ record {
+      path = path;
+      own = entry_of (record { dir = L.dir; path = L.path; text = L.text; faults = L.faults }) (path, log, 0);
+      below = [];
+      halt = None;
+      refused = Some trouble;
+      draws = draws;
+    } }
 {
     Closed {
         own: (path, log, 0),

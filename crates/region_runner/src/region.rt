@@ -272,7 +272,15 @@ fn run_team<R: Threads + Wait + Sync, L: Log, G: Gate>(
 {
     let mut members = members;
     run_phases(
-        rt, alloc, depth, ground, crew, phases, end, hand, &mut members,
+        rt,
+        alloc,
+        depth,
+        ground,
+        crew,
+        phases,
+        end,
+        hand,
+        &mut members,
     );
     close_all(alloc, members, room)
 }
@@ -282,10 +290,7 @@ fn no_memory(path: &Path, number: u32, span: u16) -> (Path, Stop)
     requires { length path.now < 4 }
     ensures { result ≡ (lane_of path.now number 0 span, Stop.Trouble Trouble.Memory) }
 {
-    (
-        path.child(number, 0, span),
-        Stop::Trouble(Trouble::Memory),
-    )
+    (path.child(number, 0, span), Stop::Trouble(Trouble::Memory))
 }
 
 // Runs the region of this number of the task at this path, from these locals.

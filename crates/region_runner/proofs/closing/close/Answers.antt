@@ -1,4 +1,4 @@
-use Rattle.std.proofs.Common.{rules, ◌≡◌, ap, ◌∙◌, Some}
+use Rattle.std.proofs.Common.{ap, ◌∙◌}
 use Rattle.lane_runner.specs.Going.{Progress}
 use Rattle.region_runner.proofs.ClosedLogs.{closed_ok, closed_err, none_refused}
 use Rattle.region_runner.proofs.closing.close.Goals as goal

@@ -1,9 +1,9 @@
-use Rattle.std.proofs.Common.{rules, ◌≡◌, ◌<◌, ◌≤◌, ℕ, length, slice_index_or, ◌+◌, ap, sym, ◌∙◌, subst, refl, arith, drop, map, List, []}
+use Rattle.std.proofs.Common.{rules, ◌≡◌, ◌<◌, length, slice_index_or, ◌+◌, ap, sym, ◌∙◌, subst, arith, drop, map}
 use Rattle.std.proofs.lemmas.List.{get_or_default}
 use Rattle.shared_words.specs.declared.view.View.{View}
 use Rattle.shared_words.specs.Handles.{HandValue, with_view}
 use Rattle.shared_words.specs.Views.{after_meeting}
-use Rattle.region_runner.specs.Member.{MemberValue, IsWithoutHand, IsLaneHand, hand_view, with_hand}
+use Rattle.region_runner.specs.Member.{MemberValue, IsWithoutHand, hand_view, with_hand}
 use Rattle.region_runner.proofs.Pointwise.{set_below, set_above}
 use Rattle.region_runner.proofs.SplitHands.{HasJoined, join_more, drop_next}
 use Rattle.region_runner.proofs.handing.join_hands.Goals as goal

@@ -1,4 +1,4 @@
-use Rattle.std.proofs.Common.{rules, ◌≡◌, ◌≢◌, ◌<◌, ◌≤◌, ℕ, length, slice_index_or, ◌+◌, ap, sym, ◌∙◌, subst, refl, arith, below_more, get_or-set_other, get_or-set_same}
+use Rattle.std.proofs.Common.{rules, ◌≡◌, ◌<◌, ℕ, length, slice_index_or, ◌+◌, ap, sym, ◌∙◌, subst, refl, arith}
 use Rattle.std.proofs.lemmas.List.{get_or_default}
 use Rattle.region_runner.specs.Member.{with_hand, lane_hand}
 use Rattle.region_runner.proofs.Pointwise.{set_below, set_above}

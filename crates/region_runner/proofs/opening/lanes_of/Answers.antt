@@ -1,5 +1,5 @@
-use Rattle.std.proofs.Common.{rules, ◌≡◌, ◌∙◌, sym, subst, length, map, Ok, Err}
-use Rattle.std.specs.Prelude.{IsOk, Result}
+use Rattle.std.proofs.Common.{rules, ◌∙◌, sym, subst, length}
+use Rattle.std.specs.Prelude.{IsOk}
 use Rattle.std.proofs.lemmas.List.{map-id}
 use Rattle.std.proofs.lemmas.Iterator.Adapters.{YieldsList-from_vec}
 use Rattle.std.proofs.lemmas.Iterator.Consumers.{YieldsList-end, YieldsList-turn}

@@ -7,9 +7,9 @@ use Rattle.region_runner.proofs.opening.open.Goals as goal
 pub returns-in-Some-lanes_of : goal.returns-in-Some-lanes_of
 returns-in-Some-lanes_of g c = record {
   opens = λ task path size new. (
-      all_begin (place_of task) c.args.at.now c.args.number c.args.span c.args.locals.now.slots.items c.args.share.now c.in-Some.opened.items c.in-Some.ensures.count (c.in-Some.ensures.opens task path size new) c.in-Some-lanes_of.members.items
-      c.in-Some-lanes_of.ensures,
-      c.in-Some.ensures.share,
+    all_begin (place_of task) c.args.at.now c.args.number c.args.span c.args.locals.now.slots.items c.args.share.now c.in-Some.opened.items c.in-Some.ensures.count (c.in-Some.ensures.opens task path size new) c.in-Some-lanes_of.members.items
+        c.in-Some-lanes_of.ensures,
+    c.in-Some.ensures.share,
   );
 }
 
@@ -19,8 +19,8 @@ returns-in-Some-closed_of g c =
     let torn = subst (λ opened. OneTorn opened) seen (c.all_open.ensures.some c.if-all_open.false) in
     record {
       opens = λ task path size new. (
-          one_torn (place_of task) c.args.at.now c.args.number c.args.span c.args.locals.now.slots.items c.args.share.now c.in-Some.opened.items c.in-Some.ensures.count (c.in-Some.ensures.opens task path size new)
-          c.in-Some-closed_of.lanes.items c.in-Some-closed_of.ensures.0 c.in-Some-closed_of.ensures.1 torn,
-          c.in-Some.ensures.share,
+        one_torn (place_of task) c.args.at.now c.args.number c.args.span c.args.locals.now.slots.items c.args.share.now c.in-Some.opened.items c.in-Some.ensures.count (c.in-Some.ensures.opens task path size new)
+            c.in-Some-closed_of.lanes.items c.in-Some-closed_of.ensures.0 c.in-Some-closed_of.ensures.1 torn,
+        c.in-Some.ensures.share,
       );
     }

@@ -1,14 +1,13 @@
-use Rattle.std.proofs.Common.{rules, ◌≡◌, ◌∙◌, refl, ap, sym, subst, ℕ, ◌+◌, ◌<◌, Bool, List, [], ◌∷◌, ◌++◌, length, ℤ, Result, slice_index_or, arith}
+use Rattle.std.proofs.Common.{rules, ◌≡◌, ◌∙◌, refl, ap, sym, subst, ℕ, ◌+◌, List, [], ◌∷◌, ◌++◌, length, Result, slice_index_or, arith}
 use Rattle.std.specs.Prelude.{is_some}
-use Rattle.std.proofs.lemmas.List.{length_push, map-id}
+use Rattle.std.proofs.lemmas.List.{length_push}
 use Rattle.std.proofs.lemmas.Iterator.Adapters.{YieldsList-from_vec}
 use Rattle.std.proofs.lemmas.Iterator.Consumers.{YieldsList-turn, YieldsList-end}
 use Rattle.sw_base.specs.declared.path.Step.{Step}
 use Rattle.race_model.specs.Listing.{lane_of}
-use Rattle.event_buffer.specs.Buffered.{Buffered}
 use Rattle.shared_words.specs.declared.share.Share.{Share}
 use Rattle.shared_words.specs.Handles.{Belongs, HandValue}
-use Rattle.lane_runner.specs.Children.{AreNewLogs, IsNewLog, LogView}
+use Rattle.lane_runner.specs.Children.{IsNewLog, LogView}
 use Rattle.lane_runner.specs.Handed.{LogPlace, place_of}
 use Rattle.region_runner.specs.Gathering.{ClosedValue}
 use Rattle.region_runner.specs.Member.{MemberValue}

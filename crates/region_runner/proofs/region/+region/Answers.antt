@@ -1,6 +1,4 @@
-use Rattle.std.proofs.Common.{rules, ◌≡◌, ◌∙◌, ap, subst, sym, arith, ℕ, ◌+◌, ◌-◌, ◌<◌, List, length, map, slice_index_or, refl, ◌≤◌, [], ◌∷◌, ◌++◌, append_assoc, take, take_all, None, Some, Err, Ok, false, ℤ}
-use mir.Syntax.{of_param}
-use denote.Param.Send.{Quiet-if}
+use Rattle.std.proofs.Common.{rules, ◌≡◌, ◌∙◌, ap, subst, sym, arith, ℕ, ◌+◌, ◌-◌, ◌<◌, List, length, map, slice_index_or, refl, ◌≤◌, [], ◌∷◌, ◌++◌, append_assoc, take, take_all, None, Some, Err, Ok, false}
 use Rattle.sw_base.specs.declared.path.Step.{Step}
 use Rattle.kernel_syntax.specs.Tree.{TeamTree}
 use Rattle.shared_words.specs.Handles.{WordsValue, Belongs, HandValue, with_view}
@@ -11,9 +9,8 @@ use Rattle.region_runner.specs.Crew.{CrewValue, world_of}
 use Rattle.region_runner.specs.Lawful.{IsTeam, IsLawfulPhase}
 use Rattle.region_runner.proofs.Forks.{phase_forks}
 use Rattle.std.specs.Prelude.{slice_index_or, List, drop, Vec}
-use Rattle.region_runner.specs.Member.{CanGoOn, MemberValue, WentOn, IsLaneHand, hand_view, lane_hand, with_hand, IsLast}
+use Rattle.region_runner.specs.Member.{CanGoOn, MemberValue, WentOn, IsLaneHand, hand_view, IsLast}
 use Rattle.region_runner.specs.Ground.{IsMemberOf, IsOurPhase}
-use Rattle.step_history.specs.History.{Name}
 use Rattle.shared_words.specs.declared.view.View.{View}
 use Rattle.region_runner.specs.Hands.{joined_with, parted_for}
 use Rattle.region_runner.proofs.PhaseHands.{can_go_on, comes_home, parted_name}
@@ -58,34 +55,44 @@ start_lane-go-requires-clause-runs g n c κs within =
       runs = record {
         accepted = λ hand locals number logs given done is ready new. (
           (let d = c.decreases in let i = inner.deeper in omega (arith, d, i)),
-          (λ a m. m, (λ a m. m, (λ a m. m, (
-          ((search rules), (search rules)),
           (
-            (let i = inner.deeper in omega (arith, i)),
+            λ a m. m,
             (
-              deep,
+              λ a m. m,
               (
-                record {
-                  mutexes = mutexes;
-                  locks = c.requires.phase.locks;
-                  lawful = subst (λ (t : TeamTree). IsTeam mutexes (length c.path-path.result + 1) t) (sym is)
-                      (subst (λ (n : ℕ). IsTeam mutexes n team) (let e : 4 - c.args.depth + 1 ≡ length c.path-path.result + 1 = omega (arith, deep) in e) inner.lawful);
-                },
+                λ a m. m,
                 (
-                  subst (λ (words : WordsValue). IsReady hand.now words) (ap (λ (v : CrewValue). v.words) c.requires.crew) ready,
+                  ((search rules), (search rules)),
                   (
-                    record {
-                      task = c.args.member.now.at.buffer;
-                      path_is = own.path_is ∙ sym c.path-path.ensures;
-                      size_is = own.size_is;
-                      new = subst (λ (t : TeamTree). AreNewLogs {T = g.row.L.Denot} seen c.args.member.now.at.buffer number t.span logs.items) (sym is) new;
-                    },
-                    ((search rules), (search rules), (search rules)),
+                    (let i = inner.deeper in omega (arith, i)),
+                    (
+                      deep,
+                      (
+                        record {
+                          mutexes = mutexes;
+                          locks = c.requires.phase.locks;
+                          lawful = subst (λ (t : TeamTree). IsTeam mutexes (length c.path-path.result + 1) t) (sym is)
+                              (subst (λ (n : ℕ). IsTeam mutexes n team) (let e : 4 - c.args.depth + 1 ≡ length c.path-path.result + 1 = omega (arith, deep) in e) inner.lawful);
+                        },
+                        (
+                          subst (λ (words : WordsValue). IsReady hand.now words) (ap (λ (v : CrewValue). v.words) c.requires.crew) ready,
+                          (
+                            record {
+                              task = c.args.member.now.at.buffer;
+                              path_is = own.path_is ∙ sym c.path-path.ensures;
+                              size_is = own.size_is;
+                              new = subst (λ (t : TeamTree). AreNewLogs {T = g.row.L.Denot} seen c.args.member.now.at.buffer number t.span logs.items) (sym is) new;
+                            },
+                            ((search rules), (search rules), (search rules)),
+                          ),
+                        ),
+                      ),
+                    ),
                   ),
                 ),
               ),
             ),
-          ))))),
+          ),
         );
         ran = λ hand after locals number logs given done now_done r is ready new gives.
             subst (λ (t : TeamTree). RanRegion (world_of c.args.crew.now c.args.lane) t locals.now.slots.items c.args.member.now.at.buffer number hand.now after.now (entries_of {T = g.row.L.Denot} seen done.now.items) (entries_of {T = g.row.L.Denot} seen now_done.now.items) r) is
@@ -97,25 +104,35 @@ start_lane-go-requires-clause-runs g n c κs within =
 pub run_lanes-for_each_mut-requires-clause-accepts : goal.run_lanes-for_each_mut-requires-clause-accepts
 run_lanes-for_each_mut-requires-clause-accepts g n c κs within = λ i p less is. (
   (let d = c.decreases in omega (arith, d)),
-  (λ a m. m, (λ a m. m, (λ a m. m, (
-  ((search rules), (search rules)),
   (
-    c.requires.crew,
+    λ a m. m,
     (
-      c.requires.number,
+      λ a m. m,
       (
-        c.requires.span,
+        λ a m. m,
         (
-          c.requires.phase,
+          ((search rules), (search rules)),
           (
-            c.requires.last,
+            c.requires.crew,
             (
-              let count = c.requires.count in omega (arith, less, count),
+              c.requires.number,
               (
-                subst (λ (m : MemberValue). CanGoOn c.args.crew.now c.args.phase.now i m) (sym is) (c.requires.can i p.now less),
+                c.requires.span,
                 (
-                  subst (λ (m : MemberValue). IsMemberOf c.args.ground.now c.args.depth m) (sym is) (c.requires.own i p.now less),
-                  ((search rules), (search rules), (search rules)),
+                  c.requires.phase,
+                  (
+                    c.requires.last,
+                    (
+                      let count = c.requires.count in omega (arith, less, count),
+                      (
+                        subst (λ (m : MemberValue). CanGoOn c.args.crew.now c.args.phase.now i m) (sym is) (c.requires.can i p.now less),
+                        (
+                          subst (λ (m : MemberValue). IsMemberOf c.args.ground.now c.args.depth m) (sym is) (c.requires.own i p.now less),
+                          ((search rules), (search rules), (search rules)),
+                        ),
+                      ),
+                    ),
+                  ),
                 ),
               ),
             ),
@@ -123,7 +140,7 @@ run_lanes-for_each_mut-requires-clause-accepts g n c κs within = λ i p less is
         ),
       ),
     ),
-  ))))),
+  ),
 )
 
 pub run_lanes-returns-clause-went : goal.run_lanes-returns-clause-went
@@ -375,49 +392,49 @@ pub region-gather-requires-clause-share : goal.region-gather-requires-clause-sha
 region-gather-requires-clause-share g n c κs within =
     let here = ap (λ (h : HandValue Share). h.table) c.in-Ok.ensures.hand in
     elim c.match-open.branch [
-      region-in-Team w ↦ subst (λ (h : HandValue Share). Belongs h c.in-Ok.chunks.table) (sym (w.in-Team.ensures.opens c.requires.logs.task c.requires.logs.path_is c.requires.logs.size_is c.requires.logs.new).1) (record { here = here; there = refl })
-    | region-in-Torn w ↦ subst (λ (h : HandValue Share). Belongs h c.in-Ok.chunks.table) (sym (w.in-Torn.ensures.opens c.requires.logs.task c.requires.logs.path_is c.requires.logs.size_is c.requires.logs.new).1) (record { here = here; there = refl })
+      | region-in-Team w ↦ subst (λ (h : HandValue Share). Belongs h c.in-Ok.chunks.table) (sym (w.in-Team.ensures.opens c.requires.logs.task c.requires.logs.path_is c.requires.logs.size_is c.requires.logs.new).1) (record { here = here; there = refl })
+      | region-in-Torn w ↦ subst (λ (h : HandValue Share). Belongs h c.in-Ok.chunks.table) (sym (w.in-Torn.ensures.opens c.requires.logs.task c.requires.logs.path_is c.requires.logs.size_is c.requires.logs.new).1) (record { here = here; there = refl })
     ]
 
 pub region-gather-requires-clause-first : goal.region-gather-requires-clause-first
 region-gather-requires-clause-first g n c κs within =
     elim c.match-open.branch [
-      region-in-Team w ↦ ap (λ (h : HandValue Share). h.view.first) (w.in-Team.ensures.opens c.requires.logs.task c.requires.logs.path_is c.requires.logs.size_is c.requires.logs.new).1
-    | region-in-Torn w ↦ ap (λ (h : HandValue Share). h.view.first) (w.in-Torn.ensures.opens c.requires.logs.task c.requires.logs.path_is c.requires.logs.size_is c.requires.logs.new).1
+      | region-in-Team w ↦ ap (λ (h : HandValue Share). h.view.first) (w.in-Team.ensures.opens c.requires.logs.task c.requires.logs.path_is c.requires.logs.size_is c.requires.logs.new).1
+      | region-in-Torn w ↦ ap (λ (h : HandValue Share). h.view.first) (w.in-Torn.ensures.opens c.requires.logs.task c.requires.logs.path_is c.requires.logs.size_is c.requires.logs.new).1
     ]
 
 pub region-gather-requires-clause-own : goal.region-gather-requires-clause-own
 region-gather-requires-clause-own g n c κs within = λ k d less.
     let here = ap (λ (h : HandValue Share). h.table) c.in-Ok.ensures.hand in
     elim c.match-open.branch [
-      region-in-Team w ↦
-        let lanes = ap (λ (v : Vec ClosedValue Global). v.items) w.lanes-is in
-        subst (λ (ls : List ClosedValue). Belongs (slice_index_or ls k d).draws c.in-Ok.chunks.table) (sym lanes)
-        (team_returned w.crew-crew.result (team_of c.args.team.now) c.args.locals.now.slots.items w.deref-in-Team.result.now c.args.hand.now w.run_team-lanes.new.hand w.in-Team.members.items (place_of c.requires.logs.task) c.args.path.now c.args.number c.in-Ok.share
-        w.run_team-lanes.result.items (ap (λ (v : CrewValue). v.span) w.crew-crew.ensures)
-        (subst (λ (ps : List (List Item)). (at : Site) (s : State) → run_parts at (parts_in ps) s ≡ run at (team_of c.args.team.now).body s) (sym w.deref-in-Team.ensures.value) c.in-Ok-Ok.ensures.runs)
-        w.run_team-lanes.ensures.closed (w.in-Team.ensures.opens c.requires.logs.task c.requires.logs.path_is c.requires.logs.size_is c.requires.logs.new).0 c.in-Ok.chunks.table here k d (subst (λ (ls : List ClosedValue). k < length ls) lanes less)).belongs
-    | region-in-Torn w ↦
-        let lanes = ap (λ (v : Vec ClosedValue Global). v.items) w.lanes-is in
-        subst (λ (ls : List ClosedValue). Belongs (slice_index_or ls k d).draws c.in-Ok.chunks.table) (sym lanes)
-        (torn_returned c.in-Ok.chunks.table (place_of c.requires.logs.task) c.args.path.now c.args.number c.args.team.now.span c.in-Ok.share w.in-Torn.lanes.items here (w.in-Torn.ensures.opens c.requires.logs.task c.requires.logs.path_is c.requires.logs.size_is c.requires.logs.new).0 k d (subst (λ (ls : List ClosedValue). k < length ls) lanes less)).belongs
+      | region-in-Team w ↦
+          let lanes = ap (λ (v : Vec ClosedValue Global). v.items) w.lanes-is in
+          subst (λ (ls : List ClosedValue). Belongs (slice_index_or ls k d).draws c.in-Ok.chunks.table) (sym lanes)
+          (team_returned w.crew-crew.result (team_of c.args.team.now) c.args.locals.now.slots.items w.deref-in-Team.result.now c.args.hand.now w.run_team-lanes.new.hand w.in-Team.members.items (place_of c.requires.logs.task) c.args.path.now c.args.number c.in-Ok.share
+          w.run_team-lanes.result.items (ap (λ (v : CrewValue). v.span) w.crew-crew.ensures)
+          (subst (λ (ps : List (List Item)). (at : Site) (s : State) → run_parts at (parts_in ps) s ≡ run at (team_of c.args.team.now).body s) (sym w.deref-in-Team.ensures.value) c.in-Ok-Ok.ensures.runs)
+          w.run_team-lanes.ensures.closed (w.in-Team.ensures.opens c.requires.logs.task c.requires.logs.path_is c.requires.logs.size_is c.requires.logs.new).0 c.in-Ok.chunks.table here k d (subst (λ (ls : List ClosedValue). k < length ls) lanes less)).belongs
+      | region-in-Torn w ↦
+          let lanes = ap (λ (v : Vec ClosedValue Global). v.items) w.lanes-is in
+          subst (λ (ls : List ClosedValue). Belongs (slice_index_or ls k d).draws c.in-Ok.chunks.table) (sym lanes)
+          (torn_returned c.in-Ok.chunks.table (place_of c.requires.logs.task) c.args.path.now c.args.number c.args.team.now.span c.in-Ok.share w.in-Torn.lanes.items here (w.in-Torn.ensures.opens c.requires.logs.task c.requires.logs.path_is c.requires.logs.size_is c.requires.logs.new).0 k d (subst (λ (ls : List ClosedValue). k < length ls) lanes less)).belongs
     ]
 
 pub region-gather-requires-clause-split : goal.region-gather-requires-clause-split
 region-gather-requires-clause-split g n c κs within = λ k d less.
     let here = ap (λ (h : HandValue Share). h.table) c.in-Ok.ensures.hand in
     elim c.match-open.branch [
-      region-in-Team w ↦
-        let lanes = ap (λ (v : Vec ClosedValue Global). v.items) w.lanes-is in
-        subst (λ (ls : List ClosedValue). (slice_index_or ls k d).draws.view.first ≡ false) (sym lanes)
-        (team_returned w.crew-crew.result (team_of c.args.team.now) c.args.locals.now.slots.items w.deref-in-Team.result.now c.args.hand.now w.run_team-lanes.new.hand w.in-Team.members.items (place_of c.requires.logs.task) c.args.path.now c.args.number c.in-Ok.share
-        w.run_team-lanes.result.items (ap (λ (v : CrewValue). v.span) w.crew-crew.ensures)
-        (subst (λ (ps : List (List Item)). (at : Site) (s : State) → run_parts at (parts_in ps) s ≡ run at (team_of c.args.team.now).body s) (sym w.deref-in-Team.ensures.value) c.in-Ok-Ok.ensures.runs)
-        w.run_team-lanes.ensures.closed (w.in-Team.ensures.opens c.requires.logs.task c.requires.logs.path_is c.requires.logs.size_is c.requires.logs.new).0 c.in-Ok.chunks.table here k d (subst (λ (ls : List ClosedValue). k < length ls) lanes less)).split
-    | region-in-Torn w ↦
-        let lanes = ap (λ (v : Vec ClosedValue Global). v.items) w.lanes-is in
-        subst (λ (ls : List ClosedValue). (slice_index_or ls k d).draws.view.first ≡ false) (sym lanes)
-        (torn_returned c.in-Ok.chunks.table (place_of c.requires.logs.task) c.args.path.now c.args.number c.args.team.now.span c.in-Ok.share w.in-Torn.lanes.items here (w.in-Torn.ensures.opens c.requires.logs.task c.requires.logs.path_is c.requires.logs.size_is c.requires.logs.new).0 k d (subst (λ (ls : List ClosedValue). k < length ls) lanes less)).split
+      | region-in-Team w ↦
+          let lanes = ap (λ (v : Vec ClosedValue Global). v.items) w.lanes-is in
+          subst (λ (ls : List ClosedValue). (slice_index_or ls k d).draws.view.first ≡ false) (sym lanes)
+          (team_returned w.crew-crew.result (team_of c.args.team.now) c.args.locals.now.slots.items w.deref-in-Team.result.now c.args.hand.now w.run_team-lanes.new.hand w.in-Team.members.items (place_of c.requires.logs.task) c.args.path.now c.args.number c.in-Ok.share
+          w.run_team-lanes.result.items (ap (λ (v : CrewValue). v.span) w.crew-crew.ensures)
+          (subst (λ (ps : List (List Item)). (at : Site) (s : State) → run_parts at (parts_in ps) s ≡ run at (team_of c.args.team.now).body s) (sym w.deref-in-Team.ensures.value) c.in-Ok-Ok.ensures.runs)
+          w.run_team-lanes.ensures.closed (w.in-Team.ensures.opens c.requires.logs.task c.requires.logs.path_is c.requires.logs.size_is c.requires.logs.new).0 c.in-Ok.chunks.table here k d (subst (λ (ls : List ClosedValue). k < length ls) lanes less)).split
+      | region-in-Torn w ↦
+          let lanes = ap (λ (v : Vec ClosedValue Global). v.items) w.lanes-is in
+          subst (λ (ls : List ClosedValue). (slice_index_or ls k d).draws.view.first ≡ false) (sym lanes)
+          (torn_returned c.in-Ok.chunks.table (place_of c.requires.logs.task) c.args.path.now c.args.number c.args.team.now.span c.in-Ok.share w.in-Torn.lanes.items here (w.in-Torn.ensures.opens c.requires.logs.task c.requires.logs.path_is c.requires.logs.size_is c.requires.logs.new).0 k d (subst (λ (ls : List ClosedValue). k < length ls) lanes less)).split
     ]
 
 pub region-returns : goal.region-returns
@@ -429,24 +446,24 @@ region-returns g n c = record {
       let slots = c.args.locals.now.slots.items in
       let lawful = c.requires.team.lawful in
       elim c.match-open.branch [
-        region-in-Team b ↦
-          let lanes = ap (λ (v : Vec ClosedValue Global). v.items) b.lanes-is in
-          let opened = b.in-Team.ensures.opens task at size new in
-          subst (λ (h : HandValue View). RanRegion w team slots task c.args.number c.args.hand.now h before after c.gather.result) (sym b.hand-is)
-          (closed_region w b.crew-crew.result team slots task c.args.number c.in-Ok.share c.open.new.share c.gather.new.share b.deref-in-Team.result.now c.args.hand.now b.run_team-lanes.new.hand b.in-Team.members.items c.match-open.lanes.items before after c.gather.result
-          (arrays ∙ sym (ap (λ (v : CrewValue). v.arrays) b.crew-crew.ensures)) (ap (λ (v : CrewValue). v.span) b.crew-crew.ensures) lawful.span.some
-          (subst (λ (ps : List (List Item)). (at : Site) (s : State) → run_parts at (parts_in ps) s ≡ run at team.body s) (sym b.deref-in-Team.ensures.value) c.in-Ok-Ok.ensures.runs)
-          (subst (λ (ls : List ClosedValue). TeamClosed b.crew-crew.result b.deref-in-Team.result.now team.end c.args.hand.now b.run_team-lanes.new.hand b.in-Team.members.items ls) (sym lanes) b.run_team-lanes.ensures.closed)
-          (subst (λ (p : List Step). AreLanes (place_of task) p c.args.number team.span slots c.in-Ok.share b.in-Team.members.items) (sym at) opened.0) (same_chunks lawful.names team slots lawful.scoped lawful.even) c.gather.ensures.gathered opened.1
-          c.gather.ensures.share c.gather.ensures.all)
-      | region-in-Torn b ↦
-          let lanes = ap (λ (v : Vec ClosedValue Global). v.items) b.lanes-is in
-          let opened = b.in-Torn.ensures.opens task at size new in
-          let torn = subst (λ (ls : List ClosedValue). AreTorn (place_of task) c.args.path.now c.args.number team.span c.in-Ok.share ls) (sym lanes) opened.0 in
-          let e = head_of c.match-open.lanes.items (let count = torn.count in let some = lawful.span.some in omega (arith, count, some)) in
-          subst (λ (h : HandValue View). RanRegion w team slots task c.args.number c.args.hand.now h before after c.gather.result) (sym b.hand-is)
-          (torn_region w team slots task c.args.number c.args.hand.now c.in-Ok.share c.match-open.lanes.items before after c.gather.result e c.requires.ready.free.belongs.there
-          (subst (λ (p : List Step). AreTorn (place_of task) p c.args.number team.span c.in-Ok.share c.match-open.lanes.items) (sym at) torn)
-          (subst (λ (n : ℕ). Gathered n (λ k. slice_index_or c.match-open.lanes.items k e) before after c.gather.result) torn.count (c.gather.ensures.gathered e)))
+        | region-in-Team b ↦
+            let lanes = ap (λ (v : Vec ClosedValue Global). v.items) b.lanes-is in
+            let opened = b.in-Team.ensures.opens task at size new in
+            subst (λ (h : HandValue View). RanRegion w team slots task c.args.number c.args.hand.now h before after c.gather.result) (sym b.hand-is)
+            (closed_region w b.crew-crew.result team slots task c.args.number c.in-Ok.share c.open.new.share c.gather.new.share b.deref-in-Team.result.now c.args.hand.now b.run_team-lanes.new.hand b.in-Team.members.items c.match-open.lanes.items before after c.gather.result
+            (arrays ∙ sym (ap (λ (v : CrewValue). v.arrays) b.crew-crew.ensures)) (ap (λ (v : CrewValue). v.span) b.crew-crew.ensures) lawful.span.some
+            (subst (λ (ps : List (List Item)). (at : Site) (s : State) → run_parts at (parts_in ps) s ≡ run at team.body s) (sym b.deref-in-Team.ensures.value) c.in-Ok-Ok.ensures.runs)
+            (subst (λ (ls : List ClosedValue). TeamClosed b.crew-crew.result b.deref-in-Team.result.now team.end c.args.hand.now b.run_team-lanes.new.hand b.in-Team.members.items ls) (sym lanes) b.run_team-lanes.ensures.closed)
+            (subst (λ (p : List Step). AreLanes (place_of task) p c.args.number team.span slots c.in-Ok.share b.in-Team.members.items) (sym at) opened.0) (same_chunks lawful.names team slots lawful.scoped lawful.even) c.gather.ensures.gathered opened.1
+            c.gather.ensures.share c.gather.ensures.all)
+        | region-in-Torn b ↦
+            let lanes = ap (λ (v : Vec ClosedValue Global). v.items) b.lanes-is in
+            let opened = b.in-Torn.ensures.opens task at size new in
+            let torn = subst (λ (ls : List ClosedValue). AreTorn (place_of task) c.args.path.now c.args.number team.span c.in-Ok.share ls) (sym lanes) opened.0 in
+            let e = head_of c.match-open.lanes.items (let count = torn.count in let some = lawful.span.some in omega (arith, count, some)) in
+            subst (λ (h : HandValue View). RanRegion w team slots task c.args.number c.args.hand.now h before after c.gather.result) (sym b.hand-is)
+            (torn_region w team slots task c.args.number c.args.hand.now c.in-Ok.share c.match-open.lanes.items before after c.gather.result e c.requires.ready.free.belongs.there
+            (subst (λ (p : List Step). AreTorn (place_of task) p c.args.number team.span c.in-Ok.share c.match-open.lanes.items) (sym at) torn)
+            (subst (λ (n : ℕ). Gathered n (λ k. slice_index_or c.match-open.lanes.items k e) before after c.gather.result) torn.count (c.gather.ensures.gathered e)))
       ];
 }

@@ -1,4 +1,4 @@
-use Rattle.std.proofs.Common.{◌≡◌, ◌+◌, ◌*◌, ◌-◌, take}
+use Rattle.std.proofs.Common.{◌+◌, ◌*◌, take}
 use Rattle.region_runner.proofs.TeamLoop.{HasPassed}
 use Rattle.region_runner.proofs.region.+region.Given as goal
 

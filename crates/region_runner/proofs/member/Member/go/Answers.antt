@@ -1,4 +1,4 @@
-use Rattle.std.proofs.Common.{rules, ◌≡◌, refl, ap, sym, ◌∙◌, subst, Some, None}
+use Rattle.std.proofs.Common.{ap, sym, ◌∙◌, Some}
 use Rattle.region_runner.specs.Member.{MemberValue, answer_of}
 use Rattle.region_runner.proofs.WentOn.{forks_same, went_on}
 use Rattle.region_runner.proofs.member.Member.go.Goals as goal
