@@ -4,4 +4,5 @@ pub mod RunSums
 pub mod IndexKept
 pub mod RunFolder
 pub mod RunEnds
+pub mod Leaving
 pub mod RunExamples
