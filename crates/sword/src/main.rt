@@ -82,6 +82,8 @@ mod generated_tests;
 #[cfg(test)]
 mod graph_tests;
 #[cfg(test)]
+mod kernel_tests;
+#[cfg(test)]
 mod run_tests;
 #[cfg(test)]
 mod sweep_tests;
