@@ -15,15 +15,15 @@ use Rattle.region_runner.specs.Nesting.{NestsWithin, PhasesNest, TeamNests}
 
 -- ---- regions
 
-abbrev RegionNests : ℕ → RegionWork → Type 0
+abbrev pub RegionNests : ℕ → RegionWork → Type 0
 RegionNests zero region = ⊥
 RegionNests (suc d) region = (1 ≤ region.span) × PhasesNest d region.phases
 
-abbrev RegionsNest : ℕ → List RegionWork → Type 0
+abbrev pub RegionsNest : ℕ → List RegionWork → Type 0
 RegionsNest d [] = Unit {0}
 RegionsNest d (region ∷ regions) = RegionNests d region × RegionsNest d regions
 
-abbrev WorksNest : ℕ → List Work → Type 0
+abbrev pub WorksNest : ℕ → List Work → Type 0
 WorksNest d [] = Unit {0}
 WorksNest d (work ∷ works) = NestsWithin d work × WorksNest d works
 
@@ -33,7 +33,7 @@ regions_nest d (Put r more) others nests rest = regions_nest d more others nests
 regions_nest zero (Fork line span phases more) others nests rest = absurd nests
 regions_nest (suc d) (Fork line span phases more) others nests rest = ((nests.0, nests.1), regions_nest (suc d) more others nests.2 rest)
 
-all_regions_nest : (d : ℕ) (works : List Work) → WorksNest d works → RegionsNest d (flat_map work_regions works)
+pub all_regions_nest : (d : ℕ) (works : List Work) → WorksNest d works → RegionsNest d (flat_map work_regions works)
 all_regions_nest d [] nest = tt
 all_regions_nest d (work ∷ works) nest = regions_nest d work (flat_map work_regions works) nest.0 (all_regions_nest d works nest.1)
 
@@ -42,7 +42,7 @@ at_nest d lane NoWork others nests rest = rest
 at_nest d zero (Beside work team) others nests rest = (nests.0, rest)
 at_nest d (suc lane) (Beside work team) others nests rest = at_nest d lane team others nests.1 rest
 
-lane_nests : (d lane : ℕ) (phases : Phases) → PhasesNest d phases → WorksNest d (lane_works lane phases)
+pub lane_nests : (d lane : ℕ) (phases : Phases) → PhasesNest d phases → WorksNest d (lane_works lane phases)
 lane_nests d lane NoPhase nests = tt
 lane_nests d lane (Phase team later) nests = at_nest d lane team (lane_works lane later) nests.0 (lane_nests d lane later nests.1)
 

@@ -15,7 +15,7 @@ use sw_base::{Log, Memory, Path, Trouble};
 // What a lane answers, or lanes so far: all ended, and their logs found a place; or the task of this path stopped so, since its log
 // refused what waited, or since a lane didn't go on; or no memory was found there.
 #[derive(Drop)]
-enum Verdict {
+pub(crate) enum Verdict {
     Ended,
     Refused(Path, Stop),
     Halted(Path, Stop),
@@ -36,7 +36,7 @@ impl Verdict {
     }
 
     // What the region answers.
-    fn answer(self) -> Result<(), (Path, Stop)>
+    pub(crate) fn answer(self) -> Result<(), (Path, Stop)>
         ensures { result ≡ answer_for self }
     {
         match self {
@@ -91,7 +91,7 @@ fn is_want(why: Stop) -> bool
 }
 
 // What the lane at this path answers, whose logs found a place or not.
-fn judge(path: Path, halt: Option<Halt>, refused: Option<Trouble>, kept: bool) -> Verdict
+pub(crate) fn judge(path: Path, halt: Option<Halt>, refused: Option<Trouble>, kept: bool) -> Verdict
     ensures { IsVerdict path halt refused kept result }
 {
     let halted = halt.is_some();
@@ -105,7 +105,7 @@ fn judge(path: Path, halt: Option<Halt>, refused: Option<Trouble>, kept: bool) -
 }
 
 // Puts a lane's own log and then those below it at the end. Where no memory is found for it, they are dropped.
-fn hand_on<L: Log>(
+pub(crate) fn hand_on<L: Log>(
     own: (Path, L, u32),
     mut below: Vec<(Path, L, u32)>,
     done: &mut Vec<(Path, L, u32)>,

@@ -1,0 +1,197 @@
+-- What a run of a kernel answers, by what its root did and the history of all hands.
+use Rattle.std.proofs.Common.{◌≡◌, ◌⊎◌, inl, inr, refl, ap, sym, ◌∙◌, subst, ℕ, zero, suc, ◌+◌, ◌-◌, ◌*◌, ◌<◌, ◌≤◌, List, [], ◌∷◌, ◌++◌, length, map, Option, Some, None, Ok, Err, arith, All}
+use Rattle.std.specs.Prelude.{is_some, slice_get}
+use Rattle.std.specs.Option.{option_map}
+use Rattle.std.proofs.lemmas.Bool.{cases_lt}
+use Rattle.std.proofs.lemmas.List.Sums.{sum_by-cons}
+use Rattle.sw_base.specs.declared.path.Step.{Step}
+use Rattle.sw_base.specs.Environment.{Outline, Text, WhereTold}
+use Rattle.sw_base.specs.HandedLog.{HandedLog, handed_log, outline}
+use Rattle.log_format.specs.declared.format.TheConstants.{FORMAT}
+use Rattle.log_format.specs.declared.record.Record.{Record}
+use Rattle.log_format.specs.Format.{log_header}
+use Rattle.race_model.specs.IndexFault.{max_rows}
+use Rattle.race_model.specs.Trace.{TaskLog, Trace, logs_of}
+use Rattle.kernel_syntax.specs.declared.syntax.Array.{Array}
+use Rattle.kernel_syntax.specs.Bounds.{IsBounded}
+use Rattle.kernel_syntax.specs.Layout.{aligned, elements, laid_from}
+use Rattle.kernel_syntax.specs.Program.{Program}
+use Rattle.kernel_model.specs.Folder.{paths_of, root_start}
+use Rattle.kernel_model.specs.Lawful.{IsLawful}
+use Rattle.kernel_model.specs.Trace.{Ending}
+use Rattle.kernel_model.proofs.LawfulFolder.{folder_keeps}
+use Rattle.atomic_table.specs.Seated.{TableId}
+use Rattle.step_history.specs.History.{HasHistory}
+use Rattle.shared_words.specs.declared.view.View.{View}
+use Rattle.shared_words.specs.Handles.{HandValue, hand_with}
+use Rattle.shared_words.specs.Views.{newcomer}
+use Rattle.event_buffer.specs.Logged.{HasAll}
+use Rattle.history_model.specs.Did.{did}
+use Rattle.history_model.specs.Joined.{LastIsEnd}
+use Rattle.history_model.specs.Sound.{HasAddresses}
+use Rattle.history_model.specs.Work.{Work, work_records}
+use Rattle.execution_model.specs.Execution.{IsExecution}
+use Rattle.execution_model.specs.Runs.{IsWithin, RunsTask, logged_tasks, put_records, works_log}
+use Rattle.execution_model.proofs.LoggedTasks.{log_is}
+use Rattle.lane_runner.specs.declared.stop.Stop.{Stop}
+use Rattle.lane_runner.specs.declared.stop.Stop.TheVariants as stop
+use Rattle.lane_runner.specs.Children.{LogView}
+use Rattle.lane_runner.specs.Fitting.{WorkFits}
+use Rattle.lane_runner.specs.Forking.{Answer, stop_in}
+use Rattle.lane_runner.specs.Handed.{AreEntriesOf, Entry, IsEntryOf, Keeps, LogPlace, entries_of, entry_of}
+use Rattle.lane_runner.specs.Stopping.{EndsBelow, LastIsRegionAt, RestsBelow, ending_for}
+use Rattle.lane_runner.specs.World.{HaveOwnWords, element_address, element_word, layout_of}
+use Rattle.lane_runner.proofs.HandedTasks.{tree_listed}
+use Rattle.region_runner.specs.Answer.{EndsTask, HasRun, HasStoppedRun, IsRun, StopsIn, whole_log, whole_outline}
+use Rattle.region_runner.specs.Nesting.{NestsWithin}
+use Rattle.region_runner.specs.Root.{RootRests, StopsRoot}
+use Rattle.region_runner.proofs.FinishedRun.{whole_folder}
+use Rattle.region_runner.proofs.Nested.{root_nests}
+use Rattle.region_runner.proofs.NestedHands.{root_within}
+use Rattle.region_runner.proofs.RootStops.{ends_task, rests_task}
+use Rattle.region_runner.proofs.TaskListing.{are_listed, are_within}
+use Rattle.region_runner.proofs.Traced.{fits_both}
+use Rattle.region_runner.proofs.WholeTree.{all_fits, executes}
+
+-- ---- the words of elements
+
+-- the word is that of an element of an array
+record HasElement (arrays : List Array) (word : ℕ) : Type 0 where
+  number : ℕ
+  array : Array
+  index : ℕ
+  found : slice_get arrays number ≡ Some array
+  within : index < array.count
+  is : array.first + index ≡ word
+
+element_in : (base first : ℕ) (arrays : List Array) (word : ℕ) → first ≤ word → word < first + elements arrays → HasElement (laid_from base first arrays) word
+element_in base first [] word low high = absurd (let none : elements [] ≡ 0 = refl in omega (arith, none, low, high))
+element_in base first (a ∷ arrays) word low high = by (cases_lt word (first + a.count)) where
+  by : (word < first + a.count) ⊎ (first + a.count ≤ word) → HasElement (laid_from base first (a ∷ arrays)) word
+  by (inl less) = record { number = 0; array = record a { base = base; first = first }; index = word - first; found = refl; within = omega (arith, low, less); is = omega (arith, low) }
+  by (inr past) =
+      let sum : elements (a ∷ arrays) ≡ a.count + elements arrays = sum_by-cons (λ (x : Array). x.count) a arrays in
+      let later = element_in (aligned (base + a.width * a.count)) (first + a.count) arrays word past (omega (arith, high, sum)) in
+      record { number = suc later.number; array = later.array; index = later.index; found = later.found; within = later.within; is = later.is }
+
+-- each word of a table with one for each element has an address
+have_addresses : (program : Program) → IsBounded program → HaveOwnWords program.arrays → (words : List ℕ) → length words ≤ elements program.arrays → HasAddresses (layout_of program.arrays) words
+have_addresses program bounded apart words few word less =
+    let e = subst (λ (arrays : List Array). HasElement arrays word) (sym bounded.placed) (element_in 4096 0 program.arrays word (omega arith) (omega (arith, few, less))) in
+    subst (λ (n : ℕ). element_word program.arrays (element_address program.arrays n) ≡ n) e.is
+    (ap (λ (addr : ℕ). element_word program.arrays addr) (apart.address e.number e.index e.array e.found e.within)
+    ∙ apart.word e.number e.index e.array e.found e.within)
+
+-- ---- the logs of a run that ended
+
+told_whole : (text root : Option Text) (records : List Record) (size : ℕ) → is_some text ≡ is_some root → WhereTold text (HasAll (log_header FORMAT) records size)
+    → outline text ≡ option_map (λ _. whole_outline size records) root
+told_whole None None records size same all = refl
+told_whole None (Some r) records size same all = absurd cc
+told_whole (Some t) None records size same all = absurd cc
+told_whole (Some t) (Some r) records size same all =
+    let has = all t refl in
+    λ i. Some (record { bytes = has.bytes i; lengths = has.lengths i })
+
+kept_whole : (text : Option Text) (path : List Step) (records : List Record) (size faults : ℕ) → WhereTold text (Keeps None path records size faults) → WhereTold text (HasAll (log_header FORMAT) records size)
+kept_whole text path records size faults keeps t told = by (keeps t told) where
+  by : Keeps None path records size faults t → HasAll (log_header FORMAT) records size t
+  by (Keeps.whole all) = all
+  by (Keeps.torn lacks prefix) = absurd lacks
+
+module _ {T : Type 0} (seen : LogView T) (dir : List ℕ) (size : ℕ) (root : Option Text) where
+  abbrev place : LogPlace
+  place = record { dir = dir; size = size; tells = is_some root }
+
+  abbrev handed : List Step × T × ℕ → HandedLog
+  handed = handed_log seen.dir seen.path seen.text
+
+  log_whole : (task : TaskLog) (item : List Step × T × ℕ) → IsEntryOf place None task.path task.records (entry_of seen item) → handed item ≡ whole_log dir size root task
+  log_whole task item is =
+      let told = told_whole (seen.text item.1) root task.records size is.tells (kept_whole (seen.text item.1) task.path task.records size (seen.faults item.1) is.keeps) in
+      λ i. record { task = is.task i; dir = is.dir i; path = is.own i; told = told i; count = is.count i }
+
+  all_whole : (tasks : Trace) (items : List (List Step × T × ℕ)) (es : List Entry) → es ≡ entries_of seen items → AreEntriesOf place None tasks es → map handed items ≡ map (whole_log dir size root) tasks
+  all_whole _ [] _ same AreEntriesOf.no_task = refl
+  all_whole _ (item ∷ items) _ same AreEntriesOf.no_task = absurd cc
+  all_whole _ [] _ same (AreEntriesOf.given task tasks e es is rest) = absurd cc
+  all_whole _ (item ∷ items) _ same (AreEntriesOf.given task tasks e es is rest) =
+      let first : e ≡ entry_of seen item = cc in
+      let others : es ≡ entries_of seen items = cc in
+      ap (λ (log : HandedLog). log ∷ map handed items) (log_whole task item (subst (λ (x : Entry). IsEntryOf place None task.path task.records x) first is))
+      ∙ ap (λ (logs : List HandedLog). whole_log dir size root task ∷ logs) (all_whole tasks items es others rest)
+  all_whole _ items _ same (AreEntriesOf.missing task tasks es none rest) = absurd none
+
+-- as many as there are tasks
+as_many : (place : LogPlace) (tasks : Trace) (es : List Entry) → AreEntriesOf place None tasks es → length tasks ≡ length es
+as_many place _ _ AreEntriesOf.no_task = refl
+as_many place _ _ (AreEntriesOf.given task tasks e es is rest) = ap suc (as_many place tasks es rest)
+as_many place _ _ (AreEntriesOf.missing task tasks es none rest) = absurd none
+
+-- ---- what is answered
+
+module _ (program : Program) (lawful : IsLawful program) (apart : HaveOwnWords program.arrays) (dir : List ℕ) (size : ℕ) (root : Option Text) (table : TableId) (new : HandValue View) (logs : List Entry) (r : Answer)
+    (rests : RootRests program (record { dir = dir; size = size; tells = is_some root }) (hand_with table (newcomer [])) new logs r) (words : List ℕ) (few : length words ≤ elements program.arrays) (history : HasHistory new.view.items words) where
+  abbrev work : Work
+  work = rests.work
+
+  abbrev tasks : Trace
+  tasks = logged_tasks 4 work
+
+  abbrev own_place : LogPlace
+  own_place = record { dir = dir; size = size; tells = is_some root }
+
+  addresses : HasAddresses (layout_of program.arrays) words
+  addresses = have_addresses program lawful.bounded apart words few
+
+  one_history : HasHistory (did (element_word program.arrays) [] 0 work) words
+  one_history = subst (λ (h : HandValue View). HasHistory h.view.items words) rests.did.hand history
+
+  fit : WorkFits work
+  fit = all_fits program work words lawful.bounded rests.did.sound rests.did.elements addresses one_history
+
+  runs : RunsTask program (root_start program) (work ∷ [])
+  runs = rests.runs fit
+
+  nests : NestsWithin 4 work
+  nests = root_nests program lawful work rests.did.sound runs
+
+  within : IsWithin 4 work
+  within = are_within 4 work nests
+
+  execution : IsExecution program tasks (element_address program.arrays) words
+  execution = executes program 4 work words lawful.bounded rests.did.sound rests.did.joined rests.did.elements rests.runs within addresses one_history
+
+  entries : AreEntriesOf own_place (stop_in r) tasks logs
+  entries = tree_listed own_place (stop_in r) 4 work logs rests.hands (root_within own_place (stop_in r) 4 work logs rests.hands nests)
+
+  -- the log of the root
+  root_log : logs_of tasks [] ≡ put_records (work_records work)
+  root_log = log_is (layout_of program.arrays) 4 work rests.did.sound within [] ∙ _
+
+  -- it stopped
+  module _ (path : List Step) (why : Stop) (is : r ≡ Err (path, why)) where
+    stopped : StopsRoot program path why work
+    stopped = rests.stops path why is
+
+    stops_in : StopsIn program tasks path why
+    stops_in = record {
+      traced = λ end told.
+          let ends = stopped.traced (fits_both work _ fit tt) program refl end told in
+          subst (λ (p : List Step). EndsTask program tasks p end) (sym ends.at.path_is) (ends_task program 4 work rests.did.sound within runs end ends.at.rest ends.ends);
+      crowded = λ line told.
+          let rests_at = stopped.crowded line told in
+          subst (λ (p : List Step). LastIsRegionAt line (logs_of tasks p)) (sym rests_at.at.path_is) (rests_task program 4 work rests.did.sound within runs line rests_at.at.rest rests_at.rests);
+    }
+
+    pub has_stopped : HasStoppedRun program dir size root logs path why words
+    has_stopped = record {
+      tasks = tasks;
+      final = words;
+      execution = execution;
+      words_are = inl refl;
+      listed = are_listed 4 work nests;
+      logs_are = subst (λ (x : Answer). AreEntriesOf own_place (stop_in x) tasks logs) is entries;
+      stops = stops_in;
+      tell = subst (λ (x : Answer). _) is rests.tell;
+    }
