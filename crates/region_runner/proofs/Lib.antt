@@ -38,3 +38,4 @@ pub mod NoRegion
 pub mod TeamRegion
 pub mod ReturnedHands
 pub mod OpenedTeam
+pub mod Idle
