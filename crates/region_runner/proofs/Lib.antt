@@ -39,3 +39,4 @@ pub mod TeamRegion
 pub mod ReturnedHands
 pub mod OpenedTeam
 pub mod Idle
+pub mod RootStops
