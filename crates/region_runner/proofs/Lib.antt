@@ -40,3 +40,4 @@ pub mod ReturnedHands
 pub mod OpenedTeam
 pub mod Idle
 pub mod RootStops
+pub mod Nested
