@@ -40,6 +40,10 @@ pub mod NoRegion
 pub mod TeamRegion
 pub mod ReturnedHands
 pub mod OpenedTeam
+pub mod Idle
+pub mod RootStops
+pub mod Nested
+pub mod NestedHands
 pub mod RootTask
 pub mod RootHands
 pub mod WholeRun

@@ -136,12 +136,12 @@ none_under : (path : List Step) → works_under [] path ≡ []
 none_under [] = refl
 none_under (step ∷ path) = none_under path
 
-found_nests : (d : ℕ) (regions : List RegionWork) (k : ℕ) (region : RegionWork) → RegionsNest d regions → slice_get regions k ≡ Some region → RegionNests d region
+pub found_nests : (d : ℕ) (regions : List RegionWork) (k : ℕ) (region : RegionWork) → RegionsNest d regions → slice_get regions k ≡ Some region → RegionNests d region
 found_nests d [] k region nest found = absurd cc
 found_nests d (first ∷ regions) zero region nest found = subst (RegionNests d) (same_Some first region found) nest.0
 found_nests d (first ∷ regions) (suc k) region nest found = found_nests d regions k region nest.1 found
 
-lane_of_region_nests : (d : ℕ) (step : Step) (region : RegionWork) → PhasesNest d region.phases → WorksNest d (works_at_region step (Some region))
+pub lane_of_region_nests : (d : ℕ) (step : Step) (region : RegionWork) → PhasesNest d region.phases → WorksNest d (works_at_region step (Some region))
 lane_of_region_nests d step region nests = by (region.span == step.span)
   where
     by : (b : Bool) → WorksNest d (cond b (lane_works step.lane region.phases) [])
