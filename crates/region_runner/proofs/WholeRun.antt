@@ -1,8 +1,10 @@
 -- What a run of a kernel answers, by what its root did and the history of all hands.
 use Rattle.std.proofs.Common.{◌≡◌, ◌⊎◌, inl, inr, refl, ap, sym, ◌∙◌, subst, ℕ, zero, suc, ◌+◌, ◌-◌, ◌*◌, ◌<◌, ◌≤◌, List, [], ◌∷◌, ◌++◌, length, map, Option, Some, None, Ok, Err, arith, All}
 use Rattle.std.specs.Prelude.{is_some, slice_get}
+use Rattle.std.specs.List.{flat_map}
 use Rattle.std.specs.Option.{option_map}
 use Rattle.std.proofs.lemmas.Bool.{cases_lt}
+use Rattle.std.proofs.lemmas.List.{append-nil}
 use Rattle.std.proofs.lemmas.List.Sums.{sum_by-cons}
 use Rattle.sw_base.specs.declared.path.Step.{Step}
 use Rattle.sw_base.specs.Environment.{Outline, Text, WhereTold}
@@ -29,16 +31,18 @@ use Rattle.event_buffer.specs.Logged.{HasAll}
 use Rattle.history_model.specs.Did.{did}
 use Rattle.history_model.specs.Joined.{LastIsEnd}
 use Rattle.history_model.specs.Sound.{HasAddresses}
-use Rattle.history_model.specs.Work.{Work, work_records}
+use Rattle.history_model.specs.Work.{Work, Rest, work_records}
 use Rattle.execution_model.specs.Execution.{IsExecution}
-use Rattle.execution_model.specs.Runs.{IsWithin, RunsTask, logged_tasks, put_records, works_log}
+use Rattle.execution_model.specs.Runs.{IsWithin, RunsTask, logged_tasks, works_log}
+use Rattle.execution_model.proofs.Descent.{released_of}
 use Rattle.execution_model.proofs.LoggedTasks.{log_is}
+use Rattle.execution_model.proofs.Prefixes.{ends_same}
 use Rattle.lane_runner.specs.declared.stop.Stop.{Stop}
 use Rattle.lane_runner.specs.declared.stop.Stop.TheVariants as stop
 use Rattle.lane_runner.specs.Children.{LogView}
 use Rattle.lane_runner.specs.Fitting.{WorkFits}
 use Rattle.lane_runner.specs.Forking.{Answer, stop_in}
-use Rattle.lane_runner.specs.Handed.{AreEntriesOf, Entry, IsEntryOf, Keeps, LogPlace, entries_of, entry_of}
+use Rattle.lane_runner.specs.Handed.{AreEntriesOf, Entry, IsEntryOf, Keeps, LogPlace, TellStop, entries_of, entry_of}
 use Rattle.lane_runner.specs.Stopping.{EndsBelow, LastIsRegionAt, RestsBelow, ending_for}
 use Rattle.lane_runner.specs.World.{HaveOwnWords, element_address, element_word, layout_of}
 use Rattle.lane_runner.proofs.HandedTasks.{tree_listed}
@@ -165,10 +169,6 @@ module _ (program : Program) (lawful : IsLawful program) (apart : HaveOwnWords p
   entries : AreEntriesOf own_place (stop_in r) tasks logs
   entries = tree_listed own_place (stop_in r) 4 work logs rests.hands (root_within own_place (stop_in r) 4 work logs rests.hands nests)
 
-  -- the log of the root
-  root_log : logs_of tasks [] ≡ put_records (work_records work)
-  root_log = log_is (layout_of program.arrays) 4 work rests.did.sound within [] ∙ _
-
   -- it stopped
   module _ (path : List Step) (why : Stop) (is : r ≡ Err (path, why)) where
     stopped : StopsRoot program path why work
@@ -177,11 +177,11 @@ module _ (program : Program) (lawful : IsLawful program) (apart : HaveOwnWords p
     stops_in : StopsIn program tasks path why
     stops_in = record {
       traced = λ end told.
-          let ends = stopped.traced (fits_both work _ fit tt) program refl end told in
-          subst (λ (p : List Step). EndsTask program tasks p end) (sym ends.at.path_is) (ends_task program 4 work rests.did.sound within runs end ends.at.rest ends.ends);
+          let ends = stopped.traced (fits_both work Rest fit tt) program refl end told in
+          subst (λ (p : List Step). EndsTask program tasks p end) (sym ends.at.path_is) (ends_task program 4 work rests.did.sound within runs nests end ends.at.rest ends.ends);
       crowded = λ line told.
           let rests_at = stopped.crowded line told in
-          subst (λ (p : List Step). LastIsRegionAt line (logs_of tasks p)) (sym rests_at.at.path_is) (rests_task program 4 work rests.did.sound within runs line rests_at.at.rest rests_at.rests);
+          subst (λ (p : List Step). LastIsRegionAt line (logs_of tasks p)) (sym rests_at.at.path_is) (rests_task program 4 work rests.did.sound within runs nests line rests_at.at.rest rests_at.rests);
     }
 
     pub has_stopped : HasStoppedRun program dir size root logs path why words
@@ -193,5 +193,27 @@ module _ (program : Program) (lawful : IsLawful program) (apart : HaveOwnWords p
       listed = are_listed 4 work nests;
       logs_are = subst (λ (x : Answer). AreEntriesOf own_place (stop_in x) tasks logs) is entries;
       stops = stops_in;
-      tell = subst (λ (x : Answer). _) is rests.tell;
+      tell = subst (λ (x : Answer). TellStop (stop_in x) logs) is rests.tell;
     }
+
+  -- it ended
+  module _ (is : r ≡ Ok tt) (all : length words ≡ elements program.arrays) where
+    root_ended : LastIsEnd (logs_of tasks [])
+    root_ended =
+        subst (λ (rs : List Record). LastIsEnd rs) (sym (log_is (layout_of program.arrays) 4 work rests.did.sound within []))
+        (ends_same (λ path. works_log (work ∷ [])) (λ path. flat_map work_records (work ∷ [])) (λ path. released_of program (root_start program) (work ∷ []) runs) []
+        (subst (λ (rs : List Record). LastIsEnd rs) (sym (append-nil (work_records work))) (rests.ends is)))
+
+    ended_entries : AreEntriesOf own_place None tasks logs
+    ended_entries = subst (λ (x : Answer). AreEntriesOf own_place (stop_in x) tasks logs) is entries
+
+    few_tasks : length tasks ≤ max_rows
+    few_tasks = let count = as_many own_place tasks logs ended_entries in let most = rests.few is in omega (arith, count, most)
+
+    pub is_run : IsRun program tasks words
+    is_run =
+        let whole = whole_folder program tasks (element_address program.arrays) words execution (are_listed 4 work nests) root_ended in
+        record { traced = whole; rules = folder_keeps program lawful tasks whole (are_listed 4 work nests) few_tasks; execution = execution; all = all }
+
+    pub has_run : {T : Type 0} (seen : LogView T) (items : List (List Step × T × ℕ)) → logs ≡ entries_of seen items → HasRun program dir size root (map (handed_log seen.dir seen.path seen.text) items) words
+    has_run seen items same = record { tasks = tasks; run = is_run; logs_are = all_whole seen dir size root tasks items logs same ended_entries; few = few_tasks }
