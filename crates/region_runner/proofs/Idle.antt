@@ -12,6 +12,7 @@ use Rattle.kernel_model.specs.Lawful.{code_holds_work, fixed_bound, unrolled_bou
 use Rattle.kernel_model.specs.Parts.{Part, Run, Bar, is_bar, bar_count, is_drawn, drawn_count, loop_parts, parts_of}
 use Rattle.kernel_model.specs.Phases.{part_of, parts_in, AreDivided, EndsInBar}
 use Rattle.region_runner.proofs.LawfulParts.{or_first, or_last}
+use Rattle.region_runner.proofs.TeamLoop.{snoc_same}
 use Rattle.region_runner.proofs.LawfulPhases.{all_map, each_phase}
 
 -- neither a barrier nor a loop whose chunks are drawn
@@ -61,29 +62,28 @@ ends_in_none : (before : List Item) (line : ℕ) → IsIdlePhase (before ++ item
 ends_in_none [] line idle = true≢false (All-head IsIdlePart (Bar line) [] idle).0
 ends_in_none (x ∷ before) line idle = ends_in_none before line (All-tail IsIdlePart (part_of x) (map part_of (before ++ item.Bar line ∷ [])) idle)
 
--- the phases of a team whose body holds no work are one, without a barrier or a loop whose chunks are drawn
-pub record IsOnlyPhase (phases : List (List Item)) : Type 0 where
-  pub only : List Item
+-- there is only this phase, without a barrier or a loop whose chunks are drawn
+pub record IsOnlyPhase (phases : List (List Item)) (only : List Item) : Type 0 where
   pub is : phases ≡ only ∷ []
   pub no_bar : bar_count (map part_of only) ≡ 0
   pub none_drawn : drawn_count (map part_of only) ≡ 0
 
-pub only_phase : (code : Code) (phases : List (List Item)) → code_holds_work code ≡ false → parts_in phases ≡ parts_of code → AreDivided phases → IsOnlyPhase phases
-only_phase code phases idle parts d = by d.earlier d.parts d.each
+-- so where the body of a team holds no work
+pub only_phase : (code : Code) (phases earlier : List (List Item)) (last : List Item) → code_holds_work code ≡ false → parts_in phases ≡ parts_of code → AreDivided phases → phases ≡ earlier ++ last ∷ [] → IsOnlyPhase phases last
+only_phase code phases earlier last idle parts d split = by earlier split (subst (λ (ps : List (List Item)). All EndsInBar ps) (snoc_same d.earlier earlier d.last last (sym d.parts ∙ split)).0 d.each)
   where
     each : All IsIdlePhase phases
     each = each_phase IsIdlePart phases (subst (λ (ps : List Part). All IsIdlePart ps) (sym parts) (idle_parts code idle))
 
-    by : (earlier : List (List Item)) → phases ≡ earlier ++ d.last ∷ [] → All EndsInBar earlier → IsOnlyPhase phases
+    by : (before : List (List Item)) → phases ≡ before ++ last ∷ [] → All EndsInBar before → IsOnlyPhase phases last
     by [] is ends =
-        let last = All-head IsIdlePhase d.last [] (subst (λ (ps : List (List Item)). All IsIdlePhase ps) is each) in
+        let mine = All-head IsIdlePhase last [] (subst (λ (ps : List (List Item)). All IsIdlePhase ps) is each) in
         record {
-          only = d.last;
           is = is;
-          no_bar = none_counted is_bar (map part_of d.last) (all_map IsIdlePart (λ (p : Part). is_bar p ≡ false) (λ p idle. idle.0) (map part_of d.last) last);
-          none_drawn = none_counted is_drawn (map part_of d.last) (all_map IsIdlePart (λ (p : Part). is_drawn p ≡ false) (λ p idle. idle.1) (map part_of d.last) last);
+          no_bar = none_counted is_bar (map part_of last) (all_map IsIdlePart (λ (p : Part). is_bar p ≡ false) (λ p idle. idle.0) (map part_of last) mine);
+          none_drawn = none_counted is_drawn (map part_of last) (all_map IsIdlePart (λ (p : Part). is_drawn p ≡ false) (λ p idle. idle.1) (map part_of last) mine);
         }
-    by (phase ∷ earlier) is ends =
-        let first = All-head IsIdlePhase phase (earlier ++ d.last ∷ []) (subst (λ (ps : List (List Item)). All IsIdlePhase ps) is each) in
-        let bar = All-head EndsInBar phase earlier ends in
+    by (phase ∷ before) is ends =
+        let first = All-head IsIdlePhase phase (before ++ last ∷ []) (subst (λ (ps : List (List Item)). All IsIdlePhase ps) is each) in
+        let bar = All-head EndsInBar phase before ends in
         absurd (ends_in_none bar.before bar.line (subst IsIdlePhase bar.parts first))

@@ -27,6 +27,19 @@ use Rattle.region_runner.specs.declared.gathering.Verdict.TheVariants as verdict
 use Rattle.region_runner.proofs.LaneStops.{StoppedAs, lane_given, lane_missing, lane_tells, own_trouble, refused_failed, region_found, region_is, stopped_as, tells_none}
 use Rattle.region_runner.proofs.RootTask.{did_nothing, runs_nothing}
 
+-- what runs answer
+abbrev err : List Step × Stop → Answer
+err at = Err at
+
+abbrev ok : Answer
+ok = Ok tt
+
+no_end : {P : Type 0} (at : List Step × Stop) → err at ≡ ok → P
+no_end at e = absurd cc
+
+stopped_one : (one other : List Step × Stop) → err one ≡ err other → one ≡ other
+stopped_one one other e = cc
+
 module _ (program : Program) (place : LogPlace) (old new : HandValue View) (c : ClosedValue) (g : RootGave program place old new c) where
   abbrev Hands : MaybeStop → List Entry → Type 0
   Hands s es = TaskHands place s [] (g.work ∷ []) es
@@ -97,12 +110,6 @@ module _ (program : Program) (place : LogPlace) (old new : HandValue View) (c : 
   abbrev Rests : List Entry → Answer → Type 0
   Rests logs r = RootRests program place old new logs r
 
-  no_end : {P : Type 0} (stopped : List Step × Stop) → Err stopped ≡ Ok tt → P
-  no_end stopped e = absurd cc
-
-  stopped_one : (one other : List Step × Stop) → Err {T = Unit {0}} one ≡ Err other → one ≡ other
-  stopped_one one other e = cc
-
   ended : c.halt ≡ None → c.refused ≡ None → Rests (c.own ∷ c.below) (Ok tt)
   ended none unrefused = record {
     work = g.work;
@@ -168,13 +175,10 @@ module _ (program : Program) (place : LogPlace) (hand : HandValue View) (there :
     runs = λ fit. runs_nothing program;
     hands = TaskHands.missing [] (Rest ∷ []) [] refl (RegionsHand.no_region [] 0);
     tell = tells_none [] (stop.Trouble Memory) [] (λ e. cc) (λ line e. cc);
-    ends = λ is. absurd cc;
-    stops = λ path why is. subst (λ (s : List Step × Stop). StopsRoot program s.0 s.1 Rest) (same path why is) no_stop;
-    few = λ is. absurd cc;
+    ends = λ is. no_end stopped_at is;
+    stops = λ path why is. subst (λ (s : List Step × Stop). StopsRoot program s.0 s.1 Rest) (stopped_one stopped_at (path, why) is) no_stop;
+    few = λ is. no_end stopped_at is;
   }
-    where
-      same : (path : List Step) (why : Stop) → Err {T = Unit {0}} stopped_at ≡ Err (path, why) → stopped_at ≡ (path, why)
-      same path why e = cc
 
 -- the root ran, or no memory was found for it
 pub root_rests : (program : Program) (place : LogPlace) (old new : HandValue View) (closed : Option ClosedValue) (logs : List Entry) (r : Answer) → old.there ≡ true → RanRoot program place old new closed → IsSettled closed logs r

@@ -26,6 +26,7 @@ use Rattle.lane_runner.specs.Drawing.{Tally}
 use Rattle.lane_runner.specs.Fitting.{WorkFits}
 use Rattle.lane_runner.specs.Going.{site}
 use Rattle.lane_runner.specs.Handed.{AreFew, Entry, LogPlace}
+use Rattle.lane_runner.specs.World.{element_word}
 use Rattle.lane_runner.proofs.Working.{hand_still, worked_none}
 use Rattle.region_runner.specs.Begins.{LaneBegins}
 use Rattle.region_runner.specs.Closing.{IsClosedAs}
@@ -113,7 +114,7 @@ module _ (program : Program) (place : LogPlace) (crew : CrewValue) (items : List
 -- ---- a root that executed nothing
 
 pub did_nothing : (arrays : List Array) (hand : HandValue View) → hand.there ≡ true → DidWork arrays hand hand Rest
-did_nothing arrays hand there = record { hand = hand_still hand there ∙ ap (λ (v : View). with_view hand v) (sym (worked_none _ hand.view)); sound = tt; elements = tt; joined = tt }
+did_nothing arrays hand there = record { hand = hand_still hand there ∙ ap (λ (v : View). with_view hand v) (sym (worked_none (element_word arrays) hand.view)); sound = tt; elements = tt; joined = tt }
 
 pub runs_nothing : (program : Program) → RunsTask program (root_start program) (Rest ∷ [])
 runs_nothing program =

@@ -1,5 +1,5 @@
 -- A task that doesn't go on: which task stopped, and how.
-use Rattle.std.proofs.Common.{◌≡◌, refl, ap, sym, ◌∙◌, subst, ℕ, ◌+◌, List, [], ◌∷◌, ◌++◌, length, ℤ, Some, None, Err, append_assoc, arith}
+use Rattle.std.proofs.Common.{◌≡◌, refl, ap, sym, ◌∙◌, subst, ℕ, ◌+◌, ◌<◌, List, [], ◌∷◌, ◌++◌, length, ℤ, Some, None, Err, append_assoc, arith}
 use Rattle.std.specs.Prelude.{slice_get}
 use Rattle.std.specs.List.{flat_map}
 use Rattle.std.proofs.lemmas.List.{append-nil}
@@ -30,7 +30,7 @@ use Rattle.region_runner.proofs.Stops.{get_at, task_stops}
 use Rattle.region_runner.proofs.Traced.{one_log, one_regions, stopped_trace, traces_begun}
 
 module _ (fork : Fork) (lane : ℕ) (w : WorldValue) (part : State → Outcome (Unit {0})) (first_part : BeginsLane fork lane w part) (slots' : List ℤ) (old new : Progress) (none : old.buffer.count ≡ 0) (works : List Work) (own : List Step) where
-  itself_at : IsAtOrBelow own own
+  abbrev itself_at : IsAtOrBelow own own
   itself_at = record { rest = []; path_is = sym (append-nil own) }
 
   -- the task's own stop

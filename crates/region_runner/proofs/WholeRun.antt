@@ -7,7 +7,8 @@ use Rattle.std.proofs.lemmas.Bool.{cases_lt}
 use Rattle.std.proofs.lemmas.List.{append-nil}
 use Rattle.std.proofs.lemmas.List.Sums.{sum_by-cons}
 use Rattle.sw_base.specs.declared.path.Step.{Step}
-use Rattle.sw_base.specs.Environment.{Outline, Text, WhereTold}
+use Rattle.sw_base.specs.declared.trouble.Trouble.TheVariants.{Memory}
+use Rattle.sw_base.specs.Environment.{Text, WhereTold}
 use Rattle.sw_base.specs.HandedLog.{HandedLog, handed_log, outline}
 use Rattle.log_format.specs.declared.format.TheConstants.{FORMAT}
 use Rattle.log_format.specs.declared.record.Record.{Record}
@@ -23,6 +24,7 @@ use Rattle.kernel_model.specs.Lawful.{IsLawful}
 use Rattle.kernel_model.specs.Trace.{Ending}
 use Rattle.kernel_model.proofs.LawfulFolder.{folder_keeps}
 use Rattle.atomic_table.specs.Seated.{TableId}
+use Rattle.step_history.specs.declared.item.Item.{Item}
 use Rattle.step_history.specs.History.{HasHistory}
 use Rattle.shared_words.specs.declared.view.View.{View}
 use Rattle.shared_words.specs.Handles.{HandValue, hand_with}
@@ -46,12 +48,14 @@ use Rattle.lane_runner.specs.Handed.{AreEntriesOf, Entry, IsEntryOf, Keeps, LogP
 use Rattle.lane_runner.specs.Stopping.{EndsBelow, LastIsRegionAt, RestsBelow, ending_for}
 use Rattle.lane_runner.specs.World.{HaveOwnWords, element_address, element_word, layout_of}
 use Rattle.lane_runner.proofs.HandedTasks.{tree_listed}
+use Rattle.lane_runner.proofs.OwnWords.{bounded_world}
 use Rattle.region_runner.specs.Answer.{EndsTask, HasRun, HasStoppedRun, IsRun, StopsIn, whole_log, whole_outline}
 use Rattle.region_runner.specs.Nesting.{NestsWithin}
 use Rattle.region_runner.specs.Root.{RootRests, StopsRoot}
 use Rattle.region_runner.proofs.FinishedRun.{whole_folder}
 use Rattle.region_runner.proofs.Nested.{root_nests}
 use Rattle.region_runner.proofs.NestedHands.{root_within}
+use Rattle.region_runner.proofs.RootHands.{root_rests}
 use Rattle.region_runner.proofs.RootStops.{ends_task, rests_task}
 use Rattle.region_runner.proofs.TaskListing.{are_listed, are_within}
 use Rattle.region_runner.proofs.Traced.{fits_both}
@@ -70,13 +74,15 @@ record HasElement (arrays : List Array) (word : ℕ) : Type 0 where
 
 element_in : (base first : ℕ) (arrays : List Array) (word : ℕ) → first ≤ word → word < first + elements arrays → HasElement (laid_from base first arrays) word
 element_in base first [] word low high = absurd (let none : elements [] ≡ 0 = refl in omega (arith, none, low, high))
-element_in base first (a ∷ arrays) word low high = by (cases_lt word (first + a.count)) where
-  by : (word < first + a.count) ⊎ (first + a.count ≤ word) → HasElement (laid_from base first (a ∷ arrays)) word
-  by (inl less) = record { number = 0; array = record a { base = base; first = first }; index = word - first; found = refl; within = omega (arith, low, less); is = omega (arith, low) }
-  by (inr past) =
-      let sum : elements (a ∷ arrays) ≡ a.count + elements arrays = sum_by-cons (λ (x : Array). x.count) a arrays in
-      let later = element_in (aligned (base + a.width * a.count)) (first + a.count) arrays word past (omega (arith, high, sum)) in
-      record { number = suc later.number; array = later.array; index = later.index; found = later.found; within = later.within; is = later.is }
+element_in base first (a ∷ arrays) word low high =
+    let sum : elements (a ∷ arrays) ≡ a.count + elements arrays = sum_by-cons (λ (x : Array). x.count) a arrays in
+    by (cases_lt word (first + a.count)) (λ past. element_in (aligned (base + a.width * a.count)) (first + a.count) arrays word past (omega (arith, high, sum)))
+  where
+    by : (word < first + a.count) ⊎ (first + a.count ≤ word) → (first + a.count ≤ word → HasElement (laid_from (aligned (base + a.width * a.count)) (first + a.count) arrays) word) → HasElement (laid_from base first (a ∷ arrays)) word
+    by (inl less) later = record { number = 0; array = record a { base = base; first = first }; index = word - first; found = refl; within = omega (arith, low, less); is = omega (arith, low) }
+    by (inr past) later =
+        let e = later past in
+        record { number = suc e.number; array = e.array; index = e.index; found = e.found; within = e.within; is = e.is }
 
 -- each word of a table with one for each element has an address
 have_addresses : (program : Program) → IsBounded program → HaveOwnWords program.arrays → (words : List ℕ) → length words ≤ elements program.arrays → HasAddresses (layout_of program.arrays) words
@@ -127,10 +133,10 @@ module _ {T : Type 0} (seen : LogView T) (dir : List ℕ) (size : ℕ) (root : O
   all_whole _ items _ same (AreEntriesOf.missing task tasks es none rest) = absurd none
 
 -- as many as there are tasks
-as_many : (place : LogPlace) (tasks : Trace) (es : List Entry) → AreEntriesOf place None tasks es → length tasks ≡ length es
-as_many place _ _ AreEntriesOf.no_task = refl
-as_many place _ _ (AreEntriesOf.given task tasks e es is rest) = ap suc (as_many place tasks es rest)
-as_many place _ _ (AreEntriesOf.missing task tasks es none rest) = absurd none
+as_many : (at : LogPlace) (tasks : Trace) (es : List Entry) → AreEntriesOf at None tasks es → length tasks ≡ length es
+as_many at _ _ AreEntriesOf.no_task = refl
+as_many at _ _ (AreEntriesOf.given task tasks e es is rest) = ap suc (as_many at tasks es rest)
+as_many at _ _ (AreEntriesOf.missing task tasks es none rest) = absurd none
 
 -- ---- what is answered
 
@@ -217,3 +223,22 @@ module _ (program : Program) (lawful : IsLawful program) (apart : HaveOwnWords p
 
     pub has_run : {T : Type 0} (seen : LogView T) (items : List (List Step × T × ℕ)) → logs ≡ entries_of seen items → HasRun program dir size root (map (handed_log seen.dir seen.path seen.text) items) words
     has_run seen items same = record { tasks = tasks; run = is_run; logs_are = all_whole seen dir size root tasks items logs same ended_entries; few = few_tasks }
+
+-- ---- no memory was found for the words
+
+-- a table that nobody has
+no_table : TableId
+no_table = record { words = 0; slots = 0; views_name = 0; atom = 0; block = 0; offset = 0; slot_names = [] }
+
+pub own_words : (program : Program) → IsBounded program → HaveOwnWords program.arrays
+own_words program bounded =
+    (bounded_world program (record { table = no_table; elements = elements program.arrays; locks = 0 }) (record { table = no_table; loops = 0 }) 0 1 bounded refl (omega arith)).apart
+
+no_words : (items : List Item) → items ≡ [] → HasHistory items []
+no_words items none = subst (λ (xs : List Item). HasHistory xs []) (sym none) (record { log = []; legal = tt; whole = λ name. refl; ends = λ word less. absurd (omega (arith, less)) })
+
+pub stopped_at_once : (program : Program) → IsLawful program → (dir : List ℕ) (size : ℕ) (root : Option Text) → HasStoppedRun program dir size root [] [] (stop.Trouble Memory) []
+stopped_at_once program lawful dir size root =
+    let hand : HandValue View = hand_with no_table (newcomer []) in
+    has_stopped program lawful (own_words program lawful.bounded) dir size root no_table hand [] (Err ([], stop.Trouble Memory))
+    (root_rests program (record { dir = dir; size = size; tells = is_some root }) hand hand None [] (Err ([], stop.Trouble Memory)) refl refl (refl, refl)) [] (omega arith) (no_words hand.view.items refl) [] (stop.Trouble Memory) refl

@@ -91,7 +91,7 @@ fn is_want(why: Stop) -> bool
 }
 
 // What the lane at this path answers, whose logs found a place or not.
-pub(crate) fn judge(path: Path, halt: Option<Halt>, refused: Option<Trouble>, kept: bool) -> Verdict
+fn judge(path: Path, halt: Option<Halt>, refused: Option<Trouble>, kept: bool) -> Verdict
     ensures { IsVerdict path halt refused kept result }
 {
     let halted = halt.is_some();
@@ -105,7 +105,7 @@ pub(crate) fn judge(path: Path, halt: Option<Halt>, refused: Option<Trouble>, ke
 }
 
 // Puts a lane's own log and then those below it at the end. Where no memory is found for it, they are dropped.
-pub(crate) fn hand_on<L: Log>(
+fn hand_on<L: Log>(
     own: (Path, L, u32),
     mut below: Vec<(Path, L, u32)>,
     done: &mut Vec<(Path, L, u32)>,
@@ -116,6 +116,27 @@ pub(crate) fn hand_on<L: Log>(
     below.insert(0, own)?;
     done.append(&mut below)?;
     Ok(())
+}
+
+// Puts a task's logs at the end. Its hand on the counters, and what it answers.
+pub(crate) fn keep<L: Log>(
+    lane: Closed<L>,
+    done: &mut Vec<(Path, L, u32)>,
+) -> (ChunkHand, Verdict)
+    ensures draws { result.0 ≡ lane.draws }
+    ensures taken { TookIn lane (entries_of (record { dir = L.dir; path = L.path; text = L.text; faults = L.faults }) done.old.items)
+        (entries_of (record { dir = L.dir; path = L.path; text = L.text; faults = L.faults }) done.new.items) result.1 }
+{
+    let Closed {
+        own,
+        below,
+        draws,
+        halt,
+        refused,
+    } = lane;
+    let path = own.0.copy();
+    let kept = hand_on(own, below, done).is_ok();
+    (draws, judge(path, halt, refused, kept))
 }
 
 // Joins a lane's hand on the counters, and puts its logs at the end.
@@ -134,17 +155,9 @@ fn take_in<L: Log>(
     ensures taken { TookIn lane (entries_of (record { dir = L.dir; path = L.path; text = L.text; faults = L.faults }) done.old.items)
         (entries_of (record { dir = L.dir; path = L.path; text = L.text; faults = L.faults }) done.new.items) result }
 {
-    let Closed {
-        own,
-        below,
-        draws,
-        halt,
-        refused,
-    } = lane;
+    let (draws, verdict) = keep(lane, done);
     chunks.join(share, draws);
-    let path = own.0.copy();
-    let kept = hand_on(own, below, done).is_ok();
-    judge(path, halt, refused, kept)
+    verdict
 }
 
 // In the order of the lanes each one's hand on the counters is joined to this one, and its logs are put at the end. Where no memory is

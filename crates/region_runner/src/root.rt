@@ -14,7 +14,7 @@ ghost use Rattle.region_runner.specs.Root.{IsSettled, RanRoot, RootClosed};
 ghost use Rattle.region_runner.specs.Stands.{IsFresh};
 
 use crate::closing::{Closed, close};
-use crate::gathering::{hand_on, judge};
+use crate::gathering::keep;
 use crate::ground::Ground;
 use crate::member::Member;
 use crate::opening::open_lane;
@@ -130,15 +130,6 @@ pub(crate) fn settle<L: Log>(
     let Some(root) = root else {
         return (logs, Err((Path::root(), Stop::Trouble(Trouble::Memory))));
     };
-    let Closed {
-        own,
-        below,
-        draws: _,
-        halt,
-        refused,
-    } = root;
-    let path = own.0.copy();
-    let kept = hand_on(own, below, &mut logs).is_ok();
-    let answer = judge(path, halt, refused, kept).answer();
-    (logs, answer)
+    let (_draws, verdict) = keep(root, &mut logs);
+    (logs, verdict.answer())
 }
