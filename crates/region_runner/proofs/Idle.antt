@@ -1,5 +1,5 @@
 -- The phases of a team whose body holds no work.
-use Rattle.std.proofs.Common.{◌≡◌, refl, ap, sym, subst, ℕ, ◌+◌, Bool, true, false, cond, true≢false, List, [], ◌∷◌, ◌++◌, map, ℤ, Option, Some, None, All, arith}
+use Rattle.std.proofs.Common.{◌∙◌, ◌≡◌, refl, ap, sym, subst, ℕ, ◌+◌, Bool, true, false, cond, true≢false, List, [], ◌∷◌, ◌++◌, map, ℤ, Option, Some, None, All, arith}
 use Rattle.std.specs.Prelude.{◌||◌}
 use Rattle.std.specs.List.{count_by}
 use Rattle.std.proofs.lemmas.List.Elements.{All-nil, All-cons, All-head, All-tail}

@@ -1,23 +1,18 @@
 -- The logs of the root and of all tasks below it, and what the run answers.
-use Rattle.std.proofs.Common.{◌≡◌, ◌⊎◌, inl, inr, refl, ap, sym, ◌∙◌, subst, ℕ, suc, ◌+◌, ◌<◌, ◌≤◌, Bool, true, false, List, [], ◌∷◌, ◌++◌, length, Option, Some, None, Ok, Err, arith, true≢false}
-use Rattle.std.proofs.lemmas.Option.{same_Some}
+use Rattle.std.proofs.Common.{◌≡◌, ◌⊎◌, inl, inr, refl, ap, sym, ◌∙◌, subst, ℕ, Bool, true, false, List, [], ◌∷◌, ◌++◌, Option, Some, None, Ok, Err, arith, true≢false}
 use Rattle.sw_base.specs.declared.path.Step.{Step}
 use Rattle.sw_base.specs.declared.trouble.Trouble.{Trouble}
-use Rattle.sw_base.specs.declared.trouble.Trouble.TheVariants.{Failed, Memory}
-use Rattle.race_model.specs.IndexFault.{max_rows}
+use Rattle.sw_base.specs.declared.trouble.Trouble.TheVariants.{Memory}
 use Rattle.kernel_syntax.specs.Program.{Program}
-use Rattle.kernel_model.specs.Folder.{root_start}
-use Rattle.kernel_model.specs.Trace.{Ending}
 use Rattle.shared_words.specs.declared.view.View.{View}
 use Rattle.shared_words.specs.Handles.{HandValue}
-use Rattle.history_model.specs.Joined.{LastIsEnd}
-use Rattle.history_model.specs.Work.{Work, Rest, work_records}
+use Rattle.history_model.specs.Work.{Rest}
 use Rattle.lane_runner.specs.declared.stop.Halt.{Halt}
 use Rattle.lane_runner.specs.declared.stop.Halt.TheVariants as halt
 use Rattle.lane_runner.specs.declared.stop.Stop.{Stop}
 use Rattle.lane_runner.specs.declared.stop.Stop.TheVariants as stop
 use Rattle.lane_runner.specs.Forking.{Answer}
-use Rattle.lane_runner.specs.Handed.{AreFew, Entry, IsForMemory, IsTrouble, LogPlace, MaybeStop, MayLack, RegionsHand, TaskHands, TellStop}
+use Rattle.lane_runner.specs.Handed.{Entry, IsForMemory, LogPlace, MaybeStop, MayLack, RegionsHand, TaskHands, TellStop}
 use Rattle.lane_runner.proofs.Handing.{tell_none}
 use Rattle.region_runner.specs.Gathering.{ClosedValue, IsVerdict, WantsMemory, answer_for, closed_stop, kept_by, lane_stop, region_stop}
 use Rattle.region_runner.specs.Root.{IsSettled, RanRoot, RootGave, RootRests, SettledRoot, StopsRoot}

@@ -1,9 +1,7 @@
 -- What the root did, once its log is closed.
-use Rattle.std.proofs.Common.{◌≡◌, ◌⊎◌, inl, inr, refl, ap, sym, ◌∙◌, subst, ℕ, ◌+◌, List, [], ◌∷◌, ◌++◌, ℤ, Option, Some, None, Result, Ok, Err, arith, true}
-use Rattle.std.proofs.lemmas.List.{append-nil}
+use Rattle.std.proofs.Common.{◌≡◌, inl, inr, refl, ap, sym, ◌∙◌, subst, ℕ, List, [], ◌∷◌, ℤ, Option, Some, None, arith, true}
 use Rattle.std.proofs.lemmas.Option.{same_Some}
 use Rattle.sw_base.specs.declared.path.Step.{Step}
-use Rattle.sw_base.specs.declared.trouble.Trouble.{Trouble}
 use Rattle.kernel_syntax.specs.declared.syntax.Array.{Array}
 use Rattle.kernel_syntax.specs.Program.{Program}
 use Rattle.kernel_model.specs.declared.phase.Item.{Item}
@@ -13,17 +11,13 @@ use Rattle.kernel_model.specs.Phases.{parts_in}
 use Rattle.kernel_model.specs.State.{Fork, State, Outcome}
 use Rattle.kernel_model.specs.Trace.{run}
 use Rattle.kernel_model.specs.Value.{Site}
-use Rattle.kernel_model.specs.Effect.{Returned}
-use Rattle.event_buffer.specs.Buffered.{Buffered}
 use Rattle.shared_words.specs.declared.share.Share.{Share}
 use Rattle.shared_words.specs.declared.view.View.{View}
 use Rattle.shared_words.specs.Handles.{HandValue, with_view}
-use Rattle.history_model.specs.Joined.{LastIsEnd}
-use Rattle.history_model.specs.Work.{Work, Rest, NoPhase, work_records}
+use Rattle.history_model.specs.Work.{Rest, NoPhase}
 use Rattle.execution_model.specs.Runs.{RunsTask, RunsRegions, lane_begin}
 use Rattle.lane_runner.specs.declared.stop.Halt.{Halt}
 use Rattle.lane_runner.specs.Drawing.{Tally}
-use Rattle.lane_runner.specs.Fitting.{WorkFits}
 use Rattle.lane_runner.specs.Going.{site}
 use Rattle.lane_runner.specs.Handed.{AreFew, Entry, LogPlace}
 use Rattle.lane_runner.specs.World.{element_word}
@@ -34,7 +28,7 @@ use Rattle.region_runner.specs.Crew.{CrewValue, world_of}
 use Rattle.region_runner.specs.Gathering.{ClosedValue, LaneGave}
 use Rattle.region_runner.specs.Member.{IsLast, MemberValue, answer_of}
 use Rattle.region_runner.specs.Opening.{GaveNothing}
-use Rattle.region_runner.specs.Ran.{TaskGoes, TaskRan, in_one, task_part}
+use Rattle.region_runner.specs.Ran.{TaskGoes, task_part}
 use Rattle.region_runner.specs.Root.{RootClosed, RootGave, StopsRoot}
 use Rattle.region_runner.specs.Stands.{IsFresh}
 use Rattle.region_runner.specs.Stopping.{StopsTask, stop_of}

@@ -1,38 +1,26 @@
 -- What a region answers for its lanes: how it ends, and the logs that it hands on.
-use Rattle.std.proofs.Common.{◌≡◌, ◌⊎◌, inl, inr, refl, ap, sym, ◌∙◌, subst, ℕ, zero, suc, ◌+◌, ◌<◌, Bool, true, false, List, [], ◌∷◌, ◌++◌, length, Option, Some, None, append_assoc, arith}
-use Rattle.std.specs.Prelude.{All}
-use Rattle.std.specs.List.{flat_map}
+use Rattle.std.proofs.Common.{◌≡◌, ◌⊎◌, inl, inr, refl, ap, sym, ◌∙◌, subst, ℕ, ◌+◌, ◌<◌, Bool, true, false, List, [], ◌∷◌, ◌++◌, Option, Some, None, arith}
 use Rattle.std.proofs.lemmas.Bool.{cases_eq}
-use Rattle.std.proofs.lemmas.List.{append-nil, length-append}
-use Rattle.std.proofs.lemmas.List.Elements.{Contains-append_left}
-use Rattle.std.proofs.lemmas.Option.{same_Some}
+use Rattle.std.proofs.lemmas.List.{append-nil}
 use Rattle.sw_base.specs.declared.path.Step.{Step}
 use Rattle.sw_base.specs.declared.trouble.Trouble.{Trouble}
-use Rattle.sw_base.specs.declared.trouble.Trouble.TheVariants.{Failed, Memory}
-use Rattle.sw_base.specs.Environment.{Text}
-use Rattle.sw_base.specs.Names.{IsUnder}
-use Rattle.log_format.specs.declared.format.TheConstants.{FORMAT}
-use Rattle.log_format.specs.Format.{log_header}
+use Rattle.sw_base.specs.declared.trouble.Trouble.TheVariants.{Memory}
 use Rattle.race_model.specs.Listing.{lane_of}
 use Rattle.kernel_syntax.specs.declared.syntax.Array.{Array}
 use Rattle.kernel_model.specs.State.{Fork}
-use Rattle.history_model.specs.Work.{Work, Phases, work_regions, lane_works}
+use Rattle.history_model.specs.Work.{Phases, lane_works}
 use Rattle.history_model.specs.Joined.{PhasesEnd}
-use Rattle.execution_model.specs.Runs.{works_log}
 use Rattle.lane_runner.specs.declared.stop.Halt.{Halt}
 use Rattle.lane_runner.specs.declared.stop.Halt.TheVariants as halt
 use Rattle.lane_runner.specs.declared.stop.Stop.{Stop}
 use Rattle.lane_runner.specs.declared.stop.Stop.TheVariants as stop
 use Rattle.lane_runner.specs.Forking.{Answer, EndsAs, stop_in}
-use Rattle.lane_runner.specs.Handed.{Entry, LogPlace, MaybeStop, IsForMemory, IsTrouble, MayLack, Keeps, IsEntryOf, TaskHands, RegionsHand, HasCrowdedTask, TellStop, HandsOn}
+use Rattle.lane_runner.specs.Handed.{Entry, LogPlace, MaybeStop, IsForMemory, IsTrouble, MayLack, TaskHands, TellStop, HandsOn}
 use Rattle.lane_runner.specs.Stopping.{StopsRegion}
-use Rattle.lane_runner.proofs.HandedTasks.{regions_under}
-use Rattle.lane_runner.proofs.Handing.{regions_weaker, tell_later, tell_none}
-use Rattle.region_runner.specs.Closing.{HasTaken}
-use Rattle.region_runner.specs.Gathering.{ClosedValue, LaneGave, WantsMemory, HasMemory, IsAnswer, closed_stop, kept_by, lane_stop, region_stop}
+use Rattle.lane_runner.proofs.Handing.{tell_none}
+use Rattle.region_runner.specs.Gathering.{ClosedValue, LaneGave, HasMemory, IsAnswer, closed_stop, kept_by, region_stop}
 use Rattle.region_runner.specs.Stopping.{stop_of}
 use Rattle.region_runner.specs.Team.{handed_by}
-use Rattle.region_runner.proofs.MissingLogs.{hands_missing}
 use Rattle.region_runner.proofs.RegionHands.{region_hands, lanes_apart, lacks_for_another}
 use Rattle.region_runner.proofs.LaneStops.{InLane, IsPart, StoppedAs, in_lane, lane_given, lane_missing, lane_part, lane_tells, own_trouble, refused_failed, region_found, region_is, stopped_as, tell_part, tells_none}
 

@@ -1,12 +1,11 @@
 -- A task that doesn't go on: which task stopped, and how.
-use Rattle.std.proofs.Common.{◌≡◌, refl, ap, sym, ◌∙◌, subst, ℕ, ◌+◌, ◌<◌, List, [], ◌∷◌, ◌++◌, length, ℤ, Some, None, Err, append_assoc, arith}
+use Rattle.std.proofs.Common.{◌≡◌, refl, ap, sym, ◌∙◌, subst, ℕ, ◌+◌, ◌<◌, List, [], ◌∷◌, ◌++◌, length, ℤ, Some, None, Err, arith}
 use Rattle.std.specs.Prelude.{slice_get}
 use Rattle.std.specs.List.{flat_map}
 use Rattle.std.proofs.lemmas.List.{append-nil}
 use Rattle.std.proofs.lemmas.Option.{same_Some}
 use Rattle.sw_base.specs.declared.path.Step.{Step}
 use Rattle.log_format.specs.declared.record.Record.{Record}
-use Rattle.kernel_syntax.specs.Program.{Program}
 use Rattle.kernel_model.specs.State as model
 use Rattle.kernel_model.specs.State.{State, Fork, Outcome}
 use Rattle.kernel_model.specs.Trace.{Ending, Stopped}
@@ -18,13 +17,12 @@ use Rattle.lane_runner.specs.declared.stop.Halt.{Halt}
 use Rattle.lane_runner.specs.declared.stop.Halt.TheVariants as halt
 use Rattle.lane_runner.specs.declared.stop.Stop.{Stop}
 use Rattle.lane_runner.specs.declared.stop.Stop.TheVariants as stop
-use Rattle.lane_runner.specs.Fitting.{WorkFits}
 use Rattle.lane_runner.specs.Going.{Progress, AtRegion, AtTasks}
 use Rattle.lane_runner.specs.Stopping.{HaveEnded, LastIsRegionAt, RestsInLane, StopsAtLast, ending_for, itself}
 use Rattle.lane_runner.specs.Stopping.{RestsBelow, below as further}
 use Rattle.lane_runner.specs.World.{WorldValue}
 use Rattle.region_runner.specs.Ran.{in_one, TaskRan, TaskBegan, TaskGoes}
-use Rattle.region_runner.specs.Stopping.{IsAtOrBelow, EndsUnder, RestsUnder, StopsTask, stop_of}
+use Rattle.region_runner.specs.Stopping.{IsAtOrBelow, RestsUnder, StopsTask, stop_of}
 use Rattle.region_runner.proofs.RegionLanes.{BeginsLane}
 use Rattle.region_runner.proofs.Stops.{get_at, task_stops}
 use Rattle.region_runner.proofs.Traced.{one_log, one_regions, stopped_trace, traces_begun}

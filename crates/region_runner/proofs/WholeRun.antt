@@ -1,5 +1,5 @@
 -- What a run of a kernel answers, by what its root did and the history of all hands.
-use Rattle.std.proofs.Common.{◌≡◌, ◌⊎◌, inl, inr, refl, ap, sym, ◌∙◌, subst, ℕ, zero, suc, ◌+◌, ◌-◌, ◌*◌, ◌<◌, ◌≤◌, List, [], ◌∷◌, ◌++◌, length, map, Option, Some, None, Ok, Err, arith, All}
+use Rattle.std.proofs.Common.{◌≡◌, ◌⊎◌, inl, inr, refl, ap, sym, ◌∙◌, subst, ℕ, suc, ◌+◌, ◌-◌, ◌*◌, ◌<◌, ◌≤◌, List, [], ◌∷◌, length, map, Option, Some, None, Ok, Err, arith}
 use Rattle.std.specs.Prelude.{is_some, slice_get}
 use Rattle.std.specs.List.{flat_map}
 use Rattle.std.specs.Option.{option_map}
@@ -19,9 +19,8 @@ use Rattle.kernel_syntax.specs.declared.syntax.Array.{Array}
 use Rattle.kernel_syntax.specs.Bounds.{IsBounded}
 use Rattle.kernel_syntax.specs.Layout.{aligned, elements, laid_from}
 use Rattle.kernel_syntax.specs.Program.{Program}
-use Rattle.kernel_model.specs.Folder.{paths_of, root_start}
+use Rattle.kernel_model.specs.Folder.{root_start}
 use Rattle.kernel_model.specs.Lawful.{IsLawful}
-use Rattle.kernel_model.specs.Trace.{Ending}
 use Rattle.kernel_model.proofs.LawfulFolder.{folder_keeps}
 use Rattle.atomic_table.specs.Seated.{TableId}
 use Rattle.step_history.specs.declared.item.Item.{Item}
@@ -45,7 +44,7 @@ use Rattle.lane_runner.specs.Children.{LogView}
 use Rattle.lane_runner.specs.Fitting.{WorkFits}
 use Rattle.lane_runner.specs.Forking.{Answer, stop_in}
 use Rattle.lane_runner.specs.Handed.{AreEntriesOf, Entry, IsEntryOf, Keeps, LogPlace, TellStop, entries_of, entry_of}
-use Rattle.lane_runner.specs.Stopping.{EndsBelow, LastIsRegionAt, RestsBelow, ending_for}
+use Rattle.lane_runner.specs.Stopping.{LastIsRegionAt}
 use Rattle.lane_runner.specs.World.{HaveOwnWords, element_address, element_word, layout_of}
 use Rattle.lane_runner.proofs.HandedTasks.{tree_listed}
 use Rattle.lane_runner.proofs.OwnWords.{bounded_world}

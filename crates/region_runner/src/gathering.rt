@@ -119,10 +119,7 @@ fn hand_on<L: Log>(
 }
 
 // Puts a task's logs at the end. Its hand on the counters, and what it answers.
-pub(crate) fn keep<L: Log>(
-    lane: Closed<L>,
-    done: &mut Vec<(Path, L, u32)>,
-) -> (ChunkHand, Verdict)
+pub(crate) fn keep<L: Log>(lane: Closed<L>, done: &mut Vec<(Path, L, u32)>) -> (ChunkHand, Verdict)
     ensures draws { result.0 ≡ lane.draws }
     ensures taken { TookIn lane (entries_of (record { dir = L.dir; path = L.path; text = L.text; faults = L.faults }) done.old.items)
         (entries_of (record { dir = L.dir; path = L.path; text = L.text; faults = L.faults }) done.new.items) result.1 }

@@ -61,17 +61,7 @@ fn execute<R: Threads + Wait + Sync, L: Log, G: Gate>(
     let crew = (&*ground).crew(chunks, 1);
     let mut root = root;
     root.trade(mem::replace(hand, Hand::blank()));
-    run_task(
-        rt,
-        alloc,
-        4,
-        ground,
-        &crew,
-        phase,
-        Some(end),
-        0,
-        &mut root,
-    );
+    run_task(rt, alloc, 4, ground, &crew, phase, Some(end), 0, &mut root);
     *hand = root.trade(Hand::blank());
     close(alloc, root)
 }

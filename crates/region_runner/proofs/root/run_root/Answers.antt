@@ -1,4 +1,4 @@
-use Rattle.std.proofs.Common.{◌≡◌, ◌∙◌, ap, sym, subst, ◌≤◌, List, [], ◌∷◌, ◌++◌, ℤ, ℕ, arith}
+use Rattle.std.proofs.Common.{◌≡◌, ◌∙◌, refl, sym, subst, ◌≤◌, List, [], ℤ, ℕ, arith}
 use Rattle.std.specs.Prelude.{is_some, length}
 use Rattle.kernel_syntax.specs.Program.{program_of}
 use Rattle.kernel_model.specs.declared.phase.Item.{Item}
@@ -76,10 +76,9 @@ returns g c =
     let place : LogPlace = record { dir = g.L.Log.dir c.args.log; size = c.args.ground.now.size; tells = is_some (g.L.Log.text c.args.log) } in
     record {
       ran =
-          root_torn program place c.args.hand.now c.in-Ok-Ok-Ok.draws c.in-Err.torn c.requires.ready.free.belongs.there
-          (
+          root_torn program place c.args.hand.now c.in-Ok-Ok-Ok.draws c.in-Err.torn c.requires.ready.free.belongs.there (
             subst (λ (n : ℕ). GaveNothing (record place { size = n }) [] c.in-Ok-Ok-Ok.draws c.in-Err.torn) c.size.ensures.is
-            (subst (λ (path : List _). GaveNothing (record place { size = c.size.result }) path c.in-Ok-Ok-Ok.draws c.in-Err.torn) c.root.ensures c.in-Err.ensures.opens.0),
+                (subst (λ (path : List _). GaveNothing (record place { size = c.size.result }) path c.in-Ok-Ok-Ok.draws c.in-Err.torn) c.root.ensures c.in-Err.ensures.opens.0),
             c.in-Err.ensures.opens.1,
           );
     }

@@ -1,6 +1,6 @@
 use Rattle.std.proofs.Common.{sym, subst, Option, List}
 use Rattle.region_runner.specs.Gathering.{ClosedValue, TookIn}
-use Rattle.lane_runner.specs.Handed.{Entry, entries_of}
+use Rattle.lane_runner.specs.Handed.{entries_of}
 use Rattle.region_runner.specs.Root.{IsSettled}
 use Rattle.region_runner.proofs.root.settle.Goals as goal
 
