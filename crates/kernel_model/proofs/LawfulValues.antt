@@ -1,13 +1,12 @@
 -- The values of a lawful task are of 64 bits, and what it records where it ends is of the table.
-use Rattle.std.proofs.Common.{◌≡◌, refl, ap, sym, ◌∙◌, subst, ℕ, zero, suc, ◌+◌, ◌-◌, ◌*◌, ◌/◌, ◌%◌, ◌^◌, ◌<◌, ◌≤◌, min, Bool, true, false, not, cond, nat_lt, List, [], ◌∷◌, ◌++◌, append_assoc, slice_index_or, slice_set, ℤ, pos, negsuc, ◌+ℤ◌, ◌-ℤ◌, ◌≤ℤ◌, Option, Some, None, IfSome, All, FitsSigned, w64, arith, le_refl}
+use Rattle.std.proofs.Common.{◌≡◌, refl, ap, sym, ◌∙◌, subst, ℕ, zero, suc, ◌+◌, ◌-◌, ◌*◌, ◌/◌, ◌%◌, ◌^◌, ◌<◌, ◌≤◌, min, Bool, true, false, cond, nat_lt, List, [], ◌∷◌, ◌++◌, append_assoc, slice_index_or, ℤ, pos, negsuc, ◌+ℤ◌, ◌-ℤ◌, ◌≤ℤ◌, Option, Some, None, IfSome, All, FitsSigned, w64, arith, le_refl}
 use Rattle.std.specs.Prelude.{◌==◌}
 use Rattle.std.specs.List.{range_with_len}
 use Rattle.std.specs.Int.RustNames.{int_rem}
-use Rattle.std.proofs.lemmas.Int.{ints, quot-rem}
+use Rattle.std.proofs.lemmas.Int.{ints}
 use Rattle.std.proofs.lemmas.List.{append-nil}
 use Rattle.std.proofs.lemmas.List.Elements.{All-nil, All-cons, All-append, All-head, All-tail, All-set, All-filter}
 use Rattle.std.proofs.lemmas.Nat.{div-add-mod', mul-le}
-use Rattle.std.proofs.lemmas.Bool.Decides.{nat_tests}
 use Rattle.log_format.specs.declared.format.TheConstants.{FORMAT}
 use Rattle.log_format.specs.declared.record.Record.{Record}
 use Rattle.log_format.specs.declared.record.Kind.TheVariants as kind
@@ -16,7 +15,7 @@ use Rattle.kernel_syntax.specs.declared.syntax.Op.{Op}
 use Rattle.kernel_syntax.specs.declared.syntax.Op.TheVariants.{Add, Sub, Mul, Div, Rem, Eq, Ne, Lt, Le, Gt, Ge}
 use Rattle.kernel_syntax.specs.declared.syntax.Schedule.{Schedule}
 use Rattle.kernel_syntax.specs.declared.syntax.Schedule.TheVariants.{Even, Static, Dynamic}
-use Rattle.kernel_syntax.specs.Arithmetic.{applied, wrapped, quotient, remainder, truth, fitted, IsWidth}
+use Rattle.kernel_syntax.specs.Arithmetic.{applied, wrapped, quotient, remainder, truth}
 use Rattle.kernel_syntax.specs.Bounds.{IsLine, IsPlace, IsSpan, IsBoundedTerm, IsBoundedCode, IsBoundedSchedule}
 use Rattle.kernel_syntax.specs.Bounds.{IsBounded}
 use Rattle.kernel_syntax.specs.Layout.{ArePlaced, elements}
@@ -27,9 +26,9 @@ use Rattle.kernel_syntax.specs.Tree.{Term, Code, TeamTree, Number, Slot, Tid, Sp
 use Rattle.kernel_syntax.proofs.Fitting.{fitted_fits, wrapped_fits_word}
 use Rattle.kernel_syntax.proofs.Sharing.{share_goes_on, share_ends}
 use Rattle.kernel_model.specs.State.{State, Fork, Outcome, Gives, Stops, Wants, and_then, after, put, put_in, event, assign, state_of, reads_of, chunks_of}
-use Rattle.kernel_model.specs.Value.{Site, Element, element_at, access, read, read_in, loaded, operated, value}
+use Rattle.kernel_model.specs.Value.{Site, Element, element_at, read, read_in, loaded, operated, value}
 use Rattle.kernel_model.specs.Iterations.{count_of, total_of, even_iterations, static_iterations, chunk_count, chunk_iterations, below}
-use Rattle.kernel_model.specs.Trace.{stored, branch, turns, each, drawn, draw, draw_in, draws, shared, loop_end, forked, run, task, Start, site_of, state_at, Ended, ending_of}
+use Rattle.kernel_model.specs.Trace.{stored, branch, turns, each, draw, draw_in, draws, shared, loop_end, forked, run, task, Start, site_of, state_at, Ended, ending_of}
 use Rattle.kernel_model.specs.Folder.{IsTraced, own_trace}
 use Rattle.kernel_model.specs.Lawful.{TermFits, CodeFits}
 use Rattle.kernel_model.proofs.LawfulRecords.{IfGives}

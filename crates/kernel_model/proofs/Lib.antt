@@ -1,9 +1,5 @@
 pub mod Effects
 pub mod Equations
-pub mod FirstKindFolder
-pub mod FirstKindLanes
-pub mod FirstKindRules
-pub mod FirstKindShape
 pub mod Growing
 pub mod Joining
 pub mod RunEffects

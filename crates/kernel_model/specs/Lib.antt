@@ -1,6 +1,5 @@
 pub mod Chunking
 pub mod Effect
-pub mod FirstTeam
 pub mod Folder
 pub mod Growth
 pub mod Iterations
