@@ -1,5 +1,5 @@
 -- The log of a lane of a kernel of the first kind breaks no rule of a log.
-use Rattle.std.proofs.Common.{◌≡◌, refl, ap, sym, ◌∙◌, subst, inl, inr, ℕ, zero, suc, ◌+◌, ◌^◌, ◌<◌, ◌≤◌, Bool, true, false, cond, List, [], ◌∷◌, ◌++◌, length, take, Some, slice_get, All, ℤ, arith, append_assoc}
+use Rattle.std.proofs.Common.{◌≡◌, refl, ap, sym, ◌∙◌, subst, inl, inr, ℕ, zero, suc, ◌+◌, ◌≤◌, Bool, true, false, cond, List, [], ◌∷◌, ◌++◌, length, take, Some, slice_get, All, ℤ, arith, append_assoc}
 use Rattle.std.proofs.lemmas.List.{take_at, length-append, length-take-le}
 use Rattle.std.proofs.lemmas.List.Elements.{All-nil, All-cons, All-head, All-tail, All-append, All-take, All-weaker, All-same, All-push}
 use Rattle.std.proofs.lemmas.List.Sums.{sum_by-append, sum_by-cons}
@@ -9,9 +9,7 @@ use Rattle.sw_base.specs.declared.path.Step.{Step}
 use Rattle.log_format.specs.declared.record.Record.{Record}
 use Rattle.log_format.specs.declared.record.Kind.{Kind}
 use Rattle.log_format.specs.declared.record.Kind.TheVariants as kind
-use Rattle.log_format.specs.declared.record.Why.{Why}
-use Rattle.log_format.specs.declared.record.Why.TheVariants as why
-use Rattle.log_format.specs.Table.{IsTabled, RecordFits, PassesTable}
+use Rattle.log_format.specs.Table.{IsTabled}
 use Rattle.race_model.specs.declared.why.RecordWhy.{RecordWhy}
 use Rattle.race_model.specs.declared.why.RecordWhy.TheVariants as log
 use Rattle.race_model.specs.IndexFault.{HasRecords}
@@ -20,7 +18,7 @@ use Rattle.race_model.specs.Race.{held_after, held_after_kind, IsAccess}
 use Rattle.race_model.specs.Trace.{barrier_count, is_barrier_kind}
 use Rattle.race_model.specs.ForkJoin.{EndsOnce}
 use Rattle.race_model.proofs.TraceLogs.{all_at}
-use Rattle.kernel_syntax.specs.Bounds.{IsLine, IsSpan, IsBoundedCode}
+use Rattle.kernel_syntax.specs.Bounds.{IsLine, IsBoundedCode}
 use Rattle.kernel_syntax.specs.FirstKind.{IsOneLoop}
 use Rattle.kernel_syntax.specs.Tree.{Code, TeamTree, Done, For}
 use Rattle.kernel_syntax.specs.Layout.{ArePlaced}

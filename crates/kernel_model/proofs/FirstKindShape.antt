@@ -1,29 +1,22 @@
 -- What a lane of a kernel of the first kind records: accesses, the barrier at its loop's end unless there is none, and End.
-use Rattle.std.proofs.Common.{◌≡◌, refl, ap, sym, ◌∙◌, subst, inl, inr, ℕ, zero, suc, ◌+◌, ◌*◌, ◌^◌, ◌<◌, ◌≤◌, Bool, true, false, cond, List, [], ◌∷◌, ◌++◌, length, ℤ, pos, negsuc, ◌+ℤ◌, Option, Some, None, nat_lt, slice_get, IfSome, All, arith, append_assoc}
-use Rattle.std.proofs.Math.Facts.{Fits-of_z}
-use Rattle.std.proofs.lemmas.Bool.Decides.{nat_tests}
+use Rattle.std.proofs.Common.{◌≡◌, refl, ap, sym, ◌∙◌, subst, inl, inr, ℕ, zero, suc, ◌≤◌, Bool, true, false, List, [], ◌∷◌, ◌++◌, length, ℤ, pos, ◌+ℤ◌, Option, Some, None, IfSome, All, arith, append_assoc}
 use Rattle.std.proofs.lemmas.List.{append-nil}
 use Rattle.std.proofs.lemmas.List.Elements.{All-nil, All-cons, All-append}
 use Rattle.log_format.specs.declared.format.TheConstants.{FORMAT}
 use Rattle.log_format.specs.declared.record.Record.{Record}
-use Rattle.log_format.specs.declared.record.Kind.{Kind}
 use Rattle.log_format.specs.declared.record.Kind.TheVariants as kind
-use Rattle.log_format.specs.declared.record.Why.{Why}
-use Rattle.log_format.specs.declared.record.Why.TheVariants as why
-use Rattle.log_format.specs.Table.{IsTabled, RecordFits, PassesTable}
+use Rattle.log_format.specs.Table.{IsTabled}
 use Rattle.race_model.specs.Race.{IsAccess}
-use Rattle.kernel_syntax.specs.declared.syntax.Array.{Array}
-use Rattle.kernel_syntax.specs.Arithmetic.{IsWidth, fitted}
+use Rattle.kernel_syntax.specs.Arithmetic.{fitted}
 use Rattle.kernel_syntax.specs.Bounds.{IsPlace, IsBoundedTerm, IsBoundedCode}
 use Rattle.kernel_syntax.specs.FirstKind.{AreStores, IsStatic, IsOneLoop}
-use Rattle.kernel_syntax.specs.Layout.{IsPlaced, ArePlaced}
+use Rattle.kernel_syntax.specs.Layout.{ArePlaced}
 use Rattle.kernel_syntax.specs.Program.{Program}
 use Rattle.kernel_syntax.specs.Tree.{Term, Code, TeamTree, Number, Slot, Tid, Span, Load, Neg, Binary, Done, Store, For}
 use Rattle.kernel_syntax.specs.declared.syntax.Schedule.{Schedule}
 use Rattle.kernel_syntax.specs.declared.syntax.Schedule.TheVariants.{Even, Static, Dynamic}
-use Rattle.kernel_syntax.proofs.Fitting.{fitted_fits}
 use Rattle.kernel_model.specs.State.{State, Stop, Outcome, Gives, Stops, Wants, and_then, after, put, put_in, event, assign, state_of, reads_of, chunks_of}
-use Rattle.kernel_model.specs.Value.{Site, Element, element_of, element_at, access, read, read_in, loaded, operated, value}
+use Rattle.kernel_model.specs.Value.{Site, Element, element_at, access, read, read_in, loaded, operated, value}
 use Rattle.kernel_model.specs.Iterations.{total_of, even_iterations, static_iterations}
 use Rattle.kernel_model.specs.Trace.{stored, each, shared, loop_end, run, task, Start, site_of, state_at, log_limit, Ended, ending_of}
 use Rattle.kernel_model.specs.Folder.{IsTraced}

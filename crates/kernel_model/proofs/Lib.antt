@@ -26,3 +26,7 @@ pub mod LawfulLogs
 pub mod LawfulFolder
 pub mod LawfulVectors
 pub mod EndedTraces
+pub mod Turns
+pub mod Draining
+pub mod Elements
+pub mod StmtLists

@@ -4,7 +4,6 @@ pub mod Stepping
 pub mod Values
 pub mod Statements
 pub mod Draws
-pub mod Bounded
 pub mod Tasks
 pub mod Kept
 pub mod AllTasks
