@@ -30,3 +30,4 @@ pub mod Turns
 pub mod Draining
 pub mod Elements
 pub mod StmtLists
+pub mod DistinctPaths

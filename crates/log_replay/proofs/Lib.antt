@@ -8,4 +8,3 @@ pub mod Tasks
 pub mod Kept
 pub mod AllTasks
 pub mod DiffersOnce
-pub mod Spans
