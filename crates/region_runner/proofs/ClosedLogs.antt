@@ -1,4 +1,4 @@
--- The logs of a lane and of all tasks below it, once its own is closed.
+-- What a lane's log has once it is closed.
 use Rattle.std.proofs.Common.{◌≡◌, ap, subst, ℕ, List, [], ◌<◌, Some, None, Result, Ok}
 use Rattle.std.specs.Prelude.{is_some, IsErr}
 use Rattle.std.proofs.lemmas.Option.{same_Some}
