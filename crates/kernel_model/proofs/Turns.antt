@@ -52,7 +52,7 @@ below_top a m n le top = omega (arith, ints, top)
 
 -- ---- chunks that are dealt in turn
 
--- The lane's chunks before the one that begins at `first` have these iterations. Their number stands still at its type's end.
+-- The lane's chunks before the one that begins at `first`, which stands still at its type's end, have these iterations.
 pub record DealtBefore (chunk total lane span first : ℕ) (done : List ℕ) : Type 0 where
   pub q : ℕ
   pub own : q % span ≡ lane
