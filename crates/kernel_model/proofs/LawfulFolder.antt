@@ -136,7 +136,8 @@ module _ (program : Program) (logs : Logs) (P : List Step → Start → Type 0) 
   pub descend : (path : List Step) (start : Start) → start_at program logs path ≡ Some start → P path start
   descend path start starts = walk [] (root_start program) path start (at_root program logs) root starts
 
-starts_lane : (f : Fork) (step : Step) → step.span ≡ f.team.span → step.lane < step.span →
+-- a step that names a lane of the fork starts it
+pub starts_lane : (f : Fork) (step : Step) → step.span ≡ f.team.span → step.lane < step.span →
     lane_start (Some f) step ≡ Some (record { team = f.team; lane = step.lane; slots = f.slots })
 starts_lane f step span lane =
     let test : (step.span == f.team.span) && nat_lt step.lane step.span ≡ true = passes step.span f.team.span step.lane span lane in

@@ -22,3 +22,8 @@ pub mod LawfulLogs
 pub mod LawfulFolder
 pub mod LawfulVectors
 pub mod EndedTraces
+pub mod Turns
+pub mod Draining
+pub mod Elements
+pub mod StmtLists
+pub mod DistinctPaths

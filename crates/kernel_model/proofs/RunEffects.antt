@@ -1,10 +1,9 @@
 -- The effects of statements and of whole tasks, from the effects of their parts.
-use Rattle.std.proofs.Common.{◌≡◌, refl, zero, suc, append_assoc, ap, sym, ◌∙◌, subst, ℕ, ◌+◌, ◌-◌, ◌<◌, Bool, true, false, List, [], ◌∷◌, ◌++◌, length, ℤ, pos, negsuc, ◌+ℤ◌, Some, None, arith}
+use Rattle.std.proofs.Common.{◌≡◌, refl, suc, append_assoc, ap, sym, ◌∙◌, subst, ℕ, ◌+◌, ◌-◌, ◌<◌, true, false, List, [], ◌∷◌, ◌++◌, length, ℤ, pos, ◌+ℤ◌, Some, None, arith}
 use Rattle.std.specs.Prelude.{slice_set}
 use Rattle.std.proofs.lemmas.List.{append-nil}
 use Rattle.kernel_syntax.specs.Arithmetic.{fitted}
 use Rattle.kernel_syntax.specs.declared.syntax.Stmt.{Stmt}
-use Rattle.kernel_syntax.specs.declared.syntax.Schedule.{Schedule}
 use Rattle.kernel_syntax.specs.Program.{Program, stmt_code}
 use Rattle.kernel_syntax.specs.Tree as tree
 use Rattle.kernel_syntax.specs.Tree.{Term, Code, TeamTree}
@@ -13,10 +12,10 @@ use Rattle.log_format.specs.declared.record.Kind.TheVariants as kind
 use Rattle.kernel_model.specs.State.{State, Stop, Index, LogFull, Outcome, Gives, Stops, Wants, and_then, after, put, event, assign, reads_of, chunks_of, state_of}
 use Rattle.kernel_model.specs.Value.{Site, Element, element_at, access, value}
 use Rattle.kernel_model.specs.Iterations.{total_of}
-use Rattle.kernel_model.specs.Trace.{run, branch, turns, forked, stored, each, shared, loop_end, task, Start, site_of, log_limit, Ending, Ended, Stopped, trace_of}
+use Rattle.kernel_model.specs.Trace.{run, branch, turns, forked, stored, each, loop_end, task, Start, site_of, log_limit, Ending, Ended, Stopped, trace_of}
 use Rattle.kernel_model.specs.Effect.{Effect, Finish, Returned, Halted, finished, state_with, Makes, then_effect, adds, MakesValue, MakesRun}
 use Rattle.kernel_model.specs.Folder.{IsTraced, own_trace}
-use Rattle.kernel_model.proofs.Equations.{run-Done, run-If, run-Loop, run-Parallel, run-Barrier, run-Critical, run-Set, run-Store, run-For}
+use Rattle.kernel_model.proofs.Equations.{run-Done, run-If, run-Loop, run-Parallel, run-Barrier, run-Critical, run-Set, run-Store}
 use Rattle.kernel_model.proofs.Effects.{makes-same, makes-halt, makes-then, then_nothing, makes-stays, makes-put, makes-put_full}
 use Rattle.kernel_model.proofs.Joining.{turns-add, after-nothing, each-append, run-first}
 
@@ -202,15 +201,6 @@ module _ (at : Site) (slots : List ℤ) (room : ℕ) where
         makes-same _ _ slots room _ finish (run-If at test if_true if_false rest)
         (makes-then (value at test) _ slots room (adds slots one) v more finish m n)
 
-  -- a branch is its body
-  pub branch-zero : (v : ℤ) (if_true if_false : State → Outcome (Unit {0})) (s : State) → v ≡ pos 0 → branch v if_true if_false s ≡ if_false s
-  branch-zero v if_true if_false s is = ap (λ w. branch w if_true if_false s) is
-
-  pub branch-other : (v : ℤ) (if_true if_false : State → Outcome (Unit {0})) (s : State) → (v ≡ pos 0 → ⊥) → branch v if_true if_false s ≡ if_true s
-  branch-other (pos zero) if_true if_false s other = absurd (other refl)
-  branch-other (pos (suc n)) if_true if_false s other = refl
-  branch-other (negsuc n) if_true if_false s other = refl
-
   module _ (slot : ℕ) (from to : Term) (body rest : Code) (one : List Record) where
     pub makes-Loop_from : (why : Stop) (line : ℕ) → MakesValue at from slots room one (Halted why line) →
         MakesRun at (tree.Loop slot from to body rest) slots room (adds slots one) (Halted why line)
@@ -321,56 +311,6 @@ module _ (at : Site) (slots : List ℤ) (room : ℕ) where
 
   pub makes-loop_end_nowait : (end : ℕ) → Makes (loop_end true end) slots room (adds slots []) (Returned tt)
   makes-loop_end_nowait end = makes-stays _ slots room (Returned tt) (λ s same full. refl)
-
-  module _ (slot : ℕ) (from to : Term) (schedule : Schedule) (nowait : Bool) (line end : ℕ) (body rest : Code) (one : List Record) where
-    -- a turn of the loop whose first iteration has this number
-    abbrev pub turn_from : ℤ → ℕ → State → Outcome (Unit {0})
-    turn_from a i s = run at body (assign slot (a +ℤ pos i) s)
-
-    pub makes-For_from : (why : Stop) (at_line : ℕ) → MakesValue at from slots room one (Halted why at_line) →
-        MakesRun at (tree.For slot from to schedule nowait line end body rest) slots room (adds slots one) (Halted why at_line)
-    makes-For_from why at_line m =
-        makes-same _ _ slots room _ _ (run-For at slot from to schedule nowait line end body rest)
-        (makes-halt (value at from) _ slots room (adds slots one) why at_line m)
-
-    pub makes-For_to : (a : ℤ) (two : List Record) (why : Stop) (at_line : ℕ) → MakesValue at from slots room one (Returned a) →
-        MakesValue at to slots (room - length one) two (Halted why at_line) →
-        MakesRun at (tree.For slot from to schedule nowait line end body rest) slots room (adds slots (one ++ two)) (Halted why at_line)
-    makes-For_to a two why at_line m n =
-        makes-same _ _ slots room _ _ (run-For at slot from to schedule nowait line end body rest)
-        (makes-then (value at from) _ slots room (adds slots one) a (adds slots two) (Halted why at_line) m
-        (makes-halt (value at to) _ slots (room - length one) (adds slots two) why at_line n))
-
-    makes-shared : (a b : ℤ) (two : List Record) (more : Effect) (finish : Finish (Unit {0})) → MakesValue at from slots room one (Returned a) →
-        MakesValue at to slots (room - length one) two (Returned b) →
-        Makes (λ s. after (shared schedule at line (total_of a b) (turn_from a) s) (λ t. after (loop_end nowait end t) (run at rest)))
-        slots (room - length one - length two) more finish →
-        MakesRun at (tree.For slot from to schedule nowait line end body rest) slots room
-        (then_effect (adds slots one) (then_effect (adds slots two) more)) finish
-    makes-shared a b two more finish m n o =
-        makes-same _ _ slots room _ finish (run-For at slot from to schedule nowait line end body rest)
-        (makes-then (value at from) _ slots room (adds slots one) a (then_effect (adds slots two) more) finish m
-        (makes-then (value at to) _ slots (room - length one) (adds slots two) b more finish n o))
-
-    -- a turn stops
-    pub makes-For_halt : (a b : ℤ) (two : List Record) (three : Effect) (why : Stop) (at_line : ℕ) → MakesValue at from slots room one (Returned a) →
-        MakesValue at to slots (room - length one) two (Returned b) →
-        Makes (shared schedule at line (total_of a b) (turn_from a)) slots (room - length one - length two) three (Halted why at_line) →
-        MakesRun at (tree.For slot from to schedule nowait line end body rest) slots room
-        (then_effect (adds slots one) (then_effect (adds slots two) three)) (Halted why at_line)
-    makes-For_halt a b two three why at_line m n o =
-        makes-shared a b two three (Halted why at_line) m n (makes-after_halt _ _ slots (room - length one - length two) three why at_line o)
-
-    -- the turns, and then the barrier at the end and what follows
-    pub makes-For : (a b : ℤ) (two : List Record) (three more : Effect) (finish : Finish (Unit {0})) → MakesValue at from slots room one (Returned a) →
-        MakesValue at to slots (room - length one) two (Returned b) →
-        Makes (shared schedule at line (total_of a b) (turn_from a)) slots (room - length one - length two) three (Returned tt) →
-        Makes (λ t. after (loop_end nowait end t) (run at rest)) three.slots (room - length one - length two - length three.added) more finish →
-        MakesRun at (tree.For slot from to schedule nowait line end body rest) slots room
-        (then_effect (adds slots one) (then_effect (adds slots two) (then_effect three more))) finish
-    makes-For a b two three more finish m n o p =
-        makes-shared a b two (then_effect three more) finish m n
-        (makes-after _ _ slots (room - length one - length two) three more finish o p)
 
 -- ---- whole tasks
 

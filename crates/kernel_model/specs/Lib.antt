@@ -1,4 +1,5 @@
 pub mod Chunking
+pub mod Drawing
 pub mod Effect
 pub mod Folder
 pub mod Growth

@@ -135,9 +135,9 @@ module _ (place : LogPlace) (arrays : List Array) (at : List Step) (number : ℕ
     region_hands place (Some (path, stop.Trouble Memory)) at number fork.team.span phases handed before (wanted_hands path) (tells_none path (stop.Trouble Memory) (handed_by handed 0 fork.team.span) (λ e. cc) (λ line e. cc)),
   )
     where
-      by : (closed_stop (lanes k) ≡ Some (path, stop.Trouble Memory)) ⊎ (path ≡ (lanes k).path) → StopsRegion arrays at number path (stop.Trouble Memory) fork phases
+      by : (closed_stop (lanes k) ≡ Some (path, stop.Trouble Memory)) ⊎ ((path ≡ (lanes k).path) × (kept k ≡ false)) → StopsRegion arrays at number path (stop.Trouble Memory) fork phases
       by (inl is) = lane_stops k less path (stop.Trouble Memory) (stopped_as (lanes k) path (stop.Trouble Memory) is)
-      by (inr own) = log_stops k less path Memory own
+      by (inr own) = log_stops k less path Memory own.0
   settles before _ ends (IsAnswer.stopped k path why less is found goes) = (
     lane_stops k less path why (stopped_as (lanes k) path why is),
     region_hands place (Some (path, why)) at number fork.team.span phases handed before (stopped_hands k less path why is found) (stopped_tells k less path why is found),

@@ -35,7 +35,8 @@ use Rattle.lane_runner.specs.declared.stop.Stop.{Stop}
 use Rattle.region_runner.specs.Gathering.{ClosedValue, Gathered}
 use Rattle.region_runner.specs.Opening.{AreLanes, AreTorn, ClosesAs, lent_hand}
 use Rattle.region_runner.proofs.LawfulPhases.{phases_lawful}
-use Rattle.region_runner.proofs.NoRegion.{no_memory_for, torn_region}
+use Rattle.lane_runner.proofs.NoRegion.{no_memory_for}
+use Rattle.region_runner.proofs.NoRegion.{torn_region}
 use Rattle.region_runner.proofs.OpenedTeam.{lane_fresh, lane_member}
 use Rattle.region_runner.proofs.ReturnedHands.{head_of, team_returned, torn_returned}
 use Rattle.region_runner.proofs.TeamRegion.{closed_region}
