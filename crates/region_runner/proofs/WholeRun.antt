@@ -50,7 +50,8 @@ use Rattle.lane_runner.proofs.HandedTasks.{tree_listed}
 use Rattle.lane_runner.proofs.OwnWords.{bounded_world}
 use Rattle.region_runner.specs.Answer.{EndsTask, HasRun, HasStoppedRun, IsRun, StopsIn, whole_log, whole_outline}
 use Rattle.region_runner.specs.Nesting.{NestsWithin}
-use Rattle.region_runner.specs.Root.{RootRests, StopsRoot}
+use Rattle.region_runner.specs.Gathering.{ClosedValue}
+use Rattle.region_runner.specs.Root.{IsSettled, RanRoot, RootRests, StopsRoot}
 use Rattle.region_runner.proofs.FinishedRun.{whole_folder}
 use Rattle.region_runner.proofs.Nested.{root_nests}
 use Rattle.region_runner.proofs.NestedHands.{root_within}
@@ -139,19 +140,33 @@ as_many at _ _ (AreEntriesOf.missing task tasks es none rest) = absurd none
 
 -- ---- what is answered
 
-module _ (program : Program) (lawful : IsLawful program) (apart : HaveOwnWords program.arrays) (dir : List ℕ) (size : ℕ) (root : Option Text) (table : TableId) (new : HandValue View) (logs : List Entry) (r : Answer)
-    (rests : RootRests program (record { dir = dir; size = size; tells = is_some root }) (hand_with table (newcomer [])) new logs r) (words : List ℕ) (few : length words ≤ elements program.arrays) (history : HasHistory new.view.items words) where
+-- a table that nobody has
+no_table : TableId
+no_table = record { words = 0; slots = 0; views_name = 0; atom = 0; block = 0; offset = 0; slot_names = [] }
+
+own_words : (program : Program) → IsBounded program → HaveOwnWords program.arrays
+own_words program bounded =
+    (bounded_world program (record { table = no_table; elements = elements program.arrays; locks = 0 }) (record { table = no_table; loops = 0 }) 0 1 bounded refl (omega arith)).apart
+
+module _ (program : Program) (lawful : IsLawful program) (dir : List ℕ) (size taken : ℕ) (root : Option Text) (table : TableId) (hand new : HandValue View) (closed : Option ClosedValue) (logs : List Entry) (r : Answer) (words : List ℕ)
+    (same_size : taken ≡ size) (first : hand ≡ hand_with table (newcomer [])) (ran : RanRoot program (record { dir = dir; size = taken; tells = is_some root }) hand new closed) (settled : IsSettled closed logs r) (few : length words ≤ elements program.arrays)
+    (history : HasHistory new.view.items words) where
+  abbrev own_place : LogPlace
+  own_place = record { dir = dir; size = size; tells = is_some root }
+
+  rests : RootRests program own_place (hand_with table (newcomer [])) new logs r
+  rests =
+      root_rests program own_place (hand_with table (newcomer [])) new closed logs r refl
+      (subst (λ (h : HandValue View). RanRoot program own_place h new closed) first (subst (λ (n : ℕ). RanRoot program (record own_place { size = n }) hand new closed) same_size ran)) settled
+
   abbrev work : Work
   work = rests.work
 
   abbrev tasks : Trace
   tasks = logged_tasks 4 work
 
-  abbrev own_place : LogPlace
-  own_place = record { dir = dir; size = size; tells = is_some root }
-
   addresses : HasAddresses (layout_of program.arrays) words
-  addresses = have_addresses program lawful.bounded apart words few
+  addresses = have_addresses program lawful.bounded (own_words program lawful.bounded) words few
 
   one_history : HasHistory (did (element_word program.arrays) [] 0 work) words
   one_history = subst (λ (h : HandValue View). HasHistory h.view.items words) rests.did.hand history
@@ -215,7 +230,7 @@ module _ (program : Program) (lawful : IsLawful program) (apart : HaveOwnWords p
     few_tasks : length tasks ≤ max_rows
     few_tasks = let count = as_many own_place tasks logs ended_entries in let most = rests.few is in omega (arith, count, most)
 
-    pub is_run : IsRun program tasks words
+    is_run : IsRun program tasks words
     is_run =
         let whole = whole_folder program tasks (element_address program.arrays) words execution (are_listed 4 work nests) root_ended in
         record { traced = whole; rules = folder_keeps program lawful tasks whole (are_listed 4 work nests) few_tasks; execution = execution; all = all }
@@ -225,19 +240,10 @@ module _ (program : Program) (lawful : IsLawful program) (apart : HaveOwnWords p
 
 -- ---- no memory was found for the words
 
--- a table that nobody has
-no_table : TableId
-no_table = record { words = 0; slots = 0; views_name = 0; atom = 0; block = 0; offset = 0; slot_names = [] }
-
-pub own_words : (program : Program) → IsBounded program → HaveOwnWords program.arrays
-own_words program bounded =
-    (bounded_world program (record { table = no_table; elements = elements program.arrays; locks = 0 }) (record { table = no_table; loops = 0 }) 0 1 bounded refl (omega arith)).apart
-
 no_words : (items : List Item) → items ≡ [] → HasHistory items []
 no_words items none = subst (λ (xs : List Item). HasHistory xs []) (sym none) (record { log = []; legal = tt; whole = λ name. refl; ends = λ word less. absurd (omega (arith, less)) })
 
 pub stopped_at_once : (program : Program) → IsLawful program → (dir : List ℕ) (size : ℕ) (root : Option Text) → HasStoppedRun program dir size root [] [] (stop.Trouble Memory) []
 stopped_at_once program lawful dir size root =
     let hand : HandValue View = hand_with no_table (newcomer []) in
-    has_stopped program lawful (own_words program lawful.bounded) dir size root no_table hand [] (Err ([], stop.Trouble Memory))
-    (root_rests program (record { dir = dir; size = size; tells = is_some root }) hand hand None [] (Err ([], stop.Trouble Memory)) refl refl (refl, refl)) [] (omega arith) (no_words hand.view.items refl) [] (stop.Trouble Memory) refl
+    has_stopped program lawful dir size size root no_table hand hand None [] (Err ([], stop.Trouble Memory)) [] refl refl refl (refl, refl) (omega arith) (no_words hand.view.items refl) [] (stop.Trouble Memory) refl

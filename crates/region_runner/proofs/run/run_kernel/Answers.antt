@@ -1,23 +1,18 @@
 use Rattle.std.proofs.Common.{◌≡◌, ◌∙◌, ap, sym, subst, refl, List, [], ℕ, arith}
-use Rattle.std.specs.Prelude.{is_some, length}
+use Rattle.std.specs.Prelude.{length}
 use Rattle.kernel_syntax.specs.declared.syntax.Array.{Array}
 use Rattle.kernel_syntax.specs.Layout.{elements}
 use Rattle.kernel_syntax.specs.Program.{program_of}
-use Rattle.shared_words.specs.Handles.{HandValue, hand_with}
-use Rattle.shared_words.specs.declared.view.View.{View}
-use Rattle.shared_words.specs.Views.{newcomer}
 use Rattle.sw_base.specs.declared.path.Step.{Step}
 use Rattle.lane_runner.specs.Children.{LogView}
-use Rattle.lane_runner.specs.Handed.{LogPlace, entries_of}
+use Rattle.lane_runner.specs.Handed.{entries_of}
 use Rattle.lane_runner.specs.World.{IsWorld}
 use Rattle.lane_runner.proofs.OwnWords.{bounded_world}
 use Rattle.lane_runner.specs.declared.stop.Stop.TheVariants as stop
 use Rattle.sw_base.specs.declared.trouble.Trouble.TheVariants as trouble
 use Rattle.region_runner.specs.Answer.{HasStoppedRun}
 use Rattle.region_runner.specs.Ground.{GroundValue, IsGround}
-use Rattle.region_runner.specs.Root.{RanRoot}
-use Rattle.region_runner.proofs.RootHands.{root_rests}
-use Rattle.region_runner.proofs.WholeRun.{has_run, has_stopped, own_words, stopped_at_once}
+use Rattle.region_runner.proofs.WholeRun.{has_run, has_stopped, stopped_at_once}
 use Rattle.region_runner.proofs.run.run_kernel.Goals as goal
 
 pub returns-in_default-clause-stopped : goal.returns-in_default-clause-stopped
@@ -44,31 +39,20 @@ pub returns-in-Ok-answer-clause-finished : goal.returns-in-Ok-answer-clause-fini
 returns-in-Ok-answer-clause-finished g c =
     let program = program_of c.args.kernel.now in
     let seen : LogView g.row.L.Denot = record { dir = g.L.Log.dir; path = g.L.Log.path; text = g.L.Log.text; faults = g.L.Log.faults } in
-    let place : LogPlace = record { dir = g.L.Log.dir c.args.root; size = c.args.size; tells = is_some (g.L.Log.text c.args.root) } in
-    let hand : HandValue View = hand_with c.in-Ok.words.table (newcomer []) in
-    let logs = entries_of {T = g.row.L.Denot} seen c.settle.result.0.items in
-    let ran : RanRoot program place hand c.run_root-closed.new.hand c.run_root-closed.result =
-    subst (λ (h : HandValue View). RanRoot program place h c.run_root-closed.new.hand c.run_root-closed.result) c.in-Ok.ensures.hand
-    (subst (λ (n : ℕ). RanRoot program (record place { size = n }) c.in-Ok.hand c.run_root-closed.new.hand c.run_root-closed.result) (ap (λ (v : GroundValue). v.size) c.new-ground.ensures) c.run_root-closed.ensures.ran) in
-    let words = c.close-words.result.words in
-    let long : length words.items ≡ elements program.arrays =
-    sym words.ok.0 ∙ c.close-words.ensures.len ∙ c.in-Ok.ensures.counts.0 ∙ c.element_count.ensures ∙ ap (λ (xs : List Array). elements xs) c.as_slice-arrays.ensures in
-    has_run program c.requires.lawful (own_words program c.requires.lawful.bounded) place.dir c.args.size (g.L.Log.text c.args.root) c.in-Ok.words.table c.run_root-closed.new.hand logs c.settle.result.1
-    (root_rests program place hand c.run_root-closed.new.hand c.run_root-closed.result logs c.settle.result.1 refl ran c.settle.ensures) words.items (omega (arith, long)) c.close-words.ensures.history c.in-Ok-answer.is long seen c.settle.result.0.items refl
+    let long : length c.close-words.result.words.items ≡ elements c.args.kernel.now.arrays =
+    sym c.close-words.result.words.ok.0 ∙ c.close-words.ensures.len ∙ c.in-Ok.ensures.counts.0 ∙ c.element_count.ensures ∙ ap (λ (xs : List Array). elements xs) c.as_slice-arrays.ensures in
+    has_run program c.requires.lawful (g.L.Log.dir c.args.root) c.args.size c.new-ground.result.size (g.L.Log.text c.args.root) c.in-Ok.words.table c.in-Ok.hand c.run_root-closed.new.hand c.run_root-closed.result
+    (entries_of {T = g.row.L.Denot} seen c.settle.result.0.items) c.settle.result.1 c.close-words.result.words.items (ap (λ (v : GroundValue). v.size) c.new-ground.ensures) c.in-Ok.ensures.hand c.run_root-closed.ensures.ran c.settle.ensures
+    (omega (arith, long)) c.close-words.ensures.history
+    c.in-Ok-answer.is long seen c.settle.result.0.items refl
 
 pub returns-in-Err-clause-stopped : goal.returns-in-Err-clause-stopped
 returns-in-Err-clause-stopped g c =
     let program = program_of c.args.kernel.now in
     let seen : LogView g.row.L.Denot = record { dir = g.L.Log.dir; path = g.L.Log.path; text = g.L.Log.text; faults = g.L.Log.faults } in
-    let place : LogPlace = record { dir = g.L.Log.dir c.args.root; size = c.args.size; tells = is_some (g.L.Log.text c.args.root) } in
-    let hand : HandValue View = hand_with c.in-Ok.words.table (newcomer []) in
-    let logs = entries_of {T = g.row.L.Denot} seen c.settle.result.0.items in
-    let ran : RanRoot program place hand c.run_root-closed.new.hand c.run_root-closed.result =
-    subst (λ (h : HandValue View). RanRoot program place h c.run_root-closed.new.hand c.run_root-closed.result) c.in-Ok.ensures.hand
-    (subst (λ (n : ℕ). RanRoot program (record place { size = n }) c.in-Ok.hand c.run_root-closed.new.hand c.run_root-closed.result) (ap (λ (v : GroundValue). v.size) c.new-ground.ensures) c.run_root-closed.ensures.ran) in
-    let words = c.close-words.result.words in
-    let long : length words.items ≡ elements program.arrays =
-    sym words.ok.0 ∙ c.close-words.ensures.len ∙ c.in-Ok.ensures.counts.0 ∙ c.element_count.ensures ∙ ap (λ (xs : List Array). elements xs) c.as_slice-arrays.ensures in
-    has_stopped program c.requires.lawful (own_words program c.requires.lawful.bounded) place.dir c.args.size (g.L.Log.text c.args.root) c.in-Ok.words.table c.run_root-closed.new.hand logs c.settle.result.1
-    (root_rests program place hand c.run_root-closed.new.hand c.run_root-closed.result logs c.settle.result.1 refl ran c.settle.ensures) words.items (omega (arith, long)) c.close-words.ensures.history c.in-Err.path c.in-Err.why
-    c.in-Err.is
+    let long : length c.close-words.result.words.items ≡ elements c.args.kernel.now.arrays =
+    sym c.close-words.result.words.ok.0 ∙ c.close-words.ensures.len ∙ c.in-Ok.ensures.counts.0 ∙ c.element_count.ensures ∙ ap (λ (xs : List Array). elements xs) c.as_slice-arrays.ensures in
+    has_stopped program c.requires.lawful (g.L.Log.dir c.args.root) c.args.size c.new-ground.result.size (g.L.Log.text c.args.root) c.in-Ok.words.table c.in-Ok.hand c.run_root-closed.new.hand c.run_root-closed.result
+    (entries_of {T = g.row.L.Denot} seen c.settle.result.0.items) c.settle.result.1 c.close-words.result.words.items (ap (λ (v : GroundValue). v.size) c.new-ground.ensures) c.in-Ok.ensures.hand c.run_root-closed.ensures.ran c.settle.ensures
+    (omega (arith, long)) c.close-words.ensures.history
+    c.in-Err.path c.in-Err.why c.in-Err.is
