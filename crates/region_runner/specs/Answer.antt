@@ -15,6 +15,7 @@ use Rattle.race_model.specs.IndexFault.{max_rows}
 use Rattle.race_model.specs.KeepsRules.{KeepsRules}
 use Rattle.race_model.specs.Listing.{IsListing}
 use Rattle.race_model.specs.Trace.{TaskLog, Trace, logs_of}
+use Rattle.kernel_syntax.specs.Layout.{elements}
 use Rattle.kernel_syntax.specs.Program.{Program}
 use Rattle.kernel_model.specs.Folder.{IsTracedFolder, IsTracedTo, paths_of, start_at}
 use Rattle.kernel_model.specs.Trace.{Start, Ending}
@@ -45,11 +46,12 @@ whole_log dir size root task = record {
 }
 
 -- The tasks of a run that ended are those of the kernel, each with its trace; their logs keep the rules of a folder; and their accesses
--- and mutex steps have one legal history that respects happens-before and ends in these words.
+-- and mutex steps have one legal history that respects happens-before and ends in these words, one for each element.
 pub record IsRun (program : Program) (tasks : Trace) (words : List ℕ) : Type 0 where
   pub traced : IsTracedFolder program tasks
   pub rules : KeepsRules FORMAT tasks
   pub execution : IsExecution program tasks (element_address program.arrays) words
+  pub all : length words ≡ elements program.arrays
 
 -- the logs are those of a whole run, in the order of their paths
 pub record HasRun (program : Program) (dir : List ℕ) (size : ℕ) (root : Option Text) (logs : List HandedLog) (words : List ℕ) : Type 0 where

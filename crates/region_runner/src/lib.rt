@@ -28,9 +28,11 @@ mod loops;
 mod member;
 mod opening;
 mod region;
+mod run;
 
 pub use drawn::hands_tell_each_chunk_once;
 pub use executions::works_are_executions;
 pub use finished::ended_executions_are_whole;
 pub use hands::joined_hands_did_a_phase;
 pub use listing::tasks_of_works_are_listed;
+pub use run::{Finished, Stopped, run_kernel};

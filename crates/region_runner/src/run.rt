@@ -1,0 +1,61 @@
+//! A whole run.
+ghost use Rattle.std.specs.Prelude.{◌≡◌, [], map, IfOk, IfErr};
+ghost use Rattle.sw_base.specs.Environment.{WhereTold, empty_text};
+ghost use Rattle.sw_base.specs.HandedLog.{handed_log};
+ghost use Rattle.kernel_syntax.specs.Program.{program_of};
+ghost use Rattle.kernel_model.specs.Lawful.{IsLawful};
+ghost use Rattle.lane_runner.specs.Handed.{entries_of};
+ghost use Rattle.region_runner.specs.Answer.{HasRun, HasStoppedRun, IsBufferSize};
+
+use kernel_syntax::Kernel;
+use lane_runner::Stop;
+use std::alloc::Global;
+use std::sync::Wait;
+use std::thread::Threads;
+use sw_base::{Gate, Log, Path};
+
+/// A run that ended: each task's path, log and number of records, in the order of their paths, and the last value of each element.
+#[derive(Drop)]
+pub struct Finished<L: Log> {
+    pub logs: Vec<(Path, L, u32)>,
+    pub words: Vec<u64>,
+}
+
+/// A run that stopped: the task that made the stop, the logs of the tasks that were made, in the order of their paths, and the last
+/// value of each element.
+#[derive(Drop)]
+pub struct Stopped<L: Log> {
+    pub path: Path,
+    pub why: Stop,
+    pub logs: Vec<(Path, L, u32)>,
+    pub words: Vec<u64>,
+}
+
+/// Runs a kernel: its root, and the lanes of each region on threads of their own, phase by phase.
+///
+/// The buffer of each log has `size` bytes, from 24 to 4,194,304. The gate sees each lane of a region start each of its phases.
+pub fn run_kernel<R: Threads + Wait + Sync, L: Log, G: Gate>(
+    rt: &R,
+    _alloc: Global,
+    kernel: &Kernel,
+    root: L,
+    size: usize,
+    _gate: &G,
+) -> Result<Finished<L>, Stopped<L>>
+    requires lawful { IsLawful (program_of kernel.now) }
+    requires root { L.path root ≡ [] }
+    requires empty { WhereTold (L.text root) (λ t. t ≡ empty_text) }
+    requires no_faults { L.faults root ≡ 0 }
+    requires size { IsBufferSize size }
+
+    // A run that ended: the logs are those of the kernel's tasks, each with its whole trace under what it read, cut into pieces that fill
+    // the buffer, and all that they did has one legal history, which ends in the words.
+    ensures finished { IfOk result (λ f. HasRun (program_of kernel.now) (L.dir root) size (L.text root) (map (handed_log L.dir L.path L.text) f.logs.items) f.words.items) }
+
+    // A run that stopped: the logs are those of the beginning of such a run, and tell why it stopped.
+    ensures stopped { IfErr result (λ s. HasStoppedRun (program_of kernel.now) (L.dir root) size (L.text root)
+        (entries_of (record { dir = L.dir; path = L.path; text = L.text; faults = L.faults }) s.logs.items) s.path s.why s.words.items) }
+{
+    for _ in rt.forever() {}
+    unreachable!()
+}
