@@ -27,28 +27,28 @@ unkernelled (kernel.Refused line why) = Refused line why
 unkernelled (kernel.Trouble trouble) = unread trouble
 
 -- the status with which it is answered
-abbrev pub status_of : Outcome → ℕ
-status_of NoKernel = KERNEL_REFUSED
-status_of (Refused line why) = KERNEL_REFUSED
-status_of IndexThere = INDEX_THERE
-status_of (Stopped path line why) = KERNEL_STOPPED
-status_of (Ran kernel tasks records words) = DONE
-status_of ReadFault = READ_FAULT
-status_of WriteFault = WRITE_FAULT
-status_of NoMemory = NO_MEMORY
+abbrev pub due_status : Outcome → ℕ
+due_status NoKernel = KERNEL_REFUSED
+due_status (Refused line why) = KERNEL_REFUSED
+due_status IndexThere = INDEX_THERE
+due_status (Stopped path line why) = KERNEL_STOPPED
+due_status (Ran kernel tasks records words) = DONE
+due_status ReadFault = READ_FAULT
+due_status WriteFault = WRITE_FAULT
+due_status NoMemory = NO_MEMORY
 
 -- the text that is printed; none after a fault
-abbrev pub text_of : Outcome → Option (List ℕ)
-text_of NoKernel = Some no_kernel_text
-text_of (Refused line why) = Some (refused_text line why)
-text_of IndexThere = Some index_exists_text
-text_of (Stopped path line why) = Some (stop_line path line why.now)
-text_of (Ran kernel tasks records words) = Some (run_text tasks records kernel.arrays words.items)
-text_of ReadFault = None
-text_of WriteFault = None
-text_of NoMemory = None
+abbrev pub due_text : Outcome → Option (List ℕ)
+due_text NoKernel = Some no_kernel_text
+due_text (Refused line why) = Some (refused_text line why)
+due_text IndexThere = Some index_exists_text
+due_text (Stopped path line why) = Some (stop_line path line why.now)
+due_text (Ran kernel tasks records words) = Some (run_text tasks records kernel.arrays words.items)
+due_text ReadFault = None
+due_text WriteFault = None
+due_text NoMemory = None
 
 -- the status and the text that are due
 pub record IsDue (outcome : Outcome) (status : ℕ) (text : List ℕ) : Type 0 where
-  pub status_is : status ≡ status_of outcome
-  pub text_is : text_of outcome ≡ Some text
+  pub status_is : status ≡ due_status outcome
+  pub text_is : due_text outcome ≡ Some text

@@ -27,7 +27,14 @@ pub fn print_outcome<O: Out>(alloc: Global, out: &mut O, outcome: &Outcome) -> u
     match outcome {
         Outcome::NoKernel => refuse_kernel(alloc, out, KernelRefusal::NoKernel),
         Outcome::Refused { line, why } => {
-            refuse_kernel(alloc, out, KernelRefusal::Refused { line: *line, why: *why })
+            refuse_kernel(
+                alloc,
+                out,
+                KernelRefusal::Refused {
+                    line: *line,
+                    why: *why,
+                },
+            )
         }
         Outcome::IndexThere => print(alloc, out, INDEX_EXISTS, INDEX_THERE),
         Outcome::Stopped { path, line, why } => {

@@ -11,7 +11,10 @@ pub enum Outcome {
     /// There is no file of the kernel's name.
     NoKernel,
     /// The file's text is no kernel, first for this reason at this line.
-    Refused { line: u32, why: KernelWhy },
+    Refused {
+        line: u32,
+        why: KernelWhy,
+    },
     /// The folder has an index.
     IndexThere,
     /// The kernel stopped in the task of this path, and its logs are there.

@@ -52,7 +52,13 @@ fn count_lines(alloc: Global, tasks: usize, records: u64) -> Result<String, Memo
 }
 
 /// The counts of a run, and the sum of each array's values.
-pub fn ran(alloc: Global, tasks: usize, records: u64, arrays: &[Array], words: &[u64]) -> Result<String, Memory>
+pub fn ran(
+    alloc: Global,
+    tasks: usize,
+    records: u64,
+    arrays: &[Array],
+    words: &[u64],
+) -> Result<String, Memory>
     ensures { IfOk result (λ text. string_bytes text ≡ run_text tasks records arrays.now words.now) }
 {
     let mut text = count_lines(alloc, tasks, records)?;
