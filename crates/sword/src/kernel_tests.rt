@@ -18,22 +18,28 @@ const ONE_STORE: &str = "array a i64 4 main { a[0] = 1 }";
 const NARROW: &str = "array b i8 1 main { b[0] = 200 }";
 
 // Eight lanes add under one mutex, or under none.
-const LOCKED: &str = "array s i64 1\nmutex c\nmain { parallel 8 {\ncritical c { s[0] = s[0] + 1 }\n} }\n";
+const LOCKED: &str =
+    "array s i64 1\nmutex c\nmain { parallel 8 {\ncritical c { s[0] = s[0] + 1 }\n} }\n";
 
 const UNLOCKED: &str = "array s i64 1\nmutex c\nmain { parallel 8 {\ns[0] = s[0] + 1\n} }\n";
 
 // Two lanes store under two mutexes.
-const TWO_MUTEXES: &str = "array s i64 1\nmutex c\nmutex d\nmain { parallel 2 {\nif tid == 0 { critical c { s[0] = 1 } }\nif tid == 1 { critical d { s[0] = 2 } }\n} }\n";
+const TWO_MUTEXES: &str =
+    "array s i64 1\nmutex c\nmutex d\nmain { parallel 2 {\nif tid == 0 { critical c { s[0] = 1 } }\nif tid == 1 { critical d { s[0] = 2 } }\n} }\n";
 
 // The second loop reads what the first one wrote, after its barrier or not.
-const TWO_LOOPS: &str = "array a i64 8\narray b i64 8\nmain { parallel 2 {\nfor i in 0 .. 8 { a[i] = i }\nfor i in 0 .. 7 { b[i] = a[i+1] }\n} }\n";
+const TWO_LOOPS: &str =
+    "array a i64 8\narray b i64 8\nmain { parallel 2 {\nfor i in 0 .. 8 { a[i] = i }\nfor i in 0 .. 7 { b[i] = a[i+1] }\n} }\n";
 
-const TWO_LOOPS_ON: &str = "array a i64 8\narray b i64 8\nmain { parallel 2 {\nfor i in 0 .. 8 nowait { a[i] = i }\nfor i in 0 .. 7 { b[i] = a[i+1] }\n} }\n";
+const TWO_LOOPS_ON: &str =
+    "array a i64 8\narray b i64 8\nmain { parallel 2 {\nfor i in 0 .. 8 nowait { a[i] = i }\nfor i in 0 .. 7 { b[i] = a[i+1] }\n} }\n";
 
 // A lane of a region in lane 0 and lane 1 store, with a barrier between them or without.
-const NESTED: &str = "array a i64 4\nmain { parallel 2 {\nif tid == 0 { parallel 2 {\na[tid] = 1 } }\nif tid == 1 { a[1] = 2 }\n} }\n";
+const NESTED: &str =
+    "array a i64 4\nmain { parallel 2 {\nif tid == 0 { parallel 2 {\na[tid] = 1 } }\nif tid == 1 { a[1] = 2 }\n} }\n";
 
-const NESTED_APART: &str = "array a i64 4\nmain { parallel 2 {\nif tid == 0 { parallel 2 {\na[tid] = 1 } }\nbarrier\nif tid == 1 { a[1] = 2 }\n} }\n";
+const NESTED_APART: &str =
+    "array a i64 4\nmain { parallel 2 {\nif tid == 0 { parallel 2 {\na[tid] = 1 } }\nbarrier\nif tid == 1 { a[1] = 2 }\n} }\n";
 
 const TWO_REGIONS: &str =
     "array a i64 4\nmain {\nparallel 2 { a[tid] = 1 }\nparallel 2 { a[1 - tid] = 2 }\n}\n";
@@ -44,7 +50,8 @@ const DRAWN: &str =
 const DRAWN_OTHERWISE: &str =
     "array a i64 10\nmain { parallel 3 {\nfor i in 0 .. 10 dynamic 5 { a[i] = i }\n} }\n";
 
-const DRAWN_TWICE: &str = "array a i64 4\nmain { parallel 2 {\nfor i in 0 .. 4 dynamic { a[i] = 1 }\nfor i in 0 .. 4 dynamic 3 { a[i] = a[i] + 1 }\n} }\n";
+const DRAWN_TWICE: &str =
+    "array a i64 4\nmain { parallel 2 {\nfor i in 0 .. 4 dynamic { a[i] = 1 }\nfor i in 0 .. 4 dynamic 3 { a[i] = a[i] + 1 }\n} }\n";
 
 // Regions in regions, four deep, in which 64 lanes store.
 const FOUR_DEEP: &str = "array a i64 64
@@ -178,7 +185,13 @@ fn chunks_of_another_size_differ_at_the_first_draw(rt: HostRuntime) -> Result<()
 #[test]
 fn a_run_without_draws_has_the_same_logs_each_time(rt: HostRuntime) -> Result<(), Fail> {
     let alloc = rt.alloc();
-    let names = ["d/t.swl", "d/t-0.0.swl", "d/t-0.1.swl", "d/t-0.2.swl", "d/t-0.3.swl"];
+    let names = [
+        "d/t.swl",
+        "d/t-0.0.swl",
+        "d/t-0.1.swl",
+        "d/t-0.2.swl",
+        "d/t-0.3.swl",
+    ];
     let (first, _, _) = after(&rt, alloc, HEAT)?;
     for _ in 0..200 {
         let (mut again, status, _) = after(&rt, alloc, HEAT)?;
@@ -274,8 +287,7 @@ fn each_chunk_is_drawn_once(rt: HostRuntime) -> Result<(), Fail> {
 #[test]
 fn a_barrier_in_a_loop_of_the_lane_is_refused(rt: HostRuntime) -> Result<(), Fail> {
     let alloc = rt.alloc();
-    let kernel =
-        "array a i64 8\nmain {\nparallel 2 {\nloop j in 0 .. tid {\nbarrier\n}\n} }\n";
+    let kernel = "array a i64 8\nmain {\nparallel 2 {\nloop j in 0 .. tid {\nbarrier\n}\n} }\n";
     let (_, status, out) = after(&rt, alloc, kernel)?;
     assert_eq!(rt; status, KERNEL_REFUSED);
     assert_eq!(rt; out.written(), b"kernel line 4: NotUniform\n".as_slice());

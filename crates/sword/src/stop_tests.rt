@@ -76,7 +76,11 @@ fn a_stop_leaves_the_logs_of_all_tasks(rt: HostRuntime) -> Result<(), Fail> {
     for (kernel, text, lengths) in [
         (LEAVING, "stopped t-0.1.swl line 5: Index\n", [32, 32, 8]),
         (DIVIDING, "stopped t-0.1.swl line 5: DivZero\n", [32, 32, 8]),
-        (SECOND_TURN, "stopped t-0.1.swl line 4: Index\n", [32, 104, 56]),
+        (
+            SECOND_TURN,
+            "stopped t-0.1.swl line 4: Index\n",
+            [32, 104, 56],
+        ),
     ] {
         let (folder, status, out) = after(&rt, alloc, kernel)?;
         assert_eq!(rt; status, KERNEL_STOPPED);
