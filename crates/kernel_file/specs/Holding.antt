@@ -15,6 +15,11 @@ pub record HoldsKernel (files : Files) (name : List ℕ) (program : Program) : T
   pub held : files name ≡ Some text
   pub kernel : IsKernelOf text program
 
+-- the program is the kernel of some text
+pub record IsOfText (program : Program) : Type 0 where
+  pub text : List ℕ
+  pub kernel : IsKernelOf text program
+
 -- the file of this name holds a text that has this fault
 pub record HoldsFault (files : Files) (name : List ℕ) (fault : ReadKernelFault) : Type 0 where
   pub text : List ℕ

@@ -3,7 +3,7 @@ ghost use Rattle.std.specs.Prelude.{◌≡◌, ◌≤◌, IfOk, IfErr};
 ghost use Rattle.sw_base.specs.Environment.{Rose, WhereTold};
 ghost use Rattle.kernel_syntax.specs.Bounds.{IsBounded};
 ghost use Rattle.kernel_syntax.specs.Program.{program_of};
-ghost use Rattle.kernel_file.specs.Holding.{HoldsKernel, IsRefusal};
+ghost use Rattle.kernel_file.specs.Holding.{HoldsKernel, IsOfText, IsRefusal};
 ghost use Rattle.kernel_file.specs.declared.reading.KernelRefusal.TheVariants as refusal;
 ghost use Rattle.sw_base.specs.declared.trouble.Trouble.TheVariants as trouble;
 
@@ -56,6 +56,7 @@ pub fn read_kernel_file<F: Folder>(
     name: &str,
 ) -> Result<Kernel, KernelRefusal>
     ensures kernel { IfOk result (λ k. WhereTold (F.content folder.old) (λ c. HoldsKernel c.held name.now (program_of k))) }
+    ensures text { IfOk result (λ k. IsOfText (program_of k)) }
     ensures bounded { IfOk result (λ k. IsBounded (program_of k)) }
     ensures alone { IfOk result (λ k. k.main.span ≡ 1) }
     ensures refused { IfErr result (λ why. WhereTold (F.content folder.old) (λ c. IsRefusal c.held name.now why)) }

@@ -2,10 +2,7 @@ pub mod SealedLogs
 pub mod StoredRun
 pub mod RunSums
 pub mod IndexKept
-pub mod Refusals
-pub mod FirstKinds
-pub mod FirstPaths
 pub mod RunFolder
 pub mod RunEnds
-pub mod BeginEnd
+pub mod Leaving
 pub mod RunExamples

@@ -1,53 +1,44 @@
--- What a run answers and leaves, by what its logs were stored or sealed to.
-use Rattle.std.proofs.Common.{◌≡◌, refl, sym, ap, subst, ◌∙◌, inl, inr, ◌⊎◌, ℕ, ◌≤◌, List, [], map, length, Option, Some, Result, Ok, Err, IfOk, OnErr, String, string_bytes, true, Contains, append-nil, arith}
+-- What comes out of a run, by what its logs were stored or sealed to.
+use Rattle.std.proofs.Common.{◌≡◌, refl, sym, ap, subst, ◌∙◌, inl, inr, ℕ, ◌<◌, ◌≤◌, List, ◌∷◌, ◌++◌, map, length, sum_by, Option, None, Some, Ok, Err, true, true≢false, arith}
 use Rattle.std.specs.Prelude.{All, is_some}
-use Rattle.std.specs.declared.alloc.Global.{Global}
-use Rattle.std.proofs.lemmas.List.Elements.{All-map, All-weaker}
+use Rattle.std.proofs.lemmas.List.{length-map, map-append}
+use Rattle.std.proofs.lemmas.List.Elements.{All-cons, All-head, All-map, All-nil, All-tail, All-weaker}
 use Rattle.std.proofs.lemmas.Option.{none-some, same_Some}
 use Rattle.std.proofs.lemmas.Simd.{map-map}
 use Rattle.log_format.specs.declared.format.TheConstants.{FORMAT}
+use Rattle.log_format.specs.Format.{log_header}
 use Rattle.sw_base.specs.declared.path.Step.{Step}
-use Rattle.sw_base.specs.declared.trouble.Memory.{Memory}
-use Rattle.sw_base.specs.declared.trouble.Trouble.{Trouble}
-use Rattle.sw_base.specs.Environment.{Content, Rose, Text}
-use Rattle.race_model.specs.FirstBad.{IsBad, rows_of}
+use Rattle.sw_base.specs.declared.trouble.Trouble as fault
+use Rattle.sw_base.specs.declared.trouble.Trouble.TheVariants as trouble
+use Rattle.sw_base.specs.Environment.{Content, Rose, Text, outline_of}
+use Rattle.sw_base.specs.HandedLog.{IsOwnLog, HandedLog, outline, SealsPrefix}
+use Rattle.sw_base.specs.Names.{IsUnder}
+use Rattle.race_model.specs.FirstBad.{IsBad, row_of, rows_of}
 use Rattle.race_model.specs.IndexFault.{AreRows}
 use Rattle.race_model.specs.Row.{Row, index_bytes}
-use Rattle.race_model.specs.Trace.{Trace, TaskLog, barrier_count}
-use Rattle.kernel_syntax.specs.FirstKind.{IsFirstKind}
-use Rattle.kernel_syntax.specs.Layout.{elements}
+use Rattle.race_model.specs.Trace.{Trace, TaskLog}
 use Rattle.kernel_syntax.specs.Program.{Program}
-use Rattle.kernel_model.specs.State as model
-use Rattle.team_runner.specs.declared.stop.Stop.{Stop}
-use Rattle.team_runner.specs.declared.stop.Stop.TheVariants.{DivZero, Index, LogFull}
-use Rattle.team_runner.specs.declared.stop.Stop.TheVariants as stop
-use Rattle.sw_base.specs.HandedLog.{IsOwnLog, HandedLog, handed_log, SealsPrefix}
-use Rattle.team_runner.specs.Answer.{HasRun, HasStop, HasStoppedRun, HasTask, HasFaulty, HasPrefix, IsAhead, IsRun, whole_log}
-use Rattle.team_runner.specs.Answer as answered
-use Rattle.team_runner.specs.Stops.{StopsSo}
-use Rattle.command_answer.specs.declared.status.TheConstants.{DONE, KERNEL_STOPPED, NO_MEMORY}
-use Rattle.command_answer.specs.Answer.{IsFailure, Prints, Tries, silent}
-use Rattle.run_command.specs.Ends.{EndDue, EndsSo, ran, stop_of, stopped}
-use Rattle.run_command.specs.Run.{AreStopped, EndLeaves, EndedRun, StoppedRun, ended, index, logs, told_log}
-use Rattle.run_command.specs.Run as kinds
-use Rattle.run_command.specs.RunTexts.{run_text, stopped_text}
-use Rattle.run_command.specs.Seals.{AllTell, SealsAll, StoresAll, StoresPrefix, StoresPart, all_logged, prefix, part, row_of_entry, rows_of_logs, with_index}
-use Rattle.command_answer.proofs.Answering.{Tries-from_prints}
+use Rattle.kernel_model.specs.Folder.{paths_of}
+use Rattle.kernel_file.specs.declared.reading.KernelRefusal.{KernelRefusal}
+use Rattle.kernel_file.specs.declared.reading.KernelRefusal.TheVariants as kernel
+use Rattle.kernel_file.specs.Holding.{IsRefusal}
+use Rattle.event_buffer.specs.Logged.{HasAll}
+use Rattle.lane_runner.specs.declared.stop.Stop.{Stop}
+use Rattle.lane_runner.specs.declared.stop.Stop.TheVariants.{DivZero, Index, LogFull, Tasks, Trouble}
+use Rattle.lane_runner.specs.Children.{LogView}
+use Rattle.lane_runner.specs.Handed.{AreEntriesOf, Entry, HasCrowdedTask, HasFaultyLog, IsEntryOf, IsForMemory, Keeps, LogPlace, MayLack, entries_of, entry_of}
+use Rattle.lane_runner.specs.Handed as handed
+use Rattle.region_runner.specs.Answer.{HasRun, HasStoppedRun, IsRun, whole_log, whole_outline}
+use Rattle.run_command.specs.declared.outcome.Outcome.TheVariants as came
+use Rattle.run_command.specs.Outcomes.{unkernelled, unwritten}
+use Rattle.run_command.specs.Run.{AreLeftLogs, AreRunLogs, AreStopped, CameOut, CanRun, EndedRun, EndsSo, IsCrowded, IsLeftLog, IsTornLog, LeavesPart, StoppedRun, told_log}
+use Rattle.run_command.specs.Run as left
+use Rattle.run_command.specs.RunTexts.{told_stop}
+use Rattle.run_command.specs.Seals.{AllTell, RaiseFaults, SealsAll, StoresAll, StoresPrefix, StoresPart, all_logged, prefix, part, row_of_entry, rows_of_logs, with_index}
 use Rattle.run_command.proofs.IndexKept.{IsOfFolder, prefix_keeps_index}
 use Rattle.run_command.proofs.RunFolder.{left_by, run_well_formed}
+use Rattle.run_command.proofs.RunSums.{records_counted}
 use Rattle.run_command.proofs.StoredRun.{rows-logged}
-
--- a text was printed, where memory was found for it
-pub printed_made : (due : ℕ → List ℕ → Type 0) (status : ℕ) (text : List ℕ) (made : Result (String Global) Memory) (before after : Option (List ℕ)) (result : ℕ) → due status text
-    → IfOk made (λ m. string_bytes m ≡ text) → IfOk made (λ m. Prints status (string_bytes m) before after result) → OnErr made ((result ≡ NO_MEMORY) × (after ≡ before))
-    → Tries due before after result
-printed_made due status text (Ok m) before after result is_due same prints none =
-    Tries-from_prints due status text before after result is_due (subst (λ (t : List ℕ). Prints status t before after result) same prints)
-printed_made due status text (Err e) before after result is_due same prints none = silent (inr (inr none.0)) none.1
-
--- a count that rose, from an earlier moment
-pub rose_more : (before old new : ℕ) → before ≤ old → Rose old new → Rose before new
-rose_more before old new below rose = omega (arith, below, rose)
 
 -- ---- a run that ended
 
@@ -63,172 +54,242 @@ whole_tell dir size root tasks = All-map (IsOwnLog dir true) (whole_log dir size
 own_dirs : (dir : List ℕ) (all : List HandedLog) → AllTell dir all → All (IsOfFolder dir) all
 own_dirs dir all tell = All-weaker (IsOwnLog dir true) (IsOfFolder dir) (λ log own. own.dir_is) all tell
 
--- its rows are those of an index
-pub run_rows : {L : Type 0} (program : Program) (dir : List ℕ) (size : ℕ) (root : Option Text) (dir_of : L → List ℕ) (path_of : L → List Step) (text_of : L → Option Text) (entries : List (List Step × L × ℕ))
-    → HasRun program dir size root (all_logged dir_of path_of text_of entries) → AreRows (map row_of_entry entries)
-run_rows program dir size root dir_of path_of text_of entries has =
-    subst AreRows (sym (whole_rows dir size root has.tasks) ∙ ap rows_of_logs (sym has.logs_are) ∙ rows-logged dir_of path_of text_of entries) has.run.rules.rows
+module _ {L : Type 0} (program : Program) (dir : List ℕ) (size : ℕ) (root : Option Text) (dir_of : L → List ℕ) (path_of : L → List Step) (text_of : L → Option Text) (entries : List (List Step × L × ℕ))
+    (words : List ℕ) (has : HasRun program dir size root (all_logged dir_of path_of text_of entries) words) where
+  -- the rows of the logs are those of the tasks
+  pub entry_rows : map row_of_entry entries ≡ rows_of has.tasks
+  entry_rows = sym (rows-logged dir_of path_of text_of entries) ∙ ap rows_of_logs has.logs_are ∙ whole_rows dir size root has.tasks
 
-module _ (rose : Type 0) (program : Program) (first : IsFirstKind program) (dir : List ℕ) (size : ℕ) (root : Text) (tasks : Trace) (run : IsRun program tasks) where
+  -- so they are those of an index
+  pub run_rows : AreRows (map row_of_entry entries)
+  run_rows = subst AreRows (sym entry_rows) has.run.rules.rows
+
+-- no answer came of a write that failed
+pub unwritten_part : (rose : Type 0) (file dir : List ℕ) (size : ℕ) (old new : Content) (t : fault.Trouble) → LeavesPart rose file dir size old new → CameOut rose file dir size old new (unwritten t)
+unwritten_part rose file dir size old new trouble.Failed kept = kept
+unwritten_part rose file dir size old new trouble.Memory kept = kept
+
+-- only a call that failed ends so
+pub unwritten_failed : (t : fault.Trouble) → unwritten t ≡ came.WriteFault → t ≡ trouble.Failed
+unwritten_failed trouble.Failed is = refl
+unwritten_failed trouble.Memory is = absurd (cc)
+
+-- a count that rose, from an earlier moment
+pub rose_more : (before old new : ℕ) → before ≤ old → Rose old new → Rose before new
+rose_more before old new below rose = omega (arith, below, rose)
+
+-- no kernel was read
+pub kernel_refused : (rose : Type 0) (file dir : List ℕ) (size : ℕ) (content : Content) (why : KernelRefusal) → IsRefusal content.held file why → CameOut rose file dir size content content (unkernelled why)
+kernel_refused rose file dir size content kernel.NoKernel none = (none, refl)
+kernel_refused rose file dir size content (kernel.Refused line why) fault = (fault, refl)
+kernel_refused rose file dir size content (kernel.Trouble trouble.Failed) told = refl
+kernel_refused rose file dir size content (kernel.Trouble trouble.Memory) told = left.nothing refl
+
+module _ (rose : Type 0) (file dir : List ℕ) (size : ℕ) (root : Text) (program : Program) (tasks : Trace) (words : List ℕ) (run : IsRun program tasks words) where
   -- the logs that the run answers
   abbrev run_logs : List HandedLog
   run_logs = map (whole_log dir size (Some root)) tasks
 
   -- a folder with all logs and the whole index
-  all_left : (old : Content) → with_index dir run_logs (index_bytes FORMAT (rows_of_logs run_logs)) old ≡ left_by program first dir size tasks run old
+  all_left : (old : Content) → with_index dir run_logs (index_bytes FORMAT (rows_of_logs run_logs)) old ≡ left_by program dir size tasks words run old
   all_left old = ap (λ (rows : List Row). with_index dir run_logs (index_bytes FORMAT rows) old) (whole_rows dir size (Some root) tasks)
 
   -- what is left where storing the run was refused
-  part_left : (old new : Content) → StoresPart dir run_logs old new → EndLeaves rose program dir size old new
-  part_left old new (part sealed) = logs run_logs (ended tasks run refl) sealed (prefix_keeps_index dir run_logs old new (own_dirs dir run_logs (whole_tell dir size root tasks)) sealed)
-  part_left old new (prefix bytes rest parts leaves) =
-      index tasks run bytes rest (ap (index_bytes FORMAT) (sym (whole_rows dir size (Some root) tasks)) ∙ parts) leaves
+  part_left : (old new : Content) → CanRun old.held file dir program → StoresPart dir run_logs old new → LeavesPart rose file dir size old new
+  part_left old new can (part sealed) =
+      left.logs program can run_logs (left.ended tasks words run refl) sealed (prefix_keeps_index dir run_logs old new (own_dirs dir run_logs (whole_tell dir size root tasks)) sealed ∙ can.fresh)
+  part_left old new can (prefix bytes rest parts leaves) =
+      left.index program can tasks words run bytes rest (ap (index_bytes FORMAT) (sym (whole_rows dir size (Some root) tasks)) ∙ parts) leaves
 
   -- storing the run was refused
-  refused_ends : (old new : Option Content) (status : ℕ) (written : Option (List ℕ)) → StoresPrefix dir run_logs old new → IsFailure status → EndsSo rose program dir size old new written written status
-  refused_ends old new status written stores failure content is =
-      let left = stores content (whole_tell dir size root tasks) is in
-      record { content = left.content; is = left.is; holds = record { answers = silent failure refl; leaves = λ _. part_left content left.content left.holds } }
-
-  -- what is due where it was stored
-  has_ran : (old new : Content) (values : List ℕ) → new ≡ left_by program first dir size tasks run old → length values ≡ elements program.arrays
-      → EndedRun program dir size old new (run_text tasks program.arrays values)
-  has_ran old new values leaves all = record {
-    tasks = tasks;
-    run = run;
-    leaves = leaves;
-    well_formed = λ place bad. run_well_formed program first dir size tasks run old place (subst (λ (c : Content). IsBad FORMAT c.held dir place) leaves bad);
-    values = values;
-    values_are = all;
-    text_is = refl;
-  }
+  refused_ends : (old new : Option Content) (t : fault.Trouble) → StoresPrefix dir run_logs old new → EndsSo rose file dir size program old new (unwritten t)
+  refused_ends old new t stores c d can is now =
+      let put = stores c (whole_tell dir size root tasks) is in
+      unwritten_part rose file dir size c d t (subst (λ (n : Content). LeavesPart rose file dir size c n) (same_Some put.content d (sym put.is ∙ now)) (part_left c put.content can put.holds))
 
   -- it was stored
-  stored_ends : (old new : Option Content) (status : ℕ) (before after : Option (List ℕ)) (values : List ℕ) (made : Result (String Global) Memory) → StoresAll dir run_logs old new
-      → length values ≡ elements program.arrays → IfOk made (λ m. string_bytes m ≡ run_text tasks program.arrays values)
-      → IfOk made (λ m. Prints DONE (string_bytes m) before after status) → OnErr made ((status ≡ NO_MEMORY) × (after ≡ before)) → EndsSo rose program dir size old new before after status
-  stored_ends old new status before after values made stores all same prints none content is =
-      let left : Content = with_index dir run_logs (index_bytes FORMAT (rows_of_logs run_logs)) content in
+  stored_ends : (old new : Option Content) (count records : ℕ) → StoresAll dir run_logs old new → count ≡ length tasks → records ≡ sum_by (λ (task : TaskLog). length task.records) tasks
+      → (c d : Content) → CanRun c.held file dir program → old ≡ Some c → new ≡ Some d → EndedRun file dir size c d program count records words
+  stored_ends old new count records stores counted summed c d can is now =
+      let leaves : d ≡ left_by program dir size tasks words run c = same_Some d (with_index dir run_logs (index_bytes FORMAT (rows_of_logs run_logs)) c) (sym now ∙ stores c (whole_tell dir size root tasks) is) ∙ all_left c in
       record {
-        content = left;
-        is = stores content (whole_tell dir size root tasks) is;
-        holds = record {
-          answers = printed_made (EndDue rose program dir size content left) DONE (run_text tasks program.arrays values) made before after status (ran refl (has_ran content left values (all_left content) all)) same prints none;
-          leaves = λ _. index tasks run (index_bytes FORMAT (rows_of tasks)) [] (sym (append-nil (index_bytes FORMAT (rows_of tasks)))) (all_left content);
-        };
+        can = can;
+        tasks = tasks;
+        run = run;
+        count_is = counted;
+        records_are = summed;
+        leaves = leaves;
+        well_formed = λ place bad. run_well_formed program dir size tasks words run c place (subst (λ (n : Content). IsBad FORMAT n.held dir place) leaves bad);
       }
 
 -- the same of the logs that a run answered
-module _ (rose : Type 0) (program : Program) (first : IsFirstKind program) (dir : List ℕ) (size : ℕ) (root : Text) (all : List HandedLog) (has : HasRun program dir size (Some root) all) where
+module _ (rose : Type 0) (file dir : List ℕ) (size : ℕ) (root : Text) (program : Program) (words : List ℕ) (all : List HandedLog) (has : HasRun program dir size (Some root) all words) where
   -- storing them was refused
-  pub run_refused : (old new : Option Content) (status : ℕ) (written : Option (List ℕ)) → StoresPrefix dir all old new → IsFailure status → EndsSo rose program dir size old new written written status
-  run_refused old new status written stores failure =
-      refused_ends rose program first dir size root has.tasks has.run old new status written (subst (λ (ls : List HandedLog). StoresPrefix dir ls old new) has.logs_are stores) failure
+  pub run_refused : (old new : Option Content) (t : fault.Trouble) → StoresPrefix dir all old new → EndsSo rose file dir size program old new (unwritten t)
+  run_refused old new t stores =
+      refused_ends rose file dir size root program has.tasks words has.run old new t (subst (λ (ls : List HandedLog). StoresPrefix dir ls old new) has.logs_are stores)
 
   -- they were stored
-  pub run_stored : (old new : Option Content) (status : ℕ) (before after : Option (List ℕ)) (values : List ℕ) (made : Result (String Global) Memory) → StoresAll dir all old new
-      → length values ≡ elements program.arrays → ((tasks : Trace) → rows_of tasks ≡ rows_of_logs all → IfOk made (λ m. string_bytes m ≡ run_text tasks program.arrays values))
-      → IfOk made (λ m. Prints DONE (string_bytes m) before after status) → OnErr made ((status ≡ NO_MEMORY) × (after ≡ before)) → EndsSo rose program dir size old new before after status
-  run_stored old new status before after values made stores values_are text prints none =
-      stored_ends rose program first dir size root has.tasks has.run old new status before after values made (subst (λ (ls : List HandedLog). StoresAll dir ls old new) has.logs_are stores) values_are
-      (text has.tasks (sym (whole_rows dir size (Some root) has.tasks) ∙ ap rows_of_logs (sym has.logs_are))) prints none
+  pub run_stored : (old new : Option Content) (rows : List Row) → rows ≡ rows_of has.tasks → StoresAll dir all old new
+      → (c d : Content) → CanRun c.held file dir program → old ≡ Some c → new ≡ Some d → EndedRun file dir size c d program (length rows) (sum_by (λ (row : Row). row.records) rows) words
+  run_stored old new rows same stores =
+      stored_ends rose file dir size root program has.tasks words has.run old new (length rows) (sum_by (λ (row : Row). row.records) rows) (subst (λ (ls : List HandedLog). StoresAll dir ls old new) has.logs_are stores)
+      (ap length same ∙ length-map has.tasks row_of) (ap (λ (rs : List Row). sum_by (λ (row : Row). row.records) rs) same ∙ records_counted has.tasks)
 
 -- ---- a kernel that stopped
 
--- the logs tell what they hold where the root's does
-pub all_tell : {L : Type 0} (dir_of : L → List ℕ) (path_of : L → List Step) (text_of : L → Option Text) (entries : List (List Step × L × ℕ)) (dir of_root : List ℕ) (told : Option Text) (root : Text)
-    → of_root ≡ dir → told ≡ Some root → All (λ entry. IsOwnLog of_root (is_some told) (handed_log dir_of path_of text_of entry)) entries → AllTell dir (all_logged dir_of path_of text_of entries)
-all_tell dir_of path_of text_of entries dir of_root told root dir_is told_is own =
-    All-map (IsOwnLog dir true) (handed_log dir_of path_of text_of) entries
-    (subst (λ (d : List ℕ). All (λ entry. IsOwnLog d true (handed_log dir_of path_of text_of entry)) entries) dir_is
-    (subst (λ (t : Option Text). All (λ entry. IsOwnLog of_root (is_some t) (handed_log dir_of path_of text_of entry)) entries) told_is own))
+-- the log of a task as it is handed on
+abbrev log_of : Entry → HandedLog
+log_of e = record { task = e.task; dir = e.dir; path = e.path; told = outline e.text; count = e.count }
 
--- the kernel's own stop
-pub told_stop : (P : model.Stop → ℕ → Type 0) (why : Stop) (kind : model.Stop) (line : ℕ) → stop_of why ≡ Some (kind, line) → StopsSo P why → P kind line
-told_stop P (DivZero at) kind line is stops = let both : (model.DivZero, at) ≡ (kind, line) = same_Some (model.DivZero, at) (kind, line) is in subst (λ (s : model.Stop × ℕ). P s.0 s.1) both stops
-told_stop P (Index at) kind line is stops = let both : (model.Index, at) ≡ (kind, line) = same_Some (model.Index, at) (kind, line) is in subst (λ (s : model.Stop × ℕ). P s.0 s.1) both stops
-told_stop P (LogFull at) kind line is stops = let both : (model.LogFull, at) ≡ (kind, line) = same_Some (model.LogFull, at) (kind, line) is in subst (λ (s : model.Stop × ℕ). P s.0 s.1) both stops
-told_stop P (stop.Trouble trouble) kind line is stops = absurd (none-some (kind, line) is)
+-- a log tells its outline where it tells its text
+outline_told : (text : Option Text) → is_some text ≡ true → is_some (outline text) ≡ true
+outline_told None is = is
+outline_told (Some text) is = refl
 
-module _ (program : Program) (dir : List ℕ) (size : ℕ) (root : Text) (all : List HandedLog) where
-  module _ (HasLog HasPart HasPart' : TaskLog → Type 0) (part : (task : TaskLog) → HasPart task → HasPart' task) where
-    -- the first records of a lane that waits
-    prefix_weaker : (path : List Step) (barriers : ℕ) → HasPrefix program HasPart path barriers → HasPrefix program HasPart' path barriers
-    prefix_weaker path barriers has = record {
-      start = has.start;
-      starts = has.starts;
-      records = has.records;
-      prefix = has.prefix;
-      passed = has.passed;
-      logged = part (record { path = path; records = has.records }) has.logged;
+-- a stop that is told is no trouble
+told_no_trouble : (why : Stop) (told : ℕ × List ℕ) → told_stop why ≡ Some told → handed.IsTrouble why → ⊥
+told_no_trouble (DivZero line) told is trouble = trouble
+told_no_trouble (Index line) told is trouble = trouble
+told_no_trouble (LogFull line) told is trouble = trouble
+told_no_trouble (Tasks line) told is trouble = trouble
+told_no_trouble (Trouble t) told is trouble = none-some told is
+
+module _ (rose : Type 0) (dir : List ℕ) (size : ℕ) (path : List Step) (why : Stop) (told : ℕ × List ℕ) (is_told : told_stop why ≡ Some told) where
+  -- where the logs are, and how the run stopped
+  abbrev here : LogPlace
+  here = record { dir = dir; size = size; tells = true }
+
+  abbrev stop : Option (List Step × Stop)
+  stop = Some (path, why)
+
+  no_memory : why ≡ Trouble trouble.Memory → ⊥
+  no_memory is = none-some told (sym (ap told_stop is) ∙ is_told)
+
+  -- a log that keeps what its task put
+  kept_log : (task : TaskLog) (e : Entry) → IsEntryOf here stop task.path task.records e → (0 < e.faults → rose) → (text : Text) → e.text ≡ Some text
+      → Keeps stop task.path task.records size e.faults text → IsLeftLog rose dir size path task (log_of e)
+  kept_log task e is raise text tells (handed.whole all) =
+      let whole : outline e.text ≡ Some (whole_outline size task.records) = ap outline tells ∙ ap Some (outline_is all) in
+      left.whole (λ i. record { task = is.task i; dir = is.dir i; path = is.own i; told = whole i; count = is.count i })
+    where
+      outline_is : HasAll (log_header FORMAT) task.records size text → outline_of text ≡ whole_outline size task.records
+      outline_is all = λ i. record { bytes = all.bytes i; lengths = all.lengths i }
+  kept_log task e is raise text tells (handed.torn (inl memory) first) = absurd (no_memory memory)
+  kept_log task e is raise text tells (handed.torn (inr (faulty, own)) first) =
+      let part : outline e.text ≡ Some (outline_of text) = ap outline tells in
+      left.torn (raise faulty) (λ same. told_no_trouble why told is_told (own same)) (record {
+        outline = outline_of text;
+        log_is = λ i. record { task = is.task i; dir = is.dir i; path = is.own i; told = part i; count = is.count i };
+        missing = first.missing;
+        prefix = first.prefix;
+        behind = first.behind;
+      })
+
+  -- by whether it tells its text, which it does
+  left_log : (task : TaskLog) (e : Entry) → IsEntryOf here stop task.path task.records e → (0 < e.faults → rose) → (text : Option Text) → e.text ≡ text → IsLeftLog rose dir size path task (log_of e)
+  left_log task e is raise None none = absurd (true≢false (sym (ap is_some (sym none) ∙ is.tells)))
+  left_log task e is raise (Some text) tells = kept_log task e is raise text tells (is.keeps text tells)
+
+  -- all logs
+  left_logs : (tasks : Trace) (entries : List Entry) → AreEntriesOf here stop tasks entries → All (λ (e : Entry). 0 < e.faults → rose) entries → AreLeftLogs rose dir size path tasks (map log_of entries)
+  left_logs _ _ AreEntriesOf.no_task raise = left.no_task
+  left_logs _ _ (AreEntriesOf.given task tasks e entries is rest) raise =
+      left.next task tasks (log_of e) (map log_of entries) (left_log task e is (All-head (λ (e : Entry). 0 < e.faults → rose) e entries raise) e.text refl)
+      (left_logs tasks entries rest (All-tail (λ (e : Entry). 0 < e.faults → rose) e entries raise))
+  left_logs _ _ (AreEntriesOf.missing task tasks entries memory rest) raise = absurd (no_memory memory)
+
+  -- they are of the folder and tell what they hold
+  logs_tell : (tasks : Trace) (entries : List Entry) → AreEntriesOf here stop tasks entries → AllTell dir (map log_of entries)
+  logs_tell _ _ AreEntriesOf.no_task = All-nil (IsOwnLog dir true)
+  logs_tell _ _ (AreEntriesOf.given task tasks e entries is rest) =
+      All-cons (IsOwnLog dir true) (log_of e) (map log_of entries) (record { dir_is = is.dir; path_is = is.own ∙ sym is.task; tells_so = outline_told e.text is.tells }) (logs_tell tasks entries rest)
+  logs_tell _ _ (AreEntriesOf.missing task tasks entries memory rest) = absurd (no_memory memory)
+
+  -- the tasks are those of the logs
+  entry_paths : (tasks : Trace) (entries : List Entry) → AreEntriesOf here stop tasks entries → map (λ (e : Entry). e.task) entries ≡ paths_of tasks
+  entry_paths _ _ AreEntriesOf.no_task = refl
+  entry_paths _ _ (AreEntriesOf.given task tasks e entries is rest) = let later = entry_paths tasks entries rest in λ i. is.task i ∷ later i
+  entry_paths _ _ (AreEntriesOf.missing task tasks entries memory rest) = absurd (no_memory memory)
+
+-- too many tasks are below one, told of the paths alone
+crowded_paths : (path : List Step) (entries : List Entry) (paths : List (List Step)) → map (λ (e : Entry). e.task) entries ≡ paths → HasCrowdedTask path entries → IsCrowded path paths
+crowded_paths path entries paths same has =
+    let task : Entry → List Step = λ (e : Entry). e.task in
+    let parts : map task (has.own ∷ (has.below ++ has.after)) ≡ path ∷ (map task has.below ++ map task has.after) = (let below = map-append task has.below has.after in λ i. has.task i ∷ below i) in
+    record {
+      before = map task has.before;
+      below = map task has.below;
+      after = map task has.after;
+      parts = sym same ∙ ap (map task) has.parts ∙ map-append task has.before (has.own ∷ (has.below ++ has.after)) ∙ ap (λ (ps : List (List Step)). map task has.before ++ ps) parts;
+      under = All-map (λ (p : List Step). IsUnder p path) task has.below has.under;
+      many = let many = has.many in omega (arith, length-map has.below task);
     }
 
-    -- the log of a lane that is ahead of a stop
-    ahead_weaker : (path : List Step) (barriers : ℕ) → IsAhead program HasLog HasPart path barriers → IsAhead program HasLog HasPart' path barriers
-    ahead_weaker path barriers (answered.ended task few) = answered.ended task few
-    ahead_weaker path barriers (answered.waits has) = answered.waits (prefix_weaker path barriers has)
+module _ (rose : Type 0) (file dir : List ℕ) (size : ℕ) (root : Text) (program : Program) (entries : List Entry) (path : List Step) (why : Stop) (words : List ℕ)
+    (has : HasStoppedRun program dir size (Some root) entries path why words) (line : ℕ) (name : List ℕ) (is_told : told_stop why ≡ Some (line, name)) (raise : All (λ (e : Entry). 0 < e.faults → rose) entries) where
+  abbrev stop_logs : List HandedLog
+  stop_logs = map log_of entries
 
-    -- the logs of a stop
-    stop_weaker : (path : List Step) (kind : model.Stop) (line : ℕ) → HasStop program HasLog HasPart path kind line → HasStop program HasLog HasPart' path kind line
-    stop_weaker path kind line has = record {
-      lane = has.lane;
-      within = has.within;
-      path_is = has.path_is;
-      stopped = has.stopped;
-      before = λ other below. ahead_weaker _ (barrier_count has.stopped.records) (has.before other below);
-      reached = λ other barriers below fewer. prefix_weaker _ barriers (has.reached other barriers below fewer);
-    }
+  -- what the logs are of
+  are_stopped : AreStopped rose program dir size stop_logs path line name
+  are_stopped = record {
+    why = why;
+    told = is_told;
+    tasks = has.tasks;
+    words = has.final;
+    execution = has.execution;
+    listed = has.listed;
+    logs_are = left_logs rose dir size path why (line, name) is_told has.tasks entries has.logs_are raise;
+    stops = has.stops;
+    crowded = λ at is. crowded_paths path entries (paths_of has.tasks) (entry_paths rose dir size path why (line, name) is_told has.tasks entries has.logs_are)
+        (has.tell.crowded path at (ap (λ (w : Stop). Some (path, w)) is));
+  }
 
-  -- a fault of a log makes the count rise
-  part_or_rose : (faults : List (List Step × ℕ)) (rose : Type 0) → ((path : List Step) → HasFaulty faults path → rose) → (task : TaskLog)
-      → Contains all (whole_log dir size (Some root) task) ⊎ HasFaulty faults task.path → Contains all (told_log dir size task) ⊎ rose
-  part_or_rose faults rose rises task (inl there) = inl there
-  part_or_rose faults rose rises task (inr faulty) = inr (rises task.path faulty)
+  all_tell : AllTell dir stop_logs
+  all_tell = logs_tell rose dir size path why (line, name) is_told has.tasks entries has.logs_are
 
-  module _ (tell : AllTell dir all) (path : List Step) (kind : model.Stop) (line : ℕ) (faults : List (List Step × ℕ)) (has : HasStoppedRun program dir size (Some root) faults all path kind line)
-      (rose : Type 0) (rises : (path : List Step) → HasFaulty faults path → rose) where
-    -- what is sealed of them
-    are_stopped : AreStopped rose program dir size all path kind line
-    are_stopped = record { all = has.all; stop = stop_weaker _ _ _ (part_or_rose faults rose rises) path kind line has.stop }
+  -- all logs were sealed
+  stop_sealed : (old new : Option Content) → SealsAll stop_logs (Ok tt) old new → (c d : Content) → CanRun c.held file dir program → old ≡ Some c → new ≡ Some d
+      → StoppedRun rose file dir size c d path line name
+  stop_sealed old new seals c d can is now =
+      let sealed = seals dir c all_tell is in
+      record { program = program; can = can; logs = stop_logs; stopped = are_stopped; leaves = same_Some d sealed.content (sym now ∙ sealed.is) ∙ sealed.holds.done }
 
-    -- what is left where sealing was broken off
-    left_logs : (old new : Content) → SealsPrefix all old new → EndLeaves rose program dir size old new
-    left_logs old new sealed = logs all (kinds.stopped path kind line are_stopped) sealed (prefix_keeps_index dir all old new (own_dirs dir all tell) sealed)
+  -- one was refused
+  stop_refused : (old new : Option Content) (t : fault.Trouble) → SealsAll stop_logs (Err t) old new → EndsSo rose file dir size program old new (unwritten t)
+  stop_refused old new t seals c d can is now =
+      let sealed = seals dir c all_tell is in
+      let same = same_Some sealed.content d (sym sealed.is ∙ now) in
+      let first = subst (λ (n : Content). SealsPrefix stop_logs c n) same sealed.holds.prefix in
+      unwritten_part rose file dir size c d t
+      (left.logs program can stop_logs (left.stopped path line name are_stopped) first (prefix_keeps_index dir stop_logs c d (own_dirs dir stop_logs all_tell) first ∙ can.fresh))
 
-    -- all logs were sealed
-    pub stop_ends : (old new : Option Content) (status : ℕ) (before after : Option (List ℕ)) (made : Result (String Global) Memory) → SealsAll all (Ok tt) old new
-        → IfOk made (λ m. string_bytes m ≡ stopped_text path line kind) → IfOk made (λ m. Prints KERNEL_STOPPED (string_bytes m) before after status)
-        → OnErr made ((status ≡ NO_MEMORY) × (after ≡ before)) → EndsSo rose program dir size old new before after status
-    stop_ends old new status before after made seals same prints none content is =
-        let now = seals dir content tell is in
-        let due : StoppedRun rose program dir size content now.content (stopped_text path line kind) = record {
-          logs = all;
-          path = path;
-          why = kind;
-          line = line;
-          stopped = are_stopped;
-          leaves = now.holds.done;
-          text_is = refl;
-        } in
-        record {
-          content = now.content;
-          is = now.is;
-          holds = record {
-            answers = printed_made (EndDue rose program dir size content now.content) KERNEL_STOPPED (stopped_text path line kind) made before after status (stopped refl due) same prints none;
-            leaves = λ _. left_logs content now.content now.holds.prefix;
-          };
-        }
+-- the same of the logs as they are answered
+module _ {L : Type 0} (dir_of : L → List ℕ) (path_of : L → List Step) (text_of : L → Option Text) (faults_of : L → ℕ) (entries : List (List Step × L × ℕ)) where
+  abbrev seen : LogView L
+  seen = record { dir = dir_of; path = path_of; text = text_of; faults = faults_of }
 
-    -- one was refused
-    pub stop_refused : (old new : Option Content) (status : ℕ) (written : Option (List ℕ)) (trouble : Trouble) → SealsAll all (Err trouble) old new → IsFailure status
-        → EndsSo rose program dir size old new written written status
-    stop_refused old new status written trouble seals failure content is =
-        let now = seals dir content tell is in
-        record {
-          content = now.content;
-          is = now.is;
-          holds = record {
-            answers = silent failure refl;
-            leaves = λ _. left_logs content now.content now.holds.prefix;
-          };
-        }
+  logs_same : map log_of (entries_of seen entries) ≡ all_logged dir_of path_of text_of entries
+  logs_same = map-map log_of (entry_of seen) entries
+
+  module _ (rose : Type 0) (raise : RaiseFaults faults_of entries rose) where
+    raise_entries : All (λ (e : Entry). 0 < e.faults → rose) (entries_of seen entries)
+    raise_entries = All-map (λ (e : Entry). 0 < e.faults → rose) (entry_of seen) entries raise
+
+    -- a log that counts a fault is among them
+    pub faulty_rose : (path : List Step) → HasFaultyLog path (entries_of seen entries) → rose
+    faulty_rose path has = let (k, within, is) = has.is in subst (λ (e : Entry). 0 < e.faults → rose) is (raise_entries k has.log within) has.faulty
+
+    module _ (file dir : List ℕ) (size : ℕ) (root : Text) (program : Program) (path : List Step) (why : Stop) (words : List ℕ)
+        (has : HasStoppedRun program dir size (Some root) (entries_of seen entries) path why words) (line : ℕ) (name : List ℕ) (is_told : told_stop why ≡ Some (line, name)) where
+      pub stopped_ends : (old new : Option Content) → SealsAll (all_logged dir_of path_of text_of entries) (Ok tt) old new → (c d : Content) → CanRun c.held file dir program → old ≡ Some c
+          → new ≡ Some d → StoppedRun rose file dir size c d path line name
+      stopped_ends old new seals =
+          stop_sealed rose file dir size root program (entries_of seen entries) path why words has line name is_told raise_entries old new
+          (subst (λ (logs : List HandedLog). SealsAll logs (Ok tt) old new) (sym logs_same) seals)
+
+      pub unsealed_ends : (old new : Option Content) (t : fault.Trouble) → SealsAll (all_logged dir_of path_of text_of entries) (Err t) old new → EndsSo rose file dir size program old new (unwritten t)
+      unsealed_ends old new t seals =
+          stop_refused rose file dir size root program (entries_of seen entries) path why words has line name is_told raise_entries old new t
+          (subst (λ (logs : List HandedLog). SealsAll logs (Err t) old new) (sym logs_same) seals)

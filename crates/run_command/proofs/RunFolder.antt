@@ -1,6 +1,7 @@
 -- The folder that a run leaves holds the run's trace.
-use Rattle.std.proofs.Common.{◌≡◌, ◌≢◌, ◌⊎◌, inl, inr, refl, sym, ap, subst, ◌∙◌, ℕ, ◌<◌, true, false, List, [], ◌∷◌, map, length, get_or, Option, None, Some, IsSome, Contains, arith}
-use Rattle.std.specs.Prelude.{All}
+use Rattle.std.proofs.Common.{◌≡◌, ◌≢◌, refl, sym, ap, subst, ◌∙◌, ℕ, suc, ◌<◌, Bool, true, false, cond, true≢false, nat_lt, List, [], ◌∷◌, ◌++◌, drop, map, length, get_or, slice_get, Option, None, Some, IsSome, arith}
+use Rattle.std.specs.Prelude.{All, ◌==◌, ◌&&◌}
+use Rattle.std.proofs.lemmas.Bool.Decides.{nat_tests}
 use Rattle.std.specs.List.{IsDistinct, AllByRecursion}
 use Rattle.std.proofs.lemmas.List.{get_or-map, length-map}
 use Rattle.std.proofs.lemmas.List.Elements.{All-nil, All-cons, All-head, All-tail, All-weaker}
@@ -15,17 +16,16 @@ use Rattle.race_model.specs.FirstBad.{HoldsLogs, HoldsTrace, IsBad, row_of, rows
 use Rattle.race_model.specs.IndexFault.{IsRow, IsStep}
 use Rattle.race_model.specs.BadPlace.{IsTooMany, BadPlace}
 use Rattle.race_model.specs.Row.{index_bytes}
-use Rattle.race_model.specs.Trace.{TaskLog, Trace, logs_of, path_eq}
+use Rattle.race_model.specs.Trace.{TaskLog, Trace, Logs, logs_of, path_eq}
 use Rattle.race_model.proofs.IndexRows.{put_is_index}
 use Rattle.race_model.proofs.KeptFolder.{kept_bad}
 use Rattle.race_model.proofs.TraceLogs.{path_itself}
 use Rattle.kernel_syntax.specs.Program.{Program}
-use Rattle.kernel_syntax.specs.FirstKind.{IsFirstKind, region_span}
-use Rattle.kernel_model.specs.Folder.{IsTracedTask, paths_of}
+use Rattle.kernel_model.specs.Folder.{lane_start, own_trace, paths_of, root_start, start_at, start_below}
+use Rattle.kernel_model.specs.State.{Fork}
 use Rattle.kernel_model.specs.Trace.{Start}
-use Rattle.team_runner.specs.Answer.{IsRun, task_paths, whole_outline}
+use Rattle.region_runner.specs.Answer.{IsRun, whole_outline}
 use Rattle.run_command.specs.Run.{told_log}
-use Rattle.run_command.proofs.FirstPaths.{IsLanePath, first_paths, listed_path}
 
 -- ---- names that were sealed
 
@@ -66,59 +66,83 @@ sealed_here (log ∷ logs) content apart =
 
 -- ---- names of tasks
 
-module _ (program : Program) (dir : List ℕ) where
-  -- a task of the kernel, whose name tells it
-  record IsNamed (path : List Step) : Type 0 where
-    listed : Contains (task_paths program) path
-    places : All HasPlace path
+module _ (program : Program) (logs : Logs) where
+  -- the lane of a step has the span of the team that is forked
+  lane_span : (fork : Fork) (step : Step) (b : Bool) → ((step.span == fork.team.span) && nat_lt step.lane step.span) ≡ b
+      → IsSome {T = Start} (cond b (Some (record { team = fork.team; lane = step.lane; slots = fork.slots })) None) → step.span ≡ fork.team.span
+  lane_span fork step true is some = grind (arith, nat_tests)
+  lane_span fork step false is some = absurd (true≢false (sym some))
 
-  -- the lane of a first step
-  first_lane : List (ℕ × ℕ) → ℕ
-  first_lane [] = 0
-  first_lane (at ∷ rest) = at.1
+  -- lanes at one place of one fork are one lane
+  one_lane : (fork : Option Fork) (a b : Step) → IsSome (lane_start fork a) → IsSome (lane_start fork b) → a.region ≡ b.region → a.lane ≡ b.lane → a ≡ b
+  one_lane None a b one other region lane = absurd (true≢false (sym one))
+  one_lane (Some fork) a b one other region lane =
+      let spans : a.span ≡ b.span = lane_span fork a _ refl one ∙ sym (lane_span fork b _ refl other) in
+      λ i. record { region = region i; lane = lane i; span = spans i }
 
-  -- the root, or a lane of the team
-  abbrev IsOne : List Step → Type 0
-  IsOne path = (path ≡ []) ⊎ IsLanePath (region_span program.main.body) path
+  -- the lane of a step, below a task that starts so
+  abbrev lane_below : List Step → Start → Step → Option Start
+  lane_below path start step = lane_start (slice_get (own_trace program start (logs path)).forks step.region) step
+
+  -- a task starts where one below it does
+  starts_above : (path : List Step) (start : Option Start) (steps : List Step) → IsSome (start_below program logs path start steps) → IsSome start
+  starts_above path None steps some = some
+  starts_above path (Some start) steps some = refl
+
+  -- steps to tasks below one are the same where their places are
+  same_below : (path : List Step) (start : Option Start) (p q : List Step) → IsSome (start_below program logs path start p) → IsSome (start_below program logs path start q)
+      → map place p ≡ map place q → p ≡ q
+  same_below path None p q one other same = absurd (true≢false (sym one))
+  same_below path (Some start) [] [] one other same = refl
+  same_below path (Some start) [] (b ∷ q) one other same = let none : ◌≡◌ {A = ℕ} 0 (suc (length (map place q))) = ap length same in absurd (omega (arith, none))
+  same_below path (Some start) (a ∷ p) [] one other same = let none : ◌≡◌ {A = ℕ} (suc (length (map place p))) 0 = ap length same in absurd (omega (arith, none))
+  same_below path (Some start) (a ∷ p) (b ∷ q) one other same =
+      let places : place a ≡ place b = ap (λ (at : List (ℕ × ℕ)). get_or at 0 (0, 0)) same in
+      let region : a.region ≡ b.region = ap (λ (at : ℕ × ℕ). at.0) places in
+      let forked = starts_above (path ++ a ∷ []) (lane_below path start a) p one in
+      let beside = starts_above (path ++ b ∷ []) (lane_below path start b) q other in
+      let step : a ≡ b = one_lane (slice_get (own_trace program start (logs path)).forks a.region) a b forked
+      (subst (λ (r : ℕ). IsSome (lane_start (slice_get (own_trace program start (logs path)).forks r) b)) (sym region) beside) region (ap (λ (at : ℕ × ℕ). at.1) places) in
+      let rest : p ≡ q = same_below (path ++ a ∷ []) (lane_below path start a) p q one
+      (subst (λ (s : Step). IsSome (start_below program logs (path ++ s ∷ []) (lane_below path start s) q)) (sym step) other) (ap (λ (at : List (ℕ × ℕ)). drop 1 at) same) in
+      λ i. step i ∷ rest i
 
   -- tasks at one place are one task
-  same_path : (p q : List Step) → IsOne p → IsOne q → map place p ≡ map place q → p ≡ q
-  unfolding first_lane
-  same_path p q (inl one) (inl other) same = one ∙ sym other
-  same_path p q (inl one) (inr other) same =
-      let lengths : ◌≡◌ {A = ℕ} 0 1 = ap length (ap (map place) (sym one) ∙ same ∙ ap (map place) other.is) in absurd (omega arith)
-  same_path p q (inr one) (inl other) same =
-      let lengths : ◌≡◌ {A = ℕ} 1 0 = ap length (ap (map place) (sym one.is) ∙ same ∙ ap (map place) other) in absurd (omega arith)
-  same_path p q (inr one) (inr other) same =
-      let lanes : one.lane ≡ other.lane = ap first_lane (ap (map place) (sym one.is) ∙ same ∙ ap (map place) other.is) in
-      one.is ∙ ap (λ (n : ℕ). record { region = 0; lane = n; span = region_span program.main.body } ∷ []) lanes ∙ sym other.is
+  same_path : (p q : List Step) → IsSome (start_at program logs p) → IsSome (start_at program logs q) → map place p ≡ map place q → p ≡ q
+  unfolding start_at
+  same_path p q one other same = same_below [] (Some (root_start program)) p q one other same
 
-  -- two tasks have two names
-  names_differ : (p q : List Step) → IsNamed p → IsNamed q → (p ≡ q → ⊥) → log_name dir p ≢ log_name dir q
-  names_differ p q one other apart same =
-      apart (same_path p q (listed_path program p one.listed) (listed_path program q other.listed) (log_name-places dir p q one.places other.places same))
+  -- a task of the run, whose name tells it
+  record IsNamed (path : List Step) : Type 0 where
+    starts : IsSome (start_at program logs path)
+    places : All HasPlace path
 
-  -- two paths that are told apart are two
-  differ : (p q : List Step) → path_eq p q ≡ false → p ≡ q → ⊥
-  differ p q apart same = let equal : path_eq p q ≡ true = subst (λ (r : List Step). path_eq p r ≡ true) same (path_itself p) in cc
+  module _ (dir : List ℕ) where
+    -- two tasks have two names
+    names_differ : (p q : List Step) → IsNamed p → IsNamed q → (p ≡ q → ⊥) → log_name dir p ≢ log_name dir q
+    names_differ p q one other apart same = apart (same_path p q one.starts other.starts (log_name-places dir p q one.places other.places same))
 
-  -- the first task's name is none of the others'
-  apart_first : (size : ℕ) (first : TaskLog) (tasks : Trace) → IsNamed first.path → All (λ (task : TaskLog). IsNamed task.path) tasks
-      → AllByRecursion (λ p. path_eq first.path p ≡ false) (paths_of tasks) → All (λ (log : HandedLog). log_name dir first.path ≢ sealed_name log) (map (told_log dir size) tasks)
-  apart_first size first [] named all apart = All-nil (λ (log : HandedLog). log_name dir first.path ≢ sealed_name log)
-  apart_first size first (task ∷ tasks) named all apart =
-      All-cons (λ (log : HandedLog). log_name dir first.path ≢ sealed_name log) (told_log dir size task) (map (told_log dir size) tasks)
-      (names_differ first.path task.path named (All-head (λ (t : TaskLog). IsNamed t.path) task tasks all) (differ first.path task.path apart.0))
-      (apart_first size first tasks named (All-tail (λ (t : TaskLog). IsNamed t.path) task tasks all) apart.1)
+    -- two paths that are told apart are two
+    differ : (p q : List Step) → path_eq p q ≡ false → p ≡ q → ⊥
+    differ p q apart same = let equal : path_eq p q ≡ true = subst (λ (r : List Step). path_eq p r ≡ true) same (path_itself p) in cc
 
-  -- no two tasks have one name
-  tasks_apart : (size : ℕ) (tasks : Trace) → All (λ (task : TaskLog). IsNamed task.path) tasks → IsDistinct path_eq (paths_of tasks) → NamesApart (map (told_log dir size) tasks)
-  unfolding IsDistinct
-  tasks_apart size [] all once = tt
-  tasks_apart size (task ∷ tasks) all once = (
-    apart_first size task tasks (All-head (λ (t : TaskLog). IsNamed t.path) task tasks all) (All-tail (λ (t : TaskLog). IsNamed t.path) task tasks all) once.0,
-    tasks_apart size tasks (All-tail (λ (t : TaskLog). IsNamed t.path) task tasks all) once.1,
-  )
+    -- the first task's name is none of the others'
+    apart_first : (size : ℕ) (first : TaskLog) (tasks : Trace) → IsNamed first.path → All (λ (task : TaskLog). IsNamed task.path) tasks
+        → AllByRecursion (λ p. path_eq first.path p ≡ false) (paths_of tasks) → All (λ (log : HandedLog). log_name dir first.path ≢ sealed_name log) (map (told_log dir size) tasks)
+    apart_first size first [] named all apart = All-nil (λ (log : HandedLog). log_name dir first.path ≢ sealed_name log)
+    apart_first size first (task ∷ tasks) named all apart =
+        All-cons (λ (log : HandedLog). log_name dir first.path ≢ sealed_name log) (told_log dir size task) (map (told_log dir size) tasks)
+        (names_differ first.path task.path named (All-head (λ (t : TaskLog). IsNamed t.path) task tasks all) (differ first.path task.path apart.0))
+        (apart_first size first tasks named (All-tail (λ (t : TaskLog). IsNamed t.path) task tasks all) apart.1)
+
+    -- no two tasks have one name
+    tasks_apart : (size : ℕ) (tasks : Trace) → All (λ (task : TaskLog). IsNamed task.path) tasks → IsDistinct path_eq (paths_of tasks) → NamesApart (map (told_log dir size) tasks)
+    unfolding IsDistinct
+    tasks_apart size [] all once = tt
+    tasks_apart size (task ∷ tasks) all once = (
+      apart_first size task tasks (All-head (λ (t : TaskLog). IsNamed t.path) task tasks all) (All-tail (λ (t : TaskLog). IsNamed t.path) task tasks all) once.0,
+      tasks_apart size tasks (All-tail (λ (t : TaskLog). IsNamed t.path) task tasks all) once.1,
+    )
 
 -- ---- a run
 
@@ -126,16 +150,11 @@ module _ (program : Program) (dir : List ℕ) where
 has_place : (step : Step) → IsStep step → HasPlace step
 has_place step is = let region = is.region in let lane = is.lane in let span = is.span.limit in (omega arith, omega arith)
 
-module _ (program : Program) (first : IsFirstKind program) (dir : List ℕ) (size : ℕ) (tasks : Trace) (run : IsRun program tasks) where
-  -- each task of the run is one of the kernel's
-  pub task_listed : All (λ (task : TaskLog). Contains (task_paths program) task.path) tasks
-  task_listed = All-weaker (IsTracedTask program (logs_of tasks)) (λ (task : TaskLog). Contains (task_paths program) task.path)
-      (λ task is. first_paths program first (logs_of tasks) task.path (subst (λ (o : Option Start). IsSome o) (sym is.starts) refl)) tasks run.traced.each
-
+module _ (program : Program) (dir : List ℕ) (size : ℕ) (tasks : Trace) (words : List ℕ) (run : IsRun program tasks words) where
   -- each has a name that tells it
-  all_named : All (λ (task : TaskLog). IsNamed program dir task.path) tasks
+  all_named : All (λ (task : TaskLog). IsNamed program (logs_of tasks) task.path) tasks
   all_named k d within = record {
-    listed = task_listed k d within;
+    starts = let traced = run.traced.each k d within in subst (λ (o : Option Start). IsSome o) (sym traced.starts) refl;
     places = All-weaker IsStep HasPlace has_place (get_or tasks k d).path (task_row k d within).steps;
   } where
     task_row : (k : ℕ) (d : TaskLog) → k < length tasks → IsRow (row_of (get_or tasks k d))
@@ -153,7 +172,7 @@ module _ (program : Program) (first : IsFirstKind program) (dir : List ℕ) (siz
       let after = with_sealed (map (told_log dir size) tasks) old in
       let sealed : HasLog after.held log
       = subst (HasLog after.held) (get_or-map (told_log dir size) tasks k d log within)
-      (sealed_here (map (told_log dir size) tasks) old (tasks_apart program dir size tasks all_named run.traced.once) k log (omega (arith, length-map tasks (told_log dir size)))) in
+      (sealed_here (map (told_log dir size) tasks) old (tasks_apart program (logs_of tasks) dir size tasks all_named run.traced.once) k log (omega (arith, length-map tasks (told_log dir size)))) in
       record {
         there = with_file-elsewhere (index_name dir) (index_bytes FORMAT (rows_of tasks)) after.held (log_name dir task.path) (log_name-not_index dir task.path) ∙ sealed (whole_outline size task.records) refl;
         tabled = (run.rules.tasks k d within).tabled;

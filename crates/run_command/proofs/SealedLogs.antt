@@ -1,15 +1,14 @@
 -- What a folder holds while logs are sealed, one after another.
-use Rattle.std.proofs.Common.{◌≡◌, ◌⊎◌, ◌<◌, inl, inr, ⊎_elim, append-nil, arith, refl, sym, ap, subst, ◌∙◌, ℕ, List, [], ◌∷◌, ◌++◌, map, Option, Some, None, Result, Ok, Err, OnOk, OnErr, true, Contains}
+use Rattle.std.proofs.Common.{◌≡◌, ◌<◌, ⊎_elim, append-nil, refl, sym, ap, subst, ◌∙◌, ℕ, List, [], ◌∷◌, ◌++◌, Option, Some, None, Result, Ok, Err, OnOk, OnErr, true}
 use Rattle.std.specs.Option.{option_map}
 use Rattle.std.proofs.lemmas.List.{append_assoc, map-append}
-use Rattle.std.proofs.lemmas.List.Elements.{All-pop, Contains-push_cases}
+use Rattle.std.proofs.lemmas.List.Elements.{All-nil, All-pop, All-push, All-weaker}
 use Rattle.sw_base.specs.declared.path.Step.{Step}
 use Rattle.sw_base.specs.declared.trouble.Trouble.{Trouble}
 use Rattle.sw_base.specs.Environment.{Content, LeavesPrefix, Outline, Text, WhereTold, outline_of, with_log, with_put}
 use Rattle.sw_base.specs.Names.{log_name}
 use Rattle.sw_base.specs.HandedLog.{HandedLog, IsOwnLog, SealsPrefix, between, handed_log, outline, sealed_name, torn, with_sealed, with_told}
-use Rattle.team_runner.specs.Answer.{HasFaulty}
-use Rattle.run_command.specs.Seals.{Seals, SealsAll, TellsSuch, all_logged}
+use Rattle.run_command.specs.Seals.{RaiseFaults, Seals, SealsAll, TellsSuch, all_logged}
 
 -- some logs, and more after them
 with_sealed-append : (logs more : List HandedLog) (content : Content) → with_sealed (logs ++ more) content ≡ with_sealed more (with_sealed logs content)
@@ -109,14 +108,15 @@ seals_all_push dir_of path_of text_of entries path log count so_far r old mid ne
 -- ---- faults of logs
 
 -- no log counts a fault where there is none
-pub faulty_none : (path : List Step) → HasFaulty [] path → ⊥
-faulty_none path has = omega (arith, has.logged.1)
+pub faults_none : {L : Type 0} (faults_of : L → ℕ) (rose : Type 0) → RaiseFaults faults_of [] rose
+faults_none faults_of rose = All-nil (λ e. 0 < faults_of e.1 → rose)
 
--- one that does is the last, or one before it
-pub faulty_last : {E : Type 0} (fault_of : E → List Step × ℕ) (entries : List E) (last : E) (path : List Step) → HasFaulty (map fault_of (entries ++ last ∷ [])) path
-    → HasFaulty (map fault_of entries) path ⊎ (0 < (fault_of last).1)
-faulty_last fault_of entries last path has =
-    elim (Contains-push_cases (map fault_of entries) (fault_of last) (path, has.count) (subst (λ (fs : List (List Step × ℕ)). Contains fs (path, has.count)) (map-append fault_of entries (last ∷ [])) has.logged)) [
-      | inl before ↦ inl (record { count = has.count; logged = before; some = has.some })
-      | inr same ↦ inr (subst (λ (f : List Step × ℕ). 0 < f.1) (sym same) has.some)
-    ]
+-- what follows from a fault, and more from that
+pub faults_weaker : {L : Type 0} (faults_of : L → ℕ) (entries : List (List Step × L × ℕ)) (rose more : Type 0) → (rose → more) → RaiseFaults faults_of entries rose → RaiseFaults faults_of entries more
+faults_weaker faults_of entries rose more rises = All-weaker (λ e. 0 < faults_of e.1 → rose) (λ e. 0 < faults_of e.1 → more) (λ e raise faulty. rises (raise faulty)) entries
+
+-- one more log
+pub faults_push : {L : Type 0} (faults_of : L → ℕ) (entries : List (List Step × L × ℕ)) (last : List Step × L × ℕ) (rose more : Type 0) → (rose → more) → RaiseFaults faults_of entries rose
+    → (0 < faults_of last.1 → more) → RaiseFaults faults_of (entries ++ last ∷ []) more
+faults_push faults_of entries last rose more rises before own =
+    All-push (λ e. 0 < faults_of e.1 → more) entries last (faults_weaker faults_of entries rose more rises before) own

@@ -1,5 +1,4 @@
-pub mod Begins
-pub mod Ends
+pub mod Outcomes
 pub mod Run
 pub mod RunTexts
 pub mod Seals

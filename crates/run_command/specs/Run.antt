@@ -1,51 +1,41 @@
--- What `run` answers, and what it leaves in the folder.
-use Rattle.std.specs.Prelude.{◌≡◌, ◌⊎◌, ℕ, List, ◌++◌, length, map, None, Some, IsSome, Contains}
+-- What comes out of a run, and what it leaves in the folder.
+use Rattle.std.specs.Prelude.{◌≡◌, ℕ, List, ◌++◌, ◌∷◌, [], length, map, sum_by, All, Option, ◌<◌, ◌≤◌, ◌+◌, None, Some, IsSome}
 use Rattle.log_format.specs.declared.format.TheConstants.{FORMAT}
+use Rattle.log_format.specs.Format.{log_header}
+use Rattle.log_format.specs.Spelling.{log_bytes}
 use Rattle.sw_base.specs.declared.path.Step.{Step}
-use Rattle.sw_base.specs.Environment.{Files, Content, empty_text, with_put}
+use Rattle.sw_base.specs.Environment.{Files, Content, Outline, empty_text, with_put}
 use Rattle.sw_base.specs.HandedLog.{HandedLog, SealsPrefix, with_sealed}
-use Rattle.sw_base.specs.Names.{index_name}
+use Rattle.sw_base.specs.Names.{IsUnder, index_name}
+use Rattle.sw_base.specs.Pieces.{records_in, kept}
 use Rattle.race_model.specs.BadPlace.{BadPlace, IsTooMany}
 use Rattle.race_model.specs.FirstBad.{IsBad, rows_of}
+use Rattle.race_model.specs.Listing.{IsListing}
 use Rattle.race_model.specs.Row.{index_bytes}
 use Rattle.race_model.specs.Trace.{TaskLog, Trace}
-use Rattle.kernel_syntax.specs.FirstKind.{IsFirstKind}
-use Rattle.kernel_syntax.specs.Layout.{elements}
-use Rattle.kernel_syntax.specs.Program.{Program}
-use Rattle.kernel_model.specs.State as model
-use Rattle.kernel_text.specs.declared.fault.KernelWhy.{KernelWhy}
-use Rattle.kernel_reader.specs.declared.fault.ReadKernelFault.{ReadKernelFault}
+use Rattle.kernel_syntax.specs.Program.{Program, program_of}
+use Rattle.kernel_model.specs.Folder.{paths_of}
 use Rattle.kernel_reader.specs.declared.fault.ReadKernelFault.TheVariants as read
-use Rattle.kernel_reader.specs.KernelOf.{IsKernelOf, IsFaultOf, HasNoKernel}
-use Rattle.team_runner.specs.Answer.{IsRun, HasStop, task_paths, whole_log}
-use Rattle.command_answer.specs.declared.status.TheConstants.{DONE, KERNEL_REFUSED, KERNEL_STOPPED, INDEX_THERE}
-use Rattle.run_command.specs.RunTexts.{no_kernel_text, not_built_text, refused_text, index_exists_text, stopped_text, run_text}
+use Rattle.kernel_file.specs.Holding.{HoldsKernel, HoldsFault}
+use Rattle.execution_model.specs.Execution.{IsExecution}
+use Rattle.lane_runner.specs.declared.stop.Stop.{Stop}
+use Rattle.lane_runner.specs.declared.stop.Stop.TheVariants.{Tasks}
+use Rattle.lane_runner.specs.Handed.{task_limit}
+use Rattle.lane_runner.specs.World.{element_address}
+use Rattle.region_runner.specs.Answer.{IsRun, StopsIn, whole_log}
+use Rattle.run_command.specs.declared.outcome.Outcome.{Outcome}
+use Rattle.run_command.specs.declared.outcome.Outcome.TheVariants as outcome
+use Rattle.run_command.specs.Outcomes.{IsDue}
+use Rattle.run_command.specs.RunTexts.{told_stop}
 
--- the file of this name holds the text of a kernel of the first kind
-pub record HoldsKernel (files : Files) (name : List ℕ) (program : Program) : Type 0 where
-  pub text : List ℕ
-  pub held : files name ≡ Some text
-  pub kernel : IsKernelOf text program
-  pub first : IsFirstKind program
-
--- the file of this name holds a text that has this fault
-pub record HoldsFault (files : Files) (name : List ℕ) (fault : ReadKernelFault) : Type 0 where
-  pub text : List ℕ
-  pub held : files name ≡ Some text
-  pub fault_is : IsFaultOf text fault
-  pub none : HasNoKernel text fault
-
--- the file of this name holds the text of a kernel of another kind
-pub record HoldsOther (files : Files) (name : List ℕ) : Type 0 where
-  pub text : List ℕ
+-- the named file holds a kernel, and the folder has an index
+pub record HasIndex (files : Files) (kernel dir : List ℕ) : Type 0 where
   pub program : Program
-  pub held : files name ≡ Some text
-  pub kernel : IsKernelOf text program
-  pub other : IsFirstKind program → ⊥
+  pub holds : HoldsKernel files kernel program
+  pub there : IsSome (files (index_name dir))
 
--- the named file holds such a kernel, and the folder has no index
-pub record CanRun (files : Files) (kernel dir : List ℕ) : Type 0 where
-  pub program : Program
+-- the named file holds this kernel, and the folder has no index
+pub record CanRun (files : Files) (kernel dir : List ℕ) (program : Program) : Type 0 where
   pub holds : HoldsKernel files kernel program
   pub fresh : files (index_name dir) ≡ None
 
@@ -53,65 +43,101 @@ pub record CanRun (files : Files) (kernel dir : List ℕ) : Type 0 where
 abbrev pub told_log : List ℕ → ℕ → TaskLog → HandedLog
 told_log dir size task = whole_log dir size (Some empty_text) task
 
--- The run ended: its logs and its index are there, and nothing else changed. Its folder has no bad place, but it may have too
--- many segments.
-pub record EndedRun (program : Program) (dir : List ℕ) (size : ℕ) (old new : Content) (text : List ℕ) : Type 0 where
+-- The run of this kernel, which is the file's, ended in a folder that had no index: the logs of so many tasks, with so many records in all,
+-- and their index are there, and nothing else changed. A legal history of these logs ends in these words. The folder has no bad place,
+-- but it may have too many segments.
+pub record EndedRun (kernel dir : List ℕ) (size : ℕ) (old new : Content) (program : Program) (count records : ℕ) (words : List ℕ) : Type 0 where
+  pub can : CanRun old.held kernel dir program
   pub tasks : Trace
-  pub run : IsRun program tasks
+  pub run : IsRun program tasks words
+  pub count_is : count ≡ length tasks
+  pub records_are : records ≡ sum_by (λ (task : TaskLog). length task.records) tasks
   pub leaves : new ≡ with_put (index_name dir) (index_bytes FORMAT (rows_of tasks)) (with_sealed (map (told_log dir size) tasks) old)
   pub well_formed : (place : BadPlace) → IsBad FORMAT new.held dir place → IsTooMany place
-  pub values : List ℕ
-  pub values_are : length values ≡ elements program.arrays
-  pub text_is : text ≡ run_text tasks program.arrays values
 
--- The logs of a kernel that stopped so: those of all its tasks, in the order of their paths. The log of the task that stopped has
--- all its records. Those of the lanes before it are whole up to where they ended or wait; `rose` tells of a fault, with which the log of
--- a lane that waits may be another.
-pub record AreStopped (rose : Type 0) (program : Program) (dir : List ℕ) (size : ℕ) (logs : List HandedLog) (path : List Step) (why : model.Stop) (line : ℕ) : Type 0 where
-  pub all : map (λ (log : HandedLog). log.task) logs ≡ task_paths program
-  pub stop : HasStop program (λ task. Contains logs (told_log dir size task)) (λ task. Contains logs (told_log dir size task) ⊎ rose) path why line
+-- a task's log that lacks records: its pieces lack at most a buffer of them
+pub record IsTornLog (dir : List ℕ) (size : ℕ) (task : TaskLog) (log : HandedLog) : Type 0 where
+  pub outline : Outline
+  pub log_is : log ≡ record { task = task.path; dir = dir; path = task.path; told = Some outline; count = length task.records }
+  pub missing : List ℕ
+  pub prefix : log_bytes (log_header FORMAT) task.records ≡ outline.bytes ++ missing
+  pub behind : length task.records ≤ kept outline.lengths + records_in size
 
--- The kernel stopped so: its logs are there, and nothing else changed.
-pub record StoppedRun (rose : Type 0) (program : Program) (dir : List ℕ) (size : ℕ) (old new : Content) (text : List ℕ) : Type 0 where
+-- The log of a task as it is there after a stop in the task `stopped`: whole, from a buffer of this size. Where a fault is counted, that
+-- of another task may lack records.
+pub data IsLeftLog (rose : Type 0) (dir : List ℕ) (size : ℕ) (stopped : List Step) (task : TaskLog) (log : HandedLog) : Type 0 where
+  whole : log ≡ told_log dir size task → IsLeftLog rose dir size stopped task log
+  torn : rose → (task.path ≡ stopped → ⊥) → IsTornLog dir size task log → IsLeftLog rose dir size stopped task log
+
+-- these are the logs of these tasks, in their order
+pub data AreLeftLogs (rose : Type 0) (dir : List ℕ) (size : ℕ) (stopped : List Step) : Trace → List HandedLog → Type 0 where
+  no_task : AreLeftLogs rose dir size stopped [] []
+  next : (task : TaskLog) (tasks : Trace) (log : HandedLog) (logs : List HandedLog) → IsLeftLog rose dir size stopped task log → AreLeftLogs rose dir size stopped tasks logs
+      → AreLeftLogs rose dir size stopped (task ∷ tasks) (log ∷ logs)
+
+-- of these paths more lie below this one than there may be tasks below one
+pub record IsCrowded (path : List Step) (paths : List (List Step)) : Type 0 where
+  pub before : List (List Step)
+  pub below : List (List Step)
+  pub after : List (List Step)
+  pub parts : paths ≡ before ++ path ∷ (below ++ after)
+  pub under : All (λ p. IsUnder p path) below
+  pub many : task_limit < length below
+
+-- The kernel stopped in the task of this path, and the stop is told by this line and name. The logs are those of the tasks of one
+-- execution, in the order of their paths.
+pub record AreStopped (rose : Type 0) (program : Program) (dir : List ℕ) (size : ℕ) (logs : List HandedLog) (path : List Step) (line : ℕ) (name : List ℕ) : Type 0 where
+  pub why : Stop
+  pub told : told_stop why ≡ Some (line, name)
+  pub tasks : Trace
+  pub words : List ℕ
+  pub execution : IsExecution program tasks (element_address program.arrays) words
+  pub listed : IsListing (paths_of tasks)
+  pub logs_are : AreLeftLogs rose dir size path tasks logs
+  pub stops : StopsIn program tasks path why
+  pub crowded : (at : ℕ) → why ≡ Tasks at → IsCrowded path (paths_of tasks)
+
+-- The kernel of the file stopped so, in a folder that had no index: its logs are there, and nothing else changed.
+pub record StoppedRun (rose : Type 0) (kernel dir : List ℕ) (size : ℕ) (old new : Content) (path : List Step) (line : ℕ) (name : List ℕ) : Type 0 where
+  pub program : Program
+  pub can : CanRun old.held kernel dir program
   pub logs : List HandedLog
-  pub path : List Step
-  pub why : model.Stop
-  pub line : ℕ
-  pub stopped : AreStopped rose program dir size logs path why line
+  pub stopped : AreStopped rose program dir size logs path line name
   pub leaves : new ≡ with_sealed logs old
-  pub text_is : text ≡ stopped_text path line why
-
--- What is due of `run`: there is no file, or its text is refused at a line, or its kernel is of another kind than the
--- first; or the folder has an index; or the kernel stopped; or the run ended.
-pub data RunDue (rose : Type 0) (kernel dir : List ℕ) (size : ℕ) (old new : Content) (status : ℕ) (text : List ℕ) : Type 0 where
-  no_kernel : old.held kernel ≡ None → status ≡ KERNEL_REFUSED → text ≡ no_kernel_text → new ≡ old → RunDue rose kernel dir size old new status text
-  refused : (line : ℕ) (why : KernelWhy) → HoldsFault old.held kernel (read.Refused line why) → status ≡ KERNEL_REFUSED → text ≡ refused_text line why → new ≡ old
-      → RunDue rose kernel dir size old new status text
-  not_built : HoldsOther old.held kernel → status ≡ KERNEL_REFUSED → text ≡ not_built_text → new ≡ old → RunDue rose kernel dir size old new status text
-  index_there : (program : Program) → HoldsKernel old.held kernel program → IsSome (old.held (index_name dir)) → status ≡ INDEX_THERE
-      → text ≡ index_exists_text → new ≡ old → RunDue rose kernel dir size old new status text
-  stopped : (program : Program) → HoldsKernel old.held kernel program → old.held (index_name dir) ≡ None → status ≡ KERNEL_STOPPED
-      → StoppedRun rose program dir size old new text → RunDue rose kernel dir size old new status text
-  ran : (program : Program) → HoldsKernel old.held kernel program → old.held (index_name dir) ≡ None → status ≡ DONE
-      → EndedRun program dir size old new text → RunDue rose kernel dir size old new status text
 
 -- the logs of a run that ended, or of one that stopped
 pub data AreRunLogs (rose : Type 0) (program : Program) (dir : List ℕ) (size : ℕ) (logs : List HandedLog) : Type 0 where
-  ended : (tasks : Trace) → IsRun program tasks → logs ≡ map (told_log dir size) tasks → AreRunLogs rose program dir size logs
-  stopped : (path : List Step) (why : model.Stop) (line : ℕ) → AreStopped rose program dir size logs path why line → AreRunLogs rose program dir size logs
+  ended : (tasks : Trace) (words : List ℕ) → IsRun program tasks words → logs ≡ map (told_log dir size) tasks → AreRunLogs rose program dir size logs
+  stopped : (path : List Step) (line : ℕ) (name : List ℕ) → AreStopped rose program dir size logs path line name → AreRunLogs rose program dir size logs
 
--- What a run leaves that began and could not give its answer: the folder as it was; or the first of its logs, and under the
--- index's name what was there; or the logs of a whole run, and a prefix of its index.
-pub data EndLeaves (rose : Type 0) (program : Program) (dir : List ℕ) (size : ℕ) (old new : Content) : Type 0 where
-  nothing : new ≡ old → EndLeaves rose program dir size old new
-  logs : (logs : List HandedLog) → AreRunLogs rose program dir size logs → SealsPrefix logs old new → new.held (index_name dir) ≡ old.held (index_name dir)
-      → EndLeaves rose program dir size old new
-  index : (tasks : Trace) → IsRun program tasks → (prefix rest : List ℕ) → index_bytes FORMAT (rows_of tasks) ≡ prefix ++ rest
-      → new ≡ with_put (index_name dir) prefix (with_sealed (map (told_log dir size) tasks) old) → EndLeaves rose program dir size old new
-
--- What `run` leaves that could not give its answer: the folder as it was; or, of a kernel that the file holds and a folder that had
--- no index, what its run leaves.
+-- What is left of a run that could not give its answer: the folder as it was; or, of a kernel that the file holds and a folder that had no
+-- index, the first of its logs and no index; or the logs of a whole run, and a prefix of its index.
 pub data LeavesPart (rose : Type 0) (kernel dir : List ℕ) (size : ℕ) (old new : Content) : Type 0 where
   nothing : new ≡ old → LeavesPart rose kernel dir size old new
-  began : (program : Program) → HoldsKernel old.held kernel program → old.held (index_name dir) ≡ None → EndLeaves rose program dir size old new
+  logs : (program : Program) → CanRun old.held kernel dir program → (logs : List HandedLog) → AreRunLogs rose program dir size logs → SealsPrefix logs old new
+      → new.held (index_name dir) ≡ None → LeavesPart rose kernel dir size old new
+  index : (program : Program) → CanRun old.held kernel dir program → (tasks : Trace) (words : List ℕ) → IsRun program tasks words → (prefix rest : List ℕ)
+      → index_bytes FORMAT (rows_of tasks) ≡ prefix ++ rest → new ≡ with_put (index_name dir) prefix (with_sealed (map (told_log dir size) tasks) old)
       → LeavesPart rose kernel dir size old new
+
+-- What the folder tells of what came out: there was no file, or its text has a fault, or the folder had an index; or the kernel stopped, or
+-- its run ended, in a folder that had no index; or no answer came.
+abbrev pub CameOut : Type 0 → List ℕ → List ℕ → ℕ → Content → Content → Outcome → Type 0
+CameOut rose kernel dir size old new outcome.NoKernel = (old.held kernel ≡ None) × (new ≡ old)
+CameOut rose kernel dir size old new (outcome.Refused line why) = HoldsFault old.held kernel (read.Refused line why) × (new ≡ old)
+CameOut rose kernel dir size old new outcome.IndexThere = HasIndex old.held kernel dir × (new ≡ old)
+CameOut rose kernel dir size old new (outcome.Stopped path line why) = StoppedRun rose kernel dir size old new path line why.now
+CameOut rose kernel dir size old new (outcome.Ran k tasks records words) = EndedRun kernel dir size old new (program_of k) tasks records words.items
+CameOut rose kernel dir size old new outcome.ReadFault = new ≡ old
+CameOut rose kernel dir size old new outcome.WriteFault = LeavesPart rose kernel dir size old new
+CameOut rose kernel dir size old new outcome.NoMemory = LeavesPart rose kernel dir size old new
+
+-- what came out of a run that began, where the folder tells what it holds
+abbrev pub EndsSo : Type 0 → List ℕ → List ℕ → ℕ → Program → Option Content → Option Content → Outcome → Type 0
+EndsSo rose kernel dir size program old new outcome = (c d : Content) → CanRun c.held kernel dir program → old ≡ Some c → new ≡ Some d → CameOut rose kernel dir size c d outcome
+
+-- what is due of `run`: the status and the text of what came out
+pub record RunDue (rose : Type 0) (kernel dir : List ℕ) (size : ℕ) (old new : Content) (status : ℕ) (text : List ℕ) : Type 0 where
+  pub outcome : Outcome
+  pub came : CameOut rose kernel dir size old new outcome
+  pub due : IsDue outcome status text

@@ -1,58 +1,27 @@
 -- The texts of `run`, each line ended by a line feed.
-use Rattle.std.specs.Prelude.{ℕ, List, [], ◌∷◌, ◌++◌, length, take, drop, sum_by, codes, decimal, flat_map, ℤ, pos, ◌+ℤ◌}
+use Rattle.std.specs.Prelude.{ℕ, List, [], ◌∷◌, ◌++◌, take, drop, codes, decimal, flat_map, ℤ, pos, ◌+ℤ◌, Option, Some, None}
 use Rattle.std.specs.Int.{w64, cast_signed}
 use Rattle.std.specs.Fmt.{signed_decimal}
 use Rattle.sw_base.specs.declared.path.Step.{Step}
 use Rattle.sw_base.specs.Names.{bare_log_name}
-use Rattle.race_model.specs.Trace.{TaskLog, Trace}
 use Rattle.kernel_syntax.specs.declared.syntax.Array.{Array}
-use Rattle.kernel_text.specs.declared.fault.KernelWhy.{KernelWhy}
-use Rattle.kernel_text.specs.declared.fault.KernelWhy.TheVariants as why
-use Rattle.kernel_model.specs.State.{Stop, DivZero, Index, LogFull}
-
-abbrev pub no_kernel_text : List ℕ
-no_kernel_text = codes "no kernel\n"
-
-abbrev pub not_built_text : List ℕ
-not_built_text = codes "kernel not built\n"
-
-abbrev pub why_name : KernelWhy → List ℕ
-why_name why.Token = codes "Token"
-why_name why.Syntax = codes "Syntax"
-why_name why.Unknown = codes "Unknown"
-why_name why.Twice = codes "Twice"
-why_name why.Width = codes "Width"
-why_name why.Count = codes "Count"
-why_name why.NotUniform = codes "NotUniform"
-why_name why.BarrierHere = codes "BarrierHere"
-why_name why.WorkHere = codes "WorkHere"
-why_name why.CriticalOrder = codes "CriticalOrder"
-why_name why.ParallelHere = codes "ParallelHere"
-why_name why.Deep = codes "Deep"
-why_name why.Large = codes "Large"
-why_name why.NotUtf8 = codes "NotUtf8"
-
--- a kernel is refused for this reason at this line
-abbrev pub refused_line : ℕ → List ℕ → List ℕ
-refused_line line why = codes "kernel line " ++ (decimal line ++ (codes ": " ++ (why ++ codes "\n")))
-
-abbrev pub refused_text : ℕ → KernelWhy → List ℕ
-refused_text line why = refused_line line (why_name why)
+use Rattle.lane_runner.specs.declared.stop.Stop.{Stop}
+use Rattle.lane_runner.specs.declared.stop.Stop.TheVariants.{DivZero, Index, LogFull, Tasks, Trouble}
 
 abbrev pub index_exists_text : List ℕ
 index_exists_text = codes "index exists\n"
 
-abbrev pub stop_name : Stop → List ℕ
-stop_name DivZero = codes "DivZero"
-stop_name Index = codes "Index"
-stop_name LogFull = codes "LogFull"
+-- the line and the name by which a stop is told; trouble has none
+abbrev pub told_stop : Stop → Option (ℕ × List ℕ)
+told_stop (DivZero line) = Some (line, codes "DivZero")
+told_stop (Index line) = Some (line, codes "Index")
+told_stop (LogFull line) = Some (line, codes "LogFull")
+told_stop (Tasks line) = Some (line, codes "Tasks")
+told_stop (Trouble trouble) = None
 
 -- the task of this path stopped so at this line
 abbrev pub stop_line : List Step → ℕ → List ℕ → List ℕ
 stop_line path line why = codes "stopped " ++ bare_log_name path ++ codes " line " ++ decimal line ++ codes ": " ++ why ++ codes "\n"
-
-abbrev pub stopped_text : List Step → ℕ → Stop → List ℕ
-stopped_text path line why = stop_line path line (stop_name why)
 
 -- the sum of values of 64 bits, signed and not wrapped
 abbrev pub sum_of : List ℕ → ℤ
@@ -71,6 +40,5 @@ abbrev pub count_lines : ℕ → ℕ → List ℕ
 count_lines tasks records = codes "tasks " ++ decimal tasks ++ codes "\n" ++ (codes "records " ++ decimal records ++ codes "\n")
 
 -- the counts of a run, and the sum of each array's values
-abbrev pub run_text : Trace → List Array → List ℕ → List ℕ
-run_text tasks arrays values =
-    count_lines (length tasks) (sum_by (λ (task : TaskLog). length task.records) tasks) ++ flat_map (sum_line values) arrays
+abbrev pub run_text : ℕ → ℕ → List Array → List ℕ → List ℕ
+run_text tasks records arrays values = count_lines tasks records ++ flat_map (sum_line values) arrays

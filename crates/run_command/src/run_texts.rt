@@ -1,14 +1,9 @@
 //! The texts of `run`.
-ghost use Rattle.std.specs.Prelude.{◌≡◌, ◌+◌, ◌^◌, ◌<◌, ◌≤◌, length, string_bytes, sum_by, IfOk};
+ghost use Rattle.std.specs.Prelude.{◌≡◌, ◌^◌, ◌<◌, length, string_bytes, IfOk};
 ghost use Rattle.sw_base.specs.Names.{bare_log_name};
-ghost use Rattle.race_model.specs.FirstBad.{rows_of};
-ghost use Rattle.race_model.specs.Trace.{Trace};
-ghost use Rattle.kernel_syntax.specs.Layout.{ArePlaced};
-ghost use Rattle.run_command.specs.RunTexts.{count_lines, refused_line, run_text, stop_line, sum_line, sum_of, values_of, why_name};
+ghost use Rattle.run_command.specs.RunTexts.{count_lines, run_text, stop_line, sum_line, sum_of, values_of};
 
 use kernel_syntax::Array;
-use kernel_text::KernelWhy;
-use log_index::Row;
 use std::alloc::Global;
 use sw_base::{Memory, Path};
 
@@ -18,47 +13,6 @@ pub fn stopped(alloc: Global, path: &Path, line: u32, why: &str) -> Result<Strin
 {
     let name = path.bare_name(alloc)?;
     Ok(format!(in alloc; "stopped {name} line {line}: {why}\n")?)
-}
-
-/// The name of a reason.
-pub fn why_name(why: KernelWhy) -> &'static str
-    ensures { result.now ≡ why_name why }
-{
-    match why {
-        KernelWhy::Token => "Token",
-        KernelWhy::Syntax => "Syntax",
-        KernelWhy::Unknown => "Unknown",
-        KernelWhy::Twice => "Twice",
-        KernelWhy::Width => "Width",
-        KernelWhy::Count => "Count",
-        KernelWhy::NotUniform => "NotUniform",
-        KernelWhy::BarrierHere => "BarrierHere",
-        KernelWhy::WorkHere => "WorkHere",
-        KernelWhy::CriticalOrder => "CriticalOrder",
-        KernelWhy::ParallelHere => "ParallelHere",
-        KernelWhy::Deep => "Deep",
-        KernelWhy::Large => "Large",
-        KernelWhy::NotUtf8 => "NotUtf8",
-    }
-}
-
-/// Where and why a kernel is refused.
-pub fn refused(alloc: Global, line: u32, why: &str) -> Result<String, Memory>
-    ensures { IfOk result (λ text. string_bytes text ≡ refused_line line why.now) }
-{
-    Ok(format!(in alloc; "kernel line {line}: {why}\n")?)
-}
-
-/// How many records the logs have in all.
-fn records_in(rows: &[Row]) -> u64
-    requires { length rows.now < 2 ^ 32 }
-    ensures { result ≡ sum_by (λ row. row.records) rows.now }
-{
-    let mut count = 0;
-    for row in rows {
-        count += u64::from(row.records);
-    }
-    count
 }
 
 /// The sum of values, which are signed.
@@ -75,16 +29,15 @@ fn sum_of(values: &[u64]) -> i128
 
 /// The values of an array's elements.
 fn values_of<'a>(array: &Array, words: &'a [u64]) -> &'a [u64]
-    requires { array.now.first + array.now.count ≤ length words.now }
     ensures values { result.now ≡ values_of array.now words.now }
     ensures few { length result.now < 2 ^ 32 }
 {
-    let first = array.first as usize;
-    &words[first..first + array.count as usize]
+    let first = words.len().min(array.first as usize);
+    let rest = &words[first..];
+    &rest[..rest.len().min(array.count as usize)]
 }
 
 fn sum_line(alloc: Global, array: &Array, words: &[u64]) -> Result<String, Memory>
-    requires { array.now.first + array.now.count ≤ length words.now }
     ensures { IfOk result (λ text. string_bytes text ≡ sum_line words.now array.now) }
 {
     let name = array.name.as_str();
@@ -98,13 +51,17 @@ fn count_lines(alloc: Global, tasks: usize, records: u64) -> Result<String, Memo
     Ok(format!(in alloc; "tasks {tasks}\nrecords {records}\n")?)
 }
 
-/// The counts of a run whose logs have these rows, and the sum of each array's values.
-pub fn ran(alloc: Global, rows: &[Row], arrays: &[Array], words: &[u64]) -> Result<String, Memory>
-    requires few { length rows.now < 2 ^ 32 }
-    requires placed { ArePlaced arrays.now (length words.now) }
-    ensures { (tasks : Trace) → rows_of tasks ≡ rows.now → IfOk result (λ text. string_bytes text ≡ run_text tasks arrays.now words.now) }
+/// The counts of a run, and the sum of each array's values.
+pub fn ran(
+    alloc: Global,
+    tasks: usize,
+    records: u64,
+    arrays: &[Array],
+    words: &[u64],
+) -> Result<String, Memory>
+    ensures { IfOk result (λ text. string_bytes text ≡ run_text tasks records arrays.now words.now) }
 {
-    let mut text = count_lines(alloc, rows.len(), records_in(rows))?;
+    let mut text = count_lines(alloc, tasks, records)?;
     for array in arrays {
         let line = sum_line(alloc, array, words)?;
         text.push_str(line.as_str())?;

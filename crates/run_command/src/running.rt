@@ -1,89 +1,93 @@
 //! `run`: a kernel is run, and its logs and their index are written.
-ghost use Rattle.std.specs.Prelude.{◌≡◌, ◌⊎◌, ◌≤◌, ℕ, List, Some, map, length, is_some, string_bytes, IfOk, IfErr, OnErr, MatchResult};
+ghost use Rattle.std.specs.Prelude.{◌≡◌, ◌≤◌, ℕ, List, Some, map, is_some, string_bytes, IfOk, Ok, Err, MatchResult};
 ghost use Rattle.sw_base.specs.Environment.{Rose, Text, WhereTold};
 ghost use Rattle.sw_base.specs.declared.trouble.Trouble.TheVariants as trouble;
 ghost use Rattle.race_model.specs.IndexFault.{AreRows};
-ghost use Rattle.kernel_syntax.specs.FirstKind.{IsFirstKind};
-ghost use Rattle.kernel_syntax.specs.Layout.{ArePlaced, elements};
 ghost use Rattle.kernel_syntax.specs.Program.{Program, program_of};
-ghost use Rattle.team_runner.specs.Answer.{HasFaulty, HasRun, HasStoppedRun};
-ghost use Rattle.team_runner.specs.Ready.{IsBufferSize, IsReady};
-ghost use Rattle.team_runner.specs.Stops.{StopsSo};
-ghost use Rattle.team_runner.specs.declared.stop.Stop.TheVariants as stop;
-ghost use Rattle.command_answer.specs.Answer.{IsFailure, Prints, Tries};
-ghost use Rattle.run_command.specs.Ends.{EndsSo, IsTold};
-ghost use Rattle.run_command.specs.Run.{CanRun, LeavesPart, RunDue};
-ghost use Rattle.run_command.specs.Seals.{AllTell, all_logged, row_of_entry};
-ghost use Rattle.command_answer.specs.declared.status.TheConstants.{USAGE, READ_FAULT, WRITE_FAULT, NO_MEMORY};
+ghost use Rattle.kernel_model.specs.Lawful.{IsLawful};
+ghost use Rattle.lane_runner.specs.Handed.{HasFaultyLog, entries_of};
+ghost use Rattle.lane_runner.specs.declared.stop.Stop.TheVariants as stop;
+ghost use Rattle.region_runner.specs.Answer.{HasRun, HasStoppedRun, IsBufferSize};
+ghost use Rattle.run_command.specs.Outcomes.{unwritten};
+ghost use Rattle.run_command.specs.Run.{CameOut, CanRun, EndsSo};
+ghost use Rattle.run_command.specs.RunTexts.{told_stop};
+ghost use Rattle.run_command.specs.Seals.{RaiseFaults, all_logged, row_of_entry};
+ghost use Rattle.run_command.specs.declared.outcome.Outcome.TheVariants as outcome;
 
-use crate::beginning::{begin, refuse};
-use crate::run_texts;
-use crate::sealing::{discard_all, seal_all, store};
-use command_answer::{DONE, KERNEL_STOPPED, failure, print_made};
+use crate::beginning::begin;
+use crate::outcome::Outcome;
+use crate::sealing::{discard_all, records_in, seal_all, store};
 use kernel_syntax::Kernel;
+use lane_runner::Stop;
+use region_runner::{Finished, Stopped, run_kernel};
 use std::alloc::Global;
-use sw_base::{Folder, Gate, Out, Trouble};
-use team_runner::{Finished, Stop, Stopped, run_kernel};
+use std::sync::Wait;
+use std::thread::Threads;
+use sw_base::{Folder, Gate, Trouble};
 
-/// Stores a run that ended, and prints its counts and sums.
-fn finish<F: Folder, O: Out>(
+/// What comes out where a call that writes failed.
+fn unwritten(trouble: Trouble) -> Outcome
+    ensures { result ≡ unwritten trouble }
+{
+    match trouble {
+        Trouble::Memory => Outcome::NoMemory,
+        Trouble::Failed => Outcome::WriteFault,
+    }
+}
+
+/// Stores a run that ended.
+fn finish<F: Folder>(
     alloc: Global,
-    kernel: &Kernel,
+    kernel: Kernel,
     dir: &str,
     finished: Finished<F::Log>,
     folder: &mut F,
-    out: &mut O,
-) -> u8
-    requires first { IsFirstKind (program_of kernel.now) }
-    requires rows { AreRows (map row_of_entry finished.logs.items) }
-    requires values { length finished.words.items ≡ elements kernel.now.arrays }
-    requires placed { ArePlaced kernel.now.arrays (length finished.words.items) }
-    ensures ends { (size before : ℕ) (root : Text) → HasRun (program_of kernel.now) dir.now size (Some root) (all_logged F.Log.dir F.Log.path F.Log.text finished.logs.items)
-        → EndsSo (Rose before (F.write_faults folder.new)) (program_of kernel.now) dir.now size (F.content folder.old) (F.content folder.new) (O.written out.old) (O.written out.new) result }
+) -> Outcome
+    requires { AreRows (map row_of_entry finished.logs.items) }
+    ensures ends { (before : ℕ) (file : List ℕ) (size : ℕ) (root : Text)
+        → HasRun (program_of kernel) dir.now size (Some root) (all_logged F.Log.dir F.Log.path F.Log.text finished.logs.items) finished.words.items
+        → EndsSo (Rose before (F.write_faults folder.new)) file dir.now size (program_of kernel) (F.content folder.old) (F.content folder.new) result }
     ensures tells { is_some (F.content folder.new) ≡ is_some (F.content folder.old) }
-    ensures write_fault { result ≡ WRITE_FAULT → Rose (O.faults out.old) (O.faults out.new) ⊎ Rose (F.write_faults folder.old) (F.write_faults folder.new) }
-    ensures no_read { result ≡ READ_FAULT → ⊥ }
-    ensures no_usage { result ≡ USAGE → ⊥ }
+    ensures faulty { RaiseFaults F.Log.faults finished.logs.items (Rose (F.write_faults folder.old) (F.write_faults folder.new)) }
+    ensures write_fault { result ≡ outcome.WriteFault → Rose (F.write_faults folder.old) (F.write_faults folder.new) }
+    ensures no_read { result ≡ outcome.ReadFault → ⊥ }
 {
     let Finished { logs, words } = finished;
     match store(alloc, folder, dir, logs) {
-        Ok(rows) => {
-            let text = run_texts::ran(alloc, &rows, kernel.arrays.as_slice(), &words);
-            print_made(alloc, out, text, DONE)
-        }
-        Err(trouble) => failure(trouble),
+        Ok(rows) => Outcome::Ran {
+            kernel,
+            tasks: rows.len(),
+            records: records_in(&rows),
+            words,
+        },
+        Err(trouble) => unwritten(trouble),
     }
 }
 
 /// The line of a stop and its name, or the trouble that it was.
 fn told(why: Stop) -> Result<(u32, &'static str), Trouble>
-    ensures { MatchResult result (λ told. IsTold why told.0 told.1.now) (λ trouble. why ≡ stop.Trouble trouble) }
+    ensures { MatchResult result (λ told. told_stop why ≡ Some (told.0, told.1.now)) (λ trouble. why ≡ stop.Trouble trouble) }
 {
     match why {
         Stop::DivZero { line } => Ok((line, "DivZero")),
         Stop::Index { line } => Ok((line, "Index")),
         Stop::LogFull { line } => Ok((line, "LogFull")),
+        Stop::Tasks { line } => Ok((line, "Tasks")),
         Stop::Trouble(trouble) => Err(trouble),
     }
 }
 
-/// Seals the logs of a kernel that stopped, and prints where and why. After trouble they are given up.
-fn stop<F: Folder, O: Out>(
-    alloc: Global,
-    stopped: Stopped<F::Log>,
-    folder: &mut F,
-    out: &mut O,
-) -> u8
-    ensures ends { (program : Program) (dir : List ℕ) (size before : ℕ) (root : Text) → before ≤ F.write_faults folder.old
-        → StopsSo (HasStoppedRun program dir size (Some root) (map (λ e. (e.0, F.Log.faults e.1)) stopped.logs.items)
-        (all_logged F.Log.dir F.Log.path F.Log.text stopped.logs.items) stopped.path) stopped.why
-        → AllTell dir (all_logged F.Log.dir F.Log.path F.Log.text stopped.logs.items)
-        → EndsSo (Rose before (F.write_faults folder.new)) program dir size (F.content folder.old) (F.content folder.new) (O.written out.old) (O.written out.new) result }
+/// Seals the logs of a kernel that stopped. After trouble they are given up.
+fn stop<F: Folder>(alloc: Global, stopped: Stopped<F::Log>, folder: &mut F) -> Outcome
+    ensures ends { (before : ℕ) (file : List ℕ) (program : Program) (dir : List ℕ) (size : ℕ) (root : Text) → before ≤ F.write_faults folder.old
+        → HasStoppedRun program dir size (Some root) (entries_of (record { dir = F.Log.dir; path = F.Log.path; text = F.Log.text; faults = F.Log.faults }) stopped.logs.items) stopped.path stopped.why stopped.words.items
+        → EndsSo (Rose before (F.write_faults folder.new)) file dir size program (F.content folder.old) (F.content folder.new) result }
     ensures tells { is_some (F.content folder.new) ≡ is_some (F.content folder.old) }
-    ensures write_fault { (stopped.why ≡ stop.Trouble trouble.Failed → HasFaulty (map (λ e. (e.0, F.Log.faults e.1)) stopped.logs.items) stopped.path)
-        → result ≡ WRITE_FAULT → Rose (O.faults out.old) (O.faults out.new) ⊎ Rose (F.write_faults folder.old) (F.write_faults folder.new) }
-    ensures no_read { result ≡ READ_FAULT → ⊥ }
-    ensures no_usage { result ≡ USAGE → ⊥ }
+    ensures faulty { RaiseFaults F.Log.faults stopped.logs.items (Rose (F.write_faults folder.old) (F.write_faults folder.new)) }
+    ensures write_fault { (stopped.why ≡ stop.Trouble trouble.Failed
+        → HasFaultyLog stopped.path (entries_of (record { dir = F.Log.dir; path = F.Log.path; text = F.Log.text; faults = F.Log.faults }) stopped.logs.items))
+        → result ≡ outcome.WriteFault → Rose (F.write_faults folder.old) (F.write_faults folder.new) }
+    ensures no_read { result ≡ outcome.ReadFault → ⊥ }
 {
     let Stopped {
         path,
@@ -91,80 +95,70 @@ fn stop<F: Folder, O: Out>(
         logs,
         ..
     } = stopped;
-    let (line, name) = match told(why) {
-        Ok(told) => told,
+    match told(why) {
+        Ok((line, why)) => match seal_all(alloc, folder, logs) {
+            Ok(()) => Outcome::Stopped { path, line, why },
+            Err(trouble) => unwritten(trouble),
+        },
         Err(trouble) => {
             discard_all(folder, logs);
-            return failure(trouble);
+            unwritten(trouble)
         }
-    };
-    match seal_all(alloc, folder, logs) {
-        Ok(()) => {
-            let text = run_texts::stopped(alloc, &path, line, name);
-            print_made(alloc, out, text, KERNEL_STOPPED)
-        }
-        Err(trouble) => failure(trouble),
     }
 }
 
 /// Runs a kernel in a folder that has no index.
-fn execute<R, F: Folder, O: Out, G: Gate>(
+fn execute<R: Threads + Wait + Sync, F: Folder, G: Gate>(
     rt: &R,
     alloc: Global,
-    kernel: &Kernel,
+    kernel: Kernel,
     dir: &str,
     size: usize,
     folder: &mut F,
-    out: &mut O,
     gate: &G,
-) -> u8
-    requires ready { IsReady (program_of kernel.now) }
+) -> Outcome
+    requires lawful { IsLawful (program_of kernel) }
     requires size { IsBufferSize size }
-    ensures ends { EndsSo (Rose (F.write_faults folder.old) (F.write_faults folder.new)) (program_of kernel.now) dir.now size (F.content folder.old) (F.content folder.new) (O.written out.old) (O.written out.new) result }
+    ensures ends { (file : List ℕ) → EndsSo (Rose (F.write_faults folder.old) (F.write_faults folder.new)) file dir.now size (program_of kernel)
+        (F.content folder.old) (F.content folder.new) result }
     ensures tells { is_some (F.content folder.new) ≡ is_some (F.content folder.old) }
-    ensures write_fault { result ≡ WRITE_FAULT → Rose (O.faults out.old) (O.faults out.new) ⊎ Rose (F.write_faults folder.old) (F.write_faults folder.new) }
-    ensures no_read { result ≡ READ_FAULT → ⊥ }
-    ensures no_usage { result ≡ USAGE → ⊥ }
+    ensures write_fault { result ≡ outcome.WriteFault → Rose (F.write_faults folder.old) (F.write_faults folder.new) }
+    ensures no_read { result ≡ outcome.ReadFault → ⊥ }
 {
     let root = match folder.root(alloc, dir) {
         Ok(root) => root,
-        Err(trouble) => return failure(trouble),
+        Err(trouble) => return unwritten(trouble),
     };
-    match run_kernel(rt, alloc, kernel, root, size, gate) {
-        Ok(finished) => finish(alloc, kernel, dir, finished, folder, out),
-        Err(stopped) => stop(alloc, stopped, folder, out),
+    match run_kernel(rt, alloc, &kernel, root, size, gate) {
+        Ok(finished) => finish(alloc, kernel, dir, finished, folder),
+        Err(stopped) => stop(alloc, stopped, folder),
     }
 }
 
 /// Runs the kernel that the file `kernel` holds, with buffers of `size` bytes, and writes its logs and their index into the
 /// folder `dir`.
-pub fn run<R, F: Folder, O: Out, G: Gate>(
+pub fn run<R: Threads + Wait + Sync, F: Folder, G: Gate>(
     rt: &R,
     alloc: Global,
     kernel: &str,
     dir: &str,
     size: usize,
     folder: &mut F,
-    out: &mut O,
     gate: &G,
-) -> u8
+) -> Outcome
     requires { IsBufferSize size }
-    ensures answers { WhereTold (F.content folder.old) (λ c. WhereTold (F.content folder.new) (λ d.
-        Tries (RunDue (Rose (F.write_faults folder.old) (F.write_faults folder.new)) kernel.now dir.now size c d) (O.written out.old) (O.written out.new) result)) }
-    ensures leaves { WhereTold (F.content folder.old) (λ c. WhereTold (F.content folder.new) (λ d.
-        IsFailure result → LeavesPart (Rose (F.write_faults folder.old) (F.write_faults folder.new)) kernel.now dir.now size c d)) }
-    ensures reads { result ≡ READ_FAULT → F.content folder.new ≡ F.content folder.old }
-    ensures read_fault { result ≡ READ_FAULT → Rose (F.read_faults folder.old) (F.read_faults folder.new) }
-    ensures write_fault { result ≡ WRITE_FAULT → Rose (O.faults out.old) (O.faults out.new) ⊎ Rose (F.write_faults folder.old) (F.write_faults folder.new) }
-    ensures only_printed { WhereTold (F.content folder.old) (λ c. (CanRun c.held kernel.now dir.now → ⊥) →
-        result ≡ WRITE_FAULT → Rose (O.faults out.old) (O.faults out.new)) }
-    ensures same_writes { WhereTold (F.content folder.old) (λ c. (CanRun c.held kernel.now dir.now → ⊥) →
-        F.write_faults folder.new ≡ F.write_faults folder.old) }
+    ensures came { WhereTold (F.content folder.old) (λ c. WhereTold (F.content folder.new) (λ d.
+        CameOut (Rose (F.write_faults folder.old) (F.write_faults folder.new)) kernel.now dir.now size c d result)) }
     ensures tells { is_some (F.content folder.new) ≡ is_some (F.content folder.old) }
-    ensures no_usage { result ≡ USAGE → ⊥ }
+    ensures reads { result ≡ outcome.ReadFault → F.content folder.new ≡ F.content folder.old }
+    ensures read_fault { result ≡ outcome.ReadFault → Rose (F.read_faults folder.old) (F.read_faults folder.new) }
+    ensures write_fault { result ≡ outcome.WriteFault → Rose (F.write_faults folder.old) (F.write_faults folder.new) }
+    ensures only_runs_write { WhereTold (F.content folder.old) (λ c. ((p : Program) → CanRun c.held kernel.now dir.now p → ⊥) → result ≡ outcome.WriteFault → ⊥) }
+    ensures same_writes { WhereTold (F.content folder.old) (λ c. ((p : Program) → CanRun c.held kernel.now dir.now p → ⊥) →
+        F.write_faults folder.new ≡ F.write_faults folder.old) }
 {
     match begin(alloc, folder, kernel, dir) {
-        Ok(kernel) => execute(rt, alloc, &kernel, dir, size, folder, out, gate),
-        Err(why) => refuse(alloc, out, why),
+        Ok(kernel) => execute(rt, alloc, kernel, dir, size, folder, gate),
+        Err(outcome) => outcome,
     }
 }

@@ -1,11 +1,10 @@
 //! The logs of a run are sealed and their index is written, or they are given up.
-ghost use Rattle.std.specs.Prelude.{◌≡◌, ◌⊎◌, ◌≤◌, List, map, is_some, IfOk, OnOk, OnErr, IsErrOf};
+ghost use Rattle.std.specs.Prelude.{◌≡◌, ◌⊎◌, ◌^◌, ◌<◌, ◌≤◌, length, sum_by, map, is_some, IfOk, OnOk, OnErr, IsErrOf};
 ghost use Rattle.std.specs.Option.{option_map};
 ghost use Rattle.sw_base.specs.Environment.{WhereTold, Rose, HasCause, TakesFaults, LeavesPrefix, with_log};
 ghost use Rattle.sw_base.specs.Names.{log_name};
-ghost use Rattle.sw_base.specs.declared.path.Step.{Step};
 ghost use Rattle.race_model.specs.IndexFault.{AreRows};
-ghost use Rattle.team_runner.specs.Answer.{HasFaulty};
+ghost use Rattle.run_command.specs.Seals.{RaiseFaults};
 ghost use Rattle.run_command.specs.Seals.{SealsAll, StoresAll, StoresPrefix, all_logged, row_of_entry};
 
 use log_index::{Row, write_index};
@@ -64,8 +63,7 @@ pub fn seal_all<F: Folder>(
 ) -> Result<(), Trouble>
     ensures seals { SealsAll (all_logged F.Log.dir F.Log.path F.Log.text logs.items) result (F.content folder.old) (F.content folder.new) }
     ensures tells { is_some (F.content folder.new) ≡ is_some (F.content folder.old) }
-    ensures faulty { (path : List Step) → HasFaulty (map (λ e. (e.0, F.Log.faults e.1)) logs.items) path
-        → Rose (F.write_faults folder.old) (F.write_faults folder.new) }
+    ensures faulty { RaiseFaults F.Log.faults logs.items (Rose (F.write_faults folder.old) (F.write_faults folder.new)) }
     ensures cause { HasCause (F.write_faults folder.old) (F.write_faults folder.new) result }
 {
     let mut outcome = Ok(());
@@ -79,8 +77,7 @@ pub fn seal_all<F: Folder>(
 pub fn discard_all<F: Folder>(folder: &mut F, logs: Vec<(Path, F::Log, u32)>)
     ensures same { F.content folder.new ≡ F.content folder.old }
     ensures later { F.write_faults folder.old ≤ F.write_faults folder.new }
-    ensures faulty { (path : List Step) → HasFaulty (map (λ e. (e.0, F.Log.faults e.1)) logs.items) path
-        → Rose (F.write_faults folder.old) (F.write_faults folder.new) }
+    ensures faulty { RaiseFaults F.Log.faults logs.items (Rose (F.write_faults folder.old) (F.write_faults folder.new)) }
 {
     for (_, log, _) in logs {
         folder.discard(log);
@@ -101,6 +98,18 @@ fn index_rows<L: Log>(alloc: Global, logs: &[(Path, L, u32)]) -> Result<Vec<Row>
     Ok(rows)
 }
 
+/// How many records the logs have in all.
+pub fn records_in(rows: &[Row]) -> u64
+    requires { length rows.now < 2 ^ 32 }
+    ensures { result ≡ sum_by (λ row. row.records) rows.now }
+{
+    let mut count = 0;
+    for row in rows {
+        count += u64::from(row.records);
+    }
+    count
+}
+
 /// Seals the logs of a whole run, and then writes their index, whose rows are answered.
 pub fn store<F: Folder>(
     alloc: Global,
@@ -113,8 +122,7 @@ pub fn store<F: Folder>(
     ensures stored { OnOk result (StoresAll dir.now (all_logged F.Log.dir F.Log.path F.Log.text logs.items) (F.content folder.old) (F.content folder.new)) }
     ensures refused { OnErr result (StoresPrefix dir.now (all_logged F.Log.dir F.Log.path F.Log.text logs.items) (F.content folder.old) (F.content folder.new)) }
     ensures tells { is_some (F.content folder.new) ≡ is_some (F.content folder.old) }
-    ensures faulty { (path : List Step) → HasFaulty (map (λ e. (e.0, F.Log.faults e.1)) logs.items) path
-        → Rose (F.write_faults folder.old) (F.write_faults folder.new) }
+    ensures faulty { RaiseFaults F.Log.faults logs.items (Rose (F.write_faults folder.old) (F.write_faults folder.new)) }
     ensures cause { HasCause (F.write_faults folder.old) (F.write_faults folder.new) result }
 {
     let Ok(rows) = index_rows(alloc, &logs) else {

@@ -2,17 +2,20 @@
 //! the gate sees.
 ghost use Rattle.std.specs.Prelude.{IfOk};
 ghost use Rattle.kernel_syntax.specs.Program.{program_of};
-ghost use Rattle.team_runner.specs.Ready.{IsBufferSize, IsReady};
+ghost use Rattle.kernel_model.specs.Lawful.{IsLawful};
+ghost use Rattle.region_runner.specs.Answer.{IsBufferSize};
 
-use crate::first_kind::is_first_kind;
 use kernel_reader::read_kernel;
 use kernel_syntax::Kernel;
+use lane_runner::Stop;
+use region_runner::{Finished, Stopped, run_kernel};
 use std::alloc::Global;
 use std::process::Abort;
+use std::sync::Wait;
 use std::sync::atomic::{AtomicU64, Ordering};
 use std::test::Fail;
+use std::thread::Threads;
 use sw_base::{Folder, Gate, MemFolder, MemLog, NoGate, Path, Trouble};
-use team_runner::{Finished, Stop, Stopped, run_kernel};
 
 // Each of two lanes adds 1 to every other element.
 const COUNTING: &str = "array a i64 8
@@ -76,19 +79,16 @@ const LEFT: Stop = Stop::Index { line: 3 };
 
 const DIVIDED: Stop = Stop::DivZero { line: 4 };
 
-// The kernel of a text, which can be run.
+// The kernel of a text.
 fn kernel_of(alloc: Global, text: &str) -> Result<Kernel, Fail>
-    ensures { IfOk result (λ k. IsReady (program_of k)) }
+    ensures { IfOk result (λ k. IsLawful (program_of k)) }
 {
-    let kernel = read_kernel(alloc, text.as_bytes())?;
-    if !is_first_kind(&kernel) {
-        return Err(Fail::from("another kind"));
-    }
-    Ok(kernel)
+    Ok(read_kernel(alloc, text.as_bytes())?)
 }
 
 // Runs the kernel of a text, where these calls on the log of this task are to fail.
-fn run_failing(
+fn run_failing<R: Threads + Wait + Sync>(
+    rt: &R,
     alloc: Global,
     text: &str,
     size: usize,
@@ -101,18 +101,19 @@ fn run_failing(
     let mut folder = MemFolder::new(alloc)?;
     folder.fail_log(path, calls)?;
     let root = folder.root(alloc, "d")?;
-    Ok(run_kernel(&(), alloc, &kernel, root, size, &NoGate))
+    Ok(run_kernel(rt, alloc, &kernel, root, size, &NoGate))
 }
 
 // Runs the kernel of a text.
-fn run(
+fn run<R: Threads + Wait + Sync>(
+    rt: &R,
     alloc: Global,
     text: &str,
     size: usize,
 ) -> Result<Result<Finished<MemLog>, Stopped<MemLog>>, Fail>
     requires { IsBufferSize size }
 {
-    run_failing(alloc, text, size, &Path::root(), &[])
+    run_failing(rt, alloc, text, size, &Path::root(), &[])
 }
 
 // The names of the logs' tasks, in order, each with the number of its records and of the log's bytes.
@@ -134,7 +135,7 @@ fn listed<R: Abort>(
 #[test]
 fn pieces_fill_the_buffer_and_the_bytes_stay_the_same(rt: HostRuntime) -> Result<(), Fail> {
     let alloc = rt.alloc();
-    let whole = run(alloc, COUNTING, 4_194_304)?.ok().ok_or("stopped")?;
+    let whole = run(&rt, alloc, COUNTING, 4_194_304)?.ok().ok_or("stopped")?;
     listed(
         &rt,
         alloc,
@@ -155,7 +156,7 @@ fn pieces_fill_the_buffer_and_the_bytes_stay_the_same(rt: HostRuntime) -> Result
     ];
     for (size, lengths) in table {
         assert!(rt; size >= 24 && size <= 4_194_304);
-        let cut = run(alloc, COUNTING, size)?.ok().ok_or("stopped")?;
+        let cut = run(&rt, alloc, COUNTING, size)?.ok().ok_or("stopped")?;
         assert_eq!(rt; cut.words.as_slice(), [1; 8].as_slice());
         assert_eq!(rt; cut.logs.len(), 3);
         assert_eq!(rt; cut.logs[1].1.lengths(), lengths, "at {size}");
@@ -169,7 +170,7 @@ fn pieces_fill_the_buffer_and_the_bytes_stay_the_same(rt: HostRuntime) -> Result
 #[test]
 fn the_first_records_of_a_lane_are_spelled_in_its_log(rt: HostRuntime) -> Result<(), Fail> {
     let alloc = rt.alloc();
-    let finished = run(alloc, COUNTING, 4096)?.ok().ok_or("stopped")?;
+    let finished = run(&rt, alloc, COUNTING, 4096)?.ok().ok_or("stopped")?;
     assert!(rt; finished.logs.len() > 1);
     let bytes = finished.logs[1].1.bytes();
     assert!(rt; bytes.len() > 56);
@@ -195,7 +196,7 @@ fn the_first_records_of_a_lane_are_spelled_in_its_log(rt: HostRuntime) -> Result
 #[test]
 fn the_least_lane_that_stopped_is_answered(rt: HostRuntime) -> Result<(), Fail> {
     let alloc = rt.alloc();
-    // Lane 0 waits at its barrier where there is one, and has no End then.
+    // Lane 0 waits at its barrier where there is one, and has its End else.
     let table: [(&str, &str, Stop, [u32; 2], &[u64]); 4] = [
         (LEAVING, "t-0.1.swl", LEFT, [5, 2], &[1, 1, 1, 1, 1, 1]),
         (
@@ -209,7 +210,7 @@ fn the_least_lane_that_stopped_is_answered(rt: HostRuntime) -> Result<(), Fail> 
         (DIVIDING, "t-0.1.swl", DIVIDED, [3, 1], &[u64::MAX, 0]),
     ];
     for (text, name, why, [first, second], words) in table {
-        let stopped = run(alloc, text, 4096)?.err().ok_or("ended")?;
+        let stopped = run(&rt, alloc, text, 4096)?.err().ok_or("ended")?;
         assert_eq!(rt; stopped.path.bare_name(alloc)?.as_str(), name);
         assert_eq!(rt; stopped.why, why);
         assert_eq!(rt; stopped.words.as_slice(), words);
@@ -230,7 +231,7 @@ fn the_least_lane_that_stopped_is_answered(rt: HostRuntime) -> Result<(), Fail> 
 #[test]
 fn lanes_that_wait_have_their_barrier_last(rt: HostRuntime) -> Result<(), Fail> {
     let alloc = rt.alloc();
-    let stopped = run(alloc, MIDDLE_LEAVING, 4096)?.err().ok_or("ended")?;
+    let stopped = run(&rt, alloc, MIDDLE_LEAVING, 4096)?.err().ok_or("ended")?;
     assert_eq!(rt; stopped.path.bare_name(alloc)?.as_str(), "t-0.1.swl");
     assert_eq!(rt; stopped.why, Stop::Index { line: 3 });
     listed(
@@ -270,18 +271,18 @@ fn each_call_on_each_log_fails_in_turn(rt: HostRuntime) -> Result<(), Fail> {
     ];
     for task in &tasks {
         for call in 1..=4 {
-            let run = run_failing(alloc, COUNTING, 96, task, &[call])?;
+            let run = run_failing(&rt, alloc, COUNTING, 96, task, &[call])?;
             let stopped = run.err().ok_or("ended")?;
             assert!(rt; stopped.path == *task, "call {call}");
             assert_eq!(rt; stopped.why, Stop::Trouble(Trouble::Failed), "call {call}");
             assert_eq!(rt; stopped.words.len(), 8);
             assert!(rt; !stopped.logs.is_empty());
         }
-        assert!(rt; run_failing(alloc, COUNTING, 96, task, &[5])?.is_ok());
+        assert!(rt; run_failing(&rt, alloc, COUNTING, 96, task, &[5])?.is_ok());
     }
     // With a buffer for one record the root's log takes five calls.
-    assert!(rt; run_failing(alloc, COUNTING, 24, &tasks[0], &[5])?.is_err());
-    assert!(rt; run_failing(alloc, COUNTING, 24, &tasks[0], &[6])?.is_ok());
+    assert!(rt; run_failing(&rt, alloc, COUNTING, 24, &tasks[0], &[5])?.is_err());
+    assert!(rt; run_failing(&rt, alloc, COUNTING, 24, &tasks[0], &[6])?.is_ok());
     Ok(())
 }
 
@@ -289,31 +290,43 @@ fn each_call_on_each_log_fails_in_turn(rt: HostRuntime) -> Result<(), Fail> {
 fn a_stop_or_failure_of_the_least_lane_is_answered(rt: HostRuntime) -> Result<(), Fail> {
     let alloc = rt.alloc();
     // After the stop of a lane the root's log is closed, and a failure of that call leaves the stop.
-    let run = run_failing(alloc, LEAVING, 4096, &Path::root(), &[4])?;
+    let run = run_failing(&rt, alloc, LEAVING, 4096, &Path::root(), &[4])?;
     let stopped = run.err().ok_or("ended")?;
     assert_eq!(rt; stopped.why, Stop::Index { line: 3 });
     assert_eq!(rt; stopped.logs.len(), 3);
     // So is the log of a lane that waits, with the same result.
     let first = Path::root().child(0, 0, 2);
     let second = Path::root().child(0, 1, 2);
-    let run = run_failing(alloc, LEAVING, 4096, &first, &[2])?;
+    let run = run_failing(&rt, alloc, LEAVING, 4096, &first, &[2])?;
     let stopped = run.err().ok_or("ended")?;
     assert!(rt; stopped.path == second);
     assert_eq!(rt; stopped.why, Stop::Index { line: 3 });
     assert_eq!(rt; stopped.logs.len(), 3);
-    // Of two lanes that end otherwise than well in a phase the first is answered: its log fails, or it stops.
-    let run = run_failing(alloc, LEAVING, 24, &first, &[2])?;
+    // Of two lanes that stop in a phase the first is answered.
+    let run = run_failing(&rt, alloc, LEAVING, 24, &first, &[2])?;
     let stopped = run.err().ok_or("ended")?;
     assert!(rt; stopped.path == first);
     assert_eq!(rt; stopped.why, Stop::Trouble(Trouble::Failed));
-    let run = run_failing(alloc, LEAVING_UNBARRED, 4096, &first, &[2])?;
+    // A lane that ended is closed after the last phase, so the stop stays there too.
+    let run = run_failing(&rt, alloc, LEAVING_UNBARRED, 4096, &first, &[2])?;
     let stopped = run.err().ok_or("ended")?;
-    assert!(rt; stopped.path == first);
-    assert_eq!(rt; stopped.why, Stop::Trouble(Trouble::Failed));
-    let run = run_failing(alloc, BOTH_LEAVING, 4096, &second, &[1])?;
-    let stopped = run.err().ok_or("ended")?;
-    assert!(rt; stopped.path == first);
+    assert!(rt; stopped.path == second);
     assert_eq!(rt; stopped.why, Stop::Index { line: 3 });
+    Ok(())
+}
+
+#[test]
+fn a_failed_log_lacks_few_of_the_stores(rt: HostRuntime) -> Result<(), Fail> {
+    let alloc = rt.alloc();
+    // A buffer for ten records: the second one fails after 20 stores at least, and nobody stores once 30 records aren't there.
+    let text = "array a i64 1000 main { loop i in 0 .. 1000 { a[i] = 1 } }";
+    let run = run_failing(&rt, alloc, text, 240, &Path::root(), &[3])?;
+    let stopped = run.err().ok_or("ended")?;
+    assert_eq!(rt; stopped.why, Stop::Trouble(Trouble::Failed));
+    assert_eq!(rt; stopped.words.len(), 1000);
+    let stored = stopped.words.iter().take_while(|word| **word == 1).count();
+    assert!(rt; 20 <= stored && stored <= 30);
+    assert!(rt; stopped.words.iter().skip(stored).all(|word| *word == 0));
     Ok(())
 }
 
@@ -348,7 +361,7 @@ fn the_gate_sees_each_lane_start_each_phase(rt: HostRuntime) -> Result<(), Fail>
             others: AtomicU64::new(0),
         };
         let root = MemLog::new(alloc, "d")?;
-        let _ = run_kernel(&(), alloc, &kernel, root, 4096, &gate);
+        let _ = run_kernel(&rt, alloc, &kernel, root, 4096, &gate);
         assert_eq!(rt; gate.lanes[0].load(Ordering::SeqCst), phases[0]);
         assert_eq!(rt; gate.lanes[1].load(Ordering::SeqCst), phases[1]);
         assert_eq!(rt; gate.others.load(Ordering::SeqCst), 0);

@@ -1,8 +1,10 @@
-use crate::run;
+use crate::{print_outcome, run};
 use command_answer::{DONE, INDEX_THERE, KERNEL_STOPPED};
 use std::alloc::Global;
 use std::process::Abort;
+use std::sync::Wait;
 use std::test::Fail;
+use std::thread::Threads;
 use sw_base::{MemFolder, MemOut, NoGate};
 
 // One lane stores once.
@@ -14,7 +16,7 @@ const BEYOND: &str = "array a i64 1\nmain { parallel 1 {\nfor i in 0 .. 2 { a[i]
 const INDEX: &str = "d/index.swi";
 
 // Runs the kernel that the folder holds.
-fn answers<R: Abort>(
+fn answers<R: Abort + Threads + Wait + Sync>(
     rt: &R,
     alloc: Global,
     folder: &mut MemFolder,
@@ -22,10 +24,8 @@ fn answers<R: Abort>(
     text: &str,
 ) -> Result<(), Fail> {
     let mut out = MemOut::new(alloc)?;
-    assert_eq!(rt;
-        run(rt, alloc, "k", "d", 48, folder, &mut out, &NoGate),
-        status
-    );
+    let outcome = run(rt, alloc, "k", "d", 48, folder, &NoGate);
+    assert_eq!(rt; print_outcome(alloc, &mut out, &outcome), status);
     assert_eq!(rt; out.written(), text.as_bytes());
     Ok(())
 }

@@ -3,6 +3,7 @@ use Rattle.std.specs.Prelude.{◌≡◌, ℕ, ◌≤◌, List, [], ◌∷◌, le
 use Rattle.std.specs.declared.alloc.Global.{Global}
 use Rattle.sw_base.specs.Environment.{Files}
 use Rattle.command_answer.specs.declared.status.TheConstants.{USAGE}
+use Rattle.kernel_syntax.specs.Program.{Program}
 use Rattle.run_command.specs.Run.{CanRun}
 use Rattle.sword.specs.Texts.{usage_text}
 
@@ -51,7 +52,8 @@ pub record BeginsRun (arguments : List (List ℕ)) (files : Files) : Type 0 wher
   pub dir : List ℕ
   pub size : ℕ
   pub says : SaysRun arguments kernel dir size
-  pub can : CanRun files kernel dir
+  pub program : Program
+  pub can : CanRun files kernel dir program
 
 pub record SaysReplay (arguments : List (List ℕ)) (kernel dir : List ℕ) : Type 0 where
   pub are : arguments ≡ codes "replay" ∷ kernel ∷ dir ∷ []

@@ -1,7 +1,7 @@
 //! `sword` runs fork-join loop kernels and logs their accesses, checks the logs for data races, compares them with a kernel, and prints them.
 //!
 //! What it promises stands on `top::sword`: `check` prints exactly the line pairs of accesses that race or names the folder's
-//! first bad place, and a run that ends leaves each task's whole trace under the values that it read.
+//! first bad place, and a run that ends leaves each task's whole trace under the values that it read, in one history of all tasks.
 #![tactic(auto)]
 
 ghost use Rattle.std.specs.Prelude.{◌≡◌};
@@ -14,6 +14,7 @@ mod host;
 mod printing;
 mod refusing;
 mod replaying;
+mod running;
 mod showing;
 mod texts;
 mod top;
@@ -24,6 +25,7 @@ use std::alloc::AllocError;
 use std::env;
 use std::io::ErrorKind;
 use std::process::ExitCode;
+use std::sync::Wait;
 use std::thread::{Builder, Threads};
 use sw_base::NoGate;
 
@@ -53,7 +55,7 @@ fn exit_code(status: u8) -> ExitCode
 }
 
 /// Does what the arguments ask for. Threads are started by the first runtime.
-fn work<R: Threads + Sync>(threads: &R, rt: HostRuntime) -> ExitCode {
+fn work<R: Threads + Wait + Sync>(threads: &R, rt: HostRuntime) -> ExitCode {
     let alloc = rt.alloc();
     let Ok(arguments) = given_arguments(&rt) else {
         return exit_code(NO_MEMORY);
@@ -81,9 +83,13 @@ mod generated_tests;
 #[cfg(test)]
 mod graph_tests;
 #[cfg(test)]
+mod kernel_tests;
+#[cfg(test)]
 mod replay_tests;
 #[cfg(test)]
 mod run_tests;
+#[cfg(test)]
+mod stop_tests;
 #[cfg(test)]
 mod sweep_tests;
 #[cfg(test)]

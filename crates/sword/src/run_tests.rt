@@ -6,6 +6,7 @@ use command_answer::{
 };
 use std::alloc::Global;
 use std::process::Abort;
+use std::sync::Wait;
 use std::test::Fail;
 use std::thread::{Builder, Threads};
 use sw_base::{MemFolder, MemOut, NoGate, Path};
@@ -48,7 +49,7 @@ fn holding(alloc: Global, kernel: &str) -> Result<MemFolder, Fail> {
 }
 
 // A folder in which this kernel ran and printed the text.
-fn after<R: Abort + Threads + Sync>(
+fn after<R: Abort + Threads + Wait + Sync>(
     rt: &R,
     alloc: Global,
     kernel: &str,
@@ -68,7 +69,7 @@ fn after<R: Abort + Threads + Sync>(
     Ok(folder)
 }
 
-fn show<R: Abort + Threads + Sync>(
+fn show<R: Abort + Threads + Wait + Sync>(
     rt: &R,
     alloc: Global,
     folder: &mut MemFolder,
@@ -233,7 +234,6 @@ fn other_kernels_are_refused(rt: HostRuntime) -> Result<(), Fail> {
     let run = ["run", "k", "d", "4096"];
     answers(&rt, alloc, &mut empty, &run, KERNEL_REFUSED, "no kernel\n")?;
     let rows = [
-        ("array a i64 4 main { a[0] = 1 }", "kernel not built\n"),
         ("no kernel at all", "kernel line 1: Syntax\n"),
         ("main {\n}\n$", "kernel line 3: Token\n"),
         ("", "kernel line 1: Syntax\n"),
@@ -281,8 +281,9 @@ fn each_call_on_a_log_may_fail(rt: HostRuntime) -> Result<(), Fail> {
             } else {
                 answers(&rt, alloc, &mut folder, &run, WRITE_FAULT, "")?;
             }
-            assert_eq!(rt; folder.file(INDEX).is_some(), call == 5);
-            assert_eq!(rt; folder.file(LANE_0).is_some(), call == 5);
+            for name in [INDEX, "d/t.swl", LANE_0, "d/t-0.1.swl"] {
+                assert_eq!(rt; folder.file(name).is_some(), call == 5, "{name}");
+            }
         }
     }
     Ok(())
@@ -307,7 +308,7 @@ fn each_text_of_a_run_may_fail(rt: HostRuntime) -> Result<(), Fail> {
 }
 
 // Whether a sum that is nearly as deep as its text is long is run; `None` where no memory was found.
-fn long_sum_is_run<R: AllocGlobal + Threads + Sync + Drop>(rt: R) -> Option<bool> {
+fn long_sum_is_run<R: AllocGlobal + Threads + Wait + Sync + Drop>(rt: R) -> Option<bool> {
     let alloc = rt.alloc();
     let begin = "array a i64 1 main { parallel 1 { for i in 0 .. 1 { a[0] = 1";
     let mut kernel = String::from_str(alloc, begin).ok()?;

@@ -5,6 +5,7 @@ use crate::top::sword;
 use command_answer::{RACES, READ_FAULT};
 use std::alloc::Global;
 use std::process::Abort;
+use std::sync::Wait;
 use std::sync::atomic::{AtomicU64, Ordering};
 use std::test::Fail;
 use std::thread::Threads;
@@ -40,7 +41,11 @@ fn two_regions(alloc: Global) -> Result<MemFolder, Fail> {
 }
 
 // The status of a check where this call on the folder fails, if it makes so many, and how many workers came.
-fn checked<R: Abort + Threads + Sync>(rt: &R, alloc: Global, call: u64) -> Result<(u8, u64), Fail> {
+fn checked<R: Abort + Threads + Wait + Sync>(
+    rt: &R,
+    alloc: Global,
+    call: u64,
+) -> Result<(u8, u64), Fail> {
     let mut folder = two_regions(alloc)?;
     folder.fail(&[call])?;
     let mut out = MemOut::new(alloc)?;

@@ -2,6 +2,7 @@ use crate::top::sword;
 use command_answer::{DONE, FOLDER_REFUSED, RACES, READ_FAULT, USAGE, WRITE_FAULT};
 use std::alloc::{AllocError, Global};
 use std::process::Abort;
+use std::sync::Wait;
 use std::test::Fail;
 use std::thread::Threads;
 use sw_base::{MemFolder, MemOut, NoGate};
@@ -93,7 +94,7 @@ pub fn arguments(alloc: Global, given: &[&str]) -> Result<Vec<String>, AllocErro
     Ok(all)
 }
 
-pub fn answers<R: Abort + Threads + Sync>(
+pub fn answers<R: Abort + Threads + Wait + Sync>(
     rt: &R,
     alloc: Global,
     folder: &mut MemFolder,

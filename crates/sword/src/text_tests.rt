@@ -6,12 +6,13 @@ use crate::tests::{
 use command_answer::{DONE, FOLDER_REFUSED};
 use std::alloc::Global;
 use std::process::Abort;
+use std::sync::Wait;
 use std::test::Fail;
 use std::thread::Threads;
 use sw_base::MemFolder;
 
 // Of these tasks the folder is refused so.
-fn refused<R: Abort + Threads + Sync>(
+fn refused<R: Abort + Threads + Wait + Sync>(
     rt: &R,
     alloc: Global,
     tasks: &[Task<'_>],

@@ -14,10 +14,11 @@ use crate::arguments::{Command, read_arguments};
 use crate::checking::check;
 use crate::generating::check_generated;
 use crate::replaying::replay_file;
+use crate::running::run_file;
 use crate::showing::show;
 use command_answer::{NO_MEMORY, USAGE, print};
-use run_command::run;
 use std::alloc::Global;
+use std::sync::Wait;
 use std::thread::Threads;
 use sw_base::{Folder, Gate, Out};
 
@@ -26,9 +27,9 @@ const USAGE_LINE: &[u8] =
 
 /// Does what the arguments after the program's name ask for, and answers the status that the program ends with.
 ///
-/// The gate sees each lane of a run start each of its phases, and each worker of a check or of `gen` start. The workers are threads of the
-/// runtime; lanes are none yet.
-pub fn sword<R: Threads + Sync, F: Folder, O: Out, G: Gate>(
+/// The gate sees each lane of a region start each of its phases, and each worker of a check or of `gen` start. Lanes and workers are
+/// threads of the runtime.
+pub fn sword<R: Threads + Wait + Sync, F: Folder, O: Out, G: Gate>(
     rt: &R,
     alloc: Global,
     arguments: &[String],
@@ -58,9 +59,9 @@ pub fn sword<R: Threads + Sync, F: Folder, O: Out, G: Gate>(
     // `gen` answers how many accesses and barrier intervals the run of so many rounds has, and the line pairs of its races.
     ensures gen_ { (rounds workers : ℕ) → SaysGen (texts arguments.now) rounds workers → Answers (GenDue rounds) (O.written out.old) (O.written out.new) result }
 
-    // `run` answers that there is no kernel, or none of the first kind; that the folder has an index; where the kernel stopped; or
-    // the counts of the run and some sums, whose logs and index are then there: those of the kernel's tasks, each with its whole trace
-    // under what it read, cut into pieces that fill the buffer.
+    // `run` answers that there is no kernel; that the folder has an index; where the kernel stopped, with the logs of one execution of it;
+    // or the counts of a run and the sums in which a legal history of it ends. Its logs and index are then there: those of the kernel's
+    // tasks, each with its whole trace under what it read, cut into pieces that fill the buffer.
     ensures run { (kernel dir : List ℕ) (size : ℕ) → SaysRun (texts arguments.now) kernel dir size → WhereTold (F.content folder.old) (λ c.
         WhereTold (F.content folder.new) (λ d. Tries (RunDue (Rose (F.write_faults folder.old) (F.write_faults folder.new)) kernel dir size c d) (O.written out.old) (O.written out.new) result)) }
     ensures run_leaves { (kernel dir : List ℕ) (size : ℕ) → SaysRun (texts arguments.now) kernel dir size → WhereTold (F.content folder.old) (λ c.
@@ -85,7 +86,7 @@ pub fn sword<R: Threads + Sync, F: Folder, O: Out, G: Gate>(
             check(rt, alloc, folder, out, gate, dir, workers as usize)
         }
         Ok(Some(Command::Run { kernel, dir, size })) => {
-            run(rt, alloc, kernel, dir, size as usize, folder, out, gate)
+            run_file(rt, alloc, kernel, dir, size as usize, folder, out, gate)
         }
         Ok(Some(Command::Replay { kernel, dir })) => replay_file(alloc, folder, out, kernel, dir),
         Ok(Some(Command::Show { dir })) => show(alloc, folder, out, dir),

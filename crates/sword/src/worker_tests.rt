@@ -1,4 +1,4 @@
-//! `check` with each number of workers: the same report, and workers that run at once.
+//! `check` with each number of workers: the same report. Workers run at once, and so do the lanes of a run.
 ghost use Rattle.std.specs.Prelude.{◌<◌, ◌^◌};
 
 use crate::tests::{BARRIER, END, ROOT, Rec, Step, answers, arguments, made_folder, region, write};
@@ -217,6 +217,28 @@ fn the_workers_of_a_check_run_at_once(rt: HostRuntime) -> Result<(), Fail> {
     let status = sword(&rt, alloc, &check, &mut folder, &mut out, &gate);
     assert_eq!(rt; status, RACES);
     assert_eq!(rt; out.written(), b"race 3 3\nraces 1\n".as_slice());
+    assert!(rt; gate.came[0].load(Ordering::SeqCst) && gate.came[1].load(Ordering::SeqCst));
+    assert!(rt; !gate.alone.load(Ordering::SeqCst));
+    Ok(())
+}
+
+#[test]
+fn the_lanes_of_a_run_run_at_once(rt: HostRuntime) -> Result<(), Fail> {
+    let alloc = rt.alloc();
+    let mut folder = MemFolder::new(alloc)?;
+    folder.hold(
+        "k",
+        b"array a i64 2\nmain { parallel 2 { a[tid] = 1 } }\n".as_slice(),
+    )?;
+    let mut out = MemOut::new(alloc)?;
+    let gate = Pair {
+        came: [AtomicBool::new(false), AtomicBool::new(false)],
+        alone: AtomicBool::new(false),
+    };
+    let run = arguments(alloc, &["run", "k", "d", "4096"])?;
+    let status = sword(&rt, alloc, &run, &mut folder, &mut out, &gate);
+    assert_eq!(rt; status, DONE);
+    assert_eq!(rt; out.written(), b"tasks 3\nrecords 6\nsum a 2\n".as_slice());
     assert!(rt; gate.came[0].load(Ordering::SeqCst) && gate.came[1].load(Ordering::SeqCst));
     assert!(rt; !gate.alone.load(Ordering::SeqCst));
     Ok(())

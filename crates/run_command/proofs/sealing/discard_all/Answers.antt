@@ -1,25 +1,23 @@
-use Rattle.std.proofs.Common.{◌≡◌, arith, rules, refl, sym, inl, inr, ◌∙◌}
+use Rattle.std.proofs.Common.{◌≡◌, arith, rules, refl, sym, ◌∙◌}
 use Rattle.std.proofs.lemmas.Iterator.Adapters.{YieldsList-from_vec}
 use Rattle.std.proofs.lemmas.Iterator.Consumers.{YieldsList-end}
 use Rattle.std.proofs.lemmas.List.{map-id}
-use Rattle.run_command.proofs.SealedLogs.{faulty_none, faulty_last}
+use Rattle.run_command.proofs.SealedLogs.{faults_none, faults_push}
 use Rattle.run_command.proofs.sealing.discard_all.Goals as goal
 
 pub loop-log-init : goal.loop-log-init
 loop-log-init g c = record {
   same = refl;
   later = omega arith;
-  faulty = λ path has. absurd (faulty_none path has);
+  faulty = faults_none g.F.Log.Log.faults _;
 }
 
 pub loop-log-preserved : goal.loop-log-preserved
 loop-log-preserved g c = record {
   same = cc;
   later = let taken = c.discard.ensures.log_faults in omega arith;
-  faulty = λ path has. elim (faulty_last _ c.loop-log.yielded _ path has) [
-    | inl before ↦ let rose = c.loop-log.invariant.faulty path before in let taken = c.discard.ensures.log_faults in omega arith
-    | inr own ↦ let rose = c.discard.ensures.log_faults.faulty own in omega arith
-  ];
+  faulty = faults_push g.F.Log.Log.faults c.loop-log.yielded _ _ _ (λ rose. let taken = c.discard.ensures.log_faults in omega arith) c.loop-log.invariant.faulty
+      (λ own. let rose = c.discard.ensures.log_faults.faulty own in let before = c.loop-log.invariant.later in omega arith);
 }
 
 pub returns-clause-faulty : goal.returns-clause-faulty

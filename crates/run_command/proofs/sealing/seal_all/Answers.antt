@@ -2,7 +2,7 @@ use Rattle.std.proofs.Common.{◌≡◌, arith, rules, refl, sym, inl, inr, ◌�
 use Rattle.std.proofs.lemmas.Iterator.Adapters.{YieldsList-from_vec}
 use Rattle.std.proofs.lemmas.Iterator.Consumers.{YieldsList-end}
 use Rattle.std.proofs.lemmas.List.{map-id}
-use Rattle.run_command.proofs.SealedLogs.{faulty_none, faulty_last, seals_all_none, seals_all_push}
+use Rattle.run_command.proofs.SealedLogs.{faults_none, faults_push, seals_all_none, seals_all_push}
 use Rattle.run_command.proofs.sealing.seal_all.Goals as goal
 
 pub loop-log-init : goal.loop-log-init
@@ -10,7 +10,7 @@ loop-log-init g c = record {
   seals = seals_all_none (g.F.Folder.content c.args.folder.now);
   tells = refl;
   later = omega arith;
-  faulty = λ path has. absurd (faulty_none path has);
+  faulty = faults_none g.F.Log.Log.faults _;
   cause = λ is. absurd (cc);
 }
 
@@ -20,10 +20,8 @@ loop-log-preserved g c = record {
       c.loop-log.invariant.seals c.seal_next-outcome.ensures.sealed c.seal_next-outcome.ensures.refused c.seal_next-outcome.ensures.given_up;
   tells = cc;
   later = let taken = c.seal_next-outcome.ensures.log_faults in omega arith;
-  faulty = λ path has. elim (faulty_last _ c.loop-log.yielded _ path has) [
-    | inl before ↦ let rose = c.loop-log.invariant.faulty path before in let taken = c.seal_next-outcome.ensures.log_faults in omega arith
-    | inr own ↦ let rose = c.seal_next-outcome.ensures.log_faults.faulty own in omega arith
-  ];
+  faulty = faults_push g.F.Log.Log.faults c.loop-log.yielded _ _ _ (λ rose. let taken = c.seal_next-outcome.ensures.log_faults in omega arith) c.loop-log.invariant.faulty
+      (λ own. let rose = c.seal_next-outcome.ensures.log_faults.faulty own in let before = c.loop-log.invariant.later in omega arith);
   cause = λ is. elim (c.seal_next-outcome.ensures.cause is) [
     | inl was ↦ let rose = c.loop-log.invariant.cause was in let taken = c.seal_next-outcome.ensures.log_faults in omega arith
     | inr rose ↦ omega arith

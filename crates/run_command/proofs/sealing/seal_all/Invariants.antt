@@ -1,9 +1,7 @@
-use Rattle.std.proofs.Common.{◌≡◌, ◌≤◌, List, map, is_some, IsErrOf}
+use Rattle.std.proofs.Common.{◌≡◌, ◌≤◌, is_some, IsErrOf}
 use Rattle.sw_base.specs.Environment.{Rose}
-use Rattle.sw_base.specs.declared.path.Step.{Step}
 use Rattle.sw_base.specs.declared.trouble.Trouble.TheVariants as trouble
-use Rattle.team_runner.specs.Answer.{HasFaulty}
-use Rattle.run_command.specs.Seals.{SealsAll, all_logged}
+use Rattle.run_command.specs.Seals.{RaiseFaults, SealsAll, all_logged}
 use Rattle.run_command.proofs.sealing.seal_all.Given as goal
 
 abbrev pub invariant-loop-log : goal.invariant-loop-log
@@ -11,7 +9,6 @@ invariant-loop-log g l = record {
   seals : SealsAll (all_logged g.F.Log.Log.dir g.F.Log.Log.path g.F.Log.Log.text l.yielded) l.outcome (g.F.Folder.content l.initial.folder) (g.F.Folder.content l.folder);
   tells : is_some (g.F.Folder.content l.folder) ≡ is_some (g.F.Folder.content l.initial.folder);
   later : g.F.Folder.write_faults l.initial.folder ≤ g.F.Folder.write_faults l.folder;
-  faulty : (path : List Step) → HasFaulty (map (λ e. (e.0, g.F.Log.Log.faults e.1)) l.yielded) path
-      → Rose (g.F.Folder.write_faults l.initial.folder) (g.F.Folder.write_faults l.folder);
+  faulty : RaiseFaults g.F.Log.Log.faults l.yielded (Rose (g.F.Folder.write_faults l.initial.folder) (g.F.Folder.write_faults l.folder));
   cause : IsErrOf l.outcome trouble.Failed → Rose (g.F.Folder.write_faults l.initial.folder) (g.F.Folder.write_faults l.folder);
 }

@@ -1,6 +1,7 @@
 use Rattle.std.proofs.Common.{◌≡◌, arith, sym}
 use Rattle.std.proofs.lemmas.Result.{err_from_is_err_and}
 use Rattle.run_command.specs.Seals.{all_logged, rows_of_logs}
+use Rattle.run_command.proofs.SealedLogs.{faults_weaker}
 use Rattle.run_command.proofs.StoredRun.{rows-logged, stores_all, stores_prefix, stores_none, stores_part}
 use Rattle.run_command.proofs.sealing.store.Goals as goal
 
@@ -29,9 +30,7 @@ returns-clause-stored g c =
     stores_all c.args.dir.now logs _ (g.F.Folder.content c.seal_all.new.folder) _ c.in_ok-seal_all.ensures.seals (rw rows at c.in_ok-write_index.ensures.done)
 
 pub returns-in_err-write_index-clause-faulty : goal.returns-in_err-write_index-clause-faulty
-returns-in_err-write_index-clause-faulty g c = λ path has.
-    let rose = c.seal_all.ensures.faulty path has in let cause = c.write_index.ensures.cause in omega arith
+returns-in_err-write_index-clause-faulty g c = faults_weaker g.F.Log.Log.faults _ _ _ (λ rose. let cause = c.write_index.ensures.cause in omega arith) c.seal_all.ensures.faulty
 
 pub returns-clause-faulty : goal.returns-clause-faulty
-returns-clause-faulty g c = λ path has.
-    let rose = c.seal_all.ensures.faulty path has in let cause = c.write_index.ensures.cause in omega arith
+returns-clause-faulty g c = faults_weaker g.F.Log.Log.faults _ _ _ (λ rose. let cause = c.write_index.ensures.cause in omega arith) c.seal_all.ensures.faulty

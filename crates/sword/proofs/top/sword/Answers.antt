@@ -45,23 +45,23 @@ returns-in-Ok-None-clause-run g c = λ kernel dir size says. let usage = rw c.in
 pub returns-in-Ok-Some-Run-clause-run : goal.returns-in-Ok-Some-Run-clause-run
 returns-in-Ok-Some-Run-clause-run g c = λ kernel dir size says old is new now.
     let said = rw (c.in-Ok-Some-Run.field-0-is, c.in-Ok-Some-Run.field-0-0-is) at c.in-Ok-Some-Run.ensures.said in
-    same_run (λ (k d : List ℕ) (n : ℕ). Tries (RunDue (Rose (g.F.Folder.write_faults c.args.folder.now) (g.F.Folder.write_faults c.run.new.folder)) k d n old new) (g.O.Out.written c.args.out.now) (g.O.Out.written c.run.new.out) c.run.result) (texts c.args.arguments.now) _ _ kernel dir _ size
-    said says (c.run.ensures.answers old is new now)
+    same_run (λ (k d : List ℕ) (n : ℕ). Tries (RunDue (Rose (g.F.Folder.write_faults c.args.folder.now) (g.F.Folder.write_faults c.run_file.new.folder)) k d n old new) (g.O.Out.written c.args.out.now) (g.O.Out.written c.run_file.new.out) c.run_file.result) (texts c.args.arguments.now) _ _ kernel dir _ size
+    said says (c.run_file.ensures.answers old is new now)
 
 pub returns-in-Ok-Some-Run-clause-run_leaves : goal.returns-in-Ok-Some-Run-clause-run_leaves
 returns-in-Ok-Some-Run-clause-run_leaves g c = λ kernel dir size says old is new now failure.
     let said = rw (c.in-Ok-Some-Run.field-0-is, c.in-Ok-Some-Run.field-0-0-is) at c.in-Ok-Some-Run.ensures.said in
-    same_run (λ (k d : List ℕ) (n : ℕ). LeavesPart (Rose (g.F.Folder.write_faults c.args.folder.now) (g.F.Folder.write_faults c.run.new.folder)) k d n old new) (texts c.args.arguments.now) _ _ kernel dir _ size said says (c.run.ensures.leaves old is new now failure)
+    same_run (λ (k d : List ℕ) (n : ℕ). LeavesPart (Rose (g.F.Folder.write_faults c.args.folder.now) (g.F.Folder.write_faults c.run_file.new.folder)) k d n old new) (texts c.args.arguments.now) _ _ kernel dir _ size said says (c.run_file.ensures.leaves old is new now failure)
 
 pub returns-in-Ok-Some-Run-clause-only_printed : goal.returns-in-Ok-Some-Run-clause-only_printed
 returns-in-Ok-Some-Run-clause-only_printed g c = λ old is none.
     let said = rw (c.in-Ok-Some-Run.field-0-is, c.in-Ok-Some-Run.field-0-0-is) at c.in-Ok-Some-Run.ensures.said in
-    c.run.ensures.only_printed old is (λ can. none (record { kernel = _; dir = _; size = _; says = said; can = can }))
+    c.run_file.ensures.only_printed old is (λ p can. none (record { kernel = _; dir = _; size = _; says = said; program = p; can = can }))
 
 pub returns-in-Ok-Some-Run-clause-no_writes : goal.returns-in-Ok-Some-Run-clause-no_writes
 returns-in-Ok-Some-Run-clause-no_writes g c = λ old is none.
     let said = rw (c.in-Ok-Some-Run.field-0-is, c.in-Ok-Some-Run.field-0-0-is) at c.in-Ok-Some-Run.ensures.said in
-    c.run.ensures.same_writes old is (λ can. none (record { kernel = _; dir = _; size = _; says = said; can = can }))
+    c.run_file.ensures.same_writes old is (λ p can. none (record { kernel = _; dir = _; size = _; says = said; program = p; can = can }))
 
 pub returns-in-Ok-None-clause-gen_ : goal.returns-in-Ok-None-clause-gen_
 returns-in-Ok-None-clause-gen_ g c = λ rounds workers says. let usage = rw c.in-Ok-None.field-0-is at c.in-Ok-None.ensures.usage in absurd (usage (gen rounds workers) says)

@@ -1,0 +1,44 @@
+//! `run`: what comes out of a run is printed.
+ghost use Rattle.std.specs.Prelude.{◌≡◌, ◌⊎◌, is_some};
+ghost use Rattle.sw_base.specs.Environment.{Rose, WhereTold};
+ghost use Rattle.kernel_syntax.specs.Program.{Program};
+ghost use Rattle.region_runner.specs.Answer.{IsBufferSize};
+ghost use Rattle.run_command.specs.Run.{CanRun, LeavesPart, RunDue};
+ghost use Rattle.command_answer.specs.Answer.{IsFailure, Tries};
+ghost use Rattle.command_answer.specs.declared.status.TheConstants.{USAGE, READ_FAULT, WRITE_FAULT};
+
+use run_command::{print_outcome, run};
+use std::alloc::Global;
+use std::sync::Wait;
+use std::thread::Threads;
+use sw_base::{Folder, Gate, Out};
+
+/// Runs the kernel that the file `kernel` holds, with buffers of `size` bytes, into the folder `dir`, and prints what came out.
+pub fn run_file<R: Threads + Wait + Sync, F: Folder, O: Out, G: Gate>(
+    rt: &R,
+    alloc: Global,
+    kernel: &str,
+    dir: &str,
+    size: usize,
+    folder: &mut F,
+    out: &mut O,
+    gate: &G,
+) -> u8
+    requires { IsBufferSize size }
+    ensures answers { WhereTold (F.content folder.old) (λ c. WhereTold (F.content folder.new) (λ d.
+        Tries (RunDue (Rose (F.write_faults folder.old) (F.write_faults folder.new)) kernel.now dir.now size c d) (O.written out.old) (O.written out.new) result)) }
+    ensures leaves { WhereTold (F.content folder.old) (λ c. WhereTold (F.content folder.new) (λ d.
+        IsFailure result → LeavesPart (Rose (F.write_faults folder.old) (F.write_faults folder.new)) kernel.now dir.now size c d)) }
+    ensures reads { result ≡ READ_FAULT → F.content folder.new ≡ F.content folder.old }
+    ensures read_fault { result ≡ READ_FAULT → Rose (F.read_faults folder.old) (F.read_faults folder.new) }
+    ensures write_fault { result ≡ WRITE_FAULT → Rose (O.faults out.old) (O.faults out.new) ⊎ Rose (F.write_faults folder.old) (F.write_faults folder.new) }
+    ensures only_printed { WhereTold (F.content folder.old) (λ c. ((p : Program) → CanRun c.held kernel.now dir.now p → ⊥) →
+        result ≡ WRITE_FAULT → Rose (O.faults out.old) (O.faults out.new)) }
+    ensures same_writes { WhereTold (F.content folder.old) (λ c. ((p : Program) → CanRun c.held kernel.now dir.now p → ⊥) →
+        F.write_faults folder.new ≡ F.write_faults folder.old) }
+    ensures tells { is_some (F.content folder.new) ≡ is_some (F.content folder.old) }
+    ensures no_usage { result ≡ USAGE → ⊥ }
+{
+    let outcome = run(rt, alloc, kernel, dir, size, folder, gate);
+    print_outcome(alloc, out, &outcome)
+}
