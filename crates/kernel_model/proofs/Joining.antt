@@ -21,12 +21,6 @@ after-and_then (Gives a s) f g = refl
 after-and_then (Stops why line s) f g = refl
 after-and_then (Wants s) f g = refl
 
-pub and_then-and_then : {A B C : Type 0} (m : Outcome A) (f : A → State → Outcome B) (g : B → State → Outcome C) →
-    and_then (and_then m f) g ≡ and_then m (λ a s. and_then (f a s) g)
-and_then-and_then (Gives a s) f g = refl
-and_then-and_then (Stops why line s) f g = refl
-and_then-and_then (Wants s) f g = refl
-
 -- nothing follows
 pub after-nothing : (m : Outcome (Unit {0})) → after m (λ s. Gives tt s) ≡ m
 after-nothing (Gives a s) = refl

@@ -6,7 +6,6 @@ pub mod RunEffects
 pub mod Shares
 pub mod SingleSteps
 pub mod Steps
-pub mod Tracing
 pub mod WorkedRows
 pub mod RunningParts
 pub mod BodyParts
