@@ -207,7 +207,7 @@ ended_in_works layout (work ∷ works) i event sound all pass found is within =
         }
 
 -- a lane of phases that end
-ends_behind : (xs ys : List Record) → LastIsEnd ys → LastIsEnd (xs ++ ys)
+pub ends_behind : (xs ys : List Record) → LastIsEnd ys → LastIsEnd (xs ++ ys)
 ends_behind xs ys e = record { prefix = xs ++ e.prefix; last = e.last; parts = ap (λ (rs : List Record). xs ++ rs) e.parts ∙ sym (append_assoc xs e.prefix (e.last ∷ [])); ends = e.ends }
 
 team_ends : (lane : ℕ) (team : TeamWork) → lane < lane_count_of team → TeamEnds team → LastIsEnd (flat_map work_records (work_at lane team))

@@ -84,7 +84,7 @@ module _ (w : WorldValue) (team : TeamTree) (slots : List ℤ) (task : Buffered)
   -- no memory was found for it
   pub no_memory_for : (path : List Step) → IsInRegion task.path number team.span path → later ≡ before → RanRegion w team slots task number hand hand before later (Err (path, stop.Trouble trouble.Memory))
   no_memory_for path inside kept =
-      nothing_ran (Err (path, stop.Trouble trouble.Memory)) (record { inside = inside; traced = λ fit program same end some. absurd (no_end some); crowded = λ line is. absurd cc })
+      nothing_ran (Err (path, stop.Trouble trouble.Memory)) (record { inside = inside; traced = λ fit program same end some. absurd (no_end some); crowded = λ line is. absurd cc; least = λ other. absurd other })
       (record {
         added = [];
         grows = kept ∙ sym (append-nil before);

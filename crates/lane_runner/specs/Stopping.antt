@@ -1,5 +1,5 @@
 -- How regions end, and how one stops.
-use Rattle.std.specs.Prelude.{◌≡◌, ℕ, ◌+◌, ◌<◌, List, [], ◌∷◌, ◌++◌, length, All, Option, Some, None, slice_get}
+use Rattle.std.specs.Prelude.{◌≡◌, ◌⊎◌, ℕ, ◌+◌, ◌<◌, List, [], ◌∷◌, ◌++◌, length, All, Option, Some, None, slice_get}
 use Rattle.sw_base.specs.declared.path.Step.{Step}
 use Rattle.log_format.specs.declared.record.Record.{Record}
 use Rattle.log_format.specs.declared.record.Kind.TheVariants.{Region}
@@ -11,7 +11,8 @@ use Rattle.kernel_model.specs.State.{Fork}
 use Rattle.kernel_model.specs.Trace.{Start, Ending, Stopped}
 use Rattle.kernel_model.specs.Folder.{own_trace, IsTracedTo}
 use Rattle.history_model.specs.Work.{Work, Phases, RegionWork, work_regions, lane_works}
-use Rattle.history_model.specs.Joined.{PhasesEnd, ArePhasesJoined}
+use Rattle.race_model.specs.Trace.{barrier_count}
+use Rattle.history_model.specs.Joined.{LastIsEnd, PhasesEnd, ArePhasesJoined}
 use Rattle.execution_model.specs.Runs.{works_log, lane_begin}
 use Rattle.lane_runner.specs.declared.stop.Stop.{Stop}
 use Rattle.lane_runner.specs.declared.stop.Stop.TheVariants as stop
@@ -78,12 +79,41 @@ pub record IsInRegion (at : List Step) (number span : ℕ) (path : List Step) : 
   pub below : List Step
   pub path_is : path ≡ at ++ record { region = number; lane = lane; span = span } ∷ below
 
--- The task of this path stopped so in the region: a stop that traces tell is how its trace ends, in each kernel of these arrays; and
--- where too many tasks were below it, it did so after a region.
+-- these records go further than others: they pass more barriers, or end
+abbrev pub GoesFurther : List Record → List Record → Type 0
+GoesFurther records others = (barrier_count others < barrier_count records) ⊎ LastIsEnd records
+
+-- each smaller lane of the region went further than this one
+abbrev pub IsLeastLane : Phases → ℕ → Type 0
+IsLeastLane phases lane = (other : ℕ) → other < lane → GoesFurther (works_log (lane_works other phases)) (works_log (lane_works lane phases))
+
+-- so at each step of the path, down from a task with these works
+pub data IsLeastBelow : List Work → List Step → Type 0 where
+  itself : (works : List Work) → IsLeastBelow works []
+  below : (works : List Work) (number : ℕ) (region : RegionWork) (lane : ℕ) (path : List Step) → slice_get (flat_map work_regions works) number ≡ Some region → lane < region.span
+      → IsLeastLane region.phases lane → IsLeastBelow (lane_works lane region.phases) path → IsLeastBelow works (record { region = number; lane = lane; span = region.span } ∷ path)
+
+-- the task of this path is a lane of the region, or below one, and so at each step of the path from the region on
+pub record IsLeastInLane (at : List Step) (number span : ℕ) (path : List Step) (phases : Phases) : Type 0 where
+  pub lane : ℕ
+  pub within : lane < span
+  pub below : List Step
+  pub path_is : path ≡ at ++ record { region = number; lane = lane; span = span } ∷ below
+  pub least : IsLeastLane phases lane
+  pub down : IsLeastBelow (lane_works lane phases) below
+
+-- it isn't for want of memory or since a call failed
+abbrev pub IsNoTrouble : Stop → Type 0
+IsNoTrouble (stop.Trouble trouble) = ⊥
+IsNoTrouble why = Unit {0}
+
+-- The task of this path stopped so in the region: a stop that traces tell is how its trace ends, in each kernel of these arrays;
+-- where too many tasks were below it, it did so after a region; and but for trouble, each smaller lane went further.
 pub record StopsRegion (arrays : List Array) (at : List Step) (number : ℕ) (path : List Step) (why : Stop) (fork : Fork) (phases : Phases) : Type 0 where
   pub inside : IsInRegion at number fork.team.span path
   pub traced : PhasesFit phases → (program : Program) → program.arrays ≡ arrays → (end : Ending) → ending_for why ≡ Some end → EndsInLane program end at number path fork phases
   pub crowded : (line : ℕ) → why ≡ stop.Tasks line → RestsInLane line at number fork.team.span path phases
+  pub least : IsNoTrouble why → IsLeastInLane at number fork.team.span path phases
 
 -- In the last of these regions the task of this path stopped so, and those before it ended: they are the regions of the task `at`
 -- from this number on.

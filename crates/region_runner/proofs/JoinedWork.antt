@@ -142,6 +142,11 @@ module _ (w : WorldValue) (part : State → Outcome (Unit {0})) (slots slots' : 
   phase_did_work bars (Err (halt.Tasks line)) m = began_did (AtTasks line) m
   phase_did_work bars (Err (halt.Trouble trouble)) (m, refused) = began_did AtLog m
 
-  -- and it passed so many barriers, where it ended
-  pub phase_passed : (bars : ℕ) (m : GoesPast bars w part slots slots' old new (Ok tt)) → barrier_count (work_records (work_of bars (Ok tt) m)) ≡ bars
-  phase_passed bars m = m.done.barriers
+  -- and where it stopped it passed no barrier
+  pub phase_short : (bars : ℕ) (why : Halt) (m : GoesPast bars w part slots slots' old new (Err why)) → barrier_count (work_records (work_of bars (Err why) m)) ≡ 0
+  phase_short bars (halt.DivZero line) m = m.done.barriers
+  phase_short bars (halt.Index line) m = m.done.barriers
+  phase_short bars (halt.LogFull line) m = m.done.barriers
+  phase_short bars (halt.Region path why) m = m.done.barriers
+  phase_short bars (halt.Tasks line) m = m.done.barriers
+  phase_short bars (halt.Trouble trouble) (m, refused) = m.done.barriers

@@ -20,6 +20,7 @@ pub mod LawfulPhases
 pub mod RegionLanes
 pub mod RegionDraws
 pub mod TaskStops
+pub mod PutLogs
 pub mod RegionStops
 pub mod RegionHands
 pub mod ClosedLogs

@@ -22,7 +22,7 @@ pub torn_region : (w : WorldValue) (team : TeamTree) (slots : List ℤ) (task : 
 torn_region w team slots task number hand share lanes given handed r e there torn gathered =
     let settled =
     settles (place_of task) w.arrays task.path number (record { team = team; slots = slots }) NoPhase (λ k. slice_index_or lanes k e) gathered.kept (λ k less. (torn.each k e less).path_is) (λ k less. (torn.each k e less).gave)
-    (λ k h less is. absurd (no_halt (sym (torn.each k e less).none_halted ∙ is))) given r (λ all. absurd (torn.refused e (all torn.torn torn.within).1)) gathered.answer in
+    (λ k h less is. absurd (no_halt (sym (torn.each k e less).none_halted ∙ is))) (λ j k less within none h is. absurd (no_halt (sym (torn.each k e within).none_halted ∙ is))) given r (λ all. absurd (torn.refused e (all torn.torn torn.within).1)) gathered.answer in
     nothing_ran w team slots task number hand given handed there r settled.0
     (subst (λ (es : List Entry). HandsOn (place_of task) (stop_in r) task.path number (record { span = team.span; phases = NoPhase } ∷ []) given es) (sym gathered.grows) settled.1)
   where

@@ -1,7 +1,8 @@
 -- What the lanes of a region did, once it rests.
-use Rattle.std.proofs.Common.{◌≡◌, refl, ap, sym, ◌∙◌, subst, ℕ, ◌<◌, List, [], ℤ, Option, Some, slice_index_or}
+use Rattle.std.proofs.Common.{◌≡◌, inl, inr, refl, ap, sym, ◌∙◌, subst, ℕ, ◌<◌, List, [], map, ℤ, Option, Some, None, slice_index_or, arith}
 use Rattle.sw_base.specs.declared.path.Step.{Step}
 use Rattle.race_model.specs.Listing.{lane_of}
+use Rattle.race_model.specs.Trace.{barrier_count}
 use Rattle.kernel_syntax.specs.Program.{Program}
 use Rattle.kernel_syntax.specs.Tree.{TeamTree}
 use Rattle.kernel_model.specs.Chunking.{HasCounts}
@@ -9,8 +10,8 @@ use Rattle.kernel_model.specs.State.{Fork, State}
 use Rattle.kernel_model.specs.Trace.{run}
 use Rattle.kernel_model.specs.Value.{Site}
 use Rattle.kernel_model.specs.declared.phase.Item.{Item}
-use Rattle.kernel_model.specs.Parts.{run_parts}
-use Rattle.kernel_model.specs.Phases.{parts_in}
+use Rattle.kernel_model.specs.Parts.{bar_count, run_parts}
+use Rattle.kernel_model.specs.Phases.{part_of, parts_in}
 use Rattle.history_model.specs.Work.{lane_works}
 use Rattle.execution_model.specs.Execution.{DrewSome}
 use Rattle.execution_model.specs.Runs.{RunsTask, lane_begin, region_logs, works_log}
@@ -23,17 +24,20 @@ use Rattle.lane_runner.specs.Drawing.{Tally, TellDraws, after_draws}
 use Rattle.lane_runner.specs.Fitting.{PhasesFit}
 use Rattle.lane_runner.specs.Going.{site}
 use Rattle.lane_runner.specs.Handed.{LogPlace}
-use Rattle.lane_runner.specs.Stopping.{StopsRegion}
+use Rattle.lane_runner.specs.Stopping.{GoesFurther}
 use Rattle.region_runner.specs.Begins.{LaneBegins}
 use Rattle.region_runner.specs.Crew.{CrewValue, world_of}
 use Rattle.region_runner.specs.Drawing.{drawn_by}
 use Rattle.region_runner.specs.Member.{MemberValue, answer_of}
 use Rattle.region_runner.specs.Ran.{TaskGoes, task_part}
-use Rattle.region_runner.specs.Stands.{TeamRan}
-use Rattle.region_runner.specs.Stopping.{stop_of}
+use Rattle.region_runner.specs.Stands.{IsBehind, LaneStands, TeamRan, put_in}
+use Rattle.region_runner.specs.Stopping.{StopsTask, stop_of}
+use Rattle.region_runner.proofs.PutLogs.{IsPut, goes_put}
 use Rattle.region_runner.proofs.RegionDraws.{goes_logged, lane_drew, region_draws}
 use Rattle.region_runner.proofs.RegionLanes.{BeginsLane, lane_ran, task_begins}
-use Rattle.region_runner.proofs.RegionStops.{region_stops}
+use Rattle.region_runner.proofs.Standing.{bars_after}
+use Rattle.region_runner.proofs.TaskStops.{stops_task}
+use Rattle.region_runner.proofs.TeamLoop.{snoc_same}
 
 module _ (crew : CrewValue) (team : TeamTree) (slots : List ℤ) (items : List (List Item)) (old new : HandValue View) (before after : List MemberValue) (place : LogPlace) (at : List Step) (number : ℕ)
     (draws : ℕ → HandValue Share) (span_is : crew.span ≡ team.span) (runs : (site : Site) (s : State) → run_parts site (parts_in items) s ≡ run site team.body s) (ran : TeamRan crew items team.end old new before after)
@@ -88,9 +92,36 @@ module _ (crew : CrewValue) (team : TeamTree) (slots : List ℤ) (items : List (
       region_draws program fork has crew.span ran.phases (λ k. (now k).at) drew (ran_lanes fit program arrays) once loop
 
   pub ran_stops : (k : ℕ) (less : k < crew.span) (h : Halt) → (now k).halt ≡ Some h
-      → StopsRegion crew.arrays at number (stop_of (lane_of at number k team.span) h).0 (stop_of (lane_of at number k team.span) h).1 fork ran.phases
+      → StopsTask crew.arrays (lane_of at number k team.span) (stop_of (lane_of at number k team.span) h).0 (stop_of (lane_of at number k team.span) h).1 (lane_begin fork k) (lane_works k ran.phases)
   ran_stops k less h is =
       let b = begins k d less in
-      region_stops fork k (subst (λ (n : ℕ). k < n) span_is less) ran.phases at number (lane_of at number k team.span) refl (world_of crew k) (task_part (site (world_of crew k)) ran.done ran.end) (first k) (now k).slots (start k).at
-      (ran.stands.lanes k d less).last b.none_put b.own (ap (λ (t : Tally). t.forked) b.tally) h
+      stops_task fork k (world_of crew k) (task_part (site (world_of crew k)) ran.done ran.end) (first k) (now k).slots (start k).at (ran.stands.lanes k d less).last b.none_put (lane_works k ran.phases) (lane_of at number k team.span) b.own
+      (ap (λ (t : Tally). t.forked) b.tally) h
       (subst (λ (x : Option Halt). TaskGoes (world_of crew k) (task_part (site (world_of crew k)) ran.done ran.end) slots (now k).slots (start k).at (ran.stands.lanes k d less).last (lane_works k ran.phases) (answer_of x)) is (lane_goes k less))
+
+  -- a lane's log lacks no barrier and no End of what it put
+  logged : (k : ℕ) (less : k < crew.span) → IsPut (lane_works k ran.phases)
+  logged k less =
+      goes_put (world_of crew k) (task_part (site (world_of crew k)) ran.done ran.end) slots (now k).slots (start k).at (ran.stands.lanes k d less).last (lane_works k ran.phases) (answer_of (now k).halt) (lane_goes k less)
+
+  -- a lane that goes on went further than one that doesn't
+  pub ran_further : (j k : ℕ) → j < crew.span → k < crew.span → (now j).halt ≡ None → (h : Halt) → (now k).halt ≡ Some h → GoesFurther (works_log (lane_works j ran.phases)) (works_log (lane_works k ran.phases))
+  ran_further j k less within goes h stops = by ran.end refl where
+    ahead : LaneStands crew (start j) ran.done ran.end ran.phases j (now j)
+    ahead = ran.stands.lanes j d less
+
+    behind : IsBehind ran.done (barrier_count (put_in k ran.phases))
+    behind = (ran.stands.lanes k d within).behind h stops
+
+    by : (end : Option ℕ) → ran.end ≡ end → GoesFurther (works_log (lane_works j ran.phases)) (works_log (lane_works k ran.phases))
+    by (Some line) is = inr ((logged j less).ends (ahead.ends line is goes))
+    by None is =
+        let bar = ran.early is in
+        let same = snoc_same behind.earlier bar.earlier behind.last bar.last (sym behind.parts ∙ bar.parts) in
+        let all = ap (λ (ps : List (List Item)). bar_count (parts_in ps)) behind.parts ∙ bars_after behind.earlier behind.last in
+        let one = ap (λ (items : List Item). bar_count (map part_of items)) same.1 ∙ bar.bar in
+        let mine = ahead.passes goes in
+        let other = behind.count in
+        let my_log = (logged j less).bars in
+        let other_log = (logged k within).bars in
+        inl (omega (arith, all, one, mine, other, my_log, other_log))

@@ -51,6 +51,7 @@ module _ (program : Program) (place : LogPlace) (old new : HandValue View) (c : 
     at = record { rest = []; path_is = own ∙ g.path_is };
     traced = λ fit other same end told. absurd cc;
     crowded = λ line told. absurd cc;
+    least = λ other. absurd other;
   }
 
   stops : (path : List Step) (why : Stop) → StoppedAs c path why → Stops path why
@@ -161,7 +162,7 @@ module _ (program : Program) (place : LogPlace) (hand : HandValue View) (there :
   stopped_at = ([], stop.Trouble Memory)
 
   no_stop : StopsRoot program [] (stop.Trouble Memory) Rest
-  no_stop = record { at = record { rest = []; path_is = refl }; traced = λ fit other same end told. absurd cc; crowded = λ line told. absurd cc }
+  no_stop = record { at = record { rest = []; path_is = refl }; traced = λ fit other same end told. absurd cc; crowded = λ line told. absurd cc; least = λ other. absurd other }
 
   nothing_done : RootRests program place hand hand [] (Err stopped_at)
   nothing_done = record {

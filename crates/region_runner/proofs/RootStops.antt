@@ -1,10 +1,11 @@
 -- Where a task stopped that is told below the root: it is a task of the tree, and its log ends so.
-use Rattle.std.proofs.Common.{◌≡◌, refl, ap, sym, ◌∙◌, subst, ℕ, zero, suc, ◌≤◌, List, [], ◌∷◌, ◌++◌, length, slice_get, Option, Some, None, arith}
+use Rattle.std.proofs.Common.{◌≡◌, refl, ap, sym, ◌∙◌, subst, ℕ, zero, suc, ◌<◌, ◌≤◌, List, [], ◌∷◌, ◌++◌, length, slice_get, Option, Some, None, arith}
 use Rattle.std.specs.List.{flat_map}
 use Rattle.std.proofs.lemmas.List.{append-nil, append_assoc}
 use Rattle.std.proofs.lemmas.Option.{same_Some, none-some}
 use Rattle.sw_base.specs.declared.path.Step.{Step}
 use Rattle.log_format.specs.declared.record.Record.{Record}
+use Rattle.race_model.specs.Listing.{lane_of}
 use Rattle.race_model.specs.Trace.{Logs, logs_of}
 use Rattle.kernel_syntax.specs.Program.{Program}
 use Rattle.kernel_model.specs.State.{Fork}
@@ -18,9 +19,9 @@ use Rattle.history_model.proofs.TaskTree.{AreForked, lane_is, listed_of}
 use Rattle.execution_model.specs.Runs.{IsWithin, RunsTask, lane_begin, logged_tasks, works_log}
 use Rattle.execution_model.proofs.Descent.{RunsAt, down}
 use Rattle.execution_model.proofs.LoggedTasks.{lists_logged, log_is}
-use Rattle.lane_runner.specs.Stopping.{EndsBelow, LastIsRegionAt, RestsBelow}
+use Rattle.lane_runner.specs.Stopping.{GoesFurther, IsLeastBelow, EndsBelow, LastIsRegionAt, RestsBelow}
 use Rattle.lane_runner.specs.World.{layout_of}
-use Rattle.region_runner.specs.Answer.{EndsTask}
+use Rattle.region_runner.specs.Answer.{EndsTask, IsLeast}
 use Rattle.region_runner.specs.Nesting.{NestsWithin}
 use Rattle.region_runner.proofs.TaskListing.{RegionNests, WorksNest, all_regions_nest, found_nests, lane_of_region_nests}
 
@@ -83,6 +84,32 @@ rests_last line works path (RestsBelow.itself ws last ended) = last
 rests_last line works path (RestsBelow.below ws number region lane rest found less rests) =
     subst (λ (ws : List Work). LastIsRegionAt line (works_log (works_under ws rest))) (sym (lane_is works region number lane found)) (rests_last line (lane_works lane region.phases) rest rests)
 
+-- down to a step of the path: the works of that lane, and of a smaller one
+least_at : (works : List Work) (path : List Step) → IsLeastBelow works path → (above : List Step) (step : Step) (below : List Step) → path ≡ above ++ step ∷ below → (lane : ℕ) → lane < step.lane
+    → GoesFurther (works_log (works_under works (lane_of above step.region lane step.span))) (works_log (works_under works (above ++ step ∷ [])))
+least_at works _ (IsLeastBelow.itself ws) [] step below parts lane smaller = absurd cc
+least_at works _ (IsLeastBelow.itself ws) (a ∷ above) step below parts lane smaller = absurd cc
+least_at works _ (IsLeastBelow.below ws number region own path found within least down) [] step below parts lane smaller =
+    subst (λ (s : Step). lane < s.lane → GoesFurther (works_log (works_at_step (record { region = s.region; lane = lane; span = s.span }) works)) (works_log (works_at_step s works))) first here smaller
+  where
+    first : record { region = number; lane = own; span = region.span } ≡ step
+    first = cc
+
+    here : lane < own → GoesFurther (works_log (works_at_step (record { region = number; lane = lane; span = region.span }) works)) (works_log (works_at_step (record { region = number; lane = own; span = region.span }) works))
+    here less =
+        subst (λ (xs : List Work). GoesFurther (works_log xs) (works_log (works_at_step (record { region = number; lane = own; span = region.span }) works))) (sym (lane_is works region number lane found))
+        (subst (λ (xs : List Work). GoesFurther (works_log (lane_works lane region.phases)) (works_log xs)) (sym (lane_is works region number own found)) (least lane less))
+least_at works _ (IsLeastBelow.below ws number region own path found within least down) (a ∷ above) step below parts lane smaller =
+    subst (λ (xs : List Work). GoesFurther (works_log (works_under xs (lane_of above step.region lane step.span))) (works_log (works_under xs (above ++ step ∷ []))))
+    (sym (lane_is works region number own found) ∙ ap (λ (s : Step). works_at_step s works) first)
+    (least_at (lane_works own region.phases) path down above step below rest lane smaller)
+  where
+    first : record { region = number; lane = own; span = region.span } ≡ a
+    first = cc
+
+    rest : path ≡ above ++ step ∷ below
+    rest = cc
+
 module _ (program : Program) (depth : ℕ) (root : Work) (sound : IsSound (layout_of program.arrays) root) (within : IsWithin depth root) (runs : RunsTask program (root_start program) (root ∷ []))
     (nests : NestsWithin depth root) where
   log_here : (path : List Step) → logs_of (logged_tasks depth root) path ≡ works_log (works_of root path)
@@ -101,6 +128,13 @@ module _ (program : Program) (depth : ℕ) (root : Work) (sound : IsSound (layou
         traced = subst (λ (rs : List Record). IsTracedTo program at.begin rs end) (sym (log_here path))
             (ends_traced program end (logs_of (logged_tasks depth root)) [] (root_start program) at.begin (root ∷ []) path ends log_here at.starts);
       }
+
+  -- each smaller lane went further at each step of the path
+  pub least_task : (path : List Step) → IsLeastBelow (root ∷ []) path → IsLeast (logged_tasks depth root) path
+  least_task path least above step below parts lane smaller =
+      let there = least_at (root ∷ []) path least above step below parts lane smaller in
+      subst (λ (rs : List Record). GoesFurther rs (logs_of (logged_tasks depth root) (above ++ step ∷ []))) (sym (log_here (lane_of above step.region lane step.span)))
+      (subst (λ (rs : List Record). GoesFurther (works_log (works_of root (lane_of above step.region lane step.span))) rs) (sym (log_here (above ++ step ∷ []))) there)
 
   pub rests_task : (line : ℕ) (path : List Step) → RestsBelow line (root ∷ []) path → LastIsRegionAt line (logs_of (logged_tasks depth root) path)
   rests_task line path rests = subst (λ (rs : List Record). LastIsRegionAt line rs) (sym (log_here path)) (rests_last line (root ∷ []) path rests)

@@ -16,11 +16,14 @@ use Rattle.lane_runner.specs.declared.stop.Stop.{Stop}
 use Rattle.lane_runner.specs.declared.stop.Stop.TheVariants as stop
 use Rattle.lane_runner.specs.Forking.{Answer, EndsAs, stop_in}
 use Rattle.lane_runner.specs.Handed.{Entry, LogPlace, MaybeStop, IsForMemory, IsTrouble, MayLack, TaskHands, TellStop, HandsOn}
-use Rattle.lane_runner.specs.Stopping.{StopsRegion}
+use Rattle.execution_model.specs.Runs.{lane_begin, works_log}
+use Rattle.std.proofs.lemmas.Option.{same_Some}
+use Rattle.lane_runner.specs.Stopping.{GoesFurther, IsLeastLane, IsNoTrouble, StopsRegion}
 use Rattle.lane_runner.proofs.Handing.{tell_none}
-use Rattle.region_runner.specs.Gathering.{ClosedValue, LaneGave, HasMemory, IsAnswer, closed_stop, kept_by, region_stop}
-use Rattle.region_runner.specs.Stopping.{stop_of}
+use Rattle.region_runner.specs.Gathering.{ClosedValue, GoesBefore, LaneGave, HasMemory, IsAnswer, closed_stop, kept_by, lane_stop, region_stop}
+use Rattle.region_runner.specs.Stopping.{StopsTask, stop_of}
 use Rattle.region_runner.specs.Team.{handed_by}
+use Rattle.region_runner.proofs.RegionStops.{region_stops}
 use Rattle.region_runner.proofs.RegionHands.{region_hands, lanes_apart, lacks_for_another}
 use Rattle.region_runner.proofs.LaneStops.{InLane, IsPart, StoppedAs, in_lane, lane_given, lane_missing, lane_part, lane_tells, own_trouble, refused_failed, region_found, region_is, stopped_as, tell_part, tells_none}
 
@@ -28,7 +31,8 @@ use Rattle.region_runner.proofs.LaneStops.{InLane, IsPart, StoppedAs, in_lane, l
 
 module _ (place : LogPlace) (arrays : List Array) (at : List Step) (number : ℕ) (fork : Fork) (phases : Phases) (lanes : ℕ → ClosedValue) (kept : ℕ → Bool)
     (paths : (k : ℕ) → k < fork.team.span → (lanes k).path ≡ lane_of at number k fork.team.span) (gave : (k : ℕ) → k < fork.team.span → LaneGave place (lane_works k phases) (lanes k))
-    (halts : (k : ℕ) (h : Halt) → k < fork.team.span → (lanes k).halt ≡ Some h → StopsRegion arrays at number (stop_of (lanes k).path h).0 (stop_of (lanes k).path h).1 fork phases) where
+    (halts : (k : ℕ) (h : Halt) → k < fork.team.span → (lanes k).halt ≡ Some h → StopsTask arrays (lanes k).path (stop_of (lanes k).path h).0 (stop_of (lanes k).path h).1 (lane_begin fork k) (lane_works k phases))
+    (further : (j k : ℕ) → j < fork.team.span → k < fork.team.span → (lanes j).halt ≡ None → (h : Halt) → (lanes k).halt ≡ Some h → GoesFurther (works_log (lane_works j phases)) (works_log (lane_works k phases))) where
   abbrev handed : ℕ → List Entry
   handed k = kept_by (kept k) (lanes k)
 
@@ -41,12 +45,15 @@ module _ (place : LogPlace) (arrays : List Array) (at : List Step) (number : ℕ
     inside = record { lane = k; below = []; path_is = own ∙ paths k less };
     traced = λ fit program same end told. absurd cc;
     crowded = λ line told. absurd cc;
+    least = λ other. absurd other;
   }
 
-  lane_stops : (k : ℕ) → k < fork.team.span → (path : List Step) (why : Stop) → StoppedAs (lanes k) path why → StopsRegion arrays at number path why fork phases
-  lane_stops k less path why (StoppedAs.by_region is) = halts k (halt.Region path why) less is
-  lane_stops k less path why (StoppedAs.by_itself h halt_is none own is) = subst (λ (s : List Step × Stop). StopsRegion arrays at number s.0 s.1 fork phases) is (halts k h less halt_is)
-  lane_stops k less path why (StoppedAs.by_log trouble refused own is) = subst (λ (w : Stop). StopsRegion arrays at number path w fork phases) (sym is) (log_stops k less path trouble own)
+  lane_stops : (k : ℕ) → k < fork.team.span → (path : List Step) (why : Stop) → StoppedAs (lanes k) path why → (IsNoTrouble why → IsLeastLane phases k) → StopsRegion arrays at number path why fork phases
+  lane_stops k less path why (StoppedAs.by_region is) least = region_stops fork k less phases at number (lanes k).path (paths k less) arrays path why (halts k (halt.Region path why) less is) least
+  lane_stops k less path why (StoppedAs.by_itself h halt_is none own is) least =
+      subst (λ (s : List Step × Stop). (IsNoTrouble s.1 → IsLeastLane phases k) → StopsRegion arrays at number s.0 s.1 fork phases) is
+      (region_stops fork k less phases at number (lanes k).path (paths k less) arrays (stop_of (lanes k).path h).0 (stop_of (lanes k).path h).1 (halts k h less halt_is)) least
+  lane_stops k less path why (StoppedAs.by_log trouble refused own is) least = subst (λ (w : Stop). StopsRegion arrays at number path w fork phases) (sym is) (log_stops k less path trouble own)
 
   -- the logs of a lane that found a place
   kept_hands : (s : MaybeStop) (k : ℕ) → k < fork.team.span → kept k ≡ true → ((trouble : Trouble) → (lanes k).refused ≡ Some trouble → MayLack s (lanes k).path (lanes k).own.faults)
@@ -123,6 +130,24 @@ module _ (place : LogPlace) (arrays : List Array) (at : List Step) (number : ℕ
         (subst (λ (b : Bool). TellStop (Some (path, why)) (kept_by b (lanes k))) (sym (found k less).1)
         (lane_tells place (lane_works k phases) (lanes k) (gave k less) path why (stopped_as (lanes k) path why is)))
 
+  -- each smaller lane than one that stopped went further, where its stop goes before theirs
+  least_lane : (k : ℕ) → k < fork.team.span → (path : List Step) (why : Stop) → closed_stop (lanes k) ≡ Some (path, why) → ((j : ℕ) → j < fork.team.span → GoesBefore k (lanes k) j (lanes j)) → IsNoTrouble why → IsLeastLane phases k
+  least_lane k less path why is goes other j smaller = by (lanes k).halt refl where
+    no_stop : {h : Halt} → None ≡ Some h → ⊥
+    no_stop e = cc
+
+    in_trouble : (r : Option Trouble) → lane_stop (lanes k).path None r ≡ Some (path, why) → ⊥
+    in_trouble None told = cc
+    in_trouble (Some trouble) told = subst (λ (w : Stop). IsNoTrouble w) (ap (λ (s : List Step × Stop). s.1) (sym (same_Some ((lanes k).path, stop.Trouble trouble) (path, why) told))) other
+
+    by : (h : Option Halt) → (lanes k).halt ≡ h → GoesFurther (works_log (lane_works j phases)) (works_log (lane_works k phases))
+    by None h_is = absurd (in_trouble (lanes k).refused (ap (λ (h : Option Halt). lane_stop (lanes k).path h (lanes k).refused) (sym h_is) ∙ is))
+    by (Some h) h_is = of_both (goes j (omega (arith, smaller, less))) where
+      of_both : GoesBefore k (lanes k) j (lanes j) → GoesFurther (works_log (lane_works j phases)) (works_log (lane_works k phases))
+      of_both (inl (some, inl none)) = further j k (omega (arith, smaller, less)) less none h h_is
+      of_both (inl (some, inr past)) = absurd (omega (arith, smaller, past))
+      of_both (inr (none, others, rest)) = absurd (no_stop (sym none ∙ h_is))
+
   -- what a region answers is how it ends, and its lanes' logs are handed on
   pub settles : (before : List Entry) (r : Answer) → (((k : ℕ) → k < fork.team.span → ((lanes k).halt ≡ None) × ((lanes k).refused ≡ None)) → PhasesEnd phases) → IsAnswer fork.team.span lanes kept r
       → EndsAs arrays at number fork phases r × HandsOn place (stop_in r) at number (record { span = fork.team.span; phases = phases } ∷ []) before (before ++ handed_by (λ k. kept_by (kept k) (lanes k)) 0 fork.team.span)
@@ -136,9 +161,9 @@ module _ (place : LogPlace) (arrays : List Array) (at : List Step) (number : ℕ
   )
     where
       by : (closed_stop (lanes k) ≡ Some (path, stop.Trouble Memory)) ⊎ ((path ≡ (lanes k).path) × (kept k ≡ false)) → StopsRegion arrays at number path (stop.Trouble Memory) fork phases
-      by (inl is) = lane_stops k less path (stop.Trouble Memory) (stopped_as (lanes k) path (stop.Trouble Memory) is)
+      by (inl is) = lane_stops k less path (stop.Trouble Memory) (stopped_as (lanes k) path (stop.Trouble Memory) is) (λ other. absurd other)
       by (inr own) = log_stops k less path Memory own.0
   settles before _ ends (IsAnswer.stopped k path why less is found goes) = (
-    lane_stops k less path why (stopped_as (lanes k) path why is),
+    lane_stops k less path why (stopped_as (lanes k) path why is) (least_lane k less path why is goes),
     region_hands place (Some (path, why)) at number fork.team.span phases handed before (stopped_hands k less path why is found) (stopped_tells k less path why is found),
   )

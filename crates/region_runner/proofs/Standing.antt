@@ -1,11 +1,12 @@
 -- A team goes on with one phase more.
 use Rattle.std.proofs.Common.{◌≡◌, refl, ap, sym, ◌∙◌, subst, ℕ, ◌+◌, ◌-◌, List, [], ◌∷◌, ◌++◌, map, ℤ, Option, Some, None, Result, Ok, arith}
+use Rattle.std.specs.Prelude.{Bool, count_by}
 use Rattle.std.proofs.lemmas.List.{append-nil}
 use Rattle.log_format.specs.declared.record.Kind.TheVariants as kind
 use Rattle.log_format.specs.declared.record.Record.{Record}
 use Rattle.race_model.specs.Trace.{barrier_count}
 use Rattle.kernel_model.specs.declared.phase.Item.{Item}
-use Rattle.kernel_model.specs.Parts.{Part, bar_count, drawn_count, is_drawn, run_parts}
+use Rattle.kernel_model.specs.Parts.{Part, bar_count, drawn_count, is_bar, is_drawn, run_parts}
 use Rattle.kernel_model.specs.Phases.{part_of, parts_in}
 use Rattle.kernel_model.specs.State.{State, Outcome, after, event, put}
 use Rattle.kernel_model.specs.Trace.{log_limit}
@@ -35,7 +36,7 @@ use Rattle.region_runner.specs.Ran.{TakesUp, TaskGoes, TaskRan, task_part}
 use Rattle.region_runner.specs.Stands.{LaneStands}
 use Rattle.region_runner.specs.Team.{DidWork}
 use Rattle.region_runner.proofs.Continuing.{goes_on}
-use Rattle.region_runner.proofs.JoinedWork.{phase_did_work, work_of}
+use Rattle.region_runner.proofs.JoinedWork.{phase_did_work, phase_short, work_of}
 use Rattle.region_runner.proofs.RegionLanes.{parts_both}
 
 -- ---- before the first phase
@@ -81,18 +82,27 @@ part_after at done items (Some line) s =
     ap (λ (o : Outcome (Unit {0})). after o (put (event kind.End line 0 0))) (phase_after at done items s)
     ∙ after-after (run_parts at (parts_in done) s) (run_parts at (map part_of items)) (put (event kind.End line 0 0))
 
-pub drawn_both : (xs ys : List Part) → drawn_count (xs ++ ys) ≡ drawn_count xs + drawn_count ys
-drawn_both [] ys = omega arith
-drawn_both (x ∷ xs) ys =
-    let whole = count_cons is_drawn x (xs ++ ys) in
-    let first = count_cons is_drawn x xs in
-    let rest = drawn_both xs ys in
+count_both : (counts : Part → Bool) (xs ys : List Part) → count_by counts (xs ++ ys) ≡ count_by counts xs + count_by counts ys
+count_both counts [] ys = omega arith
+count_both counts (x ∷ xs) ys =
+    let whole = count_cons counts x (xs ++ ys) in
+    let first = count_cons counts x xs in
+    let rest = count_both counts xs ys in
     omega (arith, whole, first, rest)
 
+count_after : (counts : Part → Bool) (done : List (List Item)) (items : List Item) → count_by counts (parts_in (done ++ items ∷ [])) ≡ count_by counts (parts_in done) + count_by counts (map part_of items)
+count_after counts done items =
+    ap (λ (ps : List Part). count_by counts ps) (parts_both done (items ∷ []) ∙ ap (λ (ps : List Part). parts_in done ++ ps) (one_phase items))
+    ∙ count_both counts (parts_in done) (map part_of items)
+
+pub drawn_both : (xs ys : List Part) → drawn_count (xs ++ ys) ≡ drawn_count xs + drawn_count ys
+drawn_both = count_both is_drawn
+
 pub drawn_after : (done : List (List Item)) (items : List Item) → drawn_count (parts_in (done ++ items ∷ [])) ≡ drawn_count (parts_in done) + drawn_count (map part_of items)
-drawn_after done items =
-    ap (λ (ps : List Part). drawn_count ps) (parts_both done (items ∷ []) ∙ ap (λ (ps : List Part). parts_in done ++ ps) (one_phase items))
-    ∙ drawn_both (parts_in done) (map part_of items)
+drawn_after = count_after is_drawn
+
+pub bars_after : (done : List (List Item)) (items : List Item) → bar_count (parts_in (done ++ items ∷ [])) ≡ bar_count (parts_in done) + bar_count (map part_of items)
+bars_after = count_after is_bar
 
 -- what a lane did in a phase, and how it stands then
 pub record StepsOn (crew : CrewValue) (items : List Item) (end : Option ℕ) (lane : ℕ) (start : MemberValue) (done : List (List Item)) (phases : Phases) (hand : HandValue View) (mid : MemberValue) : Type 0 where
@@ -101,6 +111,7 @@ pub record StepsOn (crew : CrewValue) (items : List Item) (end : Option ℕ) (la
   pub goes : TaskGoes (world_of crew lane) (task_part (site (world_of crew lane)) (done ++ items ∷ []) end) start.slots mid.slots start.at mid.at (lane_works lane phases ++ work ∷ []) (answer_of mid.halt)
   pub passes : mid.halt ≡ None → barrier_count (work_records work) ≡ bar_count (map part_of items)
   pub ends : (line : ℕ) → end ≡ Some line → mid.halt ≡ None → LastIsEnd (work_records work)
+  pub short : (h : Halt) → mid.halt ≡ Some h → barrier_count (work_records work) ≡ 0
 
 module _ (crew : CrewValue) (items : List Item) (lane : ℕ) (start prev mid : MemberValue) (done : List (List Item)) (phases : Phases) (hand : HandValue View)
     (stands : LaneStands crew start done None phases lane prev) (going : prev.halt ≡ None) (free : hand.view.held ≡ []) where
@@ -139,10 +150,16 @@ module _ (crew : CrewValue) (items : List Item) (lane : ℕ) (start prev mid : M
     goes = step (bar_count (map part_of items)) end (answer_of mid.halt) went.goes;
     passes = λ none. absurd (not_both (sym is ∙ none));
     ends = λ line is_line none. absurd (not_both (sym is ∙ none));
+    short = λ h h_is. short_of mid.halt is went.goes;
   }
     where
       not_both : Some why ≡ None → ⊥
       not_both e = cc
+
+      short_of : (x : Option Halt) → x ≡ Some why → (m : Went (bar_count (map part_of items)) end (answer_of x)) → barrier_count (work_records (work_in (bar_count (map part_of items)) end (answer_of x) m)) ≡ 0
+      short_of None x_is m = absurd (not_both (sym x_is))
+      short_of (Some other) x_is m =
+          phase_short (world_of crew lane) (phase_part items end at) prev.slots mid.slots (with_hand prev hand).at mid.at free (bar_count (map part_of items)) other m
   by_halt None is None went last =
       let m = subst (λ (h : Option Halt). Went (bar_count (map part_of items)) None (answer_of h)) is went.goes in
       record {
@@ -151,8 +168,12 @@ module _ (crew : CrewValue) (items : List Item) (lane : ℕ) (start prev mid : M
         goes = subst (λ (h : Option Halt). Stood None m.work (answer_of h)) (sym is) (step (bar_count (map part_of items)) None (Ok tt) m);
         passes = λ none. m.done.barriers;
         ends = λ line is_line none. absurd (no_end is_line);
+        short = λ h h_is. absurd (no_halt (sym is ∙ h_is));
       }
     where
+      no_halt : {h : Halt} → None ≡ Some h → ⊥
+      no_halt e = cc
+
       no_end : {line : ℕ} → None ≡ Some line → ⊥
       no_end e = cc
   by_halt None is (Some line) went last =
@@ -163,7 +184,11 @@ module _ (crew : CrewValue) (items : List Item) (lane : ℕ) (start prev mid : M
         goes = subst (λ (h : Option Halt). Stood (Some line) ended.made.work (answer_of h)) (sym is) (step 0 (Some line) (Ok tt) ended.made);
         passes = λ none. ended.made.done.barriers ∙ sym (last line refl).none;
         ends = λ other is_other none. ended.last;
+        short = λ h h_is. absurd (no_halt (sym is ∙ h_is));
       }
+    where
+      no_halt : {h : Halt} → None ≡ Some h → ⊥
+      no_halt e = cc
 
   pub lane_steps : (end : Option ℕ) → WentOn crew items end lane (with_hand prev hand) mid → ((line : ℕ) → end ≡ Some line → IsLast items line) → StepsOn crew items end lane start done phases hand mid
   lane_steps end went last = by_halt mid.halt refl end went last

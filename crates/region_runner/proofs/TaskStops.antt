@@ -18,11 +18,12 @@ use Rattle.lane_runner.specs.declared.stop.Halt.TheVariants as halt
 use Rattle.lane_runner.specs.declared.stop.Stop.{Stop}
 use Rattle.lane_runner.specs.declared.stop.Stop.TheVariants as stop
 use Rattle.lane_runner.specs.Going.{Progress, AtRegion, AtTasks}
-use Rattle.lane_runner.specs.Stopping.{HaveEnded, LastIsRegionAt, RestsInLane, StopsAtLast, ending_for, itself}
+use Rattle.lane_runner.specs.Stopping.{HaveEnded, IsLeastInLane, LastIsRegionAt, RestsInLane, StopsAtLast, ending_for, itself}
 use Rattle.lane_runner.specs.Stopping.{RestsBelow, below as further}
+use Rattle.lane_runner.specs.Stopping.{IsLeastBelow, below as lower}
 use Rattle.lane_runner.specs.World.{WorldValue}
 use Rattle.region_runner.specs.Ran.{in_one, TaskRan, TaskBegan, TaskGoes}
-use Rattle.region_runner.specs.Stopping.{IsAtOrBelow, RestsUnder, StopsTask, stop_of}
+use Rattle.region_runner.specs.Stopping.{IsAtOrBelow, IsLeastUnder, RestsUnder, StopsTask, stop_of}
 use Rattle.region_runner.proofs.RegionLanes.{BeginsLane}
 use Rattle.region_runner.proofs.Stops.{get_at, task_stops}
 use Rattle.region_runner.proofs.Traced.{one_log, one_regions, stopped_trace, traces_begun}
@@ -30,6 +31,9 @@ use Rattle.region_runner.proofs.Traced.{one_log, one_regions, stopped_trace, tra
 module _ (fork : Fork) (lane : ℕ) (w : WorldValue) (part : State → Outcome (Unit {0})) (first_part : BeginsLane fork lane w part) (slots' : List ℤ) (old new : Progress) (none : old.buffer.count ≡ 0) (works : List Work) (own : List Step) where
   abbrev itself_at : IsAtOrBelow own own
   itself_at = record { rest = []; path_is = sym (append-nil own) }
+
+  itself_least : IsLeastUnder own own works
+  itself_least = record { at = itself_at; least = IsLeastBelow.itself works }
 
   -- the task's own stop
   itself_stops : (why : model.Stop) (line : ℕ) (it : Stop) → ending_for it ≡ Some (Stopped why line) → ((l : ℕ) → it ≡ stop.Tasks l → ⊥) → TaskRan w part fork.slots slots' old new works (Halted why line)
@@ -44,6 +48,7 @@ module _ (fork : Fork) (lane : ℕ) (w : WorldValue) (part : State → Outcome (
           (stopped_trace program (lane_begin fork lane) w same part first_part.rest first_part.grows (first_part.is program same) slots' old new none works fit why line t));
     };
     crowded = λ l told. absurd (other l told);
+    least = λ other. itself_least;
   }
 
   -- too many tasks were below the task
@@ -60,6 +65,7 @@ module _ (fork : Fork) (lane : ℕ) (w : WorldValue) (part : State → Outcome (
     at = itself_at;
     traced = λ fit program same end told. absurd (no_ending told);
     crowded = λ l told. subst (λ (n : ℕ). RestsUnder n own own works) (line_of told) (itself_rests line t);
+    least = λ other. itself_least;
   }
     where
       no_ending : {end : Ending} → None ≡ Some end → ⊥
@@ -69,7 +75,7 @@ module _ (fork : Fork) (lane : ℕ) (w : WorldValue) (part : State → Outcome (
       line_of e = cc
 
   trouble_stops : (it : Stop) → ending_for it ≡ None → ((l : ℕ) → it ≡ stop.Tasks l → ⊥) → StopsTask w.arrays own own it (lane_begin fork lane) works
-  trouble_stops it none_told other = record { at = itself_at; traced = λ fit program same end told. absurd (no_ending (sym none_told ∙ told)); crowded = λ l told. absurd (other l told) } where
+  trouble_stops it none_told other = record { at = itself_at; traced = λ fit program same end told. absurd (no_ending (sym none_told ∙ told)); crowded = λ l told. absurd (other l told); least = λ other. itself_least } where
     no_ending : {end : Ending} → None ≡ Some end → ⊥
     no_ending e = cc
 
@@ -87,6 +93,7 @@ module _ (fork : Fork) (lane : ℕ) (w : WorldValue) (part : State → Outcome (
         task_stops program end (lane_begin fork lane) w.arrays own path why t.forks works same told fit stops (t.regions fit program same)
         (traces_begun program (lane_begin fork lane) w same part first_part.rest first_part.grows (first_part.is program same) slots' old new none works fit (AtRegion path why) t);
     crowded = λ l told. rests_below l (stops.stopped.crowded l told);
+    least = λ other. least_below (stops.stopped.least other);
   }
     where
       stops : StopsAtLast w.arrays own 0 path why t.forks (work_regions (in_one works))
@@ -97,17 +104,32 @@ module _ (fork : Fork) (lane : ℕ) (w : WorldValue) (part : State → Outcome (
       region_is : slice_get (flat_map work_regions works) (length stops.before) ≡ Some stops.region
       region_is = ap (λ (rs : List RegionWork). slice_get rs (length stops.before)) (sym (one_regions works) ∙ stops.regions_are) ∙ get_at stops.before stops.region []
 
+      -- a task of the last region
+      in_last : (other : ℕ) (below : List Step) → path ≡ own ++ record { region = 0 + length stops.before; lane = other; span = stops.fork.team.span } ∷ below
+          → path ≡ own ++ record { region = length stops.before; lane = other; span = stops.region.span } ∷ below
+      in_last other below is_path =
+          is_path
+          ∙ ap (λ (n : ℕ). own ++ record { region = n; lane = other; span = stops.fork.team.span } ∷ below) (let e : 0 + length stops.before ≡ length stops.before = omega arith in e)
+          ∙ ap (λ (n : ℕ). own ++ record { region = length stops.before; lane = other; span = n } ∷ below) (sym stops.span_is)
+
       rests_below : (l : ℕ) → RestsInLane l own (0 + length stops.before) stops.fork.team.span path stops.region.phases → RestsUnder l own path works
       rests_below l inner = record {
         at = record {
           rest = record { region = length stops.before; lane = inner.lane; span = stops.region.span } ∷ inner.below;
-          path_is =
-              inner.path_is
-              ∙ ap (λ (n : ℕ). own ++ record { region = n; lane = inner.lane; span = stops.fork.team.span } ∷ inner.below) (let e : 0 + length stops.before ≡ length stops.before = omega arith in e)
-              ∙ ap (λ (n : ℕ). own ++ record { region = length stops.before; lane = inner.lane; span = n } ∷ inner.below) (sym stops.span_is);
+          path_is = in_last inner.lane inner.below inner.path_is;
         };
         rests =
             further works (length stops.before) stops.region inner.lane inner.below region_is (subst (λ (n : ℕ). inner.lane < n) (sym stops.span_is) inner.within) inner.rests;
+      }
+
+      least_below : IsLeastInLane own (0 + length stops.before) stops.fork.team.span path stops.region.phases → IsLeastUnder own path works
+      least_below inner = record {
+        at = record {
+          rest = record { region = length stops.before; lane = inner.lane; span = stops.region.span } ∷ inner.below;
+          path_is = in_last inner.lane inner.below inner.path_is;
+        };
+        least =
+            lower works (length stops.before) stops.region inner.lane inner.below region_is (subst (λ (n : ℕ). inner.lane < n) (sym stops.span_is) inner.within) inner.least inner.down;
       }
 
   -- by why it doesn't go on

@@ -22,7 +22,7 @@ use Rattle.region_runner.specs.Crew.{CrewValue, world_of}
 use Rattle.region_runner.specs.Ground.{GroundValue, IsMemberOf}
 use Rattle.region_runner.specs.Member.{IsLast, MemberValue, answer_of}
 use Rattle.region_runner.specs.Ran.{TaskGoes, task_part}
-use Rattle.region_runner.specs.Stands.{AllGo, IsFresh, LaneStands, MayGoOn, TeamRan, TeamStands}
+use Rattle.region_runner.specs.Stands.{AllGo, HasLastBar, IsFresh, LaneStands, MayGoOn, TeamRan, TeamStands}
 use Rattle.lane_runner.specs.declared.stop.Halt.{Halt}
 use Rattle.region_runner.proofs.RegionLanes.{parts_both}
 use Rattle.region_runner.proofs.Standing.{drawn_after, drawn_both, ran_none}
@@ -48,7 +48,16 @@ stands_first crew lane m f = record {
   log = log_still m.at.buffer;
   loops = λ goes. omega arith;
   may = λ goes. f.may;
+  passes = λ goes. refl;
+  ends = λ line none goes. absurd (no_line none);
+  behind = λ h is. absurd (no_halt (sym f.going ∙ is));
 }
+  where
+    no_line : {line : ℕ} → None ≡ Some line → ⊥
+    no_line e = cc
+
+    no_halt : {h : Halt} → None ≡ Some h → ⊥
+    no_halt e = cc
 
 pub passed_none : (crew : CrewValue) (hand : HandValue View) (before : List MemberValue) → hand.there ≡ true → length before ≡ crew.span → ((k : ℕ) (d : MemberValue) → k < length before → IsFresh crew (slice_index_or before k d))
     → HasPassed crew [] hand hand before before
@@ -123,8 +132,8 @@ few_first phases n loops few =
 -- ---- how the loop ends
 
 pub stops_early : (crew : CrewValue) (items done left : List (List Item)) (line : ℕ) (old new : HandValue View) (before after : List MemberValue) (phases : Phases) → items ≡ done ++ left → TeamStands crew done None phases old new before after → (AllGo after → ⊥)
-    → TeamRan crew items line old new before after
-stops_early crew items done left line old new before after phases is stands some = record {
+    → HasLastBar done → TeamRan crew items line old new before after
+stops_early crew items done left line old new before after phases is stands some bar = record {
   done = done;
   left = left;
   is = is;
@@ -133,6 +142,7 @@ stops_early crew items done left line old new before after phases is stands some
   phases = phases;
   stands = stands;
   ends = λ all. absurd (some all);
+  early = λ none. bar;
 }
 
 pub runs_all : (crew : CrewValue) (earlier : List (List Item)) (last : List Item) (items : List (List Item)) (line : ℕ) (old new : HandValue View) (before after : List MemberValue) → items ≡ earlier ++ last ∷ [] → TeamSteps crew last (Some line) old new before after earlier
@@ -146,6 +156,7 @@ runs_all crew earlier last items line old new before after is steps = record {
   phases = steps.phases;
   stands = steps.stands;
   ends = λ all. steps.ends line refl all;
+  early = λ none. absurd cc;
 }
 
 -- one lane more goes on

@@ -16,7 +16,7 @@ use Rattle.kernel_model.specs.Phases.{parts_in}
 use Rattle.history_model.specs.Work.{lane_works}
 use Rattle.history_model.specs.Joined.{PhasesEnd}
 use Rattle.execution_model.specs.Execution.{DrewSome}
-use Rattle.execution_model.specs.Runs.{region_logs}
+use Rattle.execution_model.specs.Runs.{lane_begin, region_logs, works_log}
 use Rattle.shared_words.specs.declared.share.Share.{Share}
 use Rattle.shared_words.specs.declared.view.View.{View}
 use Rattle.shared_words.specs.Draws.{AreEachOnce, HasEachOnce, IsFirstAlone, numbers}
@@ -26,7 +26,7 @@ use Rattle.lane_runner.specs.Drawing.{Tally}
 use Rattle.lane_runner.specs.Forking.{Answer, RanRegion, stop_in}
 use Rattle.lane_runner.specs.Going.{site}
 use Rattle.lane_runner.specs.Handed.{Entry, HandsOn, place_of}
-use Rattle.lane_runner.specs.Stopping.{StopsRegion}
+use Rattle.lane_runner.specs.Stopping.{GoesFurther}
 use Rattle.lane_runner.specs.World.{WorldValue}
 use Rattle.region_runner.specs.Begins.{LaneBegins}
 use Rattle.region_runner.specs.Closing.{IsClosedAs}
@@ -37,10 +37,10 @@ use Rattle.region_runner.specs.Member.{MemberValue, answer_of}
 use Rattle.region_runner.specs.Opening.{AreLanes, ClosesAs, lent_hand, lent_to}
 use Rattle.region_runner.specs.Ran.{TaskGoes, task_part}
 use Rattle.region_runner.specs.Stands.{TeamClosed, TeamRan}
-use Rattle.region_runner.specs.Stopping.{stop_of}
+use Rattle.region_runner.specs.Stopping.{StopsTask, stop_of}
 use Rattle.region_runner.specs.Team.{DidPhases}
 use Rattle.region_runner.proofs.GivenLogs.{lane_gave}
-use Rattle.region_runner.proofs.RanRegions.{lane_goes, ran_draws, ran_lanes, ran_stops}
+use Rattle.region_runner.proofs.RanRegions.{lane_goes, ran_draws, ran_lanes, ran_stops, ran_further}
 use Rattle.region_runner.proofs.ReturnedHands.{all_returned, head_of}
 use Rattle.region_runner.proofs.Settling.{settles}
 
@@ -106,12 +106,17 @@ module _ (w : WorldValue) (crew : CrewValue) (team : TeamTree) (slots : List ℤ
       (subst (λ (h : Option Halt). TaskGoes (world_of crew k) (task_part (site (world_of crew k)) ran.done ran.end) slots (now k).slots (start k).at stands.last (lane_works k ran.phases) (answer_of h)) (sym (halt_same k less))
       (goes k less))
 
-  halts : (k : ℕ) (h : Halt) → k < team.span → (closed k).halt ≡ Some h → StopsRegion w.arrays at number (stop_of (closed k).path h).0 (stop_of (closed k).path h).1 fork ran.phases
+  halts : (k : ℕ) (h : Halt) → k < team.span → (closed k).halt ≡ Some h → StopsTask w.arrays (closed k).path (stop_of (closed k).path h).0 (stop_of (closed k).path h).1 (lane_begin fork k) (lane_works k ran.phases)
   halts k h less' is =
       let less = within k less' in
-      subst (λ (p : List Step). StopsRegion w.arrays at number (stop_of p h).0 (stop_of p h).1 fork ran.phases) (sym (path_same k less))
-      (subst (λ (xs : List Array). StopsRegion xs at number (stop_of (lane_of at number k team.span) h).0 (stop_of (lane_of at number k team.span) h).1 fork ran.phases) (sym arrays)
+      subst (λ (p : List Step). StopsTask w.arrays p (stop_of p h).0 (stop_of p h).1 (lane_begin fork k) (lane_works k ran.phases)) (sym (path_same k less))
+      (subst (λ (xs : List Array). StopsTask xs (lane_of at number k team.span) (stop_of (lane_of at number k team.span) h).0 (stop_of (lane_of at number k team.span) h).1 (lane_begin fork k) (lane_works k ran.phases)) (sym arrays)
       (ran_stops crew team slots items old new before after (place_of task) at number (λ k. lent_hand share) span_is runs ran begins (λ k less. refl) d k less h (sym (halt_same k less) ∙ is)))
+
+  further : (j k : ℕ) → j < team.span → k < team.span → (closed j).halt ≡ None → (h : Halt) → (closed k).halt ≡ Some h → GoesFurther (works_log (lane_works j ran.phases)) (works_log (lane_works k ran.phases))
+  further j k less within_k none h is =
+      ran_further crew team slots items old new before after (place_of task) at number (λ k. lent_hand share) span_is runs ran begins (λ k less. refl) d j k (within j less) (within k within_k) (sym (halt_same j (within j less)) ∙ none) h
+      (sym (halt_same k (within k within_k)) ∙ is)
 
   ended : ((k : ℕ) → k < team.span → ((closed k).halt ≡ None) × ((closed k).refused ≡ None)) → PhasesEnd ran.phases
   ended all =
@@ -122,7 +127,7 @@ module _ (w : WorldValue) (crew : CrewValue) (team : TeamTree) (slots : List ℤ
 
   pub team_region : RanRegion w team slots task number old new given handed r
   team_region =
-      let settled = settles (place_of task) w.arrays at number fork ran.phases closed gathered.kept (λ k less. path_same k (within k less)) gave halts given r ended gathered.answer in
+      let settled = settles (place_of task) w.arrays at number fork ran.phases closed gathered.kept (λ k less. path_same k (within k less)) gave halts further given r ended gathered.answer in
       let did : DidPhases w.arrays team.span old new ran.phases = subst (λ (n : ℕ). DidPhases w.arrays n old new ran.phases) span_is (subst (λ (xs : List Array). DidPhases xs crew.span old new ran.phases) (sym arrays) ran.stands.did) in
       record {
         phases = ran.phases;

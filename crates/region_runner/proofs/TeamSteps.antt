@@ -1,6 +1,9 @@
 -- A team goes on with one phase more: all its lanes, and its hand.
 use Rattle.std.proofs.Common.{◌≡◌, refl, ap, sym, ◌∙◌, subst, ℕ, suc, ◌+◌, ◌<◌, ◌≤◌, List, [], ◌∷◌, ◌++◌, length, map, Option, Some, None, slice_index_or, arith}
-use Rattle.std.proofs.lemmas.List.{get_or_default}
+use Rattle.std.specs.List.{flat_map}
+use Rattle.std.proofs.lemmas.Grind.{flat_map-append}
+use Rattle.std.proofs.lemmas.List.{append-nil, get_or_default}
+use Rattle.log_format.specs.declared.record.Record.{Record}
 use Rattle.race_model.specs.Trace.{barrier_count}
 use Rattle.kernel_model.specs.declared.phase.Item.{Item}
 use Rattle.kernel_model.specs.Parts.{bar_count}
@@ -11,15 +14,17 @@ use Rattle.shared_words.specs.Handles.{HandValue, with_view}
 use Rattle.history_model.specs.Work.{Work, Phases, NoPhase, Phase, TeamWork, lane_works, then_phases, work_records}
 use Rattle.history_model.specs.Sound.{PassesBarrier, PassAllBarriers}
 use Rattle.history_model.specs.Joined.{LastIsEnd, PhasesEnd}
+use Rattle.history_model.proofs.EndedLanes.{ends_behind}
+use Rattle.history_model.proofs.MetBarriers.{barriers_both}
 use Rattle.lane_runner.specs.Going.{IsSameLog, site}
 use Rattle.lane_runner.proofs.Bodies.{log_later}
 use Rattle.region_runner.specs.Crew.{CrewValue, world_of}
 use Rattle.region_runner.specs.Hands.{joined_with, parted_for}
 use Rattle.region_runner.specs.Member.{IsLast, MemberValue, WentOn, answer_of, hand_view, lane_hand, with_hand}
 use Rattle.region_runner.specs.Ran.{TaskGoes, task_part}
-use Rattle.region_runner.specs.Stands.{AllGo, LaneStands, MayStep, RanPhase, TeamStands}
+use Rattle.region_runner.specs.Stands.{AllGo, LaneStands, MayStep, RanPhase, TeamStands, put_in}
 use Rattle.region_runner.specs.Team.{DidPhases, DidWork, team_of_works}
-use Rattle.region_runner.proofs.Standing.{StepsOn, drawn_after, lane_steps}
+use Rattle.region_runner.proofs.Standing.{StepsOn, bars_after, drawn_after, lane_steps}
 use Rattle.region_runner.proofs.TeamPhases.{Works, choose, lane_works_more, phase_did, phases_did_more, phases_end, team_ends, team_passes, views_from}
 
 views_more : (k : ℕ) (xs : List MemberValue) (at : ℕ → View) → ((i : ℕ) (d : MemberValue) → i < length xs → at (k + i) ≡ hand_view (slice_index_or xs i d)) → map hand_view xs ≡ views_from k (length xs) at
@@ -132,7 +137,34 @@ module _ (crew : CrewValue) (items : List Item) (end : Option ℕ) (old home new
           enough = ((went k less).can (ap (λ (m : MemberValue). m.halt) (sym (same k less)) ∙ goes)).enough;
           forks = ((went k less).can (ap (λ (m : MemberValue). m.halt) (sym (same k less)) ∙ goes)).forks;
         });
+    passes = λ goes.
+        let first = (stands.lanes k d less).passes (going k d (in_prev k less)) in
+        let mine = step_of.passes (sym (halt_same k less) ∙ goes) in
+        let all = ap (λ (rs : List Record). barrier_count rs) put_more ∙ barriers_both (put_in k phases) (work_records step_of.work) in
+        let bars = bars_after done items in
+        omega (arith, first, mine, all, bars);
+    ends = λ line is_line goes. subst (λ (rs : List Record). LastIsEnd rs) (sym put_more) (ends_behind (put_in k phases) (work_records step_of.work) (step_of.ends line is_line (sym (halt_same k less) ∙ goes)));
+    behind = λ h is. record {
+      earlier = done;
+      last = items;
+      parts = refl;
+      count =
+          let first = (stands.lanes k d less).passes (going k d (in_prev k less)) in
+          let mine = step_of.short h (sym (halt_same k less) ∙ is) in
+          let all = ap (λ (rs : List Record). barrier_count rs) put_more ∙ barriers_both (put_in k phases) (work_records step_of.work) in
+          omega (arith, first, mine, all);
+    };
   }
+    where
+      step_of : Steps k
+      step_of = (works.each k less).0
+
+      put_more : put_in k (then_phases phases later) ≡ put_in k phases ++ work_records step_of.work
+      put_more =
+          ap (λ (ws : List Work). flat_map work_records ws) (lane_works_more crew.span k phases works.work less)
+          ∙ flat_map-append work_records (lane_works k phases) (works.work k ∷ [])
+          ∙ ap (λ (rs : List Record). put_in k phases ++ rs) (append-nil (work_records (works.work k)))
+          ∙ ap (λ (work : Work). put_in k phases ++ work_records work) (sym (works.each k less).1)
 
   pub team_steps : TeamSteps crew items end old new before after done
   team_steps = record {

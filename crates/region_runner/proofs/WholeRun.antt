@@ -48,7 +48,7 @@ use Rattle.lane_runner.specs.Stopping.{LastIsRegionAt}
 use Rattle.lane_runner.specs.World.{HaveOwnWords, element_address, element_word, layout_of}
 use Rattle.lane_runner.proofs.HandedTasks.{tree_listed}
 use Rattle.lane_runner.proofs.OwnWords.{bounded_world}
-use Rattle.region_runner.specs.Answer.{EndsTask, HasRun, HasStoppedRun, IsRun, StopsIn, whole_log, whole_outline}
+use Rattle.region_runner.specs.Answer.{EndsTask, HasRun, HasStoppedRun, IsLeast, IsRun, StopsIn, whole_log, whole_outline}
 use Rattle.region_runner.specs.Nesting.{NestsWithin}
 use Rattle.region_runner.specs.Gathering.{ClosedValue}
 use Rattle.region_runner.specs.Root.{IsSettled, RanRoot, RootRests, StopsRoot}
@@ -56,7 +56,7 @@ use Rattle.region_runner.proofs.FinishedRun.{whole_folder}
 use Rattle.region_runner.proofs.Nested.{root_nests}
 use Rattle.region_runner.proofs.NestedHands.{root_within}
 use Rattle.region_runner.proofs.RootHands.{root_rests}
-use Rattle.region_runner.proofs.RootStops.{ends_task, rests_task}
+use Rattle.region_runner.proofs.RootStops.{ends_task, least_task, rests_task}
 use Rattle.region_runner.proofs.TaskListing.{are_listed, are_within}
 use Rattle.region_runner.proofs.Traced.{fits_both}
 use Rattle.region_runner.proofs.WholeTree.{all_fits, executes}
@@ -202,6 +202,9 @@ module _ (program : Program) (lawful : IsLawful program) (dir : List ℕ) (size 
       crowded = λ line told.
           let rests_at = stopped.crowded line told in
           subst (λ (p : List Step). LastIsRegionAt line (logs_of tasks p)) (sym rests_at.at.path_is) (rests_task program 4 work rests.did.sound within runs nests line rests_at.at.rest rests_at.rests);
+      least = λ other.
+          let least = stopped.least other in
+          subst (λ (p : List Step). IsLeast tasks p) (sym least.at.path_is) (least_task program 4 work rests.did.sound within runs nests least.at.rest least.least);
     }
 
     pub has_stopped : HasStoppedRun program dir size root logs path why words

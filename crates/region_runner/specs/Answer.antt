@@ -1,5 +1,5 @@
 -- What a run of a kernel answers.
-use Rattle.std.specs.Prelude.{◌≡◌, ◌⊎◌, ℕ, ◌≤◌, List, [], length, map, Option, Some, is_some}
+use Rattle.std.specs.Prelude.{◌≡◌, ◌⊎◌, ℕ, ◌<◌, ◌≤◌, List, [], ◌∷◌, ◌++◌, length, map, Option, Some, is_some}
 use Rattle.std.specs.Option.{option_map}
 use Rattle.log_format.specs.declared.format.TheConstants.{FORMAT}
 use Rattle.log_format.specs.declared.record.Record.{Record}
@@ -13,7 +13,7 @@ use Rattle.sw_base.specs.Pieces.{cut}
 use Rattle.race_model.specs.ForkJoin.{ListsTask}
 use Rattle.race_model.specs.IndexFault.{max_rows}
 use Rattle.race_model.specs.KeepsRules.{KeepsRules}
-use Rattle.race_model.specs.Listing.{IsListing}
+use Rattle.race_model.specs.Listing.{IsListing, lane_of}
 use Rattle.race_model.specs.Trace.{TaskLog, Trace, logs_of}
 use Rattle.kernel_syntax.specs.Layout.{elements}
 use Rattle.kernel_syntax.specs.Program.{Program}
@@ -23,7 +23,7 @@ use Rattle.execution_model.specs.Execution.{IsExecution}
 use Rattle.lane_runner.specs.declared.stop.Stop.{Stop}
 use Rattle.lane_runner.specs.declared.stop.Stop.TheVariants as stop
 use Rattle.lane_runner.specs.Handed.{AreEntriesOf, Entry, TellStop}
-use Rattle.lane_runner.specs.Stopping.{LastIsRegionAt, ending_for}
+use Rattle.lane_runner.specs.Stopping.{GoesFurther, IsNoTrouble, LastIsRegionAt, ending_for}
 use Rattle.lane_runner.specs.World.{element_address}
 
 -- a buffer holds at least one record, and at most 4,194,304 bytes
@@ -67,11 +67,18 @@ pub record EndsTask (program : Program) (tasks : Trace) (path : List Step) (end 
   pub starts : start_at program (logs_of tasks) path ≡ Some start
   pub traced : IsTracedTo program start (logs_of tasks path) end
 
--- The run stopped so in the task of this path: a stop that traces tell is how its trace ends, and where too many tasks were below it,
--- its last record is that of a region at this line.
+-- At each step of the path each smaller lane of the region went further, so that the task of this path is in the least lane that
+-- stopped.
+abbrev pub IsLeast : Trace → List Step → Type 0
+IsLeast tasks path = (above : List Step) (step : Step) (below : List Step) → path ≡ above ++ step ∷ below → (lane : ℕ) → lane < step.lane
+    → GoesFurther (logs_of tasks (lane_of above step.region lane step.span)) (logs_of tasks (above ++ step ∷ []))
+
+-- The run stopped so in the task of this path: a stop that traces tell is how its trace ends; where too many tasks were below it,
+-- its last record is that of a region at this line; and but for trouble it is in the least lane that stopped.
 pub record StopsIn (program : Program) (tasks : Trace) (path : List Step) (why : Stop) : Type 0 where
   pub traced : (end : Ending) → ending_for why ≡ Some end → EndsTask program tasks path end
   pub crowded : (line : ℕ) → why ≡ stop.Tasks line → LastIsRegionAt line (logs_of tasks path)
+  pub least : IsNoTrouble why → IsLeast tasks path
 
 -- The logs of a run that stopped so in the task of this path. They are those of an execution of the kernel, in the order of their paths:
 -- each with all its records, or a prefix of them, where it may lack some; one may be missing where no memory was found. The words

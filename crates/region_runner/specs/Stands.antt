@@ -1,14 +1,18 @@
 -- How a team stands after some of its phases.
-use Rattle.std.specs.Prelude.{◌≡◌, ◌⊎◌, ◌++◌, ℕ, ◌+◌, ◌<◌, ◌≤◌, List, [], length, map, slice_index_or, Option, Some, None, Ok}
+use Rattle.std.specs.Prelude.{◌≡◌, ◌⊎◌, ◌++◌, ℕ, ◌+◌, ◌<◌, ◌≤◌, List, [], ◌∷◌, length, map, slice_index_or, Option, Some, None, Ok}
 use Rattle.shared_words.specs.declared.view.View.{View}
 use Rattle.shared_words.specs.Handles.{Belongs, HandValue, with_view}
 use Rattle.shared_words.specs.Views.{IsAtRest}
-use Rattle.history_model.specs.Work.{Phases, lane_works}
-use Rattle.history_model.specs.Joined.{PhasesEnd}
+use Rattle.std.specs.List.{flat_map}
+use Rattle.log_format.specs.declared.record.Record.{Record}
+use Rattle.race_model.specs.Trace.{barrier_count}
+use Rattle.history_model.specs.Work.{Phases, lane_works, work_records}
+use Rattle.history_model.specs.Joined.{LastIsEnd, PhasesEnd}
 use Rattle.kernel_model.specs.declared.phase.Item.{Item}
-use Rattle.kernel_model.specs.Parts.{drawn_count}
+use Rattle.kernel_model.specs.Parts.{bar_count, drawn_count}
 use Rattle.kernel_model.specs.Phases.{part_of, parts_in}
 use Rattle.kernel_model.specs.Trace.{log_limit}
+use Rattle.lane_runner.specs.declared.stop.Halt.{Halt}
 use Rattle.lane_runner.specs.Going.{IsSameLog, Progress, site}
 use Rattle.region_runner.specs.Crew.{CrewValue, world_of}
 use Rattle.region_runner.specs.Gathering.{ClosedValue}
@@ -41,7 +45,19 @@ pub record RanPhase (crew : CrewValue) (items : List Item) (end : Option ℕ) (o
   pub count : length after ≡ length before
   pub same : (k : ℕ) (d : MemberValue) → k < length before → IsWithoutHand (slice_index_or mid k d) (slice_index_or after k d)
 
--- A lane, which was `start` before all phases, stands after these, and after its End, if it put one.
+-- the records that a lane put in phases
+abbrev pub put_in : ℕ → Phases → List Record
+put_in lane phases = flat_map work_records (lane_works lane phases)
+
+-- of these phases the last one has a barrier, if there is one, and before it a lane passes so many
+pub record IsBehind (done : List (List Item)) (bars : ℕ) : Type 0 where
+  pub earlier : List (List Item)
+  pub last : List Item
+  pub parts : done ≡ earlier ++ last ∷ []
+  pub count : bars ≡ bar_count (parts_in earlier)
+
+-- A lane, which was `start` before all phases, stands after these, and after its End, if it put one: who goes on has passed all
+-- barriers, and who doesn't hasn't passed that of the last phase.
 pub record LaneStands (crew : CrewValue) (start : MemberValue) (done : List (List Item)) (end : Option ℕ) (phases : Phases) (lane : ℕ) (m : MemberValue) : Type 0 where
   pub path : m.path ≡ start.path
   pub last : Progress
@@ -50,6 +66,9 @@ pub record LaneStands (crew : CrewValue) (start : MemberValue) (done : List (Lis
   pub log : IsSameLog start.at.buffer m.at.buffer
   pub loops : m.halt ≡ None → m.at.tally.next_loop ≡ start.at.tally.next_loop + drawn_count (parts_in done)
   pub may : m.halt ≡ None → MayStep crew m.at
+  pub passes : m.halt ≡ None → barrier_count (put_in lane phases) ≡ bar_count (parts_in done)
+  pub ends : (line : ℕ) → end ≡ Some line → m.halt ≡ None → LastIsEnd (put_in lane phases)
+  pub behind : (h : Halt) → m.halt ≡ Some h → IsBehind done (barrier_count (put_in lane phases))
 
 -- so do all lanes of a team, and their hands are home
 pub record TeamStands (crew : CrewValue) (done : List (List Item)) (end : Option ℕ) (phases : Phases) (old new : HandValue View) (before after : List MemberValue) : Type 0 where
@@ -67,6 +86,13 @@ pub record IsFresh (crew : CrewValue) (m : MemberValue) : Type 0 where
   pub may : MayStep crew m.at
   pub no_loop : m.at.tally.next_loop ≡ 0
 
+-- the last of these phases has a barrier
+pub record HasLastBar (done : List (List Item)) : Type 0 where
+  pub earlier : List (List Item)
+  pub last : List Item
+  pub parts : done ≡ earlier ++ last ∷ []
+  pub bar : bar_count (map part_of last) ≡ 1
+
 -- The lanes of a team executed its phases, until one didn't go on. After all of them each that did put its End, at this line.
 pub record TeamRan (crew : CrewValue) (items : List (List Item)) (line : ℕ) (old new : HandValue View) (before after : List MemberValue) : Type 0 where
   pub done : List (List Item)
@@ -77,6 +103,7 @@ pub record TeamRan (crew : CrewValue) (items : List (List Item)) (line : ℕ) (o
   pub phases : Phases
   pub stands : TeamStands crew done end phases old new before after
   pub ends : AllGo after → PhasesEnd phases
+  pub early : end ≡ None → HasLastBar done
 
 -- The lanes of a team executed its phases, and their logs were closed.
 pub record TeamClosed (crew : CrewValue) (items : List (List Item)) (line : ℕ) (old new : HandValue View) (before : List MemberValue) (lanes : List ClosedValue) : Type 0 where

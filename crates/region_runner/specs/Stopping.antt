@@ -6,7 +6,7 @@ use Rattle.kernel_syntax.specs.Program.{Program}
 use Rattle.kernel_model.specs.Trace.{Ending, Start}
 use Rattle.history_model.specs.Work.{Work}
 use Rattle.lane_runner.specs.Fitting.{WorkFits}
-use Rattle.lane_runner.specs.Stopping.{EndsBelow, RestsBelow, ending_for}
+use Rattle.lane_runner.specs.Stopping.{EndsBelow, IsLeastBelow, IsNoTrouble, RestsBelow, ending_for}
 use Rattle.lane_runner.specs.declared.stop.Halt.{Halt}
 use Rattle.lane_runner.specs.declared.stop.Halt.TheVariants as halt
 use Rattle.lane_runner.specs.declared.stop.Stop.{Stop}
@@ -37,9 +37,16 @@ pub record RestsUnder (line : ℕ) (own path : List Step) (works : List Work) : 
   pub at : IsAtOrBelow own path
   pub rests : RestsBelow line works at.rest
 
+-- at each step from that task on to the one that stopped, each smaller lane of the region went further
+pub record IsLeastUnder (own path : List Step) (works : List Work) : Type 0 where
+  pub at : IsAtOrBelow own path
+  pub least : IsLeastBelow works at.rest
+
 -- Under the task at the path `own`, with this start and these works, the task of this path stopped so: a stop that traces tell is how
--- its trace ends, in each kernel of these arrays; and where too many tasks were below it, it did so after a region.
+-- its trace ends, in each kernel of these arrays; where too many tasks were below it, it did so after a region; and but for trouble,
+-- each smaller lane went further.
 pub record StopsTask (arrays : List Array) (own path : List Step) (why : Stop) (start : Start) (works : List Work) : Type 0 where
   pub at : IsAtOrBelow own path
   pub traced : WorkFits (in_one works) → (program : Program) → program.arrays ≡ arrays → (end : Ending) → ending_for why ≡ Some end → EndsUnder program end own path start works
   pub crowded : (line : ℕ) → why ≡ stop.Tasks line → RestsUnder line own path works
+  pub least : IsNoTrouble why → IsLeastUnder own path works

@@ -233,7 +233,13 @@ run_phases-returns-then-not-all_go g n c =
           ∙ append_assoc (take (c.loop-phase.phase-index + 1) c.in-Some.earlier.now) (drop (c.loop-phase.phase-index + 1) c.in-Some.earlier.now) (c.in-Some.last.now ∷ [])
           ∙ ap (λ (ps : List (List Item)). ps ++ (drop (c.loop-phase.phase-index + 1) c.in-Some.earlier.now ++ c.in-Some.last.now ∷ []))
           (take_next c.args.phases.now c.in-Some.earlier.now c.in-Some.last.now c.in-Some.ensures.cases.0 c.loop-phase.phase-index c.phase-item.result c.loop-phase-test.true c.phase-item.is))
-          steps.stands (c.all_go.ensures.some c.if-not-all_go.true);
+          steps.stands (c.all_go.ensures.some c.if-not-all_go.true)
+          (record {
+            earlier = take c.loop-phase.phase-index c.in-Some.earlier.now;
+            last = c.phase-item.result;
+            parts = refl;
+            bar = phase_ends c.args.phases.now c.in-Some.earlier.now c.in-Some.last.now c.in-Some.ensures.cases.0 c.loop-phase.phase-index c.phase-item.result c.loop-phase-test.true c.phase-item.is c.requires.divided;
+          });
     }
   where
     no_end : {line : ℕ} → None ≡ Some line → ⊥
