@@ -1,6 +1,6 @@
 -- Down a path of the tree each task has its start and its works.
-use Rattle.std.proofs.Common.{◌≡◌, refl, sym, ap, ◌∙◌, subst, ℕ, zero, suc, ◌<◌, true, List, [], ◌∷◌, ◌++◌, Option, Some, arith}
-use Rattle.std.specs.Prelude.{slice_get, ◌==◌, nat_lt}
+use Rattle.std.proofs.Common.{◌≡◌, refl, sym, ap, ◌∙◌, subst, ℕ, zero, suc, ◌<◌, List, [], ◌∷◌, ◌++◌, Option, Some, arith}
+use Rattle.std.specs.Prelude.{slice_get}
 use Rattle.std.specs.List.{flat_map}
 use Rattle.std.proofs.lemmas.List.{append-nil, append_assoc}
 use Rattle.std.proofs.lemmas.Option.{same_Some}
@@ -11,6 +11,7 @@ use Rattle.kernel_syntax.specs.Program.{Program}
 use Rattle.kernel_model.specs.State.{Fork}
 use Rattle.kernel_model.specs.Trace.{Start}
 use Rattle.kernel_model.specs.Folder.{own_trace, lane_start, start_below}
+use Rattle.kernel_model.proofs.LawfulFolder.{starts_lane}
 use Rattle.history_model.specs.Work.{Work, RegionWork, work_records, work_regions, lane_works, works_at_step, works_under}
 use Rattle.history_model.proofs.TaskTree.{AreForked, lane_is}
 use Rattle.execution_model.specs.Execution.{BeginsTrace, DrewSome}
@@ -61,16 +62,6 @@ module _ (program : Program) where
         drew = at.drew;
       }
 
-  span_yes : (m n : ℕ) → m ≡ n → (m == n) ≡ true
-  span_yes m n e = grind arith
-
-  lane_yes : (m n : ℕ) → m < n → nat_lt m n ≡ true
-  lane_yes m n less = grind arith
-
-  -- the lane of a forked region that a step names
-  lane_starts : (fork : Fork) (step : Step) → step.span ≡ fork.team.span → step.lane < step.span → lane_start (Some fork) step ≡ Some (lane_begin fork step.lane)
-  lane_starts fork step span less = rw (span_yes step.span fork.team.span span, lane_yes step.lane step.span less) refl
-
   -- the task at the path starts so, and has these works
   pub record RunsAt (logs : Logs) (path : List Step) (start : Start) (works : List Work) (steps : List Step) : Type 0 where
     pub begin : Start
@@ -104,7 +95,7 @@ module _ (program : Program) where
       lane_is_started =
           ap (λ (rs : List Record). lane_start (slice_get (own_trace program start rs).forks step.region) step) log_here
           ∙ ap (λ (o : Option Fork). lane_start o step) from_fork.found
-          ∙ lane_starts from_fork.fork step (sym forked.0.span_is ∙ from_fork.span_is) forked.0.within
+          ∙ starts_lane from_fork.fork step (sym forked.0.span_is ∙ from_fork.span_is) forked.0.within
 
       at : ((begin : Start) → RunsTask program begin (works_at_step step works) → RunsAt logs (path ++ step ∷ []) begin (works_at_step step works) steps)
           → RunsAt logs path start works (step ∷ steps)

@@ -1,21 +1,20 @@
 -- The effects of the parts of a task, from the effects of their parts.
-use Rattle.std.proofs.Common.{◌≡◌, refl, ap, sym, ◌∙◌, subst, ℕ, zero, suc, ◌-◌, ◌<◌, ◌≤◌, min, List, [], ◌∷◌, ◌++◌, length, ℤ, pos, Some, None, FitsSigned, w64, arith, append_assoc}
+use Rattle.std.proofs.Common.{◌≡◌, refl, ap, sym, ◌∙◌, ℕ, zero, suc, ◌-◌, ◌<◌, ◌≤◌, min, List, [], ◌∷◌, ◌++◌, length, ℤ, pos, None, FitsSigned, w64, arith, append_assoc}
 use Rattle.std.specs.Prelude.{slice_index_or}
 use Rattle.std.specs.List.{cons_option}
 use Rattle.std.proofs.lemmas.List.{append-nil, length-append}
 use Rattle.std.proofs.lemmas.List.Elements.{filter_map-append}
 use Rattle.std.proofs.lemmas.Int.{to_z-of_z}
-use Rattle.kernel_syntax.specs.Arithmetic.{applied, negated, fitted}
-use Rattle.kernel_syntax.specs.declared.syntax.Op.{Op}
+use Rattle.kernel_syntax.specs.Arithmetic.{fitted}
 use Rattle.kernel_syntax.specs.Tree as tree
 use Rattle.kernel_syntax.specs.Tree.{Term}
 use Rattle.log_format.specs.declared.record.Record.{Record}
 use Rattle.log_format.specs.declared.record.Kind.TheVariants as kind
-use Rattle.kernel_model.specs.State.{State, Fork, Stop, DivZero, Index, LogFull, Outcome, Gives, and_then, put, event, reads_of, chunks_of, value_read, number_drawn}
-use Rattle.kernel_model.specs.Value.{Site, Element, element_at, access, read, loaded, operated, value}
+use Rattle.kernel_model.specs.State.{State, Fork, Stop, LogFull, Outcome, Gives, and_then, put, event, reads_of, chunks_of, value_read, number_drawn}
+use Rattle.kernel_model.specs.Value.{Site, Element, access, read}
 use Rattle.kernel_model.specs.Trace.{draw}
 use Rattle.kernel_model.specs.Effect.{Effect, Finish, Returned, Halted, finished, state_with, Makes, then_effect, adds, MakesValue}
-use Rattle.kernel_model.proofs.Equations.{put-room, put-full, read-room, read-full, draw-room, draw-full, value-Number, value-Slot, value-Tid, value-Span, value-Load, value-Neg, value-Binary}
+use Rattle.kernel_model.proofs.Equations.{put-room, put-full, read-room, read-full, draw-room, draw-full, value-Number, value-Slot, value-Tid, value-Span}
 
 pub reads_of-append : (xs ys : List Record) → reads_of (xs ++ ys) ≡ reads_of xs ++ reads_of ys
 reads_of-append = filter_map-append (λ (r : Record). value_read r.kind r.value)
@@ -80,15 +79,6 @@ pub then_nothing : (one : Effect) → then_effect one (adds one.slots []) ≡ on
 then_nothing one =
     ap (λ a. record { slots = one.slots; added = a; forks = one.forks ++ [] }) (append-nil one.added)
     ∙ ap (λ f. record { slots = one.slots; added = one.added; forks = f }) (append-nil one.forks)
-
--- a part, and then one that adds nothing
-pub makes-then_nothing : {A B : Type 0} (part : State → Outcome A) (next : A → State → Outcome B) (slots : List ℤ) (room : ℕ) (one : Effect)
-    (a : A) (finish : Finish B) → Makes part slots room one (Returned a) →
-    Makes (next a) one.slots (room - length one.added) (adds one.slots []) finish →
-    Makes (λ s. and_then (part s) next) slots room one finish
-makes-then_nothing part next slots room one a finish m n =
-    subst (λ e. Makes (λ s. and_then (part s) next) slots room e finish) (then_nothing one)
-    (makes-then part next slots room one a (adds one.slots []) finish m n)
 
 -- a part that leaves the state as it is
 pub makes-stays : {A : Type 0} (part : State → Outcome A) (slots : List ℤ) (room : ℕ) (finish : Finish A) →
@@ -177,80 +167,3 @@ module _ (at : Site) (slots : List ℤ) (room : ℕ) where
 
   pub makes-Span : MakesValue at tree.Span slots room [] (Returned (pos at.span))
   makes-Span = makes-stays _ slots room (Returned (pos at.span)) (λ s same full. value-Span at s)
-
-  -- a negation, also of an operand that stops
-  pub makes-Neg : (operand : Term) (added : List Record) (v : ℤ) → MakesValue at operand slots room added (Returned v) →
-      MakesValue at (tree.Neg operand) slots room added (Returned (negated v))
-  makes-Neg operand added v m =
-      makes-same _ _ slots room _ _ (value-Neg at operand)
-      (makes-then_nothing (value at operand) _ slots room (adds slots added) v (Returned (negated v)) m
-      (makes-stays _ slots _ (Returned (negated v)) (λ s same full. refl)))
-
-  pub makes-Neg_halt : (operand : Term) (added : List Record) (why : Stop) (line : ℕ) → MakesValue at operand slots room added (Halted why line) →
-      MakesValue at (tree.Neg operand) slots room added (Halted why line)
-  makes-Neg_halt operand added why line m =
-      makes-same _ _ slots room _ _ (value-Neg at operand) (makes-halt (value at operand) _ slots room (adds slots added) why line m)
-
-  module _ (array : ℕ) (index : Term) (line site : ℕ) (added : List Record) where
-    pub makes-Load_halt : (why : Stop) (at_line : ℕ) → MakesValue at index slots room added (Halted why at_line) →
-        MakesValue at (tree.Load array index line site) slots room added (Halted why at_line)
-    makes-Load_halt why at_line m =
-        makes-same _ _ slots room _ _ (value-Load at array index line site) (makes-halt (value at index) _ slots room (adds slots added) why at_line m)
-
-    pub makes-Load_outside : (i : ℤ) → MakesValue at index slots room added (Returned i) → element_at at.arrays array i ≡ None →
-        MakesValue at (tree.Load array index line site) slots room added (Halted Index line)
-    makes-Load_outside i m outside =
-        makes-same _ _ slots room _ _ (value-Load at array index line site)
-        (makes-then_nothing (value at index) _ slots room (adds slots added) i (Halted Index line) m
-        (makes-stays _ slots _ (Halted Index line) (λ s same full. ap (λ e. loaded e line site s) outside)))
-
-    pub makes-Load_full : (i : ℤ) (e : Element) → MakesValue at index slots room added (Returned i) → element_at at.arrays array i ≡ Some e →
-        room ≡ length added → MakesValue at (tree.Load array index line site) slots room added (Halted LogFull line)
-    makes-Load_full i e m is full =
-        let none : 0 ≡ room - length added = omega arith in
-        makes-same _ _ slots room _ _ (value-Load at array index line site)
-        (makes-then_nothing (value at index) _ slots room (adds slots added) i (Halted LogFull line) m
-        (makes-same _ _ slots _ _ _ (λ s. ap (λ o. loaded o line site s) is)
-        (subst (λ n. Makes (read e site line) slots n (adds slots []) (Halted LogFull line)) none (makes-read_full e site line slots))))
-
-    pub makes-Load : (i : ℤ) (e : Element) (v : ℤ) → MakesValue at index slots room added (Returned i) → element_at at.arrays array i ≡ Some e →
-        length added < room → fitted v e.width ≡ v → FitsSigned w64 v →
-        MakesValue at (tree.Load array index line site) slots room (added ++ access kind.Read e site line v ∷ []) (Returned v)
-    makes-Load i e v m is some same fits =
-        makes-same _ _ slots room _ _ (value-Load at array index line site)
-        (makes-then (value at index) _ slots room (adds slots added) i (adds slots (access kind.Read e site line v ∷ [])) (Returned v) m
-        (makes-same _ _ slots _ _ _ (λ s. ap (λ o. loaded o line site s) is)
-        (makes-read e site line slots (room - length added) v (omega arith) same fits)))
-
-  module _ (op : Op) (line : ℕ) (left right : Term) (one : List Record) where
-    pub makes-Binary_left : (why : Stop) (at_line : ℕ) → MakesValue at left slots room one (Halted why at_line) →
-        MakesValue at (tree.Binary op line left right) slots room one (Halted why at_line)
-    makes-Binary_left why at_line m =
-        makes-same _ _ slots room _ _ (value-Binary at op line left right) (makes-halt (value at left) _ slots room (adds slots one) why at_line m)
-
-    pub makes-Binary_right : (x : ℤ) (two : List Record) (why : Stop) (at_line : ℕ) → MakesValue at left slots room one (Returned x) →
-        MakesValue at right slots (room - length one) two (Halted why at_line) →
-        MakesValue at (tree.Binary op line left right) slots room (one ++ two) (Halted why at_line)
-    makes-Binary_right x two why at_line m n =
-        makes-same _ _ slots room _ _ (value-Binary at op line left right)
-        (makes-then (value at left) _ slots room (adds slots one) x (adds slots two) (Halted why at_line) m
-        (makes-halt (value at right) _ slots (room - length one) (adds slots two) why at_line n))
-
-    makes-operated : (x y : ℤ) (two : List Record) (finish : Finish ℤ) → MakesValue at left slots room one (Returned x) →
-        MakesValue at right slots (room - length one) two (Returned y) → ((s : State) → operated (applied op x y) line s ≡ finished finish s) →
-        MakesValue at (tree.Binary op line left right) slots room (one ++ two) finish
-    makes-operated x y two finish m n same =
-        makes-same _ _ slots room _ _ (value-Binary at op line left right)
-        (makes-then (value at left) _ slots room (adds slots one) x (adds slots two) finish m
-        (makes-then_nothing (value at right) _ slots (room - length one) (adds slots two) y finish n
-        (makes-stays _ slots _ finish (λ s here full. same s))))
-
-    pub makes-Binary : (x y v : ℤ) (two : List Record) → MakesValue at left slots room one (Returned x) →
-        MakesValue at right slots (room - length one) two (Returned y) → applied op x y ≡ Some v →
-        MakesValue at (tree.Binary op line left right) slots room (one ++ two) (Returned v)
-    makes-Binary x y v two m n is = makes-operated x y two (Returned v) m n (λ s. ap (λ o. operated o line s) is)
-
-    pub makes-Binary_zero : (x y : ℤ) (two : List Record) → MakesValue at left slots room one (Returned x) →
-        MakesValue at right slots (room - length one) two (Returned y) → applied op x y ≡ None →
-        MakesValue at (tree.Binary op line left right) slots room (one ++ two) (Halted DivZero line)
-    makes-Binary_zero x y two m n is = makes-operated x y two (Halted DivZero line) m n (λ s. ap (λ o. operated o line s) is)

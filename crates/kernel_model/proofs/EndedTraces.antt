@@ -1,5 +1,5 @@
 -- A log that begins a task's trace and ends with End is the whole trace.
-use Rattle.std.proofs.Common.{◌≡◌, refl, ap, sym, ◌∙◌, subst, ℕ, zero, suc, ◌+◌, ◌<◌, ◌≤◌, min, arith, List, [], ◌∷◌, ◌++◌, append_assoc, length, length-append, ℤ, Option, None, All}
+use Rattle.std.proofs.Common.{◌≡◌, refl, ap, sym, ◌∙◌, subst, ℕ, zero, suc, min, arith, List, [], ◌∷◌, ◌++◌, append_assoc, length, length-append, ℤ, Option, None, All}
 use Rattle.std.specs.List.{cons_option}
 use Rattle.std.proofs.lemmas.List.{append-nil, map-append}
 use Rattle.std.proofs.lemmas.List.Elements.{All-nil, All-cons, All-append, All-head, All-tail}
@@ -8,12 +8,11 @@ use Rattle.log_format.specs.declared.record.Kind.{Kind}
 use Rattle.log_format.specs.declared.record.Kind.TheVariants as kind
 use Rattle.kernel_syntax.specs.Arithmetic.{fitted}
 use Rattle.kernel_syntax.specs.Program.{Program}
-use Rattle.kernel_syntax.specs.Tree.{TeamTree}
 use Rattle.kernel_model.specs.State.{State, Fork, Outcome, Gives, Stops, Wants, after, put, put_in, event, assign, state_of, reads_of, chunks_of}
-use Rattle.kernel_model.specs.Value.{Element, access}
-use Rattle.kernel_model.specs.Trace.{run, forked, task, Start, Ended, ending_of, site_of, state_at}
+use Rattle.kernel_model.specs.Value.{access}
+use Rattle.kernel_model.specs.Trace.{run, task, Start, Ended, ending_of, site_of, state_at}
 use Rattle.kernel_model.specs.Folder.{own_trace, IsTraced}
-use Rattle.kernel_model.proofs.SingleSteps.{with_record, IsMark, KeepsPlainSteps, KeepsBarriers, KeepsSteps}
+use Rattle.kernel_model.proofs.SingleSteps.{IsMark, KeepsBarriers, KeepsSteps}
 use Rattle.kernel_model.proofs.Steps.{kept-run}
 use Rattle.kernel_model.proofs.LawfulRecords.{span_told, spans_of, spans_append, spans_forked}
 

@@ -1,5 +1,5 @@
 -- How the parts of a task follow one another.
-use Rattle.std.proofs.Common.{◌≡◌, refl, ap, ◌∙◌, sym, ℕ, zero, suc, ◌+◌, arith, List, [], ◌∷◌, ◌++◌, pos, ◌+ℤ◌}
+use Rattle.std.proofs.Common.{◌≡◌, refl, ap, ◌∙◌, sym, ℕ, zero, suc, ◌+◌, arith, List, [], ◌∷◌, ◌++◌, ℤ, pos, negsuc, ◌+ℤ◌}
 use Rattle.kernel_syntax.specs.declared.syntax.Stmt.{Stmt}
 use Rattle.kernel_syntax.specs.Program.{stmt_code, stmts_code, code_of}
 use Rattle.kernel_syntax.specs.Tree.{Code, Done, Set, Store, If, Loop, Parallel, For, Barrier, Critical}
@@ -21,12 +21,6 @@ after-and_then (Gives a s) f g = refl
 after-and_then (Stops why line s) f g = refl
 after-and_then (Wants s) f g = refl
 
-pub and_then-and_then : {A B C : Type 0} (m : Outcome A) (f : A → State → Outcome B) (g : B → State → Outcome C) →
-    and_then (and_then m f) g ≡ and_then m (λ a s. and_then (f a s) g)
-and_then-and_then (Gives a s) f g = refl
-and_then-and_then (Stops why line s) f g = refl
-and_then-and_then (Wants s) f g = refl
-
 -- nothing follows
 pub after-nothing : (m : Outcome (Unit {0})) → after m (λ s. Gives tt s) ≡ m
 after-nothing (Gives a s) = refl
@@ -38,6 +32,22 @@ pub after-same : (m : Outcome (Unit {0})) (f g : State → Outcome (Unit {0})) �
 after-same (Gives a t) f g same = same t
 after-same (Stops why line t) f g same = refl
 after-same (Wants t) f g same = refl
+
+-- no statement follows
+pub after-done : (at : Site) (m : Outcome (Unit {0})) → after m (run at Done) ≡ m
+unfolding run
+after-done at (Gives u s) = refl
+after-done at (Stops why line s) = refl
+after-done at (Wants s) = refl
+
+-- a branch is its body
+pub branch-zero : (v : ℤ) (if_true if_false : State → Outcome (Unit {0})) (s : State) → v ≡ pos 0 → branch v if_true if_false s ≡ if_false s
+branch-zero v if_true if_false s is = ap (λ w. branch w if_true if_false s) is
+
+pub branch-other : (v : ℤ) (if_true if_false : State → Outcome (Unit {0})) (s : State) → (v ≡ pos 0 → ⊥) → branch v if_true if_false s ≡ if_true s
+branch-other (pos zero) if_true if_false s other = absurd (other refl)
+branch-other (pos (suc n)) if_true if_false s other = refl
+branch-other (negsuc n) if_true if_false s other = refl
 
 pub each-append : (is js : List ℕ) (turn : ℕ → State → Outcome (Unit {0})) (s : State) →
     each (is ++ js) turn s ≡ after (each is turn s) (each js turn)

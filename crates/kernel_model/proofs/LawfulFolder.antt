@@ -26,7 +26,6 @@ use Rattle.kernel_model.specs.Trace.{Start, log_limit}
 use Rattle.kernel_model.specs.Folder.{own_trace, root_start, lane_start, start_at, start_below, IsTraced, IsTracedTask, IsTracedFolder, paths_of}
 use Rattle.kernel_model.specs.Lawful.{IsLawful, code_holds_work}
 use Rattle.kernel_model.specs.Parts.{parts_of, bar_count}
-use Rattle.kernel_model.proofs.FirstKindShape.{trace_limit}
 use Rattle.kernel_model.proofs.Growing.{task-grows}
 use Rattle.kernel_model.proofs.LawfulValues.{IsValue, IsValueFork, IsValueStart, zero_value, lane_values, traced_values}
 use Rattle.kernel_model.proofs.LawfulRecords.{IsLawfulTeam, IsLawfulFork, spans_forked}
@@ -137,7 +136,8 @@ module _ (program : Program) (logs : Logs) (P : List Step → Start → Type 0) 
   pub descend : (path : List Step) (start : Start) → start_at program logs path ≡ Some start → P path start
   descend path start starts = walk [] (root_start program) path start (at_root program logs) root starts
 
-starts_lane : (f : Fork) (step : Step) → step.span ≡ f.team.span → step.lane < step.span →
+-- a step that names a lane of the fork starts it
+pub starts_lane : (f : Fork) (step : Step) → step.span ≡ f.team.span → step.lane < step.span →
     lane_start (Some f) step ≡ Some (record { team = f.team; lane = step.lane; slots = f.slots })
 starts_lane f step span lane =
     let test : (step.span == f.team.span) && nat_lt step.lane step.span ≡ true = passes step.span f.team.span step.lane span lane in
@@ -180,6 +180,14 @@ row_paths (t ∷ tasks) = ap (λ (ps : List (List Step)). t.path ∷ ps) (row_pa
 row_count : (tasks : Trace) → length (rows_of tasks) ≡ length tasks
 row_count [] = refl
 row_count (t ∷ tasks) = ap suc (row_count tasks)
+
+-- a trace fits a log
+trace_limit : (program : Program) (start : Start) (records : List Record) → IsTraced program start records → length records ≤ log_limit
+trace_limit program start records traced =
+    let grows = task-grows program start (reads_of records) (chunks_of records) in
+    let count : length records ≡ length grows.added = ap length (sym traced.records_are ∙ grows.records_are) in
+    let room = grows.room_is in
+    omega (arith, count, room)
 
 -- a task forks at most as many regions as it has records
 fork_limit : (program : Program) (start : Start) (records : List Record) → length (own_trace program start records).forks ≤ log_limit

@@ -101,7 +101,7 @@ spans_cons kind.Barrier v n rest = ap (slice_get rest) (none_plus n)
 spans_cons kind.Chunk v n rest = ap (slice_get rest) (none_plus n)
 spans_cons kind.End v n rest = ap (slice_get rest) (none_plus n)
 
-span_at : (xs : List Record) (k : ℕ) (r : Record) → slice_get xs k ≡ Some r → r.kind ≡ kind.Region →
+pub span_at : (xs : List Record) (k : ℕ) (r : Record) → slice_get xs k ≡ Some r → r.kind ≡ kind.Region →
     slice_get (spans_of xs) (region_count (take k xs)) ≡ Some r.value
 span_at [] k r found is = absurd (none-some r found)
 span_at (x ∷ xs) zero r found is =

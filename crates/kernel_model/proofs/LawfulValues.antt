@@ -1,13 +1,12 @@
 -- The values of a lawful task are of 64 bits, and what it records where it ends is of the table.
-use Rattle.std.proofs.Common.{◌≡◌, refl, ap, sym, ◌∙◌, subst, ℕ, zero, suc, ◌+◌, ◌-◌, ◌*◌, ◌/◌, ◌%◌, ◌^◌, ◌<◌, ◌≤◌, min, Bool, true, false, not, cond, nat_lt, List, [], ◌∷◌, ◌++◌, append_assoc, slice_index_or, slice_set, ℤ, pos, negsuc, ◌+ℤ◌, ◌-ℤ◌, ◌≤ℤ◌, Option, Some, None, IfSome, All, FitsSigned, w64, arith, le_refl}
+use Rattle.std.proofs.Common.{◌≡◌, refl, ap, sym, ◌∙◌, subst, ℕ, zero, suc, ◌+◌, ◌-◌, ◌*◌, ◌/◌, ◌%◌, ◌^◌, ◌<◌, ◌≤◌, min, Bool, true, false, cond, nat_lt, List, [], ◌∷◌, ◌++◌, append_assoc, slice_index_or, ℤ, pos, negsuc, ◌+ℤ◌, ◌-ℤ◌, ◌≤ℤ◌, Option, Some, None, IfSome, All, FitsSigned, w64, arith, le_refl}
 use Rattle.std.specs.Prelude.{◌==◌}
 use Rattle.std.specs.List.{range_with_len}
 use Rattle.std.specs.Int.RustNames.{int_rem}
-use Rattle.std.proofs.lemmas.Int.{ints, quot-rem}
+use Rattle.std.proofs.lemmas.Int.{ints}
 use Rattle.std.proofs.lemmas.List.{append-nil}
 use Rattle.std.proofs.lemmas.List.Elements.{All-nil, All-cons, All-append, All-head, All-tail, All-set, All-filter}
 use Rattle.std.proofs.lemmas.Nat.{div-add-mod', mul-le}
-use Rattle.std.proofs.lemmas.Bool.Decides.{nat_tests}
 use Rattle.log_format.specs.declared.format.TheConstants.{FORMAT}
 use Rattle.log_format.specs.declared.record.Record.{Record}
 use Rattle.log_format.specs.declared.record.Kind.TheVariants as kind
@@ -16,7 +15,7 @@ use Rattle.kernel_syntax.specs.declared.syntax.Op.{Op}
 use Rattle.kernel_syntax.specs.declared.syntax.Op.TheVariants.{Add, Sub, Mul, Div, Rem, Eq, Ne, Lt, Le, Gt, Ge}
 use Rattle.kernel_syntax.specs.declared.syntax.Schedule.{Schedule}
 use Rattle.kernel_syntax.specs.declared.syntax.Schedule.TheVariants.{Even, Static, Dynamic}
-use Rattle.kernel_syntax.specs.Arithmetic.{applied, wrapped, quotient, remainder, truth, fitted, IsWidth}
+use Rattle.kernel_syntax.specs.Arithmetic.{applied, wrapped, quotient, remainder, truth}
 use Rattle.kernel_syntax.specs.Bounds.{IsLine, IsPlace, IsSpan, IsBoundedTerm, IsBoundedCode, IsBoundedSchedule}
 use Rattle.kernel_syntax.specs.Bounds.{IsBounded}
 use Rattle.kernel_syntax.specs.Layout.{ArePlaced, elements}
@@ -25,14 +24,14 @@ use Rattle.kernel_syntax.proofs.Placing.{bounded_arrays_are_placed}
 use Rattle.kernel_syntax.specs.Share.{even_share_of}
 use Rattle.kernel_syntax.specs.Tree.{Term, Code, TeamTree, Number, Slot, Tid, Span, Load, Neg, Binary, Done, Set, Store, If, Loop, Parallel, For, Barrier, Critical}
 use Rattle.kernel_syntax.proofs.Fitting.{fitted_fits, wrapped_fits_word}
-use Rattle.kernel_syntax.proofs.Sharing.{share_goes_on, share_ends}
 use Rattle.kernel_model.specs.State.{State, Fork, Outcome, Gives, Stops, Wants, and_then, after, put, put_in, event, assign, state_of, reads_of, chunks_of}
-use Rattle.kernel_model.specs.Value.{Site, Element, element_at, access, read, read_in, loaded, operated, value}
+use Rattle.kernel_model.specs.Value.{Site, Element, element_at, read, read_in, loaded, operated, value}
 use Rattle.kernel_model.specs.Iterations.{count_of, total_of, even_iterations, static_iterations, chunk_count, chunk_iterations, below}
-use Rattle.kernel_model.specs.Trace.{stored, branch, turns, each, drawn, draw, draw_in, draws, shared, loop_end, forked, run, task, Start, site_of, state_at, Ended, ending_of}
+use Rattle.kernel_model.specs.Trace.{stored, branch, turns, each, draw, draw_in, draws, shared, loop_end, forked, run, task, Start, site_of, state_at, Ended, ending_of}
 use Rattle.kernel_model.specs.Folder.{IsTraced, own_trace}
 use Rattle.kernel_model.specs.Lawful.{TermFits, CodeFits}
 use Rattle.kernel_model.proofs.LawfulRecords.{IfGives}
+use Rattle.kernel_model.proofs.Turns.{share_within}
 use Rattle.kernel_model.proofs.Tabled.{IsPlacedElement, placed_element, tabled_read, tabled_write, tabled_barrier, tabled_end, tabled_region, tabled_lock, tabled_unlock, tabled_chunk}
 
 -- ---- values
@@ -131,21 +130,8 @@ range_below : (total a n : ℕ) → a + n ≤ total → All (λ k. k < total) (r
 range_below total a zero within = All-nil (λ k. k < total)
 range_below total a (suc n) within = All-cons (λ k. k < total) a (range_with_len (a + 1) n) (omega arith) (range_below total (a + 1) n (omega arith))
 
--- the even share of a lane begins within the iterations, and so does what follows it
-share_below : (total lane n span : ℕ) → 0 < span → lane + n ≡ span → (even_share_of total lane span).0 ≤ total
-share_below total lane zero span some is =
-    let last : lane ≡ span = omega arith in
-    subst (λ l. (even_share_of total l span).0 ≤ total) (sym last) (let ends = share_ends total span some in omega arith)
-share_below total lane (suc n) span some is =
-    let next = share_below total (lane + 1) n span some (omega arith) in
-    let on = share_goes_on total lane span in
-    omega arith
-
 even_below : (total lane span : ℕ) → lane < span → All (λ k. k < total) (even_iterations total lane span)
-even_below total lane span within =
-    let next = share_below total (lane + 1) (span - (lane + 1)) span (omega arith) (omega arith) in
-    let on = share_goes_on total lane span in
-    range_below total (even_share_of total lane span).0 (even_share_of total lane span).1 (omega arith)
+even_below total lane span within = range_below total (even_share_of total lane span).0 (even_share_of total lane span).1 (share_within total lane span within)
 
 static_below : (chunk total lane span : ℕ) → All (λ k. k < total) (static_iterations chunk total lane span)
 static_below chunk total lane span = All-filter (λ i. (i / chunk) % span == lane) (λ k. k < total) (below total) (range_below total 0 total (omega arith))

@@ -1,16 +1,11 @@
 pub mod Effects
 pub mod Equations
-pub mod FirstKindFolder
-pub mod FirstKindLanes
-pub mod FirstKindRules
-pub mod FirstKindShape
 pub mod Growing
 pub mod Joining
 pub mod RunEffects
 pub mod Shares
 pub mod SingleSteps
 pub mod Steps
-pub mod Tracing
 pub mod WorkedRows
 pub mod RunningParts
 pub mod BodyParts
@@ -26,3 +21,8 @@ pub mod LawfulLogs
 pub mod LawfulFolder
 pub mod LawfulVectors
 pub mod EndedTraces
+pub mod Turns
+pub mod Draining
+pub mod Elements
+pub mod StmtLists
+pub mod DistinctPaths

@@ -1,11 +1,9 @@
 -- All lanes of a team find equally many chunks in each loop whose chunks are drawn.
-use Rattle.std.proofs.Common.{◌≡◌, refl, ap, sym, ◌∙◌, subst, ℕ, zero, suc, ◌+◌, ◌<◌, ◌≤◌, min, arith, Bool, true, false, cond, eqb, nat_lt, List, [], ◌∷◌, ◌++◌, append_assoc, length, slice_get, slice_index_or, slice_set, ℤ, pos, negsuc, ◌+ℤ◌, Option, Some, None, true≢false}
-use Rattle.std.specs.Prelude.{◌||◌, ◌&&◌, ◌==◌, unwrap_or, is_some, find, IsTrue}
+use Rattle.std.proofs.Common.{◌≡◌, refl, ap, sym, ◌∙◌, subst, ℕ, zero, suc, ◌<◌, min, arith, Bool, true, false, cond, nat_lt, List, [], ◌∷◌, ◌++◌, append_assoc, length, slice_index_or, slice_set, ℤ, pos, negsuc, ◌+ℤ◌, Option, Some, None, true≢false}
+use Rattle.std.specs.Prelude.{◌||◌, ◌&&◌, ◌==◌, unwrap_or, is_some}
 use Rattle.std.proofs.lemmas.List.{append-nil}
-use Rattle.std.proofs.lemmas.Option.{same_Some}
 use Rattle.std.proofs.lemmas.Bool.Decides.{nat_tests}
 use Rattle.log_format.specs.declared.record.Record.{Record}
-use Rattle.log_format.specs.declared.record.Kind.{Kind}
 use Rattle.log_format.specs.declared.record.Kind.TheVariants as kind
 use Rattle.kernel_syntax.specs.declared.syntax.Op.{Op}
 use Rattle.kernel_syntax.specs.declared.syntax.Op.TheVariants.{Add, Sub, Mul}
@@ -17,9 +15,9 @@ use Rattle.kernel_syntax.specs.Tree.{Term, Code, TeamTree, Number, Slot, Tid, Sp
 use Rattle.kernel_model.specs.State.{State, Outcome, Gives, Stops, Wants, and_then, after, put, put_in, event, assign, state_of, number_drawn}
 use Rattle.kernel_model.specs.Value.{Site, Element, element_at, access, read, read_in, loaded, operated, value}
 use Rattle.kernel_model.specs.Iterations.{total_of, even_iterations, static_iterations, chunk_count, chunk_iterations}
-use Rattle.kernel_model.specs.Trace.{stored, branch, turns, each, drawn, draw as draw_step, draw_in, draws, shared, loop_end, forked, run, task, trace, Start, site_of, state_at}
+use Rattle.kernel_model.specs.Trace.{stored, branch, turns, each, drawn, draw as draw_step, draw_in, draws, shared, loop_end, forked, run, task, Start, site_of, state_at}
 use Rattle.kernel_model.specs.Chunking.{TellCounts, no_record, other, draw, closing, TellFirst, HasCounts}
-use Rattle.kernel_model.specs.Lawful.{Scope, Variable, variable_at, with_variable, IsNew, IsAssigned, after_assigning, IsLoopVariable, IsEvenOp, IsEvenTerm, IsScoped, fixed_bound, has_fixed_bounds, code_holds_work, IsEven}
+use Rattle.kernel_model.specs.Lawful.{Scope, Variable, variable_at, with_variable, IsAssigned, after_assigning, IsLoopVariable, IsEvenOp, IsEvenTerm, IsScoped, fixed_bound, has_fixed_bounds, code_holds_work, IsEven}
 
 -- ---- what a body's text tells
 

@@ -13,7 +13,6 @@ use Rattle.kernel_model.specs.Value.{Site, Element, element_at, access, read, re
 use Rattle.kernel_model.specs.Iterations.{total_of, even_iterations, static_iterations, chunk_count, chunk_iterations}
 use Rattle.kernel_model.specs.Trace.{stored, branch, turns, each, drawn, draw, draw_in, draws, shared, loop_end, forked, run, task, Start, site_of, state_at}
 use Rattle.kernel_model.proofs.SingleSteps.{with_record, KeepsPlainSteps, KeepsBarriers, KeepsEnds, KeepsSteps}
-use Rattle.kernel_syntax.specs.FirstKind.{AreStores, IsOneLoop}
 use Rattle.kernel_model.specs.Lawful.{code_holds_work}
 
 -- what a part of a task does, as a function of its state
@@ -129,30 +128,6 @@ module _ (R : State → State → Type 0) (keeps : KeepsPlainSteps R) where
   pub kept-loop_end : KeepsBarriers R → (nowait : Bool) (end : ℕ) (s : State) → Kept s (loop_end nowait end s)
   kept-loop_end also true end s = keeps.same s
   kept-loop_end also false end s = kept-bar also end s
-
-  -- stores alone
-  pub kept-stores : (at : Site) (code : Code) (s : State) → AreStores code → Kept s (run at code s)
-  unfolding run
-  kept-stores at Done s stores = keeps.same s
-  kept-stores at (Store array index e line site rest) s stores =
-      kept-and_then s (value at index s) _ (kept-value at index s) (λ i t.
-      kept-and_then t (value at e t) _ (kept-value at e t) (λ v u.
-      kept-after u (stored (element_at at.arrays array i) v line site u) (run at rest)
-      (kept-stored (element_at at.arrays array i) v line site u)
-      (λ w. kept-stores at rest w stores)))
-  kept-stores at _ s stores = absurd stores
-
-  -- one worksharing loop of stores
-  pub kept-one_loop : KeepsBarriers R → (at : Site) (code : Code) (s : State) → IsOneLoop code → Kept s (run at code s)
-  unfolding run
-  kept-one_loop also at (For slot from to schedule nowait line end body Done) s one =
-      kept-and_then s (value at from s) _ (kept-value at from s) (λ a t.
-      kept-and_then t (value at to t) _ (kept-value at to t) (λ b u.
-      kept-after u (shared schedule at line (total_of a b) (λ i w. run at body (assign slot (a +ℤ pos i) w)) u) _
-      (kept-shared schedule at line (total_of a b) (λ i w. run at body (assign slot (a +ℤ pos i) w)) u
-      (λ i w. keeps.chain w (assign slot (a +ℤ pos i) w) _ (keeps.assigns slot (a +ℤ pos i) w) (kept-stores at body (assign slot (a +ℤ pos i) w) one.1)))
-      (λ w. kept-after w (loop_end nowait end w) (run at Done) (kept-loop_end also nowait end w) (λ x. keeps.same x))))
-  kept-one_loop also at _ s one = absurd one
 
 -- whole tasks
 module _ (R : State → State → Type 0) (all : KeepsSteps R) where

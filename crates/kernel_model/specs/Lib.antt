@@ -1,6 +1,6 @@
 pub mod Chunking
+pub mod Drawing
 pub mod Effect
-pub mod FirstTeam
 pub mod Folder
 pub mod Growth
 pub mod Iterations

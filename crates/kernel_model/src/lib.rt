@@ -31,4 +31,4 @@ pub use lawful::{
     lanes_find_the_same_chunks, lanes_meet_the_same_barriers, lawful_folder_keeps_the_rules,
 };
 pub use phase::{Item, Phase};
-pub use phasing::phases;
+pub use phasing::{is_drawing, phases};

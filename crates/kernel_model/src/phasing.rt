@@ -36,8 +36,8 @@ fn is_dynamic(schedule: Schedule) -> bool
     }
 }
 
-// Whether the statement is a worksharing loop whose chunks are drawn.
-fn is_drawing(stmt: &Stmt) -> bool
+/// Whether the statement is a worksharing loop whose chunks are drawn.
+pub fn is_drawing(stmt: &Stmt) -> bool
     ensures { result ≡ is_drawn (part_of_stmt stmt.now) }
 {
     match stmt {

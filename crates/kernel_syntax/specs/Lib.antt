@@ -3,5 +3,4 @@ pub mod Program
 pub mod Arithmetic
 pub mod Layout
 pub mod Share
-pub mod FirstKind
 pub mod Bounds

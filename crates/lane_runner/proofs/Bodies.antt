@@ -1,7 +1,5 @@
 -- How a lane goes on: lists of statements, and the statements that have some.
 use Rattle.std.proofs.Common.{◌≡◌, ◌≢◌, refl, ap, sym, ◌∙◌, subst, ℕ, zero, suc, ◌+◌, ◌-◌, ◌<◌, List, [], ◌∷◌, ◌++◌, ℤ, pos, negsuc, ◌+ℤ◌, Result, Ok, Err, arith}
-use Rattle.std.specs.Prelude.{get_or, length, take, drop}
-use Rattle.std.proofs.lemmas.List.{take_more, drop_more, take-append-drop}
 use Rattle.kernel_syntax.specs.declared.syntax.Stmt.{Stmt}
 use Rattle.kernel_syntax.specs.Program.{stmt_code, code_of}
 use Rattle.kernel_syntax.proofs.Equations.{stmts_code-append}
@@ -15,17 +13,18 @@ use Rattle.kernel_model.specs.Value.{Site, value}
 use Rattle.kernel_model.specs.Effect.{Returned}
 use Rattle.kernel_model.proofs.Equations.{run-If, run-Loop}
 use Rattle.kernel_model.proofs.Growing.{grows-plain, run-grows, value-grows}
-use Rattle.kernel_model.proofs.Joining.{run-stmts, run-first, turns-add, after-nothing}
+use Rattle.kernel_model.proofs.Joining.{run-stmts, run-first, turns-add, after-nothing, after-done, branch-zero, branch-other}
 use Rattle.kernel_model.proofs.RunEffects.{makes-turns_none}
+use Rattle.kernel_model.proofs.Turns.{turn_grows}
 use Rattle.kernel_model.proofs.Steps.{kept-and_then, kept-after, kept-branch, kept-turns}
 use Rattle.lane_runner.specs.declared.stop.Halt.{Halt}
 use Rattle.lane_runner.specs.World.{WorldValue}
-use Rattle.lane_runner.specs.Alone.{turn_from}
+use Rattle.kernel_model.specs.Drawing.{turn_from}
 use Rattle.event_buffer.specs.Buffered.{Buffered}
 use Rattle.lane_runner.specs.Going.{Progress, CanGo, Made, Goes, IsSameLog}
 use Rattle.lane_runner.proofs.Following.{goes_stop, goes_then, goes_same}
 use Rattle.lane_runner.proofs.Values.{made_still}
-use Rattle.lane_runner.proofs.Running.{after_stop, after_goes, after_done}
+use Rattle.lane_runner.proofs.Running.{after_stop, after_goes}
 
 pub log_still : (a : Buffered) → IsSameLog a a
 log_still a = record { dir = refl; path = refl; size = refl; tells = refl; later = omega arith }
@@ -40,14 +39,6 @@ log_later a b c one more = record {
 }
 
 -- ---- lists of statements
-
-pub split_at : (xs : List Stmt) (i : ℕ) (x : Stmt) → i < length xs → x ≡ get_or xs i x → xs ≡ take i xs ++ x ∷ drop (i + 1) xs
-split_at xs i x within is =
-    sym (take-append-drop i xs)
-    ∙ ap (λ (l : List Stmt). take i xs ++ l) (drop_more xs i x within ∙ ap (λ (y : Stmt). y ∷ drop (i + 1) xs) (sym is))
-
-pub grown : (xs : List Stmt) (i : ℕ) (x : Stmt) → i < length xs → x ≡ get_or xs i x → take (i + 1) xs ≡ take i xs ++ x ∷ []
-grown xs i x within is = take_more xs i x within ∙ ap (λ (y : Stmt). take i xs ++ y ∷ []) (sym is)
 
 module _ (w : WorldValue) (at : Site) (slots mid_slots slots' : List ℤ) (prefix : List Stmt) (stmt : Stmt) (old mid new : Progress)
     (before : Made w (run at (code_of prefix)) slots mid_slots old mid (Returned tt)) where
@@ -69,14 +60,6 @@ module _ (w : WorldValue) (at : Site) (slots mid_slots slots' : List ℤ) (prefi
 
 -- ---- tests
 
-branch_zero : (v : ℤ) (yes' no' : State → Outcome (Unit {0})) (s : State) → v ≡ pos 0 → branch v yes' no' s ≡ no' s
-branch_zero v yes' no' s is = ap (λ (x : ℤ). branch x yes' no' s) is
-
-branch_other : (v : ℤ) (yes' no' : State → Outcome (Unit {0})) (s : State) → v ≢ pos 0 → branch v yes' no' s ≡ yes' s
-branch_other (pos zero) yes' no' s other = absurd (other refl)
-branch_other (pos (suc n)) yes' no' s other = refl
-branch_other (negsuc n) yes' no' s other = refl
-
 module _ (w : WorldValue) (at : Site) (slots : List ℤ) (test : Term) (if_true if_false : Code) where
   abbrev after_test : ℤ → State → Outcome (Unit {0})
   after_test v s = after (branch v (run at if_true) (run at if_false) s) (run at tree.Done)
@@ -96,20 +79,17 @@ module _ (w : WorldValue) (at : Site) (slots : List ℤ) (test : Term) (if_true 
     chosen_goes code is goes =
         goes_same w _ (run at (tree.If test if_true if_false tree.Done)) slots slots' old new (run-If at test if_true if_false tree.Done) r
         (goes_then w (value at test) after_test slots slots slots' old mid new v made r
-        (goes_same w (run at code) (after_test v) slots slots' mid new (λ s. after_done at (branch v (run at if_true) (run at if_false) s) ∙ is s) r goes))
+        (goes_same w (run at code) (after_test v) slots slots' mid new (λ s. after-done at (branch v (run at if_true) (run at if_false) s) ∙ is s) r goes))
 
     pub else_goes : v ≡ pos 0 → Goes w (run at if_false) slots slots' mid new r → Goes w (run at (tree.If test if_true if_false tree.Done)) slots slots' old new r
-    else_goes is = chosen_goes if_false (λ s. branch_zero v (run at if_true) (run at if_false) s is)
+    else_goes is = chosen_goes if_false (λ s. branch-zero v (run at if_true) (run at if_false) s is)
 
     pub then_goes : v ≢ pos 0 → Goes w (run at if_true) slots slots' mid new r → Goes w (run at (tree.If test if_true if_false tree.Done)) slots slots' old new r
-    then_goes other = chosen_goes if_true (λ s. branch_other v (run at if_true) (run at if_false) s other)
+    then_goes other = chosen_goes if_true (λ s. branch-other v (run at if_true) (run at if_false) s other)
 
 -- ---- loops
 
 module _ (w : WorldValue) (at : Site) (body : Code) (slot : ℕ) (from : ℤ) where
-  pub turn_grows : (i : ℕ) (s : State) → Grows s (state_of (turn_from at body slot from i s))
-  turn_grows i s = grows-plain.chain s (assign slot (from +ℤ pos i) s) _ (grows-plain.assigns slot (from +ℤ pos i) s) (run-grows at body (assign slot (from +ℤ pos i) s))
-
   pub turns_none : (first : ℕ) (slots : List ℤ) (p : Progress) → CanGo w p → Made w (turns 0 first (turn_from at body slot from)) slots slots p p (Returned tt)
   turns_none first slots p can = made_still w (turns 0 first (turn_from at body slot from)) slots p (Returned tt) can (makes-turns_none (turn_from at body slot from) slots (log_limit - p.buffer.count) first)
 
@@ -128,7 +108,7 @@ module _ (w : WorldValue) (at : Site) (body : Code) (slot : ℕ) (from : ℤ) wh
         subst (λ (n : ℕ). Goes w (turns n first (turn_from at body slot from)) slots slots' old new (Err why)) (let e : i + suc (count - i - 1) ≡ count = omega arith in e)
         (turns_more (suc (count - i - 1)) (Err why)
         (after_stop w (turn_from at body slot from (first + i)) (turns (count - i - 1) (suc (first + i)) (turn_from at body slot from)) mid_slots slots' mid new why
-        (λ s. kept-turns Grows grows-plain (count - i - 1) (suc (first + i)) (turn_from at body slot from) s turn_grows) m))
+        (λ s. kept-turns Grows grows-plain (count - i - 1) (suc (first + i)) (turn_from at body slot from) s (turn_grows at body slot from)) m))
 
 module _ (w : WorldValue) (at : Site) (slots : List ℤ) (slot : ℕ) (from to : Term) (body : Code) where
   abbrev after_bounds : ℤ → ℤ → State → Outcome (Unit {0})
@@ -136,7 +116,7 @@ module _ (w : WorldValue) (at : Site) (slots : List ℤ) (slot : ℕ) (from to :
 
   bounds_grow : (a b : ℤ) (s : State) → Grows s (state_of (after_bounds a b s))
   bounds_grow a b s = kept-after Grows grows-plain s (turns (total_of a b) 0 (turn_from at body slot a) s) (run at tree.Done)
-      (kept-turns Grows grows-plain (total_of a b) 0 (turn_from at body slot a) s (turn_grows w at body slot a)) (run-grows at tree.Done)
+      (kept-turns Grows grows-plain (total_of a b) 0 (turn_from at body slot a) s (turn_grows at body slot a)) (run-grows at tree.Done)
 
   abbrev after_from : ℤ → State → Outcome (Unit {0})
   after_from a s = and_then (value at to s) (after_bounds a)
@@ -164,4 +144,4 @@ module _ (w : WorldValue) (at : Site) (slots : List ℤ) (slot : ℕ) (from to :
         loop_after slots' r
         (goes_then w (value at to) (after_bounds a) slots slots slots' mid last new b made_to r
         (goes_same w (turns (total_of a b) 0 (turn_from at body slot a)) (after_bounds a b) slots slots' last new
-        (λ s. after_done at (turns (total_of a b) 0 (turn_from at body slot a) s)) r goes))
+        (λ s. after-done at (turns (total_of a b) 0 (turn_from at body slot a) s)) r goes))

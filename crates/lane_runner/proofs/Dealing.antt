@@ -1,12 +1,9 @@
 -- How a lane goes on in a worksharing loop: turns one after another, its share of them, and the loop.
 use Rattle.std.proofs.Common.{◌≡◌, refl, ap, sym, ◌∙◌, subst, ℕ, zero, suc, ◌+◌, ◌-◌, ◌*◌, ◌%◌, ◌^◌, ◌<◌, ◌≤◌, min, true, List, [], ◌++◌, ℤ, pos, ◌+ℤ◌, ◌≤ℤ◌, Result, Ok, Err, append_assoc, arith}
 use Rattle.std.specs.List.{range_with_len}
-use Rattle.std.proofs.lemmas.Int.{ints}
-use Rattle.std.proofs.lemmas.List.{append-nil}
 use Rattle.kernel_syntax.specs.declared.syntax.Schedule.{Schedule}
 use Rattle.kernel_syntax.specs.declared.syntax.Schedule.TheVariants.{Even, Static, Dynamic}
 use Rattle.kernel_syntax.specs.Share.{even_share_of}
-use Rattle.kernel_syntax.proofs.Sharing.{share_goes_on, share_ends}
 use Rattle.kernel_syntax.specs.Tree as tree
 use Rattle.kernel_syntax.specs.Tree.{Term, Code}
 use Rattle.kernel_model.specs.State.{State, Outcome, after, and_then, state_of}
@@ -17,31 +14,26 @@ use Rattle.kernel_model.specs.Trace.{run, each, turns, shared}
 use Rattle.kernel_model.specs.Effect.{Returned}
 use Rattle.kernel_model.proofs.Equations.{run-For}
 use Rattle.kernel_model.proofs.Growing.{grows-plain, run-grows, value-grows}
-use Rattle.kernel_model.proofs.Joining.{each-append, after-same}
-use Rattle.kernel_model.proofs.Shares.{static_from, static_from-first, static_from-step, static_from-end, first_chunk, next_chunk_dealt}
+use Rattle.kernel_model.proofs.Joining.{each-append, after-done}
+use Rattle.kernel_model.proofs.Shares.{static_from}
+use Rattle.kernel_model.proofs.Turns.{turn_grows, each_grows, each-range, DealtBefore, dealt_none, dealt_all, dealt_then, dealt_more}
 use Rattle.kernel_model.proofs.Steps.{kept-and_then, kept-after, kept-each, kept-shared}
 use Rattle.lane_runner.specs.declared.stop.Halt.{Halt}
 use Rattle.lane_runner.specs.World.{WorldValue}
-use Rattle.lane_runner.specs.Alone.{turn_from, draw_all}
+use Rattle.kernel_model.specs.Drawing.{turn_from, draw_all}
 use Rattle.lane_runner.specs.Going.{Progress, CanGo, Made, Goes}
 use Rattle.lane_runner.proofs.Following.{goes_stop, goes_then, goes_same}
-use Rattle.lane_runner.proofs.Running.{after_stop, after_goes, after_done}
-use Rattle.lane_runner.proofs.Bodies.{turn_grows, turns_none}
+use Rattle.lane_runner.proofs.Running.{after_stop, after_goes}
+use Rattle.lane_runner.proofs.Bodies.{turns_none}
 
 -- ---- turns by a list of iterations
-
-each_range : (a n : ℕ) (turn : ℕ → State → Outcome (Unit {0})) (s : State) → each (range_with_len a n) turn s ≡ turns n a turn s
-each_range a zero turn s = refl
-each_range a (suc n) turn s =
-    after-same (turn a s) (each (range_with_len (a + 1) n) turn) (turns n (suc a) turn)
-    (λ t. each_range (a + 1) n turn t ∙ ap (λ (k : ℕ). turns n k turn t) (let e : a + 1 ≡ suc a = omega arith in e))
 
 module _ (w : WorldValue) (at : Site) (body : Code) (slot : ℕ) (from : ℤ) where
   pub range_goes : (first count : ℕ) (slots slots' : List ℤ) (old new : Progress) (r : Result (Unit {0}) Halt) → Goes w (turns count first (turn_from at body slot from)) slots slots' old new r
       → Goes w (each (range_with_len first count) (turn_from at body slot from)) slots slots' old new r
   range_goes first count slots slots' old new r goes =
       goes_same w (turns count first (turn_from at body slot from)) (each (range_with_len first count) (turn_from at body slot from)) slots slots' old new
-      (λ s. each_range first count (turn_from at body slot from) s) r goes
+      (λ s. each-range first count (turn_from at body slot from) s) r goes
 
   each_more : (is js : List ℕ) (slots mid_slots slots' : List ℤ) (old mid new : Progress) (r : Result (Unit {0}) Halt) → Made w (each is (turn_from at body slot from)) slots mid_slots old mid (Returned tt)
       → Goes w (each js (turn_from at body slot from)) mid_slots slots' mid new r → Goes w (each (is ++ js) (turn_from at body slot from)) slots slots' old new r
@@ -54,27 +46,21 @@ module _ (w : WorldValue) (at : Site) (body : Code) (slot : ℕ) (from : ℤ) wh
   each_stop is js slots slots' old new why goes =
       goes_same w _ (each (is ++ js) (turn_from at body slot from)) slots slots' old new (λ s. each-append is js (turn_from at body slot from) s) (Err why)
       (after_stop w (each is (turn_from at body slot from)) (each js (turn_from at body slot from)) slots slots' old new why
-      (λ s. kept-each Grows grows-plain js (turn_from at body slot from) s (turn_grows w at body slot from)) goes)
+      (each_grows at body slot from js) goes)
 
 -- ---- chunks that are dealt in turn
 
 -- The lane's chunks before the one that begins at `first` were made, and no other turns.
 pub record MadeChunks (w : WorldValue) (at : Site) (body : Code) (slot : ℕ) (from : ℤ) (chunk total first : ℕ) (slots slots' : List ℤ) (old new : Progress) : Type 0 where
   pub done : List ℕ
-  pub q : ℕ
-  pub own : q % at.span ≡ at.lane
-  pub place : first ≡ min (q * chunk) (2 ^ 64 - 1)
-  pub parts : static_iterations chunk total at.lane at.span ≡ done ++ static_from chunk total at.lane at.span q
+  pub dealt : DealtBefore chunk total at.lane at.span first done
   pub made : Made w (each done (turn_from at body slot from)) slots slots' old new (Returned tt)
 
 module _ (w : WorldValue) (at : Site) (body : Code) (slot : ℕ) (from : ℤ) (chunk total : ℕ) (some : 0 < chunk) (within : at.lane < at.span) where
   pub chunks_none : (slots : List ℤ) (p : Progress) → CanGo w p → chunk * at.lane < 2 ^ 64 → MadeChunks w at body slot from chunk total (chunk * at.lane) slots slots p p
   chunks_none slots p can small = record {
     done = [];
-    q = at.lane;
-    own = first_chunk chunk total at.lane at.span some within;
-    place = omega arith;
-    parts = static_from-first chunk total at.lane at.span some within;
+    dealt = dealt_none chunk total at.lane at.span some within small;
     made = range_goes w at body slot from 0 0 slots slots p p (Ok tt) (turns_none w at body slot from 0 slots p can);
   }
 
@@ -82,36 +68,16 @@ module _ (w : WorldValue) (at : Site) (body : Code) (slot : ℕ) (from : ℤ) (c
     -- all of them were made
     pub chunks_all : total ≤ first → Made w (each (static_iterations chunk total at.lane at.span) (turn_from at body slot from)) slots mid_slots old mid (Returned tt)
     chunks_all past =
-        let none : static_from chunk total at.lane at.span before.q ≡ [] = static_from-end chunk total at.lane at.span some within before.q (omega (arith, past, before.place)) in
         subst (λ (is : List ℕ). Made w (each is (turn_from at body slot from)) slots mid_slots old mid (Returned tt))
-        (sym (before.parts ∙ ap (λ (l : List ℕ). before.done ++ l) none ∙ append-nil before.done)) before.made
+        (sym (dealt_all chunk total at.lane at.span some within first before.done before.dealt past)) before.made
 
     module _ (within_loop : first < total) (small : total < 2 ^ 64) where
-      begins : first ≡ before.q * chunk
-      begins = omega (arith, before.place)
-
-      chunk_is : range_with_len first (min chunk (total - first)) ≡ chunk_iterations chunk total before.q
-      chunk_is = ap (λ (n : ℕ). range_with_len n (min chunk (total - n))) begins
-
-      all_are : static_iterations chunk total at.lane at.span
-          ≡ before.done ++ (range_with_len first (min chunk (total - first)) ++ static_from chunk total at.lane at.span (before.q + at.span))
-      all_are =
-          before.parts
-          ∙ ap (λ (l : List ℕ). before.done ++ l)
-          (static_from-step chunk total at.lane at.span some within before.q before.own
-          ∙ ap (λ (l : List ℕ). l ++ static_from chunk total at.lane at.span (before.q + at.span)) (sym chunk_is))
-
       -- one more
       pub chunks_grow : Made w (turns (min chunk (total - first)) first (turn_from at body slot from)) mid_slots slots' mid new (Returned tt)
           → MadeChunks w at body slot from chunk total (min (first + chunk * at.span) (2 ^ 64 - 1)) slots slots' old new
       chunks_grow m = record {
         done = before.done ++ range_with_len first (min chunk (total - first));
-        q = before.q + at.span;
-        own = next_chunk_dealt chunk total at.lane at.span some within before.q before.own;
-        place = omega (arith, begins);
-        parts =
-            all_are
-            ∙ sym (append_assoc before.done (range_with_len first (min chunk (total - first))) (static_from chunk total at.lane at.span (before.q + at.span)));
+        dealt = dealt_more chunk total at.lane at.span some within first before.done before.dealt within_loop small;
         made =
             each_more w at body slot from before.done (range_with_len first (min chunk (total - first))) slots mid_slots slots' old mid new (Ok tt) before.made
             (range_goes w at body slot from first (min chunk (total - first)) mid_slots slots' mid new (Ok tt) m);
@@ -122,29 +88,12 @@ module _ (w : WorldValue) (at : Site) (body : Code) (slot : ℕ) (from : ℤ) (c
           → Goes w (each (static_iterations chunk total at.lane at.span) (turn_from at body slot from)) slots slots' old new (Err why)
       chunks_stop why m =
           let next = range_with_len first (min chunk (total - first)) in
-          let later = static_from chunk total at.lane at.span (before.q + at.span) in
-          subst (λ (is : List ℕ). Goes w (each is (turn_from at body slot from)) slots slots' old new (Err why)) (sym all_are)
+          let later = static_from chunk total at.lane at.span (before.dealt.q + at.span) in
+          subst (λ (is : List ℕ). Goes w (each is (turn_from at body slot from)) slots slots' old new (Err why))
+          (sym (dealt_then chunk total at.lane at.span some within first before.done before.dealt within_loop small))
           (each_more w at body slot from before.done (next ++ later) slots mid_slots slots' old mid new (Err why) before.made
           (each_stop w at body slot from next later mid_slots slots' mid new why
           (range_goes w at body slot from first (min chunk (total - first)) mid_slots slots' mid new (Err why) m)))
-
--- ---- how far a share reaches
-
-share_below : (total span lane k : ℕ) → 0 < span → lane + k ≡ span → (even_share_of total lane span).0 ≤ total
-share_below total span lane zero some is =
-    let last : lane ≡ span = omega arith in
-    let ends : (even_share_of total lane span).0 ≡ total = ap (λ l. (even_share_of total l span).0) last ∙ share_ends total span some in omega arith
-share_below total span lane (suc k) some is =
-    let next : (even_share_of total (lane + 1) span).0 ≤ total = share_below total span (lane + 1) k some (omega arith) in
-    omega (arith, share_goes_on total lane span)
-
-pub share_within : (total lane span : ℕ) → lane < span → (even_share_of total lane span).0 + (even_share_of total lane span).1 ≤ total
-share_within total lane span lt =
-    let next : (even_share_of total (lane + 1) span).0 ≤ total = share_below total span (lane + 1) (span - lane - 1) (omega arith) (omega arith) in
-    omega (arith, share_goes_on total lane span)
-
-pub below_top : (a : ℤ) (m n : ℕ) → m ≤ n → (a +ℤ pos n) ≤ℤ pos (2 ^ 63 - 1) → (a +ℤ pos m) ≤ℤ pos (2 ^ 63 - 1)
-below_top a m n le top = omega (arith, ints, top)
 
 -- ---- by the loop's schedule
 
@@ -181,7 +130,7 @@ module _ (w : WorldValue) (at : Site) (slots : List ℤ) (slot : ℕ) (from to :
 
   limits_grow : (a b : ℤ) (s : State) → Grows s (state_of (after_limits a b s))
   limits_grow a b s = kept-after Grows grows-plain s (shared schedule at line (total_of a b) (turn_from at body slot a) s) (run at tree.Done)
-      (kept-shared Grows grows-plain schedule at line (total_of a b) (turn_from at body slot a) s (turn_grows w at body slot a)) (run-grows at tree.Done)
+      (kept-shared Grows grows-plain schedule at line (total_of a b) (turn_from at body slot a) s (turn_grows at body slot a)) (run-grows at tree.Done)
 
   abbrev after_first : ℤ → State → Outcome (Unit {0})
   after_first a s = and_then (value at to s) (after_limits a)
@@ -208,4 +157,4 @@ module _ (w : WorldValue) (at : Site) (slots : List ℤ) (slot : ℕ) (from to :
         for_after slots' r
         (goes_then w (value at to) (after_limits a) slots slots slots' mid last new b made_to r
         (goes_same w (shared schedule at line (total_of a b) (turn_from at body slot a)) (after_limits a b) slots slots' last new
-        (λ s. after_done at (shared schedule at line (total_of a b) (turn_from at body slot a) s)) r goes))
+        (λ s. after-done at (shared schedule at line (total_of a b) (turn_from at body slot a) s)) r goes))

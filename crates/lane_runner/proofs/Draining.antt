@@ -1,21 +1,16 @@
 -- A loop whose chunks are drawn: one draw after another, until none is left.
-use Rattle.std.proofs.Common.{◌≡◌, refl, ap, sym, ℕ, zero, suc, ◌-◌, ◌≤◌, Bool, true, false, cond, List, [], ◌∷◌, ℤ, Result, Ok, Err, nat_lt, arith}
-use Rattle.kernel_model.specs.State.{State, Outcome, Gives, after, and_then, state_of}
+use Rattle.std.proofs.Common.{refl, ℕ, ◌-◌, true, false, List, ℤ, Result, Ok, Err}
+use Rattle.kernel_model.specs.State.{State, Outcome, and_then, state_of}
 use Rattle.kernel_model.specs.Growth.{Grows}
-use Rattle.kernel_model.specs.Iterations.{chunk_iterations}
-use Rattle.kernel_model.specs.Trace.{log_limit, draw, draw_in, drawn, draws, each}
-use Rattle.kernel_model.specs.Value.{Site}
-use Rattle.kernel_syntax.specs.Tree.{Code}
-use Rattle.kernel_model.proofs.Growing.{grows-plain}
-use Rattle.kernel_model.proofs.Steps.{kept-draws, kept-each}
+use Rattle.kernel_model.specs.Trace.{log_limit}
+use Rattle.kernel_model.proofs.Draining.{again, draw_all_is, again_grows}
 use Rattle.lane_runner.specs.declared.stop.Halt.{Halt}
 use Rattle.lane_runner.specs.World.{WorldValue}
-use Rattle.lane_runner.specs.Alone.{turn_from, then_more, if_drawn, draw_once, draw_all}
+use Rattle.kernel_model.specs.Drawing.{draw_once, draw_all}
 use Rattle.lane_runner.specs.Going.{Progress, CanGo, Made, Goes}
 use Rattle.kernel_model.specs.Effect.{Returned}
 use Rattle.kernel_model.proofs.Effects.{makes-stays}
 use Rattle.lane_runner.proofs.Values.{made_still}
-use Rattle.lane_runner.proofs.Bodies.{turn_grows}
 use Rattle.lane_runner.proofs.Following.{goes_stop, goes_then, goes_same}
 
 -- Whatever the lane does from here on, it does in the part.
@@ -23,89 +18,18 @@ pub record GoesOnIn (w : WorldValue) (part : State → Outcome (Unit {0})) (slot
   pub on : (slots' : List ℤ) (new : Progress) (r : Result (Unit {0}) Halt) → Goes w part mid_slots slots' mid new r → Goes w part slots slots' old new r
 
 module _ (line n : ℕ) (chunk : ℕ → State → Outcome (Unit {0})) (grows : (q : ℕ) (s : State) → Grows s (state_of (chunk q s))) where
-  -- after a draw that found a chunk, and after one that found none
-  abbrev pub again : Bool → State → Outcome (Unit {0})
-  again true s = draw_all line n chunk s
-  again false s = Gives tt s
-
-  AreSame : ℕ → ℕ → Type 0
-  AreSame f m = (s : State) → s.room ≤ f → s.room ≤ m → draws f line n chunk s ≡ draws m line n chunk s
-
-  -- what follows a chunk does the same wherever there is no more room than before
-  chunk_same : (p r : State → Outcome (Unit {0})) (t : State) (o : Outcome (Unit {0})) → Grows t (state_of o) → ((u : State) → u.room ≤ t.room → p u ≡ r u) → after o p ≡ after o r
-  chunk_same p r t (Gives u s) grown same = same s (let room = grown.room_is in omega (arith, room))
-  chunk_same p r t (Outcome.Stops why at s) grown same = refl
-  chunk_same p r t (Outcome.Wants s) grown same = refl
-
-  drawn_same : (q : ℕ) (p r : State → Outcome (Unit {0})) (t : State) → ((u : State) → u.room ≤ t.room → p u ≡ r u) → drawn q n chunk p t ≡ drawn q n chunk r t
-  drawn_same q p r t same = ap (λ (o : Outcome (Unit {0})). cond (nat_lt q n) o (Gives tt t)) (chunk_same p r t (chunk q t) (grows q t) same)
-
-  next_same : (f m room : ℕ) (chunks : List ℕ) (s : State) → AreSame f m → room ≤ suc f → room ≤ suc m
-      → and_then (draw_in room chunks line n s) (λ q t. drawn q n chunk (draws f line n chunk) t) ≡ and_then (draw_in room chunks line n s) (λ q t. drawn q n chunk (draws m line n chunk) t)
-  unfolding AreSame
-  next_same f m zero chunks s same below within = refl
-  next_same f m (suc room) [] s same below within = refl
-  next_same f m (suc room) (q ∷ chunks) s same below within = drawn_same q (draws f line n chunk) (draws m line n chunk) _ (λ u less. same u (omega (arith, below, less)) (omega (arith, within, less)))
-
-  full : (fuel room : ℕ) (s : State) → room ≡ 0 → and_then (draw_in room s.chunks line n s) (λ q t. drawn q n chunk (draws fuel line n chunk) t) ≡ draws zero line n chunk s
-  full fuel zero s none = refl
-  full fuel (suc room) s none = absurd (omega (arith, none))
-
-  -- draws beyond the room change nothing
-  draws_same : (f m : ℕ) → AreSame f m
-  unfolding AreSame draw
-  draws_same zero zero s below within = refl
-  draws_same zero (suc m) s below within = sym (full m s.room s (omega (arith, below)))
-  draws_same (suc f) zero s below within = full f s.room s (omega (arith, within))
-  draws_same (suc f) (suc m) s below within = next_same f m s.room s.chunks s (draws_same f m) below within
-
-  again_same : (m : ℕ) (t : State) (o : Outcome (Unit {0})) → Grows t (state_of o) → t.room ≤ m → after o (draws m line n chunk) ≡ and_then (then_more o) again
-  unfolding AreSame
-  again_same m t (Gives u s) grown within = draws_same m s.room s (let room = grown.room_is in omega (arith, room, within)) (omega arith)
-  again_same m t (Outcome.Stops why at s) grown within = refl
-  again_same m t (Outcome.Wants s) grown within = refl
-
-  one_more : (q m : ℕ) (t : State) → t.room ≤ m → drawn q n chunk (draws m line n chunk) t ≡ and_then (if_drawn q n chunk t) again
-  one_more q m t within = by_test (nat_lt q n) where
-    by_test : (b : Bool) → cond b (after (chunk q t) (draws m line n chunk)) (Gives tt t) ≡ and_then (cond b (then_more (chunk q t)) (Gives false t)) again
-    by_test true = again_same m t (chunk q t) (grows q t) within
-    by_test false = refl
-
-  next_is : (m room : ℕ) (chunks : List ℕ) (s : State) → room ≤ suc m
-      → and_then (draw_in room chunks line n s) (λ q t. drawn q n chunk (draws m line n chunk) t) ≡ and_then (and_then (draw_in room chunks line n s) (λ q t. if_drawn q n chunk t)) again
-  next_is m zero chunks s within = refl
-  next_is m (suc room) [] s within = refl
-  next_is m (suc room) (q ∷ chunks) s within = one_more q m _ (omega (arith, within))
-
-  unrolled : (room : ℕ) (s : State) → s.room ≡ room → draws room line n chunk s ≡ and_then (draw_once line n chunk s) again
-  unfolding draw
-  unrolled zero s is = sym (ap (λ (r : ℕ). and_then (and_then (draw_in r s.chunks line n s) (λ q t. if_drawn q n chunk t)) again) is)
-  unrolled (suc m) s is = next_is m s.room s.chunks s (omega (arith, is))
-
-  -- a draw, and then the others
-  pub draw_all_is : (s : State) → draw_all line n chunk s ≡ and_then (draw_once line n chunk s) again
-  draw_all_is s = unrolled s.room s refl
-
-  again_grows : (b : Bool) (s : State) → Grows s (state_of (again b s))
-  again_grows true s = kept-draws Grows grows-plain s.room line n chunk s grows
-  again_grows false s = grows-plain.same s
-
   module _ (w : WorldValue) (slots mid_slots slots' : List ℤ) (old mid new : Progress) (before : GoesOnIn w (draw_all line n chunk) slots mid_slots old mid) where
-    in_loop : (r : Result (Unit {0}) Halt) (last : Progress) (slots'' : List ℤ) → Goes w (λ s. and_then (draw_once line n chunk s) again) mid_slots slots'' mid last r → Goes w (draw_all line n chunk) slots slots'' old last r
-    in_loop r last slots'' goes = before.on slots'' last r (goes_same w (λ s. and_then (draw_once line n chunk s) again) (draw_all line n chunk) mid_slots slots'' mid last draw_all_is r goes)
+    in_loop : (r : Result (Unit {0}) Halt) (last : Progress) (slots'' : List ℤ) → Goes w (λ s. and_then (draw_once line n chunk s) (again line n chunk)) mid_slots slots'' mid last r → Goes w (draw_all line n chunk) slots slots'' old last r
+    in_loop r last slots'' goes = before.on slots'' last r (goes_same w (λ s. and_then (draw_once line n chunk s) (again line n chunk)) (draw_all line n chunk) mid_slots slots'' mid last (draw_all_is line n chunk grows) r goes)
 
     pub draws_more : Made w (draw_once line n chunk) mid_slots slots' mid new (Returned true) → GoesOnIn w (draw_all line n chunk) slots slots' old new
-    draws_more made = record { on = λ slots'' last r goes. in_loop r last slots'' (goes_then w (draw_once line n chunk) again mid_slots slots' slots'' mid new last true made r goes) }
+    draws_more made = record { on = λ slots'' last r goes. in_loop r last slots'' (goes_then w (draw_once line n chunk) (again line n chunk) mid_slots slots' slots'' mid new last true made r goes) }
 
     pub draws_end : CanGo w new → Made w (draw_once line n chunk) mid_slots slots' mid new (Returned false) → Made w (draw_all line n chunk) slots slots' old new (Returned tt)
     draws_end can made =
         in_loop (Ok tt) new slots'
-        (goes_then w (draw_once line n chunk) again mid_slots slots' slots' mid new new false made (Ok tt)
-        (made_still w (again false) slots' new (Returned tt) can (makes-stays (again false) slots' (log_limit - new.buffer.count) (Returned tt) (λ s same full. refl))))
+        (goes_then w (draw_once line n chunk) (again line n chunk) mid_slots slots' slots' mid new new false made (Ok tt)
+        (made_still w (again line n chunk false) slots' new (Returned tt) can (makes-stays (again line n chunk false) slots' (log_limit - new.buffer.count) (Returned tt) (λ s same full. refl))))
 
     pub draws_stop : (why : Halt) → Goes w (draw_once line n chunk) mid_slots slots' mid new (Err why) → Goes w (draw_all line n chunk) slots slots' old new (Err why)
-    draws_stop why goes = in_loop (Err why) new slots' (goes_stop w (draw_once line n chunk) again mid_slots slots' mid new why again_grows goes)
-
--- the turns of a chunk only add records
-pub chunk_grows : (w : WorldValue) (at : Site) (body : Code) (slot : ℕ) (from : ℤ) (total chunk q : ℕ) (s : State) → Grows s (state_of (each (chunk_iterations chunk total q) (turn_from at body slot from) s))
-chunk_grows w at body slot from total chunk q s = kept-each Grows grows-plain (chunk_iterations chunk total q) (turn_from at body slot from) s (turn_grows w at body slot from)
+    draws_stop why goes = in_loop (Err why) new slots' (goes_stop w (draw_once line n chunk) (again line n chunk) mid_slots slots' mid new why (again_grows line n chunk grows) goes)

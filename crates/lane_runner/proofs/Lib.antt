@@ -12,6 +12,7 @@ pub mod Following
 pub mod HandedTasks
 pub mod Handing
 pub mod NewLogs
+pub mod NoRegion
 pub mod Noting
 pub mod OwnWords
 pub mod Parting

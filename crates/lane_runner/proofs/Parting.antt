@@ -20,19 +20,9 @@ use Rattle.kernel_syntax.specs.declared.syntax.Schedule.{Schedule}
 use Rattle.lane_runner.specs.Alone.{IsAlone}
 use Rattle.lane_runner.specs.Phase.{IsOfTeam}
 use Rattle.lane_runner.specs.Teams.{EachTeam}
+use Rattle.kernel_model.proofs.StmtLists.{each_has}
 use Rattle.kernel_model.specs.Parts.{drawn_count, is_drawn_code}
 use Rattle.kernel_model.specs.Phases.{without_barrier, part_of_stmt}
-
-bounded_both : (code later : Code) → IsBoundedCode (followed_by code later) → IsBoundedCode code × IsBoundedCode later
-bounded_both Done later b = (tt, b)
-bounded_both (Set slot value rest) later b = let r = bounded_both rest later b.1 in ((b.0, r.0), r.1)
-bounded_both (Store array index value line site rest) later b = let r = bounded_both rest later b.3 in ((b.0, b.1, b.2, r.0), r.1)
-bounded_both (If test if_true if_false rest) later b = let r = bounded_both rest later b.3 in ((b.0, b.1, b.2, r.0), r.1)
-bounded_both (Loop slot from to body rest) later b = let r = bounded_both rest later b.3 in ((b.0, b.1, b.2, r.0), r.1)
-bounded_both (Parallel span line end body rest) later b = let r = bounded_both rest later b.4 in ((b.0, b.1, b.2, b.3, r.0), r.1)
-bounded_both (For slot from to schedule nowait line end body rest) later b = let r = bounded_both rest later b.6 in ((b.0, b.1, b.2, b.3, b.4, b.5, r.0), r.1)
-bounded_both (Barrier line rest) later b = let r = bounded_both rest later b.1 in ((b.0, r.0), r.1)
-bounded_both (Critical mutex line end body rest) later b = let r = bounded_both rest later b.4 in ((b.0, b.1, b.2, b.3, r.0), r.1)
 
 alone_both : (locks : ℕ) (held : List ℕ) (code later : Code) → IsAlone locks held (followed_by code later) → IsAlone locks held code × IsAlone locks held later
 alone_both locks held Done later b = (tt, b)
@@ -55,16 +45,6 @@ teams_both P (Parallel span line end body rest) later b = let r = teams_both P r
 teams_both P (For slot from to schedule nowait line end body rest) later b = let r = teams_both P rest later b.1 in ((b.0, r.0), r.1)
 teams_both P (Barrier line rest) later b = teams_both P rest later b
 teams_both P (Critical mutex line end body rest) later b = let r = teams_both P rest later b.1 in ((b.0, r.0), r.1)
-
--- a fact that both of two lists of statements have where they have it together
-module _ (P : Code → Type 0) (both : (code later : Code) → P (followed_by code later) → P code × P later) where
-  each_has : (stmts : List Stmt) (k : ℕ) (x : Stmt) → slice_get stmts k ≡ Some x → P (code_of stmts) → P (stmt_code x Done)
-  each_has [] k x found p = cc
-  each_has (y ∷ stmts) zero x found p = subst (λ (z : Stmt). P (stmt_code z Done)) (same_Some y x found) (both (stmt_code y Done) (code_of stmts) (subst P (stmt_code-first y (code_of stmts)) p)).0
-  each_has (y ∷ stmts) (suc k) x found p = each_has stmts k x found (both (stmt_code y Done) (code_of stmts) (subst P (stmt_code-first y (code_of stmts)) p)).1
-
-pub bounded_at : (stmts : List Stmt) (k : ℕ) (x : Stmt) → slice_get stmts k ≡ Some x → IsBoundedCode (code_of stmts) → IsBoundedCode (stmt_code x Done)
-bounded_at = each_has IsBoundedCode bounded_both
 
 pub alone_at : (locks : ℕ) (held : List ℕ) (stmts : List Stmt) (k : ℕ) (x : Stmt) → slice_get stmts k ≡ Some x → IsAlone locks held (code_of stmts) → IsAlone locks held (stmt_code x Done)
 alone_at locks held = each_has (IsAlone locks held) (alone_both locks held)

@@ -12,8 +12,9 @@ use Rattle.kernel_model.specs.Trace.{log_limit, run, stored}
 use Rattle.kernel_model.specs.Value.{Site, Element, element_at, access, value}
 use Rattle.kernel_model.specs.Effect.{Finish, Returned, Halted}
 use Rattle.kernel_model.proofs.Effects.{makes-stays}
+use Rattle.kernel_model.proofs.Joining.{after-done}
 use Rattle.kernel_model.proofs.RunEffects.{makes-Done, makes-assign}
-use Rattle.kernel_model.proofs.Equations.{run-Done, run-Set, run-Store}
+use Rattle.kernel_model.proofs.Equations.{run-Set, run-Store}
 use Rattle.kernel_model.proofs.Growing.{grows-plain, run-grows, value-grows}
 use Rattle.kernel_model.proofs.Steps.{kept-and_then, kept-after, kept-stored}
 use Rattle.lane_runner.specs.declared.stop.Halt.{Halt}
@@ -96,11 +97,6 @@ module _ (w : WorldValue) (part : State → Outcome (Unit {0})) (slot : ℕ) (v 
 pub made_done : (w : WorldValue) (at : Site) (slots : List ℤ) (p : Progress) → CanGo w p → Made w (run at tree.Done) slots slots p p (Returned tt)
 made_done w at slots p can = made_still w (run at tree.Done) slots p (Returned tt) can (makes-Done at slots (log_limit - p.buffer.count))
 
-pub after_done : (at : Site) (m : Outcome (Unit {0})) → after m (run at tree.Done) ≡ m
-after_done at (Gives u s) = run-Done at s
-after_done at (Outcome.Stops why line s) = refl
-after_done at (Outcome.Wants s) = refl
-
 -- ---- a variable is set
 
 module _ (w : WorldValue) (at : Site) (slots : List ℤ) (slot : ℕ) (e : Term) (old new : Progress) where
@@ -164,4 +160,4 @@ module _ (w : WorldValue) (at : Site) (slots : List ℤ) (array : ℕ) (index e 
     store_goes last v r made_value goes =
         store_after r
         (goes_then w (value at e) (put_value i) slots slots slots mid last new v made_value r
-        (goes_same w (stored (element_at at.arrays array i) v line site) (put_value i v) slots slots last new (λ s. after_done at (stored (element_at at.arrays array i) v line site s)) r goes))
+        (goes_same w (stored (element_at at.arrays array i) v line site) (put_value i v) slots slots last new (λ s. after-done at (stored (element_at at.arrays array i) v line site s)) r goes))

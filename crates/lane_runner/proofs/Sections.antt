@@ -16,6 +16,7 @@ use Rattle.kernel_model.proofs.Effects.{makes-put, makes-put_full, makes-same}
 use Rattle.kernel_model.specs.Growth.{Grows}
 use Rattle.kernel_model.proofs.Growing.{grows-plain, grows-steps, run-grows}
 use Rattle.kernel_model.proofs.Steps.{kept-put, kept-after}
+use Rattle.kernel_model.proofs.Joining.{after-done}
 use Rattle.kernel_model.proofs.RunEffects.{makes-after, makes-after_halt, makes-Critical}
 use Rattle.race_model.specs.Trace.{barrier_count}
 use Rattle.race_model.specs.Race.{held_after}
@@ -53,7 +54,6 @@ use Rattle.lane_runner.proofs.Stepping.{put_first}
 use Rattle.lane_runner.proofs.Releasing.{held_both}
 use Rattle.lane_runner.proofs.Following.{fit_first, after_is}
 use Rattle.lane_runner.proofs.Beginning.{begins_then, begins_same}
-use Rattle.lane_runner.proofs.Running.{after_done}
 
 -- the work of a section: a lock, what is done, and an unlock, which has line 0 where no log has it
 abbrev pub section : ℕ → ℕ → ℕ → Work → Work
@@ -277,7 +277,7 @@ module _ (w : WorldValue) (at : Site) (code : Code) (mutex line end : ℕ) (some
   unlocks : (k : ℕ) → 0 < k → Makes unlock_then slots' k (adds slots' (event kind.Unlock end mutex 0 ∷ [])) (Returned tt)
   unlocks k left =
       makes-same (put (event kind.Unlock end mutex 0)) unlock_then slots' k (adds slots' (event kind.Unlock end mutex 0 ∷ [])) (Returned tt)
-      (λ s. after_done at (put (event kind.Unlock end mutex 0) s)) (makes-put (event kind.Unlock end mutex 0) slots' k left refl refl)
+      (λ s. after-done at (put (event kind.Unlock end mutex 0) s)) (makes-put (event kind.Unlock end mutex 0) slots' k left refl refl)
 
   pub section_ends : All (λ (o : ℕ). o < mutex) old.hand.view.held → Takes (event kind.Lock line mutex 0) (locked old.hand.view mutex) old a → Made w (run at code) slots slots' a b (Returned tt)
       → Takes (event kind.Unlock end mutex 0) (unlocked b.hand.view mutex) b new → Made w (run at (tree.Critical mutex line end code tree.Done)) slots slots' old new (Returned tt)

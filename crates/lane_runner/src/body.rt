@@ -6,7 +6,8 @@ ghost use Rattle.kernel_syntax.specs.Tree as tree;
 ghost use Rattle.kernel_syntax.specs.Tree.{Done};
 ghost use Rattle.kernel_model.specs.Trace.{run, turns};
 ghost use Rattle.kernel_model.specs.Iterations.{total_of};
-ghost use Rattle.lane_runner.specs.Alone.{IsAlone, turn_from};
+ghost use Rattle.kernel_model.specs.Drawing.{turn_from};
+ghost use Rattle.lane_runner.specs.Alone.{IsAlone};
 ghost use Rattle.lane_runner.specs.Going.{CanGo, Goes, IsSameLog, site};
 ghost use Rattle.lane_runner.specs.Teams.{EachTeam, MayFork};
 

@@ -26,15 +26,15 @@ use Rattle.kernel_syntax.specs.Program.{Program}
 use Rattle.kernel_model.specs.State.{Fork}
 use Rattle.kernel_model.specs.Trace.{Start, log_limit}
 use Rattle.kernel_model.specs.Folder.{own_trace, root_start, lane_start, start_at, IsTraced, IsTracedTask, IsTracedFolder, paths_of}
+use Rattle.kernel_model.proofs.DistinctPaths.{listed_once}
 use Rattle.kernel_model.proofs.EndedTraces.{whole_trace}
-use Rattle.kernel_model.proofs.LawfulFolder.{at_lane, at_root, descend, each_task, lane_started}
-use Rattle.kernel_model.proofs.LawfulLogs.{spans_count}
+use Rattle.kernel_model.proofs.LawfulFolder.{at_lane, at_root, descend, each_task, lane_started, starts_lane}
+use Rattle.kernel_model.proofs.LawfulLogs.{span_at, spans_count}
 use Rattle.kernel_model.proofs.LawfulRecords.{spans_of, spans_forked}
 use Rattle.log_replay.specs.Ancestors.{ComparesTask, GoesOn, KeepsForks, KeepsAllForks, trace_from}
 use Rattle.log_replay.specs.Differing.{DiffersAt}
 use Rattle.log_replay.specs.Following.{HasEnd}
 use Rattle.log_replay.specs.Replaying.{DiffersFirst}
-use Rattle.log_replay.proofs.Spans.{lane_starts, listed_once, told_span}
 
 -- the tasks before this one are traced, and the regions of those above it are kept
 pub record Compared (program : Program) (tasks : Trace) (kept : List (List Fork)) (index : ℕ) : Type 0 where
@@ -127,7 +127,7 @@ module _ (program : Program) (tasks : Trace) (rules : KeepsRules FORMAT tasks) w
         let lane = was.lane in
         let both = same_from_push above was.fork.path step (record { region = region_count (take was.fork.index (logs was.fork.path)); lane = step.lane; span = step.span }) lane.child in
         let told : slice_get (spans_of (logs was.fork.path)) (region_count (take was.fork.index (logs was.fork.path))) ≡ Some lane.event.value =
-        told_span (logs was.fork.path) was.fork.index lane.event lane.found lane.region in
+        span_at (logs was.fork.path) was.fork.index lane.event lane.found lane.region in
         let same : slice_get (spans_of (logs above)) step.region ≡ Some step.span =
         ap (λ (p : List Step). slice_get (spans_of (logs p)) step.region) both.0
         ∙ ap (λ (n : ℕ). slice_get (spans_of (logs was.fork.path)) n) (ap (λ (s : Step). s.region) both.1)
@@ -135,7 +135,7 @@ module _ (program : Program) (tasks : Trace) (rules : KeepsRules FORMAT tasks) w
         let f = fork_at forks step.region step.span (ap (λ (l : List ℕ). slice_get l step.region) (sym (spans_same above start is traced)) ∙ same) in (
           record { team = f.fork.team; lane = step.lane; slots = f.fork.slots },
           at_lane program logs above start step starts ∙ ap (λ (o : Option Fork). lane_start o step) f.found
-              ∙ lane_starts f.fork step (sym f.span_is) lane.in_span,
+              ∙ starts_lane f.fork step (sym f.span_is) lane.in_span,
         )
 
     -- a lane that is forked is in the folder
@@ -152,7 +152,7 @@ module _ (program : Program) (tasks : Trace) (rules : KeepsRules FORMAT tasks) w
         let region = region_counts c.item.kind c.counts in
         let value : c.item.value ≡ step.span =
         same_Some c.item.value step.span
-        (sym (told_span (logs above) c.index c.item c.found region)
+        (sym (span_at (logs above) c.index c.item c.found region)
         ∙ ap (λ (n : ℕ). slice_get (spans_of (logs above)) n) c.before ∙ told) in
         tree.ends.lanes (record { path = above; index = c.index }) step.lane step.span (above ++ step ∷ [])
         (record {

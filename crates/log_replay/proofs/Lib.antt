@@ -4,9 +4,7 @@ pub mod Stepping
 pub mod Values
 pub mod Statements
 pub mod Draws
-pub mod Bounded
 pub mod Tasks
 pub mod Kept
 pub mod AllTasks
 pub mod DiffersOnce
-pub mod Spans

@@ -1,7 +1,6 @@
 -- Statements, as far as they follow the log.
 use Rattle.std.proofs.Common.{◌≡◌, ◌≢◌, refl, ap, sym, ◌∙◌, subst, ℕ, zero, suc, ◌+◌, ◌-◌, ◌<◌, Bool, true, false, List, [], ◌∷◌, ◌++◌, ℤ, pos, negsuc, ◌+ℤ◌, Option, Some, None, Result, Ok, Err, arith}
-use Rattle.std.specs.Prelude.{get_or, length, take, drop, slice_set}
-use Rattle.std.proofs.lemmas.List.{take_more, drop_more, take-append-drop}
+use Rattle.std.specs.Prelude.{slice_set}
 use Rattle.sw_base.specs.Environment.{Content}
 use Rattle.log_format.specs.declared.record.Record.{Record}
 use Rattle.log_format.specs.declared.record.Kind.TheVariants as kind
@@ -12,6 +11,7 @@ use Rattle.kernel_syntax.specs.Program.{stmt_code, code_of}
 use Rattle.kernel_syntax.proofs.Equations.{stmts_code-append}
 use Rattle.kernel_syntax.specs.Tree as tree
 use Rattle.kernel_syntax.specs.Tree.{Term, Code, TeamTree}
+use Rattle.kernel_model.specs.Drawing.{turn_from}
 use Rattle.kernel_model.specs.State.{State, Outcome, Gives, Index, and_then, after, assign, put, event, state_of}
 use Rattle.kernel_model.specs.Growth.{Grows}
 use Rattle.kernel_model.specs.Iterations.{total_of}
@@ -19,9 +19,10 @@ use Rattle.kernel_model.specs.Trace.{run, branch, turns, stored, shared, loop_en
 use Rattle.kernel_model.specs.Value.{Site, Element, element_at, access, value}
 use Rattle.kernel_model.proofs.Equations.{run-Done, run-Set, run-Store, run-If, run-Loop, run-Parallel, run-For, run-Barrier, run-Critical}
 use Rattle.kernel_model.proofs.Growing.{grows-plain, grows-steps, run-grows, value-grows}
-use Rattle.kernel_model.proofs.Joining.{run-stmts, run-first, turns-add, after-nothing}
+use Rattle.kernel_model.proofs.Joining.{run-stmts, run-first, turns-add, after-nothing, after-done, branch-zero, branch-other}
+use Rattle.kernel_model.proofs.Turns.{turn_grows}
 use Rattle.kernel_model.proofs.Steps.{kept-and_then, kept-after, kept-branch, kept-turns, kept-stored, kept-shared, kept-put}
-use Rattle.log_replay.specs.Following.{Standing, IsAt, IsOff, Ends, Follows, here, turn_from}
+use Rattle.log_replay.specs.Following.{Standing, IsAt, IsOff, Ends, Follows, here}
 use Rattle.log_replay.specs.Sharing.{sharing}
 use Rattle.log_replay.specs.declared.stray.Stray.{Stray}
 use Rattle.log_replay.specs.declared.stray.Stray.TheVariants as stray
@@ -31,11 +32,6 @@ use Rattle.log_replay.proofs.Values.{next_number}
 
 abbrev pub Part : Type 0
 Part = State → Outcome (Unit {0})
-
-pub after_done : (at : Site) (m : Outcome (Unit {0})) → after m (run at tree.Done) ≡ m
-after_done at (Gives u s) = run-Done at s
-after_done at (Outcome.Stops why line s) = refl
-after_done at (Outcome.Wants s) = refl
 
 pub follows_done : (told : Option Content) (at : Site) (x : Standing) → Follows told (run at tree.Done) x x (Ok tt)
 follows_done told at x = follows_same told (λ s. Gives tt s) (run at tree.Done) x x (Ok tt) (run-Done at) (follows_nothing told tt x)
@@ -123,17 +119,9 @@ module _ (told : Option Content) (at : Site) (array : ℕ) (index e : Term) (lin
     store_goes last new v r second third =
         store_after new r
         (follows_then told (value at e) (put_value i) mid told refl v last new r second
-        (follows_same told (stored (element_at at.arrays array i) v line site) (put_value i v) last new r (λ s. after_done at (stored (element_at at.arrays array i) v line site s)) third))
+        (follows_same told (stored (element_at at.arrays array i) v line site) (put_value i v) last new r (λ s. after-done at (stored (element_at at.arrays array i) v line site s)) third))
 
 -- ---- lists of statements
-
-pub split_at : (xs : List Stmt) (i : ℕ) (x : Stmt) → i < length xs → x ≡ get_or xs i x → xs ≡ take i xs ++ x ∷ drop (i + 1) xs
-split_at xs i x within is =
-    sym (take-append-drop i xs)
-    ∙ ap (λ (l : List Stmt). take i xs ++ l) (drop_more xs i x within ∙ ap (λ (y : Stmt). y ∷ drop (i + 1) xs) (sym is))
-
-pub grown : (xs : List Stmt) (i : ℕ) (x : Stmt) → i < length xs → x ≡ get_or xs i x → take (i + 1) xs ≡ take i xs ++ x ∷ []
-grown xs i x within is = take_more xs i x within ∙ ap (λ (y : Stmt). take i xs ++ y ∷ []) (sym is)
 
 module _ (told : Option Content) (at : Site) (prefix : List Stmt) (stmt : Stmt) (old mid new : Standing) (before : Follows told (run at (code_of prefix)) old mid (Ok tt)) where
   -- one statement more
@@ -153,14 +141,6 @@ module _ (told : Option Content) (at : Site) (prefix : List Stmt) (stmt : Stmt) 
       (stop_after told (run at (stmt_code stmt tree.Done)) (run at (code_of rest)) mid new new why (run-grows at (code_of rest)) next)))
 
 -- ---- tests
-
-branch_zero : (v : ℤ) (one other : Part) (s : State) → v ≡ pos 0 → branch v one other s ≡ other s
-branch_zero v one other s is = ap (λ (x : ℤ). branch x one other s) is
-
-branch_other : (v : ℤ) (one other : Part) (s : State) → v ≢ pos 0 → branch v one other s ≡ one s
-branch_other (pos zero) one other s apart = absurd (apart refl)
-branch_other (pos (suc n)) one other s apart = refl
-branch_other (negsuc n) one other s apart = refl
 
 module _ (told : Option Content) (at : Site) (test : Term) (if_true if_false : Code) (old mid : Standing) where
   abbrev after_test : ℤ → Part
@@ -182,18 +162,15 @@ module _ (told : Option Content) (at : Site) (test : Term) (if_true if_false : C
     chosen_goes code is second =
         follows_same told _ choice old new r (run-If at test if_true if_false tree.Done)
         (follows_then told (value at test) after_test old told refl v mid new r first
-        (follows_same told (run at code) (after_test v) mid new r (λ s. after_done at (branch v (run at if_true) (run at if_false) s) ∙ is s) second))
+        (follows_same told (run at code) (after_test v) mid new r (λ s. after-done at (branch v (run at if_true) (run at if_false) s) ∙ is s) second))
 
     pub else_goes : v ≡ pos 0 → Follows told (run at if_false) mid new r → Follows told choice old new r
-    else_goes is = chosen_goes if_false (λ s. branch_zero v (run at if_true) (run at if_false) s is)
+    else_goes is = chosen_goes if_false (λ s. branch-zero v (run at if_true) (run at if_false) s is)
 
     pub then_goes : v ≢ pos 0 → Follows told (run at if_true) mid new r → Follows told choice old new r
-    then_goes other = chosen_goes if_true (λ s. branch_other v (run at if_true) (run at if_false) s other)
+    then_goes other = chosen_goes if_true (λ s. branch-other v (run at if_true) (run at if_false) s other)
 
 -- ---- loops
-
-pub turn_grows : (at : Site) (body : Code) (slot : ℕ) (from : ℤ) (i : ℕ) (s : State) → Grows s (state_of (turn_from at body slot from i s))
-turn_grows at body slot from i s = grows-plain.chain s (assign slot (from +ℤ pos i) s) _ (grows-plain.assigns slot (from +ℤ pos i) s) (run-grows at body (assign slot (from +ℤ pos i) s))
 
 module _ (told : Option Content) (at : Site) (body : Code) (slot : ℕ) (from : ℤ) (first : ℕ) where
   module _ (i : ℕ) (old mid new : Standing) (before : Follows told (turns i first (turn_from at body slot from)) old mid (Ok tt)) where
@@ -248,7 +225,7 @@ bounds_done : (at : Site) (from to : Term) (rest : ℤ → ℤ → Part) (s : St
     → and_then (value at from s) (λ a s. and_then (value at to s) (λ b s. after (rest a b s) (run at tree.Done))) ≡ and_then (value at from s) (λ a s. and_then (value at to s) (rest a))
 bounds_done at from to rest s = by_from (value at from s) where
   by_to : (a : ℤ) (m : Outcome ℤ) → and_then m (λ b s. after (rest a b s) (run at tree.Done)) ≡ and_then m (rest a)
-  by_to a (Gives b t) = after_done at (rest a b t)
+  by_to a (Gives b t) = after-done at (rest a b t)
   by_to a (Outcome.Stops why line t) = refl
   by_to a (Outcome.Wants t) = refl
 
@@ -266,7 +243,7 @@ for_is : (at : Site) (slot : ℕ) (from to : Term) (schedule : Schedule) (nowait
     → run at (tree.For slot from to schedule nowait line end body tree.Done) s ≡ after (sharing at slot from to schedule line body s) (loop_end nowait end)
 for_is at slot from to schedule nowait line end body s = run-For at slot from to schedule nowait line end body tree.Done s ∙ by_from (value at from s) where
   by_share : (m : Outcome (Unit {0})) → after m (λ s. after (loop_end nowait end s) (run at tree.Done)) ≡ after m (loop_end nowait end)
-  by_share (Gives u t) = after_done at (loop_end nowait end t)
+  by_share (Gives u t) = after-done at (loop_end nowait end t)
   by_share (Outcome.Stops why at_line t) = refl
   by_share (Outcome.Wants t) = refl
 
@@ -284,7 +261,7 @@ for_is at slot from to schedule nowait line end body s = run-For at slot from to
 loop_end_grows : (at : Site) (nowait : Bool) (end : ℕ) (s : State) → Grows s (state_of (loop_end nowait end s))
 loop_end_grows at true end s = grows-plain.same s
 loop_end_grows at false end s =
-    subst (λ (o : Outcome (Unit {0})). Grows s (state_of o)) (run-Barrier at end tree.Done s ∙ after_done at (put (event kind.Barrier end 0 0) s)) (run-grows at (tree.Barrier end tree.Done) s)
+    subst (λ (o : Outcome (Unit {0})). Grows s (state_of o)) (run-Barrier at end tree.Done s ∙ after-done at (put (event kind.Barrier end 0 0) s)) (run-grows at (tree.Barrier end tree.Done) s)
 
 module _ (told : Option Content) (at : Site) (slot : ℕ) (from to : Term) (schedule : Schedule) (nowait : Bool) (line end : ℕ) (body : Code) (old mid : Standing) where
   abbrev for_loop : Part
@@ -304,7 +281,7 @@ module _ (told : Option Content) (at : Site) (slot : ℕ) (from to : Term) (sche
 pub barrier_goes : (told : Option Content) (at : Site) (line : ℕ) (old new : Standing) (r : Result (Unit {0}) Stray) → Follows told (put (event kind.Barrier line 0 0)) old new r
     → Follows told (run at (tree.Barrier line tree.Done)) old new r
 barrier_goes told at line old new r follows =
-    follows_same told (put (event kind.Barrier line 0 0)) (run at (tree.Barrier line tree.Done)) old new r (λ s. run-Barrier at line tree.Done s ∙ after_done at (put (event kind.Barrier line 0 0) s)) follows
+    follows_same told (put (event kind.Barrier line 0 0)) (run at (tree.Barrier line tree.Done)) old new r (λ s. run-Barrier at line tree.Done s ∙ after-done at (put (event kind.Barrier line 0 0) s)) follows
 
 -- ---- critical sections
 
@@ -339,7 +316,7 @@ module _ (told : Option Content) (at : Site) (mutex line end : ℕ) (body : Code
     section_goes last new r second third =
         locked_then new r
         (then_after told (run at body) unlocks mid told refl last new r second
-        (follows_same told (put (event kind.Unlock end mutex 0)) unlocks last new r (λ s. after_done at (put (event kind.Unlock end mutex 0) s)) third))
+        (follows_same told (put (event kind.Unlock end mutex 0)) unlocks last new r (λ s. after-done at (put (event kind.Unlock end mutex 0) s)) third))
 
 -- ---- regions
 

@@ -1,15 +1,13 @@
 -- How a task follows its log: what it has done is its trace so far, under the values that the log tells, as far as the log was read.
-use Rattle.std.specs.Prelude.{◌≡◌, ◌⊎◌, ℕ, ◌+◌, ◌-◌, ◌≤◌, List, [], ◌∷◌, ◌++◌, length, min, ℤ, pos, ◌+ℤ◌, Option, Some, Result, Ok, Err}
+use Rattle.std.specs.Prelude.{◌≡◌, ◌⊎◌, ℕ, ◌+◌, ◌-◌, ◌≤◌, List, [], ◌∷◌, ◌++◌, length, min, ℤ, Option, Some, Result, Ok, Err}
 use Rattle.sw_base.specs.Environment.{Content}
 use Rattle.log_format.specs.declared.record.Record.{Record}
 use Rattle.log_format.specs.declared.record.Kind.{Kind}
 use Rattle.log_format.specs.declared.record.Kind.TheVariants as kind
 use Rattle.log_reader.specs.Reading.{Reading, StandsBefore}
-use Rattle.kernel_syntax.specs.Tree.{Code}
-use Rattle.kernel_model.specs.State.{State, Fork, Outcome, Gives, Stops, Wants, assign, reads_of, chunks_of}
+use Rattle.kernel_model.specs.State.{State, Fork, Outcome, Gives, Stops, Wants, reads_of, chunks_of}
 use Rattle.kernel_model.specs.Effect.{state_with}
-use Rattle.kernel_model.specs.Trace.{run, log_limit}
-use Rattle.kernel_model.specs.Value.{Site}
+use Rattle.kernel_model.specs.Trace.{log_limit}
 use Rattle.log_replay.specs.Differing.{DiffersAt}
 use Rattle.log_replay.specs.declared.stray.Stray.{Stray}
 use Rattle.log_replay.specs.declared.stray.Stray.TheVariants as stray
@@ -98,7 +96,3 @@ Ends told log outcome new (Err _) = Unit {0}
 -- the lane followed a part of its trace
 abbrev pub Follows : {A : Type 0} → Option Content → (State → Outcome A) → Standing → Standing → Result A Stray → Type 0
 Follows told part old new r = (log done rest : List Record) → IsAt told log done rest old → Ends told log (part (here old done rest)) new r
-
--- a turn of a loop whose first one has this number: the variable is set, and the body runs
-abbrev pub turn_from : Site → Code → ℕ → ℤ → ℕ → State → Outcome (Unit {0})
-turn_from at body slot from i s = run at body (assign slot (from +ℤ pos i) s)

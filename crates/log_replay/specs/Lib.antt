@@ -1,4 +1,3 @@
-pub mod Drawing
 pub mod Following
 pub mod Trouble
 pub mod Placing

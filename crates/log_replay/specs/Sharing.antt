@@ -2,11 +2,11 @@
 use Rattle.std.specs.Prelude.{ℕ}
 use Rattle.kernel_syntax.specs.declared.syntax.Schedule.{Schedule}
 use Rattle.kernel_syntax.specs.Tree.{Term, Code}
+use Rattle.kernel_model.specs.Drawing.{turn_from}
 use Rattle.kernel_model.specs.State.{State, Outcome, and_then}
 use Rattle.kernel_model.specs.Iterations.{total_of}
 use Rattle.kernel_model.specs.Trace.{shared}
 use Rattle.kernel_model.specs.Value.{Site, value}
-use Rattle.log_replay.specs.Following.{turn_from}
 
 abbrev pub sharing : Site → ℕ → Term → Term → Schedule → ℕ → Code → State → Outcome (Unit {0})
 sharing at slot from to schedule line body s =

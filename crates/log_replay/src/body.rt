@@ -5,11 +5,11 @@ ghost use Rattle.kernel_syntax.specs.Program.{code_of, stmt_code, team_of, term_
 ghost use Rattle.kernel_syntax.specs.Tree as tree;
 ghost use Rattle.kernel_syntax.specs.Tree.{Done};
 ghost use Rattle.log_format.specs.declared.record.Kind.TheVariants as kind;
+ghost use Rattle.kernel_model.specs.Drawing.{turn_from, draw_all, draw_once};
 ghost use Rattle.kernel_model.specs.Iterations.{chunk_count, chunk_iterations, static_iterations, total_of};
 ghost use Rattle.kernel_model.specs.Trace.{each, loop_end, run, shared, stored, turns};
 ghost use Rattle.kernel_model.specs.Value.{element_at};
-ghost use Rattle.log_replay.specs.Drawing.{draw_all, draw_once};
-ghost use Rattle.log_replay.specs.Following.{Follows, turn_from};
+ghost use Rattle.log_replay.specs.Following.{Follows};
 ghost use Rattle.log_replay.specs.Forks.{standing};
 ghost use Rattle.log_replay.specs.Sharing.{sharing};
 ghost use Rattle.sw_base.specs.Environment.{Rose};

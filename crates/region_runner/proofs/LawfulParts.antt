@@ -12,11 +12,11 @@ use Rattle.lane_runner.specs.Alone.{IsAlone}
 use Rattle.lane_runner.specs.Teams.{EachTeam}
 use Rattle.region_runner.specs.Lawful.{IsTeam, IsInnerTeam, IsLawfulPart}
 
-or_first : (a b : Bool) → a || b ≡ false → a ≡ false
+pub or_first : (a b : Bool) → a || b ≡ false → a ≡ false
 or_first true b is = is
 or_first false b is = refl
 
-or_last : (a b : Bool) → a || b ≡ false → b ≡ false
+pub or_last : (a b : Bool) → a || b ≡ false → b ≡ false
 or_last true b is = absurd cc
 or_last false b is = is
 
@@ -75,7 +75,7 @@ no_mutex = record { below = λ m all. all; none = λ is. is }
 
 -- ---- the teams below
 
-teams_of : (mutexes regions lanes : ℕ) (n : Scope) (held : List ℕ) (code : Code) → IsBoundedCode code → IsScoped n code → IsEven code → IsNested mutexes regions lanes held code → EachTeam (IsInnerTeam mutexes regions) code
+pub teams_of : (mutexes regions lanes : ℕ) (n : Scope) (held : List ℕ) (code : Code) → IsBoundedCode code → IsScoped n code → IsEven code → IsNested mutexes regions lanes held code → EachTeam (IsInnerTeam mutexes regions) code
 teams_of mutexes regions lanes n held Done b s e k = tt
 teams_of mutexes regions lanes n held (tree.Set slot value rest) b s e k = teams_of mutexes regions lanes (after_assigning n slot (variable_at n slot)) held rest b.1 s.2 e k
 teams_of mutexes regions lanes n held (tree.Store array index value line site rest) b s e k = teams_of mutexes regions lanes n held rest b.3 s.3 e k

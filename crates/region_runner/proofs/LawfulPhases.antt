@@ -53,7 +53,7 @@ both_all P Q R each [] one two = All-nil R
 both_all P Q R each (x ∷ xs) one two = All-cons R x xs (each x (All-head P x xs one) (All-head Q x xs two)) (both_all P Q R each xs (All-tail P x xs one) (All-tail Q x xs two))
 
 -- what holds of all parts holds of those of each phase
-each_phase : (P : Part → Type 0) (phases : List (List Item)) → All P (parts_in phases) → All (λ (phase : List Item). All P (map part_of phase)) phases
+pub each_phase : (P : Part → Type 0) (phases : List (List Item)) → All P (parts_in phases) → All (λ (phase : List Item). All P (map part_of phase)) phases
 each_phase P [] all = All-nil (λ (phase : List Item). All P (map part_of phase))
 each_phase P (phase ∷ phases) all =
     let split = all_first P (map part_of phase) (parts_in phases) (subst (λ (ps : List Part). All P ps) (map-append part_of phase (items_in phases)) all) in

@@ -19,6 +19,7 @@ pub mod LawfulParts
 pub mod LawfulPhases
 pub mod RegionLanes
 pub mod RegionDraws
+pub mod TaskStops
 pub mod RegionStops
 pub mod RegionHands
 pub mod ClosedLogs
@@ -32,9 +33,17 @@ pub mod RanRegions
 pub mod OpenedLogs
 pub mod GivenLogs
 pub mod MissingLogs
+pub mod LaneStops
 pub mod Settling
 pub mod OpenedLanes
 pub mod NoRegion
 pub mod TeamRegion
 pub mod ReturnedHands
 pub mod OpenedTeam
+pub mod Idle
+pub mod RootStops
+pub mod Nested
+pub mod NestedHands
+pub mod RootTask
+pub mod RootHands
+pub mod WholeRun

@@ -16,18 +16,21 @@ use Rattle.region_runner.specs.Member.{MemberValue}
 use Rattle.region_runner.specs.Opening.{lent_hand}
 use Rattle.region_runner.specs.Stands.{IsFresh}
 
--- it has executed nothing yet
-pub lane_fresh : (place : LogPlace) (path : List Step) (slots : List ℤ) (share : HandValue Share) (crew : CrewValue) (m : MemberValue) → share.table ≡ crew.chunks.table → LaneBegins place path slots (lent_hand share) m → IsFresh crew m
-lane_fresh place path slots share crew m here b = record {
+-- it has executed nothing yet, and may draw as often as its log has room
+pub task_fresh : (place : LogPlace) (path : List Step) (slots : List ℤ) (draws : HandValue Share) (crew : CrewValue) (m : MemberValue) → Belongs draws crew.chunks.table → log_limit ≤ draws.view.left → LaneBegins place path slots draws m → IsFresh crew m
+task_fresh place path slots draws crew m belongs left b = record {
   going = b.going;
   may = record {
     unrefused = b.unrefused;
-    drawing = subst (λ (t : Tally). Belongs t.draws crew.chunks.table) (sym b.tally) (record { here = here; there = refl });
-    enough = subst (λ (t : Tally). log_limit ≤ t.draws.view.left + m.at.buffer.count) (sym b.tally) (omega arith);
+    drawing = subst (λ (t : Tally). Belongs t.draws crew.chunks.table) (sym b.tally) belongs;
+    enough = subst (λ (t : Tally). log_limit ≤ t.draws.view.left + m.at.buffer.count) (sym b.tally) (omega (arith, left));
     forks = let f = ap (λ (t : Tally). t.forked) b.tally in omega (arith, f);
   };
   no_loop = ap (λ (t : Tally). t.next_loop) b.tally;
 }
+
+pub lane_fresh : (place : LogPlace) (path : List Step) (slots : List ℤ) (share : HandValue Share) (crew : CrewValue) (m : MemberValue) → share.table ≡ crew.chunks.table → LaneBegins place path slots (lent_hand share) m → IsFresh crew m
+lane_fresh place path slots share crew m here b = task_fresh place path slots (lent_hand share) crew m (record { here = here; there = refl }) (omega arith) b
 
 -- and its log is its own
 pub lane_member : (g : GroundValue) (depth : ℕ) (task : Buffered) (at : List Step) (number lane span : ℕ) (slots : List ℤ) (draws : HandValue Share) (m : MemberValue) → task.size ≡ g.size → length at + depth + 1 ≡ 4

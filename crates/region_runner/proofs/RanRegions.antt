@@ -91,6 +91,6 @@ module _ (crew : CrewValue) (team : TeamTree) (slots : List ℤ) (items : List (
       → StopsRegion crew.arrays at number (stop_of (lane_of at number k team.span) h).0 (stop_of (lane_of at number k team.span) h).1 fork ran.phases
   ran_stops k less h is =
       let b = begins k d less in
-      region_stops fork k (world_of crew k) (subst (λ (n : ℕ). k < n) span_is less) (task_part (site (world_of crew k)) ran.done ran.end) (first k) (now k).slots (start k).at (ran.stands.lanes k d less).last b.none_put ran.phases at number
-      (lane_of at number k team.span) refl b.own (ap (λ (t : Tally). t.forked) b.tally) h
+      region_stops fork k (subst (λ (n : ℕ). k < n) span_is less) ran.phases at number (lane_of at number k team.span) refl (world_of crew k) (task_part (site (world_of crew k)) ran.done ran.end) (first k) (now k).slots (start k).at
+      (ran.stands.lanes k d less).last b.none_put b.own (ap (λ (t : Tally). t.forked) b.tally) h
       (subst (λ (x : Option Halt). TaskGoes (world_of crew k) (task_part (site (world_of crew k)) ran.done ran.end) slots (now k).slots (start k).at (ran.stands.lanes k d less).last (lane_works k ran.phases) (answer_of x)) is (lane_goes k less))

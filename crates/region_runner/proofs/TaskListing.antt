@@ -15,15 +15,15 @@ use Rattle.region_runner.specs.Nesting.{NestsWithin, PhasesNest, TeamNests}
 
 -- ---- regions
 
-abbrev RegionNests : ℕ → RegionWork → Type 0
+abbrev pub RegionNests : ℕ → RegionWork → Type 0
 RegionNests zero region = ⊥
 RegionNests (suc d) region = (1 ≤ region.span) × PhasesNest d region.phases
 
-abbrev RegionsNest : ℕ → List RegionWork → Type 0
+abbrev pub RegionsNest : ℕ → List RegionWork → Type 0
 RegionsNest d [] = Unit {0}
 RegionsNest d (region ∷ regions) = RegionNests d region × RegionsNest d regions
 
-abbrev WorksNest : ℕ → List Work → Type 0
+abbrev pub WorksNest : ℕ → List Work → Type 0
 WorksNest d [] = Unit {0}
 WorksNest d (work ∷ works) = NestsWithin d work × WorksNest d works
 
@@ -33,7 +33,7 @@ regions_nest d (Put r more) others nests rest = regions_nest d more others nests
 regions_nest zero (Fork line span phases more) others nests rest = absurd nests
 regions_nest (suc d) (Fork line span phases more) others nests rest = ((nests.0, nests.1), regions_nest (suc d) more others nests.2 rest)
 
-all_regions_nest : (d : ℕ) (works : List Work) → WorksNest d works → RegionsNest d (flat_map work_regions works)
+pub all_regions_nest : (d : ℕ) (works : List Work) → WorksNest d works → RegionsNest d (flat_map work_regions works)
 all_regions_nest d [] nest = tt
 all_regions_nest d (work ∷ works) nest = regions_nest d work (flat_map work_regions works) nest.0 (all_regions_nest d works nest.1)
 
@@ -42,7 +42,7 @@ at_nest d lane NoWork others nests rest = rest
 at_nest d zero (Beside work team) others nests rest = (nests.0, rest)
 at_nest d (suc lane) (Beside work team) others nests rest = at_nest d lane team others nests.1 rest
 
-lane_nests : (d lane : ℕ) (phases : Phases) → PhasesNest d phases → WorksNest d (lane_works lane phases)
+pub lane_nests : (d lane : ℕ) (phases : Phases) → PhasesNest d phases → WorksNest d (lane_works lane phases)
 lane_nests d lane NoPhase nests = tt
 lane_nests d lane (Phase team later) nests = at_nest d lane team (lane_works lane later) nests.0 (lane_nests d lane later nests.1)
 
@@ -136,12 +136,12 @@ none_under : (path : List Step) → works_under [] path ≡ []
 none_under [] = refl
 none_under (step ∷ path) = none_under path
 
-found_nests : (d : ℕ) (regions : List RegionWork) (k : ℕ) (region : RegionWork) → RegionsNest d regions → slice_get regions k ≡ Some region → RegionNests d region
+pub found_nests : (d : ℕ) (regions : List RegionWork) (k : ℕ) (region : RegionWork) → RegionsNest d regions → slice_get regions k ≡ Some region → RegionNests d region
 found_nests d [] k region nest found = absurd cc
 found_nests d (first ∷ regions) zero region nest found = subst (RegionNests d) (same_Some first region found) nest.0
 found_nests d (first ∷ regions) (suc k) region nest found = found_nests d regions k region nest.1 found
 
-lane_of_region_nests : (d : ℕ) (step : Step) (region : RegionWork) → PhasesNest d region.phases → WorksNest d (works_at_region step (Some region))
+pub lane_of_region_nests : (d : ℕ) (step : Step) (region : RegionWork) → PhasesNest d region.phases → WorksNest d (works_at_region step (Some region))
 lane_of_region_nests d step region nests = by (region.span == step.span)
   where
     by : (b : Bool) → WorksNest d (cond b (lane_works step.lane region.phases) [])

@@ -36,6 +36,20 @@ pub record HasPassed (crew : CrewValue) (items : List (List Item)) (old new : Ha
   pub goes : AllGo after
   pub pass : PassAllBarriers phases
 
+-- a lane before its first phase
+pub stands_first : (crew : CrewValue) (lane : ℕ) (m : MemberValue) → IsFresh crew m → LaneStands crew m [] None NoPhase lane m
+stands_first crew lane m f = record {
+  path = refl;
+  last = m.at;
+  up = record { buffer = refl; tally = refl; done = refl };
+  goes =
+      subst (λ (h : Option Halt). TaskGoes (world_of crew lane) (task_part (site (world_of crew lane)) [] None) m.slots m.slots m.at m.at [] (answer_of h)) (sym f.going)
+      (ran_none (world_of crew lane) (site (world_of crew lane)) m.slots m.at f.may.unrefused);
+  log = log_still m.at.buffer;
+  loops = λ goes. omega arith;
+  may = λ goes. f.may;
+}
+
 pub passed_none : (crew : CrewValue) (hand : HandValue View) (before : List MemberValue) → hand.there ≡ true → length before ≡ crew.span → ((k : ℕ) (d : MemberValue) → k < length before → IsFresh crew (slice_index_or before k d))
     → HasPassed crew [] hand hand before before
 passed_none crew hand before there count fresh = record {
@@ -43,19 +57,7 @@ passed_none crew hand before there count fresh = record {
   stands = record {
     count = count;
     did = none_did crew.arrays crew.span hand there;
-    lanes = λ k d less.
-        let f = fresh k d (omega (arith, count, less)) in
-        record {
-          path = refl;
-          last = (slice_index_or before k d).at;
-          up = record { buffer = refl; tally = refl; done = refl };
-          goes =
-              subst (λ (h : Option Halt). TaskGoes (world_of crew k) (task_part (site (world_of crew k)) [] None) (slice_index_or before k d).slots (slice_index_or before k d).slots (slice_index_or before k d).at (slice_index_or before k d).at [] (answer_of h)) (sym f.going)
-              (ran_none (world_of crew k) (site (world_of crew k)) (slice_index_or before k d).slots (slice_index_or before k d).at f.may.unrefused);
-          log = log_still (slice_index_or before k d).at.buffer;
-          loops = λ goes. omega arith;
-          may = λ goes. f.may;
-        };
+    lanes = λ k d less. stands_first crew k (slice_index_or before k d) (fresh k d (omega (arith, count, less)));
   };
   goes = λ k d less. (fresh k d less).going;
   pass = tt;

@@ -43,7 +43,7 @@ pub one_regions : (works : List Work) → work_regions (in_one works) ≡ flat_m
 one_regions [] = refl
 one_regions (work ∷ works) = regions_then work (in_one works) ∙ ap (λ (rs : List RegionWork). work_regions work ++ rs) (one_regions works)
 
-fits_both : (one two : Work) → WorkFits one → WorkFits two → WorkFits (then_work one two)
+pub fits_both : (one two : Work) → WorkFits one → WorkFits two → WorkFits (then_work one two)
 fits_both Rest two x y = y
 fits_both (Put r more) two x y = (x.0, fits_both more two x.1 y)
 fits_both (Work.Fork line span phases more) two x y = (x.0, fits_both more two x.1 y)

@@ -1,5 +1,5 @@
 -- What the lanes of a region answer, one after another: the first of the greatest urgency.
-use Rattle.std.proofs.Common.{◌≡◌, ◌≢◌, ◌⊎◌, inl, inr, ap, sym, ◌∙◌, subst, ℕ, ◌+◌, ◌<◌, ◌≤◌, Bool, List, Option, Some, None, arith, below_more}
+use Rattle.std.proofs.Common.{◌≡◌, ◌≢◌, ◌⊎◌, inl, inr, ap, sym, ◌∙◌, subst, ℕ, ◌+◌, ◌<◌, ◌≤◌, Bool, false, List, Option, Some, None, arith, below_more}
 use Rattle.std.proofs.lemmas.Bool.{cases_lt}
 use Rattle.sw_base.specs.declared.path.Step.{Step}
 use Rattle.sw_base.specs.declared.trouble.Trouble.{Trouble}
@@ -60,7 +60,7 @@ pub record FirstHalted (n : ℕ) (lanes : ℕ → ClosedValue) (kept : ℕ → B
 pub record FirstWanted (n : ℕ) (lanes : ℕ → ClosedValue) (kept : ℕ → Bool) (path : List Step) : Type 0 where
   pub lane : ℕ
   pub within : lane < n
-  pub stops : (closed_stop (lanes lane) ≡ Some (path, stop.Trouble Memory)) ⊎ (path ≡ (lanes lane).path)
+  pub stops : (closed_stop (lanes lane) ≡ Some (path, stop.Trouble Memory)) ⊎ ((path ≡ (lanes lane).path) × (kept lane ≡ false))
   pub before : (j : ℕ) → j < lane → HasMemory (lanes j) (kept j)
 
 -- all ended
@@ -117,10 +117,7 @@ module _ (n : ℕ) (lanes : ℕ → ClosedValue) (kept : ℕ → Bool) where
     halted = is.0;
     before = going_of v a (omega arith);
   }
-  goes_first v (Wanted at) a is less = record { lane = n; within = omega arith; stops = by is; before = memory_of v a (omega arith) } where
-    by : IsVerdict (lanes n).path (lanes n).halt (lanes n).refused (kept n) (Wanted at) → (closed_stop (lanes n) ≡ Some (at, stop.Trouble Memory)) ⊎ (at ≡ (lanes n).path)
-    by (inl stops) = inl stops
-    by (inr dropped) = inr dropped.0
+  goes_first v (Wanted at) a is less = record { lane = n; within = omega arith; stops = is; before = memory_of v a (omega arith) }
 
   -- one more, which doesn't
   pub goes_after : (v w : Verdict) → Answered n lanes kept v → IsVerdict (lanes n).path (lanes n).halt (lanes n).refused (kept n) w → urgency_of w ≤ urgency_of v → Answered (n + 1) lanes kept v
@@ -167,8 +164,13 @@ module _ (n : ℕ) (lanes : ℕ → ClosedValue) (kept : ℕ → Bool) where
     same_memory : (j : ℕ) → j < n → HasMemory (lanes j) (kept j) → HasMemory (lanes j) (found j)
     same_memory j less m = (m.0, sym (same j less) ∙ m.1)
 
+    same_want : (at : List Step) (k : ℕ) → k < n → (closed_stop (lanes k) ≡ Some (at, stop.Trouble Memory)) ⊎ ((at ≡ (lanes k).path) × (kept k ≡ false))
+        → (closed_stop (lanes k) ≡ Some (at, stop.Trouble Memory)) ⊎ ((at ≡ (lanes k).path) × (found k ≡ false))
+    same_want at k less (inl stops) = inl stops
+    same_want at k less (inr dropped) = inr (dropped.0, sym (same k less) ∙ dropped.1)
+
     pub answered_same : (v : Verdict) → Answered n lanes kept v → Answered n lanes found v
     answered_same Ended a = record { memory = λ j less. same_memory j less (a.memory j less); going = a.going; unrefused = a.unrefused }
     answered_same (Refused at why) a = record { lane = a.lane; within = a.within; stops = a.stops; memory = λ j less. same_memory j less (a.memory j less); going = a.going; before = a.before }
     answered_same (Halted at why) a = record { lane = a.lane; within = a.within; stops = a.stops; memory = λ j less. same_memory j less (a.memory j less); halted = a.halted; before = a.before }
-    answered_same (Wanted at) a = record { lane = a.lane; within = a.within; stops = a.stops; before = λ j less. same_memory j (let within = a.within in omega arith) (a.before j less) }
+    answered_same (Wanted at) a = record { lane = a.lane; within = a.within; stops = same_want at a.lane a.within a.stops; before = λ j less. same_memory j (let within = a.within in omega arith) (a.before j less) }

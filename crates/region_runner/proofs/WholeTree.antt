@@ -199,17 +199,24 @@ mutual
 
 -- ---- executions
 
+module _ (program : Program) (root : Work) (words : List ℕ) (bounded : IsBounded program) (sound : IsSound (layout_of program.arrays) root) (elements : AccessesElements (element_width program.arrays) root)
+    (addresses : HasAddresses (layout_of program.arrays) words) (history : HasHistory (did (element_word program.arrays) [] 0 root) words) where
+  legal : HasLegalHistory (task_logs root) (element_address program.arrays) words
+  legal = tree_history (layout_of program.arrays) root sound words addresses history (task_logs root) (λ path. inl refl)
+
+  stores : StoresFit (element_width program.arrays) (task_logs root)
+  stores = record {
+    widths = bounded_widths program bounded;
+    accesses = λ path. works_access (element_width program.arrays) (works_under (root ∷ []) path) (under_access (element_width program.arrays) (root ∷ []) path (elements, tt));
+  }
+
+  -- each value read is one that its element can have
+  pub all_fits : WorkFits root
+  all_fits = work_fits root (values_fit (element_width program.arrays) (task_logs root) (element_address program.arrays) words legal stores)
+
 pub executes : (program : Program) (depth : ℕ) (root : Work) (words : List ℕ) → IsBounded program → IsSound (layout_of program.arrays) root → IsJoined root →
     AccessesElements (element_width program.arrays) root → (WorkFits root → RunsTask program (root_start program) (root ∷ [])) → IsWithin depth root →
     HasAddresses (layout_of program.arrays) words → HasHistory (did (element_word program.arrays) [] 0 root) words →
     IsExecution program (logged_tasks depth root) (element_address program.arrays) words
 executes program depth root words bounded sound joined elements runs within addresses history =
-    let layout = layout_of program.arrays in
-    let width = element_width program.arrays in
-    let legal : HasLegalHistory (task_logs root) layout.address words = tree_history layout root sound words addresses history (task_logs root) (λ path. inl refl) in
-    let stores : StoresFit width (task_logs root) = record {
-      widths = bounded_widths program bounded;
-      accesses = λ path. works_access width (works_under (root ∷ []) path) (under_access width (root ∷ []) path (elements, tt));
-    } in
-    let reads = values_fit width (task_logs root) layout.address words legal stores in
-    execution program layout depth root sound joined (runs (work_fits root reads)) within words addresses history
+    execution program (layout_of program.arrays) depth root sound joined (runs (all_fits program root words bounded sound elements addresses history)) within words addresses history

@@ -93,11 +93,11 @@ GoesBefore k c j d =
     ((c.halt ≢ None) × ((d.halt ≡ None) ⊎ (k ≤ j)))
     ⊎ ((c.halt ≡ None) × (d.halt ≡ None) × ((d.refused ≡ None) ⊎ (k ≤ j)))
 
--- What a region answers whose lanes gave this: Ok, where no lane stopped and all logs found a place; that memory was wanting, at the
--- least lane for which it was, or at a task below it that tells so; or else how the first of the lanes stopped.
+-- What a region answers whose lanes gave this: Ok, where no lane stopped and all logs found a place; that memory was wanting, for the
+-- least lane that tells so, or of which a task below does, or whose logs found no place; or else how the first of the lanes stopped.
 pub data IsAnswer (span : ℕ) (lanes : ℕ → ClosedValue) (kept : ℕ → Bool) : Answer → Type 0 where
   all_ended : ((k : ℕ) → k < span → ((lanes k).halt ≡ None) × ((lanes k).refused ≡ None) × (kept k ≡ true)) → IsAnswer span lanes kept (Ok tt)
-  wanted : (k : ℕ) (path : List Step) → k < span → (closed_stop (lanes k) ≡ Some (path, stop.Trouble Memory)) ⊎ (path ≡ (lanes k).path)
+  wanted : (k : ℕ) (path : List Step) → k < span → (closed_stop (lanes k) ≡ Some (path, stop.Trouble Memory)) ⊎ ((path ≡ (lanes k).path) × (kept k ≡ false))
       → ((j : ℕ) → j < k → HasMemory (lanes j) (kept j)) → IsAnswer span lanes kept (Err (path, stop.Trouble Memory))
   stopped : (k : ℕ) (path : List Step) (why : Stop) → k < span → closed_stop (lanes k) ≡ Some (path, why) → ((j : ℕ) → j < span → HasMemory (lanes j) (kept j))
       → ((j : ℕ) → j < span → GoesBefore k (lanes k) j (lanes j)) → IsAnswer span lanes kept (Err (path, why))

@@ -15,7 +15,7 @@ use sw_base::{Log, Memory, Path, Trouble};
 // What a lane answers, or lanes so far: all ended, and their logs found a place; or the task of this path stopped so, since its log
 // refused what waited, or since a lane didn't go on; or no memory was found there.
 #[derive(Drop)]
-enum Verdict {
+pub(crate) enum Verdict {
     Ended,
     Refused(Path, Stop),
     Halted(Path, Stop),
@@ -36,7 +36,7 @@ impl Verdict {
     }
 
     // What the region answers.
-    fn answer(self) -> Result<(), (Path, Stop)>
+    pub(crate) fn answer(self) -> Result<(), (Path, Stop)>
         ensures { result ≡ answer_for self }
     {
         match self {
@@ -118,6 +118,24 @@ fn hand_on<L: Log>(
     Ok(())
 }
 
+// Puts a task's logs at the end. Its hand on the counters, and what it answers.
+pub(crate) fn keep<L: Log>(lane: Closed<L>, done: &mut Vec<(Path, L, u32)>) -> (ChunkHand, Verdict)
+    ensures draws { result.0 ≡ lane.draws }
+    ensures taken { TookIn lane (entries_of (record { dir = L.dir; path = L.path; text = L.text; faults = L.faults }) done.old.items)
+        (entries_of (record { dir = L.dir; path = L.path; text = L.text; faults = L.faults }) done.new.items) result.1 }
+{
+    let Closed {
+        own,
+        below,
+        draws,
+        halt,
+        refused,
+    } = lane;
+    let path = own.0.copy();
+    let kept = hand_on(own, below, done).is_ok();
+    (draws, judge(path, halt, refused, kept))
+}
+
 // Joins a lane's hand on the counters, and puts its logs at the end.
 fn take_in<L: Log>(
     chunks: &Chunks,
@@ -134,17 +152,9 @@ fn take_in<L: Log>(
     ensures taken { TookIn lane (entries_of (record { dir = L.dir; path = L.path; text = L.text; faults = L.faults }) done.old.items)
         (entries_of (record { dir = L.dir; path = L.path; text = L.text; faults = L.faults }) done.new.items) result }
 {
-    let Closed {
-        own,
-        below,
-        draws,
-        halt,
-        refused,
-    } = lane;
+    let (draws, verdict) = keep(lane, done);
     chunks.join(share, draws);
-    let path = own.0.copy();
-    let kept = hand_on(own, below, done).is_ok();
-    judge(path, halt, refused, kept)
+    verdict
 }
 
 // In the order of the lanes each one's hand on the counters is joined to this one, and its logs are put at the end. Where no memory is

@@ -1,12 +1,17 @@
-//! A region: its lanes on threads of their own, phase by phase.
+//! A whole run of a kernel: its root, and the lanes of each region on threads of their own, phase by phase.
 //!
-//! So far the region of a team (`region`): the logs of its lanes are opened (`opening`), its phases run one after another, in each
-//! of them every lane on a thread of its own (`member`) with a hand of its own, which is split off for the phase and joined after it
-//! (`handing`), the regions that a lane forks run in turn, and in the end the logs are closed (`closing`) and handed on (`gathering`).
-//! What is told of it is what a lane asks of the function that runs its regions. The root of a kernel, and with it the whole run, is
-//! to come: nothing calls `region` yet but itself.
+//! `run_kernel` makes the shared words and runs the root (`root`), which is one task without a team. A region that a task forks
+//! (`region`) opens the logs of its lanes (`opening`), runs its phases one after another, in each of them every lane on a thread of
+//! its own (`member`) with a hand of its own, which is split off for the phase and joined after it (`handing`); the regions that a
+//! lane forks run in turn; and in the end the logs are closed (`closing`) and handed on (`gathering`).
 //!
-//! Five laws, on which the run rests. `hands_tell_each_chunk_once`: what the hands of a team drew from its counters, the logs of its
+//! What is told of a run that ended: its logs are those of the kernel's tasks, each with its whole trace under the values that it read,
+//! cut into pieces that fill the buffer; they keep the rules of a folder; and all accesses and mutex steps have one legal history,
+//! which respects happens-before and ends in the words. Of a run that stopped: its logs are those of the beginning of such a run,
+//! each whole or a prefix, and the task that is named stopped as is told. What is told of a region is what a lane asks of the
+//! function that runs its regions.
+//!
+//! Five laws, on which this rests. `hands_tell_each_chunk_once`: what the hands of a team drew from its counters, the logs of its
 //! lanes tell. `works_are_executions`: where the works of all tasks access elements of their widths, and each task runs its trace as
 //! far as what it read is what elements can have, they are an execution of the kernel. `tasks_of_works_are_listed`: the tasks of a
 //! tree of work stand in the order of an index. `ended_executions_are_whole`: where the root of an execution ended, its tasks are
@@ -28,6 +33,7 @@ mod loops;
 mod member;
 mod opening;
 mod region;
+mod root;
 mod run;
 
 pub use drawn::hands_tell_each_chunk_once;

@@ -1,32 +1,11 @@
 //! The loops of a team whose chunks are drawn.
 ghost use Rattle.std.specs.Prelude.{◌≡◌, ◌+◌, ◌<◌, IfSome, map};
-ghost use Rattle.kernel_model.specs.Parts.{drawn_count, is_drawn, is_drawn_schedule};
-ghost use Rattle.kernel_model.specs.Phases.{part_of, part_of_stmt, parts_in};
+ghost use Rattle.kernel_model.specs.Parts.{drawn_count, is_drawn};
+ghost use Rattle.kernel_model.specs.Phases.{part_of, parts_in};
 
-use kernel_model::{Item, Phase};
-use kernel_syntax::{Schedule, Stmt};
+use kernel_model::{Item, Phase, is_drawing};
 
-// Whether chunks are drawn.
-fn is_dynamic(schedule: Schedule) -> bool
-    ensures { result ≡ is_drawn_schedule schedule }
-{
-    match schedule {
-        Schedule::Dynamic(_) => true,
-        Schedule::Even | Schedule::Static(_) => false,
-    }
-}
-
-// Whether the statement is a worksharing loop whose chunks are drawn.
-fn is_drawing(stmt: &Stmt) -> bool
-    ensures { result ≡ is_drawn (part_of_stmt stmt.now) }
-{
-    match stmt {
-        Stmt::For { schedule, .. } => is_dynamic(*schedule),
-        _ => false,
-    }
-}
-
-// Whether the item is such a loop.
+// Whether the item is a worksharing loop whose chunks are drawn.
 fn is_drawn(item: &Item<'_>) -> bool
     ensures { result ≡ is_drawn (part_of item.now) }
 {

@@ -49,7 +49,7 @@ fn torn<L: Log>(alloc: Global, path: Path, log: L, draws: ChunkHand, trouble: Tr
 }
 
 // Opens the log of a lane with these locals.
-fn open_lane<L: Log>(
+pub(crate) fn open_lane<L: Log>(
     alloc: Global,
     size: usize,
     path: Path,

@@ -34,9 +34,9 @@ use std::thread;
 use std::thread::Threads;
 use sw_base::{Gate, Log, Path, Trouble};
 
-// A lane enters the gate and executes its phase; the regions that it forks are run in turn.
+// A task executes a phase; the regions that it forks are run in turn.
 #[cycle(region)]
-fn start_lane<R: Threads + Wait + Sync, L: Log, G: Gate>(
+pub(crate) fn run_task<R: Threads + Wait + Sync, L: Log, G: Gate>(
     rt: &R,
     alloc: Global,
     depth: u32,
@@ -57,7 +57,6 @@ fn start_lane<R: Threads + Wait + Sync, L: Log, G: Gate>(
     requires own { IsMemberOf ground.now depth member.old }
     ensures went { WentOn crew.now phase.now end lane member.old member.new }
 {
-    ground.enter(lane);
     let path = member.path();
     member.go(
         phase,
@@ -139,7 +138,8 @@ fn run_lanes<R: Threads + Wait + Sync, L: Log, G: Gate>(
             requires own { IsMemberOf ground.now depth member.old }
             ensures went { WentOn crew.entry.now phase.entry.now end lane member.old member.new }
         {
-            start_lane(rt, alloc, depth, ground, crew, phase, end, lane, member);
+            ground.enter(lane);
+            run_task(rt, alloc, depth, ground, crew, phase, end, lane, member);
         },
     );
 }

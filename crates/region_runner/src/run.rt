@@ -2,17 +2,21 @@
 ghost use Rattle.std.specs.Prelude.{◌≡◌, [], map, IfOk, IfErr};
 ghost use Rattle.sw_base.specs.Environment.{WhereTold, empty_text};
 ghost use Rattle.sw_base.specs.HandedLog.{handed_log};
+ghost use Rattle.kernel_syntax.specs.Layout.{IsWithinLimits, elements};
 ghost use Rattle.kernel_syntax.specs.Program.{program_of};
 ghost use Rattle.kernel_model.specs.Lawful.{IsLawful};
 ghost use Rattle.lane_runner.specs.Handed.{entries_of};
 ghost use Rattle.region_runner.specs.Answer.{HasRun, HasStoppedRun, IsBufferSize};
 
-use kernel_syntax::Kernel;
+use crate::ground::Ground;
+use crate::root::{run_root, settle};
+use kernel_syntax::{Array, Kernel};
 use lane_runner::Stop;
+use shared_words::Words;
 use std::alloc::Global;
 use std::sync::Wait;
 use std::thread::Threads;
-use sw_base::{Gate, Log, Path};
+use sw_base::{Gate, Log, Path, Trouble};
 
 /// A run that ended: each task's path, log and number of records, in the order of their paths, and the last value of each element.
 #[derive(Drop)]
@@ -31,16 +35,24 @@ pub struct Stopped<L: Log> {
     pub words: Vec<u64>,
 }
 
+// How many elements the arrays have.
+fn element_count(arrays: &[Array]) -> usize
+    requires { IsWithinLimits arrays.now }
+    ensures { result ≡ elements arrays.now }
+{
+    arrays.iter().map(|array| array.count as usize).sum()
+}
+
 /// Runs a kernel: its root, and the lanes of each region on threads of their own, phase by phase.
 ///
 /// The buffer of each log has `size` bytes, from 24 to 4,194,304. The gate sees each lane of a region start each of its phases.
 pub fn run_kernel<R: Threads + Wait + Sync, L: Log, G: Gate>(
     rt: &R,
-    _alloc: Global,
+    alloc: Global,
     kernel: &Kernel,
     root: L,
     size: usize,
-    _gate: &G,
+    gate: &G,
 ) -> Result<Finished<L>, Stopped<L>>
     requires lawful { IsLawful (program_of kernel.now) }
     requires root { L.path root ≡ [] }
@@ -56,6 +68,29 @@ pub fn run_kernel<R: Threads + Wait + Sync, L: Log, G: Gate>(
     ensures stopped { IfErr result (λ s. HasStoppedRun (program_of kernel.now) (L.dir root) size (L.text root)
         (entries_of (record { dir = L.dir; path = L.path; text = L.text; faults = L.faults }) s.logs.items) s.path s.why s.words.items) }
 {
-    for _ in rt.forever() {}
-    unreachable!()
+    let arrays = kernel.arrays.as_slice();
+    let locks = kernel.mutexes.as_slice().len() + 1;
+    let Ok((words, mut hand)) = Words::new(alloc, element_count(arrays), locks) else {
+        return Err(Stopped {
+            path: Path::root(),
+            why: Stop::Trouble(Trouble::Memory),
+            logs: Vec::new(alloc),
+            words: Vec::new(alloc),
+        });
+    };
+    let (logs, answer) = {
+        let ground = Ground::new(arrays, &words, gate, size);
+        let closed = run_root(rt, alloc, &ground, kernel, &mut hand, root);
+        settle(alloc, closed)
+    };
+    let words = words.close(hand).words;
+    match answer {
+        Ok(()) => Ok(Finished { logs, words }),
+        Err((path, why)) => Err(Stopped {
+            path,
+            why,
+            logs,
+            words,
+        }),
+    }
 }

@@ -35,15 +35,16 @@ use Rattle.lane_runner.specs.declared.stop.Stop.{Stop}
 use Rattle.region_runner.specs.Gathering.{ClosedValue, Gathered}
 use Rattle.region_runner.specs.Opening.{AreLanes, AreTorn, ClosesAs, lent_hand}
 use Rattle.region_runner.proofs.LawfulPhases.{phases_lawful}
-use Rattle.region_runner.proofs.NoRegion.{no_memory_for, torn_region}
+use Rattle.lane_runner.proofs.NoRegion.{no_memory_for}
+use Rattle.region_runner.proofs.NoRegion.{torn_region}
 use Rattle.region_runner.proofs.OpenedTeam.{lane_fresh, lane_member}
 use Rattle.region_runner.proofs.ReturnedHands.{head_of, team_returned, torn_returned}
 use Rattle.region_runner.proofs.TeamRegion.{closed_region}
 use Rattle.region_runner.proofs.region.+region.Goals.{region-in-Team, region-in-Torn}
 use Rattle.region_runner.proofs.region.+region.Goals as goal
 
-pub start_lane-go-requires-clause-runs : goal.start_lane-go-requires-clause-runs
-start_lane-go-requires-clause-runs g n c κs within =
+pub run_task-go-requires-clause-runs : goal.run_task-go-requires-clause-runs
+run_task-go-requires-clause-runs g n c κs within =
     let own = c.requires.own in
     let deep : length c.path-path.result + c.args.depth ≡ 4 = subst (λ (p : List Step). length p + c.args.depth ≡ 4) (sym c.path-path.ensures) own.deep in
     let in_log : length c.args.member.now.at.buffer.path ≡ length c.args.member.now.path = ap (λ (p : List Step). length p) own.path_is in

@@ -23,8 +23,8 @@ decreases-run_lanes g l = 8 * l.depth + 3
 abbrev pub decreases-run_lanes-for_each_mut : goal.decreases-run_lanes-for_each_mut
 decreases-run_lanes-for_each_mut g l = 8 * l.depth + 2
 
-abbrev pub decreases-start_lane : goal.decreases-start_lane
-decreases-start_lane g l = 8 * l.depth + 1
+abbrev pub decreases-run_task : goal.decreases-run_task
+decreases-run_task g l = 8 * l.depth + 1
 
-abbrev pub decreases-start_lane-go : goal.decreases-start_lane-go
-decreases-start_lane-go g l = 8 * l.depth
+abbrev pub decreases-run_task-go : goal.decreases-run_task-go
+decreases-run_task-go g l = 8 * l.depth

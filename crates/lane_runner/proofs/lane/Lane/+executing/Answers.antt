@@ -15,13 +15,15 @@ use Rattle.kernel_model.specs.Trace.{run, turns}
 use Rattle.kernel_model.specs.Effect.{Returned}
 use Rattle.shared_words.specs.declared.view.View.{View}
 use Rattle.shared_words.specs.Handles.{HandValue}
-use Rattle.lane_runner.specs.Alone.{IsAlone, turn_from}
+use Rattle.kernel_model.specs.Drawing.{turn_from}
+use Rattle.lane_runner.specs.Alone.{IsAlone}
 use Rattle.lane_runner.specs.declared.locals.Locals.{Locals}
 use Rattle.lane_runner.specs.Going.{Goes, Made, site}
 use Rattle.lane_runner.proofs.Running.{made_done, goes_assigned}
-use Rattle.lane_runner.proofs.Bodies.{log_still, log_later, split_at, grown, test_stops, else_goes, then_goes, from_stops, to_stops, loop_goes, turns_none, turns_next, turns_stop, statements_next, statements_stop}
+use Rattle.kernel_model.proofs.StmtLists.{split_at, grown, bounded_at}
+use Rattle.lane_runner.proofs.Bodies.{log_still, log_later, test_stops, else_goes, then_goes, from_stops, to_stops, loop_goes, turns_none, turns_next, turns_stop, statements_next, statements_stop}
 use Rattle.lane_runner.proofs.Teams.{teams_of, team_of_region, teams_later, teams_at_later}
-use Rattle.lane_runner.proofs.Parting.{bounded_at, alone_at, alone_only}
+use Rattle.lane_runner.proofs.Parting.{alone_at, alone_only}
 use Rattle.log_format.specs.declared.record.Kind.TheVariants as kind
 use Rattle.kernel_model.specs.State.{State, after, put, event}
 use Rattle.kernel_model.proofs.Growing.{run-grows}

@@ -2,7 +2,7 @@ use Rattle.std.proofs.Common.{◌≡◌, take}
 use Rattle.kernel_syntax.specs.Program.{code_of}
 use Rattle.kernel_model.specs.Trace.{run, turns}
 use Rattle.kernel_model.specs.Effect.{Returned}
-use Rattle.lane_runner.specs.Alone.{turn_from}
+use Rattle.kernel_model.specs.Drawing.{turn_from}
 use Rattle.lane_runner.specs.Going.{Made, IsSameLog, site}
 use Rattle.lane_runner.proofs.lane.Lane.+executing.Given as goal
 

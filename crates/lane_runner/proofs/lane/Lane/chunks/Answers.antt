@@ -7,11 +7,13 @@ use Rattle.kernel_model.specs.Trace.{each, turns}
 use Rattle.kernel_model.specs.Effect.{Returned}
 use Rattle.shared_words.specs.declared.view.View.{View}
 use Rattle.shared_words.specs.Handles.{HandValue}
-use Rattle.lane_runner.specs.Alone.{IsAlone, turn_from}
+use Rattle.kernel_model.specs.Drawing.{turn_from}
+use Rattle.lane_runner.specs.Alone.{IsAlone}
 use Rattle.lane_runner.proofs.Values.{can_follow}
 use Rattle.lane_runner.specs.Going.{Made, Goes, site}
 use Rattle.lane_runner.proofs.Bodies.{log_still, log_later}
-use Rattle.lane_runner.proofs.Dealing.{MadeChunks, below_top, chunks_none, chunks_all, chunks_grow, chunks_stop}
+use Rattle.kernel_model.proofs.Turns.{below_top}
+use Rattle.lane_runner.proofs.Dealing.{MadeChunks, chunks_none, chunks_all, chunks_grow, chunks_stop}
 use Rattle.lane_runner.proofs.Teams.{teams_later}
 use Rattle.lane_runner.proofs.lane.Lane.chunks.Goals as goal
 

@@ -7,11 +7,12 @@ use Rattle.kernel_model.specs.Trace.{draw, turns}
 use Rattle.kernel_model.specs.Effect.{Returned}
 use Rattle.shared_words.specs.declared.view.View.{View}
 use Rattle.shared_words.specs.Handles.{HandValue}
-use Rattle.lane_runner.specs.Alone.{IsAlone, turn_from}
+use Rattle.kernel_model.specs.Drawing.{turn_from}
+use Rattle.lane_runner.specs.Alone.{IsAlone}
 use Rattle.lane_runner.specs.Going.{Goes, Made, site}
 use Rattle.lane_runner.proofs.Values.{can_follow}
-use Rattle.lane_runner.proofs.Dealing.{below_top}
-use Rattle.lane_runner.proofs.Chunking.{chunk_begins, draw_stops, none_left, chunk_stops, chunk_ends}
+use Rattle.kernel_model.proofs.Turns.{below_top, chunk_begins}
+use Rattle.lane_runner.proofs.Chunking.{draw_stops, none_left, chunk_stops, chunk_ends}
 use Rattle.lane_runner.proofs.Teams.{teams_later}
 use Rattle.lane_runner.proofs.lane.Lane.drawn_chunk.Goals as goal
 

@@ -7,11 +7,12 @@ use Rattle.kernel_model.specs.Iterations.{chunk_count, chunk_iterations}
 use Rattle.kernel_model.specs.Trace.{each}
 use Rattle.shared_words.specs.declared.view.View.{View}
 use Rattle.shared_words.specs.Handles.{HandValue}
-use Rattle.lane_runner.specs.Alone.{turn_from, draw_all, draw_once}
+use Rattle.kernel_model.specs.Drawing.{turn_from, draw_all, draw_once}
 use Rattle.lane_runner.specs.Drawing.{open_past}
 use Rattle.lane_runner.specs.Going.{Goes, Made, site}
 use Rattle.lane_runner.proofs.Bodies.{log_later}
-use Rattle.lane_runner.proofs.Draining.{chunk_grows, draws_more, draws_end, draws_stop}
+use Rattle.kernel_model.proofs.Turns.{chunk_grows}
+use Rattle.lane_runner.proofs.Draining.{draws_more, draws_end, draws_stop}
 use Rattle.lane_runner.proofs.Values.{can_follow}
 use Rattle.lane_runner.proofs.Teams.{teams_later}
 use Rattle.lane_runner.proofs.lane.Lane.drawn_chunks.Goals as goal
@@ -20,7 +21,7 @@ pub returns-in_err-drawn_chunk-clause-goes : goal.returns-in_err-drawn_chunk-cla
 returns-in_err-drawn_chunk-clause-goes g c =
     let p = err_from_is_err_and c.from_residual.result c.from_residual.ensures.1 in
     let from : ℤ = to_z w64 (of_z w64 c.args.from) in
-    let grows = chunk_grows c.args.world.now (site c.args.world.now) (code_of c.args.body.now.stmts.items) c.args.slot from c.args.total c.args.chunk in
+    let grows = chunk_grows (site c.args.world.now) (code_of c.args.body.now.stmts.items) c.args.slot from c.args.total c.args.chunk in
     rw (p.1, p.2)
     (subst (λ (z : ℤ). Goes c.args.world.now (draw_all c.args.line (chunk_count c.args.chunk c.args.total) (λ q. each (chunk_iterations c.args.chunk c.args.total q) (turn_from (site c.args.world.now) (code_of c.args.body.now.stmts.items) c.args.slot z))) c.args.self.now.locals.slots.items c.drawn_chunk.new.self.locals.slots.items c.args.self.now.track c.drawn_chunk.new.self.track (Err c.in_err-drawn_chunk.field-0.0)) (to_z-of_z w64 c.args.from c.ranges.from)
     (draws_stop c.args.line (chunk_count c.args.chunk c.args.total) (λ q. each (chunk_iterations c.args.chunk c.args.total q) (turn_from (site c.args.world.now) (code_of c.args.body.now.stmts.items) c.args.slot from)) grows
@@ -29,7 +30,7 @@ returns-in_err-drawn_chunk-clause-goes g c =
 pub returns-then-not-branch-clause-goes : goal.returns-then-not-branch-clause-goes
 returns-then-not-branch-clause-goes g c =
     let from : ℤ = to_z w64 (of_z w64 c.args.from) in
-    let grows = chunk_grows c.args.world.now (site c.args.world.now) (code_of c.args.body.now.stmts.items) c.args.slot from c.args.total c.args.chunk in
+    let grows = chunk_grows (site c.args.world.now) (code_of c.args.body.now.stmts.items) c.args.slot from c.args.total c.args.chunk in
     let made = c.in_ok-drawn_chunk.ensures.goes in
     subst (λ (z : ℤ). Made c.args.world.now (draw_all c.args.line (chunk_count c.args.chunk c.args.total) (λ q. each (chunk_iterations c.args.chunk c.args.total q) (turn_from (site c.args.world.now) (code_of c.args.body.now.stmts.items) c.args.slot z))) c.args.self.now.locals.slots.items c.drawn_chunk.new.self.locals.slots.items c.args.self.now.track c.drawn_chunk.new.self.track (Returned tt)) (to_z-of_z w64 c.args.from c.ranges.from)
     (draws_end c.args.line (chunk_count c.args.chunk c.args.total) (λ q. each (chunk_iterations c.args.chunk c.args.total q) (turn_from (site c.args.world.now) (code_of c.args.body.now.stmts.items) c.args.slot from)) grows
@@ -40,7 +41,7 @@ returns-then-not-branch-clause-goes g c =
 pub draws-preserved : goal.draws-preserved
 draws-preserved g c =
     let from : ℤ = to_z w64 (of_z w64 c.args.from) in
-    let grows = chunk_grows c.args.world.now (site c.args.world.now) (code_of c.args.body.now.stmts.items) c.args.slot from c.args.total c.args.chunk in
+    let grows = chunk_grows (site c.args.world.now) (code_of c.args.body.now.stmts.items) c.args.slot from c.args.total c.args.chunk in
     let made = c.in_ok-drawn_chunk.ensures.goes in
     record {
       can = can_follow _ _ _ _ _ _ _ c.draws.invariant.can made;

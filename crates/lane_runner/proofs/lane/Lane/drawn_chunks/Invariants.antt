@@ -2,7 +2,7 @@ use Rattle.std.proofs.Common.{◌≡◌, ◌-◌}
 use Rattle.kernel_syntax.specs.Program.{code_of}
 use Rattle.kernel_model.specs.Iterations.{chunk_count, chunk_iterations}
 use Rattle.kernel_model.specs.Trace.{each, log_limit}
-use Rattle.lane_runner.specs.Alone.{turn_from, draw_all}
+use Rattle.kernel_model.specs.Drawing.{turn_from, draw_all}
 use Rattle.lane_runner.specs.Going.{CanGo, IsSameLog, site}
 use Rattle.lane_runner.proofs.Draining.{GoesOnIn}
 use Rattle.lane_runner.proofs.lane.Lane.drawn_chunks.Given as goal

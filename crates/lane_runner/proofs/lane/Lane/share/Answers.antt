@@ -4,9 +4,10 @@ use Rattle.kernel_syntax.specs.Program.{code_of}
 use Rattle.kernel_syntax.specs.Share.{even_share_of}
 use Rattle.kernel_model.specs.Iterations.{static_iterations, chunk_count, chunk_iterations}
 use Rattle.kernel_model.specs.Trace.{each, turns}
-use Rattle.lane_runner.specs.Alone.{turn_from, draw_all}
+use Rattle.kernel_model.specs.Drawing.{turn_from, draw_all}
 use Rattle.lane_runner.specs.Going.{Goes, site}
-use Rattle.lane_runner.proofs.Dealing.{share_within, below_top, shared_even, shared_static, shared_drawn}
+use Rattle.kernel_model.proofs.Turns.{share_within, below_top}
+use Rattle.lane_runner.proofs.Dealing.{shared_even, shared_static, shared_drawn}
 use Rattle.lane_runner.proofs.lane.Lane.share.Goals as goal
 
 within_is : (lane span given : ℕ) → given ≡ span → lane < given → lane < span

@@ -4,7 +4,7 @@ use Rattle.std.proofs.lemmas.Int.{to_z-of_z}
 use Rattle.kernel_syntax.specs.Program.{code_of, term_of}
 use Rattle.kernel_model.specs.Iterations.{total_of}
 use Rattle.kernel_model.specs.Trace.{shared}
-use Rattle.lane_runner.specs.Alone.{turn_from}
+use Rattle.kernel_model.specs.Drawing.{turn_from}
 use Rattle.lane_runner.specs.Going.{Goes, site}
 use Rattle.lane_runner.proofs.Dealing.{for_first_stops, for_last_stops, for_goes}
 use Rattle.lane_runner.proofs.Values.{can_follow}

@@ -4,7 +4,8 @@ use Rattle.std.proofs.lemmas.Int.{to_z-of_z}
 use Rattle.kernel_model.specs.Value.{element_at}
 use Rattle.lane_runner.specs.World.{WorldValue}
 use Rattle.lane_runner.specs.Placing.{IsElement}
-use Rattle.lane_runner.proofs.Elements.{array_found, above_is, element_stands}
+use Rattle.kernel_model.proofs.Elements.{array_found, above_is}
+use Rattle.lane_runner.proofs.Elements.{element_stands}
 use Rattle.lane_runner.proofs.world.World.element.Goals as goal
 
 pub element_of-requires-clause-fits : goal.element_of-requires-clause-fits

@@ -14,17 +14,18 @@ use Rattle.kernel_syntax.specs.Share.{even_share_of}
 use Rattle.kernel_syntax.specs.Tree as tree
 use Rattle.kernel_syntax.specs.Tree.{Code, Done}
 use Rattle.kernel_syntax.proofs.Equations.{stmt_code-Set, stmt_code-Store, stmt_code-If, stmt_code-Loop, stmt_code-Parallel, stmt_code-For, stmt_code-Barrier, stmt_code-Critical}
+use Rattle.kernel_model.specs.Drawing.{turn_from, draw_once, draw_all}
 use Rattle.kernel_model.specs.Iterations.{total_of, static_iterations, chunk_count, chunk_iterations}
 use Rattle.kernel_model.specs.State.{put, event}
 use Rattle.kernel_model.specs.Trace.{run, turns, each, shared, draw, loop_end}
 use Rattle.kernel_model.specs.Value.{value}
-use Rattle.log_replay.specs.Drawing.{draw_once, draw_all}
-use Rattle.log_replay.specs.Following.{Standing, Follows, turn_from}
+use Rattle.log_replay.specs.Following.{Standing, Follows}
 use Rattle.log_replay.specs.Forks.{standing}
 use Rattle.log_replay.proofs.Following.{follows_same, retold}
-use Rattle.log_replay.proofs.Bounded.{bounded_at}
-use Rattle.log_replay.proofs.Statements.{assigned, follows_assigned, follows_done, split_at, grown, statements_next, statements_stop, test_stops, else_goes, then_goes, turns_next, turns_stop, from_stops, to_stops, bounds_go, turns_of, turns_of_grow, share_of, share_of_grows, loop_is, for_stops, for_goes, barrier_goes, lock_stops, section_stops, section_goes}
-use Rattle.log_replay.proofs.Draws.{FollowedChunks, chunks_none, chunks_all, chunks_grow, chunks_stop, share_within, below_top, shared_even, shared_static, shared_drawn, draws_more, draws_end, draws_stop, chunk_grows, chunk_begins, draw_stops, none_left, chunk_stops, chunk_ends}
+use Rattle.kernel_model.proofs.StmtLists.{split_at, grown, bounded_at}
+use Rattle.log_replay.proofs.Statements.{assigned, follows_assigned, follows_done, statements_next, statements_stop, test_stops, else_goes, then_goes, turns_next, turns_stop, from_stops, to_stops, bounds_go, turns_of, turns_of_grow, share_of, share_of_grows, loop_is, for_stops, for_goes, barrier_goes, lock_stops, section_stops, section_goes}
+use Rattle.kernel_model.proofs.Turns.{share_within, below_top, chunk_grows, chunk_begins}
+use Rattle.log_replay.proofs.Draws.{FollowedChunks, chunks_none, chunks_all, chunks_grow, chunks_stop, shared_even, shared_static, shared_drawn, draws_more, draws_end, draws_stop, draw_stops, none_left, chunk_stops, chunk_ends}
 use Rattle.log_replay.proofs.lane.Lane.+executing.Goals as goal
 
 within_is : (lane span given : ℕ) → given ≡ span → lane < given → lane < span

@@ -1,9 +1,9 @@
 use Rattle.std.proofs.Common.{◌≡◌, ◌≤◌, ◌-◌, ◌*◌, Ok, take}
 use Rattle.kernel_syntax.specs.Program.{code_of}
+use Rattle.kernel_model.specs.Drawing.{turn_from, draw_all}
 use Rattle.kernel_model.specs.Iterations.{chunk_count, chunk_iterations}
 use Rattle.kernel_model.specs.Trace.{each, run, turns}
-use Rattle.log_replay.specs.Drawing.{draw_all}
-use Rattle.log_replay.specs.Following.{Follows, turn_from}
+use Rattle.log_replay.specs.Following.{Follows}
 use Rattle.log_replay.specs.Forks.{standing}
 use Rattle.log_replay.proofs.Draws.{FollowedChunks, FollowsOn}
 use Rattle.log_replay.proofs.lane.Lane.+executing.Given as goal

@@ -3,7 +3,8 @@ use Rattle.std.specs.Int.RustNames.{unsigned_abs, int_lt}
 use Rattle.std.proofs.lemmas.Int.{to_z-of_z}
 use Rattle.kernel_model.specs.Value.{Site, element_at}
 use Rattle.log_replay.specs.Placing.{IsElement}
-use Rattle.log_replay.proofs.Elements.{array_found, above_is, element_found}
+use Rattle.kernel_model.proofs.Elements.{array_found, above_is}
+use Rattle.log_replay.proofs.Elements.{element_found}
 use Rattle.log_replay.proofs.place.Place.element.Goals as goal
 
 pub returns : goal.returns

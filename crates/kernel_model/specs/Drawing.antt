@@ -1,12 +1,19 @@
--- One draw of a worksharing loop, with the chunk that was drawn.
-use Rattle.std.specs.Prelude.{ℕ, nat_lt, if◌then◌else◌, Bool, true, false}
-use Rattle.kernel_model.specs.State.{State, Outcome, Gives, and_then}
-use Rattle.kernel_model.specs.Trace.{draw, draws}
+-- The turns of a loop, and one draw after another of a loop whose chunks are drawn.
+use Rattle.std.specs.Prelude.{ℕ, nat_lt, if◌then◌else◌, Bool, true, false, ℤ, pos, ◌+ℤ◌}
+use Rattle.kernel_syntax.specs.Tree.{Code}
+use Rattle.kernel_model.specs.State.{State, Outcome, Gives, and_then, assign}
+use Rattle.kernel_model.specs.Trace.{run, draw, draws}
+use Rattle.kernel_model.specs.Value.{Site}
 
--- goes on, and another draw may follow
+-- a turn of a loop whose first one has this number: the variable is set, and the body runs
+abbrev pub turn_from : Site → Code → ℕ → ℤ → ℕ → State → Outcome (Unit {0})
+turn_from at body slot from i s = run at body (assign slot (from +ℤ pos i) s)
+
+-- a part, after which another draw may follow
 abbrev pub then_more : Outcome (Unit {0}) → Outcome Bool
 then_more m = and_then m (λ u s. Gives true s)
 
+-- the chunk drawn, where it is one of so many
 abbrev pub if_drawn : ℕ → ℕ → (ℕ → State → Outcome (Unit {0})) → State → Outcome Bool
 if_drawn q n chunk s = (if nat_lt q n then then_more (chunk q s) else Gives false s)
 

@@ -1,0 +1,121 @@
+-- A task that doesn't go on: which task stopped, and how.
+use Rattle.std.proofs.Common.{◌≡◌, refl, ap, sym, ◌∙◌, subst, ℕ, ◌+◌, ◌<◌, List, [], ◌∷◌, ◌++◌, length, ℤ, Some, None, Err, arith}
+use Rattle.std.specs.Prelude.{slice_get}
+use Rattle.std.specs.List.{flat_map}
+use Rattle.std.proofs.lemmas.List.{append-nil}
+use Rattle.std.proofs.lemmas.Option.{same_Some}
+use Rattle.sw_base.specs.declared.path.Step.{Step}
+use Rattle.log_format.specs.declared.record.Record.{Record}
+use Rattle.kernel_model.specs.State as model
+use Rattle.kernel_model.specs.State.{State, Fork, Outcome}
+use Rattle.kernel_model.specs.Trace.{Ending, Stopped}
+use Rattle.kernel_model.specs.Folder.{IsTracedTo}
+use Rattle.kernel_model.specs.Effect.{Halted}
+use Rattle.history_model.specs.Work.{Work, RegionWork, work_regions}
+use Rattle.execution_model.specs.Runs.{lane_begin, works_log}
+use Rattle.lane_runner.specs.declared.stop.Halt.{Halt}
+use Rattle.lane_runner.specs.declared.stop.Halt.TheVariants as halt
+use Rattle.lane_runner.specs.declared.stop.Stop.{Stop}
+use Rattle.lane_runner.specs.declared.stop.Stop.TheVariants as stop
+use Rattle.lane_runner.specs.Going.{Progress, AtRegion, AtTasks}
+use Rattle.lane_runner.specs.Stopping.{HaveEnded, LastIsRegionAt, RestsInLane, StopsAtLast, ending_for, itself}
+use Rattle.lane_runner.specs.Stopping.{RestsBelow, below as further}
+use Rattle.lane_runner.specs.World.{WorldValue}
+use Rattle.region_runner.specs.Ran.{in_one, TaskRan, TaskBegan, TaskGoes}
+use Rattle.region_runner.specs.Stopping.{IsAtOrBelow, RestsUnder, StopsTask, stop_of}
+use Rattle.region_runner.proofs.RegionLanes.{BeginsLane}
+use Rattle.region_runner.proofs.Stops.{get_at, task_stops}
+use Rattle.region_runner.proofs.Traced.{one_log, one_regions, stopped_trace, traces_begun}
+
+module _ (fork : Fork) (lane : ℕ) (w : WorldValue) (part : State → Outcome (Unit {0})) (first_part : BeginsLane fork lane w part) (slots' : List ℤ) (old new : Progress) (none : old.buffer.count ≡ 0) (works : List Work) (own : List Step) where
+  abbrev itself_at : IsAtOrBelow own own
+  itself_at = record { rest = []; path_is = sym (append-nil own) }
+
+  -- the task's own stop
+  itself_stops : (why : model.Stop) (line : ℕ) (it : Stop) → ending_for it ≡ Some (Stopped why line) → ((l : ℕ) → it ≡ stop.Tasks l → ⊥) → TaskRan w part fork.slots slots' old new works (Halted why line)
+      → StopsTask w.arrays own own it (lane_begin fork lane) works
+  itself_stops why line it ending other t = record {
+    at = itself_at;
+    traced = λ fit program same end told. record {
+      at = itself_at;
+      ends =
+          itself (lane_begin fork lane) works
+          (subst (λ (e : Ending). IsTracedTo program (lane_begin fork lane) (works_log works) e) (same_Some (Stopped why line) end (sym ending ∙ told))
+          (stopped_trace program (lane_begin fork lane) w same part first_part.rest first_part.grows (first_part.is program same) slots' old new none works fit why line t));
+    };
+    crowded = λ l told. absurd (other l told);
+  }
+
+  -- too many tasks were below the task
+  itself_rests : (line : ℕ) → TaskBegan w part fork.slots old new works (AtTasks line) → RestsUnder line own own works
+  itself_rests line t = record {
+    at = itself_at;
+    rests =
+        RestsBelow.itself works (subst (λ (rs : List Record). LastIsRegionAt line rs) (one_log works) t.ends.1)
+        (subst (λ (rs : List RegionWork). HaveEnded rs) (one_regions works) t.stops.0);
+  }
+
+  tasks_stop : (line : ℕ) → TaskBegan w part fork.slots old new works (AtTasks line) → StopsTask w.arrays own own (stop.Tasks line) (lane_begin fork lane) works
+  tasks_stop line t = record {
+    at = itself_at;
+    traced = λ fit program same end told. absurd (no_ending told);
+    crowded = λ l told. subst (λ (n : ℕ). RestsUnder n own own works) (line_of told) (itself_rests line t);
+  }
+    where
+      no_ending : {end : Ending} → None ≡ Some end → ⊥
+      no_ending e = cc
+
+      line_of : {l : ℕ} → stop.Tasks line ≡ stop.Tasks l → line ≡ l
+      line_of e = cc
+
+  trouble_stops : (it : Stop) → ending_for it ≡ None → ((l : ℕ) → it ≡ stop.Tasks l → ⊥) → StopsTask w.arrays own own it (lane_begin fork lane) works
+  trouble_stops it none_told other = record { at = itself_at; traced = λ fit program same end told. absurd (no_ending (sym none_told ∙ told)); crowded = λ l told. absurd (other l told) } where
+    no_ending : {end : Ending} → None ≡ Some end → ⊥
+    no_ending e = cc
+
+  -- a task below stopped
+  below_stops : old.buffer.path ≡ own → old.tally.forked ≡ 0 → (path : List Step) (why : Stop) → TaskBegan w part fork.slots old new works (AtRegion path why)
+      → StopsTask w.arrays own path why (lane_begin fork lane) works
+  below_stops is first path why t = record {
+    at = record {
+      rest = record { region = length stops.before; lane = stops.stopped.inside.lane; span = stops.fork.team.span } ∷ stops.stopped.inside.below;
+      path_is =
+          stops.stopped.inside.path_is
+          ∙ ap (λ (n : ℕ). own ++ record { region = n; lane = stops.stopped.inside.lane; span = stops.fork.team.span } ∷ stops.stopped.inside.below) (let e : 0 + length stops.before ≡ length stops.before = omega arith in e);
+    };
+    traced = λ fit program same end told.
+        task_stops program end (lane_begin fork lane) w.arrays own path why t.forks works same told fit stops (t.regions fit program same)
+        (traces_begun program (lane_begin fork lane) w same part first_part.rest first_part.grows (first_part.is program same) slots' old new none works fit (AtRegion path why) t);
+    crowded = λ l told. rests_below l (stops.stopped.crowded l told);
+  }
+    where
+      stops : StopsAtLast w.arrays own 0 path why t.forks (work_regions (in_one works))
+      stops =
+          subst (λ (p : List Step). StopsAtLast w.arrays p 0 path why t.forks (work_regions (in_one works))) is
+          (subst (λ (n : ℕ). StopsAtLast w.arrays old.buffer.path n path why t.forks (work_regions (in_one works))) first t.stops.0)
+
+      region_is : slice_get (flat_map work_regions works) (length stops.before) ≡ Some stops.region
+      region_is = ap (λ (rs : List RegionWork). slice_get rs (length stops.before)) (sym (one_regions works) ∙ stops.regions_are) ∙ get_at stops.before stops.region []
+
+      rests_below : (l : ℕ) → RestsInLane l own (0 + length stops.before) stops.fork.team.span path stops.region.phases → RestsUnder l own path works
+      rests_below l inner = record {
+        at = record {
+          rest = record { region = length stops.before; lane = inner.lane; span = stops.region.span } ∷ inner.below;
+          path_is =
+              inner.path_is
+              ∙ ap (λ (n : ℕ). own ++ record { region = n; lane = inner.lane; span = stops.fork.team.span } ∷ inner.below) (let e : 0 + length stops.before ≡ length stops.before = omega arith in e)
+              ∙ ap (λ (n : ℕ). own ++ record { region = length stops.before; lane = inner.lane; span = n } ∷ inner.below) (sym stops.span_is);
+        };
+        rests =
+            further works (length stops.before) stops.region inner.lane inner.below region_is (subst (λ (n : ℕ). inner.lane < n) (sym stops.span_is) inner.within) inner.rests;
+      }
+
+  -- by why it doesn't go on
+  pub stops_task : old.buffer.path ≡ own → old.tally.forked ≡ 0 → (h : Halt) → TaskGoes w part fork.slots slots' old new works (Err h)
+      → StopsTask w.arrays own (stop_of own h).0 (stop_of own h).1 (lane_begin fork lane) works
+  stops_task is first (halt.DivZero line) t = itself_stops model.DivZero line (stop.DivZero line) refl (λ l e. cc) t
+  stops_task is first (halt.Index line) t = itself_stops model.Index line (stop.Index line) refl (λ l e. cc) t
+  stops_task is first (halt.LogFull line) t = itself_stops model.LogFull line (stop.LogFull line) refl (λ l e. cc) t
+  stops_task is first (halt.Region path why) t = below_stops is first path why t
+  stops_task is first (halt.Tasks line) t = tasks_stop line t
+  stops_task is first (halt.Trouble trouble) t = trouble_stops (stop.Trouble trouble) refl (λ l e. cc)
