@@ -5,4 +5,5 @@ pub mod IndexKept
 pub mod RunFolder
 pub mod RunEnds
 pub mod Leaving
+pub mod Statuses
 pub mod RunExamples

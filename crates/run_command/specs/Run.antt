@@ -1,5 +1,5 @@
 -- What comes out of a run, and what it leaves in the folder.
-use Rattle.std.specs.Prelude.{◌≡◌, ℕ, List, ◌++◌, ◌∷◌, [], length, map, sum_by, All, Option, ◌<◌, ◌≤◌, ◌+◌, None, Some, IsSome}
+use Rattle.std.specs.Prelude.{◌≡◌, ◌⊎◌, ◌↔◌, ℕ, List, ◌++◌, ◌∷◌, [], length, map, sum_by, All, Option, ◌<◌, ◌≤◌, ◌+◌, None, Some, IsSome}
 use Rattle.log_format.specs.declared.format.TheConstants.{FORMAT}
 use Rattle.log_format.specs.Format.{log_header}
 use Rattle.log_format.specs.Spelling.{log_bytes}
@@ -15,7 +15,9 @@ use Rattle.race_model.specs.Row.{index_bytes}
 use Rattle.race_model.specs.Trace.{TaskLog, Trace}
 use Rattle.kernel_syntax.specs.Program.{Program, program_of}
 use Rattle.kernel_model.specs.Folder.{paths_of}
+use Rattle.kernel_text.specs.declared.fault.KernelWhy.{KernelWhy}
 use Rattle.kernel_reader.specs.declared.fault.ReadKernelFault.TheVariants as read
+use Rattle.command_answer.specs.declared.status.TheConstants.{DONE, INDEX_THERE, KERNEL_REFUSED, KERNEL_STOPPED}
 use Rattle.kernel_file.specs.Holding.{HoldsKernel, HoldsFault}
 use Rattle.execution_model.specs.Execution.{IsExecution}
 use Rattle.lane_runner.specs.declared.stop.Stop.{Stop}
@@ -141,3 +143,18 @@ pub record RunDue (rose : Type 0) (kernel dir : List ℕ) (size : ℕ) (old new 
   pub outcome : Outcome
   pub came : CameOut rose kernel dir size old new outcome
   pub due : IsDue outcome status text
+
+-- the named file holds no kernel: there is no such file, or its text has a fault
+pub data HoldsNoKernel (files : Files) (name : List ℕ) : Type 0 where
+  no_file : files name ≡ None → HoldsNoKernel files name
+  no_kernel : (line : ℕ) (why : KernelWhy) → HoldsFault files name (read.Refused line why) → HoldsNoKernel files name
+
+-- a run can begin
+abbrev pub CanBegin : Files → List ℕ → List ℕ → Type 0
+CanBegin files kernel dir = (program : Program) × CanRun files kernel dir program
+
+-- The status tells what the files hold: whether the kernel is refused, whether there is an index, or whether the kernel was run.
+pub record TellsFiles (files : Files) (kernel dir : List ℕ) (status : ℕ) : Type 0 where
+  pub refused : (status ≡ KERNEL_REFUSED) ↔ HoldsNoKernel files kernel
+  pub indexed : (status ≡ INDEX_THERE) ↔ HasIndex files kernel dir
+  pub began : ((status ≡ DONE) ⊎ (status ≡ KERNEL_STOPPED)) ↔ CanBegin files kernel dir

@@ -2,17 +2,20 @@
 //!
 //! `run` answers that there is no kernel; that the folder has an index; where the kernel stopped, with the logs of its tasks in the folder;
 //! or the counts and last values of a run that ended, with its logs and their index. Where it can't answer, the first of the logs are there,
-//! and an index at most after all logs of a whole run. `print_outcome` prints the answer.
+//! and an index at most after all logs of a whole run. `print_outcome` prints the answer. `statuses_tell_what_files_hold` is a law on the
+//! answers: each status that is due comes exactly where the files that were there say so.
 #![tactic(auto)]
 
 mod answering;
 mod beginning;
+mod laws;
 mod outcome;
 mod run_texts;
 mod running;
 mod sealing;
 
 pub use answering::print_outcome;
+pub use laws::statuses_tell_what_files_hold;
 pub use outcome::Outcome;
 pub use running::run;
 

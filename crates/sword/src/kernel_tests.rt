@@ -185,16 +185,10 @@ fn chunks_of_another_size_differ_at_the_first_draw(rt: HostRuntime) -> Result<()
 #[test]
 fn a_run_without_draws_has_the_same_logs_each_time(rt: HostRuntime) -> Result<(), Fail> {
     let alloc = rt.alloc();
-    let names = [
-        "d/t.swl",
-        "d/t-0.0.swl",
-        "d/t-0.1.swl",
-        "d/t-0.2.swl",
-        "d/t-0.3.swl",
-    ];
-    let (first, _, _) = after(&rt, alloc, HEAT)?;
+    let names = ["d/t.swl", "d/t-0.0.swl", "d/t-0.1.swl"];
+    let (first, _, _) = after(&rt, alloc, TWO_LOOPS)?;
     for _ in 0..200 {
-        let (mut again, status, _) = after(&rt, alloc, HEAT)?;
+        let (mut again, status, _) = after(&rt, alloc, TWO_LOOPS)?;
         assert_eq!(rt; status, DONE);
         for name in names {
             assert!(rt; again.file(name).is_some());
@@ -287,7 +281,7 @@ fn each_chunk_is_drawn_once(rt: HostRuntime) -> Result<(), Fail> {
 #[test]
 fn a_barrier_in_a_loop_of_the_lane_is_refused(rt: HostRuntime) -> Result<(), Fail> {
     let alloc = rt.alloc();
-    let kernel = "array a i64 8\nmain {\nparallel 2 {\nloop j in 0 .. tid {\nbarrier\n}\n} }\n";
+    let kernel = "array a i64 8\nmain { parallel 2 {\nloop j in 0 .. tid {\nbarrier }\n} }\n";
     let (_, status, out) = after(&rt, alloc, kernel)?;
     assert_eq!(rt; status, KERNEL_REFUSED);
     assert_eq!(rt; out.written(), b"kernel line 4: NotUniform\n".as_slice());

@@ -4,15 +4,19 @@ use crate::kernel_tests::after;
 use crate::tests::arguments;
 use crate::top::sword;
 use command_answer::{DONE, KERNEL_STOPPED, WRITE_FAULT};
+use std::alloc::Global;
+use std::process::Abort;
+use std::sync::Wait;
 use std::test::Fail;
+use std::thread::Threads;
 use sw_base::{MemFolder, MemOut, NoGate, Path};
 
 // Lane 1 leaves the array, or divides by 0.
 const LEAVING: &str =
-    "array a i64 8\nmain {\nparallel 2 {\nif tid == 1 {\nlet k = 8 a[k] = 1 }\n} }\n";
+    "array a i64 8\nmain { parallel 2 {\nif tid == 1 {\nlet k = 8\na[k] = 1 }\n} }\n";
 
 const DIVIDING: &str =
-    "array a i64 8\nmain {\nparallel 2 {\nif tid == 1 {\na[0] = 1 / (tid - 1) }\n} }\n";
+    "array a i64 8\nmain { parallel 2 {\nif tid == 1 {\nlet k = 8\na[0] = 1 / (tid - 1) }\n} }\n";
 
 // Lane 1 leaves the array in the second turn, after a barrier. Lane 0 waits at the next one.
 const SECOND_TURN: &str = "array a i64 4
@@ -31,27 +35,28 @@ critical c { a[tid - 1] = 1 }
 } }
 ";
 
-// Each of the three lanes after the first has a reason of its own to stop.
+// Each of the three lanes after the first has a reason of its own to stop: it leaves the array, divides by 0, or stores three times, of
+// which its log takes one.
 const THREE_REASONS: [&str; 3] = [
     "array a i64 4
 main { parallel 4 {
 if tid == 1 { a[4] = 1 }
 if tid == 2 { a[0] = 1 / (tid - 2) }
-if tid == 3 { loop i in 0 .. 4194305 { a[3] = i } }
+if tid == 3 { a[3] = 1 a[3] = 2 a[3] = 3 }
 } }
 ",
     "array a i64 4
 main { parallel 4 {
 if tid == 2 { a[4] = 1 }
 if tid == 1 { a[0] = 1 / (tid - 1) }
-if tid == 3 { loop i in 0 .. 4194305 { a[3] = i } }
+if tid == 3 { a[3] = 1 a[3] = 2 a[3] = 3 }
 } }
 ",
     "array a i64 4
 main { parallel 4 {
 if tid == 3 { a[4] = 1 }
 if tid == 2 { a[0] = 1 / (tid - 2) }
-if tid == 1 { loop i in 0 .. 4194305 { a[3] = i } }
+if tid == 1 { a[3] = 1 a[3] = 2 a[3] = 3 }
 } }
 ",
 ];
@@ -96,14 +101,56 @@ fn a_stop_leaves_the_logs_of_all_tasks(rt: HostRuntime) -> Result<(), Fail> {
     Ok(())
 }
 
+// The status and the text of a run in which this call on the log of this task fails.
+fn failing<R: Abort + Threads + Wait + Sync>(
+    rt: &R,
+    alloc: Global,
+    folder: &mut MemFolder,
+    size: &str,
+    task: &Path,
+    call: u64,
+) -> Result<(u8, MemOut), Fail> {
+    folder.fail_log(task, &[call])?;
+    let mut out = MemOut::new(alloc)?;
+    let all = arguments(alloc, &["run", "k", "d", size])?;
+    let status = sword(rt, alloc, &all, folder, &mut out, &NoGate);
+    Ok((status, out))
+}
+
 #[test]
-fn the_least_lane_that_stopped_is_told(rt: HostRuntime) -> Result<(), Fail> {
+fn the_least_lane_of_three_is_told(rt: HostRuntime) -> Result<(), Fail> {
     let alloc = rt.alloc();
     let [one, two, three] = THREE_REASONS;
+    for (kernel, lane, status, text) in [
+        (one, 3, KERNEL_STOPPED, "stopped t-0.1.swl line 3: Index\n"),
+        (
+            two,
+            3,
+            KERNEL_STOPPED,
+            "stopped t-0.1.swl line 4: DivZero\n",
+        ),
+        (three, 1, WRITE_FAULT, ""),
+    ] {
+        let mut folder = MemFolder::new(alloc)?;
+        folder.hold("k", kernel.as_bytes())?;
+        let task = Path::root().child(0, lane, 4);
+        let (ended, out) = failing(&rt, alloc, &mut folder, "24", &task, 2)?;
+        assert_eq!(rt; ended, status);
+        assert_eq!(rt; out.written(), text.as_bytes());
+        assert_eq!(rt; folder.file(INDEX), None);
+        // Lane 0 has its End.
+        assert_eq!(rt;
+            folder.file("d/t-0.0.swl").is_some(),
+            status == KERNEL_STOPPED
+        );
+    }
+    Ok(())
+}
+
+#[test]
+fn a_stop_ends_who_holds_and_who_waits(rt: HostRuntime) -> Result<(), Fail> {
+    let alloc = rt.alloc();
     for (kernel, text) in [
-        (one, "stopped t-0.1.swl line 3: Index\n"),
-        (two, "stopped t-0.1.swl line 4: DivZero\n"),
-        (three, "stopped t-0.1.swl line 5: LogFull\n"),
         (GUARDED, "stopped t-0.0.swl line 4: Index\n"),
         (SIBLING_WAITS, "stopped t-0.1-0.1.swl line 7: Index\n"),
     ] {
@@ -125,54 +172,47 @@ fn a_lane_gives_its_mutex_back_when_it_stops(rt: HostRuntime) -> Result<(), Fail
     Ok(())
 }
 
-#[test]
-fn a_run_has_at_most_65536_tasks(rt: HostRuntime) -> Result<(), Fail> {
-    let alloc = rt.alloc();
-    for (kernel, status, text) in [
-        (
-            "main {\nloop k in 0 .. 1024 {\nparallel 64 { }\n} }\n",
-            KERNEL_STOPPED,
-            "stopped t.swl line 3: Tasks\n",
-        ),
-        (
-            "main {\nloop k in 0 .. 1023 {\nparallel 64 { }\n} }\n",
-            DONE,
-            "tasks 65473\nrecords 66496\n",
-        ),
-    ] {
-        let (_, ended, out) = after(&rt, alloc, kernel)?;
-        assert_eq!(rt; ended, status);
-        assert_eq!(rt; out.written(), text.as_bytes());
-    }
+// What a kernel ends with and prints.
+fn ends_so<R: Abort + Threads + Wait + Sync>(
+    rt: &R,
+    alloc: Global,
+    kernel: &str,
+    status: u8,
+    text: &str,
+) -> Result<(), Fail> {
+    let (_, ended, out) = after(rt, alloc, kernel)?;
+    assert_eq!(rt; ended, status);
+    assert_eq!(rt; out.written(), text.as_bytes());
     Ok(())
 }
 
 #[test]
-fn a_log_has_at_most_4194304_records(rt: HostRuntime) -> Result<(), Fail> {
-    let alloc = rt.alloc();
-    // There is no room for the End of the last one but one.
-    for (kernel, status, text) in [
-        (
-            "array a i64 1\nmain {\nloop i in 0 .. 4194305 {\na[0] = i\n}\n}",
-            KERNEL_STOPPED,
-            "stopped t.swl line 4: LogFull\n",
-        ),
-        (
-            "array a i64 1\nmain {\nloop i in 0 .. 4194304 {\na[0] = i\n}\n}",
-            KERNEL_STOPPED,
-            "stopped t.swl line 6: LogFull\n",
-        ),
-        (
-            "array a i64 1 main { loop i in 0 .. 4194303 { a[0] = i } }",
-            DONE,
-            "tasks 1\nrecords 4194304\nsum a 4194302\n",
-        ),
-    ] {
-        let (_, ended, out) = after(&rt, alloc, kernel)?;
-        assert_eq!(rt; ended, status);
-        assert_eq!(rt; out.written(), text.as_bytes());
-    }
-    Ok(())
+fn a_run_has_no_65537_tasks(rt: HostRuntime) -> Result<(), Fail> {
+    let kernel = "main {\nloop k in 0 .. 1024 {\nparallel 64 { }\n} }\n";
+    let text = "stopped t.swl line 3: Tasks\n";
+    ends_so(&rt, rt.alloc(), kernel, KERNEL_STOPPED, text)
+}
+
+#[test]
+fn a_run_has_65473_tasks(rt: HostRuntime) -> Result<(), Fail> {
+    let kernel = "main {\nloop k in 0 .. 1023 {\nparallel 64 { }\n} }\n";
+    let text = "tasks 65473\nrecords 66496\n";
+    ends_so(&rt, rt.alloc(), kernel, DONE, text)
+}
+
+#[test]
+fn a_log_has_no_4194305_records(rt: HostRuntime) -> Result<(), Fail> {
+    // There is no room for the End.
+    let kernel = "array a i64 1\nmain {\nloop i in 0 .. 4194304 {\na[0] = i\n}\n}";
+    let text = "stopped t.swl line 6: LogFull\n";
+    ends_so(&rt, rt.alloc(), kernel, KERNEL_STOPPED, text)
+}
+
+#[test]
+fn a_log_has_4194304_records(rt: HostRuntime) -> Result<(), Fail> {
+    let kernel = "array a i64 1 main { loop i in 0 .. 4194303 { a[0] = i } }";
+    let text = "tasks 1\nrecords 4194304\nsum a 4194302\n";
+    ends_so(&rt, rt.alloc(), kernel, DONE, text)
 }
 
 #[test]
@@ -181,10 +221,7 @@ fn a_log_that_fails_leaves_nothing(rt: HostRuntime) -> Result<(), Fail> {
     let mut folder = MemFolder::new(alloc)?;
     let kernel = "array a i64 1000 main { loop i in 0 .. 1000 { a[i] = 1 } }";
     folder.hold("k", kernel.as_bytes())?;
-    folder.fail_log(&Path::root(), &[3])?;
-    let mut out = MemOut::new(alloc)?;
-    let all = arguments(alloc, &["run", "k", "d", "240"])?;
-    let status = sword(&rt, alloc, &all, &mut folder, &mut out, &NoGate);
+    let (status, out) = failing(&rt, alloc, &mut folder, "240", &Path::root(), 3)?;
     assert_eq!(rt; status, WRITE_FAULT);
     assert!(rt; out.written().is_empty());
     assert_eq!(rt; folder.file("d/t.swl"), None);

@@ -1,0 +1,61 @@
+-- What the status of a run tells of the files.
+use Rattle.std.proofs.Common.{◌≡◌, ◌⊎◌, sym, ap, subst, ◌∙◌, inl, inr, ℕ, List, None, Some, true≢false}
+use Rattle.std.proofs.lemmas.Option.{none-some, same_Some}
+use Rattle.std.specs.Prelude.{is_some}
+use Rattle.sw_base.specs.Environment.{Content, Files}
+use Rattle.sw_base.specs.Names.{index_name}
+use Rattle.kernel_syntax.specs.Program.{Program}
+use Rattle.kernel_reader.specs.KernelOf.{IsKernelOf}
+use Rattle.kernel_file.specs.Holding.{HoldsKernel}
+use Rattle.command_answer.specs.declared.status.TheConstants.{DONE, INDEX_THERE, KERNEL_REFUSED, KERNEL_STOPPED}
+use Rattle.run_command.specs.declared.outcome.Outcome.{Outcome}
+use Rattle.run_command.specs.declared.outcome.Outcome.TheVariants.{NoKernel, Refused, IndexThere, Stopped, Ran, ReadFault, WriteFault, NoMemory}
+use Rattle.run_command.specs.Outcomes.{IsDue}
+use Rattle.run_command.specs.Run.{CameOut, CanBegin, HasIndex, HoldsNoKernel, RunDue, TellsFiles, no_file, no_kernel}
+
+module _ (files : Files) (kernel dir : List ℕ) where
+  -- a file holds a kernel or none
+  apart : (program : Program) → HoldsNoKernel files kernel → HoldsKernel files kernel program → ⊥
+  apart program (no_file none) holds = none-some holds.text (sym none ∙ holds.held)
+  apart program (no_kernel line why fault) holds =
+      fault.none program (subst (λ (text : List ℕ). IsKernelOf text program) (same_Some holds.text fault.text (sym holds.held ∙ fault.held)) holds.kernel)
+
+  -- a folder has an index or none
+  begins_fresh : HasIndex files kernel dir → CanBegin files kernel dir → ⊥
+  begins_fresh has can = true≢false (sym has.there ∙ ap is_some can.1.fresh)
+
+  refused_tells : (status : ℕ) → status ≡ KERNEL_REFUSED → HoldsNoKernel files kernel → TellsFiles files kernel dir status
+  refused_tells status is none = record {
+    refused = (λ _. none, λ _. is);
+    indexed = (λ there. absurd (cc), λ has. absurd (apart has.program none has.holds));
+    began = (λ ended. elim ended [ inl done ↦ absurd (cc) | inr stopped ↦ absurd (cc) ], λ can. absurd (apart can.0 none can.1.holds));
+  }
+
+  indexed_tells : (status : ℕ) → status ≡ INDEX_THERE → HasIndex files kernel dir → TellsFiles files kernel dir status
+  indexed_tells status is has = record {
+    refused = (λ refused. absurd (cc), λ none. absurd (apart has.program none has.holds));
+    indexed = (λ _. has, λ _. is);
+    began = (λ ended. elim ended [ inl done ↦ absurd (cc) | inr stopped ↦ absurd (cc) ], λ can. absurd (begins_fresh has can));
+  }
+
+  began_tells : (status : ℕ) → (status ≡ DONE) ⊎ (status ≡ KERNEL_STOPPED) → CanBegin files kernel dir → TellsFiles files kernel dir status
+  began_tells status is can = record {
+    refused = (λ refused. elim is [ inl done ↦ absurd (cc) | inr stopped ↦ absurd (cc) ], λ none. absurd (apart can.0 none can.1.holds));
+    indexed = (λ there. elim is [ inl done ↦ absurd (cc) | inr stopped ↦ absurd (cc) ], λ has. absurd (begins_fresh has can));
+    began = (λ _. can, λ _. is);
+  }
+
+module _ (rose : Type 0) (kernel dir : List ℕ) (size : ℕ) (old new : Content) (status : ℕ) (text : List ℕ) where
+  came_tells : (outcome : Outcome) → CameOut rose kernel dir size old new outcome → IsDue outcome status text → TellsFiles old.held kernel dir status
+  came_tells NoKernel came due = refused_tells old.held kernel dir status due.status_is (no_file came.0)
+  came_tells (Refused line why) came due = refused_tells old.held kernel dir status due.status_is (no_kernel line why came.0)
+  came_tells IndexThere came due = indexed_tells old.held kernel dir status due.status_is came.0
+  came_tells (Stopped path line why) came due = began_tells old.held kernel dir status (inr due.status_is) (came.program, came.can)
+  came_tells (Ran k tasks records words) came due = began_tells old.held kernel dir status (inl due.status_is) (_, came.can)
+  came_tells ReadFault came due = absurd (none-some text due.text_is)
+  came_tells WriteFault came due = absurd (none-some text due.text_is)
+  came_tells NoMemory came due = absurd (none-some text due.text_is)
+
+  -- the status that is due tells what the files hold
+  pub due_tells : RunDue rose kernel dir size old new status text → TellsFiles old.held kernel dir status
+  due_tells due = came_tells due.outcome due.came due.due
