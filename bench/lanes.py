@@ -14,7 +14,7 @@ RUNS = 5
 
 
 def stores(lanes, count):
-    return f"array a i64 1000000 main {{ parallel {lanes} {{ for i in 0 .. {count} {{ a[i % 1000000] = i }} }} }}\n"
+    return f"array a i64 1000000 main {{ parallel {lanes} {{ for i in 0 .. {count} {{ a[i / 4] = i }} }} }}\n"
 
 
 KERNELS = [

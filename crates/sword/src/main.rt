@@ -85,6 +85,8 @@ mod graph_tests;
 #[cfg(test)]
 mod kernel_tests;
 #[cfg(test)]
+mod pair_tests;
+#[cfg(test)]
 mod replay_tests;
 #[cfg(test)]
 mod run_tests;
