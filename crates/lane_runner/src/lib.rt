@@ -1,8 +1,8 @@
 //! What a lane of a team executes, over shared words and a bounded buffer before its log.
 //!
-//! So far: the value of an expression with its loads; lists of assignments, stores, tests, loops, critical sections and regions, which a
-//! function of the caller's runs, with new logs for their lanes; worksharing loops of every schedule, also with regions in them; a
-//! team's phases, with the records of their barriers; and the record of a task's end. The program doesn't use the crate yet.
+//! It evaluates expressions with their loads; it executes assignments, stores, tests, loops, critical sections, worksharing loops of every
+//! schedule, and regions, which a function of the caller's runs, with new logs for their lanes; and it puts the records of a team's
+//! barriers and of a task's end.
 //!
 //! Before each record the buffer makes room, then the step on the shared words is taken, and then the record is put: no step is
 //! taken that has no place in the log. Each call says by one witness, a tree of work, what it did: its records are those that the
