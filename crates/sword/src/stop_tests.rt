@@ -4,7 +4,7 @@ use crate::kernel_tests::after;
 use crate::tests::arguments;
 use crate::top::sword;
 use command_answer::{DONE, KERNEL_STOPPED, WRITE_FAULT};
-use std::alloc::Global;
+use std::alloc::{AllocError, Global};
 use std::process::Abort;
 use std::sync::Wait;
 use std::test::Fail;
@@ -200,12 +200,40 @@ fn a_run_has_65473_tasks(rt: HostRuntime) -> Result<(), Fail> {
     ends_so(&rt, rt.alloc(), kernel, DONE, text)
 }
 
+// A lane that puts so many records, and then does this.
+fn lane_after(alloc: Global, records: &str, last: &str) -> Result<String, AllocError> {
+    let mut text = String::new(alloc);
+    for part in [
+        "array a i64 1\nmain {\nparallel 1 {\nloop i in 0 .. ",
+        records,
+        " {\na[0] = i\n}\n",
+        last,
+        "\n} }\n",
+    ] {
+        text.push_str(part)?;
+    }
+    Ok(text)
+}
+
 #[test]
 fn a_log_has_no_4194305_records(rt: HostRuntime) -> Result<(), Fail> {
-    // There is no room for the End.
-    let kernel = "array a i64 1\nmain {\nloop i in 0 .. 4194304 {\na[0] = i\n}\n}";
-    let text = "stopped t.swl line 6: LogFull\n";
-    ends_so(&rt, rt.alloc(), kernel, KERNEL_STOPPED, text)
+    let alloc = rt.alloc();
+    let seventh = "stopped t-0.0.swl line 7: LogFull\n";
+    let eighth = "stopped t-0.0.swl line 8: LogFull\n";
+    for (records, last, text) in [
+        ("4194304", "let x = a[0]", seventh),
+        ("4194304", "a[0] = 1", seventh),
+        ("4194304", "critical { }", seventh),
+        ("4194303", "critical {\n}", eighth),
+        ("4194304", "parallel 2 { }", seventh),
+        ("4194304", "for j in 0 .. 1 dynamic { }", seventh),
+        ("4194304", "barrier", seventh),
+        ("4194304", "", eighth),
+    ] {
+        let kernel = lane_after(alloc, records, last)?;
+        ends_so(&rt, alloc, &kernel, KERNEL_STOPPED, text)?;
+    }
+    Ok(())
 }
 
 #[test]
