@@ -109,8 +109,7 @@ module _ (at : Site) (slots : List ℤ) (room : ℕ) where
         (makes-after _ _ slots room (adds slots (event kind.Lock line mutex 0 ∷ [])) (then_effect one more) finish
         (makes-put (event kind.Lock line mutex 0) slots room some refl refl)
         (makes-after (run at body) _ slots (room - 1) one more finish m n))
-
-  -- ---- loops that a team shares
+    -- ---- loops that a team shares
 
 -- ---- whole tasks
 

@@ -10,7 +10,8 @@ use std::test::Fail;
 use std::thread::Threads;
 use sw_base::{MemFolder, MemOut, NoGate};
 
-const HEAT: &str = "# A fixed loop of two worksharing loops: the barrier at the end of each keeps its readers from its writers.
+const HEAT: &str =
+    "# A fixed loop of two worksharing loops: the barrier at the end of each keeps its readers from its writers.
 array u i64 64
 array v i64 64
 main {
@@ -28,7 +29,8 @@ main {
 }
 ";
 
-const HEAT_RACE: &str = "# A stencil in place: at the edge of its share a lane reads what its neighbour writes. heat.kernel has two arrays.
+const HEAT_RACE: &str =
+    "# A stencil in place: at the edge of its share a lane reads what its neighbour writes. heat.kernel has two arrays.
 array u i64 64
 main {
     u[0] = 1000
@@ -40,7 +42,8 @@ main {
 }
 ";
 
-const SUM: &str = "# A reduction: each lane sums its share in a variable, and adds that under a mutex.
+const SUM: &str =
+    "# A reduction: each lane sums its share in a variable, and adds that under a mutex.
 array a i64 32
 array s i64 1
 main {
@@ -68,7 +71,8 @@ main {
 }
 ";
 
-const WAVEFRONT: &str = "# A wavefront: each row needs the one above it, and the barrier at the end of the loop keeps the lanes of one row together.
+const WAVEFRONT: &str =
+    "# A wavefront: each row needs the one above it, and the barrier at the end of the loop keeps the lanes of one row together.
 array g i64 64
 main {
     parallel 4 {
@@ -82,7 +86,8 @@ main {
 }
 ";
 
-const WAVEFRONT_RACE: &str = "# The same wavefront without the barriers: a lane reads the row above before its neighbour has written it.
+const WAVEFRONT_RACE: &str =
+    "# The same wavefront without the barriers: a lane reads the row above before its neighbour has written it.
 array g i64 64
 main {
     parallel 4 {
@@ -96,7 +101,8 @@ main {
 }
 ";
 
-const PREFIX_SUM: &str = "# Prefix sums in three steps (Hillis and Steele 1986): each step reads one array and writes the other.
+const PREFIX_SUM: &str =
+    "# Prefix sums in three steps (Hillis and Steele 1986): each step reads one array and writes the other.
 array a i64 8
 array b i64 8
 main {
@@ -114,7 +120,8 @@ main {
 }
 ";
 
-const PREFIX_SUM_RACE: &str = "# The same prefix sums in place: one lane adds what another has added to already.
+const PREFIX_SUM_RACE: &str =
+    "# The same prefix sums in place: one lane adds what another has added to already.
 array a i64 8
 main {
     parallel 4 {
@@ -130,7 +137,8 @@ main {
 }
 ";
 
-const NESTED: &str = "# A lane begins a region of its own, and a barrier orders it before the other lane's store.
+const NESTED: &str =
+    "# A lane begins a region of its own, and a barrier orders it before the other lane's store.
 array a i64 4
 main {
     parallel 2 {
@@ -147,7 +155,8 @@ main {
 }
 ";
 
-const NESTED_RACE: &str = "# As nested.kernel, but no barrier orders the lanes of the inner region before the other lane's store.
+const NESTED_RACE: &str =
+    "# As nested.kernel, but no barrier orders the lanes of the inner region before the other lane's store.
 array a i64 4
 main {
     parallel 2 {
@@ -163,7 +172,8 @@ main {
 }
 ";
 
-const GATHER: &str = "# Lanes draw chunks until none is left, meet, and then each reads all that was written.
+const GATHER: &str =
+    "# Lanes draw chunks until none is left, meet, and then each reads all that was written.
 array a i64 12
 array s i64 3
 main {
@@ -176,7 +186,8 @@ main {
 }
 ";
 
-const GATHER_RACE: &str = "# As gather.kernel, but no lane waits for the chunks that others have drawn.
+const GATHER_RACE: &str =
+    "# As gather.kernel, but no lane waits for the chunks that others have drawn.
 array a i64 12
 array s i64 3
 main {
@@ -216,7 +227,8 @@ main {
 }
 ";
 
-const SHIFT_MENDED: &str = "# As shift.kernel, but into another array, so that no lane reads what another writes.
+const SHIFT_MENDED: &str =
+    "# As shift.kernel, but into another array, so that no lane reads what another writes.
 array a i64 9
 array b i64 9
 main {
@@ -242,12 +254,29 @@ fn runs<R: Abort + Threads + Wait + Sync>(
     folder.hold("k", kernel.as_bytes())?;
     let mut out = MemOut::new(alloc)?;
     let run = arguments(alloc, &["run", "k", "logs", "4096"])?;
-    assert_eq!(rt; sword(rt, alloc, &run, &mut folder, &mut out, &NoGate), DONE);
+    assert_eq!(rt;
+        sword(rt, alloc, &run, &mut folder, &mut out, &NoGate),
+        DONE
+    );
     if let Some(text) = ran {
         assert_eq!(rt; out.written(), text.as_bytes());
     }
-    answers(rt, alloc, &mut folder, &["check", "logs", "4"], status, races)?;
-    answers(rt, alloc, &mut folder, &["replay", "k", "logs"], DONE, "same\n")
+    answers(
+        rt,
+        alloc,
+        &mut folder,
+        &["check", "logs", "4"],
+        status,
+        races,
+    )?;
+    answers(
+        rt,
+        alloc,
+        &mut folder,
+        &["replay", "k", "logs"],
+        DONE,
+        "same\n",
+    )
 }
 
 #[test]
