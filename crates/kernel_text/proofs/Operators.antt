@@ -5,8 +5,7 @@ use Rattle.kernel_syntax.specs.declared.syntax.Op.TheVariants.{Add, Sub, Mul, Di
 use Rattle.kernel_text.specs.declared.token.Sign.TheVariants as sign
 use Rattle.kernel_text.specs.declared.token.Lexeme.{Lexeme}
 use Rattle.kernel_text.specs.declared.token.Lexeme.TheVariants.{Named, Number, Reserved, Mark}
-use Rattle.kernel_text.specs.Judging.{op_of}
-use Rattle.kernel_text.specs.Grammar.{sign_of, IsOperation, rank_of, left_rank, right_rank, Tree, NumberAt, NameAt, TidAt, SpanAt, Element, Group, Minus, Binary, Derives}
+use Rattle.kernel_text.specs.Grammar.{op_of, sign_of, IsOperation, rank_of, left_rank, right_rank, Tree, NumberAt, NameAt, TidAt, SpanAt, Element, Group, Minus, Binary, Derives}
 
 pub record AreRanks (o : Op) : Type 0 where
   pub some : 1 ≤ rank_of o
