@@ -52,7 +52,7 @@ op_of-sign Le = refl
 op_of-sign Gt = refl
 op_of-sign Ge = refl
 
-of-op : (x : Lexeme) (o : Op) → op_of x ≡ Some o → x ≡ Mark (sign_of o)
+pub of-op : (x : Lexeme) (o : Op) → op_of x ≡ Some o → x ≡ Mark (sign_of o)
 of-op (Mark sign.Plus) o e = let same : o ≡ Add = cc in rw same refl
 of-op (Mark sign.Minus) o e = let same : o ≡ Sub = cc in rw same refl
 of-op (Mark sign.Star) o e = let same : o ≡ Mul = cc in rw same refl
