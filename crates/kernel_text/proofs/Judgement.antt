@@ -1,5 +1,5 @@
 -- What the judge answers is what the grammar says of the tokens.
-use Rattle.std.proofs.Common.{◌≡◌, ℕ, pos, ◌<◌, ◌≤◌, List, [], ◌∷◌, ◌++◌, inl, inr, length, take, suc, Option, Some, None, refl, sym, ap, subst, ◌∙◌, append_assoc, append-nil, length-append, arith}
+use Rattle.std.proofs.Common.{◌≡◌, ℕ, pos, ◌<◌, ◌≤◌, List, [], ◌∷◌, ◌++◌, inl, length, take, None, refl, sym, ap, subst, ◌∙◌, append_assoc, append-nil, length-append, arith}
 use Rattle.std.specs.Prelude.{fold}
 use Rattle.std.proofs.lemmas.List.Elements.{All-from_recursion, recursion_from_All}
 use Rattle.kernel_text.specs.declared.token.Word.TheVariants as word
@@ -10,9 +10,9 @@ use Rattle.kernel_text.specs.declared.token.Token.{Token}
 use Rattle.kernel_text.specs.declared.judging.Want.{Want}
 use Rattle.kernel_text.specs.declared.judging.Want.TheVariants as want
 use Rattle.kernel_text.specs.declared.judging.Verdict.TheVariants as verdict
-use Rattle.kernel_text.specs.Grammar.{NumberAt, Unsaid, NoMore, Declaration, declarations_tokens, reserved, KernelTree, kernel_tokens, IsKernel}
-use Rattle.kernel_text.specs.Faults.{kernel_levels, Begins, BeginsShallow, IsVerdict}
-use Rattle.kernel_text.specs.Wanting.{Last, Braced, Plain, At, Value, value_tokens, Fill, fill_tokens, fill_levels, Fulfils, GoesOn, EndsAt, AreApart, token, Takes, Refuses, stack_of}
+use Rattle.kernel_text.specs.Grammar.{NumberAt, Unsaid, NoMore, declarations_tokens, KernelTree, kernel_tokens, IsKernel}
+use Rattle.kernel_text.specs.Faults.{kernel_levels, BeginsShallow, IsVerdict}
+use Rattle.kernel_text.specs.Wanting.{Last, Braced, Plain, At, Value, value_tokens, Fill, fill_tokens, fill_levels, Fulfils, GoesOn, EndsAt, AreApart, Takes, Refuses, stack_of}
 use Rattle.kernel_text.proofs.Levels.{AreLow, join, shallow_is_low}
 
 -- the least that can stand there
@@ -141,9 +141,13 @@ taken ls ms ns good many e = ap (take (length good)) e ∙ ap (λ n. take n (ls 
 
 begins : (good rest : List Token) (ls ms : List ℕ) → length ls ≡ length good → AreLow ls → Fulfils start (good ++ rest) (ls ++ ms) → BeginsShallow good
 begins good rest ls ms many low r =
-    let k = r.fill.0.0 in
-    (k, rest, r.fill.0.1, sym (append-nil (kernel_tokens k)) ∙ r.tokens,
-    All-from_recursion (λ n. n ≤ 32) _ (subst AreLow (sym (taken ls ms (kernel_levels k) good many (sym (append-nil (kernel_levels k)) ∙ r.levels))) low))
+    let k = r.fill.0.0 in (
+      k,
+      rest,
+      r.fill.0.1,
+      sym (append-nil (kernel_tokens k)) ∙ r.tokens,
+      All-from_recursion (λ n. n ≤ 32) _ (subst AreLow (sym (taken ls ms (kernel_levels k) good many (sym (append-nil (kernel_levels k)) ∙ r.levels))) low),
+    )
 
 begins-judged : (ts rest : List Token) (s : List Want) (j : Judged ts rest s) → BeginsShallow j.good
 begins-judged ts rest s j = let f = least_fill s in begins j.good (fill_tokens s f) j.levels (fill_levels s f) j.many j.low (j.puts (fill_tokens s f) (fill_levels s f) (record { fill = f; tokens = refl; levels = refl }))
@@ -155,9 +159,12 @@ pub is-kernel : (ts rest : List Token) (s : List Want) → Judged ts rest s → 
 is-kernel ts rest s j e f =
     let r = j.puts [] [] (subst (λ (s : List Want). Fulfils s [] []) (sym f) (record { fill = tt; tokens = refl; levels = refl })) in
     let k = r.fill.0.0 in
-    let levels : kernel_levels k ≡ j.levels = sym (append-nil (kernel_levels k)) ∙ r.levels ∙ append-nil j.levels in
-    (k, r.fill.0.1, (shallow_is_low k).1 (All-from_recursion (λ n. n ≤ 32) _ (subst AreLow (sym levels) j.low)),
-    sym (append-nil (kernel_tokens k)) ∙ r.tokens ∙ ap (λ (us : List Token). j.good ++ us) (sym e) ∙ sym j.parts)
+    let levels : kernel_levels k ≡ j.levels = sym (append-nil (kernel_levels k)) ∙ r.levels ∙ append-nil j.levels in (
+      k,
+      r.fill.0.1,
+      (shallow_is_low k).1 (All-from_recursion (λ n. n ≤ 32) _ (subst AreLow (sym levels) j.low)),
+      sym (append-nil (kernel_tokens k)) ∙ r.tokens ∙ ap (λ (us : List Token). j.good ++ us) (sym e) ∙ sym j.parts,
+    )
 
 pub is-syntax : (ts rest after : List Token) (t : Token) (s : List Want) → Judged ts rest s → rest ≡ t ∷ after → Refuses s t.lexeme → IsVerdict ts (verdict.Syntax t.line)
 is-syntax ts rest after t s j e h = (

@@ -1,6 +1,5 @@
 -- What fulfils wants, without its first token.
 use Rattle.std.proofs.Common.{◌≡◌, ℕ, ℤ, Bool, true, false, List, [], ◌∷◌, ◌++◌, ◌⊎◌, inl, inr, Option, Some, None, refl, sym, ap, subst, ◌∙◌}
-use Rattle.kernel_syntax.specs.declared.syntax.Op.{Op}
 use Rattle.kernel_text.specs.declared.token.Word.TheVariants as word
 use Rattle.kernel_text.specs.declared.token.Sign.TheVariants as sign
 use Rattle.kernel_text.specs.declared.token.Lexeme.{Lexeme}
@@ -8,8 +7,8 @@ use Rattle.kernel_text.specs.declared.token.Lexeme.TheVariants.{Named, Number, R
 use Rattle.kernel_text.specs.declared.token.Token.{Token}
 use Rattle.kernel_text.specs.declared.judging.Want.{Want}
 use Rattle.kernel_text.specs.declared.judging.Want.TheVariants as want
-use Rattle.kernel_text.specs.Grammar.{op_of, sign_of, named, number, reserved, mark, ScheduleTree, Unsaid, Static, StaticBy, Dynamic, DynamicBy}
-use Rattle.kernel_text.specs.Wanting.{Value, value_tokens, value_levels, Fill, fill_tokens, fill_levels, Fulfils, IsOperator, GoesOn, EndsAt, AreApart, token, Takes, Skips, Refuses}
+use Rattle.kernel_text.specs.Grammar.{op_of, named, number, reserved, mark, ScheduleTree, Unsaid, Static, StaticBy, Dynamic, DynamicBy}
+use Rattle.kernel_text.specs.Wanting.{Value, value_tokens, value_levels, Fill, fill_tokens, fill_levels, Fulfils, IsOperator, GoesOn, EndsAt, AreApart, token, Takes, Skips}
 use Rattle.kernel_text.proofs.Operators.{op_of-sign}
 
 pub lexeme-of : (t u : Token) (ts us : List Token) → t ∷ ts ≡ u ∷ us → t.lexeme ≡ u.lexeme

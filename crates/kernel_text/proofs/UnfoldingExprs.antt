@@ -1,5 +1,5 @@
 -- The same of expressions and of the parts around them.
-use Rattle.std.proofs.Common.{◌≡◌, ℕ, ℤ, ◌+◌, ◌≤◌, Bool, true, false, List, [], ◌∷◌, ◌++◌, inl, inr, Option, Some, None, refl, sym, ap, subst, ◌∙◌, append_assoc, append-nil, arith}
+use Rattle.std.proofs.Common.{◌≡◌, ℕ, ℤ, ◌+◌, ◌≤◌, Bool, true, false, List, [], ◌∷◌, inl, inr, Some, None, refl, ap, ◌∙◌, append_assoc, arith}
 use Rattle.kernel_syntax.specs.declared.syntax.Op.{Op}
 use Rattle.kernel_text.specs.declared.token.Word.TheVariants as word
 use Rattle.kernel_text.specs.declared.token.Sign.TheVariants as sign
@@ -8,11 +8,10 @@ use Rattle.kernel_text.specs.declared.token.Lexeme.TheVariants.{Named, Number, R
 use Rattle.kernel_text.specs.declared.token.Token.{Token}
 use Rattle.kernel_text.specs.declared.judging.Want.{Want}
 use Rattle.kernel_text.specs.declared.judging.Want.TheVariants as want
-use Rattle.kernel_text.specs.Grammar.{Tree, NumberAt, NameAt, TidAt, SpanAt, Element, Group, Minus, Binary, Derives, tree_tokens, op_of, sign_of, is_comparison, rank_of, left_rank, right_rank, unary, expr, named, number, reserved, mark, stmts_tokens, Unsaid, Static, StaticBy, Dynamic, DynamicBy}
+use Rattle.kernel_text.specs.Grammar.{Tree, NumberAt, NameAt, TidAt, SpanAt, Element, Group, Minus, Binary, Derives, tree_tokens, op_of, rank_of, unary, named, number, reserved, mark, stmts_tokens, Unsaid, Static, StaticBy, Dynamic, DynamicBy}
 use Rattle.kernel_text.specs.Faults.{tree_levels, stmts_levels}
-use Rattle.kernel_text.specs.Wanting.{Chain, Last, Then, chain_tokens, chain_levels, Allows, FitsChain, Indexed, Braced, Plain, At, Value, value_tokens, value_levels, Fill, fill_tokens, fill_levels, Fulfils, IsOperator, GoesOn, EndsAt, AreApart, token, Takes, Skips, Refuses}
-use Rattle.kernel_text.proofs.Operators.{op_of-sign, ranks}
-use Rattle.kernel_text.proofs.Grouping.{whole_of}
+use Rattle.kernel_text.specs.Wanting.{Plain, At, Fill, fill_tokens, fill_levels, Fulfils, GoesOn, AreApart, token, Takes, Skips, Refuses}
+use Rattle.kernel_text.proofs.Operators.{ranks}
 use Rattle.kernel_text.proofs.Unfolding.{lexeme-of, Leaves, puts-by, leaves-by, takes, weaker, closed, never-on, not-op, is_schedule}
 
 -- ---- braces, brackets and signs
@@ -71,6 +70,7 @@ static-takes s a = takes (want.Schedule ∷ s) (Reserved word.Static) 0 (want.Ch
     put : (line : ℕ) (g : Fill (want.Chunk ∷ s)) → Fulfils (want.Schedule ∷ s) (token (Reserved word.Static) line ∷ fill_tokens (want.Chunk ∷ s) g) (0 ∷ fill_levels (want.Chunk ∷ s) g)
     put line (None, g) = puts-by (want.Schedule ∷ s) (Static line, g) refl refl
     put line (Some v, g) = puts-by (want.Schedule ∷ s) (StaticBy line v.0 v.1, g) refl refl
+
     left : (f : Fill (want.Schedule ∷ s)) (line : ℕ) (ts : List Token) → fill_tokens (want.Schedule ∷ s) f ≡ token (Reserved word.Static) line ∷ ts → Leaves (want.Chunk ∷ s) 0 ts (fill_levels (want.Schedule ∷ s) f)
     left (Unsaid, g) line ts e = absurd (never-on want.Schedule s (reserved line word.Static) ts a g e (inl refl))
     left (Static at, g) line ts e = leaves-by (want.Schedule ∷ s) (Static at, g) (reserved at word.Static) (want.Chunk ∷ s) (None, g) refl refl e
@@ -84,6 +84,7 @@ dynamic-takes s a = takes (want.Schedule ∷ s) (Reserved word.Dynamic) 0 (want.
     put : (line : ℕ) (g : Fill (want.Chunk ∷ s)) → Fulfils (want.Schedule ∷ s) (token (Reserved word.Dynamic) line ∷ fill_tokens (want.Chunk ∷ s) g) (0 ∷ fill_levels (want.Chunk ∷ s) g)
     put line (None, g) = puts-by (want.Schedule ∷ s) (Dynamic line, g) refl refl
     put line (Some v, g) = puts-by (want.Schedule ∷ s) (DynamicBy line v.0 v.1, g) refl refl
+
     left : (f : Fill (want.Schedule ∷ s)) (line : ℕ) (ts : List Token) → fill_tokens (want.Schedule ∷ s) f ≡ token (Reserved word.Dynamic) line ∷ ts → Leaves (want.Chunk ∷ s) 0 ts (fill_levels (want.Schedule ∷ s) f)
     left (Unsaid, g) line ts e = absurd (never-on want.Schedule s (reserved line word.Dynamic) ts a g e (inr (inl refl)))
     left (Dynamic at, g) line ts e = leaves-by (want.Schedule ∷ s) (Dynamic at, g) (reserved at word.Dynamic) (want.Chunk ∷ s) (None, g) refl refl e
@@ -147,6 +148,7 @@ named-operand name n s a =
     put : (line : ℕ) (g : Fill (want.Index n ∷ s)) → Fulfils (want.Operand n ∷ s) (token (Named name) line ∷ fill_tokens (want.Index n ∷ s) g) (0 ∷ fill_levels (want.Index n ∷ s) g)
     put line (None, g) = puts-by (want.Operand n ∷ s) ((NameAt line name, tt), g) refl refl
     put line (Some v, g) = puts-by (want.Operand n ∷ s) ((Element line name v.opened v.index v.closed, v.derives), g) refl refl
+
     left : LeavesOperand (Named name) n 0 (want.Index n ∷ s) s
     left ((NameAt at v, d), g) line ts e = leaves-by (want.Operand n ∷ s) ((NameAt at v, d), g) (named at v) (want.Index n ∷ s) (None, g) refl refl e
     left ((Element at v opened index closed, d), g) line ts e =

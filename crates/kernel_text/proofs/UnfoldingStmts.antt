@@ -1,5 +1,5 @@
 -- The same of kernels and statements.
-use Rattle.std.proofs.Common.{◌≡◌, ℕ, ℤ, ◌+◌, Bool, true, false, List, [], ◌∷◌, ◌++◌, inl, inr, Option, Some, None, refl, sym, ap, subst, ◌∙◌, append_assoc}
+use Rattle.std.proofs.Common.{◌≡◌, ℕ, ℤ, Bool, true, false, List, [], ◌∷◌, ◌++◌, inl, inr, Some, None, refl, sym, ap, subst, ◌∙◌, append_assoc}
 use Rattle.kernel_text.specs.declared.token.Word.{Word}
 use Rattle.kernel_text.specs.declared.token.Word.TheVariants as word
 use Rattle.kernel_text.specs.declared.token.Sign.TheVariants as sign
@@ -8,9 +8,9 @@ use Rattle.kernel_text.specs.declared.token.Lexeme.TheVariants.{Named, Number, R
 use Rattle.kernel_text.specs.declared.token.Token.{Token}
 use Rattle.kernel_text.specs.declared.judging.Want.{Want}
 use Rattle.kernel_text.specs.declared.judging.Want.TheVariants as want
-use Rattle.kernel_text.specs.Grammar.{op_of, tree_tokens, named, number, reserved, mark, block, Unsaid, Static, StaticBy, Dynamic, DynamicBy, schedule_tokens, nowait_tokens, Stmts, NoMore, Let, Assign, Store, If, IfElse, Loop, Parallel, For, Barrier, Critical, CriticalOf, stmts_tokens, StmtsDerive, Declaration, ArrayOf, MutexOf, KernelTree, IsKernel}
-use Rattle.kernel_text.specs.Faults.{tree_levels, flat, block_levels, stmts_levels}
-use Rattle.kernel_text.specs.Wanting.{Braced, Plain, At, Value, braced_tokens, braced_levels, value_tokens, value_levels, Fill, fill_tokens, fill_levels, Fulfils, GoesOn, EndsAt, AreApart, token, Takes, Skips, Refuses}
+use Rattle.kernel_text.specs.Grammar.{op_of, tree_tokens, named, number, reserved, mark, Unsaid, Static, StaticBy, Dynamic, DynamicBy, schedule_tokens, nowait_tokens, Stmts, NoMore, Let, Assign, Store, If, IfElse, Loop, Parallel, For, Barrier, Critical, CriticalOf, stmts_tokens, StmtsDerive, Declaration, ArrayOf, MutexOf, KernelTree, IsKernel}
+use Rattle.kernel_text.specs.Faults.{tree_levels, flat, stmts_levels}
+use Rattle.kernel_text.specs.Wanting.{Braced, Plain, At, Value, braced_tokens, braced_levels, Fill, fill_tokens, fill_levels, Fulfils, GoesOn, EndsAt, AreApart, token, Takes, Skips, Refuses}
 use Rattle.kernel_text.proofs.Unfolding.{lexeme-of, Leaves, puts-by, leaves-by, takes, closed, never-on, not-op, skips}
 
 -- ---- lists that are joined in another order
@@ -169,6 +169,7 @@ assign-takes name n s a =
         (ap (λ (x : List Token). named line name ∷ mark i.opened sign.OpenBracket ∷ x)
         (stored (tree_tokens i.index) (mark i.closed sign.CloseBracket) (mark sl sign.Assign) (tree_tokens v.0) (stmts_tokens r.0) (fill_tokens s g)))
         (ap (λ (x : List ℕ). 0 ∷ 0 ∷ x) (stored (tree_levels 0 i.index) 0 0 (tree_levels 0 v.0) (stmts_levels n r.0) (fill_levels s g)))
+
     left : LeavesStmts (Named name) n (assign_then n s) s
     left ((NoMore, d), g) line ts e = absurd (never-on (want.Stmts n) s (named line name) ts a g e (λ same. absurd cc))
     left ((Assign at m sl v r, d), g) line ts e =
@@ -204,6 +205,7 @@ if-takes n s a =
         puts-by (want.Stmts n ∷ s) ((IfElse line t.0 b.opened b.body b.closed e.0 o.opened o.body o.closed r.0, (t.1, b.derives, o.derives, r.1)), g)
         (ap (λ (x : List Token). reserved line word.If ∷ x) (a4 (tree_tokens t.0) (braced_tokens b) (reserved e.0 word.Else ∷ braced_tokens o) (stmts_tokens r.0) (fill_tokens s g)))
         (ap (λ (x : List ℕ). 0 ∷ x) (a4 (tree_levels 0 t.0) (braced_levels n b) (0 ∷ braced_levels n o) (stmts_levels n r.0) (fill_levels s g)))
+
     left : LeavesStmts (Reserved word.If) n (if_then n s) s
     left ((NoMore, d), g) line ts e = absurd (never-on (want.Stmts n) s (reserved line word.If) ts a g e (λ same. absurd cc))
     left ((If at t o b c r, d), g) line ts e =
@@ -356,6 +358,7 @@ critical-takes n s a = takes (want.Stmts n ∷ s) (Reserved word.Critical) 0 (cr
         puts-by (want.Stmts n ∷ s) ((CriticalOf line v.0 v.1 b.opened b.body b.closed r.0, (b.derives, r.1)), g)
         (ap (λ (x : List Token). reserved line word.Critical ∷ named v.0 v.1 ∷ x) (append_assoc (braced_tokens b) (stmts_tokens r.0) (fill_tokens s g)))
         (ap (λ (x : List ℕ). 0 ∷ 0 ∷ x) (append_assoc (braced_levels n b) (stmts_levels n r.0) (fill_levels s g)))
+
     left : LeavesStmts (Reserved word.Critical) n (critical_then n s) s
     left ((NoMore, d), g) line ts e = absurd (never-on (want.Stmts n) s (reserved line word.Critical) ts a g e (λ same. absurd cc))
     left ((Critical at o b c r, d), g) line ts e =

@@ -2,7 +2,6 @@
 -- contracts of private functions name what is here.
 use Rattle.std.specs.Prelude.{◌≡◌, ℕ, ◌+◌, ◌≤◌, ◌<◌, ℤ, Bool, true, false, List, [], ◌∷◌, ◌++◌, Option, Some, None, Result, Ok, Err, ◌⊎◌, fold}
 use Rattle.kernel_syntax.specs.declared.syntax.Op.{Op}
-use Rattle.kernel_syntax.specs.declared.syntax.Op.TheVariants as op
 use Rattle.kernel_text.specs.declared.token.Word.TheVariants as word
 use Rattle.kernel_text.specs.declared.token.Sign.TheVariants as sign
 use Rattle.kernel_text.specs.declared.token.Lexeme.{Lexeme}

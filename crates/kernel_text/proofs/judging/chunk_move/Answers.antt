@@ -1,9 +1,4 @@
-use Rattle.std.proofs.Common.{◌≡◌, ◌∷◌, ◌+◌, ◌≤◌, ℕ, ap, false, rules, refl}
-use Rattle.kernel_text.specs.declared.token.Word.TheVariants as word
-use Rattle.kernel_text.specs.declared.token.Sign.TheVariants as sign
-use Rattle.kernel_text.specs.declared.token.Lexeme.TheVariants.{Named, Number, Reserved, Mark}
-use Rattle.kernel_text.specs.declared.judging.Want.TheVariants as want
-use Rattle.kernel_text.specs.Wanting.{stack_of}
+use Rattle.std.proofs.Common.{◌≡◌, false, rules}
 use Rattle.kernel_text.proofs.Unfolding.{chunk-takes, chunk-skips, is_number}
 use Rattle.kernel_text.proofs.judging.chunk_move.Goals as goal
 
@@ -14,4 +9,3 @@ returns-in-Number c =
 pub returns-in_default : goal.returns-in_default
 returns-in_default c =
     let is : is_number c.args.lexeme.now ≡ false = search rules in λ s. chunk-skips c.args.lexeme.now s is
-

@@ -1,10 +1,8 @@
-use Rattle.std.proofs.Common.{◌≡◌, ◌∷◌, ◌+◌, ◌≤◌, ℕ, ap, false, rules, refl}
+use Rattle.std.proofs.Common.{◌≡◌, false, rules, refl}
 use Rattle.kernel_text.specs.declared.token.Word.TheVariants as word
-use Rattle.kernel_text.specs.declared.token.Sign.TheVariants as sign
-use Rattle.kernel_text.specs.declared.token.Lexeme.TheVariants.{Named, Number, Reserved, Mark}
-use Rattle.kernel_text.specs.declared.judging.Want.TheVariants as want
+use Rattle.kernel_text.specs.declared.token.Lexeme.TheVariants.{Reserved}
 use Rattle.kernel_text.specs.Wanting.{stack_of}
-use Rattle.kernel_text.proofs.Moving.{wanted, deeper}
+use Rattle.kernel_text.proofs.Moving.{wanted}
 use Rattle.kernel_text.proofs.Unfolding.{else-skips, is_else}
 use Rattle.kernel_text.proofs.UnfoldingExprs.{else-takes}
 use Rattle.kernel_text.proofs.judging.else_move.Goals as goal
@@ -20,4 +18,3 @@ returns-in_default c =
 pub returns-in_default-2 : goal.returns-in_default-2
 returns-in_default-2 c =
     let is : is_else c.args.lexeme.now ≡ false = search rules in (else-skips c.args.lexeme.now c.args.level (stack_of c.args.stack.now.items) is, refl)
-

@@ -1,7 +1,4 @@
-use Rattle.std.proofs.Common.{List, ◌≡◌, ◌∙◌, ◌∷◌, ◌+◌, ◌≤◌, ℕ, ap, true, false, None, rules, refl, sym, subst, arith}
-use Rattle.kernel_text.specs.declared.token.Word.TheVariants as word
-use Rattle.kernel_text.specs.declared.token.Sign.TheVariants as sign
-use Rattle.kernel_text.specs.declared.token.Lexeme.TheVariants.{Named, Number, Reserved, Mark}
+use Rattle.std.proofs.Common.{List, ◌∙◌, ◌∷◌, ap, true, sym, subst}
 use Rattle.kernel_text.specs.declared.judging.Want.{Want}
 use Rattle.kernel_text.specs.declared.judging.Want.TheVariants as want
 use Rattle.kernel_text.specs.Wanting.{stack_of, AreApart, Moves}
@@ -19,4 +16,3 @@ returns c =
     let top = ap stack_of c.in_ok-push.ensures.items ∙ stack_of-push c.args.stack.now.items (want.Operators c.args.level true) in
     as-terms c.operand_move.result c.args.level c.args.lexeme.now (stack_of c.args.stack.now.items) (stack_of c.operand_move.new.stack.items)
     (subst (λ (s : List Want). Moves c.operand_move.result (want.Operand c.args.level) c.args.lexeme.now s (stack_of c.operand_move.new.stack.items)) top c.operand_move.ensures)
-

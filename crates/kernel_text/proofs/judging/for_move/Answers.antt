@@ -1,4 +1,3 @@
-use Rattle.std.proofs.Common.{◌∷◌}
 use Rattle.kernel_text.specs.Wanting.{stack_of}
 use Rattle.kernel_text.proofs.Moving.{wanted}
 use Rattle.kernel_text.proofs.UnfoldingStmts.{for-takes}

@@ -1,7 +1,6 @@
-use Rattle.std.proofs.Common.{List, ◌≡◌, ◌<◌, ◌∷◌, [], length, vec_len, rules, sym, ap, subst, ◌∙◌}
+use Rattle.std.proofs.Common.{◌≡◌, ◌<◌, ◌∷◌, [], length, vec_len, rules, sym, ap, ◌∙◌}
 use Rattle.std.proofs.lemmas.List.{nil_from_length}
 use Rattle.std.proofs.lemmas.Bool.{eqb-false, eqb-true}
-use Rattle.kernel_text.specs.declared.judging.Want.{Want}
 use Rattle.kernel_text.specs.declared.judging.Want.TheVariants as want
 use Rattle.kernel_text.specs.Wanting.{stack_of}
 use Rattle.kernel_text.proofs.Judgement.{stack_some, judged-none, judged-more, is-kernel, is-syntax, is-deep, is-early}

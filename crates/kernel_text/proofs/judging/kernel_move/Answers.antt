@@ -1,10 +1,8 @@
-use Rattle.std.proofs.Common.{◌≡◌, ◌∷◌, ◌+◌, ◌≤◌, ℕ, ap, false, rules, refl}
+use Rattle.std.proofs.Common.{◌≡◌, false, rules}
 use Rattle.kernel_text.specs.declared.token.Word.TheVariants as word
-use Rattle.kernel_text.specs.declared.token.Sign.TheVariants as sign
-use Rattle.kernel_text.specs.declared.token.Lexeme.TheVariants.{Named, Number, Reserved, Mark}
-use Rattle.kernel_text.specs.declared.judging.Want.TheVariants as want
+use Rattle.kernel_text.specs.declared.token.Lexeme.TheVariants.{Reserved}
 use Rattle.kernel_text.specs.Wanting.{stack_of}
-use Rattle.kernel_text.proofs.Moving.{wanted, deeper}
+use Rattle.kernel_text.proofs.Moving.{wanted}
 use Rattle.kernel_text.proofs.UnfoldingStmts.{array-takes, mutex-takes, main-takes, kernel-refuses, is_kernel}
 use Rattle.kernel_text.proofs.judging.kernel_move.Goals as goal
 
@@ -27,4 +25,3 @@ returns-in_default c =
 pub returns-in_default-2 : goal.returns-in_default-2
 returns-in_default-2 c =
     let is : is_kernel c.args.lexeme.now ≡ false = search rules in kernel-refuses c.args.lexeme.now (stack_of c.args.stack.now.items) is
-

@@ -1,10 +1,4 @@
-use Rattle.std.proofs.Common.{◌≡◌, ◌∷◌, ◌+◌, ◌≤◌, ℕ, ap, true, false, None, rules, refl, sym, subst, arith}
-use Rattle.kernel_text.specs.declared.token.Word.TheVariants as word
-use Rattle.kernel_text.specs.declared.token.Sign.TheVariants as sign
-use Rattle.kernel_text.specs.declared.token.Lexeme.TheVariants.{Named, Number, Reserved, Mark}
-use Rattle.kernel_text.specs.declared.judging.Want.{Want}
-use Rattle.kernel_text.specs.declared.judging.Want.TheVariants as want
-use Rattle.kernel_text.specs.Wanting.{stack_of, AreApart, Moves}
+use Rattle.kernel_text.specs.Wanting.{stack_of}
 use Rattle.kernel_text.proofs.Moving.{alone}
 use Rattle.kernel_text.proofs.judging.move_one.Goals as goal
 
@@ -51,4 +45,3 @@ returns-in-Nowait c =
 pub returns-in-SectionName : goal.returns-in-SectionName
 returns-in-SectionName c =
     alone c.section_name_move.result _ _ c.args.lexeme.now (stack_of c.args.stack.now.items) c.in-SectionName.is c.requires c.section_name_move.ensures
-

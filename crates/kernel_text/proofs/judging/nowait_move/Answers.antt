@@ -1,9 +1,6 @@
-use Rattle.std.proofs.Common.{◌≡◌, ◌∷◌, ◌+◌, ◌≤◌, ℕ, ap, false, rules, refl}
+use Rattle.std.proofs.Common.{◌≡◌, false, rules}
 use Rattle.kernel_text.specs.declared.token.Word.TheVariants as word
-use Rattle.kernel_text.specs.declared.token.Sign.TheVariants as sign
-use Rattle.kernel_text.specs.declared.token.Lexeme.TheVariants.{Named, Number, Reserved, Mark}
-use Rattle.kernel_text.specs.declared.judging.Want.TheVariants as want
-use Rattle.kernel_text.specs.Wanting.{stack_of}
+use Rattle.kernel_text.specs.declared.token.Lexeme.TheVariants.{Reserved}
 use Rattle.kernel_text.proofs.Unfolding.{nowait-takes, nowait-skips, is_nowait}
 use Rattle.kernel_text.proofs.judging.nowait_move.Goals as goal
 
@@ -18,4 +15,3 @@ returns-in_default c =
 pub returns-in_default-2 : goal.returns-in_default-2
 returns-in_default-2 c =
     let is : is_nowait c.args.lexeme.now ≡ false = search rules in λ s. nowait-skips c.args.lexeme.now s is
-

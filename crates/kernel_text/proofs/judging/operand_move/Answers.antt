@@ -1,10 +1,8 @@
-use Rattle.std.proofs.Common.{◌≡◌, ◌∷◌, ◌+◌, ◌≤◌, ℕ, ap, true, false, None, rules, refl, sym, subst, arith}
-use Rattle.kernel_text.specs.declared.token.Word.TheVariants as word
+use Rattle.std.proofs.Common.{◌≡◌, ◌∷◌, ◌+◌, ◌≤◌, ℕ, ap, true, false, rules, arith}
 use Rattle.kernel_text.specs.declared.token.Sign.TheVariants as sign
-use Rattle.kernel_text.specs.declared.token.Lexeme.TheVariants.{Named, Number, Reserved, Mark}
-use Rattle.kernel_text.specs.declared.judging.Want.{Want}
+use Rattle.kernel_text.specs.declared.token.Lexeme.TheVariants.{Mark}
 use Rattle.kernel_text.specs.declared.judging.Want.TheVariants as want
-use Rattle.kernel_text.specs.Wanting.{stack_of, AreApart, Moves}
+use Rattle.kernel_text.specs.Wanting.{stack_of}
 use Rattle.kernel_text.proofs.Moving.{wanted, deeper}
 use Rattle.kernel_text.proofs.UnfoldingExprs.{named-operand, minus-operand, group-operand, is_leaf, leaf-operand, is_operand, operand-refuses}
 use Rattle.kernel_text.proofs.judging.operand_move.Goals as goal
@@ -40,4 +38,3 @@ returns-in_default c =
 pub returns-in_default-2 : goal.returns-in_default-2
 returns-in_default-2 c =
     let is : is_operand c.args.lexeme.now ≡ false = search rules in operand-refuses c.args.lexeme.now c.args.level (stack_of c.args.stack.now.items) is
-

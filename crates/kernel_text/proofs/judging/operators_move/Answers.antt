@@ -1,11 +1,6 @@
-use Rattle.std.proofs.Common.{◌≡◌, ◌∷◌, ◌+◌, ◌≤◌, ℕ, ap, true, false, None, rules, refl, sym, subst, arith}
-use Rattle.kernel_text.specs.declared.token.Word.TheVariants as word
-use Rattle.kernel_text.specs.declared.token.Sign.TheVariants as sign
-use Rattle.kernel_text.specs.declared.token.Lexeme.TheVariants.{Named, Number, Reserved, Mark}
-use Rattle.kernel_text.specs.declared.judging.Want.{Want}
-use Rattle.kernel_text.specs.declared.judging.Want.TheVariants as want
-use Rattle.kernel_text.specs.Wanting.{stack_of, AreApart, Moves}
-use Rattle.kernel_text.proofs.Moving.{wanted, deeper}
+use Rattle.std.proofs.Common.{◌≡◌, true, false, None, rules, refl}
+use Rattle.kernel_text.specs.Wanting.{stack_of}
+use Rattle.kernel_text.proofs.Moving.{wanted}
 use Rattle.kernel_text.specs.Grammar.{is_comparison}
 use Rattle.kernel_text.proofs.Operators.{operation_is}
 use Rattle.kernel_text.proofs.UnfoldingOperators.{operators-skip, plain-takes, comparison-takes, comparison-skips}
@@ -31,4 +26,3 @@ returns c =
     let is : is_comparison c.in-Some.op ≡ true = search rules in
     let may : c.args.compares ≡ true = search rules in
     rw c.in-Some.ensures (wanted c.want_all-2.result _ _ _ _ _ (comparison-takes c.in-Some.op c.args.level c.args.compares (stack_of c.args.stack.now.items) may is c.requires) c.want_all-2.ensures)
-

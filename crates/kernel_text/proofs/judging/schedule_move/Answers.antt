@@ -1,11 +1,6 @@
-use Rattle.std.proofs.Common.{◌≡◌, ◌∷◌, ◌+◌, ◌≤◌, ℕ, ap, true, false, None, rules, refl, sym, subst, arith}
-use Rattle.kernel_text.specs.declared.token.Word.TheVariants as word
-use Rattle.kernel_text.specs.declared.token.Sign.TheVariants as sign
-use Rattle.kernel_text.specs.declared.token.Lexeme.TheVariants.{Named, Number, Reserved, Mark}
-use Rattle.kernel_text.specs.declared.judging.Want.{Want}
-use Rattle.kernel_text.specs.declared.judging.Want.TheVariants as want
-use Rattle.kernel_text.specs.Wanting.{stack_of, AreApart, Moves}
-use Rattle.kernel_text.proofs.Moving.{wanted, deeper}
+use Rattle.std.proofs.Common.{◌≡◌, true, false, rules, refl}
+use Rattle.kernel_text.specs.Wanting.{stack_of}
+use Rattle.kernel_text.proofs.Moving.{wanted}
 use Rattle.kernel_text.proofs.Unfolding.{is_schedule, schedule-skips}
 use Rattle.kernel_text.proofs.UnfoldingExprs.{schedule-takes}
 use Rattle.kernel_text.proofs.judging.schedule_move.Goals as goal
@@ -21,4 +16,3 @@ returns-in_default c =
 pub returns-in_default-2 : goal.returns-in_default-2
 returns-in_default-2 c =
     let is : is_schedule c.args.lexeme.now ≡ false = search rules in (schedule-skips c.args.lexeme.now (stack_of c.args.stack.now.items) is, refl)
-

@@ -1,8 +1,8 @@
-use Rattle.std.proofs.Common.{List, ◌≡◌, ◌∙◌, ◌∷◌, length, ap, sym, subst, arith, rules}
+use Rattle.std.proofs.Common.{List, ◌≡◌, ◌∙◌, length, ap, sym, subst, arith, rules}
 use Rattle.std.proofs.lemmas.List.{nil_from_length}
 use Rattle.kernel_text.specs.declared.judging.Want.{Want}
 use Rattle.kernel_text.specs.Wanting.{stack_of}
-use Rattle.kernel_text.proofs.Moving.{stack_of-push, Reaches, reaches-all, reaches-more, reaches-refuses, reaches-none, reaches-takes}
+use Rattle.kernel_text.proofs.Moving.{stack_of-push, Reaches, reaches-more, reaches-refuses, reaches-none, reaches-takes}
 use Rattle.kernel_text.proofs.judging.step.Goals as goal
 
 pub wants-smaller : goal.wants-smaller
@@ -42,4 +42,3 @@ pub returns : goal.returns
 returns c =
     let none : length c.wants.stack.items ≡ 0 = search (rules, c.in_default.ensures.cases.0) in
     reaches-none _ _ _ (ap stack_of (nil_from_length _ none)) c.wants.invariant
-

@@ -1,6 +1,6 @@
 use Rattle.std.proofs.Common.{◌≡◌, false, rules, refl}
 use Rattle.kernel_text.specs.declared.token.Word.TheVariants as word
-use Rattle.kernel_text.specs.declared.token.Lexeme.TheVariants.{Reserved, Named}
+use Rattle.kernel_text.specs.declared.token.Lexeme.TheVariants.{Reserved}
 use Rattle.kernel_text.specs.Wanting.{stack_of}
 use Rattle.kernel_text.proofs.Moving.{wanted}
 use Rattle.kernel_text.proofs.UnfoldingStmts.{let-takes, parallel-takes, barrier-takes, critical-takes, assign-takes, is_stmt, stmts-skip}

@@ -1,10 +1,8 @@
-use Rattle.std.proofs.Common.{◌≡◌, ◌∷◌, ◌+◌, ◌≤◌, ℕ, ap, false, rules, refl, arith}
-use Rattle.kernel_text.specs.declared.token.Word.TheVariants as word
+use Rattle.std.proofs.Common.{◌≡◌, rules, arith}
 use Rattle.kernel_text.specs.declared.token.Sign.TheVariants as sign
-use Rattle.kernel_text.specs.declared.token.Lexeme.TheVariants.{Named, Number, Reserved, Mark}
-use Rattle.kernel_text.specs.declared.judging.Want.TheVariants as want
+use Rattle.kernel_text.specs.declared.token.Lexeme.TheVariants.{Mark}
 use Rattle.kernel_text.specs.Wanting.{stack_of}
-use Rattle.kernel_text.proofs.Moving.{wanted, deeper}
+use Rattle.kernel_text.proofs.Moving.{wanted}
 use Rattle.kernel_text.proofs.UnfoldingExprs.{target-assign, target-index}
 use Rattle.kernel_text.proofs.judging.target_move.Goals as goal
 
@@ -15,4 +13,3 @@ returns-in-Mark-Assign c =
 pub returns-in-Mark-OpenBracket : goal.returns-in-Mark-OpenBracket
 returns-in-Mark-OpenBracket c =
     let is : c.args.lexeme.now ≡ Mark sign.OpenBracket = search rules in rw is (wanted c.want_all.result _ _ _ _ _ (target-index (stack_of c.args.stack.now.items) c.requires) c.want_all.ensures)
-
