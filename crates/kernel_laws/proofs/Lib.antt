@@ -12,6 +12,7 @@ pub mod OneExpression
 pub mod Trees
 pub mod Stages
 pub mod OneAnswer
+pub mod SomeVerdict
 pub mod SomeAnswer
 pub mod Surroundings
 pub mod GoodNames

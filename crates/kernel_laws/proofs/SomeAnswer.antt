@@ -2,16 +2,15 @@
 use Rattle.std.proofs.Common.{◌≡◌, ◌⊎◌, inl, inr, refl, sym, ap, ◌∙◌, ℕ, List, [], ◌∷◌, Result, Ok, Err}
 use Rattle.kernel_syntax.specs.Program.{Program}
 use Rattle.kernel_text.specs.declared.token.Token.{Token}
-use Rattle.kernel_text.specs.declared.judging.Want.TheVariants as want
 use Rattle.kernel_text.specs.declared.judging.Verdict.{Verdict}
 use Rattle.kernel_text.specs.declared.judging.Verdict.TheVariants as verdict
 use Rattle.kernel_text.specs.Tokens.{Refusal, tokens_of}
 use Rattle.kernel_text.specs.Grammar.{KernelTree, kernel_tokens, IsKernel, IsShallow}
-use Rattle.kernel_text.specs.Judging.{judged, IsVerdict}
-use Rattle.kernel_text.proofs.Judgement.{verdict_is}
+use Rattle.kernel_text.specs.Faults.{IsVerdict}
 use Rattle.kernel_reader.specs.Rules.{kernel_faults}
 use Rattle.kernel_reader.specs.Resolve.{program}
 use Rattle.kernel_reader.specs.KernelOf.{IsKernelOf, IsRefused, AtTokens, AtRule}
+use Rattle.kernel_laws.proofs.SomeVerdict.{some-verdict}
 use Rattle.kernel_reader.proofs.Refusing.{refused_syntax, refused_deep, refused_early}
 
 abbrev HasAnswer : List ℕ → Type 0
@@ -32,7 +31,7 @@ by-grammar text ts e verdict.Early v = inr (_, refused_early text ts _ refl e v)
 
 by-tokens : (text : List ℕ) (found : Result (List Token) Refusal) → tokens_of text ≡ found → HasAnswer text
 by-tokens text (Err r) e = inr (r, AtTokens e)
-by-tokens text (Ok ts) e = by-grammar text ts e (judged (want.Kernel ∷ []) ts) (verdict_is ts _ refl)
+by-tokens text (Ok ts) e = let v = some-verdict ts in by-grammar text ts e v.0 v.1
 
 pub some-answer : (text : List ℕ) → ((p : Program) × IsKernelOf text p) ⊎ ((r : Refusal) × IsRefused text r)
 some-answer text = by-tokens text (tokens_of text) refl

@@ -7,8 +7,7 @@ use Rattle.kernel_text.specs.declared.token.Sign.TheVariants as sign
 use Rattle.kernel_text.specs.declared.token.Lexeme.{Lexeme}
 use Rattle.kernel_text.specs.declared.token.Lexeme.TheVariants.{Mark}
 use Rattle.kernel_text.specs.declared.token.Token.{Token}
-use Rattle.kernel_text.specs.Grammar.{sign_of, rank_of, mark}
-use Rattle.kernel_text.specs.Judging.{op_of}
+use Rattle.kernel_text.specs.Grammar.{op_of, sign_of, rank_of, mark}
 use Rattle.kernel_text.proofs.Operators.{op_of-sign}
 use Rattle.kernel_parser.specs.Parsing.{Stops, StartsWith}
 

@@ -8,8 +8,7 @@ use Rattle.kernel_text.specs.declared.fault.KernelWhy.TheVariants as why
 use Rattle.kernel_text.specs.declared.judging.Verdict.TheVariants as verdict
 use Rattle.kernel_text.specs.Tokens.{Refusal, tokens_of, line_at}
 use Rattle.kernel_text.specs.Grammar.{kernel_tokens}
-use Rattle.kernel_text.specs.Faults.{kernel_levels, IsSyntaxFault, IsTooDeep, EndsEarly}
-use Rattle.kernel_text.specs.Judging.{IsVerdict}
+use Rattle.kernel_text.specs.Faults.{kernel_levels, IsSyntaxFault, IsTooDeep, EndsEarly, IsVerdict}
 use Rattle.kernel_reader.specs.KernelOf.{IsKernelOf, IsRefused, AtSyntax, AtDepth, AtEnd}
 use Rattle.kernel_text.proofs.Levels.{shallow_is_low}
 

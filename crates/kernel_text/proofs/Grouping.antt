@@ -3,34 +3,10 @@ use Rattle.std.proofs.Common.{◌≡◌, ℕ, ◌≤◌, Bool, true, false, List
 use Rattle.kernel_syntax.specs.declared.syntax.Op.{Op}
 use Rattle.kernel_syntax.specs.declared.syntax.Op.TheVariants.{Add, Sub, Mul, Div, Rem, Eq, Ne, Lt, Le, Gt, Ge}
 use Rattle.kernel_text.specs.declared.token.Token.{Token}
-use Rattle.kernel_text.specs.Grammar.{Tree, Binary, Derives, tree_tokens, rank_of, left_rank, right_rank, sign_of, unary, expr, mark}
+use Rattle.kernel_text.specs.Grammar.{Tree, Binary, Derives, tree_tokens, rank_of, left_rank, right_rank, sign_of, is_comparison, unary, expr, mark}
 use Rattle.kernel_text.specs.Faults.{tree_levels}
-use Rattle.kernel_text.specs.Judging.{is_comparison}
+use Rattle.kernel_text.specs.Wanting.{Chain, Last, Then, chain_tokens, chain_levels, Allows, FitsChain}
 use Rattle.kernel_text.proofs.Operators.{Derives-weaker}
-
--- operators with their right operands
-pub data Chain : Type 0 where
-  Last : Chain
-  Then : (op : Op) → (line : ℕ) → (operand : Tree) → (rest : Chain) → Chain
-
-abbrev pub chain_tokens : Chain → List Token
-chain_tokens Last = []
-chain_tokens (Then o line u rest) = mark line (sign_of o) ∷ tree_tokens u ++ chain_tokens rest
-
-abbrev pub chain_levels : ℕ → Chain → List ℕ
-chain_levels n Last = []
-chain_levels n (Then o line u rest) = 0 ∷ tree_levels n u ++ chain_levels n rest
-
--- what an operator leaves, where a comparison may come, or may not
-abbrev pub Allows : Bool → Bool → Type 0 → Type 0 → Type 0
-Allows c false A B = A
-Allows true true A B = B
-Allows false true A B = ⊥
-
--- operands that bind tightest, and a comparison at most once, where one may come
-abbrev pub FitsChain : Bool → Chain → Type 0
-FitsChain c Last = Unit {0}
-FitsChain c (Then o line u rest) = Derives unary u × Allows c (is_comparison o) (FitsChain c rest) (FitsChain false rest)
 
 -- an expression with these tokens and levels
 pub record Whole (n : ℕ) (ts : List Token) (ls : List ℕ) : Type 0 where

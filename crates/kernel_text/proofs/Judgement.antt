@@ -1,202 +1,228 @@
 -- What the judge answers is what the grammar says of the tokens.
-use Rattle.std.proofs.Common.{◌≡◌, ℕ, ◌<◌, ◌≤◌, Bool, true, false, List, [], ◌∷◌, ◌++◌, length, take, zero, suc, Option, Some, None, refl, sym, ap, subst, ◌∙◌, append_assoc, append-nil, length-append, arith}
-use Rattle.std.specs.Prelude.{nat_lt, if◌then◌else◌}
-use Rattle.std.specs.List.{AllByRecursion}
-use Rattle.std.proofs.lemmas.Bool.{ltb-true, ltb-false}
+use Rattle.std.proofs.Common.{◌≡◌, ℕ, pos, ◌<◌, ◌≤◌, List, [], ◌∷◌, ◌++◌, inl, length, take, None, refl, sym, ap, subst, ◌∙◌, append_assoc, append-nil, length-append, arith}
+use Rattle.std.specs.Prelude.{fold}
 use Rattle.std.proofs.lemmas.List.Elements.{All-from_recursion, recursion_from_All}
+use Rattle.kernel_text.specs.declared.token.Word.TheVariants as word
+use Rattle.kernel_text.specs.declared.token.Sign.TheVariants as sign
+use Rattle.kernel_text.specs.declared.token.Lexeme.{Lexeme}
+use Rattle.kernel_text.specs.declared.token.Lexeme.TheVariants.{Named, Number, Reserved, Mark}
 use Rattle.kernel_text.specs.declared.token.Token.{Token}
 use Rattle.kernel_text.specs.declared.judging.Want.{Want}
 use Rattle.kernel_text.specs.declared.judging.Want.TheVariants as want
-use Rattle.kernel_text.specs.declared.judging.Verdict.{Verdict}
 use Rattle.kernel_text.specs.declared.judging.Verdict.TheVariants as verdict
-use Rattle.kernel_text.specs.Grammar.{KernelTree, kernel_tokens, IsKernel}
-use Rattle.kernel_text.specs.Faults.{kernel_levels, BeginsShallow}
-use Rattle.kernel_text.specs.Judging.{Step, Stops, Goes, step, judged, at_end, IsVerdict}
-use Rattle.kernel_text.proofs.Levels.{shallow_is_low}
-use Rattle.kernel_text.proofs.Wants.{verdict_after}
-use Rattle.kernel_text.proofs.Running.{Trace, Ends, Halts, Next, run, through, run_after, run-is}
-use Rattle.kernel_text.proofs.CompleteKernels.{kernel-run}
-use Rattle.kernel_text.proofs.Filling.{Fill, fill_tokens, fill_levels, least_fill}
-use Rattle.kernel_text.proofs.Sounds.{Filled, StepBacks, step-back}
+use Rattle.kernel_text.specs.Grammar.{NumberAt, Unsaid, NoMore, declarations_tokens, KernelTree, kernel_tokens, IsKernel}
+use Rattle.kernel_text.specs.Faults.{kernel_levels, BeginsShallow, IsVerdict}
+use Rattle.kernel_text.specs.Wanting.{Last, Braced, Plain, At, Value, value_tokens, Fill, fill_tokens, fill_levels, Fulfils, GoesOn, EndsAt, AreApart, Takes, Refuses, stack_of}
+use Rattle.kernel_text.proofs.Levels.{AreLow, join, shallow_is_low}
 
-abbrev AreLow : List ℕ → Type 0
-AreLow ns = AllByRecursion (λ n. n ≤ 32) ns
+-- the least that can stand there
+abbrev least_block : Braced
+least_block = record { opened = 0; body = NoMore; closed = 0; derives = tt }
 
--- the tokens are taken from where s is wanted to where u is
-record Passed (s : List Want) (ts : List Token) (u : List Want) : Type 0 where
-  levels : List ℕ
-  low : AreLow levels
-  many : length levels ≡ length ts
-  ran : (rest : List Token) → run s (ts ++ rest) ≡ through levels (run u rest)
-  backs : (f : Fill u) → Filled s (ts ++ fill_tokens u f) (levels ++ fill_levels u f)
+pub least : (w : Want) → Value w
+least want.Kernel = (record { declarations = []; line = 0; opened = 0; body = NoMore; closed = 0 }, tt)
+least want.Name = (0, [])
+least want.Number = (0, pos 0)
+least want.In = 0
+least want.Assign = 0
+least want.CloseBracket = 0
+least want.CloseParen = 0
+least want.CloseBrace = 0
+least want.Dots = 0
+least (want.Block n) = least_block
+least (want.Stmts n) = (NoMore, tt)
+least want.Target = Plain 0
+least (want.Else n) = None
+least want.Schedule = Unsaid
+least want.Chunk = None
+least want.Nowait = None
+least want.SectionName = None
+least (want.Expr n) = (NumberAt 0 (pos 0), tt)
+least (want.Operand n) = (NumberAt 0 (pos 0), tt)
+least (want.Index n) = None
+least (want.Operators n c) = (Last, tt)
 
-passed-none : (s : List Want) → Passed s [] s
-passed-none s = record { levels = []; low = tt; many = refl; ran = λ rest. refl; backs = λ f. record { fill = f; tokens = refl; levels = refl } }
+pub least_fill : (s : List Want) → Fill s
+least_fill [] = tt
+least_fill (w ∷ s) = (least w, least_fill s)
 
-step-backs : (s : List Want) (t : Token) (level : ℕ) (wants : List Want) → step s t.lexeme ≡ Goes level wants → (f : Fill wants) → Filled s (t ∷ fill_tokens wants f) (level ∷ fill_levels wants f)
-step-backs s t level wants e = subst (λ (r : Step). StepBacks s t r) e (step-back s t)
+-- ---- what is still wanted can't be left out
 
-step-runs : (s : List Want) (t : Token) (level : ℕ) (wants : List Want) (ts : List Token) → step s t.lexeme ≡ Goes level wants → run s (t ∷ ts) ≡ Next level (run wants ts)
-step-runs s t level wants ts e = run-is s t ts ∙ ap (λ (r : Step). run_after r ts) e
+none-of : (xs ys : List Token) → xs ++ ys ≡ [] → (xs ≡ []) × (ys ≡ [])
+none-of [] ys e = (refl, e)
+none-of (x ∷ xs) ys e = absurd cc
 
-filled-as : (s : List Want) (ts us : List Token) (ls ms : List ℕ) → ts ≡ us → ls ≡ ms → Filled s ts ls → Filled s us ms
-filled-as s ts us ls ms e f r = record { fill = r.fill; tokens = r.tokens ∙ e; levels = r.levels ∙ f }
+kernel-some : (k : KernelTree) → kernel_tokens k ≡ [] → ⊥
+kernel-some k e = let none = none-of (declarations_tokens k.declarations) _ e in let same = none.1 in absurd cc
 
-passed-more : (s wants u : List Want) (t : Token) (ts : List Token) (level : ℕ) → step s t.lexeme ≡ Goes level wants → level ≤ 32 → Passed wants ts u → Passed s (t ∷ ts) u
-passed-more s wants u t ts level e low p =
-    let many = p.many in
+target-some : (v : Value want.Target) → value_tokens want.Target v ≡ [] → ⊥
+target-some (Plain at) e = absurd cc
+target-some (At v at) e = absurd cc
+
+-- what may be left out may go on
+goes-on : (w : Want) (v : Value w) → value_tokens w v ≡ [] → (x : Lexeme) × GoesOn w x
+goes-on want.Kernel v e = absurd (kernel-some v.0 e)
+goes-on want.Target v e = absurd (target-some v e)
+goes-on (want.Stmts n) v e = (Reserved word.Let, λ same. absurd cc)
+goes-on (want.Else n) v e = (Reserved word.Else, refl)
+goes-on want.Schedule v e = (Reserved word.Static, inl refl)
+goes-on want.Chunk v e = (Number (pos 0), (pos 0, refl))
+goes-on want.Nowait v e = (Reserved word.Nowait, refl)
+goes-on want.SectionName v e = (Named [], ([], refl))
+goes-on (want.Expr n) v e = (Mark sign.OpenBracket, inl refl)
+goes-on (want.Operand n) v e = (Mark sign.OpenBracket, refl)
+goes-on (want.Index n) v e = (Mark sign.OpenBracket, refl)
+goes-on (want.Operators n c) v e = (Mark sign.OpenBracket, inl refl)
+goes-on _ v e = absurd cc
+
+never-none : (w : Want) (s : List Want) (ls : List ℕ) → AreApart (w ∷ s) → Fulfils (w ∷ s) [] ls → ⊥
+never-none w s ls a r =
+    let f = r.fill in
+    let none = none-of (value_tokens w f.0) (fill_tokens s f.1) r.tokens in
+    let on = goes-on w f.0 none.0 in
+    subst (λ (ts : List Token). EndsAt w ts) none.1 (a.0 f.1) on.0 on.1
+
+-- ---- the tokens that are taken
+
+abbrev pub start : List Want
+start = want.Kernel ∷ []
+
+fulfils-as : (s : List Want) (ts us : List Token) (ls ms : List ℕ) → ts ≡ us → ls ≡ ms → Fulfils s ts ls → Fulfils s us ms
+fulfils-as s ts us ls ms e f r = record { fill = r.fill; tokens = r.tokens ∙ e; levels = r.levels ∙ f }
+
+-- after these tokens, that open low levels, just what the stack wants may come
+pub record Judged (ts rest : List Token) (s : List Want) : Type 0 where
+  pub good : List Token
+  pub parts : ts ≡ good ++ rest
+  pub apart : AreApart s
+  pub levels : List ℕ
+  pub low : AreLow levels
+  pub many : length levels ≡ length good
+  pub puts : (us : List Token) (ls : List ℕ) → Fulfils s us ls → Fulfils start (good ++ us) (levels ++ ls)
+  pub leaves : (us : List Token) (ls : List ℕ) → Fulfils start (good ++ us) ls → (more : List ℕ) × (ls ≡ levels ++ more) × Fulfils s us more
+
+pub judged-none : (ts : List Token) (s : List Want) → s ≡ start → Judged ts ts s
+judged-none ts s e = subst (λ (s : List Want). Judged ts ts s) (sym e) (record {
+  good = [];
+  parts = refl;
+  apart = ((λ f x never. never), tt);
+  levels = [];
+  low = tt;
+  many = refl;
+  puts = λ us ls r. r;
+  leaves = λ us ls r. (ls, refl, r);
+})
+
+pub judged-more : (ts rest after : List Token) (t : Token) (s next : List Want) (level : ℕ) → Judged ts rest s → rest ≡ t ∷ after → level ≤ 32 → Takes s t.lexeme level next → Judged ts after next
+judged-more ts rest after t s next level j e low k =
+    let many = j.many in
     record {
-      levels = level ∷ p.levels;
-      low = (low, p.low);
-      many = omega arith;
-      ran = λ rest. step-runs s t level wants (ts ++ rest) e ∙ ap (Next level) (p.ran rest);
-      backs = λ f.
-          let inner = p.backs f in
-          let outer = step-backs s t level wants e inner.fill in
-          filled-as s _ _ _ _ (ap (λ (r : List Token). t ∷ r) inner.tokens) (ap (λ (r : List ℕ). level ∷ r) inner.levels) outer;
+      good = j.good ++ t ∷ [];
+      parts = j.parts ∙ ap (λ (us : List Token). j.good ++ us) e ∙ sym (append_assoc j.good (t ∷ []) after);
+      apart = k.apart;
+      levels = j.levels ++ level ∷ [];
+      low = join j.levels (level ∷ []) j.low (low, tt);
+      many = omega (arith, length-append j.good (t ∷ []), length-append j.levels (level ∷ []));
+      puts = λ us ls r. fulfils-as start _ _ _ _ (sym (append_assoc j.good (t ∷ []) us)) (sym (append_assoc j.levels (level ∷ []) ls)) (j.puts (t ∷ us) (level ∷ ls) (k.puts t.line us ls r));
+      leaves = λ us ls r.
+          let first = j.leaves (t ∷ us) ls (fulfils-as start _ _ _ _ (append_assoc j.good (t ∷ []) us) refl r) in
+          let then = k.leaves t.line us first.0 first.2 in
+          (then.0, first.1 ∙ ap (λ (ms : List ℕ). j.levels ++ ms) then.1 ∙ sym (append_assoc j.levels (level ∷ []) then.0), then.2);
     }
 
--- where the judge stops, and why
-data Outcome (s : List Want) (ts : List Token) : Verdict → Type 0 where
-  AtKernel : Passed s ts [] → Outcome s ts verdict.Kernel
-  AtSyntax : (good : List Token) (bad : Token) (rest : List Token) (u : List Want) → ts ≡ good ++ bad ∷ rest → Passed s good u → step u bad.lexeme ≡ Stops → Outcome s ts (verdict.Syntax bad.line)
-  AtDeep : (good : List Token) (bad : Token) (rest : List Token) (u : List Want) (level : ℕ) (wants : List Want) → ts ≡ good ++ bad ∷ rest → Passed s good u → step u bad.lexeme ≡ Goes level wants → 32 < level
-      → Outcome s ts (verdict.Deep bad.line)
-  AtEarly : (w : Want) (u : List Want) → Passed s ts (w ∷ u) → Outcome s ts verdict.Early
-
-outcome-more : (s wants : List Want) (t : Token) (ts : List Token) (level : ℕ) (v : Verdict) → step s t.lexeme ≡ Goes level wants → level ≤ 32 → Outcome wants ts v → Outcome s (t ∷ ts) v
-outcome-more s wants t ts level _ e low (AtKernel p) = AtKernel (passed-more s wants [] t ts level e low p)
-outcome-more s wants t ts level _ e low (AtSyntax good bad rest u parts p stops) =
-    AtSyntax (t ∷ good) bad rest u (ap (λ (r : List Token). t ∷ r) parts) (passed-more s wants u t good level e low p) stops
-outcome-more s wants t ts level _ e low (AtDeep good bad rest u more after parts p goes deep) =
-    AtDeep (t ∷ good) bad rest u more after (ap (λ (r : List Token). t ∷ r) parts) (passed-more s wants u t good level e low p) goes deep
-outcome-more s wants t ts level _ e low (AtEarly w u p) = AtEarly w u (passed-more s wants (w ∷ u) t ts level e low p)
-
-outcome-level : (s wants : List Want) (t : Token) (ts : List Token) (level : ℕ) (b : Bool) → nat_lt 32 level ≡ b → step s t.lexeme ≡ Goes level wants → Outcome wants ts (judged wants ts)
-    → Outcome s (t ∷ ts) (if b then verdict.Deep t.line else judged wants ts)
-outcome-level s wants t ts level true b e next = AtDeep [] t ts s level wants refl (passed-none s) e (ltb-true 32 level b)
-outcome-level s wants t ts level false b e next = outcome-more s wants t ts level _ e (ltb-false 32 level b) next
-
-outcome-step : (s : List Want) (t : Token) (ts : List Token) (r : Step) → step s t.lexeme ≡ r → ((wants : List Want) → Outcome wants ts (judged wants ts)) → Outcome s (t ∷ ts) (verdict_after r t ts)
-outcome-step s t ts Stops e next = AtSyntax [] t ts s refl (passed-none s) e
-outcome-step s t ts (Goes level wants) e next = outcome-level s wants t ts level (nat_lt 32 level) refl e (next wants)
-
-outcome-end : (s : List Want) → Outcome s [] (at_end s)
-outcome-end [] = AtKernel (passed-none [])
-outcome-end (w ∷ s) = AtEarly w s (passed-none (w ∷ s))
-
-outcome : (ts : List Token) (s : List Want) → Outcome s ts (judged s ts)
-unfolding judged
-outcome [] s = outcome-end s
-outcome (t ∷ ts) s = outcome-step s t ts (step s t.lexeme) refl (outcome ts)
-
--- ---- from a trace to the grammar
-
--- what is wanted in the end
-abbrev wanted : Trace → Option (List Want)
-wanted (Ends s) = Some s
-wanted Halts = None
-wanted (Next level x) = wanted x
-
-wanted-through : (ls : List ℕ) (x : Trace) → wanted (through ls x) ≡ wanted x
-wanted-through [] x = refl
-wanted-through (l ∷ ls) x = wanted-through ls x
-
--- the level that a token opens
-abbrev level_at : ℕ → Trace → ℕ
-level_at m (Ends s) = 0
-level_at m Halts = 0
-level_at zero (Next level x) = level
-level_at (suc m) (Next level x) = level_at m x
-
-level-through : (ls : List ℕ) (level : ℕ) (x : Trace) → level_at (length ls) (through ls (Next level x)) ≡ level
-level-through [] level x = refl
-level-through (l ∷ ls) level x = level-through ls level x
-
-low-through : (ls : List ℕ) (m : ℕ) → AreLow (take (suc m) ls) → level_at m (through ls (Ends [])) ≤ 32
-low-through [] m low = omega arith
-low-through (l ∷ ls) zero low = low.0
-low-through (l ∷ ls) (suc m) low = low-through ls m low.1
-
-abbrev start : List Want
-start = want.Kernel ∷ []
+-- ---- verdicts
 
 take-append : (xs ys : List ℕ) → take (length xs) (xs ++ ys) ≡ xs
 take-append [] ys = refl
 take-append (x ∷ xs) ys = ap (λ (r : List ℕ). x ∷ r) (take-append xs ys)
 
-begins-filled : (good : List Token) (rest : List Token) (ls ms : List ℕ) → length ls ≡ length good → AreLow ls → Filled start (good ++ rest) (ls ++ ms) → BeginsShallow good
-begins-filled good rest ls ms many low r =
+taken : (ls ms ns : List ℕ) (good : List Token) → length ls ≡ length good → ns ≡ ls ++ ms → take (length good) ns ≡ ls
+taken ls ms ns good many e = ap (take (length good)) e ∙ ap (λ n. take n (ls ++ ms)) (sym many) ∙ take-append ls ms
+
+begins : (good rest : List Token) (ls ms : List ℕ) → length ls ≡ length good → AreLow ls → Fulfils start (good ++ rest) (ls ++ ms) → BeginsShallow good
+begins good rest ls ms many low r =
+    let k = r.fill.0.0 in (
+      k,
+      rest,
+      r.fill.0.1,
+      sym (append-nil (kernel_tokens k)) ∙ r.tokens,
+      All-from_recursion (λ n. n ≤ 32) _ (subst AreLow (sym (taken ls ms (kernel_levels k) good many (sym (append-nil (kernel_levels k)) ∙ r.levels))) low),
+    )
+
+begins-judged : (ts rest : List Token) (s : List Want) (j : Judged ts rest s) → BeginsShallow j.good
+begins-judged ts rest s j = let f = least_fill s in begins j.good (fill_tokens s f) j.levels (fill_levels s f) j.many j.low (j.puts (fill_tokens s f) (fill_levels s f) (record { fill = f; tokens = refl; levels = refl }))
+
+of-kernel : (k : KernelTree) (ts : List Token) → IsKernel k → kernel_tokens k ≡ ts → Fulfils start ts (kernel_levels k)
+of-kernel k ts d e = record { fill = ((k, d), tt); tokens = append-nil (kernel_tokens k) ∙ e; levels = append-nil (kernel_levels k) }
+
+pub is-kernel : (ts rest : List Token) (s : List Want) → Judged ts rest s → rest ≡ [] → s ≡ [] → IsVerdict ts verdict.Kernel
+is-kernel ts rest s j e f =
+    let r = j.puts [] [] (subst (λ (s : List Want). Fulfils s [] []) (sym f) (record { fill = tt; tokens = refl; levels = refl })) in
     let k = r.fill.0.0 in
-    let levels : kernel_levels k ≡ ls ++ ms = sym (append-nil (kernel_levels k)) ∙ r.levels in
-    let same : take (length good) (kernel_levels k) ≡ ls = ap (take (length good)) levels ∙ ap (λ n. take n (ls ++ ms)) (sym many) ∙ take-append ls ms in
-    (k, rest, r.fill.0.1, sym (append-nil (kernel_tokens k)) ∙ r.tokens, All-from_recursion (λ n. n ≤ 32) _ (subst AreLow (sym same) low))
+    let levels : kernel_levels k ≡ j.levels = sym (append-nil (kernel_levels k)) ∙ r.levels ∙ append-nil j.levels in (
+      k,
+      r.fill.0.1,
+      (shallow_is_low k).1 (All-from_recursion (λ n. n ≤ 32) _ (subst AreLow (sym levels) j.low)),
+      sym (append-nil (kernel_tokens k)) ∙ r.tokens ∙ ap (λ (us : List Token). j.good ++ us) (sym e) ∙ sym j.parts,
+    )
 
-begins-passed : (good : List Token) (u : List Want) → Passed start good u → BeginsShallow good
-begins-passed good u p = begins-filled good (fill_tokens u (least_fill u)) p.levels (fill_levels u (least_fill u)) p.many p.low (p.backs (least_fill u))
-
--- a kernel that goes on with a token runs as its tree tells
-kernel-as : (k : KernelTree) (good rest : List Token) (u : List Want) (p : Passed start good u) → IsKernel k → kernel_tokens k ≡ good ++ rest → through (kernel_levels k) (Ends []) ≡ through p.levels (run u rest)
-kernel-as k good rest u p d e = sym (kernel-run k d) ∙ ap (run start) e ∙ p.ran rest
-
-ended : (ls ms : List ℕ) (x : Trace) → through ls (Ends []) ≡ through ms x → wanted (Ends []) ≡ wanted x
-ended ls ms x e = sym (wanted-through ls (Ends [])) ∙ ap wanted e ∙ wanted-through ms x
-
-abbrev no_wants : Option (List Want)
-no_wants = Some []
-
-never-ended : no_wants ≡ None → ⊥
-never-ended e = absurd cc
-
-never-wanted : (w : Want) (u : List Want) → no_wants ≡ wanted (run (w ∷ u) []) → ⊥
-unfolding run
-never-wanted w u e = absurd cc
-
-judges : (ts : List Token) (v : Verdict) → Outcome start ts v → IsVerdict ts v
-judges ts _ (AtKernel p) =
-    let r = p.backs tt in
-    let k = r.fill.0.0 in
-    let levels : kernel_levels k ≡ p.levels = sym (append-nil (kernel_levels k)) ∙ r.levels ∙ append-nil p.levels in
-    (k, r.fill.0.1, (shallow_is_low k).1 (All-from_recursion (λ n. n ≤ 32) _ (subst AreLow (sym levels) p.low)), sym (append-nil (kernel_tokens k)) ∙ r.tokens ∙ append-nil ts)
-judges ts _ (AtSyntax good bad rest u parts p stops) = (
-  bad,
+pub is-syntax : (ts rest after : List Token) (t : Token) (s : List Want) → Judged ts rest s → rest ≡ t ∷ after → Refuses s t.lexeme → IsVerdict ts (verdict.Syntax t.line)
+is-syntax ts rest after t s j e h = (
+  t,
   record {
-    good = good;
-    rest = rest;
-    parts = parts;
-    begins = begins-passed good u p;
-    stops = λ b. never-ended (ended (kernel_levels b.0) p.levels Halts (kernel-as b.0 good (bad ∷ b.1) u p b.2 (b.3 ∙ append_assoc good (bad ∷ []) b.1) ∙ ap (through p.levels) (run-is u bad b.1 ∙ ap (λ (r : Step). run_after r b.1) stops)));
+    good = j.good;
+    rest = after;
+    parts = j.parts ∙ ap (λ (us : List Token). j.good ++ us) e;
+    begins = begins-judged ts rest s j;
+    stops = λ b.
+        let left = j.leaves (t ∷ b.1) (kernel_levels b.0) (of-kernel b.0 _ b.2 (b.3 ∙ append_assoc j.good (t ∷ []) b.1)) in
+        h t.line b.1 left.0 left.2;
   },
   refl,
 )
-judges ts _ (AtDeep good bad rest u level wants parts p goes deep) =
-    let f = least_fill wants in
-    let inner = step-backs u bad level wants goes f in
-    let outer = p.backs inner.fill in
-    let k = outer.fill.0.0 in (
-      bad,
+
+low-last : (ls : List ℕ) (level : ℕ) → AreLow (ls ++ level ∷ []) → level ≤ 32
+low-last [] level low = low.0
+low-last (l ∷ ls) level low = low-last ls level low.1
+
+pub is-deep : (ts rest after : List Token) (t : Token) (s next : List Want) (level : ℕ) → Judged ts rest s → rest ≡ t ∷ after → 32 < level → Takes s t.lexeme level next → IsVerdict ts (verdict.Deep t.line)
+is-deep ts rest after t s next level j e deep k =
+    let f = least_fill next in
+    let r = j.puts _ _ (k.puts t.line (fill_tokens next f) (fill_levels next f) (record { fill = f; tokens = refl; levels = refl })) in (
+      t,
       record {
-        good = good;
-        rest = rest;
-        parts = parts;
-        begins = begins-passed good u p;
-        goes_on = (k, fill_tokens wants f, outer.fill.0.1, sym (append-nil (kernel_tokens k)) ∙ outer.tokens ∙ ap (λ (r : List Token). good ++ r) inner.tokens ∙ sym (append_assoc good (bad ∷ []) (fill_tokens wants f)));
+        good = j.good;
+        rest = after;
+        parts = j.parts ∙ ap (λ (us : List Token). j.good ++ us) e;
+        begins = begins-judged ts rest s j;
+        goes_on = (r.fill.0.0, fill_tokens next f, r.fill.0.1, sym (append-nil (kernel_tokens r.fill.0.0)) ∙ r.tokens ∙ sym (append_assoc j.good (t ∷ []) (fill_tokens next f)));
         deep = λ b.
-            let same = kernel-as b.0 good (bad ∷ b.1) u p b.2 (b.3 ∙ append_assoc good (bad ∷ []) b.1) ∙ ap (through p.levels) (step-runs u bad level wants b.1 goes) in
-            let at : level_at (length p.levels) (through (kernel_levels b.0) (Ends [])) ≡ level = ap (level_at (length p.levels)) same ∙ level-through p.levels level (run wants b.1) in
-            let many = p.many in
-            let count : length (good ++ bad ∷ []) ≡ suc (length p.levels) = omega (arith, length-append good (bad ∷ [])) in
-            let low = subst (λ n. AreLow (take n (kernel_levels b.0))) count (recursion_from_All (λ n. n ≤ 32) _ b.4) in
-            omega (arith, low-through (kernel_levels b.0) (length p.levels) low);
+            let left = j.leaves (t ∷ b.1) (kernel_levels b.0) (of-kernel b.0 _ b.2 (b.3 ∙ append_assoc j.good (t ∷ []) b.1)) in
+            let then = k.leaves t.line b.1 left.0 left.2 in
+            let many = j.many in
+            let count : length (j.levels ++ level ∷ []) ≡ length (j.good ++ t ∷ []) = omega (arith, length-append j.good (t ∷ []), length-append j.levels (level ∷ [])) in
+            let same = taken (j.levels ++ level ∷ []) then.0 (kernel_levels b.0) (j.good ++ t ∷ []) count (left.1 ∙ ap (λ (ms : List ℕ). j.levels ++ ms) then.1 ∙ sym (append_assoc j.levels (level ∷ []) then.0)) in
+            let low = low-last j.levels level (subst AreLow same (recursion_from_All (λ n. n ≤ 32) _ b.4)) in
+            omega (arith, low, deep);
       },
       refl,
     )
-judges ts _ (AtEarly w u p) =
+
+pub is-early : (ts rest : List Token) (w : Want) (s now : List Want) → Judged ts rest now → rest ≡ [] → now ≡ w ∷ s → IsVerdict ts verdict.Early
+is-early ts rest w s now j e f =
+    let all : ts ≡ j.good = j.parts ∙ ap (λ (us : List Token). j.good ++ us) e ∙ append-nil j.good in
     record {
-      begins = begins-passed ts (w ∷ u) p;
-      unfinished = λ k d e. never-wanted w u (ended (kernel_levels k) p.levels (run (w ∷ u) []) (kernel-as k ts [] (w ∷ u) p d (e ∙ sym (append-nil ts))));
+      begins = subst BeginsShallow (sym all) (begins-judged ts rest now j);
+      unfinished = λ k d g.
+          let left = j.leaves [] (kernel_levels k) (of-kernel k _ d (g ∙ all ∙ sym (append-nil j.good))) in
+          never-none w s left.0 (subst AreApart f j.apart) (subst (λ (s : List Want). Fulfils s [] left.0) f left.2);
     }
 
--- what the judge answers is its verdict
-pub verdict_is : (ts : List Token) (v : Verdict) → v ≡ judged start ts → IsVerdict ts v
-verdict_is ts v e = judges ts v (subst (λ (v : Verdict). Outcome start ts v) (sym e) (outcome ts start))
+-- a stack of some wants has a next
+pub stack_some : (ws : List Want) → 0 < length ws → (w : Want) × (s : List Want) × (stack_of ws ≡ w ∷ s)
+stack_some [] some = absurd (omega (arith, some))
+stack_some (w ∷ ws) some = behind ws w []
+  where
+    behind : (ws : List Want) (w : Want) (s : List Want) → (v : Want) × (u : List Want) × (fold (λ (s : List Want) (w : Want). w ∷ s) (w ∷ s) ws ≡ v ∷ u)
+    behind [] w s = (w, s, refl)
+    behind (v ∷ ws) w s = behind ws v (w ∷ s)

@@ -7,13 +7,13 @@ use Rattle.kernel_text.specs.declared.token.Token.{Token}
 use Rattle.kernel_text.specs.Grammar.{Tree, NumberAt, NameAt, TidAt, SpanAt, Element, Group, Minus, Binary, depth, schedule_tokens, nowait_tokens, Stmts, NoMore, Let, Assign, Store, If, IfElse, Loop, Parallel, For, Barrier, Critical, CriticalOf, AreShallow, declarations_tokens, KernelTree, IsShallow}
 use Rattle.kernel_text.specs.Faults.{tree_levels, flat, block_levels, range_levels, stmts_levels, kernel_levels}
 
-abbrev AreLow : List ℕ → Type 0
+abbrev pub AreLow : List ℕ → Type 0
 AreLow ns = AllByRecursion (λ n. n ≤ 32) ns
 
 no_level : 0 ≤ 32
 no_level = omega arith
 
-join : (xs ys : List ℕ) → AreLow xs → AreLow ys → AreLow (xs ++ ys)
+pub join : (xs ys : List ℕ) → AreLow xs → AreLow ys → AreLow (xs ++ ys)
 join [] ys all more = more
 join (x ∷ xs) ys all more = (all.0, join xs ys all.1 more)
 

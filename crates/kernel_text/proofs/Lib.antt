@@ -3,12 +3,11 @@ pub mod Scans
 pub mod Operators
 pub mod Few
 pub mod Lines
-pub mod Wants
-pub mod Running
-pub mod Completes
-pub mod CompleteKernels
 pub mod Grouping
-pub mod Filling
-pub mod Sounds
 pub mod Levels
+pub mod Unfolding
+pub mod UnfoldingExprs
+pub mod UnfoldingOperators
+pub mod UnfoldingStmts
+pub mod Moving
 pub mod Judgement

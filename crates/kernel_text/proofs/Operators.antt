@@ -5,8 +5,7 @@ use Rattle.kernel_syntax.specs.declared.syntax.Op.TheVariants.{Add, Sub, Mul, Di
 use Rattle.kernel_text.specs.declared.token.Sign.TheVariants as sign
 use Rattle.kernel_text.specs.declared.token.Lexeme.{Lexeme}
 use Rattle.kernel_text.specs.declared.token.Lexeme.TheVariants.{Named, Number, Reserved, Mark}
-use Rattle.kernel_text.specs.Judging.{op_of}
-use Rattle.kernel_text.specs.Grammar.{sign_of, IsOperation, rank_of, left_rank, right_rank, Tree, NumberAt, NameAt, TidAt, SpanAt, Element, Group, Minus, Binary, Derives}
+use Rattle.kernel_text.specs.Grammar.{op_of, sign_of, IsOperation, rank_of, left_rank, right_rank, Tree, NumberAt, NameAt, TidAt, SpanAt, Element, Group, Minus, Binary, Derives}
 
 pub record AreRanks (o : Op) : Type 0 where
   pub some : 1 ≤ rank_of o
@@ -53,7 +52,7 @@ op_of-sign Le = refl
 op_of-sign Gt = refl
 op_of-sign Ge = refl
 
-of-op : (x : Lexeme) (o : Op) → op_of x ≡ Some o → x ≡ Mark (sign_of o)
+pub of-op : (x : Lexeme) (o : Op) → op_of x ≡ Some o → x ≡ Mark (sign_of o)
 of-op (Mark sign.Plus) o e = let same : o ≡ Add = cc in rw same refl
 of-op (Mark sign.Minus) o e = let same : o ≡ Sub = cc in rw same refl
 of-op (Mark sign.Star) o e = let same : o ≡ Mul = cc in rw same refl

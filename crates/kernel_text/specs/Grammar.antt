@@ -1,5 +1,5 @@
 -- The grammar of a kernel: its parse trees, in which each token has its line, and the tokens of each.
-use Rattle.std.specs.Prelude.{◌≡◌, ℕ, ◌+◌, ◌-◌, ◌≤◌, ℤ, max, List, [], ◌∷◌, ◌++◌, Option, Some, None}
+use Rattle.std.specs.Prelude.{◌≡◌, ℕ, ◌+◌, ◌-◌, ◌≤◌, ℤ, max, Bool, true, false, List, [], ◌∷◌, ◌++◌, Option, Some, None}
 use Rattle.kernel_syntax.specs.declared.syntax.Op.{Op}
 use Rattle.kernel_syntax.specs.declared.syntax.Op.TheVariants.{Add, Sub, Mul, Div, Rem, Eq, Ne, Lt, Le, Gt, Ge}
 use Rattle.kernel_text.specs.declared.token.Word.{Word}
@@ -38,6 +38,30 @@ sign_of Lt = sign.Less
 sign_of Le = sign.LessEqual
 sign_of Gt = sign.Greater
 sign_of Ge = sign.GreaterEqual
+
+-- the operation of a sign
+abbrev pub op_of : Lexeme → Option Op
+op_of (Mark sign.Plus) = Some Add
+op_of (Mark sign.Minus) = Some Sub
+op_of (Mark sign.Star) = Some Mul
+op_of (Mark sign.Slash) = Some Div
+op_of (Mark sign.Percent) = Some Rem
+op_of (Mark sign.Equal) = Some Eq
+op_of (Mark sign.NotEqual) = Some Ne
+op_of (Mark sign.Less) = Some Lt
+op_of (Mark sign.LessEqual) = Some Le
+op_of (Mark sign.Greater) = Some Gt
+op_of (Mark sign.GreaterEqual) = Some Ge
+op_of _ = None
+
+-- whether it compares
+abbrev pub is_comparison : Op → Bool
+is_comparison Add = false
+is_comparison Sub = false
+is_comparison Mul = false
+is_comparison Div = false
+is_comparison Rem = false
+is_comparison _ = true
 
 -- the operation of a lexeme, if it is the sign of one
 abbrev pub IsOperation : Lexeme → Option Op → Type 0

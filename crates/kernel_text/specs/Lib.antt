@@ -1,4 +1,4 @@
 pub mod Tokens
 pub mod Grammar
 pub mod Faults
-pub mod Judging
+pub mod Wanting

@@ -1,9 +1,11 @@
 //! Whether tokens are a kernel by the grammar, or which is the first that none goes on with.
 //!
 //! What is still wanted stands on a stack, the next on top, so nothing here calls itself.
-ghost use Rattle.std.specs.Prelude.{◌≡◌, ◌++◌, ◌∷◌, [], IfOk, ◌+◌, true};
+ghost use Rattle.std.specs.Prelude.{◌≡◌, ◌++◌, ◌∷◌, [], IfOk, ◌+◌};
 ghost use Rattle.kernel_text.specs.declared.judging.Want.TheVariants as want;
-ghost use Rattle.kernel_text.specs.Judging.{op_of, is_comparison, kernel_move, name_move, number_move, in_move, assign_move, close_bracket_move, close_paren_move, close_brace_move, dots_move, block_move, stmts_move, target_move, else_move, schedule_move, chunk_move, nowait_move, section_name_move, operand_move, behind, index_move, operators_move, move, step, judged, stack_of, Takes, Alone, Moves, Steps, IsVerdict};
+ghost use Rattle.kernel_text.specs.Grammar.{is_comparison};
+ghost use Rattle.kernel_text.specs.Faults.{IsVerdict};
+ghost use Rattle.kernel_text.specs.Wanting.{AreApart, Alone, Moves, Opens, Steps, stack_of};
 
 use crate::token::{Lexeme, Sign, Token, Word, operation};
 use kernel_syntax::Op;
@@ -81,7 +83,8 @@ fn want_all(stack: &mut Vec<Want>, wants: &[Want]) -> Result<Moved, AllocError>
 }
 
 fn kernel_move(stack: &mut Vec<Want>, lexeme: &Lexeme) -> Result<Moved, AllocError>
-    ensures { Moves result (stack_of stack.old.items) (stack_of stack.new.items) (kernel_move lexeme.now) }
+    requires { AreApart (want.Kernel ∷ stack_of stack.old.items) }
+    ensures { Moves result want.Kernel lexeme.now (stack_of stack.old.items) (stack_of stack.new.items) }
 {
     match lexeme {
         Lexeme::Reserved(Word::Array) => {
@@ -94,7 +97,7 @@ fn kernel_move(stack: &mut Vec<Want>, lexeme: &Lexeme) -> Result<Moved, AllocErr
 }
 
 fn name_move(lexeme: &Lexeme) -> Moved
-    ensures { Alone result (name_move lexeme.now) }
+    ensures { Alone result want.Name lexeme.now }
 {
     match lexeme {
         Lexeme::Named(_) => Moved::Takes,
@@ -103,7 +106,7 @@ fn name_move(lexeme: &Lexeme) -> Moved
 }
 
 fn number_move(lexeme: &Lexeme) -> Moved
-    ensures { Alone result (number_move lexeme.now) }
+    ensures { Alone result want.Number lexeme.now }
 {
     match lexeme {
         Lexeme::Number(_) => Moved::Takes,
@@ -112,7 +115,7 @@ fn number_move(lexeme: &Lexeme) -> Moved
 }
 
 fn in_move(lexeme: &Lexeme) -> Moved
-    ensures { Alone result (in_move lexeme.now) }
+    ensures { Alone result want.In lexeme.now }
 {
     match lexeme {
         Lexeme::Reserved(Word::In) => Moved::Takes,
@@ -121,7 +124,7 @@ fn in_move(lexeme: &Lexeme) -> Moved
 }
 
 fn assign_move(lexeme: &Lexeme) -> Moved
-    ensures { Alone result (assign_move lexeme.now) }
+    ensures { Alone result want.Assign lexeme.now }
 {
     match lexeme {
         Lexeme::Mark(Sign::Assign) => Moved::Takes,
@@ -130,7 +133,7 @@ fn assign_move(lexeme: &Lexeme) -> Moved
 }
 
 fn close_bracket_move(lexeme: &Lexeme) -> Moved
-    ensures { Alone result (close_bracket_move lexeme.now) }
+    ensures { Alone result want.CloseBracket lexeme.now }
 {
     match lexeme {
         Lexeme::Mark(Sign::CloseBracket) => Moved::Takes,
@@ -139,7 +142,7 @@ fn close_bracket_move(lexeme: &Lexeme) -> Moved
 }
 
 fn close_paren_move(lexeme: &Lexeme) -> Moved
-    ensures { Alone result (close_paren_move lexeme.now) }
+    ensures { Alone result want.CloseParen lexeme.now }
 {
     match lexeme {
         Lexeme::Mark(Sign::CloseParen) => Moved::Takes,
@@ -148,7 +151,7 @@ fn close_paren_move(lexeme: &Lexeme) -> Moved
 }
 
 fn close_brace_move(lexeme: &Lexeme) -> Moved
-    ensures { Alone result (close_brace_move lexeme.now) }
+    ensures { Alone result want.CloseBrace lexeme.now }
 {
     match lexeme {
         Lexeme::Mark(Sign::CloseBrace) => Moved::Takes,
@@ -157,7 +160,7 @@ fn close_brace_move(lexeme: &Lexeme) -> Moved
 }
 
 fn dots_move(lexeme: &Lexeme) -> Moved
-    ensures { Alone result (dots_move lexeme.now) }
+    ensures { Alone result want.Dots lexeme.now }
 {
     match lexeme {
         Lexeme::Mark(Sign::Dots) => Moved::Takes,
@@ -166,7 +169,7 @@ fn dots_move(lexeme: &Lexeme) -> Moved
 }
 
 fn chunk_move(lexeme: &Lexeme) -> Moved
-    ensures { Alone result (chunk_move lexeme.now) }
+    ensures { Alone result want.Chunk lexeme.now }
 {
     match lexeme {
         Lexeme::Number(_) => Moved::Takes,
@@ -175,7 +178,7 @@ fn chunk_move(lexeme: &Lexeme) -> Moved
 }
 
 fn nowait_move(lexeme: &Lexeme) -> Moved
-    ensures { Alone result (nowait_move lexeme.now) }
+    ensures { Alone result want.Nowait lexeme.now }
 {
     match lexeme {
         Lexeme::Reserved(Word::Nowait) => Moved::Takes,
@@ -184,7 +187,7 @@ fn nowait_move(lexeme: &Lexeme) -> Moved
 }
 
 fn section_name_move(lexeme: &Lexeme) -> Moved
-    ensures { Alone result (section_name_move lexeme.now) }
+    ensures { Alone result want.SectionName lexeme.now }
 {
     match lexeme {
         Lexeme::Named(_) => Moved::Takes,
@@ -194,7 +197,7 @@ fn section_name_move(lexeme: &Lexeme) -> Moved
 
 /// A token that opens a level inside so many, and what is wanted there.
 fn opened(stack: &mut Vec<Want>, level: u8, wants: &[Want]) -> Result<Moved, AllocError>
-    ensures { Moves result (stack_of stack.old.items) (stack_of stack.new.items) (Takes (level + 1) wants.now) }
+    ensures { Opens result (level + 1) (stack_of stack.new.items) (wants.now ++ stack_of stack.old.items) }
 {
     if level >= MOST_LEVELS {
         return Ok(Moved::Deep);
@@ -203,7 +206,8 @@ fn opened(stack: &mut Vec<Want>, level: u8, wants: &[Want]) -> Result<Moved, All
 }
 
 fn block_move(stack: &mut Vec<Want>, level: u8, lexeme: &Lexeme) -> Result<Moved, AllocError>
-    ensures { Moves result (stack_of stack.old.items) (stack_of stack.new.items) (block_move level lexeme.now) }
+    requires { AreApart (want.Block level ∷ stack_of stack.old.items) }
+    ensures { Moves result (want.Block level) lexeme.now (stack_of stack.old.items) (stack_of stack.new.items) }
 {
     match lexeme {
         Lexeme::Mark(Sign::OpenBrace) => opened(
@@ -217,7 +221,8 @@ fn block_move(stack: &mut Vec<Want>, level: u8, lexeme: &Lexeme) -> Result<Moved
 
 /// What an `if` wants behind its word.
 fn if_move(stack: &mut Vec<Want>, level: u8) -> Result<Moved, AllocError>
-    ensures { Moves result (stack_of stack.old.items) (stack_of stack.new.items) (stmts_move level (Lexeme.Reserved Word.If)) }
+    requires { AreApart (want.Stmts level ∷ stack_of stack.old.items) }
+    ensures { Moves result (want.Stmts level) (Lexeme.Reserved Word.If) (stack_of stack.old.items) (stack_of stack.new.items) }
 {
     want_all(
         stack,
@@ -232,7 +237,8 @@ fn if_move(stack: &mut Vec<Want>, level: u8) -> Result<Moved, AllocError>
 
 /// What a loop wants behind its word.
 fn loop_move(stack: &mut Vec<Want>, level: u8) -> Result<Moved, AllocError>
-    ensures { Moves result (stack_of stack.old.items) (stack_of stack.new.items) (stmts_move level (Lexeme.Reserved Word.Loop)) }
+    requires { AreApart (want.Stmts level ∷ stack_of stack.old.items) }
+    ensures { Moves result (want.Stmts level) (Lexeme.Reserved Word.Loop) (stack_of stack.old.items) (stack_of stack.new.items) }
 {
     want_all(
         stack,
@@ -250,7 +256,8 @@ fn loop_move(stack: &mut Vec<Want>, level: u8) -> Result<Moved, AllocError>
 
 /// What a worksharing loop wants behind its word.
 fn for_move(stack: &mut Vec<Want>, level: u8) -> Result<Moved, AllocError>
-    ensures { Moves result (stack_of stack.old.items) (stack_of stack.new.items) (stmts_move level (Lexeme.Reserved Word.For)) }
+    requires { AreApart (want.Stmts level ∷ stack_of stack.old.items) }
+    ensures { Moves result (want.Stmts level) (Lexeme.Reserved Word.For) (stack_of stack.old.items) (stack_of stack.new.items) }
 {
     want_all(
         stack,
@@ -269,7 +276,8 @@ fn for_move(stack: &mut Vec<Want>, level: u8) -> Result<Moved, AllocError>
 }
 
 fn stmts_move(stack: &mut Vec<Want>, level: u8, lexeme: &Lexeme) -> Result<Moved, AllocError>
-    ensures { Moves result (stack_of stack.old.items) (stack_of stack.new.items) (stmts_move level lexeme.now) }
+    requires { AreApart (want.Stmts level ∷ stack_of stack.old.items) }
+    ensures { Moves result (want.Stmts level) lexeme.now (stack_of stack.old.items) (stack_of stack.new.items) }
 {
     match lexeme {
         Lexeme::Reserved(Word::Let) => want_all(
@@ -294,7 +302,8 @@ fn stmts_move(stack: &mut Vec<Want>, level: u8, lexeme: &Lexeme) -> Result<Moved
 }
 
 fn target_move(stack: &mut Vec<Want>, lexeme: &Lexeme) -> Result<Moved, AllocError>
-    ensures { Moves result (stack_of stack.old.items) (stack_of stack.new.items) (target_move lexeme.now) }
+    requires { AreApart (want.Target ∷ stack_of stack.old.items) }
+    ensures { Moves result want.Target lexeme.now (stack_of stack.old.items) (stack_of stack.new.items) }
 {
     match lexeme {
         Lexeme::Mark(Sign::Assign) => Ok(Moved::Takes),
@@ -307,7 +316,8 @@ fn target_move(stack: &mut Vec<Want>, lexeme: &Lexeme) -> Result<Moved, AllocErr
 }
 
 fn else_move(stack: &mut Vec<Want>, level: u8, lexeme: &Lexeme) -> Result<Moved, AllocError>
-    ensures { Moves result (stack_of stack.old.items) (stack_of stack.new.items) (else_move level lexeme.now) }
+    requires { AreApart (want.Else level ∷ stack_of stack.old.items) }
+    ensures { Moves result (want.Else level) lexeme.now (stack_of stack.old.items) (stack_of stack.new.items) }
 {
     match lexeme {
         Lexeme::Reserved(Word::Else) => want_all(stack, &[Want::Block(level)]),
@@ -316,7 +326,8 @@ fn else_move(stack: &mut Vec<Want>, level: u8, lexeme: &Lexeme) -> Result<Moved,
 }
 
 fn schedule_move(stack: &mut Vec<Want>, lexeme: &Lexeme) -> Result<Moved, AllocError>
-    ensures { Moves result (stack_of stack.old.items) (stack_of stack.new.items) (schedule_move lexeme.now) }
+    requires { AreApart (want.Schedule ∷ stack_of stack.old.items) }
+    ensures { Moves result want.Schedule lexeme.now (stack_of stack.old.items) (stack_of stack.new.items) }
 {
     match lexeme {
         Lexeme::Reserved(Word::Static | Word::Dynamic) => want_all(stack, &[Want::Chunk]),
@@ -325,7 +336,8 @@ fn schedule_move(stack: &mut Vec<Want>, lexeme: &Lexeme) -> Result<Moved, AllocE
 }
 
 fn operand_move(stack: &mut Vec<Want>, level: u8, lexeme: &Lexeme) -> Result<Moved, AllocError>
-    ensures { Moves result (stack_of stack.old.items) (stack_of stack.new.items) (operand_move level lexeme.now) }
+    requires { AreApart (want.Operand level ∷ stack_of stack.old.items) }
+    ensures { Moves result (want.Operand level) lexeme.now (stack_of stack.old.items) (stack_of stack.new.items) }
 {
     match lexeme {
         Lexeme::Reserved(Word::Tid | Word::Span) | Lexeme::Number(_) => Ok(Moved::Takes),
@@ -345,7 +357,8 @@ fn operand_move(stack: &mut Vec<Want>, level: u8, lexeme: &Lexeme) -> Result<Mov
 }
 
 fn index_move(stack: &mut Vec<Want>, level: u8, lexeme: &Lexeme) -> Result<Moved, AllocError>
-    ensures { Moves result (stack_of stack.old.items) (stack_of stack.new.items) (index_move level lexeme.now) }
+    requires { AreApart (want.Index level ∷ stack_of stack.old.items) }
+    ensures { Moves result (want.Index level) lexeme.now (stack_of stack.old.items) (stack_of stack.new.items) }
 {
     match lexeme {
         Lexeme::Mark(Sign::OpenBracket) => opened(
@@ -359,7 +372,8 @@ fn index_move(stack: &mut Vec<Want>, level: u8, lexeme: &Lexeme) -> Result<Moved
 
 /// A whole expression begins as an operand, behind which operators are wanted.
 fn expr_move(stack: &mut Vec<Want>, level: u8, lexeme: &Lexeme) -> Result<Moved, AllocError>
-    ensures { Moves result (stack_of stack.old.items) (stack_of stack.new.items) (behind (want.Operators level true ∷ []) (operand_move level lexeme.now)) }
+    requires { AreApart (want.Expr level ∷ stack_of stack.old.items) }
+    ensures { Moves result (want.Expr level) lexeme.now (stack_of stack.old.items) (stack_of stack.new.items) }
 {
     stack.push(Want::Operators(level, true))?;
     operand_move(stack, level, lexeme)
@@ -371,14 +385,14 @@ fn is_comparison(op: Op) -> bool
     !matches!(op, Op::Add | Op::Sub | Op::Mul | Op::Div | Op::Rem)
 }
 
-#[tactic(auto, using(crate::proofs::Operators::operation_is))]
 fn operators_move(
     stack: &mut Vec<Want>,
     level: u8,
     compares: bool,
     lexeme: &Lexeme,
 ) -> Result<Moved, AllocError>
-    ensures { Moves result (stack_of stack.old.items) (stack_of stack.new.items) (operators_move level compares (op_of lexeme.now)) }
+    requires { AreApart (want.Operators level compares ∷ stack_of stack.old.items) }
+    ensures { Moves result (want.Operators level compares) lexeme.now (stack_of stack.old.items) (stack_of stack.new.items) }
 {
     let Some(op) = operation(lexeme) else {
         return Ok(Moved::Skips);
@@ -400,7 +414,8 @@ fn operators_move(
 
 /// A token where a part is wanted.
 fn move_one(stack: &mut Vec<Want>, want: Want, lexeme: &Lexeme) -> Result<Moved, AllocError>
-    ensures { Moves result (stack_of stack.old.items) (stack_of stack.new.items) (move want lexeme.now) }
+    requires { AreApart (want ∷ stack_of stack.old.items) }
+    ensures { Moves result want lexeme.now (stack_of stack.old.items) (stack_of stack.new.items) }
 {
     match want {
         Want::Kernel => kernel_move(stack, lexeme),
@@ -429,7 +444,8 @@ fn move_one(stack: &mut Vec<Want>, want: Want, lexeme: &Lexeme) -> Result<Moved,
 
 /// A token where all of the stack is wanted in turn.
 fn step(stack: &mut Vec<Want>, lexeme: &Lexeme) -> Result<Moved, AllocError>
-    ensures { Steps result (stack_of stack.new.items) (step (stack_of stack.old.items) lexeme.now) }
+    requires { AreApart (stack_of stack.old.items) }
+    ensures { Steps result lexeme.now (stack_of stack.old.items) (stack_of stack.new.items) }
 {
     'wants: while let Some(want) = stack.pop() {
         match move_one(stack, want, lexeme)? {

@@ -1,10 +1,10 @@
-use Rattle.std.proofs.Common.{◌≡◌, ◌∷◌, [], length}
-use Rattle.kernel_text.specs.declared.judging.Want.TheVariants as want
-use Rattle.kernel_text.specs.Judging.{stack_of, judged}
+use Rattle.std.proofs.Common.{length}
+use Rattle.kernel_text.specs.Wanting.{stack_of}
+use Rattle.kernel_text.proofs.Judgement.{Judged}
 use Rattle.kernel_text.proofs.judging.judge.Given as goal
 
 abbrev pub invariant-tokens : goal.invariant-tokens
-invariant-tokens l = judged (stack_of l.stack.items) l.rest ≡ judged (want.Kernel ∷ []) l.fn.tokens
+invariant-tokens l = Judged l.fn.tokens l.rest (stack_of l.stack.items)
 
 abbrev pub decreases-tokens : goal.decreases-tokens
 decreases-tokens l = length l.rest

@@ -1,9 +1,10 @@
-use Rattle.std.proofs.Common.{◌≡◌, length}
-use Rattle.kernel_text.specs.Judging.{stack_of, step}
+use Rattle.std.proofs.Common.{length}
+use Rattle.kernel_text.specs.Wanting.{stack_of}
+use Rattle.kernel_text.proofs.Moving.{Reaches}
 use Rattle.kernel_text.proofs.judging.step.Given as goal
 
 abbrev pub invariant-wants : goal.invariant-wants
-invariant-wants l = step (stack_of l.stack.items) l.lexeme ≡ step (stack_of l.fn.stack.items) l.lexeme
+invariant-wants l = Reaches l.lexeme (stack_of l.fn.stack.items) (stack_of l.stack.items)
 
 abbrev pub decreases-wants : goal.decreases-wants
 decreases-wants l = length (stack_of l.stack.items)

@@ -1,5 +1,5 @@
 use Rattle.std.proofs.Common.{◌≡◌, ◌++◌, length}
-use Rattle.kernel_text.specs.Judging.{stack_of}
+use Rattle.kernel_text.specs.Wanting.{stack_of}
 use Rattle.kernel_text.proofs.judging.want_all.Given as goal
 
 abbrev pub invariant-wants : goal.invariant-wants
