@@ -1,0 +1,137 @@
+//! Runs that stop: which stop is told, and what the logs have then.
+
+use crate::support::{listing, run, run_with};
+use lane_runner::Stop;
+use std::test::Fail;
+use sw_base::{MemLog, NoGate, Path, Trouble};
+
+// Lane 1 divides by 0, lane 2 leaves the array, and lanes 0 and 3 wait for them. No lane stores in the second phase.
+const TWO_STOP: &str = "array a i64 4
+main { parallel 4 {
+a[tid] = 1
+a[tid] = 6 / (tid - 1) + a[tid + (tid == 2) * 2]
+barrier
+a[tid] = 9
+} }
+";
+
+const TWO_STOP_LOGS: &str = "log t.swl records 1
+1 region 4 line 2
+log t-0.0.swl records 4
+1 write 8 site 0 line 3 addr 4096 value 1
+2 read 8 site 2 line 4 addr 4096 value 1
+3 write 8 site 1 line 4 addr 4096 value -5
+4 barrier line 5
+log t-0.1.swl records 1
+1 write 8 site 0 line 3 addr 4104 value 1
+log t-0.2.swl records 1
+1 write 8 site 0 line 3 addr 4112 value 1
+log t-0.3.swl records 4
+1 write 8 site 0 line 3 addr 4120 value 1
+2 read 8 site 2 line 4 addr 4120 value 1
+3 write 8 site 1 line 4 addr 4120 value 4
+4 barrier line 5
+";
+
+// In the second region of lane 1 a lane leaves the array. Its sibling ends, and lane 0 waits.
+const INNER_STOPS: &str = "array a i64 4
+main { parallel 2 {
+if tid == 1 {
+parallel 1 { a[0] = 1 }
+parallel 2 { a[2 + 2 * tid] = 2 }
+parallel 1 { a[1] = 3 }
+}
+barrier
+a[3] = 4
+} }
+";
+
+const INNER_STOPS_LOGS: &str = "log t.swl records 1
+1 region 2 line 2
+log t-0.0.swl records 1
+1 barrier line 8
+log t-0.1.swl records 2
+1 region 1 line 4
+2 region 2 line 5
+log t-0.1-0.0.swl records 2
+1 write 8 site 0 line 4 addr 4096 value 1
+2 end line 4
+log t-0.1-1.0.swl records 2
+1 write 8 site 1 line 5 addr 4112 value 2
+2 end line 5
+log t-0.1-1.1.swl records 0
+";
+
+// The value of an element that is stored as a number of 64 bits.
+const MINUS_5: u64 = u64::MAX - 4;
+
+#[test]
+fn the_least_stop_of_a_phase_is_told_and_no_later_phase_is_run(
+    rt: HostRuntime,
+) -> Result<(), Fail> {
+    let alloc = rt.alloc();
+    let divided = Stop::DivZero { line: 4 };
+    let left = Stop::Index { line: 5 };
+    for (kernel, name, why, words, logs) in [
+        (
+            TWO_STOP,
+            "t-0.1.swl",
+            divided,
+            [MINUS_5, 1, 1, 4],
+            TWO_STOP_LOGS,
+        ),
+        (
+            INNER_STOPS,
+            "t-0.1-1.1.swl",
+            left,
+            [1, 0, 2, 0],
+            INNER_STOPS_LOGS,
+        ),
+    ] {
+        for size in [24, 4096] {
+            let stopped = run(&rt, alloc, kernel, size)?.err().ok_or("ended")?;
+            assert_eq!(rt; stopped.path.bare_name(alloc)?.as_str(), name);
+            assert_eq!(rt; stopped.why, why);
+            assert_eq!(rt; stopped.words.as_slice(), words.as_slice());
+            let listed = listing(alloc, stopped.logs)?;
+            assert_eq!(rt; listed.written(), logs.as_bytes());
+        }
+    }
+    Ok(())
+}
+
+// Each lane forks a region, and its log and those of its lanes are cut into pieces.
+const FORKING: &str = "array a i64 8
+main { parallel 2 {
+a[tid] = 1
+parallel 2 { a[2 + tid] = 2 }
+} }
+";
+
+// Whether each of these logs is the beginning of the log of the same task in a whole run.
+fn begin(left: &[(Path, MemLog, u32)], whole: &[(Path, MemLog, u32)]) -> bool {
+    left.iter().all(|(path, log, _)| {
+        whole.iter().any(|(task, full, _)| task == path && full.bytes().starts_with(log.bytes()))
+    })
+}
+
+#[test]
+fn each_call_on_each_log_of_nested_regions_fails_in_turn(rt: HostRuntime) -> Result<(), Fail> {
+    let alloc = rt.alloc();
+    let whole = run(&rt, alloc, FORKING, 24)?.ok().ok_or("stopped")?;
+    // On a task's log: its header, each record, and the logs of the lanes that it forks.
+    let all_calls = [5, 6, 3, 3, 6, 3, 3];
+    assert_eq!(rt; whole.logs.len(), all_calls.len());
+    for ((task, _, _), calls) in whole.logs.iter().zip(&all_calls) {
+        for call in 1..=*calls {
+            let run = run_with(&rt, alloc, FORKING, 24, &NoGate, (task, &[call]))?;
+            let stopped = run.err().ok_or("ended")?;
+            assert!(rt; stopped.path == *task, "call {call}");
+            assert_eq!(rt; stopped.why, Stop::Trouble(Trouble::Failed), "call {call}");
+            assert!(rt; begin(&stopped.logs, &whole.logs), "call {call}");
+        }
+        let past = calls + 1;
+        assert!(rt; run_with(&rt, alloc, FORKING, 24, &NoGate, (task, &[past]))?.is_ok());
+    }
+    Ok(())
+}

@@ -1,0 +1,72 @@
+//! Kernels of texts, run over logs in memory, and what their logs have.
+ghost use Rattle.std.specs.Prelude.{IfOk};
+ghost use Rattle.kernel_syntax.specs.Program.{program_of};
+ghost use Rattle.kernel_model.specs.Lawful.{IsLawful};
+ghost use Rattle.region_runner.specs.Answer.{IsBufferSize};
+
+use kernel_reader::read_kernel;
+use kernel_syntax::Kernel;
+use log_index::Row;
+use log_listing::list;
+use region_runner::{Finished, Stopped, run_kernel};
+use std::alloc::Global;
+use std::sync::Wait;
+use std::test::Fail;
+use std::thread::Threads;
+use sw_base::{Folder, Gate, MemFolder, MemLog, MemOut, NoGate, Path};
+
+/// What the run of a kernel answers.
+pub(crate) type Ran = Result<Finished<MemLog>, Stopped<MemLog>>;
+
+// The kernel of a text.
+fn kernel_of(alloc: Global, text: &str) -> Result<Kernel, Fail>
+    ensures { IfOk result (λ k. IsLawful (program_of k)) }
+{
+    Ok(read_kernel(alloc, text.as_bytes())?)
+}
+
+/// Runs the kernel of a text, with this gate, where these calls on the log of this task are to fail.
+pub(crate) fn run_with<R: Threads + Wait + Sync, G: Gate>(
+    rt: &R,
+    alloc: Global,
+    text: &str,
+    size: usize,
+    gate: &G,
+    failing: (&Path, &[u64]),
+) -> Result<Ran, Fail>
+    requires { IsBufferSize size }
+{
+    let kernel = kernel_of(alloc, text)?;
+    let (path, calls) = failing;
+    let mut folder = MemFolder::new(alloc)?;
+    folder.fail_log(path, calls)?;
+    let root = folder.root(alloc, "d")?;
+    Ok(run_kernel(rt, alloc, &kernel, root, size, gate))
+}
+
+/// Runs the kernel of a text.
+pub(crate) fn run<R: Threads + Wait + Sync>(
+    rt: &R,
+    alloc: Global,
+    text: &str,
+    size: usize,
+) -> Result<Ran, Fail>
+    requires { IsBufferSize size }
+{
+    run_with(rt, alloc, text, size, &NoGate, (&Path::root(), &[]))
+}
+
+/// The names of these logs, in order, each with the records that it has.
+pub(crate) fn listing(alloc: Global, logs: Vec<(Path, MemLog, u32)>) -> Result<MemOut, Fail> {
+    let mut folder = MemFolder::new(alloc)?;
+    let mut rows = Vec::new(alloc);
+    for (path, log, records) in logs {
+        if folder.seal(alloc, log).is_err() {
+            return Err(Fail::from("a log isn't sealed"));
+        }
+        rows.push(Row { path, records })?;
+    }
+    let mut out = MemOut::new(alloc)?;
+    list(alloc, &mut folder, &mut out, "d", &rows)?;
+    Ok(out)
+}
