@@ -6,10 +6,4 @@
 #![tactic(auto)]
 
 #[cfg(test)]
-mod at_once;
-#[cfg(test)]
-mod records;
-#[cfg(test)]
-mod stops;
-#[cfg(test)]
-mod support;
+mod tests;

@@ -1,6 +1,6 @@
 //! Lanes run at once.
 
-use crate::support::run_with;
+use crate::tests::support::run_with;
 use std::sync::atomic::{AtomicBool, Ordering};
 use std::test::Fail;
 use std::thread;

@@ -1,6 +1,6 @@
 //! Runs that stop: which stop is told, and what the logs have then.
 
-use crate::support::{listing, run, run_with};
+use crate::tests::support::{listing, run, run_with};
 use lane_runner::Stop;
 use std::test::Fail;
 use sw_base::{MemLog, NoGate, Path, Trouble};

@@ -1,7 +1,7 @@
 //! Kernels without a race, whose logs are the same in each run: the words at the end, and the records of each log, in the order of
 //! the tasks' paths.
 
-use crate::support::{listing, run};
+use crate::tests::support::{listing, run};
 use std::test::Fail;
 
 // Each lane begins with the variables of the task that forks it, and gives none back.

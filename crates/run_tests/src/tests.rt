@@ -1,0 +1,4 @@
+mod at_once;
+mod records;
+mod stops;
+mod support;
