@@ -1,7 +1,8 @@
 //! The environment as the rest of the program sees it: a folder with its logs, what is printed, and a gate.
 //!
 //! What an object holds is optional: a real file tells nothing, and the versions in memory tell all. A clause on content
-//! says what holds where the object tells it. Counts of faults are always there, and never fall.
+//! says what holds where the object tells it. Counts of faults are always there, and never fall; they stay where a call did what it
+//! should, so a call that failed and was made again shows.
 ghost use Rattle.std.specs.Prelude.{◌≡◌, ◌+◌, ◌<◌, ◌≤◌, ℕ, List, [], ◌∷◌, ◌++◌, length, Option, unwrap_or, is_some, IfOk, IfErr, OnOk, OnErr, IsErrOf};
 ghost use Rattle.std.specs.Option.{option_map};
 ghost use Rattle.sw_base.specs.Environment.{Content, Text, WhereTold, Rose, HasCause, TakesFaults, Reads, LeavesPrefix, TearsPiece, GainsPrefix, with_put, with_log, with_piece, empty_text, gained};
@@ -37,7 +38,8 @@ pub trait Out {
         ensures done { OnOk result (written self.new ≡ gained (written self.old) piece.now) }
         ensures refused { OnErr result (GainsPrefix (written self.old) (written self.new) piece.now) }
         ensures memory { IsErrOf result Trouble.Memory → written self.new ≡ written self.old }
-        ensures cause { HasCause (faults self.old) (faults self.new) result };
+        ensures cause { HasCause (faults self.old) (faults self.new) result }
+        ensures no_fault { OnOk result (faults self.new ≡ faults self.old) };
 }
 
 /// The log of one task: the pieces of its bytes, as they are appended.
@@ -67,7 +69,8 @@ pub trait Log: Drop + Send + Sized {
         ensures same_path { path self.new ≡ path self.old }
         ensures same_text { text self.new ≡ text self.old }
         ensures memory_faults { IsErrOf result Trouble.Memory → faults self.new ≡ faults self.old }
-        ensures cause { HasCause (faults self.old) (faults self.new) result };
+        ensures cause { HasCause (faults self.old) (faults self.new) result }
+        ensures no_fault { OnOk result (faults self.new ≡ faults self.old) };
 
     /// Adds the piece to the log's end.
     fn append(&mut self, alloc: Global, piece: &[u8]) -> Result<(), Trouble>
@@ -78,7 +81,8 @@ pub trait Log: Drop + Send + Sized {
 
         ensures same_dir { dir self.new ≡ dir self.old }
         ensures same_path { path self.new ≡ path self.old }
-        ensures cause { HasCause (faults self.old) (faults self.new) result };
+        ensures cause { HasCause (faults self.old) (faults self.new) result }
+        ensures no_fault { OnOk result (faults self.new ≡ faults self.old) };
 }
 
 /// A map from names to files, in which logs are made and sealed. `size` and `read` count their faults by themselves.
@@ -100,6 +104,7 @@ pub trait Folder {
 
         ensures same { content self.new ≡ content self.old }
         ensures cause { HasCause (read_faults self.old) (read_faults self.new) result }
+        ensures no_fault { OnOk result (read_faults self.new ≡ read_faults self.old) }
         ensures same_writes { write_faults self.new ≡ write_faults self.old };
 
     /// Reads bytes of the named file, from the place `at` on, into the start of `into`, and answers how many. A file that
@@ -117,6 +122,7 @@ pub trait Folder {
 
         ensures same { content self.new ≡ content self.old }
         ensures cause { HasCause (read_faults self.old) (read_faults self.new) result }
+        ensures no_fault { OnOk result (read_faults self.new ≡ read_faults self.old) }
         ensures same_writes { write_faults self.new ≡ write_faults self.old };
 
     /// Makes the named file hold these bytes.
@@ -125,6 +131,7 @@ pub trait Folder {
         ensures refused { OnErr result (LeavesPrefix (content self.old) (content self.new) name.now bytes.now) }
 
         ensures cause { HasCause (write_faults self.old) (write_faults self.new) result }
+        ensures no_fault { OnOk result (write_faults self.new ≡ write_faults self.old) }
         ensures same_reads { read_faults self.new ≡ read_faults self.old };
 
     /// A new empty log for the root task, in the folder `dir`.
@@ -136,6 +143,7 @@ pub trait Folder {
 
         ensures same { content self.new ≡ content self.old }
         ensures cause { HasCause (write_faults self.old) (write_faults self.new) result }
+        ensures no_fault { OnOk result (write_faults self.new ≡ write_faults self.old) }
         ensures same_reads { read_faults self.new ≡ read_faults self.old };
 
     /// Makes the log's name hold its bytes, and notes the lengths of its pieces. An error hands the log back.
@@ -149,6 +157,7 @@ pub trait Folder {
 
         ensures log_faults { TakesFaults (Self.Log.faults log) (write_faults self.old) (write_faults self.new) }
         ensures cause { IfErr result (λ error. error.0 ≡ Trouble.Failed → Rose (write_faults self.old) (write_faults self.new)) }
+        ensures no_fault { OnOk result (Self.Log.faults log ≡ 0 → write_faults self.new ≡ write_faults self.old) }
         ensures same_reads { read_faults self.new ≡ read_faults self.old };
 
     /// Gives up a log.

@@ -183,6 +183,7 @@ impl Folder for MemFolder {
 
         ensures same { content_of self.new ≡ content_of self.old }
         ensures cause { HasCause (read_faults_of self.old) (read_faults_of self.new) result }
+        ensures no_fault { OnOk result (read_faults_of self.new ≡ read_faults_of self.old) }
         ensures same_writes { write_faults_of self.new ≡ write_faults_of self.old }
 
         ensures counts { CountsRead (IsErrOf result Trouble.Failed) self.old self.new }
@@ -208,6 +209,7 @@ impl Folder for MemFolder {
 
         ensures same { content_of self.new ≡ content_of self.old }
         ensures cause { HasCause (read_faults_of self.old) (read_faults_of self.new) result }
+        ensures no_fault { OnOk result (read_faults_of self.new ≡ read_faults_of self.old) }
         ensures same_writes { write_faults_of self.new ≡ write_faults_of self.old }
 
         ensures counts { CountsRead (IsErrOf result Trouble.Failed) self.old self.new }
@@ -228,6 +230,7 @@ impl Folder for MemFolder {
         ensures memory { IsErrOf result Trouble.Memory → content_of self.new ≡ content_of self.old }
 
         ensures cause { HasCause (write_faults_of self.old) (write_faults_of self.new) result }
+        ensures no_fault { OnOk result (write_faults_of self.new ≡ write_faults_of self.old) }
         ensures same_reads { read_faults_of self.new ≡ read_faults_of self.old }
 
         ensures counts { CountsWrite (IsErrOf result Trouble.Failed) self.old self.new }
@@ -250,6 +253,7 @@ impl Folder for MemFolder {
 
         ensures same { content_of self.new ≡ content_of self.old }
         ensures cause { HasCause (write_faults_of self.old) (write_faults_of self.new) result }
+        ensures no_fault { OnOk result (write_faults_of self.new ≡ write_faults_of self.old) }
         ensures same_reads { read_faults_of self.new ≡ read_faults_of self.old }
 
         ensures counts { CountsWrite (IsErrOf result Trouble.Failed) self.old self.new }
@@ -271,6 +275,7 @@ impl Folder for MemFolder {
 
         ensures log_faults { TakesFaults (faults_of log) (write_faults_of self.old) (write_faults_of self.new) }
         ensures cause { IfErr result (λ error. error.0 ≡ Trouble.Failed → Rose (write_faults_of self.old) (write_faults_of self.new)) }
+        ensures no_fault { OnOk result (faults_of log ≡ 0 → write_faults_of self.new ≡ write_faults_of self.old) }
         ensures same_reads { read_faults_of self.new ≡ read_faults_of self.old }
 
         ensures counts { CountsSeal (faults_of log ≡ 0) (IsErrAnd result (λ error. error.0 ≡ Trouble.Failed)) self.old self.new }

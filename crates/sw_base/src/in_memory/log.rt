@@ -166,6 +166,7 @@ impl Log for MemLog {
         ensures same_text { text_of self.new ≡ text_of self.old }
         ensures memory_faults { IsErrOf result Trouble.Memory → faults_of self.new ≡ faults_of self.old }
         ensures cause { HasCause (faults_of self.old) (faults_of self.new) result }
+        ensures no_fault { OnOk result (faults_of self.new ≡ faults_of self.old) }
 
         ensures counts { CountsLogCall (IsErrOf result Trouble.Failed) self.old self.new }
     {
@@ -186,6 +187,7 @@ impl Log for MemLog {
         ensures same_dir { dir_of self.new ≡ dir_of self.old }
         ensures same_path { path_of self.new ≡ path_of self.old }
         ensures cause { HasCause (faults_of self.old) (faults_of self.new) result }
+        ensures no_fault { OnOk result (faults_of self.new ≡ faults_of self.old) }
 
         ensures counts { CountsLogCall (IsErrOf result Trouble.Failed) self.old self.new }
     {

@@ -62,6 +62,7 @@ impl Out for MemOut {
         ensures refused { OnErr result (GainsPrefix (written_of self.old) (written_of self.new) piece.now) }
         ensures memory { IsErrOf result Trouble.Memory → written_of self.new ≡ written_of self.old }
         ensures cause { HasCause (faults_of self.old) (faults_of self.new) result }
+        ensures no_fault { OnOk result (faults_of self.new ≡ faults_of self.old) }
 
         ensures counts { CountsCall (IsErrOf result Trouble.Failed) (counted_of self.old) (counted_of self.new) }
     {
