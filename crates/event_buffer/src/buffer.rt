@@ -30,7 +30,7 @@ pub struct Buffer<L: Log> {
 }
 
 impl<L: Log> Model for Buffer<L> {
-    ghost use Rattle.std.specs.Prelude.{◌≡◌, ◌<◌, ◌≤◌, Some, length};
+    ghost use Rattle.std.specs.Prelude.{◌≡◌, ◌<◌, ◌≤◌, Some, None, length};
     ghost use Rattle.event_buffer.specs.Buffered.{Buffered, CountsFault};
     ghost use Rattle.log_format.specs.Limit.{record_limit};
     ghost use Rattle.sw_base.specs.declared.trouble.Trouble.{Trouble};
@@ -49,7 +49,7 @@ impl<L: Log> Model for Buffer<L> {
     } };
 
     ghost invariant = { λ b. (24 ≤ b.block.size) × (length b.block.bytes ≤ b.block.size) × (b.count ≤ record_limit)
-        × ((trouble : Trouble) → b.refused ≡ Some trouble → CountsFault trouble (L.faults b.log)) };
+        × ((trouble : Trouble) → b.refused ≡ Some trouble → CountsFault trouble (L.faults b.log)) × (b.refused ≡ None → L.faults b.log ≡ 0) };
 }
 
 impl<L: Log> Buffer<L> {
@@ -182,7 +182,7 @@ impl<L: Log> Buffer<L> {
         ensures again { (trouble : Trouble) → self.refused ≡ Some trouble
             → IsErr result × IfErr result (λ error. (error.0 ≡ trouble) × (L.text error.1 ≡ self.text)) }
         ensures fault { IfErr result (λ error. CountsFault error.0 (L.faults error.1)) }
-        ensures later { IfOk result (λ log. self.faults ≤ L.faults log) }
+        ensures no_fault { IfOk result (λ log. L.faults log ≡ 0) }
         ensures error_later { IfErr result (λ error. self.faults ≤ L.faults error.1) }
     {
         let mut buffer = self;
@@ -225,6 +225,7 @@ impl<L: Log> Buffer<L> {
         ensures torn { IfErr result (λ trouble. IsTornBy trouble self.old self.new) }
         ensures still { IsStill self.old self.new }
         ensures cause { HasCause self.old.faults self.new.faults result }
+        ensures no_fault { OnOk result (self.new.faults ≡ self.old.faults) }
     {
         if !self.is_waiting() {
             return Ok(());
@@ -237,6 +238,7 @@ impl<L: Log> Buffer<L> {
         ensures flushed { OnOk result (IsFlushed self.old self.new) }
         ensures torn { IfErr result (λ trouble. IsTornBy trouble self.old self.new) }
         ensures cause { HasCause self.old.faults self.new.faults result }
+        ensures no_fault { OnOk result (self.new.faults ≡ self.old.faults) }
     {
         match self.log.append(alloc, self.block.bytes()) {
             Ok(()) => {
@@ -257,6 +259,7 @@ impl<L: Log> Buffer<L> {
         ensures text { L.text result ≡ self.text }
         ensures faults { L.faults result ≡ self.faults }
         ensures cause { (trouble : Trouble) → self.refused ≡ Some trouble → CountsFault trouble self.faults }
+        ensures no_fault { self.refused ≡ None → L.faults result ≡ 0 }
     {
         let Buffer {
             log,
