@@ -1,6 +1,6 @@
 -- What regions hand on, one after another.
-use Rattle.std.proofs.Common.{◌≡◌, refl, ap, sym, ◌∙◌, subst, ℕ, suc, ◌+◌, List, [], ◌∷◌, ◌++◌, length, None, append_assoc, arith}
-use Rattle.std.proofs.lemmas.List.{append-nil, length-append}
+use Rattle.std.proofs.Common.{◌≡◌, refl, ap, sym, ◌∙◌, subst, ℕ, suc, ◌+◌, List, [], ◌∷◌, ◌++◌, length, replicate, Some, None, inr, append_assoc, arith}
+use Rattle.std.proofs.lemmas.List.{append-nil, length-append, length-replicate}
 use Rattle.std.proofs.lemmas.List.Elements.{Contains-append_right}
 use Rattle.std.specs.List.{flat_map}
 use Rattle.sw_base.specs.declared.path.Step.{Step}
@@ -9,7 +9,7 @@ use Rattle.log_format.specs.declared.record.Record.{Record}
 use Rattle.race_model.specs.Listing.{lane_of}
 use Rattle.history_model.specs.Work.{Work, Rest, RegionWork, work_regions, then_work}
 use Rattle.event_buffer.specs.Buffered.{Buffered, IsStill}
-use Rattle.lane_runner.specs.Handed.{Entry, LogPlace, MaybeStop, IsForMemory, MayLack, Keeps, IsEntryOf, TaskHands, RegionsHand, LanesHand, HasFaultyLog, HasCrowdedTask, TellStop, HandsOn, AreFew, place_of}
+use Rattle.lane_runner.specs.Handed.{Entry, LogPlace, MaybeStop, IsForMemory, IsTrouble, MayLack, Keeps, IsEntryOf, TaskHands, RegionsHand, LanesHand, HasFaultyLog, HasCrowdedTask, TellStop, HandsOn, AreFew, place_of}
 use Rattle.lane_runner.specs.Going.{Progress, WorkHandsOn, AreFewBefore}
 use Rattle.lane_runner.proofs.Working.{regions_then}
 
@@ -31,6 +31,20 @@ module _ (place : LogPlace) (stop other : MaybeStop) (memory : IsForMemory stop 
   keeps_weaker path too records size faults text (Keeps.whole all) = Keeps.whole all
   keeps_weaker path too records size faults text (Keeps.torn lacks prefix) = Keeps.torn (lacks_too path too faults lacks) prefix
 
+  -- where nothing lacks in the other, the one ended: else what lies far enough below its path may lack
+  ended_too : (path : List Step) → MayLackToo path → other ≡ None → stop ≡ None
+  ended_too path too ended = by stop refl where
+    step : Step
+    step = record { region = 0; lane = 0; span = 0 }
+
+    by : (s : MaybeStop) → stop ≡ s → s ≡ None
+    by None is = refl
+    by (Some stopped) is =
+        let below = replicate (suc (length stopped.0)) step in
+        let longer : (path ++ below ≡ stopped.0) → IsTrouble stopped.1 = λ same.
+            absurd (let e = ap (λ (p : List Step). length p) same in let l = length-append path below in let r = length-replicate (suc (length stopped.0)) step in omega (arith, e, l, r)) in
+        absurd (subst (λ (s : MaybeStop). MayLack s (path ++ below) 1) ended (too below 1 (subst (λ (s : MaybeStop). MayLack s (path ++ below) 1) (sym is) (inr (omega arith, longer)))))
+
   entry_weaker : (path : List Step) → MayLackToo path → (records : List Record) (e : Entry) → IsEntryOf place stop path records e → IsEntryOf place other path records e
   entry_weaker path too records e is = record {
     task = is.task;
@@ -39,6 +53,7 @@ module _ (place : LogPlace) (stop other : MaybeStop) (memory : IsForMemory stop 
     tells = is.tells;
     count = is.count;
     keeps = λ text told. keeps_weaker path too records place.size e.faults text (is.keeps text told);
+    faultless = λ ended. is.faultless (ended_too path too ended);
   }
 
   mutual

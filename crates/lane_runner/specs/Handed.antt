@@ -76,7 +76,7 @@ pub data Keeps (stop : MaybeStop) (path : List Step) (records : List Record) (si
   whole : HasAll (log_header FORMAT) records size text → Keeps stop path records size faults text
   torn : MayLack stop path faults → KeepsPrefix (log_header FORMAT) records size text → Keeps stop path records size faults text
 
--- the log of the task of this path, which put these records
+-- the log of the task of this path, which put these records; where the region ended, it counts no fault
 pub record IsEntryOf (place : LogPlace) (stop : MaybeStop) (path : List Step) (records : List Record) (e : Entry) : Type 0 where
   pub task : e.task ≡ path
   pub dir : e.dir ≡ place.dir
@@ -84,6 +84,7 @@ pub record IsEntryOf (place : LogPlace) (stop : MaybeStop) (path : List Step) (r
   pub tells : is_some e.text ≡ place.tells
   pub count : e.count ≡ length records
   pub keeps : WhereTold e.text (Keeps stop path records place.size e.faults)
+  pub faultless : stop ≡ None → e.faults ≡ 0
 
 module _ (place : LogPlace) (stop : MaybeStop) where
   mutual

@@ -73,6 +73,7 @@ pub fn write_index<F: Folder>(
     ensures refused { OnErr result (LeavesPrefix (F.content folder.old) (F.content folder.new) (index_name dir.now) (index_bytes FORMAT rows.now)) }
 
     ensures cause { HasCause (F.write_faults folder.old) (F.write_faults folder.new) result }
+    ensures no_fault { OnOk result (F.write_faults folder.new ≡ F.write_faults folder.old) }
     ensures same_reads { F.read_faults folder.new ≡ F.read_faults folder.old }
 {
     let name = index_name(alloc, dir)?;

@@ -23,10 +23,10 @@ holds_works old new works header l empty = subst (λ (rs : List Record). HoldsRe
 
 -- a buffer that is closed took all that waited
 pub closed_ok : (e : Entry) (path : List Step) (b held : Buffered) → held ≡ b → e.task ≡ path → (e.dir ≡ held.dir) × (e.path ≡ held.path) → is_some e.text ≡ is_some held.text → e.count ≡ held.count
-    → ((header : List ℕ) (records : List Record) → HoldsRecords header held records → WhereTold e.text (HasAll header records held.size)) → ((trouble : Trouble) → held.refused ≡ Some trouble → ⊥) → IsClosedAs e None path b
-closed_ok e path b held is task places tells count taken again =
+    → ((header : List ℕ) (records : List Record) → HoldsRecords header held records → WhereTold e.text (HasAll header records held.size)) → ((trouble : Trouble) → held.refused ≡ Some trouble → ⊥) → e.faults ≡ 0 → IsClosedAs e None path b
+closed_ok e path b held is task places tells count taken again faultless =
     subst (λ (x : Buffered). IsClosedAs e None path x) is
-    (record { task = task; dir = places.0; own = places.1; tells = tells; count = count; taken = taken; failed = λ told. no_trouble told; again = λ trouble told. absurd (again trouble told) })
+    (record { task = task; dir = places.0; own = places.1; tells = tells; count = count; taken = taken; failed = λ told. no_trouble told; faultless = λ told. faultless; again = λ trouble told. absurd (again trouble told) })
   where
     no_trouble : None ≡ Some Failed → 0 < e.faults
     no_trouble told = absurd cc
@@ -37,7 +37,7 @@ pub closed_err : (e : Entry) (path : List Step) (b held : Buffered) (trouble : T
     → IsClosedAs e (Some trouble) path b
 closed_err e path b held trouble is task places tells count taken fault again =
     subst (λ (x : Buffered). IsClosedAs e (Some trouble) path x) is
-    (record { task = task; dir = places.0; own = places.1; tells = tells; count = count; taken = taken; failed = λ told. fault (same_Some trouble Failed told); again = λ other told. ap (λ (t : Trouble). Some t) (again other told) })
+    (record { task = task; dir = places.0; own = places.1; tells = tells; count = count; taken = taken; failed = λ told. fault (same_Some trouble Failed told); faultless = λ told. absurd cc; again = λ other told. ap (λ (t : Trouble). Some t) (again other told) })
 
 pub none_refused : {T E : Type 0} (r : Result T E) (x : T) → r ≡ Ok x → IsErr r → ⊥
 none_refused {T} {E} r x is err = absurd_ok (subst (λ (y : Result T E). IsErr y) is err) where

@@ -60,6 +60,7 @@ module _ (crew : CrewValue) (lane : ℕ) (part : State → Outcome (Unit {0})) (
         subst (λ (n : ℕ). WhereTold c.own.text (HasTaken c.refused (log_header FORMAT) (works_log works) n)) (ap (λ (p : LogPlace). p.size) place_is)
         (closed.taken (log_header FORMAT) (works_log works) holds);
     failed = closed.failed;
+    faultless = closed.faultless;
     hands = handed h h_is hands;
     refusal = λ trouble told other. refusal trouble (sym h_is ∙ told) other;
     crowded = λ line told. crowded line (sym h_is ∙ told);
@@ -121,6 +122,7 @@ gave_nothing place c old_text trouble task dir own_path tells empty torn count b
   count = count;
   taken = subst (λ (r : Option Trouble). WhereTold c.own.text (HasTaken r (log_header FORMAT) [] place.size)) (sym refused) (λ text told. tears old_text empty text (sym torn.tears ∙ told));
   failed = λ told. failed (same_Some trouble Failed (sym refused ∙ told));
+  faultless = λ told. absurd (refuses (sym told ∙ refused));
   hands =
       subst (λ (h : Option Halt). HandsOn place (region_stop h) c.path 0 [] [] c.below) (sym halt_is)
       (subst (λ (es : List Entry). HandsOn place None c.path 0 [] [] es) (sym below) (hand_none place c.path 0 []));
@@ -129,6 +131,9 @@ gave_nothing place c old_text trouble task dir own_path tells empty torn count b
   under = λ path why told. absurd (goes (halt.Region path why) told);
 }
   where
+    refuses : None ≡ Some trouble → ⊥
+    refuses e = cc
+
     goes : (h : Halt) → c.halt ≡ Some h → ⊥
     goes h told = not_both (sym halt_is ∙ told) where
       not_both : None ≡ Some h → ⊥

@@ -98,10 +98,14 @@ module _ (place : LogPlace) (stop : MaybeStop) (works : List Work) (c : ClosedVa
   below_hand = subst (λ (es : List Entry). RegionsHand place (region_stop c.halt) c.path 0 (flat_map work_regions works) es) (sym gave.hands.grows) gave.hands.hands
 
   own_entry : ((trouble : Trouble) → c.refused ≡ Some trouble → MayLack stop c.path c.own.faults) → IsEntryOf place stop c.path (works_log works) c.own
-  own_entry lacks = record { task = gave.task; dir = gave.dir; own = gave.own_path; tells = gave.tells; count = gave.count; keeps = λ text told. by c.refused refl text (gave.taken text told) } where
+  own_entry lacks = record { task = gave.task; dir = gave.dir; own = gave.own_path; tells = gave.tells; count = gave.count; keeps = λ text told. by c.refused refl text (gave.taken text told); faultless = λ ended. gave.faultless (unrefused ended c.refused refl) } where
     by : (r : Option Trouble) → c.refused ≡ r → (text : Text) → HasTaken r (log_header FORMAT) (works_log works) place.size text → Keeps stop c.path (works_log works) place.size c.own.faults text
     by None is text all = Keeps.whole all
     by (Some trouble) is text prefix = Keeps.torn (lacks trouble is) prefix
+
+    unrefused : stop ≡ None → (r : Option Trouble) → c.refused ≡ r → r ≡ None
+    unrefused ended None is = refl
+    unrefused ended (Some trouble) is = absurd (subst (λ (s : MaybeStop). MayLack s c.path c.own.faults) ended (lacks trouble is))
 
   -- they are there, and what may lack in them may in a region that stopped so
   pub lane_given : ((trouble : Trouble) → c.refused ≡ Some trouble → MayLack stop c.path c.own.faults) → (IsForMemory (region_stop c.halt) → IsForMemory stop)

@@ -34,6 +34,7 @@ module _ (place : LogPlace) (path : List Step) (slots : List ℤ) (draws : HandV
       count = closes.1.count ∙ begins.none_put;
       taken = λ text told. subst (λ (n : ℕ). HasTaken c.refused (log_header FORMAT) [] n text) (ap (λ (p : LogPlace). p.size) begins.place_is) (closes.1.taken (log_header FORMAT) [] begins.holds text told);
       failed = closes.1.failed;
+      faultless = closes.1.faultless;
       hands =
           subst (λ (es : List Entry). HandsOn place (region_stop c.halt) c.path 0 [] [] es) (sym (closes.2 ∙ begins.none_handed))
           (subst (λ (h : Option Halt). HandsOn place (region_stop h) c.path 0 [] [] []) (sym none) (hand_none place c.path 0 []));

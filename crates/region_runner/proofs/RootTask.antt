@@ -124,6 +124,7 @@ gave_rest place c g = record {
   count = g.count;
   taken = g.taken;
   failed = g.failed;
+  faultless = g.faultless;
   hands = g.hands;
   refusal = g.refusal;
   crowded = g.crowded;

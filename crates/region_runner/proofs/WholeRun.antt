@@ -5,6 +5,7 @@ use Rattle.std.specs.List.{flat_map}
 use Rattle.std.specs.Option.{option_map}
 use Rattle.std.proofs.lemmas.Bool.{cases_lt}
 use Rattle.std.proofs.lemmas.List.{append-nil}
+use Rattle.std.proofs.lemmas.List.Elements.{All-cons, All-nil}
 use Rattle.std.proofs.lemmas.List.Sums.{sum_by-cons}
 use Rattle.sw_base.specs.declared.path.Step.{Step}
 use Rattle.sw_base.specs.declared.trouble.Trouble.TheVariants.{Memory}
@@ -48,7 +49,7 @@ use Rattle.lane_runner.specs.Stopping.{LastIsRegionAt}
 use Rattle.lane_runner.specs.World.{HaveOwnWords, element_address, element_word, layout_of}
 use Rattle.lane_runner.proofs.HandedTasks.{tree_listed}
 use Rattle.lane_runner.proofs.OwnWords.{bounded_world}
-use Rattle.region_runner.specs.Answer.{EndsTask, HasRun, HasStoppedRun, IsLeast, IsRun, StopsIn, whole_log, whole_outline}
+use Rattle.region_runner.specs.Answer.{AreFaultless, EndsTask, HasRun, HasStoppedRun, IsLeast, IsRun, StopsIn, whole_log, whole_outline}
 use Rattle.region_runner.specs.Nesting.{NestsWithin}
 use Rattle.region_runner.specs.Gathering.{ClosedValue}
 use Rattle.region_runner.specs.Root.{IsSettled, RanRoot, RootRests, StopsRoot}
@@ -131,6 +132,17 @@ module _ {T : Type 0} (seen : LogView T) (dir : List ℕ) (size : ℕ) (root : O
       ap (λ (log : HandedLog). log ∷ map handed items) (log_whole task item (subst (λ (x : Entry). IsEntryOf place None task.path task.records x) first is))
       ∙ ap (λ (logs : List HandedLog). whole_log dir size root task ∷ logs) (all_whole tasks items es others rest)
   all_whole _ items _ same (AreEntriesOf.missing task tasks es none rest) = absurd none
+
+  -- none counts a fault
+  all_faultless : (tasks : Trace) (items : List (List Step × T × ℕ)) (es : List Entry) → es ≡ entries_of seen items → AreEntriesOf place None tasks es → AreFaultless seen.faults items
+  all_faultless _ [] _ same AreEntriesOf.no_task = All-nil _
+  all_faultless _ (item ∷ items) _ same AreEntriesOf.no_task = absurd cc
+  all_faultless _ [] _ same (AreEntriesOf.given task tasks e es is rest) = absurd cc
+  all_faultless _ (item ∷ items) _ same (AreEntriesOf.given task tasks e es is rest) =
+      let first : e ≡ entry_of seen item = cc in
+      let others : es ≡ entries_of seen items = cc in
+      All-cons _ item items (sym (ap (λ (x : Entry). x.faults) first) ∙ is.faultless refl) (all_faultless tasks items es others rest)
+  all_faultless _ items _ same (AreEntriesOf.missing task tasks es none rest) = absurd none
 
 -- as many as there are tasks
 as_many : (at : LogPlace) (tasks : Trace) (es : List Entry) → AreEntriesOf at None tasks es → length tasks ≡ length es
@@ -240,6 +252,9 @@ module _ (program : Program) (lawful : IsLawful program) (dir : List ℕ) (size 
 
     pub has_run : {T : Type 0} (seen : LogView T) (items : List (List Step × T × ℕ)) → logs ≡ entries_of seen items → HasRun program dir size root (map (handed_log seen.dir seen.path seen.text) items) words
     has_run seen items same = record { tasks = tasks; run = is_run; logs_are = all_whole seen dir size root tasks items logs same ended_entries; few = few_tasks }
+
+    pub has_no_fault : {T : Type 0} (seen : LogView T) (items : List (List Step × T × ℕ)) → logs ≡ entries_of seen items → AreFaultless seen.faults items
+    has_no_fault seen items same = all_faultless seen dir size root tasks items logs same ended_entries
 
 -- ---- no memory was found for the words
 

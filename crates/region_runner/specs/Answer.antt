@@ -1,5 +1,5 @@
 -- What a run of a kernel answers.
-use Rattle.std.specs.Prelude.{◌≡◌, ◌⊎◌, ℕ, ◌<◌, ◌≤◌, List, [], ◌∷◌, ◌++◌, length, map, Option, Some, is_some}
+use Rattle.std.specs.Prelude.{◌≡◌, ◌⊎◌, ℕ, ◌<◌, ◌≤◌, List, [], ◌∷◌, ◌++◌, length, map, All, Option, Some, is_some}
 use Rattle.std.specs.Option.{option_map}
 use Rattle.log_format.specs.declared.format.TheConstants.{FORMAT}
 use Rattle.log_format.specs.declared.record.Record.{Record}
@@ -59,6 +59,10 @@ pub record HasRun (program : Program) (dir : List ℕ) (size : ℕ) (root : Opti
   pub run : IsRun program tasks words
   pub logs_are : logs ≡ map (whole_log dir size root) tasks
   pub few : length tasks ≤ max_rows
+
+-- none of these logs counts a fault
+abbrev pub AreFaultless : {L : Type 0} → (L → ℕ) → List (List Step × L × ℕ) → Type 0
+AreFaultless faults_of entries = All (λ e. faults_of e.1 ≡ 0) entries
 
 -- the task of this path starts where the run forks it, and its log is its whole trace, which ends so
 pub record EndsTask (program : Program) (tasks : Trace) (path : List Step) (end : Ending) : Type 0 where

@@ -23,4 +23,5 @@ pub record IsClosedAs (e : Entry) (refused : Option Trouble) (path : List Step) 
   pub count : e.count ≡ b.count
   pub taken : (header : List ℕ) (records : List Record) → HoldsRecords header b records → WhereTold e.text (HasTaken refused header records b.size)
   pub failed : refused ≡ Some Failed → 0 < e.faults
+  pub faultless : refused ≡ None → e.faults ≡ 0
   pub again : (trouble : Trouble) → b.refused ≡ Some trouble → refused ≡ Some trouble

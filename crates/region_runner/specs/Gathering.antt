@@ -52,6 +52,7 @@ pub record LaneGave (place : LogPlace) (works : List Work) (c : ClosedValue) : T
   pub count : c.own.count ≡ length (works_log works)
   pub taken : WhereTold c.own.text (HasTaken c.refused (log_header FORMAT) (works_log works) place.size)
   pub failed : c.refused ≡ Some Failed → 0 < c.own.faults
+  pub faultless : c.refused ≡ None → c.own.faults ≡ 0
   pub hands : HandsOn place (region_stop c.halt) c.path 0 (flat_map work_regions works) [] c.below
   pub refusal : (trouble : Trouble) → c.halt ≡ Some (halt.Trouble trouble) → trouble ≢ Memory → c.refused ≡ Some trouble
   pub crowded : (line : ℕ) → c.halt ≡ Some (halt.Tasks line) → task_limit < length c.below

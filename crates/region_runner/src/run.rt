@@ -6,7 +6,7 @@ ghost use Rattle.kernel_syntax.specs.Layout.{IsWithinLimits, elements};
 ghost use Rattle.kernel_syntax.specs.Program.{program_of};
 ghost use Rattle.kernel_model.specs.Lawful.{IsLawful};
 ghost use Rattle.lane_runner.specs.Handed.{entries_of};
-ghost use Rattle.region_runner.specs.Answer.{HasRun, HasStoppedRun, IsBufferSize};
+ghost use Rattle.region_runner.specs.Answer.{AreFaultless, HasRun, HasStoppedRun, IsBufferSize};
 
 use crate::ground::Ground;
 use crate::root::{run_root, settle};
@@ -61,8 +61,9 @@ pub fn run_kernel<R: Threads + Wait + Sync, L: Log, G: Gate>(
     requires size { IsBufferSize size }
 
     // A run that ended: the logs are those of the kernel's tasks, each with its whole trace under what it read, cut into pieces that fill
-    // the buffer, and all that they did has one legal history, which ends in the words.
+    // the buffer, and all that they did has one legal history, which ends in the words. No call on a log failed.
     ensures finished { IfOk result (λ f. HasRun (program_of kernel.now) (L.dir root) size (L.text root) (map (handed_log L.dir L.path L.text) f.logs.items) f.words.items) }
+    ensures no_fault { IfOk result (λ f. AreFaultless L.faults f.logs.items) }
 
     // A run that stopped: the logs are those of the beginning of such a run, and tell why it stopped.
     ensures stopped { IfErr result (λ s. HasStoppedRun (program_of kernel.now) (L.dir root) size (L.text root)

@@ -8,6 +8,7 @@ use Rattle.sw_base.specs.declared.trouble.Trouble.{Trouble}
 use Rattle.sw_base.specs.Environment.{Content, LeavesPrefix, Outline, Text, WhereTold, outline_of, with_log, with_put}
 use Rattle.sw_base.specs.Names.{log_name}
 use Rattle.sw_base.specs.HandedLog.{HandedLog, IsOwnLog, SealsPrefix, between, handed_log, outline, sealed_name, torn, with_sealed, with_told}
+use Rattle.region_runner.specs.Answer.{AreFaultless}
 use Rattle.run_command.specs.Seals.{RaiseFaults, Seals, SealsAll, TellsSuch, all_logged}
 
 -- some logs, and more after them
@@ -120,3 +121,14 @@ pub faults_push : {L : Type 0} (faults_of : L → ℕ) (entries : List (List Ste
     → (0 < faults_of last.1 → more) → RaiseFaults faults_of (entries ++ last ∷ []) more
 faults_push faults_of entries last rose more rises before own =
     All-push (λ e. 0 < faults_of e.1 → more) entries last (faults_weaker faults_of entries rose more rises before) own
+
+-- one more log was sealed after others, none of which counted a fault, and nor does it
+pub faultless_push : {L : Type 0} (faults_of : L → ℕ) (entries : List (List Step × L × ℕ)) (last : List Step × L × ℕ) (so_far r : Result (Unit {0}) Trouble) (mid_told new_told : Option Content) (old mid new : ℕ)
+    → OnOk so_far (AreFaultless faults_of entries → mid ≡ old) → OnOk so_far (OnOk r (faults_of last.1 ≡ 0 → new ≡ mid)) → OnErr so_far ((r ≡ so_far) × (new_told ≡ mid_told))
+    → OnOk r (AreFaultless faults_of (entries ++ last ∷ []) → new ≡ old)
+faultless_push faults_of entries last (Ok x) (Ok y) mid_told new_told old mid new before one given_up = λ all.
+    let parts = All-pop (λ e. faults_of e.1 ≡ 0) (entries ++ last ∷ []) entries (Some last) refl all in
+    one parts.1 ∙ before parts.0
+faultless_push faults_of entries last (Ok x) (Err trouble) mid_told new_told old mid new before one given_up = tt
+faultless_push faults_of entries last (Err trouble) (Ok y) mid_told new_told old mid new before one given_up = absurd cc
+faultless_push faults_of entries last (Err trouble) (Err other) mid_told new_told old mid new before one given_up = tt

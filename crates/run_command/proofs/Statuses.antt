@@ -1,5 +1,5 @@
 -- What the status of a run tells of the files.
-use Rattle.std.proofs.Common.{◌≡◌, ◌⊎◌, sym, ap, subst, ◌∙◌, inl, inr, ℕ, List, None, Some, true≢false}
+use Rattle.std.proofs.Common.{◌≡◌, ◌⊎◌, sym, ap, subst, ◌∙◌, inl, inr, ℕ, List, Option, None, Some, true≢false}
 use Rattle.std.proofs.lemmas.Option.{none-some, same_Some}
 use Rattle.std.specs.Prelude.{is_some}
 use Rattle.sw_base.specs.Environment.{Content, Files}
@@ -7,10 +7,11 @@ use Rattle.sw_base.specs.Names.{index_name}
 use Rattle.kernel_syntax.specs.Program.{Program}
 use Rattle.kernel_reader.specs.KernelOf.{IsKernelOf}
 use Rattle.kernel_file.specs.Holding.{HoldsKernel}
+use Rattle.command_answer.specs.Answer.{IsFailure, Tries}
 use Rattle.command_answer.specs.declared.status.TheConstants.{DONE, INDEX_THERE, KERNEL_REFUSED, KERNEL_STOPPED}
 use Rattle.run_command.specs.declared.outcome.Outcome.{Outcome}
 use Rattle.run_command.specs.declared.outcome.Outcome.TheVariants.{NoKernel, Refused, IndexThere, Stopped, Ran, ReadFault, WriteFault, NoMemory}
-use Rattle.run_command.specs.Outcomes.{IsDue}
+use Rattle.run_command.specs.Outcomes.{IsDue, due_status}
 use Rattle.run_command.specs.Run.{CameOut, CanBegin, HasIndex, HoldsNoKernel, RunDue, TellsFiles, no_file, no_kernel}
 
 module _ (files : Files) (kernel dir : List ℕ) where
@@ -59,3 +60,18 @@ module _ (rose : Type 0) (kernel dir : List ℕ) (size : ℕ) (old new : Content
   -- the status that is due tells what the files hold
   pub due_tells : RunDue rose kernel dir size old new status text → TellsFiles old.held kernel dir status
   due_tells due = came_tells due.outcome due.came due.due
+
+-- with status 0 the outcome is a run that ended
+pub done_so : (outcome : Outcome) (old new : Option (List ℕ)) (status : ℕ) → Tries (IsDue outcome) old new status → status ≡ DONE → due_status outcome ≡ DONE
+done_so outcome old new status tries is = by tries where
+  fails : IsFailure status → due_status outcome ≡ DONE
+  fails failure = absurd (no_failure (subst (λ (s : ℕ). IsFailure s) is failure)) where
+    no_failure : IsFailure DONE → ⊥
+    no_failure (inl e) = cc
+    no_failure (inr (inl e)) = cc
+    no_failure (inr (inr e)) = cc
+
+  by : Tries (IsDue outcome) old new status → due_status outcome ≡ DONE
+  by (Tries.done text due prints) = sym due.status_is ∙ is
+  by (Tries.broken_off failure other text due prefix) = fails failure
+  by (Tries.silent failure same) = fails failure

@@ -3,12 +3,13 @@ ghost use Rattle.std.specs.Prelude.{◌≡◌, ◌≤◌, ℕ, List, Some, map, 
 ghost use Rattle.sw_base.specs.Environment.{Rose, Text, WhereTold};
 ghost use Rattle.sw_base.specs.declared.trouble.Trouble.TheVariants as trouble;
 ghost use Rattle.race_model.specs.IndexFault.{AreRows};
+ghost use Rattle.command_answer.specs.declared.status.TheConstants.{DONE};
 ghost use Rattle.kernel_syntax.specs.Program.{Program, program_of};
 ghost use Rattle.kernel_model.specs.Lawful.{IsLawful};
 ghost use Rattle.lane_runner.specs.Handed.{HasFaultyLog, entries_of};
 ghost use Rattle.lane_runner.specs.declared.stop.Stop.TheVariants as stop;
-ghost use Rattle.region_runner.specs.Answer.{HasRun, HasStoppedRun, IsBufferSize};
-ghost use Rattle.run_command.specs.Outcomes.{unwritten};
+ghost use Rattle.region_runner.specs.Answer.{AreFaultless, HasRun, HasStoppedRun, IsBufferSize};
+ghost use Rattle.run_command.specs.Outcomes.{due_status, unwritten};
 ghost use Rattle.run_command.specs.Run.{CameOut, CanRun, EndsSo};
 ghost use Rattle.run_command.specs.RunTexts.{told_stop};
 ghost use Rattle.run_command.specs.Seals.{RaiseFaults, all_logged, row_of_entry};
@@ -50,6 +51,7 @@ fn finish<F: Folder>(
     ensures tells { is_some (F.content folder.new) ≡ is_some (F.content folder.old) }
     ensures faulty { RaiseFaults F.Log.faults finished.logs.items (Rose (F.write_faults folder.old) (F.write_faults folder.new)) }
     ensures write_fault { result ≡ outcome.WriteFault → Rose (F.write_faults folder.old) (F.write_faults folder.new) }
+    ensures no_fault { AreFaultless F.Log.faults finished.logs.items → due_status result ≡ DONE → F.write_faults folder.new ≡ F.write_faults folder.old }
     ensures no_read { result ≡ outcome.ReadFault → ⊥ }
 {
     let Finished { logs, words } = finished;
@@ -87,6 +89,7 @@ fn stop<F: Folder>(alloc: Global, stopped: Stopped<F::Log>, folder: &mut F) -> O
     ensures write_fault { (stopped.why ≡ stop.Trouble trouble.Failed
         → HasFaultyLog stopped.path (entries_of (record { dir = F.Log.dir; path = F.Log.path; text = F.Log.text; faults = F.Log.faults }) stopped.logs.items))
         → result ≡ outcome.WriteFault → Rose (F.write_faults folder.old) (F.write_faults folder.new) }
+    ensures not_done { due_status result ≡ DONE → ⊥ }
     ensures no_read { result ≡ outcome.ReadFault → ⊥ }
 {
     let Stopped {
@@ -123,6 +126,7 @@ fn execute<R: Threads + Wait + Sync, F: Folder, G: Gate>(
         (F.content folder.old) (F.content folder.new) result }
     ensures tells { is_some (F.content folder.new) ≡ is_some (F.content folder.old) }
     ensures write_fault { result ≡ outcome.WriteFault → Rose (F.write_faults folder.old) (F.write_faults folder.new) }
+    ensures no_fault { due_status result ≡ DONE → F.write_faults folder.new ≡ F.write_faults folder.old }
     ensures no_read { result ≡ outcome.ReadFault → ⊥ }
 {
     let root = match folder.root(alloc, dir) {
@@ -153,6 +157,7 @@ pub fn run<R: Threads + Wait + Sync, F: Folder, G: Gate>(
     ensures reads { result ≡ outcome.ReadFault → F.content folder.new ≡ F.content folder.old }
     ensures read_fault { result ≡ outcome.ReadFault → Rose (F.read_faults folder.old) (F.read_faults folder.new) }
     ensures write_fault { result ≡ outcome.WriteFault → Rose (F.write_faults folder.old) (F.write_faults folder.new) }
+    ensures no_fault { due_status result ≡ DONE → F.write_faults folder.new ≡ F.write_faults folder.old }
     ensures only_runs_write { WhereTold (F.content folder.old) (λ c. ((p : Program) → CanRun c.held kernel.now dir.now p → ⊥) → result ≡ outcome.WriteFault → ⊥) }
     ensures same_writes { WhereTold (F.content folder.old) (λ c. ((p : Program) → CanRun c.held kernel.now dir.now p → ⊥) →
         F.write_faults folder.new ≡ F.write_faults folder.old) }

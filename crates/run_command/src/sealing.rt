@@ -4,6 +4,7 @@ ghost use Rattle.std.specs.Option.{option_map};
 ghost use Rattle.sw_base.specs.Environment.{WhereTold, Rose, HasCause, TakesFaults, LeavesPrefix, with_log};
 ghost use Rattle.sw_base.specs.Names.{log_name};
 ghost use Rattle.race_model.specs.IndexFault.{AreRows};
+ghost use Rattle.region_runner.specs.Answer.{AreFaultless};
 ghost use Rattle.run_command.specs.Seals.{RaiseFaults};
 ghost use Rattle.run_command.specs.Seals.{SealsAll, StoresAll, StoresPrefix, all_logged, row_of_entry};
 
@@ -20,6 +21,7 @@ fn seal_one<F: Folder>(alloc: Global, folder: &mut F, log: F::Log) -> Result<(),
     ensures tells { is_some (F.content folder.new) ≡ is_some (F.content folder.old) }
     ensures log_faults { TakesFaults (F.Log.faults log) (F.write_faults folder.old) (F.write_faults folder.new) }
     ensures cause { HasCause (F.write_faults folder.old) (F.write_faults folder.new) result }
+    ensures no_fault { OnOk result (F.Log.faults log ≡ 0 → F.write_faults folder.new ≡ F.write_faults folder.old) }
 {
     match folder.seal(alloc, log) {
         Ok(()) => Ok(()),
@@ -45,6 +47,7 @@ fn seal_next<F: Folder>(
     ensures tells { is_some (F.content folder.new) ≡ is_some (F.content folder.old) }
     ensures log_faults { TakesFaults (F.Log.faults log) (F.write_faults folder.old) (F.write_faults folder.new) }
     ensures cause { IsErrOf result Trouble.Failed → IsErrOf so_far Trouble.Failed ⊎ Rose (F.write_faults folder.old) (F.write_faults folder.new) }
+    ensures no_fault { OnOk so_far (OnOk result (F.Log.faults log ≡ 0 → F.write_faults folder.new ≡ F.write_faults folder.old)) }
 {
     match so_far {
         Ok(()) => seal_one(alloc, folder, log),
@@ -65,6 +68,7 @@ pub fn seal_all<F: Folder>(
     ensures tells { is_some (F.content folder.new) ≡ is_some (F.content folder.old) }
     ensures faulty { RaiseFaults F.Log.faults logs.items (Rose (F.write_faults folder.old) (F.write_faults folder.new)) }
     ensures cause { HasCause (F.write_faults folder.old) (F.write_faults folder.new) result }
+    ensures no_fault { OnOk result (AreFaultless F.Log.faults logs.items → F.write_faults folder.new ≡ F.write_faults folder.old) }
 {
     let mut outcome = Ok(());
     for (_, log, _) in logs {
@@ -124,6 +128,7 @@ pub fn store<F: Folder>(
     ensures tells { is_some (F.content folder.new) ≡ is_some (F.content folder.old) }
     ensures faulty { RaiseFaults F.Log.faults logs.items (Rose (F.write_faults folder.old) (F.write_faults folder.new)) }
     ensures cause { HasCause (F.write_faults folder.old) (F.write_faults folder.new) result }
+    ensures no_fault { OnOk result (AreFaultless F.Log.faults logs.items → F.write_faults folder.new ≡ F.write_faults folder.old) }
 {
     let Ok(rows) = index_rows(alloc, &logs) else {
         discard_all(folder, logs);

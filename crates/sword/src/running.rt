@@ -5,7 +5,7 @@ ghost use Rattle.kernel_syntax.specs.Program.{Program};
 ghost use Rattle.region_runner.specs.Answer.{IsBufferSize};
 ghost use Rattle.run_command.specs.Run.{CanRun, LeavesPart, RunDue};
 ghost use Rattle.command_answer.specs.Answer.{IsFailure, Tries};
-ghost use Rattle.command_answer.specs.declared.status.TheConstants.{USAGE, READ_FAULT, WRITE_FAULT};
+ghost use Rattle.command_answer.specs.declared.status.TheConstants.{DONE, USAGE, READ_FAULT, WRITE_FAULT};
 
 use run_command::{print_outcome, run};
 use std::alloc::Global;
@@ -32,6 +32,7 @@ pub fn run_file<R: Threads + Wait + Sync, F: Folder, O: Out, G: Gate>(
     ensures reads { result ≡ READ_FAULT → F.content folder.new ≡ F.content folder.old }
     ensures read_fault { result ≡ READ_FAULT → Rose (F.read_faults folder.old) (F.read_faults folder.new) }
     ensures write_fault { result ≡ WRITE_FAULT → Rose (O.faults out.old) (O.faults out.new) ⊎ Rose (F.write_faults folder.old) (F.write_faults folder.new) }
+    ensures no_fault { result ≡ DONE → F.write_faults folder.new ≡ F.write_faults folder.old }
     ensures only_printed { WhereTold (F.content folder.old) (λ c. ((p : Program) → CanRun c.held kernel.now dir.now p → ⊥) →
         result ≡ WRITE_FAULT → Rose (O.faults out.old) (O.faults out.new)) }
     ensures same_writes { WhereTold (F.content folder.old) (λ c. ((p : Program) → CanRun c.held kernel.now dir.now p → ⊥) →

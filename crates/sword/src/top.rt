@@ -8,7 +8,7 @@ ghost use Rattle.sword.specs.Gen.{GenDue};
 ghost use Rattle.sword.specs.Replay.{ReplayDue};
 ghost use Rattle.sword.specs.Show.{ShowsRecords};
 ghost use Rattle.sword.specs.Arguments.{AsksRun, BeginsRun, IsUsage, SaysCheck, SaysGen, SaysReplay, SaysRun, SaysShow, UsageDue, texts};
-ghost use Rattle.command_answer.specs.declared.status.TheConstants.{USAGE, READ_FAULT, WRITE_FAULT};
+ghost use Rattle.command_answer.specs.declared.status.TheConstants.{DONE, USAGE, READ_FAULT, WRITE_FAULT};
 
 use crate::arguments::{Command, read_arguments};
 use crate::checking::check;
@@ -68,10 +68,11 @@ pub fn sword<R: Threads + Wait + Sync, F: Folder, O: Out, G: Gate>(
         WhereTold (F.content folder.new) (λ d. IsFailure result → LeavesPart (Rose (F.write_faults folder.old) (F.write_faults folder.new)) kernel dir size c d)) }
     ensures run_reads { result ≡ READ_FAULT → F.content folder.new ≡ F.content folder.old }
 
-    // A fault has its cause, and only a run that can begin writes anything.
+    // A fault has its cause, and only a run that can begin writes anything. With status 0 no call failed that writes: none was made again.
     ensures read_fault { result ≡ READ_FAULT → Rose (F.read_faults folder.old) (F.read_faults folder.new) }
     ensures write_fault { result ≡ WRITE_FAULT → Rose (O.faults out.old) (O.faults out.new)
         ⊎ (AsksRun (texts arguments.now) × Rose (F.write_faults folder.old) (F.write_faults folder.new)) }
+    ensures no_fault { result ≡ DONE → F.write_faults folder.new ≡ F.write_faults folder.old }
     ensures only_printed { WhereTold (F.content folder.old) (λ c. (BeginsRun (texts arguments.now) c.held → ⊥) →
         result ≡ WRITE_FAULT → Rose (O.faults out.old) (O.faults out.new)) }
     ensures no_writes { WhereTold (F.content folder.old) (λ c. (BeginsRun (texts arguments.now) c.held → ⊥) →

@@ -6,7 +6,7 @@ use Rattle.region_runner.proofs.closing.close.Goals as goal
 pub returns-in-Ok-clause-closed : goal.returns-in-Ok-clause-closed
 returns-in-Ok-clause-closed g c =
     closed_ok _ c.args.member.path c.args.member.at.buffer c.into_parts-hand.result.1 (c.into_parts-hand.ensures.buffer ∙ ap (λ (p : Progress). p.buffer) c.into_parts-path.ensures.track) c.into_parts-path.ensures.path c.in-Ok.ensures.dir c.in-Ok.ensures.tells
-    c.count-count.ensures.count c.in-Ok.ensures.closed (λ trouble told. none_refused c.close.result c.in-Ok.log c.in-Ok.is (c.close.ensures.again trouble told).0)
+    c.count-count.ensures.count c.in-Ok.ensures.closed (λ trouble told. none_refused c.close.result c.in-Ok.log c.in-Ok.is (c.close.ensures.again trouble told).0) c.in-Ok.ensures.no_fault
 
 pub returns-clause-closed : goal.returns-clause-closed
 returns-clause-closed g c =

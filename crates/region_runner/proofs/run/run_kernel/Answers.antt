@@ -12,7 +12,7 @@ use Rattle.lane_runner.specs.declared.stop.Stop.TheVariants as stop
 use Rattle.sw_base.specs.declared.trouble.Trouble.TheVariants as trouble
 use Rattle.region_runner.specs.Answer.{HasStoppedRun}
 use Rattle.region_runner.specs.Ground.{GroundValue, IsGround}
-use Rattle.region_runner.proofs.WholeRun.{has_run, has_stopped, stopped_at_once}
+use Rattle.region_runner.proofs.WholeRun.{has_no_fault, has_run, has_stopped, stopped_at_once}
 use Rattle.region_runner.proofs.run.run_kernel.Goals as goal
 
 pub returns-in_default-clause-stopped : goal.returns-in_default-clause-stopped
@@ -42,6 +42,17 @@ returns-in-Ok-answer-clause-finished g c =
     let long : length c.close-words.result.words.items ≡ elements c.args.kernel.now.arrays =
     sym c.close-words.result.words.ok.0 ∙ c.close-words.ensures.len ∙ c.in-Ok.ensures.counts.0 ∙ c.element_count.ensures ∙ ap (λ (xs : List Array). elements xs) c.as_slice-arrays.ensures in
     has_run program c.requires.lawful (g.L.Log.dir c.args.root) c.args.size c.new-ground.result.size (g.L.Log.text c.args.root) c.in-Ok.words.table c.in-Ok.hand c.run_root-closed.new.hand c.run_root-closed.result
+    (entries_of {T = g.row.L.Denot} seen c.settle.result.0.items) c.settle.result.1 c.close-words.result.words.items (ap (λ (v : GroundValue). v.size) c.new-ground.ensures) c.in-Ok.ensures.hand c.run_root-closed.ensures.ran c.settle.ensures
+    (omega (arith, long)) c.close-words.ensures.history
+    c.in-Ok-answer.is long seen c.settle.result.0.items refl
+
+pub returns-in-Ok-answer-clause-no_fault : goal.returns-in-Ok-answer-clause-no_fault
+returns-in-Ok-answer-clause-no_fault g c =
+    let program = program_of c.args.kernel.now in
+    let seen : LogView g.row.L.Denot = record { dir = g.L.Log.dir; path = g.L.Log.path; text = g.L.Log.text; faults = g.L.Log.faults } in
+    let long : length c.close-words.result.words.items ≡ elements c.args.kernel.now.arrays =
+    sym c.close-words.result.words.ok.0 ∙ c.close-words.ensures.len ∙ c.in-Ok.ensures.counts.0 ∙ c.element_count.ensures ∙ ap (λ (xs : List Array). elements xs) c.as_slice-arrays.ensures in
+    has_no_fault program c.requires.lawful (g.L.Log.dir c.args.root) c.args.size c.new-ground.result.size (g.L.Log.text c.args.root) c.in-Ok.words.table c.in-Ok.hand c.run_root-closed.new.hand c.run_root-closed.result
     (entries_of {T = g.row.L.Denot} seen c.settle.result.0.items) c.settle.result.1 c.close-words.result.words.items (ap (λ (v : GroundValue). v.size) c.new-ground.ensures) c.in-Ok.ensures.hand c.run_root-closed.ensures.ran c.settle.ensures
     (omega (arith, long)) c.close-words.ensures.history
     c.in-Ok-answer.is long seen c.settle.result.0.items refl

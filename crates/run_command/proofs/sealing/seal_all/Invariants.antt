@@ -1,6 +1,7 @@
-use Rattle.std.proofs.Common.{◌≡◌, ◌≤◌, is_some, IsErrOf}
+use Rattle.std.proofs.Common.{◌≡◌, ◌≤◌, is_some, IsErrOf, OnOk}
 use Rattle.sw_base.specs.Environment.{Rose}
 use Rattle.sw_base.specs.declared.trouble.Trouble.TheVariants as trouble
+use Rattle.region_runner.specs.Answer.{AreFaultless}
 use Rattle.run_command.specs.Seals.{RaiseFaults, SealsAll, all_logged}
 use Rattle.run_command.proofs.sealing.seal_all.Given as goal
 
@@ -10,5 +11,6 @@ invariant-loop-log g l = record {
   tells : is_some (g.F.Folder.content l.folder) ≡ is_some (g.F.Folder.content l.initial.folder);
   later : g.F.Folder.write_faults l.initial.folder ≤ g.F.Folder.write_faults l.folder;
   faulty : RaiseFaults g.F.Log.Log.faults l.yielded (Rose (g.F.Folder.write_faults l.initial.folder) (g.F.Folder.write_faults l.folder));
+  no_fault : OnOk l.outcome (AreFaultless g.F.Log.Log.faults l.yielded → g.F.Folder.write_faults l.folder ≡ g.F.Folder.write_faults l.initial.folder);
   cause : IsErrOf l.outcome trouble.Failed → Rose (g.F.Folder.write_faults l.initial.folder) (g.F.Folder.write_faults l.folder);
 }

@@ -4,6 +4,7 @@ use Rattle.command_answer.proofs.Answering.{Tries-weaker}
 use Rattle.run_command.specs.Outcomes.{IsDue}
 use Rattle.run_command.specs.Run.{RunDue}
 use Rattle.run_command.proofs.Leaving.{came_leaves}
+use Rattle.run_command.proofs.Statuses.{done_so}
 use Rattle.sword.proofs.running.run_file.Goals as goal
 
 pub returns-clause-answers : goal.returns-clause-answers
@@ -13,3 +14,6 @@ returns-clause-answers g c = λ old is new now.
 
 pub returns-clause-leaves : goal.returns-clause-leaves
 returns-clause-leaves g c = λ old is new now failure. came_leaves _ _ _ _ old new c.run-outcome.result (c.run-outcome.ensures.came old is new now)
+
+pub returns-clause-no_fault : goal.returns-clause-no_fault
+returns-clause-no_fault g c = λ done. c.run-outcome.ensures.no_fault (done_so c.run-outcome.result _ _ _ c.print_outcome.ensures.prints done)
