@@ -135,13 +135,13 @@ module _ {T : Type 0} (seen : LogView T) (dir : List ℕ) (size : ℕ) (root : O
 
   -- none counts a fault
   all_faultless : (tasks : Trace) (items : List (List Step × T × ℕ)) (es : List Entry) → es ≡ entries_of seen items → AreEntriesOf place None tasks es → AreFaultless seen.faults items
-  all_faultless _ [] _ same AreEntriesOf.no_task = All-nil _
+  all_faultless _ [] _ same AreEntriesOf.no_task = All-nil (λ (x : List Step × T × ℕ). seen.faults x.1 ≡ 0)
   all_faultless _ (item ∷ items) _ same AreEntriesOf.no_task = absurd cc
   all_faultless _ [] _ same (AreEntriesOf.given task tasks e es is rest) = absurd cc
   all_faultless _ (item ∷ items) _ same (AreEntriesOf.given task tasks e es is rest) =
       let first : e ≡ entry_of seen item = cc in
       let others : es ≡ entries_of seen items = cc in
-      All-cons _ item items (sym (ap (λ (x : Entry). x.faults) first) ∙ is.faultless refl) (all_faultless tasks items es others rest)
+      All-cons (λ (x : List Step × T × ℕ). seen.faults x.1 ≡ 0) item items (sym (ap (λ (x : Entry). x.faults) first) ∙ is.faultless refl) (all_faultless tasks items es others rest)
   all_faultless _ items _ same (AreEntriesOf.missing task tasks es none rest) = absurd none
 
 -- as many as there are tasks
