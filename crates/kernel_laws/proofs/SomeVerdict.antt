@@ -14,7 +14,7 @@ use Rattle.kernel_text.specs.declared.judging.Verdict.{Verdict}
 use Rattle.kernel_text.specs.declared.judging.Verdict.TheVariants as verdict
 use Rattle.kernel_text.specs.Grammar.{op_of, sign_of, is_comparison}
 use Rattle.kernel_text.specs.Faults.{IsVerdict}
-use Rattle.kernel_text.specs.Wanting.{Plain, At, Fill, fill_tokens, AreApart, token, Refuses, Takes, Skips}
+use Rattle.kernel_text.specs.Wanting.{Plain, At, Fill, fill_tokens, AreDelimited, token, Refuses, LeadsTo, Skips}
 use Rattle.kernel_text.proofs.Operators.{of-op}
 use Rattle.kernel_text.proofs.Unfolding.{lexeme-of, name-takes, number-takes, in-takes, assign-takes, close_bracket-takes, close_paren-takes, close_brace-takes, dots-takes, chunk-takes, chunk-skips, nowait-takes, nowait-skips, section_name-takes, section_name-skips, else-skips, index-skips, schedule-skips}
 use Rattle.kernel_text.proofs.UnfoldingExprs.{block-takes, target-assign, target-index, else-takes, static-takes, dynamic-takes, index-takes, number-operand, named-operand, tid-operand, span-operand, minus-operand, group-operand, operand-refuses, operand-some}
@@ -28,10 +28,10 @@ use Rattle.kernel_text.proofs.Judgement.{start, Judged, judged-none, judged-more
 data Answer (w : Want) (x : Lexeme) (s : List Want) : Type 0 where
   Refused : Refuses (w ∷ s) x → Answer w x s
   LeftOut : Skips w s x → Answer w x s
-  Taken : (level : ℕ) (after : List Want) → Takes (w ∷ s) x level after → Answer w x s
+  Taken : (level : ℕ) (after : List Want) → LeadsTo (w ∷ s) x level after → Answer w x s
 
 abbrev Answers : Want → Type 0
-Answers w = (x : Lexeme) (s : List Want) → AreApart (w ∷ s) → Answer w x s
+Answers w = (x : Lexeme) (s : List Want) → AreDelimited (w ∷ s) → Answer w x s
 
 kernel-answer : Answers want.Kernel
 kernel-answer (Reserved word.Array) s a = Taken _ _ (array-takes s a)
@@ -144,7 +144,7 @@ expr-answer n x s a = elim (operand-answer n x (want.Operators n true ∷ s) (ex
   | Taken level after t ↦ Taken level after (expr-takes n s x level after t)
 ]
 
-operator-answer : (n : ℕ) (c b : Bool) (o : Op) → is_comparison o ≡ b → (s : List Want) → AreApart (want.Operators n c ∷ s) → Answer (want.Operators n c) (Mark (sign_of o)) s
+operator-answer : (n : ℕ) (c b : Bool) (o : Op) → is_comparison o ≡ b → (s : List Want) → AreDelimited (want.Operators n c ∷ s) → Answer (want.Operators n c) (Mark (sign_of o)) s
 operator-answer n c false o e s a = Taken _ _ (plain-takes o n c s e a)
 operator-answer n true true o e s a = Taken _ _ (comparison-takes o n true s refl e a)
 operator-answer n false true o e s a = LeftOut (comparison-skips o n false s refl e)
@@ -181,7 +181,7 @@ answer (want.Operators n c) = operators-answer n c
 
 -- what comes of a lexeme where all of these are wanted in turn
 abbrev Stepped : List Want → Lexeme → Type 0
-Stepped s x = Refuses s x ⊎ ((level : ℕ) × (after : List Want) × Takes s x level after)
+Stepped s x = Refuses s x ⊎ ((level : ℕ) × (after : List Want) × LeadsTo s x level after)
 
 stepped : (x : Lexeme) (before s : List Want) → Reaches x before s → Stepped before x
 stepped x before [] r = inl (reaches-none x before [] refl r)
@@ -194,7 +194,7 @@ stepped x before (w ∷ s) r = elim (answer w x s r.apart) [
 abbrev HasVerdict : List Token → Type 0
 HasVerdict ts = (v : Verdict) × IsVerdict ts v
 
-at-level : (ts rest : List Token) (t : Token) (s : List Want) → Judged ts (t ∷ rest) s → (level : ℕ) (deep : Bool) → nat_lt 32 level ≡ deep → (after : List Want) → Takes s t.lexeme level after
+at-level : (ts rest : List Token) (t : Token) (s : List Want) → Judged ts (t ∷ rest) s → (level : ℕ) (deep : Bool) → nat_lt 32 level ≡ deep → (after : List Want) → LeadsTo s t.lexeme level after
     → ((after : List Want) → Judged ts rest after → HasVerdict ts) → HasVerdict ts
 at-level ts rest t s j level true e after k next = (verdict.Deep t.line, is-deep ts (t ∷ rest) rest t s after level j refl (ltb-true 32 level e) k)
 at-level ts rest t s j level false e after k next = next after (judged-more ts (t ∷ rest) rest t s after level j refl (ltb-false 32 level e) k)

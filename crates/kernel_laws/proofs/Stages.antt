@@ -12,9 +12,6 @@ low-less (suc n) (suc m) [] le low = tt
 low-less (suc n) (suc m) (l ∷ ls) le low = (low.0, low-less n m ls (omega (arith, le)) low.1)
 
 -- a kernel that begins with tokens begins with the first of them
-fewer : (a b : List Token) → Begins (a ++ b) → Begins a
-fewer a b k = (k.0, b ++ k.1, k.2, k.3 ∙ append_assoc a b k.1)
-
 fewer-shallow : (a b : List Token) → BeginsShallow (a ++ b) → BeginsShallow a
 fewer-shallow a b k = (
   k.0,

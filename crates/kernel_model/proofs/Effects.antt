@@ -75,11 +75,6 @@ module _ {A B : Type 0} (part : State → Outcome A) (next : A → State → Out
         ∙ ap (λ n. finished finish (state_with more.slots (records ++ (one.added ++ more.added)) (forks ++ (one.forks ++ more.forks)) n reads chunks)) left;
   }
 
-pub then_nothing : (one : Effect) → then_effect one (adds one.slots []) ≡ one
-then_nothing one =
-    ap (λ a. record { slots = one.slots; added = a; forks = one.forks ++ [] }) (append-nil one.added)
-    ∙ ap (λ f. record { slots = one.slots; added = one.added; forks = f }) (append-nil one.forks)
-
 -- a part that leaves the state as it is
 pub makes-stays : {A : Type 0} (part : State → Outcome A) (slots : List ℤ) (room : ℕ) (finish : Finish A) →
     ((s : State) → s.slots ≡ slots → s.room ≡ room → part s ≡ finished finish s) → Makes part slots room (adds slots []) finish

@@ -5,7 +5,7 @@ use Rattle.kernel_syntax.specs.declared.syntax.Array.{Array}
 use Rattle.kernel_syntax.specs.Layout.{elements}
 use Rattle.kernel_text.specs.declared.fault.KernelWhy.TheVariants as why
 use Rattle.kernel_text.specs.Tokens.{Refusal}
-use Rattle.kernel_text.specs.Grammar.{Declaration, ArrayOf, MutexOf}
+use Rattle.kernel_text.specs.Grammar.{Declaration, ArrayOf}
 use Rattle.kernel_reader.specs.Scope.{is_array, is_among, is_between, count_literal}
 use Rattle.kernel_reader.specs.Rules.{fault_if, width_of, array_of, declarations_faults, arrays_of, mutex_names}
 use Rattle.kernel_reader.specs.Settled.{IsFirstOf}
@@ -16,10 +16,6 @@ use Rattle.kernel_reader.proofs.Broken.{first-before}
 abbrev pub ArrayFaults : List Array → List (List ℕ) → ℕ → List ℕ → ℕ → List ℕ → ℕ → ℤ → List Refusal
 ArrayFaults arrays mutexes nl name wl width cl count = fault_if (is_array name arrays || is_among name mutexes) nl why.Twice ++ (fault_if (nat_le 64 (length arrays)) nl why.Large ++ (fault_if (is_none (width_of width)) wl why.Width ++ (fault_if (not (is_between 1 1048576 count)) cl why.Count ++ fault_if (nat_lt 1048576 (elements arrays + count_literal count)) cl why.Large)))
 
--- the rules of a mutex
-abbrev pub MutexFaults : List Array → List (List ℕ) → ℕ → List ℕ → List Refusal
-MutexFaults arrays mutexes nl name = fault_if (is_array name arrays || is_among name mutexes) nl why.Twice ++ fault_if (nat_le 63 (length mutexes)) nl why.Large
-
 joined-5 : (a b c d e z : List Refusal) → (a ++ (b ++ (c ++ (d ++ e)))) ++ z ≡ a ++ (b ++ (c ++ (d ++ (e ++ z))))
 joined-5 a b c d e z = append_assoc a (b ++ (c ++ (d ++ e))) z ∙ ap (λ (l : List Refusal). a ++ l) (append_assoc b (c ++ (d ++ e)) z ∙ ap (λ (l : List Refusal). b ++ l) (append_assoc c (d ++ e) z ∙ ap (λ (l : List Refusal). c ++ l) (append_assoc d e z)))
 
@@ -28,10 +24,6 @@ array-joined : (arrays : List Array) (mutexes : List (List ℕ)) (line nl : ℕ)
     → ArrayFaults arrays mutexes nl name wl width cl count ++ declarations_faults (arrays ++ array_of name (unwrap_or (width_of width) 0) count ∷ []) mutexes es ≡ declarations_faults arrays mutexes (ArrayOf line nl name wl width cl count ∷ es)
 array-joined arrays mutexes line nl name wl width cl count es =
     joined-5 (fault_if (is_array name arrays || is_among name mutexes) nl why.Twice) (fault_if (nat_le 64 (length arrays)) nl why.Large) (fault_if (is_none (width_of width)) wl why.Width) (fault_if (not (is_between 1 1048576 count)) cl why.Count) (fault_if (nat_lt 1048576 (elements arrays + count_literal count)) cl why.Large) _
-
-mutex-joined : (arrays : List Array) (mutexes : List (List ℕ)) (line nl : ℕ) (name : List ℕ) (es : List Declaration)
-    → MutexFaults arrays mutexes nl name ++ declarations_faults arrays (mutexes ++ name ∷ []) es ≡ declarations_faults arrays mutexes (MutexOf line nl name ∷ es)
-mutex-joined arrays mutexes line nl name es = append_assoc (fault_if (is_array name arrays || is_among name mutexes) nl why.Twice) (fault_if (nat_le 63 (length mutexes)) nl why.Large) _
 
 -- these declarations are left, behind the ones that were read
 pub record AreLeft (ds es : List Declaration) (arrays : List Array) (mutexes : List (List ℕ)) : Type 0 where

@@ -24,11 +24,17 @@ block-length : (opened : ℕ) (body : List Token) (closed : ℕ) (after : List T
 block-length opened body closed after =
     omega (arith, length-append (block opened body closed) after, length-append body (mark closed sign.CloseBrace ∷ []))
 
--- a range's tokens are its bounds' and three more
-range-length : (name_line : ℕ) (name : List ℕ) (in_line : ℕ) (from : Tree) (dots : ℕ) (to : Tree) (after : List Token)
-    → length (range name_line name in_line from dots to ++ after) ≡ 3 + length (tree_tokens from) + length (tree_tokens to) + length after
-range-length name_line name in_line from dots to after =
-    omega (arith, length-append (range name_line name in_line from dots to) after, length-append (tree_tokens from) (mark dots sign.Dots ∷ tree_tokens to))
+-- a range has at most as many sites as its bounds have tokens, and three tokens more
+range-bound : (name_line : ℕ) (name : List ℕ) (in_line : ℕ) (from : Tree) (dots : ℕ) (to : Tree) (after : List Token)
+    → 3 + sites from + sites to + length after ≤ length (range name_line name in_line from dots to ++ after)
+range-bound name_line name in_line from dots to after =
+    omega (
+      arith,
+      tree_sites-bound from,
+      tree_sites-bound to,
+      length-append (range name_line name in_line from dots to) after,
+      length-append (tree_tokens from) (mark dots sign.Dots ∷ tree_tokens to),
+    )
 
 -- statements have at most one site or slot a token
 stmts-bound : (s : Stmts) → stmts_sites s + slots s ≤ length (stmts_tokens s)
@@ -62,9 +68,7 @@ stmts-bound (Loop line name_line name in_line from dots to opened body closed re
       arith,
       stmts-bound body,
       stmts-bound rest,
-      tree_sites-bound from,
-      tree_sites-bound to,
-      range-length name_line name in_line from dots to behind,
+      range-bound name_line name in_line from dots to behind,
       block-length opened (stmts_tokens body) closed (stmts_tokens rest),
     )
 stmts-bound (Parallel line number_line span opened body closed rest) =
@@ -76,9 +80,7 @@ stmts-bound (For line name_line name in_line from dots to schedule nowait opened
       arith,
       stmts-bound body,
       stmts-bound rest,
-      tree_sites-bound from,
-      tree_sites-bound to,
-      range-length name_line name in_line from dots to behind,
+      range-bound name_line name in_line from dots to behind,
       length-append (schedule_tokens schedule) (nowait_tokens nowait ++ inside),
       length-append (nowait_tokens nowait) inside,
       block-length opened (stmts_tokens body) closed (stmts_tokens rest),

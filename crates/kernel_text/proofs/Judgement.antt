@@ -12,7 +12,7 @@ use Rattle.kernel_text.specs.declared.judging.Want.TheVariants as want
 use Rattle.kernel_text.specs.declared.judging.Verdict.TheVariants as verdict
 use Rattle.kernel_text.specs.Grammar.{NumberAt, Unsaid, NoMore, declarations_tokens, KernelTree, kernel_tokens, IsKernel}
 use Rattle.kernel_text.specs.Faults.{kernel_levels, BeginsShallow, IsVerdict}
-use Rattle.kernel_text.specs.Wanting.{Last, Braced, Plain, At, Value, value_tokens, Fill, fill_tokens, fill_levels, Fulfils, GoesOn, EndsAt, AreApart, Takes, Refuses, stack_of}
+use Rattle.kernel_text.specs.Wanting.{Last, Braced, Plain, At, Value, value_tokens, Fill, fill_tokens, fill_levels, Fulfils, GoesOnWith, EndsAt, AreDelimited, LeadsTo, Refuses, stack_of}
 use Rattle.kernel_text.proofs.Levels.{AreLow, join, shallow_is_low}
 
 -- the least that can stand there
@@ -60,7 +60,7 @@ target-some (Plain at) e = absurd cc
 target-some (At v at) e = absurd cc
 
 -- what may be left out may go on
-goes-on : (w : Want) (v : Value w) → value_tokens w v ≡ [] → (x : Lexeme) × GoesOn w x
+goes-on : (w : Want) (v : Value w) → value_tokens w v ≡ [] → (x : Lexeme) × GoesOnWith w x
 goes-on want.Kernel v e = absurd (kernel-some v.0 e)
 goes-on want.Target v e = absurd (target-some v e)
 goes-on (want.Stmts n) v e = (Reserved word.Let, λ same. absurd cc)
@@ -75,7 +75,7 @@ goes-on (want.Index n) v e = (Mark sign.OpenBracket, refl)
 goes-on (want.Operators n c) v e = (Mark sign.OpenBracket, inl refl)
 goes-on _ v e = absurd cc
 
-never-none : (w : Want) (s : List Want) (ls : List ℕ) → AreApart (w ∷ s) → Fulfils (w ∷ s) [] ls → ⊥
+never-none : (w : Want) (s : List Want) (ls : List ℕ) → AreDelimited (w ∷ s) → Fulfils (w ∷ s) [] ls → ⊥
 never-none w s ls a r =
     let f = r.fill in
     let none = none-of (value_tokens w f.0) (fill_tokens s f.1) r.tokens in
@@ -94,7 +94,7 @@ fulfils-as s ts us ls ms e f r = record { fill = r.fill; tokens = r.tokens ∙ e
 pub record Judged (ts rest : List Token) (s : List Want) : Type 0 where
   pub good : List Token
   pub parts : ts ≡ good ++ rest
-  pub apart : AreApart s
+  pub apart : AreDelimited s
   pub levels : List ℕ
   pub low : AreLow levels
   pub many : length levels ≡ length good
@@ -113,7 +113,7 @@ judged-none ts s e = subst (λ (s : List Want). Judged ts ts s) (sym e) (record 
   leaves = λ us ls r. (ls, refl, r);
 })
 
-pub judged-more : (ts rest after : List Token) (t : Token) (s next : List Want) (level : ℕ) → Judged ts rest s → rest ≡ t ∷ after → level ≤ 32 → Takes s t.lexeme level next → Judged ts after next
+pub judged-more : (ts rest after : List Token) (t : Token) (s next : List Want) (level : ℕ) → Judged ts rest s → rest ≡ t ∷ after → level ≤ 32 → LeadsTo s t.lexeme level next → Judged ts after next
 judged-more ts rest after t s next level j e low k =
     let many = j.many in
     record {
@@ -185,7 +185,7 @@ low-last : (ls : List ℕ) (level : ℕ) → AreLow (ls ++ level ∷ []) → lev
 low-last [] level low = low.0
 low-last (l ∷ ls) level low = low-last ls level low.1
 
-pub is-deep : (ts rest after : List Token) (t : Token) (s next : List Want) (level : ℕ) → Judged ts rest s → rest ≡ t ∷ after → 32 < level → Takes s t.lexeme level next → IsVerdict ts (verdict.Deep t.line)
+pub is-deep : (ts rest after : List Token) (t : Token) (s next : List Want) (level : ℕ) → Judged ts rest s → rest ≡ t ∷ after → 32 < level → LeadsTo s t.lexeme level next → IsVerdict ts (verdict.Deep t.line)
 is-deep ts rest after t s next level j e deep k =
     let f = least_fill next in
     let r = j.puts _ _ (k.puts t.line (fill_tokens next f) (fill_levels next f) (record { fill = f; tokens = refl; levels = refl })) in (
@@ -215,7 +215,7 @@ is-early ts rest w s now j e f =
       begins = subst BeginsShallow (sym all) (begins-judged ts rest now j);
       unfinished = λ k d g.
           let left = j.leaves [] (kernel_levels k) (of-kernel k _ d (g ∙ all ∙ sym (append-nil j.good))) in
-          never-none w s left.0 (subst AreApart f j.apart) (subst (λ (s : List Want). Fulfils s [] left.0) f left.2);
+          never-none w s left.0 (subst AreDelimited f j.apart) (subst (λ (s : List Want). Fulfils s [] left.0) f left.2);
     }
 
 -- a stack of some wants has a next

@@ -8,29 +8,29 @@ use Rattle.kernel_text.specs.declared.judging.Moved.{Moved}
 use Rattle.kernel_text.specs.declared.judging.Moved.TheVariants as moved
 use Rattle.kernel_text.specs.declared.judging.Want.TheVariants as want
 use Rattle.kernel_text.specs.declared.token.Token.{Token}
-use Rattle.kernel_text.specs.Wanting.{value_tokens, value_levels, fill_tokens, fill_levels, Fulfils, AreApart, token, Takes, Skips, Refuses, MovesTo, Moves, Opens, Alone, stack_of}
+use Rattle.kernel_text.specs.Wanting.{value_tokens, value_levels, fill_tokens, fill_levels, Fulfils, AreDelimited, token, LeadsTo, Skips, Refuses, MovesTo, Moves, Opens, Alone, stack_of}
 use Rattle.kernel_text.proofs.UnfoldingExprs.{operand-some}
 use Rattle.kernel_text.proofs.UnfoldingOperators.{expr-takes, expr-refuses}
 
 -- the wants are put on the stack
-pub wanted : {E : Type 0} (r : Result Moved E) (w : Want) (x : Lexeme) (s after behind : List Want) → Takes (w ∷ s) x 0 behind → IfOk r (λ m. (m ≡ moved.Takes) × (after ≡ behind)) → Moves r w x s after
-wanted (Ok moved.Takes) w x s after behind t e = (0, omega arith, subst (λ (u : List Want). Takes (w ∷ s) x 0 u) (sym e.1) t)
+pub wanted : {E : Type 0} (r : Result Moved E) (w : Want) (x : Lexeme) (s after behind : List Want) → LeadsTo (w ∷ s) x 0 behind → IfOk r (λ m. (m ≡ moved.Takes) × (after ≡ behind)) → Moves r w x s after
+wanted (Ok moved.Takes) w x s after behind t e = (0, omega arith, subst (λ (u : List Want). LeadsTo (w ∷ s) x 0 u) (sym e.1) t)
 wanted (Ok _) w x s after behind t e = let same = e.0 in absurd cc
 wanted (Err _) w x s after behind t e = tt
 
 -- or would be too deep
-pub deeper : {E : Type 0} (r : Result Moved E) (w : Want) (x : Lexeme) (level : ℕ) (s after behind given : List Want) → Takes (w ∷ s) x level behind → (level ≤ 32 → given ≡ behind) → Opens r level after given → Moves r w x s after
-deeper (Ok moved.Takes) w x level s after behind given t same o = (level, o.0, subst (λ (u : List Want). Takes (w ∷ s) x level u) (sym (o.1 ∙ same o.0)) t)
+pub deeper : {E : Type 0} (r : Result Moved E) (w : Want) (x : Lexeme) (level : ℕ) (s after behind given : List Want) → LeadsTo (w ∷ s) x level behind → (level ≤ 32 → given ≡ behind) → Opens r level after given → Moves r w x s after
+deeper (Ok moved.Takes) w x level s after behind given t same o = (level, o.0, subst (λ (u : List Want). LeadsTo (w ∷ s) x level u) (sym (o.1 ∙ same o.0)) t)
 deeper (Ok moved.Deep) w x level s after behind given t same o = (level, behind, o, t)
 deeper (Ok moved.Fails) w x level s after behind given t same o = absurd o
 deeper (Ok moved.Skips) w x level s after behind given t same o = absurd o
 deeper (Err _) w x level s after behind given t same o = tt
 
 -- a want of one token
-pub alone : (m : Moved) (v w : Want) (x : Lexeme) (s : List Want) → v ≡ w → AreApart (v ∷ s) → Alone m w x → MovesTo m v x s s
-alone m v w x s e a l = subst (λ (v : Want). MovesTo m v x s s) (sym e) (same m (subst (λ (v : Want). AreApart (v ∷ s)) e a) l)
+pub alone : (m : Moved) (v w : Want) (x : Lexeme) (s : List Want) → v ≡ w → AreDelimited (v ∷ s) → Alone m w x → MovesTo m v x s s
+alone m v w x s e a l = subst (λ (v : Want). MovesTo m v x s s) (sym e) (same m (subst (λ (v : Want). AreDelimited (v ∷ s)) e a) l)
   where
-    same : (m : Moved) → AreApart (w ∷ s) → Alone m w x → MovesTo m w x s s
+    same : (m : Moved) → AreDelimited (w ∷ s) → Alone m w x → MovesTo m w x s s
     same moved.Fails a l = l s
     same moved.Skips a l = (l s, refl)
     same moved.Takes a l = (0, omega arith, l s a)
@@ -51,11 +51,11 @@ stack_of-push ws w = fold_push (λ (s : List Want) (w : Want). w ∷ s) [] ws w
 
 -- before the lexeme the wants that are left stand for all
 pub record Reaches (x : Lexeme) (before now : List Want) : Type 0 where
-  pub apart : AreApart now
+  pub apart : AreDelimited now
   pub puts : (line : ℕ) (ts : List Token) (ls : List ℕ) → Fulfils now (token x line ∷ ts) ls → Fulfils before (token x line ∷ ts) ls
   pub leaves : (line : ℕ) (ts : List Token) (ls : List ℕ) → Fulfils before (token x line ∷ ts) ls → Fulfils now (token x line ∷ ts) ls
 
-pub reaches-all : (x : Lexeme) (s : List Want) → AreApart s → Reaches x s s
+pub reaches-all : (x : Lexeme) (s : List Want) → AreDelimited s → Reaches x s s
 reaches-all x s a = record { apart = a; puts = λ line ts ls r. r; leaves = λ line ts ls r. r }
 
 pub reaches-more : (x : Lexeme) (before : List Want) (w : Want) (s : List Want) → Reaches x before (w ∷ s) → Skips w s x → Reaches x before s
@@ -78,7 +78,7 @@ pub reaches-none : (x : Lexeme) (before now : List Want) → now ≡ [] → Reac
 reaches-none x before (_ ∷ _) e r line ts ls f = absurd cc
 reaches-none x before [] e r line ts ls f = let g = r.leaves line ts ls f in let same = g.tokens in absurd cc
 
-pub reaches-takes : (x : Lexeme) (before now : List Want) (level : ℕ) (after : List Want) → Reaches x before now → Takes now x level after → Takes before x level after
+pub reaches-takes : (x : Lexeme) (before now : List Want) (level : ℕ) (after : List Want) → Reaches x before now → LeadsTo now x level after → LeadsTo before x level after
 reaches-takes x before now level after r t = record {
   apart = t.apart;
   puts = λ line ts ls f. r.puts line (ts) (level ∷ ls) (t.puts line ts ls f);

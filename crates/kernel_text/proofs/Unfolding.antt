@@ -8,7 +8,7 @@ use Rattle.kernel_text.specs.declared.token.Token.{Token}
 use Rattle.kernel_text.specs.declared.judging.Want.{Want}
 use Rattle.kernel_text.specs.declared.judging.Want.TheVariants as want
 use Rattle.kernel_text.specs.Grammar.{op_of, named, number, reserved, mark, ScheduleTree, Unsaid, Static, StaticBy, Dynamic, DynamicBy}
-use Rattle.kernel_text.specs.Wanting.{Value, value_tokens, value_levels, Fill, fill_tokens, fill_levels, Fulfils, IsOperator, GoesOn, EndsAt, AreApart, token, Takes, Skips}
+use Rattle.kernel_text.specs.Wanting.{Value, value_tokens, value_levels, Fill, fill_tokens, fill_levels, Fulfils, IsOpSign, GoesOnWith, EndsAt, AreDelimited, token, LeadsTo, Skips}
 use Rattle.kernel_text.proofs.Operators.{op_of-sign}
 
 pub lexeme-of : (t u : Token) (ts us : List Token) → t ∷ ts ≡ u ∷ us → t.lexeme ≡ u.lexeme
@@ -27,9 +27,9 @@ pub leaves-by : (before : List Want) (f : Fill before) (u : Token) {t : Token} {
     → fill_levels before f ≡ level ∷ fill_levels after g → fill_tokens before f ≡ t ∷ ts → Leaves after level ts (fill_levels before f)
 leaves-by before f u after g et el e = (fill_levels after g, el, record { fill = g; tokens = tail-of u _ _ _ (sym et ∙ e); levels = refl })
 
-pub takes : (before : List Want) (x : Lexeme) (level : ℕ) (after : List Want) → AreApart after
+pub takes : (before : List Want) (x : Lexeme) (level : ℕ) (after : List Want) → AreDelimited after
     → ((line : ℕ) (g : Fill after) → Fulfils before (token x line ∷ fill_tokens after g) (level ∷ fill_levels after g))
-    → ((f : Fill before) (line : ℕ) (ts : List Token) → fill_tokens before f ≡ token x line ∷ ts → Leaves after level ts (fill_levels before f)) → Takes before x level after
+    → ((f : Fill before) (line : ℕ) (ts : List Token) → fill_tokens before f ≡ token x line ∷ ts → Leaves after level ts (fill_levels before f)) → LeadsTo before x level after
 takes before x level after a p l = record {
   apart = a;
   puts = λ line ts ls r.
@@ -40,18 +40,18 @@ takes before x level after a p l = record {
 
 -- ---- what stands behind
 
-pub weaker : (w v : Want) (ts : List Token) → ((x : Lexeme) → GoesOn v x → GoesOn w x) → EndsAt w ts → EndsAt v ts
+pub weaker : (w v : Want) (ts : List Token) → ((x : Lexeme) → GoesOnWith v x → GoesOnWith w x) → EndsAt w ts → EndsAt v ts
 weaker w v [] h e = λ x g. e x (h x g)
 weaker w v (t ∷ ts) h e = λ g. e (h t.lexeme g)
 
-pub closed : (w : Want) → ((x : Lexeme) → GoesOn w x → ⊥) → (ts : List Token) → EndsAt w ts
+pub closed : (w : Want) → ((x : Lexeme) → GoesOnWith w x → ⊥) → (ts : List Token) → EndsAt w ts
 closed w h [] = h
 closed w h (t ∷ ts) = h t.lexeme
 
-pub never-on : (w : Want) (s : List Want) (t : Token) (ts : List Token) → AreApart (w ∷ s) → (f : Fill s) → fill_tokens s f ≡ t ∷ ts → GoesOn w t.lexeme → ⊥
+pub never-on : (w : Want) (s : List Want) (t : Token) (ts : List Token) → AreDelimited (w ∷ s) → (f : Fill s) → fill_tokens s f ≡ t ∷ ts → GoesOnWith w t.lexeme → ⊥
 never-on w s t ts a f e = subst (λ (us : List Token). EndsAt w us) e (a.0 f)
 
-pub not-op : (x : Lexeme) → op_of x ≡ None → IsOperator x → ⊥
+pub not-op : (x : Lexeme) → op_of x ≡ None → IsOpSign x → ⊥
 not-op x none is = let some : Some is.0 ≡ None = sym (op_of-sign is.0) ∙ sym (ap op_of is.1) ∙ none in absurd cc
 
 -- ---- wants of one token
@@ -60,13 +60,13 @@ abbrev pub IsOne : (w : Want) → Value w → Type 0
 IsOne w v = (t : Token) × (value_tokens w v ≡ t ∷ []) × (value_levels w v ≡ 0 ∷ [])
 
 pub one-takes : (w : Want) (x : Lexeme) (make : ℕ → Value w) → ((line : ℕ) → value_tokens w (make line) ≡ token x line ∷ []) → ((line : ℕ) → value_levels w (make line) ≡ 0 ∷ [])
-    → ((v : Value w) → ((value_tokens w v ≡ []) × GoesOn w x) ⊎ IsOne w v) → (s : List Want) → AreApart (w ∷ s) → Takes (w ∷ s) x 0 s
+    → ((v : Value w) → ((value_tokens w v ≡ []) × GoesOnWith w x) ⊎ IsOne w v) → (s : List Want) → AreDelimited (w ∷ s) → LeadsTo (w ∷ s) x 0 s
 one-takes w x make mt ml each s a =
     takes (w ∷ s) x 0 s a.1
     (λ line g. puts-by (w ∷ s) (make line, g) (ap (λ (us : List Token). us ++ fill_tokens s g) (mt line)) (ap (λ (ms : List ℕ). ms ++ fill_levels s g) (ml line)))
     (λ f line ts e. left f.0 f.1 line ts (each f.0) e)
   where
-    left : (v : Value w) (g : Fill s) (line : ℕ) (ts : List Token) → ((value_tokens w v ≡ []) × GoesOn w x) ⊎ IsOne w v → value_tokens w v ++ fill_tokens s g ≡ token x line ∷ ts
+    left : (v : Value w) (g : Fill s) (line : ℕ) (ts : List Token) → ((value_tokens w v ≡ []) × GoesOnWith w x) ⊎ IsOne w v → value_tokens w v ++ fill_tokens s g ≡ token x line ∷ ts
         → Leaves s 0 ts (value_levels w v ++ fill_levels s g)
     left v g line ts (inl none) e = absurd (never-on w s (token x line) ts a g (sym (ap (λ (us : List Token). us ++ fill_tokens s g) none.0) ∙ e) none.1)
     left v g line ts (inr one) e =
@@ -86,28 +86,28 @@ skips w x v et el h s = record {
       };
 }
 
-pub name-takes : (name : List ℕ) (s : List Want) → AreApart (want.Name ∷ s) → Takes (want.Name ∷ s) (Named name) 0 s
+pub name-takes : (name : List ℕ) (s : List Want) → AreDelimited (want.Name ∷ s) → LeadsTo (want.Name ∷ s) (Named name) 0 s
 name-takes name s a = one-takes want.Name (Named name) (λ line. (line, name)) (λ _. refl) (λ _. refl) (λ v. inr (named v.0 v.1, refl, refl)) s a
 
-pub number-takes : (value : ℤ) (s : List Want) → AreApart (want.Number ∷ s) → Takes (want.Number ∷ s) (Number value) 0 s
+pub number-takes : (value : ℤ) (s : List Want) → AreDelimited (want.Number ∷ s) → LeadsTo (want.Number ∷ s) (Number value) 0 s
 number-takes value s a = one-takes want.Number (Number value) (λ line. (line, value)) (λ _. refl) (λ _. refl) (λ v. inr (number v.0 v.1, refl, refl)) s a
 
-pub in-takes : (s : List Want) → AreApart (want.In ∷ s) → Takes (want.In ∷ s) (Reserved word.In) 0 s
+pub in-takes : (s : List Want) → AreDelimited (want.In ∷ s) → LeadsTo (want.In ∷ s) (Reserved word.In) 0 s
 in-takes s a = one-takes want.In (Reserved word.In) (λ line. line) (λ _. refl) (λ _. refl) (λ line. inr (reserved line word.In, refl, refl)) s a
 
-pub assign-takes : (s : List Want) → AreApart (want.Assign ∷ s) → Takes (want.Assign ∷ s) (Mark sign.Assign) 0 s
+pub assign-takes : (s : List Want) → AreDelimited (want.Assign ∷ s) → LeadsTo (want.Assign ∷ s) (Mark sign.Assign) 0 s
 assign-takes s a = one-takes want.Assign (Mark sign.Assign) (λ line. line) (λ _. refl) (λ _. refl) (λ line. inr (mark line sign.Assign, refl, refl)) s a
 
-pub close_bracket-takes : (s : List Want) → AreApart (want.CloseBracket ∷ s) → Takes (want.CloseBracket ∷ s) (Mark sign.CloseBracket) 0 s
+pub close_bracket-takes : (s : List Want) → AreDelimited (want.CloseBracket ∷ s) → LeadsTo (want.CloseBracket ∷ s) (Mark sign.CloseBracket) 0 s
 close_bracket-takes s a = one-takes want.CloseBracket (Mark sign.CloseBracket) (λ line. line) (λ _. refl) (λ _. refl) (λ line. inr (mark line sign.CloseBracket, refl, refl)) s a
 
-pub close_paren-takes : (s : List Want) → AreApart (want.CloseParen ∷ s) → Takes (want.CloseParen ∷ s) (Mark sign.CloseParen) 0 s
+pub close_paren-takes : (s : List Want) → AreDelimited (want.CloseParen ∷ s) → LeadsTo (want.CloseParen ∷ s) (Mark sign.CloseParen) 0 s
 close_paren-takes s a = one-takes want.CloseParen (Mark sign.CloseParen) (λ line. line) (λ _. refl) (λ _. refl) (λ line. inr (mark line sign.CloseParen, refl, refl)) s a
 
-pub close_brace-takes : (s : List Want) → AreApart (want.CloseBrace ∷ s) → Takes (want.CloseBrace ∷ s) (Mark sign.CloseBrace) 0 s
+pub close_brace-takes : (s : List Want) → AreDelimited (want.CloseBrace ∷ s) → LeadsTo (want.CloseBrace ∷ s) (Mark sign.CloseBrace) 0 s
 close_brace-takes s a = one-takes want.CloseBrace (Mark sign.CloseBrace) (λ line. line) (λ _. refl) (λ _. refl) (λ line. inr (mark line sign.CloseBrace, refl, refl)) s a
 
-pub dots-takes : (s : List Want) → AreApart (want.Dots ∷ s) → Takes (want.Dots ∷ s) (Mark sign.Dots) 0 s
+pub dots-takes : (s : List Want) → AreDelimited (want.Dots ∷ s) → LeadsTo (want.Dots ∷ s) (Mark sign.Dots) 0 s
 dots-takes s a = one-takes want.Dots (Mark sign.Dots) (λ line. line) (λ _. refl) (λ _. refl) (λ line. inr (mark line sign.Dots, refl, refl)) s a
 
 -- ---- wants that may be left out
@@ -124,10 +124,10 @@ option-skips w x is not v et el each s = skips w x v et el (λ v line ts more e.
         let same = lexeme-of first.0 (token x line) _ _ (sym (ap (λ (us : List Token). us ++ more) first.2) ∙ e) in
         let both : true ≡ false = sym first.3 ∙ ap is same ∙ not in absurd cc
 
-pub chunk-takes : (value : ℤ) (s : List Want) → AreApart (want.Chunk ∷ s) → Takes (want.Chunk ∷ s) (Number value) 0 s
+pub chunk-takes : (value : ℤ) (s : List Want) → AreDelimited (want.Chunk ∷ s) → LeadsTo (want.Chunk ∷ s) (Number value) 0 s
 chunk-takes value s a = one-takes want.Chunk (Number value) (λ line. Some (line, value)) (λ _. refl) (λ _. refl) each s a
   where
-    each : (v : Option (ℕ × ℤ)) → ((value_tokens want.Chunk v ≡ []) × GoesOn want.Chunk (Number value)) ⊎ IsOne want.Chunk v
+    each : (v : Option (ℕ × ℤ)) → ((value_tokens want.Chunk v ≡ []) × GoesOnWith want.Chunk (Number value)) ⊎ IsOne want.Chunk v
     each None = inl (refl, (value, refl))
     each (Some v) = inr (number v.0 v.1, refl, refl)
 
@@ -142,10 +142,10 @@ chunk-skips x s e = option-skips want.Chunk x is_number e None refl refl each s
     each None = inl (refl, refl)
     each (Some v) = inr (number v.0 v.1, [], refl, refl)
 
-pub nowait-takes : (s : List Want) → AreApart (want.Nowait ∷ s) → Takes (want.Nowait ∷ s) (Reserved word.Nowait) 0 s
+pub nowait-takes : (s : List Want) → AreDelimited (want.Nowait ∷ s) → LeadsTo (want.Nowait ∷ s) (Reserved word.Nowait) 0 s
 nowait-takes s a = one-takes want.Nowait (Reserved word.Nowait) (λ line. Some line) (λ _. refl) (λ _. refl) each s a
   where
-    each : (v : Option ℕ) → ((value_tokens want.Nowait v ≡ []) × GoesOn want.Nowait (Reserved word.Nowait)) ⊎ IsOne want.Nowait v
+    each : (v : Option ℕ) → ((value_tokens want.Nowait v ≡ []) × GoesOnWith want.Nowait (Reserved word.Nowait)) ⊎ IsOne want.Nowait v
     each None = inl (refl, refl)
     each (Some v) = inr (reserved v word.Nowait, refl, refl)
 
@@ -160,10 +160,10 @@ nowait-skips x s e = option-skips want.Nowait x is_nowait e None refl refl each 
     each None = inl (refl, refl)
     each (Some v) = inr (reserved v word.Nowait, [], refl, refl)
 
-pub section_name-takes : (name : List ℕ) (s : List Want) → AreApart (want.SectionName ∷ s) → Takes (want.SectionName ∷ s) (Named name) 0 s
+pub section_name-takes : (name : List ℕ) (s : List Want) → AreDelimited (want.SectionName ∷ s) → LeadsTo (want.SectionName ∷ s) (Named name) 0 s
 section_name-takes name s a = one-takes want.SectionName (Named name) (λ line. Some (line, name)) (λ _. refl) (λ _. refl) each s a
   where
-    each : (v : Option (ℕ × List ℕ)) → ((value_tokens want.SectionName v ≡ []) × GoesOn want.SectionName (Named name)) ⊎ IsOne want.SectionName v
+    each : (v : Option (ℕ × List ℕ)) → ((value_tokens want.SectionName v ≡ []) × GoesOnWith want.SectionName (Named name)) ⊎ IsOne want.SectionName v
     each None = inl (refl, (name, refl))
     each (Some v) = inr (named v.0 v.1, refl, refl)
 

@@ -10,17 +10,17 @@ use Rattle.kernel_text.specs.declared.judging.Want.{Want}
 use Rattle.kernel_text.specs.declared.judging.Want.TheVariants as want
 use Rattle.kernel_text.specs.Grammar.{Tree, NumberAt, NameAt, TidAt, SpanAt, Element, Group, Minus, Binary, Derives, tree_tokens, op_of, rank_of, unary, named, number, reserved, mark, stmts_tokens, Unsaid, Static, StaticBy, Dynamic, DynamicBy}
 use Rattle.kernel_text.specs.Faults.{tree_levels, stmts_levels}
-use Rattle.kernel_text.specs.Wanting.{Plain, At, Fill, fill_tokens, fill_levels, Fulfils, GoesOn, AreApart, token, Takes, Skips, Refuses}
+use Rattle.kernel_text.specs.Wanting.{Plain, At, Fill, fill_tokens, fill_levels, Fulfils, GoesOnWith, AreDelimited, token, LeadsTo, Skips, Refuses}
 use Rattle.kernel_text.proofs.Operators.{ranks}
 use Rattle.kernel_text.proofs.Unfolding.{lexeme-of, Leaves, puts-by, leaves-by, takes, weaker, closed, never-on, not-op, is_schedule}
 
 -- ---- braces, brackets and signs
 
-behind-expr : (x : Lexeme) → op_of x ≡ None → (x ≡ Mark sign.OpenBracket → ⊥) → GoesOn (want.Expr 0) x → ⊥
+behind-expr : (x : Lexeme) → op_of x ≡ None → (x ≡ Mark sign.OpenBracket → ⊥) → GoesOnWith (want.Expr 0) x → ⊥
 behind-expr x none apart (inl e) = apart e
 behind-expr x none apart (inr is) = not-op x none is
 
-pub block-takes : (n : ℕ) (s : List Want) → AreApart (want.Block n ∷ s) → Takes (want.Block n ∷ s) (Mark sign.OpenBrace) (n + 1) (want.Stmts (n + 1) ∷ want.CloseBrace ∷ s)
+pub block-takes : (n : ℕ) (s : List Want) → AreDelimited (want.Block n ∷ s) → LeadsTo (want.Block n ∷ s) (Mark sign.OpenBrace) (n + 1) (want.Stmts (n + 1) ∷ want.CloseBrace ∷ s)
 block-takes n s a =
     takes (want.Block n ∷ s) (Mark sign.OpenBrace) (n + 1) (want.Stmts (n + 1) ∷ want.CloseBrace ∷ s) ((λ f never. never refl), ((λ f. closed want.CloseBrace (λ x g. g) (fill_tokens s f)), a.1))
     (λ line g. puts-by (want.Block n ∷ s) (record { opened = line; body = g.0.0; closed = g.1.0; derives = g.0.1 }, g.1.1) (ap (λ (r : List Token). mark line sign.OpenBrace ∷ r) (append_assoc (stmts_tokens g.0.0) (mark g.1.0 sign.CloseBrace ∷ []) (fill_tokens s g.1.1)))
@@ -28,7 +28,7 @@ block-takes n s a =
     (λ f line ts e. let b = f.0 in leaves-by (want.Block n ∷ s) f (mark b.opened sign.OpenBrace) (want.Stmts (n + 1) ∷ want.CloseBrace ∷ s) ((b.body, b.derives), (b.closed, f.1)) (ap (λ (r : List Token). mark b.opened sign.OpenBrace ∷ r) (append_assoc (stmts_tokens b.body) (mark b.closed sign.CloseBrace ∷ []) (fill_tokens s f.1)))
     (ap (λ (r : List ℕ). (n + 1) ∷ r) (append_assoc (stmts_levels (n + 1) b.body) (0 ∷ []) (fill_levels s f.1))) e)
 
-pub target-assign : (s : List Want) → AreApart (want.Target ∷ s) → Takes (want.Target ∷ s) (Mark sign.Assign) 0 s
+pub target-assign : (s : List Want) → AreDelimited (want.Target ∷ s) → LeadsTo (want.Target ∷ s) (Mark sign.Assign) 0 s
 target-assign s a =
     takes (want.Target ∷ s) (Mark sign.Assign) 0 s a.1 (λ line g. puts-by (want.Target ∷ s) (Plain line, g) refl refl) left
   where
@@ -39,7 +39,7 @@ target-assign s a =
 abbrev stored : List Want → List Want
 stored s = want.Expr 0 ∷ want.CloseBracket ∷ want.Assign ∷ s
 
-pub target-index : (s : List Want) → AreApart (want.Target ∷ s) → Takes (want.Target ∷ s) (Mark sign.OpenBracket) 0 (stored s)
+pub target-index : (s : List Want) → AreDelimited (want.Target ∷ s) → LeadsTo (want.Target ∷ s) (Mark sign.OpenBracket) 0 (stored s)
 target-index s a =
     takes (want.Target ∷ s) (Mark sign.OpenBracket) 0 (stored s)
     ((λ f. behind-expr (Mark sign.CloseBracket) refl (λ e. absurd cc)), ((λ f. closed want.CloseBracket (λ x g. g) (mark f.0 sign.Assign ∷ fill_tokens s f.1)), ((λ f. closed want.Assign (λ x g. g) (fill_tokens s f)), a.1)))
@@ -52,7 +52,7 @@ target-index s a =
         leaves-by (want.Target ∷ s) (At v at, g) (mark v.opened sign.OpenBracket) (stored s) ((v.index, v.derives), (v.closed, (at, g))) (ap (λ (r : List Token). mark v.opened sign.OpenBracket ∷ r) (append_assoc (tree_tokens v.index) (mark v.closed sign.CloseBracket ∷ mark at sign.Assign ∷ []) (fill_tokens s g)))
         (ap (λ (r : List ℕ). 0 ∷ r) (append_assoc (tree_levels 0 v.index) (0 ∷ 0 ∷ []) (fill_levels s g))) e
 
-pub else-takes : (n : ℕ) (s : List Want) → AreApart (want.Else n ∷ s) → Takes (want.Else n ∷ s) (Reserved word.Else) 0 (want.Block n ∷ s)
+pub else-takes : (n : ℕ) (s : List Want) → AreDelimited (want.Else n ∷ s) → LeadsTo (want.Else n ∷ s) (Reserved word.Else) 0 (want.Block n ∷ s)
 else-takes n s a =
     takes (want.Else n ∷ s) (Reserved word.Else) 0 (want.Block n ∷ s) ((λ f. closed (want.Block n) (λ x g. g) (fill_tokens s f)), a.1)
     (λ line g. puts-by (want.Else n ∷ s) (Some (line, g.0), g.1) refl refl) left
@@ -61,10 +61,10 @@ else-takes n s a =
     left (None, g) line ts e = absurd (never-on (want.Else n) s (reserved line word.Else) ts a g e refl)
     left (Some v, g) line ts e = leaves-by (want.Else n ∷ s) (Some v, g) (reserved v.0 word.Else) (want.Block n ∷ s) (v.1, g) refl refl e
 
-chunk-apart : (s : List Want) → AreApart (want.Schedule ∷ s) → AreApart (want.Chunk ∷ s)
+chunk-apart : (s : List Want) → AreDelimited (want.Schedule ∷ s) → AreDelimited (want.Chunk ∷ s)
 chunk-apart s a = ((λ f. weaker want.Schedule want.Chunk (fill_tokens s f) (λ x g. inr (inr g)) (a.0 f)), a.1)
 
-pub static-takes : (s : List Want) → AreApart (want.Schedule ∷ s) → Takes (want.Schedule ∷ s) (Reserved word.Static) 0 (want.Chunk ∷ s)
+pub static-takes : (s : List Want) → AreDelimited (want.Schedule ∷ s) → LeadsTo (want.Schedule ∷ s) (Reserved word.Static) 0 (want.Chunk ∷ s)
 static-takes s a = takes (want.Schedule ∷ s) (Reserved word.Static) 0 (want.Chunk ∷ s) (chunk-apart s a) put left
   where
     put : (line : ℕ) (g : Fill (want.Chunk ∷ s)) → Fulfils (want.Schedule ∷ s) (token (Reserved word.Static) line ∷ fill_tokens (want.Chunk ∷ s) g) (0 ∷ fill_levels (want.Chunk ∷ s) g)
@@ -78,7 +78,7 @@ static-takes s a = takes (want.Schedule ∷ s) (Reserved word.Static) 0 (want.Ch
     left (Dynamic at, g) line ts e = let same = lexeme-of _ _ _ _ e in absurd cc
     left (DynamicBy at m c, g) line ts e = let same = lexeme-of _ _ _ _ e in absurd cc
 
-pub dynamic-takes : (s : List Want) → AreApart (want.Schedule ∷ s) → Takes (want.Schedule ∷ s) (Reserved word.Dynamic) 0 (want.Chunk ∷ s)
+pub dynamic-takes : (s : List Want) → AreDelimited (want.Schedule ∷ s) → LeadsTo (want.Schedule ∷ s) (Reserved word.Dynamic) 0 (want.Chunk ∷ s)
 dynamic-takes s a = takes (want.Schedule ∷ s) (Reserved word.Dynamic) 0 (want.Chunk ∷ s) (chunk-apart s a) put left
   where
     put : (line : ℕ) (g : Fill (want.Chunk ∷ s)) → Fulfils (want.Schedule ∷ s) (token (Reserved word.Dynamic) line ∷ fill_tokens (want.Chunk ∷ s) g) (0 ∷ fill_levels (want.Chunk ∷ s) g)
@@ -94,7 +94,7 @@ dynamic-takes s a = takes (want.Schedule ∷ s) (Reserved word.Dynamic) 0 (want.
 
 -- ---- operands
 
-pub index-takes : (n : ℕ) (s : List Want) → AreApart (want.Index n ∷ s) → Takes (want.Index n ∷ s) (Mark sign.OpenBracket) (n + 1) (want.Expr (n + 1) ∷ want.CloseBracket ∷ s)
+pub index-takes : (n : ℕ) (s : List Want) → AreDelimited (want.Index n ∷ s) → LeadsTo (want.Index n ∷ s) (Mark sign.OpenBracket) (n + 1) (want.Expr (n + 1) ∷ want.CloseBracket ∷ s)
 index-takes n s a =
     takes (want.Index n ∷ s) (Mark sign.OpenBracket) (n + 1) (want.Expr (n + 1) ∷ want.CloseBracket ∷ s)
     ((λ f. behind-expr (Mark sign.CloseBracket) refl (λ e. absurd cc)), ((λ f. closed want.CloseBracket (λ x g. g) (fill_tokens s f)), a.1))
@@ -117,7 +117,7 @@ not-binary l r o line d = let k = some o in absurd (omega (arith, d.0, k))
 abbrev LeavesOperand : Lexeme → ℕ → ℕ → List Want → List Want → Type 0
 LeavesOperand x n level after s = (f : Fill (want.Operand n ∷ s)) (line : ℕ) (ts : List Token) → fill_tokens (want.Operand n ∷ s) f ≡ token x line ∷ ts → Leaves after level ts (fill_levels (want.Operand n ∷ s) f)
 
-pub number-operand : (value : ℤ) (n : ℕ) (s : List Want) → AreApart (want.Operand n ∷ s) → Takes (want.Operand n ∷ s) (Number value) 0 s
+pub number-operand : (value : ℤ) (n : ℕ) (s : List Want) → AreDelimited (want.Operand n ∷ s) → LeadsTo (want.Operand n ∷ s) (Number value) 0 s
 number-operand value n s a = takes (want.Operand n ∷ s) (Number value) 0 s a.1 (λ line g. puts-by (want.Operand n ∷ s) ((NumberAt line value, tt), g) refl refl) left
   where
     left : LeavesOperand (Number value) n 0 s s
@@ -125,7 +125,7 @@ number-operand value n s a = takes (want.Operand n ∷ s) (Number value) 0 s a.1
     left ((Binary l o at r, d), g) line ts e = absurd (not-binary l r o at d)
     left ((_, d), g) line ts e = let same = lexeme-of _ _ _ _ e in absurd cc
 
-pub tid-operand : (n : ℕ) (s : List Want) → AreApart (want.Operand n ∷ s) → Takes (want.Operand n ∷ s) (Reserved word.Tid) 0 s
+pub tid-operand : (n : ℕ) (s : List Want) → AreDelimited (want.Operand n ∷ s) → LeadsTo (want.Operand n ∷ s) (Reserved word.Tid) 0 s
 tid-operand n s a = takes (want.Operand n ∷ s) (Reserved word.Tid) 0 s a.1 (λ line g. puts-by (want.Operand n ∷ s) ((TidAt line, tt), g) refl refl) left
   where
     left : LeavesOperand (Reserved word.Tid) n 0 s s
@@ -133,7 +133,7 @@ tid-operand n s a = takes (want.Operand n ∷ s) (Reserved word.Tid) 0 s a.1 (λ
     left ((Binary l o at r, d), g) line ts e = absurd (not-binary l r o at d)
     left ((_, d), g) line ts e = let same = lexeme-of _ _ _ _ e in absurd cc
 
-pub span-operand : (n : ℕ) (s : List Want) → AreApart (want.Operand n ∷ s) → Takes (want.Operand n ∷ s) (Reserved word.Span) 0 s
+pub span-operand : (n : ℕ) (s : List Want) → AreDelimited (want.Operand n ∷ s) → LeadsTo (want.Operand n ∷ s) (Reserved word.Span) 0 s
 span-operand n s a = takes (want.Operand n ∷ s) (Reserved word.Span) 0 s a.1 (λ line g. puts-by (want.Operand n ∷ s) ((SpanAt line, tt), g) refl refl) left
   where
     left : LeavesOperand (Reserved word.Span) n 0 s s
@@ -141,7 +141,7 @@ span-operand n s a = takes (want.Operand n ∷ s) (Reserved word.Span) 0 s a.1 (
     left ((Binary l o at r, d), g) line ts e = absurd (not-binary l r o at d)
     left ((_, d), g) line ts e = let same = lexeme-of _ _ _ _ e in absurd cc
 
-pub named-operand : (name : List ℕ) (n : ℕ) (s : List Want) → AreApart (want.Operand n ∷ s) → Takes (want.Operand n ∷ s) (Named name) 0 (want.Index n ∷ s)
+pub named-operand : (name : List ℕ) (n : ℕ) (s : List Want) → AreDelimited (want.Operand n ∷ s) → LeadsTo (want.Operand n ∷ s) (Named name) 0 (want.Index n ∷ s)
 named-operand name n s a =
     takes (want.Operand n ∷ s) (Named name) 0 (want.Index n ∷ s) ((λ f. weaker (want.Operand n) (want.Index n) (fill_tokens s f) (λ x g. g) (a.0 f)), a.1) put left
   where
@@ -156,7 +156,7 @@ named-operand name n s a =
     left ((Binary l o at r, d), g) line ts e = absurd (not-binary l r o at d)
     left ((_, d), g) line ts e = let same = lexeme-of _ _ _ _ e in absurd cc
 
-pub minus-operand : (n : ℕ) (s : List Want) → AreApart (want.Operand n ∷ s) → Takes (want.Operand n ∷ s) (Mark sign.Minus) (n + 1) (want.Operand (n + 1) ∷ s)
+pub minus-operand : (n : ℕ) (s : List Want) → AreDelimited (want.Operand n ∷ s) → LeadsTo (want.Operand n ∷ s) (Mark sign.Minus) (n + 1) (want.Operand (n + 1) ∷ s)
 minus-operand n s a =
     takes (want.Operand n ∷ s) (Mark sign.Minus) (n + 1) (want.Operand (n + 1) ∷ s) ((λ f. weaker (want.Operand n) (want.Operand (n + 1)) (fill_tokens s f) (λ x g. g) (a.0 f)), a.1)
     (λ line g. puts-by (want.Operand n ∷ s) ((Minus line g.0.0, g.0.1), g.1) refl refl) left
@@ -166,7 +166,7 @@ minus-operand n s a =
     left ((Binary l o at r, d), g) line ts e = absurd (not-binary l r o at d)
     left ((_, d), g) line ts e = let same = lexeme-of _ _ _ _ e in absurd cc
 
-pub group-operand : (n : ℕ) (s : List Want) → AreApart (want.Operand n ∷ s) → Takes (want.Operand n ∷ s) (Mark sign.OpenParen) (n + 1) (want.Expr (n + 1) ∷ want.CloseParen ∷ s)
+pub group-operand : (n : ℕ) (s : List Want) → AreDelimited (want.Operand n ∷ s) → LeadsTo (want.Operand n ∷ s) (Mark sign.OpenParen) (n + 1) (want.Expr (n + 1) ∷ want.CloseParen ∷ s)
 group-operand n s a =
     takes (want.Operand n ∷ s) (Mark sign.OpenParen) (n + 1) (want.Expr (n + 1) ∷ want.CloseParen ∷ s)
     ((λ f. behind-expr (Mark sign.CloseParen) refl (λ e. absurd cc)), ((λ f. closed want.CloseParen (λ x g. g) (fill_tokens s f)), a.1))
@@ -186,7 +186,7 @@ is_leaf (Reserved word.Tid) = true
 is_leaf (Reserved word.Span) = true
 is_leaf _ = false
 
-pub leaf-operand : (x : Lexeme) (n : ℕ) (s : List Want) → is_leaf x ≡ true → AreApart (want.Operand n ∷ s) → Takes (want.Operand n ∷ s) x 0 s
+pub leaf-operand : (x : Lexeme) (n : ℕ) (s : List Want) → is_leaf x ≡ true → AreDelimited (want.Operand n ∷ s) → LeadsTo (want.Operand n ∷ s) x 0 s
 leaf-operand (Number value) n s is a = number-operand value n s a
 leaf-operand (Reserved word.Tid) n s is a = tid-operand n s a
 leaf-operand (Reserved word.Span) n s is a = span-operand n s a
@@ -194,7 +194,7 @@ leaf-operand (Reserved _) n s is a = absurd cc
 leaf-operand (Named _) n s is a = absurd cc
 leaf-operand (Mark _) n s is a = absurd cc
 
-pub schedule-takes : (x : Lexeme) (s : List Want) → is_schedule x ≡ true → AreApart (want.Schedule ∷ s) → Takes (want.Schedule ∷ s) x 0 (want.Chunk ∷ s)
+pub schedule-takes : (x : Lexeme) (s : List Want) → is_schedule x ≡ true → AreDelimited (want.Schedule ∷ s) → LeadsTo (want.Schedule ∷ s) x 0 (want.Chunk ∷ s)
 schedule-takes (Reserved word.Static) s is a = static-takes s a
 schedule-takes (Reserved word.Dynamic) s is a = dynamic-takes s a
 schedule-takes (Reserved _) s is a = absurd cc

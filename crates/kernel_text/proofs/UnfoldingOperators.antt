@@ -10,7 +10,7 @@ use Rattle.kernel_text.specs.declared.judging.Want.{Want}
 use Rattle.kernel_text.specs.declared.judging.Want.TheVariants as want
 use Rattle.kernel_text.specs.Grammar.{Tree, NumberAt, NameAt, TidAt, SpanAt, Element, Group, Minus, Binary, Derives, tree_tokens, op_of, sign_of, is_comparison, rank_of, left_rank, right_rank, unary, expr, mark}
 use Rattle.kernel_text.specs.Faults.{tree_levels}
-use Rattle.kernel_text.specs.Wanting.{Chain, Last, Then, chain_tokens, chain_levels, Allows, FitsChain, Value, Fill, fill_tokens, fill_levels, Fulfils, EndsAt, AreApart, token, Takes, Skips, Refuses}
+use Rattle.kernel_text.specs.Wanting.{Chain, Last, Then, chain_tokens, chain_levels, Allows, FitsChain, Value, Fill, fill_tokens, fill_levels, Fulfils, EndsAt, AreDelimited, token, LeadsTo, Skips, Refuses}
 use Rattle.kernel_text.proofs.Operators.{op_of-sign}
 use Rattle.kernel_text.proofs.Grouping.{whole_of}
 use Rattle.kernel_text.proofs.Unfolding.{lexeme-of, Leaves, puts-by, leaves-by, takes, weaker, never-on, not-op, skips}
@@ -23,17 +23,17 @@ same-op o p e = let some : Some o ≡ Some p = sym (op_of-sign o) ∙ ap op_of e
 no-bracket : (o : Op) → Mark (sign_of o) ≡ Mark sign.OpenBracket → ⊥
 no-bracket o e = let some : Some o ≡ None = sym (op_of-sign o) ∙ ap op_of e in absurd cc
 
-operand-ends : (n : ℕ) (c : Bool) (s : List Want) → AreApart (want.Operators n c ∷ s) → (f : Fill (want.Operators n c ∷ s)) → EndsAt (want.Operand n) (fill_tokens (want.Operators n c ∷ s) f)
+operand-ends : (n : ℕ) (c : Bool) (s : List Want) → AreDelimited (want.Operators n c ∷ s) → (f : Fill (want.Operators n c ∷ s)) → EndsAt (want.Operand n) (fill_tokens (want.Operators n c ∷ s) f)
 operand-ends n c s a ((Last, d), g) = weaker (want.Operators n c) (want.Operand n) (fill_tokens s g) (λ x e. inl e) (a.0 g)
 operand-ends n c s a ((Then o line u rest, d), g) = no-bracket o
 
-terms-apart : (n : ℕ) (c after : Bool) (s : List Want) → AreApart (want.Operators n c ∷ s) → AreApart (want.Operand n ∷ want.Operators n after ∷ s)
+terms-apart : (n : ℕ) (c after : Bool) (s : List Want) → AreDelimited (want.Operators n c ∷ s) → AreDelimited (want.Operand n ∷ want.Operators n after ∷ s)
 terms-apart n c after s a =
-    let b : AreApart (want.Operators n after ∷ s) = ((λ f. weaker (want.Operators n c) (want.Operators n after) (fill_tokens s f) (λ x g. g) (a.0 f)), a.1) in (operand-ends n after s b, b)
+    let b : AreDelimited (want.Operators n after ∷ s) = ((λ f. weaker (want.Operators n c) (want.Operators n after) (fill_tokens s f) (λ x g. g) (a.0 f)), a.1) in (operand-ends n after s b, b)
 
 pub operator-takes : (o : Op) (n : ℕ) (c after : Bool) (s : List Want) → ((ch : Chain) → FitsChain after ch → Allows c (is_comparison o) (FitsChain c ch) (FitsChain false ch))
-    → ((ch : Chain) → Allows c (is_comparison o) (FitsChain c ch) (FitsChain false ch) → FitsChain after ch) → AreApart (want.Operators n c ∷ s)
-    → Takes (want.Operators n c ∷ s) (Mark (sign_of o)) 0 (want.Operand n ∷ want.Operators n after ∷ s)
+    → ((ch : Chain) → Allows c (is_comparison o) (FitsChain c ch) (FitsChain false ch) → FitsChain after ch) → AreDelimited (want.Operators n c ∷ s)
+    → LeadsTo (want.Operators n c ∷ s) (Mark (sign_of o)) 0 (want.Operand n ∷ want.Operators n after ∷ s)
 operator-takes o n c after s allow allowed a =
     takes (want.Operators n c ∷ s) (Mark (sign_of o)) 0 (want.Operand n ∷ want.Operators n after ∷ s) (terms-apart n c after s a)
     (λ line g. puts-by (want.Operators n c ∷ s) ((Then o line g.0.0 g.1.0.0, (g.0.1, allow g.1.0.0 g.1.0.1)), g.1.1)
@@ -58,12 +58,12 @@ allows-plain : (c b : Bool) (A B : Type 0) → b ≡ false → Allows c b A B �
 allows-plain c false A B e a = a
 allows-plain c true A B e a = absurd cc
 
-pub plain-takes : (o : Op) (n : ℕ) (c : Bool) (s : List Want) → is_comparison o ≡ false → AreApart (want.Operators n c ∷ s) → Takes (want.Operators n c ∷ s) (Mark (sign_of o)) 0 (want.Operand n ∷ want.Operators n c ∷ s)
+pub plain-takes : (o : Op) (n : ℕ) (c : Bool) (s : List Want) → is_comparison o ≡ false → AreDelimited (want.Operators n c ∷ s) → LeadsTo (want.Operators n c ∷ s) (Mark (sign_of o)) 0 (want.Operand n ∷ want.Operators n c ∷ s)
 plain-takes o n c s e a =
     operator-takes o n c c s (λ ch d. plain-allows c (is_comparison o) (FitsChain c ch) (FitsChain false ch) e d) (λ ch d. allows-plain c (is_comparison o) (FitsChain c ch) (FitsChain false ch) e d) a
 
-pub comparison-takes : (o : Op) (n : ℕ) (c : Bool) (s : List Want) → c ≡ true → is_comparison o ≡ true → AreApart (want.Operators n c ∷ s)
-    → Takes (want.Operators n c ∷ s) (Mark (sign_of o)) 0 (want.Operand n ∷ want.Operators n false ∷ s)
+pub comparison-takes : (o : Op) (n : ℕ) (c : Bool) (s : List Want) → c ≡ true → is_comparison o ≡ true → AreDelimited (want.Operators n c ∷ s)
+    → LeadsTo (want.Operators n c ∷ s) (Mark (sign_of o)) 0 (want.Operand n ∷ want.Operators n false ∷ s)
 comparison-takes o n false s may e a = absurd cc
 comparison-takes o n true s may e a =
     operator-takes o n true false s (λ ch d. subst (λ (b : Bool). Allows true b (FitsChain true ch) (FitsChain false ch)) (sym e) d) (λ ch d. subst (λ (b : Bool). Allows true b (FitsChain true ch) (FitsChain false ch)) e d) a
@@ -188,7 +188,7 @@ split-whole n (Binary l o line r) d =
 abbrev pub terms : ℕ → List Want → List Want
 terms n s = want.Operand n ∷ want.Operators n true ∷ s
 
-pub expr-apart : (n : ℕ) (s : List Want) → AreApart (want.Expr n ∷ s) → AreApart (terms n s)
+pub expr-apart : (n : ℕ) (s : List Want) → AreDelimited (want.Expr n ∷ s) → AreDelimited (terms n s)
 expr-apart n s a = terms-apart n true true s ((λ f. weaker (want.Expr n) (want.Operators n true) (fill_tokens s f) (λ x g. g) (a.0 f)), a.1)
 
 pub expr-terms : (n : ℕ) (s : List Want) (ts : List Token) (ls : List ℕ) → Fulfils (want.Expr n ∷ s) ts ls → Fulfils (terms n s) ts ls
@@ -207,7 +207,7 @@ terms-expr n s ts ls r =
     (ap (λ (r : List Token). r ++ fill_tokens s f.1.1) w.tokens ∙ append_assoc (tree_tokens f.0.0) (chain_tokens f.1.0.0) (fill_tokens s f.1.1) ∙ r.tokens)
     (ap (λ (r : List ℕ). r ++ fill_levels s f.1.1) w.levels ∙ append_assoc (tree_levels n f.0.0) (chain_levels n f.1.0.0) (fill_levels s f.1.1) ∙ r.levels)
 
-pub expr-takes : (n : ℕ) (s : List Want) (x : Lexeme) (level : ℕ) (after : List Want) → Takes (terms n s) x level after → Takes (want.Expr n ∷ s) x level after
+pub expr-takes : (n : ℕ) (s : List Want) (x : Lexeme) (level : ℕ) (after : List Want) → LeadsTo (terms n s) x level after → LeadsTo (want.Expr n ∷ s) x level after
 expr-takes n s x level after t = record {
   apart = t.apart;
   puts = λ line ts ls r. terms-expr n s (token x line ∷ ts) (level ∷ ls) (t.puts line ts ls r);

@@ -10,7 +10,7 @@ use Rattle.kernel_text.specs.declared.judging.Want.{Want}
 use Rattle.kernel_text.specs.declared.judging.Want.TheVariants as want
 use Rattle.kernel_text.specs.Grammar.{op_of, tree_tokens, named, number, reserved, mark, Unsaid, Static, StaticBy, Dynamic, DynamicBy, schedule_tokens, nowait_tokens, Stmts, NoMore, Let, Assign, Store, If, IfElse, Loop, Parallel, For, Barrier, Critical, CriticalOf, stmts_tokens, StmtsDerive, Declaration, ArrayOf, MutexOf, KernelTree, IsKernel}
 use Rattle.kernel_text.specs.Faults.{tree_levels, flat, stmts_levels}
-use Rattle.kernel_text.specs.Wanting.{Braced, Plain, At, Value, braced_tokens, braced_levels, Fill, fill_tokens, fill_levels, Fulfils, GoesOn, EndsAt, AreApart, token, Takes, Skips, Refuses}
+use Rattle.kernel_text.specs.Wanting.{Braced, Plain, At, Value, braced_tokens, braced_levels, Fill, fill_tokens, fill_levels, Fulfils, GoesOnWith, EndsAt, AreDelimited, token, LeadsTo, Skips, Refuses}
 use Rattle.kernel_text.proofs.Unfolding.{lexeme-of, Leaves, puts-by, leaves-by, takes, closed, never-on, not-op, skips}
 
 -- ---- lists that are joined in another order
@@ -35,13 +35,10 @@ stored x c d y z t = append_assoc x (c ∷ d ∷ (y ++ z)) t ∙ ap (λ r. x ++ 
 
 -- ---- kernels
 
-abbrev LeavesKernel : Lexeme → List Want → List Want → Type 0
-LeavesKernel x after s = (f : Fill (want.Kernel ∷ s)) (line : ℕ) (ts : List Token) → fill_tokens (want.Kernel ∷ s) f ≡ token x line ∷ ts → Leaves after 0 ts (fill_levels (want.Kernel ∷ s) f)
-
 abbrev with_array : List Want → List Want
 with_array s = want.Name ∷ want.Name ∷ want.Number ∷ want.Kernel ∷ s
 
-pub array-takes : (s : List Want) → AreApart (want.Kernel ∷ s) → Takes (want.Kernel ∷ s) (Reserved word.Array) 0 (with_array s)
+pub array-takes : (s : List Want) → AreDelimited (want.Kernel ∷ s) → LeadsTo (want.Kernel ∷ s) (Reserved word.Array) 0 (with_array s)
 array-takes s a =
     takes (want.Kernel ∷ s) (Reserved word.Array) 0 (with_array s) ((λ f never. never), ((λ f never. never), ((λ f. closed want.Number (λ x g. g) (fill_tokens (want.Kernel ∷ s) f)), a)))
     (λ line g.
@@ -56,7 +53,7 @@ array-takes s a =
         (ap (λ (ds : List Declaration). fill_tokens (want.Kernel ∷ s) ((record k { declarations = ds }, d), g)) is) (ap (λ (ds : List Declaration). fill_levels (want.Kernel ∷ s) ((record k { declarations = ds }, d), g)) is) e
     left k (MutexOf _ _ _ ∷ ds) is d g line ts e = let same = lexeme-of _ _ _ _ (sym (ap (λ (ds : List Declaration). fill_tokens (want.Kernel ∷ s) ((record k { declarations = ds }, d), g)) is) ∙ e) in absurd cc
 
-pub mutex-takes : (s : List Want) → AreApart (want.Kernel ∷ s) → Takes (want.Kernel ∷ s) (Reserved word.Mutex) 0 (want.Name ∷ want.Kernel ∷ s)
+pub mutex-takes : (s : List Want) → AreDelimited (want.Kernel ∷ s) → LeadsTo (want.Kernel ∷ s) (Reserved word.Mutex) 0 (want.Name ∷ want.Kernel ∷ s)
 mutex-takes s a =
     takes (want.Kernel ∷ s) (Reserved word.Mutex) 0 (want.Name ∷ want.Kernel ∷ s) ((λ f. closed want.Name (λ x g. g) (fill_tokens (want.Kernel ∷ s) f)), a)
     (λ line g. let k = g.1.0.0 in puts-by (want.Kernel ∷ s) ((record k { declarations = MutexOf line g.0.0 g.0.1 ∷ k.declarations }, g.1.0.1), g.1.1) refl refl) (λ f line ts e. left f.0.0 f.0.0.declarations refl f.0.1 f.1 line ts e)
@@ -69,7 +66,7 @@ mutex-takes s a =
         (ap (λ (ds : List Declaration). fill_tokens (want.Kernel ∷ s) ((record k { declarations = ds }, d), g)) is) (ap (λ (ds : List Declaration). fill_levels (want.Kernel ∷ s) ((record k { declarations = ds }, d), g)) is) e
     left k (ArrayOf _ _ _ _ _ _ _ ∷ ds) is d g line ts e = let same = lexeme-of _ _ _ _ (sym (ap (λ (ds : List Declaration). fill_tokens (want.Kernel ∷ s) ((record k { declarations = ds }, d), g)) is) ∙ e) in absurd cc
 
-pub main-takes : (s : List Want) → AreApart (want.Kernel ∷ s) → Takes (want.Kernel ∷ s) (Reserved word.Main) 0 (want.Block 0 ∷ s)
+pub main-takes : (s : List Want) → AreDelimited (want.Kernel ∷ s) → LeadsTo (want.Kernel ∷ s) (Reserved word.Main) 0 (want.Block 0 ∷ s)
 main-takes s a =
     takes (want.Kernel ∷ s) (Reserved word.Main) 0 (want.Block 0 ∷ s) ((λ f. closed (want.Block 0) (λ x g. g) (fill_tokens s f)), a.1)
     (λ line g. let b = g.0 in puts-by (want.Kernel ∷ s) ((record { declarations = []; line = line; opened = b.opened; body = b.body; closed = b.closed }, b.derives), g.1) refl refl) (λ f line ts e. left f.0.0 f.0.0.declarations refl f.0.1 f.1 line ts e)
@@ -91,12 +88,12 @@ starts (Mark _) = false
 starts (Reserved word.Else) = false
 starts _ = true
 
-behind-stmts : (w : Want) (n : ℕ) (s : List Want) → ((x : Lexeme) → starts x ≡ true → GoesOn w x → ⊥) → AreApart (want.Stmts n ∷ s) → (f : Fill (want.Stmts n ∷ s)) → EndsAt w (fill_tokens (want.Stmts n ∷ s) f)
+behind-stmts : (w : Want) (n : ℕ) (s : List Want) → ((x : Lexeme) → starts x ≡ true → GoesOnWith w x → ⊥) → AreDelimited (want.Stmts n ∷ s) → (f : Fill (want.Stmts n ∷ s)) → EndsAt w (fill_tokens (want.Stmts n ∷ s) f)
 behind-stmts w n s h a ((NoMore, d), g) = ends (fill_tokens s g) (a.0 g)
   where
     ends : (ts : List Token) → EndsAt (want.Stmts n) ts → EndsAt w ts
     ends [] e = absurd (e (Reserved word.Let) (λ same. absurd cc))
-    ends (t ∷ ts) e = λ on. e (λ same. h (Mark sign.CloseBrace) refl (subst (λ (x : Lexeme). GoesOn w x) same on))
+    ends (t ∷ ts) e = λ on. e (λ same. h (Mark sign.CloseBrace) refl (subst (λ (x : Lexeme). GoesOnWith w x) same on))
 behind-stmts w n s h a ((Assign _ _ _ _ _, d), g) = h _ refl
 behind-stmts w n s h a ((Store _ _ _ _ _ _ _ _, d), g) = h _ refl
 behind-stmts w n s h a ((_, d), g) = h _ refl
@@ -111,7 +108,7 @@ starts-op (Number _) e = refl
 starts-bracket : (x : Lexeme) → starts x ≡ true → x ≡ Mark sign.OpenBracket → ⊥
 starts-bracket x s e = let none : starts x ≡ false = ap starts e in absurd cc
 
-starts-expr : (x : Lexeme) → starts x ≡ true → GoesOn (want.Expr 0) x → ⊥
+starts-expr : (x : Lexeme) → starts x ≡ true → GoesOnWith (want.Expr 0) x → ⊥
 starts-expr x s (inl e) = starts-bracket x s e
 starts-expr x s (inr is) = not-op x (starts-op x s) is
 
@@ -128,13 +125,13 @@ LeavesStmts x n after s = (f : Fill (want.Stmts n ∷ s)) (line : ℕ) (ts : Lis
 abbrev value_then : ℕ → List Want → List Want
 value_then n s = want.Expr 0 ∷ want.Stmts n ∷ s
 
-value-apart : (n : ℕ) (s : List Want) → AreApart (want.Stmts n ∷ s) → AreApart (value_then n s)
+value-apart : (n : ℕ) (s : List Want) → AreDelimited (want.Stmts n ∷ s) → AreDelimited (value_then n s)
 value-apart n s a = (behind-stmts (want.Expr 0) n s starts-expr a, a)
 
 abbrev let_then : ℕ → List Want → List Want
 let_then n s = want.Name ∷ want.Assign ∷ value_then n s
 
-pub let-takes : (n : ℕ) (s : List Want) → AreApart (want.Stmts n ∷ s) → Takes (want.Stmts n ∷ s) (Reserved word.Let) 0 (let_then n s)
+pub let-takes : (n : ℕ) (s : List Want) → AreDelimited (want.Stmts n ∷ s) → LeadsTo (want.Stmts n ∷ s) (Reserved word.Let) 0 (let_then n s)
 let-takes n s a =
     takes (want.Stmts n ∷ s) (Reserved word.Let) 0 (let_then n s) ((λ f never. never), ((λ f. closed want.Assign (λ x g. g) (fill_tokens (value_then n s) f)), value-apart n s a))
     (λ line g.
@@ -155,7 +152,7 @@ let-takes n s a =
 abbrev assign_then : ℕ → List Want → List Want
 assign_then n s = want.Target ∷ value_then n s
 
-pub assign-takes : (name : List ℕ) (n : ℕ) (s : List Want) → AreApart (want.Stmts n ∷ s) → Takes (want.Stmts n ∷ s) (Named name) 0 (assign_then n s)
+pub assign-takes : (name : List ℕ) (n : ℕ) (s : List Want) → AreDelimited (want.Stmts n ∷ s) → LeadsTo (want.Stmts n ∷ s) (Named name) 0 (assign_then n s)
 assign-takes name n s a =
     takes (want.Stmts n ∷ s) (Named name) 0 (assign_then n s) ((λ f. closed want.Target (λ x g. g) (fill_tokens (value_then n s) f)), value-apart n s a) put left
   where
@@ -185,13 +182,13 @@ assign-takes name n s a =
 abbrev braced : ℕ → (b : Stmts) → ℕ → StmtsDerive b → Braced
 braced o b c d = record { opened = o; body = b; closed = c; derives = d }
 
-block-apart : (n : ℕ) (s : List Want) → AreApart s → AreApart (want.Block n ∷ s)
+block-apart : (n : ℕ) (s : List Want) → AreDelimited s → AreDelimited (want.Block n ∷ s)
 block-apart n s a = ((λ f. closed (want.Block n) (λ x g. g) (fill_tokens s f)), a)
 
 abbrev if_then : ℕ → List Want → List Want
 if_then n s = want.Expr 0 ∷ want.Block n ∷ want.Else n ∷ want.Stmts n ∷ s
 
-pub if-takes : (n : ℕ) (s : List Want) → AreApart (want.Stmts n ∷ s) → Takes (want.Stmts n ∷ s) (Reserved word.If) 0 (if_then n s)
+pub if-takes : (n : ℕ) (s : List Want) → AreDelimited (want.Stmts n ∷ s) → LeadsTo (want.Stmts n ∷ s) (Reserved word.If) 0 (if_then n s)
 if-takes n s a =
     takes (want.Stmts n ∷ s) (Reserved word.If) 0 (if_then n s) (open-brace n (want.Else n ∷ want.Stmts n ∷ s), block-apart n (want.Else n ∷ want.Stmts n ∷ s) (behind-stmts (want.Else n) n s starts-else a, a)) put left
   where
@@ -229,14 +226,14 @@ dots : (s : List Want) (f : Fill (want.Dots ∷ s)) → EndsAt (want.Expr 0) (fi
 dots s f (inl e) = absurd cc
 dots s f (inr is) = not-op (Mark sign.Dots) refl is
 
-range-apart : (s : List Want) → ((f : Fill s) → EndsAt (want.Expr 0) (fill_tokens s f)) → AreApart s → AreApart (range_then s)
+range-apart : (s : List Want) → ((f : Fill s) → EndsAt (want.Expr 0) (fill_tokens s f)) → AreDelimited s → AreDelimited (range_then s)
 range-apart s h a =
     ((λ f never. never), ((λ f. closed want.In (λ x g. g) (fill_tokens (want.Expr 0 ∷ want.Dots ∷ want.Expr 0 ∷ s) f)), (dots (want.Expr 0 ∷ s), ((λ f. closed want.Dots (λ x g. g) (fill_tokens (want.Expr 0 ∷ s) f)), (h, a)))))
 
 abbrev block_then : ℕ → List Want → List Want
 block_then n s = want.Block n ∷ want.Stmts n ∷ s
 
-pub loop-takes : (n : ℕ) (s : List Want) → AreApart (want.Stmts n ∷ s) → Takes (want.Stmts n ∷ s) (Reserved word.Loop) 0 (range_then (block_then n s))
+pub loop-takes : (n : ℕ) (s : List Want) → AreDelimited (want.Stmts n ∷ s) → LeadsTo (want.Stmts n ∷ s) (Reserved word.Loop) 0 (range_then (block_then n s))
 loop-takes n s a =
     takes (want.Stmts n ∷ s) (Reserved word.Loop) 0 (range_then (block_then n s)) (range-apart (block_then n s) (open-brace n (want.Stmts n ∷ s)) (block-apart n (want.Stmts n ∷ s) a))
     (λ line g.
@@ -262,7 +259,7 @@ loop-takes n s a =
 abbrev parallel_then : ℕ → List Want → List Want
 parallel_then n s = want.Number ∷ block_then n s
 
-pub parallel-takes : (n : ℕ) (s : List Want) → AreApart (want.Stmts n ∷ s) → Takes (want.Stmts n ∷ s) (Reserved word.Parallel) 0 (parallel_then n s)
+pub parallel-takes : (n : ℕ) (s : List Want) → AreDelimited (want.Stmts n ∷ s) → LeadsTo (want.Stmts n ∷ s) (Reserved word.Parallel) 0 (parallel_then n s)
 parallel-takes n s a =
     takes (want.Stmts n ∷ s) (Reserved word.Parallel) 0 (parallel_then n s) ((λ f never. never), block-apart n (want.Stmts n ∷ s) a)
     (λ line g.
@@ -284,7 +281,7 @@ parallel-takes n s a =
 abbrev shared_then : ℕ → List Want → List Want
 shared_then n s = want.Schedule ∷ want.Nowait ∷ block_then n s
 
-no-schedule : (x : Lexeme) → (x ≡ Reserved word.Static → ⊥) → (x ≡ Reserved word.Dynamic → ⊥) → ((value : ℤ) → x ≡ Number value → ⊥) → GoesOn want.Schedule x → ⊥
+no-schedule : (x : Lexeme) → (x ≡ Reserved word.Static → ⊥) → (x ≡ Reserved word.Dynamic → ⊥) → ((value : ℤ) → x ≡ Number value → ⊥) → GoesOnWith want.Schedule x → ⊥
 no-schedule x a b c (inl e) = a e
 no-schedule x a b c (inr (inl e)) = b e
 no-schedule x a b c (inr (inr e)) = c e.0 e.1
@@ -293,7 +290,7 @@ nowait-first : (n : ℕ) (s : List Want) (f : Fill (want.Nowait ∷ block_then n
 nowait-first n s (None, f) = no-schedule (Mark sign.OpenBrace) (λ e. absurd cc) (λ e. absurd cc) (λ v e. absurd cc)
 nowait-first n s (Some at, f) = no-schedule (Reserved word.Nowait) (λ e. absurd cc) (λ e. absurd cc) (λ v e. absurd cc)
 
-word-expr : (w : Word) → GoesOn (want.Expr 0) (Reserved w) → ⊥
+word-expr : (w : Word) → GoesOnWith (want.Expr 0) (Reserved w) → ⊥
 word-expr w (inl e) = absurd cc
 word-expr w (inr is) = not-op (Reserved w) refl is
 
@@ -305,7 +302,7 @@ schedule-first n s (StaticBy _ _ _, f) = word-expr word.Static
 schedule-first n s (Dynamic _, f) = word-expr word.Dynamic
 schedule-first n s (DynamicBy _ _ _, f) = word-expr word.Dynamic
 
-pub for-takes : (n : ℕ) (s : List Want) → AreApart (want.Stmts n ∷ s) → Takes (want.Stmts n ∷ s) (Reserved word.For) 0 (range_then (shared_then n s))
+pub for-takes : (n : ℕ) (s : List Want) → AreDelimited (want.Stmts n ∷ s) → LeadsTo (want.Stmts n ∷ s) (Reserved word.For) 0 (range_then (shared_then n s))
 for-takes n s a =
     takes (want.Stmts n ∷ s) (Reserved word.For) 0 (range_then (shared_then n s)) (range-apart (shared_then n s) (schedule-first n s) (nowait-first n s, ((λ f e. absurd cc), block-apart n (want.Stmts n ∷ s) a)))
     (λ line g.
@@ -332,7 +329,7 @@ for-takes n s a =
         (ap (λ (x : List ℕ). 0 ∷ 0 ∷ 0 ∷ x) (shared (tree_levels 0 from) 0 (tree_levels 0 to) (flat (schedule_tokens said)) (flat (nowait_tokens nowait)) (braced_levels n k) (stmts_levels n r) (fill_levels s g))) e
     left ((_, d), g) line ts e = let same = lexeme-of _ _ _ _ e in absurd cc
 
-pub barrier-takes : (n : ℕ) (s : List Want) → AreApart (want.Stmts n ∷ s) → Takes (want.Stmts n ∷ s) (Reserved word.Barrier) 0 (want.Stmts n ∷ s)
+pub barrier-takes : (n : ℕ) (s : List Want) → AreDelimited (want.Stmts n ∷ s) → LeadsTo (want.Stmts n ∷ s) (Reserved word.Barrier) 0 (want.Stmts n ∷ s)
 barrier-takes n s a = takes (want.Stmts n ∷ s) (Reserved word.Barrier) 0 (want.Stmts n ∷ s) a (λ line g. puts-by (want.Stmts n ∷ s) ((Barrier line g.0.0, g.0.1), g.1) refl refl) left
   where
     left : LeavesStmts (Reserved word.Barrier) n (want.Stmts n ∷ s) s
@@ -346,7 +343,7 @@ critical_then n s = want.SectionName ∷ block_then n s
 no-name : (n : ℕ) (s : List Want) (f : Fill (block_then n s)) → EndsAt want.SectionName (fill_tokens (block_then n s) f)
 no-name n s f is = let same = is.1 in absurd cc
 
-pub critical-takes : (n : ℕ) (s : List Want) → AreApart (want.Stmts n ∷ s) → Takes (want.Stmts n ∷ s) (Reserved word.Critical) 0 (critical_then n s)
+pub critical-takes : (n : ℕ) (s : List Want) → AreDelimited (want.Stmts n ∷ s) → LeadsTo (want.Stmts n ∷ s) (Reserved word.Critical) 0 (critical_then n s)
 critical-takes n s a = takes (want.Stmts n ∷ s) (Reserved word.Critical) 0 (critical_then n s) (no-name n s, block-apart n (want.Stmts n ∷ s) a) put left
   where
     put : (line : ℕ) (g : Fill (critical_then n s)) → Fulfils (want.Stmts n ∷ s) (token (Reserved word.Critical) line ∷ fill_tokens (critical_then n s) g) (0 ∷ fill_levels (critical_then n s) g)

@@ -187,32 +187,32 @@ pub record Fulfils (s : List Want) (ts : List Token) (ls : List ℕ) : Type 0 wh
 
 -- ---- what may stand behind what
 
-abbrev pub IsOperator : Lexeme → Type 0
-IsOperator x = (o : Op) × (x ≡ Mark (sign_of o))
+abbrev pub IsOpSign : Lexeme → Type 0
+IsOpSign x = (o : Op) × (x ≡ Mark (sign_of o))
 
 -- what fulfils the want may go on with the lexeme, or begin with it where it may be empty
-abbrev pub GoesOn : Want → Lexeme → Type 0
-GoesOn (want.Stmts n) x = x ≡ Mark sign.CloseBrace → ⊥
-GoesOn (want.Else n) x = x ≡ Reserved word.Else
-GoesOn want.Schedule x = (x ≡ Reserved word.Static) ⊎ ((x ≡ Reserved word.Dynamic) ⊎ ((value : ℤ) × (x ≡ Number value)))
-GoesOn want.Chunk x = (value : ℤ) × (x ≡ Number value)
-GoesOn want.Nowait x = x ≡ Reserved word.Nowait
-GoesOn want.SectionName x = (name : List ℕ) × (x ≡ Named name)
-GoesOn (want.Expr n) x = (x ≡ Mark sign.OpenBracket) ⊎ IsOperator x
-GoesOn (want.Operand n) x = x ≡ Mark sign.OpenBracket
-GoesOn (want.Index n) x = x ≡ Mark sign.OpenBracket
-GoesOn (want.Operators n c) x = (x ≡ Mark sign.OpenBracket) ⊎ IsOperator x
-GoesOn _ x = ⊥
+abbrev pub GoesOnWith : Want → Lexeme → Type 0
+GoesOnWith (want.Stmts n) x = x ≡ Mark sign.CloseBrace → ⊥
+GoesOnWith (want.Else n) x = x ≡ Reserved word.Else
+GoesOnWith want.Schedule x = (x ≡ Reserved word.Static) ⊎ ((x ≡ Reserved word.Dynamic) ⊎ ((value : ℤ) × (x ≡ Number value)))
+GoesOnWith want.Chunk x = (value : ℤ) × (x ≡ Number value)
+GoesOnWith want.Nowait x = x ≡ Reserved word.Nowait
+GoesOnWith want.SectionName x = (name : List ℕ) × (x ≡ Named name)
+GoesOnWith (want.Expr n) x = (x ≡ Mark sign.OpenBracket) ⊎ IsOpSign x
+GoesOnWith (want.Operand n) x = x ≡ Mark sign.OpenBracket
+GoesOnWith (want.Index n) x = x ≡ Mark sign.OpenBracket
+GoesOnWith (want.Operators n c) x = (x ≡ Mark sign.OpenBracket) ⊎ IsOpSign x
+GoesOnWith _ x = ⊥
 
 -- the tokens tell where the want ends: they don't go on with it, and are some
 abbrev pub EndsAt : Want → List Token → Type 0
-EndsAt w [] = (x : Lexeme) → GoesOn w x → ⊥
-EndsAt w (t ∷ ts) = GoesOn w t.lexeme → ⊥
+EndsAt w [] = (x : Lexeme) → GoesOnWith w x → ⊥
+EndsAt w (t ∷ ts) = GoesOnWith w t.lexeme → ⊥
 
 -- whatever stands behind a want tells where it ends
-abbrev pub AreApart : List Want → Type 0
-AreApart [] = Unit {0}
-AreApart (w ∷ s) = ((f : Fill s) → EndsAt w (fill_tokens s f)) × AreApart s
+abbrev pub AreDelimited : List Want → Type 0
+AreDelimited [] = Unit {0}
+AreDelimited (w ∷ s) = ((f : Fill s) → EndsAt w (fill_tokens s f)) × AreDelimited s
 
 -- ---- what a function of the code gives
 
@@ -228,8 +228,8 @@ abbrev pub Refuses : List Want → Lexeme → Type 0
 Refuses s x = (line : ℕ) (ts : List Token) (ls : List ℕ) → Fulfils s (token x line ∷ ts) ls → ⊥
 
 -- the lexeme opens this level, and behind it stands what the others want
-pub record Takes (before : List Want) (x : Lexeme) (level : ℕ) (after : List Want) : Type 0 where
-  pub apart : AreApart after
+pub record LeadsTo (before : List Want) (x : Lexeme) (level : ℕ) (after : List Want) : Type 0 where
+  pub apart : AreDelimited after
   pub puts : (line : ℕ) (ts : List Token) (ls : List ℕ) → Fulfils after ts ls → Fulfils before (token x line ∷ ts) (level ∷ ls)
   pub leaves : (line : ℕ) (ts : List Token) (ls : List ℕ) → Fulfils before (token x line ∷ ts) ls → (more : List ℕ) × (ls ≡ level ∷ more) × Fulfils after ts more
 
@@ -241,16 +241,16 @@ pub record Skips (w : Want) (s : List Want) (x : Lexeme) : Type 0 where
 abbrev pub Steps : {E : Type 0} → Result Moved E → Lexeme → List Want → List Want → Type 0
 Steps (Ok moved.Fails) x before after = Refuses before x
 Steps (Ok moved.Skips) x before after = ⊥
-Steps (Ok moved.Takes) x before after = (level : ℕ) × (level ≤ 32) × Takes before x level after
-Steps (Ok moved.Deep) x before after = (level : ℕ) × (deeper : List Want) × (32 < level) × Takes before x level deeper
+Steps (Ok moved.Takes) x before after = (level : ℕ) × (level ≤ 32) × LeadsTo before x level after
+Steps (Ok moved.Deep) x before after = (level : ℕ) × (deeper : List Want) × (32 < level) × LeadsTo before x level deeper
 Steps (Err e) x before after = Unit {0}
 
 -- a want before these, and what is wanted after the token
 abbrev pub MovesTo : Moved → Want → Lexeme → List Want → List Want → Type 0
 MovesTo moved.Fails w x s after = Refuses (w ∷ s) x
 MovesTo moved.Skips w x s after = Skips w s x × (after ≡ s)
-MovesTo moved.Takes w x s after = (level : ℕ) × (level ≤ 32) × Takes (w ∷ s) x level after
-MovesTo moved.Deep w x s after = (level : ℕ) × (deeper : List Want) × (32 < level) × Takes (w ∷ s) x level deeper
+MovesTo moved.Takes w x s after = (level : ℕ) × (level ≤ 32) × LeadsTo (w ∷ s) x level after
+MovesTo moved.Deep w x s after = (level : ℕ) × (deeper : List Want) × (32 < level) × LeadsTo (w ∷ s) x level deeper
 
 abbrev pub Moves : {E : Type 0} → Result Moved E → Want → Lexeme → List Want → List Want → Type 0
 Moves (Ok m) w x s after = MovesTo m w x s after
@@ -268,5 +268,5 @@ Opens (Err e) level after wants = Unit {0}
 abbrev pub Alone : Moved → Want → Lexeme → Type 0
 Alone moved.Fails w x = (s : List Want) → Refuses (w ∷ s) x
 Alone moved.Skips w x = (s : List Want) → Skips w s x
-Alone moved.Takes w x = (s : List Want) → AreApart (w ∷ s) → Takes (w ∷ s) x 0 s
+Alone moved.Takes w x = (s : List Want) → AreDelimited (w ∷ s) → LeadsTo (w ∷ s) x 0 s
 Alone moved.Deep w x = ⊥

@@ -5,7 +5,7 @@ ghost use Rattle.std.specs.Prelude.{◌≡◌, ◌++◌, ◌∷◌, [], IfOk, �
 ghost use Rattle.kernel_text.specs.declared.judging.Want.TheVariants as want;
 ghost use Rattle.kernel_text.specs.Grammar.{is_comparison};
 ghost use Rattle.kernel_text.specs.Faults.{IsVerdict};
-ghost use Rattle.kernel_text.specs.Wanting.{AreApart, Alone, Moves, Opens, Steps, stack_of};
+ghost use Rattle.kernel_text.specs.Wanting.{AreDelimited, Alone, Moves, Opens, Steps, stack_of};
 
 use crate::token::{Lexeme, Sign, Token, Word, operation};
 use kernel_syntax::Op;
@@ -83,7 +83,7 @@ fn want_all(stack: &mut Vec<Want>, wants: &[Want]) -> Result<Moved, AllocError>
 }
 
 fn kernel_move(stack: &mut Vec<Want>, lexeme: &Lexeme) -> Result<Moved, AllocError>
-    requires { AreApart (want.Kernel ∷ stack_of stack.old.items) }
+    requires { AreDelimited (want.Kernel ∷ stack_of stack.old.items) }
     ensures { Moves result want.Kernel lexeme.now (stack_of stack.old.items) (stack_of stack.new.items) }
 {
     match lexeme {
@@ -206,7 +206,7 @@ fn opened(stack: &mut Vec<Want>, level: u8, wants: &[Want]) -> Result<Moved, All
 }
 
 fn block_move(stack: &mut Vec<Want>, level: u8, lexeme: &Lexeme) -> Result<Moved, AllocError>
-    requires { AreApart (want.Block level ∷ stack_of stack.old.items) }
+    requires { AreDelimited (want.Block level ∷ stack_of stack.old.items) }
     ensures { Moves result (want.Block level) lexeme.now (stack_of stack.old.items) (stack_of stack.new.items) }
 {
     match lexeme {
@@ -221,7 +221,7 @@ fn block_move(stack: &mut Vec<Want>, level: u8, lexeme: &Lexeme) -> Result<Moved
 
 /// What an `if` wants behind its word.
 fn if_move(stack: &mut Vec<Want>, level: u8) -> Result<Moved, AllocError>
-    requires { AreApart (want.Stmts level ∷ stack_of stack.old.items) }
+    requires { AreDelimited (want.Stmts level ∷ stack_of stack.old.items) }
     ensures { Moves result (want.Stmts level) (Lexeme.Reserved Word.If) (stack_of stack.old.items) (stack_of stack.new.items) }
 {
     want_all(
@@ -237,7 +237,7 @@ fn if_move(stack: &mut Vec<Want>, level: u8) -> Result<Moved, AllocError>
 
 /// What a loop wants behind its word.
 fn loop_move(stack: &mut Vec<Want>, level: u8) -> Result<Moved, AllocError>
-    requires { AreApart (want.Stmts level ∷ stack_of stack.old.items) }
+    requires { AreDelimited (want.Stmts level ∷ stack_of stack.old.items) }
     ensures { Moves result (want.Stmts level) (Lexeme.Reserved Word.Loop) (stack_of stack.old.items) (stack_of stack.new.items) }
 {
     want_all(
@@ -256,7 +256,7 @@ fn loop_move(stack: &mut Vec<Want>, level: u8) -> Result<Moved, AllocError>
 
 /// What a worksharing loop wants behind its word.
 fn for_move(stack: &mut Vec<Want>, level: u8) -> Result<Moved, AllocError>
-    requires { AreApart (want.Stmts level ∷ stack_of stack.old.items) }
+    requires { AreDelimited (want.Stmts level ∷ stack_of stack.old.items) }
     ensures { Moves result (want.Stmts level) (Lexeme.Reserved Word.For) (stack_of stack.old.items) (stack_of stack.new.items) }
 {
     want_all(
@@ -276,7 +276,7 @@ fn for_move(stack: &mut Vec<Want>, level: u8) -> Result<Moved, AllocError>
 }
 
 fn stmts_move(stack: &mut Vec<Want>, level: u8, lexeme: &Lexeme) -> Result<Moved, AllocError>
-    requires { AreApart (want.Stmts level ∷ stack_of stack.old.items) }
+    requires { AreDelimited (want.Stmts level ∷ stack_of stack.old.items) }
     ensures { Moves result (want.Stmts level) lexeme.now (stack_of stack.old.items) (stack_of stack.new.items) }
 {
     match lexeme {
@@ -302,7 +302,7 @@ fn stmts_move(stack: &mut Vec<Want>, level: u8, lexeme: &Lexeme) -> Result<Moved
 }
 
 fn target_move(stack: &mut Vec<Want>, lexeme: &Lexeme) -> Result<Moved, AllocError>
-    requires { AreApart (want.Target ∷ stack_of stack.old.items) }
+    requires { AreDelimited (want.Target ∷ stack_of stack.old.items) }
     ensures { Moves result want.Target lexeme.now (stack_of stack.old.items) (stack_of stack.new.items) }
 {
     match lexeme {
@@ -316,7 +316,7 @@ fn target_move(stack: &mut Vec<Want>, lexeme: &Lexeme) -> Result<Moved, AllocErr
 }
 
 fn else_move(stack: &mut Vec<Want>, level: u8, lexeme: &Lexeme) -> Result<Moved, AllocError>
-    requires { AreApart (want.Else level ∷ stack_of stack.old.items) }
+    requires { AreDelimited (want.Else level ∷ stack_of stack.old.items) }
     ensures { Moves result (want.Else level) lexeme.now (stack_of stack.old.items) (stack_of stack.new.items) }
 {
     match lexeme {
@@ -326,7 +326,7 @@ fn else_move(stack: &mut Vec<Want>, level: u8, lexeme: &Lexeme) -> Result<Moved,
 }
 
 fn schedule_move(stack: &mut Vec<Want>, lexeme: &Lexeme) -> Result<Moved, AllocError>
-    requires { AreApart (want.Schedule ∷ stack_of stack.old.items) }
+    requires { AreDelimited (want.Schedule ∷ stack_of stack.old.items) }
     ensures { Moves result want.Schedule lexeme.now (stack_of stack.old.items) (stack_of stack.new.items) }
 {
     match lexeme {
@@ -336,7 +336,7 @@ fn schedule_move(stack: &mut Vec<Want>, lexeme: &Lexeme) -> Result<Moved, AllocE
 }
 
 fn operand_move(stack: &mut Vec<Want>, level: u8, lexeme: &Lexeme) -> Result<Moved, AllocError>
-    requires { AreApart (want.Operand level ∷ stack_of stack.old.items) }
+    requires { AreDelimited (want.Operand level ∷ stack_of stack.old.items) }
     ensures { Moves result (want.Operand level) lexeme.now (stack_of stack.old.items) (stack_of stack.new.items) }
 {
     match lexeme {
@@ -357,7 +357,7 @@ fn operand_move(stack: &mut Vec<Want>, level: u8, lexeme: &Lexeme) -> Result<Mov
 }
 
 fn index_move(stack: &mut Vec<Want>, level: u8, lexeme: &Lexeme) -> Result<Moved, AllocError>
-    requires { AreApart (want.Index level ∷ stack_of stack.old.items) }
+    requires { AreDelimited (want.Index level ∷ stack_of stack.old.items) }
     ensures { Moves result (want.Index level) lexeme.now (stack_of stack.old.items) (stack_of stack.new.items) }
 {
     match lexeme {
@@ -372,7 +372,7 @@ fn index_move(stack: &mut Vec<Want>, level: u8, lexeme: &Lexeme) -> Result<Moved
 
 /// A whole expression begins as an operand, behind which operators are wanted.
 fn expr_move(stack: &mut Vec<Want>, level: u8, lexeme: &Lexeme) -> Result<Moved, AllocError>
-    requires { AreApart (want.Expr level ∷ stack_of stack.old.items) }
+    requires { AreDelimited (want.Expr level ∷ stack_of stack.old.items) }
     ensures { Moves result (want.Expr level) lexeme.now (stack_of stack.old.items) (stack_of stack.new.items) }
 {
     stack.push(Want::Operators(level, true))?;
@@ -391,7 +391,7 @@ fn operators_move(
     compares: bool,
     lexeme: &Lexeme,
 ) -> Result<Moved, AllocError>
-    requires { AreApart (want.Operators level compares ∷ stack_of stack.old.items) }
+    requires { AreDelimited (want.Operators level compares ∷ stack_of stack.old.items) }
     ensures { Moves result (want.Operators level compares) lexeme.now (stack_of stack.old.items) (stack_of stack.new.items) }
 {
     let Some(op) = operation(lexeme) else {
@@ -414,7 +414,7 @@ fn operators_move(
 
 /// A token where a part is wanted.
 fn move_one(stack: &mut Vec<Want>, want: Want, lexeme: &Lexeme) -> Result<Moved, AllocError>
-    requires { AreApart (want ∷ stack_of stack.old.items) }
+    requires { AreDelimited (want ∷ stack_of stack.old.items) }
     ensures { Moves result want lexeme.now (stack_of stack.old.items) (stack_of stack.new.items) }
 {
     match want {
@@ -444,7 +444,7 @@ fn move_one(stack: &mut Vec<Want>, want: Want, lexeme: &Lexeme) -> Result<Moved,
 
 /// A token where all of the stack is wanted in turn.
 fn step(stack: &mut Vec<Want>, lexeme: &Lexeme) -> Result<Moved, AllocError>
-    requires { AreApart (stack_of stack.old.items) }
+    requires { AreDelimited (stack_of stack.old.items) }
     ensures { Steps result lexeme.now (stack_of stack.old.items) (stack_of stack.new.items) }
 {
     'wants: while let Some(want) = stack.pop() {

@@ -11,10 +11,7 @@ length-log_header First = refl
 pub length-index_header : (format : Format) → length (index_header format) ≡ 8
 length-index_header First = refl
 
--- what follows a log's header, and an index's
-pub after_log_header : (format : Format) (rest : List ℕ) → drop 8 (log_header format ++ rest) ≡ rest
-after_log_header format rest = drop_at (log_header format) rest 8 (length-log_header format)
-
+-- what follows an index's header
 pub after_index_header : (format : Format) (rest : List ℕ) → drop 8 (index_header format ++ rest) ≡ rest
 after_index_header format rest = drop_at (index_header format) rest 8 (length-index_header format)
 

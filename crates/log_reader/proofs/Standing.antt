@@ -1,5 +1,5 @@
 -- From a reader that stands before records to the next.
-use Rattle.std.proofs.Common.{◌≡◌, ℕ, suc, ◌+◌, ◌-◌, ◌≤◌, List, [], ◌∷◌, length, get_or, take, drop, Some, None, refl, sym, ap, subst, ◌∙◌, arith, append-nil}
+use Rattle.std.proofs.Common.{◌≡◌, ℕ, suc, ◌+◌, ◌-◌, ◌≤◌, List, [], ◌∷◌, length, get_or, take, drop, Some, None, sym, ap, subst, ◌∙◌, arith, append-nil}
 use Rattle.std.proofs.lemmas.List.{drop-drop}
 use Rattle.log_format.specs.declared.format.Format.{Format}
 use Rattle.log_format.specs.declared.record.Record.{Record}
@@ -10,11 +10,6 @@ use Rattle.sw_base.specs.Environment.{Content}
 use Rattle.sw_base.specs.Window.{Window, Shows, file_of, skipped}
 use Rattle.sw_base.proofs.Windows.{shows_skipped}
 use Rattle.log_reader.specs.Reading.{Reading, StandsBefore, GivesNext}
-
--- none is left
-pub gives_none : (c : Content) (reading : Reading) (events : List Record) → reading.left ≡ 0 → StandsBefore c reading events → GivesNext c events None reading
-gives_none c reading [] none stands = (refl, stands)
-gives_none c reading (r ∷ rs) none stands = absurd (omega (arith, none, stands.left))
 
 -- the bytes ahead spell the first of the records
 ahead_spells : (c : Content) (reading : Reading) (r : Record) (rs : List Record) (ahead : List ℕ) → StandsBefore c reading (r ∷ rs)

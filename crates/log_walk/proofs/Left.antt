@@ -1,20 +1,18 @@
 -- What the window shows of the bytes that are left of a log.
 use Rattle.std.proofs.Common.{◌≡◌, inr, ℕ, ◌+◌, ◌<◌, ◌≤◌, List, [], ◌∷◌, ◌++◌, length, take, drop, refl, sym, ap, subst, ◌∙◌, arith}
-use Rattle.std.proofs.lemmas.List.{append-nil, length-take, drop-drop, take_at}
+use Rattle.std.proofs.lemmas.List.{append-nil, length-take, drop-drop}
 use Rattle.sw_base.specs.Window.{Window, Shows, skipped}
 use Rattle.sw_base.proofs.Windows.{shows_skipped}
 use Rattle.log_format.specs.declared.format.Format.{Format}
 use Rattle.log_format.specs.Format.{log_header}
-use Rattle.log_format.proofs.Headers.{length-log_header}
 use Rattle.log_format.specs.declared.record.Record.{Record}
 use Rattle.log_format.specs.Spelling.{spelling, log_bytes}
-use Rattle.race_model.specs.declared.why.RecordWhy.TheVariants as log
 use Rattle.log_walk.specs.declared.state.State.{State}
 use Rattle.log_format.specs.Table.{Spells}
 use Rattle.race_model.specs.LogFault.{LogTask}
 use Rattle.log_walk.specs.declared.check.LogFault.{LogFault}
 use Rattle.log_walk.specs.declared.check.LogFault.TheVariants as fault
-use Rattle.log_walk.specs.Check.{IsGoodLog, IsLogRefused, IsNextRefused, IsLeftRefused, PassesRecord}
+use Rattle.log_walk.specs.Check.{IsGoodLog, IsNextRefused, IsLeftRefused, PassesRecord}
 use Rattle.log_walk.proofs.SoFar.{begins, Checks, IsReadTo}
 
 -- fewer bytes are ahead, so fewer are left
@@ -33,13 +31,6 @@ none_left ahead (b ∷ rest) same none = absurd (omega (arith, none, ap length s
 -- a byte is left
 pub some_left : (ahead rest : List ℕ) → take 1 ahead ≡ take 1 rest → 0 < length ahead → 0 < length rest
 some_left ahead rest same some = omega (arith, some, ap length same, length-take 1 ahead, length-take 1 rest)
-
--- another header
-pub header_refused : (format : Format) (bytes : List ℕ) (task : LogTask) (opened : ℕ) → (take 8 bytes ≡ log_header format → ⊥) → IsLogRefused format bytes task opened (fault.Bad 0 log.Header)
-header_refused format bytes task opened other = (
-  (refl, λ rest is. other (ap (λ (bs : List ℕ). take 8 bs) is ∙ take_at (log_header format) rest 8 (length-log_header format))),
-  record { earlier = λ m rule less bad. absurd (omega arith); here = λ rule less bad. absurd (omega arith); segments = λ m less over. absurd (omega arith) },
-)
 
 -- the records of a log that is good
 pub good_log : {format : Format} (task : LogTask) (opened : ℕ) (state : State) (records : List Record) (index : ℕ) → Checks format task opened state records index → index ≡ task.records

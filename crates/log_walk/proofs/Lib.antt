@@ -21,5 +21,4 @@ pub mod SweepMoves
 pub mod Sweeping
 pub mod TaskAt
 pub mod TaskReads
-pub mod Whole
 pub mod WalkMoves

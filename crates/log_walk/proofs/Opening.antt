@@ -88,12 +88,6 @@ goes_on Barrier b records x h _ differs = absurd (differs refl)
 goes_on _ true records x h _ _ = omega (arith, h true refl)
 goes_on _ false records x h _ _ = omega (arith, h false refl)
 
-abbrev event_at : ℕ → List ℕ → Record → Event
-event_at n held r = record { number = n; event = r; held = held }
-
-abbrev later : ℕ → List ℕ → Record → List Record → List Event
-later n held r records = events_from (n + 1) (held_after_kind r.kind r.addr held) records
-
 -- what is said below of the records after one
 abbrev Counts : ℕ → List ℕ → List Record → Type 0
 Counts n held records = (prefix : List Event) → count (with_prefix prefix (runs_of (events_from n held records))) ≡ cond (has_access prefix) 1 0 + opened_by (has_access prefix) records

@@ -1,5 +1,5 @@
 -- The segments of all regions together.
-use Rattle.std.proofs.Common.{ℕ, List, [], ◌∷◌, ◌++◌, length, Option, sym, ap, subst, ◌∙◌, arith, append_assoc}
+use Rattle.std.proofs.Common.{ℕ, List, [], ◌++◌, length, Option, sym, ap, subst, ◌∙◌, arith, append_assoc}
 use Rattle.std.specs.List.{AllZip}
 use Rattle.std.proofs.lemmas.Grind.{flat_map-append}
 use Rattle.std.proofs.lemmas.Option.{slice_get_within}
@@ -14,7 +14,7 @@ use Rattle.log_segment.specs.declared.segment.Segment.{Segment}
 use Rattle.log_segment.specs.Intervals.{IsSegmentOf}
 use Rattle.log_segment.proofs.Passing.{zip_append}
 use Rattle.log_walk.specs.Segments.{AreOfFolder, IsAnyTask}
-use Rattle.log_walk.specs.Sweep.{BeginsSweep, Completes, GivesRegion, HasSwept, HasSweptAll}
+use Rattle.log_walk.specs.Sweep.{Completes, GivesRegion, HasSwept, HasSweptAll}
 use Rattle.log_walk.specs.declared.sweep.Sweep.{Sweep}
 use Rattle.log_walk.proofs.Giving.{one_tree, segments_are}
 use Rattle.log_walk.proofs.SweepMoves.{root_listed_first}
@@ -24,9 +24,6 @@ pub record WalkedTo (format : Format) (told : Option Content) (dir : List ℕ) (
   pub trace : Trace
   pub swept : HasSwept format told dir sweep trace
   pub in_order : (whole : Trace) → Completes sweep trace whole → AllZip (IsSegmentOf (logs_of whole)) (segments_of trace) found
-
-pub walked_first : {format : Format} (told : Option Content) (dir : List ℕ) (sweep : Sweep) (found : List Segment) → BeginsSweep format told dir sweep found → WalkedTo format told dir sweep found
-walked_first told dir sweep found b = record { trace = b.root ∷ []; swept = b.swept; in_order = b.gives.in_order }
 
 pub walked_more : {format : Format} (told : Option Content) (dir : List ℕ) (old new : Sweep) (found region : List Segment) → (w : WalkedTo format told dir old found) → GivesRegion format told dir old new w.trace region → WalkedTo format told dir new (found ++ region)
 walked_more told dir old new found region w g = record {

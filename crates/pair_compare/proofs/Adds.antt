@@ -32,10 +32,6 @@ AddsSome-same old new P Q there adds = record {
   only = λ pair h. elim (adds.only pair h) [ inl was ↦ inl was | inr p ↦ inr (there pair p) ];
 }
 
--- what adds all adds some
-pub AddsSome-all : (old new : List (ℕ × ℕ)) (P : ℕ × ℕ → Type 0) → AddsPairs old new P → AddsSome old new P
-AddsSome-all old new P adds = record { kept = adds.kept; only = adds.only }
-
 -- two steps in turn add what either adds
 pub Adds-both : {K : Type 0} (O M N P Q R : K → Type 0) → GrowsBy O M P → GrowsBy M N Q → ((p : K) → P p → R p) → ((p : K) → Q p → R p) → ((p : K) → R p → P p ⊎ Q p) → GrowsBy O N R
 Adds-both O M N P Q R first then p_r q_r parts = record {
@@ -124,7 +120,3 @@ OneHas-first P x xs pair h = record { one = x; listed = (0, omega arith, refl); 
 
 pub OneHas-later : {X K : Type 0} (P : X → K → Type 0) (x : X) (xs : List X) (pair : K) → OneHas P xs pair → OneHas P (x ∷ xs) pair
 OneHas-later P x xs pair h = record { one = h.one; listed = (let (k, within, is) = h.listed in (suc k, omega arith, is)); has = h.has }
-
--- other properties of a list's elements that imply one another
-pub OneHas-same : {X K : Type 0} (P Q : X → K → Type 0) (xs ys : List X) (pair : K) → ((x : X) → Contains xs x → P x pair → Contains ys x × Q x pair) → OneHas P xs pair → OneHas Q ys pair
-OneHas-same P Q xs ys pair there h = let both = there h.one h.listed h.has in record { one = h.one; listed = both.0; has = both.1 }

@@ -1,12 +1,12 @@
 -- Where all values of a field are the same, the next field is looked at.
-use Rattle.std.proofs.Common.{◌≡◌, ℕ, ◌+◌, ◌-◌, ◌*◌, ◌^◌, ◌%◌, ◌<◌, ◌≤◌, List, [], ◌∷◌, ◌++◌, All, Bor, Contains, length, get_or, sym, ap, subst, ◌∙◌, arith}
+use Rattle.std.proofs.Common.{◌≡◌, ℕ, ◌+◌, ◌-◌, ◌*◌, ◌^◌, ◌<◌, ◌≤◌, List, [], ◌∷◌, ◌++◌, All, Bor, Contains, length, get_or, Some, sym, ap, subst, ◌∙◌, arith}
 use Rattle.std.proofs.lemmas.List.{append-nil, append_assoc, length_push}
 use Rattle.std.proofs.lemmas.List.Elements.{All-contains}
 use Rattle.std.proofs.lemmas.Option.{slice_get_past}
 use Rattle.log_segment.specs.declared.segment.Segment.{Segment}
 use Rattle.race_model.specs.Label.{Triple}
 use Rattle.pair_compare.specs.Compare.{IsSegmentPair}
-use Rattle.pair_compare.specs.Fields.{Agrees, AreAlike, AreWithin, CanDivide, HasNoLevel, HasTriple, next_field, next_level, fields_left, field_value, label_value}
+use Rattle.pair_compare.specs.Fields.{Agrees, AgreesBefore, AreAlike, AreWithin, CanDivide, HasNoLevel, HasTriple, next_field, next_level, fields_left, field_value, label_value}
 use Rattle.pair_compare.specs.Groups.{pointed}
 use Rattle.pair_compare.specs.declared.field.Field.{Field}
 use Rattle.pair_compare.specs.declared.field.Field.TheVariants.{Depth, Span, Barrier, Residue, Offset}
@@ -55,10 +55,13 @@ module _ (level least most : ℕ) (r : Bor Segment) (rest : List (Bor Segment)) 
         few = omega arith;
       }
 
-  from_span : CanDivide level Span least most refs → Next level Barrier refs
-  from_span can =
-      let first = can.alike.each 0 r (omega arith) in
-      let mine : label_value level Span r.now.label ≡ first.own.span = value_own level Span can.alike.prefix first.own first.rest r.now.label can.alike.long first.parts in
+  -- where each label has the triple, all have the same value of the field there, so they agree as far as the next one
+  from_triple : (field next : Field) (can : CanDivide level field least most refs) → All (λ s. HasTriple field can.alike.prefix can.alike.known s.now.label) refs
+      → ((first own : Triple) → AgreesBefore field can.alike.known first → AgreesBefore field can.alike.known own → field_value field (Some own) ≡ field_value field (Some first) → AgreesBefore next first own)
+      → ((known : Triple) (label : List Triple) → HasTriple next can.alike.prefix known label → Agrees next can.alike.prefix known label) → Next level next refs
+  from_triple field next can each agree agrees =
+      let first = each 0 r (omega arith) in
+      let mine : label_value level field r.now.label ≡ field_value field (Some first.own) = value_own level field can.alike.prefix first.own first.rest r.now.label can.alike.long first.parts in
       let more = at_least can.alike.prefix first.own first.rest r.now.label first.parts in
       let deep = can.deep 0 r (omega arith) in
       let long = can.alike.long in
@@ -69,54 +72,22 @@ module _ (level least most : ℕ) (r : Bor Segment) (rest : List (Bor Segment)) 
           long = can.alike.long;
           each = λ k d h.
               let s = get_or refs k d in
-              let a = can.alike.each k d h in
-              let yours : label_value level Span s.now.label ≡ a.own.span = value_own level Span can.alike.prefix a.own a.rest s.now.label can.alike.long a.parts in
-              record { own = a.own; rest = a.rest; parts = a.parts; agrees = sym yours ∙ (value_is Span can k d h ∙ (sym (value_is Span can 0 r (omega arith)) ∙ mine)) };
+              let a = each k d h in
+              let yours : label_value level field s.now.label ≡ field_value field (Some a.own) = value_own level field can.alike.prefix a.own a.rest s.now.label can.alike.long a.parts in
+              let same : field_value field (Some a.own) ≡ field_value field (Some first.own) = sym yours ∙ (value_is field can k d h ∙ (sym (value_is field can 0 r (omega arith)) ∙ mine)) in
+              agrees first.own s.now.label (record { own = a.own; rest = a.rest; parts = a.parts; agrees = agree first.own a.own first.agrees a.agrees same });
         };
         few = omega arith;
       }
+
+  from_span : CanDivide level Span least most refs → Next level Barrier refs
+  from_span can = from_triple Span Barrier can can.alike.each (λ first own f o same. same) (λ known label h. h)
 
   from_barrier : CanDivide level Barrier least most refs → Next level Residue refs
-  from_barrier can =
-      let first = can.alike.each 0 r (omega arith) in
-      let mine : label_value level Barrier r.now.label ≡ first.own.barrier = value_own level Barrier can.alike.prefix first.own first.rest r.now.label can.alike.long first.parts in
-      let more = at_least can.alike.prefix first.own first.rest r.now.label first.parts in
-      let deep = can.deep 0 r (omega arith) in
-      let long = can.alike.long in
-      record {
-        alike = record {
-          prefix = can.alike.prefix;
-          known = first.own;
-          long = can.alike.long;
-          each = λ k d h.
-              let s = get_or refs k d in
-              let a = can.alike.each k d h in
-              let yours : label_value level Barrier s.now.label ≡ a.own.barrier = value_own level Barrier can.alike.prefix a.own a.rest s.now.label can.alike.long a.parts in
-              record { own = a.own; rest = a.rest; parts = a.parts; agrees = (a.agrees ∙ sym first.agrees, sym yours ∙ (value_is Barrier can k d h ∙ (sym (value_is Barrier can 0 r (omega arith)) ∙ mine))) };
-        };
-        few = omega arith;
-      }
+  from_barrier can = from_triple Barrier Residue can can.alike.each (λ first own f o same. (o ∙ sym f, same)) (λ known label h. h)
 
   from_residue : CanDivide level Residue least most refs → Next level Offset refs
-  from_residue can =
-      let first = can.alike.each 0 r (omega arith) in
-      let mine : label_value level Residue r.now.label ≡ first.own.offset % first.own.span = value_own level Residue can.alike.prefix first.own first.rest r.now.label can.alike.long first.parts in
-      let more = at_least can.alike.prefix first.own first.rest r.now.label first.parts in
-      let deep = can.deep 0 r (omega arith) in
-      let long = can.alike.long in
-      record {
-        alike = record {
-          prefix = can.alike.prefix;
-          known = first.own;
-          long = can.alike.long;
-          each = λ k d h.
-              let s = get_or refs k d in
-              let a = can.alike.each k d h in
-              let yours : label_value level Residue s.now.label ≡ a.own.offset % a.own.span = value_own level Residue can.alike.prefix a.own a.rest s.now.label can.alike.long a.parts in
-              record { own = a.own; rest = a.rest; parts = a.parts; agrees = (a.agrees.0 ∙ sym first.agrees.0, a.agrees.1 ∙ sym first.agrees.1, sym yours ∙ (value_is Residue can k d h ∙ (sym (value_is Residue can 0 r (omega arith)) ∙ mine))) };
-        };
-        few = omega arith;
-      }
+  from_residue can = from_triple Residue Offset can can.alike.each (λ first own f o same. (o.0 ∙ sym f.0, o.1 ∙ sym f.1, same)) (λ known label h. h)
 
   from_offset : CanDivide level Offset least most refs → Next (level + 1) Depth refs
   from_offset can =

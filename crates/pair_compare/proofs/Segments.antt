@@ -1,5 +1,5 @@
 -- What comparing two segments adds, over a tree that has the second one's runs in another order.
-use Rattle.std.proofs.Common.{◌≡◌, ℕ, ◌+◌, ◌^◌, ◌<◌, ◌≤◌, List, length, filter, cond, take, get_or, inl, sym, ap, ◌∙◌, subst, arith}
+use Rattle.std.proofs.Common.{◌≡◌, ℕ, ◌+◌, ◌^◌, ◌<◌, ◌≤◌, List, length, filter, cond, take, get_or, sym, ap, ◌∙◌, subst, arith}
 use Rattle.std.specs.List.Sorted.{IsPermutation}
 use Rattle.std.proofs.lemmas.List.Sorted.{Contains-permutation, IsPermutation-sym, length_permutation, sum_by-IsPermutation}
 use Rattle.std.proofs.lemmas.List.Sums.{length-filter, sum_by-le-sum_by, sum_by_more, sum_by_more_le}
@@ -36,14 +36,6 @@ AddsPairs-concurrent old new a b tree same concurrent adds = AddsPairs-same old 
 pub AddsSome-concurrent : (old new : List (ℕ × ℕ)) (a b : Segment) (tree : List Run) → IsPermutation b.runs.items tree → IsConcurrent a.label b.label → AddsSome old new (IsPairOfRuns tree a.runs.items)
     → AddsSome old new (IsRacingPair a b)
 AddsSome-concurrent old new a b tree same concurrent adds = AddsSome-same old new (IsPairOfRuns tree a.runs.items) (IsRacingPair a b) (λ p h. racing_from a b tree p same concurrent h) adds
-
--- where they aren't, nothing races
-pub AddsPairs-ordered : (keys : List (ℕ × ℕ)) (a b : Segment) → (IsConcurrent a.label b.label → ⊥) → AddsPairs keys keys (IsRacingPair a b)
-AddsPairs-ordered keys a b ordered = record {
-  kept = λ pair h. h;
-  added = λ pair h. absurd (ordered h.concurrent);
-  only = λ pair h. inl h;
-}
 
 -- as many of the runs are met, in whatever order they stand
 search_cost-same : (runs tree : List Run) (digits : ℕ) (x : Run) → IsPermutation runs tree → search_cost tree digits x ≤ search_cost runs digits x

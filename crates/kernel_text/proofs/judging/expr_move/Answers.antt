@@ -1,7 +1,7 @@
 use Rattle.std.proofs.Common.{List, ◌∙◌, ◌∷◌, ap, true, sym, subst}
 use Rattle.kernel_text.specs.declared.judging.Want.{Want}
 use Rattle.kernel_text.specs.declared.judging.Want.TheVariants as want
-use Rattle.kernel_text.specs.Wanting.{stack_of, AreApart, Moves}
+use Rattle.kernel_text.specs.Wanting.{stack_of, AreDelimited, Moves}
 use Rattle.kernel_text.proofs.Moving.{stack_of-push, as-terms}
 use Rattle.kernel_text.proofs.UnfoldingOperators.{expr-apart}
 use Rattle.kernel_text.proofs.judging.expr_move.Goals as goal
@@ -9,7 +9,7 @@ use Rattle.kernel_text.proofs.judging.expr_move.Goals as goal
 pub operand_move-requires : goal.operand_move-requires
 operand_move-requires c =
     let top = ap stack_of c.in_ok-push.ensures.items ∙ stack_of-push c.args.stack.now.items (want.Operators c.args.level true) in
-    subst (λ (s : List Want). AreApart (want.Operand c.args.level ∷ s)) (sym top) (expr-apart c.args.level (stack_of c.args.stack.now.items) c.requires)
+    subst (λ (s : List Want). AreDelimited (want.Operand c.args.level ∷ s)) (sym top) (expr-apart c.args.level (stack_of c.args.stack.now.items) c.requires)
 
 pub returns : goal.returns
 returns c =
