@@ -145,15 +145,7 @@ impl<L: Log> Lane<L> {
             &Team,
             &mut Vec<(Path, L, u32)>,
         ) -> Result<(), (Path, Stop)>,
-    >(
-        &mut self,
-        phase: &Phase,
-        end: Option<u32>,
-        rt: &R,
-        alloc: Global,
-        world: &World,
-        region: &F,
-    )
+    >(&mut self, phase: &Phase, end: Option<u32>, rt: &R, alloc: Global, world: &World, region: &F)
         requires can { CanGoOn world.now phase.now self.old }
         requires phase { IsPhase world.now.words.locks phase.now }
         requires last { (line : ℕ) → end ≡ Some line → IsLast phase.now line }

@@ -127,10 +127,7 @@ fn all_open<L: Log>(opened: &[Result<Lane<L>, Closed<L>>]) -> bool
 }
 
 // The lanes, all of whose logs were opened.
-fn lanes_of<L: Log>(
-    alloc: Global,
-    opened: Vec<Result<Lane<L>, Closed<L>>>,
-) -> Option<Vec<Lane<L>>>
+fn lanes_of<L: Log>(alloc: Global, opened: Vec<Result<Lane<L>, Closed<L>>>) -> Option<Vec<Lane<L>>>
     requires { AllOpen opened.items }
     ensures { IfSome result (λ members. opened.items ≡ map (λ m. Ok m) members.items) }
 {

@@ -46,7 +46,7 @@ use Rattle.region_runner.proofs.region.+region.Goals as goal
 pub run_task-run_phase-requires-clause-runs : goal.run_task-run_phase-requires-clause-runs
 run_task-run_phase-requires-clause-runs g n c κs within =
     let own = c.requires.own in
-    let deep : length c.path-path.result + c.args.depth ≡ 4 = subst (λ (p : List Step). length p + c.args.depth ≡ 4) (sym c.path-path.ensures) own.deep in
+    let deep : length c.path-path.result + c.args.depth ≡ 4 = subst (λ (p : List Step). length p + c.args.depth ≡ 4) (sym c.path-path.ensures.is) own.deep in
     let in_log : length c.args.member.now.at.buffer.path ≡ length c.args.member.now.path = ap (λ (p : List Step). length p) own.path_is in
     let mutexes = c.requires.phase.mutexes in
     let seen : LogView g.row.L.Denot = record { dir = g.L.Log.dir; path = g.L.Log.path; text = g.L.Log.text; faults = g.L.Log.faults } in
@@ -80,7 +80,7 @@ run_task-run_phase-requires-clause-runs g n c κs within =
                           (
                             record {
                               task = c.args.member.now.at.buffer;
-                              path_is = own.path_is ∙ sym c.path-path.ensures;
+                              path_is = own.path_is ∙ sym c.path-path.ensures.is;
                               size_is = own.size_is;
                               new = subst (λ (t : TeamTree). AreNewLogs {T = g.row.L.Denot} seen c.args.member.now.at.buffer number t.span logs.items) (sym is) new;
                             },
@@ -97,7 +97,7 @@ run_task-run_phase-requires-clause-runs g n c κs within =
         );
         ran = λ hand after locals number logs given done now_done r is ready new gives.
             subst (λ (t : TeamTree). RanRegion (world_of c.args.crew.now c.args.lane) t locals.now.slots.items c.args.member.now.at.buffer number hand.now after.now (entries_of {T = g.row.L.Denot} seen done.now.items) (entries_of {T = g.row.L.Denot} seen now_done.now.items) r) is
-            (gives.1 (world_of c.args.crew.now c.args.lane) c.args.member.now.at.buffer (ap (λ (v : CrewValue). v.arrays) c.requires.crew) (own.path_is ∙ sym c.path-path.ensures) own.size_is
+            (gives.1 (world_of c.args.crew.now c.args.lane) c.args.member.now.at.buffer (ap (λ (v : CrewValue). v.arrays) c.requires.crew) (own.path_is ∙ sym c.path-path.ensures.is) own.size_is
             (subst (λ (t : TeamTree). AreNewLogs {T = g.row.L.Denot} seen c.args.member.now.at.buffer number t.span logs.items) (sym is) new));
       };
     })
