@@ -4,7 +4,7 @@ use Rattle.std.proofs.lemmas.List.{length_push, same_from_push}
 use Rattle.sw_base.specs.declared.path.Step.{Step}
 use Rattle.lane_runner.specs.Lane.{IsLanePath}
 
--- no step leads to the root
+-- the path of the root has no step
 pub root_path : IsLanePath []
 root_path above step is =
     let none : 0 ≡ length (above ++ step ∷ []) = ap (λ (steps : List Step). length steps) is in

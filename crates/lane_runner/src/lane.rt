@@ -21,8 +21,8 @@ use std::marker::Model;
 use std::sync::Wait;
 use sw_base::{Log, Path};
 
-/// A lane of a team: the path of its task, what it executes with, and why it doesn't go on, if it doesn't. In its team it has a number
-/// below the number of lanes. The root is one, too: it executes `main` alone, and no step leads to it.
+/// A lane of a team: the path of its task, what it executes with, and why it doesn't go on, if it doesn't. Its number in its team is below
+/// the number of lanes. The root is one, too: it executes `main` alone, and its path has no step.
 #[derive(Drop)]
 pub struct Lane<L: Log> {
     path: Path,
