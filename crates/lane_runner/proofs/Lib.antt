@@ -11,6 +11,8 @@ pub mod Ending
 pub mod Following
 pub mod HandedTasks
 pub mod Handing
+pub mod LanePaths
+pub mod LastPhase
 pub mod NewLogs
 pub mod NoRegion
 pub mod Noting
@@ -24,4 +26,5 @@ pub mod Sections
 pub mod Stepping
 pub mod Teams
 pub mod Values
+pub mod WentOn
 pub mod Working

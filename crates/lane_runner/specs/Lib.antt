@@ -5,6 +5,7 @@ pub mod Fitting
 pub mod Forking
 pub mod Going
 pub mod Handed
+pub mod Lane
 pub mod Phase
 pub mod Placing
 pub mod Stopping

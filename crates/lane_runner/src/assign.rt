@@ -7,7 +7,7 @@ ghost use Rattle.kernel_model.specs.Trace.{run, stored};
 ghost use Rattle.kernel_model.specs.Value.{element_at};
 ghost use Rattle.lane_runner.specs.Going.{CanGo, Goes, IsSameLog, site};
 
-use crate::lane::Lane;
+use crate::frame::Frame;
 use crate::stop::Halt;
 use crate::track::Track;
 use crate::value::value;
@@ -40,7 +40,7 @@ fn put_value<L: Log>(
     track.write(alloc, world, &element, stored, line, place)
 }
 
-impl<L: Log> Lane<L> {
+impl<L: Log> Frame<L> {
     /// Executes `let` or an assignment.
     pub fn set(&mut self, alloc: Global, world: &World, slot: u32, expr: &Expr) -> Result<(), Halt>
         requires can { CanGo world.now self.old.track }

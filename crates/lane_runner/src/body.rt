@@ -11,7 +11,7 @@ ghost use Rattle.lane_runner.specs.Alone.{IsAlone};
 ghost use Rattle.lane_runner.specs.Going.{CanGo, Goes, IsSameLog, site};
 ghost use Rattle.lane_runner.specs.Teams.{EachTeam, MayFork};
 
-use crate::lane::Lane;
+use crate::frame::Frame;
 use crate::locals::Locals;
 use crate::stop::{Halt, Stop};
 use crate::value::value;
@@ -37,7 +37,7 @@ fn number_at(from: i64, first: u64, i: u64) -> i64
     from.wrapping_add_unsigned(first + i)
 }
 
-impl<L: Log> Lane<L> {
+impl<L: Log> Frame<L> {
     /// Executes the statements of a body.
     #[cycle(executing)]
     pub fn statements<

@@ -10,7 +10,7 @@ ghost use Rattle.lane_runner.specs.Drawing.{open_past};
 ghost use Rattle.lane_runner.specs.Going.{CanGo, Goes, IsSameLog, site};
 ghost use Rattle.lane_runner.specs.Teams.{EachTeam, MayFork};
 
-use crate::lane::Lane;
+use crate::frame::Frame;
 use crate::locals::Locals;
 use crate::stop::{Halt, Stop};
 use crate::world::World;
@@ -20,7 +20,7 @@ use std::alloc::Global;
 use std::sync::Wait;
 use sw_base::{Log, Path};
 
-impl<L: Log> Lane<L> {
+impl<L: Log> Frame<L> {
     /// Draws a chunk of the loop that is open, and executes it. False where none is left.
     fn drawn_chunk<
         R: Wait,

@@ -2,7 +2,7 @@
 //!
 //! It evaluates expressions with their loads; it executes assignments, stores, tests, loops, critical sections, worksharing loops of every
 //! schedule, and regions, which a function of the caller's runs, with new logs for their lanes; and it puts the records of a team's
-//! barriers and of a task's end.
+//! barriers and of a task's end. A `Lane` has the path of its task and notes why it stops; a `Frame` is what it executes with.
 //!
 //! Before each record the buffer makes room, then the step on the shared words is taken, and then the record is put: no step is
 //! taken that has no place in the log. Each call says by one witness, a tree of work, what it did: its records are those that the
@@ -24,6 +24,7 @@ mod body;
 mod children;
 mod dynamic;
 mod element;
+mod frame;
 mod lane;
 mod laws;
 mod locals;
@@ -46,6 +47,7 @@ mod value;
 mod world;
 
 pub use element::Element;
+pub use frame::Frame;
 pub use lane::Lane;
 pub use laws::{
     arrays_of_a_kernel_have_words, elements_of_a_kernel_have_widths,

@@ -11,7 +11,7 @@ ghost use Rattle.lane_runner.specs.Alone.{IsAlone};
 ghost use Rattle.lane_runner.specs.Phase.{IsOfTeam};
 
 use crate::tests::{buffer_failing, bytes_of, without_memory};
-use crate::{Halt, Lane, Locals, Track, World};
+use crate::{Frame, Halt, Locals, Track, World};
 use kernel_syntax::{Array, Name, Stmt};
 use log_format::{Kind, Record};
 use shared_words::{ChunkHand, Chunks, Words};
@@ -110,13 +110,13 @@ pub(crate) fn executed<R: Wait>(
     let locals = Locals {
         slots: vec![in alloc; 0, 0]?,
     };
-    let mut lane = Lane { locals, track };
-    let halt = lane.part(stmt, rt, alloc, &world, &without_memory).err();
-    let variable = lane.locals.get(1);
+    let mut frame = Frame { locals, track };
+    let halt = frame.part(stmt, rt, alloc, &world, &without_memory).err();
+    let variable = frame.locals.get(1);
     Ok(Left {
         halt,
         variable,
-        bytes: bytes_of(alloc, lane.track)?,
+        bytes: bytes_of(alloc, frame.track)?,
     })
 }
 

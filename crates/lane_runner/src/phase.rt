@@ -10,7 +10,7 @@ ghost use Rattle.lane_runner.specs.Going.{CanGo, Goes, GoesPast, IsSameLog, site
 ghost use Rattle.lane_runner.specs.Phase.{IsItem, IsOfTeam};
 ghost use Rattle.lane_runner.specs.Teams.{EachTeam, EachTeamIn, MayFork};
 
-use crate::lane::Lane;
+use crate::frame::Frame;
 use crate::locals::Locals;
 use crate::stop::{Halt, Stop};
 use crate::world::World;
@@ -21,7 +21,7 @@ use std::alloc::Global;
 use std::sync::Wait;
 use sw_base::{Log, Path};
 
-impl<L: Log> Lane<L> {
+impl<L: Log> Frame<L> {
     /// Executes a statement of the team: of a worksharing loop all but the barrier at its end.
     pub fn part<
         R: Wait,

@@ -3,7 +3,7 @@ ghost use Rattle.std.specs.Prelude.{OnOk};
 ghost use Rattle.lane_runner.specs.Going.{CanGo};
 
 use crate::tests::{buffer, bytes_of, log_of};
-use crate::{Halt, Lane, Locals, Stop, Track, World};
+use crate::{Frame, Halt, Locals, Stop, Track, World};
 use kernel_model::Item;
 use kernel_syntax::{Array, Team};
 use log_format::{Kind, Record};
@@ -99,20 +99,20 @@ fn a_value_is_set_before_the_lanes_meet(rt: HostRuntime) -> Result<(), Fail> {
     let world = World::new(&arrays, &words, &chunks, 0, 1);
     let track = Track::new(alloc, hand, buffer(alloc)?, draws);
     let slots = vec![in alloc; 7i64, 7]?;
-    let mut lane = Lane {
+    let mut frame = Frame {
         locals: Locals { slots },
         track,
     };
     let set = Item::Set { slot: 1, value: 3 };
-    let Ok(()) = lane.step(&set, &rt, alloc, &world, &stuck) else {
+    let Ok(()) = frame.step(&set, &rt, alloc, &world, &stuck) else {
         panic!(rt; "no room");
     };
     let bar = Item::Bar { line: 5 };
-    let Ok(()) = lane.step(&bar, &rt, alloc, &world, &stuck) else {
+    let Ok(()) = frame.step(&bar, &rt, alloc, &world, &stuck) else {
         panic!(rt; "no room");
     };
-    assert_eq!(rt; lane.locals.get(0), 7);
-    assert_eq!(rt; lane.locals.get(1), 3);
-    assert!(rt; bytes_of(alloc, lane.track)? == log_of(alloc, &[event(Kind::Barrier, 5)])?);
+    assert_eq!(rt; frame.locals.get(0), 7);
+    assert_eq!(rt; frame.locals.get(1), 3);
+    assert!(rt; bytes_of(alloc, frame.track)? == log_of(alloc, &[event(Kind::Barrier, 5)])?);
     Ok(())
 }

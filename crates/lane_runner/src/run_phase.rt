@@ -7,7 +7,7 @@ ghost use Rattle.lane_runner.specs.Going.{CanGo, GoesPast, IsSameLog, site};
 ghost use Rattle.lane_runner.specs.Phase.{IsPhase};
 ghost use Rattle.lane_runner.specs.Teams.{EachTeamIn, MayFork};
 
-use crate::lane::Lane;
+use crate::frame::Frame;
 use crate::locals::Locals;
 use crate::stop::{Halt, Stop};
 use crate::world::World;
@@ -18,7 +18,7 @@ use std::alloc::Global;
 use std::sync::Wait;
 use sw_base::{Log, Path};
 
-impl<L: Log> Lane<L> {
+impl<L: Log> Frame<L> {
     /// Executes the items of a phase.
     pub fn run_phase<
         R: Wait,

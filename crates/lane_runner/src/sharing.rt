@@ -13,7 +13,7 @@ ghost use Rattle.lane_runner.specs.Going.{CanGo, Goes, IsSameLog, site};
 ghost use Rattle.lane_runner.specs.Teams.{EachTeam, MayFork};
 
 use crate::body::total_of;
-use crate::lane::Lane;
+use crate::frame::Frame;
 use crate::locals::Locals;
 use crate::stop::{Halt, Stop};
 use crate::value::value;
@@ -24,7 +24,7 @@ use std::alloc::Global;
 use std::sync::Wait;
 use sw_base::{Log, Path};
 
-impl<L: Log> Lane<L> {
+impl<L: Log> Frame<L> {
     /// Executes the lane's chunks of a loop whose chunks are dealt in turn.
     fn chunks<
         R: Wait,

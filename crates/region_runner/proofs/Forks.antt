@@ -1,5 +1,5 @@
 -- The regions that the lanes of a phase fork.
-use Rattle.std.proofs.Common.{ℕ, List}
+use Rattle.std.proofs.Common.{◌≡◌, sym, subst, ℕ, List}
 use denote.Ref.{Bor, MutBor}
 use Rattle.std.specs.Prelude.{All}
 use Rattle.std.specs.Global.{Vec}
@@ -27,9 +27,10 @@ item_forks P Q each (item.Run stmt which) h = teams_all P Q each (stmt_code stmt
 item_forks P Q each (item.Bar line) h = tt
 
 -- who runs each inner team, runs those of a lawful phase
-pub phase_forks : {T : Type 0} (w : WorldValue) (accepts : MutBor (HandValue View) → Bor Locals → ℕ → Vec T → Bor Team → MutBor (Vec (List Step × T × ℕ)) → Type 0)
+pub phase_forks : {T : Type 0} (w w' : WorldValue) (accepts : MutBor (HandValue View) → Bor Locals → ℕ → Vec T → Bor Team → MutBor (Vec (List Step × T × ℕ)) → Type 0)
     (gives : MutBor (HandValue View) → Bor Locals → ℕ → Vec T → Bor Team → MutBor (Vec (List Step × T × ℕ)) → Answer → MutBor (HandValue View) → MutBor (Vec (List Step × T × ℕ)) → Type 0)
-    (seen : LogView T) (task : Buffered) (mutexes regions : ℕ) (items : List Item) → IsLawfulPhase mutexes regions items → ((team : TeamTree) → IsInnerTeam mutexes regions team → MayFork w accepts gives seen task team)
-    → All (EachTeamIn (MayFork w accepts gives seen task)) items
-phase_forks w accepts gives seen task mutexes regions items lawful each =
-    all_map (EachTeamIn (IsInnerTeam mutexes regions)) (EachTeamIn (MayFork w accepts gives seen task)) (item_forks (IsInnerTeam mutexes regions) (MayFork w accepts gives seen task) each) items lawful.teams
+    (seen : LogView T) (task : Buffered) (mutexes regions : ℕ) (items : List Item) → w' ≡ w → IsLawfulPhase mutexes regions items → ((team : TeamTree) → IsInnerTeam mutexes regions team → MayFork w accepts gives seen task team)
+    → All (EachTeamIn (MayFork w' accepts gives seen task)) items
+phase_forks w w' accepts gives seen task mutexes regions items is lawful each =
+    subst (λ (x : WorldValue). All (EachTeamIn (MayFork x accepts gives seen task)) items) (sym is)
+    (all_map (EachTeamIn (IsInnerTeam mutexes regions)) (EachTeamIn (MayFork w accepts gives seen task)) (item_forks (IsInnerTeam mutexes regions) (MayFork w accepts gives seen task) each) items lawful.teams)

@@ -26,7 +26,7 @@ use Rattle.lane_runner.proofs.Handing.{hand_none}
 use Rattle.region_runner.specs.Closing.{HasTaken, IsClosedAs}
 use Rattle.region_runner.specs.Crew.{CrewValue, world_of}
 use Rattle.region_runner.specs.Gathering.{ClosedValue, LaneGave, region_stop}
-use Rattle.region_runner.specs.Member.{answer_of}
+use Rattle.lane_runner.specs.Lane.{answer_of}
 use Rattle.region_runner.specs.Ran.{in_one, HasLogged, TaskGoes}
 use Rattle.region_runner.proofs.ClosedLogs.{holds_works}
 use Rattle.region_runner.proofs.Traced.{one_regions}

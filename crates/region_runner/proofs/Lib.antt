@@ -14,7 +14,6 @@ pub mod JoinedWork
 pub mod TeamDraws
 pub mod SplitHands
 pub mod Pointwise
-pub mod WentOn
 pub mod LawfulParts
 pub mod LawfulPhases
 pub mod RegionLanes
@@ -24,7 +23,6 @@ pub mod PutLogs
 pub mod RegionStops
 pub mod RegionHands
 pub mod ClosedLogs
-pub mod LastPhase
 pub mod Forks
 pub mod Standing
 pub mod TeamSteps

@@ -22,7 +22,7 @@ use Rattle.lane_runner.specs.Going.{Progress}
 use Rattle.lane_runner.specs.Handed.{Entry, LogPlace, place_of}
 use Rattle.region_runner.specs.Begins.{LaneBegins}
 use Rattle.region_runner.specs.Gathering.{ClosedValue}
-use Rattle.region_runner.specs.Member.{MemberValue}
+use Rattle.lane_runner.specs.Lane.{LaneValue}
 use Rattle.region_runner.specs.Opening.{GaveNothing, OpensAs, lent_hand, lent_to}
 use Rattle.region_runner.proofs.GivenLogs.{gave_nothing}
 
@@ -54,12 +54,12 @@ tells_still : (f : Text → Text) (text : Option Text) → is_some (option_map f
 tells_still f None = refl
 tells_still f (Some t) = refl
 
-pub lane_begins : (place : LogPlace) (path : List Step) (slots own_slots : List ℤ) (draws : HandValue Share) (hand : HandValue View) (dir : List ℕ) (log_path : List Step) (text : Option Text) (faults size : ℕ) (b : Buffered) (at : Progress) (m : MemberValue)
+pub lane_begins : (place : LogPlace) (path : List Step) (slots own_slots : List ℤ) (draws : HandValue Share) (hand : HandValue View) (dir : List ℕ) (log_path : List Step) (text : Option Text) (faults size : ℕ) (b : Buffered) (at : Progress) (m : LaneValue)
     → m ≡ record { path = path; slots = own_slots; at = at; halt = None } → at ≡ record { hand = hand; buffer = b; tally = record { draws = draws; next_loop = 0; forked = 0 }; done = [] }
     → b ≡ record { dir = dir; path = log_path; text = option_map (with_piece (log_header FORMAT)) text; faults = faults; size = size; waiting = []; count = 0; refused = None } → own_slots ≡ slots → log_path ≡ path
     → place ≡ record { dir = dir; size = size; tells = is_some text } → HoldsRecords (log_header FORMAT) b [] → LaneBegins place path slots draws m
 lane_begins place path slots own_slots draws hand dir log_path text faults size b at m is at_is b_is same own place_is holds =
-    subst (λ (x : MemberValue). LaneBegins place path slots draws x) (sym is)
+    subst (λ (x : LaneValue). LaneBegins place path slots draws x) (sym is)
     (subst (λ (p : Progress). LaneBegins place path slots draws (record { path = path; slots = own_slots; at = p; halt = None })) (sym at_is)
     (record {
       path_is = refl;
@@ -79,17 +79,17 @@ lane_begins place path slots own_slots draws hand dir log_path text faults size 
 
 -- ---- one lane after another
 
-pub opens_more : (place : LogPlace) (at : List Step) (number span : ℕ) (slots : List ℤ) (draws : HandValue Share) (n : ℕ) (opened : List (Result MemberValue ClosedValue)) (r : Result MemberValue ClosedValue) → length opened ≡ n
-    → ((k : ℕ) (d : Result MemberValue ClosedValue) → k < n → OpensAs place (lane_of at number k span) slots draws (slice_index_or opened k d)) → OpensAs place (lane_of at number n span) slots draws r
-    → (k : ℕ) (d : Result MemberValue ClosedValue) → k < n + 1 → OpensAs place (lane_of at number k span) slots draws (slice_index_or (opened ++ r ∷ []) k d)
+pub opens_more : (place : LogPlace) (at : List Step) (number span : ℕ) (slots : List ℤ) (draws : HandValue Share) (n : ℕ) (opened : List (Result LaneValue ClosedValue)) (r : Result LaneValue ClosedValue) → length opened ≡ n
+    → ((k : ℕ) (d : Result LaneValue ClosedValue) → k < n → OpensAs place (lane_of at number k span) slots draws (slice_index_or opened k d)) → OpensAs place (lane_of at number n span) slots draws r
+    → (k : ℕ) (d : Result LaneValue ClosedValue) → k < n + 1 → OpensAs place (lane_of at number k span) slots draws (slice_index_or (opened ++ r ∷ []) k d)
 opens_more place at number span slots draws n opened r count so_far next k d less = by (nat_lt k n) refl where
   by : (below : Bool) → nat_lt k n ≡ below → OpensAs place (lane_of at number k span) slots draws (slice_index_or (opened ++ r ∷ []) k d)
   by true below =
       let inside : k < length opened = let l = ltb-true k n below in omega (arith, l, count) in
-      subst (λ (x : Result MemberValue ClosedValue). OpensAs place (lane_of at number k span) slots draws x) (sym (get_or_append_left opened (r ∷ []) d k inside)) (so_far k d (ltb-true k n below))
+      subst (λ (x : Result LaneValue ClosedValue). OpensAs place (lane_of at number k span) slots draws x) (sym (get_or_append_left opened (r ∷ []) d k inside)) (so_far k d (ltb-true k n below))
   by false below =
       let same : length opened ≡ k = let past = ltb-false k n below in omega (arith, past, less, count) in
-      subst (λ (x : Result MemberValue ClosedValue). OpensAs place (lane_of at number k span) slots draws x) (sym (ap (λ (j : ℕ). slice_index_or (opened ++ r ∷ []) j d) (sym same) ∙ get_or-append_seam opened r [] d))
+      subst (λ (x : Result LaneValue ClosedValue). OpensAs place (lane_of at number k span) slots draws x) (sym (ap (λ (j : ℕ). slice_index_or (opened ++ r ∷ []) j d) (sym same) ∙ get_or-append_seam opened r [] d))
       (subst (λ (j : ℕ). OpensAs place (lane_of at number j span) slots draws r) (sym count ∙ same) next)
 
 pub lent_more : (n : ℕ) (share old new : HandValue Share) → old ≡ lent_to n share → new ≡ with_view old (lent old.view) → new ≡ lent_to (n + 1) share

@@ -15,13 +15,13 @@ use Rattle.lane_runner.proofs.Handing.{hand_none}
 use Rattle.region_runner.specs.Begins.{LaneBegins}
 use Rattle.region_runner.specs.Closing.{HasTaken}
 use Rattle.region_runner.specs.Gathering.{ClosedValue, region_stop}
-use Rattle.region_runner.specs.Member.{MemberValue}
+use Rattle.lane_runner.specs.Lane.{LaneValue}
 use Rattle.region_runner.specs.Opening.{AreLanes, AreTorn, ClosesAs, GaveNothing, OneTorn, OpensAs, lent_hand}
 
 -- ---- a lane whose log was opened and closed
 
 module _ (place : LogPlace) (path : List Step) (slots : List ℤ) (draws : HandValue Share) where
-  closed_begun : (m : MemberValue) (c : ClosedValue) → LaneBegins place path slots draws m → ClosesAs (Ok m) c → GaveNothing place path draws c
+  closed_begun : (m : LaneValue) (c : ClosedValue) → LaneBegins place path slots draws m → ClosesAs (Ok m) c → GaveNothing place path draws c
   closed_begun m c begins closes = record {
     path_is = closes.0 ∙ begins.path_is;
     none_halted = none;
@@ -51,30 +51,30 @@ module _ (place : LogPlace) (path : List Step) (slots : List ℤ) (draws : HandV
       no_halt e = cc
 
   -- or refused
-  gave_nothing : (r : Result MemberValue ClosedValue) (c : ClosedValue) → OpensAs place path slots draws r → ClosesAs r c → GaveNothing place path draws c
+  gave_nothing : (r : Result LaneValue ClosedValue) (c : ClosedValue) → OpensAs place path slots draws r → ClosesAs r c → GaveNothing place path draws c
   gave_nothing (Ok m) c begins closes = closed_begun m c begins closes
   gave_nothing (Err torn) c gave is = subst (λ (x : ClosedValue). GaveNothing place path draws x) (sym is) gave.0
 
-  was_refused : (r : Result MemberValue ClosedValue) (c : ClosedValue) → OpensAs place path slots draws r → ClosesAs r c → IsErr r → c.refused ≢ None
+  was_refused : (r : Result LaneValue ClosedValue) (c : ClosedValue) → OpensAs place path slots draws r → ClosesAs r c → IsErr r → c.refused ≢ None
   was_refused (Ok m) c begins closes torn = absurd cc
   was_refused (Err torn) c gave is _ = subst (λ (x : ClosedValue). x.refused ≢ None) (sym is) gave.1
 
 -- ---- all lanes
 
-module _ (place : LogPlace) (at : List Step) (number span : ℕ) (slots : List ℤ) (share : HandValue Share) (opened : List (Result MemberValue ClosedValue)) (count : length opened ≡ span)
-    (opens : (k : ℕ) (d : Result MemberValue ClosedValue) → k < span → OpensAs place (lane_of at number k span) slots (lent_hand share) (slice_index_or opened k d)) where
-  pub all_begin : (members : List MemberValue) → opened ≡ map (λ m. Ok m) members → AreLanes place at number span slots share members
+module _ (place : LogPlace) (at : List Step) (number span : ℕ) (slots : List ℤ) (share : HandValue Share) (opened : List (Result LaneValue ClosedValue)) (count : length opened ≡ span)
+    (opens : (k : ℕ) (d : Result LaneValue ClosedValue) → k < span → OpensAs place (lane_of at number k span) slots (lent_hand share) (slice_index_or opened k d)) where
+  pub all_begin : (members : List LaneValue) → opened ≡ map (λ m. Ok m) members → AreLanes place at number span slots share members
   all_begin members all = record {
     count = long;
     each = λ k d less.
-        subst (λ (r : Result MemberValue ClosedValue). OpensAs place (lane_of at number k span) slots (lent_hand share) r)
-        (ap (λ (rs : List (Result MemberValue ClosedValue)). slice_index_or rs k (Ok d)) all ∙ get_or-map (λ (m : MemberValue). Ok m) members k d (Ok d) (omega (arith, less, long))) (opens k (Ok d) less);
+        subst (λ (r : Result LaneValue ClosedValue). OpensAs place (lane_of at number k span) slots (lent_hand share) r)
+        (ap (λ (rs : List (Result LaneValue ClosedValue)). slice_index_or rs k (Ok d)) all ∙ get_or-map (λ (m : LaneValue). Ok m) members k d (Ok d) (omega (arith, less, long))) (opens k (Ok d) less);
   }
     where
       long : length members ≡ span
-      long = sym (length-map members (λ (m : MemberValue). Ok m)) ∙ sym (ap (λ (rs : List (Result MemberValue ClosedValue)). length rs) all) ∙ count
+      long = sym (length-map members (λ (m : LaneValue). Ok m)) ∙ sym (ap (λ (rs : List (Result LaneValue ClosedValue)). length rs) all) ∙ count
 
-  pub one_torn : (lanes : List ClosedValue) → length lanes ≡ length opened → ((k : ℕ) (d : Result MemberValue ClosedValue) (e : ClosedValue) → k < length opened → ClosesAs (slice_index_or opened k d) (slice_index_or lanes k e))
+  pub one_torn : (lanes : List ClosedValue) → length lanes ≡ length opened → ((k : ℕ) (d : Result LaneValue ClosedValue) (e : ClosedValue) → k < length opened → ClosesAs (slice_index_or opened k d) (slice_index_or lanes k e))
       → OneTorn opened → AreTorn place at number span share lanes
   one_torn lanes long closes one = record {
     count = long ∙ count;

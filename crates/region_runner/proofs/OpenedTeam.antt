@@ -12,12 +12,12 @@ use Rattle.lane_runner.specs.Handed.{LogPlace, place_of}
 use Rattle.region_runner.specs.Begins.{LaneBegins}
 use Rattle.region_runner.specs.Crew.{CrewValue}
 use Rattle.region_runner.specs.Ground.{GroundValue, IsMemberOf}
-use Rattle.region_runner.specs.Member.{MemberValue}
+use Rattle.lane_runner.specs.Lane.{LaneValue}
 use Rattle.region_runner.specs.Opening.{lent_hand}
 use Rattle.region_runner.specs.Stands.{IsFresh}
 
 -- it has executed nothing yet, and may draw as often as its log has room
-pub task_fresh : (place : LogPlace) (path : List Step) (slots : List ℤ) (draws : HandValue Share) (crew : CrewValue) (m : MemberValue) → Belongs draws crew.chunks.table → log_limit ≤ draws.view.left → LaneBegins place path slots draws m → IsFresh crew m
+pub task_fresh : (place : LogPlace) (path : List Step) (slots : List ℤ) (draws : HandValue Share) (crew : CrewValue) (m : LaneValue) → Belongs draws crew.chunks.table → log_limit ≤ draws.view.left → LaneBegins place path slots draws m → IsFresh crew m
 task_fresh place path slots draws crew m belongs left b = record {
   going = b.going;
   may = record {
@@ -29,11 +29,11 @@ task_fresh place path slots draws crew m belongs left b = record {
   no_loop = ap (λ (t : Tally). t.next_loop) b.tally;
 }
 
-pub lane_fresh : (place : LogPlace) (path : List Step) (slots : List ℤ) (share : HandValue Share) (crew : CrewValue) (m : MemberValue) → share.table ≡ crew.chunks.table → LaneBegins place path slots (lent_hand share) m → IsFresh crew m
+pub lane_fresh : (place : LogPlace) (path : List Step) (slots : List ℤ) (share : HandValue Share) (crew : CrewValue) (m : LaneValue) → share.table ≡ crew.chunks.table → LaneBegins place path slots (lent_hand share) m → IsFresh crew m
 lane_fresh place path slots share crew m here b = task_fresh place path slots (lent_hand share) crew m (record { here = here; there = refl }) (omega arith) b
 
 -- and its log is its own
-pub lane_member : (g : GroundValue) (depth : ℕ) (task : Buffered) (at : List Step) (number lane span : ℕ) (slots : List ℤ) (draws : HandValue Share) (m : MemberValue) → task.size ≡ g.size → length at + depth + 1 ≡ 4
+pub lane_member : (g : GroundValue) (depth : ℕ) (task : Buffered) (at : List Step) (number lane span : ℕ) (slots : List ℤ) (draws : HandValue Share) (m : LaneValue) → task.size ≡ g.size → length at + depth + 1 ≡ 4
     → LaneBegins (place_of task) (lane_of at number lane span) slots draws m → IsMemberOf g depth m
 lane_member g depth task at number lane span slots draws m size deep b = record {
   path_is = b.own ∙ sym b.path_is;

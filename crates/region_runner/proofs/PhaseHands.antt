@@ -10,15 +10,15 @@ use Rattle.shared_words.specs.Views.{parted, split_number}
 use Rattle.lane_runner.specs.Going.{site}
 use Rattle.lane_runner.proofs.Phases.{stays}
 use Rattle.region_runner.specs.Crew.{CrewValue, world_of}
-use Rattle.region_runner.specs.Hands.{parted_for}
-use Rattle.region_runner.specs.Member.{CanGoOn, IsLaneHand, MemberValue, WentOn, answer_of, lane_hand, phase_part, with_hand}
+use Rattle.region_runner.specs.Hands.{IsLaneHand, lane_hand, parted_for}
+use Rattle.lane_runner.specs.Lane.{CanGoOn, LaneValue, WentOn, answer_of, phase_part, with_hand}
 use Rattle.region_runner.specs.Stands.{MayGoOn}
 
 pub parted_name : (lane span count : ℕ) (v : View) → (parted_for lane span count v).name ≡ v.name
 parted_name lane span zero v = refl
 parted_name lane span (suc count) v = parted_name (suc lane) span count (parted v lane span)
 
-pub can_go_on : (crew : CrewValue) (items : List Item) (lane : ℕ) (home : HandValue View) (m : MemberValue) → Belongs home crew.words.table → MayGoOn crew items m → CanGoOn crew items lane (with_hand m (lane_hand home lane))
+pub can_go_on : (crew : CrewValue) (items : List Item) (lane : ℕ) (home : HandValue View) (m : LaneValue) → Belongs home crew.words.table → MayGoOn crew items m → CanGoOn (world_of crew lane) items (with_hand m (lane_hand home lane))
 can_go_on crew items lane home m belongs may = record {
   going = may.going;
   can = record {
@@ -33,7 +33,7 @@ can_go_on crew items lane home m belongs may = record {
   counters = may.counters;
 }
 
-pub comes_home : (crew : CrewValue) (items : List Item) (end : Option ℕ) (lane : ℕ) (home : HandValue View) (m mid : MemberValue) → WentOn crew items end lane (with_hand m (lane_hand home lane)) mid
+pub comes_home : (crew : CrewValue) (items : List Item) (end : Option ℕ) (lane : ℕ) (home : HandValue View) (m mid : LaneValue) → WentOn (world_of crew lane) items end (with_hand m (lane_hand home lane)) mid
     → (name : Name) → name ≡ home.view.name → IsLaneHand crew.words.table name mid.at.hand
 comes_home crew items end lane home m mid went name is =
     let same : mid.at.hand.view.name ≡ (home.view.splits + lane) ∷ home.view.name =

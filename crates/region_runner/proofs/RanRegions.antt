@@ -28,7 +28,7 @@ use Rattle.lane_runner.specs.Stopping.{GoesFurther}
 use Rattle.region_runner.specs.Begins.{LaneBegins}
 use Rattle.region_runner.specs.Crew.{CrewValue, world_of}
 use Rattle.region_runner.specs.Drawing.{drawn_by}
-use Rattle.region_runner.specs.Member.{MemberValue, answer_of}
+use Rattle.lane_runner.specs.Lane.{LaneValue, answer_of}
 use Rattle.region_runner.specs.Ran.{TaskGoes, task_part}
 use Rattle.region_runner.specs.Stands.{IsBehind, LaneStands, TeamRan, put_in}
 use Rattle.region_runner.specs.Stopping.{StopsTask, stop_of}
@@ -39,16 +39,16 @@ use Rattle.region_runner.proofs.Standing.{bars_after}
 use Rattle.region_runner.proofs.TaskStops.{stops_task}
 use Rattle.region_runner.proofs.TeamLoop.{snoc_same}
 
-module _ (crew : CrewValue) (team : TeamTree) (slots : List ℤ) (items : List (List Item)) (old new : HandValue View) (before after : List MemberValue) (place : LogPlace) (at : List Step) (number : ℕ)
+module _ (crew : CrewValue) (team : TeamTree) (slots : List ℤ) (items : List (List Item)) (old new : HandValue View) (before after : List LaneValue) (place : LogPlace) (at : List Step) (number : ℕ)
     (draws : ℕ → HandValue Share) (span_is : crew.span ≡ team.span) (runs : (site : Site) (s : State) → run_parts site (parts_in items) s ≡ run site team.body s) (ran : TeamRan crew items team.end old new before after)
-    (begins : (k : ℕ) (d : MemberValue) → k < crew.span → LaneBegins place (lane_of at number k team.span) slots (draws k) (slice_index_or before k d)) (unused : (k : ℕ) → k < crew.span → (draws k).view.drawn ≡ []) (d : MemberValue) where
+    (begins : (k : ℕ) (d : LaneValue) → k < crew.span → LaneBegins place (lane_of at number k team.span) slots (draws k) (slice_index_or before k d)) (unused : (k : ℕ) → k < crew.span → (draws k).view.drawn ≡ []) (d : LaneValue) where
   abbrev fork : Fork
   fork = record { team = team; slots = slots }
 
-  abbrev start : ℕ → MemberValue
+  abbrev start : ℕ → LaneValue
   start k = slice_index_or before k d
 
-  abbrev now : ℕ → MemberValue
+  abbrev now : ℕ → LaneValue
   now k = slice_index_or after k d
 
   first : (k : ℕ) → BeginsLane fork k (world_of crew k) (task_part (site (world_of crew k)) ran.done ran.end)

@@ -17,7 +17,7 @@ use Rattle.lane_runner.specs.Handed.{LogPlace}
 use Rattle.region_runner.specs.Crew.{CrewValue}
 use Rattle.region_runner.specs.Drawing.{drawn_by, regained_all}
 use Rattle.region_runner.specs.Gathering.{ClosedValue, draws_view}
-use Rattle.region_runner.specs.Member.{MemberValue}
+use Rattle.lane_runner.specs.Lane.{LaneValue}
 use Rattle.region_runner.specs.Opening.{AreLanes, AreTorn, lent_hand, lent_to}
 use Rattle.region_runner.specs.Stands.{TeamClosed}
 use Rattle.region_runner.proofs.JoinedDraws.{gathered_draws, regained_first}
@@ -38,7 +38,7 @@ pub head_of : {A : Type 0} (xs : List A) → 1 ≤ length xs → A
 head_of [] some = absurd (omega (arith, some))
 head_of (x ∷ xs) some = x
 
-pub team_returned : (crew : CrewValue) (team : TeamTree) (slots : List ℤ) (items : List (List Item)) (old new : HandValue View) (before : List MemberValue) (place : LogPlace) (at : List Step) (number : ℕ) (share : HandValue Share) (lanes : List ClosedValue)
+pub team_returned : (crew : CrewValue) (team : TeamTree) (slots : List ℤ) (items : List (List Item)) (old new : HandValue View) (before : List LaneValue) (place : LogPlace) (at : List Step) (number : ℕ) (share : HandValue Share) (lanes : List ClosedValue)
     → crew.span ≡ team.span → ((site : Site) (s : State) → run_parts site (parts_in items) s ≡ run site team.body s) → TeamClosed crew items team.end old new before lanes → AreLanes place at number team.span slots share before
     → (table : TableId) → share.table ≡ table → (k : ℕ) (e : ClosedValue) → k < length lanes → IsReturned table (slice_index_or lanes k e).draws
 team_returned crew team slots items old new before place at number share lanes span_is runs team_closed begin table here k e less =

@@ -26,7 +26,7 @@ use Rattle.region_runner.specs.Begins.{LaneBegins}
 use Rattle.region_runner.specs.Closing.{IsClosedAs}
 use Rattle.region_runner.specs.Crew.{CrewValue, world_of}
 use Rattle.region_runner.specs.Gathering.{ClosedValue, LaneGave}
-use Rattle.region_runner.specs.Member.{IsLast, MemberValue, answer_of}
+use Rattle.lane_runner.specs.Lane.{IsLast, LaneValue, answer_of}
 use Rattle.region_runner.specs.Opening.{GaveNothing}
 use Rattle.region_runner.specs.Ran.{TaskGoes, task_part}
 use Rattle.region_runner.specs.Root.{RootClosed, RootGave, StopsRoot}
@@ -42,7 +42,7 @@ use Rattle.region_runner.proofs.Traced.{fits_both, runs_goes}
 
 -- ---- a root that executed its phase
 
-module _ (program : Program) (place : LogPlace) (crew : CrewValue) (items : List Item) (old new : HandValue View) (root : MemberValue) (c : ClosedValue) (draws : HandValue Share) (arrays : crew.arrays ≡ program.arrays)
+module _ (program : Program) (place : LogPlace) (crew : CrewValue) (items : List Item) (old new : HandValue View) (root : LaneValue) (c : ClosedValue) (draws : HandValue Share) (arrays : crew.arrays ≡ program.arrays)
     (alone : crew.span ≡ program.main.span) (runs : (at : Site) (s : State) → run_parts at (parts_in (items ∷ [])) s ≡ run at program.main.body s) (last : IsLast items program.main.end)
     (begins : LaneBegins place [] (root_start program).slots draws root) (fresh : IsFresh crew root) (free : old.view.held ≡ []) (closed : RootClosed crew items program.main.end old new root c) where
   abbrev fork : Fork
@@ -51,7 +51,7 @@ module _ (program : Program) (place : LogPlace) (crew : CrewValue) (items : List
   abbrev part : State → Outcome (Unit {0})
   part = task_part (site (world_of crew 0)) (items ∷ []) (Some program.main.end)
 
-  abbrev after : MemberValue
+  abbrev after : LaneValue
   after = closed.after
 
   first : BeginsLane fork 0 (world_of crew 0) part

@@ -3,8 +3,7 @@ use Rattle.std.proofs.Common.{◌≡◌, refl, ap, sym, ◌∙◌, subst, ℕ, z
 use Rattle.shared_words.specs.declared.view.View.{View}
 use Rattle.shared_words.specs.Handles.{HandValue, with_view}
 use Rattle.shared_words.specs.Views.{IsAtRest, parted, child, newcomer, after_meeting}
-use Rattle.region_runner.specs.Hands.{parted_for, joined_with}
-use Rattle.region_runner.specs.Member.{lane_hand}
+use Rattle.region_runner.specs.Hands.{joined_with, lane_hand, parted_for}
 
 -- the hand has split off one for each of these first lanes of a team
 pub record HasSplit (span : ℕ) (old new : HandValue View) (lane : ℕ) : Type 0 where

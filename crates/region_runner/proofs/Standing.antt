@@ -31,7 +31,7 @@ use Rattle.lane_runner.proofs.Handing.{work_hands_none}
 use Rattle.lane_runner.proofs.Releasing.{released_none}
 use Rattle.lane_runner.proofs.Phases.{run_parts_both}
 use Rattle.region_runner.specs.Crew.{CrewValue, world_of}
-use Rattle.region_runner.specs.Member.{IsLast, MemberValue, WentOn, answer_of, phase_part, with_hand}
+use Rattle.lane_runner.specs.Lane.{IsLast, LaneValue, WentOn, answer_of, phase_part, with_hand}
 use Rattle.region_runner.specs.Ran.{TakesUp, TaskGoes, TaskRan, task_part}
 use Rattle.region_runner.specs.Stands.{LaneStands}
 use Rattle.region_runner.specs.Team.{DidWork}
@@ -105,7 +105,7 @@ pub bars_after : (done : List (List Item)) (items : List Item) → bar_count (pa
 bars_after = count_after is_bar
 
 -- what a lane did in a phase, and how it stands then
-pub record StepsOn (crew : CrewValue) (items : List Item) (end : Option ℕ) (lane : ℕ) (start : MemberValue) (done : List (List Item)) (phases : Phases) (hand : HandValue View) (mid : MemberValue) : Type 0 where
+pub record StepsOn (crew : CrewValue) (items : List Item) (end : Option ℕ) (lane : ℕ) (start : LaneValue) (done : List (List Item)) (phases : Phases) (hand : HandValue View) (mid : LaneValue) : Type 0 where
   pub work : Work
   pub did : DidWork crew.arrays hand mid.at.hand work
   pub goes : TaskGoes (world_of crew lane) (task_part (site (world_of crew lane)) (done ++ items ∷ []) end) start.slots mid.slots start.at mid.at (lane_works lane phases ++ work ∷ []) (answer_of mid.halt)
@@ -113,7 +113,7 @@ pub record StepsOn (crew : CrewValue) (items : List Item) (end : Option ℕ) (la
   pub ends : (line : ℕ) → end ≡ Some line → mid.halt ≡ None → LastIsEnd (work_records work)
   pub short : (h : Halt) → mid.halt ≡ Some h → barrier_count (work_records work) ≡ 0
 
-module _ (crew : CrewValue) (items : List Item) (lane : ℕ) (start prev mid : MemberValue) (done : List (List Item)) (phases : Phases) (hand : HandValue View)
+module _ (crew : CrewValue) (items : List Item) (lane : ℕ) (start prev mid : LaneValue) (done : List (List Item)) (phases : Phases) (hand : HandValue View)
     (stands : LaneStands crew start done None phases lane prev) (going : prev.halt ≡ None) (free : hand.view.held ≡ []) where
   abbrev at : Site
   at = site (world_of crew lane)
@@ -143,7 +143,7 @@ module _ (crew : CrewValue) (items : List Item) (lane : ℕ) (start prev mid : M
   did bars end r m = phase_did_work (world_of crew lane) (phase_part items end at) prev.slots mid.slots (with_hand prev hand).at mid.at free bars r m
 
   -- by why it doesn't go on, and whether the phase is the last
-  by_halt : (h : Option Halt) → mid.halt ≡ h → (end : Option ℕ) → WentOn crew items end lane (with_hand prev hand) mid → ((line : ℕ) → end ≡ Some line → IsLast items line) → StepsOn crew items end lane start done phases hand mid
+  by_halt : (h : Option Halt) → mid.halt ≡ h → (end : Option ℕ) → WentOn (world_of crew lane) items end (with_hand prev hand) mid → ((line : ℕ) → end ≡ Some line → IsLast items line) → StepsOn crew items end lane start done phases hand mid
   by_halt (Some why) is end went last = record {
     work = work_in (bar_count (map part_of items)) end (answer_of mid.halt) went.goes;
     did = did (bar_count (map part_of items)) end (answer_of mid.halt) went.goes;
@@ -190,5 +190,5 @@ module _ (crew : CrewValue) (items : List Item) (lane : ℕ) (start prev mid : M
       no_halt : {h : Halt} → None ≡ Some h → ⊥
       no_halt e = cc
 
-  pub lane_steps : (end : Option ℕ) → WentOn crew items end lane (with_hand prev hand) mid → ((line : ℕ) → end ≡ Some line → IsLast items line) → StepsOn crew items end lane start done phases hand mid
+  pub lane_steps : (end : Option ℕ) → WentOn (world_of crew lane) items end (with_hand prev hand) mid → ((line : ℕ) → end ≡ Some line → IsLast items line) → StepsOn crew items end lane start done phases hand mid
   lane_steps end went last = by_halt mid.halt refl end went last

@@ -20,7 +20,7 @@ use Rattle.lane_runner.proofs.Bodies.{log_still}
 use Rattle.lane_runner.proofs.Phases.{no_bars}
 use Rattle.region_runner.specs.Crew.{CrewValue, world_of}
 use Rattle.region_runner.specs.Ground.{GroundValue, IsMemberOf}
-use Rattle.region_runner.specs.Member.{IsLast, MemberValue, answer_of}
+use Rattle.lane_runner.specs.Lane.{IsLast, LaneValue, answer_of}
 use Rattle.region_runner.specs.Ran.{TaskGoes, task_part}
 use Rattle.region_runner.specs.Stands.{AllGo, HasLastBar, IsFresh, LaneStands, MayGoOn, TeamRan, TeamStands}
 use Rattle.lane_runner.specs.declared.stop.Halt.{Halt}
@@ -30,14 +30,14 @@ use Rattle.region_runner.proofs.TeamPhases.{none_did}
 use Rattle.region_runner.proofs.TeamSteps.{TeamSteps}
 
 -- the team stands after these phases, and all its lanes go on
-pub record HasPassed (crew : CrewValue) (items : List (List Item)) (old new : HandValue View) (before after : List MemberValue) : Type 0 where
+pub record HasPassed (crew : CrewValue) (items : List (List Item)) (old new : HandValue View) (before after : List LaneValue) : Type 0 where
   pub phases : Phases
   pub stands : TeamStands crew items None phases old new before after
   pub goes : AllGo after
   pub pass : PassAllBarriers phases
 
 -- a lane before its first phase
-pub stands_first : (crew : CrewValue) (lane : ℕ) (m : MemberValue) → IsFresh crew m → LaneStands crew m [] None NoPhase lane m
+pub stands_first : (crew : CrewValue) (lane : ℕ) (m : LaneValue) → IsFresh crew m → LaneStands crew m [] None NoPhase lane m
 stands_first crew lane m f = record {
   path = refl;
   last = m.at;
@@ -59,7 +59,7 @@ stands_first crew lane m f = record {
     no_halt : {h : Halt} → None ≡ Some h → ⊥
     no_halt e = cc
 
-pub passed_none : (crew : CrewValue) (hand : HandValue View) (before : List MemberValue) → hand.there ≡ true → length before ≡ crew.span → ((k : ℕ) (d : MemberValue) → k < length before → IsFresh crew (slice_index_or before k d))
+pub passed_none : (crew : CrewValue) (hand : HandValue View) (before : List LaneValue) → hand.there ≡ true → length before ≡ crew.span → ((k : ℕ) (d : LaneValue) → k < length before → IsFresh crew (slice_index_or before k d))
     → HasPassed crew [] hand hand before before
 passed_none crew hand before there count fresh = record {
   phases = NoPhase;
@@ -108,7 +108,7 @@ snoc_same (a ∷ xs) (b ∷ ys) x y same = let rest = snoc_same xs ys x y (tail 
 
 -- ---- what is asked of a lane before the next phase
 
-pub may_next : (crew : CrewValue) (start m : MemberValue) (done : List (List Item)) (phases : Phases) (k : ℕ) (items : List Item) → LaneStands crew start done None phases k m → m.halt ≡ None → start.at.tally.next_loop ≡ 0
+pub may_next : (crew : CrewValue) (start m : LaneValue) (done : List (List Item)) (phases : Phases) (k : ℕ) (items : List Item) → LaneStands crew start done None phases k m → m.halt ≡ None → start.at.tally.next_loop ≡ 0
     → drawn_count (parts_in (done ++ items ∷ [])) ≤ crew.chunks.loops → MayGoOn crew items m
 may_next crew start m done phases k items stands going first few = record {
   going = going;
@@ -116,7 +116,7 @@ may_next crew start m done phases k items stands going first few = record {
   counters = let so_far = stands.loops going in let more = drawn_after done items in omega (arith, so_far, more, first, few);
 }
 
-pub own_next : (g : GroundValue) (depth : ℕ) (crew : CrewValue) (start m : MemberValue) (done : List (List Item)) (end : Option ℕ) (phases : Phases) (k : ℕ) → LaneStands crew start done end phases k m → IsMemberOf g depth start → IsMemberOf g depth m
+pub own_next : (g : GroundValue) (depth : ℕ) (crew : CrewValue) (start m : LaneValue) (done : List (List Item)) (end : Option ℕ) (phases : Phases) (k : ℕ) → LaneStands crew start done end phases k m → IsMemberOf g depth start → IsMemberOf g depth m
 own_next g depth crew start m done end phases k stands own = record {
   path_is = stands.log.path ∙ own.path_is ∙ sym stands.path;
   deep = subst (λ (p : List Step). length p + depth ≡ 4) (sym stands.path) own.deep;
@@ -131,7 +131,7 @@ few_first phases n loops few =
 
 -- ---- how the loop ends
 
-pub stops_early : (crew : CrewValue) (items done left : List (List Item)) (line : ℕ) (old new : HandValue View) (before after : List MemberValue) (phases : Phases) → items ≡ done ++ left → TeamStands crew done None phases old new before after → (AllGo after → ⊥)
+pub stops_early : (crew : CrewValue) (items done left : List (List Item)) (line : ℕ) (old new : HandValue View) (before after : List LaneValue) (phases : Phases) → items ≡ done ++ left → TeamStands crew done None phases old new before after → (AllGo after → ⊥)
     → HasLastBar done → TeamRan crew items line old new before after
 stops_early crew items done left line old new before after phases is stands some bar = record {
   done = done;
@@ -145,7 +145,7 @@ stops_early crew items done left line old new before after phases is stands some
   early = λ none. bar;
 }
 
-pub runs_all : (crew : CrewValue) (earlier : List (List Item)) (last : List Item) (items : List (List Item)) (line : ℕ) (old new : HandValue View) (before after : List MemberValue) → items ≡ earlier ++ last ∷ [] → TeamSteps crew last (Some line) old new before after earlier
+pub runs_all : (crew : CrewValue) (earlier : List (List Item)) (last : List Item) (items : List (List Item)) (line : ℕ) (old new : HandValue View) (before after : List LaneValue) → items ≡ earlier ++ last ∷ [] → TeamSteps crew last (Some line) old new before after earlier
     → TeamRan crew items line old new before after
 runs_all crew earlier last items line old new before after is steps = record {
   done = earlier ++ last ∷ [];
@@ -160,14 +160,14 @@ runs_all crew earlier last items line old new before after is steps = record {
 }
 
 -- one lane more goes on
-pub all_more : (members : List MemberValue) (n : ℕ) (m : MemberValue) → n < length members → m ≡ slice_index_or members n m → ((k : ℕ) (d : MemberValue) → k < n → (slice_index_or members k d).halt ≡ None) → m.halt ≡ None
-    → (k : ℕ) (d : MemberValue) → k < n + 1 → (slice_index_or members k d).halt ≡ None
+pub all_more : (members : List LaneValue) (n : ℕ) (m : LaneValue) → n < length members → m ≡ slice_index_or members n m → ((k : ℕ) (d : LaneValue) → k < n → (slice_index_or members k d).halt ≡ None) → m.halt ≡ None
+    → (k : ℕ) (d : LaneValue) → k < n + 1 → (slice_index_or members k d).halt ≡ None
 all_more members n m inside is so_far goes k d less = by (nat_lt k n) refl where
   by : (below : Bool) → nat_lt k n ≡ below → (slice_index_or members k d).halt ≡ None
   by true below = so_far k d (ltb-true k n below)
   by false below =
       let same : k ≡ n = let past = ltb-false k n below in omega (arith, past, less) in
-      ap (λ (j : ℕ). (slice_index_or members j d).halt) same ∙ ap (λ (x : MemberValue). x.halt) (get_or_default members n d m inside) ∙ ap (λ (x : MemberValue). x.halt) (sym is) ∙ goes
+      ap (λ (j : ℕ). (slice_index_or members j d).halt) same ∙ ap (λ (x : LaneValue). x.halt) (get_or_default members n d m inside) ∙ ap (λ (x : LaneValue). x.halt) (sym is) ∙ goes
 
 -- ---- the phases before the last, one by one
 

@@ -33,7 +33,7 @@ use Rattle.region_runner.specs.Closing.{IsClosedAs}
 use Rattle.region_runner.specs.Crew.{CrewValue, world_of}
 use Rattle.region_runner.specs.Drawing.{drawn_by, regained_all}
 use Rattle.region_runner.specs.Gathering.{ClosedValue, Gathered, LaneGave, draws_view}
-use Rattle.region_runner.specs.Member.{MemberValue, answer_of}
+use Rattle.lane_runner.specs.Lane.{LaneValue, answer_of}
 use Rattle.region_runner.specs.Opening.{AreLanes, ClosesAs, lent_hand, lent_to}
 use Rattle.region_runner.specs.Ran.{TaskGoes, task_part}
 use Rattle.region_runner.specs.Stands.{TeamClosed, TeamRan}
@@ -53,10 +53,10 @@ drawn_same f g first (suc count) same =
     (drawn_same f g (suc first) count
     (λ k less. ap f (let e : suc first + k ≡ first + suc k = omega arith in e) ∙ same (suc k) (omega arith) ∙ ap g (let e : first + suc k ≡ suc first + k = omega arith in e)))
 
-module _ (w : WorldValue) (crew : CrewValue) (team : TeamTree) (slots : List ℤ) (task : Buffered) (number : ℕ) (share : HandValue Share) (items : List (List Item)) (old new : HandValue View) (before after : List MemberValue)
+module _ (w : WorldValue) (crew : CrewValue) (team : TeamTree) (slots : List ℤ) (task : Buffered) (number : ℕ) (share : HandValue Share) (items : List (List Item)) (old new : HandValue View) (before after : List LaneValue)
     (lanes : List ClosedValue) (given handed : List Entry) (r : Answer) (arrays : w.arrays ≡ crew.arrays) (span_is : crew.span ≡ team.span)
     (runs : (at : Site) (s : State) → run_parts at (parts_in items) s ≡ run at team.body s) (ran : TeamRan crew items team.end old new before after) (begin : AreLanes (place_of task) task.path number team.span slots share before)
-    (closes : (k : ℕ) (d : MemberValue) (e : ClosedValue) → k < crew.span → ClosesAs (Ok (slice_index_or after k d)) (slice_index_or lanes k e)) (has : HasCounts team slots) (d : MemberValue) (e : ClosedValue)
+    (closes : (k : ℕ) (d : LaneValue) (e : ClosedValue) → k < crew.span → ClosesAs (Ok (slice_index_or after k d)) (slice_index_or lanes k e)) (has : HasCounts team slots) (d : LaneValue) (e : ClosedValue)
     (gathered : Gathered team.span (λ k. slice_index_or lanes k e) given handed r)
     (once : (loop : ℕ) → AreEachOnce (numbers loop (drawn_by (λ k. (slice_index_or lanes k e).draws.view.drawn) 0 crew.span))) where
   abbrev fork : Fork
@@ -65,10 +65,10 @@ module _ (w : WorldValue) (crew : CrewValue) (team : TeamTree) (slots : List ℤ
   abbrev at : List Step
   at = task.path
 
-  abbrev now : ℕ → MemberValue
+  abbrev now : ℕ → LaneValue
   now k = slice_index_or after k d
 
-  abbrev start : ℕ → MemberValue
+  abbrev start : ℕ → LaneValue
   start k = slice_index_or before k d
 
   abbrev closed : ℕ → ClosedValue
@@ -77,7 +77,7 @@ module _ (w : WorldValue) (crew : CrewValue) (team : TeamTree) (slots : List ℤ
   within : (k : ℕ) → k < team.span → k < crew.span
   within k less = subst (λ (n : ℕ). k < n) (sym span_is) less
 
-  begins : (k : ℕ) (x : MemberValue) → k < crew.span → LaneBegins (place_of task) (lane_of at number k team.span) slots (lent_hand share) (slice_index_or before k x)
+  begins : (k : ℕ) (x : LaneValue) → k < crew.span → LaneBegins (place_of task) (lane_of at number k team.span) slots (lent_hand share) (slice_index_or before k x)
   begins k x less = begin.each k x (subst (λ (n : ℕ). k < n) span_is less)
 
   goes : (k : ℕ) (less : k < crew.span)
@@ -150,7 +150,7 @@ module _ (w : WorldValue) (crew : CrewValue) (team : TeamTree) (slots : List ℤ
           (λ k less. ap (λ (h : HandValue Share). h.view.drawn) (closes (0 + k) d e (omega (arith, less))).3)) (once loop)
 
 -- the same of what was closed and gathered, with all hands on the counters joined
-pub closed_region : (w : WorldValue) (crew : CrewValue) (team : TeamTree) (slots : List ℤ) (task : Buffered) (number : ℕ) (share mid last : HandValue Share) (items : List (List Item)) (old new : HandValue View) (before : List MemberValue) (lanes : List ClosedValue)
+pub closed_region : (w : WorldValue) (crew : CrewValue) (team : TeamTree) (slots : List ℤ) (task : Buffered) (number : ℕ) (share mid last : HandValue Share) (items : List (List Item)) (old new : HandValue View) (before : List LaneValue) (lanes : List ClosedValue)
     (given handed : List Entry) (r : Answer) → w.arrays ≡ crew.arrays → crew.span ≡ team.span → 1 ≤ team.span → ((at : Site) (s : State) → run_parts at (parts_in items) s ≡ run at team.body s) → TeamClosed crew items team.end old new before lanes
     → AreLanes (place_of task) task.path number team.span slots share before → HasCounts team slots → ((e : ClosedValue) → Gathered (length lanes) (λ k. slice_index_or lanes k e) given handed r)
     → mid ≡ lent_to team.span share → last ≡ with_view mid (regained_all (map draws_view lanes) mid.view) → (1 ≤ length lanes → IsFirstAlone last.view → HasEachOnce last.view) → RanRegion w team slots task number old new given handed r

@@ -19,21 +19,21 @@ use Rattle.history_model.proofs.MetBarriers.{barriers_both}
 use Rattle.lane_runner.specs.Going.{IsSameLog, site}
 use Rattle.lane_runner.proofs.Bodies.{log_later}
 use Rattle.region_runner.specs.Crew.{CrewValue, world_of}
-use Rattle.region_runner.specs.Hands.{joined_with, parted_for}
-use Rattle.region_runner.specs.Member.{IsLast, MemberValue, WentOn, answer_of, hand_view, lane_hand, with_hand}
+use Rattle.region_runner.specs.Hands.{joined_with, lane_hand, parted_for}
+use Rattle.lane_runner.specs.Lane.{IsLast, LaneValue, WentOn, answer_of, hand_view, with_hand}
 use Rattle.region_runner.specs.Ran.{TaskGoes, task_part}
 use Rattle.region_runner.specs.Stands.{AllGo, LaneStands, MayStep, RanPhase, TeamStands, put_in}
 use Rattle.region_runner.specs.Team.{DidPhases, DidWork, team_of_works}
 use Rattle.region_runner.proofs.Standing.{StepsOn, bars_after, drawn_after, lane_steps}
 use Rattle.region_runner.proofs.TeamPhases.{Works, choose, lane_works_more, phase_did, phases_did_more, phases_end, team_ends, team_passes, views_from}
 
-views_more : (k : ℕ) (xs : List MemberValue) (at : ℕ → View) → ((i : ℕ) (d : MemberValue) → i < length xs → at (k + i) ≡ hand_view (slice_index_or xs i d)) → map hand_view xs ≡ views_from k (length xs) at
+views_more : (k : ℕ) (xs : List LaneValue) (at : ℕ → View) → ((i : ℕ) (d : LaneValue) → i < length xs → at (k + i) ≡ hand_view (slice_index_or xs i d)) → map hand_view xs ≡ views_from k (length xs) at
 views_more k [] at is = refl
 views_more k (x ∷ xs) at is =
     ap (λ (v : View). v ∷ map hand_view xs) (sym (is 0 x (omega arith)) ∙ ap at (let e : k + 0 ≡ k = omega arith in e))
     ∙ ap (λ (vs : List View). at k ∷ vs) (views_more (suc k) xs at (λ i d less. ap at (let e : suc k + i ≡ k + suc i = omega arith in e) ∙ is (suc i) d (omega arith)))
 
-some_member : (xs : List MemberValue) → 1 ≤ length xs → MemberValue
+some_member : (xs : List LaneValue) → 1 ≤ length xs → LaneValue
 some_member [] some = absurd (omega arith)
 some_member (x ∷ xs) some = x
 
@@ -42,16 +42,16 @@ passes_more NoPhase team pass one = (one, tt)
 passes_more (Phase first later) team pass one = (pass.0, passes_more later team pass.1 one)
 
 -- how the team stands then
-pub record TeamSteps (crew : CrewValue) (items : List Item) (end : Option ℕ) (old new : HandValue View) (before after : List MemberValue) (done : List (List Item)) : Type 0 where
+pub record TeamSteps (crew : CrewValue) (items : List Item) (end : Option ℕ) (old new : HandValue View) (before after : List LaneValue) (done : List (List Item)) : Type 0 where
   pub phases : Phases
   pub stands : TeamStands crew (done ++ items ∷ []) end phases old new before after
   pub passes : AllGo after → bar_count (map part_of items) ≡ 1 → PassAllBarriers phases
   pub ends : (line : ℕ) → end ≡ Some line → AllGo after → PhasesEnd phases
 
-module _ (crew : CrewValue) (items : List Item) (end : Option ℕ) (old home new : HandValue View) (before prev after : List MemberValue) (done : List (List Item)) (phases : Phases) (some : 1 ≤ crew.span)
+module _ (crew : CrewValue) (items : List Item) (end : Option ℕ) (old home new : HandValue View) (before prev after : List LaneValue) (done : List (List Item)) (phases : Phases) (some : 1 ≤ crew.span)
     (first : length before ≡ crew.span) (stands : TeamStands crew done None phases old home before prev) (going : AllGo prev) (ran : RanPhase crew items end home new prev after)
     (last : (line : ℕ) → end ≡ Some line → IsLast items line) (none : old.view.out ≡ []) (pass : PassAllBarriers phases) where
-  d : MemberValue
+  d : LaneValue
   d = some_member prev (let c = stands.count in omega (arith, c, some))
 
   in_prev : (k : ℕ) → k < crew.span → k < length prev
@@ -92,50 +92,50 @@ module _ (crew : CrewValue) (items : List Item) (end : Option ℕ) (old home new
       (ran.hand ∙ ap (λ (vs : List View). with_view home (joined_with vs (parted_for 0 crew.span crew.span home.view))) views)
 
   halt_same : (k : ℕ) → k < crew.span → (slice_index_or after k d).halt ≡ (slice_index_or ran.mid k d).halt
-  halt_same k less = ap (λ (m : MemberValue). m.halt) (ran.same k d (in_prev k less))
+  halt_same k less = ap (λ (m : LaneValue). m.halt) (ran.same k d (in_prev k less))
 
-  abbrev start : ℕ → MemberValue
+  abbrev start : ℕ → LaneValue
   start k = slice_index_or before k d
 
-  abbrev mid : ℕ → MemberValue
+  abbrev mid : ℕ → LaneValue
   mid k = slice_index_or ran.mid k d
 
   same : (k : ℕ) → k < crew.span → slice_index_or after k d ≡ with_hand (mid k) (slice_index_or after k d).at.hand
   same k less = ran.same k d (in_prev k less)
 
-  went : (k : ℕ) → k < crew.span → WentOn crew items end k (with_hand (slice_index_or prev k d) (lane_hand home k)) (mid k)
+  went : (k : ℕ) → k < crew.span → WentOn (world_of crew k) items end (with_hand (slice_index_or prev k d) (lane_hand home k)) (mid k)
   went k less = ran.went k d (in_prev k less)
 
   lane_now : (k : ℕ) → k < crew.span → LaneStands crew (slice_index_or before k d) (done ++ items ∷ []) end (then_phases phases later) k (slice_index_or after k d)
   lane_now k less = record {
-    path = ap (λ (m : MemberValue). m.path) (same k less) ∙ (went k less).path ∙ (stands.lanes k d less).path;
+    path = ap (λ (m : LaneValue). m.path) (same k less) ∙ (went k less).path ∙ (stands.lanes k d less).path;
     last = (mid k).at;
     up = record {
-      buffer = ap (λ (m : MemberValue). m.at.buffer) (same k less);
-      tally = ap (λ (m : MemberValue). m.at.tally) (same k less);
-      done = ap (λ (m : MemberValue). m.at.done) (same k less);
+      buffer = ap (λ (m : LaneValue). m.at.buffer) (same k less);
+      tally = ap (λ (m : LaneValue). m.at.tally) (same k less);
+      done = ap (λ (m : LaneValue). m.at.done) (same k less);
     };
     goes =
-        subst (λ (m : MemberValue). TaskGoes (world_of crew k) (task_part (site (world_of crew k)) (done ++ items ∷ []) end) (start k).slots m.slots (start k).at (mid k).at (lane_works k (then_phases phases later)) (answer_of m.halt)) (sym (same k less))
+        subst (λ (m : LaneValue). TaskGoes (world_of crew k) (task_part (site (world_of crew k)) (done ++ items ∷ []) end) (start k).slots m.slots (start k).at (mid k).at (lane_works k (then_phases phases later)) (answer_of m.halt)) (sym (same k less))
         (subst (λ (ws : List Work). TaskGoes (world_of crew k) (task_part (site (world_of crew k)) (done ++ items ∷ []) end) (start k).slots (mid k).slots (start k).at (mid k).at ws (answer_of (mid k).halt))
         (ap (λ (work : Work). lane_works k phases ++ work ∷ []) (works.each k less).1 ∙ sym (lane_works_more crew.span k phases works.work less))
         (works.each k less).0.goes);
     log =
-        subst (λ (b : Buffered). IsSameLog (start k).at.buffer b) (ap (λ (m : MemberValue). m.at.buffer) (sym (same k less)))
+        subst (λ (b : Buffered). IsSameLog (start k).at.buffer b) (ap (λ (m : LaneValue). m.at.buffer) (sym (same k less)))
         (log_later (start k).at.buffer (slice_index_or prev k d).at.buffer (mid k).at.buffer (stands.lanes k d less).log (went k less).log);
     loops = λ goes.
         let so_far = (stands.lanes k d less).loops (going k d (in_prev k less)) in
-        let more = (went k less).loops (ap (λ (m : MemberValue). m.halt) (sym (same k less)) ∙ goes) in
+        let more = (went k less).loops (ap (λ (m : LaneValue). m.halt) (sym (same k less)) ∙ goes) in
         let counts = drawn_after done items in
-        let now : (slice_index_or after k d).at.tally.next_loop ≡ (mid k).at.tally.next_loop = ap (λ (m : MemberValue). m.at.tally.next_loop) (same k less) in
+        let now : (slice_index_or after k d).at.tally.next_loop ≡ (mid k).at.tally.next_loop = ap (λ (m : LaneValue). m.at.tally.next_loop) (same k less) in
         omega (arith, so_far, more, counts, now);
     may = λ goes.
-        subst (λ (m : MemberValue). MayStep crew m.at) (sym (same k less))
+        subst (λ (m : LaneValue). MayStep crew m.at) (sym (same k less))
         (record {
-          unrefused = ((went k less).can (ap (λ (m : MemberValue). m.halt) (sym (same k less)) ∙ goes)).unrefused;
-          drawing = ((went k less).can (ap (λ (m : MemberValue). m.halt) (sym (same k less)) ∙ goes)).drawing;
-          enough = ((went k less).can (ap (λ (m : MemberValue). m.halt) (sym (same k less)) ∙ goes)).enough;
-          forks = ((went k less).can (ap (λ (m : MemberValue). m.halt) (sym (same k less)) ∙ goes)).forks;
+          unrefused = ((went k less).can (ap (λ (m : LaneValue). m.halt) (sym (same k less)) ∙ goes)).unrefused;
+          drawing = ((went k less).can (ap (λ (m : LaneValue). m.halt) (sym (same k less)) ∙ goes)).drawing;
+          enough = ((went k less).can (ap (λ (m : LaneValue). m.halt) (sym (same k less)) ∙ goes)).enough;
+          forks = ((went k less).can (ap (λ (m : LaneValue). m.halt) (sym (same k less)) ∙ goes)).forks;
         });
     passes = λ goes.
         let first = (stands.lanes k d less).passes (going k d (in_prev k less)) in
@@ -173,8 +173,8 @@ module _ (crew : CrewValue) (items : List Item) (end : Option ℕ) (old home new
       count = ran.count ∙ stands.count;
       did = phases_did_more crew.arrays crew.span old home new phases later stands.did pass did_more;
       lanes = λ k e less.
-          subst (λ (m : MemberValue). LaneStands crew m (done ++ items ∷ []) end (then_phases phases later) k (slice_index_or after k e)) (get_or_default before k d e (let f = first in omega (arith, f, less)))
-          (subst (λ (m : MemberValue). LaneStands crew (slice_index_or before k d) (done ++ items ∷ []) end (then_phases phases later) k m) (get_or_default after k d e (in_after k less)) (lane_now k less));
+          subst (λ (m : LaneValue). LaneStands crew m (done ++ items ∷ []) end (then_phases phases later) k (slice_index_or after k e)) (get_or_default before k d e (let f = first in omega (arith, f, less)))
+          (subst (λ (m : LaneValue). LaneStands crew (slice_index_or before k d) (done ++ items ∷ []) end (then_phases phases later) k m) (get_or_default after k d e (in_after k less)) (lane_now k less));
     };
     passes = λ all one.
         passes_more phases (team_of_works 0 crew.span works.work) pass

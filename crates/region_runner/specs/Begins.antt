@@ -7,11 +7,11 @@ use Rattle.event_buffer.specs.Logged.{HoldsRecords}
 use Rattle.shared_words.specs.declared.share.Share.{Share}
 use Rattle.shared_words.specs.Handles.{HandValue}
 use Rattle.lane_runner.specs.Handed.{LogPlace, place_of}
-use Rattle.region_runner.specs.Member.{MemberValue}
+use Rattle.lane_runner.specs.Lane.{LaneValue}
 
 -- The lane at this path has these locals and this hand on the counters. Its log, which is of this place, has no record, and it has
 -- forked no region.
-pub record LaneBegins (place : LogPlace) (path : List Step) (slots : List ℤ) (draws : HandValue Share) (m : MemberValue) : Type 0 where
+pub record LaneBegins (place : LogPlace) (path : List Step) (slots : List ℤ) (draws : HandValue Share) (m : LaneValue) : Type 0 where
   pub path_is : m.path ≡ path
   pub slots_are : m.slots ≡ slots
   pub going : m.halt ≡ None

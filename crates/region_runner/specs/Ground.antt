@@ -12,7 +12,7 @@ use Rattle.lane_runner.specs.World.{HaveOwnWords}
 use Rattle.region_runner.specs.Answer.{IsBufferSize}
 use Rattle.region_runner.specs.Crew.{CrewValue}
 use Rattle.region_runner.specs.Lawful.{IsTeam, IsLawfulPhase}
-use Rattle.region_runner.specs.Member.{MemberValue}
+use Rattle.lane_runner.specs.Lane.{LaneValue}
 
 -- the kernel's arrays, the shared words, and the size of a buffer
 pub record GroundValue : Type 0 where
@@ -50,7 +50,7 @@ pub record AreLanesLogs {T : Type 0} (g : GroundValue) (seen : LogView T) (path 
   pub new : AreNewLogs seen task number span logs
 
 -- a lane whose task has its log, in as many regions as leave so many to nest
-pub record IsMemberOf (g : GroundValue) (depth : ℕ) (m : MemberValue) : Type 0 where
+pub record IsMemberOf (g : GroundValue) (depth : ℕ) (m : LaneValue) : Type 0 where
   pub path_is : m.at.buffer.path ≡ m.path
   pub deep : length m.path + depth ≡ 4
   pub size_is : m.at.buffer.size ≡ g.size

@@ -5,7 +5,6 @@ pub mod Ran
 pub mod Team
 pub mod Crew
 pub mod Lawful
-pub mod Member
 pub mod Closing
 pub mod Stopping
 pub mod Answer

@@ -9,7 +9,7 @@ use Rattle.lane_runner.specs.Handed.{LogPlace}
 use Rattle.region_runner.specs.Begins.{LaneBegins}
 use Rattle.region_runner.specs.Closing.{IsClosedAs}
 use Rattle.region_runner.specs.Gathering.{ClosedValue, LaneGave}
-use Rattle.region_runner.specs.Member.{MemberValue}
+use Rattle.lane_runner.specs.Lane.{LaneValue}
 use Rattle.region_runner.specs.declared.opening.Opened.{Opened}
 use Rattle.region_runner.specs.declared.opening.Opened.TheVariants.{Team, Torn, Nothing}
 
@@ -21,7 +21,7 @@ pub record GaveNothing (place : LogPlace) (path : List Step) (draws : HandValue 
   pub gave : LaneGave place [] c
 
 -- its log was opened, or refused
-abbrev pub OpensAs : LogPlace → List Step → List ℤ → HandValue Share → Result MemberValue ClosedValue → Type 0
+abbrev pub OpensAs : LogPlace → List Step → List ℤ → HandValue Share → Result LaneValue ClosedValue → Type 0
 OpensAs place path slots draws (Ok m) = LaneBegins place path slots draws m
 OpensAs place path slots draws (Err c) = GaveNothing place path draws c × (c.refused ≢ None)
 
@@ -34,9 +34,9 @@ abbrev pub lent_to : ℕ → HandValue Share → HandValue Share
 lent_to count share = with_view share (record whole_share { splits = count; out = count })
 
 -- all lanes of the region of this number of the task `at` begin
-pub record AreLanes (place : LogPlace) (at : List Step) (number span : ℕ) (slots : List ℤ) (share : HandValue Share) (members : List MemberValue) : Type 0 where
+pub record AreLanes (place : LogPlace) (at : List Step) (number span : ℕ) (slots : List ℤ) (share : HandValue Share) (members : List LaneValue) : Type 0 where
   pub count : length members ≡ span
-  pub each : (k : ℕ) (d : MemberValue) → k < span → LaneBegins place (lane_of at number k span) slots (lent_hand share) (slice_index_or members k d)
+  pub each : (k : ℕ) (d : LaneValue) → k < span → LaneBegins place (lane_of at number k span) slots (lent_hand share) (slice_index_or members k d)
 
 -- none of them executed anything, and the log of one refused
 pub record AreTorn (place : LogPlace) (at : List Step) (number span : ℕ) (share : HandValue Share) (lanes : List ClosedValue) : Type 0 where
@@ -47,17 +47,17 @@ pub record AreTorn (place : LogPlace) (at : List Step) (number span : ℕ) (shar
   pub refused : (d : ClosedValue) → (slice_index_or lanes torn d).refused ≢ None
 
 -- all logs were opened
-abbrev pub AllOpen : List (Result MemberValue ClosedValue) → Type 0
-AllOpen opened = (k : ℕ) (d : Result MemberValue ClosedValue) → k < length opened → IsOk (slice_index_or opened k d)
+abbrev pub AllOpen : List (Result LaneValue ClosedValue) → Type 0
+AllOpen opened = (k : ℕ) (d : Result LaneValue ClosedValue) → k < length opened → IsOk (slice_index_or opened k d)
 
 -- one refused
-pub record OneTorn (opened : List (Result MemberValue ClosedValue)) : Type 0 where
+pub record OneTorn (opened : List (Result LaneValue ClosedValue)) : Type 0 where
   pub torn : ℕ
   pub within : torn < length opened
-  pub refused : (d : Result MemberValue ClosedValue) → IsErr (slice_index_or opened torn d)
+  pub refused : (d : Result LaneValue ClosedValue) → IsErr (slice_index_or opened torn d)
 
 -- a lane whose log was opened and closed, or refused
-abbrev pub ClosesAs : Result MemberValue ClosedValue → ClosedValue → Type 0
+abbrev pub ClosesAs : Result LaneValue ClosedValue → ClosedValue → Type 0
 ClosesAs (Ok m) c =
     (c.path ≡ m.path) × IsClosedAs c.own c.refused m.path m.at.buffer × (c.below ≡ m.at.done) × (c.draws ≡ m.at.tally.draws) × (c.halt ≡ m.halt)
 ClosesAs (Err torn) c = c ≡ torn

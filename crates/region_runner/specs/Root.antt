@@ -17,18 +17,18 @@ use Rattle.sw_base.specs.declared.trouble.Trouble.TheVariants.{Memory}
 use Rattle.lane_runner.specs.Fitting.{WorkFits}
 use Rattle.lane_runner.specs.Forking.{Answer, stop_in}
 use Rattle.lane_runner.specs.Handed.{AreFew, Entry, LogPlace, TaskHands, TellStop}
-use Rattle.region_runner.specs.Crew.{CrewValue}
+use Rattle.region_runner.specs.Crew.{CrewValue, world_of}
 use Rattle.region_runner.specs.Gathering.{ClosedValue, LaneGave, TookIn, answer_for}
-use Rattle.region_runner.specs.Member.{MemberValue, WentOn, with_hand}
+use Rattle.lane_runner.specs.Lane.{LaneValue, WentOn, with_hand}
 use Rattle.region_runner.specs.Opening.{ClosesAs}
 use Rattle.region_runner.specs.Stopping.{StopsTask, stop_of}
 use Rattle.region_runner.specs.Team.{DidWork}
 use Rattle.region_runner.specs.declared.gathering.Verdict.{Verdict}
 
 -- The root executed its only phase with this hand, put its End, if it went on so far, and its log was closed.
-pub record RootClosed (crew : CrewValue) (items : List Item) (line : ℕ) (old new : HandValue View) (root : MemberValue) (c : ClosedValue) : Type 0 where
-  pub after : MemberValue
-  pub went : WentOn crew items (Some line) 0 (with_hand root old) after
+pub record RootClosed (crew : CrewValue) (items : List Item) (line : ℕ) (old new : HandValue View) (root : LaneValue) (c : ClosedValue) : Type 0 where
+  pub after : LaneValue
+  pub went : WentOn (world_of crew 0) items (Some line) (with_hand root old) after
   pub hand : new ≡ after.at.hand
   pub closes : ClosesAs (Ok after) c
 

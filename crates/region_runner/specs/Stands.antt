@@ -16,9 +16,9 @@ use Rattle.lane_runner.specs.declared.stop.Halt.{Halt}
 use Rattle.lane_runner.specs.Going.{IsSameLog, Progress, site}
 use Rattle.region_runner.specs.Crew.{CrewValue, world_of}
 use Rattle.region_runner.specs.Gathering.{ClosedValue}
-use Rattle.region_runner.specs.Hands.{joined_with, parted_for}
+use Rattle.region_runner.specs.Hands.{joined_with, lane_hand, parted_for}
 use Rattle.region_runner.specs.Opening.{ClosesAs}
-use Rattle.region_runner.specs.Member.{IsWithoutHand, MemberValue, WentOn, answer_of, hand_view, lane_hand, with_hand}
+use Rattle.lane_runner.specs.Lane.{IsWithoutHand, LaneValue, WentOn, answer_of, hand_view, with_hand}
 use Rattle.region_runner.specs.Ran.{TaskGoes, TakesUp, task_part}
 use Rattle.region_runner.specs.Team.{DidPhases}
 
@@ -30,20 +30,20 @@ pub record MayStep (crew : CrewValue) (p : Progress) : Type 0 where
   pub forks : p.tally.forked ≤ p.buffer.count
 
 -- and it has the counters for the items of a phase
-pub record MayGoOn (crew : CrewValue) (items : List Item) (m : MemberValue) : Type 0 where
+pub record MayGoOn (crew : CrewValue) (items : List Item) (m : LaneValue) : Type 0 where
   pub going : m.halt ≡ None
   pub may : MayStep crew m.at
   pub counters : m.at.tally.next_loop + drawn_count (map part_of items) ≤ crew.chunks.loops
 
 -- The lanes of the team executed a phase: each with a hand of its own, and all hands are home.
-pub record RanPhase (crew : CrewValue) (items : List Item) (end : Option ℕ) (old new : HandValue View) (before after : List MemberValue) : Type 0 where
-  pub mid : List MemberValue
+pub record RanPhase (crew : CrewValue) (items : List Item) (end : Option ℕ) (old new : HandValue View) (before after : List LaneValue) : Type 0 where
+  pub mid : List LaneValue
   pub mid_count : length mid ≡ length before
-  pub went : (k : ℕ) (d : MemberValue) → k < length before → WentOn crew items end k (with_hand (slice_index_or before k d) (lane_hand old k)) (slice_index_or mid k d)
+  pub went : (k : ℕ) (d : LaneValue) → k < length before → WentOn (world_of crew k) items end (with_hand (slice_index_or before k d) (lane_hand old k)) (slice_index_or mid k d)
   pub rests : IsAtRest old.view
   pub hand : new ≡ with_view old (joined_with (map hand_view mid) (parted_for 0 crew.span crew.span old.view))
   pub count : length after ≡ length before
-  pub same : (k : ℕ) (d : MemberValue) → k < length before → IsWithoutHand (slice_index_or mid k d) (slice_index_or after k d)
+  pub same : (k : ℕ) (d : LaneValue) → k < length before → IsWithoutHand (slice_index_or mid k d) (slice_index_or after k d)
 
 -- the records that a lane put in phases
 abbrev pub put_in : ℕ → Phases → List Record
@@ -58,7 +58,7 @@ pub record IsBehind (done : List (List Item)) (bars : ℕ) : Type 0 where
 
 -- A lane, which was `start` before all phases, stands after these, and after its End, if it put one: who goes on has passed all
 -- barriers, and who doesn't hasn't passed that of the last phase.
-pub record LaneStands (crew : CrewValue) (start : MemberValue) (done : List (List Item)) (end : Option ℕ) (phases : Phases) (lane : ℕ) (m : MemberValue) : Type 0 where
+pub record LaneStands (crew : CrewValue) (start : LaneValue) (done : List (List Item)) (end : Option ℕ) (phases : Phases) (lane : ℕ) (m : LaneValue) : Type 0 where
   pub path : m.path ≡ start.path
   pub last : Progress
   pub up : TakesUp last m.at
@@ -71,17 +71,17 @@ pub record LaneStands (crew : CrewValue) (start : MemberValue) (done : List (Lis
   pub behind : (h : Halt) → m.halt ≡ Some h → IsBehind done (barrier_count (put_in lane phases))
 
 -- so do all lanes of a team, and their hands are home
-pub record TeamStands (crew : CrewValue) (done : List (List Item)) (end : Option ℕ) (phases : Phases) (old new : HandValue View) (before after : List MemberValue) : Type 0 where
+pub record TeamStands (crew : CrewValue) (done : List (List Item)) (end : Option ℕ) (phases : Phases) (old new : HandValue View) (before after : List LaneValue) : Type 0 where
   pub count : length after ≡ crew.span
   pub did : DidPhases crew.arrays crew.span old new phases
-  pub lanes : (k : ℕ) (d : MemberValue) → k < crew.span → LaneStands crew (slice_index_or before k d) done end phases k (slice_index_or after k d)
+  pub lanes : (k : ℕ) (d : LaneValue) → k < crew.span → LaneStands crew (slice_index_or before k d) done end phases k (slice_index_or after k d)
 
 -- all lanes go on
-abbrev pub AllGo : List MemberValue → Type 0
-AllGo members = (k : ℕ) (d : MemberValue) → k < length members → (slice_index_or members k d).halt ≡ None
+abbrev pub AllGo : List LaneValue → Type 0
+AllGo members = (k : ℕ) (d : LaneValue) → k < length members → (slice_index_or members k d).halt ≡ None
 
 -- The lane has executed no phase yet: it has drawn from no counter, forked no region, and put no record.
-pub record IsFresh (crew : CrewValue) (m : MemberValue) : Type 0 where
+pub record IsFresh (crew : CrewValue) (m : LaneValue) : Type 0 where
   pub going : m.halt ≡ None
   pub may : MayStep crew m.at
   pub no_loop : m.at.tally.next_loop ≡ 0
@@ -94,7 +94,7 @@ pub record HasLastBar (done : List (List Item)) : Type 0 where
   pub bar : bar_count (map part_of last) ≡ 1
 
 -- The lanes of a team executed its phases, until one didn't go on. After all of them each that did put its End, at this line.
-pub record TeamRan (crew : CrewValue) (items : List (List Item)) (line : ℕ) (old new : HandValue View) (before after : List MemberValue) : Type 0 where
+pub record TeamRan (crew : CrewValue) (items : List (List Item)) (line : ℕ) (old new : HandValue View) (before after : List LaneValue) : Type 0 where
   pub done : List (List Item)
   pub left : List (List Item)
   pub is : items ≡ done ++ left
@@ -106,8 +106,8 @@ pub record TeamRan (crew : CrewValue) (items : List (List Item)) (line : ℕ) (o
   pub early : end ≡ None → HasLastBar done
 
 -- The lanes of a team executed its phases, and their logs were closed.
-pub record TeamClosed (crew : CrewValue) (items : List (List Item)) (line : ℕ) (old new : HandValue View) (before : List MemberValue) (lanes : List ClosedValue) : Type 0 where
-  pub after : List MemberValue
+pub record TeamClosed (crew : CrewValue) (items : List (List Item)) (line : ℕ) (old new : HandValue View) (before : List LaneValue) (lanes : List ClosedValue) : Type 0 where
+  pub after : List LaneValue
   pub ran : TeamRan crew items line old new before after
   pub count : length lanes ≡ crew.span
-  pub closes : (k : ℕ) (d : MemberValue) (e : ClosedValue) → k < crew.span → ClosesAs (Ok (slice_index_or after k d)) (slice_index_or lanes k e)
+  pub closes : (k : ℕ) (d : LaneValue) (e : ClosedValue) → k < crew.span → ClosesAs (Ok (slice_index_or after k d)) (slice_index_or lanes k e)

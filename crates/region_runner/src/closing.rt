@@ -4,8 +4,7 @@ ghost use Rattle.std.specs.Vec.{vec_capacity, vec_len};
 ghost use Rattle.region_runner.specs.Closing.{IsClosedAs};
 ghost use Rattle.region_runner.specs.Opening.{ClosesAs};
 
-use crate::member::Member;
-use lane_runner::Halt;
+use lane_runner::{Halt, Lane};
 use shared_words::ChunkHand;
 use std::alloc::Global;
 use std::marker::Model;
@@ -39,7 +38,7 @@ impl<L: Log> Model for Closed<L> {
 }
 
 // Closes the log of a lane.
-pub(crate) fn close<L: Log>(alloc: Global, member: Member<L>) -> Closed<L>
+pub(crate) fn close<L: Log>(alloc: Global, member: Lane<L>) -> Closed<L>
     ensures path { result.path ≡ member.path }
     ensures closed { IsClosedAs result.own result.refused member.path member.at.buffer }
     ensures below { result.below ≡ member.at.done }
@@ -70,7 +69,7 @@ pub(crate) fn close<L: Log>(alloc: Global, member: Member<L>) -> Closed<L>
 // Closes the logs of all lanes, for which there is room.
 pub(crate) fn close_all<L: Log>(
     alloc: Global,
-    members: Vec<Member<L>>,
+    members: Vec<Lane<L>>,
     room: Vec<Closed<L>>,
 ) -> Vec<Closed<L>>
     requires empty { room.items ≡ [] }

@@ -2,10 +2,10 @@
 ghost use Rattle.std.specs.Prelude.{◌≡◌, ◌<◌, ◌≤◌, ℕ, length, map, slice_index_or};
 ghost use Rattle.shared_words.specs.Handles.{Belongs, with_view};
 ghost use Rattle.shared_words.specs.Views.{IsAtRest};
-ghost use Rattle.region_runner.specs.Hands.{parted_for, joined_with};
-ghost use Rattle.region_runner.specs.Member.{IsLaneHand, IsWithoutHand, hand_view, lane_hand, with_hand};
+ghost use Rattle.region_runner.specs.Hands.{IsLaneHand, joined_with, lane_hand, parted_for};
+ghost use Rattle.lane_runner.specs.Lane.{IsWithoutHand, hand_view, with_hand};
 
-use crate::member::Member;
+use lane_runner::Lane;
 use shared_words::{Hand, Words};
 use sw_base::Log;
 
@@ -13,7 +13,7 @@ use sw_base::Log;
 pub(crate) fn split_hands<L: Log>(
     words: &Words,
     hand: &mut Hand,
-    members: &mut [Member<L>],
+    members: &mut [Lane<L>],
     span: u16,
 )
     requires belongs { Belongs hand.old words.now.table }
@@ -32,7 +32,7 @@ pub(crate) fn split_hands<L: Log>(
 }
 
 // The hands of all lanes are joined to this one, in the order of the lanes.
-pub(crate) fn join_hands<L: Log>(words: &Words, hand: &mut Hand, members: &mut [Member<L>])
+pub(crate) fn join_hands<L: Log>(words: &Words, hand: &mut Hand, members: &mut [Lane<L>])
     requires belongs { Belongs hand.old words.now.table }
     requires home { (i : ℕ) (d : _) → i < length members.old → IsLaneHand words.now.table hand.old.view.name (slice_index_or members.old i d).at.hand }
     ensures hand { hand.new ≡ with_view hand.old (joined_with (map hand_view members.old) hand.old.view) }

@@ -2,7 +2,7 @@
 //!
 //! `run_kernel` makes the shared words and runs the root (`root`), which is one task without a team. A region that a task forks
 //! (`region`) opens the logs of its lanes (`opening`), runs its phases one after another, in each of them every lane on a thread of
-//! its own (`member`) with a hand of its own, which is split off for the phase and joined after it (`handing`); the regions that a
+//! its own, with a hand of its own, which is split off for the phase and joined after it (`handing`); the regions that a
 //! lane forks run in turn; and in the end the logs are closed (`closing`) and handed on (`gathering`).
 //!
 //! What is told of a run that ended: its logs are those of the kernel's tasks, each with its whole trace under the values that it read,
@@ -30,7 +30,6 @@ mod handing;
 mod hands;
 mod listing;
 mod loops;
-mod member;
 mod opening;
 mod region;
 mod root;

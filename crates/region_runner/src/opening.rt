@@ -7,15 +7,15 @@ ghost use Rattle.shared_words.specs.Draws.{whole_share};
 ghost use Rattle.shared_words.specs.Handles.{Belongs};
 ghost use Rattle.lane_runner.specs.Handed.{entry_of, place_of};
 ghost use Rattle.lane_runner.specs.Children.{AreNewLogs};
+ghost use Rattle.lane_runner.specs.Lane.{IsLanePath};
 ghost use Rattle.region_runner.specs.Answer.{IsBufferSize};
 ghost use Rattle.region_runner.specs.Ground.{AreLanesLogs};
 ghost use Rattle.region_runner.specs.Opening.{AllOpen, ClosesAs, OneTorn, OpensAs, OpensTeam, lent_hand, lent_to};
 
 use crate::closing::{Closed, close};
 use crate::ground::Ground;
-use crate::member::Member;
 use event_buffer::Buffer;
-use lane_runner::{Lane, Locals, Track};
+use lane_runner::{Frame, Lane, Locals, Track};
 use shared_words::{ChunkHand, Chunks, Hand};
 use std::alloc::Global;
 use sw_base::{Gate, Log, Path, Trouble};
@@ -23,7 +23,7 @@ use sw_base::{Gate, Log, Path, Trouble};
 // The lanes of a team, which begin; or what they gave, where the log of one refused; or nothing, where no memory was found for them.
 #[derive(Drop)]
 pub(crate) enum Opened<L: Log> {
-    Team(Vec<Member<L>>),
+    Team(Vec<Lane<L>>),
     Torn(Vec<Closed<L>>),
     Nothing,
 }
@@ -56,8 +56,9 @@ pub(crate) fn open_lane<L: Log>(
     locals: &Locals,
     draws: ChunkHand,
     log: L,
-) -> Result<Member<L>, Closed<L>>
+) -> Result<Lane<L>, Closed<L>>
     requires size { IsBufferSize size }
+    requires lane { IsLanePath path }
     requires path { L.path log ≡ path }
     requires empty { WhereTold (L.text log) (λ text. text ≡ empty_text) }
     requires no_faults { L.faults log ≡ 0 }
@@ -70,7 +71,7 @@ pub(crate) fn open_lane<L: Log>(
         Ok(buffer) => {
             let track = Track::new(alloc, Hand::blank(), buffer, draws);
             let locals = Locals { slots };
-            Ok(Member::new(path, Lane { locals, track }))
+            Ok(Lane::new(path, Frame { locals, track }))
         }
         Err((trouble, log)) => Err(torn(alloc, path, log, draws, trouble)),
     }
@@ -87,7 +88,7 @@ fn open_all<L: Log, G: Gate>(
     chunks: &Chunks,
     share: &mut ChunkHand,
     logs: Vec<L>,
-) -> Option<Vec<Result<Member<L>, Closed<L>>>>
+) -> Option<Vec<Result<Lane<L>, Closed<L>>>>
     requires depth { length at.now < 4 }
     requires span { span ≤ 64 }
     requires share { Belongs share.old chunks.now.table }
@@ -113,7 +114,7 @@ fn open_all<L: Log, G: Gate>(
 }
 
 // Whether all logs were opened.
-fn all_open<L: Log>(opened: &[Result<Member<L>, Closed<L>>]) -> bool
+fn all_open<L: Log>(opened: &[Result<Lane<L>, Closed<L>>]) -> bool
     ensures all { result ≡ true → AllOpen opened.now }
     ensures some { result ≡ false → OneTorn opened.now }
 {
@@ -126,10 +127,7 @@ fn all_open<L: Log>(opened: &[Result<Member<L>, Closed<L>>]) -> bool
 }
 
 // The lanes, all of whose logs were opened.
-fn lanes_of<L: Log>(
-    alloc: Global,
-    opened: Vec<Result<Member<L>, Closed<L>>>,
-) -> Option<Vec<Member<L>>>
+fn lanes_of<L: Log>(alloc: Global, opened: Vec<Result<Lane<L>, Closed<L>>>) -> Option<Vec<Lane<L>>>
     requires { AllOpen opened.items }
     ensures { IfSome result (λ members. opened.items ≡ map (λ m. Ok m) members.items) }
 {
@@ -144,7 +142,7 @@ fn lanes_of<L: Log>(
 // What the lanes gave, none of which executed anything.
 fn closed_of<L: Log>(
     alloc: Global,
-    opened: Vec<Result<Member<L>, Closed<L>>>,
+    opened: Vec<Result<Lane<L>, Closed<L>>>,
 ) -> Option<Vec<Closed<L>>>
     ensures { IfSome result (λ lanes. (length lanes.items ≡ length opened.items)
         × ((k : ℕ) (d : _) (e : _) → k < length opened.items → ClosesAs (slice_index_or opened.items k d) (slice_index_or lanes.items k e))) }

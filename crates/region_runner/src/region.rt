@@ -9,11 +9,12 @@ ghost use Rattle.lane_runner.specs.Children.{AreNewLogs};
 ghost use Rattle.lane_runner.specs.Forking.{IsReady, RanRegion};
 ghost use Rattle.lane_runner.specs.Handed.{entries_of};
 ghost use Rattle.lane_runner.specs.World.{WorldValue};
+ghost use Rattle.region_runner.specs.Crew.{world_of};
 ghost use Rattle.region_runner.specs.Ground.{AreLanesLogs, IsMemberOf, IsOurPhase, IsOurTeam, crew_of};
 ghost use Rattle.kernel_model.specs.Parts.{drawn_count};
 ghost use Rattle.kernel_model.specs.Phases.{AreDivided, parts_in};
 ghost use Rattle.shared_words.specs.Handles.{Belongs};
-ghost use Rattle.region_runner.specs.Member.{CanGoOn, IsLast, WentOn};
+ghost use Rattle.lane_runner.specs.Lane.{CanGoOn, IsLast, WentOn};
 ghost use Rattle.region_runner.specs.Stands.{AllGo, IsFresh, MayGoOn, RanPhase, TeamClosed, TeamRan};
 
 use crate::closing::{Closed, close_all};
@@ -22,11 +23,10 @@ use crate::gathering::gather;
 use crate::ground::Ground;
 use crate::handing::{join_hands, split_hands};
 use crate::loops::drawn_in;
-use crate::member::Member;
 use crate::opening::{Opened, open};
 use kernel_model::{Phase, phases};
 use kernel_syntax::Team;
-use lane_runner::{Locals, Stop};
+use lane_runner::{Lane, Locals, Stop};
 use shared_words::{Chunks, Hand};
 use std::alloc::Global;
 use std::sync::Wait;
@@ -45,7 +45,7 @@ pub(crate) fn run_task<R: Threads + Wait + Sync, L: Log, G: Gate>(
     phase: &Phase<'_>,
     end: Option<u32>,
     lane: usize,
-    member: &mut Member<L>,
+    member: &mut Lane<L>,
 )
     requires crew { crew.now ≡ crew_of ground.now crew.now.chunks crew.now.span }
     requires number { crew.now.chunks.loops < 4294967296 }
@@ -53,18 +53,18 @@ pub(crate) fn run_task<R: Threads + Wait + Sync, L: Log, G: Gate>(
     requires phase { IsOurPhase ground.now (4 - depth) phase.now }
     requires last { (line : ℕ) → end ≡ Some line → IsLast phase.now line }
     requires lane { lane < crew.now.span }
-    requires can { CanGoOn crew.now phase.now lane member.old }
+    requires can { CanGoOn (world_of crew.now lane) phase.now member.old }
     requires own { IsMemberOf ground.now depth member.old }
-    ensures went { WentOn crew.now phase.now end lane member.old member.new }
+    ensures went { WentOn (world_of crew.now lane) phase.now end member.old member.new }
 {
     let path = member.path();
-    member.go(
+    let world = crew.world(lane as u16);
+    member.run_phase(
         phase,
         end,
-        lane as u16,
         rt,
         alloc,
-        crew,
+        &world,
         &|hand: &mut Hand, locals: &Locals, number: u32, logs: Vec<L>, team: &Team, done: &mut Vec<
             (Path, L, u32),
         >| -> Result<(), (Path, Stop)>
@@ -107,7 +107,7 @@ fn run_lanes<R: Threads + Wait + Sync, L: Log, G: Gate>(
     crew: &Crew<'_>,
     phase: &Phase<'_>,
     end: Option<u32>,
-    members: &mut [Member<L>],
+    members: &mut [Lane<L>],
 )
     requires crew { crew.now ≡ crew_of ground.now crew.now.chunks crew.now.span }
     requires number { crew.now.chunks.loops < 4294967296 }
@@ -116,17 +116,17 @@ fn run_lanes<R: Threads + Wait + Sync, L: Log, G: Gate>(
     requires last { (line : ℕ) → end ≡ Some line → IsLast phase.now line }
     requires count { length members.old ≡ crew.now.span }
     requires some { 1 ≤ crew.now.span }
-    requires can { (i : ℕ) (d : _) → i < length members.old → CanGoOn crew.now phase.now i (slice_index_or members.old i d) }
+    requires can { (i : ℕ) (d : _) → i < length members.old → CanGoOn (world_of crew.now i) phase.now (slice_index_or members.old i d) }
     requires own { (i : ℕ) (d : _) → i < length members.old → IsMemberOf ground.now depth (slice_index_or members.old i d) }
     ensures count { length members.new ≡ length members.old }
-    ensures went { (i : ℕ) (d : _) → i < length members.old → WentOn crew.now phase.now end i (slice_index_or members.old i d) (slice_index_or members.new i d) }
+    ensures went { (i : ℕ) (d : _) → i < length members.old → WentOn (world_of crew.now i) phase.now end (slice_index_or members.old i d) (slice_index_or members.new i d) }
 {
     let count = members.len();
     thread::for_each_mut(
         rt,
         members,
         count,
-        &|lane: usize, member: &mut Member<L>|
+        &|lane: usize, member: &mut Lane<L>|
             requires sync { IsSync R.row × IsSend L.row }
             requires crew { crew.now ≡ crew_of ground.now crew.now.chunks crew.now.span }
             requires number { crew.now.chunks.loops < 4294967296 }
@@ -134,9 +134,9 @@ fn run_lanes<R: Threads + Wait + Sync, L: Log, G: Gate>(
             requires phase { IsOurPhase ground.now (4 - depth) phase.now }
             requires last { (line : ℕ) → end ≡ Some line → IsLast phase.now line }
             requires lane { lane < crew.now.span }
-            requires can { CanGoOn crew.now phase.now lane member.old }
+            requires can { CanGoOn (world_of crew.now lane) phase.now member.old }
             requires own { IsMemberOf ground.now depth member.old }
-            ensures went { WentOn crew.entry.now phase.entry.now end lane member.old member.new }
+            ensures went { WentOn (world_of crew.entry.now lane) phase.entry.now end member.old member.new }
         {
             ground.enter(lane);
             run_task(rt, alloc, depth, ground, crew, phase, end, lane, member);
@@ -155,7 +155,7 @@ fn run_phase<R: Threads + Wait + Sync, L: Log, G: Gate>(
     phase: &Phase<'_>,
     end: Option<u32>,
     hand: &mut Hand,
-    members: &mut [Member<L>],
+    members: &mut [Lane<L>],
 )
     requires crew { crew.now ≡ crew_of ground.now crew.now.chunks crew.now.span }
     requires number { crew.now.chunks.loops < 4294967296 }
@@ -176,7 +176,7 @@ fn run_phase<R: Threads + Wait + Sync, L: Log, G: Gate>(
 }
 
 // Whether each lane goes on.
-fn all_go<L: Log>(members: &[Member<L>]) -> bool
+fn all_go<L: Log>(members: &[Lane<L>]) -> bool
     ensures all { result ≡ true → AllGo members.now }
     ensures some { result ≡ false → AllGo members.now → ⊥ }
 {
@@ -199,7 +199,7 @@ fn run_phases<R: Threads + Wait + Sync, L: Log, G: Gate>(
     phases: &[Phase<'_>],
     end: u32,
     hand: &mut Hand,
-    members: &mut [Member<L>],
+    members: &mut [Lane<L>],
 )
     requires crew { crew.now ≡ crew_of ground.now crew.now.chunks crew.now.span }
     requires number { crew.now.chunks.loops < 4294967296 }
@@ -249,7 +249,7 @@ fn run_team<R: Threads + Wait + Sync, L: Log, G: Gate>(
     phases: &[Phase<'_>],
     end: u32,
     hand: &mut Hand,
-    members: Vec<Member<L>>,
+    members: Vec<Lane<L>>,
     room: Vec<Closed<L>>,
 ) -> Vec<Closed<L>>
     requires crew { crew.now ≡ crew_of ground.now crew.now.chunks crew.now.span }

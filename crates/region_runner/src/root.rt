@@ -9,19 +9,18 @@ ghost use Rattle.kernel_model.specs.Phases.{part_of};
 ghost use Rattle.lane_runner.specs.Forking.{IsReady};
 ghost use Rattle.lane_runner.specs.Handed.{entries_of};
 ghost use Rattle.region_runner.specs.Ground.{IsMemberOf, IsOurPhase, crew_of};
-ghost use Rattle.region_runner.specs.Member.{IsLast};
+ghost use Rattle.lane_runner.specs.Lane.{IsLast};
 ghost use Rattle.region_runner.specs.Root.{IsSettled, RanRoot, RootClosed};
 ghost use Rattle.region_runner.specs.Stands.{IsFresh};
 
 use crate::closing::{Closed, close};
 use crate::gathering::keep;
 use crate::ground::Ground;
-use crate::member::Member;
 use crate::opening::open_lane;
 use crate::region::run_task;
 use kernel_model::{Phase, phases};
 use kernel_syntax::Kernel;
-use lane_runner::{Locals, Stop};
+use lane_runner::{Lane, Locals, Stop};
 use shared_words::{Chunks, Hand};
 use std::alloc::{AllocError, Global};
 use std::mem;
@@ -47,7 +46,7 @@ fn execute<R: Threads + Wait + Sync, L: Log, G: Gate>(
     phase: &Phase<'_>,
     end: u32,
     hand: &mut Hand,
-    root: Member<L>,
+    root: Lane<L>,
 ) -> Closed<L>
     requires number { chunks.now.loops ≡ 0 }
     requires phase { IsOurPhase ground.now 0 phase.now }

@@ -4,7 +4,7 @@ use Rattle.std.proofs.lemmas.List.{length_push, map-id}
 use Rattle.std.proofs.lemmas.Iterator.Adapters.{YieldsList-from_vec}
 use Rattle.std.proofs.lemmas.Iterator.Consumers.{YieldsList-turn, YieldsList-end}
 use Rattle.region_runner.specs.Gathering.{ClosedValue}
-use Rattle.region_runner.specs.Member.{MemberValue}
+use Rattle.lane_runner.specs.Lane.{LaneValue}
 use Rattle.region_runner.specs.Opening.{ClosesAs}
 use Rattle.region_runner.proofs.Pointwise.{push_both}
 use Rattle.region_runner.proofs.closing.close_all.Goals as goal
@@ -38,7 +38,7 @@ loop-member-preserved g c =
       room = let wide = c.push.ensures.capacity in let room = c.loop-member.invariant.room in omega (arith, wide, room);
       count = omega (arith, c.loop-member.invariant.count, length_push c.loop-member.yielded c.in-Some.member, ap (λ (xs : List ClosedValue). length xs) pushed, length_push c.loop-member.lanes.items c.close.result);
       each = rw (pushed)
-          (push_both (λ (m : MemberValue) (lane : ClosedValue). ClosesAs (Ok m) lane) c.loop-member.yielded c.loop-member.lanes.items c.in-Some.member c.close.result c.loop-member.invariant.count c.loop-member.invariant.each
+          (push_both (λ (m : LaneValue) (lane : ClosedValue). ClosesAs (Ok m) lane) c.loop-member.yielded c.loop-member.lanes.items c.in-Some.member c.close.result c.loop-member.invariant.count c.loop-member.invariant.each
           (e.path, e.closed, e.below, e.draws, e.halt));
     }
 

@@ -1,5 +1,5 @@
 use Rattle.std.proofs.Common.{◌≡◌, ◌<◌, ◌≤◌, ℕ, length, slice_index_or, drop, map}
-use Rattle.region_runner.specs.Member.{IsWithoutHand, hand_view}
+use Rattle.lane_runner.specs.Lane.{IsWithoutHand, hand_view}
 use Rattle.region_runner.proofs.SplitHands.{HasJoined}
 use Rattle.region_runner.proofs.handing.join_hands.Given as goal
 

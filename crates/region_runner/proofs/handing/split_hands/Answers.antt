@@ -1,6 +1,7 @@
 use Rattle.std.proofs.Common.{rules, ◌≡◌, ◌<◌, ℕ, length, slice_index_or, ◌+◌, ap, sym, ◌∙◌, subst, refl, arith}
 use Rattle.std.proofs.lemmas.List.{get_or_default}
-use Rattle.region_runner.specs.Member.{with_hand, lane_hand}
+use Rattle.lane_runner.specs.Lane.{with_hand}
+use Rattle.region_runner.specs.Hands.{lane_hand}
 use Rattle.region_runner.proofs.Pointwise.{set_below, set_above}
 use Rattle.region_runner.proofs.SplitHands.{HasSplit, split_none, split_more, split_next, split_all}
 use Rattle.region_runner.proofs.handing.split_hands.Goals as goal

@@ -1,5 +1,6 @@
 use Rattle.std.proofs.Common.{◌≡◌, ◌<◌, ◌≤◌, ℕ, length, slice_index_or}
-use Rattle.region_runner.specs.Member.{with_hand, lane_hand}
+use Rattle.lane_runner.specs.Lane.{with_hand}
+use Rattle.region_runner.specs.Hands.{lane_hand}
 use Rattle.region_runner.proofs.SplitHands.{HasSplit}
 use Rattle.region_runner.proofs.handing.split_hands.Given as goal
 

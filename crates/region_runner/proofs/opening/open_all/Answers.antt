@@ -10,7 +10,8 @@ use Rattle.shared_words.specs.Handles.{Belongs, HandValue}
 use Rattle.lane_runner.specs.Children.{IsNewLog, LogView}
 use Rattle.lane_runner.specs.Handed.{LogPlace, place_of}
 use Rattle.region_runner.specs.Gathering.{ClosedValue}
-use Rattle.region_runner.specs.Member.{MemberValue}
+use Rattle.lane_runner.specs.Lane.{IsLanePath, LaneValue}
+use Rattle.lane_runner.proofs.LanePaths.{lane_path}
 use Rattle.region_runner.specs.Opening.{OpensAs, lent_hand, lent_to}
 use Rattle.region_runner.proofs.OpenedLanes.{lent_more, lent_same, opens_more}
 use Rattle.region_runner.proofs.opening.open_all.Goals as goal
@@ -18,7 +19,7 @@ use Rattle.region_runner.proofs.opening.open_all.Goals as goal
 pub loop-log-init : goal.loop-log-init
 loop-log-init g c = record {
   lane = refl;
-  count = ap (λ (xs : List (Result MemberValue ClosedValue)). length xs) c.new-opened.ensures.items;
+  count = ap (λ (xs : List (Result LaneValue ClosedValue)). length xs) c.new-opened.ensures.items;
   share = λ i. record { table = c.args.share.now.table; there = c.requires.share.there i; view = c.requires.whole i };
   opens = λ task path_is size_is new k d less. absurd (omega (arith, less));
 }
@@ -41,6 +42,14 @@ split-draws-requires-clause-splits g c =
 
 pub open_lane-requires-clause-size : goal.open_lane-requires-clause-size
 open_lane-requires-clause-size g c κs within = c.size.ensures.bounds
+
+pub open_lane-requires-clause-lane : goal.open_lane-requires-clause-lane
+open_lane-requires-clause-lane g c κs within =
+    let turn = YieldsList-turn (YieldsList-from_vec {s = c.into_iter-log-iterator.result} c.args.logs.items (search rules) (search rules)) c.loop-log.yielded c.loop-log.log-iterator c.loop-log.yielded_by c.next.result c.next.new.self c.in-Some.log c.in-Some.is c.next.ensures.steps in
+    let lane = c.loop-log.invariant.lane in
+    let count = c.requires.logs.new.count in
+    let inside = turn.0 in
+    subst IsLanePath (sym c.child-own.ensures) (lane_path c.args.at.now c.args.number c.loop-log.lane c.args.span (omega (arith, lane, count, inside)))
 
 pub open_lane-requires-clause-path : goal.open_lane-requires-clause-path
 open_lane-requires-clause-path g c κs within =
@@ -86,12 +95,12 @@ loop-log-preserved g c =
     let pushed : c.push.new.self.items ≡ c.loop-log.opened.items ++ c.open_lane.result ∷ [] = search rules in
     record {
       lane = ap (λ (n : ℕ). n + 1) c.loop-log.invariant.lane ∙ sym more;
-      count = ap (λ (xs : List (Result MemberValue ClosedValue)). length xs) pushed ∙ length_push c.loop-log.opened.items c.open_lane.result ∙ ap (λ (n : ℕ). n + 1) c.loop-log.invariant.count ∙ sym more;
+      count = ap (λ (xs : List (Result LaneValue ClosedValue)). length xs) pushed ∙ length_push c.loop-log.opened.items c.open_lane.result ∙ ap (λ (n : ℕ). n + 1) c.loop-log.invariant.count ∙ sym more;
       share =
           lent_more (length c.loop-log.yielded) c.args.share.now c.loop-log.share c.split-draws.new.hand c.loop-log.invariant.share c.split-draws.ensures.kept
           ∙ ap (λ (n : ℕ). lent_to n c.args.share.now) (sym more);
       opens = λ task path_is size_is new k d less.
-          subst (λ (xs : List (Result MemberValue ClosedValue)). OpensAs (place_of task) (lane_of c.args.at.now c.args.number k c.args.span) c.args.locals.now.slots.items (lent_hand c.args.share.now) (slice_index_or xs k d)) (sym pushed)
+          subst (λ (xs : List (Result LaneValue ClosedValue)). OpensAs (place_of task) (lane_of c.args.at.now c.args.number k c.args.span) c.args.locals.now.slots.items (lent_hand c.args.share.now) (slice_index_or xs k d)) (sym pushed)
           (opens_more (place_of task) c.args.at.now c.args.number c.args.span c.args.locals.now.slots.items (lent_hand c.args.share.now) (length c.loop-log.yielded) c.loop-log.opened.items c.open_lane.result c.loop-log.invariant.count
           (c.loop-log.invariant.opens task path_is size_is new)
           (let is_new : IsNewLog {T = g.row.L.Denot} seen task c.args.number c.args.span (length c.loop-log.yielded) c.in-Some.log =

@@ -9,10 +9,10 @@ use Rattle.region_runner.specs.Crew.{CrewValue, world_of}
 use Rattle.region_runner.specs.Lawful.{IsTeam, IsLawfulPhase}
 use Rattle.region_runner.proofs.Forks.{phase_forks}
 use Rattle.std.specs.Prelude.{slice_index_or, List, drop, Vec}
-use Rattle.region_runner.specs.Member.{CanGoOn, MemberValue, WentOn, IsLaneHand, hand_view, IsLast}
+use Rattle.lane_runner.specs.Lane.{CanGoOn, LaneValue, WentOn, hand_view, IsLast}
+use Rattle.region_runner.specs.Hands.{IsLaneHand, joined_with, parted_for}
 use Rattle.region_runner.specs.Ground.{IsMemberOf, IsOurPhase}
 use Rattle.shared_words.specs.declared.view.View.{View}
-use Rattle.region_runner.specs.Hands.{joined_with, parted_for}
 use Rattle.region_runner.proofs.PhaseHands.{can_go_on, comes_home, parted_name}
 use Rattle.std.proofs.lemmas.List.{take-append-drop}
 use Rattle.std.proofs.lemmas.Option.{same_Some}
@@ -43,14 +43,14 @@ use Rattle.region_runner.proofs.TeamRegion.{closed_region}
 use Rattle.region_runner.proofs.region.+region.Goals.{region-in-Team, region-in-Torn}
 use Rattle.region_runner.proofs.region.+region.Goals as goal
 
-pub run_task-go-requires-clause-runs : goal.run_task-go-requires-clause-runs
-run_task-go-requires-clause-runs g n c κs within =
+pub run_task-run_phase-requires-clause-runs : goal.run_task-run_phase-requires-clause-runs
+run_task-run_phase-requires-clause-runs g n c κs within =
     let own = c.requires.own in
-    let deep : length c.path-path.result + c.args.depth ≡ 4 = subst (λ (p : List Step). length p + c.args.depth ≡ 4) (sym c.path-path.ensures) own.deep in
+    let deep : length c.path-path.result + c.args.depth ≡ 4 = subst (λ (p : List Step). length p + c.args.depth ≡ 4) (sym c.path-path.ensures.is) own.deep in
     let in_log : length c.args.member.now.at.buffer.path ≡ length c.args.member.now.path = ap (λ (p : List Step). length p) own.path_is in
     let mutexes = c.requires.phase.mutexes in
     let seen : LogView g.row.L.Denot = record { dir = g.L.Log.dir; path = g.L.Log.path; text = g.L.Log.text; faults = g.L.Log.faults } in
-    phase_forks (world_of c.args.crew.now c.args.lane) _ _ _ c.args.member.now.at.buffer mutexes (4 - c.args.depth) c.args.phase.now c.requires.phase.lawful
+    phase_forks (world_of c.args.crew.now c.args.lane) _ _ _ _ c.args.member.now.at.buffer mutexes (4 - c.args.depth) c.args.phase.now c.world-world.ensures c.requires.phase.lawful
     (λ team inner. record {
       path = let d = own.deep in let i = inner.deeper in omega (arith, d, i, in_log);
       runs = record {
@@ -80,7 +80,7 @@ run_task-go-requires-clause-runs g n c κs within =
                           (
                             record {
                               task = c.args.member.now.at.buffer;
-                              path_is = own.path_is ∙ sym c.path-path.ensures;
+                              path_is = own.path_is ∙ sym c.path-path.ensures.is;
                               size_is = own.size_is;
                               new = subst (λ (t : TeamTree). AreNewLogs {T = g.row.L.Denot} seen c.args.member.now.at.buffer number t.span logs.items) (sym is) new;
                             },
@@ -97,7 +97,7 @@ run_task-go-requires-clause-runs g n c κs within =
         );
         ran = λ hand after locals number logs given done now_done r is ready new gives.
             subst (λ (t : TeamTree). RanRegion (world_of c.args.crew.now c.args.lane) t locals.now.slots.items c.args.member.now.at.buffer number hand.now after.now (entries_of {T = g.row.L.Denot} seen done.now.items) (entries_of {T = g.row.L.Denot} seen now_done.now.items) r) is
-            (gives.1 (world_of c.args.crew.now c.args.lane) c.args.member.now.at.buffer (ap (λ (v : CrewValue). v.arrays) c.requires.crew) (own.path_is ∙ sym c.path-path.ensures) own.size_is
+            (gives.1 (world_of c.args.crew.now c.args.lane) c.args.member.now.at.buffer (ap (λ (v : CrewValue). v.arrays) c.requires.crew) (own.path_is ∙ sym c.path-path.ensures.is) own.size_is
             (subst (λ (t : TeamTree). AreNewLogs {T = g.row.L.Denot} seen c.args.member.now.at.buffer number t.span logs.items) (sym is) new));
       };
     })
@@ -126,9 +126,9 @@ run_lanes-for_each_mut-requires-clause-accepts g n c κs within = λ i p less is
                     (
                       let count = c.requires.count in omega (arith, less, count),
                       (
-                        subst (λ (m : MemberValue). CanGoOn c.args.crew.now c.args.phase.now i m) (sym is) (c.requires.can i p.now less),
+                        subst (λ (m : LaneValue). CanGoOn (world_of c.args.crew.now i) c.args.phase.now m) (sym is) (c.requires.can i p.now less),
                         (
-                          subst (λ (m : MemberValue). IsMemberOf c.args.ground.now c.args.depth m) (sym is) (c.requires.own i p.now less),
+                          subst (λ (m : LaneValue). IsMemberOf c.args.ground.now c.args.depth m) (sym is) (c.requires.own i p.now less),
                           ((search rules), (search rules), (search rules)),
                         ),
                       ),
@@ -147,14 +147,14 @@ run_lanes-for_each_mut-requires-clause-accepts g n c κs within = λ i p less is
 pub run_lanes-returns-clause-went : goal.run_lanes-returns-clause-went
 run_lanes-returns-clause-went g n c = λ i d less.
     let e = (c.for_each_mut.ensures i d less).1 in
-    subst (λ (m : MemberValue). WentOn c.args.crew.now c.args.phase.now c.args.end i m (slice_index_or c.for_each_mut.new.s i d)) e.argument_is
-    (subst (λ (m : MemberValue). WentOn c.args.crew.now c.args.phase.now c.args.end i e.argument.now m) e.left e.call)
+    subst (λ (m : LaneValue). WentOn (world_of c.args.crew.now i) c.args.phase.now c.args.end m (slice_index_or c.for_each_mut.new.s i d)) e.argument_is
+    (subst (λ (m : LaneValue). WentOn (world_of c.args.crew.now i) c.args.phase.now c.args.end e.argument.now m) e.left e.call)
 
 pub run_phase-run_lanes-requires-clause-can : goal.run_phase-run_lanes-requires-clause-can
 run_phase-run_lanes-requires-clause-can g n c κs within = λ i d less.
     let inside : i < length c.args.members.now = let n = c.split_hands.ensures.count in let s = c.span.ensures in let m = c.requires.count in omega (arith, less, n, s, m) in
     let below : i < c.span.result = let s = c.span.ensures in let m = c.requires.count in omega (arith, inside, s, m) in
-    subst (λ (m : MemberValue). CanGoOn c.args.crew.now c.args.phase.now i m) (sym (c.split_hands.ensures.given i d below))
+    subst (λ (m : LaneValue). CanGoOn (world_of c.args.crew.now i) c.args.phase.now m) (sym (c.split_hands.ensures.given i d below))
     (can_go_on c.args.crew.now c.args.phase.now i c.args.hand.now (slice_index_or c.args.members.now i d) (subst (λ (v : CrewValue). Belongs c.args.hand.now v.words.table) (sym c.requires.crew) c.requires.belongs)
     (c.requires.can i d inside))
 
@@ -162,7 +162,7 @@ pub run_phase-run_lanes-requires-clause-own : goal.run_phase-run_lanes-requires-
 run_phase-run_lanes-requires-clause-own g n c κs within = λ i d less.
     let inside : i < length c.args.members.now = let n = c.split_hands.ensures.count in let s = c.span.ensures in let m = c.requires.count in omega (arith, less, n, s, m) in
     let below : i < c.span.result = let s = c.span.ensures in let m = c.requires.count in omega (arith, inside, s, m) in
-    subst (λ (m : MemberValue). IsMemberOf c.args.ground.now c.args.depth m) (sym (c.split_hands.ensures.given i d below))
+    subst (λ (m : LaneValue). IsMemberOf c.args.ground.now c.args.depth m) (sym (c.split_hands.ensures.given i d below))
     (record { path_is = (c.requires.own i d inside).path_is; deep = (c.requires.own i d inside).deep; size_is = (c.requires.own i d inside).size_is })
 
 pub run_phase-join_hands-requires-clause-home : goal.run_phase-join_hands-requires-clause-home
@@ -171,7 +171,7 @@ run_phase-join_hands-requires-clause-home g n c κs within = λ i d less.
     let below : i < c.span.result = let n = c.split_hands.ensures.count in omega (arith, under, n) in
     subst (λ (words : WordsValue). IsLaneHand words.table c.split_hands.new.hand.view.name (slice_index_or c.run_lanes.new.members i d).at.hand) (ap (λ (v : CrewValue). v.words) c.requires.crew ∙ sym c.words-words.ensures)
     (comes_home c.args.crew.now c.args.phase.now c.args.end i c.args.hand.now (slice_index_or c.args.members.now i d) (slice_index_or c.run_lanes.new.members i d)
-    (subst (λ (m : MemberValue). WentOn c.args.crew.now c.args.phase.now c.args.end i m (slice_index_or c.run_lanes.new.members i d)) (c.split_hands.ensures.given i d below) (c.run_lanes.ensures.went i d under))
+    (subst (λ (m : LaneValue). WentOn (world_of c.args.crew.now i) c.args.phase.now c.args.end m (slice_index_or c.run_lanes.new.members i d)) (c.split_hands.ensures.given i d below) (c.run_lanes.ensures.went i d under))
     c.split_hands.new.hand.view.name (ap (λ (h : HandValue View). h.view.name) c.split_hands.ensures.hand ∙ parted_name 0 c.span.result c.span.result c.args.hand.now.view))
 
 pub run_phase-returns : goal.run_phase-returns
@@ -182,7 +182,7 @@ run_phase-returns g n c = record {
     went = λ k d less.
         let below : k < c.span.result = let s = c.span.ensures in let m = c.requires.count in omega (arith, less, s, m) in
         let under : k < length c.split_hands.new.members = let n = c.split_hands.ensures.count in omega (arith, below, n) in
-        subst (λ (m : MemberValue). WentOn c.args.crew.now c.args.phase.now c.args.end k m (slice_index_or c.run_lanes.new.members k d)) (c.split_hands.ensures.given k d below) (c.run_lanes.ensures.went k d under);
+        subst (λ (m : LaneValue). WentOn (world_of c.args.crew.now k) c.args.phase.now c.args.end m (slice_index_or c.run_lanes.new.members k d)) (c.split_hands.ensures.given k d below) (c.run_lanes.ensures.went k d under);
     rests = c.split_hands.ensures.rests (let s = c.span.ensures in let m = c.requires.some in omega (arith, s, m));
     hand =
         c.join_hands.ensures.hand
@@ -309,11 +309,11 @@ run_phases-returns g n c =
 
 pub run_team-run_phases-requires-clause-fresh : goal.run_team-run_phases-requires-clause-fresh
 run_team-run_phases-requires-clause-fresh g n c κs within = λ i d less.
-    subst (λ (ms : List MemberValue). IsFresh c.args.crew.now (slice_index_or ms i d)) (sym c.deref_mut.ensures.value) (c.requires.fresh i d (subst (λ (ms : List MemberValue). i < length ms) c.deref_mut.ensures.value less))
+    subst (λ (ms : List LaneValue). IsFresh c.args.crew.now (slice_index_or ms i d)) (sym c.deref_mut.ensures.value) (c.requires.fresh i d (subst (λ (ms : List LaneValue). i < length ms) c.deref_mut.ensures.value less))
 
 pub run_team-run_phases-requires-clause-own : goal.run_team-run_phases-requires-clause-own
 run_team-run_phases-requires-clause-own g n c κs within = λ i d less.
-    subst (λ (ms : List MemberValue). IsMemberOf c.args.ground.now c.args.depth (slice_index_or ms i d)) (sym c.deref_mut.ensures.value) (c.requires.own i d (subst (λ (ms : List MemberValue). i < length ms) c.deref_mut.ensures.value less))
+    subst (λ (ms : List LaneValue). IsMemberOf c.args.ground.now c.args.depth (slice_index_or ms i d)) (sym c.deref_mut.ensures.value) (c.requires.own i d (subst (λ (ms : List LaneValue). i < length ms) c.deref_mut.ensures.value less))
 
 pub run_team-returns : goal.run_team-returns
 run_team-returns g n c =
@@ -324,10 +324,10 @@ run_team-returns g n c =
     record {
       closed = record {
         after = c.run_phases.new.members;
-        ran = subst (λ (ms : List MemberValue). TeamRan c.args.crew.now c.args.phases.now c.args.end c.args.hand.now c.run_phases.new.hand ms c.run_phases.new.members) c.deref_mut.ensures.value ran;
-        count = c.close_all.ensures.count ∙ ap (λ (ms : List MemberValue). length ms) whole ∙ ran.stands.count;
+        ran = subst (λ (ms : List LaneValue). TeamRan c.args.crew.now c.args.phases.now c.args.end c.args.hand.now c.run_phases.new.hand ms c.run_phases.new.members) c.deref_mut.ensures.value ran;
+        count = c.close_all.ensures.count ∙ ap (λ (ms : List LaneValue). length ms) whole ∙ ran.stands.count;
         closes = λ k d e less.
-            subst (λ (ms : List MemberValue). k < length ms → ClosesAs (Ok (slice_index_or ms k d)) (slice_index_or c.close_all.result.items k e)) whole (λ inside. c.close_all.ensures.each k d e inside)
+            subst (λ (ms : List LaneValue). k < length ms → ClosesAs (Ok (slice_index_or ms k d)) (slice_index_or c.close_all.result.items k e)) whole (λ inside. c.close_all.ensures.each k d e inside)
             (let m = ran.stands.count in omega (arith, m, less));
       };
     }

@@ -26,5 +26,5 @@ decreases-run_lanes-for_each_mut g l = 8 * l.depth + 2
 abbrev pub decreases-run_task : goal.decreases-run_task
 decreases-run_task g l = 8 * l.depth + 1
 
-abbrev pub decreases-run_task-go : goal.decreases-run_task-go
-decreases-run_task-go g l = 8 * l.depth
+abbrev pub decreases-run_task-run_phase : goal.decreases-run_task-run_phase
+decreases-run_task-run_phase g l = 8 * l.depth

@@ -11,6 +11,8 @@ use Rattle.kernel_model.specs.Value.{Site}
 use Rattle.shared_words.specs.declared.share.Share.{Share}
 use Rattle.shared_words.specs.Handles.{Belongs, HandValue}
 use Rattle.lane_runner.specs.Handed.{LogPlace}
+use Rattle.lane_runner.specs.Lane.{IsLanePath}
+use Rattle.lane_runner.proofs.LanePaths.{root_path}
 use Rattle.region_runner.specs.Begins.{LaneBegins}
 use Rattle.region_runner.specs.Ground.{crew_of}
 use Rattle.region_runner.specs.Lawful.{IsLawfulPhase}
@@ -22,6 +24,9 @@ use Rattle.region_runner.proofs.OpenedTeam.{task_fresh}
 use Rattle.region_runner.proofs.RootTask.{root_gave, root_torn}
 use Rattle.region_runner.proofs.TeamLoop.{last_has, last_ends}
 use Rattle.region_runner.proofs.root.run_root.Goals as goal
+
+pub open_lane-requires-clause-lane : goal.open_lane-requires-clause-lane
+open_lane-requires-clause-lane g c κs within = subst IsLanePath (sym c.root.ensures) root_path
 
 pub execute-requires-clause-phase : goal.execute-requires-clause-phase
 execute-requires-clause-phase g c κs within =
