@@ -3,10 +3,7 @@ use Rattle.std.proofs.Common.{◌≡◌, List, ◌++◌, length, take, drop, ℕ
 use Rattle.std.proofs.lemmas.List.{take_at, drop_at}
 use Rattle.log_format.specs.declared.format.Format.{Format}
 use Rattle.log_format.specs.declared.format.Format.TheVariants.{First}
-use Rattle.log_format.specs.Format.{log_header, index_header}
-
-pub length-log_header : (format : Format) → length (log_header format) ≡ 8
-length-log_header First = refl
+use Rattle.log_format.specs.Format.{index_header}
 
 pub length-index_header : (format : Format) → length (index_header format) ≡ 8
 length-index_header First = refl
