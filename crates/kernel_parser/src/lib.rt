@@ -19,6 +19,3 @@ mod tree;
 pub use crate::fault::ParseFault;
 pub use crate::kernel::parse;
 pub use crate::tree::{Block, Declaration, KernelTree, Range, ScheduleTree, Statement, Tree};
-
-#[cfg(test)]
-mod tests;

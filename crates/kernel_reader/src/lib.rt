@@ -20,6 +20,3 @@ mod weight;
 
 pub use crate::fault::ReadKernelFault;
 pub use crate::kernel::read_kernel;
-
-#[cfg(test)]
-mod tests;

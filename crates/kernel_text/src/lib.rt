@@ -19,6 +19,3 @@ pub use crate::judging::{Verdict, judge};
 pub use crate::lexing::{line_at, tokens};
 pub use crate::nesting::levels_tell_the_depth;
 pub use crate::token::{Lexeme, Sign, Token, Word, operation};
-
-#[cfg(test)]
-mod tests;

@@ -29,6 +29,3 @@ pub use race_model::RecordWhy;
 pub use sweep::Sweep;
 pub use swept::sweep_all;
 pub use walking::{walk, walk_as};
-
-#[cfg(test)]
-mod tests;

@@ -18,8 +18,3 @@ pub use answering::print_outcome;
 pub use laws::statuses_tell_what_files_hold;
 pub use outcome::Outcome;
 pub use running::run;
-
-#[cfg(test)]
-mod team_tests;
-#[cfg(test)]
-mod tests;

@@ -1,10 +1,9 @@
 //! The kernels of `examples/`, and what the README says that the program prints of them.
 
-use crate::tests::{answers, arguments};
-use crate::top::sword;
+use crate::tests::{answers, printed};
 use command_answer::{DIFFERS, DONE, KERNEL_STOPPED, RACES};
 use std::test::Fail;
-use sw_base::{MemFolder, MemOut, NoGate};
+use sw_base::MemFolder;
 
 const COUNT: &str = "# Each lane adds 1 to every second element. No two lanes meet at an element.
 array a i64 8
@@ -86,12 +85,8 @@ fn the_examples_print_what_the_readme_says(rt: HostRuntime) -> Result<(), Fail> 
     }
     assert_eq!(rt; folder.file("stopped/index.swi"), None);
 
-    let mut out = MemOut::new(alloc)?;
-    let show = arguments(alloc, &["show", "logs"])?;
-    assert_eq!(rt;
-        sword(&rt, alloc, &show, &mut folder, &mut out, &NoGate),
-        DONE
-    );
+    let (status, out) = printed(&rt, alloc, &mut folder, &["show", "logs"])?;
+    assert_eq!(rt; status, DONE);
     assert!(rt; out.written().starts_with(FIRST_LINES.as_bytes()));
     Ok(())
 }

@@ -1,11 +1,10 @@
 //! `gen`, and `check` of the folder that it makes.
 
-use crate::tests::{answers, arguments};
-use crate::top::sword;
+use crate::tests::{answers, failing_out};
 use command_answer::{RACES, USAGE, WRITE_FAULT};
 use generated_run::generate;
 use std::test::Fail;
-use sw_base::{MemFolder, MemOut, NoGate};
+use sw_base::MemFolder;
 
 #[test]
 fn a_generated_run_has_one_race(rt: HostRuntime) -> Result<(), Fail> {
@@ -70,15 +69,13 @@ fn other_numbers_are_a_usage_fault(rt: HostRuntime) -> Result<(), Fail> {
 #[test]
 fn each_write_of_a_generated_report_may_fail(rt: HostRuntime) -> Result<(), Fail> {
     let alloc = rt.alloc();
-    let all = arguments(alloc, &["gen", "4", "2"])?;
     let text = b"accesses 65\nsegments 16\nrace 30 40\nraces 1\n";
     // The counts, the one pair, and the number of pairs.
     for call in 1..=3 {
         let mut folder = MemFolder::new(alloc)?;
         folder.fail(&[1])?;
-        let mut out = MemOut::new(alloc)?;
-        out.fail(&[call])?;
-        let status = sword(&rt, alloc, &all, &mut folder, &mut out, &NoGate);
+        let given = ["gen", "4", "2"];
+        let (status, out) = failing_out(&rt, alloc, &mut folder, &given, &[call])?;
         assert_eq!(rt; status, WRITE_FAULT);
         assert!(rt; text.starts_with(out.written()) && out.written().len() < text.len());
     }

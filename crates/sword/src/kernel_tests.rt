@@ -1,15 +1,14 @@
 //! Kernels of the whole language that run to their end: what `run` prints of each, and what `check` and `replay` print of the folder
 //! that it wrote.
 
-use crate::tests::{answers, arguments};
-use crate::top::sword;
+use crate::tests::{answers, printed};
 use command_answer::{DIFFERS, DONE, KERNEL_REFUSED, RACES};
 use std::alloc::Global;
 use std::process::Abort;
 use std::sync::Wait;
 use std::test::Fail;
 use std::thread::Threads;
-use sw_base::{MemFolder, MemOut, NoGate};
+use sw_base::{MemFolder, MemOut};
 
 const NO_RACE: &str = "races 0\n";
 
@@ -140,9 +139,7 @@ pub fn after<R: Abort + Threads + Wait + Sync>(
 ) -> Result<(MemFolder, u8, MemOut), Fail> {
     let mut folder = MemFolder::new(alloc)?;
     folder.hold("k", kernel.as_bytes())?;
-    let mut out = MemOut::new(alloc)?;
-    let all = arguments(alloc, &["run", "k", "d", "4096"])?;
-    let status = sword(rt, alloc, &all, &mut folder, &mut out, &NoGate);
+    let (status, out) = printed(rt, alloc, &mut folder, &["run", "k", "d", "4096"])?;
     Ok((folder, status, out))
 }
 
@@ -260,12 +257,8 @@ fn count(text: &[u8], ending: &[u8]) -> usize {
 fn each_chunk_is_drawn_once(rt: HostRuntime) -> Result<(), Fail> {
     let alloc = rt.alloc();
     let (mut folder, _, _) = after(&rt, alloc, DRAWN)?;
-    let mut out = MemOut::new(alloc)?;
-    let all = arguments(alloc, &["show", "d"])?;
-    assert_eq!(rt;
-        sword(&rt, alloc, &all, &mut folder, &mut out, &NoGate),
-        DONE
-    );
+    let (status, out) = printed(&rt, alloc, &mut folder, &["show", "d"])?;
+    assert_eq!(rt; status, DONE);
     // Each lane finds that there is none left.
     for (ending, times) in [
         (" chunk 0 of 3 line 3", 1),

@@ -1,14 +1,13 @@
 //! Kernels of `examples/` in pairs, one that races and its mended twin: what `run`, `check` and `replay` print of each.
 
-use crate::tests::{answers, arguments};
-use crate::top::sword;
+use crate::tests::{answers, printed};
 use command_answer::{DONE, RACES};
 use std::alloc::Global;
 use std::process::Abort;
 use std::sync::Wait;
 use std::test::Fail;
 use std::thread::Threads;
-use sw_base::{MemFolder, MemOut, NoGate};
+use sw_base::MemFolder;
 
 const HEAT: &str =
     "# A fixed loop of two worksharing loops: the barrier at the end of each keeps its readers from its writers.
@@ -252,12 +251,8 @@ fn runs<R: Abort + Threads + Wait + Sync>(
 ) -> Result<(), Fail> {
     let mut folder = MemFolder::new(alloc)?;
     folder.hold("k", kernel.as_bytes())?;
-    let mut out = MemOut::new(alloc)?;
-    let run = arguments(alloc, &["run", "k", "logs", "4096"])?;
-    assert_eq!(rt;
-        sword(rt, alloc, &run, &mut folder, &mut out, &NoGate),
-        DONE
-    );
+    let (ended, out) = printed(rt, alloc, &mut folder, &["run", "k", "logs", "4096"])?;
+    assert_eq!(rt; ended, DONE);
     if let Some(text) = ran {
         assert_eq!(rt; out.written(), text.as_bytes());
     }

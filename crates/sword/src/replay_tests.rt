@@ -1,13 +1,14 @@
 //! `replay`: folders against their kernels and against others, and why there is no comparison.
 
-use crate::tests::{END, ROOT, Rec, Step, Task, answers, arguments, made_folder, region, write};
-use crate::top::sword;
+use crate::tests::{
+    END, ROOT, Rec, Step, Task, answers, failing_out, made_folder, printed, region, write,
+};
 use command_answer::{
     DIFFERS, DONE, FOLDER_REFUSED, KERNEL_REFUSED, READ_FAULT, USAGE, WRITE_FAULT,
 };
 use std::alloc::Global;
 use std::test::Fail;
-use sw_base::{MemFolder, MemOut, NoGate};
+use sw_base::MemFolder;
 
 // Each lane adds 1 to every other element.
 const COUNT: &str =
@@ -286,13 +287,11 @@ fn other_words_are_a_usage_fault(rt: HostRuntime) -> Result<(), Fail> {
 #[test]
 fn a_call_that_fails_is_a_fault(rt: HostRuntime) -> Result<(), Fail> {
     let alloc = rt.alloc();
-    let all = arguments(alloc, &REPLAY)?;
     let mut faults = 0u32;
     for call in 1..100 {
         let mut folder = nested(alloc, [5, 6, 6])?;
         folder.fail(&[call])?;
-        let mut out = MemOut::new(alloc)?;
-        let status = sword(&rt, alloc, &all, &mut folder, &mut out, &NoGate);
+        let (status, out) = printed(&rt, alloc, &mut folder, &REPLAY)?;
         if status == DONE {
             break;
         }
@@ -302,9 +301,7 @@ fn a_call_that_fails_is_a_fault(rt: HostRuntime) -> Result<(), Fail> {
     }
     assert!(rt; 10 < faults && faults < 99);
     let mut folder = nested(alloc, [5, 6, 6])?;
-    let mut out = MemOut::new(alloc)?;
-    out.fail(&[1])?;
-    let status = sword(&rt, alloc, &all, &mut folder, &mut out, &NoGate);
+    let (status, _) = failing_out(&rt, alloc, &mut folder, &REPLAY, &[1])?;
     assert_eq!(rt; status, WRITE_FAULT);
     Ok(())
 }

@@ -1,6 +1,5 @@
 use crate::STACK;
-use crate::tests::{answers, arguments};
-use crate::top::sword;
+use crate::tests::{answers, failing_out, printed};
 use command_answer::{
     DONE, INDEX_THERE, KERNEL_REFUSED, KERNEL_STOPPED, RACES, READ_FAULT, USAGE, WRITE_FAULT,
 };
@@ -9,7 +8,7 @@ use std::process::Abort;
 use std::sync::Wait;
 use std::test::Fail;
 use std::thread::{Builder, Threads};
-use sw_base::{MemFolder, MemOut, NoGate, Path};
+use sw_base::{MemFolder, Path};
 
 // Each lane adds 1 to every other element.
 const COUNT: &str =
@@ -85,12 +84,8 @@ fn two_lanes_count(rt: HostRuntime) -> Result<(), Fail> {
     assert_eq!(rt; folder.file(INDEX).ok_or("an index")?.len(), 152);
     let check = ["check", "d", "2"];
     answers(&rt, alloc, &mut folder, &check, DONE, "races 0\n")?;
-    let mut out = MemOut::new(alloc)?;
-    let all = arguments(alloc, &["show", "d"])?;
-    assert_eq!(rt;
-        sword(&rt, alloc, &all, &mut folder, &mut out, &NoGate),
-        DONE
-    );
+    let (status, out) = printed(&rt, alloc, &mut folder, &["show", "d"])?;
+    assert_eq!(rt; status, DONE);
     assert!(rt;
         out.written().starts_with(
             b"log t.swl records 2\n1 region 2 line 3\n2 end line 8\nlog t-0.0.swl records 10\n1 read 8 site 1 line 5 addr 4096 value 0\n2 write 8 site 0 line 5 addr 4096 value 1\n3 read 8 site 1 line 5 addr 4112 value 0\n"
@@ -212,12 +207,8 @@ fn other_sizes_are_usage(rt: HostRuntime) -> Result<(), Fail> {
     let alloc = rt.alloc();
     let mut folder = holding(alloc, COUNT)?;
     for size in ["23", "4194305", "024"] {
-        let mut out = MemOut::new(alloc)?;
-        let all = arguments(alloc, &["run", "k", "d", size])?;
-        assert_eq!(rt;
-            sword(&rt, alloc, &all, &mut folder, &mut out, &NoGate),
-            USAGE
-        );
+        let (status, out) = printed(&rt, alloc, &mut folder, &["run", "k", "d", size])?;
+        assert_eq!(rt; status, USAGE);
         assert!(rt;
             out.written()
                 .starts_with(b"usage: sword check DIR W | run KERNEL DIR SIZE |")
@@ -294,13 +285,9 @@ fn each_text_of_a_run_may_fail(rt: HostRuntime) -> Result<(), Fail> {
     let alloc = rt.alloc();
     for kernel in [COUNT, BEYOND, "no kernel"] {
         let mut folder = holding(alloc, kernel)?;
-        let mut out = MemOut::new(alloc)?;
-        out.fail(&[1])?;
-        let all = arguments(alloc, &["run", "k", "d", "4096"])?;
-        assert_eq!(rt;
-            sword(&rt, alloc, &all, &mut folder, &mut out, &NoGate),
-            WRITE_FAULT
-        );
+        let run = ["run", "k", "d", "4096"];
+        let (status, out) = failing_out(&rt, alloc, &mut folder, &run, &[1])?;
+        assert_eq!(rt; status, WRITE_FAULT);
         assert!(rt; out.written().len() < COUNTED.len());
         assert_eq!(rt; folder.file(INDEX).is_some(), kernel == COUNT);
     }
@@ -318,9 +305,7 @@ fn long_sum_is_run<R: AllocGlobal + Threads + Wait + Sync + Drop>(rt: R) -> Opti
     kernel.push_str(" } } }").ok()?;
     let mut folder = MemFolder::new(alloc).ok()?;
     folder.hold("k", kernel.as_bytes()).ok()?;
-    let mut out = MemOut::new(alloc).ok()?;
-    let all = arguments(alloc, &["run", "k", "d", "4096"]).ok()?;
-    let status = sword(&rt, alloc, &all, &mut folder, &mut out, &NoGate);
+    let (status, out) = printed(&rt, alloc, &mut folder, &["run", "k", "d", "4096"]).ok()?;
     Some(status == DONE && out.written() == b"tasks 2\nrecords 5\nsum a 32001\n".as_slice())
 }
 

@@ -1,15 +1,14 @@
 //! Kernels that stop: which stop is told, and what is left of the run.
 
 use crate::kernel_tests::after;
-use crate::tests::arguments;
-use crate::top::sword;
+use crate::tests::printed;
 use command_answer::{DONE, KERNEL_STOPPED, WRITE_FAULT};
 use std::alloc::{AllocError, Global};
 use std::process::Abort;
 use std::sync::Wait;
 use std::test::Fail;
 use std::thread::Threads;
-use sw_base::{MemFolder, MemOut, NoGate, Path};
+use sw_base::{MemFolder, MemOut, Path};
 
 // Lane 1 leaves the array, or divides by 0.
 const LEAVING: &str =
@@ -111,10 +110,7 @@ fn failing<R: Abort + Threads + Wait + Sync>(
     call: u64,
 ) -> Result<(u8, MemOut), Fail> {
     folder.fail_log(task, &[call])?;
-    let mut out = MemOut::new(alloc)?;
-    let all = arguments(alloc, &["run", "k", "d", size])?;
-    let status = sword(rt, alloc, &all, folder, &mut out, &NoGate);
-    Ok((status, out))
+    Ok(printed(rt, alloc, folder, &["run", "k", "d", size])?)
 }
 
 #[test]

@@ -1,7 +1,6 @@
 //! In which order `check` reads and compares.
 
-use crate::tests::{END, Rec, arguments, made_folder, region, write};
-use crate::top::sword;
+use crate::tests::{END, Rec, asked, made_folder, region, write};
 use command_answer::{RACES, READ_FAULT};
 use std::alloc::Global;
 use std::process::Abort;
@@ -52,8 +51,8 @@ fn checked<R: Abort + Threads + Wait + Sync>(
     let gate = Counted {
         come: AtomicU64::new(0),
     };
-    let all = arguments(alloc, &["check", "d", "3"])?;
-    let status = sword(rt, alloc, &all, &mut folder, &mut out, &gate);
+    let check = ["check", "d", "3"];
+    let status = asked(rt, alloc, &mut folder, &check, &mut out, &gate)?;
     Ok((status, gate.come.load(Ordering::SeqCst)))
 }
 

@@ -5,7 +5,7 @@ use std::process::Abort;
 use std::sync::Wait;
 use std::test::Fail;
 use std::thread::Threads;
-use sw_base::{MemFolder, MemOut, NoGate};
+use sw_base::{Gate, MemFolder, MemOut, Memory, NoGate};
 
 /// A record: kind, size, line, address and value. Its site is 1 where it reads, else 0.
 pub type Rec = (u8, u8, u32, u64, u64);
@@ -86,12 +86,51 @@ pub fn made_folder(alloc: Global, tasks: &[Task<'_>]) -> Result<MemFolder, Fail>
     Ok(folder)
 }
 
-pub fn arguments(alloc: Global, given: &[&str]) -> Result<Vec<String>, AllocError> {
+fn arguments(alloc: Global, given: &[&str]) -> Result<Vec<String>, AllocError> {
     let mut all = Vec::new(alloc);
     for word in given {
         all.push(String::from_str(alloc, word)?)?;
     }
     Ok(all)
+}
+
+/// The status of what these arguments ask for. The contract of `sword` is met here alone: each proof that calls it carries all of it.
+pub fn asked<R: Threads + Wait + Sync, G: Gate>(
+    rt: &R,
+    alloc: Global,
+    folder: &mut MemFolder,
+    given: &[&str],
+    out: &mut MemOut,
+    gate: &G,
+) -> Result<u8, Memory> {
+    let all = arguments(alloc, given)?;
+    Ok(sword(rt, alloc, &all, folder, out, gate))
+}
+
+/// The status, and what is printed.
+pub fn printed<R: Threads + Wait + Sync>(
+    rt: &R,
+    alloc: Global,
+    folder: &mut MemFolder,
+    given: &[&str],
+) -> Result<(u8, MemOut), Memory> {
+    let mut out = MemOut::new(alloc)?;
+    let status = asked(rt, alloc, folder, given, &mut out, &NoGate)?;
+    Ok((status, out))
+}
+
+/// The status where these writes of the output fail, and what is printed.
+pub fn failing_out<R: Threads + Wait + Sync>(
+    rt: &R,
+    alloc: Global,
+    folder: &mut MemFolder,
+    given: &[&str],
+    calls: &[u64],
+) -> Result<(u8, MemOut), Memory> {
+    let mut out = MemOut::new(alloc)?;
+    out.fail(calls)?;
+    let status = asked(rt, alloc, folder, given, &mut out, &NoGate)?;
+    Ok((status, out))
 }
 
 pub fn answers<R: Abort + Threads + Wait + Sync>(
@@ -102,9 +141,7 @@ pub fn answers<R: Abort + Threads + Wait + Sync>(
     status: u8,
     text: &str,
 ) -> Result<(), Fail> {
-    let mut out = MemOut::new(alloc)?;
-    let all = arguments(alloc, given)?;
-    let answered = sword(rt, alloc, &all, folder, &mut out, &NoGate);
+    let (answered, out) = printed(rt, alloc, folder, given)?;
     assert_eq!(rt; answered, status);
     assert_eq!(rt; out.written(), text.as_bytes());
     Ok(())
@@ -347,32 +384,33 @@ fn other_arguments_are_a_usage_fault(rt: HostRuntime) -> Result<(), Fail> {
         "usage: sword check DIR W | run KERNEL DIR SIZE | replay KERNEL DIR | show DIR | gen N W\n";
     let alloc = rt.alloc();
     let mut folder = MemFolder::new(alloc)?;
-    answers(&rt, alloc, &mut folder, &[], USAGE, line)?;
-    answers(&rt, alloc, &mut folder, &["--help"], USAGE, line)?;
-    answers(&rt, alloc, &mut folder, &["check", "d", "0"], USAGE, line)?;
-    answers(&rt, alloc, &mut folder, &["check", "d", "01"], USAGE, line)?;
-    answers(&rt, alloc, &mut folder, &["check", "d", "65"], USAGE, line)?;
-    answers(&rt, alloc, &mut folder, &["check", "", "1"], USAGE, line)
+    let table: &[&[&str]] = &[
+        &[],
+        &["--help"],
+        &["check", "d", "0"],
+        &["check", "d", "01"],
+        &["check", "d", "65"],
+        &["check", "", "1"],
+    ];
+    for given in table {
+        answers(&rt, alloc, &mut folder, given, USAGE, line)?;
+    }
+    Ok(())
 }
 
 #[test]
 fn each_call_of_a_check_may_fail(rt: HostRuntime) -> Result<(), Fail> {
     let alloc = rt.alloc();
-    let check = arguments(alloc, &["check", "d", "1"])?;
+    let check = ["check", "d", "1"];
     // The size of the index and its three reads, and the size of the log and its two.
     for call in 1..=7 {
         let mut folder = made_folder(alloc, &[(&[], &[END])])?;
         folder.fail(&[call])?;
-        let mut out = MemOut::new(alloc)?;
-        let status = sword(&rt, alloc, &check, &mut folder, &mut out, &NoGate);
-        assert_eq!(rt; status, READ_FAULT);
-        assert_eq!(rt; out.written(), b"".as_slice());
+        answers(&rt, alloc, &mut folder, &check, READ_FAULT, "")?;
     }
     let mut folder = made_folder(alloc, &[(&[], &[END])])?;
     folder.fail(&[8])?;
-    let mut out = MemOut::new(alloc)?;
-    out.fail(&[1])?;
-    let status = sword(&rt, alloc, &check, &mut folder, &mut out, &NoGate);
+    let (status, out) = failing_out(&rt, alloc, &mut folder, &check, &[1])?;
     assert_eq!(rt; status, WRITE_FAULT);
     assert_eq!(rt; out.written(), b"race".as_slice());
     Ok(())
@@ -382,13 +420,8 @@ fn each_call_of_a_check_may_fail(rt: HostRuntime) -> Result<(), Fail> {
 fn a_failed_write_ends_what_is_shown(rt: HostRuntime) -> Result<(), Fail> {
     let alloc = rt.alloc();
     let mut folder = made_folder(alloc, &[(&[], &[END])])?;
-    let mut out = MemOut::new(alloc)?;
-    out.fail(&[2])?;
-    let all = arguments(alloc, &["show", "d"])?;
-    assert_eq!(rt;
-        sword(&rt, alloc, &all, &mut folder, &mut out, &NoGate),
-        WRITE_FAULT
-    );
+    let (status, out) = failing_out(&rt, alloc, &mut folder, &["show", "d"], &[2])?;
+    assert_eq!(rt; status, WRITE_FAULT);
     assert!(rt; out.written().starts_with(b"log t.swl records 1\n"));
     Ok(())
 }

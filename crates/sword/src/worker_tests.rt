@@ -1,13 +1,15 @@
 //! `check` with each number of workers: the same report. Workers run at once, and so do the lanes of a run.
 ghost use Rattle.std.specs.Prelude.{◌<◌, ◌^◌};
 
-use crate::tests::{BARRIER, END, ROOT, Rec, Step, answers, arguments, made_folder, region, write};
-use crate::top::sword;
+use crate::tests::{BARRIER, END, ROOT, Rec, Step, answers, asked, made_folder, region, write};
 use command_answer::{DONE, RACES};
 use std::alloc::{AllocError, Global};
+use std::process::Abort;
+use std::sync::Wait;
 use std::sync::atomic::{AtomicBool, Ordering};
 use std::test::Fail;
 use std::thread;
+use std::thread::Threads;
 use sw_base::{Gate, MemFolder, MemOut};
 
 const WORKERS: [&str; 5] = ["1", "2", "3", "7", "64"];
@@ -199,6 +201,28 @@ impl Gate for Pair {
     }
 }
 
+// Whether two came together, and this status and text came out.
+fn at_once<R: Abort + Threads + Wait + Sync>(
+    rt: &R,
+    alloc: Global,
+    folder: &mut MemFolder,
+    given: &[&str],
+    status: u8,
+    text: &str,
+) -> Result<(), Fail> {
+    let mut out = MemOut::new(alloc)?;
+    let gate = Pair {
+        came: [AtomicBool::new(false), AtomicBool::new(false)],
+        alone: AtomicBool::new(false),
+    };
+    let answered = asked(rt, alloc, folder, given, &mut out, &gate)?;
+    assert_eq!(rt; answered, status);
+    assert_eq!(rt; out.written(), text.as_bytes());
+    assert!(rt; gate.came[0].load(Ordering::SeqCst) && gate.came[1].load(Ordering::SeqCst));
+    assert!(rt; !gate.alone.load(Ordering::SeqCst));
+    Ok(())
+}
+
 #[test]
 fn the_workers_of_a_check_run_at_once(rt: HostRuntime) -> Result<(), Fail> {
     let alloc = rt.alloc();
@@ -208,38 +232,29 @@ fn the_workers_of_a_check_run_at_once(rt: HostRuntime) -> Result<(), Fail> {
         (&[(0, 1, 2)], &[(1, 8, 3, 4128, 0), BARRIER, END]),
     ];
     let mut folder = made_folder(alloc, tasks)?;
-    let mut out = MemOut::new(alloc)?;
-    let gate = Pair {
-        came: [AtomicBool::new(false), AtomicBool::new(false)],
-        alone: AtomicBool::new(false),
-    };
-    let check = arguments(alloc, &["check", "d", "2"])?;
-    let status = sword(&rt, alloc, &check, &mut folder, &mut out, &gate);
-    assert_eq!(rt; status, RACES);
-    assert_eq!(rt; out.written(), b"race 3 3\nraces 1\n".as_slice());
-    assert!(rt; gate.came[0].load(Ordering::SeqCst) && gate.came[1].load(Ordering::SeqCst));
-    assert!(rt; !gate.alone.load(Ordering::SeqCst));
-    Ok(())
+    let check = ["check", "d", "2"];
+    at_once(
+        &rt,
+        alloc,
+        &mut folder,
+        &check,
+        RACES,
+        "race 3 3\nraces 1\n",
+    )
 }
 
 #[test]
 fn the_lanes_of_a_run_run_at_once(rt: HostRuntime) -> Result<(), Fail> {
     let alloc = rt.alloc();
     let mut folder = MemFolder::new(alloc)?;
-    folder.hold(
-        "k",
-        b"array a i64 2\nmain { parallel 2 { a[tid] = 1 } }\n".as_slice(),
-    )?;
-    let mut out = MemOut::new(alloc)?;
-    let gate = Pair {
-        came: [AtomicBool::new(false), AtomicBool::new(false)],
-        alone: AtomicBool::new(false),
-    };
-    let run = arguments(alloc, &["run", "k", "d", "4096"])?;
-    let status = sword(&rt, alloc, &run, &mut folder, &mut out, &gate);
-    assert_eq!(rt; status, DONE);
-    assert_eq!(rt; out.written(), b"tasks 3\nrecords 6\nsum a 2\n".as_slice());
-    assert!(rt; gate.came[0].load(Ordering::SeqCst) && gate.came[1].load(Ordering::SeqCst));
-    assert!(rt; !gate.alone.load(Ordering::SeqCst));
-    Ok(())
+    folder.hold("k", b"array a i64 2\nmain { parallel 2 { a[tid] = 1 } }\n")?;
+    let run = ["run", "k", "d", "4096"];
+    at_once(
+        &rt,
+        alloc,
+        &mut folder,
+        &run,
+        DONE,
+        "tasks 3\nrecords 6\nsum a 2\n",
+    )
 }

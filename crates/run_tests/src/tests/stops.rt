@@ -1,9 +1,9 @@
 //! Runs that stop: which stop is told, and what the logs have then.
 
-use crate::tests::support::{listing, run, run_with};
+use crate::tests::support::{has_failed, is_stopped_so, listing, run, run_with};
 use lane_runner::Stop;
 use std::test::Fail;
-use sw_base::{MemLog, NoGate, Path, Trouble};
+use sw_base::{MemLog, NoGate, Path};
 
 // Lane 1 divides by 0, lane 2 leaves the array, and lanes 0 and 3 wait for them. No lane stores in the second phase.
 const TWO_STOP: &str = "array a i64 4
@@ -90,9 +90,10 @@ fn the_least_stop_of_a_phase_is_told_and_no_later_phase_is_run(
     ] {
         for size in [24, 4096] {
             let stopped = run(&rt, alloc, kernel, size)?.err().ok_or("ended")?;
-            assert_eq!(rt; stopped.path.bare_name(alloc)?.as_str(), name);
-            assert_eq!(rt; stopped.why, why);
-            assert_eq!(rt; stopped.words.as_slice(), words.as_slice());
+            assert!(rt;
+                is_stopped_so(alloc, &stopped, name, why, &words)?,
+                "{name}"
+            );
             let listed = listing(alloc, stopped.logs)?;
             assert_eq!(rt; listed.written(), logs.as_bytes());
         }
@@ -126,8 +127,7 @@ fn each_call_on_each_log_of_nested_regions_fails_in_turn(rt: HostRuntime) -> Res
         for call in 1..=*calls {
             let run = run_with(&rt, alloc, FORKING, 24, &NoGate, (task, &[call]))?;
             let stopped = run.err().ok_or("ended")?;
-            assert!(rt; stopped.path == *task, "call {call}");
-            assert_eq!(rt; stopped.why, Stop::Trouble(Trouble::Failed), "call {call}");
+            assert!(rt; has_failed(&stopped, task), "call {call}");
             assert!(rt; begin(&stopped.logs, &whole.logs), "call {call}");
         }
         let past = calls + 1;

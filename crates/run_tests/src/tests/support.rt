@@ -6,6 +6,7 @@ ghost use Rattle.region_runner.specs.Answer.{IsBufferSize};
 
 use kernel_reader::read_kernel;
 use kernel_syntax::Kernel;
+use lane_runner::Stop;
 use log_index::Row;
 use log_listing::list;
 use region_runner::{Finished, Stopped, run_kernel};
@@ -13,7 +14,7 @@ use std::alloc::Global;
 use std::sync::Wait;
 use std::test::Fail;
 use std::thread::Threads;
-use sw_base::{Folder, Gate, MemFolder, MemLog, MemOut, NoGate, Path};
+use sw_base::{Folder, Gate, MemFolder, MemLog, MemOut, Memory, NoGate, Path, Trouble};
 
 /// What the run of a kernel answers.
 pub(crate) type Ran = Result<Finished<MemLog>, Stopped<MemLog>>;
@@ -69,4 +70,21 @@ pub(crate) fn listing(alloc: Global, logs: Vec<(Path, MemLog, u32)>) -> Result<M
     let mut out = MemOut::new(alloc)?;
     list(alloc, &mut folder, &mut out, "d", &rows)?;
     Ok(out)
+}
+
+/// Whether a run stopped in the task of this name, for this reason, with these words.
+pub(crate) fn is_stopped_so(
+    alloc: Global,
+    stopped: &Stopped<MemLog>,
+    name: &str,
+    why: Stop,
+    words: &[u64],
+) -> Result<bool, Memory> {
+    let is_named = stopped.path.bare_name(alloc)?.as_str() == name;
+    Ok(is_named && stopped.why == why && stopped.words.as_slice() == words)
+}
+
+/// Whether a run stopped since a call on the log of this task failed.
+pub(crate) fn has_failed(stopped: &Stopped<MemLog>, task: &Path) -> bool {
+    stopped.path == *task && stopped.why == Stop::Trouble(Trouble::Failed)
 }

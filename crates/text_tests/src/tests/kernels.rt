@@ -1,5 +1,8 @@
-use super::*;
-use kernel_syntax::{Expr, Kernel, Op, Schedule, Stmt, Team};
+//! Kernels that are read, and the line and reason of those that are refused.
+
+use super::repeating::repeated;
+use kernel_reader::{ReadKernelFault, read_kernel};
+use kernel_syntax::{Expr, Op, Schedule, Stmt};
 use kernel_text::KernelWhy;
 use std::alloc::{AllocError, Global};
 use std::test::Fail;
@@ -31,109 +34,97 @@ fn is_refused(alloc: Global, text: &[u8], line: u32, why: KernelWhy) -> bool {
 }
 
 // Whether a text is refused at this line for this reason, or is read where none is given.
-fn has_refusal(alloc: Global, text: &[u8], line: u32, refusal: Option<KernelWhy>) -> bool {
+fn tells(alloc: Global, text: &[u8], refusal: Option<(u32, KernelWhy)>) -> bool {
     match refusal {
-        Some(why) => is_refused(alloc, text, line, why),
+        Some((line, why)) => is_refused(alloc, text, line, why),
         None => is_read(alloc, text),
     }
 }
 
 // The text with a comment behind it, of so many bytes in all.
 fn padded(alloc: Global, text: &[u8], len: usize) -> Result<Vec<u8>, AllocError> {
-    let mut bytes = Vec::from_slice(alloc, text)?;
-    bytes.push(b'#')?;
-    for _ in bytes.len()..len {
-        bytes.push(b' ')?;
-    }
+    let mut bytes = [text, b"#"].concat(alloc)?;
+    bytes.resize(len, b' ')?;
     Ok(bytes)
 }
 
-// So many times a text, with others before and behind.
-fn repeated(
-    alloc: Global,
-    before: &[u8],
-    text: &[u8],
-    count: usize,
-    behind: &[u8],
-) -> Result<Vec<u8>, AllocError> {
-    let mut bytes = Vec::from_slice(alloc, before)?;
-    for _ in 0..count {
-        bytes.extend_from_slice(text)?;
-    }
-    bytes.extend_from_slice(behind)?;
-    Ok(bytes)
+fn is_loop(stmts: &[Stmt]) -> bool {
+    matches!(
+        stmts,
+        [Stmt::For {
+            slot: 0,
+            schedule: Schedule::Static(1),
+            nowait: false,
+            line: 4,
+            end: 6,
+            ..
+        }]
+    )
 }
 
-// The one region of a kernel.
-fn region(kernel: &Kernel) -> Option<&Team> {
-    match kernel.main.body.stmts.as_slice() {
-        [Stmt::Parallel { team }] => Some(team),
-        _ => None,
+fn is_region(stmts: &[Stmt]) -> bool {
+    match stmts {
+        [Stmt::Parallel { team }] => {
+            team.span == 2 && team.line == 3 && team.end == 7 && is_loop(&team.body.stmts)
+        }
+        _ => false,
     }
 }
 
 #[test]
 fn lines_are_those_of_first_and_last_token(rt: HostRuntime) -> Result<(), Fail> {
     let kernel = read_kernel(rt.alloc(), TWO_LANES).ok().ok_or("a kernel")?;
-    assert_eq!(rt; kernel.slots, 1);
-    assert_eq!(rt; kernel.main.line, 2);
-    assert_eq!(rt; kernel.main.end, 8);
-    let team = region(&kernel).ok_or("a region")?;
-    assert_eq!(rt; team.span, 2);
-    assert_eq!(rt; team.line, 3);
-    assert_eq!(rt; team.end, 7);
-    let [
-        Stmt::For {
-            slot,
-            schedule,
-            nowait,
-            line,
-            end,
-            ..
-        },
-    ] = team.body.stmts.as_slice()
-    else {
-        return Err(Fail::from("a loop"));
-    };
-    assert_eq!(rt; *slot, 0);
-    assert!(rt; *schedule == Schedule::Static(1));
-    assert!(rt; !*nowait);
-    assert_eq!(rt; *line, 4);
-    assert_eq!(rt; *end, 6);
+    let lines = (kernel.slots, kernel.main.line, kernel.main.end);
+    assert_eq!(rt; lines, (1, 2, 8));
+    assert!(rt; is_region(&kernel.main.body.stmts));
     Ok(())
+}
+
+// A sum whose first operand is a load.
+fn is_sum(value: &Expr) -> bool {
+    match value {
+        Expr::Binary {
+            op: Op::Add,
+            left,
+            ..
+        } => matches!(&**left, Expr::Load { site: 1, .. }),
+        _ => false,
+    }
+}
+
+fn is_store(stmts: &[Stmt]) -> bool {
+    match stmts {
+        [
+            Stmt::Store {
+                array: 0,
+                index,
+                value,
+                line: 5,
+                site: 0,
+            },
+        ] => matches!(index, Expr::Slot(0)) && is_sum(value),
+        _ => false,
+    }
+}
+
+fn is_loop_of_store(stmts: &[Stmt]) -> bool {
+    match stmts {
+        [Stmt::For { body, .. }] => is_store(&body.stmts),
+        _ => false,
+    }
+}
+
+fn is_region_of_store(stmts: &[Stmt]) -> bool {
+    match stmts {
+        [Stmt::Parallel { team }] => is_loop_of_store(&team.body.stmts),
+        _ => false,
+    }
 }
 
 #[test]
 fn a_store_has_site_0_and_its_load_site_1(rt: HostRuntime) -> Result<(), Fail> {
     let kernel = read_kernel(rt.alloc(), TWO_LANES).ok().ok_or("a kernel")?;
-    let team = region(&kernel).ok_or("a region")?;
-    let [Stmt::For { body, .. }] = team.body.stmts.as_slice() else {
-        return Err(Fail::from("a loop"));
-    };
-    let [
-        Stmt::Store {
-            array,
-            index: Expr::Slot(index),
-            value: Expr::Binary {
-                op: Op::Add,
-                left,
-                ..
-            },
-            line,
-            site,
-        },
-    ] = body.stmts.as_slice()
-    else {
-        return Err(Fail::from("a store of a sum"));
-    };
-    assert_eq!(rt; *array, 0);
-    assert_eq!(rt; *index, 0);
-    assert_eq!(rt; *line, 5);
-    assert_eq!(rt; *site, 0);
-    let Expr::Load { site, .. } = &**left else {
-        return Err(Fail::from("a load"));
-    };
-    assert_eq!(rt; *site, 1);
+    assert!(rt; is_region_of_store(&kernel.main.body.stmts));
     Ok(())
 }
 
@@ -407,19 +398,18 @@ fn eight_critical_sections_nest(rt: HostRuntime) -> Result<(), Fail> {
 
 // Declarations of names of two letters, in a line each: the first letter and each of the second ones.
 fn declare(
-    bytes: &mut Vec<u8>,
+    alloc: Global,
     word: &[u8],
     first: u8,
     seconds: &[u8],
     rest: &[u8],
-) -> Result<(), AllocError> {
+) -> Result<Vec<u8>, AllocError> {
+    let mut bytes = Vec::new(alloc);
     for second in seconds {
-        bytes.extend_from_slice(word)?;
-        bytes.push(first)?;
-        bytes.push(*second)?;
-        bytes.extend_from_slice(rest)?;
+        let line = [word, &[first, *second], rest].concat(alloc)?;
+        bytes.extend_from_slice(&line)?;
     }
-    Ok(())
+    Ok(bytes)
 }
 
 // Such declarations for each of the first letters, and then a text.
@@ -433,39 +423,40 @@ fn declared(
 ) -> Result<Vec<u8>, AllocError> {
     let mut bytes = Vec::new(alloc);
     for first in firsts {
-        declare(&mut bytes, word, *first, seconds, rest)?;
+        let lines = declare(alloc, word, *first, seconds, rest)?;
+        bytes.extend_from_slice(&lines)?;
     }
     bytes.extend_from_slice(behind)?;
     Ok(bytes)
 }
 
 #[test]
-fn at_most_64_arrays_and_63_mutexes_are_declared(rt: HostRuntime) -> Result<(), Fail> {
+fn at_most_64_arrays_are_declared(rt: HostRuntime) -> Result<(), Fail> {
     let eight = b"abcdefgh";
-    let arrays: [(&[u8], Option<KernelWhy>); 3] = [
+    let rows: [(&[u8], Option<(u32, KernelWhy)>); 3] = [
         (b"main { hh[0] = 1 }", None),
-        (b"array z i64 1 main { }", Some(KernelWhy::Large)),
-        (b"array hh i64 1 main { }", Some(KernelWhy::Twice)),
+        (b"array z i64 1 main { }", Some((65, KernelWhy::Large))),
+        (b"array hh i64 1 main { }", Some((65, KernelWhy::Twice))),
     ];
-    for (behind, refusal) in arrays {
+    for (behind, refusal) in rows {
         let text = declared(rt.alloc(), b"array ", eight, eight, b" i64 1\n", behind)?;
-        assert!(rt; has_refusal(rt.alloc(), &text, 65, refusal));
+        assert!(rt; tells(rt.alloc(), &text, refusal));
     }
-    let mutexes: [(&[u8], Option<KernelWhy>); 3] = [
+    Ok(())
+}
+
+#[test]
+fn at_most_63_mutexes_are_declared(rt: HostRuntime) -> Result<(), Fail> {
+    let firsts = b"abcdefg";
+    let seconds = b"abcdefghi";
+    let rows: [(&[u8], Option<(u32, KernelWhy)>); 3] = [
         (b"main { critical gi { } }", None),
-        (b"mutex z main { }", Some(KernelWhy::Large)),
-        (b"mutex gi main { }", Some(KernelWhy::Twice)),
+        (b"mutex z main { }", Some((64, KernelWhy::Large))),
+        (b"mutex gi main { }", Some((64, KernelWhy::Twice))),
     ];
-    for (behind, refusal) in mutexes {
-        let text = declared(
-            rt.alloc(),
-            b"mutex ",
-            b"abcdefg",
-            b"abcdefghi",
-            b"\n",
-            behind,
-        )?;
-        assert!(rt; has_refusal(rt.alloc(), &text, 64, refusal));
+    for (behind, refusal) in rows {
+        let text = declared(rt.alloc(), b"mutex ", firsts, seconds, b"\n", behind)?;
+        assert!(rt; tells(rt.alloc(), &text, refusal));
     }
     Ok(())
 }
@@ -542,34 +533,43 @@ fn a_text_that_is_no_kernel_tells_its_line_and_why(rt: HostRuntime) {
 
 #[test]
 fn at_most_32_levels_are_open(rt: HostRuntime) -> Result<(), Fail> {
-    let opened = repeated(rt.alloc(), b"main {", b"if 1 {", 31, b"")?;
-    let blocks = repeated(rt.alloc(), &opened, b"}", 32, b"")?;
-    assert!(rt; is_read(rt.alloc(), &blocks));
-    let more = repeated(rt.alloc(), b"main {", b"if 1\n{", 32, b"")?;
-    assert!(rt; is_refused(rt.alloc(), &more, 33, KernelWhy::Deep));
-    let signs = repeated(rt.alloc(), b"main { let x = ", b"-", 32, b"1 }")?;
-    assert!(rt; is_read(rt.alloc(), &signs));
-    let opened = repeated(rt.alloc(), b"main { let x = ", b"(", 32, b"1")?;
-    let brackets = repeated(rt.alloc(), &opened, b")", 32, b" }")?;
-    assert!(rt; is_read(rt.alloc(), &brackets));
-    let more = repeated(rt.alloc(), b"main { let x = ", b"\n(", 33, b"1")?;
-    assert!(rt; is_refused(rt.alloc(), &more, 34, KernelWhy::Deep));
+    let read: [(&[u8], &[u8], usize, &[u8], &[u8], usize, &[u8]); 3] = [
+        (b"main {", b"if 1 {", 31, b"", b"}", 32, b""),
+        (b"main { let x = ", b"-", 32, b"1 ", b"", 0, b"}"),
+        (b"main { let x = ", b"(", 32, b"1", b")", 32, b" }"),
+    ];
+    for (before, opening, count, between, closing, closed, behind) in read {
+        let opened = repeated(rt.alloc(), before, opening, count, between)?;
+        let text = repeated(rt.alloc(), &opened, closing, closed, behind)?;
+        assert!(rt; is_read(rt.alloc(), &text));
+    }
+    let refused: [(&[u8], &[u8], usize, &[u8], u32); 2] = [
+        (b"main {", b"if 1\n{", 32, b"", 33),
+        (b"main { let x = ", b"\n(", 33, b"1", 34),
+    ];
+    for (before, opening, count, behind, line) in refused {
+        let text = repeated(rt.alloc(), before, opening, count, behind)?;
+        assert!(rt; is_refused(rt.alloc(), &text, line, KernelWhy::Deep));
+    }
     Ok(())
 }
 
 #[test]
 fn long_texts_are_read_to_their_end(rt: HostRuntime) -> Result<(), Fail> {
-    let sum = repeated(rt.alloc(), b"main { let x = 1", b"+1", 32000, b" }")?;
-    assert!(rt; is_read(rt.alloc(), &sum));
-    let stmts = repeated(rt.alloc(), b"main { let x = 1 ", b"x=1 ", 10000, b"}")?;
-    assert!(rt; is_read(rt.alloc(), &stmts));
-    let last = repeated(rt.alloc(), b"main {", b"if 1{}", 10000, b"\nx = 1 }")?;
-    assert!(rt; is_refused(rt.alloc(), &last, 2, KernelWhy::Unknown));
-    // as many `else` parts as a text has room for
-    let elses = repeated(rt.alloc(), b"main{", b"if 1{}else{}", 5460, b"}")?;
-    assert!(rt; is_read(rt.alloc(), &elses));
-    let more = repeated(rt.alloc(), b"main{", b"if 1{}else{}", 5459, b"\nelse{}}")?;
-    assert!(rt; is_refused(rt.alloc(), &more, 2, KernelWhy::Syntax));
+    let unknown = Some((2, KernelWhy::Unknown));
+    let no_syntax = Some((2, KernelWhy::Syntax));
+    let rows: [(&[u8], &[u8], usize, &[u8], Option<(u32, KernelWhy)>); 5] = [
+        (b"main { let x = 1", b"+1", 32_000, b" }", None),
+        (b"main { let x = 1 ", b"x=1 ", 10_000, b"}", None),
+        (b"main {", b"if 1{}", 10_000, b"\nx = 1 }", unknown),
+        // as many `else` parts as a text has room for
+        (b"main{", b"if 1{}else{}", 5_460, b"}", None),
+        (b"main{", b"if 1{}else{}", 5_459, b"\nelse{}}", no_syntax),
+    ];
+    for (before, text, count, behind, refusal) in rows {
+        let text = repeated(rt.alloc(), before, text, count, behind)?;
+        assert!(rt; tells(rt.alloc(), &text, refusal));
+    }
     Ok(())
 }
 

@@ -1,21 +1,13 @@
 //! Runs of small kernels: how their logs are cut, which stop is answered, calls on each log that fail, and what
 //! the gate sees.
-ghost use Rattle.std.specs.Prelude.{IfOk};
-ghost use Rattle.kernel_syntax.specs.Program.{program_of};
-ghost use Rattle.kernel_model.specs.Lawful.{IsLawful};
-ghost use Rattle.region_runner.specs.Answer.{IsBufferSize};
 
-use kernel_reader::read_kernel;
-use kernel_syntax::Kernel;
+use crate::tests::support::{has_failed, is_stopped_so, run, run_with};
 use lane_runner::Stop;
-use region_runner::{Finished, Stopped, run_kernel};
 use std::alloc::Global;
 use std::process::Abort;
-use std::sync::Wait;
 use std::sync::atomic::{AtomicU64, Ordering};
 use std::test::Fail;
-use std::thread::Threads;
-use sw_base::{Folder, Gate, MemFolder, MemLog, NoGate, Path, Trouble};
+use sw_base::{Gate, MemLog, Memory, NoGate, Path, Trouble};
 
 // Each of two lanes adds 1 to every other element.
 const COUNTING: &str = "array a i64 8
@@ -79,41 +71,16 @@ const LEFT: Stop = Stop::Index { line: 3 };
 
 const DIVIDED: Stop = Stop::DivZero { line: 4 };
 
-// The kernel of a text.
-fn kernel_of(alloc: Global, text: &str) -> Result<Kernel, Fail>
-    ensures { IfOk result (λ k. IsLawful (program_of k)) }
-{
-    Ok(read_kernel(alloc, text.as_bytes())?)
-}
-
-// Runs the kernel of a text, where these calls on the log of this task are to fail.
-fn run_failing<R: Threads + Wait + Sync>(
-    rt: &R,
+// A log is of a task of this name, with so many records and bytes.
+fn is_listed(
     alloc: Global,
-    text: &str,
-    size: usize,
-    path: &Path,
-    calls: &[u64],
-) -> Result<Result<Finished<MemLog>, Stopped<MemLog>>, Fail>
-    requires { IsBufferSize size }
-{
-    let kernel = kernel_of(alloc, text)?;
-    let mut folder = MemFolder::new(alloc)?;
-    folder.fail_log(path, calls)?;
-    let root = folder.root(alloc, "d")?;
-    Ok(run_kernel(rt, alloc, &kernel, root, size, &NoGate))
-}
-
-// Runs the kernel of a text.
-fn run<R: Threads + Wait + Sync>(
-    rt: &R,
-    alloc: Global,
-    text: &str,
-    size: usize,
-) -> Result<Result<Finished<MemLog>, Stopped<MemLog>>, Fail>
-    requires { IsBufferSize size }
-{
-    run_failing(rt, alloc, text, size, &Path::root(), &[])
+    log: &(Path, MemLog, u32),
+    due: &(&str, u32, usize),
+) -> Result<bool, Memory> {
+    let (path, log, count) = log;
+    let (name, records, bytes) = due;
+    let is_named = path.bare_name(alloc)?.as_str() == *name;
+    Ok(is_named && count == records && log.bytes().len() == *bytes)
 }
 
 // The names of the logs' tasks, in order, each with the number of its records and of the log's bytes.
@@ -124,28 +91,38 @@ fn listed<R: Abort>(
     expected: &[(&str, u32, usize)],
 ) -> Result<(), Fail> {
     assert_eq!(rt; logs.len(), expected.len());
-    for ((path, log, count), (name, records, bytes)) in logs.iter().zip(expected) {
-        assert_eq!(rt; path.bare_name(alloc)?.as_str(), *name);
-        assert_eq!(rt; count, records, "records of {name}");
-        assert_eq!(rt; log.bytes().len(), *bytes, "bytes of {name}");
+    for (log, due) in logs.iter().zip(expected) {
+        let (name, _, _) = due;
+        assert!(rt; is_listed(alloc, log, due)?, "{name}");
     }
     Ok(())
+}
+
+fn have_same_bytes(one: &[(Path, MemLog, u32)], other: &[(Path, MemLog, u32)]) -> bool {
+    one.len() == other.len()
+        && one
+            .iter()
+            .zip(other)
+            .all(|(one, other)| one.1.bytes() == other.1.bytes())
+}
+
+fn has_pieces(log: Option<&(Path, MemLog, u32)>, lengths: &[usize]) -> bool {
+    match log {
+        Some((_, log, _)) => log.lengths() == lengths,
+        None => false,
+    }
 }
 
 #[test]
 fn pieces_fill_the_buffer_and_the_bytes_stay_the_same(rt: HostRuntime) -> Result<(), Fail> {
     let alloc = rt.alloc();
     let whole = run(&rt, alloc, COUNTING, 4_194_304)?.ok().ok_or("stopped")?;
-    listed(
-        &rt,
-        alloc,
-        &whole.logs,
-        &[
-            ("t.swl", 2, 56),
-            ("t-0.0.swl", 10, 248),
-            ("t-0.1.swl", 10, 248),
-        ],
-    )?;
+    let names = [
+        ("t.swl", 2, 56),
+        ("t-0.0.swl", 10, 248),
+        ("t-0.1.swl", 10, 248),
+    ];
+    listed(&rt, alloc, &whole.logs, &names)?;
     let table: [(usize, &[usize]); 6] = [
         (24, &[8, 24, 24, 24, 24, 24, 24, 24, 24, 24, 24]),
         (47, &[8, 24, 24, 24, 24, 24, 24, 24, 24, 24, 24]),
@@ -157,39 +134,31 @@ fn pieces_fill_the_buffer_and_the_bytes_stay_the_same(rt: HostRuntime) -> Result
     for (size, lengths) in table {
         assert!(rt; size >= 24 && size <= 4_194_304);
         let cut = run(&rt, alloc, COUNTING, size)?.ok().ok_or("stopped")?;
-        assert_eq!(rt; cut.words.as_slice(), [1; 8].as_slice());
-        assert_eq!(rt; cut.logs.len(), 3);
-        assert_eq!(rt; cut.logs[1].1.lengths(), lengths, "at {size}");
-        for (one, other) in cut.logs.iter().zip(&whole.logs) {
-            assert_eq!(rt; one.1.bytes(), other.1.bytes(), "at {size}");
-        }
+        assert!(rt; cut.words.as_slice() == [1; 8].as_slice(), "at {size}");
+        assert!(rt; has_pieces(cut.logs.get(1), lengths), "at {size}");
+        assert!(rt; have_same_bytes(&cut.logs, &whole.logs), "at {size}");
     }
     Ok(())
 }
+
+// A read of 8 bytes at site 1 in line 5, at 4096, of 0; and a write of 8 bytes in line 5, at 4096, of 1.
+const FIRST_READ: [u8; 24] = [
+    1, 8, 0, 1, 0, 0, 0, 5, 0, 0, 0, 0, 0, 0, 16, 0, 0, 0, 0, 0, 0, 0, 0, 0,
+];
+
+const FIRST_WRITE: [u8; 24] = [
+    2, 8, 0, 0, 0, 0, 0, 5, 0, 0, 0, 0, 0, 0, 16, 0, 0, 0, 0, 0, 0, 0, 0, 1,
+];
 
 #[test]
 fn the_first_records_of_a_lane_are_spelled_in_its_log(rt: HostRuntime) -> Result<(), Fail> {
     let alloc = rt.alloc();
     let finished = run(&rt, alloc, COUNTING, 4096)?.ok().ok_or("stopped")?;
-    assert!(rt; finished.logs.len() > 1);
-    let bytes = finished.logs[1].1.bytes();
-    assert!(rt; bytes.len() > 56);
-    assert_eq!(rt; &bytes[..8], b"SWLOG001".as_slice());
-    // A read of 8 bytes at site 1 in line 5, at 4096, of 0; and a write of 8 bytes in line 5, at 4096, of 1.
-    assert_eq!(rt;
-        &bytes[8..32],
-        [
-            1, 8, 0, 1, 0, 0, 0, 5, 0, 0, 0, 0, 0, 0, 16, 0, 0, 0, 0, 0, 0, 0, 0, 0
-        ]
-        .as_slice()
-    );
-    assert_eq!(rt;
-        &bytes[32..56],
-        [
-            2, 8, 0, 0, 0, 0, 0, 5, 0, 0, 0, 0, 0, 0, 16, 0, 0, 0, 0, 0, 0, 0, 0, 1
-        ]
-        .as_slice()
-    );
+    let (_, log, _) = finished.logs.get(1).ok_or("a log")?;
+    let bytes = log.bytes();
+    assert!(rt; bytes.len() > 56 && bytes.starts_with(b"SWLOG001"));
+    assert_eq!(rt; bytes.get(8..32), Some(FIRST_READ.as_slice()));
+    assert_eq!(rt; bytes.get(32..56), Some(FIRST_WRITE.as_slice()));
     Ok(())
 }
 
@@ -211,19 +180,13 @@ fn the_least_lane_that_stopped_is_answered(rt: HostRuntime) -> Result<(), Fail> 
     ];
     for (text, name, why, [first, second], words) in table {
         let stopped = run(&rt, alloc, text, 4096)?.err().ok_or("ended")?;
-        assert_eq!(rt; stopped.path.bare_name(alloc)?.as_str(), name);
-        assert_eq!(rt; stopped.why, why);
-        assert_eq!(rt; stopped.words.as_slice(), words);
-        listed(
-            &rt,
-            alloc,
-            &stopped.logs,
-            &[
-                ("t.swl", 1, 32),
-                ("t-0.0.swl", first, 8 + 24 * first as usize),
-                ("t-0.1.swl", second, 8 + 24 * second as usize),
-            ],
-        )?;
+        assert!(rt; is_stopped_so(alloc, &stopped, name, why, words)?, "{name}");
+        let logs = [
+            ("t.swl", 1, 32),
+            ("t-0.0.swl", first, 8 + 24 * first as usize),
+            ("t-0.1.swl", second, 8 + 24 * second as usize),
+        ];
+        listed(&rt, alloc, &stopped.logs, &logs)?;
     }
     Ok(())
 }
@@ -271,18 +234,16 @@ fn each_call_on_each_log_fails_in_turn(rt: HostRuntime) -> Result<(), Fail> {
     ];
     for task in &tasks {
         for call in 1..=4 {
-            let run = run_failing(&rt, alloc, COUNTING, 96, task, &[call])?;
+            let run = run_with(&rt, alloc, COUNTING, 96, &NoGate, (task, &[call]))?;
             let stopped = run.err().ok_or("ended")?;
-            assert!(rt; stopped.path == *task, "call {call}");
-            assert_eq!(rt; stopped.why, Stop::Trouble(Trouble::Failed), "call {call}");
-            assert_eq!(rt; stopped.words.len(), 8);
-            assert!(rt; !stopped.logs.is_empty());
+            assert!(rt; has_failed(&stopped, task), "call {call}");
+            assert!(rt; stopped.words.len() == 8 && !stopped.logs.is_empty());
         }
-        assert!(rt; run_failing(&rt, alloc, COUNTING, 96, task, &[5])?.is_ok());
+        assert!(rt; run_with(&rt, alloc, COUNTING, 96, &NoGate, (task, &[5]))?.is_ok());
     }
     // With a buffer for one record the root's log takes five calls.
-    assert!(rt; run_failing(&rt, alloc, COUNTING, 24, &tasks[0], &[5])?.is_err());
-    assert!(rt; run_failing(&rt, alloc, COUNTING, 24, &tasks[0], &[6])?.is_ok());
+    assert!(rt; run_with(&rt, alloc, COUNTING, 24, &NoGate, (&tasks[0], &[5]))?.is_err());
+    assert!(rt; run_with(&rt, alloc, COUNTING, 24, &NoGate, (&tasks[0], &[6]))?.is_ok());
     Ok(())
 }
 
@@ -290,28 +251,32 @@ fn each_call_on_each_log_fails_in_turn(rt: HostRuntime) -> Result<(), Fail> {
 fn a_stop_or_failure_of_the_least_lane_is_answered(rt: HostRuntime) -> Result<(), Fail> {
     let alloc = rt.alloc();
     // After the stop of a lane the root's log is closed, and a failure of that call leaves the stop.
-    let run = run_failing(&rt, alloc, LEAVING, 4096, &Path::root(), &[4])?;
+    let run = run_with(&rt, alloc, LEAVING, 4096, &NoGate, (&Path::root(), &[4]))?;
     let stopped = run.err().ok_or("ended")?;
     assert_eq!(rt; stopped.why, Stop::Index { line: 3 });
     assert_eq!(rt; stopped.logs.len(), 3);
     // So is the log of a lane that waits, with the same result.
     let first = Path::root().child(0, 0, 2);
     let second = Path::root().child(0, 1, 2);
-    let run = run_failing(&rt, alloc, LEAVING, 4096, &first, &[2])?;
+    let run = run_with(&rt, alloc, LEAVING, 4096, &NoGate, (&first, &[2]))?;
     let stopped = run.err().ok_or("ended")?;
-    assert!(rt; stopped.path == second);
-    assert_eq!(rt; stopped.why, Stop::Index { line: 3 });
+    assert!(rt; stopped.path == second && stopped.why == LEFT);
     assert_eq!(rt; stopped.logs.len(), 3);
-    // Of two lanes that stop in a phase the first is answered.
-    let run = run_failing(&rt, alloc, LEAVING, 24, &first, &[2])?;
+    Ok(())
+}
+
+#[test]
+fn of_two_lanes_that_stop_the_first_is_answered(rt: HostRuntime) -> Result<(), Fail> {
+    let alloc = rt.alloc();
+    let first = Path::root().child(0, 0, 2);
+    let run = run_with(&rt, alloc, LEAVING, 24, &NoGate, (&first, &[2]))?;
     let stopped = run.err().ok_or("ended")?;
-    assert!(rt; stopped.path == first);
-    assert_eq!(rt; stopped.why, Stop::Trouble(Trouble::Failed));
+    assert!(rt; has_failed(&stopped, &first));
     // A lane that ended is closed after the last phase, so the stop stays there too.
-    let run = run_failing(&rt, alloc, LEAVING_UNBARRED, 4096, &first, &[2])?;
+    let second = Path::root().child(0, 1, 2);
+    let run = run_with(&rt, alloc, LEAVING_UNBARRED, 4096, &NoGate, (&first, &[2]))?;
     let stopped = run.err().ok_or("ended")?;
-    assert!(rt; stopped.path == second);
-    assert_eq!(rt; stopped.why, Stop::Index { line: 3 });
+    assert!(rt; stopped.path == second && stopped.why == LEFT);
     Ok(())
 }
 
@@ -320,7 +285,7 @@ fn a_failed_log_lacks_few_of_the_stores(rt: HostRuntime) -> Result<(), Fail> {
     let alloc = rt.alloc();
     // A buffer for ten records: the second one fails after 20 stores at least, and nobody stores once 30 records aren't there.
     let text = "array a i64 1000 main { loop i in 0 .. 1000 { a[i] = 1 } }";
-    let run = run_failing(&rt, alloc, text, 240, &Path::root(), &[3])?;
+    let run = run_with(&rt, alloc, text, 240, &NoGate, (&Path::root(), &[3]))?;
     let stopped = run.err().ok_or("ended")?;
     assert_eq!(rt; stopped.why, Stop::Trouble(Trouble::Failed));
     assert_eq!(rt; stopped.words.len(), 1000);
@@ -355,13 +320,11 @@ fn the_gate_sees_each_lane_start_each_phase(rt: HostRuntime) -> Result<(), Fail>
         (LEAVING_UNBARRED, [1, 1]),
     ];
     for (text, phases) in table {
-        let kernel = kernel_of(alloc, text)?;
         let gate = CountingGate {
             lanes: [AtomicU64::new(0), AtomicU64::new(0)],
             others: AtomicU64::new(0),
         };
-        let root = MemLog::new(alloc, "d")?;
-        let _ = run_kernel(&rt, alloc, &kernel, root, 4096, &gate);
+        let _ = run_with(&rt, alloc, text, 4096, &gate, (&Path::root(), &[]))?;
         assert_eq!(rt; gate.lanes[0].load(Ordering::SeqCst), phases[0]);
         assert_eq!(rt; gate.lanes[1].load(Ordering::SeqCst), phases[1]);
         assert_eq!(rt; gate.others.load(Ordering::SeqCst), 0);

@@ -1,6 +1,6 @@
 //! Folders by hand with their first bad places, and each public call with ample memory.
 
-use crate::{RecordWhy, Segment, Sweep, WalkFault, walk};
+use log_walk::{RecordWhy, Segment, Sweep, WalkFault, walk};
 use race_model::IndexWhy;
 use span_label::Triple;
 use std::alloc::{AllocError, Global};
@@ -59,10 +59,13 @@ fn answer_of(answer: Result<Vec<Segment>, WalkFault>) -> Told {
 }
 
 fn spelled(kind: u8, size: u8, line: u8, addr: u64, value: u8) -> Spelled {
-    let [a, b, c, d, e, f, g, h] = addr.to_be_bytes();
-    [
-        kind, size, 0, 0, 0, 0, 0, line, a, b, c, d, e, f, g, h, 0, 0, 0, 0, 0, 0, 0, value,
-    ]
+    let mut bytes = [0; 24];
+    bytes[0] = kind;
+    bytes[1] = size;
+    bytes[7] = line;
+    bytes[8..16].copy_from_slice(&addr.to_be_bytes());
+    bytes[23] = value;
+    bytes
 }
 
 fn write(addr: u64) -> Spelled {
@@ -97,19 +100,39 @@ fn log(alloc: Global, records: &[Spelled]) -> Result<Vec<u8>, AllocError> {
 
 // A row of the root, or of a lane of its region.
 fn row(depth: u8, lane: u8, span: u8, records: u32) -> [u8; 48] {
-    let [a, b, c, d] = records.to_be_bytes();
+    let mut bytes = [0; 48];
+    bytes[3] = depth;
+    bytes[13] = lane;
+    bytes[15] = span;
+    bytes[44..].copy_from_slice(&records.to_be_bytes());
+    bytes
+}
+
+// The rows of a root with a region of two lanes.
+fn rows(records: [u32; 3]) -> [[u8; 48]; 3] {
     [
-        0, 0, 0, depth, 0, 0, 0, 0, 0, 0, 0, 0, 0, lane, 0, span, 0, 0, 0, 0, 0, 0, 0, 0, 0, 0, 0,
-        0, 0, 0, 0, 0, 0, 0, 0, 0, 0, 0, 0, 0, 0, 0, 0, 0, a, b, c, d,
+        row(0, 0, 0, records[0]),
+        row(1, 0, 2, records[1]),
+        row(1, 1, 2, records[2]),
     ]
 }
 
-fn index(alloc: Global, span: u8, records: [u32; 3]) -> Result<Vec<u8>, AllocError> {
-    let mut bytes = Vec::from_slice(alloc, &INDEX_HEADER)?;
-    bytes.extend_from_slice(&row(0, 0, 0, records[0]))?;
-    bytes.extend_from_slice(&row(1, 0, 2, records[1]))?;
-    bytes.extend_from_slice(&row(1, 1, span, records[2]))?;
-    Ok(bytes)
+// A folder with these rows in its index, and these logs.
+fn folder_of(
+    alloc: Global,
+    rows: &[[u8; 48]],
+    logs: &[(&str, &[Spelled])],
+) -> Result<MemFolder, Memory> {
+    let mut folder = MemFolder::new(alloc)?;
+    let mut index = Vec::from_slice(alloc, &INDEX_HEADER)?;
+    for row in rows {
+        index.extend_from_slice(row)?;
+    }
+    folder.hold("d/index.swi", &index)?;
+    for (name, records) in logs {
+        folder.hold(name, &log(alloc, records)?)?;
+    }
+    Ok(folder)
 }
 
 // A root with a region of two lanes, and the logs of the three.
@@ -120,12 +143,12 @@ fn folder(
     first: &[Spelled],
     second: &[Spelled],
 ) -> Result<MemFolder, Memory> {
-    let mut folder = MemFolder::new(alloc)?;
-    folder.hold("d/index.swi", &index(alloc, 2, records)?)?;
-    folder.hold("d/t.swl", &log(alloc, root)?)?;
-    folder.hold("d/t-0.0.swl", &log(alloc, first)?)?;
-    folder.hold("d/t-0.1.swl", &log(alloc, second)?)?;
-    Ok(folder)
+    let logs = [
+        ("d/t.swl", root),
+        ("d/t-0.0.swl", first),
+        ("d/t-0.1.swl", second),
+    ];
+    folder_of(alloc, &rows(records), &logs)
 }
 
 // What is told of a folder, the same where no read gives more than five bytes.
@@ -207,19 +230,14 @@ fn segments_have_the_labels_of_their_tasks(rt: HostRuntime) -> Result<(), Fail> 
         nested_row(1, 2),
         row(1, 1, 2, 3),
     ];
-    let mut bytes = Vec::from_slice(alloc, &INDEX_HEADER)?;
-    for row in &rows {
-        bytes.extend_from_slice(row)?;
-    }
-    let mut folder = MemFolder::new(alloc)?;
-    folder.hold("d/index.swi", &bytes)?;
-    folder.hold("d/t.swl", &log(alloc, &root())?)?;
-    let forks = [other(REGION, 3, 0, 2), barrier, end];
-    folder.hold("d/t-0.0.swl", &log(alloc, &forks)?)?;
-    folder.hold("d/t-0.0-0.0.swl", &log(alloc, &[write(4096), end])?)?;
-    folder.hold("d/t-0.0-0.1.swl", &log(alloc, &[write(4104), end])?)?;
-    let after = [barrier, write(4104), end];
-    folder.hold("d/t-0.1.swl", &log(alloc, &after)?)?;
+    let logs: [(&str, &[Spelled]); 5] = [
+        ("d/t.swl", &root()),
+        ("d/t-0.0.swl", &[other(REGION, 3, 0, 2), barrier, end]),
+        ("d/t-0.0-0.0.swl", &[write(4096), end]),
+        ("d/t-0.0-0.1.swl", &[write(4104), end]),
+        ("d/t-0.1.swl", &[barrier, write(4104), end]),
+    ];
+    let mut folder = folder_of(alloc, &rows, &logs)?;
     let Ok(found) = walk(alloc, &mut folder, "d") else {
         return Err(Fail::new("refused"));
     };
@@ -351,10 +369,13 @@ fn a_region_that_is_not_forked_comes_before_too_few_barriers(rt: HostRuntime) ->
     let end = other(END, 9, 0, 0);
     let mut below = row(2, 1, 2, 1);
     below[23] = 1;
-    let mut bytes = index(alloc, 2, [2, 5, 1])?;
-    bytes.extend_from_slice(&below)?;
-    let mut folder = folder(alloc, [2, 5, 1], &root(), &lane(4096), &[end])?;
-    folder.hold("d/index.swi", &bytes)?;
+    let [first, second, third] = rows([2, 5, 1]);
+    let logs: [(&str, &[Spelled]); 3] = [
+        ("d/t.swl", &root()),
+        ("d/t-0.0.swl", &lane(4096)),
+        ("d/t-0.1.swl", &[end]),
+    ];
+    let folder = folder_of(alloc, &[first, second, third, below], &logs)?;
     assert_eq!(rt;
         told_twice(alloc, folder)?,
         Told::Record(2, 1, RecordWhy::RegionRows)
@@ -413,8 +434,13 @@ fn the_first_log_in_row_order_is_told(rt: HostRuntime) -> Result<(), Fail> {
 fn the_index_comes_before_the_logs(rt: HostRuntime) -> Result<(), Fail> {
     let alloc = rt.alloc();
     let bad = [spelled(0, 0, 1, 0, 2), other(END, 9, 0, 0)];
-    let mut folder = folder(alloc, [2, 5, 5], &bad, &lane(4096), &lane(4104))?;
-    folder.hold("d/index.swi", &index(alloc, 0, [2, 5, 5])?)?;
+    let rows = [row(0, 0, 0, 2), row(1, 0, 2, 5), row(1, 1, 0, 5)];
+    let logs: [(&str, &[Spelled]); 3] = [
+        ("d/t.swl", &bad),
+        ("d/t-0.0.swl", &lane(4096)),
+        ("d/t-0.1.swl", &lane(4104)),
+    ];
+    let mut folder = folder_of(alloc, &rows, &logs)?;
     assert_eq!(rt; answer_of(walk(alloc, &mut folder, "e")), Told::NoIndex);
     assert_eq!(rt; told_twice(alloc, folder)?, Told::Row(3, IndexWhy::Span));
     Ok(())
@@ -423,9 +449,8 @@ fn the_index_comes_before_the_logs(rt: HostRuntime) -> Result<(), Fail> {
 #[test]
 fn a_missing_log_comes_before_a_later_bad_one(rt: HostRuntime) -> Result<(), Fail> {
     let alloc = rt.alloc();
-    let mut folder = MemFolder::new(alloc)?;
-    folder.hold("d/index.swi", &index(alloc, 2, [2, 5, 5])?)?;
-    folder.hold("d/t.swl", &log(alloc, &root())?)?;
+    let logs: [(&str, &[Spelled]); 1] = [("d/t.swl", &root())];
+    let mut folder = folder_of(alloc, &rows([2, 5, 5]), &logs)?;
     folder.hold("d/t-0.1.swl", b"SWLOG002")?;
     assert_eq!(rt; told_twice(alloc, folder)?, Told::Missing(1));
     Ok(())
@@ -453,14 +478,10 @@ fn the_65537th_segment_is_one_too_many(rt: HostRuntime) -> Result<(), Fail> {
         records.push(other(BARRIER, 5, 0, 0))?;
     }
     records.push(other(END, 8, 0, 0))?;
-    let mut bytes = Vec::from_slice(alloc, &INDEX_HEADER)?;
-    bytes.extend_from_slice(&row(0, 0, 0, 2))?;
-    bytes.extend_from_slice(&row(1, 0, 1, 131_075))?;
-    let mut folder = MemFolder::new(alloc)?;
-    folder.hold("d/index.swi", &bytes)?;
     let root = [other(REGION, 1, 0, 1), other(END, 9, 0, 0)];
-    folder.hold("d/t.swl", &log(alloc, &root)?)?;
-    folder.hold("d/t-0.0.swl", &log(alloc, &records)?)?;
+    let rows = [row(0, 0, 0, 2), row(1, 0, 1, 131_075)];
+    let logs: [(&str, &[Spelled]); 2] = [("d/t.swl", &root), ("d/t-0.0.swl", &records)];
+    let mut folder = folder_of(alloc, &rows, &logs)?;
     assert_eq!(rt;
         answer_of(walk(alloc, &mut folder, "d")),
         Told::TooMany(1, 131_073)
@@ -515,18 +536,15 @@ fn a_row_that_claims_too_many_records_is_told(rt: HostRuntime) -> Result<(), Fai
 fn two_regions(alloc: Global) -> Result<MemFolder, Memory> {
     let mut second = row(1, 0, 1, 2);
     second[11] = 1;
-    let mut bytes = Vec::from_slice(alloc, &INDEX_HEADER)?;
-    bytes.extend_from_slice(&row(0, 0, 0, 3))?;
-    bytes.extend_from_slice(&row(1, 0, 1, 2))?;
-    bytes.extend_from_slice(&second)?;
     let fork = other(REGION, 1, 0, 1);
     let end = other(END, 9, 0, 0);
-    let mut folder = MemFolder::new(alloc)?;
-    folder.hold("d/index.swi", &bytes)?;
-    folder.hold("d/t.swl", &log(alloc, &[fork, fork, end])?)?;
-    folder.hold("d/t-0.0.swl", &log(alloc, &[write(4096), end])?)?;
-    folder.hold("d/t-1.0.swl", &log(alloc, &[write(4104), end])?)?;
-    Ok(folder)
+    let rows = [row(0, 0, 0, 3), row(1, 0, 1, 2), second];
+    let logs: [(&str, &[Spelled]); 3] = [
+        ("d/t.swl", &[fork, fork, end]),
+        ("d/t-0.0.swl", &[write(4096), end]),
+        ("d/t-1.0.swl", &[write(4104), end]),
+    ];
+    folder_of(alloc, &rows, &logs)
 }
 
 // How many regions a sweep gives, up to two.

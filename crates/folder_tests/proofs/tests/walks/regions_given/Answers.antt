@@ -5,7 +5,7 @@ use Rattle.log_format.specs.declared.format.TheConstants.{FORMAT}
 use Rattle.log_segment.specs.declared.segment.Segment.{Segment}
 use Rattle.sw_base.specs.Environment.{Content}
 use Rattle.log_walk.specs.Sweep.{HasSwept, GivesRegion}
-use Rattle.log_walk.proofs.tests.regions_given.Goals as goal
+use Rattle.folder_tests.proofs.tests.walks.regions_given.Goals as goal
 
 pub next-requires-2-clause-swept : goal.next-requires-2-clause-swept
 next-requires-2-clause-swept g c κs within =

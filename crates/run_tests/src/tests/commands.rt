@@ -1,5 +1,7 @@
-use crate::{print_outcome, run};
+//! What the command `run` answers and prints, and what it leaves in the folder.
+
 use command_answer::{DONE, INDEX_THERE, KERNEL_STOPPED};
+use run_command::{print_outcome, run};
 use std::alloc::Global;
 use std::process::Abort;
 use std::sync::Wait;

@@ -1,15 +1,26 @@
-use super::*;
+//! Tokens of texts.
+
 use kernel_syntax::Op;
+use kernel_text::{KernelWhy, Lexeme, Sign, TextFault, Token, operation, tokens};
 use std::alloc::Global;
 use std::test::Fail;
+
+// 0, two dots and 8.
+fn is_range(tokens: &[Token]) -> bool {
+    match tokens {
+        [first, second, third] => {
+            matches!(first.lexeme, Lexeme::Number(0))
+                && matches!(second.lexeme, Lexeme::Mark(Sign::Dots))
+                && matches!(third.lexeme, Lexeme::Number(8))
+        }
+        _ => false,
+    }
+}
 
 #[test]
 fn digits_end_before_dots(rt: HostRuntime) -> Result<(), Fail> {
     let found = tokens(rt.alloc(), b"0..8").ok().ok_or("tokens")?;
-    assert_eq!(rt; found.len(), 3);
-    assert!(rt; matches!(found[0].lexeme, Lexeme::Number(0)));
-    assert!(rt; matches!(found[1].lexeme, Lexeme::Mark(Sign::Dots)));
-    assert!(rt; matches!(found[2].lexeme, Lexeme::Number(8)));
+    assert!(rt; is_range(&found));
     Ok(())
 }
 

@@ -1,7 +1,10 @@
-use super::*;
+//! Parse trees of kernels.
+
+use super::repeating::repeated;
+use kernel_parser::{Declaration, KernelTree, ScheduleTree, Statement, Tree, parse};
 use kernel_syntax::Op;
 use kernel_text::tokens;
-use std::alloc::{AllocError, Global};
+use std::alloc::Global;
 use std::test::Fail;
 
 fn parsed(alloc: Global, text: &[u8]) -> Option<KernelTree> {
@@ -59,91 +62,76 @@ fn operators_group_as_they_bind(rt: HostRuntime) {
     }
 }
 
+fn are_declarations(declarations: &[Declaration]) -> bool {
+    matches!(
+        declarations,
+        [
+            Declaration::Array {
+                line: 1,
+                name_line: 2,
+                width_line: 3,
+                count_line: 4,
+                count: 8,
+                ..
+            },
+            Declaration::Mutex {
+                line: 5,
+                name_line: 6,
+                ..
+            },
+        ]
+    )
+}
+
+fn is_loop(stmts: &[Statement]) -> bool {
+    match stmts {
+        [
+            Statement::For {
+                line: 9,
+                range,
+                schedule: ScheduleTree::StaticBy {
+                    line: 15,
+                    number_line: 16,
+                    chunk: 2,
+                },
+                nowait: Some(17),
+                body,
+            },
+        ] => {
+            (range.name_line, range.in_line, range.dots) == (10, 11, 13)
+                && (body.opened, body.closed) == (18, 19)
+        }
+        _ => false,
+    }
+}
+
 #[test]
 fn each_token_keeps_its_line(rt: HostRuntime) -> Result<(), Fail> {
     let text =
         b"array\na\ni64\n8\nmutex\nm\nmain\n{\nfor\ni\nin\n0\n..\n4\nstatic\n2\nnowait\n{\n}\n}";
     let tree = parsed(rt.alloc(), text).ok_or("tree")?;
-    let [
-        Declaration::Array {
-            line: 1,
-            name_line: 2,
-            width_line: 3,
-            count_line: 4,
-            count: 8,
-            ..
-        },
-        Declaration::Mutex {
-            line: 5,
-            name_line: 6,
-            ..
-        },
-    ] = tree.declarations.as_slice()
-    else {
-        return Err("declarations".into());
-    };
-    assert_eq!(rt; tree.line, 7);
-    assert_eq!(rt; tree.body.opened, 8);
-    assert_eq!(rt; tree.body.closed, 20);
-    let [
-        Statement::For {
-            line,
-            range,
-            schedule,
-            nowait,
-            body,
-        },
-    ] = tree.body.stmts.as_slice()
-    else {
-        return Err("for".into());
-    };
-    assert_eq!(rt; *line, 9);
-    assert_eq!(rt; range.name_line, 10);
-    assert_eq!(rt; range.in_line, 11);
-    assert_eq!(rt; range.dots, 13);
-    assert!(rt;
-        matches!(
-            schedule,
-            ScheduleTree::StaticBy {
-                line: 15,
-                number_line: 16,
-                chunk: 2
-            }
-        )
-    );
-    assert!(rt; *nowait == Some(17));
-    assert_eq!(rt; body.opened, 18);
-    assert_eq!(rt; body.closed, 19);
+    assert_eq!(rt; (tree.line, tree.body.opened, tree.body.closed), (7, 8, 20));
+    assert!(rt; are_declarations(&tree.declarations));
+    assert!(rt; is_loop(&tree.body.stmts));
     Ok(())
+}
+
+// An `if` with one `if` in it, with two statements in its `else`, and an `if` behind it.
+fn has_else_at_the_first(stmts: &[Statement]) -> bool {
+    match stmts {
+        [Statement::IfElse { yes, no, .. }, Statement::If { .. }] => {
+            matches!(yes.stmts.as_slice(), [Statement::If { .. }]) && no.stmts.len() == 2
+        }
+        _ => false,
+    }
 }
 
 #[test]
 fn an_else_belongs_to_the_if_before_it(rt: HostRuntime) -> Result<(), Fail> {
     let text = b"main { if 1 { if 2 { } } else { barrier barrier } if 3 { } }";
     let tree = parsed(rt.alloc(), text).ok_or("tree")?;
-    let [Statement::IfElse { yes, no, .. }, Statement::If { .. }] = tree.body.stmts.as_slice()
-    else {
-        return Err("else".into());
-    };
-    assert!(rt; matches!(yes.stmts.as_slice(), [Statement::If { .. }]));
-    assert_eq!(rt; no.stmts.len(), 2);
+    assert!(rt; has_else_at_the_first(&tree.body.stmts));
     Ok(())
-}
-
-// So many times a text, with others before and behind.
-fn repeated(
-    alloc: Global,
-    before: &[u8],
-    text: &[u8],
-    count: usize,
-    behind: &[u8],
-) -> Result<Vec<u8>, AllocError> {
-    let mut bytes = Vec::from_slice(alloc, before)?;
-    for _ in 0..count {
-        bytes.extend_from_slice(text)?;
-    }
-    bytes.extend_from_slice(behind)?;
-    Ok(bytes)
 }
 
 #[test]

@@ -1,0 +1,7 @@
+//! Tests of the texts of kernels: their tokens, their parse trees, and which kernel is read or where and why there is none.
+//!
+//! They stand beside the crates that they test, and not in them, since a crate with tests is proved twice.
+#![tactic(auto)]
+
+#[cfg(test)]
+mod tests;

@@ -1,0 +1,4 @@
+mod kernels;
+mod repeating;
+mod tokens;
+mod trees;
