@@ -42,7 +42,7 @@ module _ (place : LogPlace) (stop other : MaybeStop) (memory : IsForMemory stop 
     by (Some stopped) is =
         let below = replicate (suc (length stopped.0)) step in
         let longer : (path ++ below ≡ stopped.0) → IsTrouble stopped.1 = λ same.
-            absurd (let e = ap (λ (p : List Step). length p) same in let l = length-append path below in let r = length-replicate (suc (length stopped.0)) step in omega (arith, e, l, r)) in
+        absurd (let e = ap (λ (p : List Step). length p) same in let l = length-append path below in let r = length-replicate (suc (length stopped.0)) step in omega (arith, e, l, r)) in
         absurd (subst (λ (s : MaybeStop). MayLack s (path ++ below) 1) ended (too below 1 (subst (λ (s : MaybeStop). MayLack s (path ++ below) 1) (sym is) (inr (omega arith, longer)))))
 
   entry_weaker : (path : List Step) → MayLackToo path → (records : List Record) (e : Entry) → IsEntryOf place stop path records e → IsEntryOf place other path records e

@@ -14,8 +14,8 @@
 //! of each witness without that premise. A region that stopped is told with the path of the task that did.
 //!
 //! What a region hands on, the logs of its tasks, is kept behind that of the regions before: lane by lane, each task's log before those
-//! of the tasks below it. Where the region ended, none is missing and each has all its records; where it stopped, a log may have a
-//! prefix of them, if no memory was found or it counts a fault, and only for want of memory one is missing. A lane stops where a
+//! of the tasks below it. Where the region ended, none is missing, each has all its records, and none counts a fault; where it stopped, a
+//! log may have a prefix of them, if no memory was found or it counts a fault, and only for want of memory one is missing. A lane stops where a
 //! region that it forked has ended and then more than 65,535 tasks are below its own, and nowhere else for that reason.
 #![tactic(auto)]
 
