@@ -1,23 +1,12 @@
 //! `sword` runs fork-join loop kernels and logs their accesses, checks the logs for data races, compares them with a kernel, and prints them.
 //!
-//! What it promises stands on `top::sword`: `check` prints exactly the line pairs of accesses that race or names the folder's
-//! first bad place, and a run that ends leaves each task's whole trace under the values that it read, in one history of all tasks.
+//! What it promises stands on `top_call::sword`, which is given the host here: its files, its standard output and its threads.
 #![tactic(auto)]
 
 ghost use Rattle.std.specs.Prelude.{◌≡◌};
 ghost use Rattle.std.specs.Process.{exit_status};
 
-mod arguments;
-mod checking;
-mod generating;
 mod host;
-mod printing;
-mod refusing;
-mod replaying;
-mod running;
-mod showing;
-mod texts;
-mod top;
 
 use command_answer::NO_MEMORY;
 use host::{HostFolder, HostOut};
@@ -28,9 +17,7 @@ use std::process::ExitCode;
 use std::sync::Wait;
 use std::thread::{Builder, Threads};
 use sw_base::NoGate;
-
-/// How many bytes the stack has. An expression may be nearly as deep as its kernel's text is long, and so are the calls that compute it.
-const STACK: usize = 1 << 28;
+use top_call::{STACK, sword};
 
 /// The arguments after the program's name. Where one of them isn't UTF-8 they ask for nothing, and so none is answered.
 fn given_arguments(rt: &HostRuntime) -> Result<Vec<String>, AllocError> {
@@ -62,7 +49,7 @@ fn work<R: Threads + Wait + Sync>(threads: &R, rt: HostRuntime) -> ExitCode {
     };
     let mut folder = HostFolder::new(rt);
     let mut out = HostOut::new(rt);
-    exit_code(top::sword(threads, alloc, &arguments, &mut folder, &mut out, &NoGate))
+    exit_code(sword(threads, alloc, &arguments, &mut folder, &mut out, &NoGate))
 }
 
 /// On a stack of its own, or on this one where no thread can be started.
@@ -75,28 +62,3 @@ fn main(rt: HostRuntime) -> ExitCode {
         Err(_) => work(&rt, rt),
     }
 }
-
-#[cfg(test)]
-mod example_tests;
-#[cfg(test)]
-mod generated_tests;
-#[cfg(test)]
-mod graph_tests;
-#[cfg(test)]
-mod kernel_tests;
-#[cfg(test)]
-mod pair_tests;
-#[cfg(test)]
-mod replay_tests;
-#[cfg(test)]
-mod run_tests;
-#[cfg(test)]
-mod stop_tests;
-#[cfg(test)]
-mod sweep_tests;
-#[cfg(test)]
-mod tests;
-#[cfg(test)]
-mod text_tests;
-#[cfg(test)]
-mod worker_tests;

@@ -1,0 +1,6 @@
+mod folders;
+mod generated;
+mod graph;
+mod sweeping;
+mod texts;
+mod workers;

@@ -1,0 +1,375 @@
+//! The checker against a search of the graph of edges: small and slow on purpose, and written from the definition alone.
+ghost use Rattle.std.specs.Prelude.{◌<◌};
+
+use asking::{Rec, Step, answers, made_folder};
+use command_answer::RACES;
+use std::alloc::{AllocError, Global};
+use std::test::Fail;
+use sw_base::{MemFolder, Memory};
+
+const READ: u8 = 1;
+
+const WRITE: u8 = 2;
+
+const LOCK: u8 = 3;
+
+const UNLOCK: u8 = 4;
+
+const BARRIER: u8 = 5;
+
+const REGION: u8 = 6;
+
+const END: u8 = 8;
+
+/// A task of a run.
+#[derive(Drop)]
+struct Task {
+    steps: Vec<Step>,
+    /// How many barriers its team passes.
+    barriers: u64,
+    records: Vec<Rec>,
+}
+
+/// A linear congruential sequence, and the line of the access that was made last.
+#[derive(Drop)]
+struct Numbers {
+    state: u64,
+    line: u32,
+}
+
+impl Numbers {
+    fn below(&mut self, limit: u64) -> u64
+        requires { 0 < limit }
+        ensures { result < limit }
+    {
+        self.state = self
+            .state
+            .wrapping_mul(6_364_136_223_846_793_005)
+            .wrapping_add(1_442_695_040_888_963_407);
+        (self.state >> 33) % limit
+    }
+
+    /// A read or a write on a line of its own, of some of 71 bytes.
+    fn access(&mut self) -> Rec {
+        self.line = self.line.wrapping_add(1);
+        let size = [1, 2, 4, 8][self.below(4) as usize];
+        let kind = if self.below(3) == 0 { WRITE } else { READ };
+        (kind, size, self.line, 4096 + self.below(64), 0)
+    }
+}
+
+/// Some accesses, with no mutex, one or two. The mutexes are 1 and 2, so that a set of them is told by a sum.
+fn add_accesses(numbers: &mut Numbers, records: &mut Vec<Rec>) -> Result<(), AllocError> {
+    let mutexes = numbers.below(6);
+    for mutex in [1, 2] {
+        if mutexes & mutex != 0 && mutexes < 4 {
+            records.push((LOCK, 0, 2, mutex, 0))?;
+        }
+    }
+    for _ in 0..numbers.below(3) {
+        records.push(numbers.access())?;
+    }
+    for mutex in [2, 1] {
+        if mutexes & mutex != 0 && mutexes < 4 {
+            records.push((UNLOCK, 0, 4, mutex, 0))?;
+        }
+    }
+    Ok(())
+}
+
+/// Forks the task's next region: its lanes with no record yet.
+fn fork(
+    alloc: Global,
+    numbers: &mut Numbers,
+    task: &mut Task,
+    region: u32,
+    lanes: &mut Vec<Task>,
+) -> Result<(), AllocError> {
+    let span = numbers.below(3) as u16 + 1;
+    let barriers = numbers.below(3);
+    task.records.push((REGION, 0, 6, 0, u64::from(span)))?;
+    for lane in 0..span {
+        let mut steps = task.steps.clone()?;
+        steps.push((region, lane, span))?;
+        lanes.push(Task {
+            steps,
+            barriers,
+            records: Vec::new(alloc),
+        })?;
+    }
+    Ok(())
+}
+
+/// Gives the task its records, and adds the lanes that it forks.
+fn fill(
+    alloc: Global,
+    numbers: &mut Numbers,
+    task: &mut Task,
+    lanes: &mut Vec<Task>,
+) -> Result<(), AllocError> {
+    let regions = match task.steps.len() {
+        0 | 1 => 3,
+        2 => 1,
+        3 => numbers.below(2) as u32,
+        _ => 0,
+    };
+    for turn in 0..3 {
+        let barrier_first = numbers.below(2) == 0;
+        let has_barrier = u64::from(turn) < task.barriers;
+        add_accesses(numbers, &mut task.records)?;
+        if has_barrier && barrier_first {
+            task.records.push((BARRIER, 0, 5, 0, 0))?;
+        }
+        if turn < regions {
+            fork(alloc, numbers, task, turn, lanes)?;
+            add_accesses(numbers, &mut task.records)?;
+        }
+        if has_barrier && !barrier_first {
+            task.records.push((BARRIER, 0, 5, 0, 0))?;
+        }
+    }
+    add_accesses(numbers, &mut task.records)?;
+    task.records.push((END, 0, 8, 0, 0))?;
+    Ok(())
+}
+
+/// The tasks of a run, in the order of their rows.
+fn run(alloc: Global, state: u64) -> Result<Vec<Task>, AllocError> {
+    let mut numbers = Numbers { state, line: 100 };
+    let mut tasks = Vec::new(alloc);
+    let mut waiting = vec![in alloc;
+        Task {
+            steps: Vec::new(alloc),
+            barriers: 0,
+            records: Vec::new(alloc),
+        },
+    ]?;
+    for _ in 0..1000 {
+        let Some(mut task) = waiting.pop() else {
+            break;
+        };
+        let mut lanes = Vec::new(alloc);
+        fill(alloc, &mut numbers, &mut task, &mut lanes)?;
+        tasks.push(task)?;
+        for _ in 0..lanes.len() {
+            if let Some(lane) = lanes.pop() {
+                waiting.push(lane)?;
+            }
+        }
+    }
+    Ok(tasks)
+}
+
+/// The folder of the run.
+fn folder_of(alloc: Global, tasks: &[Task]) -> Result<MemFolder, Memory> {
+    let mut all: Vec<(&[Step], &[Rec])> = Vec::new(alloc);
+    for task in tasks {
+        all.push((&task.steps, &task.records))?;
+    }
+    made_folder(alloc, &all)
+}
+
+/// A record of the run, by its log and its place there.
+#[derive(Drop)]
+struct Node<'a> {
+    steps: &'a [Step],
+    index: usize,
+    record: Rec,
+    /// How many regions and barriers its log has before it.
+    regions: u32,
+    barriers: u32,
+    /// The sum of the mutexes that are held there.
+    held: u64,
+}
+
+/// The records of one task.
+fn add_nodes<'a>(nodes: &mut Vec<Node<'a>>, task: &'a Task) -> Result<(), AllocError> {
+    let mut regions: u32 = 0;
+    let mut barriers: u32 = 0;
+    let mut held = 0;
+    for (index, record) in task.records.iter().enumerate() {
+        nodes.push(Node {
+            steps: &task.steps,
+            index,
+            record: *record,
+            regions,
+            barriers,
+            held,
+        })?;
+        match record.0 {
+            REGION => regions = regions.wrapping_add(1),
+            BARRIER => barriers = barriers.wrapping_add(1),
+            LOCK => held |= record.3,
+            UNLOCK => held &= !record.3,
+            _ => {}
+        }
+    }
+    Ok(())
+}
+
+/// The record forks the task of this path.
+fn forks(fork: &Node<'_>, path: &[Step]) -> bool {
+    let Some((step, above)) = path.split_last() else {
+        return false;
+    };
+    fork.record.0 == REGION
+        && fork.steps == above
+        && fork.regions == step.0
+        && fork.record.4 == u64::from(step.2)
+}
+
+/// The paths are those of lanes of one team.
+fn are_of_one_team(one: &[Step], other: &[Step]) -> bool {
+    match (one.split_last(), other.split_last()) {
+        (Some((step, above)), Some((beside, other_above))) => {
+            above == other_above && step.0 == beside.0
+        }
+        _ => false,
+    }
+}
+
+/// There is an edge from x to the record after `before`, which stands in the same log.
+fn is_edge_past(x: &Node<'_>, before: &Node<'_>) -> bool {
+    let is_next = x.steps == before.steps && x.index == before.index;
+    let joins = x.record.0 == END && forks(before, x.steps);
+    let meets = x.record.0 == BARRIER
+        && before.record.0 == BARRIER
+        && x.barriers == before.barriers
+        && are_of_one_team(x.steps, before.steps);
+    is_next || joins || meets
+}
+
+/// For each record the numbers of those to which it has an edge.
+fn edges(alloc: Global, nodes: &[Node<'_>]) -> Result<Vec<Vec<usize>>, AllocError> {
+    let mut all = Vec::new(alloc);
+    for x in nodes {
+        let mut after = Vec::new(alloc);
+        for (number, y) in nodes.iter().enumerate() {
+            let is_edge = match number.checked_sub(1).and_then(|number| nodes.get(number)) {
+                Some(before) if y.index > 0 => is_edge_past(x, before),
+                _ => forks(x, y.steps),
+            };
+            if is_edge {
+                after.push(number)?;
+            }
+        }
+        all.push(after)?;
+    }
+    Ok(all)
+}
+
+/// Which records are reached along edges from this one.
+fn reached(alloc: Global, edges: &[Vec<usize>], from: usize) -> Result<Vec<bool>, AllocError> {
+    let mut found = vec![in alloc; false; edges.len()]?;
+    let mut waiting = vec![in alloc; from]?;
+    for _ in edges {
+        let Some(x) = waiting.pop() else {
+            break;
+        };
+        let Some(after) = edges.get(x) else {
+            break;
+        };
+        for y in after.iter() {
+            if let Some(is_found) = found.get_mut(*y)
+                && !*is_found
+            {
+                *is_found = true;
+                waiting.push(*y)?;
+            }
+        }
+    }
+    Ok(found)
+}
+
+/// The records are accesses of a common byte, one a write, with no common mutex.
+fn conflict(x: &Node<'_>, y: &Node<'_>) -> bool {
+    let (kind, size, _, addr, _) = x.record;
+    let (other_kind, other_size, _, other_addr, _) = y.record;
+    let one_writes = (kind == WRITE && other_kind <= WRITE)
+        || (other_kind == WRITE && kind <= WRITE);
+    let shares = addr < other_addr.saturating_add(u64::from(other_size))
+        && other_addr < addr.saturating_add(u64::from(size));
+    one_writes && shares && x.held & y.held == 0
+}
+
+/// The lines of the accesses that race, the smaller first.
+fn race_pairs(alloc: Global, nodes: &[Node<'_>]) -> Result<Vec<(u32, u32)>, AllocError> {
+    let edges = edges(alloc, nodes)?;
+    let mut after = Vec::new(alloc);
+    for number in 0..nodes.len() {
+        after.push(reached(alloc, &edges, number)?)?;
+    }
+    let mut pairs = Vec::new(alloc);
+    for (x, (one, after_one)) in nodes.iter().zip(after.iter()).enumerate() {
+        for (y, (other, after_other)) in nodes.iter().zip(after.iter()).enumerate() {
+            let is_before = after_one.get(y).copied().unwrap_or(true);
+            let is_after = after_other.get(x).copied().unwrap_or(true);
+            if x < y && conflict(one, other) && !is_before && !is_after {
+                pairs.push((
+                    one.record.2.min(other.record.2),
+                    one.record.2.max(other.record.2),
+                ))?;
+            }
+        }
+    }
+    pairs.sort()?;
+    Ok(pairs)
+}
+
+/// The report of the race pairs.
+fn report(alloc: Global, pairs: &[(u32, u32)]) -> Result<String, AllocError> {
+    let mut text = String::new(alloc);
+    for (line, other) in pairs {
+        write!(text, "race {line} {other}\n")?;
+    }
+    let count = pairs.len();
+    write!(text, "races {count}\n")?;
+    Ok(text)
+}
+
+/// How many segments the tasks have.
+fn segments(tasks: &[Task]) -> usize {
+    let mut count: usize = 0;
+    for task in tasks {
+        let mut is_open = false;
+        for record in task.records.iter() {
+            if record.0 <= WRITE && !is_open {
+                count = count.wrapping_add(1);
+            }
+            is_open = record.0 <= WRITE || (is_open && record.0 != REGION && record.0 != BARRIER);
+        }
+    }
+    count
+}
+
+#[test]
+fn races_are_those_of_a_search_of_the_graph(rt: HostRuntime) -> Result<(), Fail> {
+    let alloc = rt.alloc();
+    for state in [3, 6] {
+        let tasks = run(alloc, state)?;
+        assert!(rt; segments(&tasks) >= 300);
+        assert!(rt;
+            tasks
+                .iter()
+                .any(|task| task.steps.len() == 4 && task.barriers > 0)
+        );
+        let mut nodes = Vec::new(alloc);
+        for task in tasks.iter() {
+            add_nodes(&mut nodes, task)?;
+        }
+        let pairs = race_pairs(alloc, &nodes)?;
+        let text = report(alloc, &pairs)?;
+        let mut folder = folder_of(alloc, &tasks)?;
+        for workers in ["1", "2", "3", "7", "64"] {
+            answers(
+                &rt,
+                alloc,
+                &mut folder,
+                &["check", "d", workers],
+                RACES,
+                &text,
+            )?;
+        }
+    }
+    Ok(())
+}

@@ -1,0 +1,260 @@
+//! `check` with each number of workers: the same report. Workers run at once, and so do the lanes of a run.
+ghost use Rattle.std.specs.Prelude.{◌<◌, ◌^◌};
+
+use asking::{BARRIER, END, ROOT, Rec, Step, answers, asked, made_folder, region, write};
+use command_answer::{DONE, RACES};
+use std::alloc::{AllocError, Global};
+use std::process::Abort;
+use std::sync::Wait;
+use std::sync::atomic::{AtomicBool, Ordering};
+use std::test::Fail;
+use std::thread;
+use std::thread::Threads;
+use sw_base::{Gate, MemFolder, MemOut, Memory};
+
+const WORKERS: [&str; 5] = ["1", "2", "3", "7", "64"];
+
+/// A lane of the root's one region.
+#[derive(Drop)]
+struct Lane {
+    steps: [Step; 1],
+    records: Vec<Rec>,
+}
+
+// The folder of a root with these lanes.
+fn folder_of(alloc: Global, lanes: &[Lane]) -> Result<MemFolder, Memory> {
+    let root = [region(1, lanes.len() as u64), END];
+    let mut tasks: Vec<(&[Step], &[Rec])> = Vec::new(alloc);
+    tasks.push((&[], &root))?;
+    for lane in lanes {
+        tasks.push((&lane.steps, &lane.records))?;
+    }
+    made_folder(alloc, &tasks)
+}
+
+// Whether a lane has no access.
+fn is_idle(lane: u16) -> bool {
+    lane % 5 == 3
+}
+
+// What a lane does: it writes an element of its own and reads the next lane's, and after a barrier it writes that one.
+fn neighbour(alloc: Global, lane: u16) -> Result<Vec<Rec>, AllocError>
+    requires { lane < 2 ^ 10 }
+{
+    if is_idle(lane) {
+        return Ok(vec![in alloc; BARRIER, END]?);
+    }
+    let line = 1000 + u32::from(lane);
+    let own = 4096 + 8 * u64::from(lane);
+    let read = (1, 8, line + 1000, own + 8, 0);
+    Ok(vec![in alloc;
+        write(line, own),
+        read,
+        BARRIER,
+        write(line + 2000, own + 8),
+        END,
+    ]?)
+}
+
+fn team(alloc: Global, span: u16) -> Result<Vec<Lane>, AllocError>
+    requires { span < 2 ^ 10 }
+{
+    let mut lanes = Vec::new(alloc);
+    for lane in 0..span {
+        lanes.push(Lane {
+            steps: [(0, lane, span)],
+            records: neighbour(alloc, lane)?,
+        })?;
+    }
+    Ok(lanes)
+}
+
+// Each read races with the next lane's write, where both lanes do something.
+fn report(alloc: Global, span: u16) -> Result<String, AllocError>
+    requires { span < 2 ^ 10 }
+{
+    let mut text = String::new(alloc);
+    let mut races: u32 = 0;
+    for lane in 1..span {
+        if !is_idle(lane) && !is_idle(lane - 1) {
+            let line = 1000 + u32::from(lane);
+            let other = 1999 + u32::from(lane);
+            write!(text, "race {line} {other}\n")?;
+            races = races.wrapping_add(1);
+        }
+    }
+    write!(text, "races {races}\n")?;
+    Ok(text)
+}
+
+#[test]
+fn each_number_of_workers_reports_the_same(rt: HostRuntime) -> Result<(), Fail> {
+    let alloc = rt.alloc();
+    for span in [1, 2, 3, 7, 64] {
+        let lanes = team(alloc, span)?;
+        let mut folder = folder_of(alloc, &lanes)?;
+        let text = report(alloc, span)?;
+        let status = if span == 1 { DONE } else { RACES };
+        for workers in WORKERS {
+            answers(
+                &rt,
+                alloc,
+                &mut folder,
+                &["check", "d", workers],
+                status,
+                &text,
+            )?;
+        }
+    }
+    Ok(())
+}
+
+#[test]
+fn every_access_races_with_every_other_lane(rt: HostRuntime) -> Result<(), Fail> {
+    let alloc = rt.alloc();
+    let lines: [[u32; 3]; 4] = [[11, 12, 13], [21, 22, 23], [31, 32, 33], [41, 42, 43]];
+    let mut lanes = Vec::new(alloc);
+    let mut text = String::new(alloc);
+    for (lane, own) in [0u16, 1, 2, 3].iter().zip(lines.iter()) {
+        let mut records = Vec::new(alloc);
+        for line in own {
+            records.push(write(*line, 4096))?;
+            for others in lines.iter().skip(usize::from(*lane) + 1) {
+                for other in others {
+                    write!(text, "race {line} {other}\n")?;
+                }
+            }
+        }
+        records.push(END)?;
+        lanes.push(Lane {
+            steps: [(0, *lane, 4)],
+            records,
+        })?;
+    }
+    text.push_str("races 54\n")?;
+    let mut folder = folder_of(alloc, &lanes)?;
+    for workers in WORKERS {
+        answers(
+            &rt,
+            alloc,
+            &mut folder,
+            &["check", "d", workers],
+            RACES,
+            &text,
+        )?;
+    }
+    Ok(())
+}
+
+// Two lanes with so many intervals of one write each.
+fn intervals(alloc: Global, addr: u64) -> Result<Vec<Lane>, AllocError> {
+    let mut lanes = Vec::new(alloc);
+    for (lane, line, own) in [(0u16, 5u32, 4096), (1, 6, addr)] {
+        let mut records = Vec::new(alloc);
+        for _ in 0..32_768 {
+            records.push(write(line, own))?;
+            records.push(BARRIER)?;
+        }
+        records.push(END)?;
+        lanes.push(Lane {
+            steps: [(0, lane, 2)],
+            records,
+        })?;
+    }
+    Ok(lanes)
+}
+
+#[test]
+fn many_barrier_intervals_are_compared_each_with_its_own(rt: HostRuntime) -> Result<(), Fail> {
+    let alloc = rt.alloc();
+    for (addr, status, text) in [
+        (4104, DONE, "races 0\n"),
+        (4096, RACES, "race 5 6\nraces 1\n"),
+    ] {
+        let lanes = intervals(alloc, addr)?;
+        let mut folder = folder_of(alloc, &lanes)?;
+        answers(&rt, alloc, &mut folder, &["check", "d", "2"], status, text)?;
+    }
+    Ok(())
+}
+
+const TURNS: u64 = 100_000_000;
+
+// Lets each of two workers go on once the other has come, or after so many turns, and then notes it.
+#[derive(Drop)]
+struct Pair {
+    came: [AtomicBool; 2],
+    alone: AtomicBool,
+}
+
+impl Gate for Pair {
+    fn enter(&self, number: usize) {
+        let own = number % 2;
+        self.came[own].store(true, Ordering::SeqCst);
+        for _ in 0..TURNS {
+            if self.came[1 - own].load(Ordering::SeqCst) {
+                return;
+            }
+            thread::yield_now();
+        }
+        self.alone.store(true, Ordering::SeqCst);
+    }
+}
+
+// Whether two came together, and this status and text came out.
+fn at_once<R: Abort + Threads + Wait + Sync>(
+    rt: &R,
+    alloc: Global,
+    folder: &mut MemFolder,
+    given: &[&str],
+    status: u8,
+    text: &str,
+) -> Result<(), Fail> {
+    let mut out = MemOut::new(alloc)?;
+    let gate = Pair {
+        came: [AtomicBool::new(false), AtomicBool::new(false)],
+        alone: AtomicBool::new(false),
+    };
+    let answered = asked(rt, alloc, folder, given, &mut out, &gate)?;
+    assert_eq!(rt; answered, status);
+    assert_eq!(rt; out.written(), text.as_bytes());
+    assert!(rt; gate.came[0].load(Ordering::SeqCst) && gate.came[1].load(Ordering::SeqCst));
+    assert!(rt; !gate.alone.load(Ordering::SeqCst));
+    Ok(())
+}
+
+#[test]
+fn the_workers_of_a_check_run_at_once(rt: HostRuntime) -> Result<(), Fail> {
+    let alloc = rt.alloc();
+    let tasks: &[(&[Step], &[Rec])] = &[
+        (&[], ROOT),
+        (&[(0, 0, 2)], &[write(3, 4128), BARRIER, END]),
+        (&[(0, 1, 2)], &[(1, 8, 3, 4128, 0), BARRIER, END]),
+    ];
+    let mut folder = made_folder(alloc, tasks)?;
+    let check = ["check", "d", "2"];
+    at_once(
+        &rt,
+        alloc,
+        &mut folder,
+        &check,
+        RACES,
+        "race 3 3\nraces 1\n",
+    )
+}
+
+#[test]
+fn the_lanes_of_a_run_run_at_once(rt: HostRuntime) -> Result<(), Fail> {
+    let alloc = rt.alloc();
+    let mut folder = MemFolder::new(alloc)?;
+    folder.hold("k", b"array a i64 2\nmain { parallel 2 { a[tid] = 1 } }\n")?;
+    let run = ["run", "k", "d", "4096"];
+    at_once(
+        &rt,
+        alloc,
+        &mut folder,
+        &run,
+        DONE,
+        "tasks 3\nrecords 6\nsum a 2\n",
+    )
+}

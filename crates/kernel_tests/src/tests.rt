@@ -1,0 +1,6 @@
+mod examples;
+mod pairs;
+mod replays;
+mod runs;
+mod stops;
+mod whole_language;

@@ -1,0 +1,310 @@
+//! Kernels of `examples/` in pairs, one that races and its mended twin: what `run`, `check` and `replay` print of each.
+
+use asking::{answers, printed};
+use command_answer::{DONE, RACES};
+use std::alloc::Global;
+use std::process::Abort;
+use std::sync::Wait;
+use std::test::Fail;
+use std::thread::Threads;
+use sw_base::MemFolder;
+
+const HEAT: &str =
+    "# A fixed loop of two worksharing loops: the barrier at the end of each keeps its readers from its writers.
+array u i64 64
+array v i64 64
+main {
+    u[0] = 1000
+    parallel 4 {
+        loop t in 0 .. 3 {
+            for i in 1 .. 63 {
+                v[i] = (u[i-1] + 2 * u[i] + u[i+1]) / 4
+            }
+            for i in 1 .. 63 {
+                u[i] = v[i]
+            }
+        }
+    }
+}
+";
+
+const HEAT_RACE: &str =
+    "# A stencil in place: at the edge of its share a lane reads what its neighbour writes. heat.kernel has two arrays.
+array u i64 64
+main {
+    u[0] = 1000
+    parallel 4 {
+        for i in 1 .. 63 {
+            u[i] = (u[i-1] + 2 * u[i] + u[i+1]) / 4
+        }
+    }
+}
+";
+
+const SUM: &str =
+    "# A reduction: each lane sums its share in a variable, and adds that under a mutex.
+array a i64 32
+array s i64 1
+main {
+    loop k in 0 .. 32 { a[k] = k }
+    parallel 4 {
+        let mine = 0
+        for i in 0 .. 32 nowait {
+            mine = mine + a[i]
+        }
+        critical { s[0] = s[0] + mine }
+    }
+}
+";
+
+const SUM_RACE: &str = "# A reduction in which all lanes add to one element, and no mutex guards it.
+array a i64 32
+array s i64 1
+main {
+    loop k in 0 .. 32 { a[k] = k }
+    parallel 4 {
+        for i in 0 .. 32 {
+            s[0] = s[0] + a[i]
+        }
+    }
+}
+";
+
+const WAVEFRONT: &str =
+    "# A wavefront: each row needs the one above it, and the barrier at the end of the loop keeps the lanes of one row together.
+array g i64 64
+main {
+    parallel 4 {
+        for i in 0 .. 8 { g[i] = 1 }
+        loop d in 1 .. 8 {
+            for i in 1 .. 8 {
+                g[8 * d + i] = g[8 * d - 8 + i] + g[8 * d - 9 + i]
+            }
+        }
+    }
+}
+";
+
+const WAVEFRONT_RACE: &str =
+    "# The same wavefront without the barriers: a lane reads the row above before its neighbour has written it.
+array g i64 64
+main {
+    parallel 4 {
+        for i in 0 .. 8 { g[i] = 1 }
+        loop d in 1 .. 8 {
+            for i in 1 .. 8 nowait {
+                g[8 * d + i] = g[8 * d - 8 + i] + g[8 * d - 9 + i]
+            }
+        }
+    }
+}
+";
+
+const PREFIX_SUM: &str =
+    "# Prefix sums in three steps (Hillis and Steele 1986): each step reads one array and writes the other.
+array a i64 8
+array b i64 8
+main {
+    parallel 4 {
+        let step = 1
+        for i in 0 .. 8 { a[i] = i + 1 }
+        loop k in 0 .. 3 {
+            for i in 0 .. 8 {
+                if i < step { b[i] = a[i] } else { b[i] = a[i] + a[i-step] }
+            }
+            for i in 0 .. 8 { a[i] = b[i] }
+            step = 2 * step
+        }
+    }
+}
+";
+
+const PREFIX_SUM_RACE: &str =
+    "# The same prefix sums in place: one lane adds what another has added to already.
+array a i64 8
+main {
+    parallel 4 {
+        let step = 1
+        for i in 0 .. 8 { a[i] = i + 1 }
+        loop k in 0 .. 3 {
+            for i in 0 .. 8 {
+                if i >= step { a[i] = a[i] + a[i-step] }
+            }
+            step = 2 * step
+        }
+    }
+}
+";
+
+const NESTED: &str =
+    "# A lane begins a region of its own, and a barrier orders it before the other lane's store.
+array a i64 4
+main {
+    parallel 2 {
+        if tid == 0 {
+            parallel 2 {
+                a[tid] = 1
+            }
+        }
+        barrier
+        if tid == 1 {
+            a[1] = 2
+        }
+    }
+}
+";
+
+const NESTED_RACE: &str =
+    "# As nested.kernel, but no barrier orders the lanes of the inner region before the other lane's store.
+array a i64 4
+main {
+    parallel 2 {
+        if tid == 0 {
+            parallel 2 {
+                a[tid] = 1
+            }
+        }
+        if tid == 1 {
+            a[1] = 2
+        }
+    }
+}
+";
+
+const GATHER: &str =
+    "# Lanes draw chunks until none is left, meet, and then each reads all that was written.
+array a i64 12
+array s i64 3
+main {
+    parallel 3 {
+        for i in 0 .. 12 dynamic 4 { a[i] = i }
+        let sum = 0
+        loop k in 0 .. 12 { sum = sum + a[k] }
+        s[tid] = sum
+    }
+}
+";
+
+const GATHER_RACE: &str =
+    "# As gather.kernel, but no lane waits for the chunks that others have drawn.
+array a i64 12
+array s i64 3
+main {
+    parallel 3 {
+        for i in 0 .. 12 dynamic 4 nowait { a[i] = i }
+        let sum = 0
+        loop k in 0 .. 12 { sum = sum + a[k] }
+        s[tid] = sum
+    }
+}
+";
+
+const HISTOGRAM: &str = "# A histogram whose counts a mutex guards.
+array a i64 16
+array h i32 4
+mutex counts
+main {
+    loop k in 0 .. 16 { a[k] = k * k }
+    parallel 4 {
+        for i in 0 .. 16 {
+            critical counts { h[a[i] % 4] = h[a[i] % 4] + 1 }
+        }
+    }
+}
+";
+
+const HISTOGRAM_RACE: &str = "# A histogram in which two lanes may count the same value at once.
+array a i64 16
+array h i32 4
+main {
+    loop k in 0 .. 16 { a[k] = k * k }
+    parallel 4 {
+        for i in 0 .. 16 {
+            h[a[i] % 4] = h[a[i] % 4] + 1
+        }
+    }
+}
+";
+
+const SHIFT_MENDED: &str =
+    "# As shift.kernel, but into another array, so that no lane reads what another writes.
+array a i64 9
+array b i64 9
+main {
+    parallel 2 {
+        for i in 0 .. 8 static 4 {
+            b[i+1] = a[i]
+        }
+    }
+}
+";
+
+// A kernel runs to its end, and prints this, where that is the same each time; `check` ends so and prints this; and its folder is a run
+// of it.
+fn runs<R: Abort + Threads + Wait + Sync>(
+    rt: &R,
+    alloc: Global,
+    kernel: &str,
+    ran: Option<&str>,
+    status: u8,
+    races: &str,
+) -> Result<(), Fail> {
+    let mut folder = MemFolder::new(alloc)?;
+    folder.hold("k", kernel.as_bytes())?;
+    let (ended, out) = printed(rt, alloc, &mut folder, &["run", "k", "logs", "4096"])?;
+    assert_eq!(rt; ended, DONE);
+    if let Some(text) = ran {
+        assert_eq!(rt; out.written(), text.as_bytes());
+    }
+    answers(
+        rt,
+        alloc,
+        &mut folder,
+        &["check", "logs", "4"],
+        status,
+        races,
+    )?;
+    answers(
+        rt,
+        alloc,
+        &mut folder,
+        &["replay", "k", "logs"],
+        DONE,
+        "same\n",
+    )
+}
+
+#[test]
+fn mended_kernels_have_no_race(rt: HostRuntime) -> Result<(), Fail> {
+    let alloc = rt.alloc();
+    for (kernel, ran) in [
+        (HEAT, "tasks 5\nrecords 1147\nsum u 1592\nsum v 592\n"),
+        (SUM, "tasks 5\nrecords 86\nsum a 496\nsum s 496\n"),
+        (WAVEFRONT, "tasks 5\nrecords 193\nsum g 1144\n"),
+        (PREFIX_SUM, "tasks 5\nrecords 155\nsum a 120\nsum b 120\n"),
+        (NESTED, "tasks 5\nrecords 12\nsum a 3\n"),
+        (GATHER, "tasks 4\nrecords 65\nsum a 66\nsum s 198\n"),
+        (HISTOGRAM, "tasks 5\nrecords 122\nsum a 1240\nsum h 16\n"),
+        (SHIFT_MENDED, "tasks 3\nrecords 22\nsum a 0\nsum b 0\n"),
+    ] {
+        runs(&rt, alloc, kernel, Some(ran), DONE, "races 0\n")?;
+    }
+    Ok(())
+}
+
+#[test]
+fn each_of_the_others_races_at_one_pair_of_lines(rt: HostRuntime) -> Result<(), Fail> {
+    let alloc = rt.alloc();
+    for (kernel, races) in [
+        (HEAT_RACE, "race 7 7\nraces 1\n"),
+        (SUM_RACE, "race 8 8\nraces 1\n"),
+        (WAVEFRONT_RACE, "race 8 8\nraces 1\n"),
+        (PREFIX_SUM_RACE, "race 9 9\nraces 1\n"),
+        (NESTED_RACE, "race 7 11\nraces 1\n"),
+        (GATHER_RACE, "race 6 8\nraces 1\n"),
+        (HISTOGRAM_RACE, "race 8 8\nraces 1\n"),
+    ] {
+        runs(&rt, alloc, kernel, None, RACES, races)?;
+    }
+    Ok(())
+}

@@ -1,0 +1,281 @@
+//! Kernels of the whole language that run to their end: what `run` prints of each, and what `check` and `replay` print of the folder
+//! that it wrote.
+
+use asking::{answers, printed};
+use command_answer::{DIFFERS, DONE, KERNEL_REFUSED, RACES};
+use std::alloc::Global;
+use std::sync::Wait;
+use std::test::Fail;
+use std::thread::Threads;
+use sw_base::{MemFolder, MemOut};
+
+const NO_RACE: &str = "races 0\n";
+
+const ONE_STORE: &str = "array a i64 4 main { a[0] = 1 }";
+
+const NARROW: &str = "array b i8 1 main { b[0] = 200 }";
+
+// Eight lanes add under one mutex, or under none.
+const LOCKED: &str =
+    "array s i64 1\nmutex c\nmain { parallel 8 {\ncritical c { s[0] = s[0] + 1 }\n} }\n";
+
+const UNLOCKED: &str = "array s i64 1\nmutex c\nmain { parallel 8 {\ns[0] = s[0] + 1\n} }\n";
+
+// Two lanes store under two mutexes.
+const TWO_MUTEXES: &str =
+    "array s i64 1\nmutex c\nmutex d\nmain { parallel 2 {\nif tid == 0 { critical c { s[0] = 1 } }\nif tid == 1 { critical d { s[0] = 2 } }\n} }\n";
+
+// The second loop reads what the first one wrote, after its barrier or not.
+const TWO_LOOPS: &str =
+    "array a i64 8\narray b i64 8\nmain { parallel 2 {\nfor i in 0 .. 8 { a[i] = i }\nfor i in 0 .. 7 { b[i] = a[i+1] }\n} }\n";
+
+const TWO_LOOPS_ON: &str =
+    "array a i64 8\narray b i64 8\nmain { parallel 2 {\nfor i in 0 .. 8 nowait { a[i] = i }\nfor i in 0 .. 7 { b[i] = a[i+1] }\n} }\n";
+
+// A lane of a region in lane 0 and lane 1 store, with a barrier between them or without.
+const NESTED: &str =
+    "array a i64 4\nmain { parallel 2 {\nif tid == 0 { parallel 2 {\na[tid] = 1 } }\nif tid == 1 { a[1] = 2 }\n} }\n";
+
+const NESTED_APART: &str =
+    "array a i64 4\nmain { parallel 2 {\nif tid == 0 { parallel 2 {\na[tid] = 1 } }\nbarrier\nif tid == 1 { a[1] = 2 }\n} }\n";
+
+const TWO_REGIONS: &str =
+    "array a i64 4\nmain {\nparallel 2 { a[tid] = 1 }\nparallel 2 { a[1 - tid] = 2 }\n}\n";
+
+const DRAWN: &str =
+    "array a i64 10\nmain { parallel 3 {\nfor i in 0 .. 10 dynamic 4 { a[i] = i }\n} }\n";
+
+const DRAWN_OTHERWISE: &str =
+    "array a i64 10\nmain { parallel 3 {\nfor i in 0 .. 10 dynamic 5 { a[i] = i }\n} }\n";
+
+const DRAWN_TWICE: &str =
+    "array a i64 4\nmain { parallel 2 {\nfor i in 0 .. 4 dynamic { a[i] = 1 }\nfor i in 0 .. 4 dynamic 3 { a[i] = a[i] + 1 }\n} }\n";
+
+// Regions in regions, four deep, in which 64 lanes store.
+const FOUR_DEEP: &str = "array a i64 64
+main { parallel 4 {
+let p = tid
+parallel 4 {
+let q = 4 * p + tid
+parallel 2 {
+let r = 2 * q + tid
+parallel 2 { a[2 * r + tid] = 1 }
+} } } }
+";
+
+const TRIANGLE: &str = "array row i32 16
+main {
+let last = 5
+parallel 16 {
+let sum = 0
+loop k in 1 .. tid + 1 { sum = sum + k % last }
+row[tid] = sum
+} }
+";
+
+const WAVES: &str = "array a i16 32
+array b i8 32
+mutex first
+mutex second
+main { parallel 4 {
+critical first {
+a[0] = a[0] + 1
+critical second { b[0] = -a[0] }
+}
+barrier
+for i in 1 .. 8 * span static 2 nowait { a[i] = i * i - (i < 9) }
+} }
+";
+
+const CROWD: &str = "array s i64 1
+mutex c
+main { parallel 64 {
+loop i in 0 .. 1000 { critical c { s[0] = s[0] + 1 } }
+} }
+";
+
+const HEAT: &str = "# heat
+array u i64 64
+array v i64 64
+main {
+u[0] = 1000
+parallel 4 {
+loop t in 0 .. 3 {
+for i in 1 .. 63 {
+v[i] = (u[i-1] + 2 * u[i] + u[i+1]) / 4
+}
+for i in 1 .. 63 {
+u[i] = v[i]
+}
+}
+}
+}
+";
+
+const HEAT_ON: &str = "# heat
+array u i64 64
+array v i64 64
+main {
+u[0] = 1000
+parallel 4 {
+loop t in 0 .. 3 {
+for i in 1 .. 63 nowait {
+v[i] = (u[i-1] + 2 * u[i] + u[i+1]) / 4
+}
+for i in 1 .. 63 {
+u[i] = v[i]
+}
+}
+}
+}
+";
+
+/// A folder with this kernel, and its status and text once it ran there.
+pub fn after<R: Threads + Wait + Sync>(
+    rt: &R,
+    alloc: Global,
+    kernel: &str,
+) -> Result<(MemFolder, u8, MemOut), Fail> {
+    let mut folder = MemFolder::new(alloc)?;
+    folder.hold("k", kernel.as_bytes())?;
+    let (status, out) = printed(rt, alloc, &mut folder, &["run", "k", "d", "4096"])?;
+    Ok((folder, status, out))
+}
+
+#[test]
+fn sums_are_printed_of_runs_without_a_race(rt: HostRuntime) -> Result<(), Fail> {
+    let alloc = rt.alloc();
+    let replay = ["replay", "k", "d"];
+    for (kernel, text) in [
+        (ONE_STORE, "tasks 1\nrecords 2\nsum a 1\n"),
+        (NARROW, "tasks 1\nrecords 2\nsum b -56\n"),
+        (LOCKED, "tasks 9\nrecords 42\nsum s 8\n"),
+        (TWO_REGIONS, "tasks 5\nrecords 11\nsum a 4\n"),
+        (DRAWN, "tasks 4\nrecords 24\nsum a 45\n"),
+        (DRAWN_TWICE, "tasks 3\nrecords 30\nsum a 8\n"),
+        (FOUR_DEEP, "tasks 117\nrecords 234\nsum a 64\n"),
+        (TRIANGLE, "tasks 17\nrecords 34\nsum row 240\n"),
+        (WAVES, "tasks 5\nrecords 73\nsum a 10412\nsum b -4\n"),
+        (CROWD, "tasks 65\nrecords 256066\nsum s 64000\n"),
+        (HEAT, "tasks 5\nrecords 1147\nsum u 1592\nsum v 592\n"),
+    ] {
+        let (mut folder, status, out) = after(&rt, alloc, kernel)?;
+        assert_eq!(rt; status, DONE);
+        assert_eq!(rt; out.written(), text.as_bytes());
+        answers(&rt, alloc, &mut folder, &["check", "d", "2"], DONE, NO_RACE)?;
+        answers(&rt, alloc, &mut folder, &replay, DONE, "same\n")?;
+    }
+    Ok(())
+}
+
+#[test]
+fn chunks_of_another_size_differ_at_the_first_draw(rt: HostRuntime) -> Result<(), Fail> {
+    let alloc = rt.alloc();
+    let (mut folder, _, _) = after(&rt, alloc, DRAWN)?;
+    folder.hold("k", DRAWN_OTHERWISE.as_bytes())?;
+    let replay = ["replay", "k", "d"];
+    let text = "differs t-0.0.swl record 1\n";
+    answers(&rt, alloc, &mut folder, &replay, DIFFERS, text)
+}
+
+#[test]
+fn a_run_without_draws_has_the_same_logs_each_time(rt: HostRuntime) -> Result<(), Fail> {
+    let alloc = rt.alloc();
+    let names = ["d/t.swl", "d/t-0.0.swl", "d/t-0.1.swl"];
+    let (first, _, _) = after(&rt, alloc, TWO_LOOPS)?;
+    for _ in 0..200 {
+        let (mut again, status, _) = after(&rt, alloc, TWO_LOOPS)?;
+        assert_eq!(rt; status, DONE);
+        for name in names {
+            assert!(rt; again.file(name).is_some());
+            assert_eq!(rt; again.file(name), first.file(name), "{name}");
+        }
+        answers(&rt, alloc, &mut again, &["check", "d", "1"], DONE, NO_RACE)?;
+    }
+    Ok(())
+}
+
+#[test]
+fn each_run_with_draws_is_a_run_without_a_race(rt: HostRuntime) -> Result<(), Fail> {
+    let alloc = rt.alloc();
+    for _ in 0..200 {
+        let (mut folder, status, out) = after(&rt, alloc, DRAWN_TWICE)?;
+        assert_eq!(rt; status, DONE);
+        assert_eq!(rt; out.written(), b"tasks 3\nrecords 30\nsum a 8\n".as_slice());
+        answers(&rt, alloc, &mut folder, &["check", "d", "1"], DONE, NO_RACE)?;
+    }
+    Ok(())
+}
+
+#[test]
+fn folders_of_runs_check_as_their_races(rt: HostRuntime) -> Result<(), Fail> {
+    let alloc = rt.alloc();
+    for (kernel, races) in [
+        (UNLOCKED, "race 4 4\nraces 1\n"),
+        (TWO_MUTEXES, "race 5 6\nraces 1\n"),
+        (TWO_LOOPS, NO_RACE),
+        (TWO_LOOPS_ON, "race 4 5\nraces 1\n"),
+        (NESTED, "race 4 5\nraces 1\n"),
+        (NESTED_APART, NO_RACE),
+        (HEAT_ON, "race 9 12\nraces 1\n"),
+    ] {
+        let (mut folder, run, _) = after(&rt, alloc, kernel)?;
+        assert_eq!(rt; run, DONE);
+        let status = if races == NO_RACE { DONE } else { RACES };
+        answers(&rt, alloc, &mut folder, &["check", "d", "2"], status, races)?;
+    }
+    Ok(())
+}
+
+#[test]
+fn the_root_alone_is_shown(rt: HostRuntime) -> Result<(), Fail> {
+    let alloc = rt.alloc();
+    let (mut folder, _, _) = after(&rt, alloc, ONE_STORE)?;
+    answers(
+        &rt,
+        alloc,
+        &mut folder,
+        &["show", "d"],
+        DONE,
+        "log t.swl records 2\n1 write 8 site 0 line 1 addr 4096 value 1\n2 end line 1\n",
+    )
+}
+
+// How many lines of a text end so.
+fn count(text: &[u8], ending: &[u8]) -> usize {
+    let mut found = 0;
+    for line in text.split(|byte| *byte == b'\n') {
+        if line.ends_with(ending) {
+            found = usize::saturating_add(found, 1);
+        }
+    }
+    found
+}
+
+#[test]
+fn each_chunk_is_drawn_once(rt: HostRuntime) -> Result<(), Fail> {
+    let alloc = rt.alloc();
+    let (mut folder, _, _) = after(&rt, alloc, DRAWN)?;
+    let (status, out) = printed(&rt, alloc, &mut folder, &["show", "d"])?;
+    assert_eq!(rt; status, DONE);
+    // Each lane finds that there is none left.
+    for (ending, times) in [
+        (" chunk 0 of 3 line 3", 1),
+        (" chunk 1 of 3 line 3", 1),
+        (" chunk 2 of 3 line 3", 1),
+        (" chunk 3 of 3 line 3", 3),
+    ] {
+        assert_eq!(rt; count(out.written(), ending.as_bytes()), times, "{ending}");
+    }
+    Ok(())
+}
+
+#[test]
+fn a_barrier_in_a_loop_of_the_lane_is_refused(rt: HostRuntime) -> Result<(), Fail> {
+    let alloc = rt.alloc();
+    let kernel = "array a i64 8\nmain { parallel 2 {\nloop j in 0 .. tid {\nbarrier }\n} }\n";
+    let (_, status, out) = after(&rt, alloc, kernel)?;
+    assert_eq!(rt; status, KERNEL_REFUSED);
+    assert_eq!(rt; out.written(), b"kernel line 4: NotUniform\n".as_slice());
+    Ok(())
+}

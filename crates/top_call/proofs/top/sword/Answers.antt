@@ -1,0 +1,95 @@
+use Rattle.std.proofs.Common.{refl, inr, subst, List, ℕ}
+use Rattle.sw_base.specs.Environment.{Rose}
+use Rattle.command_answer.specs.Answer.{Answers, Tries, silent}
+use Rattle.command_answer.proofs.Answering.{Answers-of, Tries-from_prints}
+use Rattle.top_call.specs.Check.{FolderDue, HasReport}
+use Rattle.run_command.specs.Run.{LeavesPart, RunDue}
+use Rattle.top_call.specs.Show.{ShowsRecords}
+use Rattle.top_call.specs.Arguments.{UsageDue, check, gen, replay, run, show, texts}
+use Rattle.top_call.proofs.FolderAnswers.{usage_once}
+use Rattle.top_call.proofs.ArgumentLists.{same_check, same_gen, same_replay, same_run, same_show}
+use Rattle.top_call.specs.Gen.{GenDue}
+use Rattle.top_call.specs.Replay.{ReplayDue}
+use Rattle.top_call.proofs.OneSummary.{one_summary}
+use Rattle.top_call.proofs.top.sword.Goals as goal
+
+pub returns-in-Ok-None-clause-usage : goal.returns-in-Ok-None-clause-usage
+returns-in-Ok-None-clause-usage g c = λ usage. Answers-of UsageDue usage_once _ _ _ (Tries-from_prints UsageDue _ _ _ _ _ (refl, refl) c.print.ensures.prints)
+
+pub returns-in-Ok-None-clause-check : goal.returns-in-Ok-None-clause-check
+returns-in-Ok-None-clause-check g c = λ dir workers says. let usage = rw c.in-Ok-None.field-0-is at c.in-Ok-None.ensures.usage in absurd (usage (check dir workers) says)
+
+pub returns-in-Ok-None-clause-show : goal.returns-in-Ok-None-clause-show
+returns-in-Ok-None-clause-show g c = λ dir says. let usage = rw c.in-Ok-None.field-0-is at c.in-Ok-None.ensures.usage in absurd (usage (show dir) says)
+
+pub check-requires-clause-workers : goal.check-requires-clause-workers
+check-requires-clause-workers g c = λ _ _.
+    let said = rw (c.in-Ok-Some-Check.field-0-is, c.in-Ok-Some-Check.field-0-0-is) at c.in-Ok-Some-Check.ensures.said in
+    (said.workers_are.least, said.workers_are.most)
+
+pub returns-in-Ok-Some-Check-clause-check : goal.returns-in-Ok-Some-Check-clause-check
+returns-in-Ok-Some-Check-clause-check g c = λ dir workers says content told.
+    let said = rw (c.in-Ok-Some-Check.field-0-is, c.in-Ok-Some-Check.field-0-0-is) at c.in-Ok-Some-Check.ensures.said in
+    subst (λ (d : List ℕ). Answers (FolderDue HasReport content.held d) (g.O.Out.written c.args.out.now) (g.O.Out.written c.check.new.out) c.check.result)
+    (same_check _ _ dir _ _ said says) (c.check.ensures.answers content told)
+
+pub returns-in-Ok-Some-Show-clause-show : goal.returns-in-Ok-Some-Show-clause-show
+returns-in-Ok-Some-Show-clause-show g c = λ dir says content told.
+    let said = rw (c.in-Ok-Some-Show.field-0-is, c.in-Ok-Some-Show.field-0-0-is) at c.in-Ok-Some-Show.ensures.said in
+    subst (λ (d : List ℕ). Answers (FolderDue ShowsRecords content.held d) (g.O.Out.written c.args.out.now) (g.O.Out.written c.show.new.out) c.show.result)
+    (same_show _ _ dir said says) (c.show.ensures.answers content told)
+
+pub returns-in-Ok-None-clause-run : goal.returns-in-Ok-None-clause-run
+returns-in-Ok-None-clause-run g c = λ kernel dir size says. let usage = rw c.in-Ok-None.field-0-is at c.in-Ok-None.ensures.usage in absurd (usage (run kernel dir size) says)
+
+pub returns-in-Ok-Some-Run-clause-run : goal.returns-in-Ok-Some-Run-clause-run
+returns-in-Ok-Some-Run-clause-run g c = λ kernel dir size says old is new now.
+    let said = rw (c.in-Ok-Some-Run.field-0-is, c.in-Ok-Some-Run.field-0-0-is) at c.in-Ok-Some-Run.ensures.said in
+    same_run (λ (k d : List ℕ) (n : ℕ). Tries (RunDue (Rose (g.F.Folder.write_faults c.args.folder.now) (g.F.Folder.write_faults c.run_file.new.folder)) k d n old new) (g.O.Out.written c.args.out.now) (g.O.Out.written c.run_file.new.out) c.run_file.result) (texts c.args.arguments.now) _ _ kernel dir _ size
+    said says (c.run_file.ensures.answers old is new now)
+
+pub returns-in-Ok-Some-Run-clause-run_leaves : goal.returns-in-Ok-Some-Run-clause-run_leaves
+returns-in-Ok-Some-Run-clause-run_leaves g c = λ kernel dir size says old is new now failure.
+    let said = rw (c.in-Ok-Some-Run.field-0-is, c.in-Ok-Some-Run.field-0-0-is) at c.in-Ok-Some-Run.ensures.said in
+    same_run (λ (k d : List ℕ) (n : ℕ). LeavesPart (Rose (g.F.Folder.write_faults c.args.folder.now) (g.F.Folder.write_faults c.run_file.new.folder)) k d n old new) (texts c.args.arguments.now) _ _ kernel dir _ size said says (c.run_file.ensures.leaves old is new now failure)
+
+pub returns-in-Ok-Some-Run-clause-only_printed : goal.returns-in-Ok-Some-Run-clause-only_printed
+returns-in-Ok-Some-Run-clause-only_printed g c = λ old is none.
+    let said = rw (c.in-Ok-Some-Run.field-0-is, c.in-Ok-Some-Run.field-0-0-is) at c.in-Ok-Some-Run.ensures.said in
+    c.run_file.ensures.only_printed old is (λ p can. none (record { kernel = _; dir = _; size = _; says = said; program = p; can = can }))
+
+pub returns-in-Ok-Some-Run-clause-no_writes : goal.returns-in-Ok-Some-Run-clause-no_writes
+returns-in-Ok-Some-Run-clause-no_writes g c = λ old is none.
+    let said = rw (c.in-Ok-Some-Run.field-0-is, c.in-Ok-Some-Run.field-0-0-is) at c.in-Ok-Some-Run.ensures.said in
+    c.run_file.ensures.same_writes old is (λ p can. none (record { kernel = _; dir = _; size = _; says = said; program = p; can = can }))
+
+pub returns-in-Ok-None-clause-gen_ : goal.returns-in-Ok-None-clause-gen_
+returns-in-Ok-None-clause-gen_ g c = λ rounds workers says. let usage = rw c.in-Ok-None.field-0-is at c.in-Ok-None.ensures.usage in absurd (usage (gen rounds workers) says)
+
+pub check_generated-requires-clause-rounds : goal.check_generated-requires-clause-rounds
+check_generated-requires-clause-rounds g c = λ _ _.
+    let said = rw (c.in-Ok-Some-Gen.field-0-is, c.in-Ok-Some-Gen.field-0-0-is) at c.in-Ok-Some-Gen.ensures.said in
+    (said.rounds_are.least, said.rounds_are.most)
+
+pub check_generated-requires-clause-workers : goal.check_generated-requires-clause-workers
+check_generated-requires-clause-workers g c = λ _ _.
+    let said = rw (c.in-Ok-Some-Gen.field-0-is, c.in-Ok-Some-Gen.field-0-0-is) at c.in-Ok-Some-Gen.ensures.said in
+    (said.workers_are.least, said.workers_are.most)
+
+pub returns-in-Ok-Some-Gen-clause-gen_ : goal.returns-in-Ok-Some-Gen-clause-gen_
+returns-in-Ok-Some-Gen-clause-gen_ g c = λ rounds workers says.
+    let said = rw (c.in-Ok-Some-Gen.field-0-is, c.in-Ok-Some-Gen.field-0-0-is) at c.in-Ok-Some-Gen.ensures.said in
+    subst (λ (n : ℕ). Answers (GenDue n) (g.O.Out.written c.args.out.now) (g.O.Out.written c.check_generated.new.out) c.check_generated.result)
+    (same_gen _ _ rounds _ workers said says) c.check_generated.ensures.answers
+
+pub returns-in-Err-clause-gen_ : goal.returns-in-Err-clause-gen_
+returns-in-Err-clause-gen_ g c = λ rounds workers says. Answers-of (GenDue rounds) (one_summary rounds) _ _ _ (silent (inr (inr refl)) refl)
+
+pub returns-in-Ok-None-clause-replay : goal.returns-in-Ok-None-clause-replay
+returns-in-Ok-None-clause-replay g c = λ kernel dir says. let usage = rw c.in-Ok-None.field-0-is at c.in-Ok-None.ensures.usage in absurd (usage (replay kernel dir) says)
+
+pub returns-in-Ok-Some-Replay-clause-replay : goal.returns-in-Ok-Some-Replay-clause-replay
+returns-in-Ok-Some-Replay-clause-replay g c = λ kernel dir says content told.
+    let said = rw (c.in-Ok-Some-Replay.field-0-is, c.in-Ok-Some-Replay.field-0-0-is) at c.in-Ok-Some-Replay.ensures.said in
+    same_replay (λ (k d : List ℕ). Tries (ReplayDue content.held k d) (g.O.Out.written c.args.out.now) (g.O.Out.written c.replay_file.new.out) c.replay_file.result) (texts c.args.arguments.now) _ _ kernel dir
+    said says (c.replay_file.ensures.answers content told)

@@ -1,0 +1,92 @@
+-- The arguments of a command line, what they ask for, and what is answered where they ask for nothing.
+use Rattle.std.specs.Prelude.{◌≡◌, ℕ, ◌≤◌, List, [], ◌∷◌, length, map, String, string_bytes, codes, decimal}
+use Rattle.std.specs.declared.alloc.Global.{Global}
+use Rattle.sw_base.specs.Environment.{Files}
+use Rattle.command_answer.specs.declared.status.TheConstants.{USAGE}
+use Rattle.kernel_syntax.specs.Program.{Program}
+use Rattle.run_command.specs.Run.{CanRun}
+use Rattle.top_call.specs.Texts.{usage_text}
+
+-- what the arguments after the program's name may ask for
+pub data Request : Type 0 where
+  check : (dir : List ℕ) → (workers : ℕ) → Request
+  run : (kernel dir : List ℕ) → (size : ℕ) → Request
+  replay : (kernel dir : List ℕ) → Request
+  show : (dir : List ℕ) → Request
+  gen : (rounds workers : ℕ) → Request
+
+-- a word that names a folder or a file has 1 to 1,024 bytes
+pub record IsName (word : List ℕ) : Type 0 where
+  pub some : 1 ≤ length word
+  pub limit : length word ≤ 1024
+
+-- the word is this number in decimal digits without a leading zero, and it lies within these limits
+pub record IsNumber (word : List ℕ) (low high n : ℕ) : Type 0 where
+  pub digits : word ≡ decimal n
+  pub least : low ≤ n
+  pub most : n ≤ high
+
+pub record SaysCheck (arguments : List (List ℕ)) (dir : List ℕ) (workers : ℕ) : Type 0 where
+  pub number : List ℕ
+  pub are : arguments ≡ codes "check" ∷ dir ∷ number ∷ []
+  pub dir_is : IsName dir
+  pub workers_are : IsNumber number 1 64 workers
+
+pub record SaysRun (arguments : List (List ℕ)) (kernel dir : List ℕ) (size : ℕ) : Type 0 where
+  pub number : List ℕ
+  pub are : arguments ≡ codes "run" ∷ kernel ∷ dir ∷ number ∷ []
+  pub kernel_is : IsName kernel
+  pub dir_is : IsName dir
+  pub size_is : IsNumber number 24 4194304 size
+
+-- the arguments ask for a run
+pub record AsksRun (arguments : List (List ℕ)) : Type 0 where
+  pub kernel : List ℕ
+  pub dir : List ℕ
+  pub size : ℕ
+  pub says : SaysRun arguments kernel dir size
+
+-- the arguments ask for a run, and it can begin
+pub record BeginsRun (arguments : List (List ℕ)) (files : Files) : Type 0 where
+  pub kernel : List ℕ
+  pub dir : List ℕ
+  pub size : ℕ
+  pub says : SaysRun arguments kernel dir size
+  pub program : Program
+  pub can : CanRun files kernel dir program
+
+pub record SaysReplay (arguments : List (List ℕ)) (kernel dir : List ℕ) : Type 0 where
+  pub are : arguments ≡ codes "replay" ∷ kernel ∷ dir ∷ []
+  pub kernel_is : IsName kernel
+  pub dir_is : IsName dir
+
+pub record SaysShow (arguments : List (List ℕ)) (dir : List ℕ) : Type 0 where
+  pub are : arguments ≡ codes "show" ∷ dir ∷ []
+  pub dir_is : IsName dir
+
+pub record SaysGen (arguments : List (List ℕ)) (rounds workers : ℕ) : Type 0 where
+  pub rounds_number : List ℕ
+  pub workers_number : List ℕ
+  pub are : arguments ≡ codes "gen" ∷ rounds_number ∷ workers_number ∷ []
+  pub rounds_are : IsNumber rounds_number 1 100000 rounds
+  pub workers_are : IsNumber workers_number 1 64 workers
+
+-- the arguments ask for it
+abbrev pub Says : List (List ℕ) → Request → Type 0
+Says arguments (check dir workers) = SaysCheck arguments dir workers
+Says arguments (run kernel dir size) = SaysRun arguments kernel dir size
+Says arguments (replay kernel dir) = SaysReplay arguments kernel dir
+Says arguments (show dir) = SaysShow arguments dir
+Says arguments (gen rounds workers) = SaysGen arguments rounds workers
+
+-- the arguments ask for nothing
+abbrev pub IsUsage : List (List ℕ) → Type 0
+IsUsage arguments = (request : Request) → Says arguments request → ⊥
+
+-- the bytes of each word
+abbrev pub texts : List (String Global) → List (List ℕ)
+texts arguments = map string_bytes arguments
+
+-- the one answer to arguments that ask for nothing
+abbrev pub UsageDue : ℕ → List ℕ → Type 0
+UsageDue status text = (status ≡ USAGE) × (text ≡ usage_text)

@@ -1,0 +1,182 @@
+//! The arguments of a command line.
+ghost use Rattle.std.specs.Prelude.{◌≡◌, ◌<◌, ◌≤◌, ◌^◌, ◌↔◌, ℕ, [], ◌∷◌, codes, decimal, length, IsTrue, IfOk, IfSome, IfNone};
+ghost use Rattle.top_call.specs.Arguments.{IsName, IsNumber, IsUsage, Says, texts};
+ghost use Rattle.top_call.specs.Commands.{request_of};
+
+use std::alloc::{AllocError, Global};
+
+/// What a command line asks for.
+#[derive(Drop)]
+pub enum Command<'a> {
+    /// Compare the accesses of a folder's logs, with so many workers.
+    Check {
+        dir: &'a str,
+        workers: u64,
+    },
+    /// Run a kernel, with buffers of so many bytes.
+    Run {
+        kernel: &'a str,
+        dir: &'a str,
+        size: u64,
+    },
+    /// Compare a folder's logs with a kernel.
+    Replay {
+        kernel: &'a str,
+        dir: &'a str,
+    },
+    /// Print the records of a folder's logs.
+    Show {
+        dir: &'a str,
+    },
+    /// Compare the accesses of a run of so many rounds, with so many workers.
+    Gen {
+        rounds: u64,
+        workers: u64,
+    },
+}
+
+/// What the arguments ask for. `None` where they ask for nothing.
+pub fn read_arguments<'a>(
+    alloc: Global,
+    arguments: &'a [String],
+) -> Result<Option<Command<'a>>, AllocError>
+    ensures said { IfOk result (λ asked. IfSome asked (λ c. Says (texts arguments.now) (request_of c))) }
+    ensures usage { IfOk result (λ asked. IfNone asked (IsUsage (texts arguments.now))) }
+{
+    match arguments {
+        [name, first, second] => {
+            two_arguments(alloc, name.as_str(), first.as_str(), second.as_str())
+        }
+        [name, kernel, dir, size] if name.as_str() == "run" => {
+            run_arguments(alloc, kernel.as_str(), dir.as_str(), size.as_str())
+        }
+        [name, dir] if name.as_str() == "show" => Ok(show_arguments(dir.as_str())),
+        _ => Ok(None),
+    }
+}
+
+fn show_arguments<'a>(dir: &'a str) -> Option<Command<'a>>
+    ensures said { IfSome result (λ c. Says (codes "show" ∷ dir.now ∷ []) (request_of c)) }
+    ensures usage { IfNone result (IsUsage (codes "show" ∷ dir.now ∷ [])) }
+{
+    if !is_name(dir) {
+        return None;
+    }
+    Some(Command::Show { dir })
+}
+
+fn check_arguments<'a>(
+    alloc: Global,
+    dir: &'a str,
+    workers: &str,
+) -> Result<Option<Command<'a>>, AllocError>
+    ensures said { IfOk result (λ asked. IfSome asked (λ c. Says (codes "check" ∷ dir.now ∷ workers.now ∷ []) (request_of c))) }
+    ensures usage { IfOk result (λ asked. IfNone asked (IsUsage (codes "check" ∷ dir.now ∷ workers.now ∷ []))) }
+{
+    if !is_name(dir) {
+        return Ok(None);
+    }
+    let workers = number(alloc, workers, 1, 64)?;
+    Ok(workers.map(|workers| Command::Check { dir, workers }))
+}
+
+fn run_arguments<'a>(
+    alloc: Global,
+    kernel: &'a str,
+    dir: &'a str,
+    size: &str,
+) -> Result<Option<Command<'a>>, AllocError>
+    ensures said { IfOk result (λ asked. IfSome asked (λ c. Says (codes "run" ∷ kernel.now ∷ dir.now ∷ size.now ∷ []) (request_of c))) }
+    ensures usage { IfOk result (λ asked. IfNone asked (IsUsage (codes "run" ∷ kernel.now ∷ dir.now ∷ size.now ∷ []))) }
+{
+    if !is_name(kernel) || !is_name(dir) {
+        return Ok(None);
+    }
+    let size = number(alloc, size, 24, 4_194_304)?;
+    Ok(size.map(|size| Command::Run { kernel, dir, size }))
+}
+
+fn two_arguments<'a>(
+    alloc: Global,
+    name: &str,
+    first: &'a str,
+    second: &'a str,
+) -> Result<Option<Command<'a>>, AllocError>
+    ensures said { IfOk result (λ asked. IfSome asked (λ c. Says (name.now ∷ first.now ∷ second.now ∷ []) (request_of c))) }
+    ensures usage { IfOk result (λ asked. IfNone asked (IsUsage (name.now ∷ first.now ∷ second.now ∷ []))) }
+{
+    if name == "check" {
+        return check_arguments(alloc, first, second);
+    }
+    if name == "gen" {
+        return gen_arguments(alloc, first, second);
+    }
+    if name == "replay" {
+        return Ok(replay_arguments(first, second));
+    }
+    Ok(None)
+}
+
+fn replay_arguments<'a>(kernel: &'a str, dir: &'a str) -> Option<Command<'a>>
+    ensures said { IfSome result (λ c. Says (codes "replay" ∷ kernel.now ∷ dir.now ∷ []) (request_of c)) }
+    ensures usage { IfNone result (IsUsage (codes "replay" ∷ kernel.now ∷ dir.now ∷ [])) }
+{
+    if !is_name(kernel) || !is_name(dir) {
+        return None;
+    }
+    Some(Command::Replay { kernel, dir })
+}
+
+fn gen_arguments<'a>(
+    alloc: Global,
+    rounds: &str,
+    workers: &str,
+) -> Result<Option<Command<'a>>, AllocError>
+    ensures said { IfOk result (λ asked. IfSome asked (λ c. Says (codes "gen" ∷ rounds.now ∷ workers.now ∷ []) (request_of c))) }
+    ensures usage { IfOk result (λ asked. IfNone asked (IsUsage (codes "gen" ∷ rounds.now ∷ workers.now ∷ []))) }
+{
+    let Some(rounds) = number(alloc, rounds, 1, 100_000)? else {
+        return Ok(None);
+    };
+    let workers = number(alloc, workers, 1, 64)?;
+    Ok(workers.map(|workers| Command::Gen { rounds, workers }))
+}
+
+fn is_name(word: &str) -> bool
+    ensures { IsTrue result ↔ IsName word.now }
+{
+    1 <= word.len() && word.len() <= 1024
+}
+
+/// The number that the word is in decimal digits, where it lies within the limits.
+fn number(alloc: Global, word: &str, low: u64, high: u64) -> Result<Option<u64>, AllocError>
+    ensures found { IfOk result (λ found. IfSome found (λ n. IsNumber word.now low high n)) }
+    ensures none { IfOk result (λ found. IfNone found ((n : ℕ) → IsNumber word.now low high n → ⊥)) }
+{
+    let Some(n) = parsed(word) else {
+        return Ok(None);
+    };
+    if !is_within(n, low, high) {
+        return Ok(None);
+    }
+    Ok(is_decimal(alloc, word, n)?.then_some(n))
+}
+
+fn parsed(word: &str) -> Option<u64>
+    ensures { (n : ℕ) → n < 2 ^ 64 → word.now ≡ decimal n → result ≡ Some n }
+{
+    word.parse::<u64>().ok()
+}
+
+fn is_within(n: u64, low: u64, high: u64) -> bool
+    ensures { IsTrue result ↔ ((low ≤ n) × (n ≤ high)) }
+{
+    low <= n && n <= high
+}
+
+fn is_decimal(alloc: Global, word: &str, n: u64) -> Result<bool, AllocError>
+    ensures { IfOk result (λ same. IsTrue same ↔ (word.now ≡ decimal n)) }
+{
+    let digits = format!(in alloc; "{n}")?;
+    Ok(digits.as_str() == word)
+}

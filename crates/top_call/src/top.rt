@@ -1,0 +1,103 @@
+//! The top call: what the program does for the arguments that it is given.
+ghost use Rattle.std.specs.Prelude.{◌≡◌, ◌⊎◌, ℕ, List, is_some};
+ghost use Rattle.sw_base.specs.Environment.{Rose, WhereTold};
+ghost use Rattle.command_answer.specs.Answer.{Answers, IsFailure, Tries};
+ghost use Rattle.top_call.specs.Check.{FolderDue, HasReport};
+ghost use Rattle.run_command.specs.Run.{LeavesPart, RunDue};
+ghost use Rattle.top_call.specs.Gen.{GenDue};
+ghost use Rattle.top_call.specs.Replay.{ReplayDue};
+ghost use Rattle.top_call.specs.Show.{ShowsRecords};
+ghost use Rattle.top_call.specs.Arguments.{AsksRun, BeginsRun, IsUsage, SaysCheck, SaysGen, SaysReplay, SaysRun, SaysShow, UsageDue, texts};
+ghost use Rattle.command_answer.specs.declared.status.TheConstants.{DONE, USAGE, READ_FAULT, WRITE_FAULT};
+
+use crate::arguments::{Command, read_arguments};
+use crate::checking::check;
+use crate::generating::check_generated;
+use crate::replaying::replay_file;
+use crate::running::run_file;
+use crate::showing::show;
+use command_answer::{NO_MEMORY, USAGE, print};
+use std::alloc::Global;
+use std::sync::Wait;
+use std::thread::Threads;
+use sw_base::{Folder, Gate, Out};
+
+/// How many bytes of stack the call is given. An expression may be nearly as deep as its kernel's text is long, and so are the calls that
+/// compute it.
+pub const STACK: usize = 1 << 28;
+
+const USAGE_LINE: &[u8] =
+    b"usage: sword check DIR W | run KERNEL DIR SIZE | replay KERNEL DIR | show DIR | gen N W\n";
+
+/// Does what the arguments after the program's name ask for, and answers the status that the program ends with.
+///
+/// The gate sees each lane of a region start each of its phases, and each worker of a check or of `gen` start. Lanes and workers are
+/// threads of the runtime.
+pub fn sword<R: Threads + Wait + Sync, F: Folder, O: Out, G: Gate>(
+    rt: &R,
+    alloc: Global,
+    arguments: &[String],
+    folder: &mut F,
+    out: &mut O,
+    gate: &G,
+) -> u8
+    // Words that ask for nothing are answered by the usage line, and nothing else is.
+    ensures usage { IsUsage (texts arguments.now) → Answers UsageDue (O.written out.old) (O.written out.new) result }
+    ensures only_usage { result ≡ USAGE → IsUsage (texts arguments.now) }
+
+    // `check` answers the first bad place of the folder; or, of the run that it holds, exactly the line pairs of accesses that
+    // share a byte, one a write, unordered by forks, joins and barriers, without a common mutex, once and in order.
+    ensures check { (dir : List ℕ) (workers : ℕ) → SaysCheck (texts arguments.now) dir workers → WhereTold (F.content folder.old) (λ c.
+        Answers (FolderDue HasReport c.held dir) (O.written out.old) (O.written out.new) result) }
+
+    // `show` answers the first bad place of the folder, or every record of the run that it holds.
+    ensures show { (dir : List ℕ) → SaysShow (texts arguments.now) dir → WhereTold (F.content folder.old) (λ c.
+        Answers (FolderDue ShowsRecords c.held dir) (O.written out.old) (O.written out.new) result) }
+
+    // `replay` answers that there is no kernel, or the first bad place of the folder; that the folder holds a run of the kernel, each log the
+    // whole trace of its task under what the log reads and draws; or the first record, in the order of the rows and then by number,
+    // that isn't the trace's.
+    ensures replay { (kernel dir : List ℕ) → SaysReplay (texts arguments.now) kernel dir → WhereTold (F.content folder.old) (λ c.
+        Tries (ReplayDue c.held kernel dir) (O.written out.old) (O.written out.new) result) }
+
+    // `gen` answers how many accesses and barrier intervals the run of so many rounds has, and the line pairs of its races.
+    ensures gen_ { (rounds workers : ℕ) → SaysGen (texts arguments.now) rounds workers → Answers (GenDue rounds) (O.written out.old) (O.written out.new) result }
+
+    // `run` answers that there is no kernel; that the folder has an index; where the kernel stopped, with the logs of one execution of it;
+    // or the counts of a run and the sums in which a legal history of it ends. Its logs and index are then there: those of the kernel's
+    // tasks, each with its whole trace under what it read, cut into pieces that fill the buffer.
+    ensures run { (kernel dir : List ℕ) (size : ℕ) → SaysRun (texts arguments.now) kernel dir size → WhereTold (F.content folder.old) (λ c.
+        WhereTold (F.content folder.new) (λ d. Tries (RunDue (Rose (F.write_faults folder.old) (F.write_faults folder.new)) kernel dir size c d) (O.written out.old) (O.written out.new) result)) }
+    ensures run_leaves { (kernel dir : List ℕ) (size : ℕ) → SaysRun (texts arguments.now) kernel dir size → WhereTold (F.content folder.old) (λ c.
+        WhereTold (F.content folder.new) (λ d. IsFailure result → LeavesPart (Rose (F.write_faults folder.old) (F.write_faults folder.new)) kernel dir size c d)) }
+    ensures run_reads { result ≡ READ_FAULT → F.content folder.new ≡ F.content folder.old }
+
+    // A fault has its cause, and only a run that can begin writes anything. With status 0 no call failed that writes: none was made again.
+    ensures read_fault { result ≡ READ_FAULT → Rose (F.read_faults folder.old) (F.read_faults folder.new) }
+    ensures write_fault { result ≡ WRITE_FAULT → Rose (O.faults out.old) (O.faults out.new)
+        ⊎ (AsksRun (texts arguments.now) × Rose (F.write_faults folder.old) (F.write_faults folder.new)) }
+    ensures no_fault { result ≡ DONE → F.write_faults folder.new ≡ F.write_faults folder.old }
+    ensures only_printed { WhereTold (F.content folder.old) (λ c. (BeginsRun (texts arguments.now) c.held → ⊥) →
+        result ≡ WRITE_FAULT → Rose (O.faults out.old) (O.faults out.new)) }
+    ensures no_writes { WhereTold (F.content folder.old) (λ c. (BeginsRun (texts arguments.now) c.held → ⊥) →
+        F.write_faults folder.new ≡ F.write_faults folder.old) }
+    ensures same { (AsksRun (texts arguments.now) → ⊥) → F.content folder.new ≡ F.content folder.old }
+    ensures same_writes { (AsksRun (texts arguments.now) → ⊥) → F.write_faults folder.new ≡ F.write_faults folder.old }
+    ensures tells { is_some (F.content folder.new) ≡ is_some (F.content folder.old) }
+{
+    match read_arguments(alloc, arguments) {
+        Ok(None) => print(alloc, out, USAGE_LINE, USAGE),
+        Ok(Some(Command::Check { dir, workers })) => {
+            check(rt, alloc, folder, out, gate, dir, workers as usize)
+        }
+        Ok(Some(Command::Run { kernel, dir, size })) => {
+            run_file(rt, alloc, kernel, dir, size as usize, folder, out, gate)
+        }
+        Ok(Some(Command::Replay { kernel, dir })) => replay_file(alloc, folder, out, kernel, dir),
+        Ok(Some(Command::Show { dir })) => show(alloc, folder, out, dir),
+        Ok(Some(Command::Gen { rounds, workers })) => {
+            check_generated(rt, alloc, out, gate, rounds as u32, workers as usize)
+        }
+        Err(_) => NO_MEMORY,
+    }
+}
