@@ -8,7 +8,7 @@ use Rattle.kernel_syntax.specs.declared.syntax.Stmt.{Stmt}
 use Rattle.kernel_syntax.specs.declared.syntax.Team.{Team}
 use Rattle.kernel_syntax.proofs.Equations.{stmt_code-Parallel}
 use Rattle.kernel_model.proofs.StmtLists.{bounded_at}
-use Rattle.log_replay.proofs.tests.first_team.Goals as goal
+use Rattle.folder_tests.proofs.tests.replays.first_team.Goals as goal
 
 pub returns-in-Some-Parallel : goal.returns-in-Some-Parallel
 returns-in-Some-Parallel c =

@@ -2,10 +2,10 @@
 ghost use Rattle.kernel_syntax.specs.Bounds.{IsBoundedCode};
 ghost use Rattle.kernel_syntax.specs.Program.{code_of};
 
-use crate::{Stray, follow};
 use kernel_reader::read_kernel;
 use kernel_syntax::{Kernel, Stmt, Team};
 use log_format::{Kind, Record, encode};
+use log_replay::{Stray, follow};
 use std::alloc::Global;
 use std::test::Fail;
 use sw_base::{LOG_HEADER, MemFolder, Path};

@@ -3,7 +3,7 @@ use Rattle.kernel_syntax.specs.declared.syntax.Array.{Array}
 use Rattle.kernel_syntax.specs.Layout.{ArePlaced, elements}
 use Rattle.kernel_syntax.specs.Program.{program_of}
 use Rattle.kernel_syntax.proofs.Placing.{bounded_arrays_are_placed}
-use Rattle.log_replay.proofs.tests.answer.Goals as goal
+use Rattle.folder_tests.proofs.tests.replays.answer.Goals as goal
 
 pub follow-requires-clause-place : goal.follow-requires-clause-place
 follow-requires-clause-place c κs = record {
