@@ -1,9 +1,10 @@
+//! Races of barrier intervals by hand, for several numbers of workers.
 ghost use Rattle.std.specs.Prelude.{◌≡◌, ◌+◌, ◌^◌, ◌<◌};
 
-use crate::{compare, compare_all};
 use interval_tree::{Steps, Tree};
 use log_segment::Segment;
 use mutex_set::{Held, HeldFault};
+use pair_compare::{compare, compare_all};
 use span_label::Label;
 use std::alloc::{AllocError, Global};
 use std::collections::BTreeSet;

@@ -1,9 +1,10 @@
+//! The barrier intervals of folders by hand that are concurrent with one, against those of all pairs.
 ghost use Rattle.std.specs.Prelude.{◌≡◌, ◌<◌, length};
 
-use crate::{Groups, Partner};
 use interval_tree::Steps;
 use log_segment::Segment;
 use log_walk::walk;
+use segment_groups::{Groups, Partner};
 use std::alloc::{AllocError, Global};
 use std::marker::Brand;
 use std::sync::ledger::{Blank, Ledger};
