@@ -1,6 +1,7 @@
+//! Values and their arithmetic, the layout of arrays, and names.
 ghost use Rattle.std.specs.Prelude.{◌≡◌, IfOk};
 
-use crate::{
+use kernel_syntax::{
     Array, Arrays, Body, Expr, Kernel, Name, Names, Op, Schedule, Stmt, Team, apply, even_share,
     fit, layout,
 };

@@ -1,4 +1,6 @@
-use crate::{Item, Phase, phases};
+//! The phases of a team, item by item.
+
+use kernel_model::{Item, Phase, phases};
 use kernel_syntax::{Body, Expr, Schedule, Stmt, Team};
 use std::alloc::{AllocError, Global};
 use std::fmt::Write;
