@@ -3,7 +3,7 @@ ghost use Rattle.std.specs.Prelude.{◌≡◌, ◌≤◌, [], None, Some, IfOk};
 ghost use Rattle.sw_base.specs.Environment.{empty_text};
 ghost use Rattle.sw_base.specs.MemLog.{path_of, text_of, faults_of};
 
-use crate::{Buffer, BufferFault};
+use event_buffer::{Buffer, BufferFault};
 use log_format::{Kind, Record, encode};
 use std::alloc::Global;
 use std::test::Fail;

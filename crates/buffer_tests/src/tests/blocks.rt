@@ -1,6 +1,6 @@
-//! Each public call with ample memory, and the sizes at which one more piece fits.
+//! Each public call of a block with ample memory, and the sizes at which one more piece fits.
 
-use crate::{Block, block_is_sent};
+use event_block::{Block, block_is_sent};
 use std::test::Fail;
 
 // Pieces of 24 bytes, each of its own byte.
