@@ -14,6 +14,3 @@ mod region;
 
 pub use block::Block;
 pub use laws::block_is_sent;
-
-#[cfg(test)]
-mod tests;

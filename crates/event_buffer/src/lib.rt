@@ -14,6 +14,3 @@ mod laws;
 pub use buffer::Buffer;
 pub use fault::BufferFault;
 pub use laws::prefix_stands;
-
-#[cfg(test)]
-mod tests;

@@ -1,1 +1,2 @@
+mod replays;
 mod walks;

@@ -22,8 +22,6 @@ mod growth;
 mod lawful;
 mod phase;
 mod phasing;
-#[cfg(test)]
-mod tests;
 mod unrolling;
 
 pub use growth::tasks_only_add_records;

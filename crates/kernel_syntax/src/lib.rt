@@ -14,8 +14,6 @@ mod arithmetic;
 mod declarations;
 mod share;
 mod syntax;
-#[cfg(test)]
-mod tests;
 
 pub use crate::addresses::layout;
 pub use crate::arithmetic::{apply, fit};

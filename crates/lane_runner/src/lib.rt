@@ -28,20 +28,10 @@ mod frame;
 mod lane;
 mod laws;
 mod locals;
-#[cfg(test)]
-mod loop_tests;
-#[cfg(test)]
-mod one_lane;
 mod phase;
-#[cfg(test)]
-mod phase_tests;
 mod run_phase;
 mod sharing;
-#[cfg(test)]
-mod statement_tests;
 mod stop;
-#[cfg(test)]
-mod tests;
 mod track;
 mod value;
 mod world;

@@ -21,6 +21,3 @@ pub use forked::Forked;
 pub use laws::{first_record_that_differs_is_unique, tasks_that_differ_are_no_run};
 pub use replaying::{Replayed, replay};
 pub use stray::Stray;
-
-#[cfg(test)]
-mod tests;

@@ -37,6 +37,3 @@ pub use comparing::compare;
 pub use ordering::labels_order_accesses;
 pub use regions::pairs_are_races;
 pub use team::unite;
-
-#[cfg(test)]
-mod tests;

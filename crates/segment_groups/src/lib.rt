@@ -14,6 +14,3 @@ mod partner;
 
 pub use groups::Groups;
 pub use partner::Partner;
-
-#[cfg(test)]
-mod tests;

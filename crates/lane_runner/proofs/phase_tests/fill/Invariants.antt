@@ -1,5 +1,0 @@
-use Rattle.lane_runner.specs.Going.{CanGo}
-use Rattle.lane_runner.proofs.phase_tests.fill.Given as goal
-
-abbrev pub invariant-loop : goal.invariant-loop
-invariant-loop l = CanGo l.world l.track

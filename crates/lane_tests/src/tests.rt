@@ -1,0 +1,7 @@
+mod loops;
+mod mutexes;
+mod one_lane;
+mod phases;
+mod regions;
+mod statements;
+mod support;

@@ -1,0 +1,118 @@
+//! The ends of phases and tasks, with what a log tells of them.
+ghost use Rattle.std.specs.Prelude.{OnOk};
+ghost use Rattle.lane_runner.specs.Going.{CanGo};
+
+use crate::tests::support::{buffer, bytes_of, log_of};
+use kernel_model::Item;
+use kernel_syntax::{Array, Team};
+use lane_runner::{Frame, Halt, Locals, Stop, Track, World};
+use log_format::{Kind, Record};
+use shared_words::{Chunks, Hand, Words};
+use std::alloc::Global;
+use std::test::Fail;
+use sw_base::{MemLog, Path, Trouble};
+
+const FULL: u32 = 4_194_304;
+
+// The record of a step that is no access.
+fn event(kind: Kind, line: u32) -> Record {
+    Record {
+        kind,
+        size: 0,
+        site: 0,
+        line,
+        addr: 0,
+        value: 0,
+    }
+}
+
+#[test]
+fn a_barrier_and_an_end_are_recorded(rt: HostRuntime) -> Result<(), Fail> {
+    let alloc = rt.alloc();
+    let (words, hand) = Words::new(alloc, 0, 1)?;
+    let (chunks, draws) = Chunks::new(alloc, 0)?;
+    let arrays: [Array; 0] = [];
+    let world = World::new(&arrays, &words, &chunks, 0, 1);
+    let mut track = Track::new(alloc, hand, buffer(alloc)?, draws);
+    let Ok(()) = track.meet(alloc, 5) else {
+        panic!(rt; "no room");
+    };
+    let Ok(()) = track.finish(alloc, 9) else {
+        panic!(rt; "no room");
+    };
+    let expected = log_of(alloc, &[event(Kind::Barrier, 5), event(Kind::End, 9)])?;
+    assert!(rt; bytes_of(alloc, track)? == expected);
+    Ok(())
+}
+
+// Fills a log with barriers.
+fn fill(alloc: Global, world: &World, track: &mut Track<MemLog>) -> Result<(), Halt>
+    requires can { CanGo world.now track.old }
+    ensures can { OnOk result (CanGo world.now track.new) }
+{
+    for _ in 0..FULL {
+        track.meet(alloc, 5)?;
+    }
+    Ok(())
+}
+
+#[test]
+fn a_full_log_takes_no_barrier_and_no_end(rt: HostRuntime) -> Result<(), Fail> {
+    let alloc = rt.alloc();
+    let (words, hand) = Words::new(alloc, 0, 1)?;
+    let (chunks, draws) = Chunks::new(alloc, 0)?;
+    let arrays: [Array; 0] = [];
+    let world = World::new(&arrays, &words, &chunks, 0, 1);
+    let mut track = Track::new(alloc, hand, buffer(alloc)?, draws);
+    let Ok(()) = fill(alloc, &world, &mut track) else {
+        panic!(rt; "no room");
+    };
+    let Err(Halt::LogFull { line }) = track.meet(alloc, 6) else {
+        panic!(rt; "a barrier too many");
+    };
+    assert_eq!(rt; line, 6);
+    let Err(Halt::LogFull { line }) = track.finish(alloc, 7) else {
+        panic!(rt; "an end too many");
+    };
+    assert_eq!(rt; line, 7);
+    Ok(())
+}
+
+// Runs no region: no memory is found.
+fn stuck(
+    _: &mut Hand,
+    _: &Locals,
+    _: u32,
+    _: Vec<MemLog>,
+    _: &Team,
+    _: &mut Vec<(Path, MemLog, u32)>,
+) -> Result<(), (Path, Stop)> {
+    Err((Path::root(), Stop::Trouble(Trouble::Memory)))
+}
+
+#[test]
+fn a_value_is_set_before_the_lanes_meet(rt: HostRuntime) -> Result<(), Fail> {
+    let alloc = rt.alloc();
+    let (words, hand) = Words::new(alloc, 0, 1)?;
+    let (chunks, draws) = Chunks::new(alloc, 0)?;
+    let arrays: [Array; 0] = [];
+    let world = World::new(&arrays, &words, &chunks, 0, 1);
+    let track = Track::new(alloc, hand, buffer(alloc)?, draws);
+    let slots = vec![in alloc; 7i64, 7]?;
+    let mut frame = Frame {
+        locals: Locals { slots },
+        track,
+    };
+    let set = Item::Set { slot: 1, value: 3 };
+    let Ok(()) = frame.step(&set, &rt, alloc, &world, &stuck) else {
+        panic!(rt; "no room");
+    };
+    let bar = Item::Bar { line: 5 };
+    let Ok(()) = frame.step(&bar, &rt, alloc, &world, &stuck) else {
+        panic!(rt; "no room");
+    };
+    assert_eq!(rt; frame.locals.get(0), 7);
+    assert_eq!(rt; frame.locals.get(1), 3);
+    assert!(rt; bytes_of(alloc, frame.track)? == log_of(alloc, &[event(Kind::Barrier, 5)])?);
+    Ok(())
+}

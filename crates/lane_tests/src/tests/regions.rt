@@ -1,0 +1,104 @@
+//! Regions in statements, with what a lane's log tells of them.
+ghost use Rattle.std.specs.Prelude.{◌≡◌, ◌<◌, [], ◌∷◌, IfOk};
+ghost use Rattle.kernel_syntax.specs.Bounds.{IsBoundedCode};
+ghost use Rattle.kernel_syntax.specs.Program.{code_of, stmt_code};
+ghost use Rattle.kernel_syntax.specs.Tree.{Done};
+ghost use Rattle.kernel_model.specs.Parts.{drawn_count};
+ghost use Rattle.kernel_model.specs.Phases.{part_of_stmt};
+ghost use Rattle.lane_runner.specs.Alone.{IsAlone};
+ghost use Rattle.lane_runner.specs.Phase.{IsOfTeam};
+
+use crate::tests::one_lane::{executed, lane_over};
+use crate::tests::support::{in_loop, log_of, nothing, only, tested};
+use kernel_syntax::{Body, Expr, Schedule, Stmt, Team};
+use log_format::{Kind, Record};
+use std::alloc::Global;
+use std::sync::Wait;
+use std::test::Fail;
+
+fn region(body: Body) -> Stmt
+    requires bounded { IsBoundedCode (code_of body.stmts.items) }
+    ensures bounded { IsBoundedCode (stmt_code result Done) }
+    ensures alone { IsAlone 1 [] (stmt_code result Done) }
+{
+    let team = Team {
+        span: 2,
+        line: 7,
+        end: 8,
+        body,
+    };
+    Stmt::Parallel { team }
+}
+
+// A region where variable 0 isn't 0.
+fn region_past_zero(alloc: Global) -> Result<Body, Fail>
+    ensures bounded { IfOk result (λ b. IsBoundedCode (code_of b.stmts.items)) }
+    ensures alone { IfOk result (λ b. IsAlone 1 [] (code_of b.stmts.items)) }
+{
+    let region = only(alloc, region(nothing(alloc)))?;
+    only(alloc, tested(region, nothing(alloc)))
+}
+
+// A worksharing loop over variable 0, from 0 to 1, in even shares.
+fn in_shares(body: Body) -> Stmt
+    requires bounded { IsBoundedCode (code_of body.stmts.items) }
+    requires alone { IsAlone 1 [] (code_of body.stmts.items) }
+    ensures bounded { IsBoundedCode (stmt_code result Done) }
+    ensures own { IsOfTeam 1 (stmt_code result Done) }
+    ensures undrawn { drawn_count (part_of_stmt result ∷ []) ≡ 0 }
+{
+    Stmt::For {
+        slot: 0,
+        from: Expr::Number(0),
+        to: Expr::Number(2),
+        schedule: Schedule::Even,
+        nowait: false,
+        line: 5,
+        end: 9,
+        body,
+    }
+}
+
+// Whether a lane of a team of two stops in its first region, and its log has the record of the fork.
+fn stops_in_region<R: Wait>(rt: &R, alloc: Global, lane: u16, stmt: &Stmt) -> Result<bool, Fail>
+    requires lane { lane < 2 }
+    requires bounded { IsBoundedCode (stmt_code stmt.now Done) }
+    requires own { IsOfTeam 1 (stmt_code stmt.now Done) }
+    requires undrawn { drawn_count (part_of_stmt stmt.now ∷ []) ≡ 0 }
+{
+    let left = executed(rt, alloc, &lane_over(8, lane), stmt)?;
+    Ok(left.halt.is_some() && left.bytes == log_of(alloc, &[fork()])?)
+}
+
+// The record of the fork of the region.
+fn fork() -> Record {
+    Record {
+        kind: Kind::Region,
+        size: 0,
+        site: 0,
+        line: 7,
+        addr: 0,
+        value: 2,
+    }
+}
+
+#[test]
+fn a_region_in_a_loop_is_run_in_its_turn(rt: HostRuntime) -> Result<(), Fail> {
+    let alloc = rt.alloc();
+    let turns = in_loop(0, region_past_zero(alloc)?);
+    assert!(rt; stops_in_region(&rt, alloc, 0, &turns)?);
+    let others = in_loop(1, region_past_zero(alloc)?);
+    assert!(rt; !stops_in_region(&rt, alloc, 0, &others)?);
+    Ok(())
+}
+
+#[test]
+fn a_region_in_a_worksharing_loop_is_run_by_the_lane_that_has_its_iteration(
+    rt: HostRuntime,
+) -> Result<(), Fail> {
+    let alloc = rt.alloc();
+    let shares = in_shares(region_past_zero(alloc)?);
+    assert!(rt; !stops_in_region(&rt, alloc, 0, &shares)?);
+    assert!(rt; stops_in_region(&rt, alloc, 1, &shares)?);
+    Ok(())
+}

@@ -1,0 +1,144 @@
+//! Statements and regions for lanes, and buffers and logs with what is in them.
+ghost use Rattle.std.specs.Prelude.{◌≡◌, [], ◌∷◌, Some, Err, IfOk};
+ghost use Rattle.kernel_syntax.specs.Bounds.{IsBoundedCode};
+ghost use Rattle.kernel_syntax.specs.Program.{code_of, stmt_code};
+ghost use Rattle.kernel_syntax.specs.Tree.{Done};
+ghost use Rattle.kernel_model.specs.Parts.{drawn_count};
+ghost use Rattle.kernel_model.specs.Phases.{part_of_stmt};
+ghost use Rattle.lane_runner.specs.Alone.{IsAlone};
+ghost use Rattle.lane_runner.specs.Phase.{IsOfTeam};
+ghost use Rattle.sw_base.specs.Environment.{empty_text};
+ghost use Rattle.sw_base.specs.MemLog.{path_of, text_of, faults_of};
+
+use event_buffer::Buffer;
+use kernel_syntax::{Body, Expr, Stmt, Team};
+use lane_runner::{Locals, Stop, Track};
+use log_format::{Kind, Record, encode};
+use shared_words::Hand;
+use std::alloc::Global;
+use std::test::Fail;
+use sw_base::{Folder, LOG_HEADER, MemFolder, MemLog, Path, Trouble};
+
+/// The record of a step on a mutex.
+pub(crate) fn step(kind: Kind, mutex: u64, line: u32) -> Record {
+    Record {
+        kind,
+        size: 0,
+        site: 0,
+        line,
+        addr: mutex,
+        value: 0,
+    }
+}
+
+/// The bytes of a log of these records.
+pub(crate) fn log_of(alloc: Global, records: &[Record]) -> Result<Vec<u8>, Fail> {
+    let mut bytes = LOG_HEADER.to_vec(alloc)?;
+    for record in records {
+        bytes.extend_from_slice(&encode(record))?;
+    }
+    Ok(bytes)
+}
+
+/// A buffer before the empty log of a new folder.
+pub(crate) fn buffer(alloc: Global) -> Result<Buffer<MemLog>, Fail>
+    ensures unrefused { IfOk result (λ b. b.refused ≡ None) }
+    ensures empty { IfOk result (λ b. b.count ≡ 0) }
+    ensures root { IfOk result (λ b. b.path ≡ []) }
+{
+    buffer_failing(alloc, 0)
+}
+
+/// A buffer for two records, before the empty log of a new folder, of which this call fails. The first call has the number 1.
+pub(crate) fn buffer_failing(alloc: Global, call: u64) -> Result<Buffer<MemLog>, Fail>
+    ensures unrefused { IfOk result (λ b. b.refused ≡ None) }
+    ensures empty { IfOk result (λ b. b.count ≡ 0) }
+    ensures root { IfOk result (λ b. b.path ≡ []) }
+{
+    let mut folder = MemFolder::new(alloc)?;
+    folder.fail_log(&Path::root(), &[call])?;
+    match Buffer::start(alloc, folder.root(alloc, "d")?, 48) {
+        Ok(buffer) => Ok(buffer),
+        Err((trouble, _)) => Err(trouble.into()),
+    }
+}
+
+/// What a lane's log has at its end, also where its last call failed.
+pub(crate) fn bytes_of(alloc: Global, track: Track<MemLog>) -> Result<Vec<u8>, Fail> {
+    let (_, buffer, _, _) = track.into_parts();
+    match buffer.close(alloc) {
+        Ok(log) => Ok(log.bytes().to_vec(alloc)?),
+        Err((_, log)) => Ok(log.bytes().to_vec(alloc)?),
+    }
+}
+
+/// What is called to run a region, where no memory is found for it: no lane runs.
+pub(crate) fn without_memory(
+    hand: &mut Hand,
+    _locals: &Locals,
+    number: u32,
+    _logs: Vec<MemLog>,
+    team: &Team,
+    _done: &mut Vec<(Path, MemLog, u32)>,
+) -> Result<(), (Path, Stop)>
+    ensures hand { hand.new ≡ hand.old }
+    ensures done { _done.new ≡ _done.old }
+    ensures stop { result ≡ Err (record { region = number; lane = 0; span = team.now.span } ∷ [], Stop.Trouble Trouble.Memory) }
+{
+    let first = Path::root().child(number, 0, team.span);
+    Err((first, Stop::Trouble(Trouble::Memory)))
+}
+
+/// A body without a statement.
+pub(crate) fn nothing(alloc: Global) -> Body
+    ensures bounded { IsBoundedCode (code_of result.stmts.items) }
+    ensures alone { IsAlone 1 [] (code_of result.stmts.items) }
+{
+    Body {
+        stmts: Vec::new(alloc),
+    }
+}
+
+/// A body of one statement.
+pub(crate) fn only(alloc: Global, stmt: Stmt) -> Result<Body, Fail>
+    requires bounded { IsBoundedCode (stmt_code stmt Done) }
+    requires alone { IsAlone 1 [] (stmt_code stmt Done) }
+    ensures bounded { IfOk result (λ b. IsBoundedCode (code_of b.stmts.items)) }
+    ensures alone { IfOk result (λ b. IsAlone 1 [] (code_of b.stmts.items)) }
+{
+    let stmts = vec![in alloc; stmt]?;
+    Ok(Body { stmts })
+}
+
+/// A test of variable 0.
+pub(crate) fn tested(yes: Body, no: Body) -> Stmt
+    requires bounded { IsBoundedCode (code_of yes.stmts.items) }
+    requires alone { IsAlone 1 [] (code_of yes.stmts.items) }
+    requires no_bounded { IsBoundedCode (code_of no.stmts.items) }
+    requires no_alone { IsAlone 1 [] (code_of no.stmts.items) }
+    ensures bounded { IsBoundedCode (stmt_code result Done) }
+    ensures alone { IsAlone 1 [] (stmt_code result Done) }
+{
+    Stmt::If {
+        test: Expr::Slot(0),
+        yes,
+        no,
+    }
+}
+
+/// A loop over a variable, from 0 to 1.
+pub(crate) fn in_loop(slot: u32, body: Body) -> Stmt
+    requires bounded { IsBoundedCode (code_of body.stmts.items) }
+    requires alone { IsAlone 1 [] (code_of body.stmts.items) }
+    ensures bounded { IsBoundedCode (stmt_code result Done) }
+    ensures alone { IsAlone 1 [] (stmt_code result Done) }
+    ensures own { IsOfTeam 1 (stmt_code result Done) }
+    ensures undrawn { drawn_count (part_of_stmt result ∷ []) ≡ 0 }
+{
+    Stmt::Loop {
+        slot,
+        from: Expr::Number(0),
+        to: Expr::Number(2),
+        body,
+    }
+}

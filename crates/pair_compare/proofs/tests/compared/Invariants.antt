@@ -1,4 +1,0 @@
-use Rattle.pair_compare.proofs.tests.compared.Given as goal
-
-abbrev pub ghosts-compared_with : goal.ghosts-compared_with
-ghosts-compared_with a = record { name = a.blank.name; parts = a.blank.parts }
