@@ -57,9 +57,6 @@ module _ (crew : CrewValue) (items : List Item) (end : Option ℕ) (old home new
   in_prev : (k : ℕ) → k < crew.span → k < length prev
   in_prev k less = let c = stands.count in omega (arith, c, less)
 
-  in_mid : (k : ℕ) → k < crew.span → k < length ran.mid
-  in_mid k less = let c = stands.count in let m = ran.mid_count in omega (arith, c, m, less)
-
   in_after : (k : ℕ) → k < crew.span → k < length after
   in_after k less = let c = stands.count in let m = ran.count in omega (arith, c, m, less)
 
