@@ -23,7 +23,7 @@ task_fresh place path slots draws crew m belongs left b = record {
   may = record {
     unrefused = b.unrefused;
     drawing = subst (λ (t : Tally). Belongs t.draws crew.chunks.table) (sym b.tally) belongs;
-    enough = subst (λ (t : Tally). log_limit ≤ t.draws.view.left + m.at.buffer.count) (sym b.tally) (omega (arith, left));
+    enough = subst (λ (t : Tally). log_limit ≤ t.draws.view.left + m.buffer.count) (sym b.tally) (omega (arith, left));
     forks = let f = ap (λ (t : Tally). t.forked) b.tally in omega (arith, f);
   };
   no_loop = ap (λ (t : Tally). t.next_loop) b.tally;

@@ -20,7 +20,7 @@ use Rattle.lane_runner.specs.Going.{IsSameLog, site}
 use Rattle.lane_runner.proofs.Bodies.{log_later}
 use Rattle.region_runner.specs.Crew.{CrewValue, world_of}
 use Rattle.region_runner.specs.Hands.{joined_with, lane_hand, parted_for}
-use Rattle.lane_runner.specs.Lane.{IsLast, LaneValue, WentOn, answer_of, hand_view, with_hand}
+use Rattle.lane_runner.specs.Lane.{IsLast, LaneValue, WentOn, answer_of, hand_view, progress, with_hand}
 use Rattle.region_runner.specs.Ran.{TaskGoes, task_part}
 use Rattle.region_runner.specs.Stands.{AllGo, LaneStands, MayStep, RanPhase, TeamStands, put_in}
 use Rattle.region_runner.specs.Team.{DidPhases, DidWork, team_of_works}
@@ -84,12 +84,12 @@ module _ (crew : CrewValue) (items : List Item) (end : Option ℕ) (old home new
 
   did_more : DidPhases crew.arrays crew.span home new later
   did_more =
-      phase_did crew.arrays crew.span home new works.work (λ k. (slice_index_or ran.mid k d).at.hand) (λ k. lane_hand home k) ran.rests out_none (λ k less. refl)
-      (λ k less. let s = works.each k less in subst (λ (work : Work). DidWork crew.arrays (lane_hand home k) (slice_index_or ran.mid k d).at.hand work) s.1 s.0.did)
+      phase_did crew.arrays crew.span home new works.work (λ k. (slice_index_or ran.mid k d).hand) (λ k. lane_hand home k) ran.rests out_none (λ k less. refl)
+      (λ k less. let s = works.each k less in subst (λ (work : Work). DidWork crew.arrays (lane_hand home k) (slice_index_or ran.mid k d).hand work) s.1 s.0.did)
       (ran.hand ∙ ap (λ (vs : List View). with_view home (joined_with vs (parted_for 0 crew.span crew.span home.view))) views)
 
-  halt_same : (k : ℕ) → k < crew.span → (slice_index_or after k d).halt ≡ (slice_index_or ran.mid k d).halt
-  halt_same k less = ap (λ (m : LaneValue). m.halt) (ran.same k d (in_prev k less))
+  halt_same : (k : ℕ) → k < crew.span → (slice_index_or after k d).stopped ≡ (slice_index_or ran.mid k d).stopped
+  halt_same k less = ap (λ (m : LaneValue). m.stopped) (ran.same k d (in_prev k less))
 
   abbrev start : ℕ → LaneValue
   start k = slice_index_or before k d
@@ -97,7 +97,7 @@ module _ (crew : CrewValue) (items : List Item) (end : Option ℕ) (old home new
   abbrev mid : ℕ → LaneValue
   mid k = slice_index_or ran.mid k d
 
-  same : (k : ℕ) → k < crew.span → slice_index_or after k d ≡ with_hand (mid k) (slice_index_or after k d).at.hand
+  same : (k : ℕ) → k < crew.span → slice_index_or after k d ≡ with_hand (mid k) (slice_index_or after k d).hand
   same k less = ran.same k d (in_prev k less)
 
   went : (k : ℕ) → k < crew.span → WentOn (world_of crew k) items end (with_hand (slice_index_or prev k d) (lane_hand home k)) (mid k)
@@ -106,33 +106,33 @@ module _ (crew : CrewValue) (items : List Item) (end : Option ℕ) (old home new
   lane_now : (k : ℕ) → k < crew.span → LaneStands crew (slice_index_or before k d) (done ++ items ∷ []) end (then_phases phases later) k (slice_index_or after k d)
   lane_now k less = record {
     path = ap (λ (m : LaneValue). m.path) (same k less) ∙ (went k less).path ∙ (stands.lanes k d less).path;
-    last = (mid k).at;
+    last = progress (mid k);
     up = record {
-      buffer = ap (λ (m : LaneValue). m.at.buffer) (same k less);
-      tally = ap (λ (m : LaneValue). m.at.tally) (same k less);
-      done = ap (λ (m : LaneValue). m.at.done) (same k less);
+      buffer = ap (λ (m : LaneValue). m.buffer) (same k less);
+      tally = ap (λ (m : LaneValue). m.tally) (same k less);
+      done = ap (λ (m : LaneValue). m.done) (same k less);
     };
     goes =
-        subst (λ (m : LaneValue). TaskGoes (world_of crew k) (task_part (site (world_of crew k)) (done ++ items ∷ []) end) (start k).slots m.slots (start k).at (mid k).at (lane_works k (then_phases phases later)) (answer_of m.halt)) (sym (same k less))
-        (subst (λ (ws : List Work). TaskGoes (world_of crew k) (task_part (site (world_of crew k)) (done ++ items ∷ []) end) (start k).slots (mid k).slots (start k).at (mid k).at ws (answer_of (mid k).halt))
+        subst (λ (m : LaneValue). TaskGoes (world_of crew k) (task_part (site (world_of crew k)) (done ++ items ∷ []) end) (start k).locals m.locals (progress (start k)) (progress (mid k)) (lane_works k (then_phases phases later)) (answer_of m.stopped)) (sym (same k less))
+        (subst (λ (ws : List Work). TaskGoes (world_of crew k) (task_part (site (world_of crew k)) (done ++ items ∷ []) end) (start k).locals (mid k).locals (progress (start k)) (progress (mid k)) ws (answer_of (mid k).stopped))
         (ap (λ (work : Work). lane_works k phases ++ work ∷ []) (works.each k less).1 ∙ sym (lane_works_more crew.span k phases works.work less))
         (works.each k less).0.goes);
     log =
-        subst (λ (b : Buffered). IsSameLog (start k).at.buffer b) (ap (λ (m : LaneValue). m.at.buffer) (sym (same k less)))
-        (log_later (start k).at.buffer (slice_index_or prev k d).at.buffer (mid k).at.buffer (stands.lanes k d less).log (went k less).log);
+        subst (λ (b : Buffered). IsSameLog (start k).buffer b) (ap (λ (m : LaneValue). m.buffer) (sym (same k less)))
+        (log_later (start k).buffer (slice_index_or prev k d).buffer (mid k).buffer (stands.lanes k d less).log (went k less).log);
     loops = λ goes.
         let so_far = (stands.lanes k d less).loops (going k d (in_prev k less)) in
-        let more = (went k less).loops (ap (λ (m : LaneValue). m.halt) (sym (same k less)) ∙ goes) in
+        let more = (went k less).loops (ap (λ (m : LaneValue). m.stopped) (sym (same k less)) ∙ goes) in
         let counts = drawn_after done items in
-        let now : (slice_index_or after k d).at.tally.next_loop ≡ (mid k).at.tally.next_loop = ap (λ (m : LaneValue). m.at.tally.next_loop) (same k less) in
+        let now : (slice_index_or after k d).tally.next_loop ≡ (mid k).tally.next_loop = ap (λ (m : LaneValue). m.tally.next_loop) (same k less) in
         omega (arith, so_far, more, counts, now);
     may = λ goes.
-        subst (λ (m : LaneValue). MayStep crew m.at) (sym (same k less))
+        subst (λ (m : LaneValue). MayStep crew m) (sym (same k less))
         (record {
-          unrefused = ((went k less).can (ap (λ (m : LaneValue). m.halt) (sym (same k less)) ∙ goes)).unrefused;
-          drawing = ((went k less).can (ap (λ (m : LaneValue). m.halt) (sym (same k less)) ∙ goes)).drawing;
-          enough = ((went k less).can (ap (λ (m : LaneValue). m.halt) (sym (same k less)) ∙ goes)).enough;
-          forks = ((went k less).can (ap (λ (m : LaneValue). m.halt) (sym (same k less)) ∙ goes)).forks;
+          unrefused = ((went k less).can (ap (λ (m : LaneValue). m.stopped) (sym (same k less)) ∙ goes)).unrefused;
+          drawing = ((went k less).can (ap (λ (m : LaneValue). m.stopped) (sym (same k less)) ∙ goes)).drawing;
+          enough = ((went k less).can (ap (λ (m : LaneValue). m.stopped) (sym (same k less)) ∙ goes)).enough;
+          forks = ((went k less).can (ap (λ (m : LaneValue). m.stopped) (sym (same k less)) ∙ goes)).forks;
         });
     passes = λ goes.
         let first = (stands.lanes k d less).passes (going k d (in_prev k less)) in

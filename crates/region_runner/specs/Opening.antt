@@ -59,7 +59,7 @@ pub record OneTorn (opened : List (Result LaneValue ClosedValue)) : Type 0 where
 -- a lane whose log was opened and closed, or refused
 abbrev pub ClosesAs : Result LaneValue ClosedValue → ClosedValue → Type 0
 ClosesAs (Ok m) c =
-    (c.path ≡ m.path) × IsClosedAs c.own c.refused m.path m.at.buffer × (c.below ≡ m.at.done) × (c.draws ≡ m.at.tally.draws) × (c.halt ≡ m.halt)
+    (c.path ≡ m.path) × IsClosedAs c.own c.refused m.path m.buffer × (c.below ≡ m.done) × (c.draws ≡ m.tally.draws) × (c.halt ≡ m.stopped)
 ClosesAs (Err torn) c = c ≡ torn
 
 -- The first hand on the counters has split off a hand for each lane; and all lanes begin, or none of them executed anything.

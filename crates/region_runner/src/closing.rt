@@ -40,10 +40,10 @@ impl<L: Log> Model for Closed<L> {
 // Closes the log of a lane.
 pub(crate) fn close<L: Log>(alloc: Global, member: Lane<L>) -> Closed<L>
     ensures path { result.path ≡ member.path }
-    ensures closed { IsClosedAs result.own result.refused member.path member.at.buffer }
-    ensures below { result.below ≡ member.at.done }
-    ensures draws { result.draws ≡ member.at.tally.draws }
-    ensures halt { result.halt ≡ member.halt }
+    ensures closed { IsClosedAs result.own result.refused member.path member.buffer }
+    ensures below { result.below ≡ member.done }
+    ensures draws { result.draws ≡ member.tally.draws }
+    ensures halt { result.halt ≡ member.stopped }
 {
     let (path, track, halt) = member.into_parts();
     let (_hand, buffer, draws, below) = track.into_parts();

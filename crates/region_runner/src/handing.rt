@@ -34,7 +34,7 @@ pub(crate) fn split_hands<L: Log>(
 // The hands of all lanes are joined to this one, in the order of the lanes.
 pub(crate) fn join_hands<L: Log>(words: &Words, hand: &mut Hand, members: &mut [Lane<L>])
     requires belongs { Belongs hand.old words.now.table }
-    requires home { (i : ℕ) (d : _) → i < length members.old → IsLaneHand words.now.table hand.old.view.name (slice_index_or members.old i d).at.hand }
+    requires home { (i : ℕ) (d : _) → i < length members.old → IsLaneHand words.now.table hand.old.view.name (slice_index_or members.old i d).hand }
     ensures hand { hand.new ≡ with_view hand.old (joined_with (map hand_view members.old) hand.old.view) }
     ensures count { length members.new ≡ length members.old }
     ensures same { (i : ℕ) (d : _) → i < length members.old → IsWithoutHand (slice_index_or members.old i d) (slice_index_or members.new i d) }

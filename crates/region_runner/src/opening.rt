@@ -15,7 +15,7 @@ ghost use Rattle.region_runner.specs.Opening.{AllOpen, ClosesAs, OneTorn, OpensA
 use crate::closing::{Closed, close};
 use crate::ground::Ground;
 use event_buffer::Buffer;
-use lane_runner::{Frame, Lane, Locals, Track};
+use lane_runner::{Lane, Locals, Track};
 use shared_words::{ChunkHand, Chunks, Hand};
 use std::alloc::Global;
 use sw_base::{Gate, Log, Path, Trouble};
@@ -71,7 +71,7 @@ pub(crate) fn open_lane<L: Log>(
         Ok(buffer) => {
             let track = Track::new(alloc, Hand::blank(), buffer, draws);
             let locals = Locals { slots };
-            Ok(Lane::new(path, Frame { locals, track }))
+            Ok(Lane::new(path, locals, track))
         }
         Err((trouble, log)) => Err(torn(alloc, path, log, draws, trouble)),
     }

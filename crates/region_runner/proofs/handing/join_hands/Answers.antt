@@ -16,7 +16,7 @@ loop-member-preserved g c =
     let inside : n < length c.args.members.now = omega (arith, within, inv.count) in
     let old = slice_index_or c.args.members.now n c.member-item.result in
     let was = inv.left n c.member-item.result (omega arith) in
-    let own = c.trade-own.ensures.given ∙ ap (λ (m : LaneValue). m.at.hand) was in
+    let own = c.trade-own.ensures.given ∙ ap (λ (m : LaneValue). m.hand) was in
     record {
       count = search rules;
       hand =
@@ -27,7 +27,7 @@ loop-member-preserved g c =
           set_below c.loop-member.members n c.trade-own.new.self within (λ i d x. IsWithoutHand (slice_index_or c.args.members.now i d) x) inv.done
           (λ d.
           c.trade-own.ensures.goes_on
-          ∙ ap (λ h. with_hand (slice_index_or c.loop-member.members n c.member-item.result) h) (sym (ap (λ (m : LaneValue). m.at.hand) c.trade-own.ensures.goes_on))
-          ∙ ap (λ m. with_hand m c.trade-own.new.self.at.hand) (get_or_default c.loop-member.members n c.member-item.result d within ∙ inv.left n d (omega arith)));
+          ∙ ap (λ h. with_hand (slice_index_or c.loop-member.members n c.member-item.result) h) (sym (ap (λ (m : LaneValue). m.hand) c.trade-own.ensures.goes_on))
+          ∙ ap (λ m. with_hand m c.trade-own.new.self.hand) (get_or_default c.loop-member.members n c.member-item.result d within ∙ inv.left n d (omega arith)));
       left = set_above c.loop-member.members n c.trade-own.new.self within (λ i d x. x ≡ slice_index_or c.args.members.now i d) inv.left;
     }

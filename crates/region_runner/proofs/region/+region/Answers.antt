@@ -47,10 +47,10 @@ pub run_task-run_phase-requires-clause-runs : goal.run_task-run_phase-requires-c
 run_task-run_phase-requires-clause-runs g n c κs within =
     let own = c.requires.own in
     let deep : length c.path-path.result + c.args.depth ≡ 4 = subst (λ (p : List Step). length p + c.args.depth ≡ 4) (sym c.path-path.ensures.is) own.deep in
-    let in_log : length c.args.member.now.at.buffer.path ≡ length c.args.member.now.path = ap (λ (p : List Step). length p) own.path_is in
+    let in_log : length c.args.member.now.buffer.path ≡ length c.args.member.now.path = ap (λ (p : List Step). length p) own.path_is in
     let mutexes = c.requires.phase.mutexes in
     let seen : LogView g.row.L.Denot = record { dir = g.L.Log.dir; path = g.L.Log.path; text = g.L.Log.text; faults = g.L.Log.faults } in
-    phase_forks (world_of c.args.crew.now c.args.lane) _ _ _ _ c.args.member.now.at.buffer mutexes (4 - c.args.depth) c.args.phase.now c.world-world.ensures c.requires.phase.lawful
+    phase_forks (world_of c.args.crew.now c.args.lane) _ _ _ _ c.args.member.now.buffer mutexes (4 - c.args.depth) c.args.phase.now c.world-world.ensures c.requires.phase.lawful
     (λ team inner. record {
       path = let d = own.deep in let i = inner.deeper in omega (arith, d, i, in_log);
       runs = record {
@@ -79,10 +79,10 @@ run_task-run_phase-requires-clause-runs g n c κs within =
                           subst (λ (words : WordsValue). IsReady hand.now words) (ap (λ (v : CrewValue). v.words) c.requires.crew) ready,
                           (
                             record {
-                              task = c.args.member.now.at.buffer;
+                              task = c.args.member.now.buffer;
                               path_is = own.path_is ∙ sym c.path-path.ensures.is;
                               size_is = own.size_is;
-                              new = subst (λ (t : TeamTree). AreNewLogs {T = g.row.L.Denot} seen c.args.member.now.at.buffer number t.span logs.items) (sym is) new;
+                              new = subst (λ (t : TeamTree). AreNewLogs {T = g.row.L.Denot} seen c.args.member.now.buffer number t.span logs.items) (sym is) new;
                             },
                             ((search rules), (search rules), (search rules)),
                           ),
@@ -96,9 +96,9 @@ run_task-run_phase-requires-clause-runs g n c κs within =
           ),
         );
         ran = λ hand after locals number logs given done now_done r is ready new gives.
-            subst (λ (t : TeamTree). RanRegion (world_of c.args.crew.now c.args.lane) t locals.now.slots.items c.args.member.now.at.buffer number hand.now after.now (entries_of {T = g.row.L.Denot} seen done.now.items) (entries_of {T = g.row.L.Denot} seen now_done.now.items) r) is
-            (gives.1 (world_of c.args.crew.now c.args.lane) c.args.member.now.at.buffer (ap (λ (v : CrewValue). v.arrays) c.requires.crew) (own.path_is ∙ sym c.path-path.ensures.is) own.size_is
-            (subst (λ (t : TeamTree). AreNewLogs {T = g.row.L.Denot} seen c.args.member.now.at.buffer number t.span logs.items) (sym is) new));
+            subst (λ (t : TeamTree). RanRegion (world_of c.args.crew.now c.args.lane) t locals.now.slots.items c.args.member.now.buffer number hand.now after.now (entries_of {T = g.row.L.Denot} seen done.now.items) (entries_of {T = g.row.L.Denot} seen now_done.now.items) r) is
+            (gives.1 (world_of c.args.crew.now c.args.lane) c.args.member.now.buffer (ap (λ (v : CrewValue). v.arrays) c.requires.crew) (own.path_is ∙ sym c.path-path.ensures.is) own.size_is
+            (subst (λ (t : TeamTree). AreNewLogs {T = g.row.L.Denot} seen c.args.member.now.buffer number t.span logs.items) (sym is) new));
       };
     })
 
@@ -169,7 +169,7 @@ pub run_phase-join_hands-requires-clause-home : goal.run_phase-join_hands-requir
 run_phase-join_hands-requires-clause-home g n c κs within = λ i d less.
     let under : i < length c.split_hands.new.members = let n = c.run_lanes.ensures.count in omega (arith, less, n) in
     let below : i < c.span.result = let n = c.split_hands.ensures.count in omega (arith, under, n) in
-    subst (λ (words : WordsValue). IsLaneHand words.table c.split_hands.new.hand.view.name (slice_index_or c.run_lanes.new.members i d).at.hand) (ap (λ (v : CrewValue). v.words) c.requires.crew ∙ sym c.words-words.ensures)
+    subst (λ (words : WordsValue). IsLaneHand words.table c.split_hands.new.hand.view.name (slice_index_or c.run_lanes.new.members i d).hand) (ap (λ (v : CrewValue). v.words) c.requires.crew ∙ sym c.words-words.ensures)
     (comes_home c.args.crew.now c.args.phase.now c.args.end i c.args.hand.now (slice_index_or c.args.members.now i d) (slice_index_or c.run_lanes.new.members i d)
     (subst (λ (m : LaneValue). WentOn (world_of c.args.crew.now i) c.args.phase.now c.args.end m (slice_index_or c.run_lanes.new.members i d)) (c.split_hands.ensures.given i d below) (c.run_lanes.ensures.went i d under))
     c.split_hands.new.hand.view.name (ap (λ (h : HandValue View). h.view.name) c.split_hands.ensures.hand ∙ parted_name 0 c.span.result c.span.result c.args.hand.now.view))
