@@ -19,7 +19,7 @@ use Rattle.lane_runner.specs.Going.{site}
 use Rattle.lane_runner.proofs.Bodies.{log_still}
 use Rattle.lane_runner.proofs.Phases.{no_bars}
 use Rattle.region_runner.specs.Crew.{CrewValue, world_of}
-use Rattle.region_runner.specs.Ground.{GroundValue, IsMemberOf}
+use Rattle.region_runner.specs.Ground.{GroundValue, IsOurLane}
 use Rattle.lane_runner.specs.Lane.{IsLast, LaneValue, answer_of, progress}
 use Rattle.region_runner.specs.Ran.{TaskGoes, task_part}
 use Rattle.region_runner.specs.Stands.{AllGo, HasLastBar, IsFresh, LaneStands, MayGoOn, TeamRan, TeamStands}
@@ -116,7 +116,7 @@ may_next crew start m done phases k items stands going first few = record {
   counters = let so_far = stands.loops going in let more = drawn_after done items in omega (arith, so_far, more, first, few);
 }
 
-pub own_next : (g : GroundValue) (depth : ℕ) (crew : CrewValue) (start m : LaneValue) (done : List (List Item)) (end : Option ℕ) (phases : Phases) (k : ℕ) → LaneStands crew start done end phases k m → IsMemberOf g depth start → IsMemberOf g depth m
+pub own_next : (g : GroundValue) (depth : ℕ) (crew : CrewValue) (start m : LaneValue) (done : List (List Item)) (end : Option ℕ) (phases : Phases) (k : ℕ) → LaneStands crew start done end phases k m → IsOurLane g depth start → IsOurLane g depth m
 own_next g depth crew start m done end phases k stands own = record {
   path_is = stands.log.path ∙ own.path_is ∙ sym stands.path;
   deep = subst (λ (p : List Step). length p + depth ≡ 4) (sym stands.path) own.deep;
@@ -160,14 +160,14 @@ runs_all crew earlier last items line old new before after is steps = record {
 }
 
 -- one lane more goes on
-pub all_more : (members : List LaneValue) (n : ℕ) (m : LaneValue) → n < length members → m ≡ slice_index_or members n m → ((k : ℕ) (d : LaneValue) → k < n → (slice_index_or members k d).stopped ≡ None) → m.stopped ≡ None
-    → (k : ℕ) (d : LaneValue) → k < n + 1 → (slice_index_or members k d).stopped ≡ None
-all_more members n m inside is so_far goes k d less = by (nat_lt k n) refl where
-  by : (below : Bool) → nat_lt k n ≡ below → (slice_index_or members k d).stopped ≡ None
+pub all_more : (lanes : List LaneValue) (n : ℕ) (m : LaneValue) → n < length lanes → m ≡ slice_index_or lanes n m → ((k : ℕ) (d : LaneValue) → k < n → (slice_index_or lanes k d).stopped ≡ None) → m.stopped ≡ None
+    → (k : ℕ) (d : LaneValue) → k < n + 1 → (slice_index_or lanes k d).stopped ≡ None
+all_more lanes n m inside is so_far goes k d less = by (nat_lt k n) refl where
+  by : (below : Bool) → nat_lt k n ≡ below → (slice_index_or lanes k d).stopped ≡ None
   by true below = so_far k d (ltb-true k n below)
   by false below =
       let same : k ≡ n = let past = ltb-false k n below in omega (arith, past, less) in
-      ap (λ (j : ℕ). (slice_index_or members j d).stopped) same ∙ ap (λ (x : LaneValue). x.stopped) (get_or_default members n d m inside) ∙ ap (λ (x : LaneValue). x.stopped) (sym is) ∙ goes
+      ap (λ (j : ℕ). (slice_index_or lanes j d).stopped) same ∙ ap (λ (x : LaneValue). x.stopped) (get_or_default lanes n d m inside) ∙ ap (λ (x : LaneValue). x.stopped) (sym is) ∙ goes
 
 -- ---- the phases before the last, one by one
 

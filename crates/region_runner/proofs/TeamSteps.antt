@@ -33,9 +33,9 @@ views_more k (x ∷ xs) at is =
     ap (λ (v : View). v ∷ map hand_view xs) (sym (is 0 x (omega arith)) ∙ ap at (let e : k + 0 ≡ k = omega arith in e))
     ∙ ap (λ (vs : List View). at k ∷ vs) (views_more (suc k) xs at (λ i d less. ap at (let e : suc k + i ≡ k + suc i = omega arith in e) ∙ is (suc i) d (omega arith)))
 
-some_member : (xs : List LaneValue) → 1 ≤ length xs → LaneValue
-some_member [] some = absurd (omega arith)
-some_member (x ∷ xs) some = x
+some_lane : (xs : List LaneValue) → 1 ≤ length xs → LaneValue
+some_lane [] some = absurd (omega arith)
+some_lane (x ∷ xs) some = x
 
 passes_more : (phases : Phases) (team : TeamWork) → PassAllBarriers phases → PassesBarrier team → PassAllBarriers (then_phases phases (Phase team NoPhase))
 passes_more NoPhase team pass one = (one, tt)
@@ -52,7 +52,7 @@ module _ (crew : CrewValue) (items : List Item) (end : Option ℕ) (old home new
     (first : length before ≡ crew.span) (stands : TeamStands crew done None phases old home before prev) (going : AllGo prev) (ran : RanPhase crew items end home new prev after)
     (last : (line : ℕ) → end ≡ Some line → IsLast items line) (none : old.view.out ≡ []) (pass : PassAllBarriers phases) where
   d : LaneValue
-  d = some_member prev (let c = stands.count in omega (arith, c, some))
+  d = some_lane prev (let c = stands.count in omega (arith, c, some))
 
   in_prev : (k : ℕ) → k < crew.span → k < length prev
   in_prev k less = let c = stands.count in omega (arith, c, less)

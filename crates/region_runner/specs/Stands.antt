@@ -78,7 +78,7 @@ pub record TeamStands (crew : CrewValue) (done : List (List Item)) (end : Option
 
 -- all lanes go on
 abbrev pub AllGo : List LaneValue → Type 0
-AllGo members = (k : ℕ) (d : LaneValue) → k < length members → (slice_index_or members k d).stopped ≡ None
+AllGo lanes = (k : ℕ) (d : LaneValue) → k < length lanes → (slice_index_or lanes k d).stopped ≡ None
 
 -- The lane has executed no phase yet: it has drawn from no counter, forked no region, and put no record.
 pub record IsFresh (crew : CrewValue) (m : LaneValue) : Type 0 where
