@@ -159,13 +159,6 @@ module _ (history : List Marked) where
   happened_on (e ∷ es) from until h = omega (arith, h.0)
 
   mutual
-    work_on : (path : List Step) (i g start end : ℕ) (work : TimedWork) → IsTimed history path i g start end work → start ≤ end
-    work_on path i g start end TimedRest timed = timed
-    work_on path i g start end (TimedPut r from until more) (later, le, happened, by, timed) =
-        let on = happened_on (entry_of r.kind (entry path i r)) from until happened in let rest = work_on path (i + 1) g later end more timed in omega arith
-    work_on path i g start end (TimedFork line span from until phases more) (le, phased, timed) =
-        let on = phases_on path g span (λ lane. 0) (λ lane. 0) from until phases phased in let rest = work_on path (i + 1) (g + 1) until end more timed in omega arith
-
     pub phases_on : (path : List Step) (g span : ℕ) (put forked : ℕ → ℕ) (start end : ℕ) (phases : TimedPhases) → ArePhasesTimed history path g span put forked start end phases → start ≤ end
     phases_on path g span put forked start end TimedNone timed = timed
     phases_on path g span put forked start end (TimedPhase team later) (met, lanes, timed) =

@@ -82,9 +82,6 @@ but_last layout span lane (Phase team later) sound less = at sound.2 (one lane t
       by_rest [] more = tt
       by_rest (v ∷ ws) more = (passed, more)
 
-span_same : (m n : ℕ) → (m == n) ≡ true → m ≡ n
-span_same m n e = grind arith
-
 -- down a path the works stay joined, and pass their barriers
 down_step : (layout : WordLayout) (works : List Work) (step : Step) → AreSound layout works → AreJoined works → AreJoined (works_at_step step works) × ButLastPass (works_at_step step works)
 down_step layout works step sound all = at (slice_get (flat_map work_regions works) step.region) refl where

@@ -23,10 +23,6 @@ use Rattle.history_model.proofs.TaskTree.{sound_regions, sound_works_under}
 pub barriers_both : (xs ys : List Record) → barrier_count (xs ++ ys) ≡ barrier_count xs + barrier_count ys
 barriers_both xs ys = sum_by-append (λ (r : Record). cond (is_barrier_kind r.kind) 1 0) xs ys
 
-other_kind : (k : Kind) → (k ≡ Barrier → ⊥) → is_barrier_kind k ≡ false
-other_kind Barrier other = absurd (other refl)
-other_kind _ other = refl
-
 is_barrier_or_not : (k : Kind) → (k ≡ Barrier) ⊎ (is_barrier_kind k ≡ false)
 is_barrier_or_not Barrier = inl refl
 is_barrier_or_not _ = inr refl

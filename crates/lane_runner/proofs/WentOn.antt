@@ -16,14 +16,17 @@ use Rattle.lane_runner.specs.declared.stop.Halt.{Halt}
 use Rattle.lane_runner.specs.Children.{LogView}
 use Rattle.lane_runner.specs.Forking.{Answer, IsReady}
 use Rattle.lane_runner.specs.Going.{Progress, CanGo, GoesPast, IsSameLog, site}
-use Rattle.lane_runner.specs.Lane.{HasEnded, LaneValue, WentOn, answer_of, phase_part}
+use Rattle.lane_runner.specs.Lane.{HasEnded, LaneValue, WentOn, answer_of, phase_part, progress}
 use Rattle.lane_runner.specs.Teams.{EachTeamIn, MayFork}
 use Rattle.lane_runner.specs.World.{WorldValue}
+
+abbrev lane_with : List Step → List ℤ → Progress → Option Halt → LaneValue
+lane_with path locals p stopped = record { path = path; locals = locals; hand = p.hand; buffer = p.buffer; tally = p.tally; done = p.done; stopped = stopped }
 
 module _ (w : WorldValue) (items : List Item) (end : Option ℕ) (path : List Step) (slots slots' : List ℤ) (at after : Progress) where
   with_answer : (r : Result (Unit {0}) Halt) (halt : Option Halt) → r ≡ answer_of halt → GoesPast (bar_count (map part_of items)) w (phase_part items end (site w)) slots slots' at after r
       → ((line : ℕ) → end ≡ Some line → OnOk r (HasEnded w items line slots slots' at after)) → IsSameLog at.buffer after.buffer → IfOk r (λ _. after.tally.next_loop ≡ at.tally.next_loop + drawn_count (map part_of items)) → IsReady after.hand w.words → OnOk r (CanGo w after)
-      → WentOn w items end (record { path = path; slots = slots; at = at; halt = None }) (record { path = path; slots = slots'; at = after; halt = halt })
+      → WentOn w items end (lane_with path slots at None) (lane_with path slots' after halt)
   with_answer r halt is goes ended log loops ready can = record {
     path = refl;
     goes = subst (λ (x : Result (Unit {0}) Halt). GoesPast (bar_count (map part_of items)) w (phase_part items end (site w)) slots slots' at after x) is goes;
@@ -43,15 +46,14 @@ module _ (w : WorldValue) (items : List Item) (end : Option ℕ) (path : List St
       can_of : CanGo w after → CanGo w after
       can_of x = x
 
-pub went_on : (w : WorldValue) (items : List Item) (end : Option ℕ) (old inside : LaneValue) → inside ≡ old → old.halt ≡ None → (slots' : List ℤ) (after : Progress) (r : Result (Unit {0}) Halt) (halt : Option Halt)
-    → r ≡ answer_of halt → GoesPast (bar_count (map part_of items)) w (phase_part items end (site w)) inside.slots slots' inside.at after r
-    → ((line : ℕ) → end ≡ Some line → OnOk r (HasEnded w items line inside.slots slots' inside.at after)) → IsSameLog inside.at.buffer after.buffer
-    → IfOk r (λ _. after.tally.next_loop ≡ inside.at.tally.next_loop + drawn_count (map part_of items)) → IsReady after.hand w.words → OnOk r (CanGo w after)
-    → WentOn w items end old (record { path = inside.path; slots = slots'; at = after; halt = halt })
+pub went_on : (w : WorldValue) (items : List Item) (end : Option ℕ) (old inside : LaneValue) → inside ≡ old → old.stopped ≡ None → (slots' : List ℤ) (after : Progress) (r : Result (Unit {0}) Halt) (halt : Option Halt)
+    → r ≡ answer_of halt → GoesPast (bar_count (map part_of items)) w (phase_part items end (site w)) inside.locals slots' (progress inside) after r
+    → ((line : ℕ) → end ≡ Some line → OnOk r (HasEnded w items line inside.locals slots' (progress inside) after)) → IsSameLog inside.buffer after.buffer
+    → IfOk r (λ _. after.tally.next_loop ≡ inside.tally.next_loop + drawn_count (map part_of items)) → IsReady after.hand w.words → OnOk r (CanGo w after)
+    → WentOn w items end old (lane_with inside.path slots' after halt)
 went_on w items end old inside same none slots' after r halt is goes ended log loops ready can =
-    subst (λ (m : LaneValue). WentOn w items end m (record { path = inside.path; slots = slots'; at = after; halt = halt }))
-    (λ i. record { path = (same i).path; slots = (same i).slots; at = (same i).at; halt = (sym none) i })
-    (with_answer w items end inside.path inside.slots slots' inside.at after r halt is goes ended log loops ready can)
+    subst (λ (m : LaneValue). WentOn w items end m (lane_with inside.path slots' after halt)) (λ i. record (same i) { stopped = (sym none) i })
+    (with_answer w items end inside.path inside.locals slots' (progress inside) after r halt is goes ended log loops ready can)
 
 -- what is asked for the regions of a phase, told of the same log
 pub forks_same : {T : Type 0} (w : WorldValue) (accepts : MutBor (HandValue View) → Bor Locals → ℕ → Vec T → Bor Team → MutBor (Vec (List Step × T × ℕ)) → Type 0)

@@ -12,31 +12,42 @@ use Rattle.history_model.specs.Joined.{LastIsEnd}
 use Rattle.history_model.specs.Work.{work_records}
 use Rattle.shared_words.specs.declared.view.View.{View}
 use Rattle.shared_words.specs.Handles.{HandValue}
+use Rattle.event_buffer.specs.Buffered.{Buffered}
 use Rattle.lane_runner.specs.declared.stop.Halt.{Halt}
+use Rattle.lane_runner.specs.Drawing.{Tally}
 use Rattle.lane_runner.specs.Forking.{IsReady}
 use Rattle.lane_runner.specs.Going.{Progress, CanGo, MadePast, GoesPast, IsSameLog, site}
+use Rattle.lane_runner.specs.Handed.{Entry}
 use Rattle.lane_runner.specs.World.{WorldValue}
 
--- its path, its locals, where it stands, and why it doesn't go on, if it doesn't
+-- Its path, its locals, its hand, the buffer before its log, what it drew and how many regions it forked, the logs that these handed
+-- on, and why it doesn't go on, if it doesn't.
 pub record LaneValue : Type 0 where
   pub path : List Step
-  pub slots : List ℤ
-  pub at : Progress
-  pub halt : Option Halt
+  pub locals : List ℤ
+  pub hand : HandValue View
+  pub buffer : Buffered
+  pub tally : Tally
+  pub done : List Entry
+  pub stopped : Option Halt
+
+-- what of it changes with each step
+abbrev pub progress : LaneValue → Progress
+progress lane = record { hand = lane.hand; buffer = lane.buffer; tally = lane.tally; done = lane.done }
 
 -- the path is that of the root, or its last step is a lane of a team
 abbrev pub IsLanePath : List Step → Type 0
 IsLanePath path = (above : List Step) (step : Step) → path ≡ above ++ step ∷ [] → step.lane < step.span
 
 abbrev pub with_hand : LaneValue → HandValue View → LaneValue
-with_hand lane hand = record lane { at = record lane.at { hand = hand } }
+with_hand lane hand = record lane { hand = hand }
 
 abbrev pub hand_view : LaneValue → View
-hand_view lane = lane.at.hand.view
+hand_view lane = lane.hand.view
 
 -- the same but for its hand
 abbrev pub IsWithoutHand : LaneValue → LaneValue → Type 0
-IsWithoutHand old new = new ≡ with_hand old new.at.hand
+IsWithoutHand old new = new ≡ with_hand old new.hand
 
 -- what the lane's last phase answered
 abbrev pub answer_of : Option Halt → Result (Unit {0}) Halt
@@ -45,10 +56,10 @@ answer_of (Some halt) = Err halt
 
 -- The lane can execute the items of a phase.
 pub record CanGoOn (w : WorldValue) (items : List Item) (lane : LaneValue) : Type 0 where
-  pub going : lane.halt ≡ None
-  pub can : CanGo w lane.at
-  pub free : lane.at.hand.view.held ≡ []
-  pub counters : lane.at.tally.next_loop + drawn_count (map part_of items) ≤ w.chunks.loops
+  pub going : lane.stopped ≡ None
+  pub can : CanGo w (progress lane)
+  pub free : lane.hand.view.held ≡ []
+  pub counters : lane.tally.next_loop + drawn_count (map part_of items) ≤ w.chunks.loops
 
 -- what a lane does in a phase: its items, and then its End, if it is the last one
 abbrev pub phase_part : List Item → Option ℕ → Site → State → Outcome (Unit {0})
@@ -68,9 +79,9 @@ pub record HasEnded (w : WorldValue) (items : List Item) (line : ℕ) (slots slo
 -- The lane executed the items of a phase, and put its End, if it is the last one.
 pub record WentOn (w : WorldValue) (items : List Item) (end : Option ℕ) (old new : LaneValue) : Type 0 where
   pub path : new.path ≡ old.path
-  pub goes : GoesPast (bar_count (map part_of items)) w (phase_part items end (site w)) old.slots new.slots old.at new.at (answer_of new.halt)
-  pub ended : (line : ℕ) → end ≡ Some line → new.halt ≡ None → HasEnded w items line old.slots new.slots old.at new.at
-  pub log : IsSameLog old.at.buffer new.at.buffer
-  pub loops : new.halt ≡ None → new.at.tally.next_loop ≡ old.at.tally.next_loop + drawn_count (map part_of items)
-  pub ready : IsReady new.at.hand w.words
-  pub can : new.halt ≡ None → CanGo w new.at
+  pub goes : GoesPast (bar_count (map part_of items)) w (phase_part items end (site w)) old.locals new.locals (progress old) (progress new) (answer_of new.stopped)
+  pub ended : (line : ℕ) → end ≡ Some line → new.stopped ≡ None → HasEnded w items line old.locals new.locals (progress old) (progress new)
+  pub log : IsSameLog old.buffer new.buffer
+  pub loops : new.stopped ≡ None → new.tally.next_loop ≡ old.tally.next_loop + drawn_count (map part_of items)
+  pub ready : IsReady new.hand w.words
+  pub can : new.stopped ≡ None → CanGo w (progress new)

@@ -4,7 +4,7 @@ ghost use Rattle.kernel_model.specs.Parts.{bar_count, drawn_count};
 ghost use Rattle.kernel_model.specs.Phases.{part_of};
 ghost use Rattle.lane_runner.specs.Forking.{IsReady};
 ghost use Rattle.lane_runner.specs.Going.{CanGo, GoesPast, IsSameLog, site};
-ghost use Rattle.lane_runner.specs.Lane.{CanGoOn, HasEnded, IsLanePath, IsLast, WentOn, phase_part, with_hand};
+ghost use Rattle.lane_runner.specs.Lane.{CanGoOn, HasEnded, IsLanePath, IsLast, WentOn, phase_part, progress, with_hand};
 ghost use Rattle.lane_runner.specs.Phase.{IsPhase};
 ghost use Rattle.lane_runner.specs.Teams.{EachTeamIn, MayFork};
 
@@ -21,8 +21,9 @@ use std::marker::Model;
 use std::sync::Wait;
 use sw_base::{Log, Path};
 
-/// A lane of a team: the path of its task, what it executes with, and why it doesn't go on, if it doesn't. Its number in its team is below
-/// the number of lanes. The root is one, too: it executes `main` alone, and its path has no step.
+/// A lane of a team: the path of its task; what it executes with, which is its locals, its hands, the buffer before its log, and the logs
+/// that its regions handed on; and why it doesn't go on, if it doesn't. Its number in its team is below the number of lanes. The root is
+/// one, too: it executes `main` alone, and its path has no step.
 #[derive(Drop)]
 pub struct Lane<L: Log> {
     path: Path,
@@ -35,7 +36,15 @@ impl<L: Log> Model for Lane<L> {
 
     ghost Value = { LaneValue };
 
-    ghost view = { λ lane. record { path = lane.path; slots = lane.frame.locals.slots.items; at = lane.frame.track; halt = lane.stopped } };
+    ghost view = { λ lane. record {
+      path = lane.path;
+      locals = lane.frame.locals.slots.items;
+      hand = lane.frame.track.hand;
+      buffer = lane.frame.track.buffer;
+      tally = lane.frame.track.tally;
+      done = lane.frame.track.done;
+      stopped = lane.stopped;
+    } };
 
     ghost invariant = { λ lane. IsLanePath lane.path };
 }
@@ -84,13 +93,21 @@ fn run_through<
 
 impl<L: Log> Lane<L> {
     /// A lane at this path, before its first phase.
-    pub fn new(path: Path, frame: Frame<L>) -> Lane<L>
+    pub fn new(path: Path, locals: Locals, track: Track<L>) -> Lane<L>
         requires { IsLanePath path }
-        ensures { result ≡ record { path = path; slots = frame.locals.slots.items; at = frame.track; halt = None } }
+        ensures { result ≡ record {
+          path = path;
+          locals = locals.slots.items;
+          hand = track.hand;
+          buffer = track.buffer;
+          tally = track.tally;
+          done = track.done;
+          stopped = None;
+        } }
     {
         Lane {
             path,
-            frame,
+            frame: Frame { locals, track },
             stopped: None,
         }
     }
@@ -105,8 +122,8 @@ impl<L: Log> Lane<L> {
 
     /// Whether the lane goes on.
     pub fn goes(&self) -> bool
-        ensures goes { result ≡ true → self.now.halt ≡ None }
-        ensures halted { result ≡ false → self.now.halt ≢ None }
+        ensures goes { result ≡ true → self.now.stopped ≡ None }
+        ensures halted { result ≡ false → self.now.stopped ≢ None }
     {
         self.stopped.is_none()
     }
@@ -114,8 +131,8 @@ impl<L: Log> Lane<L> {
     /// The path of its task, what it steps with, and why it doesn't go on.
     pub fn into_parts(self) -> (Path, Track<L>, Option<Halt>)
         ensures path { result.0 ≡ self.path }
-        ensures track { result.1 ≡ self.at }
-        ensures halt { result.2 ≡ self.halt }
+        ensures track { result.1 ≡ progress self }
+        ensures stopped { result.2 ≡ self.stopped }
     {
         let Lane {
             path,
@@ -128,7 +145,7 @@ impl<L: Log> Lane<L> {
 
     /// The lane goes on with this hand, and gives back the one that it had.
     pub fn trade(&mut self, hand: Hand) -> Hand
-        ensures given { result ≡ self.old.at.hand }
+        ensures given { result ≡ self.old.hand }
         ensures goes_on { self.new ≡ with_hand self.old hand }
     {
         self.frame.track.trade(hand)
@@ -150,7 +167,7 @@ impl<L: Log> Lane<L> {
         requires phase { IsPhase world.now.words.locks phase.now }
         requires last { (line : ℕ) → end ≡ Some line → IsLast phase.now line }
         requires number { world.now.chunks.loops < 4294967296 }
-        requires runs { All (EachTeamIn (MayFork world.now (F.pre region.now) (F.post region.now) (record { dir = L.dir; path = L.path; text = L.text; faults = L.faults }) self.old.at.buffer)) phase.now }
+        requires runs { All (EachTeamIn (MayFork world.now (F.pre region.now) (F.post region.now) (record { dir = L.dir; path = L.path; text = L.text; faults = L.faults }) self.old.buffer)) phase.now }
         ensures went { WentOn world.now phase.now end self.old self.new }
     {
         if let Err(halt) = run_through(&mut self.frame, phase, end, rt, alloc, world, region) {

@@ -15,10 +15,6 @@ use Rattle.log_segment.specs.Stack.{HasFork, HasForks}
 use Rattle.log_segment.specs.Walking.{AreForks, IsOwnAfter}
 use Rattle.log_segment.proofs.OwnLevel.{own_last}
 
--- the labels of the forks of the task of this path and of all above it, by depth
-abbrev pub IsStack : Logs → List (Vec (List Triple)) → List Step → Type 0
-IsStack logs forks path = (depth : ℕ) → depth ≤ length path → HasForks logs forks path depth
-
 -- a label has one level more than its path
 pub label_levels : (logs : Logs) (x : Node) (l : List Triple) → IsLabel logs x l → length l ≡ length x.path + 1
 label_levels logs x _ (IsLabel.root x1 e) = let none : length x.path ≡ 0 = ap length e in omega arith

@@ -63,10 +63,6 @@ record_there {format} records k r tabled found =
       tabled = all_at (IsTabled format) records k r tabled found;
     }
 
--- the spans that the rows list
-path_of : Row → List Step
-path_of row = row.path
-
 row_listed : (rows : List Row) (path : List Step) → Contains (map (λ (row : Row). row.path) rows) path → (row : Row) × Contains rows row × (row.path ≡ path)
 row_listed [] path (k, within, is) = absurd (omega arith)
 row_listed (row ∷ rows) path (zero, within, is) = (row, (0, omega arith, refl), is)
@@ -81,6 +77,7 @@ path_listed (r ∷ rows) row (suc k, within, is) = at (path_listed rows row (k, 
   at : Contains (map (λ (x : Row). x.path) rows) row.path → Contains (map (λ (x : Row). x.path) (r ∷ rows)) row.path
   at (j, below, same) = (suc j, omega arith, same)
 
+-- the spans that the rows list
 pub lists_spans : (rows : List Row) (path : List Step) (spans : List ℕ) → AreSpans (map (λ (row : Row). row.path) rows) path spans → ListsSpans rows path spans
 lists_spans rows path spans are region span = (there, back)
   where

@@ -264,16 +264,6 @@ same_bytes held bytes other one two = cc
 not_both : (held : Option (List ℕ)) (bytes : List ℕ) → held ≡ Some bytes → held ≡ None → ⊥
 not_both held bytes there none = cc
 
--- a folder without an index has its first bad place there
-pub no_index_first : {format : Format} (files : Files) (dir : List ℕ) → files (index_name dir) ≡ None → IsFirstBadIndexPlace format files dir no_index
-no_index_first {format} files dir none = record { bad = none; least = least } where
-  least : (q : BadPlace) → IsEarlier q no_index → IsBadIndexPlace format files dir q → ⊥
-  least no_index earlier bad = cc
-  least (bad_row n why) earlier bad = cc
-  least (missing_log row) earlier bad = bad
-  least (bad_record row n why) earlier bad = bad
-  least (too_many_segments row n) earlier bad = bad
-
 module _ {format : Format} (files : Files) (dir : List ℕ) (bytes : List ℕ) (held : files (index_name dir) ≡ Some bytes) where
   module _ (rows : List Row) (rest : List ℕ) (good : AreFirstRows rows) (parts : bytes ≡ index_header format ++ flat_map row_spelling (map raw_of rows) ++ rest) where
     bad_row_here : (n : ℕ) (why : IndexWhy) → HoldsBadRow format files dir n why → IsBadRow format bytes n why

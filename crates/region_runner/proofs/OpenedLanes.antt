@@ -55,15 +55,15 @@ tells_still f None = refl
 tells_still f (Some t) = refl
 
 pub lane_begins : (place : LogPlace) (path : List Step) (slots own_slots : List ℤ) (draws : HandValue Share) (hand : HandValue View) (dir : List ℕ) (log_path : List Step) (text : Option Text) (faults size : ℕ) (b : Buffered) (at : Progress) (m : LaneValue)
-    → m ≡ record { path = path; slots = own_slots; at = at; halt = None } → at ≡ record { hand = hand; buffer = b; tally = record { draws = draws; next_loop = 0; forked = 0 }; done = [] }
+    → m ≡ record { path = path; locals = own_slots; hand = at.hand; buffer = at.buffer; tally = at.tally; done = at.done; stopped = None } → at ≡ record { hand = hand; buffer = b; tally = record { draws = draws; next_loop = 0; forked = 0 }; done = [] }
     → b ≡ record { dir = dir; path = log_path; text = option_map (with_piece (log_header FORMAT)) text; faults = faults; size = size; waiting = []; count = 0; refused = None } → own_slots ≡ slots → log_path ≡ path
     → place ≡ record { dir = dir; size = size; tells = is_some text } → HoldsRecords (log_header FORMAT) b [] → LaneBegins place path slots draws m
 lane_begins place path slots own_slots draws hand dir log_path text faults size b at m is at_is b_is same own place_is holds =
     subst (λ (x : LaneValue). LaneBegins place path slots draws x) (sym is)
-    (subst (λ (p : Progress). LaneBegins place path slots draws (record { path = path; slots = own_slots; at = p; halt = None })) (sym at_is)
+    (subst (λ (p : Progress). LaneBegins place path slots draws (record { path = path; locals = own_slots; hand = p.hand; buffer = p.buffer; tally = p.tally; done = p.done; stopped = None })) (sym at_is)
     (record {
       path_is = refl;
-      slots_are = same;
+      locals_are = same;
       going = refl;
       own = ap (λ (x : Buffered). x.path) b_is ∙ own;
       place_is =

@@ -63,16 +63,16 @@ module _ (place : LogPlace) (path : List Step) (slots : List ℤ) (draws : HandV
 
 module _ (place : LogPlace) (at : List Step) (number span : ℕ) (slots : List ℤ) (share : HandValue Share) (opened : List (Result LaneValue ClosedValue)) (count : length opened ≡ span)
     (opens : (k : ℕ) (d : Result LaneValue ClosedValue) → k < span → OpensAs place (lane_of at number k span) slots (lent_hand share) (slice_index_or opened k d)) where
-  pub all_begin : (members : List LaneValue) → opened ≡ map (λ m. Ok m) members → AreLanes place at number span slots share members
-  all_begin members all = record {
+  pub all_begin : (lanes : List LaneValue) → opened ≡ map (λ m. Ok m) lanes → AreLanes place at number span slots share lanes
+  all_begin lanes all = record {
     count = long;
     each = λ k d less.
         subst (λ (r : Result LaneValue ClosedValue). OpensAs place (lane_of at number k span) slots (lent_hand share) r)
-        (ap (λ (rs : List (Result LaneValue ClosedValue)). slice_index_or rs k (Ok d)) all ∙ get_or-map (λ (m : LaneValue). Ok m) members k d (Ok d) (omega (arith, less, long))) (opens k (Ok d) less);
+        (ap (λ (rs : List (Result LaneValue ClosedValue)). slice_index_or rs k (Ok d)) all ∙ get_or-map (λ (m : LaneValue). Ok m) lanes k d (Ok d) (omega (arith, less, long))) (opens k (Ok d) less);
   }
     where
-      long : length members ≡ span
-      long = sym (length-map members (λ (m : LaneValue). Ok m)) ∙ sym (ap (λ (rs : List (Result LaneValue ClosedValue)). length rs) all) ∙ count
+      long : length lanes ≡ span
+      long = sym (length-map lanes (λ (m : LaneValue). Ok m)) ∙ sym (ap (λ (rs : List (Result LaneValue ClosedValue)). length rs) all) ∙ count
 
   pub one_torn : (lanes : List ClosedValue) → length lanes ≡ length opened → ((k : ℕ) (d : Result LaneValue ClosedValue) (e : ClosedValue) → k < length opened → ClosesAs (slice_index_or opened k d) (slice_index_or lanes k e))
       → OneTorn opened → AreTorn place at number span share lanes

@@ -11,7 +11,7 @@ use Rattle.lane_runner.specs.Drawing.{Tally}
 use Rattle.lane_runner.specs.Handed.{LogPlace, place_of}
 use Rattle.region_runner.specs.Begins.{LaneBegins}
 use Rattle.region_runner.specs.Crew.{CrewValue}
-use Rattle.region_runner.specs.Ground.{GroundValue, IsMemberOf}
+use Rattle.region_runner.specs.Ground.{GroundValue, IsOurLane}
 use Rattle.lane_runner.specs.Lane.{LaneValue}
 use Rattle.region_runner.specs.Opening.{lent_hand}
 use Rattle.region_runner.specs.Stands.{IsFresh}
@@ -23,7 +23,7 @@ task_fresh place path slots draws crew m belongs left b = record {
   may = record {
     unrefused = b.unrefused;
     drawing = subst (λ (t : Tally). Belongs t.draws crew.chunks.table) (sym b.tally) belongs;
-    enough = subst (λ (t : Tally). log_limit ≤ t.draws.view.left + m.at.buffer.count) (sym b.tally) (omega (arith, left));
+    enough = subst (λ (t : Tally). log_limit ≤ t.draws.view.left + m.buffer.count) (sym b.tally) (omega (arith, left));
     forks = let f = ap (λ (t : Tally). t.forked) b.tally in omega (arith, f);
   };
   no_loop = ap (λ (t : Tally). t.next_loop) b.tally;
@@ -33,9 +33,9 @@ pub lane_fresh : (place : LogPlace) (path : List Step) (slots : List ℤ) (share
 lane_fresh place path slots share crew m here b = task_fresh place path slots (lent_hand share) crew m (record { here = here; there = refl }) (omega arith) b
 
 -- and its log is its own
-pub lane_member : (g : GroundValue) (depth : ℕ) (task : Buffered) (at : List Step) (number lane span : ℕ) (slots : List ℤ) (draws : HandValue Share) (m : LaneValue) → task.size ≡ g.size → length at + depth + 1 ≡ 4
-    → LaneBegins (place_of task) (lane_of at number lane span) slots draws m → IsMemberOf g depth m
-lane_member g depth task at number lane span slots draws m size deep b = record {
+pub lane_ours : (g : GroundValue) (depth : ℕ) (task : Buffered) (at : List Step) (number lane span : ℕ) (slots : List ℤ) (draws : HandValue Share) (m : LaneValue) → task.size ≡ g.size → length at + depth + 1 ≡ 4
+    → LaneBegins (place_of task) (lane_of at number lane span) slots draws m → IsOurLane g depth m
+lane_ours g depth task at number lane span slots draws m size deep b = record {
   path_is = b.own ∙ sym b.path_is;
   deep = let one = ap (λ (p : List Step). length p) b.path_is ∙ length-append at _ in omega (arith, one, deep);
   size_is = ap (λ (p : LogPlace). p.size) b.place_is ∙ size;

@@ -11,7 +11,7 @@ use Rattle.lane_runner.specs.Going.{site}
 use Rattle.lane_runner.proofs.Phases.{stays}
 use Rattle.region_runner.specs.Crew.{CrewValue, world_of}
 use Rattle.region_runner.specs.Hands.{IsLaneHand, lane_hand, parted_for}
-use Rattle.lane_runner.specs.Lane.{CanGoOn, LaneValue, WentOn, answer_of, phase_part, with_hand}
+use Rattle.lane_runner.specs.Lane.{CanGoOn, LaneValue, WentOn, answer_of, phase_part, progress, with_hand}
 use Rattle.region_runner.specs.Stands.{MayGoOn}
 
 pub parted_name : (lane span count : ℕ) (v : View) → (parted_for lane span count v).name ≡ v.name
@@ -34,14 +34,14 @@ can_go_on crew items lane home m belongs may = record {
 }
 
 pub comes_home : (crew : CrewValue) (items : List Item) (end : Option ℕ) (lane : ℕ) (home : HandValue View) (m mid : LaneValue) → WentOn (world_of crew lane) items end (with_hand m (lane_hand home lane)) mid
-    → (name : Name) → name ≡ home.view.name → IsLaneHand crew.words.table name mid.at.hand
+    → (name : Name) → name ≡ home.view.name → IsLaneHand crew.words.table name mid.hand
 comes_home crew items end lane home m mid went name is =
-    let same : mid.at.hand.view.name ≡ (home.view.splits + lane) ∷ home.view.name =
-    stays (λ v. v.name) (λ word v work. refl) (bar_count (map part_of items)) (world_of crew lane) (phase_part items end (site (world_of crew lane))) m.slots mid.slots (with_hand m (lane_hand home lane)).at mid.at
-    (answer_of mid.halt) went.goes in
+    let same : mid.hand.view.name ≡ (home.view.splits + lane) ∷ home.view.name =
+    stays (λ v. v.name) (λ word v work. refl) (bar_count (map part_of items)) (world_of crew lane) (phase_part items end (site (world_of crew lane))) m.locals mid.locals (progress (with_hand m (lane_hand home lane))) (progress mid)
+    (answer_of mid.stopped) went.goes in
     record {
       belongs = went.ready.free.belongs;
-      split = same ∙ ap (λ (n : ℕ). n ∷ home.view.name) (sym (ap split_number same)) ∙ ap (λ (p : Name). split_number mid.at.hand.view.name ∷ p) (sym is);
+      split = same ∙ ap (λ (n : ℕ). n ∷ home.view.name) (sym (ap split_number same)) ∙ ap (λ (p : Name). split_number mid.hand.view.name ∷ p) (sym is);
       holds_none = went.ready.free.holds_none;
       none_out = went.ready.none_out;
     }

@@ -46,7 +46,7 @@ team_returned crew team slots items old new before place at number share lanes s
     let under : k < crew.span = omega (arith, less, count) in
     let d = head_of team_closed.after (let n = team_closed.ran.stands.count in omega (arith, under, n)) in
     let same = same_hand crew team slots items old new before team_closed.after place at number (λ j. lent_hand share) span_is runs team_closed.ran (λ j x inside. begin.each j x (subst (λ (n : ℕ). j < n) span_is inside)) (λ j inside. refl) d k under in
-    let closed : (slice_index_or lanes k e).draws ≡ (slice_index_or team_closed.after k d).at.tally.draws = (team_closed.closes k d e under).3 in
+    let closed : (slice_index_or lanes k e).draws ≡ (slice_index_or team_closed.after k d).tally.draws = (team_closed.closes k d e under).3 in
     record {
       belongs = record { here = ap (λ (h : HandValue Share). h.table) closed ∙ same.0 ∙ here; there = ap (λ (h : HandValue Share). h.there) closed ∙ same.1 };
       split = ap (λ (h : HandValue Share). h.view.first) closed ∙ same.2;

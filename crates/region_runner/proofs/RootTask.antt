@@ -26,7 +26,7 @@ use Rattle.region_runner.specs.Begins.{LaneBegins}
 use Rattle.region_runner.specs.Closing.{IsClosedAs}
 use Rattle.region_runner.specs.Crew.{CrewValue, world_of}
 use Rattle.region_runner.specs.Gathering.{ClosedValue, LaneGave}
-use Rattle.lane_runner.specs.Lane.{IsLast, LaneValue, answer_of}
+use Rattle.lane_runner.specs.Lane.{IsLast, LaneValue, answer_of, progress}
 use Rattle.region_runner.specs.Opening.{GaveNothing}
 use Rattle.region_runner.specs.Ran.{TaskGoes, task_part}
 use Rattle.region_runner.specs.Root.{RootClosed, RootGave, StopsRoot}
@@ -63,20 +63,20 @@ module _ (program : Program) (place : LogPlace) (crew : CrewValue) (items : List
       (λ line is. subst (λ (n : ℕ). IsLast items n) (same_Some program.main.end line is) last)
 
   abbrev Goes : Option Halt → Type 0
-  Goes h = TaskGoes (world_of crew 0) part fork.slots after.slots root.at after.at (steps.work ∷ []) (answer_of h)
+  Goes h = TaskGoes (world_of crew 0) part fork.slots after.locals (progress root) (progress after) (steps.work ∷ []) (answer_of h)
 
   goes : Goes c.halt
   goes =
       subst (λ (h : Option Halt). Goes h) (sym closed.closes.4)
-      (subst (λ (ss : List ℤ). TaskGoes (world_of crew 0) part ss after.slots root.at after.at (steps.work ∷ []) (answer_of after.halt)) begins.slots_are steps.goes)
+      (subst (λ (ss : List ℤ). TaskGoes (world_of crew 0) part ss after.locals (progress root) (progress after) (steps.work ∷ []) (answer_of after.stopped)) begins.locals_are steps.goes)
 
   path_is : c.path ≡ []
   path_is = closed.closes.0 ∙ closed.went.path ∙ begins.path_is
 
   gave : LaneGave place (steps.work ∷ []) c
   gave =
-      lane_gave crew 0 part fork.slots after.slots root.at after.at (steps.work ∷ []) place c
-      (subst (λ (p : List Step). IsClosedAs c.own c.refused p after.at.buffer) (sym closed.closes.0) closed.closes.1)
+      lane_gave crew 0 part fork.slots after.locals (progress root) (progress after) (steps.work ∷ []) place c
+      (subst (λ (p : List Step). IsClosedAs c.own c.refused p after.buffer) (sym closed.closes.0) closed.closes.1)
       closed.closes.2 begins.none_handed begins.holds (ap (λ (t : Tally). t.forked) begins.tally) (begins.own ∙ sym path_is) begins.place_is goes
 
   few : (h : Option Halt) → h ≡ None → Goes h → AreFew c.below
@@ -88,17 +88,17 @@ module _ (program : Program) (place : LogPlace) (crew : CrewValue) (items : List
   halts : (h : Halt) → c.halt ≡ Some h → StopsRoot program (stop_of [] h).0 (stop_of [] h).1 steps.work
   halts h is =
       subst (λ (xs : List Array). StopsTask xs [] (stop_of [] h).0 (stop_of [] h).1 (root_start program) (steps.work ∷ [])) arrays
-      (stops_task fork 0 (world_of crew 0) part first after.slots root.at after.at begins.none_put (steps.work ∷ []) [] begins.own (ap (λ (t : Tally). t.forked) begins.tally) h
+      (stops_task fork 0 (world_of crew 0) part first after.locals (progress root) (progress after) begins.none_put (steps.work ∷ []) [] begins.own (ap (λ (t : Tally). t.forked) begins.tally) h
       (subst (λ (x : Option Halt). Goes x) is goes))
 
   pub root_gave : RootGave program place old new c
   root_gave = record {
     work = steps.work;
-    did = subst (λ (h : HandValue View). DidWork program.arrays old h steps.work) (sym closed.hand) (subst (λ (xs : List Array). DidWork xs old after.at.hand steps.work) arrays steps.did);
+    did = subst (λ (h : HandValue View). DidWork program.arrays old h steps.work) (sym closed.hand) (subst (λ (xs : List Array). DidWork xs old after.hand steps.work) arrays steps.did);
     path_is = path_is;
     gave = gave;
     runs = λ fit.
-        runs_goes program (lane_begin fork 0) (world_of crew 0) (sym arrays) part first.rest first.grows (first.is program (sym arrays)) after.slots root.at after.at begins.none_put (steps.work ∷ [])
+        runs_goes program (lane_begin fork 0) (world_of crew 0) (sym arrays) part first.rest first.grows (first.is program (sym arrays)) after.locals (progress root) (progress after) begins.none_put (steps.work ∷ [])
         (fits_both steps.work Rest fit tt) (answer_of c.halt) goes;
     ends = λ none unrefused. steps.ends program.main.end refl (sym closed.closes.4 ∙ none);
     halts = halts;

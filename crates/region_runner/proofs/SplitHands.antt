@@ -68,14 +68,8 @@ pub record HasJoined (left all : List View) (old new : HandValue View) : Type 0 
   pub name : new.view.name ≡ old.view.name
   pub rest : joined_with left new.view ≡ joined_with all old.view
 
-pub join_none : (all : List View) (h : HandValue View) → h.there ≡ true → HasJoined all all h h
-join_none all h there = record { table = refl; there = there; name = refl; rest = refl }
-
 pub join_more : (w : View) (left all : List View) (old mid : HandValue View) → HasJoined (w ∷ left) all old mid → HasJoined left all old (with_view mid (after_meeting mid.view w))
 join_more w left all old mid j = record { table = j.table; there = refl; name = j.name; rest = j.rest }
-
-pub join_all : (all : List View) (old new : HandValue View) → HasJoined [] all old new → new ≡ with_view old (joined_with all old.view)
-join_all all old new j = λ i. record { table = j.table i; there = j.there i; view = j.rest i }
 
 -- the first of those that are left
 drop_suc : {A : Type 0} (f : A → View) (xs : List A) (n : ℕ) (d : A) → n < length xs → drop n (map f xs) ≡ f (get_or xs n d) ∷ drop (suc n) (map f xs)

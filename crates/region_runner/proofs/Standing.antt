@@ -31,7 +31,7 @@ use Rattle.lane_runner.proofs.Handing.{work_hands_none}
 use Rattle.lane_runner.proofs.Releasing.{released_none}
 use Rattle.lane_runner.proofs.Phases.{run_parts_both}
 use Rattle.region_runner.specs.Crew.{CrewValue, world_of}
-use Rattle.lane_runner.specs.Lane.{IsLast, LaneValue, WentOn, answer_of, phase_part, with_hand}
+use Rattle.lane_runner.specs.Lane.{IsLast, LaneValue, WentOn, answer_of, phase_part, progress, with_hand}
 use Rattle.region_runner.specs.Ran.{TakesUp, TaskGoes, TaskRan, task_part}
 use Rattle.region_runner.specs.Stands.{LaneStands}
 use Rattle.region_runner.specs.Team.{DidWork}
@@ -107,50 +107,50 @@ bars_after = count_after is_bar
 -- what a lane did in a phase, and how it stands then
 pub record StepsOn (crew : CrewValue) (items : List Item) (end : Option ℕ) (lane : ℕ) (start : LaneValue) (done : List (List Item)) (phases : Phases) (hand : HandValue View) (mid : LaneValue) : Type 0 where
   pub work : Work
-  pub did : DidWork crew.arrays hand mid.at.hand work
-  pub goes : TaskGoes (world_of crew lane) (task_part (site (world_of crew lane)) (done ++ items ∷ []) end) start.slots mid.slots start.at mid.at (lane_works lane phases ++ work ∷ []) (answer_of mid.halt)
-  pub passes : mid.halt ≡ None → barrier_count (work_records work) ≡ bar_count (map part_of items)
-  pub ends : (line : ℕ) → end ≡ Some line → mid.halt ≡ None → LastIsEnd (work_records work)
-  pub short : (h : Halt) → mid.halt ≡ Some h → barrier_count (work_records work) ≡ 0
+  pub did : DidWork crew.arrays hand mid.hand work
+  pub goes : TaskGoes (world_of crew lane) (task_part (site (world_of crew lane)) (done ++ items ∷ []) end) start.locals mid.locals (progress start) (progress mid) (lane_works lane phases ++ work ∷ []) (answer_of mid.stopped)
+  pub passes : mid.stopped ≡ None → barrier_count (work_records work) ≡ bar_count (map part_of items)
+  pub ends : (line : ℕ) → end ≡ Some line → mid.stopped ≡ None → LastIsEnd (work_records work)
+  pub short : (h : Halt) → mid.stopped ≡ Some h → barrier_count (work_records work) ≡ 0
 
 module _ (crew : CrewValue) (items : List Item) (lane : ℕ) (start prev mid : LaneValue) (done : List (List Item)) (phases : Phases) (hand : HandValue View)
-    (stands : LaneStands crew start done None phases lane prev) (going : prev.halt ≡ None) (free : hand.view.held ≡ []) where
+    (stands : LaneStands crew start done None phases lane prev) (going : prev.stopped ≡ None) (free : hand.view.held ≡ []) where
   abbrev at : Site
   at = site (world_of crew lane)
 
   abbrev Went : ℕ → Option ℕ → Result (Unit {0}) Halt → Type 0
-  Went bars end r = GoesPast bars (world_of crew lane) (phase_part items end at) prev.slots mid.slots (with_hand prev hand).at mid.at r
+  Went bars end r = GoesPast bars (world_of crew lane) (phase_part items end at) prev.locals mid.locals (progress (with_hand prev hand)) (progress mid) r
 
   abbrev work_in : (bars : ℕ) (end : Option ℕ) (r : Result (Unit {0}) Halt) → Went bars end r → Work
-  work_in bars end r m = work_of (world_of crew lane) (phase_part items end at) prev.slots mid.slots (with_hand prev hand).at mid.at free bars r m
+  work_in bars end r m = work_of (world_of crew lane) (phase_part items end at) prev.locals mid.locals (progress (with_hand prev hand)) (progress mid) free bars r m
 
   abbrev Stood : Option ℕ → Work → Result (Unit {0}) Halt → Type 0
-  Stood end work r = TaskGoes (world_of crew lane) (task_part at (done ++ items ∷ []) end) start.slots mid.slots start.at mid.at (lane_works lane phases ++ work ∷ []) r
+  Stood end work r = TaskGoes (world_of crew lane) (task_part at (done ++ items ∷ []) end) start.locals mid.locals (progress start) (progress mid) (lane_works lane phases ++ work ∷ []) r
 
-  ran : TaskRan (world_of crew lane) (task_part at done None) start.slots prev.slots start.at stands.last (lane_works lane phases) (Returned tt)
-  ran = subst (λ (h : Option Halt). TaskGoes (world_of crew lane) (task_part at done None) start.slots prev.slots start.at stands.last (lane_works lane phases) (answer_of h)) going stands.goes
+  ran : TaskRan (world_of crew lane) (task_part at done None) start.locals prev.locals (progress start) stands.last (lane_works lane phases) (Returned tt)
+  ran = subst (λ (h : Option Halt). TaskGoes (world_of crew lane) (task_part at done None) start.locals prev.locals (progress start) stands.last (lane_works lane phases) (answer_of h)) going stands.goes
 
-  up : TakesUp stands.last (with_hand prev hand).at
+  up : TakesUp stands.last (progress (with_hand prev hand))
   up = record { buffer = stands.up.buffer; tally = stands.up.tally; done = stands.up.done }
 
   step : (bars : ℕ) (end : Option ℕ) (r : Result (Unit {0}) Halt) (m : Went bars end r) → Stood end (work_in bars end r m) r
   step bars end r m =
-      subst (λ (part : State → Outcome (Unit {0})). TaskGoes (world_of crew lane) part start.slots mid.slots start.at mid.at (lane_works lane phases ++ work_in bars end r m ∷ []) r)
+      subst (λ (part : State → Outcome (Unit {0})). TaskGoes (world_of crew lane) part start.locals mid.locals (progress start) (progress mid) (lane_works lane phases ++ work_in bars end r m ∷ []) r)
       (λ i s. sym (part_after at done items end s) i)
-      (goes_on (world_of crew lane) (task_part at done None) (phase_part items end at) start.slots prev.slots mid.slots start.at stands.last (with_hand prev hand).at mid.at (lane_works lane phases) ran up free bars r m)
+      (goes_on (world_of crew lane) (task_part at done None) (phase_part items end at) start.locals prev.locals mid.locals (progress start) stands.last (progress (with_hand prev hand)) (progress mid) (lane_works lane phases) ran up free bars r m)
 
-  did : (bars : ℕ) (end : Option ℕ) (r : Result (Unit {0}) Halt) (m : Went bars end r) → DidWork crew.arrays hand mid.at.hand (work_in bars end r m)
-  did bars end r m = phase_did_work (world_of crew lane) (phase_part items end at) prev.slots mid.slots (with_hand prev hand).at mid.at free bars r m
+  did : (bars : ℕ) (end : Option ℕ) (r : Result (Unit {0}) Halt) (m : Went bars end r) → DidWork crew.arrays hand mid.hand (work_in bars end r m)
+  did bars end r m = phase_did_work (world_of crew lane) (phase_part items end at) prev.locals mid.locals (progress (with_hand prev hand)) (progress mid) free bars r m
 
   -- by why it doesn't go on, and whether the phase is the last
-  by_halt : (h : Option Halt) → mid.halt ≡ h → (end : Option ℕ) → WentOn (world_of crew lane) items end (with_hand prev hand) mid → ((line : ℕ) → end ≡ Some line → IsLast items line) → StepsOn crew items end lane start done phases hand mid
+  by_halt : (h : Option Halt) → mid.stopped ≡ h → (end : Option ℕ) → WentOn (world_of crew lane) items end (with_hand prev hand) mid → ((line : ℕ) → end ≡ Some line → IsLast items line) → StepsOn crew items end lane start done phases hand mid
   by_halt (Some why) is end went last = record {
-    work = work_in (bar_count (map part_of items)) end (answer_of mid.halt) went.goes;
-    did = did (bar_count (map part_of items)) end (answer_of mid.halt) went.goes;
-    goes = step (bar_count (map part_of items)) end (answer_of mid.halt) went.goes;
+    work = work_in (bar_count (map part_of items)) end (answer_of mid.stopped) went.goes;
+    did = did (bar_count (map part_of items)) end (answer_of mid.stopped) went.goes;
+    goes = step (bar_count (map part_of items)) end (answer_of mid.stopped) went.goes;
     passes = λ none. absurd (not_both (sym is ∙ none));
     ends = λ line is_line none. absurd (not_both (sym is ∙ none));
-    short = λ h h_is. short_of mid.halt is went.goes;
+    short = λ h h_is. short_of mid.stopped is went.goes;
   }
     where
       not_both : Some why ≡ None → ⊥
@@ -159,7 +159,7 @@ module _ (crew : CrewValue) (items : List Item) (lane : ℕ) (start prev mid : L
       short_of : (x : Option Halt) → x ≡ Some why → (m : Went (bar_count (map part_of items)) end (answer_of x)) → barrier_count (work_records (work_in (bar_count (map part_of items)) end (answer_of x) m)) ≡ 0
       short_of None x_is m = absurd (not_both (sym x_is))
       short_of (Some other) x_is m =
-          phase_short (world_of crew lane) (phase_part items end at) prev.slots mid.slots (with_hand prev hand).at mid.at free (bar_count (map part_of items)) other m
+          phase_short (world_of crew lane) (phase_part items end at) prev.locals mid.locals (progress (with_hand prev hand)) (progress mid) free (bar_count (map part_of items)) other m
   by_halt None is None went last =
       let m = subst (λ (h : Option Halt). Went (bar_count (map part_of items)) None (answer_of h)) is went.goes in
       record {
@@ -191,4 +191,4 @@ module _ (crew : CrewValue) (items : List Item) (lane : ℕ) (start prev mid : L
       no_halt e = cc
 
   pub lane_steps : (end : Option ℕ) → WentOn (world_of crew lane) items end (with_hand prev hand) mid → ((line : ℕ) → end ≡ Some line → IsLast items line) → StepsOn crew items end lane start done phases hand mid
-  lane_steps end went last = by_halt mid.halt refl end went last
+  lane_steps end went last = by_halt mid.stopped refl end went last

@@ -19,8 +19,8 @@ use Rattle.lane_runner.specs.Going.{site}
 use Rattle.lane_runner.proofs.Bodies.{log_still}
 use Rattle.lane_runner.proofs.Phases.{no_bars}
 use Rattle.region_runner.specs.Crew.{CrewValue, world_of}
-use Rattle.region_runner.specs.Ground.{GroundValue, IsMemberOf}
-use Rattle.lane_runner.specs.Lane.{IsLast, LaneValue, answer_of}
+use Rattle.region_runner.specs.Ground.{GroundValue, IsOurLane}
+use Rattle.lane_runner.specs.Lane.{IsLast, LaneValue, answer_of, progress}
 use Rattle.region_runner.specs.Ran.{TaskGoes, task_part}
 use Rattle.region_runner.specs.Stands.{AllGo, HasLastBar, IsFresh, LaneStands, MayGoOn, TeamRan, TeamStands}
 use Rattle.lane_runner.specs.declared.stop.Halt.{Halt}
@@ -40,12 +40,12 @@ pub record HasPassed (crew : CrewValue) (items : List (List Item)) (old new : Ha
 pub stands_first : (crew : CrewValue) (lane : ℕ) (m : LaneValue) → IsFresh crew m → LaneStands crew m [] None NoPhase lane m
 stands_first crew lane m f = record {
   path = refl;
-  last = m.at;
+  last = progress m;
   up = record { buffer = refl; tally = refl; done = refl };
   goes =
-      subst (λ (h : Option Halt). TaskGoes (world_of crew lane) (task_part (site (world_of crew lane)) [] None) m.slots m.slots m.at m.at [] (answer_of h)) (sym f.going)
-      (ran_none (world_of crew lane) (site (world_of crew lane)) m.slots m.at f.may.unrefused);
-  log = log_still m.at.buffer;
+      subst (λ (h : Option Halt). TaskGoes (world_of crew lane) (task_part (site (world_of crew lane)) [] None) m.locals m.locals (progress m) (progress m) [] (answer_of h)) (sym f.going)
+      (ran_none (world_of crew lane) (site (world_of crew lane)) m.locals (progress m) f.may.unrefused);
+  log = log_still m.buffer;
   loops = λ goes. omega arith;
   may = λ goes. f.may;
   passes = λ goes. refl;
@@ -108,7 +108,7 @@ snoc_same (a ∷ xs) (b ∷ ys) x y same = let rest = snoc_same xs ys x y (tail 
 
 -- ---- what is asked of a lane before the next phase
 
-pub may_next : (crew : CrewValue) (start m : LaneValue) (done : List (List Item)) (phases : Phases) (k : ℕ) (items : List Item) → LaneStands crew start done None phases k m → m.halt ≡ None → start.at.tally.next_loop ≡ 0
+pub may_next : (crew : CrewValue) (start m : LaneValue) (done : List (List Item)) (phases : Phases) (k : ℕ) (items : List Item) → LaneStands crew start done None phases k m → m.stopped ≡ None → start.tally.next_loop ≡ 0
     → drawn_count (parts_in (done ++ items ∷ [])) ≤ crew.chunks.loops → MayGoOn crew items m
 may_next crew start m done phases k items stands going first few = record {
   going = going;
@@ -116,7 +116,7 @@ may_next crew start m done phases k items stands going first few = record {
   counters = let so_far = stands.loops going in let more = drawn_after done items in omega (arith, so_far, more, first, few);
 }
 
-pub own_next : (g : GroundValue) (depth : ℕ) (crew : CrewValue) (start m : LaneValue) (done : List (List Item)) (end : Option ℕ) (phases : Phases) (k : ℕ) → LaneStands crew start done end phases k m → IsMemberOf g depth start → IsMemberOf g depth m
+pub own_next : (g : GroundValue) (depth : ℕ) (crew : CrewValue) (start m : LaneValue) (done : List (List Item)) (end : Option ℕ) (phases : Phases) (k : ℕ) → LaneStands crew start done end phases k m → IsOurLane g depth start → IsOurLane g depth m
 own_next g depth crew start m done end phases k stands own = record {
   path_is = stands.log.path ∙ own.path_is ∙ sym stands.path;
   deep = subst (λ (p : List Step). length p + depth ≡ 4) (sym stands.path) own.deep;
@@ -160,14 +160,14 @@ runs_all crew earlier last items line old new before after is steps = record {
 }
 
 -- one lane more goes on
-pub all_more : (members : List LaneValue) (n : ℕ) (m : LaneValue) → n < length members → m ≡ slice_index_or members n m → ((k : ℕ) (d : LaneValue) → k < n → (slice_index_or members k d).halt ≡ None) → m.halt ≡ None
-    → (k : ℕ) (d : LaneValue) → k < n + 1 → (slice_index_or members k d).halt ≡ None
-all_more members n m inside is so_far goes k d less = by (nat_lt k n) refl where
-  by : (below : Bool) → nat_lt k n ≡ below → (slice_index_or members k d).halt ≡ None
+pub all_more : (lanes : List LaneValue) (n : ℕ) (m : LaneValue) → n < length lanes → m ≡ slice_index_or lanes n m → ((k : ℕ) (d : LaneValue) → k < n → (slice_index_or lanes k d).stopped ≡ None) → m.stopped ≡ None
+    → (k : ℕ) (d : LaneValue) → k < n + 1 → (slice_index_or lanes k d).stopped ≡ None
+all_more lanes n m inside is so_far goes k d less = by (nat_lt k n) refl where
+  by : (below : Bool) → nat_lt k n ≡ below → (slice_index_or lanes k d).stopped ≡ None
   by true below = so_far k d (ltb-true k n below)
   by false below =
       let same : k ≡ n = let past = ltb-false k n below in omega (arith, past, less) in
-      ap (λ (j : ℕ). (slice_index_or members j d).halt) same ∙ ap (λ (x : LaneValue). x.halt) (get_or_default members n d m inside) ∙ ap (λ (x : LaneValue). x.halt) (sym is) ∙ goes
+      ap (λ (j : ℕ). (slice_index_or lanes j d).stopped) same ∙ ap (λ (x : LaneValue). x.stopped) (get_or_default lanes n d m inside) ∙ ap (λ (x : LaneValue). x.stopped) (sym is) ∙ goes
 
 -- ---- the phases before the last, one by one
 

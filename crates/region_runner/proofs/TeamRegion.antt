@@ -33,7 +33,7 @@ use Rattle.region_runner.specs.Closing.{IsClosedAs}
 use Rattle.region_runner.specs.Crew.{CrewValue, world_of}
 use Rattle.region_runner.specs.Drawing.{drawn_by, regained_all}
 use Rattle.region_runner.specs.Gathering.{ClosedValue, Gathered, LaneGave, draws_view}
-use Rattle.lane_runner.specs.Lane.{LaneValue, answer_of}
+use Rattle.lane_runner.specs.Lane.{LaneValue, answer_of, progress}
 use Rattle.region_runner.specs.Opening.{AreLanes, ClosesAs, lent_hand, lent_to}
 use Rattle.region_runner.specs.Ran.{TaskGoes, task_part}
 use Rattle.region_runner.specs.Stands.{TeamClosed, TeamRan}
@@ -81,10 +81,10 @@ module _ (w : WorldValue) (crew : CrewValue) (team : TeamTree) (slots : List ℤ
   begins k x less = begin.each k x (subst (λ (n : ℕ). k < n) span_is less)
 
   goes : (k : ℕ) (less : k < crew.span)
-      → TaskGoes (world_of crew k) (task_part (site (world_of crew k)) ran.done ran.end) slots (now k).slots (start k).at (ran.stands.lanes k d less).last (lane_works k ran.phases) (answer_of (now k).halt)
+      → TaskGoes (world_of crew k) (task_part (site (world_of crew k)) ran.done ran.end) slots (now k).locals (progress (start k)) (ran.stands.lanes k d less).last (lane_works k ran.phases) (answer_of (now k).stopped)
   goes = lane_goes crew team slots items old new before after (place_of task) at number (λ k. lent_hand share) span_is runs ran begins (λ k less. refl) d
 
-  halt_same : (k : ℕ) → k < crew.span → (closed k).halt ≡ (now k).halt
+  halt_same : (k : ℕ) → k < crew.span → (closed k).halt ≡ (now k).stopped
   halt_same k less = (closes k d e less).4
 
   start_path : (k : ℕ) (less : k < crew.span) → (now k).path ≡ lane_of at number k team.span
@@ -99,11 +99,11 @@ module _ (w : WorldValue) (crew : CrewValue) (team : TeamTree) (slots : List ℤ
       let b = begins k d less in
       let stands = ran.stands.lanes k d less in
       let c = closes k d e less in
-      lane_gave crew k (task_part (site (world_of crew k)) ran.done ran.end) slots (now k).slots (start k).at stands.last (lane_works k ran.phases) (place_of task) (closed k)
+      lane_gave crew k (task_part (site (world_of crew k)) ran.done ran.end) slots (now k).locals (progress (start k)) stands.last (lane_works k ran.phases) (place_of task) (closed k)
       (subst (λ (buffer : Buffered). IsClosedAs (closed k).own (closed k).refused (closed k).path buffer) stands.up.buffer
-      (subst (λ (p : List Step). IsClosedAs (closed k).own (closed k).refused p (now k).at.buffer) (sym c.0) c.1))
+      (subst (λ (p : List Step). IsClosedAs (closed k).own (closed k).refused p (now k).buffer) (sym c.0) c.1))
       (c.2 ∙ stands.up.done) b.none_handed b.holds (ap (λ (t : Tally). t.forked) b.tally) (b.own ∙ sym (path_same k less)) b.place_is
-      (subst (λ (h : Option Halt). TaskGoes (world_of crew k) (task_part (site (world_of crew k)) ran.done ran.end) slots (now k).slots (start k).at stands.last (lane_works k ran.phases) (answer_of h)) (sym (halt_same k less))
+      (subst (λ (h : Option Halt). TaskGoes (world_of crew k) (task_part (site (world_of crew k)) ran.done ran.end) slots (now k).locals (progress (start k)) stands.last (lane_works k ran.phases) (answer_of h)) (sym (halt_same k less))
       (goes k less))
 
   halts : (k : ℕ) (h : Halt) → k < team.span → (closed k).halt ≡ Some h → StopsTask w.arrays (closed k).path (stop_of (closed k).path h).0 (stop_of (closed k).path h).1 (lane_begin fork k) (lane_works k ran.phases)
@@ -144,9 +144,9 @@ module _ (w : WorldValue) (crew : CrewValue) (team : TeamTree) (slots : List ℤ
         handed = subst (λ (es : List Entry). HandsOn (place_of task) (stop_in r) at number (record { span = team.span; phases = ran.phases } ∷ []) given es) (sym gathered.grows) settled.1;
       }
     where
-      drawn_once : (loop : ℕ) → AreEachOnce (numbers loop (drawn_by (λ k. (slice_index_or after k d).at.tally.draws.view.drawn) 0 crew.span))
+      drawn_once : (loop : ℕ) → AreEachOnce (numbers loop (drawn_by (λ k. (slice_index_or after k d).tally.draws.view.drawn) 0 crew.span))
       drawn_once loop = subst (λ (ds : List (ℕ × ℕ)). AreEachOnce (numbers loop ds))
-          (drawn_same (λ k. (slice_index_or lanes k e).draws.view.drawn) (λ k. (slice_index_or after k d).at.tally.draws.view.drawn) 0 crew.span
+          (drawn_same (λ k. (slice_index_or lanes k e).draws.view.drawn) (λ k. (slice_index_or after k d).tally.draws.view.drawn) 0 crew.span
           (λ k less. ap (λ (h : HandValue Share). h.view.drawn) (closes (0 + k) d e (omega (arith, less))).3)) (once loop)
 
 -- the same of what was closed and gathered, with all hands on the counters joined

@@ -20,7 +20,7 @@ use Rattle.lane_runner.specs.Going.{IsSameLog, site}
 use Rattle.lane_runner.proofs.Bodies.{log_later}
 use Rattle.region_runner.specs.Crew.{CrewValue, world_of}
 use Rattle.region_runner.specs.Hands.{joined_with, lane_hand, parted_for}
-use Rattle.lane_runner.specs.Lane.{IsLast, LaneValue, WentOn, answer_of, hand_view, with_hand}
+use Rattle.lane_runner.specs.Lane.{IsLast, LaneValue, WentOn, answer_of, hand_view, progress, with_hand}
 use Rattle.region_runner.specs.Ran.{TaskGoes, task_part}
 use Rattle.region_runner.specs.Stands.{AllGo, LaneStands, MayStep, RanPhase, TeamStands, put_in}
 use Rattle.region_runner.specs.Team.{DidPhases, DidWork, team_of_works}
@@ -33,9 +33,9 @@ views_more k (x ∷ xs) at is =
     ap (λ (v : View). v ∷ map hand_view xs) (sym (is 0 x (omega arith)) ∙ ap at (let e : k + 0 ≡ k = omega arith in e))
     ∙ ap (λ (vs : List View). at k ∷ vs) (views_more (suc k) xs at (λ i d less. ap at (let e : suc k + i ≡ k + suc i = omega arith in e) ∙ is (suc i) d (omega arith)))
 
-some_member : (xs : List LaneValue) → 1 ≤ length xs → LaneValue
-some_member [] some = absurd (omega arith)
-some_member (x ∷ xs) some = x
+some_lane : (xs : List LaneValue) → 1 ≤ length xs → LaneValue
+some_lane [] some = absurd (omega arith)
+some_lane (x ∷ xs) some = x
 
 passes_more : (phases : Phases) (team : TeamWork) → PassAllBarriers phases → PassesBarrier team → PassAllBarriers (then_phases phases (Phase team NoPhase))
 passes_more NoPhase team pass one = (one, tt)
@@ -52,13 +52,10 @@ module _ (crew : CrewValue) (items : List Item) (end : Option ℕ) (old home new
     (first : length before ≡ crew.span) (stands : TeamStands crew done None phases old home before prev) (going : AllGo prev) (ran : RanPhase crew items end home new prev after)
     (last : (line : ℕ) → end ≡ Some line → IsLast items line) (none : old.view.out ≡ []) (pass : PassAllBarriers phases) where
   d : LaneValue
-  d = some_member prev (let c = stands.count in omega (arith, c, some))
+  d = some_lane prev (let c = stands.count in omega (arith, c, some))
 
   in_prev : (k : ℕ) → k < crew.span → k < length prev
   in_prev k less = let c = stands.count in omega (arith, c, less)
-
-  in_mid : (k : ℕ) → k < crew.span → k < length ran.mid
-  in_mid k less = let c = stands.count in let m = ran.mid_count in omega (arith, c, m, less)
 
   in_after : (k : ℕ) → k < crew.span → k < length after
   in_after k less = let c = stands.count in let m = ran.count in omega (arith, c, m, less)
@@ -87,12 +84,12 @@ module _ (crew : CrewValue) (items : List Item) (end : Option ℕ) (old home new
 
   did_more : DidPhases crew.arrays crew.span home new later
   did_more =
-      phase_did crew.arrays crew.span home new works.work (λ k. (slice_index_or ran.mid k d).at.hand) (λ k. lane_hand home k) ran.rests out_none (λ k less. refl)
-      (λ k less. let s = works.each k less in subst (λ (work : Work). DidWork crew.arrays (lane_hand home k) (slice_index_or ran.mid k d).at.hand work) s.1 s.0.did)
+      phase_did crew.arrays crew.span home new works.work (λ k. (slice_index_or ran.mid k d).hand) (λ k. lane_hand home k) ran.rests out_none (λ k less. refl)
+      (λ k less. let s = works.each k less in subst (λ (work : Work). DidWork crew.arrays (lane_hand home k) (slice_index_or ran.mid k d).hand work) s.1 s.0.did)
       (ran.hand ∙ ap (λ (vs : List View). with_view home (joined_with vs (parted_for 0 crew.span crew.span home.view))) views)
 
-  halt_same : (k : ℕ) → k < crew.span → (slice_index_or after k d).halt ≡ (slice_index_or ran.mid k d).halt
-  halt_same k less = ap (λ (m : LaneValue). m.halt) (ran.same k d (in_prev k less))
+  halt_same : (k : ℕ) → k < crew.span → (slice_index_or after k d).stopped ≡ (slice_index_or ran.mid k d).stopped
+  halt_same k less = ap (λ (m : LaneValue). m.stopped) (ran.same k d (in_prev k less))
 
   abbrev start : ℕ → LaneValue
   start k = slice_index_or before k d
@@ -100,7 +97,7 @@ module _ (crew : CrewValue) (items : List Item) (end : Option ℕ) (old home new
   abbrev mid : ℕ → LaneValue
   mid k = slice_index_or ran.mid k d
 
-  same : (k : ℕ) → k < crew.span → slice_index_or after k d ≡ with_hand (mid k) (slice_index_or after k d).at.hand
+  same : (k : ℕ) → k < crew.span → slice_index_or after k d ≡ with_hand (mid k) (slice_index_or after k d).hand
   same k less = ran.same k d (in_prev k less)
 
   went : (k : ℕ) → k < crew.span → WentOn (world_of crew k) items end (with_hand (slice_index_or prev k d) (lane_hand home k)) (mid k)
@@ -109,33 +106,33 @@ module _ (crew : CrewValue) (items : List Item) (end : Option ℕ) (old home new
   lane_now : (k : ℕ) → k < crew.span → LaneStands crew (slice_index_or before k d) (done ++ items ∷ []) end (then_phases phases later) k (slice_index_or after k d)
   lane_now k less = record {
     path = ap (λ (m : LaneValue). m.path) (same k less) ∙ (went k less).path ∙ (stands.lanes k d less).path;
-    last = (mid k).at;
+    last = progress (mid k);
     up = record {
-      buffer = ap (λ (m : LaneValue). m.at.buffer) (same k less);
-      tally = ap (λ (m : LaneValue). m.at.tally) (same k less);
-      done = ap (λ (m : LaneValue). m.at.done) (same k less);
+      buffer = ap (λ (m : LaneValue). m.buffer) (same k less);
+      tally = ap (λ (m : LaneValue). m.tally) (same k less);
+      done = ap (λ (m : LaneValue). m.done) (same k less);
     };
     goes =
-        subst (λ (m : LaneValue). TaskGoes (world_of crew k) (task_part (site (world_of crew k)) (done ++ items ∷ []) end) (start k).slots m.slots (start k).at (mid k).at (lane_works k (then_phases phases later)) (answer_of m.halt)) (sym (same k less))
-        (subst (λ (ws : List Work). TaskGoes (world_of crew k) (task_part (site (world_of crew k)) (done ++ items ∷ []) end) (start k).slots (mid k).slots (start k).at (mid k).at ws (answer_of (mid k).halt))
+        subst (λ (m : LaneValue). TaskGoes (world_of crew k) (task_part (site (world_of crew k)) (done ++ items ∷ []) end) (start k).locals m.locals (progress (start k)) (progress (mid k)) (lane_works k (then_phases phases later)) (answer_of m.stopped)) (sym (same k less))
+        (subst (λ (ws : List Work). TaskGoes (world_of crew k) (task_part (site (world_of crew k)) (done ++ items ∷ []) end) (start k).locals (mid k).locals (progress (start k)) (progress (mid k)) ws (answer_of (mid k).stopped))
         (ap (λ (work : Work). lane_works k phases ++ work ∷ []) (works.each k less).1 ∙ sym (lane_works_more crew.span k phases works.work less))
         (works.each k less).0.goes);
     log =
-        subst (λ (b : Buffered). IsSameLog (start k).at.buffer b) (ap (λ (m : LaneValue). m.at.buffer) (sym (same k less)))
-        (log_later (start k).at.buffer (slice_index_or prev k d).at.buffer (mid k).at.buffer (stands.lanes k d less).log (went k less).log);
+        subst (λ (b : Buffered). IsSameLog (start k).buffer b) (ap (λ (m : LaneValue). m.buffer) (sym (same k less)))
+        (log_later (start k).buffer (slice_index_or prev k d).buffer (mid k).buffer (stands.lanes k d less).log (went k less).log);
     loops = λ goes.
         let so_far = (stands.lanes k d less).loops (going k d (in_prev k less)) in
-        let more = (went k less).loops (ap (λ (m : LaneValue). m.halt) (sym (same k less)) ∙ goes) in
+        let more = (went k less).loops (ap (λ (m : LaneValue). m.stopped) (sym (same k less)) ∙ goes) in
         let counts = drawn_after done items in
-        let now : (slice_index_or after k d).at.tally.next_loop ≡ (mid k).at.tally.next_loop = ap (λ (m : LaneValue). m.at.tally.next_loop) (same k less) in
+        let now : (slice_index_or after k d).tally.next_loop ≡ (mid k).tally.next_loop = ap (λ (m : LaneValue). m.tally.next_loop) (same k less) in
         omega (arith, so_far, more, counts, now);
     may = λ goes.
-        subst (λ (m : LaneValue). MayStep crew m.at) (sym (same k less))
+        subst (λ (m : LaneValue). MayStep crew m) (sym (same k less))
         (record {
-          unrefused = ((went k less).can (ap (λ (m : LaneValue). m.halt) (sym (same k less)) ∙ goes)).unrefused;
-          drawing = ((went k less).can (ap (λ (m : LaneValue). m.halt) (sym (same k less)) ∙ goes)).drawing;
-          enough = ((went k less).can (ap (λ (m : LaneValue). m.halt) (sym (same k less)) ∙ goes)).enough;
-          forks = ((went k less).can (ap (λ (m : LaneValue). m.halt) (sym (same k less)) ∙ goes)).forks;
+          unrefused = ((went k less).can (ap (λ (m : LaneValue). m.stopped) (sym (same k less)) ∙ goes)).unrefused;
+          drawing = ((went k less).can (ap (λ (m : LaneValue). m.stopped) (sym (same k less)) ∙ goes)).drawing;
+          enough = ((went k less).can (ap (λ (m : LaneValue). m.stopped) (sym (same k less)) ∙ goes)).enough;
+          forks = ((went k less).can (ap (λ (m : LaneValue). m.stopped) (sym (same k less)) ∙ goes)).forks;
         });
     passes = λ goes.
         let first = (stands.lanes k d less).passes (going k d (in_prev k less)) in

@@ -13,12 +13,12 @@ use Rattle.lane_runner.specs.Lane.{LaneValue}
 -- forked no region.
 pub record LaneBegins (place : LogPlace) (path : List Step) (slots : List ℤ) (draws : HandValue Share) (m : LaneValue) : Type 0 where
   pub path_is : m.path ≡ path
-  pub slots_are : m.slots ≡ slots
-  pub going : m.halt ≡ None
-  pub own : m.at.buffer.path ≡ path
-  pub place_is : place_of m.at.buffer ≡ place
-  pub none_put : m.at.buffer.count ≡ 0
-  pub unrefused : m.at.buffer.refused ≡ None
-  pub holds : HoldsRecords (log_header FORMAT) m.at.buffer []
-  pub tally : m.at.tally ≡ record { draws = draws; next_loop = 0; forked = 0 }
-  pub none_handed : m.at.done ≡ []
+  pub locals_are : m.locals ≡ slots
+  pub going : m.stopped ≡ None
+  pub own : m.buffer.path ≡ path
+  pub place_is : place_of m.buffer ≡ place
+  pub none_put : m.buffer.count ≡ 0
+  pub unrefused : m.buffer.refused ≡ None
+  pub holds : HoldsRecords (log_header FORMAT) m.buffer []
+  pub tally : m.tally ≡ record { draws = draws; next_loop = 0; forked = 0 }
+  pub none_handed : m.done ≡ []

@@ -50,7 +50,7 @@ pub record AreLanesLogs {T : Type 0} (g : GroundValue) (seen : LogView T) (path 
   pub new : AreNewLogs seen task number span logs
 
 -- a lane whose task has its log, in as many regions as leave so many to nest
-pub record IsMemberOf (g : GroundValue) (depth : ℕ) (m : LaneValue) : Type 0 where
-  pub path_is : m.at.buffer.path ≡ m.path
+pub record IsOurLane (g : GroundValue) (depth : ℕ) (m : LaneValue) : Type 0 where
+  pub path_is : m.buffer.path ≡ m.path
   pub deep : length m.path + depth ≡ 4
-  pub size_is : m.at.buffer.size ≡ g.size
+  pub size_is : m.buffer.size ≡ g.size

@@ -34,9 +34,9 @@ abbrev pub lent_to : ℕ → HandValue Share → HandValue Share
 lent_to count share = with_view share (record whole_share { splits = count; out = count })
 
 -- all lanes of the region of this number of the task `at` begin
-pub record AreLanes (place : LogPlace) (at : List Step) (number span : ℕ) (slots : List ℤ) (share : HandValue Share) (members : List LaneValue) : Type 0 where
-  pub count : length members ≡ span
-  pub each : (k : ℕ) (d : LaneValue) → k < span → LaneBegins place (lane_of at number k span) slots (lent_hand share) (slice_index_or members k d)
+pub record AreLanes (place : LogPlace) (at : List Step) (number span : ℕ) (slots : List ℤ) (share : HandValue Share) (lanes : List LaneValue) : Type 0 where
+  pub count : length lanes ≡ span
+  pub each : (k : ℕ) (d : LaneValue) → k < span → LaneBegins place (lane_of at number k span) slots (lent_hand share) (slice_index_or lanes k d)
 
 -- none of them executed anything, and the log of one refused
 pub record AreTorn (place : LogPlace) (at : List Step) (number span : ℕ) (share : HandValue Share) (lanes : List ClosedValue) : Type 0 where
@@ -59,11 +59,11 @@ pub record OneTorn (opened : List (Result LaneValue ClosedValue)) : Type 0 where
 -- a lane whose log was opened and closed, or refused
 abbrev pub ClosesAs : Result LaneValue ClosedValue → ClosedValue → Type 0
 ClosesAs (Ok m) c =
-    (c.path ≡ m.path) × IsClosedAs c.own c.refused m.path m.at.buffer × (c.below ≡ m.at.done) × (c.draws ≡ m.at.tally.draws) × (c.halt ≡ m.halt)
+    (c.path ≡ m.path) × IsClosedAs c.own c.refused m.path m.buffer × (c.below ≡ m.done) × (c.draws ≡ m.tally.draws) × (c.halt ≡ m.stopped)
 ClosesAs (Err torn) c = c ≡ torn
 
 -- The first hand on the counters has split off a hand for each lane; and all lanes begin, or none of them executed anything.
 abbrev pub OpensTeam : {T : Type 0} → LogPlace → List Step → ℕ → ℕ → List ℤ → HandValue Share → HandValue Share → Opened T → Type 0
-OpensTeam place at number span slots old new (Team members) = AreLanes place at number span slots old members.items × (new ≡ lent_to span old)
+OpensTeam place at number span slots old new (Team lanes) = AreLanes place at number span slots old lanes.items × (new ≡ lent_to span old)
 OpensTeam place at number span slots old new (Torn lanes) = AreTorn place at number span old lanes.items × (new ≡ lent_to span old)
 OpensTeam place at number span slots old new Nothing = Unit {0}

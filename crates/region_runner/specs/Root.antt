@@ -29,7 +29,7 @@ use Rattle.region_runner.specs.declared.gathering.Verdict.{Verdict}
 pub record RootClosed (crew : CrewValue) (items : List Item) (line : ℕ) (old new : HandValue View) (root : LaneValue) (c : ClosedValue) : Type 0 where
   pub after : LaneValue
   pub went : WentOn (world_of crew 0) items (Some line) (with_hand root old) after
-  pub hand : new ≡ after.at.hand
+  pub hand : new ≡ after.hand
   pub closes : ClosesAs (Ok after) c
 
 -- how the root or a task below it stopped, once the root did this work

@@ -18,22 +18,22 @@ use Rattle.region_runner.specs.Crew.{CrewValue, world_of}
 use Rattle.region_runner.specs.Gathering.{ClosedValue}
 use Rattle.region_runner.specs.Hands.{joined_with, lane_hand, parted_for}
 use Rattle.region_runner.specs.Opening.{ClosesAs}
-use Rattle.lane_runner.specs.Lane.{IsWithoutHand, LaneValue, WentOn, answer_of, hand_view, with_hand}
+use Rattle.lane_runner.specs.Lane.{IsWithoutHand, LaneValue, WentOn, answer_of, hand_view, progress, with_hand}
 use Rattle.region_runner.specs.Ran.{TaskGoes, TakesUp, task_part}
 use Rattle.region_runner.specs.Team.{DidPhases}
 
 -- A lane that goes on can, with a new hand: its log has refused nothing and tells each fork, and it may draw as often as its log has room.
-pub record MayStep (crew : CrewValue) (p : Progress) : Type 0 where
-  pub unrefused : p.buffer.refused ≡ None
-  pub drawing : Belongs p.tally.draws crew.chunks.table
-  pub enough : log_limit ≤ p.tally.draws.view.left + p.buffer.count
-  pub forks : p.tally.forked ≤ p.buffer.count
+pub record MayStep (crew : CrewValue) (m : LaneValue) : Type 0 where
+  pub unrefused : m.buffer.refused ≡ None
+  pub drawing : Belongs m.tally.draws crew.chunks.table
+  pub enough : log_limit ≤ m.tally.draws.view.left + m.buffer.count
+  pub forks : m.tally.forked ≤ m.buffer.count
 
 -- and it has the counters for the items of a phase
 pub record MayGoOn (crew : CrewValue) (items : List Item) (m : LaneValue) : Type 0 where
-  pub going : m.halt ≡ None
-  pub may : MayStep crew m.at
-  pub counters : m.at.tally.next_loop + drawn_count (map part_of items) ≤ crew.chunks.loops
+  pub going : m.stopped ≡ None
+  pub may : MayStep crew m
+  pub counters : m.tally.next_loop + drawn_count (map part_of items) ≤ crew.chunks.loops
 
 -- The lanes of the team executed a phase: each with a hand of its own, and all hands are home.
 pub record RanPhase (crew : CrewValue) (items : List Item) (end : Option ℕ) (old new : HandValue View) (before after : List LaneValue) : Type 0 where
@@ -61,14 +61,14 @@ pub record IsBehind (done : List (List Item)) (bars : ℕ) : Type 0 where
 pub record LaneStands (crew : CrewValue) (start : LaneValue) (done : List (List Item)) (end : Option ℕ) (phases : Phases) (lane : ℕ) (m : LaneValue) : Type 0 where
   pub path : m.path ≡ start.path
   pub last : Progress
-  pub up : TakesUp last m.at
-  pub goes : TaskGoes (world_of crew lane) (task_part (site (world_of crew lane)) done end) start.slots m.slots start.at last (lane_works lane phases) (answer_of m.halt)
-  pub log : IsSameLog start.at.buffer m.at.buffer
-  pub loops : m.halt ≡ None → m.at.tally.next_loop ≡ start.at.tally.next_loop + drawn_count (parts_in done)
-  pub may : m.halt ≡ None → MayStep crew m.at
-  pub passes : m.halt ≡ None → barrier_count (put_in lane phases) ≡ bar_count (parts_in done)
-  pub ends : (line : ℕ) → end ≡ Some line → m.halt ≡ None → LastIsEnd (put_in lane phases)
-  pub behind : (h : Halt) → m.halt ≡ Some h → IsBehind done (barrier_count (put_in lane phases))
+  pub up : TakesUp last (progress m)
+  pub goes : TaskGoes (world_of crew lane) (task_part (site (world_of crew lane)) done end) start.locals m.locals (progress start) last (lane_works lane phases) (answer_of m.stopped)
+  pub log : IsSameLog start.buffer m.buffer
+  pub loops : m.stopped ≡ None → m.tally.next_loop ≡ start.tally.next_loop + drawn_count (parts_in done)
+  pub may : m.stopped ≡ None → MayStep crew m
+  pub passes : m.stopped ≡ None → barrier_count (put_in lane phases) ≡ bar_count (parts_in done)
+  pub ends : (line : ℕ) → end ≡ Some line → m.stopped ≡ None → LastIsEnd (put_in lane phases)
+  pub behind : (h : Halt) → m.stopped ≡ Some h → IsBehind done (barrier_count (put_in lane phases))
 
 -- so do all lanes of a team, and their hands are home
 pub record TeamStands (crew : CrewValue) (done : List (List Item)) (end : Option ℕ) (phases : Phases) (old new : HandValue View) (before after : List LaneValue) : Type 0 where
@@ -78,13 +78,13 @@ pub record TeamStands (crew : CrewValue) (done : List (List Item)) (end : Option
 
 -- all lanes go on
 abbrev pub AllGo : List LaneValue → Type 0
-AllGo members = (k : ℕ) (d : LaneValue) → k < length members → (slice_index_or members k d).halt ≡ None
+AllGo lanes = (k : ℕ) (d : LaneValue) → k < length lanes → (slice_index_or lanes k d).stopped ≡ None
 
 -- The lane has executed no phase yet: it has drawn from no counter, forked no region, and put no record.
 pub record IsFresh (crew : CrewValue) (m : LaneValue) : Type 0 where
-  pub going : m.halt ≡ None
-  pub may : MayStep crew m.at
-  pub no_loop : m.at.tally.next_loop ≡ 0
+  pub going : m.stopped ≡ None
+  pub may : MayStep crew m
+  pub no_loop : m.tally.next_loop ≡ 0
 
 -- the last of these phases has a barrier
 pub record HasLastBar (done : List (List Item)) : Type 0 where

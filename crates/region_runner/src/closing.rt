@@ -38,14 +38,14 @@ impl<L: Log> Model for Closed<L> {
 }
 
 // Closes the log of a lane.
-pub(crate) fn close<L: Log>(alloc: Global, member: Lane<L>) -> Closed<L>
-    ensures path { result.path ≡ member.path }
-    ensures closed { IsClosedAs result.own result.refused member.path member.at.buffer }
-    ensures below { result.below ≡ member.at.done }
-    ensures draws { result.draws ≡ member.at.tally.draws }
-    ensures halt { result.halt ≡ member.halt }
+pub(crate) fn close<L: Log>(alloc: Global, lane: Lane<L>) -> Closed<L>
+    ensures path { result.path ≡ lane.path }
+    ensures closed { IsClosedAs result.own result.refused lane.path lane.buffer }
+    ensures below { result.below ≡ lane.done }
+    ensures draws { result.draws ≡ lane.tally.draws }
+    ensures halt { result.halt ≡ lane.stopped }
 {
-    let (path, track, halt) = member.into_parts();
+    let (path, track, halt) = lane.into_parts();
     let (_hand, buffer, draws, below) = track.into_parts();
     let count = buffer.count();
     match buffer.close(alloc) {
@@ -69,20 +69,20 @@ pub(crate) fn close<L: Log>(alloc: Global, member: Lane<L>) -> Closed<L>
 // Closes the logs of all lanes, for which there is room.
 pub(crate) fn close_all<L: Log>(
     alloc: Global,
-    members: Vec<Lane<L>>,
+    lanes: Vec<Lane<L>>,
     room: Vec<Closed<L>>,
 ) -> Vec<Closed<L>>
     requires empty { room.items ≡ [] }
     requires none { vec_len room ≡ 0 }
-    requires room { length members.items ≤ vec_capacity room }
-    ensures count { length result.items ≡ length members.items }
-    ensures each { (k : ℕ) (d : _) (e : _) → k < length members.items → ClosesAs (Ok (slice_index_or members.items k d)) (slice_index_or result.items k e) }
+    requires room { length lanes.items ≤ vec_capacity room }
+    ensures count { length result.items ≡ length lanes.items }
+    ensures each { (k : ℕ) (d : _) (e : _) → k < length lanes.items → ClosesAs (Ok (slice_index_or lanes.items k d)) (slice_index_or result.items k e) }
 {
-    let mut lanes = room;
-    for member in members {
-        let Ok(()) = lanes.push(close(alloc, member)) else {
+    let mut closed = room;
+    for lane in lanes {
+        let Ok(()) = closed.push(close(alloc, lane)) else {
             unreachable!()
         };
     }
-    lanes
+    closed
 }

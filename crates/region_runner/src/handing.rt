@@ -10,37 +10,32 @@ use shared_words::{Hand, Words};
 use sw_base::Log;
 
 // Each lane of the team gets a hand that is split off this one.
-pub(crate) fn split_hands<L: Log>(
-    words: &Words,
-    hand: &mut Hand,
-    members: &mut [Lane<L>],
-    span: u16,
-)
+pub(crate) fn split_hands<L: Log>(words: &Words, hand: &mut Hand, lanes: &mut [Lane<L>], span: u16)
     requires belongs { Belongs hand.old words.now.table }
-    requires count { length members.old ≡ span }
+    requires count { length lanes.old ≡ span }
     ensures hand { hand.new ≡ with_view hand.old (parted_for 0 span span hand.old.view) }
     ensures rests { 1 ≤ span → IsAtRest hand.old.view }
-    ensures count { length members.new ≡ span }
-    ensures given { (i : ℕ) (d : _) → i < span → slice_index_or members.new i d ≡ with_hand (slice_index_or members.old i d) (lane_hand hand.old i) }
+    ensures count { length lanes.new ≡ span }
+    ensures given { (i : ℕ) (d : _) → i < span → slice_index_or lanes.new i d ≡ with_hand (slice_index_or lanes.old i d) (lane_hand hand.old i) }
 {
-    let mut lane = 0u16;
-    for member in members.iter_mut() {
-        let own = words.split(hand, lane, span);
-        member.trade(own);
-        lane += 1;
+    let mut index = 0u16;
+    for lane in lanes.iter_mut() {
+        let own = words.split(hand, index, span);
+        lane.trade(own);
+        index += 1;
     }
 }
 
 // The hands of all lanes are joined to this one, in the order of the lanes.
-pub(crate) fn join_hands<L: Log>(words: &Words, hand: &mut Hand, members: &mut [Lane<L>])
+pub(crate) fn join_hands<L: Log>(words: &Words, hand: &mut Hand, lanes: &mut [Lane<L>])
     requires belongs { Belongs hand.old words.now.table }
-    requires home { (i : ℕ) (d : _) → i < length members.old → IsLaneHand words.now.table hand.old.view.name (slice_index_or members.old i d).at.hand }
-    ensures hand { hand.new ≡ with_view hand.old (joined_with (map hand_view members.old) hand.old.view) }
-    ensures count { length members.new ≡ length members.old }
-    ensures same { (i : ℕ) (d : _) → i < length members.old → IsWithoutHand (slice_index_or members.old i d) (slice_index_or members.new i d) }
+    requires home { (i : ℕ) (d : _) → i < length lanes.old → IsLaneHand words.now.table hand.old.view.name (slice_index_or lanes.old i d).hand }
+    ensures hand { hand.new ≡ with_view hand.old (joined_with (map hand_view lanes.old) hand.old.view) }
+    ensures count { length lanes.new ≡ length lanes.old }
+    ensures same { (i : ℕ) (d : _) → i < length lanes.old → IsWithoutHand (slice_index_or lanes.old i d) (slice_index_or lanes.new i d) }
 {
-    for member in members.iter_mut() {
-        let own = member.trade(Hand::blank());
+    for lane in lanes.iter_mut() {
+        let own = lane.trade(Hand::blank());
         words.join(hand, own);
     }
 }

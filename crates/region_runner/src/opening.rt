@@ -15,7 +15,7 @@ ghost use Rattle.region_runner.specs.Opening.{AllOpen, ClosesAs, OneTorn, OpensA
 use crate::closing::{Closed, close};
 use crate::ground::Ground;
 use event_buffer::Buffer;
-use lane_runner::{Frame, Lane, Locals, Track};
+use lane_runner::{Lane, Locals, Track};
 use shared_words::{ChunkHand, Chunks, Hand};
 use std::alloc::Global;
 use sw_base::{Gate, Log, Path, Trouble};
@@ -71,7 +71,7 @@ pub(crate) fn open_lane<L: Log>(
         Ok(buffer) => {
             let track = Track::new(alloc, Hand::blank(), buffer, draws);
             let locals = Locals { slots };
-            Ok(Lane::new(path, Frame { locals, track }))
+            Ok(Lane::new(path, locals, track))
         }
         Err((trouble, log)) => Err(torn(alloc, path, log, draws, trouble)),
     }
@@ -129,14 +129,14 @@ fn all_open<L: Log>(opened: &[Result<Lane<L>, Closed<L>>]) -> bool
 // The lanes, all of whose logs were opened.
 fn lanes_of<L: Log>(alloc: Global, opened: Vec<Result<Lane<L>, Closed<L>>>) -> Option<Vec<Lane<L>>>
     requires { AllOpen opened.items }
-    ensures { IfSome result (λ members. opened.items ≡ map (λ m. Ok m) members.items) }
+    ensures { IfSome result (λ lanes. opened.items ≡ map (λ m. Ok m) lanes.items) }
 {
-    let mut members = Vec::new(alloc);
+    let mut lanes = Vec::new(alloc);
     for lane in opened {
-        let Ok(member) = lane else { unreachable!() };
-        members.push(member).ok()?;
+        let Ok(begun) = lane else { unreachable!() };
+        lanes.push(begun).ok()?;
     }
-    Some(members)
+    Some(lanes)
 }
 
 // What the lanes gave, none of which executed anything.
@@ -150,7 +150,7 @@ fn closed_of<L: Log>(
     let mut lanes = Vec::new(alloc);
     for lane in opened {
         let lane = match lane {
-            Ok(member) => close(alloc, member),
+            Ok(begun) => close(alloc, begun),
             Err(torn) => torn,
         };
         lanes.push(lane).ok()?;
@@ -184,7 +184,7 @@ pub(crate) fn open<L: Log, G: Gate>(
     };
     if all_open(&opened) {
         match lanes_of(alloc, opened) {
-            Some(members) => Opened::Team(members),
+            Some(lanes) => Opened::Team(lanes),
             None => Opened::Nothing,
         }
     } else {

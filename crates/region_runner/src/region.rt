@@ -10,7 +10,7 @@ ghost use Rattle.lane_runner.specs.Forking.{IsReady, RanRegion};
 ghost use Rattle.lane_runner.specs.Handed.{entries_of};
 ghost use Rattle.lane_runner.specs.World.{WorldValue};
 ghost use Rattle.region_runner.specs.Crew.{world_of};
-ghost use Rattle.region_runner.specs.Ground.{AreLanesLogs, IsMemberOf, IsOurPhase, IsOurTeam, crew_of};
+ghost use Rattle.region_runner.specs.Ground.{AreLanesLogs, IsOurLane, IsOurPhase, IsOurTeam, crew_of};
 ghost use Rattle.kernel_model.specs.Parts.{drawn_count};
 ghost use Rattle.kernel_model.specs.Phases.{AreDivided, parts_in};
 ghost use Rattle.shared_words.specs.Handles.{Belongs};
@@ -44,22 +44,22 @@ pub(crate) fn run_task<R: Threads + Wait + Sync, L: Log, G: Gate>(
     crew: &Crew<'_>,
     phase: &Phase<'_>,
     end: Option<u32>,
-    lane: usize,
-    member: &mut Lane<L>,
+    index: usize,
+    lane: &mut Lane<L>,
 )
     requires crew { crew.now ≡ crew_of ground.now crew.now.chunks crew.now.span }
     requires number { crew.now.chunks.loops < 4294967296 }
     requires span { crew.now.span ≤ 64 }
     requires phase { IsOurPhase ground.now (4 - depth) phase.now }
     requires last { (line : ℕ) → end ≡ Some line → IsLast phase.now line }
-    requires lane { lane < crew.now.span }
-    requires can { CanGoOn (world_of crew.now lane) phase.now member.old }
-    requires own { IsMemberOf ground.now depth member.old }
-    ensures went { WentOn (world_of crew.now lane) phase.now end member.old member.new }
+    requires index { index < crew.now.span }
+    requires can { CanGoOn (world_of crew.now index) phase.now lane.old }
+    requires own { IsOurLane ground.now depth lane.old }
+    ensures went { WentOn (world_of crew.now index) phase.now end lane.old lane.new }
 {
-    let path = member.path();
-    let world = crew.world(lane as u16);
-    member.run_phase(
+    let path = lane.path();
+    let world = crew.world(index as u16);
+    lane.run_phase(
         phase,
         end,
         rt,
@@ -107,39 +107,39 @@ fn run_lanes<R: Threads + Wait + Sync, L: Log, G: Gate>(
     crew: &Crew<'_>,
     phase: &Phase<'_>,
     end: Option<u32>,
-    members: &mut [Lane<L>],
+    lanes: &mut [Lane<L>],
 )
     requires crew { crew.now ≡ crew_of ground.now crew.now.chunks crew.now.span }
     requires number { crew.now.chunks.loops < 4294967296 }
     requires span { crew.now.span ≤ 64 }
     requires phase { IsOurPhase ground.now (4 - depth) phase.now }
     requires last { (line : ℕ) → end ≡ Some line → IsLast phase.now line }
-    requires count { length members.old ≡ crew.now.span }
+    requires count { length lanes.old ≡ crew.now.span }
     requires some { 1 ≤ crew.now.span }
-    requires can { (i : ℕ) (d : _) → i < length members.old → CanGoOn (world_of crew.now i) phase.now (slice_index_or members.old i d) }
-    requires own { (i : ℕ) (d : _) → i < length members.old → IsMemberOf ground.now depth (slice_index_or members.old i d) }
-    ensures count { length members.new ≡ length members.old }
-    ensures went { (i : ℕ) (d : _) → i < length members.old → WentOn (world_of crew.now i) phase.now end (slice_index_or members.old i d) (slice_index_or members.new i d) }
+    requires can { (i : ℕ) (d : _) → i < length lanes.old → CanGoOn (world_of crew.now i) phase.now (slice_index_or lanes.old i d) }
+    requires own { (i : ℕ) (d : _) → i < length lanes.old → IsOurLane ground.now depth (slice_index_or lanes.old i d) }
+    ensures count { length lanes.new ≡ length lanes.old }
+    ensures went { (i : ℕ) (d : _) → i < length lanes.old → WentOn (world_of crew.now i) phase.now end (slice_index_or lanes.old i d) (slice_index_or lanes.new i d) }
 {
-    let count = members.len();
+    let count = lanes.len();
     thread::for_each_mut(
         rt,
-        members,
+        lanes,
         count,
-        &|lane: usize, member: &mut Lane<L>|
+        &|index: usize, lane: &mut Lane<L>|
             requires sync { IsSync R.row × IsSend L.row }
             requires crew { crew.now ≡ crew_of ground.now crew.now.chunks crew.now.span }
             requires number { crew.now.chunks.loops < 4294967296 }
             requires span { crew.now.span ≤ 64 }
             requires phase { IsOurPhase ground.now (4 - depth) phase.now }
             requires last { (line : ℕ) → end ≡ Some line → IsLast phase.now line }
-            requires lane { lane < crew.now.span }
-            requires can { CanGoOn (world_of crew.now lane) phase.now member.old }
-            requires own { IsMemberOf ground.now depth member.old }
-            ensures went { WentOn (world_of crew.entry.now lane) phase.entry.now end member.old member.new }
+            requires index { index < crew.now.span }
+            requires can { CanGoOn (world_of crew.now index) phase.now lane.old }
+            requires own { IsOurLane ground.now depth lane.old }
+            ensures went { WentOn (world_of crew.entry.now index) phase.entry.now end lane.old lane.new }
         {
-            ground.enter(lane);
-            run_task(rt, alloc, depth, ground, crew, phase, end, lane, member);
+            ground.enter(index);
+            run_task(rt, alloc, depth, ground, crew, phase, end, index, lane);
         },
     );
 }
@@ -155,33 +155,33 @@ fn run_phase<R: Threads + Wait + Sync, L: Log, G: Gate>(
     phase: &Phase<'_>,
     end: Option<u32>,
     hand: &mut Hand,
-    members: &mut [Lane<L>],
+    lanes: &mut [Lane<L>],
 )
     requires crew { crew.now ≡ crew_of ground.now crew.now.chunks crew.now.span }
     requires number { crew.now.chunks.loops < 4294967296 }
     requires span { crew.now.span ≤ 64 }
     requires phase { IsOurPhase ground.now (4 - depth) phase.now }
     requires last { (line : ℕ) → end ≡ Some line → IsLast phase.now line }
-    requires count { length members.old ≡ crew.now.span }
+    requires count { length lanes.old ≡ crew.now.span }
     requires some { 1 ≤ crew.now.span }
     requires belongs { Belongs hand.old ground.now.words.table }
-    requires can { (i : ℕ) (d : _) → i < length members.old → MayGoOn crew.now phase.now (slice_index_or members.old i d) }
-    requires own { (i : ℕ) (d : _) → i < length members.old → IsMemberOf ground.now depth (slice_index_or members.old i d) }
-    ensures ran { RanPhase crew.now phase.now end hand.old hand.new members.old members.new }
+    requires can { (i : ℕ) (d : _) → i < length lanes.old → MayGoOn crew.now phase.now (slice_index_or lanes.old i d) }
+    requires own { (i : ℕ) (d : _) → i < length lanes.old → IsOurLane ground.now depth (slice_index_or lanes.old i d) }
+    ensures ran { RanPhase crew.now phase.now end hand.old hand.new lanes.old lanes.new }
 {
     let words = ground.words();
-    split_hands(words, hand, members, crew.span());
-    run_lanes(rt, alloc, depth, ground, crew, phase, end, members);
-    join_hands(words, hand, members);
+    split_hands(words, hand, lanes, crew.span());
+    run_lanes(rt, alloc, depth, ground, crew, phase, end, lanes);
+    join_hands(words, hand, lanes);
 }
 
 // Whether each lane goes on.
-fn all_go<L: Log>(members: &[Lane<L>]) -> bool
-    ensures all { result ≡ true → AllGo members.now }
-    ensures some { result ≡ false → AllGo members.now → ⊥ }
+fn all_go<L: Log>(lanes: &[Lane<L>]) -> bool
+    ensures all { result ≡ true → AllGo lanes.now }
+    ensures some { result ≡ false → AllGo lanes.now → ⊥ }
 {
-    for member in members {
-        if !member.goes() {
+    for lane in lanes {
+        if !lane.goes() {
             return false;
         }
     }
@@ -199,7 +199,7 @@ fn run_phases<R: Threads + Wait + Sync, L: Log, G: Gate>(
     phases: &[Phase<'_>],
     end: u32,
     hand: &mut Hand,
-    members: &mut [Lane<L>],
+    lanes: &mut [Lane<L>],
 )
     requires crew { crew.now ≡ crew_of ground.now crew.now.chunks crew.now.span }
     requires number { crew.now.chunks.loops < 4294967296 }
@@ -208,34 +208,24 @@ fn run_phases<R: Threads + Wait + Sync, L: Log, G: Gate>(
     requires divided { AreDivided phases.now }
     requires counters { drawn_count (parts_in phases.now) ≤ crew.now.chunks.loops }
     requires end { 1 ≤ end }
-    requires count { length members.old ≡ crew.now.span }
+    requires count { length lanes.old ≡ crew.now.span }
     requires some { 1 ≤ crew.now.span }
     requires belongs { Belongs hand.old ground.now.words.table }
     requires none_out { hand.old.view.out ≡ [] }
-    requires fresh { (i : ℕ) (d : _) → i < length members.old → IsFresh crew.now (slice_index_or members.old i d) }
-    requires own { (i : ℕ) (d : _) → i < length members.old → IsMemberOf ground.now depth (slice_index_or members.old i d) }
-    ensures ran { TeamRan crew.now phases.now end hand.old hand.new members.old members.new }
+    requires fresh { (i : ℕ) (d : _) → i < length lanes.old → IsFresh crew.now (slice_index_or lanes.old i d) }
+    requires own { (i : ℕ) (d : _) → i < length lanes.old → IsOurLane ground.now depth (slice_index_or lanes.old i d) }
+    ensures ran { TeamRan crew.now phases.now end hand.old hand.new lanes.old lanes.new }
 {
     let Some((last, earlier)) = phases.split_last() else {
         unreachable!()
     };
     for phase in earlier {
-        run_phase(rt, alloc, depth, ground, crew, phase, None, hand, members);
-        if !all_go(members) {
+        run_phase(rt, alloc, depth, ground, crew, phase, None, hand, lanes);
+        if !all_go(lanes) {
             return;
         }
     }
-    run_phase(
-        rt,
-        alloc,
-        depth,
-        ground,
-        crew,
-        last,
-        Some(end),
-        hand,
-        members,
-    );
+    run_phase(rt, alloc, depth, ground, crew, last, Some(end), hand, lanes);
 }
 
 // The lanes of a team execute its phases, and their logs are closed.
@@ -249,7 +239,7 @@ fn run_team<R: Threads + Wait + Sync, L: Log, G: Gate>(
     phases: &[Phase<'_>],
     end: u32,
     hand: &mut Hand,
-    members: Vec<Lane<L>>,
+    lanes: Vec<Lane<L>>,
     room: Vec<Closed<L>>,
 ) -> Vec<Closed<L>>
     requires crew { crew.now ≡ crew_of ground.now crew.now.chunks crew.now.span }
@@ -259,30 +249,22 @@ fn run_team<R: Threads + Wait + Sync, L: Log, G: Gate>(
     requires divided { AreDivided phases.now }
     requires counters { drawn_count (parts_in phases.now) ≤ crew.now.chunks.loops }
     requires end { 1 ≤ end }
-    requires count { length members.items ≡ crew.now.span }
+    requires count { length lanes.items ≡ crew.now.span }
     requires some { 1 ≤ crew.now.span }
     requires belongs { Belongs hand.old ground.now.words.table }
     requires none_out { hand.old.view.out ≡ [] }
-    requires fresh { (i : ℕ) (d : _) → i < length members.items → IsFresh crew.now (slice_index_or members.items i d) }
-    requires own { (i : ℕ) (d : _) → i < length members.items → IsMemberOf ground.now depth (slice_index_or members.items i d) }
+    requires fresh { (i : ℕ) (d : _) → i < length lanes.items → IsFresh crew.now (slice_index_or lanes.items i d) }
+    requires own { (i : ℕ) (d : _) → i < length lanes.items → IsOurLane ground.now depth (slice_index_or lanes.items i d) }
     requires empty { room.items ≡ [] }
     requires none { vec_len room ≡ 0 }
     requires room { crew.now.span ≤ vec_capacity room }
-    ensures closed { TeamClosed crew.now phases.now end hand.old hand.new members.items result.items }
+    ensures closed { TeamClosed crew.now phases.now end hand.old hand.new lanes.items result.items }
 {
-    let mut members = members;
+    let mut lanes = lanes;
     run_phases(
-        rt,
-        alloc,
-        depth,
-        ground,
-        crew,
-        phases,
-        end,
-        hand,
-        &mut members,
+        rt, alloc, depth, ground, crew, phases, end, hand, &mut lanes,
     );
-    close_all(alloc, members, room)
+    close_all(alloc, lanes, room)
 }
 
 // What a region answers for which no memory was found: the first of its lanes is named.
@@ -333,10 +315,10 @@ pub(crate) fn region<R: Threads + Wait + Sync, L: Log, G: Gate>(
     let lanes = match open(
         alloc, ground, path, number, team.span, locals, &chunks, &mut share, logs,
     ) {
-        Opened::Team(members) => {
+        Opened::Team(lanes) => {
             let crew = (&*ground).crew(&chunks, team.span);
             run_team(
-                rt, alloc, depth, ground, &crew, &phases, team.end, hand, members, room,
+                rt, alloc, depth, ground, &crew, &phases, team.end, hand, lanes, room,
             )
         }
         Opened::Torn(lanes) => lanes,

@@ -8,7 +8,7 @@ ghost use Rattle.kernel_model.specs.Parts.{drawn_count};
 ghost use Rattle.kernel_model.specs.Phases.{part_of};
 ghost use Rattle.lane_runner.specs.Forking.{IsReady};
 ghost use Rattle.lane_runner.specs.Handed.{entries_of};
-ghost use Rattle.region_runner.specs.Ground.{IsMemberOf, IsOurPhase, crew_of};
+ghost use Rattle.region_runner.specs.Ground.{IsOurLane, IsOurPhase, crew_of};
 ghost use Rattle.lane_runner.specs.Lane.{IsLast};
 ghost use Rattle.region_runner.specs.Root.{IsSettled, RanRoot, RootClosed};
 ghost use Rattle.region_runner.specs.Stands.{IsFresh};
@@ -54,7 +54,7 @@ fn execute<R: Threads + Wait + Sync, L: Log, G: Gate>(
     requires undrawn { drawn_count (map part_of phase.now) ≡ 0 }
     requires ready { IsReady hand.old ground.now.words }
     requires fresh { IsFresh (crew_of ground.now chunks.now 1) root }
-    requires own { IsMemberOf ground.now 4 root }
+    requires own { IsOurLane ground.now 4 root }
     ensures closed { RootClosed (crew_of ground.now chunks.now 1) phase.now end hand.old hand.new root result }
 {
     let crew = (&*ground).crew(chunks, 1);

@@ -8,26 +8,26 @@ use Rattle.region_runner.proofs.Pointwise.{set_below, set_above}
 use Rattle.region_runner.proofs.SplitHands.{HasJoined, join_more, drop_next}
 use Rattle.region_runner.proofs.handing.join_hands.Goals as goal
 
-pub loop-member-preserved : goal.loop-member-preserved
-loop-member-preserved g c =
-    let inv = c.loop-member.invariant in
-    let n = c.loop-member.member-index in
-    let within : n < length c.loop-member.members = omega (arith, c.loop-member-test.true, inv.count) in
-    let inside : n < length c.args.members.now = omega (arith, within, inv.count) in
-    let old = slice_index_or c.args.members.now n c.member-item.result in
-    let was = inv.left n c.member-item.result (omega arith) in
-    let own = c.trade-own.ensures.given ∙ ap (λ (m : LaneValue). m.at.hand) was in
+pub loop-lane-preserved : goal.loop-lane-preserved
+loop-lane-preserved g c =
+    let inv = c.loop-lane.invariant in
+    let n = c.loop-lane.lane-index in
+    let within : n < length c.loop-lane.lanes = omega (arith, c.loop-lane-test.true, inv.count) in
+    let inside : n < length c.args.lanes.now = omega (arith, within, inv.count) in
+    let old = slice_index_or c.args.lanes.now n c.lane-item.result in
+    let was = inv.left n c.lane-item.result (omega arith) in
+    let own = c.trade-own.ensures.given ∙ ap (λ (m : LaneValue). m.hand) was in
     record {
       count = search rules;
       hand =
-          subst (λ h. HasJoined (drop (n + 1) (map hand_view c.args.members.now)) (map hand_view c.args.members.now) c.args.hand.now h) (sym (c.join.ensures ∙ ap (λ (h : HandValue View). with_view c.loop-member.hand (after_meeting c.loop-member.hand.view h.view)) own))
-          (join_more (hand_view old) (drop (n + 1) (map hand_view c.args.members.now)) (map hand_view c.args.members.now) c.args.hand.now c.loop-member.hand
-          (subst (λ l. HasJoined l (map hand_view c.args.members.now) c.args.hand.now c.loop-member.hand) (drop_next hand_view c.args.members.now n c.member-item.result inside) inv.hand));
+          subst (λ h. HasJoined (drop (n + 1) (map hand_view c.args.lanes.now)) (map hand_view c.args.lanes.now) c.args.hand.now h) (sym (c.join.ensures ∙ ap (λ (h : HandValue View). with_view c.loop-lane.hand (after_meeting c.loop-lane.hand.view h.view)) own))
+          (join_more (hand_view old) (drop (n + 1) (map hand_view c.args.lanes.now)) (map hand_view c.args.lanes.now) c.args.hand.now c.loop-lane.hand
+          (subst (λ l. HasJoined l (map hand_view c.args.lanes.now) c.args.hand.now c.loop-lane.hand) (drop_next hand_view c.args.lanes.now n c.lane-item.result inside) inv.hand));
       done =
-          set_below c.loop-member.members n c.trade-own.new.self within (λ i d x. IsWithoutHand (slice_index_or c.args.members.now i d) x) inv.done
+          set_below c.loop-lane.lanes n c.trade-own.new.self within (λ i d x. IsWithoutHand (slice_index_or c.args.lanes.now i d) x) inv.done
           (λ d.
           c.trade-own.ensures.goes_on
-          ∙ ap (λ h. with_hand (slice_index_or c.loop-member.members n c.member-item.result) h) (sym (ap (λ (m : LaneValue). m.at.hand) c.trade-own.ensures.goes_on))
-          ∙ ap (λ m. with_hand m c.trade-own.new.self.at.hand) (get_or_default c.loop-member.members n c.member-item.result d within ∙ inv.left n d (omega arith)));
-      left = set_above c.loop-member.members n c.trade-own.new.self within (λ i d x. x ≡ slice_index_or c.args.members.now i d) inv.left;
+          ∙ ap (λ h. with_hand (slice_index_or c.loop-lane.lanes n c.lane-item.result) h) (sym (ap (λ (m : LaneValue). m.hand) c.trade-own.ensures.goes_on))
+          ∙ ap (λ m. with_hand m c.trade-own.new.self.hand) (get_or_default c.loop-lane.lanes n c.lane-item.result d within ∙ inv.left n d (omega arith)));
+      left = set_above c.loop-lane.lanes n c.trade-own.new.self within (λ i d x. x ≡ slice_index_or c.args.lanes.now i d) inv.left;
     }

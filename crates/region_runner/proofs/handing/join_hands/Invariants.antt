@@ -3,10 +3,10 @@ use Rattle.lane_runner.specs.Lane.{IsWithoutHand, hand_view}
 use Rattle.region_runner.proofs.SplitHands.{HasJoined}
 use Rattle.region_runner.proofs.handing.join_hands.Given as goal
 
-abbrev pub invariant-loop-member : goal.invariant-loop-member
-invariant-loop-member g l = record {
-  count : length l.members ≡ length l.fn.members;
-  hand : HasJoined (drop l.member-index (map hand_view l.fn.members)) (map hand_view l.fn.members) l.fn.hand l.hand;
-  done : (i : ℕ) (d : _) → i < l.member-index → IsWithoutHand (slice_index_or l.fn.members i d) (slice_index_or l.members i d);
-  left : (i : ℕ) (d : _) → l.member-index ≤ i → slice_index_or l.members i d ≡ slice_index_or l.fn.members i d;
+abbrev pub invariant-loop-lane : goal.invariant-loop-lane
+invariant-loop-lane g l = record {
+  count : length l.lanes ≡ length l.fn.lanes;
+  hand : HasJoined (drop l.lane-index (map hand_view l.fn.lanes)) (map hand_view l.fn.lanes) l.fn.hand l.hand;
+  done : (i : ℕ) (d : _) → i < l.lane-index → IsWithoutHand (slice_index_or l.fn.lanes i d) (slice_index_or l.lanes i d);
+  left : (i : ℕ) (d : _) → l.lane-index ≤ i → slice_index_or l.lanes i d ≡ slice_index_or l.fn.lanes i d;
 }

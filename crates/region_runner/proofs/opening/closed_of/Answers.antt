@@ -11,7 +11,7 @@ pub loop-lane-preserved : goal.loop-lane-preserved
 loop-lane-preserved g c =
     let pushed : c.push.new.self.items ≡ c.loop-lane.lanes.items ++ c.match-lane.lane ∷ [] = search rules in
     let closes : ClosesAs c.in-Some.lane c.match-lane.lane = elim c.match-lane.branch [
-      | in-Ok w ↦ let e = w.close-lane.ensures in subst (λ lane. ClosesAs lane c.match-lane.lane) (sym w.in-Ok.is) (subst (λ lane. ClosesAs (Ok w.in-Ok.member) lane) (sym w.lane-is) (e.path, e.closed, e.below, e.draws, e.halt))
+      | in-Ok w ↦ let e = w.close-lane.ensures in subst (λ lane. ClosesAs lane c.match-lane.lane) (sym w.in-Ok.is) (subst (λ lane. ClosesAs (Ok w.in-Ok.begun) lane) (sym w.lane-is) (e.path, e.closed, e.below, e.draws, e.halt))
       | in-Err w ↦ subst (λ lane. ClosesAs lane c.match-lane.lane) (sym w.in-Err.is) w.lane-is
     ] in
     record {

@@ -7,7 +7,7 @@ use Rattle.region_runner.proofs.opening.open.Goals as goal
 pub returns-in-Some-lanes_of : goal.returns-in-Some-lanes_of
 returns-in-Some-lanes_of g c = record {
   opens = λ task path size new. (
-    all_begin (place_of task) c.args.at.now c.args.number c.args.span c.args.locals.now.slots.items c.args.share.now c.in-Some.opened.items c.in-Some.ensures.count (c.in-Some.ensures.opens task path size new) c.in-Some-lanes_of.members.items
+    all_begin (place_of task) c.args.at.now c.args.number c.args.span c.args.locals.now.slots.items c.args.share.now c.in-Some.opened.items c.in-Some.ensures.count (c.in-Some.ensures.opens task path size new) c.in-Some-lanes_of.lanes.items
         c.in-Some-lanes_of.ensures,
     c.in-Some.ensures.share,
   );

@@ -11,7 +11,7 @@ use Rattle.region_runner.proofs.Forks.{phase_forks}
 use Rattle.std.specs.Prelude.{slice_index_or, List, drop, Vec}
 use Rattle.lane_runner.specs.Lane.{CanGoOn, LaneValue, WentOn, hand_view, IsLast}
 use Rattle.region_runner.specs.Hands.{IsLaneHand, joined_with, parted_for}
-use Rattle.region_runner.specs.Ground.{IsMemberOf, IsOurPhase}
+use Rattle.region_runner.specs.Ground.{IsOurLane, IsOurPhase}
 use Rattle.shared_words.specs.declared.view.View.{View}
 use Rattle.region_runner.proofs.PhaseHands.{can_go_on, comes_home, parted_name}
 use Rattle.std.proofs.lemmas.List.{take-append-drop}
@@ -37,7 +37,7 @@ use Rattle.region_runner.specs.Opening.{AreLanes, AreTorn, ClosesAs, lent_hand}
 use Rattle.region_runner.proofs.LawfulPhases.{phases_lawful}
 use Rattle.lane_runner.proofs.NoRegion.{no_memory_for}
 use Rattle.region_runner.proofs.NoRegion.{torn_region}
-use Rattle.region_runner.proofs.OpenedTeam.{lane_fresh, lane_member}
+use Rattle.region_runner.proofs.OpenedTeam.{lane_fresh, lane_ours}
 use Rattle.region_runner.proofs.ReturnedHands.{head_of, team_returned, torn_returned}
 use Rattle.region_runner.proofs.TeamRegion.{closed_region}
 use Rattle.region_runner.proofs.region.+region.Goals.{region-in-Team, region-in-Torn}
@@ -47,10 +47,10 @@ pub run_task-run_phase-requires-clause-runs : goal.run_task-run_phase-requires-c
 run_task-run_phase-requires-clause-runs g n c κs within =
     let own = c.requires.own in
     let deep : length c.path-path.result + c.args.depth ≡ 4 = subst (λ (p : List Step). length p + c.args.depth ≡ 4) (sym c.path-path.ensures.is) own.deep in
-    let in_log : length c.args.member.now.at.buffer.path ≡ length c.args.member.now.path = ap (λ (p : List Step). length p) own.path_is in
+    let in_log : length c.args.lane.now.buffer.path ≡ length c.args.lane.now.path = ap (λ (p : List Step). length p) own.path_is in
     let mutexes = c.requires.phase.mutexes in
     let seen : LogView g.row.L.Denot = record { dir = g.L.Log.dir; path = g.L.Log.path; text = g.L.Log.text; faults = g.L.Log.faults } in
-    phase_forks (world_of c.args.crew.now c.args.lane) _ _ _ _ c.args.member.now.at.buffer mutexes (4 - c.args.depth) c.args.phase.now c.world-world.ensures c.requires.phase.lawful
+    phase_forks (world_of c.args.crew.now c.args.index) _ _ _ _ c.args.lane.now.buffer mutexes (4 - c.args.depth) c.args.phase.now c.world-world.ensures c.requires.phase.lawful
     (λ team inner. record {
       path = let d = own.deep in let i = inner.deeper in omega (arith, d, i, in_log);
       runs = record {
@@ -79,10 +79,10 @@ run_task-run_phase-requires-clause-runs g n c κs within =
                           subst (λ (words : WordsValue). IsReady hand.now words) (ap (λ (v : CrewValue). v.words) c.requires.crew) ready,
                           (
                             record {
-                              task = c.args.member.now.at.buffer;
+                              task = c.args.lane.now.buffer;
                               path_is = own.path_is ∙ sym c.path-path.ensures.is;
                               size_is = own.size_is;
-                              new = subst (λ (t : TeamTree). AreNewLogs {T = g.row.L.Denot} seen c.args.member.now.at.buffer number t.span logs.items) (sym is) new;
+                              new = subst (λ (t : TeamTree). AreNewLogs {T = g.row.L.Denot} seen c.args.lane.now.buffer number t.span logs.items) (sym is) new;
                             },
                             ((search rules), (search rules), (search rules)),
                           ),
@@ -96,9 +96,9 @@ run_task-run_phase-requires-clause-runs g n c κs within =
           ),
         );
         ran = λ hand after locals number logs given done now_done r is ready new gives.
-            subst (λ (t : TeamTree). RanRegion (world_of c.args.crew.now c.args.lane) t locals.now.slots.items c.args.member.now.at.buffer number hand.now after.now (entries_of {T = g.row.L.Denot} seen done.now.items) (entries_of {T = g.row.L.Denot} seen now_done.now.items) r) is
-            (gives.1 (world_of c.args.crew.now c.args.lane) c.args.member.now.at.buffer (ap (λ (v : CrewValue). v.arrays) c.requires.crew) (own.path_is ∙ sym c.path-path.ensures.is) own.size_is
-            (subst (λ (t : TeamTree). AreNewLogs {T = g.row.L.Denot} seen c.args.member.now.at.buffer number t.span logs.items) (sym is) new));
+            subst (λ (t : TeamTree). RanRegion (world_of c.args.crew.now c.args.index) t locals.now.slots.items c.args.lane.now.buffer number hand.now after.now (entries_of {T = g.row.L.Denot} seen done.now.items) (entries_of {T = g.row.L.Denot} seen now_done.now.items) r) is
+            (gives.1 (world_of c.args.crew.now c.args.index) c.args.lane.now.buffer (ap (λ (v : CrewValue). v.arrays) c.requires.crew) (own.path_is ∙ sym c.path-path.ensures.is) own.size_is
+            (subst (λ (t : TeamTree). AreNewLogs {T = g.row.L.Denot} seen c.args.lane.now.buffer number t.span logs.items) (sym is) new));
       };
     })
 
@@ -128,7 +128,7 @@ run_lanes-for_each_mut-requires-clause-accepts g n c κs within = λ i p less is
                       (
                         subst (λ (m : LaneValue). CanGoOn (world_of c.args.crew.now i) c.args.phase.now m) (sym is) (c.requires.can i p.now less),
                         (
-                          subst (λ (m : LaneValue). IsMemberOf c.args.ground.now c.args.depth m) (sym is) (c.requires.own i p.now less),
+                          subst (λ (m : LaneValue). IsOurLane c.args.ground.now c.args.depth m) (sym is) (c.requires.own i p.now less),
                           ((search rules), (search rules), (search rules)),
                         ),
                       ),
@@ -152,42 +152,42 @@ run_lanes-returns-clause-went g n c = λ i d less.
 
 pub run_phase-run_lanes-requires-clause-can : goal.run_phase-run_lanes-requires-clause-can
 run_phase-run_lanes-requires-clause-can g n c κs within = λ i d less.
-    let inside : i < length c.args.members.now = let n = c.split_hands.ensures.count in let s = c.span.ensures in let m = c.requires.count in omega (arith, less, n, s, m) in
+    let inside : i < length c.args.lanes.now = let n = c.split_hands.ensures.count in let s = c.span.ensures in let m = c.requires.count in omega (arith, less, n, s, m) in
     let below : i < c.span.result = let s = c.span.ensures in let m = c.requires.count in omega (arith, inside, s, m) in
     subst (λ (m : LaneValue). CanGoOn (world_of c.args.crew.now i) c.args.phase.now m) (sym (c.split_hands.ensures.given i d below))
-    (can_go_on c.args.crew.now c.args.phase.now i c.args.hand.now (slice_index_or c.args.members.now i d) (subst (λ (v : CrewValue). Belongs c.args.hand.now v.words.table) (sym c.requires.crew) c.requires.belongs)
+    (can_go_on c.args.crew.now c.args.phase.now i c.args.hand.now (slice_index_or c.args.lanes.now i d) (subst (λ (v : CrewValue). Belongs c.args.hand.now v.words.table) (sym c.requires.crew) c.requires.belongs)
     (c.requires.can i d inside))
 
 pub run_phase-run_lanes-requires-clause-own : goal.run_phase-run_lanes-requires-clause-own
 run_phase-run_lanes-requires-clause-own g n c κs within = λ i d less.
-    let inside : i < length c.args.members.now = let n = c.split_hands.ensures.count in let s = c.span.ensures in let m = c.requires.count in omega (arith, less, n, s, m) in
+    let inside : i < length c.args.lanes.now = let n = c.split_hands.ensures.count in let s = c.span.ensures in let m = c.requires.count in omega (arith, less, n, s, m) in
     let below : i < c.span.result = let s = c.span.ensures in let m = c.requires.count in omega (arith, inside, s, m) in
-    subst (λ (m : LaneValue). IsMemberOf c.args.ground.now c.args.depth m) (sym (c.split_hands.ensures.given i d below))
+    subst (λ (m : LaneValue). IsOurLane c.args.ground.now c.args.depth m) (sym (c.split_hands.ensures.given i d below))
     (record { path_is = (c.requires.own i d inside).path_is; deep = (c.requires.own i d inside).deep; size_is = (c.requires.own i d inside).size_is })
 
 pub run_phase-join_hands-requires-clause-home : goal.run_phase-join_hands-requires-clause-home
 run_phase-join_hands-requires-clause-home g n c κs within = λ i d less.
-    let under : i < length c.split_hands.new.members = let n = c.run_lanes.ensures.count in omega (arith, less, n) in
+    let under : i < length c.split_hands.new.lanes = let n = c.run_lanes.ensures.count in omega (arith, less, n) in
     let below : i < c.span.result = let n = c.split_hands.ensures.count in omega (arith, under, n) in
-    subst (λ (words : WordsValue). IsLaneHand words.table c.split_hands.new.hand.view.name (slice_index_or c.run_lanes.new.members i d).at.hand) (ap (λ (v : CrewValue). v.words) c.requires.crew ∙ sym c.words-words.ensures)
-    (comes_home c.args.crew.now c.args.phase.now c.args.end i c.args.hand.now (slice_index_or c.args.members.now i d) (slice_index_or c.run_lanes.new.members i d)
-    (subst (λ (m : LaneValue). WentOn (world_of c.args.crew.now i) c.args.phase.now c.args.end m (slice_index_or c.run_lanes.new.members i d)) (c.split_hands.ensures.given i d below) (c.run_lanes.ensures.went i d under))
+    subst (λ (words : WordsValue). IsLaneHand words.table c.split_hands.new.hand.view.name (slice_index_or c.run_lanes.new.lanes i d).hand) (ap (λ (v : CrewValue). v.words) c.requires.crew ∙ sym c.words-words.ensures)
+    (comes_home c.args.crew.now c.args.phase.now c.args.end i c.args.hand.now (slice_index_or c.args.lanes.now i d) (slice_index_or c.run_lanes.new.lanes i d)
+    (subst (λ (m : LaneValue). WentOn (world_of c.args.crew.now i) c.args.phase.now c.args.end m (slice_index_or c.run_lanes.new.lanes i d)) (c.split_hands.ensures.given i d below) (c.run_lanes.ensures.went i d under))
     c.split_hands.new.hand.view.name (ap (λ (h : HandValue View). h.view.name) c.split_hands.ensures.hand ∙ parted_name 0 c.span.result c.span.result c.args.hand.now.view))
 
 pub run_phase-returns : goal.run_phase-returns
 run_phase-returns g n c = record {
   ran = record {
-    mid = c.run_lanes.new.members;
+    mid = c.run_lanes.new.lanes;
     mid_count = c.run_lanes.ensures.count ∙ c.split_hands.ensures.count ∙ c.span.ensures ∙ sym c.requires.count;
     went = λ k d less.
         let below : k < c.span.result = let s = c.span.ensures in let m = c.requires.count in omega (arith, less, s, m) in
-        let under : k < length c.split_hands.new.members = let n = c.split_hands.ensures.count in omega (arith, below, n) in
-        subst (λ (m : LaneValue). WentOn (world_of c.args.crew.now k) c.args.phase.now c.args.end m (slice_index_or c.run_lanes.new.members k d)) (c.split_hands.ensures.given k d below) (c.run_lanes.ensures.went k d under);
+        let under : k < length c.split_hands.new.lanes = let n = c.split_hands.ensures.count in omega (arith, below, n) in
+        subst (λ (m : LaneValue). WentOn (world_of c.args.crew.now k) c.args.phase.now c.args.end m (slice_index_or c.run_lanes.new.lanes k d)) (c.split_hands.ensures.given k d below) (c.run_lanes.ensures.went k d under);
     rests = c.split_hands.ensures.rests (let s = c.span.ensures in let m = c.requires.some in omega (arith, s, m));
     hand =
         c.join_hands.ensures.hand
-        ∙ ap (λ (h : HandValue View). with_view h (joined_with (map hand_view c.run_lanes.new.members) h.view)) c.split_hands.ensures.hand
-        ∙ ap (λ (n : ℕ). with_view c.args.hand.now (joined_with (map hand_view c.run_lanes.new.members) (parted_for 0 n n c.args.hand.now.view))) c.span.ensures;
+        ∙ ap (λ (h : HandValue View). with_view h (joined_with (map hand_view c.run_lanes.new.lanes) h.view)) c.split_hands.ensures.hand
+        ∙ ap (λ (n : ℕ). with_view c.args.hand.now (joined_with (map hand_view c.run_lanes.new.lanes) (parted_for 0 n n c.args.hand.now.view))) c.span.ensures;
     count = c.join_hands.ensures.count ∙ c.run_lanes.ensures.count ∙ c.split_hands.ensures.count ∙ c.span.ensures ∙ sym c.requires.count;
     same = λ k d less.
         c.join_hands.ensures.same k d
@@ -196,7 +196,7 @@ run_phase-returns g n c = record {
 }
 
 pub run_phases-loop-phase-init : goal.run_phases-loop-phase-init
-run_phases-loop-phase-init g n c = record { passed = passed_none c.args.crew.now c.args.hand.now c.args.members.now c.requires.belongs.there c.requires.count c.requires.fresh }
+run_phases-loop-phase-init g n c = record { passed = passed_none c.args.crew.now c.args.hand.now c.args.lanes.now c.requires.belongs.there c.requires.count c.requires.fresh }
 
 pub run_phases-run_phase-requires-clause-phase : goal.run_phases-run_phase-requires-clause-phase
 run_phases-run_phase-requires-clause-phase g n c κs within =
@@ -207,7 +207,7 @@ pub run_phases-run_phase-requires-clause-can : goal.run_phases-run_phase-require
 run_phases-run_phase-requires-clause-can g n c κs within = λ i d less.
     let p = c.loop-phase.invariant.passed in
     let below : i < c.args.crew.now.span = let n = p.stands.count in omega (arith, less, n) in
-    may_next c.args.crew.now (slice_index_or c.args.members.now i d) (slice_index_or c.loop-phase.members i d) (take c.loop-phase.phase-index c.in-Some.earlier.now) p.phases i c.phase-item.result (p.stands.lanes i d below) (p.goes i d less)
+    may_next c.args.crew.now (slice_index_or c.args.lanes.now i d) (slice_index_or c.loop-phase.lanes i d) (take c.loop-phase.phase-index c.in-Some.earlier.now) p.phases i c.phase-item.result (p.stands.lanes i d below) (p.goes i d less)
     (c.requires.fresh i d (let n = c.requires.count in omega (arith, below, n))).no_loop
     (few_next c.args.phases.now c.in-Some.earlier.now c.in-Some.last.now c.in-Some.ensures.cases.0 c.loop-phase.phase-index c.phase-item.result c.args.crew.now.chunks.loops c.loop-phase-test.true c.phase-item.is c.requires.counters)
 
@@ -215,19 +215,19 @@ pub run_phases-run_phase-requires-clause-own : goal.run_phases-run_phase-require
 run_phases-run_phase-requires-clause-own g n c κs within = λ i d less.
     let p = c.loop-phase.invariant.passed in
     let below : i < c.args.crew.now.span = let n = p.stands.count in omega (arith, less, n) in
-    own_next c.args.ground.now c.args.depth c.args.crew.now (slice_index_or c.args.members.now i d) (slice_index_or c.loop-phase.members i d) (take c.loop-phase.phase-index c.in-Some.earlier.now) None p.phases i (p.stands.lanes i d below)
+    own_next c.args.ground.now c.args.depth c.args.crew.now (slice_index_or c.args.lanes.now i d) (slice_index_or c.loop-phase.lanes i d) (take c.loop-phase.phase-index c.in-Some.earlier.now) None p.phases i (p.stands.lanes i d below)
     (c.requires.own i d (let n = c.requires.count in omega (arith, below, n)))
 
 pub run_phases-returns-then-not-all_go : goal.run_phases-returns-then-not-all_go
 run_phases-returns-then-not-all_go g n c =
     let p = c.loop-phase.invariant.passed in
-    let steps : TeamSteps c.args.crew.now c.phase-item.result None c.args.hand.now c.run_phase.new.hand c.args.members.now c.run_phase.new.members (take c.loop-phase.phase-index c.in-Some.earlier.now) =
-    team_steps c.args.crew.now c.phase-item.result None c.args.hand.now c.loop-phase.hand c.run_phase.new.hand c.args.members.now c.loop-phase.members c.run_phase.new.members (take c.loop-phase.phase-index c.in-Some.earlier.now) p.phases
+    let steps : TeamSteps c.args.crew.now c.phase-item.result None c.args.hand.now c.run_phase.new.hand c.args.lanes.now c.run_phase.new.lanes (take c.loop-phase.phase-index c.in-Some.earlier.now) =
+    team_steps c.args.crew.now c.phase-item.result None c.args.hand.now c.loop-phase.hand c.run_phase.new.hand c.args.lanes.now c.loop-phase.lanes c.run_phase.new.lanes (take c.loop-phase.phase-index c.in-Some.earlier.now) p.phases
     c.requires.some c.requires.count p.stands p.goes c.run_phase.ensures.ran (λ line is. absurd (no_end is)) c.requires.none_out p.pass in
     record {
       ran =
           stops_early c.args.crew.now c.args.phases.now (take c.loop-phase.phase-index c.in-Some.earlier.now ++ c.phase-item.result ∷ []) (drop (c.loop-phase.phase-index + 1) c.in-Some.earlier.now ++ c.in-Some.last.now ∷ []) c.args.end c.args.hand.now
-          c.run_phase.new.hand c.args.members.now c.run_phase.new.members steps.phases
+          c.run_phase.new.hand c.args.lanes.now c.run_phase.new.lanes steps.phases
           (c.in-Some.ensures.cases.0
           ∙ ap (λ (ps : List (List Item)). ps ++ c.in-Some.last.now ∷ []) (sym (take-append-drop (c.loop-phase.phase-index + 1) c.in-Some.earlier.now))
           ∙ append_assoc (take (c.loop-phase.phase-index + 1) c.in-Some.earlier.now) (drop (c.loop-phase.phase-index + 1) c.in-Some.earlier.now) (c.in-Some.last.now ∷ [])
@@ -248,13 +248,13 @@ run_phases-returns-then-not-all_go g n c =
 pub run_phases-loop-phase-preserved : goal.run_phases-loop-phase-preserved
 run_phases-loop-phase-preserved g n c =
     let p = c.loop-phase.invariant.passed in
-    let steps : TeamSteps c.args.crew.now c.phase-item.result None c.args.hand.now c.run_phase.new.hand c.args.members.now c.run_phase.new.members (take c.loop-phase.phase-index c.in-Some.earlier.now) =
-    team_steps c.args.crew.now c.phase-item.result None c.args.hand.now c.loop-phase.hand c.run_phase.new.hand c.args.members.now c.loop-phase.members c.run_phase.new.members (take c.loop-phase.phase-index c.in-Some.earlier.now) p.phases
+    let steps : TeamSteps c.args.crew.now c.phase-item.result None c.args.hand.now c.run_phase.new.hand c.args.lanes.now c.run_phase.new.lanes (take c.loop-phase.phase-index c.in-Some.earlier.now) =
+    team_steps c.args.crew.now c.phase-item.result None c.args.hand.now c.loop-phase.hand c.run_phase.new.hand c.args.lanes.now c.loop-phase.lanes c.run_phase.new.lanes (take c.loop-phase.phase-index c.in-Some.earlier.now) p.phases
     c.requires.some c.requires.count p.stands p.goes c.run_phase.ensures.ran (λ line is. absurd (no_end is)) c.requires.none_out p.pass in
-    let goes : AllGo c.run_phase.new.members = c.all_go.ensures.all c.if-not-all_go.false in
+    let goes : AllGo c.run_phase.new.lanes = c.all_go.ensures.all c.if-not-all_go.false in
     record {
       passed =
-          subst (λ (ps : List (List Item)). HasPassed c.args.crew.now ps c.args.hand.now c.run_phase.new.hand c.args.members.now c.run_phase.new.members)
+          subst (λ (ps : List (List Item)). HasPassed c.args.crew.now ps c.args.hand.now c.run_phase.new.hand c.args.lanes.now c.run_phase.new.lanes)
           (sym (take_next c.args.phases.now c.in-Some.earlier.now c.in-Some.last.now c.in-Some.ensures.cases.0 c.loop-phase.phase-index c.phase-item.result c.loop-phase-test.true c.phase-item.is))
           (record {
             phases = steps.phases;
@@ -281,7 +281,7 @@ run_phases-run_phase-requires-2-clause-can g n c κs within = λ i d less.
     let p = c.loop-phase.invariant.passed in
     let below : i < c.args.crew.now.span = let n = p.stands.count in omega (arith, less, n) in
     let past : length c.in-Some.earlier.now ≤ c.loop-phase.phase-index = let n = c.loop-phase-test.false in omega (arith, n) in
-    may_next c.args.crew.now (slice_index_or c.args.members.now i d) (slice_index_or c.loop-phase.members i d) (take c.loop-phase.phase-index c.in-Some.earlier.now) p.phases i c.in-Some.last.now (p.stands.lanes i d below) (p.goes i d less)
+    may_next c.args.crew.now (slice_index_or c.args.lanes.now i d) (slice_index_or c.loop-phase.lanes i d) (take c.loop-phase.phase-index c.in-Some.earlier.now) p.phases i c.in-Some.last.now (p.stands.lanes i d below) (p.goes i d less)
     (c.requires.fresh i d (let n = c.requires.count in omega (arith, below, n))).no_loop
     (subst (λ (ps : List (List Item)). drawn_count (parts_in (ps ++ c.in-Some.last.now ∷ [])) ≤ c.args.crew.now.chunks.loops) (sym (take_all c.loop-phase.phase-index c.in-Some.earlier.now past))
     (few_last c.args.phases.now c.in-Some.earlier.now c.in-Some.last.now c.in-Some.ensures.cases.0 c.args.crew.now.chunks.loops c.requires.counters))
@@ -290,18 +290,18 @@ pub run_phases-run_phase-requires-2-clause-own : goal.run_phases-run_phase-requi
 run_phases-run_phase-requires-2-clause-own g n c κs within = λ i d less.
     let p = c.loop-phase.invariant.passed in
     let below : i < c.args.crew.now.span = let n = p.stands.count in omega (arith, less, n) in
-    own_next c.args.ground.now c.args.depth c.args.crew.now (slice_index_or c.args.members.now i d) (slice_index_or c.loop-phase.members i d) (take c.loop-phase.phase-index c.in-Some.earlier.now) None p.phases i (p.stands.lanes i d below)
+    own_next c.args.ground.now c.args.depth c.args.crew.now (slice_index_or c.args.lanes.now i d) (slice_index_or c.loop-phase.lanes i d) (take c.loop-phase.phase-index c.in-Some.earlier.now) None p.phases i (p.stands.lanes i d below)
     (c.requires.own i d (let n = c.requires.count in omega (arith, below, n)))
 
 pub run_phases-returns : goal.run_phases-returns
 run_phases-returns g n c =
     let past : length c.in-Some.earlier.now ≤ c.loop-phase.phase-index = let n = c.loop-phase-test.false in omega (arith, n) in
-    let p : HasPassed c.args.crew.now c.in-Some.earlier.now c.args.hand.now c.loop-phase.hand c.args.members.now c.loop-phase.members =
-    subst (λ (ps : List (List Item)). HasPassed c.args.crew.now ps c.args.hand.now c.loop-phase.hand c.args.members.now c.loop-phase.members) (take_all c.loop-phase.phase-index c.in-Some.earlier.now past) c.loop-phase.invariant.passed in
+    let p : HasPassed c.args.crew.now c.in-Some.earlier.now c.args.hand.now c.loop-phase.hand c.args.lanes.now c.loop-phase.lanes =
+    subst (λ (ps : List (List Item)). HasPassed c.args.crew.now ps c.args.hand.now c.loop-phase.hand c.args.lanes.now c.loop-phase.lanes) (take_all c.loop-phase.phase-index c.in-Some.earlier.now past) c.loop-phase.invariant.passed in
     record {
       ran =
-          runs_all c.args.crew.now c.in-Some.earlier.now c.in-Some.last.now c.args.phases.now c.args.end c.args.hand.now c.run_phase-2.new.hand c.args.members.now c.run_phase-2.new.members c.in-Some.ensures.cases.0
-          (team_steps c.args.crew.now c.in-Some.last.now (Some c.args.end) c.args.hand.now c.loop-phase.hand c.run_phase-2.new.hand c.args.members.now c.loop-phase.members c.run_phase-2.new.members c.in-Some.earlier.now p.phases
+          runs_all c.args.crew.now c.in-Some.earlier.now c.in-Some.last.now c.args.phases.now c.args.end c.args.hand.now c.run_phase-2.new.hand c.args.lanes.now c.run_phase-2.new.lanes c.in-Some.ensures.cases.0
+          (team_steps c.args.crew.now c.in-Some.last.now (Some c.args.end) c.args.hand.now c.loop-phase.hand c.run_phase-2.new.hand c.args.lanes.now c.loop-phase.lanes c.run_phase-2.new.lanes c.in-Some.earlier.now p.phases
           c.requires.some c.requires.count p.stands p.goes c.run_phase-2.ensures.ran
           (λ line is. subst (λ (l : ℕ). IsLast c.in-Some.last.now l) (same_Some c.args.end line is) (last_ends c.args.phases.now c.in-Some.earlier.now c.in-Some.last.now c.in-Some.ensures.cases.0 c.requires.divided c.args.end c.requires.end))
           c.requires.none_out p.pass);
@@ -313,18 +313,18 @@ run_team-run_phases-requires-clause-fresh g n c κs within = λ i d less.
 
 pub run_team-run_phases-requires-clause-own : goal.run_team-run_phases-requires-clause-own
 run_team-run_phases-requires-clause-own g n c κs within = λ i d less.
-    subst (λ (ms : List LaneValue). IsMemberOf c.args.ground.now c.args.depth (slice_index_or ms i d)) (sym c.deref_mut.ensures.value) (c.requires.own i d (subst (λ (ms : List LaneValue). i < length ms) c.deref_mut.ensures.value less))
+    subst (λ (ms : List LaneValue). IsOurLane c.args.ground.now c.args.depth (slice_index_or ms i d)) (sym c.deref_mut.ensures.value) (c.requires.own i d (subst (λ (ms : List LaneValue). i < length ms) c.deref_mut.ensures.value less))
 
 pub run_team-returns : goal.run_team-returns
 run_team-returns g n c =
     let ran = c.run_phases.ensures.ran in
-    let count : length c.run_phases.new.members ≡ c.args.members.len = let m = ran.stands.count in let s = c.requires.count in omega (arith, m, s) in
-    let whole : take c.args.members.len (c.run_phases.new.members ++ drop (length c.run_phases.new.members) c.args.members.items) ≡ c.run_phases.new.members =
-    ap (λ (n : ℕ). take n (c.run_phases.new.members ++ drop (length c.run_phases.new.members) c.args.members.items)) (sym count) ∙ take-append_seam c.run_phases.new.members (drop (length c.run_phases.new.members) c.args.members.items) in
+    let count : length c.run_phases.new.lanes ≡ c.args.lanes.len = let m = ran.stands.count in let s = c.requires.count in omega (arith, m, s) in
+    let whole : take c.args.lanes.len (c.run_phases.new.lanes ++ drop (length c.run_phases.new.lanes) c.args.lanes.items) ≡ c.run_phases.new.lanes =
+    ap (λ (n : ℕ). take n (c.run_phases.new.lanes ++ drop (length c.run_phases.new.lanes) c.args.lanes.items)) (sym count) ∙ take-append_seam c.run_phases.new.lanes (drop (length c.run_phases.new.lanes) c.args.lanes.items) in
     record {
       closed = record {
-        after = c.run_phases.new.members;
-        ran = subst (λ (ms : List LaneValue). TeamRan c.args.crew.now c.args.phases.now c.args.end c.args.hand.now c.run_phases.new.hand ms c.run_phases.new.members) c.deref_mut.ensures.value ran;
+        after = c.run_phases.new.lanes;
+        ran = subst (λ (ms : List LaneValue). TeamRan c.args.crew.now c.args.phases.now c.args.end c.args.hand.now c.run_phases.new.hand ms c.run_phases.new.lanes) c.deref_mut.ensures.value ran;
         count = c.close_all.ensures.count ∙ ap (λ (ms : List LaneValue). length ms) whole ∙ ran.stands.count;
         closes = λ k d e less.
             subst (λ (ms : List LaneValue). k < length ms → ClosesAs (Ok (slice_index_or ms k d)) (slice_index_or c.close_all.result.items k e)) whole (λ inside. c.close_all.ensures.each k d e inside)
@@ -386,13 +386,13 @@ region-run_team-lanes-requires-clause-count g n c κs within =
 pub region-run_team-lanes-requires-clause-fresh : goal.region-run_team-lanes-requires-clause-fresh
 region-run_team-lanes-requires-clause-fresh g n c κs within = λ i d less.
     let opened = (c.in-Team.ensures.opens c.requires.logs.task c.requires.logs.path_is c.requires.logs.size_is c.requires.logs.new).0 in
-    lane_fresh (place_of c.requires.logs.task) (lane_of c.args.path.now c.args.number i c.args.team.now.span) c.args.locals.now.slots.items c.in-Ok.share c.crew-crew.result (slice_index_or c.in-Team.members.items i d)
+    lane_fresh (place_of c.requires.logs.task) (lane_of c.args.path.now c.args.number i c.args.team.now.span) c.args.locals.now.slots.items c.in-Ok.share c.crew-crew.result (slice_index_or c.in-Team.lanes.items i d)
     (ap (λ (h : HandValue Share). h.table) c.in-Ok.ensures.hand ∙ sym (ap (λ (v : CrewValue). v.chunks.table) c.crew-crew.ensures)) (opened.each i d (let count = opened.count in omega (arith, less, count)))
 
 pub region-run_team-lanes-requires-clause-own : goal.region-run_team-lanes-requires-clause-own
 region-run_team-lanes-requires-clause-own g n c κs within = λ i d less.
     let opened = (c.in-Team.ensures.opens c.requires.logs.task c.requires.logs.path_is c.requires.logs.size_is c.requires.logs.new).0 in
-    lane_member c.args.ground.now c.args.depth c.requires.logs.task c.args.path.now c.args.number i c.args.team.now.span c.args.locals.now.slots.items (lent_hand c.in-Ok.share) (slice_index_or c.in-Team.members.items i d) c.requires.logs.size_is c.requires.deep
+    lane_ours c.args.ground.now c.args.depth c.requires.logs.task c.args.path.now c.args.number i c.args.team.now.span c.args.locals.now.slots.items (lent_hand c.in-Ok.share) (slice_index_or c.in-Team.lanes.items i d) c.requires.logs.size_is c.requires.deep
     (opened.each i d (let count = opened.count in omega (arith, less, count)))
 
 pub region-gather-requires-clause-share : goal.region-gather-requires-clause-share
@@ -417,7 +417,7 @@ region-gather-requires-clause-own g n c κs within = λ k d less.
       | region-in-Team w ↦
           let lanes = ap (λ (v : Vec ClosedValue Global). v.items) w.lanes-is in
           subst (λ (ls : List ClosedValue). Belongs (slice_index_or ls k d).draws c.in-Ok.chunks.table) (sym lanes)
-          (team_returned w.crew-crew.result (team_of c.args.team.now) c.args.locals.now.slots.items w.deref-in-Team.result.now c.args.hand.now w.run_team-lanes.new.hand w.in-Team.members.items (place_of c.requires.logs.task) c.args.path.now c.args.number c.in-Ok.share
+          (team_returned w.crew-crew.result (team_of c.args.team.now) c.args.locals.now.slots.items w.deref-in-Team.result.now c.args.hand.now w.run_team-lanes.new.hand w.in-Team.lanes.items (place_of c.requires.logs.task) c.args.path.now c.args.number c.in-Ok.share
           w.run_team-lanes.result.items (ap (λ (v : CrewValue). v.span) w.crew-crew.ensures)
           (subst (λ (ps : List (List Item)). (at : Site) (s : State) → run_parts at (parts_in ps) s ≡ run at (team_of c.args.team.now).body s) (sym w.deref-in-Team.ensures.value) c.in-Ok-Ok.ensures.runs)
           w.run_team-lanes.ensures.closed (w.in-Team.ensures.opens c.requires.logs.task c.requires.logs.path_is c.requires.logs.size_is c.requires.logs.new).0 c.in-Ok.chunks.table here k d (subst (λ (ls : List ClosedValue). k < length ls) lanes less)).belongs
@@ -434,7 +434,7 @@ region-gather-requires-clause-split g n c κs within = λ k d less.
       | region-in-Team w ↦
           let lanes = ap (λ (v : Vec ClosedValue Global). v.items) w.lanes-is in
           subst (λ (ls : List ClosedValue). (slice_index_or ls k d).draws.view.first ≡ false) (sym lanes)
-          (team_returned w.crew-crew.result (team_of c.args.team.now) c.args.locals.now.slots.items w.deref-in-Team.result.now c.args.hand.now w.run_team-lanes.new.hand w.in-Team.members.items (place_of c.requires.logs.task) c.args.path.now c.args.number c.in-Ok.share
+          (team_returned w.crew-crew.result (team_of c.args.team.now) c.args.locals.now.slots.items w.deref-in-Team.result.now c.args.hand.now w.run_team-lanes.new.hand w.in-Team.lanes.items (place_of c.requires.logs.task) c.args.path.now c.args.number c.in-Ok.share
           w.run_team-lanes.result.items (ap (λ (v : CrewValue). v.span) w.crew-crew.ensures)
           (subst (λ (ps : List (List Item)). (at : Site) (s : State) → run_parts at (parts_in ps) s ≡ run at (team_of c.args.team.now).body s) (sym w.deref-in-Team.ensures.value) c.in-Ok-Ok.ensures.runs)
           w.run_team-lanes.ensures.closed (w.in-Team.ensures.opens c.requires.logs.task c.requires.logs.path_is c.requires.logs.size_is c.requires.logs.new).0 c.in-Ok.chunks.table here k d (subst (λ (ls : List ClosedValue). k < length ls) lanes less)).split
@@ -457,11 +457,11 @@ region-returns g n c = record {
             let lanes = ap (λ (v : Vec ClosedValue Global). v.items) b.lanes-is in
             let opened = b.in-Team.ensures.opens task at size new in
             subst (λ (h : HandValue View). RanRegion w team slots task c.args.number c.args.hand.now h before after c.gather.result) (sym b.hand-is)
-            (closed_region w b.crew-crew.result team slots task c.args.number c.in-Ok.share c.open.new.share c.gather.new.share b.deref-in-Team.result.now c.args.hand.now b.run_team-lanes.new.hand b.in-Team.members.items c.match-open.lanes.items before after c.gather.result
+            (closed_region w b.crew-crew.result team slots task c.args.number c.in-Ok.share c.open.new.share c.gather.new.share b.deref-in-Team.result.now c.args.hand.now b.run_team-lanes.new.hand b.in-Team.lanes.items c.match-open.lanes.items before after c.gather.result
             (arrays ∙ sym (ap (λ (v : CrewValue). v.arrays) b.crew-crew.ensures)) (ap (λ (v : CrewValue). v.span) b.crew-crew.ensures) lawful.span.some
             (subst (λ (ps : List (List Item)). (at : Site) (s : State) → run_parts at (parts_in ps) s ≡ run at team.body s) (sym b.deref-in-Team.ensures.value) c.in-Ok-Ok.ensures.runs)
-            (subst (λ (ls : List ClosedValue). TeamClosed b.crew-crew.result b.deref-in-Team.result.now team.end c.args.hand.now b.run_team-lanes.new.hand b.in-Team.members.items ls) (sym lanes) b.run_team-lanes.ensures.closed)
-            (subst (λ (p : List Step). AreLanes (place_of task) p c.args.number team.span slots c.in-Ok.share b.in-Team.members.items) (sym at) opened.0) (same_chunks lawful.names team slots lawful.scoped lawful.even) c.gather.ensures.gathered opened.1
+            (subst (λ (ls : List ClosedValue). TeamClosed b.crew-crew.result b.deref-in-Team.result.now team.end c.args.hand.now b.run_team-lanes.new.hand b.in-Team.lanes.items ls) (sym lanes) b.run_team-lanes.ensures.closed)
+            (subst (λ (p : List Step). AreLanes (place_of task) p c.args.number team.span slots c.in-Ok.share b.in-Team.lanes.items) (sym at) opened.0) (same_chunks lawful.names team slots lawful.scoped lawful.even) c.gather.ensures.gathered opened.1
             c.gather.ensures.share c.gather.ensures.all)
         | region-in-Torn b ↦
             let lanes = ap (λ (v : Vec ClosedValue Global). v.items) b.lanes-is in

@@ -3,7 +3,7 @@ use Rattle.region_runner.proofs.TeamLoop.{HasPassed}
 use Rattle.region_runner.proofs.region.+region.Given as goal
 
 abbrev pub invariant-run_phases-loop-phase : goal.invariant-run_phases-loop-phase
-invariant-run_phases-loop-phase g l = record { passed : HasPassed l.crew (take l.phase-index l.earlier) l.fn.hand l.hand l.fn.members l.members }
+invariant-run_phases-loop-phase g l = record { passed : HasPassed l.crew (take l.phase-index l.earlier) l.fn.hand l.hand l.fn.lanes l.lanes }
 
 abbrev pub decreases-region : goal.decreases-region
 decreases-region g l = 8 * l.depth + 7

@@ -2,7 +2,7 @@ use Rattle.std.proofs.Common.{arith}
 use Rattle.region_runner.proofs.TeamLoop.{all_more}
 use Rattle.region_runner.proofs.region.all_go.Goals as goal
 
-pub loop-member-preserved : goal.loop-member-preserved
-loop-member-preserved g c = record {
-  so_far = all_more c.args.members.now c.loop-member.member-index c.member-item.result (omega (arith, c.loop-member-test.true)) c.member-item.is c.loop-member.invariant.so_far (c.goes.ensures.goes c.if-not-goes.false);
+pub loop-lane-preserved : goal.loop-lane-preserved
+loop-lane-preserved g c = record {
+  so_far = all_more c.args.lanes.now c.loop-lane.lane-index c.lane-item.result (omega (arith, c.loop-lane-test.true)) c.lane-item.is c.loop-lane.invariant.so_far (c.goes.ensures.goes c.if-not-goes.false);
 }
