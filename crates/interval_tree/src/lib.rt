@@ -15,6 +15,3 @@ mod visit;
 pub use steps::Steps;
 pub use tree::Tree;
 pub use visit::Visit;
-
-#[cfg(test)]
-mod tests;

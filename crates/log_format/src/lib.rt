@@ -14,6 +14,3 @@ pub use coding::{decode, decode_as, encode};
 pub use format::{FORMAT, Format};
 pub use laws::{logged_once, spelled_once};
 pub use record::{Kind, RECORD_LIMIT, Record, Why};
-
-#[cfg(test)]
-mod tests;

@@ -18,6 +18,3 @@ pub use index::{read_index, read_index_as, write_index};
 pub use laws::index_without_a_bad_place_is_well_formed;
 pub use race_model::IndexWhy;
 pub use row::{IndexAnswer, Row};
-
-#[cfg(test)]
-mod tests;

@@ -10,6 +10,3 @@ mod unlisted;
 
 pub use listing::list;
 pub use unlisted::Unlisted;
-
-#[cfg(test)]
-mod tests;

@@ -8,6 +8,3 @@
 mod reader;
 
 pub use reader::LogReader;
-
-#[cfg(test)]
-mod tests;

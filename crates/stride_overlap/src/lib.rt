@@ -9,6 +9,3 @@ mod meeting;
 mod overlapping;
 
 pub use overlapping::overlap;
-
-#[cfg(test)]
-mod tests;

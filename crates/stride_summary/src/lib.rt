@@ -18,6 +18,3 @@ pub use access::Access;
 pub use key::Key;
 pub use run::Run;
 pub use summary::Summary;
-
-#[cfg(test)]
-mod tests;

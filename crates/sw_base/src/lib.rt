@@ -21,8 +21,3 @@ pub use path::{Path, Step};
 pub use reading::read_file;
 pub use trouble::{Memory, Trouble};
 pub use window::Window;
-
-#[cfg(test)]
-mod tests;
-#[cfg(test)]
-mod window_tests;

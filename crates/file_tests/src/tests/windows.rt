@@ -1,8 +1,8 @@
 //! Windows over files that are longer, missing, read in short pieces, or not read at all.
 
-use crate::{MemFolder, ShortReads, Trouble, Window};
 use std::alloc::Global;
 use std::test::Fail;
+use sw_base::{MemFolder, ShortReads, Trouble, Window};
 
 #[test]
 fn a_file_longer_than_a_window_comes_in_order(rt: HostRuntime) -> Result<(), Fail> {

@@ -3,8 +3,8 @@
 ghost use Rattle.std.specs.Prelude.{IfOk};
 ghost use Rattle.race_model.specs.IndexFault.{AreRows};
 
-use crate::{IndexAnswer, IndexWhy, Row, read_index, read_index_as, write_index};
 use log_format::FORMAT;
+use log_index::{IndexAnswer, IndexWhy, Row, read_index, read_index_as, write_index};
 use std::alloc::{AllocError, Global};
 use std::test::Fail;
 use sw_base::{INDEX_HEADER, MemFolder, ShortReads};

@@ -1,10 +1,10 @@
 ghost use Rattle.std.specs.Prelude.{◌+◌, ◌^◌, ◌≤◌};
 ghost use Rattle.log_format.specs.Table.{IsAccessSize};
 
-use crate::{Access, Run, Summary};
 use mutex_set::{Held, HeldFault};
 use std::alloc::{AllocError, Global};
 use std::test::Fail;
+use stride_summary::{Access, Run, Summary};
 use sw_base::Memory;
 
 fn holding(mutexes: &[u16]) -> Result<Held, HeldFault> {

@@ -1,7 +1,7 @@
-use crate::overlap;
 use mutex_set::Held;
 use std::alloc::{AllocError, Global};
 use std::test::Fail;
+use stride_overlap::overlap;
 use stride_summary::Run;
 
 fn run_of(base: u64, stride: u64, count: u32, size: u8) -> Option<Run> {

@@ -1,8 +1,8 @@
 //! Listings of logs in memory, whole, and broken off by each fault.
 
-use crate::{Unlisted, list};
 use log_format::{Kind, Record, encode};
 use log_index::Row;
+use log_listing::{Unlisted, list};
 use std::alloc::Global;
 use std::test::Fail;
 use sw_base::{LOG_HEADER, MemFolder, MemOut, Path, ShortReads};

@@ -1,4 +1,4 @@
-use Rattle.log_reader.proofs.tests.lines.Given as goal
+use Rattle.file_tests.proofs.tests.readers.lines.Given as goal
 
 abbrev pub decreases-records : goal.decreases-records
 decreases-records g l = l.reader.left

@@ -1,11 +1,11 @@
 //! Worked names, and each call of the versions in memory: with ample memory, and failing.
 
-use crate::{
+use std::cmp::Ordering;
+use std::test::Fail;
+use sw_base::{
     Folder, Gate, INDEX_HEADER, LOG_HEADER, Log, MemFolder, MemLog, MemOut, NoGate, Out, Path,
     Step, Trouble, index_name, read_file,
 };
-use std::cmp::Ordering;
-use std::test::Fail;
 
 #[test]
 fn a_log_is_named_after_its_steps(rt: HostRuntime) -> Result<(), Fail> {

@@ -1,4 +1,4 @@
-use crate::{FORMAT, Kind, Record, Why, decode, decode_as, encode};
+use log_format::{FORMAT, Kind, Record, Why, decode, decode_as, encode};
 
 /// The bytes of three groups of eight.
 fn joined(groups: [u64; 3]) -> [u8; 24] {

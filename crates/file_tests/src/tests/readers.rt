@@ -1,7 +1,7 @@
 //! Logs in memory: whole, read in short pieces, cut, and with bytes that spell no record.
 
-use crate::LogReader;
 use log_format::{FORMAT, Kind, Record, encode};
+use log_reader::LogReader;
 use std::alloc::Global;
 use std::test::Fail;
 use sw_base::{Folder, LOG_HEADER, MemFolder, Path, ShortReads, Trouble};

@@ -1,6 +1,6 @@
 ghost use Rattle.std.specs.Prelude.{◌≡◌, ◌+◌, ◌^◌, ◌<◌};
 
-use crate::{Steps, Tree, Visit};
+use interval_tree::{Steps, Tree, Visit};
 use mutex_set::Held;
 use std::alloc::{AllocError, Global};
 use std::marker::Brand;

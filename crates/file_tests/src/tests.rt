@@ -1,0 +1,6 @@
+mod indexes;
+mod listings;
+mod memory;
+mod readers;
+mod records;
+mod windows;

@@ -1,0 +1,3 @@
+mod overlaps;
+mod summaries;
+mod trees;
