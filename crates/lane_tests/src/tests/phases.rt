@@ -1,13 +1,10 @@
 //! The ends of phases and tasks, with what a log tells of them.
-ghost use Rattle.std.specs.Prelude.{◌≡◌, [], None, IfOk, OnOk};
+ghost use Rattle.std.specs.Prelude.{OnOk};
 ghost use Rattle.lane_runner.specs.Going.{CanGo};
-ghost use Rattle.shared_words.specs.Draws.{whole_share};
-ghost use Rattle.shared_words.specs.Handles.{hand_with};
-ghost use Rattle.shared_words.specs.Views.{newcomer};
 
 use crate::tests::support::{buffer, bytes_of, log_of};
 use kernel_model::Item;
-use kernel_syntax::Team;
+use kernel_syntax::{Array, Team};
 use lane_runner::{Frame, Halt, Locals, Stop, Track, World};
 use log_format::{Kind, Record};
 use shared_words::{Chunks, Hand, Words};
@@ -29,24 +26,14 @@ fn event(kind: Kind, line: u32) -> Record {
     }
 }
 
-// A lane that is alone in its team, with one mutex, no element and no loop: the words, the counters, and what it steps with.
-fn lone(alloc: Global) -> Result<(Words, Chunks, Track<MemLog>), Fail>
-    ensures counts { IfOk result (λ r. (r.0.elements ≡ 0) × (r.0.locks ≡ 1) × (r.1.loops ≡ 0)) }
-    ensures hand { IfOk result (λ r. r.2.hand ≡ hand_with r.0.table (newcomer [])) }
-    ensures tally { IfOk result (λ r. r.2.tally ≡ record { draws = hand_with r.1.table whole_share; next_loop = 0; forked = 0 }) }
-    ensures buffer { IfOk result (λ r. (r.2.buffer.refused ≡ None) × (r.2.buffer.count ≡ 0)) }
-{
-    let (words, hand) = Words::new(alloc, 0, 1)?;
-    let (chunks, draws) = Chunks::new(alloc, 0)?;
-    let track = Track::new(alloc, hand, buffer(alloc)?, draws);
-    Ok((words, chunks, track))
-}
-
 #[test]
 fn a_barrier_and_an_end_are_recorded(rt: HostRuntime) -> Result<(), Fail> {
     let alloc = rt.alloc();
-    let (words, chunks, mut track) = lone(alloc)?;
-    let world = World::new(&[], &words, &chunks, 0, 1);
+    let (words, hand) = Words::new(alloc, 0, 1)?;
+    let (chunks, draws) = Chunks::new(alloc, 0)?;
+    let arrays: [Array; 0] = [];
+    let world = World::new(&arrays, &words, &chunks, 0, 1);
+    let mut track = Track::new(alloc, hand, buffer(alloc)?, draws);
     let Ok(()) = track.meet(alloc, 5) else {
         panic!(rt; "no room");
     };
@@ -72,8 +59,11 @@ fn fill(alloc: Global, world: &World, track: &mut Track<MemLog>) -> Result<(), H
 #[test]
 fn a_full_log_takes_no_barrier_and_no_end(rt: HostRuntime) -> Result<(), Fail> {
     let alloc = rt.alloc();
-    let (words, chunks, mut track) = lone(alloc)?;
-    let world = World::new(&[], &words, &chunks, 0, 1);
+    let (words, hand) = Words::new(alloc, 0, 1)?;
+    let (chunks, draws) = Chunks::new(alloc, 0)?;
+    let arrays: [Array; 0] = [];
+    let world = World::new(&arrays, &words, &chunks, 0, 1);
+    let mut track = Track::new(alloc, hand, buffer(alloc)?, draws);
     let Ok(()) = fill(alloc, &world, &mut track) else {
         panic!(rt; "no room");
     };
@@ -103,8 +93,11 @@ fn stuck(
 #[test]
 fn a_value_is_set_before_the_lanes_meet(rt: HostRuntime) -> Result<(), Fail> {
     let alloc = rt.alloc();
-    let (words, chunks, track) = lone(alloc)?;
-    let world = World::new(&[], &words, &chunks, 0, 1);
+    let (words, hand) = Words::new(alloc, 0, 1)?;
+    let (chunks, draws) = Chunks::new(alloc, 0)?;
+    let arrays: [Array; 0] = [];
+    let world = World::new(&arrays, &words, &chunks, 0, 1);
+    let track = Track::new(alloc, hand, buffer(alloc)?, draws);
     let slots = vec![in alloc; 7i64, 7]?;
     let mut frame = Frame {
         locals: Locals { slots },
