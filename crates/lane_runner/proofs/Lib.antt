@@ -8,11 +8,12 @@ pub mod Drawing
 pub mod Drawn
 pub mod Elements
 pub mod Ending
+pub mod Executing
 pub mod Following
+pub mod Halting
 pub mod HandedTasks
 pub mod Handing
 pub mod LanePaths
-pub mod LastPhase
 pub mod NewLogs
 pub mod NoRegion
 pub mod Noting
@@ -26,5 +27,4 @@ pub mod Sections
 pub mod Stepping
 pub mod Teams
 pub mod Values
-pub mod WentOn
 pub mod Working

@@ -1,27 +1,29 @@
--- A lane of a team, and what it does in a phase.
-use Rattle.std.specs.Prelude.{◌≡◌, ℕ, ◌+◌, ◌<◌, ◌≤◌, List, [], ◌∷◌, ◌++◌, map, ℤ, Option, Some, None, Result, Ok, Err}
+-- A lane of a team, what it does in a phase, and its End.
+use Rattle.std.specs.Prelude.{◌≡◌, ℕ, ◌+◌, ◌<◌, ◌≤◌, List, [], ◌∷◌, ◌++◌, map, ℤ, if◌then◌else◌, Option, Some, None, Result, Ok, Err}
+use Rattle.std.specs.Ordering.{eq_by_cmp}
 use Rattle.sw_base.specs.declared.path.Step.{Step}
+use Rattle.sw_base.specs.Names.{path_cmp}
 use Rattle.log_format.specs.declared.record.Kind.TheVariants as kind
 use Rattle.kernel_model.specs.declared.phase.Item.{Item}
-use Rattle.kernel_model.specs.Effect.{Returned}
 use Rattle.kernel_model.specs.Parts.{bar_count, drawn_count, run_parts}
 use Rattle.kernel_model.specs.Phases.{part_of}
-use Rattle.kernel_model.specs.State.{State, Outcome, after, event, put}
-use Rattle.kernel_model.specs.Value.{Site}
-use Rattle.history_model.specs.Joined.{LastIsEnd}
-use Rattle.history_model.specs.Work.{work_records}
+use Rattle.kernel_model.specs.State.{event}
 use Rattle.shared_words.specs.declared.view.View.{View}
 use Rattle.shared_words.specs.Handles.{HandValue}
 use Rattle.event_buffer.specs.Buffered.{Buffered}
 use Rattle.lane_runner.specs.declared.stop.Halt.{Halt}
+use Rattle.lane_runner.specs.declared.stop.Halt.TheVariants as halt
+use Rattle.lane_runner.specs.declared.stop.Stop.{Stop}
+use Rattle.lane_runner.specs.declared.stop.Stop.TheVariants as stop
 use Rattle.lane_runner.specs.Drawing.{Tally}
 use Rattle.lane_runner.specs.Forking.{IsReady}
-use Rattle.lane_runner.specs.Going.{Progress, CanGo, MadePast, GoesPast, IsSameLog, site}
-use Rattle.lane_runner.specs.Handed.{Entry}
+use Rattle.lane_runner.specs.Going.{Progress, CanGo, GoesPast, IsSameLog, TakesOrHalts, site}
+use Rattle.lane_runner.specs.Handed.{Entry, MaybeStop}
 use Rattle.lane_runner.specs.World.{WorldValue}
 
 -- Its path, its locals, its hand, the buffer before its log, what it drew and how many regions it forked, the logs that these handed
--- on, and why it doesn't go on, if it doesn't.
+-- on, and why it doesn't go on, if it doesn't: the path of the task that stopped, its own or that of a task in the region that it
+-- forked last, and that task's stop.
 pub record LaneValue : Type 0 where
   pub path : List Step
   pub locals : List ℤ
@@ -29,7 +31,7 @@ pub record LaneValue : Type 0 where
   pub buffer : Buffered
   pub tally : Tally
   pub done : List Entry
-  pub stopped : Option Halt
+  pub stopped : MaybeStop
 
 -- what of it changes with each step
 abbrev pub progress : LaneValue → Progress
@@ -49,39 +51,66 @@ hand_view lane = lane.hand.view
 abbrev pub IsWithoutHand : LaneValue → LaneValue → Type 0
 IsWithoutHand old new = new ≡ with_hand old new.hand
 
--- what the lane's last phase answered
+-- which task stopped, and why: the lane at this path, or a task of a region that it forked
+abbrev pub stop_of : List Step → Halt → List Step × Stop
+stop_of path (halt.DivZero line) = (path, stop.DivZero line)
+stop_of path (halt.Index line) = (path, stop.Index line)
+stop_of path (halt.LogFull line) = (path, stop.LogFull line)
+stop_of path (halt.Region below why) = (below, why)
+stop_of path (halt.Tasks line) = (path, stop.Tasks line)
+stop_of path (halt.Trouble trouble) = (path, stop.Trouble trouble)
+
+-- why a lane doesn't go on that stopped so itself
+abbrev pub own_halt : Stop → Halt
+own_halt (stop.DivZero line) = halt.DivZero line
+own_halt (stop.Index line) = halt.Index line
+own_halt (stop.LogFull line) = halt.LogFull line
+own_halt (stop.Tasks line) = halt.Tasks line
+own_halt (stop.Trouble trouble) = halt.Trouble trouble
+
+-- why the lane at this path doesn't go on, if it doesn't, by which task stopped, and why
+abbrev pub halt_of : List Step → MaybeStop → Option Halt
+halt_of path None = None
+halt_of path (Some stopped) = Some (if eq_by_cmp path_cmp stopped.0 path then own_halt stopped.1 else halt.Region stopped.0 stopped.1)
+
+abbrev pub halt_in : LaneValue → Option Halt
+halt_in lane = halt_of lane.path lane.stopped
+
+-- what the execution of a part answered, where the lane doesn't go on for this reason, if it doesn't
 abbrev pub answer_of : Option Halt → Result (Unit {0}) Halt
 answer_of None = Ok tt
-answer_of (Some halt) = Err halt
+answer_of (Some why) = Err why
+
+-- what the lane notes of such an answer
+abbrev pub noted : List Step → Result (Unit {0}) Halt → MaybeStop
+noted path (Ok _) = None
+noted path (Err why) = Some (stop_of path why)
+
+-- what a call of the lane answers, by what it noted
+abbrev pub answer_for : MaybeStop → Result (Unit {0}) Stop
+answer_for None = Ok tt
+answer_for (Some stopped) = Err stopped.1
 
 -- The lane can execute the items of a phase.
 pub record CanGoOn (w : WorldValue) (items : List Item) (lane : LaneValue) : Type 0 where
   pub going : lane.stopped ≡ None
+  pub own : lane.buffer.path ≡ lane.path
   pub can : CanGo w (progress lane)
   pub free : lane.hand.view.held ≡ []
   pub counters : lane.tally.next_loop + drawn_count (map part_of items) ≤ w.chunks.loops
 
--- what a lane does in a phase: its items, and then its End, if it is the last one
-abbrev pub phase_part : List Item → Option ℕ → Site → State → Outcome (Unit {0})
-phase_part items None at s = run_parts at (map part_of items) s
-phase_part items (Some line) at s = after (run_parts at (map part_of items) s) (put (event kind.End line 0 0))
-
--- the last phase has no barrier, and the End has this line
-pub record IsLast (items : List Item) (line : ℕ) : Type 0 where
-  pub some : 1 ≤ line
-  pub none : bar_count (map part_of items) ≡ 0
-
--- The lane executed the items, and then put its End of this line.
-pub record HasEnded (w : WorldValue) (items : List Item) (line : ℕ) (slots slots' : List ℤ) (old new : Progress) : Type 0 where
-  pub made : MadePast 0 w (phase_part items (Some line) (site w)) slots slots' old new (Returned tt)
-  pub last : LastIsEnd (work_records made.work)
-
--- The lane executed the items of a phase, and put its End, if it is the last one.
-pub record WentOn (w : WorldValue) (items : List Item) (end : Option ℕ) (old new : LaneValue) : Type 0 where
+-- The lane executed the items of a phase.
+pub record Executed (w : WorldValue) (items : List Item) (old new : LaneValue) : Type 0 where
   pub path : new.path ≡ old.path
-  pub goes : GoesPast (bar_count (map part_of items)) w (phase_part items end (site w)) old.locals new.locals (progress old) (progress new) (answer_of new.stopped)
-  pub ended : (line : ℕ) → end ≡ Some line → new.stopped ≡ None → HasEnded w items line old.locals new.locals (progress old) (progress new)
+  pub goes : GoesPast (bar_count (map part_of items)) w (run_parts (site w) (map part_of items)) old.locals new.locals (progress old) (progress new) (answer_of (halt_in new))
   pub log : IsSameLog old.buffer new.buffer
   pub loops : new.stopped ≡ None → new.tally.next_loop ≡ old.tally.next_loop + drawn_count (map part_of items)
   pub ready : IsReady new.hand w.words
   pub can : new.stopped ≡ None → CanGo w (progress new)
+
+-- The lane put its End of this line, or its log had no place for it.
+pub record PutsEnd (line : ℕ) (old new : LaneValue) : Type 0 where
+  pub path : new.path ≡ old.path
+  pub locals : new.locals ≡ old.locals
+  pub takes : TakesOrHalts (event kind.End line 0 0) old.hand.view (progress old) (progress new) (answer_of (halt_in new))
+  pub log : IsSameLog old.buffer new.buffer

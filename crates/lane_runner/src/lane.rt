@@ -1,10 +1,6 @@
-//! A lane of a team, from its first phase to its last.
-ghost use Rattle.std.specs.Prelude.{◌≡◌, ◌≢◌, true, false, ◌+◌, ◌≤◌, ◌<◌, ℕ, [], map, All, None, Some, IfOk, OnOk};
-ghost use Rattle.kernel_model.specs.Parts.{bar_count, drawn_count};
-ghost use Rattle.kernel_model.specs.Phases.{part_of};
-ghost use Rattle.lane_runner.specs.Forking.{IsReady};
-ghost use Rattle.lane_runner.specs.Going.{CanGo, GoesPast, IsSameLog, site};
-ghost use Rattle.lane_runner.specs.Lane.{CanGoOn, HasEnded, IsLanePath, IsLast, WentOn, phase_part, progress, with_hand};
+//! A lane of a team, from its first phase to its End.
+ghost use Rattle.std.specs.Prelude.{◌≡◌, ◌≢◌, true, false, ◌≤◌, ◌<◌, All, None};
+ghost use Rattle.lane_runner.specs.Lane.{CanGoOn, Executed, IsLanePath, PutsEnd, answer_for, noted, progress, stop_of, with_hand};
 ghost use Rattle.lane_runner.specs.Phase.{IsPhase};
 ghost use Rattle.lane_runner.specs.Teams.{EachTeamIn, MayFork};
 
@@ -21,14 +17,15 @@ use std::marker::Model;
 use std::sync::Wait;
 use sw_base::{Log, Path};
 
-/// A lane of a team: the path of its task; what it executes with, which is its locals, its hands, the buffer before its log, and the logs
-/// that its regions handed on; and why it doesn't go on, if it doesn't. Its number in its team is below the number of lanes. The root is
-/// one, too: it executes `main` alone, and its path has no step.
+/// A lane of a team: the path of its task; its locals, its hands, the buffer before its log, and the logs that its regions handed on; and,
+/// if it doesn't go on, the path of the task that stopped, its own or one in the region that it forked last, and why. Its number in
+/// its team is below the number of lanes. The root is one, too: it executes `main` alone, and its path has no step. Which phases it executes,
+/// and whether its End is put after them, is the team's business.
 #[derive(Drop)]
 pub struct Lane<L: Log> {
     path: Path,
     frame: Frame<L>,
-    stopped: Option<Halt>,
+    stopped: Option<(Path, Stop)>,
 }
 
 impl<L: Log> Model for Lane<L> {
@@ -49,45 +46,27 @@ impl<L: Log> Model for Lane<L> {
     ghost invariant = { λ lane. IsLanePath lane.path };
 }
 
-// Executes a phase, and then puts the task's End, where a line is given for it.
-fn run_through<
-    L: Log,
-    R: Wait,
-    F: Fn(
-        &mut Hand,
-        &Locals,
-        u32,
-        Vec<L>,
-        &Team,
-        &mut Vec<(Path, L, u32)>,
-    ) -> Result<(), (Path, Stop)>,
->(
-    frame: &mut Frame<L>,
-    phase: &Phase,
-    end: Option<u32>,
-    rt: &R,
-    alloc: Global,
-    world: &World,
-    region: &F,
-) -> Result<(), Halt>
-    requires can { CanGo world.now frame.old.track }
-    requires free { frame.old.track.hand.view.held ≡ [] }
-    requires phase { IsPhase world.now.words.locks phase.now }
-    requires last { (line : ℕ) → end ≡ Some line → IsLast phase.now line }
-    requires counters { frame.old.track.tally.next_loop + drawn_count (map part_of phase.now) ≤ world.now.chunks.loops }
-    requires number { world.now.chunks.loops < 4294967296 }
-    requires runs { All (EachTeamIn (MayFork world.now (F.pre region.now) (F.post region.now) (record { dir = L.dir; path = L.path; text = L.text; faults = L.faults }) frame.old.track.buffer)) phase.now }
-    ensures goes { GoesPast (bar_count (map part_of phase.now)) world.now (phase_part phase.now end (site world.now)) frame.old.locals.slots.items frame.new.locals.slots.items frame.old.track frame.new.track result }
-    ensures ended { (line : ℕ) → end ≡ Some line → OnOk result (HasEnded world.now phase.now line frame.old.locals.slots.items frame.new.locals.slots.items frame.old.track frame.new.track) }
-    ensures log { IsSameLog frame.old.track.buffer frame.new.track.buffer }
-    ensures loops { IfOk result (λ _. frame.new.track.tally.next_loop ≡ frame.old.track.tally.next_loop + drawn_count (map part_of phase.now)) }
-    ensures ready { IsReady frame.new.track.hand world.now.words }
-    ensures can { OnOk result (CanGo world.now frame.new.track) }
+// Which task stopped, and why: the lane at this path, or a task of a region that it forked.
+fn stop_of(path: &Path, halt: Halt) -> (Path, Stop)
+    ensures { result ≡ stop_of path.now halt }
 {
-    frame.run_phase(phase, rt, alloc, world, region)?;
-    match end {
-        Some(line) => frame.track.finish(alloc, line),
-        None => Ok(()),
+    match halt {
+        Halt::DivZero { line } => (path.copy(), Stop::DivZero { line }),
+        Halt::Index { line } => (path.copy(), Stop::Index { line }),
+        Halt::LogFull { line } => (path.copy(), Stop::LogFull { line }),
+        Halt::Region(below, why) => (below, why),
+        Halt::Tasks { line } => (path.copy(), Stop::Tasks { line }),
+        Halt::Trouble(trouble) => (path.copy(), Stop::Trouble(trouble)),
+    }
+}
+
+// What the lane at this path notes of an answer.
+fn noted(path: &Path, answer: Result<(), Halt>) -> Option<(Path, Stop)>
+    ensures { result ≡ noted path.now answer }
+{
+    match answer {
+        Ok(()) => None,
+        Err(halt) => Some(stop_of(path, halt)),
     }
 }
 
@@ -128,8 +107,8 @@ impl<L: Log> Lane<L> {
         self.stopped.is_none()
     }
 
-    /// The path of its task, what it steps with, and why it doesn't go on.
-    pub fn into_parts(self) -> (Path, Track<L>, Option<Halt>)
+    /// The path of its task, what it steps with, and which task stopped, its own or one below, and why, if it doesn't go on.
+    pub fn into_parts(self) -> (Path, Track<L>, Option<(Path, Stop)>)
         ensures path { result.0 ≡ self.path }
         ensures track { result.1 ≡ progress self }
         ensures stopped { result.2 ≡ self.stopped }
@@ -151,7 +130,19 @@ impl<L: Log> Lane<L> {
         self.frame.track.trade(hand)
     }
 
-    /// Executes a phase, puts the task's End, where a line is given for it, and notes why the lane doesn't go on, if it doesn't.
+    // Notes why the lane doesn't go on, if it doesn't.
+    fn note(&mut self, answer: Result<(), Halt>) -> Result<(), Stop>
+        ensures notes { self.new ≡ record self.old { stopped = noted self.old.path answer } }
+        ensures tells { result ≡ answer_for self.new.stopped }
+    {
+        self.stopped = noted(&self.path, answer);
+        match &self.stopped {
+            None => Ok(()),
+            Some((_, why)) => Err(*why),
+        }
+    }
+
+    /// Executes the items of a phase. An `Err` says why the lane doesn't go on.
     pub fn run_phase<
         R: Wait,
         F: Fn(
@@ -162,16 +153,35 @@ impl<L: Log> Lane<L> {
             &Team,
             &mut Vec<(Path, L, u32)>,
         ) -> Result<(), (Path, Stop)>,
-    >(&mut self, phase: &Phase, end: Option<u32>, rt: &R, alloc: Global, world: &World, region: &F)
+    >(
+        &mut self,
+        phase: &Phase,
+        rt: &R,
+        alloc: Global,
+        world: &World,
+        region: &F,
+    ) -> Result<(), Stop>
         requires can { CanGoOn world.now phase.now self.old }
         requires phase { IsPhase world.now.words.locks phase.now }
-        requires last { (line : ℕ) → end ≡ Some line → IsLast phase.now line }
         requires number { world.now.chunks.loops < 4294967296 }
         requires runs { All (EachTeamIn (MayFork world.now (F.pre region.now) (F.post region.now) (record { dir = L.dir; path = L.path; text = L.text; faults = L.faults }) self.old.buffer)) phase.now }
-        ensures went { WentOn world.now phase.now end self.old self.new }
+        ensures executed { Executed world.now phase.now self.old self.new }
+        ensures tells { result ≡ answer_for self.new.stopped }
     {
-        if let Err(halt) = run_through(&mut self.frame, phase, end, rt, alloc, world, region) {
-            self.stopped = Some(halt);
-        }
+        let answer = self.frame.run_phase(phase, rt, alloc, world, region);
+        self.note(answer)
+    }
+
+    /// Puts the End of its task, of this line. An `Err` says why there is none.
+    pub fn finish(&mut self, alloc: Global, line: u32) -> Result<(), Stop>
+        requires goes { self.old.stopped ≡ None }
+        requires there { self.old.hand.there ≡ true }
+        requires unrefused { self.old.buffer.refused ≡ None }
+        requires line { 1 ≤ line }
+        ensures puts { PutsEnd line self.old self.new }
+        ensures tells { result ≡ answer_for self.new.stopped }
+    {
+        let answer = self.frame.track.finish(alloc, line);
+        self.note(answer)
     }
 }

@@ -2,7 +2,8 @@
 //!
 //! It evaluates expressions with their loads; it executes assignments, stores, tests, loops, critical sections, worksharing loops of every
 //! schedule, and regions, which a function of the caller's runs, with new logs for their lanes; and it puts the records of a team's
-//! barriers and of a task's end. A `Lane` has the path of its task and notes why it stops; a `Frame` is what it executes with.
+//! barriers. A `Lane` has the path of its task, executes the items of one phase at a call, and notes which task stopped, its own or one
+//! below it, and why; its task's End is put by a call of its own, for which the team asks. A `Frame` is what it executes with.
 //!
 //! Before each record the buffer makes room, then the step on the shared words is taken, and then the record is put: no step is
 //! taken that has no place in the log. Each call says by one witness, a tree of work, what it did: its records are those that the
