@@ -21,9 +21,9 @@ use Rattle.lane_runner.specs.declared.stop.Stop.TheVariants as stop
 use Rattle.lane_runner.specs.Handed.{Entry, LogPlace, MaybeStop, IsForMemory, IsTrouble, MayLack, Keeps, IsEntryOf, TaskHands, RegionsHand, HasCrowdedTask, TellStop}
 use Rattle.lane_runner.proofs.HandedTasks.{regions_under}
 use Rattle.lane_runner.proofs.Handing.{regions_weaker, tell_later}
+use Rattle.lane_runner.specs.Lane.{stop_of}
 use Rattle.region_runner.specs.Closing.{HasTaken}
 use Rattle.region_runner.specs.Gathering.{ClosedValue, LaneGave, WantsMemory, closed_stop, lane_stop, region_stop}
-use Rattle.region_runner.specs.Stopping.{stop_of}
 use Rattle.region_runner.specs.Team.{handed_by}
 use Rattle.region_runner.proofs.MissingLogs.{hands_missing}
 

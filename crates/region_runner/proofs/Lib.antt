@@ -26,9 +26,11 @@ pub mod ClosedLogs
 pub mod Forks
 pub mod Standing
 pub mod TeamSteps
+pub mod LastPhase
 pub mod PhaseHands
 pub mod TeamLoop
 pub mod RanRegions
+pub mod NotedStops
 pub mod OpenedLogs
 pub mod GivenLogs
 pub mod MissingLogs

@@ -12,6 +12,7 @@ use Rattle.lane_runner.specs.declared.stop.Halt.{Halt}
 use Rattle.lane_runner.specs.Handed.{Entry, HandsOn, LogPlace}
 use Rattle.lane_runner.specs.Drawing.{Tally}
 use Rattle.lane_runner.proofs.Handing.{hand_none}
+use Rattle.lane_runner.proofs.Halting.{halt_none}
 use Rattle.region_runner.specs.Begins.{LaneBegins}
 use Rattle.region_runner.specs.Closing.{HasTaken}
 use Rattle.region_runner.specs.Gathering.{ClosedValue, region_stop}
@@ -45,7 +46,7 @@ module _ (place : LogPlace) (path : List Step) (slots : List ℤ) (draws : HandV
   }
     where
       none : c.halt ≡ None
-      none = closes.4 ∙ begins.going
+      none = closes.4 ∙ halt_none m begins.going
 
       no_halt : {h : Halt} → None ≡ Some h → ⊥
       no_halt e = cc

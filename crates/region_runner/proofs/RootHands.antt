@@ -14,9 +14,9 @@ use Rattle.lane_runner.specs.declared.stop.Stop.TheVariants as stop
 use Rattle.lane_runner.specs.Forking.{Answer}
 use Rattle.lane_runner.specs.Handed.{Entry, IsForMemory, LogPlace, MaybeStop, MayLack, RegionsHand, TaskHands, TellStop}
 use Rattle.lane_runner.proofs.Handing.{tell_none}
+use Rattle.lane_runner.specs.Lane.{stop_of}
 use Rattle.region_runner.specs.Gathering.{ClosedValue, IsVerdict, WantsMemory, answer_for, closed_stop, kept_by, lane_stop, region_stop}
 use Rattle.region_runner.specs.Root.{IsSettled, RanRoot, RootGave, RootRests, SettledRoot, StopsRoot}
-use Rattle.region_runner.specs.Stopping.{stop_of}
 use Rattle.region_runner.specs.declared.gathering.Verdict.{Verdict}
 use Rattle.region_runner.specs.declared.gathering.Verdict.TheVariants as verdict
 use Rattle.region_runner.proofs.LaneStops.{StoppedAs, lane_given, lane_missing, lane_tells, own_trouble, refused_failed, region_found, region_is, stopped_as, tells_none}

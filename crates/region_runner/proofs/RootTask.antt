@@ -22,16 +22,18 @@ use Rattle.lane_runner.specs.Going.{site}
 use Rattle.lane_runner.specs.Handed.{AreFew, Entry, LogPlace}
 use Rattle.lane_runner.specs.World.{element_word}
 use Rattle.lane_runner.proofs.Working.{hand_still, worked_none}
+use Rattle.region_runner.specs.LastPhase.{IsLast}
 use Rattle.region_runner.specs.Begins.{LaneBegins}
 use Rattle.region_runner.specs.Closing.{IsClosedAs}
 use Rattle.region_runner.specs.Crew.{CrewValue, world_of}
 use Rattle.region_runner.specs.Gathering.{ClosedValue, LaneGave}
-use Rattle.lane_runner.specs.Lane.{IsLast, LaneValue, answer_of, progress}
+use Rattle.lane_runner.proofs.Halting.{stopped_none}
+use Rattle.lane_runner.specs.Lane.{LaneValue, answer_of, halt_in, progress, stop_of}
 use Rattle.region_runner.specs.Opening.{GaveNothing}
 use Rattle.region_runner.specs.Ran.{TaskGoes, task_part}
 use Rattle.region_runner.specs.Root.{RootClosed, RootGave, StopsRoot}
 use Rattle.region_runner.specs.Stands.{IsFresh}
-use Rattle.region_runner.specs.Stopping.{StopsTask, stop_of}
+use Rattle.region_runner.specs.Stopping.{StopsTask}
 use Rattle.region_runner.specs.Team.{DidWork}
 use Rattle.region_runner.proofs.GivenLogs.{lane_gave}
 use Rattle.region_runner.proofs.RegionLanes.{BeginsLane, task_begins}
@@ -68,7 +70,7 @@ module _ (program : Program) (place : LogPlace) (crew : CrewValue) (items : List
   goes : Goes c.halt
   goes =
       subst (λ (h : Option Halt). Goes h) (sym closed.closes.4)
-      (subst (λ (ss : List ℤ). TaskGoes (world_of crew 0) part ss after.locals (progress root) (progress after) (steps.work ∷ []) (answer_of after.stopped)) begins.locals_are steps.goes)
+      (subst (λ (ss : List ℤ). TaskGoes (world_of crew 0) part ss after.locals (progress root) (progress after) (steps.work ∷ []) (answer_of (halt_in after))) begins.locals_are steps.goes)
 
   path_is : c.path ≡ []
   path_is = closed.closes.0 ∙ closed.went.path ∙ begins.path_is
@@ -100,7 +102,7 @@ module _ (program : Program) (place : LogPlace) (crew : CrewValue) (items : List
     runs = λ fit.
         runs_goes program (lane_begin fork 0) (world_of crew 0) (sym arrays) part first.rest first.grows (first.is program (sym arrays)) after.locals (progress root) (progress after) begins.none_put (steps.work ∷ [])
         (fits_both steps.work Rest fit tt) (answer_of c.halt) goes;
-    ends = λ none unrefused. steps.ends program.main.end refl (sym closed.closes.4 ∙ none);
+    ends = λ none unrefused. steps.ends program.main.end refl (stopped_none after (sym closed.closes.4 ∙ none));
     halts = halts;
     few = λ none unrefused. few c.halt none goes;
   }

@@ -20,8 +20,9 @@ use Rattle.execution_model.specs.Runs.{lane_begin, works_log}
 use Rattle.std.proofs.lemmas.Option.{same_Some}
 use Rattle.lane_runner.specs.Stopping.{GoesFurther, IsLeastLane, IsNoTrouble, StopsRegion}
 use Rattle.lane_runner.proofs.Handing.{tell_none}
+use Rattle.lane_runner.specs.Lane.{stop_of}
 use Rattle.region_runner.specs.Gathering.{ClosedValue, GoesBefore, LaneGave, HasMemory, IsAnswer, closed_stop, kept_by, lane_stop, region_stop}
-use Rattle.region_runner.specs.Stopping.{StopsTask, stop_of}
+use Rattle.region_runner.specs.Stopping.{StopsTask}
 use Rattle.region_runner.specs.Team.{handed_by}
 use Rattle.region_runner.proofs.RegionStops.{region_stops}
 use Rattle.region_runner.proofs.RegionHands.{region_hands, lanes_apart, lacks_for_another}

@@ -30,8 +30,10 @@ use Rattle.lane_runner.proofs.Ending.{ended_none}
 use Rattle.lane_runner.proofs.Handing.{work_hands_none}
 use Rattle.lane_runner.proofs.Releasing.{released_none}
 use Rattle.lane_runner.proofs.Phases.{run_parts_both}
+use Rattle.lane_runner.proofs.Halting.{halt_none, stopped_none}
+use Rattle.region_runner.specs.LastPhase.{IsLast, WentOn, phase_part}
 use Rattle.region_runner.specs.Crew.{CrewValue, world_of}
-use Rattle.lane_runner.specs.Lane.{IsLast, LaneValue, WentOn, answer_of, phase_part, progress, with_hand}
+use Rattle.lane_runner.specs.Lane.{LaneValue, answer_of, halt_in, progress, with_hand}
 use Rattle.region_runner.specs.Ran.{TakesUp, TaskGoes, TaskRan, task_part}
 use Rattle.region_runner.specs.Stands.{LaneStands}
 use Rattle.region_runner.specs.Team.{DidWork}
@@ -108,10 +110,10 @@ bars_after = count_after is_bar
 pub record StepsOn (crew : CrewValue) (items : List Item) (end : Option ℕ) (lane : ℕ) (start : LaneValue) (done : List (List Item)) (phases : Phases) (hand : HandValue View) (mid : LaneValue) : Type 0 where
   pub work : Work
   pub did : DidWork crew.arrays hand mid.hand work
-  pub goes : TaskGoes (world_of crew lane) (task_part (site (world_of crew lane)) (done ++ items ∷ []) end) start.locals mid.locals (progress start) (progress mid) (lane_works lane phases ++ work ∷ []) (answer_of mid.stopped)
+  pub goes : TaskGoes (world_of crew lane) (task_part (site (world_of crew lane)) (done ++ items ∷ []) end) start.locals mid.locals (progress start) (progress mid) (lane_works lane phases ++ work ∷ []) (answer_of (halt_in mid))
   pub passes : mid.stopped ≡ None → barrier_count (work_records work) ≡ bar_count (map part_of items)
   pub ends : (line : ℕ) → end ≡ Some line → mid.stopped ≡ None → LastIsEnd (work_records work)
-  pub short : (h : Halt) → mid.stopped ≡ Some h → barrier_count (work_records work) ≡ 0
+  pub short : (h : Halt) → halt_in mid ≡ Some h → barrier_count (work_records work) ≡ 0
 
 module _ (crew : CrewValue) (items : List Item) (lane : ℕ) (start prev mid : LaneValue) (done : List (List Item)) (phases : Phases) (hand : HandValue View)
     (stands : LaneStands crew start done None phases lane prev) (going : prev.stopped ≡ None) (free : hand.view.held ≡ []) where
@@ -128,7 +130,7 @@ module _ (crew : CrewValue) (items : List Item) (lane : ℕ) (start prev mid : L
   Stood end work r = TaskGoes (world_of crew lane) (task_part at (done ++ items ∷ []) end) start.locals mid.locals (progress start) (progress mid) (lane_works lane phases ++ work ∷ []) r
 
   ran : TaskRan (world_of crew lane) (task_part at done None) start.locals prev.locals (progress start) stands.last (lane_works lane phases) (Returned tt)
-  ran = subst (λ (h : Option Halt). TaskGoes (world_of crew lane) (task_part at done None) start.locals prev.locals (progress start) stands.last (lane_works lane phases) (answer_of h)) going stands.goes
+  ran = subst (λ (h : Option Halt). TaskGoes (world_of crew lane) (task_part at done None) start.locals prev.locals (progress start) stands.last (lane_works lane phases) (answer_of h)) (halt_none prev going) stands.goes
 
   up : TakesUp stands.last (progress (with_hand prev hand))
   up = record { buffer = stands.up.buffer; tally = stands.up.tally; done = stands.up.done }
@@ -143,14 +145,14 @@ module _ (crew : CrewValue) (items : List Item) (lane : ℕ) (start prev mid : L
   did bars end r m = phase_did_work (world_of crew lane) (phase_part items end at) prev.locals mid.locals (progress (with_hand prev hand)) (progress mid) free bars r m
 
   -- by why it doesn't go on, and whether the phase is the last
-  by_halt : (h : Option Halt) → mid.stopped ≡ h → (end : Option ℕ) → WentOn (world_of crew lane) items end (with_hand prev hand) mid → ((line : ℕ) → end ≡ Some line → IsLast items line) → StepsOn crew items end lane start done phases hand mid
+  by_halt : (h : Option Halt) → halt_in mid ≡ h → (end : Option ℕ) → WentOn (world_of crew lane) items end (with_hand prev hand) mid → ((line : ℕ) → end ≡ Some line → IsLast items line) → StepsOn crew items end lane start done phases hand mid
   by_halt (Some why) is end went last = record {
-    work = work_in (bar_count (map part_of items)) end (answer_of mid.stopped) went.goes;
-    did = did (bar_count (map part_of items)) end (answer_of mid.stopped) went.goes;
-    goes = step (bar_count (map part_of items)) end (answer_of mid.stopped) went.goes;
-    passes = λ none. absurd (not_both (sym is ∙ none));
-    ends = λ line is_line none. absurd (not_both (sym is ∙ none));
-    short = λ h h_is. short_of mid.stopped is went.goes;
+    work = work_in (bar_count (map part_of items)) end (answer_of (halt_in mid)) went.goes;
+    did = did (bar_count (map part_of items)) end (answer_of (halt_in mid)) went.goes;
+    goes = step (bar_count (map part_of items)) end (answer_of (halt_in mid)) went.goes;
+    passes = λ none. absurd (not_both (sym is ∙ halt_none mid none));
+    ends = λ line is_line none. absurd (not_both (sym is ∙ halt_none mid none));
+    short = λ h h_is. short_of (halt_in mid) is went.goes;
   }
     where
       not_both : Some why ≡ None → ⊥
@@ -177,7 +179,7 @@ module _ (crew : CrewValue) (items : List Item) (lane : ℕ) (start prev mid : L
       no_end : {line : ℕ} → None ≡ Some line → ⊥
       no_end e = cc
   by_halt None is (Some line) went last =
-      let ended = went.ended line refl is in
+      let ended = went.ended line refl (stopped_none mid is) in
       record {
         work = ended.made.work;
         did = did 0 (Some line) (Ok tt) ended.made;
@@ -191,4 +193,4 @@ module _ (crew : CrewValue) (items : List Item) (lane : ℕ) (start prev mid : L
       no_halt e = cc
 
   pub lane_steps : (end : Option ℕ) → WentOn (world_of crew lane) items end (with_hand prev hand) mid → ((line : ℕ) → end ≡ Some line → IsLast items line) → StepsOn crew items end lane start done phases hand mid
-  lane_steps end went last = by_halt mid.stopped refl end went last
+  lane_steps end went last = by_halt (halt_in mid) refl end went last

@@ -22,8 +22,9 @@ use Rattle.lane_runner.specs.Stopping.{HaveEnded, IsLeastInLane, LastIsRegionAt,
 use Rattle.lane_runner.specs.Stopping.{RestsBelow, below as further}
 use Rattle.lane_runner.specs.Stopping.{IsLeastBelow, below as lower}
 use Rattle.lane_runner.specs.World.{WorldValue}
+use Rattle.lane_runner.specs.Lane.{stop_of}
 use Rattle.region_runner.specs.Ran.{in_one, TaskRan, TaskBegan, TaskGoes}
-use Rattle.region_runner.specs.Stopping.{IsAtOrBelow, IsLeastUnder, RestsUnder, StopsTask, stop_of}
+use Rattle.region_runner.specs.Stopping.{IsAtOrBelow, IsLeastUnder, RestsUnder, StopsTask}
 use Rattle.region_runner.proofs.RegionLanes.{BeginsLane}
 use Rattle.region_runner.proofs.Stops.{get_at, task_stops}
 use Rattle.region_runner.proofs.Traced.{one_log, one_regions, stopped_trace, traces_begun}

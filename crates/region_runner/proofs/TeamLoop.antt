@@ -18,9 +18,11 @@ use Rattle.history_model.specs.Sound.{PassAllBarriers}
 use Rattle.lane_runner.specs.Going.{site}
 use Rattle.lane_runner.proofs.Bodies.{log_still}
 use Rattle.lane_runner.proofs.Phases.{no_bars}
+use Rattle.lane_runner.proofs.Halting.{halt_none}
+use Rattle.region_runner.specs.LastPhase.{IsLast}
 use Rattle.region_runner.specs.Crew.{CrewValue, world_of}
 use Rattle.region_runner.specs.Ground.{GroundValue, IsOurLane}
-use Rattle.lane_runner.specs.Lane.{IsLast, LaneValue, answer_of, progress}
+use Rattle.lane_runner.specs.Lane.{LaneValue, answer_of, progress}
 use Rattle.region_runner.specs.Ran.{TaskGoes, task_part}
 use Rattle.region_runner.specs.Stands.{AllGo, HasLastBar, IsFresh, LaneStands, MayGoOn, TeamRan, TeamStands}
 use Rattle.lane_runner.specs.declared.stop.Halt.{Halt}
@@ -43,14 +45,14 @@ stands_first crew lane m f = record {
   last = progress m;
   up = record { buffer = refl; tally = refl; done = refl };
   goes =
-      subst (λ (h : Option Halt). TaskGoes (world_of crew lane) (task_part (site (world_of crew lane)) [] None) m.locals m.locals (progress m) (progress m) [] (answer_of h)) (sym f.going)
+      subst (λ (h : Option Halt). TaskGoes (world_of crew lane) (task_part (site (world_of crew lane)) [] None) m.locals m.locals (progress m) (progress m) [] (answer_of h)) (sym (halt_none m f.going))
       (ran_none (world_of crew lane) (site (world_of crew lane)) m.locals (progress m) f.may.unrefused);
   log = log_still m.buffer;
   loops = λ goes. omega arith;
   may = λ goes. f.may;
   passes = λ goes. refl;
   ends = λ line none goes. absurd (no_line none);
-  behind = λ h is. absurd (no_halt (sym f.going ∙ is));
+  behind = λ h is. absurd (no_halt (sym (halt_none m f.going) ∙ is));
 }
   where
     no_line : {line : ℕ} → None ≡ Some line → ⊥

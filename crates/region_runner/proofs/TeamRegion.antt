@@ -33,11 +33,12 @@ use Rattle.region_runner.specs.Closing.{IsClosedAs}
 use Rattle.region_runner.specs.Crew.{CrewValue, world_of}
 use Rattle.region_runner.specs.Drawing.{drawn_by, regained_all}
 use Rattle.region_runner.specs.Gathering.{ClosedValue, Gathered, LaneGave, draws_view}
-use Rattle.lane_runner.specs.Lane.{LaneValue, answer_of, progress}
+use Rattle.lane_runner.proofs.Halting.{stopped_none}
+use Rattle.lane_runner.specs.Lane.{LaneValue, answer_of, halt_in, progress, stop_of}
 use Rattle.region_runner.specs.Opening.{AreLanes, ClosesAs, lent_hand, lent_to}
 use Rattle.region_runner.specs.Ran.{TaskGoes, task_part}
 use Rattle.region_runner.specs.Stands.{TeamClosed, TeamRan}
-use Rattle.region_runner.specs.Stopping.{StopsTask, stop_of}
+use Rattle.region_runner.specs.Stopping.{StopsTask}
 use Rattle.region_runner.specs.Team.{DidPhases}
 use Rattle.region_runner.proofs.GivenLogs.{lane_gave}
 use Rattle.region_runner.proofs.RanRegions.{lane_goes, ran_draws, ran_lanes, ran_stops, ran_further}
@@ -81,10 +82,10 @@ module _ (w : WorldValue) (crew : CrewValue) (team : TeamTree) (slots : List ℤ
   begins k x less = begin.each k x (subst (λ (n : ℕ). k < n) span_is less)
 
   goes : (k : ℕ) (less : k < crew.span)
-      → TaskGoes (world_of crew k) (task_part (site (world_of crew k)) ran.done ran.end) slots (now k).locals (progress (start k)) (ran.stands.lanes k d less).last (lane_works k ran.phases) (answer_of (now k).stopped)
+      → TaskGoes (world_of crew k) (task_part (site (world_of crew k)) ran.done ran.end) slots (now k).locals (progress (start k)) (ran.stands.lanes k d less).last (lane_works k ran.phases) (answer_of (halt_in (now k)))
   goes = lane_goes crew team slots items old new before after (place_of task) at number (λ k. lent_hand share) span_is runs ran begins (λ k less. refl) d
 
-  halt_same : (k : ℕ) → k < crew.span → (closed k).halt ≡ (now k).stopped
+  halt_same : (k : ℕ) → k < crew.span → (closed k).halt ≡ halt_in (now k)
   halt_same k less = (closes k d e less).4
 
   start_path : (k : ℕ) (less : k < crew.span) → (now k).path ≡ lane_of at number k team.span
@@ -115,7 +116,7 @@ module _ (w : WorldValue) (crew : CrewValue) (team : TeamTree) (slots : List ℤ
 
   further : (j k : ℕ) → j < team.span → k < team.span → (closed j).halt ≡ None → (h : Halt) → (closed k).halt ≡ Some h → GoesFurther (works_log (lane_works j ran.phases)) (works_log (lane_works k ran.phases))
   further j k less within_k none h is =
-      ran_further crew team slots items old new before after (place_of task) at number (λ k. lent_hand share) span_is runs ran begins (λ k less. refl) d j k (within j less) (within k within_k) (sym (halt_same j (within j less)) ∙ none) h
+      ran_further crew team slots items old new before after (place_of task) at number (λ k. lent_hand share) span_is runs ran begins (λ k less. refl) d j k (within j less) (within k within_k) (stopped_none (now j) (sym (halt_same j (within j less)) ∙ none)) h
       (sym (halt_same k (within k within_k)) ∙ is)
 
   ended : ((k : ℕ) → k < team.span → ((closed k).halt ≡ None) × ((closed k).refused ≡ None)) → PhasesEnd ran.phases
@@ -123,7 +124,7 @@ module _ (w : WorldValue) (crew : CrewValue) (team : TeamTree) (slots : List ℤ
       ran.ends
       (λ k x inside.
       let less : k < crew.span = let n = ran.stands.count in omega (arith, inside, n) in
-      sym (closes k x e less).4 ∙ (all k (subst (λ (n : ℕ). k < n) span_is less)).0)
+      stopped_none (slice_index_or after k x) (sym (closes k x e less).4 ∙ (all k (subst (λ (n : ℕ). k < n) span_is less)).0))
 
   pub team_region : RanRegion w team slots task number old new given handed r
   team_region =

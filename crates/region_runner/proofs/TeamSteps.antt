@@ -18,9 +18,10 @@ use Rattle.history_model.proofs.EndedLanes.{ends_behind}
 use Rattle.history_model.proofs.MetBarriers.{barriers_both}
 use Rattle.lane_runner.specs.Going.{IsSameLog, site}
 use Rattle.lane_runner.proofs.Bodies.{log_later}
+use Rattle.region_runner.specs.LastPhase.{IsLast, WentOn}
 use Rattle.region_runner.specs.Crew.{CrewValue, world_of}
 use Rattle.region_runner.specs.Hands.{joined_with, lane_hand, parted_for}
-use Rattle.lane_runner.specs.Lane.{IsLast, LaneValue, WentOn, answer_of, hand_view, progress, with_hand}
+use Rattle.lane_runner.specs.Lane.{LaneValue, answer_of, halt_in, hand_view, progress, with_hand}
 use Rattle.region_runner.specs.Ran.{TaskGoes, task_part}
 use Rattle.region_runner.specs.Stands.{AllGo, LaneStands, MayStep, RanPhase, TeamStands, put_in}
 use Rattle.region_runner.specs.Team.{DidPhases, DidWork, team_of_works}
@@ -88,8 +89,8 @@ module _ (crew : CrewValue) (items : List Item) (end : Option ℕ) (old home new
       (λ k less. let s = works.each k less in subst (λ (work : Work). DidWork crew.arrays (lane_hand home k) (slice_index_or ran.mid k d).hand work) s.1 s.0.did)
       (ran.hand ∙ ap (λ (vs : List View). with_view home (joined_with vs (parted_for 0 crew.span crew.span home.view))) views)
 
-  halt_same : (k : ℕ) → k < crew.span → (slice_index_or after k d).stopped ≡ (slice_index_or ran.mid k d).stopped
-  halt_same k less = ap (λ (m : LaneValue). m.stopped) (ran.same k d (in_prev k less))
+  stopped_same : (k : ℕ) → k < crew.span → (slice_index_or after k d).stopped ≡ (slice_index_or ran.mid k d).stopped
+  stopped_same k less = ap (λ (m : LaneValue). m.stopped) (ran.same k d (in_prev k less))
 
   abbrev start : ℕ → LaneValue
   start k = slice_index_or before k d
@@ -113,8 +114,8 @@ module _ (crew : CrewValue) (items : List Item) (end : Option ℕ) (old home new
       done = ap (λ (m : LaneValue). m.done) (same k less);
     };
     goes =
-        subst (λ (m : LaneValue). TaskGoes (world_of crew k) (task_part (site (world_of crew k)) (done ++ items ∷ []) end) (start k).locals m.locals (progress (start k)) (progress (mid k)) (lane_works k (then_phases phases later)) (answer_of m.stopped)) (sym (same k less))
-        (subst (λ (ws : List Work). TaskGoes (world_of crew k) (task_part (site (world_of crew k)) (done ++ items ∷ []) end) (start k).locals (mid k).locals (progress (start k)) (progress (mid k)) ws (answer_of (mid k).stopped))
+        subst (λ (m : LaneValue). TaskGoes (world_of crew k) (task_part (site (world_of crew k)) (done ++ items ∷ []) end) (start k).locals m.locals (progress (start k)) (progress (mid k)) (lane_works k (then_phases phases later)) (answer_of (halt_in m))) (sym (same k less))
+        (subst (λ (ws : List Work). TaskGoes (world_of crew k) (task_part (site (world_of crew k)) (done ++ items ∷ []) end) (start k).locals (mid k).locals (progress (start k)) (progress (mid k)) ws (answer_of (halt_in (mid k))))
         (ap (λ (work : Work). lane_works k phases ++ work ∷ []) (works.each k less).1 ∙ sym (lane_works_more crew.span k phases works.work less))
         (works.each k less).0.goes);
     log =
@@ -136,18 +137,18 @@ module _ (crew : CrewValue) (items : List Item) (end : Option ℕ) (old home new
         });
     passes = λ goes.
         let first = (stands.lanes k d less).passes (going k d (in_prev k less)) in
-        let mine = step_of.passes (sym (halt_same k less) ∙ goes) in
+        let mine = step_of.passes (sym (stopped_same k less) ∙ goes) in
         let all = ap (λ (rs : List Record). barrier_count rs) put_more ∙ barriers_both (put_in k phases) (work_records step_of.work) in
         let bars = bars_after done items in
         omega (arith, first, mine, all, bars);
-    ends = λ line is_line goes. subst (λ (rs : List Record). LastIsEnd rs) (sym put_more) (ends_behind (put_in k phases) (work_records step_of.work) (step_of.ends line is_line (sym (halt_same k less) ∙ goes)));
+    ends = λ line is_line goes. subst (λ (rs : List Record). LastIsEnd rs) (sym put_more) (ends_behind (put_in k phases) (work_records step_of.work) (step_of.ends line is_line (sym (stopped_same k less) ∙ goes)));
     behind = λ h is. record {
       earlier = done;
       last = items;
       parts = refl;
       count =
           let first = (stands.lanes k d less).passes (going k d (in_prev k less)) in
-          let mine = step_of.short h (sym (halt_same k less) ∙ is) in
+          let mine = step_of.short h (sym (ap halt_in (same k less)) ∙ is) in
           let all = ap (λ (rs : List Record). barrier_count rs) put_more ∙ barriers_both (put_in k phases) (work_records step_of.work) in
           omega (arith, first, mine, all);
     };
@@ -176,9 +177,9 @@ module _ (crew : CrewValue) (items : List Item) (end : Option ℕ) (old home new
     passes = λ all one.
         passes_more phases (team_of_works 0 crew.span works.work) pass
         (team_passes crew.span works.work
-        (λ k less. let s = works.each k less in ap (λ (work : Work). barrier_count (work_records work)) (sym s.1) ∙ s.0.passes (sym (halt_same k less) ∙ all k d (in_after k less)) ∙ one));
+        (λ k less. let s = works.each k less in ap (λ (work : Work). barrier_count (work_records work)) (sym s.1) ∙ s.0.passes (sym (stopped_same k less) ∙ all k d (in_after k less)) ∙ one));
     ends = λ line is all.
         phases_end phases (team_of_works 0 crew.span works.work)
         (team_ends crew.span works.work
-        (λ k less. let s = works.each k less in subst (λ (work : Work). LastIsEnd (work_records work)) s.1 (s.0.ends line is (sym (halt_same k less) ∙ all k d (in_after k less)))));
+        (λ k less. let s = works.each k less in subst (λ (work : Work). LastIsEnd (work_records work)) s.1 (s.0.ends line is (sym (stopped_same k less) ∙ all k d (in_after k less)))));
   }

@@ -18,10 +18,10 @@ use Rattle.lane_runner.specs.declared.stop.Stop.{Stop}
 use Rattle.lane_runner.specs.declared.stop.Stop.TheVariants as stop
 use Rattle.lane_runner.specs.Forking.{Answer}
 use Rattle.lane_runner.specs.Handed.{Entry, HandsOn, LogPlace, MaybeStop, task_limit}
+use Rattle.lane_runner.specs.Lane.{stop_of}
 use Rattle.region_runner.specs.declared.gathering.Verdict.{Verdict}
 use Rattle.region_runner.specs.declared.gathering.Verdict.TheVariants.{Ended, Refused, Halted, Wanted}
 use Rattle.region_runner.specs.Closing.{HasTaken}
-use Rattle.region_runner.specs.Stopping.{stop_of}
 use Rattle.region_runner.specs.Team.{handed_by}
 
 -- A lane's path and its log, the logs of the tasks below it, why it didn't go on, if it didn't, why its log refused a record or what

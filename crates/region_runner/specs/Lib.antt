@@ -14,3 +14,4 @@ pub mod Gathering
 pub mod Begins
 pub mod Opening
 pub mod Root
+pub mod LastPhase

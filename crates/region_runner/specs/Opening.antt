@@ -9,7 +9,7 @@ use Rattle.lane_runner.specs.Handed.{LogPlace}
 use Rattle.region_runner.specs.Begins.{LaneBegins}
 use Rattle.region_runner.specs.Closing.{IsClosedAs}
 use Rattle.region_runner.specs.Gathering.{ClosedValue, LaneGave}
-use Rattle.lane_runner.specs.Lane.{LaneValue}
+use Rattle.lane_runner.specs.Lane.{LaneValue, halt_in}
 use Rattle.region_runner.specs.declared.opening.Opened.{Opened}
 use Rattle.region_runner.specs.declared.opening.Opened.TheVariants.{Team, Torn, Nothing}
 
@@ -59,7 +59,7 @@ pub record OneTorn (opened : List (Result LaneValue ClosedValue)) : Type 0 where
 -- a lane whose log was opened and closed, or refused
 abbrev pub ClosesAs : Result LaneValue ClosedValue → ClosedValue → Type 0
 ClosesAs (Ok m) c =
-    (c.path ≡ m.path) × IsClosedAs c.own c.refused m.path m.buffer × (c.below ≡ m.done) × (c.draws ≡ m.tally.draws) × (c.halt ≡ m.stopped)
+    (c.path ≡ m.path) × IsClosedAs c.own c.refused m.path m.buffer × (c.below ≡ m.done) × (c.draws ≡ m.tally.draws) × (c.halt ≡ halt_in m)
 ClosesAs (Err torn) c = c ≡ torn
 
 -- The first hand on the counters has split off a hand for each lane; and all lanes begin, or none of them executed anything.

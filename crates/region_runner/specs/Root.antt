@@ -19,9 +19,10 @@ use Rattle.lane_runner.specs.Forking.{Answer, stop_in}
 use Rattle.lane_runner.specs.Handed.{AreFew, Entry, LogPlace, TaskHands, TellStop}
 use Rattle.region_runner.specs.Crew.{CrewValue, world_of}
 use Rattle.region_runner.specs.Gathering.{ClosedValue, LaneGave, TookIn, answer_for}
-use Rattle.lane_runner.specs.Lane.{LaneValue, WentOn, with_hand}
+use Rattle.lane_runner.specs.Lane.{LaneValue, stop_of, with_hand}
+use Rattle.region_runner.specs.LastPhase.{WentOn}
 use Rattle.region_runner.specs.Opening.{ClosesAs}
-use Rattle.region_runner.specs.Stopping.{StopsTask, stop_of}
+use Rattle.region_runner.specs.Stopping.{StopsTask}
 use Rattle.region_runner.specs.Team.{DidWork}
 use Rattle.region_runner.specs.declared.gathering.Verdict.{Verdict}
 

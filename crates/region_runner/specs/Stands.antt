@@ -17,8 +17,9 @@ use Rattle.lane_runner.specs.Going.{IsSameLog, Progress, site}
 use Rattle.region_runner.specs.Crew.{CrewValue, world_of}
 use Rattle.region_runner.specs.Gathering.{ClosedValue}
 use Rattle.region_runner.specs.Hands.{joined_with, lane_hand, parted_for}
+use Rattle.region_runner.specs.LastPhase.{WentOn}
 use Rattle.region_runner.specs.Opening.{ClosesAs}
-use Rattle.lane_runner.specs.Lane.{IsWithoutHand, LaneValue, WentOn, answer_of, hand_view, progress, with_hand}
+use Rattle.lane_runner.specs.Lane.{IsWithoutHand, LaneValue, answer_of, halt_in, hand_view, progress, with_hand}
 use Rattle.region_runner.specs.Ran.{TaskGoes, TakesUp, task_part}
 use Rattle.region_runner.specs.Team.{DidPhases}
 
@@ -62,13 +63,13 @@ pub record LaneStands (crew : CrewValue) (start : LaneValue) (done : List (List 
   pub path : m.path ≡ start.path
   pub last : Progress
   pub up : TakesUp last (progress m)
-  pub goes : TaskGoes (world_of crew lane) (task_part (site (world_of crew lane)) done end) start.locals m.locals (progress start) last (lane_works lane phases) (answer_of m.stopped)
+  pub goes : TaskGoes (world_of crew lane) (task_part (site (world_of crew lane)) done end) start.locals m.locals (progress start) last (lane_works lane phases) (answer_of (halt_in m))
   pub log : IsSameLog start.buffer m.buffer
   pub loops : m.stopped ≡ None → m.tally.next_loop ≡ start.tally.next_loop + drawn_count (parts_in done)
   pub may : m.stopped ≡ None → MayStep crew m
   pub passes : m.stopped ≡ None → barrier_count (put_in lane phases) ≡ bar_count (parts_in done)
   pub ends : (line : ℕ) → end ≡ Some line → m.stopped ≡ None → LastIsEnd (put_in lane phases)
-  pub behind : (h : Halt) → m.stopped ≡ Some h → IsBehind done (barrier_count (put_in lane phases))
+  pub behind : (h : Halt) → halt_in m ≡ Some h → IsBehind done (barrier_count (put_in lane phases))
 
 -- so do all lanes of a team, and their hands are home
 pub record TeamStands (crew : CrewValue) (done : List (List Item)) (end : Option ℕ) (phases : Phases) (old new : HandValue View) (before after : List LaneValue) : Type 0 where

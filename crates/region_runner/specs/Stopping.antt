@@ -7,20 +7,9 @@ use Rattle.kernel_model.specs.Trace.{Ending, Start}
 use Rattle.history_model.specs.Work.{Work}
 use Rattle.lane_runner.specs.Fitting.{WorkFits}
 use Rattle.lane_runner.specs.Stopping.{EndsBelow, IsLeastBelow, IsNoTrouble, RestsBelow, ending_for}
-use Rattle.lane_runner.specs.declared.stop.Halt.{Halt}
-use Rattle.lane_runner.specs.declared.stop.Halt.TheVariants as halt
 use Rattle.lane_runner.specs.declared.stop.Stop.{Stop}
 use Rattle.lane_runner.specs.declared.stop.Stop.TheVariants as stop
 use Rattle.region_runner.specs.Ran.{in_one}
-
--- which task stopped, and why: the lane at this path, or a task of a region that it forked
-abbrev pub stop_of : List Step → Halt → List Step × Stop
-stop_of path (halt.DivZero line) = (path, stop.DivZero line)
-stop_of path (halt.Index line) = (path, stop.Index line)
-stop_of path (halt.LogFull line) = (path, stop.LogFull line)
-stop_of path (halt.Region below why) = (below, why)
-stop_of path (halt.Tasks line) = (path, stop.Tasks line)
-stop_of path (halt.Trouble trouble) = (path, stop.Trouble trouble)
 
 -- the path is that of the task at this path, or of one below it
 pub record IsAtOrBelow (own path : List Step) : Type 0 where

@@ -1,28 +1,30 @@
 //! The logs of a team, closed.
 ghost use Rattle.std.specs.Prelude.{◌≡◌, ◌<◌, ◌≤◌, ℕ, [], length, Ok, slice_index_or};
 ghost use Rattle.std.specs.Vec.{vec_capacity, vec_len};
+ghost use Rattle.lane_runner.specs.Lane.{halt_in};
 ghost use Rattle.region_runner.specs.Closing.{IsClosedAs};
 ghost use Rattle.region_runner.specs.Opening.{ClosesAs};
 
-use lane_runner::{Halt, Lane};
+use lane_runner::{Lane, Stop};
 use shared_words::ChunkHand;
 use std::alloc::Global;
 use std::marker::Model;
 use sw_base::{Log, Path, Trouble};
 
-// A lane whose log is closed: its path, its log and its number of records; the logs of the tasks below it; its hand on the counters; why
-// it didn't go on, if it didn't; and why its log refused a record or what waited, if it did.
+// A lane whose log is closed: its path, its log and its number of records; the logs of the tasks below it; its hand on the counters;
+// which task stopped, its own or one below, and why, if it didn't go on; and why its log refused a record or what waited, if it did.
 #[derive(Drop)]
 pub(crate) struct Closed<L: Log> {
     pub(crate) own: (Path, L, u32),
     pub(crate) below: Vec<(Path, L, u32)>,
     pub(crate) draws: ChunkHand,
-    pub(crate) halt: Option<Halt>,
+    pub(crate) stopped: Option<(Path, Stop)>,
     pub(crate) refused: Option<Trouble>,
 }
 
 impl<L: Log> Model for Closed<L> {
     ghost use Rattle.lane_runner.specs.Handed.{entries_of, entry_of};
+    ghost use Rattle.lane_runner.specs.Lane.{halt_of};
     ghost use Rattle.region_runner.specs.Gathering.{ClosedValue};
 
     ghost Value = { ClosedValue };
@@ -31,7 +33,7 @@ impl<L: Log> Model for Closed<L> {
       path = c.own.0;
       own = entry_of (record { dir = L.dir; path = L.path; text = L.text; faults = L.faults }) c.own;
       below = entries_of (record { dir = L.dir; path = L.path; text = L.text; faults = L.faults }) c.below.items;
-      halt = c.halt;
+      halt = halt_of c.own.0 c.stopped;
       refused = c.refused;
       draws = c.draws;
     } };
@@ -43,9 +45,9 @@ pub(crate) fn close<L: Log>(alloc: Global, lane: Lane<L>) -> Closed<L>
     ensures closed { IsClosedAs result.own result.refused lane.path lane.buffer }
     ensures below { result.below ≡ lane.done }
     ensures draws { result.draws ≡ lane.tally.draws }
-    ensures halt { result.halt ≡ lane.stopped }
+    ensures halt { result.halt ≡ halt_in lane }
 {
-    let (path, track, halt) = lane.into_parts();
+    let (path, track, stopped) = lane.into_parts();
     let (_hand, buffer, draws, below) = track.into_parts();
     let count = buffer.count();
     match buffer.close(alloc) {
@@ -53,14 +55,14 @@ pub(crate) fn close<L: Log>(alloc: Global, lane: Lane<L>) -> Closed<L>
             own: (path, log, count),
             below,
             draws,
-            halt,
+            stopped,
             refused: None,
         },
         Err((trouble, log)) => Closed {
             own: (path, log, count),
             below,
             draws,
-            halt,
+            stopped,
             refused: Some(trouble),
         },
     }

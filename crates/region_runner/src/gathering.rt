@@ -4,11 +4,11 @@ ghost use Rattle.lane_runner.specs.Handed.{entries_of};
 ghost use Rattle.shared_words.specs.Draws.{regained, IsFirstAlone, HasEachOnce};
 ghost use Rattle.shared_words.specs.Handles.{Belongs, with_view};
 ghost use Rattle.region_runner.specs.Drawing.{regained_all};
-ghost use Rattle.region_runner.specs.Gathering.{ClosedValue, Gathered, IsVerdict, TookIn, answer_for, draws_view, lane_stop, stop_despite, urgency_of};
-ghost use Rattle.region_runner.specs.Stopping.{stop_of};
+ghost use Rattle.lane_runner.specs.Lane.{halt_of};
+ghost use Rattle.region_runner.specs.Gathering.{ClosedValue, Gathered, IsVerdict, TookIn, answer_for, draws_view, lane_stop, urgency_of};
 
 use crate::closing::Closed;
-use lane_runner::{Halt, Stop};
+use lane_runner::Stop;
 use shared_words::{ChunkHand, Chunks};
 use sw_base::{Log, Memory, Path, Trouble};
 
@@ -47,39 +47,19 @@ impl Verdict {
     }
 }
 
-// Which task stopped, and why: the lane at this path, or a task of a region that it forked.
-fn stop_of(path: &Path, halt: Halt) -> (Path, Stop)
-    ensures { result ≡ stop_of path.now halt }
+// How the lane at this path stopped, if it did, by what it noted and by why its log refused what waited. That the log refused goes before
+// a stop of its own, and where no memory was found also before that of a task below.
+fn lane_stop(
+    path: &Path,
+    stopped: Option<(Path, Stop)>,
+    refused: Option<Trouble>,
+) -> Option<(Path, Stop)>
+    ensures { result ≡ lane_stop path.now (halt_of path.now stopped) refused }
 {
-    match halt {
-        Halt::DivZero { line } => (path.copy(), Stop::DivZero { line }),
-        Halt::Index { line } => (path.copy(), Stop::Index { line }),
-        Halt::LogFull { line } => (path.copy(), Stop::LogFull { line }),
-        Halt::Region(below, why) => (below, why),
-        Halt::Tasks { line } => (path.copy(), Stop::Tasks { line }),
-        Halt::Trouble(trouble) => (path.copy(), Stop::Trouble(trouble)),
-    }
-}
-
-// The same of a lane whose log refused what waited then.
-fn stop_despite(path: &Path, halt: Halt, trouble: Trouble) -> (Path, Stop)
-    ensures { result ≡ stop_despite path.now halt trouble }
-{
-    match (halt, trouble) {
-        (Halt::Region(below, why), Trouble::Failed) => (below, why),
-        _ => (path.copy(), Stop::Trouble(trouble)),
-    }
-}
-
-// How the lane at this path stopped, if it did.
-fn lane_stop(path: &Path, halt: Option<Halt>, refused: Option<Trouble>) -> Option<(Path, Stop)>
-    ensures { result ≡ lane_stop path.now halt refused }
-{
-    match (halt, refused) {
-        (None, None) => None,
-        (None, Some(trouble)) => Some((path.copy(), Stop::Trouble(trouble))),
-        (Some(halt), None) => Some(stop_of(path, halt)),
-        (Some(halt), Some(trouble)) => Some(stop_despite(path, halt, trouble)),
+    match (stopped, refused) {
+        (stopped, None) => stopped,
+        (Some((at, why)), Some(Trouble::Failed)) if at != *path => Some((at, why)),
+        (_, Some(trouble)) => Some((path.copy(), Stop::Trouble(trouble))),
     }
 }
 
@@ -91,11 +71,11 @@ fn is_want(why: Stop) -> bool
 }
 
 // What the lane at this path answers, whose logs found a place or not.
-fn judge(path: Path, halt: Option<Halt>, refused: Option<Trouble>, kept: bool) -> Verdict
-    ensures { IsVerdict path halt refused kept result }
+fn judge(path: Path, stopped: Option<(Path, Stop)>, refused: Option<Trouble>, kept: bool) -> Verdict
+    ensures { IsVerdict path (halt_of path stopped) refused kept result }
 {
-    let halted = halt.is_some();
-    match lane_stop(&path, halt, refused) {
+    let halted = stopped.is_some();
+    match lane_stop(&path, stopped, refused) {
         Some((at, why)) if is_want(why) => Verdict::Wanted(at),
         _ if !kept => Verdict::Wanted(path),
         Some((at, why)) if halted => Verdict::Halted(at, why),
@@ -128,12 +108,12 @@ pub(crate) fn keep<L: Log>(lane: Closed<L>, done: &mut Vec<(Path, L, u32)>) -> (
         own,
         below,
         draws,
-        halt,
+        stopped,
         refused,
     } = lane;
     let path = own.0.copy();
     let kept = hand_on(own, below, done).is_ok();
-    (draws, judge(path, halt, refused, kept))
+    (draws, judge(path, stopped, refused, kept))
 }
 
 // Joins a lane's hand on the counters, and puts its logs at the end.

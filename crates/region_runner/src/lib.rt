@@ -3,7 +3,8 @@
 //! `run_kernel` makes the shared words and runs the root (`root`), which is one task without a team. A region that a task forks
 //! (`region`) opens the logs of its lanes (`opening`), runs its phases one after another, in each of them every lane on a thread of
 //! its own, with a hand of its own, which is split off for the phase and joined after it (`handing`); the regions that a
-//! lane forks run in turn; and in the end the logs are closed (`closing`) and handed on (`gathering`).
+//! lane forks run in turn; after the last phase each lane that goes on puts its End (`ending`); and then the logs are closed
+//! (`closing`) and handed on (`gathering`).
 //!
 //! What is told of a run that ended: its logs are those of the kernel's tasks, each with its whole trace under the values that it read,
 //! cut into pieces that fill the buffer; they keep the rules of a folder; and all accesses and mutex steps have one legal history,
@@ -22,6 +23,7 @@
 mod closing;
 mod crew;
 mod drawn;
+mod ending;
 mod executions;
 mod finished;
 mod gathering;

@@ -43,7 +43,7 @@ fn torn<L: Log>(alloc: Global, path: Path, log: L, draws: ChunkHand, trouble: Tr
         own: (path, log, 0),
         below: Vec::new(alloc),
         draws,
-        halt: None,
+        stopped: None,
         refused: Some(trouble),
     }
 }

@@ -14,11 +14,13 @@ ghost use Rattle.region_runner.specs.Ground.{AreLanesLogs, IsOurLane, IsOurPhase
 ghost use Rattle.kernel_model.specs.Parts.{drawn_count};
 ghost use Rattle.kernel_model.specs.Phases.{AreDivided, parts_in};
 ghost use Rattle.shared_words.specs.Handles.{Belongs};
-ghost use Rattle.lane_runner.specs.Lane.{CanGoOn, IsLast, WentOn};
+ghost use Rattle.lane_runner.specs.Lane.{CanGoOn};
+ghost use Rattle.region_runner.specs.LastPhase.{IsLast, WentOn};
 ghost use Rattle.region_runner.specs.Stands.{AllGo, IsFresh, MayGoOn, RanPhase, TeamClosed, TeamRan};
 
 use crate::closing::{Closed, close_all};
 use crate::crew::Crew;
+use crate::ending::put_end;
 use crate::gathering::gather;
 use crate::ground::Ground;
 use crate::handing::{join_hands, split_hands};
@@ -34,7 +36,7 @@ use std::thread;
 use std::thread::Threads;
 use sw_base::{Gate, Log, Path, Trouble};
 
-// A task executes a phase; the regions that it forks are run in turn.
+// A task executes a phase, and puts its End, where a line is given for it; the regions that it forks are run in turn.
 #[cycle(region)]
 pub(crate) fn run_task<R: Threads + Wait + Sync, L: Log, G: Gate>(
     rt: &R,
@@ -59,9 +61,9 @@ pub(crate) fn run_task<R: Threads + Wait + Sync, L: Log, G: Gate>(
 {
     let path = lane.path();
     let world = crew.world(index as u16);
-    lane.run_phase(
+    // The lane notes why it doesn't go on, if it doesn't.
+    let _ = lane.run_phase(
         phase,
-        end,
         rt,
         alloc,
         &world,
@@ -95,6 +97,7 @@ pub(crate) fn run_task<R: Threads + Wait + Sync, L: Log, G: Gate>(
             )
         },
     );
+    put_end(alloc, end, lane);
 }
 
 // The lanes of a team execute a phase, each on a thread of its own.

@@ -9,7 +9,7 @@ ghost use Rattle.kernel_model.specs.Phases.{part_of};
 ghost use Rattle.lane_runner.specs.Forking.{IsReady};
 ghost use Rattle.lane_runner.specs.Handed.{entries_of};
 ghost use Rattle.region_runner.specs.Ground.{IsOurLane, IsOurPhase, crew_of};
-ghost use Rattle.lane_runner.specs.Lane.{IsLast};
+ghost use Rattle.region_runner.specs.LastPhase.{IsLast};
 ghost use Rattle.region_runner.specs.Root.{IsSettled, RanRoot, RootClosed};
 ghost use Rattle.region_runner.specs.Stands.{IsFresh};
 

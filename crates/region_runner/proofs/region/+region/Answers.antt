@@ -5,11 +5,13 @@ use Rattle.shared_words.specs.Handles.{WordsValue, Belongs, HandValue, with_view
 use Rattle.lane_runner.specs.Children.{AreNewLogs, LogView}
 use Rattle.lane_runner.specs.Handed.{entries_of, place_of}
 use Rattle.lane_runner.specs.Forking.{IsReady, RanRegion}
+use Rattle.region_runner.specs.LastPhase.{IsLast, WentOn}
 use Rattle.region_runner.specs.Crew.{CrewValue, world_of}
 use Rattle.region_runner.specs.Lawful.{IsTeam, IsLawfulPhase}
 use Rattle.region_runner.proofs.Forks.{phase_forks}
 use Rattle.std.specs.Prelude.{slice_index_or, List, drop, Vec}
-use Rattle.lane_runner.specs.Lane.{CanGoOn, LaneValue, WentOn, hand_view, IsLast}
+use Rattle.lane_runner.specs.Lane.{CanGoOn, Executed, LaneValue, hand_view}
+use Rattle.lane_runner.specs.World.{WorldValue}
 use Rattle.region_runner.specs.Hands.{IsLaneHand, joined_with, parted_for}
 use Rattle.region_runner.specs.Ground.{IsOurLane, IsOurPhase}
 use Rattle.shared_words.specs.declared.view.View.{View}
@@ -102,6 +104,22 @@ run_task-run_phase-requires-clause-runs g n c κs within =
       };
     })
 
+pub run_task-put_end-requires-clause-line : goal.run_task-put_end-requires-clause-line
+run_task-put_end-requires-clause-line g n c κs within = λ line is. (c.requires.last line is).some
+
+pub run_task-put_end-requires-clause-there : goal.run_task-put_end-requires-clause-there
+run_task-put_end-requires-clause-there g n c κs within = λ goes. (c.run_phase.ensures.executed.can goes).belongs.there
+
+pub run_task-put_end-requires-clause-unrefused : goal.run_task-put_end-requires-clause-unrefused
+run_task-put_end-requires-clause-unrefused g n c κs within = λ goes. (c.run_phase.ensures.executed.can goes).unrefused
+
+pub run_task-returns : goal.run_task-returns
+run_task-returns g n c = record {
+  went =
+      c.put_end.ensures.went (world_of c.args.crew.now c.args.index) c.args.phase.now c.args.lane.now c.requires.can.can c.requires.last
+      (subst (λ (w : WorldValue). Executed w c.args.phase.now c.args.lane.now c.run_phase.new.self) c.world-world.ensures c.run_phase.ensures.executed);
+}
+
 pub run_lanes-for_each_mut-requires-clause-accepts : goal.run_lanes-for_each_mut-requires-clause-accepts
 run_lanes-for_each_mut-requires-clause-accepts g n c κs within = λ i p less is. (
   (let d = c.decreases in omega (arith, d)),
@@ -156,7 +174,7 @@ run_phase-run_lanes-requires-clause-can g n c κs within = λ i d less.
     let below : i < c.span.result = let s = c.span.ensures in let m = c.requires.count in omega (arith, inside, s, m) in
     subst (λ (m : LaneValue). CanGoOn (world_of c.args.crew.now i) c.args.phase.now m) (sym (c.split_hands.ensures.given i d below))
     (can_go_on c.args.crew.now c.args.phase.now i c.args.hand.now (slice_index_or c.args.lanes.now i d) (subst (λ (v : CrewValue). Belongs c.args.hand.now v.words.table) (sym c.requires.crew) c.requires.belongs)
-    (c.requires.can i d inside))
+    (c.requires.own i d inside).path_is (c.requires.can i d inside))
 
 pub run_phase-run_lanes-requires-clause-own : goal.run_phase-run_lanes-requires-clause-own
 run_phase-run_lanes-requires-clause-own g n c κs within = λ i d less.
