@@ -23,6 +23,7 @@ pub mod PutLogs
 pub mod RegionStops
 pub mod RegionHands
 pub mod ClosedLogs
+pub mod DrawnLoops
 pub mod Forks
 pub mod Standing
 pub mod TeamSteps

@@ -1,5 +1,5 @@
 //! The loops of a team whose chunks are drawn.
-ghost use Rattle.std.specs.Prelude.{◌≡◌, ◌+◌, ◌<◌, IfSome, map};
+ghost use Rattle.std.specs.Prelude.{◌≡◌, ◌+◌, ◌<◌, ◌≤◌, IfSome, None, map};
 ghost use Rattle.kernel_model.specs.Parts.{drawn_count, is_drawn};
 ghost use Rattle.kernel_model.specs.Phases.{part_of, parts_in};
 
@@ -15,9 +15,10 @@ fn is_drawn(item: &Item<'_>) -> bool
     }
 }
 
-// This number, and how many of the items are such loops; none where that is too many.
+// This number, and how many of the items are such loops; none exactly where that is past 2^32 - 1.
 fn with_drawn(count: u32, items: &[Item<'_>]) -> Option<u32>
-    ensures { IfSome result (λ n. n ≡ count + drawn_count (map part_of items.now)) }
+    ensures some { IfSome result (λ n. n ≡ count + drawn_count (map part_of items.now)) }
+    ensures none { result ≡ None → 4294967296 ≤ count + drawn_count (map part_of items.now) }
 {
     let mut count = count;
     for item in items {
@@ -28,9 +29,10 @@ fn with_drawn(count: u32, items: &[Item<'_>]) -> Option<u32>
     Some(count)
 }
 
-// How many such loops the phases have; none where they are too many.
+// How many such loops the phases have; none exactly where they are more than 2^32 - 1.
 pub(crate) fn drawn_in(phases: &[Phase<'_>]) -> Option<u32>
-    ensures { IfSome result (λ n. n ≡ drawn_count (parts_in phases.now)) }
+    ensures some { IfSome result (λ n. n ≡ drawn_count (parts_in phases.now)) }
+    ensures none { result ≡ None → 4294967296 ≤ drawn_count (parts_in phases.now) }
 {
     let mut count = 0;
     for phase in phases {
