@@ -98,7 +98,7 @@ impl LogReader {
         Ok(())
     }
 
-    /// The next record, or `None` after the last. A read that fails changes nothing.
+    /// The next record, or `None` after the last, and from then on. A read that fails changes nothing.
     pub fn next<F: Folder>(
         &mut self,
         alloc: Global,
@@ -107,6 +107,7 @@ impl LogReader {
         ensures gives { WhereTold (F.content folder.old) (λ c. (events : List Record) → StandsBefore c self.old events → IfOk result (λ answer. GivesNext c events answer self.new)) }
         ensures kept { WhereTold (F.content folder.old) (λ c. (events : List Record) → StandsBefore c self.old events → OnErr result (StandsBefore c self.new events)) }
         ensures fewer { IfOk result (λ answer. IsTrue (is_some answer) → self.new.left < self.old.left) }
+        ensures ended { IfOk result (λ answer. answer ≡ None → self.new.left ≡ 0) }
 
         ensures same { F.content folder.new ≡ F.content folder.old }
         ensures cause { HasCause (F.read_faults folder.old) (F.read_faults folder.new) result }

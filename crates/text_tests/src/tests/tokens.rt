@@ -39,8 +39,16 @@ fn has_no_tokens(alloc: Global, text: &[u8], line: u32, why: KernelWhy) -> bool 
 
 #[test]
 fn a_text_without_tokens_tells_its_line_and_why(rt: HostRuntime) {
-    let rows: [(&[u8], u32, KernelWhy); 5] = [
+    let rows: [(&[u8], u32, KernelWhy); 9] = [
         (b"a\n$", 2, KernelWhy::Token),
+        (b"a\t\r\n# \r$\n$", 3, KernelWhy::Token),
+        (b"_0 Z9 z_\n!", 2, KernelWhy::Token),
+        (b"..\n.", 2, KernelWhy::Token),
+        (
+            b"09223372036854775807\n09223372036854775808",
+            2,
+            KernelWhy::Token,
+        ),
         (b"# $\n\n9223372036854775808", 3, KernelWhy::Token),
         (b"a23456789012345678901234567890123", 1, KernelWhy::Token),
         (b"a\n\n\xff", 3, KernelWhy::NotUtf8),
@@ -52,14 +60,33 @@ fn a_text_without_tokens_tells_its_line_and_why(rt: HostRuntime) {
 }
 
 #[test]
-fn a_sign_tells_its_operation(rt: HostRuntime) {
-    let rows = [
-        (Lexeme::Mark(Sign::Minus), Some(Op::Sub)),
-        (Lexeme::Mark(Sign::LessEqual), Some(Op::Le)),
-        (Lexeme::Mark(Sign::Assign), None),
-        (Lexeme::Number(1), None),
+fn each_operation_has_its_sign(rt: HostRuntime) -> Result<(), Fail> {
+    let operations = [
+        Op::Add,
+        Op::Sub,
+        Op::Mul,
+        Op::Div,
+        Op::Rem,
+        Op::Eq,
+        Op::Ne,
+        Op::Lt,
+        Op::Le,
+        Op::Gt,
+        Op::Ge,
     ];
-    for (lexeme, op) in &rows {
-        assert!(rt; operation(lexeme) == *op);
+    let found = tokens(rt.alloc(), b"+-*/%==!=< <=> >=")
+        .ok()
+        .ok_or("tokens")?;
+    assert_eq!(rt; found.len(), operations.len());
+    for (token, op) in found.iter().zip(&operations) {
+        assert!(rt; operation(&token.lexeme) == Some(*op));
+    }
+    Ok(())
+}
+
+#[test]
+fn other_lexemes_have_no_operation(rt: HostRuntime) {
+    for lexeme in &[Lexeme::Mark(Sign::Assign), Lexeme::Number(1)] {
+        assert!(rt; operation(lexeme).is_none());
     }
 }
