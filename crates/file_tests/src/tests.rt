@@ -1,6 +1,8 @@
+mod answers;
 mod indexes;
 mod listings;
 mod memory;
 mod readers;
 mod records;
+mod reports;
 mod windows;

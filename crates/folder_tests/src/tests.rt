@@ -1,2 +1,5 @@
+mod generated;
+mod labels;
 mod replays;
+mod segments;
 mod walks;

@@ -11,6 +11,3 @@ mod records;
 
 pub use counts::{accesses, segments};
 pub use folder::{generate, generated_folder_holds_its_run};
-
-#[cfg(test)]
-mod tests;

@@ -6,6 +6,3 @@ mod refusing;
 
 pub use reading::{KernelRefusal, read_kernel_file};
 pub use refusing::refuse_kernel;
-
-#[cfg(test)]
-mod tests;

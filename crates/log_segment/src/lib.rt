@@ -12,6 +12,3 @@ mod walking;
 pub use beginning::first_label;
 pub use segment::Segment;
 pub use walking::Walk;
-
-#[cfg(test)]
-mod tests;

@@ -7,6 +7,3 @@
 mod held;
 
 pub use held::{Held, HeldFault, NotInnermost};
-
-#[cfg(test)]
-mod tests;

@@ -10,9 +10,6 @@ use std::alloc::Global;
 use std::collections::BTreeSet;
 use sw_base::{Out, Trouble};
 
-#[cfg(test)]
-mod tests;
-
 /// Prints the pairs of lines in ascending order, and then their number. After an error a prefix of that text was written.
 pub fn report<O: Out>(
     alloc: Global,

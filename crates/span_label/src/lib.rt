@@ -9,6 +9,3 @@ mod triple;
 
 pub use label::Label;
 pub use triple::Triple;
-
-#[cfg(test)]
-mod tests;

@@ -1,3 +1,4 @@
+mod mutexes;
 mod overlaps;
 mod summaries;
 mod trees;

@@ -1,3 +1,4 @@
+mod files;
 mod kernels;
 mod repeating;
 mod tokens;

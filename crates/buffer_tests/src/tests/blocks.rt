@@ -11,24 +11,24 @@ fn piece(byte: u8) -> [u8; 24] {
 #[test]
 fn a_block_takes_pieces_while_they_fit(rt: HostRuntime) -> Result<(), Fail> {
     let mut block = Block::new(rt.alloc(), 100)?;
-    assert_eq!(rt; block.len(), 0);
+    assert!(rt; block.is_empty());
     for byte in 0..4 {
         assert!(rt; block.push(&piece(byte)), "piece {byte}");
     }
     assert!(rt; !block.push(&piece(4)));
-    assert_eq!(rt; block.len(), 96);
-    assert_eq!(rt; block.size(), 100);
+    assert!(rt; block.len() == 96);
+    assert!(rt; block.size() == 100);
     let held = block.bytes();
-    assert_eq!(rt; held.len(), 96);
+    assert!(rt; held.len() == 96);
     for place in 0..96 {
-        assert_eq!(rt; held[place], (place / 24) as u8, "at {place}");
+        assert!(rt; held[place] == (place / 24) as u8, "at {place}");
     }
 
     block.clear();
-    assert_eq!(rt; block.len(), 0);
-    assert_eq!(rt; block.bytes(), [].as_slice());
+    assert!(rt; block.is_empty());
+    assert!(rt; block.bytes() == [].as_slice());
     assert!(rt; block.push(&piece(7)));
-    assert_eq!(rt; block.bytes(), piece(7).as_slice());
+    assert!(rt; block.bytes() == piece(7).as_slice());
     Ok(())
 }
 

@@ -153,9 +153,9 @@ fn pieces_fill_the_block(rt: HostRuntime) -> Result<(), Fail> {
         (4_194_304, whole),
     ] {
         let left = ten_records(alloc, &[], size)?;
-        assert_eq!(rt; left.refused, None, "size {size}");
-        assert_eq!(rt; left.put, 10, "size {size}");
-        assert_eq!(rt; left.log.lengths(), lengths, "size {size}");
+        assert!(rt; left.refused.is_none(), "size {size}");
+        assert!(rt; left.put == 10, "size {size}");
+        assert!(rt; left.log.lengths() == lengths, "size {size}");
         assert!(rt;
             left.log.bytes() == log_of(alloc, 10)?.as_slice(),
             "size {size}"
@@ -178,14 +178,14 @@ fn a_prefix_stands_after_each_call_that_fails(rt: HostRuntime) -> Result<(), Fai
         (6, 10, 5, 224),
     ] {
         let left = ten_records(alloc, &[call], 48)?;
-        assert_eq!(rt; left.refused, Some(Trouble::Failed), "call {call}");
-        assert_eq!(rt; left.put, put, "call {call}");
-        assert_eq!(rt; left.log.lengths().len(), pieces, "call {call}");
+        assert!(rt; left.refused == Some(Trouble::Failed), "call {call}");
+        assert!(rt; left.put == put, "call {call}");
+        assert!(rt; left.log.lengths().len() == pieces, "call {call}");
         assert!(rt; lengths.starts_with(left.log.lengths()), "call {call}");
-        assert_eq!(rt; left.log.bytes().len(), bytes, "call {call}");
+        assert!(rt; left.log.bytes().len() == bytes, "call {call}");
         assert!(rt; all.starts_with(left.log.bytes()), "call {call}");
     }
-    assert_eq!(rt; ten_records(alloc, &[7], 48)?.refused, None);
+    assert!(rt; ten_records(alloc, &[7], 48)?.refused.is_none());
     Ok(())
 }
 
@@ -198,13 +198,13 @@ fn a_refusal_is_repeated(rt: HostRuntime) -> Result<(), Fail> {
     };
     buffer.ready(alloc)?;
     buffer.put(&barrier(1));
-    assert_eq!(rt; buffer.ready(alloc), failed);
-    assert_eq!(rt; buffer.ready(alloc), failed);
+    assert!(rt; buffer.ready(alloc) == failed);
+    assert!(rt; buffer.ready(alloc) == failed);
     let left = closed(alloc, buffer);
-    assert_eq!(rt; left.refused, Some(Trouble::Failed));
-    assert_eq!(rt; left.put, 1);
-    assert_eq!(rt; left.log.lengths(), [8].as_slice());
-    assert_eq!(rt; left.log.bytes().len(), 20);
+    assert!(rt; left.refused == Some(Trouble::Failed));
+    assert!(rt; left.put == 1);
+    assert!(rt; left.log.lengths() == [8].as_slice());
+    assert!(rt; left.log.bytes().len() == 20);
     assert!(rt; log_of(alloc, 1)?.starts_with(left.log.bytes()));
     Ok(())
 }
@@ -221,14 +221,14 @@ fn a_log_without_memory_is_refused(rt: HostRuntime) -> Result<(), Fail> {
     buffer.put(&barrier(1));
     buffer.ready(alloc)?;
     buffer.put(&barrier(2));
-    assert_eq!(rt; buffer.ready(alloc), memory);
-    assert_eq!(rt; buffer.ready(alloc), memory);
+    assert!(rt; buffer.ready(alloc) == memory);
+    assert!(rt; buffer.ready(alloc) == memory);
     match buffer.close(alloc) {
         Ok(_) => assert!(rt; false),
         Err((trouble, log)) => {
-            assert_eq!(rt; trouble, Trouble::Memory);
-            assert_eq!(rt; log.pieces, 2);
-            assert_eq!(rt; log.bytes, 32);
+            assert!(rt; trouble == Trouble::Memory);
+            assert!(rt; log.pieces == 2);
+            assert!(rt; log.bytes == 32);
         }
     }
     Ok(())
@@ -243,16 +243,16 @@ fn a_child_leaves_its_parents_records(rt: HostRuntime) -> Result<(), Fail> {
     buffer.ready(alloc)?;
     buffer.put(&barrier(1));
     let before = buffer.child(alloc, 0, 0, 2)?;
-    assert_eq!(rt; before.bytes(), [].as_slice());
+    assert!(rt; before.bytes() == [].as_slice());
     buffer.ready(alloc)?;
     let after = buffer.child(alloc, 0, 1, 2)?;
-    assert_eq!(rt; after.lengths(), [].as_slice());
+    assert!(rt; after.lengths() == [].as_slice());
     buffer.put(&barrier(2));
-    assert_eq!(rt; buffer.count(), 2);
+    assert!(rt; buffer.count() == 2);
     let left = closed(alloc, buffer);
-    assert_eq!(rt; left.refused, None);
-    assert_eq!(rt; left.log.lengths(), [8, 24, 24].as_slice());
-    assert_eq!(rt; left.log.bytes(), log_of(alloc, 2)?.as_slice());
+    assert!(rt; left.refused.is_none());
+    assert!(rt; left.log.lengths() == [8, 24, 24].as_slice());
+    assert!(rt; left.log.bytes() == log_of(alloc, 2)?.as_slice());
     Ok(())
 }
 
@@ -264,14 +264,11 @@ fn a_child_that_fails_is_a_refusal(rt: HostRuntime) -> Result<(), Fail> {
     };
     buffer.ready(alloc)?;
     buffer.put(&barrier(1));
-    assert_eq!(rt; buffer.child(alloc, 0, 0, 2).err(), Some(Trouble::Failed));
-    assert_eq!(rt;
-        buffer.ready(alloc),
-        Err(BufferFault::Trouble(Trouble::Failed))
-    );
+    assert!(rt; buffer.child(alloc, 0, 0, 2).err() == Some(Trouble::Failed));
+    assert!(rt; buffer.ready(alloc) == Err(BufferFault::Trouble(Trouble::Failed)));
     let left = closed(alloc, buffer);
-    assert_eq!(rt; left.refused, Some(Trouble::Failed));
-    assert_eq!(rt; left.log.bytes(), LOG_HEADER.as_slice());
+    assert!(rt; left.refused == Some(Trouble::Failed));
+    assert!(rt; left.log.bytes() == LOG_HEADER.as_slice());
     Ok(())
 }
 
@@ -285,13 +282,13 @@ fn a_log_has_room_for_so_many_records(rt: HostRuntime) -> Result<(), Fail> {
         buffer.ready(alloc)?;
         buffer.put(&barrier(line + 1));
     }
-    assert_eq!(rt; buffer.ready(alloc), Err(BufferFault::LogFull));
-    assert_eq!(rt; buffer.ready(alloc), Err(BufferFault::LogFull));
-    assert_eq!(rt; buffer.count(), 4_194_304);
+    assert!(rt; buffer.ready(alloc) == Err(BufferFault::LogFull));
+    assert!(rt; buffer.ready(alloc) == Err(BufferFault::LogFull));
+    assert!(rt; buffer.count() == 4_194_304);
     match buffer.close(alloc) {
         Ok(log) => {
-            assert_eq!(rt; log.pieces, 26);
-            assert_eq!(rt; log.bytes, 100_663_304);
+            assert!(rt; log.pieces == 26);
+            assert!(rt; log.bytes == 100_663_304);
         }
         Err(_) => assert!(rt; false),
     }

@@ -110,12 +110,12 @@ fn each_record_of_each_log_is_a_line(rt: HostRuntime) -> Result<(), Fail> {
     let alloc = rt.alloc();
     let mut folder = folder(alloc)?;
     let mut out = MemOut::new(alloc)?;
-    assert_eq!(rt; list(alloc, &mut folder, &mut out, "d", &rows()), Ok(()));
-    assert_eq!(rt; out.written(), TEXT);
+    assert!(rt; list(alloc, &mut folder, &mut out, "d", &rows()).is_ok());
+    assert!(rt; out.written() == TEXT);
     let mut short = ShortReads { folder };
     let mut again = MemOut::new(alloc)?;
-    assert_eq!(rt; list(alloc, &mut short, &mut again, "d", &rows()), Ok(()));
-    assert_eq!(rt; again.written(), TEXT);
+    assert!(rt; list(alloc, &mut short, &mut again, "d", &rows()).is_ok());
+    assert!(rt; again.written() == TEXT);
     Ok(())
 }
 
@@ -136,11 +136,16 @@ fn listed(
 #[test]
 fn a_fault_leaves_what_was_listed(rt: HostRuntime) -> Result<(), Fail> {
     let alloc = rt.alloc();
-    assert_eq!(rt; listed(alloc, &[1], &[])?, (Err(Unlisted::ReadFault), 20));
-    assert_eq!(rt; listed(alloc, &[2], &[])?, (Err(Unlisted::ReadFault), 75));
-    assert_eq!(rt; listed(alloc, &[], &[1])?, (Err(Unlisted::WriteFault), 10));
-    assert_eq!(rt; listed(alloc, &[], &[2])?, (Err(Unlisted::WriteFault), 29));
-    assert_eq!(rt; listed(alloc, &[], &[11])?, (Ok(()), TEXT.len()));
+    let table: [(&[u64], &[u64], Result<(), Unlisted>, usize); 5] = [
+        (&[1], &[], Err(Unlisted::ReadFault), 20),
+        (&[2], &[], Err(Unlisted::ReadFault), 75),
+        (&[], &[1], Err(Unlisted::WriteFault), 10),
+        (&[], &[2], Err(Unlisted::WriteFault), 29),
+        (&[], &[11], Ok(()), TEXT.len()),
+    ];
+    for (reads, writes, answer, length) in table {
+        assert_eq!(rt; listed(alloc, reads, writes)?, (answer, length));
+    }
     Ok(())
 }
 
@@ -152,8 +157,8 @@ fn a_log_that_has_changed_ends_early(rt: HostRuntime) -> Result<(), Fail> {
     let short = LANE.get(..5).ok_or("records")?;
     folder.hold("d/t-0.1.swl", &log_of(alloc, short)?)?;
     let mut out = MemOut::new(alloc)?;
-    assert_eq!(rt; list(alloc, &mut folder, &mut out, "d", &rows()), Ok(()));
+    assert!(rt; list(alloc, &mut folder, &mut out, "d", &rows()).is_ok());
     let due = TEXT.get(..TEXT.len() - 13).ok_or("text")?;
-    assert_eq!(rt; out.written(), due);
+    assert!(rt; out.written() == due);
     Ok(())
 }

@@ -13,15 +13,16 @@ fn a_log_is_named_after_its_steps(rt: HostRuntime) -> Result<(), Fail> {
     let root = Path::root();
     let lane = root.child(0, 1, 2);
     let deep = lane.child(4294967295, 65535, 65535);
-    assert_eq!(rt; root.name(alloc, "d")?.as_str(), "d/t.swl");
-    assert_eq!(rt; lane.name(alloc, "d")?.as_str(), "d/t-0.1.swl");
-    assert_eq!(rt;
-        deep.bare_name(alloc)?.as_str(),
-        "t-0.1-4294967295.65535.swl"
-    );
-    assert_eq!(rt; index_name(alloc, "d")?.as_str(), "d/index.swi");
-    assert_eq!(rt; LOG_HEADER, *b"SWLOG001");
-    assert_eq!(rt; INDEX_HEADER, *b"SWIDX001");
+    let names = [
+        (root.name(alloc, "d")?, "d/t.swl"),
+        (lane.name(alloc, "d")?, "d/t-0.1.swl"),
+        (deep.bare_name(alloc)?, "t-0.1-4294967295.65535.swl"),
+        (index_name(alloc, "d")?, "d/index.swi"),
+    ];
+    for (name, due) in &names {
+        assert_eq!(rt; name.as_str(), *due);
+    }
+    assert_eq!(rt; [LOG_HEADER, INDEX_HEADER], [*b"SWLOG001", *b"SWIDX001"]);
     Ok(())
 }
 
@@ -29,24 +30,31 @@ fn a_log_is_named_after_its_steps(rt: HostRuntime) -> Result<(), Fail> {
 fn paths_are_in_order(rt: HostRuntime) {
     let lane = Path::root().child(0, 1, 2);
     let below = lane.child(3, 0, 1);
-    let other_span = Path::root().child(0, 1, 3);
-    let other_lane = Path::root().child(0, 2, 1);
-    let other_region = Path::root().child(1, 0, 1);
-    assert_eq!(rt; Path::root().cmp(&lane), Ordering::Less);
-    assert_eq!(rt; lane.cmp(&below), Ordering::Less);
-    assert_eq!(rt; below.cmp(&other_span), Ordering::Less);
-    assert_eq!(rt; other_span.cmp(&other_lane), Ordering::Less);
-    assert_eq!(rt; other_lane.cmp(&other_region), Ordering::Less);
+    let ascending = [
+        Path::root(),
+        lane.copy(),
+        below.copy(),
+        Path::root().child(0, 1, 3),
+        Path::root().child(0, 2, 1),
+        Path::root().child(1, 0, 1),
+    ];
+    for (low, high) in ascending.iter().zip(ascending.iter().skip(1)) {
+        assert_eq!(rt; low.cmp(high), Ordering::Less);
+    }
     assert_eq!(rt; lane.copy(), lane);
-    assert_eq!(rt; below.steps().len(), 2);
-    assert_eq!(rt;
-        below.steps()[1],
+    let steps = [
+        Step {
+            region: 0,
+            lane: 1,
+            span: 2,
+        },
         Step {
             region: 3,
             lane: 0,
-            span: 1
-        }
-    );
+            span: 1,
+        },
+    ];
+    assert_eq!(rt; below.steps(), steps.as_slice());
 }
 
 #[test]
@@ -70,11 +78,19 @@ fn a_write_that_fails_leaves_half_of_the_piece(rt: HostRuntime) -> Result<(), Fa
     let alloc = rt.alloc();
     let mut out = MemOut::new(alloc)?;
     out.fail(&[2])?;
-    assert_eq!(rt; out.append(alloc, b"abcd"), Ok(()));
-    assert_eq!(rt; out.append(alloc, b"efgh"), Err(Trouble::Failed));
-    assert_eq!(rt; out.append(alloc, b"ijkl"), Ok(()));
-    assert_eq!(rt; out.written(), b"abcdefijkl".as_slice());
+    let answers = [
+        out.append(alloc, b"abcd"),
+        out.append(alloc, b"efgh"),
+        out.append(alloc, b"ijkl"),
+    ];
+    assert!(rt; answers == [Ok(()), Err(Trouble::Failed), Ok(())]);
+    assert!(rt; out.written() == b"abcdefijkl".as_slice());
     Ok(())
+}
+
+// Whether the log has these bytes, in pieces of these lengths.
+fn has(log: &MemLog, bytes: &[u8], lengths: &[usize]) -> bool {
+    log.bytes() == bytes && log.lengths() == lengths
 }
 
 #[test]
@@ -85,10 +101,8 @@ fn a_log_keeps_its_pieces(rt: HostRuntime) -> Result<(), Fail> {
     let mut child = log.child(alloc, 0, 1, 2)?;
     child.append(alloc, b"x")?;
     log.append(alloc, b"de")?;
-    assert_eq!(rt; log.bytes(), b"abcde".as_slice());
-    assert_eq!(rt; log.lengths(), [3, 2].as_slice());
-    assert_eq!(rt; child.bytes(), b"x".as_slice());
-    assert_eq!(rt; child.lengths(), [1].as_slice());
+    assert!(rt; has(&log, b"abcde", &[3, 2]));
+    assert!(rt; has(&child, b"x", &[1]));
     Ok(())
 }
 
@@ -97,12 +111,14 @@ fn calls_of_a_log_fail_by_their_number(rt: HostRuntime) -> Result<(), Fail> {
     let alloc = rt.alloc();
     let mut log = MemLog::new(alloc, "d")?;
     log.fail(&[2, 3])?;
-    assert_eq!(rt; log.append(alloc, b"ab"), Ok(()));
-    assert_eq!(rt; log.append(alloc, b"cdef"), Err(Trouble::Failed));
-    assert_eq!(rt; log.child(alloc, 0, 0, 1).err(), Some(Trouble::Failed));
-    assert!(rt; log.child(alloc, 0, 0, 1).is_ok());
-    assert_eq!(rt; log.bytes(), b"abcd".as_slice());
-    assert_eq!(rt; log.lengths(), [2].as_slice());
+    let answers = [log.append(alloc, b"ab"), log.append(alloc, b"cdef")];
+    assert!(rt; answers == [Ok(()), Err(Trouble::Failed)]);
+    let faults = [
+        log.child(alloc, 0, 0, 1).err(),
+        log.child(alloc, 0, 0, 1).err(),
+    ];
+    assert!(rt; faults == [Some(Trouble::Failed), None]);
+    assert!(rt; has(&log, b"abcd", &[2]));
     Ok(())
 }
 
@@ -113,16 +129,19 @@ fn planned_calls_of_later_logs_fail(rt: HostRuntime) -> Result<(), Fail> {
     folder.fail_log(&Path::root(), &[2])?;
     folder.fail_log(&Path::root().child(0, 1, 2), &[1, 3])?;
     let mut root = folder.root(alloc, "d")?;
-    assert_eq!(rt; root.append(alloc, b"ab"), Ok(()));
-    assert_eq!(rt; root.child(alloc, 0, 0, 2).err(), Some(Trouble::Failed));
+    root.append(alloc, b"ab")?;
+    assert!(rt; root.child(alloc, 0, 0, 2).err() == Some(Trouble::Failed));
     let mut first = root.child(alloc, 0, 0, 2)?;
     let mut second = root.child(alloc, 0, 1, 2)?;
-    assert_eq!(rt; first.append(alloc, b"x"), Ok(()));
-    assert_eq!(rt; second.append(alloc, b"yz"), Err(Trouble::Failed));
-    assert_eq!(rt; second.append(alloc, b"u"), Ok(()));
-    assert_eq!(rt; second.append(alloc, b"vw"), Err(Trouble::Failed));
-    assert_eq!(rt; second.bytes(), b"yuv".as_slice());
-    assert_eq!(rt; second.lengths(), [1].as_slice());
+    let answers = [
+        first.append(alloc, b"x"),
+        second.append(alloc, b"yz"),
+        second.append(alloc, b"u"),
+        second.append(alloc, b"vw"),
+    ];
+    let failed = Err(Trouble::Failed);
+    assert!(rt; answers == [Ok(()), failed, Ok(()), failed]);
+    assert!(rt; has(&second, b"yuv", &[1]));
     Ok(())
 }
 
@@ -157,10 +176,18 @@ fn a_sealed_log_is_held_under_its_name(rt: HostRuntime) -> Result<(), Fail> {
     assert!(rt; folder.seal(alloc, lane).is_ok());
     assert!(rt; holds(&folder, "d/t.swl", b"root"));
     assert!(rt; holds(&folder, "d/t-0.1.swl", b"lanes"));
-    assert!(rt; is_sealed(&folder, 0, "d/t.swl", &[4]));
-    assert!(rt; is_sealed(&folder, 1, "d/t-0.1.swl", &[2, 3]));
-    assert!(rt; !is_sealed(&folder, 1, "d/t.swl", &[2, 3]));
-    assert!(rt; !is_sealed(&folder, 1, "d/t-0.1.swl", &[5]));
+    let table: [(usize, &str, &[usize], bool); 4] = [
+        (0, "d/t.swl", &[4], true),
+        (1, "d/t-0.1.swl", &[2, 3], true),
+        (1, "d/t.swl", &[2, 3], false),
+        (1, "d/t-0.1.swl", &[5], false),
+    ];
+    for (at, name, lengths, due) in table {
+        assert!(rt;
+            is_sealed(&folder, at, name, lengths) == due,
+            "at {at} as {name}"
+        );
+    }
     assert!(rt; folder.sealed_name(2).is_none());
     assert!(rt; folder.sealed_lengths(2).is_none());
     Ok(())
@@ -173,17 +200,19 @@ fn a_file_is_read_from_a_place_on(rt: HostRuntime) -> Result<(), Fail> {
     folder.hold("other", b"other")?;
     folder.put(alloc, "name", b"first")?;
     folder.put(alloc, "name", b"seconds")?;
+    assert!(rt; folder.size(alloc, "name") == Ok(Some(7)));
+    assert!(rt; folder.size(alloc, "none") == Ok(None));
     let mut into = [0; 4];
-    assert_eq!(rt; folder.size(alloc, "name"), Ok(Some(7)));
-    assert_eq!(rt; folder.size(alloc, "none"), Ok(None));
-    assert_eq!(rt; folder.read(alloc, "name", 2, &mut into), Ok(4));
-    assert_eq!(rt; into, *b"cond");
-    assert_eq!(rt; folder.read(alloc, "name", 5, &mut into), Ok(2));
-    assert_eq!(rt; into, *b"dsnd");
-    assert_eq!(rt; folder.read(alloc, "name", 7, &mut into), Ok(0));
-    assert_eq!(rt; folder.read(alloc, "none", 0, &mut into), Ok(0));
-    assert_eq!(rt; folder.file("other"), Some(b"other".as_slice()));
-    assert_eq!(rt; folder.file("none"), None);
+    for (place, count, left) in [(2, 4, b"cond"), (5, 2, b"dsnd"), (7, 0, b"dsnd")] {
+        assert!(rt;
+            folder.read(alloc, "name", place, &mut into) == Ok(count),
+            "from {place} on"
+        );
+        assert!(rt; into == *left, "from {place} on");
+    }
+    assert!(rt; folder.read(alloc, "none", 0, &mut into) == Ok(0));
+    assert!(rt; holds(&folder, "other", b"other"));
+    assert!(rt; folder.file("none").is_none());
     Ok(())
 }
 
@@ -194,9 +223,8 @@ fn a_file_longer_than_a_window_is_read_whole(rt: HostRuntime) -> Result<(), Fail
     let mut folder = MemFolder::new(alloc)?;
     folder.hold("name", &bytes)?;
     let file = read_file(alloc, &mut folder, "name")?;
-    assert_eq!(rt; file.map(|file| file.len()), Some(9000));
-    let none = read_file(alloc, &mut folder, "none")?;
-    assert!(rt; none.is_none());
+    assert!(rt; file.is_some_and(|file| file.len() == 9000));
+    assert!(rt; read_file(alloc, &mut folder, "none")?.is_none());
     Ok(())
 }
 
@@ -217,30 +245,21 @@ fn errors_where_one_fails(rt: &HostRuntime, number: u64) -> Result<[bool; 5], Fa
 
 #[test]
 fn calls_of_a_folder_fail_by_their_number(rt: HostRuntime) -> Result<(), Fail> {
-    assert_eq!(rt;
-        errors_where_one_fails(&rt, 0)?,
-        [false, false, false, false, false]
-    );
-    assert_eq!(rt;
-        errors_where_one_fails(&rt, 1)?,
-        [true, false, false, false, false]
-    );
-    assert_eq!(rt;
-        errors_where_one_fails(&rt, 2)?,
-        [false, true, false, false, false]
-    );
-    assert_eq!(rt;
-        errors_where_one_fails(&rt, 3)?,
-        [false, false, true, false, false]
-    );
-    assert_eq!(rt;
-        errors_where_one_fails(&rt, 4)?,
-        [false, false, false, true, false]
-    );
-    assert_eq!(rt;
-        errors_where_one_fails(&rt, 5)?,
-        [false, false, false, false, true]
-    );
+    let table = [
+        (0, [false, false, false, false, false]),
+        (1, [true, false, false, false, false]),
+        (2, [false, true, false, false, false]),
+        (3, [false, false, true, false, false]),
+        (4, [false, false, false, true, false]),
+        (5, [false, false, false, false, true]),
+    ];
+    for (number, due) in table {
+        assert_eq!(rt;
+            errors_where_one_fails(&rt, number)?,
+            due,
+            "at call {number}"
+        );
+    }
     Ok(())
 }
 
@@ -251,16 +270,13 @@ fn a_seal_that_fails_gives_the_log_back(rt: HostRuntime) -> Result<(), Fail> {
     folder.fail(&[1])?;
     let mut log = MemLog::new(alloc, "d")?;
     log.append(alloc, b"abcd")?;
-    match folder.seal(alloc, log) {
-        Ok(()) => assert!(rt; false),
-        Err((trouble, log)) => {
-            assert_eq!(rt; trouble, Trouble::Failed);
-            assert_eq!(rt; log.bytes(), b"abcd".as_slice());
-            assert_eq!(rt; folder.file("d/t.swl"), Some(b"ab".as_slice()));
-            assert!(rt; folder.sealed_name(0).is_none());
-            folder.discard(log);
-        }
-    }
-    assert_eq!(rt; folder.file("d/t.swl"), Some(b"ab".as_slice()));
+    let Err((Trouble::Failed, log)) = folder.seal(alloc, log) else {
+        panic!(rt; "no failure");
+    };
+    assert!(rt; log.bytes() == b"abcd".as_slice());
+    assert!(rt; holds(&folder, "d/t.swl", b"ab"));
+    assert!(rt; folder.sealed_name(0).is_none());
+    folder.discard(log);
+    assert!(rt; holds(&folder, "d/t.swl", b"ab"));
     Ok(())
 }

@@ -51,16 +51,16 @@ fn vectors() -> [([u64; 3], Result<Record, Why>); 10] {
 #[test]
 fn decodes_the_vectors(rt: HostRuntime) {
     for (groups, want) in vectors() {
-        assert_eq!(rt; decode(&joined(groups)), want);
-        assert_eq!(rt; decode_as(FORMAT, &joined(groups)), want);
+        assert!(rt; decode(&joined(groups)) == want, "of {groups:?}");
+        assert!(rt; decode_as(FORMAT, &joined(groups)) == want, "of {groups:?}");
     }
 }
 
 #[test]
 fn the_headers_tell_the_format(rt: HostRuntime) {
-    assert_eq!(rt; FORMAT.log_header(), *b"SWLOG001");
-    assert_eq!(rt; FORMAT.index_header(), *b"SWIDX001");
-    assert_eq!(rt; FORMAT.last_code(), 8);
+    assert!(rt; FORMAT.log_header() == *b"SWLOG001");
+    assert!(rt; FORMAT.index_header() == *b"SWIDX001");
+    assert!(rt; FORMAT.last_code() == 8);
 }
 
 #[test]

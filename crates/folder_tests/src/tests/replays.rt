@@ -100,47 +100,34 @@ fn with(alloc: Global, at: usize, other: Record) -> Result<u32, Fail> {
 #[test]
 fn each_field_of_a_record_counts(rt: HostRuntime) -> Result<(), Fail> {
     let alloc = rt.alloc();
-    assert_eq!(rt; answer(alloc, COPY, 0, &copied())?, (0, 0));
+    assert!(rt; answer(alloc, COPY, 0, &copied())? == (0, 0));
     let [read, write, _end] = copied();
-    assert_eq!(rt;
-        with(
-            alloc,
-            0,
-            Record {
-                kind: Kind::Write,
-                ..read
-            }
-        )?,
-        1
-    );
-    assert_eq!(rt; with(alloc, 0, Record { value: 9, ..read })?, 2);
-    assert_eq!(rt;
-        with(
-            alloc,
-            1,
-            Record {
-                kind: Kind::Read,
-                ..write
-            }
-        )?,
-        2
-    );
-    assert_eq!(rt; with(alloc, 1, Record { size: 4, ..write })?, 2);
-    assert_eq!(rt; with(alloc, 1, Record { site: 0, ..write })?, 2);
-    assert_eq!(rt; with(alloc, 1, Record { line: 3, ..write })?, 2);
-    assert_eq!(rt;
-        with(
-            alloc,
-            1,
-            Record {
-                addr: 4096,
-                ..write
-            }
-        )?,
-        2
-    );
-    assert_eq!(rt; with(alloc, 1, Record { value: 9, ..write })?, 2);
-    assert_eq!(rt; with(alloc, 2, event(Kind::End, 4, 0, 0))?, 3);
+    let read_as_write = Record {
+        kind: Kind::Write,
+        ..read
+    };
+    let write_as_read = Record {
+        kind: Kind::Read,
+        ..write
+    };
+    let elsewhere = Record {
+        addr: 4096,
+        ..write
+    };
+    let table = [
+        (0, read_as_write, 1),
+        (0, Record { value: 9, ..read }, 2),
+        (1, write_as_read, 2),
+        (1, Record { size: 4, ..write }, 2),
+        (1, Record { site: 0, ..write }, 2),
+        (1, Record { line: 3, ..write }, 2),
+        (1, elsewhere, 2),
+        (1, Record { value: 9, ..write }, 2),
+        (2, event(Kind::End, 4, 0, 0), 3),
+    ];
+    for (at, other, number) in table {
+        assert_eq!(rt; with(alloc, at, other)?, number, "of {other:?} at {at}");
+    }
     Ok(())
 }
 
@@ -148,18 +135,12 @@ fn each_field_of_a_record_counts(rt: HostRuntime) -> Result<(), Fail> {
 fn a_log_is_neither_shorter_nor_longer_than_the_trace(rt: HostRuntime) -> Result<(), Fail> {
     let alloc = rt.alloc();
     let [read, write, end] = copied();
-    assert_eq!(rt; answer(alloc, COPY, 0, &[read, write, end, end])?, (4, 0));
-    assert_eq!(rt; answer(alloc, COPY, 0, &[read, end])?, (2, 0));
-    assert_eq!(rt; answer(alloc, COPY, 0, &[read, write])?, (3, 0));
-    assert_eq!(rt;
-        answer(
-            alloc,
-            "main {\nlet x = 1 / 0\n}",
-            0,
-            &[event(Kind::End, 3, 0, 0)]
-        )?,
-        (1, 0)
-    );
+    assert!(rt; answer(alloc, COPY, 0, &[read, write, end, end])? == (4, 0));
+    assert!(rt; answer(alloc, COPY, 0, &[read, end])? == (2, 0));
+    assert!(rt; answer(alloc, COPY, 0, &[read, write])? == (3, 0));
+    let divided = "main {\nlet x = 1 / 0\n}";
+    let end = event(Kind::End, 3, 0, 0);
+    assert!(rt; answer(alloc, divided, 0, &[end])? == (1, 0));
     Ok(())
 }
 
@@ -177,13 +158,13 @@ fn chunks_are_those_that_the_log_draws(rt: HostRuntime) -> Result<(), Fail> {
         event(Kind::Barrier, 6, 0, 0),
         event(Kind::End, 7, 0, 0),
     ];
-    assert_eq!(rt; answer(alloc, DRAWN, 1, &drawn)?, (0, 0));
-    assert_eq!(rt; answer(alloc, DRAWN, 0, &drawn)?, (2, 0));
+    assert!(rt; answer(alloc, DRAWN, 1, &drawn)? == (0, 0));
+    assert!(rt; answer(alloc, DRAWN, 0, &drawn)? == (2, 0));
     let mut other = drawn;
     other[0] = event(Kind::Chunk, 4, 0, 2);
-    assert_eq!(rt; answer(alloc, DRAWN, 1, &other)?, (2, 0));
+    assert!(rt; answer(alloc, DRAWN, 1, &other)? == (2, 0));
     other[0] = event(Kind::Chunk, 4, 1, 3);
-    assert_eq!(rt; answer(alloc, DRAWN, 1, &other)?, (1, 0));
+    assert!(rt; answer(alloc, DRAWN, 1, &other)? == (1, 0));
     Ok(())
 }
 
@@ -206,10 +187,10 @@ fn a_value_is_that_of_its_element(rt: HostRuntime) -> Result<(), Fail> {
         event(Kind::Barrier, 10, 0, 0),
         event(Kind::End, 11, 0, 0),
     ];
-    assert_eq!(rt; answer(alloc, SECTIONS, 0, &records)?, (0, 0));
+    assert!(rt; answer(alloc, SECTIONS, 0, &records)? == (0, 0));
     let mut other = records;
     other[1] = access(Kind::Read, 1, 1, 7, 4096, 200);
-    assert_eq!(rt; answer(alloc, SECTIONS, 0, &other)?, (2, 0));
+    assert!(rt; answer(alloc, SECTIONS, 0, &other)? == (2, 0));
     Ok(())
 }
 
@@ -218,13 +199,7 @@ fn a_region_has_its_span_and_starts_from_the_locals(rt: HostRuntime) -> Result<(
     let alloc = rt.alloc();
     let text = "main {\nlet x = 5\nparallel 2 {\n}\n}";
     let end = event(Kind::End, 5, 0, 0);
-    assert_eq!(rt;
-        answer(alloc, text, 0, &[event(Kind::Region, 3, 0, 2), end])?,
-        (0, 1)
-    );
-    assert_eq!(rt;
-        answer(alloc, text, 0, &[event(Kind::Region, 3, 0, 3), end])?,
-        (1, 0)
-    );
+    assert!(rt; answer(alloc, text, 0, &[event(Kind::Region, 3, 0, 2), end])? == (0, 1));
+    assert!(rt; answer(alloc, text, 0, &[event(Kind::Region, 3, 0, 3), end])? == (1, 0));
     Ok(())
 }

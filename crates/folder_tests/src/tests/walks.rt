@@ -194,11 +194,11 @@ fn a_good_folder_is_read_and_walked(rt: HostRuntime) -> Result<(), Fail> {
     let Ok(found) = walk(alloc, &mut folder, "d") else {
         return Err(Fail::new("refused"));
     };
-    assert_eq!(rt; found.len(), 2);
-    assert_eq!(rt; (found[1].first, found[1].last), (1, 3));
-    assert_eq!(rt; found[1].path.bare_name(alloc)?.as_str(), "t-0.1.swl");
-    assert_eq!(rt; found[1].runs.len(), 1);
-    assert_eq!(rt; found[1].runs[0].held.ids(), [1].as_slice());
+    assert!(rt; found.len() == 2);
+    assert!(rt; (found[1].first, found[1].last) == (1, 3));
+    assert!(rt; found[1].path.bare_name(alloc)?.as_str() == "t-0.1.swl");
+    assert!(rt; found[1].runs.len() == 1);
+    assert!(rt; found[1].runs[0].held.ids() == [1].as_slice());
     Ok(())
 }
 
@@ -241,16 +241,12 @@ fn segments_have_the_labels_of_their_tasks(rt: HostRuntime) -> Result<(), Fail> 
     let Ok(found) = walk(alloc, &mut folder, "d") else {
         return Err(Fail::new("refused"));
     };
-    assert_eq!(rt; found.len(), 3);
-    assert_eq!(rt;
-        found[1].label.triples(),
-        [triple(0, 1, 0), triple(0, 2, 0), triple(1, 2, 0)].as_slice()
-    );
-    assert_eq!(rt;
-        found[2].label.triples(),
-        [triple(0, 1, 0), triple(1, 2, 1)].as_slice()
-    );
-    assert_eq!(rt; (found[2].first, found[2].last), (2, 3));
+    assert!(rt; found.len() == 3);
+    let triples = [triple(0, 1, 0), triple(0, 2, 0), triple(1, 2, 0)];
+    assert!(rt; found[1].label.triples() == triples.as_slice());
+    let triples = [triple(0, 1, 0), triple(1, 2, 1)];
+    assert!(rt; found[2].label.triples() == triples.as_slice());
+    assert!(rt; (found[2].first, found[2].last) == (2, 3));
     Ok(())
 }
 
@@ -287,30 +283,18 @@ fn open_and_deep_locks_and_wrong_counts_are_told(rt: HostRuntime) -> Result<(), 
     let alloc = rt.alloc();
     let [lock, access, unlock, barrier, end] = lane(4104);
     let open = [lock, access, access, access, end];
-    assert_eq!(rt;
-        lane_1(alloc, 5, &open)?,
-        Told::Record(2, 5, RecordWhy::LockOpen)
-    );
+    assert!(rt; lane_1(alloc, 5, &open)? == Told::Record(2, 5, RecordWhy::LockOpen));
 
     let mut deep = Vec::new(alloc);
     for mutex in 1..10 {
         deep.push(other(LOCK, 2, mutex, 0))?;
     }
     deep.push(end)?;
-    assert_eq!(rt;
-        lane_1(alloc, 10, &deep)?,
-        Told::Record(2, 9, RecordWhy::LocksDeep)
-    );
+    assert!(rt; lane_1(alloc, 10, &deep)? == Told::Record(2, 9, RecordWhy::LocksDeep));
 
     let same = [lock, access, unlock, barrier, end];
-    assert_eq!(rt;
-        lane_1(alloc, 6, &same)?,
-        Told::Record(2, 5, RecordWhy::EndEarly)
-    );
-    assert_eq!(rt;
-        lane_1(alloc, 4, &same)?,
-        Told::Record(2, 4, RecordWhy::EndMissing)
-    );
+    assert!(rt; lane_1(alloc, 6, &same)? == Told::Record(2, 5, RecordWhy::EndEarly));
+    assert!(rt; lane_1(alloc, 4, &same)? == Told::Record(2, 4, RecordWhy::EndMissing));
     Ok(())
 }
 
@@ -347,19 +331,13 @@ fn a_ninth_lock_and_the_root_break_two_rules(rt: HostRuntime) -> Result<(), Fail
     }
     twice.push(lock)?;
     twice.push(end)?;
-    assert_eq!(rt;
-        lane_1(alloc, 10, &twice)?,
-        Told::Record(2, 9, RecordWhy::LockTwice)
-    );
+    assert!(rt; lane_1(alloc, 10, &twice)? == Told::Record(2, 9, RecordWhy::LockTwice));
 
     let open = root_and_lane_0(alloc, &[lock, end], &lane(4096), &lane(4104))?;
-    assert_eq!(rt; open, Told::Record(0, 2, RecordWhy::LockOpen));
+    assert!(rt; open == Told::Record(0, 2, RecordWhy::LockOpen));
     let root = [lock, barrier, end];
     let folder = folder(alloc, [3, 5, 5], &root, &lane(4096), &lane(4104))?;
-    assert_eq!(rt;
-        told_twice(alloc, folder)?,
-        Told::Record(0, 2, RecordWhy::RootBarrier)
-    );
+    assert!(rt; told_twice(alloc, folder)? == Told::Record(0, 2, RecordWhy::RootBarrier));
     Ok(())
 }
 
@@ -388,23 +366,11 @@ fn a_cut_or_long_log_is_told(rt: HostRuntime) -> Result<(), Fail> {
     let alloc = rt.alloc();
     let mut bytes = log(alloc, &lane(4104))?;
     let short = bytes.len().min(79);
-    assert_eq!(rt;
-        lane_1_bytes(alloc, &bytes[..short])?,
-        Told::Record(2, 3, RecordWhy::Cut)
-    );
-    assert_eq!(rt;
-        lane_1_bytes(alloc, &[])?,
-        Told::Record(2, 0, RecordWhy::Header)
-    );
-    assert_eq!(rt;
-        lane_1_bytes(alloc, b"SWLOG002")?,
-        Told::Record(2, 0, RecordWhy::Header)
-    );
+    assert!(rt; lane_1_bytes(alloc, &bytes[..short])? == Told::Record(2, 3, RecordWhy::Cut));
+    assert!(rt; lane_1_bytes(alloc, &[])? == Told::Record(2, 0, RecordWhy::Header));
+    assert!(rt; lane_1_bytes(alloc, b"SWLOG002")? == Told::Record(2, 0, RecordWhy::Header));
     bytes.push(0)?;
-    assert_eq!(rt;
-        lane_1_bytes(alloc, &bytes)?,
-        Told::Record(2, 6, RecordWhy::Extra)
-    );
+    assert!(rt; lane_1_bytes(alloc, &bytes)? == Told::Record(2, 6, RecordWhy::Extra));
     Ok(())
 }
 
@@ -426,7 +392,7 @@ fn the_first_log_in_row_order_is_told(rt: HostRuntime) -> Result<(), Fail> {
     let first = [lock, access, unlock, barrier, spelled(0, 0, 8, 0, 0)];
     let second = [spelled(0, 0, 2, 1, 0), access, unlock, barrier, end];
     let answer = root_and_lane_0(alloc, &root(), &first, &second)?;
-    assert_eq!(rt; answer, Told::Record(1, 5, RecordWhy::Kind));
+    assert!(rt; answer == Told::Record(1, 5, RecordWhy::Kind));
     Ok(())
 }
 
@@ -441,8 +407,8 @@ fn the_index_comes_before_the_logs(rt: HostRuntime) -> Result<(), Fail> {
         ("d/t-0.1.swl", &lane(4104)),
     ];
     let mut folder = folder_of(alloc, &rows, &logs)?;
-    assert_eq!(rt; answer_of(walk(alloc, &mut folder, "e")), Told::NoIndex);
-    assert_eq!(rt; told_twice(alloc, folder)?, Told::Row(3, IndexWhy::Span));
+    assert!(rt; answer_of(walk(alloc, &mut folder, "e")) == Told::NoIndex);
+    assert!(rt; told_twice(alloc, folder)? == Told::Row(3, IndexWhy::Span));
     Ok(())
 }
 
@@ -496,11 +462,12 @@ fn each_read_that_fails_is_told(rt: HostRuntime) -> Result<(), Fail> {
     for call in 1..16 {
         let mut folder = folder(alloc, [2, 5, 5], &root(), &lane(4096), &lane(4104))?;
         folder.fail(&[call])?;
-        assert_eq!(rt; answer_of(walk(alloc, &mut folder, "d")), Told::ReadFault);
+        let answer = answer_of(walk(alloc, &mut folder, "d"));
+        assert!(rt; answer == Told::ReadFault, "at call {call}");
     }
     let mut folder = folder(alloc, [2, 5, 5], &root(), &lane(4096), &lane(4104))?;
     folder.fail(&[16])?;
-    assert_eq!(rt; answer_of(walk(alloc, &mut folder, "d")), Told::Good);
+    assert!(rt; answer_of(walk(alloc, &mut folder, "d")) == Told::Good);
     Ok(())
 }
 
@@ -508,18 +475,13 @@ fn each_read_that_fails_is_told(rt: HostRuntime) -> Result<(), Fail> {
 fn a_byte_that_changes_or_is_left_out_is_told(rt: HostRuntime) -> Result<(), Fail> {
     let alloc = rt.alloc();
     let whole = log(alloc, &lane(4104))?;
-    assert_eq!(rt; lane_1_bytes(alloc, &whole)?, Told::Good);
-    assert_eq!(rt;
-        lane_1_bytes(alloc, whole.get(1..).ok_or("bytes")?)?,
-        Told::Record(2, 0, RecordWhy::Header)
-    );
+    assert!(rt; lane_1_bytes(alloc, &whole)? == Told::Good);
+    let rest = whole.get(1..).ok_or("bytes")?;
+    assert!(rt; lane_1_bytes(alloc, rest)? == Told::Record(2, 0, RecordWhy::Header));
     let mut other = whole.clone()?;
-    assert_eq!(rt; other.len(), 128);
+    assert!(rt; other.len() == 128);
     other[8 + 24] = 0;
-    assert_eq!(rt;
-        lane_1_bytes(alloc, &other)?,
-        Told::Record(2, 2, RecordWhy::Kind)
-    );
+    assert!(rt; lane_1_bytes(alloc, &other)? == Told::Record(2, 2, RecordWhy::Kind));
     Ok(())
 }
 

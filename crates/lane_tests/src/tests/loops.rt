@@ -1,5 +1,6 @@
 //! Worksharing loops of every schedule that one lane executes, with the records that it puts.
-ghost use Rattle.std.specs.Prelude.{◌≡◌, ◌≤◌, true, [], ◌∷◌};
+ghost use Rattle.std.specs.Prelude.{◌≡◌, ◌≤◌, ◌<◌, true, [], ◌∷◌};
+ghost use Rattle.kernel_syntax.specs.Arithmetic.{IsWidth};
 ghost use Rattle.kernel_syntax.specs.Bounds.{IsBoundedCode, IsBoundedSchedule};
 ghost use Rattle.kernel_syntax.specs.Program.{code_of, stmt_code};
 ghost use Rattle.kernel_syntax.specs.Tree.{Done};
@@ -8,12 +9,12 @@ ghost use Rattle.kernel_model.specs.Phases.{part_of_stmt};
 ghost use Rattle.lane_runner.specs.Alone.{IsAlone};
 ghost use Rattle.lane_runner.specs.Phase.{IsOfTeam};
 
-use crate::tests::one_lane::{Setting, accessed, executed, lane_over};
-use crate::tests::statements::sum;
-use crate::tests::support::{log_of, only};
+use crate::tests::one_lane::{Setting, accessed, goes_on, lane_over};
+use crate::tests::statements::summing;
 use kernel_syntax::{Body, Expr, Schedule, Stmt};
 use log_format::{Kind, Record};
 use std::alloc::Global;
+use std::sync::Wait;
 use std::test::Fail;
 
 // A worksharing loop over variable 0, from 0 to below this number.
@@ -61,55 +62,80 @@ fn second() -> Setting
     }
 }
 
+// Whether the lane goes on that executes a loop of this schedule, from 0 to below this number, and leaves these records. In each turn
+// the sum of the first element and 5 is stored in the element of the turn.
+fn goes_round<R: Wait>(
+    rt: &R,
+    alloc: Global,
+    setting: &Setting,
+    to: i64,
+    schedule: Schedule,
+    records: &[Record],
+) -> Result<bool, Fail>
+    requires width { IsWidth setting.now.width }
+    requires lane { setting.now.lane < 2 }
+    requires schedule { IsBoundedSchedule schedule }
+{
+    let stmt = shared(to, schedule, summing(alloc, 5)?);
+    goes_on(rt, alloc, setting, &stmt, records)
+}
+
 #[test]
 fn even_shares_are_in_a_row(rt: HostRuntime) -> Result<(), Fail> {
     let alloc = rt.alloc();
-    let shares = shared(3, Schedule::Even, only(alloc, sum(alloc, 5)?)?);
-    let left = executed(&rt, alloc, &lane_over(8, 0), &shares)?;
     let records = [
         accessed(Kind::Read, 8, 0, 0),
         accessed(Kind::Write, 8, 0, 5),
         accessed(Kind::Read, 8, 0, 5),
         accessed(Kind::Write, 8, 1, 10),
     ];
-    assert!(rt; left.bytes == log_of(alloc, &records)?);
-
-    let left = executed(&rt, alloc, &lane_over(8, 1), &shares)?;
+    assert!(rt; goes_round(&rt, alloc, &lane_over(8, 0), 3, Schedule::Even, &records)?);
     let records = [
         accessed(Kind::Read, 8, 0, 0),
         accessed(Kind::Write, 8, 2, 5),
     ];
-    assert!(rt; left.bytes == log_of(alloc, &records)?);
+    assert!(rt; goes_round(&rt, alloc, &lane_over(8, 1), 3, Schedule::Even, &records)?);
     Ok(())
 }
 
 #[test]
 fn dealt_chunks_go_to_the_lanes_in_turn(rt: HostRuntime) -> Result<(), Fail> {
     let alloc = rt.alloc();
-    let dealt = shared(3, Schedule::Static(1), only(alloc, sum(alloc, 5)?)?);
-    let left = executed(&rt, alloc, &lane_over(8, 0), &dealt)?;
     let records = [
         accessed(Kind::Read, 8, 0, 0),
         accessed(Kind::Write, 8, 0, 5),
         accessed(Kind::Read, 8, 0, 5),
         accessed(Kind::Write, 8, 2, 10),
     ];
-    assert!(rt; left.bytes == log_of(alloc, &records)?);
-
-    let left = executed(&rt, alloc, &lane_over(8, 1), &dealt)?;
+    assert!(rt;
+        goes_round(
+            &rt,
+            alloc,
+            &lane_over(8, 0),
+            3,
+            Schedule::Static(1),
+            &records
+        )?
+    );
     let records = [
         accessed(Kind::Read, 8, 0, 0),
         accessed(Kind::Write, 8, 1, 5),
     ];
-    assert!(rt; left.bytes == log_of(alloc, &records)?);
+    assert!(rt;
+        goes_round(
+            &rt,
+            alloc,
+            &lane_over(8, 1),
+            3,
+            Schedule::Static(1),
+            &records
+        )?
+    );
     Ok(())
 }
 
 #[test]
 fn a_lane_that_is_alone_draws_all_chunks(rt: HostRuntime) -> Result<(), Fail> {
-    let alloc = rt.alloc();
-    let chunks = shared(3, Schedule::Dynamic(2), only(alloc, sum(alloc, 5)?)?);
-    let left = executed(&rt, alloc, &lane_over(8, 0), &chunks)?;
     let records = [
         drawn(0, 2),
         accessed(Kind::Read, 8, 0, 0),
@@ -121,34 +147,29 @@ fn a_lane_that_is_alone_draws_all_chunks(rt: HostRuntime) -> Result<(), Fail> {
         accessed(Kind::Write, 8, 2, 10),
         drawn(2, 2),
     ];
-    assert!(rt; left.bytes == log_of(alloc, &records)?);
+    let chunks = Schedule::Dynamic(2);
+    assert!(rt; goes_round(&rt, rt.alloc(), &lane_over(8, 0), 3, chunks, &records)?);
     Ok(())
 }
 
 #[test]
 fn a_lane_draws_what_another_has_left(rt: HostRuntime) -> Result<(), Fail> {
-    let alloc = rt.alloc();
-    let chunks = shared(3, Schedule::Dynamic(2), only(alloc, sum(alloc, 5)?)?);
-    let left = executed(&rt, alloc, &second(), &chunks)?;
     let records = [
         drawn(1, 2),
         accessed(Kind::Read, 8, 0, 0),
         accessed(Kind::Write, 8, 2, 5),
         drawn(2, 2),
     ];
-    assert!(rt; left.bytes == log_of(alloc, &records)?);
+    let chunks = Schedule::Dynamic(2);
+    assert!(rt; goes_round(&rt, rt.alloc(), &second(), 3, chunks, &records)?);
     Ok(())
 }
 
 #[test]
 fn a_lane_that_draws_none_records_the_count_of_chunks(rt: HostRuntime) -> Result<(), Fail> {
     let alloc = rt.alloc();
-    let single = shared(3, Schedule::Dynamic(3), only(alloc, sum(alloc, 5)?)?);
-    let left = executed(&rt, alloc, &second(), &single)?;
-    assert!(rt; left.bytes == log_of(alloc, &[drawn(1, 1)])?);
-
-    let empty = shared(0, Schedule::Dynamic(3), only(alloc, sum(alloc, 5)?)?);
-    let left = executed(&rt, alloc, &second(), &empty)?;
-    assert!(rt; left.bytes == log_of(alloc, &[drawn(0, 0)])?);
+    let chunks = Schedule::Dynamic(3);
+    assert!(rt; goes_round(&rt, alloc, &second(), 3, chunks, &[drawn(1, 1)])?);
+    assert!(rt; goes_round(&rt, alloc, &second(), 0, chunks, &[drawn(0, 0)])?);
     Ok(())
 }

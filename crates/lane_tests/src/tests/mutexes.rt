@@ -1,11 +1,58 @@
 //! The steps of lanes on a mutex, with what their logs tell of them.
+ghost use Rattle.std.specs.Prelude.{◌≡◌, ◌≤◌, ◌<◌, []};
+ghost use Rattle.kernel_model.specs.Trace.{log_limit};
+ghost use Rattle.shared_words.specs.Handles.{Belongs};
 
 use crate::tests::support::{buffer, bytes_of, log_of, step};
 use kernel_syntax::Array;
 use lane_runner::{Track, World};
 use log_format::Kind;
-use shared_words::{Chunks, Words};
+use shared_words::{ChunkHand, Chunks, Hand, Words};
+use std::alloc::Global;
+use std::sync::Wait;
 use std::test::Fail;
+
+// What a lane with this hand leaves that takes mutex 1, and stops with it.
+fn stopped<R: Wait>(
+    rt: &R,
+    alloc: Global,
+    world: &World,
+    hand: Hand,
+    draws: ChunkHand,
+) -> Result<Vec<u8>, Fail>
+    requires hand { Belongs hand world.now.words.table }
+    requires home { hand.view.out ≡ [] }
+    requires free { hand.view.held ≡ [] }
+    requires mutex { 1 < world.now.words.locks }
+    requires draws { Belongs draws world.now.chunks.table }
+    requires enough { log_limit ≤ draws.view.left }
+{
+    let mut track = Track::new(alloc, hand, buffer(alloc)?, draws);
+    track.lock(rt, alloc, world, 1, 5)?;
+    track.release(world, 1);
+    bytes_of(alloc, track)
+}
+
+// The same of one that takes it and gives it back.
+fn passed<R: Wait>(
+    rt: &R,
+    alloc: Global,
+    world: &World,
+    hand: Hand,
+    draws: ChunkHand,
+) -> Result<Vec<u8>, Fail>
+    requires hand { Belongs hand world.now.words.table }
+    requires home { hand.view.out ≡ [] }
+    requires free { hand.view.held ≡ [] }
+    requires mutex { 1 < world.now.words.locks }
+    requires draws { Belongs draws world.now.chunks.table }
+    requires enough { log_limit ≤ draws.view.left }
+{
+    let mut track = Track::new(alloc, hand, buffer(alloc)?, draws);
+    track.lock(rt, alloc, world, 1, 6)?;
+    track.unlock(alloc, world, 1, 7)?;
+    bytes_of(alloc, track)
+}
 
 #[test]
 fn a_mutex_released_at_a_stop_is_won_by_another(rt: HostRuntime) -> Result<(), Fail> {
@@ -17,24 +64,10 @@ fn a_mutex_released_at_a_stop_is_won_by_another(rt: HostRuntime) -> Result<(), F
     let (chunks, mut draws) = Chunks::new(alloc, 0)?;
     let lent = chunks.split(&mut draws);
     let world = World::new(&arrays, &words, &chunks, 0, 1);
-    let mut first = Track::new(alloc, one, buffer(alloc)?, draws);
-    let mut second = Track::new(alloc, other, buffer(alloc)?, lent);
-
-    let Ok(()) = first.lock(&rt, alloc, &world, 1, 5) else {
-        panic!(rt; "no room");
-    };
-    first.release(&world, 1);
-    let Ok(()) = second.lock(&rt, alloc, &world, 1, 6) else {
-        panic!(rt; "no room");
-    };
-    let Ok(()) = second.unlock(alloc, &world, 1, 7) else {
-        panic!(rt; "no room");
-    };
-
-    let one = log_of(alloc, &[step(Kind::Lock, 1, 5)])?;
-    let two = log_of(alloc, &[step(Kind::Lock, 1, 6), step(Kind::Unlock, 1, 7)])?;
-    assert!(rt; bytes_of(alloc, first)? == one);
-    assert!(rt; bytes_of(alloc, second)? == two);
+    let one = stopped(&rt, alloc, &world, one, draws)?;
+    let two = passed(&rt, alloc, &world, other, lent)?;
+    assert!(rt; one == log_of(alloc, &[step(Kind::Lock, 1, 5)])?);
+    assert!(rt; two == log_of(alloc, &[step(Kind::Lock, 1, 6), step(Kind::Unlock, 1, 7)])?);
     Ok(())
 }
 

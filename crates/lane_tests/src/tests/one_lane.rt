@@ -10,7 +10,7 @@ ghost use Rattle.shared_words.specs.Handles.{Belongs};
 ghost use Rattle.lane_runner.specs.Alone.{IsAlone};
 ghost use Rattle.lane_runner.specs.Phase.{IsOfTeam};
 
-use crate::tests::support::{buffer_failing, bytes_of, without_memory};
+use crate::tests::support::{buffer_failing, bytes_of, log_of, without_memory};
 use kernel_syntax::{Array, Name, Stmt};
 use lane_runner::{Frame, Halt, Locals, Track, World};
 use log_format::{Kind, Record};
@@ -133,4 +133,39 @@ pub(crate) fn alone<R: Wait>(
     requires alone { IsAlone 1 [] (stmt_code stmt.now Done) }
 {
     executed(rt, alloc, setting, stmt)
+}
+
+/// Whether the lane goes on that executes a statement of its team, and leaves these records.
+pub(crate) fn goes_on<R: Wait>(
+    rt: &R,
+    alloc: Global,
+    setting: &Setting,
+    stmt: &Stmt,
+    records: &[Record],
+) -> Result<bool, Fail>
+    requires width { IsWidth setting.now.width }
+    requires lane { setting.now.lane < 2 }
+    requires bounded { IsBoundedCode (stmt_code stmt.now Done) }
+    requires own { IsOfTeam 1 (stmt_code stmt.now Done) }
+    requires drawn { drawn_count (part_of_stmt stmt.now ∷ []) ≤ 1 }
+{
+    let left = executed(rt, alloc, setting, stmt)?;
+    Ok(left.halt.is_none() && left.bytes == log_of(alloc, records)?)
+}
+
+/// The same of a statement without its team.
+pub(crate) fn goes_on_alone<R: Wait>(
+    rt: &R,
+    alloc: Global,
+    setting: &Setting,
+    stmt: &Stmt,
+    records: &[Record],
+) -> Result<bool, Fail>
+    requires width { IsWidth setting.now.width }
+    requires lane { setting.now.lane < 2 }
+    requires bounded { IsBoundedCode (stmt_code stmt.now Done) }
+    requires alone { IsAlone 1 [] (stmt_code stmt.now Done) }
+{
+    let left = alone(rt, alloc, setting, stmt)?;
+    Ok(left.halt.is_none() && left.bytes == log_of(alloc, records)?)
 }

@@ -6,11 +6,11 @@ ghost use Rattle.kernel_syntax.specs.Program.{code_of, stmt_code, term_of};
 ghost use Rattle.kernel_syntax.specs.Tree.{Done};
 ghost use Rattle.lane_runner.specs.Alone.{IsAlone};
 
-use crate::tests::one_lane::{Setting, accessed, alone, lane_over};
+use crate::tests::one_lane::{Left, Setting, accessed, alone, goes_on_alone, lane_over};
 use crate::tests::support::{in_loop, log_of, nothing, only, step, tested};
 use kernel_syntax::{Body, Expr, Op, Stmt};
 use lane_runner::Halt;
-use log_format::Kind;
+use log_format::{Kind, Record};
 use std::alloc::Global;
 use std::sync::Wait;
 use std::test::Fail;
@@ -61,7 +61,7 @@ fn store(index: Expr, value: Expr, line: u32) -> Stmt
 }
 
 // The sum of the first element and a number is stored in the element of variable 0.
-pub(crate) fn sum(alloc: Global, number: i64) -> Result<Stmt, Fail>
+fn sum(alloc: Global, number: i64) -> Result<Stmt, Fail>
     ensures bounded { IfOk result (λ s. IsBoundedCode (stmt_code s Done)) }
     ensures alone { IfOk result (λ s. IsAlone 1 [] (stmt_code s Done)) }
     ensures held { IfOk result (λ s. IsAlone 1 (0 ∷ []) (stmt_code s Done)) }
@@ -128,67 +128,71 @@ fn a_variable_is_set_without_a_record(rt: HostRuntime) -> Result<(), Fail> {
     let value = binary(alloc, Op::Sub, Expr::Number(2), Expr::Number(5))?;
     let left = alone(&rt, alloc, &lane_over(8, 0), &set(value))?;
     assert!(rt; left.halt.is_none());
-    assert_eq!(rt; left.variable, -3);
+    assert!(rt; left.variable == -3);
     assert!(rt; left.bytes == log_of(alloc, &[])?);
     Ok(())
+}
+
+// A body in which the sum of the first element and a number is stored in the element of variable 0.
+pub(crate) fn summing(alloc: Global, number: i64) -> Result<Body, Fail>
+    ensures bounded { IfOk result (λ b. IsBoundedCode (code_of b.stmts.items)) }
+    ensures alone { IfOk result (λ b. IsAlone 1 [] (code_of b.stmts.items)) }
+{
+    only(alloc, sum(alloc, number)?)
+}
+
+// The records of a turn: the first element is read, and another is written.
+fn turn(width: u8, read: i64, element: u64, written: i64) -> [Record; 2] {
+    [
+        accessed(Kind::Read, width, 0, read),
+        accessed(Kind::Write, width, element, written),
+    ]
 }
 
 #[test]
 fn a_value_is_read_before_the_store_that_it_is_for(rt: HostRuntime) -> Result<(), Fail> {
     let alloc = rt.alloc();
-    let left = alone(&rt, alloc, &lane_over(8, 0), &sum(alloc, 1)?)?;
-    assert!(rt; left.halt.is_none());
-    let records = [
-        accessed(Kind::Read, 8, 0, 0),
-        accessed(Kind::Write, 8, 0, 1),
-    ];
-    assert!(rt; left.bytes == log_of(alloc, &records)?);
+    let stmt = sum(alloc, 1)?;
+    assert!(rt; goes_on_alone(&rt, alloc, &lane_over(8, 0), &stmt, &turn(8, 0, 0, 1))?);
     Ok(())
 }
 
 #[test]
 fn a_test_chooses_what_is_executed(rt: HostRuntime) -> Result<(), Fail> {
     let alloc = rt.alloc();
-    let no = tested(nothing(alloc), only(alloc, sum(alloc, 1)?)?);
-    let left = alone(&rt, alloc, &lane_over(8, 0), &no)?;
-    let records = [
-        accessed(Kind::Read, 8, 0, 0),
-        accessed(Kind::Write, 8, 0, 1),
-    ];
-    assert!(rt; left.bytes == log_of(alloc, &records)?);
+    let no = tested(nothing(alloc), summing(alloc, 1)?);
+    assert!(rt; goes_on_alone(&rt, alloc, &lane_over(8, 0), &no, &turn(8, 0, 0, 1))?);
+    Ok(())
+}
 
-    let yes = tested(only(alloc, sum(alloc, 1)?)?, nothing(alloc));
+#[test]
+fn a_test_that_holds_chooses_the_other_body(rt: HostRuntime) -> Result<(), Fail> {
+    let alloc = rt.alloc();
+    let yes = tested(summing(alloc, 1)?, nothing(alloc));
     let second = in_loop(0, only(alloc, yes)?);
-    let left = alone(&rt, alloc, &lane_over(8, 0), &second)?;
-    let records = [
-        accessed(Kind::Read, 8, 0, 0),
-        accessed(Kind::Write, 8, 1, 1),
-    ];
-    assert!(rt; left.bytes == log_of(alloc, &records)?);
+    assert!(rt; goes_on_alone(&rt, alloc, &lane_over(8, 0), &second, &turn(8, 0, 1, 1))?);
     Ok(())
 }
 
 #[test]
 fn a_loop_has_the_turns_of_its_bounds(rt: HostRuntime) -> Result<(), Fail> {
     let alloc = rt.alloc();
-    let lane = lane_over(8, 1);
-    let fixed = in_loop(0, only(alloc, sum(alloc, 5)?)?);
-    let left = alone(&rt, alloc, &lane, &fixed)?;
+    let fixed = in_loop(0, summing(alloc, 5)?);
     let records = [
         accessed(Kind::Read, 8, 0, 0),
         accessed(Kind::Write, 8, 0, 5),
         accessed(Kind::Read, 8, 0, 5),
         accessed(Kind::Write, 8, 1, 10),
     ];
-    assert!(rt; left.bytes == log_of(alloc, &records)?);
+    assert!(rt; goes_on_alone(&rt, alloc, &lane_over(8, 1), &fixed, &records)?);
+    Ok(())
+}
 
-    let free = from_lane_to_span(only(alloc, sum(alloc, 5)?)?);
-    let left = alone(&rt, alloc, &lane, &free)?;
-    let records = [
-        accessed(Kind::Read, 8, 0, 0),
-        accessed(Kind::Write, 8, 1, 5),
-    ];
-    assert!(rt; left.bytes == log_of(alloc, &records)?);
+#[test]
+fn a_loop_starts_where_its_lane_is(rt: HostRuntime) -> Result<(), Fail> {
+    let alloc = rt.alloc();
+    let free = from_lane_to_span(summing(alloc, 5)?);
+    assert!(rt; goes_on_alone(&rt, alloc, &lane_over(8, 1), &free, &turn(8, 0, 1, 5))?);
     Ok(())
 }
 
@@ -196,28 +200,22 @@ fn a_loop_has_the_turns_of_its_bounds(rt: HostRuntime) -> Result<(), Fail> {
 fn a_critical_section_is_between_the_steps_on_its_mutex(rt: HostRuntime) -> Result<(), Fail> {
     let alloc = rt.alloc();
     let section = critical(alloc, sum(alloc, 1)?)?;
-    let left = alone(&rt, alloc, &lane_over(8, 0), &section)?;
-    assert!(rt; left.halt.is_none());
     let records = [
         step(Kind::Lock, 0, 7),
         accessed(Kind::Read, 8, 0, 0),
         accessed(Kind::Write, 8, 0, 1),
         step(Kind::Unlock, 0, 8),
     ];
-    assert!(rt; left.bytes == log_of(alloc, &records)?);
+    assert!(rt; goes_on_alone(&rt, alloc, &lane_over(8, 0), &section, &records)?);
     Ok(())
 }
 
 #[test]
 fn a_stop_in_a_critical_section_puts_no_more(rt: HostRuntime) -> Result<(), Fail> {
     let alloc = rt.alloc();
-    let outside = store(Expr::Number(-1), Expr::Number(1), 5);
-    let section = critical(alloc, outside)?;
+    let section = critical(alloc, store(Expr::Number(-1), Expr::Number(1), 5))?;
     let left = alone(&rt, alloc, &lane_over(8, 0), &section)?;
-    let Some(Halt::Index { line }) = left.halt else {
-        panic!(rt; "no stop");
-    };
-    assert_eq!(rt; line, 5);
+    assert!(rt; matches!(left.halt, Some(Halt::Index { line: 5 })));
     assert!(rt; left.bytes == log_of(alloc, &[step(Kind::Lock, 0, 7)])?);
     Ok(())
 }
@@ -227,10 +225,7 @@ fn an_index_outside_its_array_stops(rt: HostRuntime) -> Result<(), Fail> {
     let alloc = rt.alloc();
     let outside = store(Expr::Number(8), Expr::Number(1), 5);
     let left = alone(&rt, alloc, &lane_over(8, 1), &outside)?;
-    let Some(Halt::Index { line }) = left.halt else {
-        panic!(rt; "no stop");
-    };
-    assert_eq!(rt; line, 5);
+    assert!(rt; matches!(left.halt, Some(Halt::Index { line: 5 })));
     assert!(rt; left.bytes == log_of(alloc, &[])?);
     Ok(())
 }
@@ -248,18 +243,17 @@ fn quotient(alloc: Global) -> Result<Stmt, Fail>
 #[test]
 fn a_zero_divisor_stops(rt: HostRuntime) -> Result<(), Fail> {
     let alloc = rt.alloc();
-    let stmt = quotient(alloc)?;
-    let left = alone(&rt, alloc, &lane_over(8, 1), &stmt)?;
-    let Some(Halt::DivZero { line }) = left.halt else {
-        panic!(rt; "no stop");
-    };
-    assert_eq!(rt; line, 5);
+    let left = alone(&rt, alloc, &lane_over(8, 1), &quotient(alloc)?)?;
+    assert!(rt; matches!(left.halt, Some(Halt::DivZero { line: 5 })));
     assert!(rt; left.bytes == log_of(alloc, &[])?);
+    Ok(())
+}
 
-    let other = alone(&rt, alloc, &lane_over(8, 0), &stmt)?;
-    assert!(rt; other.halt.is_none());
+#[test]
+fn a_divisor_that_is_not_zero_divides(rt: HostRuntime) -> Result<(), Fail> {
+    let alloc = rt.alloc();
     let records = [accessed(Kind::Write, 8, 0, -1)];
-    assert!(rt; other.bytes == log_of(alloc, &records)?);
+    assert!(rt; goes_on_alone(&rt, alloc, &lane_over(8, 0), &quotient(alloc)?, &records)?);
     Ok(())
 }
 
@@ -274,15 +268,14 @@ fn holds<R: Wait>(
 ) -> Result<bool, Fail>
     requires { IsWidth width }
 {
-    let turns = in_loop(0, only(alloc, sum(alloc, number)?)?);
-    let left = alone(rt, alloc, &lane_over(width, 0), &turns)?;
+    let turns = in_loop(0, summing(alloc, number)?);
     let records = [
         accessed(Kind::Read, width, 0, 0),
         accessed(Kind::Write, width, 0, held),
         accessed(Kind::Read, width, 0, held),
         accessed(Kind::Write, width, 1, twice),
     ];
-    Ok(left.bytes == log_of(alloc, &records)?)
+    goes_on_alone(rt, alloc, &lane_over(width, 0), &turns, &records)
 }
 
 #[test]
@@ -299,24 +292,26 @@ fn an_element_has_the_low_bytes_of_a_value(rt: HostRuntime) -> Result<(), Fail> 
     Ok(())
 }
 
+// What a lane leaves whose log fails at this call, of a loop of two turns.
+fn left_failing<R: Wait>(rt: &R, alloc: Global, call: u64) -> Result<Left, Fail> {
+    let turns = in_loop(0, summing(alloc, 5)?);
+    alone(rt, alloc, &failing(call), &turns)
+}
+
 #[test]
 fn a_call_that_fails_leaves_the_records_before(rt: HostRuntime) -> Result<(), Fail> {
     let alloc = rt.alloc();
-    let turns = in_loop(0, only(alloc, sum(alloc, 5)?)?);
-    let all = alone(&rt, alloc, &lane_over(8, 0), &turns)?.bytes;
-    assert_eq!(rt; all.len(), 104);
-
-    let second = alone(&rt, alloc, &failing(2), &turns)?;
-    assert!(rt; matches!(second.halt, Some(Halt::Trouble(Trouble::Failed))));
-    assert_eq!(rt; second.bytes.len(), 32);
-    assert!(rt; all.starts_with(&second.bytes));
-
-    let third = alone(&rt, alloc, &failing(3), &turns)?;
-    assert!(rt; third.halt.is_none());
-    assert_eq!(rt; third.bytes.len(), 80);
-    assert!(rt; all.starts_with(&third.bytes));
-
-    let fourth = alone(&rt, alloc, &failing(4), &turns)?;
-    assert!(rt; fourth.bytes == all);
+    let all = left_failing(&rt, alloc, 0)?.bytes;
+    assert!(rt; all.len() == 104);
+    for (call, stops, length) in [(2, true, 32), (3, false, 80), (4, false, 104)] {
+        let left = left_failing(&rt, alloc, call)?;
+        let failed = matches!(left.halt, Some(Halt::Trouble(Trouble::Failed)));
+        assert!(rt;
+            failed == stops && left.halt.is_some() == stops,
+            "at call {call}"
+        );
+        assert!(rt; left.bytes.len() == length, "at call {call}");
+        assert!(rt; all.starts_with(&left.bytes), "at call {call}");
+    }
     Ok(())
 }

@@ -52,29 +52,27 @@ fn operations_wrap_round_and_compare(rt: HostRuntime) {
 
 #[test]
 fn stored_values_keep_their_low_bits(rt: HostRuntime) {
-    assert_eq!(rt; fit(200, 1), -56);
-    assert_eq!(rt; fit(127, 1), 127);
-    assert_eq!(rt; fit(128, 1), -128);
-    assert_eq!(rt; fit(-129, 1), 127);
-    assert_eq!(rt; fit(0x1_8000, 2), -0x8000);
-    assert_eq!(rt; fit(-1, 2), -1);
-    assert_eq!(rt; fit(0x8000_0000, 4), -0x8000_0000);
-    assert_eq!(rt; fit(0x1_2345_6789, 4), 0x2345_6789);
-    assert_eq!(rt; fit(LEAST, 4), 0);
-    assert_eq!(rt; fit(LEAST, 8), LEAST);
-    assert_eq!(rt; fit(GREATEST, 8), GREATEST);
+    assert!(rt; fit(200, 1) == -56);
+    assert!(rt; fit(127, 1) == 127);
+    assert!(rt; fit(128, 1) == -128);
+    assert!(rt; fit(-129, 1) == 127);
+    assert!(rt; fit(0x1_8000, 2) == -0x8000);
+    assert!(rt; fit(-1, 2) == -1);
+    assert!(rt; fit(0x8000_0000, 4) == -0x8000_0000);
+    assert!(rt; fit(0x1_2345_6789, 4) == 0x2345_6789);
+    assert!(rt; fit(LEAST, 4) == 0);
+    assert!(rt; fit(LEAST, 8) == LEAST);
+    assert!(rt; fit(GREATEST, 8) == GREATEST);
 }
 
 #[test]
 fn eight_iterations_on_three_lanes(rt: HostRuntime) {
-    assert_eq!(rt; even_share(8, 0, 3), (0, 3));
-    assert_eq!(rt; even_share(8, 1, 3), (3, 3));
-    assert_eq!(rt; even_share(8, 2, 3), (6, 2));
-    assert_eq!(rt; even_share(0, 1, 2), (0, 0));
-    assert_eq!(rt;
-        even_share(u64::MAX, 63, 64),
-        (u64::MAX - 0x3ff_ffff_ffff_ffff, 0x3ff_ffff_ffff_ffff)
-    );
+    assert!(rt; even_share(8, 0, 3) == (0, 3));
+    assert!(rt; even_share(8, 1, 3) == (3, 3));
+    assert!(rt; even_share(8, 2, 3) == (6, 2));
+    assert!(rt; even_share(0, 1, 2) == (0, 0));
+    let last = (u64::MAX - 0x3ff_ffff_ffff_ffff, 0x3ff_ffff_ffff_ffff);
+    assert!(rt; even_share(u64::MAX, 63, 64) == last);
 }
 
 fn array(name: &str, width: u8, count: u32) -> Result<Array, Fail>
@@ -121,16 +119,17 @@ fn three_arrays_are_laid_out(rt: HostRuntime) -> Result<(), Fail> {
     arrays.push(array("c", 4, 1)?)?;
     let mut kernel = kernel(alloc, arrays)?;
     layout(&mut kernel);
-    let laid = kernel.arrays.as_slice();
-    assert_eq!(rt; laid.len(), 3);
-    assert_eq!(rt; (laid[0].base, laid[0].first), (4096, 0));
-    assert_eq!(rt; (laid[1].base, laid[1].first), (4224, 9));
-    assert_eq!(rt; (laid[2].base, laid[2].first), (4288, 73));
-    assert_eq!(rt; laid[1].name.as_str(), "narrow");
-    assert_eq!(rt; (laid[1].width, laid[1].count), (1, 64));
-    assert_eq!(rt; kernel.mutexes.as_slice().len(), 1);
-    assert_eq!(rt; kernel.main.body.stmts.len(), 1);
-    assert_eq!(rt; kernel.slots, 1);
+    let [first, narrow, last] = kernel.arrays.as_slice() else {
+        panic!(rt; "not three arrays");
+    };
+    assert!(rt; first.base == 4096 && first.first == 0);
+    assert!(rt; narrow.base == 4224 && narrow.first == 9);
+    assert!(rt; last.base == 4288 && last.first == 73);
+    assert!(rt; narrow.name.as_str() == "narrow");
+    assert!(rt; narrow.width == 1 && narrow.count == 64);
+    assert!(rt; kernel.mutexes.as_slice().len() == 1);
+    assert!(rt; kernel.main.body.stmts.len() == 1);
+    assert!(rt; kernel.slots == 1);
     Ok(())
 }
 

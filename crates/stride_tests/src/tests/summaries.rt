@@ -27,11 +27,8 @@ fn copies_an_access(rt: HostRuntime) -> Result<(), Fail> {
     };
     let same = access.copy();
     assert!(rt; same.write);
-    assert_eq!(rt;
-        (same.size, same.site, same.line, same.addr),
-        (8, 1, 5, 4096)
-    );
-    assert_eq!(rt; same.held.ids(), [3].as_slice());
+    assert!(rt; (same.size, same.site, same.line, same.addr) == (8, 1, 5, 4096));
+    assert!(rt; same.held.ids() == [3].as_slice());
     Ok(())
 }
 
@@ -47,7 +44,7 @@ fn a_run_goes_from_its_base_to_its_last_byte(rt: HostRuntime) -> Result<(), Fail
         site: 1,
         held: holding(&[])?,
     };
-    assert_eq!(rt; (run.low(), run.high()), (4096, 4207));
+    assert!(rt; (run.low(), run.high()) == (4096, 4207));
     let widest = Run {
         base: 0,
         stride: (1 << 48) - 1,
@@ -58,7 +55,7 @@ fn a_run_goes_from_its_base_to_its_last_byte(rt: HostRuntime) -> Result<(), Fail
         site: 0,
         held: holding(&[])?,
     };
-    assert_eq!(rt; (widest.low(), widest.high()), (0, (1 << 48) - 1));
+    assert!(rt; (widest.low(), widest.high()) == (0, (1 << 48) - 1));
     Ok(())
 }
 
@@ -96,18 +93,13 @@ fn runs_of(alloc: Global, writes: &[(u32, u64)]) -> Result<Vec<Run>, Memory> {
 fn an_address_that_comes_again_is_there_once(rt: HostRuntime) -> Result<(), Fail> {
     let alloc = rt.alloc();
     let again = runs_of(alloc, &[(1, 4096), (1, 4104), (1, 4096)])?;
-    assert_eq!(rt;
-        shapes(alloc, &again)?.as_slice(),
-        [(1, 4096, 8, 2)].as_slice()
-    );
+    assert!(rt; shapes(alloc, &again)?.as_slice() == [(1, 4096, 8, 2)].as_slice());
     let gap = runs_of(alloc, &[(1, 4096), (1, 4104), (1, 4112), (1, 4200)])?;
-    assert_eq!(rt;
-        shapes(alloc, &gap)?.as_slice(),
-        [(1, 4096, 8, 3), (1, 4200, 0, 1)].as_slice()
-    );
+    let two = [(1, 4096, 8, 3), (1, 4200, 0, 1)];
+    assert!(rt; shapes(alloc, &gap)?.as_slice() == two.as_slice());
     let top = runs_of(alloc, &[(1, (1 << 48) - 8), (1, 0)])?;
-    assert_eq!(rt; top.len(), 1);
-    assert_eq!(rt; top[0].high(), (1 << 48) - 1);
+    assert!(rt; top.len() == 1);
+    assert!(rt; top[0].high() == (1 << 48) - 1);
     Ok(())
 }
 
@@ -146,7 +138,7 @@ fn keys_that_take_turns_in_any_order_have_runs_of_their_own(rt: HostRuntime) -> 
     let runs = runs_of(alloc, &writes)?;
     let mut found = shapes(alloc, &runs)?;
     found.sort()?;
-    assert_eq!(rt; found.len(), 10);
+    assert!(rt; found.len() == 10);
     for (line, shape) in found.iter().enumerate() {
         assert_eq!(rt; *shape, (line as u32, 4096, 24, 10));
     }
@@ -213,8 +205,8 @@ fn the_last_byte_may_be_the_last_there_is(rt: HostRuntime) -> Result<(), Fail> {
         held: Held::none(),
     })?;
     let runs = summary.finish();
-    assert_eq!(rt; runs.len(), 1);
+    assert!(rt; runs.len() == 1);
     let last = (1 << 48) - 1;
-    assert_eq!(rt; (runs[0].low(), runs[0].high()), (last, last));
+    assert!(rt; (runs[0].low(), runs[0].high()) == (last, last));
     Ok(())
 }

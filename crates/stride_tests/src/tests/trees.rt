@@ -82,9 +82,9 @@ fn finds_the_runs_that_a_range_meets(rt: HostRuntime) -> Result<(), Fail> {
     let alloc = rt.alloc();
     let runs = [run(1, 0, 0), run(2, 10, 0), run(3, 20, 0)];
     let tree = Tree::build(alloc, &runs)?;
-    assert_eq!(rt; tree.levels(), 2);
+    assert!(rt; tree.levels() == 2);
     let (lines, answer) = lines_met(alloc, &tree, (2, 11), 9);
-    assert_eq!(rt; lines.as_slice(), [1, 2].as_slice());
+    assert!(rt; lines.as_slice() == [1, 2].as_slice());
     assert!(rt; answer.is_ok());
     Ok(())
 }
@@ -93,7 +93,7 @@ fn finds_the_runs_that_a_range_meets(rt: HostRuntime) -> Result<(), Fail> {
 fn a_tree_of_no_run_and_one_of_one(rt: HostRuntime) -> Result<(), Fail> {
     let alloc = rt.alloc();
     let none = Tree::build(alloc, &[])?;
-    assert_eq!(rt; none.levels(), 0);
+    assert!(rt; none.levels() == 0);
     let (lines, answer) = lines_met(alloc, &none, (0, u64::MAX), 9);
     assert!(rt; lines.is_empty() && answer.is_ok());
     let runs = [run(7, 100, 50)];
@@ -105,7 +105,7 @@ fn a_tree_of_no_run_and_one_of_one(rt: HostRuntime) -> Result<(), Fail> {
         ((154, 200), 0),
     ] {
         let (lines, answer) = lines_met(alloc, &one, bytes, 9);
-        assert_eq!(rt; lines.len(), found);
+        assert!(rt; lines.len() == found);
         assert!(rt; answer.is_ok());
     }
     Ok(())
@@ -142,16 +142,13 @@ fn meets_what_a_filter_finds(rt: HostRuntime) -> Result<(), Fail> {
     let alloc = rt.alloc();
     let runs = drawn_runs(alloc)?;
     let tree = Tree::build(alloc, &runs)?;
-    assert_eq!(rt; tree.levels(), 10);
+    assert!(rt; tree.levels() == 10);
     for number in 0..500u64 {
         let lo = number * 53 % 7000;
         let bytes = (lo, lo + number % 7 * 11);
         let (lines, answer) = lines_met(alloc, &tree, bytes, 1000);
         assert!(rt; answer.is_ok());
-        assert_eq!(rt;
-            lines.as_slice(),
-            lines_by_filter(alloc, &runs, bytes)?.as_slice()
-        );
+        assert!(rt; lines.as_slice() == lines_by_filter(alloc, &runs, bytes)?.as_slice());
     }
     Ok(())
 }
@@ -163,8 +160,8 @@ fn hands_over_nothing_after_a_refusal(rt: HostRuntime) -> Result<(), Fail> {
     let tree = Tree::build_all(alloc, &[parts[0].as_slice(), parts[1].as_slice()])?;
     for most in 0..6usize {
         let (lines, answer) = lines_met(alloc, &tree, (0, 99), most);
-        assert_eq!(rt; lines.as_slice(), &[2, 3, 4, 1][..most.min(4)]);
-        assert_eq!(rt; answer.is_err(), most < 4);
+        assert!(rt; lines.as_slice() == &[2, 3, 4, 1][..most.min(4)]);
+        assert!(rt; answer.is_err() == most < 4);
     }
     Ok(())
 }

@@ -1,5 +1,7 @@
-use crate::{Segment, Walk, first_label};
+//! The barrier intervals of one log, walked record by record.
+
 use log_format::{Kind, Record};
+use log_segment::{Segment, Walk, first_label};
 use mutex_set::Held;
 use span_label::{Label, Triple};
 use std::test::Fail;
@@ -24,20 +26,22 @@ fn a_root_alone_has_one_segment(rt: HostRuntime) -> Result<(), Fail> {
     let mut found: Vec<Segment> = Vec::new(rt.alloc());
     walk.step(rt.alloc(), &path, 1, &WRITE, &held, &mut found)?;
     walk.close(&path, 2, &mut found)?;
-    assert_eq!(rt; found.len(), 1);
-    let segment = &found[0];
-    assert_eq!(rt; (segment.first, segment.last), (1, 2));
+    let [segment] = found.as_slice() else {
+        panic!(rt; "not one segment");
+    };
+    assert!(rt; segment.first == 1 && segment.last == 2);
     assert!(rt; segment.path.steps().is_empty());
     let start = Triple {
         offset: 0,
         span: 1,
         barrier: 0,
     };
-    assert_eq!(rt; segment.label.triples(), [start].as_slice());
-    assert_eq!(rt; segment.runs.len(), 1);
-    let run = &segment.runs[0];
+    assert!(rt; segment.label.triples() == [start].as_slice());
+    let [run] = segment.runs.as_slice() else {
+        panic!(rt; "not one run");
+    };
     assert!(rt; run.write && run.held.ids().is_empty());
-    assert_eq!(rt; (run.size, run.site, run.line), (8, 3, 5));
-    assert_eq!(rt; (run.base, run.stride, run.count), (4096, 0, 1));
+    assert!(rt; run.size == 8 && run.site == 3 && run.line == 5);
+    assert!(rt; run.base == 4096 && run.stride == 0 && run.count == 1);
     Ok(())
 }

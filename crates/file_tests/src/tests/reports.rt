@@ -1,4 +1,6 @@
-use crate::report;
+//! The report of the pairs that race: its lines, each of which is one write.
+
+use race_report::report;
 use std::alloc::{AllocError, Global};
 use std::collections::BTreeSet;
 use std::test::Fail;
@@ -18,10 +20,8 @@ fn pairs_are_in_order_and_counted(rt: HostRuntime) -> Result<(), Fail> {
     let mut out = MemOut::new(alloc)?;
     report(alloc, &mut out, &BTreeSet::new(alloc))?;
     report(alloc, &mut out, &three_pairs(alloc)?)?;
-    assert_eq!(rt;
-        out.written(),
-        b"races 0\nrace 5 5\nrace 5 6\nrace 12 17\nraces 3\n".as_slice()
-    );
+    let text = b"races 0\nrace 5 5\nrace 5 6\nrace 12 17\nraces 3\n";
+    assert!(rt; out.written() == text.as_slice());
     Ok(())
 }
 
@@ -39,11 +39,14 @@ fn each_line_is_one_write(rt: HostRuntime) -> Result<(), Fail> {
     for (call, prefix) in prefixes {
         let mut out = MemOut::new(alloc)?;
         out.fail(&[call])?;
-        assert_eq!(rt; report(alloc, &mut out, &pairs), Err(Trouble::Failed));
-        assert_eq!(rt; out.written(), prefix);
+        assert!(rt;
+            report(alloc, &mut out, &pairs) == Err(Trouble::Failed),
+            "at {call}"
+        );
+        assert!(rt; out.written() == prefix, "at {call}");
     }
     let mut out = MemOut::new(alloc)?;
     out.fail(&[5])?;
-    assert_eq!(rt; report(alloc, &mut out, &pairs), Ok(()));
+    assert!(rt; report(alloc, &mut out, &pairs).is_ok());
     Ok(())
 }

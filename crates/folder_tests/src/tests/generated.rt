@@ -1,4 +1,6 @@
-use crate::{accesses, generate, segments};
+//! A generated run: how its records are spelled, and which logs are there after a call that failed.
+
+use generated_run::{accesses, generate, segments};
 use std::alloc::Global;
 use std::test::Fail;
 use sw_base::{Folder, MemFolder, Trouble};
@@ -39,10 +41,10 @@ fn records_are_spelled_in_their_logs(rt: HostRuntime) -> Result<(), Fail> {
         ("g/t-0.3.swl", 272),
         ("g/index.swi", 440),
     ] {
-        assert_eq!(rt; file(&folder, name).len(), length);
+        assert!(rt; file(&folder, name).len() == length, "of {name}");
     }
-    assert_eq!(rt; accesses(4), 65);
-    assert_eq!(rt; segments(4), 16);
+    assert!(rt; accesses(4) == 65);
+    assert!(rt; segments(4) == 16);
     Ok(())
 }
 
@@ -59,7 +61,7 @@ fn after_a_failed_call_no_later_log_is_there(rt: HostRuntime) -> Result<(), Fail
         folder.fail(&[call])?;
         let failed = matches!(generate(alloc, &mut folder, "g", 1), Err(Trouble::Failed));
         assert!(rt; failed);
-        assert_eq!(rt; size(alloc, &mut folder, "g/other")?, Some(4));
+        assert!(rt; size(alloc, &mut folder, "g/other")? == Some(4));
         // The calls put the root's log, those of the lanes, and the index.
         let names = [
             "g/t.swl",

@@ -1,4 +1,6 @@
-use crate::{Label, Triple};
+//! Offset-span labels of tasks by hand, and which of two is before the other.
+
+use span_label::{Label, Triple};
 
 fn triple(offset: u64, span: u16, barrier: u32) -> Triple {
     Triple {
@@ -15,14 +17,10 @@ fn a_smaller_barrier_number_is_before(rt: HostRuntime) {
     assert!(rt; nested.concurrent(&other));
 
     let after = other.barrier();
-    assert_eq!(rt;
-        nested.triples(),
-        [triple(0, 1, 0), triple(0, 2, 0), triple(1, 2, 0)].as_slice()
-    );
-    assert_eq!(rt;
-        after.triples(),
-        [triple(0, 1, 0), triple(1, 2, 1)].as_slice()
-    );
+    let triples = [triple(0, 1, 0), triple(0, 2, 0), triple(1, 2, 0)];
+    assert!(rt; nested.triples() == triples.as_slice());
+    let triples = [triple(0, 1, 0), triple(1, 2, 1)];
+    assert!(rt; after.triples() == triples.as_slice());
     assert!(rt; nested.before(&after));
     assert!(rt; !after.before(&nested));
     assert!(rt; !nested.concurrent(&after));
@@ -33,14 +31,10 @@ fn a_joined_region_is_before_the_next(rt: HostRuntime) {
     let root = Label::root();
     let first = root.fork(1, 2);
     let second = root.joined().fork(0, 2);
-    assert_eq!(rt;
-        first.triples(),
-        [triple(0, 1, 0), triple(1, 2, 0)].as_slice()
-    );
-    assert_eq!(rt;
-        second.triples(),
-        [triple(1, 1, 0), triple(0, 2, 0)].as_slice()
-    );
+    let triples = [triple(0, 1, 0), triple(1, 2, 0)];
+    assert!(rt; first.triples() == triples.as_slice());
+    let triples = [triple(1, 1, 0), triple(0, 2, 0)];
+    assert!(rt; second.triples() == triples.as_slice());
     assert!(rt; first.before(&second));
     assert!(rt; !second.before(&first));
     assert!(rt; root.before(&first.copy()));
@@ -52,10 +46,8 @@ fn lanes_of_one_team_are_concurrent(rt: HostRuntime) {
     let region = Label::root();
     let two = region.fork(0, 3).joined();
     let other = region.fork(1, 3);
-    assert_eq!(rt;
-        two.triples(),
-        [triple(0, 1, 0), triple(3, 3, 0)].as_slice()
-    );
+    let triples = [triple(0, 1, 0), triple(3, 3, 0)];
+    assert!(rt; two.triples() == triples.as_slice());
     assert!(rt; two.concurrent(&other));
     assert!(rt; region.fork(0, 3).before(&two));
 }

@@ -1,7 +1,7 @@
 //! Files with a kernel, with another text, and none; and a read that fails.
 
-use crate::{KernelRefusal, read_kernel_file, refuse_kernel};
 use command_answer::{KERNEL_REFUSED, READ_FAULT};
+use kernel_file::{KernelRefusal, read_kernel_file, refuse_kernel};
 use kernel_text::KernelWhy;
 use std::alloc::Global;
 use std::test::Fail;
@@ -28,13 +28,13 @@ fn a_file_holds_a_kernel_or_is_refused(rt: HostRuntime) -> Result<(), Fail> {
     let alloc = rt.alloc();
     let text = "array a i64 2\nmain {\na[0] = 1\n}";
     let (arrays, status, _) = read(alloc, text, &[])?;
-    assert_eq!(rt; (arrays, status), (1, 0));
+    assert!(rt; arrays == 1 && status == 0);
     let (_, status, refused) = read(alloc, "main {\nb[0] = 1\n}", &[])?;
-    assert_eq!(rt; status, KERNEL_REFUSED);
-    assert_eq!(rt; refused.as_str(), "kernel line 2: Unknown\n");
+    assert!(rt; status == KERNEL_REFUSED);
+    assert!(rt; refused.as_str() == "kernel line 2: Unknown\n");
     let (_, status, refused) = read(alloc, text, &[1])?;
-    assert_eq!(rt; status, READ_FAULT);
-    assert_eq!(rt; refused.as_str(), "");
+    assert!(rt; status == READ_FAULT);
+    assert!(rt; refused.as_str() == "");
     Ok(())
 }
 
@@ -44,9 +44,9 @@ fn a_missing_file_is_no_kernel(rt: HostRuntime) -> Result<(), Fail> {
     let mut folder = MemFolder::new(alloc)?;
     let mut out = MemOut::new(alloc)?;
     match read_kernel_file(alloc, &mut folder, "k") {
-        Err(why) => assert_eq!(rt; refuse_kernel(alloc, &mut out, why), KERNEL_REFUSED),
+        Err(why) => assert!(rt; refuse_kernel(alloc, &mut out, why) == KERNEL_REFUSED),
         Ok(_) => return Err(Fail::from("a kernel")),
     }
-    assert_eq!(rt; out.written(), b"no kernel\n".as_slice());
+    assert!(rt; out.written() == b"no kernel\n".as_slice());
     Ok(())
 }
