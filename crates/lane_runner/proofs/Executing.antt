@@ -1,5 +1,5 @@
 -- A lane after a phase, and after its End.
-use Rattle.std.proofs.Common.{◌≡◌, refl, ap, sym, ◌∙◌, subst, ℕ, ◌+◌, List, map, ℤ, Option, Some, None, Result, IfOk}
+use Rattle.std.proofs.Common.{◌≡◌, refl, ap, sym, ◌∙◌, subst, ℕ, ◌+◌, List, map, ℤ, None, Result, IfOk}
 use Rattle.std.specs.Prelude.{OnOk, All}
 use denote.Ref.{Bor, MutBor}
 use Rattle.std.specs.Global.{Vec}

@@ -87,9 +87,9 @@ noted path (Ok _) = None
 noted path (Err why) = Some (stop_of path why)
 
 -- what a call of the lane answers, by what it noted
-abbrev pub answer_for : MaybeStop → Result (Unit {0}) Stop
-answer_for None = Ok tt
-answer_for (Some stopped) = Err stopped.1
+abbrev pub answer_noted : MaybeStop → Result (Unit {0}) Stop
+answer_noted None = Ok tt
+answer_noted (Some stopped) = Err stopped.1
 
 -- The lane can execute the items of a phase.
 pub record CanGoOn (w : WorldValue) (items : List Item) (lane : LaneValue) : Type 0 where

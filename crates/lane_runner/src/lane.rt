@@ -1,6 +1,6 @@
 //! A lane of a team, from its first phase to its End.
 ghost use Rattle.std.specs.Prelude.{◌≡◌, ◌≢◌, true, false, ◌≤◌, ◌<◌, All, None};
-ghost use Rattle.lane_runner.specs.Lane.{CanGoOn, Executed, IsLanePath, PutsEnd, answer_for, noted, progress, stop_of, with_hand};
+ghost use Rattle.lane_runner.specs.Lane.{CanGoOn, Executed, IsLanePath, PutsEnd, answer_noted, noted, progress, stop_of, with_hand};
 ghost use Rattle.lane_runner.specs.Phase.{IsPhase};
 ghost use Rattle.lane_runner.specs.Teams.{EachTeamIn, MayFork};
 
@@ -133,7 +133,7 @@ impl<L: Log> Lane<L> {
     // Notes why the lane doesn't go on, if it doesn't.
     fn note(&mut self, answer: Result<(), Halt>) -> Result<(), Stop>
         ensures notes { self.new ≡ record self.old { stopped = noted self.old.path answer } }
-        ensures tells { result ≡ answer_for self.new.stopped }
+        ensures tells { result ≡ answer_noted self.new.stopped }
     {
         self.stopped = noted(&self.path, answer);
         match &self.stopped {
@@ -166,7 +166,7 @@ impl<L: Log> Lane<L> {
         requires number { world.now.chunks.loops < 4294967296 }
         requires runs { All (EachTeamIn (MayFork world.now (F.pre region.now) (F.post region.now) (record { dir = L.dir; path = L.path; text = L.text; faults = L.faults }) self.old.buffer)) phase.now }
         ensures executed { Executed world.now phase.now self.old self.new }
-        ensures tells { result ≡ answer_for self.new.stopped }
+        ensures tells { result ≡ answer_noted self.new.stopped }
     {
         let answer = self.frame.run_phase(phase, rt, alloc, world, region);
         self.note(answer)
@@ -179,7 +179,7 @@ impl<L: Log> Lane<L> {
         requires unrefused { self.old.buffer.refused ≡ None }
         requires line { 1 ≤ line }
         ensures puts { PutsEnd line self.old self.new }
-        ensures tells { result ≡ answer_for self.new.stopped }
+        ensures tells { result ≡ answer_noted self.new.stopped }
     {
         let answer = self.frame.track.finish(alloc, line);
         self.note(answer)
