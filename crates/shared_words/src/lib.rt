@@ -16,8 +16,6 @@ mod chunks;
 mod hand;
 mod rule;
 mod share;
-#[cfg(test)]
-mod tests;
 mod view;
 mod words;
 

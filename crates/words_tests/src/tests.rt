@@ -1,9 +1,10 @@
+//! Hands on words and on counters, alone and on threads.
 ghost use Rattle.std.specs.Prelude.{◌≡◌, ◌<◌, [], IfOk};
 ghost use denote.Param.Send.{IsSync};
 ghost use Rattle.shared_words.specs.Handles.{Belongs, IsFree};
 ghost use Rattle.shared_words.specs.Draws.{whole_share};
 
-use crate::{ChunkHand, Chunks, Hand, Words};
+use shared_words::{ChunkHand, Chunks, Hand, Words};
 use std::alloc::{AllocError, Global};
 use std::sync::Wait;
 use std::test::Fail;

@@ -11,7 +11,7 @@ fn piece(byte: u8) -> [u8; 24] {
 #[test]
 fn a_block_takes_pieces_while_they_fit(rt: HostRuntime) -> Result<(), Fail> {
     let mut block = Block::new(rt.alloc(), 100)?;
-    assert!(rt; block.is_empty());
+    assert!(rt; block.len() == 0);
     for byte in 0..4 {
         assert!(rt; block.push(&piece(byte)), "piece {byte}");
     }
@@ -25,7 +25,7 @@ fn a_block_takes_pieces_while_they_fit(rt: HostRuntime) -> Result<(), Fail> {
     }
 
     block.clear();
-    assert!(rt; block.is_empty());
+    assert!(rt; block.len() == 0);
     assert!(rt; block.bytes() == [].as_slice());
     assert!(rt; block.push(&piece(7)));
     assert!(rt; block.bytes() == piece(7).as_slice());

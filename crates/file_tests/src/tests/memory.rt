@@ -1,5 +1,8 @@
 //! Worked names, and each call of the versions in memory: with ample memory, and failing.
+ghost use Rattle.std.specs.Prelude.{◌≡◌, [], IfOk};
+ghost use Rattle.sw_base.specs.MemLog.{path_of};
 
+use std::alloc::Global;
 use std::cmp::Ordering;
 use std::test::Fail;
 use sw_base::{
@@ -29,19 +32,23 @@ fn a_log_is_named_after_its_steps(rt: HostRuntime) -> Result<(), Fail> {
 #[test]
 fn paths_are_in_order(rt: HostRuntime) {
     let lane = Path::root().child(0, 1, 2);
-    let below = lane.child(3, 0, 1);
     let ascending = [
         Path::root(),
         lane.copy(),
-        below.copy(),
+        lane.child(3, 0, 1),
         Path::root().child(0, 1, 3),
         Path::root().child(0, 2, 1),
         Path::root().child(1, 0, 1),
     ];
     for (low, high) in ascending.iter().zip(ascending.iter().skip(1)) {
-        assert_eq!(rt; low.cmp(high), Ordering::Less);
+        assert!(rt; low.cmp(high) == Ordering::Less);
     }
-    assert_eq!(rt; lane.copy(), lane);
+}
+
+#[test]
+fn a_path_has_its_steps(rt: HostRuntime) {
+    let lane = Path::root().child(0, 1, 2);
+    assert!(rt; lane.copy() == lane);
     let steps = [
         Step {
             region: 0,
@@ -54,7 +61,7 @@ fn paths_are_in_order(rt: HostRuntime) {
             span: 1,
         },
     ];
-    assert_eq!(rt; below.steps(), steps.as_slice());
+    assert!(rt; lane.child(3, 0, 1).steps() == steps.as_slice());
 }
 
 #[test]
@@ -122,25 +129,37 @@ fn calls_of_a_log_fail_by_their_number(rt: HostRuntime) -> Result<(), Fail> {
     Ok(())
 }
 
-#[test]
-fn planned_calls_of_later_logs_fail(rt: HostRuntime) -> Result<(), Fail> {
-    let alloc = rt.alloc();
+// A root's log, in whose folder calls on it and on the log of a lane are planned to fail.
+fn planned_root(alloc: Global) -> Result<MemLog, Fail>
+    ensures { IfOk result (λ log. path_of log ≡ []) }
+{
     let mut folder = MemFolder::new(alloc)?;
     folder.fail_log(&Path::root(), &[2])?;
     folder.fail_log(&Path::root().child(0, 1, 2), &[1, 3])?;
-    let mut root = folder.root(alloc, "d")?;
+    Ok(folder.root(alloc, "d")?)
+}
+
+// What each append of three pieces answers.
+fn three_appends(alloc: Global, log: &mut MemLog, pieces: [&[u8]; 3]) -> [Result<(), Trouble>; 3] {
+    let [first, second, third] = pieces;
+    [
+        log.append(alloc, first),
+        log.append(alloc, second),
+        log.append(alloc, third),
+    ]
+}
+
+#[test]
+fn planned_calls_of_later_logs_fail(rt: HostRuntime) -> Result<(), Fail> {
+    let alloc = rt.alloc();
+    let mut root = planned_root(alloc)?;
     root.append(alloc, b"ab")?;
     assert!(rt; root.child(alloc, 0, 0, 2).err() == Some(Trouble::Failed));
     let mut first = root.child(alloc, 0, 0, 2)?;
+    first.append(alloc, b"x")?;
     let mut second = root.child(alloc, 0, 1, 2)?;
-    let answers = [
-        first.append(alloc, b"x"),
-        second.append(alloc, b"yz"),
-        second.append(alloc, b"u"),
-        second.append(alloc, b"vw"),
-    ];
-    let failed = Err(Trouble::Failed);
-    assert!(rt; answers == [Ok(()), failed, Ok(()), failed]);
+    let answers = three_appends(alloc, &mut second, [b"yz", b"u", b"vw"]);
+    assert!(rt; answers == [Err(Trouble::Failed), Ok(()), Err(Trouble::Failed)]);
     assert!(rt; has(&second, b"yuv", &[1]));
     Ok(())
 }
@@ -222,25 +241,32 @@ fn a_file_longer_than_a_window_is_read_whole(rt: HostRuntime) -> Result<(), Fail
     let bytes = vec![in alloc; 7u8; 9000]?;
     let mut folder = MemFolder::new(alloc)?;
     folder.hold("name", &bytes)?;
-    let file = read_file(alloc, &mut folder, "name")?;
-    assert!(rt; file.is_some_and(|file| file.len() == 9000));
+    let Some(file) = read_file(alloc, &mut folder, "name")? else {
+        panic!(rt; "no file");
+    };
+    assert!(rt; file.len() == 9000);
     assert!(rt; read_file(alloc, &mut folder, "none")?.is_none());
     Ok(())
 }
 
-// Makes each call of a folder once, the call of this number failing, and tells which answers were errors.
-fn errors_where_one_fails(rt: &HostRuntime, number: u64) -> Result<[bool; 5], Fail> {
-    let alloc = rt.alloc();
+// Makes each call of a folder once, and tells which answers were errors.
+fn errors_of(alloc: Global, folder: &mut MemFolder, log: MemLog) -> [bool; 5] {
+    let mut into = [0; 4];
+    [
+        folder.put(alloc, "name", b"abcd").is_err(),
+        folder.size(alloc, "name").is_err(),
+        folder.read(alloc, "name", 0, &mut into).is_err(),
+        folder.root(alloc, "d").is_err(),
+        folder.seal(alloc, log).is_err(),
+    ]
+}
+
+// The same, the call of this number failing.
+fn errors_where_one_fails(alloc: Global, number: u64) -> Result<[bool; 5], Fail> {
     let mut folder = MemFolder::new(alloc)?;
     folder.fail(&[number])?;
-    let mut into = [0; 4];
     let log = MemLog::new(alloc, "d")?;
-    let put = folder.put(alloc, "name", b"abcd").is_err();
-    let size = folder.size(alloc, "name").is_err();
-    let read = folder.read(alloc, "name", 0, &mut into).is_err();
-    let root = folder.root(alloc, "d").is_err();
-    let seal = folder.seal(alloc, log).is_err();
-    Ok([put, size, read, root, seal])
+    Ok(errors_of(alloc, &mut folder, log))
 }
 
 #[test]
@@ -255,7 +281,7 @@ fn calls_of_a_folder_fail_by_their_number(rt: HostRuntime) -> Result<(), Fail> {
     ];
     for (number, due) in table {
         assert_eq!(rt;
-            errors_where_one_fails(&rt, number)?,
+            errors_where_one_fails(rt.alloc(), number)?,
             due,
             "at call {number}"
         );

@@ -1,8 +1,25 @@
 //! Windows over files that are longer, missing, read in short pieces, or not read at all.
+ghost use Rattle.std.specs.Prelude.{◌≡◌, IsTrue, IfOk};
 
 use std::alloc::Global;
 use std::test::Fail;
-use sw_base::{MemFolder, ShortReads, Trouble, Window};
+use sw_base::{Folder, MemFolder, ShortReads, Trouble, Window};
+
+// Whether these bytes are ahead once the window is filled from the named file until so many are, or the file ends.
+fn shows<F: Folder>(
+    alloc: Global,
+    window: &mut Window,
+    folder: &mut F,
+    name: &str,
+    count: usize,
+    ahead: &[u8],
+) -> Result<bool, Trouble>
+    ensures place { window.new.place ≡ window.old.place }
+    ensures ahead { IfOk result (λ same. IsTrue same → window.new.ahead ≡ ahead.now) }
+{
+    window.fill(alloc, folder, name, count)?;
+    Ok(window.ahead() == ahead)
+}
 
 #[test]
 fn a_file_longer_than_a_window_comes_in_order(rt: HostRuntime) -> Result<(), Fail> {
@@ -11,18 +28,14 @@ fn a_file_longer_than_a_window_comes_in_order(rt: HostRuntime) -> Result<(), Fai
     folder.hold("name", b"abcdefgh")?;
     let mut window = Window::new(alloc, 3)?;
     assert!(rt; window.ahead().is_empty());
-    window.fill(alloc, &mut folder, "name", 2)?;
-    assert!(rt; window.ahead() == b"abc".as_slice());
+    assert!(rt; shows(alloc, &mut window, &mut folder, "name", 2, b"abc")?);
     window.skip(2);
     assert!(rt; window.ahead() == b"c".as_slice());
-    window.fill(alloc, &mut folder, "name", 4)?;
-    assert!(rt; window.ahead() == b"cdef".as_slice());
+    assert!(rt; shows(alloc, &mut window, &mut folder, "name", 4, b"cdef")?);
     window.skip(4);
-    window.fill(alloc, &mut folder, "name", 9)?;
-    assert!(rt; window.ahead() == b"gh".as_slice());
+    assert!(rt; shows(alloc, &mut window, &mut folder, "name", 9, b"gh")?);
     window.skip(2);
-    window.fill(alloc, &mut folder, "name", 1)?;
-    assert!(rt; window.ahead().is_empty());
+    assert!(rt; shows(alloc, &mut window, &mut folder, "name", 1, b"")?);
     Ok(())
 }
 
@@ -32,10 +45,8 @@ fn a_file_that_is_not_there_ends_at_once(rt: HostRuntime) -> Result<(), Fail> {
     let mut folder = MemFolder::new(alloc)?;
     folder.hold("name", b"ab")?;
     let mut window = Window::new(alloc, 1)?;
-    window.fill(alloc, &mut folder, "none", 1)?;
-    assert!(rt; window.ahead().is_empty());
-    window.fill(alloc, &mut folder, "name", 0)?;
-    assert!(rt; window.ahead().is_empty());
+    assert!(rt; shows(alloc, &mut window, &mut folder, "none", 1, b"")?);
+    assert!(rt; shows(alloc, &mut window, &mut folder, "name", 0, b"")?);
     Ok(())
 }
 
@@ -46,13 +57,11 @@ fn a_window_starts_again_at_the_front(rt: HostRuntime) -> Result<(), Fail> {
     folder.hold("name", b"abcdefgh")?;
     folder.hold("other", b"uvwxyz")?;
     let mut window = Window::new(alloc, 4)?;
-    window.fill(alloc, &mut folder, "name", 4)?;
-    assert!(rt; window.ahead() == b"abcd".as_slice());
+    assert!(rt; shows(alloc, &mut window, &mut folder, "name", 4, b"abcd")?);
     window.skip(3);
     window.restart();
     assert!(rt; window.ahead().is_empty());
-    window.fill(alloc, &mut folder, "other", 2)?;
-    assert!(rt; window.ahead() == b"uvwx".as_slice());
+    assert!(rt; shows(alloc, &mut window, &mut folder, "other", 2, b"uvwx")?);
     Ok(())
 }
 
@@ -63,13 +72,19 @@ fn a_short_read_is_gone_on_with(rt: HostRuntime) -> Result<(), Fail> {
     folder.hold("name", b"abcdefghijklmnopqr")?;
     let mut folder = ShortReads { folder };
     let mut window = Window::new(alloc, 16)?;
-    window.fill(alloc, &mut folder, "name", 11)?;
-    assert!(rt; window.ahead() == b"abcdefghijklmno".as_slice());
+    assert!(rt;
+        shows(
+            alloc,
+            &mut window,
+            &mut folder,
+            "name",
+            11,
+            b"abcdefghijklmno"
+        )?
+    );
     window.skip(11);
-    window.fill(alloc, &mut folder, "name", 5)?;
-    assert!(rt; window.ahead() == b"lmnopqr".as_slice());
-    window.fill(alloc, &mut folder, "name", 8)?;
-    assert!(rt; window.ahead() == b"lmnopqr".as_slice());
+    assert!(rt; shows(alloc, &mut window, &mut folder, "name", 5, b"lmnopqr")?);
+    assert!(rt; shows(alloc, &mut window, &mut folder, "name", 8, b"lmnopqr")?);
     Ok(())
 }
 
@@ -84,8 +99,7 @@ fn a_read_that_fails_loses_nothing(rt: HostRuntime) -> Result<(), Fail> {
     assert!(rt; refused == Err(Trouble::Failed));
     assert!(rt; window.ahead() == b"abc".as_slice());
     window.skip(1);
-    window.fill(alloc, &mut folder, "name", 7)?;
-    assert!(rt; window.ahead() == b"bcdefgh".as_slice());
+    assert!(rt; shows(alloc, &mut window, &mut folder, "name", 7, b"bcdefgh")?);
     Ok(())
 }
 

@@ -161,7 +161,7 @@ fn hands_over_nothing_after_a_refusal(rt: HostRuntime) -> Result<(), Fail> {
     for most in 0..6usize {
         let (lines, answer) = lines_met(alloc, &tree, (0, 99), most);
         assert!(rt; lines.as_slice() == &[2, 3, 4, 1][..most.min(4)]);
-        assert!(rt; answer.is_err() == most < 4);
+        assert_eq!(rt; answer.is_err(), most < 4);
     }
     Ok(())
 }

@@ -1,5 +1,5 @@
 use Rattle.std.proofs.Common.{◌+◌, ◌*◌, ◌-◌}
-use Rattle.shared_words.proofs.tests.+team.Given as goal
+use Rattle.words_tests.proofs.tests.+team.Given as goal
 
 abbrev pub decreases-add_in_threads : goal.decreases-add_in_threads
 decreases-add_in_threads g l = 2 * l.threads

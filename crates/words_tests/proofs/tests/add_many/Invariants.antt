@@ -1,6 +1,6 @@
 use Rattle.std.proofs.Common.{◌≡◌}
 use Rattle.shared_words.specs.Handles.{IsFree}
-use Rattle.shared_words.proofs.tests.add_many.Given as goal
+use Rattle.words_tests.proofs.tests.add_many.Given as goal
 
 abbrev pub invariant-loop : goal.invariant-loop
 invariant-loop g l = record {

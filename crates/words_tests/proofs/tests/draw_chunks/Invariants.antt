@@ -1,6 +1,6 @@
 use Rattle.std.proofs.Common.{◌≡◌, ◌+◌, ◌<◌}
 use Rattle.shared_words.specs.Handles.{Belongs}
-use Rattle.shared_words.proofs.tests.draw_chunks.Given as goal
+use Rattle.words_tests.proofs.tests.draw_chunks.Given as goal
 
 abbrev pub invariant-loop-round : goal.invariant-loop-round
 invariant-loop-round l = record {
