@@ -2,10 +2,22 @@
 
 use std::alloc::{AllocError, Global};
 use std::sync::Wait;
-use std::test::Fail;
 use std::thread::Threads;
 use sw_base::{Gate, MemFolder, MemOut, Memory, NoGate};
 use top_call::sword;
+
+/// What makes a kernel run.
+pub const RUN: &[&str] = &["run", "k", "d", "4096"];
+
+/// What compares its folder with it.
+pub const REPLAY: &[&str] = &["replay", "k", "d"];
+
+/// What prints the folder's records.
+pub const SHOW: &[&str] = &["show", "d"];
+
+/// What other words are answered with.
+pub const USAGE_LINE: &str =
+    "usage: sword check DIR W | run KERNEL DIR SIZE | replay KERNEL DIR | show DIR | gen N W\n";
 
 fn arguments(alloc: Global, given: &[&str]) -> Result<Vec<String>, AllocError> {
     let mut all = Vec::new(alloc);
@@ -28,45 +40,16 @@ pub fn asked<R: Threads + Wait + Sync, G: Gate>(
     Ok(sword(rt, alloc, &all, folder, out, gate))
 }
 
-/// The status, and what is printed.
+/// The status where these writes of the output fail, and what is printed.
 pub fn printed<R: Threads + Wait + Sync>(
     rt: &R,
     alloc: Global,
     folder: &mut MemFolder,
     given: &[&str],
+    failing: &[u64],
 ) -> Result<(u8, MemOut), Memory> {
     let mut out = MemOut::new(alloc)?;
+    out.fail(failing)?;
     let status = asked(rt, alloc, folder, given, &mut out, &NoGate)?;
     Ok((status, out))
-}
-
-/// The status where these writes of the output fail, and what is printed.
-pub fn failing_out<R: Threads + Wait + Sync>(
-    rt: &R,
-    alloc: Global,
-    folder: &mut MemFolder,
-    given: &[&str],
-    calls: &[u64],
-) -> Result<(u8, MemOut), Memory> {
-    let mut out = MemOut::new(alloc)?;
-    out.fail(calls)?;
-    let status = asked(rt, alloc, folder, given, &mut out, &NoGate)?;
-    Ok((status, out))
-}
-
-/// Fails, with the status and the text that came out, where they aren't these.
-pub fn answers<R: Threads + Wait + Sync>(
-    rt: &R,
-    alloc: Global,
-    folder: &mut MemFolder,
-    given: &[&str],
-    status: u8,
-    text: &str,
-) -> Result<(), Fail> {
-    let (answered, out) = printed(rt, alloc, folder, given)?;
-    if answered != status || out.written() != text.as_bytes() {
-        let found = String::from_utf8_lossy(alloc, out.written())?;
-        return Err(Fail::from(format!(in alloc; "{answered}: {found}")?));
-    }
-    Ok(())
 }

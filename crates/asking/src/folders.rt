@@ -12,20 +12,39 @@ pub type Step = (u32, u16, u16);
 /// A task: the steps of its path and its records.
 pub type Task<'a> = (&'a [Step], &'a [Rec]);
 
-pub const fn region(line: u32, span: u64) -> Rec {
-    (6, 0, line, 0, span)
+/// The fork of a region in this line, of so many lanes.
+#[macro_export]
+macro_rules! region {
+    ($line:expr, $span:expr) => {
+        (6, 0, $line, 0, $span)
+    };
 }
 
-pub const fn write(line: u32, addr: u64) -> Rec {
-    (2, 8, line, addr, 1)
+/// A store of 8 bytes in this line at this address, of 1 where no value is given.
+#[macro_export]
+macro_rules! store {
+    ($line:expr, $address:expr) => {
+        (2, 8, $line, $address, 1)
+    };
+    ($line:expr, $address:expr, $value:expr) => {
+        (2, 8, $line, $address, $value)
+    };
 }
 
-pub const fn lock(line: u32, mutex: u64) -> Rec {
-    (3, 0, line, mutex, 0)
+/// The lock of a mutex in this line.
+#[macro_export]
+macro_rules! lock {
+    ($line:expr, $mutex:expr) => {
+        (3, 0, $line, $mutex, 0)
+    };
 }
 
-pub const fn unlock(line: u32, mutex: u64) -> Rec {
-    (4, 0, line, mutex, 0)
+/// The unlock of a mutex in this line.
+#[macro_export]
+macro_rules! unlock {
+    ($line:expr, $mutex:expr) => {
+        (4, 0, $line, $mutex, 0)
+    };
 }
 
 pub const BARRIER: Rec = (5, 0, 7, 0, 0);
@@ -69,9 +88,8 @@ fn log_name(alloc: Global, steps: &[Step]) -> Result<String, AllocError> {
     Ok(name)
 }
 
-/// The folder `d` with these tasks, and an index with their rows.
-pub fn made_folder(alloc: Global, tasks: &[Task<'_>]) -> Result<MemFolder, Memory> {
-    let mut folder = MemFolder::new(alloc)?;
+/// Puts the logs of these tasks into the folder `d`, and an index with their rows.
+pub fn hold_tasks(alloc: Global, folder: &mut MemFolder, tasks: &[Task<'_>]) -> Result<(), Memory> {
     let mut index = b"SWIDX001".to_vec(alloc)?;
     for (steps, records) in tasks {
         let mut log = b"SWLOG001".to_vec(alloc)?;
@@ -81,6 +99,5 @@ pub fn made_folder(alloc: Global, tasks: &[Task<'_>]) -> Result<MemFolder, Memor
         folder.hold(&log_name(alloc, steps)?, &log)?;
         spell_row(&mut index, steps, records.len())?;
     }
-    folder.hold("d/index.swi", &index)?;
-    Ok(folder)
+    folder.hold("d/index.swi", &index)
 }

@@ -1,11 +1,18 @@
 //! What the tests of the top call share: it is asked over a folder and an output in memory, and such folders are made record by record.
 //!
+//! A test is a constant table of cases and one call: what is proved of a test grows with its statements, and hardly with a table.
+//!
 //! Nothing here stands in a clause, since tests compare what comes out. The contract of `sword` is met here alone: each proof that calls it
 //! carries all of it.
 #![tactic(auto)]
 
+mod cases;
 mod commands;
 mod folders;
 
-pub use commands::{answers, asked, failing_out, printed};
-pub use folders::{BARRIER, END, ROOT, Rec, Step, Task, lock, made_folder, region, unlock, write};
+pub use cases::{
+    Case, EMPTY, Question, Whole, all_pass, all_run, answers, difference_at, folder_of, holds,
+    no_difference, passes, passes_at, passes_past,
+};
+pub use commands::{REPLAY, RUN, SHOW, USAGE_LINE, asked, printed};
+pub use folders::{BARRIER, END, ROOT, Rec, Step, Task, hold_tasks};

@@ -1,7 +1,8 @@
 //! The checker against a search of the graph of edges: small and slow on purpose, and written from the definition alone.
 ghost use Rattle.std.specs.Prelude.{◌<◌};
 
-use asking::{Rec, Step, answers, made_folder};
+use super::workers::each_answers;
+use asking::{Rec, Step, hold_tasks};
 use command_answer::RACES;
 use std::alloc::{AllocError, Global};
 use std::test::Fail;
@@ -166,7 +167,9 @@ fn folder_of(alloc: Global, tasks: &[Task]) -> Result<MemFolder, Memory> {
     for task in tasks {
         all.push((&task.steps, &task.records))?;
     }
-    made_folder(alloc, &all)
+    let mut folder = MemFolder::new(alloc)?;
+    hold_tasks(alloc, &mut folder, &all)?;
+    Ok(folder)
 }
 
 /// A record of the run, by its log and its place there.
@@ -360,16 +363,7 @@ fn races_are_those_of_a_search_of_the_graph(rt: HostRuntime) -> Result<(), Fail>
         let pairs = race_pairs(alloc, &nodes)?;
         let text = report(alloc, &pairs)?;
         let mut folder = folder_of(alloc, &tasks)?;
-        for workers in ["1", "2", "3", "7", "64"] {
-            answers(
-                &rt,
-                alloc,
-                &mut folder,
-                &["check", "d", workers],
-                RACES,
-                &text,
-            )?;
-        }
+        each_answers(&rt, alloc, &mut folder, RACES, &text)?;
     }
     Ok(())
 }

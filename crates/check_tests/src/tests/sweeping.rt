@@ -1,13 +1,13 @@
 //! In which order `check` reads and compares.
 
-use asking::{END, Rec, asked, made_folder, region, write};
+use asking::{Case, EMPTY, END, asked, folder_of, no_difference, region, store};
 use command_answer::{RACES, READ_FAULT};
 use std::alloc::Global;
 use std::sync::Wait;
 use std::sync::atomic::{AtomicU64, Ordering};
 use std::test::Fail;
 use std::thread::Threads;
-use sw_base::{Gate, MemFolder, MemOut, Memory};
+use sw_base::{Gate, MemOut, Memory};
 
 // How many workers came.
 #[derive(Drop)]
@@ -24,41 +24,49 @@ impl Gate for Counted {
 const WORKERS: u64 = 3;
 
 // A root that forks two regions of two lanes each, which race in the second.
-fn two_regions(alloc: Global) -> Result<MemFolder, Memory> {
-    let root: &[Rec] = &[region(1, 2), region(2, 2), END];
-    made_folder(
-        alloc,
-        &[
-            (&[], root),
-            (&[(0, 0, 2)], &[write(5, 4096), END]),
-            (&[(0, 1, 2)], &[write(6, 4104), END]),
-            (&[(1, 0, 2)], &[write(7, 4096), END]),
-            (&[(1, 1, 2)], &[write(8, 4096), END]),
-        ],
-    )
-}
+const TWO_REGIONS: Case<'static> = Case {
+    tasks: &[
+        (&[], &[region!(1, 2), region!(2, 2), END]),
+        (&[(0, 0, 2)], &[store!(5, 4096), END]),
+        (&[(0, 1, 2)], &[store!(6, 4104), END]),
+        (&[(1, 0, 2)], &[store!(7, 4096), END]),
+        (&[(1, 1, 2)], &[store!(8, 4096), END]),
+    ],
+    ..EMPTY
+};
 
-// The status of a check where this call on the folder fails, if it makes so many, and how many workers came.
-fn checked<R: Threads + Wait + Sync>(rt: &R, alloc: Global, call: u64) -> Result<(u8, u64), Fail> {
-    let mut folder = two_regions(alloc)?;
+// What comes out otherwise than this status and so many workers, where this call on the folder fails, if a check makes so many.
+fn difference<R: Threads + Wait + Sync>(
+    rt: &R,
+    alloc: Global,
+    call: u64,
+    status: u8,
+    workers: u64,
+) -> Result<Option<String>, Memory> {
+    let mut folder = folder_of(alloc, &TWO_REGIONS)?;
     folder.fail(&[call])?;
     let mut out = MemOut::new(alloc)?;
     let gate = Counted {
         come: AtomicU64::new(0),
     };
     let check = ["check", "d", "3"];
-    let status = asked(rt, alloc, &mut folder, &check, &mut out, &gate)?;
-    Ok((status, gate.come.load(Ordering::SeqCst)))
+    let answered = asked(rt, alloc, &mut folder, &check, &mut out, &gate)?;
+    let come = gate.come.load(Ordering::SeqCst);
+    if answered == status && come == workers {
+        return Ok(None);
+    }
+    Ok(Some(format!(in alloc; "call {call}: status {answered}, {come} workers")?))
 }
 
 #[test]
 fn a_region_is_compared_before_the_next_is_read(rt: HostRuntime) -> Result<(), Fail> {
     let alloc = rt.alloc();
     // The size of the index and its seven reads, and for each of five logs its size and two reads.
-    for call in 1..24 {
-        let come = if call <= 17 { 0 } else { WORKERS };
-        assert_eq!(rt; checked(&rt, alloc, call)?, (READ_FAULT, come));
+    for call in 1..=17 {
+        no_difference(difference(&rt, alloc, call, READ_FAULT, 0))?;
     }
-    assert_eq!(rt; checked(&rt, alloc, 24)?, (RACES, 2 * WORKERS));
-    Ok(())
+    for call in 18..24 {
+        no_difference(difference(&rt, alloc, call, READ_FAULT, WORKERS))?;
+    }
+    no_difference(difference(&rt, alloc, 24, RACES, 2 * WORKERS))
 }

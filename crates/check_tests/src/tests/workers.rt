@@ -1,7 +1,10 @@
 //! `check` with each number of workers: the same report. Workers run at once, and so do the lanes of a run.
 ghost use Rattle.std.specs.Prelude.{◌<◌, ◌^◌};
 
-use asking::{BARRIER, END, ROOT, Rec, Step, answers, asked, made_folder, region, write};
+use asking::{
+    BARRIER, Case, EMPTY, END, ROOT, RUN, Rec, Step, answers, asked, folder_of, hold_tasks, region,
+    store,
+};
 use command_answer::{DONE, RACES};
 use std::alloc::{AllocError, Global};
 use std::process::Abort;
@@ -12,7 +15,19 @@ use std::thread;
 use std::thread::Threads;
 use sw_base::{Gate, MemFolder, MemOut, Memory};
 
-const WORKERS: [&str; 5] = ["1", "2", "3", "7", "64"];
+/// Fails where some number of workers is answered otherwise.
+pub fn each_answers<R: Threads + Wait + Sync>(
+    rt: &R,
+    alloc: Global,
+    folder: &mut MemFolder,
+    status: u8,
+    text: &str,
+) -> Result<(), Fail> {
+    for workers in ["1", "2", "3", "7", "64"] {
+        answers(rt, alloc, folder, &["check", "d", workers], status, text)?;
+    }
+    Ok(())
+}
 
 /// A lane of the root's one region.
 #[derive(Drop)]
@@ -22,14 +37,16 @@ struct Lane {
 }
 
 // The folder of a root with these lanes.
-fn folder_of(alloc: Global, lanes: &[Lane]) -> Result<MemFolder, Memory> {
-    let root = [region(1, lanes.len() as u64), END];
+fn with_lanes(alloc: Global, lanes: &[Lane]) -> Result<MemFolder, Memory> {
+    let root = [region!(1, lanes.len() as u64), END];
     let mut tasks: Vec<(&[Step], &[Rec])> = Vec::new(alloc);
     tasks.push((&[], &root))?;
     for lane in lanes {
         tasks.push((&lane.steps, &lane.records))?;
     }
-    made_folder(alloc, &tasks)
+    let mut folder = MemFolder::new(alloc)?;
+    hold_tasks(alloc, &mut folder, &tasks)?;
+    Ok(folder)
 }
 
 // Whether a lane has no access.
@@ -48,10 +65,10 @@ fn neighbour(alloc: Global, lane: u16) -> Result<Vec<Rec>, AllocError>
     let own = 4096 + 8 * u64::from(lane);
     let read = (1, 8, line + 1000, own + 8, 0);
     Ok(vec![in alloc;
-        write(line, own),
+        store!(line, own),
         read,
         BARRIER,
-        write(line + 2000, own + 8),
+        store!(line + 2000, own + 8),
         END,
     ]?)
 }
@@ -92,19 +109,10 @@ fn each_number_of_workers_reports_the_same(rt: HostRuntime) -> Result<(), Fail> 
     let alloc = rt.alloc();
     for span in [1, 2, 3, 7, 64] {
         let lanes = team(alloc, span)?;
-        let mut folder = folder_of(alloc, &lanes)?;
+        let mut folder = with_lanes(alloc, &lanes)?;
         let text = report(alloc, span)?;
         let status = if span == 1 { DONE } else { RACES };
-        for workers in WORKERS {
-            answers(
-                &rt,
-                alloc,
-                &mut folder,
-                &["check", "d", workers],
-                status,
-                &text,
-            )?;
-        }
+        each_answers(&rt, alloc, &mut folder, status, &text)?;
     }
     Ok(())
 }
@@ -118,7 +126,7 @@ fn every_access_races_with_every_other_lane(rt: HostRuntime) -> Result<(), Fail>
     for (lane, own) in [0u16, 1, 2, 3].iter().zip(lines.iter()) {
         let mut records = Vec::new(alloc);
         for line in own {
-            records.push(write(*line, 4096))?;
+            records.push(store!(*line, 4096))?;
             for others in lines.iter().skip(usize::from(*lane) + 1) {
                 for other in others {
                     write!(text, "race {line} {other}\n")?;
@@ -132,18 +140,8 @@ fn every_access_races_with_every_other_lane(rt: HostRuntime) -> Result<(), Fail>
         })?;
     }
     text.push_str("races 54\n")?;
-    let mut folder = folder_of(alloc, &lanes)?;
-    for workers in WORKERS {
-        answers(
-            &rt,
-            alloc,
-            &mut folder,
-            &["check", "d", workers],
-            RACES,
-            &text,
-        )?;
-    }
-    Ok(())
+    let mut folder = with_lanes(alloc, &lanes)?;
+    each_answers(&rt, alloc, &mut folder, RACES, &text)
 }
 
 // Two lanes with so many intervals of one write each.
@@ -152,7 +150,7 @@ fn intervals(alloc: Global, addr: u64) -> Result<Vec<Lane>, AllocError> {
     for (lane, line, own) in [(0u16, 5u32, 4096), (1, 6, addr)] {
         let mut records = Vec::new(alloc);
         for _ in 0..32_768 {
-            records.push(write(line, own))?;
+            records.push(store!(line, own))?;
             records.push(BARRIER)?;
         }
         records.push(END)?;
@@ -172,7 +170,7 @@ fn many_barrier_intervals_are_compared_each_with_its_own(rt: HostRuntime) -> Res
         (4096, RACES, "race 5 6\nraces 1\n"),
     ] {
         let lanes = intervals(alloc, addr)?;
-        let mut folder = folder_of(alloc, &lanes)?;
+        let mut folder = with_lanes(alloc, &lanes)?;
         answers(&rt, alloc, &mut folder, &["check", "d", "2"], status, text)?;
     }
     Ok(())
@@ -216,31 +214,28 @@ fn at_once<R: Abort + Threads + Wait + Sync>(
         alone: AtomicBool::new(false),
     };
     let answered = asked(rt, alloc, folder, given, &mut out, &gate)?;
-    assert_eq!(rt; answered, status);
-    assert_eq!(rt; out.written(), text.as_bytes());
+    assert!(rt; answered == status && out.written() == text.as_bytes());
     assert!(rt; gate.came[0].load(Ordering::SeqCst) && gate.came[1].load(Ordering::SeqCst));
     assert!(rt; !gate.alone.load(Ordering::SeqCst));
     Ok(())
 }
 
+const TWO_LANES: Case<'static> = Case {
+    tasks: &[
+        (&[], ROOT),
+        (&[(0, 0, 2)], &[store!(3, 4128), BARRIER, END]),
+        (&[(0, 1, 2)], &[(1, 8, 3, 4128, 0), BARRIER, END]),
+    ],
+    ..EMPTY
+};
+
 #[test]
 fn the_workers_of_a_check_run_at_once(rt: HostRuntime) -> Result<(), Fail> {
     let alloc = rt.alloc();
-    let tasks: &[(&[Step], &[Rec])] = &[
-        (&[], ROOT),
-        (&[(0, 0, 2)], &[write(3, 4128), BARRIER, END]),
-        (&[(0, 1, 2)], &[(1, 8, 3, 4128, 0), BARRIER, END]),
-    ];
-    let mut folder = made_folder(alloc, tasks)?;
+    let mut folder = folder_of(alloc, &TWO_LANES)?;
     let check = ["check", "d", "2"];
-    at_once(
-        &rt,
-        alloc,
-        &mut folder,
-        &check,
-        RACES,
-        "race 3 3\nraces 1\n",
-    )
+    let text = "race 3 3\nraces 1\n";
+    at_once(&rt, alloc, &mut folder, &check, RACES, text)
 }
 
 #[test]
@@ -248,13 +243,6 @@ fn the_lanes_of_a_run_run_at_once(rt: HostRuntime) -> Result<(), Fail> {
     let alloc = rt.alloc();
     let mut folder = MemFolder::new(alloc)?;
     folder.hold("k", b"array a i64 2\nmain { parallel 2 { a[tid] = 1 } }\n")?;
-    let run = ["run", "k", "d", "4096"];
-    at_once(
-        &rt,
-        alloc,
-        &mut folder,
-        &run,
-        DONE,
-        "tasks 3\nrecords 6\nsum a 2\n",
-    )
+    let text = "tasks 3\nrecords 6\nsum a 2\n";
+    at_once(&rt, alloc, &mut folder, RUN, DONE, text)
 }

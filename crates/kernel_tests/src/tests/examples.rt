@@ -1,9 +1,8 @@
 //! The kernels of `examples/`, and what the README says that the program prints of them.
 
-use asking::{answers, printed};
+use asking::{Case, EMPTY, all_pass};
 use command_answer::{DIFFERS, DONE, KERNEL_STOPPED, RACES};
 use std::test::Fail;
-use sw_base::MemFolder;
 
 const COUNT: &str = "# Each lane adds 1 to every second element. No two lanes meet at an element.
 array a i64 8
@@ -46,16 +45,15 @@ const FIRST_LINES: &str = "log t.swl records 2
 log t-0.0.swl records 10
 1 read 8 site 1 line 6 addr 4096 value 0
 2 write 8 site 0 line 6 addr 4104 value 0
-";
+...";
 
-#[test]
-fn the_examples_print_what_the_readme_says(rt: HostRuntime) -> Result<(), Fail> {
-    let alloc = rt.alloc();
-    let mut folder = MemFolder::new(alloc)?;
-    folder.hold("shift.kernel", SHIFT.as_bytes())?;
-    folder.hold("count.kernel", COUNT.as_bytes())?;
-    folder.hold("beyond.kernel", BEYOND.as_bytes())?;
-    let table: &[(&[&str], u8, &str)] = &[
+const EXAMPLES: Case<'static> = Case {
+    held: &[
+        ("shift.kernel", SHIFT),
+        ("count.kernel", COUNT),
+        ("beyond.kernel", BEYOND),
+    ],
+    asked: &[
         (
             &["run", "shift.kernel", "logs", "4096"],
             DONE,
@@ -79,14 +77,13 @@ fn the_examples_print_what_the_readme_says(rt: HostRuntime) -> Result<(), Fail> 
             KERNEL_STOPPED,
             "stopped t-0.1.swl line 6: Index\n",
         ),
-    ];
-    for (given, status, text) in table {
-        answers(&rt, alloc, &mut folder, given, *status, text)?;
-    }
-    assert_eq!(rt; folder.file("stopped/index.swi"), None);
+        (&["show", "logs"], DONE, FIRST_LINES),
+    ],
+    left: &[("stopped/index.swi", None)],
+    ..EMPTY
+};
 
-    let (status, out) = printed(&rt, alloc, &mut folder, &["show", "logs"])?;
-    assert_eq!(rt; status, DONE);
-    assert!(rt; out.written().starts_with(FIRST_LINES.as_bytes()));
-    Ok(())
+#[test]
+fn the_examples_print_what_the_readme_says(rt: HostRuntime) -> Result<(), Fail> {
+    all_pass(&rt, rt.alloc(), &[EXAMPLES])
 }

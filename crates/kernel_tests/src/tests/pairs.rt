@@ -1,13 +1,8 @@
 //! Kernels of `examples/` in pairs, one that races and its mended twin: what `run`, `check` and `replay` print of each.
 
-use asking::{answers, printed};
+use asking::{Whole, all_run};
 use command_answer::{DONE, RACES};
-use std::alloc::Global;
-use std::process::Abort;
-use std::sync::Wait;
 use std::test::Fail;
-use std::thread::Threads;
-use sw_base::MemFolder;
 
 const HEAT: &str =
     "# A fixed loop of two worksharing loops: the barrier at the end of each keeps its readers from its writers.
@@ -239,72 +234,71 @@ main {
 }
 ";
 
-// A kernel runs to its end, and prints this, where that is the same each time; `check` ends so and prints this; and its folder is a run
-// of it.
-fn runs<R: Abort + Threads + Wait + Sync>(
-    rt: &R,
-    alloc: Global,
-    kernel: &str,
-    ran: Option<&str>,
-    status: u8,
-    races: &str,
-) -> Result<(), Fail> {
-    let mut folder = MemFolder::new(alloc)?;
-    folder.hold("k", kernel.as_bytes())?;
-    let (ended, out) = printed(rt, alloc, &mut folder, &["run", "k", "logs", "4096"])?;
-    assert_eq!(rt; ended, DONE);
-    if let Some(text) = ran {
-        assert_eq!(rt; out.written(), text.as_bytes());
-    }
-    answers(
-        rt,
-        alloc,
-        &mut folder,
-        &["check", "logs", "4"],
-        status,
-        races,
-    )?;
-    answers(
-        rt,
-        alloc,
-        &mut folder,
-        &["replay", "k", "logs"],
+const NO_RACE: &str = "races 0\n";
+
+const MENDED: &[Whole<'static>] = &[
+    (
+        HEAT,
+        "tasks 5\nrecords 1147\nsum u 1592\nsum v 592\n",
         DONE,
-        "same\n",
-    )
-}
+        NO_RACE,
+    ),
+    (
+        SUM,
+        "tasks 5\nrecords 86\nsum a 496\nsum s 496\n",
+        DONE,
+        NO_RACE,
+    ),
+    (
+        WAVEFRONT,
+        "tasks 5\nrecords 193\nsum g 1144\n",
+        DONE,
+        NO_RACE,
+    ),
+    (
+        PREFIX_SUM,
+        "tasks 5\nrecords 155\nsum a 120\nsum b 120\n",
+        DONE,
+        NO_RACE,
+    ),
+    (NESTED, "tasks 5\nrecords 12\nsum a 3\n", DONE, NO_RACE),
+    (
+        GATHER,
+        "tasks 4\nrecords 65\nsum a 66\nsum s 198\n",
+        DONE,
+        NO_RACE,
+    ),
+    (
+        HISTOGRAM,
+        "tasks 5\nrecords 122\nsum a 1240\nsum h 16\n",
+        DONE,
+        NO_RACE,
+    ),
+    (
+        SHIFT_MENDED,
+        "tasks 3\nrecords 22\nsum a 0\nsum b 0\n",
+        DONE,
+        NO_RACE,
+    ),
+];
+
+// What they print isn't the same each time.
+const RACING: &[Whole<'static>] = &[
+    (HEAT_RACE, "...", RACES, "race 7 7\nraces 1\n"),
+    (SUM_RACE, "...", RACES, "race 8 8\nraces 1\n"),
+    (WAVEFRONT_RACE, "...", RACES, "race 8 8\nraces 1\n"),
+    (PREFIX_SUM_RACE, "...", RACES, "race 9 9\nraces 1\n"),
+    (NESTED_RACE, "...", RACES, "race 7 11\nraces 1\n"),
+    (GATHER_RACE, "...", RACES, "race 6 8\nraces 1\n"),
+    (HISTOGRAM_RACE, "...", RACES, "race 8 8\nraces 1\n"),
+];
 
 #[test]
 fn mended_kernels_have_no_race(rt: HostRuntime) -> Result<(), Fail> {
-    let alloc = rt.alloc();
-    for (kernel, ran) in [
-        (HEAT, "tasks 5\nrecords 1147\nsum u 1592\nsum v 592\n"),
-        (SUM, "tasks 5\nrecords 86\nsum a 496\nsum s 496\n"),
-        (WAVEFRONT, "tasks 5\nrecords 193\nsum g 1144\n"),
-        (PREFIX_SUM, "tasks 5\nrecords 155\nsum a 120\nsum b 120\n"),
-        (NESTED, "tasks 5\nrecords 12\nsum a 3\n"),
-        (GATHER, "tasks 4\nrecords 65\nsum a 66\nsum s 198\n"),
-        (HISTOGRAM, "tasks 5\nrecords 122\nsum a 1240\nsum h 16\n"),
-        (SHIFT_MENDED, "tasks 3\nrecords 22\nsum a 0\nsum b 0\n"),
-    ] {
-        runs(&rt, alloc, kernel, Some(ran), DONE, "races 0\n")?;
-    }
-    Ok(())
+    all_run(&rt, rt.alloc(), "4", MENDED)
 }
 
 #[test]
 fn each_of_the_others_races_at_one_pair_of_lines(rt: HostRuntime) -> Result<(), Fail> {
-    let alloc = rt.alloc();
-    for (kernel, races) in [
-        (HEAT_RACE, "race 7 7\nraces 1\n"),
-        (SUM_RACE, "race 8 8\nraces 1\n"),
-        (WAVEFRONT_RACE, "race 8 8\nraces 1\n"),
-        (PREFIX_SUM_RACE, "race 9 9\nraces 1\n"),
-        (NESTED_RACE, "race 7 11\nraces 1\n"),
-        (GATHER_RACE, "race 6 8\nraces 1\n"),
-        (HISTOGRAM_RACE, "race 8 8\nraces 1\n"),
-    ] {
-        runs(&rt, alloc, kernel, None, RACES, races)?;
-    }
-    Ok(())
+    all_run(&rt, rt.alloc(), "4", RACING)
 }

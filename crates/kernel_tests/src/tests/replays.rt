@@ -1,7 +1,8 @@
 //! `replay`: folders against their kernels and against others, and why there is no comparison.
 
 use asking::{
-    END, ROOT, Rec, Step, Task, answers, failing_out, made_folder, printed, region, write,
+    Case, EMPTY, END, REPLAY, ROOT, RUN, Rec, USAGE_LINE, all_pass, answers, difference_at,
+    folder_of, passes, passes_at, region, store,
 };
 use command_answer::{
     DIFFERS, DONE, FOLDER_REFUSED, KERNEL_REFUSED, READ_FAULT, USAGE, WRITE_FAULT,
@@ -16,9 +17,13 @@ const COUNT: &str =
 
 const COUNTED: &str = "tasks 3\nrecords 22\nsum a 8\n";
 
-const REPLAY: [&str; 3] = ["replay", "k", "d"];
+const SAME: &str = "same\n";
 
-const RUN: [&str; 4] = ["run", "k", "d", "4096"];
+const COUNTING: Case<'static> = Case {
+    held: &[("k", COUNT)],
+    asked: &[(RUN, DONE, COUNTED), (REPLAY, DONE, SAME)],
+    ..EMPTY
+};
 
 // The folder with this byte of a file raised by so much.
 fn raise(alloc: Global, folder: &mut MemFolder, name: &str, at: usize, by: u8) -> Result<(), Fail> {
@@ -29,107 +34,133 @@ fn raise(alloc: Global, folder: &mut MemFolder, name: &str, at: usize, by: u8) -
     Ok(())
 }
 
-#[test]
-fn a_run_is_the_same_until_a_value_is_another(rt: HostRuntime) -> Result<(), Fail> {
-    let alloc = rt.alloc();
-    let mut folder = MemFolder::new(alloc)?;
-    folder.hold("k", COUNT.as_bytes())?;
-    answers(&rt, alloc, &mut folder, &RUN, DONE, COUNTED)?;
-    answers(&rt, alloc, &mut folder, &REPLAY, DONE, "same\n")?;
-    // The value of lane 1's second record, from 1 to 2.
-    raise(alloc, &mut folder, "d/t-0.1.swl", 55, 1)?;
-    let text = "differs t-0.1.swl record 2\n";
-    answers(&rt, alloc, &mut folder, &REPLAY, DIFFERS, text)
-}
-
 // The first bytes of records 1 and 2 in a log.
 const FIRST: usize = 8;
 
 const SECOND: usize = 32;
 
+const LANE_0: &str = "d/t-0.0.swl";
+
+// The last byte of each field: kind, size, site, line, address and value. A write becomes no record by one more.
+const FIELDS: &[(&str, usize, u8, &str)] = &[
+    (LANE_0, SECOND, 255, "differs t-0.0.swl record 2\n"),
+    (LANE_0, SECOND + 1, 252, "differs t-0.0.swl record 2\n"),
+    (LANE_0, SECOND + 3, 1, "differs t-0.0.swl record 2\n"),
+    (LANE_0, SECOND + 7, 1, "differs t-0.0.swl record 2\n"),
+    (LANE_0, SECOND + 15, 8, "differs t-0.0.swl record 2\n"),
+    (LANE_0, SECOND + 23, 1, "differs t-0.0.swl record 2\n"),
+    (LANE_0, FIRST, 1, "differs t-0.0.swl record 1\n"),
+    (LANE_0, FIRST + 3, 1, "differs t-0.0.swl record 1\n"),
+    (LANE_0, FIRST + 15, 8, "differs t-0.0.swl record 1\n"),
+    // What follows from the value of a read differs.
+    (LANE_0, FIRST + 23, 1, "differs t-0.0.swl record 2\n"),
+    // The value of lane 1's second record, from 1 to 2.
+    (
+        "d/t-0.1.swl",
+        SECOND + 23,
+        1,
+        "differs t-0.1.swl record 2\n",
+    ),
+];
+
 #[test]
-fn each_field_of_a_record_counts(rt: HostRuntime) -> Result<(), Fail> {
+fn a_run_is_the_same_until_a_field_is_another(rt: HostRuntime) -> Result<(), Fail> {
     let alloc = rt.alloc();
-    // The last byte of each field: kind, size, site, line, address and value. A write becomes no record by one more.
-    let table: &[(usize, u8, &str)] = &[
-        (SECOND, 255, "differs t-0.0.swl record 2\n"),
-        (SECOND + 1, 252, "differs t-0.0.swl record 2\n"),
-        (SECOND + 3, 1, "differs t-0.0.swl record 2\n"),
-        (SECOND + 7, 1, "differs t-0.0.swl record 2\n"),
-        (SECOND + 15, 8, "differs t-0.0.swl record 2\n"),
-        (SECOND + 23, 1, "differs t-0.0.swl record 2\n"),
-        (FIRST, 1, "differs t-0.0.swl record 1\n"),
-        (FIRST + 3, 1, "differs t-0.0.swl record 1\n"),
-        (FIRST + 15, 8, "differs t-0.0.swl record 1\n"),
-        // What follows from the value of a read differs.
-        (FIRST + 23, 1, "differs t-0.0.swl record 2\n"),
-    ];
-    for (at, by, text) in table {
-        let mut folder = MemFolder::new(alloc)?;
-        folder.hold("k", COUNT.as_bytes())?;
-        answers(&rt, alloc, &mut folder, &RUN, DONE, COUNTED)?;
-        raise(alloc, &mut folder, "d/t-0.0.swl", *at, *by)?;
-        answers(&rt, alloc, &mut folder, &REPLAY, DIFFERS, text)?;
+    for (name, at, by, text) in FIELDS {
+        let mut folder = folder_of(alloc, &COUNTING)?;
+        passes(&rt, alloc, &mut folder, &COUNTING)?;
+        raise(alloc, &mut folder, name, *at, *by)?;
+        answers(&rt, alloc, &mut folder, REPLAY, DIFFERS, text)?;
     }
     Ok(())
 }
 
-#[test]
-fn another_kernel_differs(rt: HostRuntime) -> Result<(), Fail> {
-    let alloc = rt.alloc();
-    let mut folder = MemFolder::new(alloc)?;
-    folder.hold("k", COUNT.as_bytes())?;
-    answers(&rt, alloc, &mut folder, &RUN, DONE, COUNTED)?;
-    let table: &[(&str, &str)] = &[
+const OTHERS: Case<'static> = Case {
+    held: &[
+        ("k", COUNT),
         (
+            "adds 2",
             "array a i64 8\nmain {\nparallel 2 {\nfor i in 0 .. 8 static 1 {\na[i] = a[i] + 2\n}\n}\n}\n",
+        ),
+        (
+            "by 2",
+            "array a i64 8\nmain {\nparallel 2 {\nfor i in 0 .. 8 static 2 {\na[i] = a[i] + 1\n}\n}\n}\n",
+        ),
+        (
+            "of 3",
+            "array a i64 8\nmain {\nparallel 3 {\nfor i in 0 .. 8 static 1 {\na[i] = a[i] + 1\n}\n}\n}\n",
+        ),
+        (
+            "longer",
+            "array a i64 8\nmain {\nparallel 2 {\nfor i in 0 .. 8 static 1 {\na[i] = a[i] + 1\n}\n}\n\n}\n",
+        ),
+    ],
+    asked: &[
+        (RUN, DONE, COUNTED),
+        (
+            &["replay", "adds 2", "d"],
+            DIFFERS,
             "differs t-0.0.swl record 2\n",
         ),
         (
-            "array a i64 8\nmain {\nparallel 2 {\nfor i in 0 .. 8 static 2 {\na[i] = a[i] + 1\n}\n}\n}\n",
+            &["replay", "by 2", "d"],
+            DIFFERS,
             "differs t-0.0.swl record 3\n",
         ),
         // A region with another span.
         (
-            "array a i64 8\nmain {\nparallel 3 {\nfor i in 0 .. 8 static 1 {\na[i] = a[i] + 1\n}\n}\n}\n",
+            &["replay", "of 3", "d"],
+            DIFFERS,
             "differs t.swl record 1\n",
         ),
         (
-            "array a i64 8\nmain {\nparallel 2 {\nfor i in 0 .. 8 static 1 {\na[i] = a[i] + 1\n}\n}\n\n}\n",
+            &["replay", "longer", "d"],
+            DIFFERS,
             "differs t.swl record 2\n",
         ),
-    ];
-    for (kernel, text) in table {
-        folder.hold("k", kernel.as_bytes())?;
-        answers(&rt, alloc, &mut folder, &REPLAY, DIFFERS, text)?;
-    }
-    Ok(())
+    ],
+    ..EMPTY
+};
+
+#[test]
+fn another_kernel_differs(rt: HostRuntime) -> Result<(), Fail> {
+    all_pass(&rt, rt.alloc(), &[OTHERS])
 }
+
+const ONE_STORE: &str = "array a i64 1\nmain {\na[0] = 1\n\n\n\n\n\n}";
+
+const OWN: Rec = store!(3, 4096);
+
+const ONE_TASK: &[Case<'static>] = &[
+    Case {
+        held: &[("k", ONE_STORE)],
+        tasks: &[(&[], &[OWN, END])],
+        asked: &[(REPLAY, DONE, SAME)],
+        ..EMPTY
+    },
+    Case {
+        held: &[("k", ONE_STORE)],
+        tasks: &[(&[], &[END])],
+        asked: &[(REPLAY, DIFFERS, "differs t.swl record 1\n")],
+        ..EMPTY
+    },
+    Case {
+        held: &[("k", ONE_STORE)],
+        tasks: &[(&[], &[OWN, OWN, END])],
+        asked: &[(REPLAY, DIFFERS, "differs t.swl record 2\n")],
+        ..EMPTY
+    },
+];
 
 #[test]
 fn a_log_is_neither_shorter_nor_longer_than_its_trace(rt: HostRuntime) -> Result<(), Fail> {
-    let alloc = rt.alloc();
-    let kernel = "array a i64 1\nmain {\na[0] = 1\n\n\n\n\n\n}";
-    let own = write(3, 4096);
-    let table: &[(&[Rec], u8, &str)] = &[
-        (&[own, END], DONE, "same\n"),
-        (&[END], DIFFERS, "differs t.swl record 1\n"),
-        (&[own, own, END], DIFFERS, "differs t.swl record 2\n"),
-    ];
-    for (records, status, text) in table {
-        let mut folder = made_folder(alloc, &[(&[], records)])?;
-        folder.hold("k", kernel.as_bytes())?;
-        answers(&rt, alloc, &mut folder, &REPLAY, *status, text)?;
-    }
-    Ok(())
+    all_pass(&rt, rt.alloc(), ONE_TASK)
 }
 
-const fn store(line: u32, addr: u64, value: u64) -> Rec {
-    (2, 8, line, addr, value)
-}
-
-const fn end(line: u32) -> Rec {
-    (8, 0, line, 0, 0)
+macro_rules! end {
+    ($line:expr) => {
+        (8, 0, $line, 0, 0)
+    };
 }
 
 const MET: Rec = (5, 0, 3, 0, 0);
@@ -166,25 +197,37 @@ const THIRD_CHUNK: &[Rec] = &[
     (8, 0, 4, 0, 0),
 ];
 
-#[test]
-fn chunks_are_those_that_the_logs_draw(rt: HostRuntime) -> Result<(), Fail> {
-    let alloc = rt.alloc();
-    let tasks: &[Task<'_>] = &[
-        (&[], &[region(2, 3), end(4)]),
+const DRAWN: Case<'static> = Case {
+    held: &[
+        (
+            "k",
+            "array a i64 10\nmain { parallel 3 {\nfor i in 0 .. 10 dynamic 4 { a[i] = i }\n} }\n",
+        ),
+        (
+            "by 5",
+            "array a i64 10\nmain { parallel 3 {\nfor i in 0 .. 10 dynamic 5 { a[i] = i }\n} }\n",
+        ),
+    ],
+    tasks: &[
+        (&[], &[region!(2, 3), end!(4)]),
         (&[(0, 0, 3)], SECOND_CHUNK),
         (&[(0, 1, 3)], THIRD_CHUNK),
         (&[(0, 2, 3)], FIRST_CHUNK),
-    ];
-    let mut folder = made_folder(alloc, tasks)?;
-    let kernel =
-        "array a i64 10\nmain { parallel 3 {\nfor i in 0 .. 10 dynamic 4 { a[i] = i }\n} }\n";
-    folder.hold("k", kernel.as_bytes())?;
-    answers(&rt, alloc, &mut folder, &REPLAY, DONE, "same\n")?;
-    let kernel =
-        "array a i64 10\nmain { parallel 3 {\nfor i in 0 .. 10 dynamic 5 { a[i] = i }\n} }\n";
-    folder.hold("k", kernel.as_bytes())?;
-    let text = "differs t-0.0.swl record 1\n";
-    answers(&rt, alloc, &mut folder, &REPLAY, DIFFERS, text)
+    ],
+    asked: &[
+        (REPLAY, DONE, SAME),
+        (
+            &["replay", "by 5", "d"],
+            DIFFERS,
+            "differs t-0.0.swl record 1\n",
+        ),
+    ],
+    ..EMPTY
+};
+
+#[test]
+fn chunks_are_those_that_the_logs_draw(rt: HostRuntime) -> Result<(), Fail> {
+    all_pass(&rt, rt.alloc(), &[DRAWN])
 }
 
 // Lanes of a lane's region see its locals.
@@ -200,108 +243,137 @@ a[tid] = y
 }
 ";
 
-// What lanes 0.0-0.1, 0.1-0.0 and 0.1-0.1 store.
-fn nested(alloc: Global, values: [u64; 3]) -> Result<MemFolder, Fail> {
-    let [one, two, three] = values;
-    let inner = region(6, 2);
-    let tasks: &[Task<'_>] = &[
-        (&[], &[region(4, 2), end(10)]),
-        (&[(0, 0, 2)], &[inner, end(9)]),
-        (&[(0, 0, 2), (0, 0, 2)], &[store(7, 4096, 5), end(8)]),
-        (&[(0, 0, 2), (0, 1, 2)], &[store(7, 4104, one), end(8)]),
-        (&[(0, 1, 2)], &[inner, end(9)]),
-        (&[(0, 1, 2), (0, 0, 2)], &[store(7, 4096, two), end(8)]),
-        (&[(0, 1, 2), (0, 1, 2)], &[store(7, 4104, three), end(8)]),
-    ];
-    let mut folder = made_folder(alloc, tasks)?;
-    folder.hold("k", NESTED.as_bytes())?;
-    Ok(folder)
+const INNER: &[Rec] = &[region!(6, 2), end!(9)];
+
+// What a lane of the inner regions does: lane 0 stores 5 or 6, or lane 1 does.
+const FIRST_5: &[Rec] = &[store!(7, 4096, 5), end!(8)];
+
+const FIRST_6: &[Rec] = &[store!(7, 4096, 6), end!(8)];
+
+const SECOND_5: &[Rec] = &[store!(7, 4104, 5), end!(8)];
+
+const SECOND_6: &[Rec] = &[store!(7, 4104, 6), end!(8)];
+
+// The tasks, of which lanes 0.0-0.1, 0.1-0.0 and 0.1-0.1 have these records.
+macro_rules! nested {
+    ($one:expr, $two:expr, $three:expr) => {
+        &[
+            (&[], &[region!(4, 2), end!(10)]),
+            (&[(0, 0, 2)], INNER),
+            (&[(0, 0, 2), (0, 0, 2)], FIRST_5),
+            (&[(0, 0, 2), (0, 1, 2)], $one),
+            (&[(0, 1, 2)], INNER),
+            (&[(0, 1, 2), (0, 0, 2)], $two),
+            (&[(0, 1, 2), (0, 1, 2)], $three),
+        ]
+    };
 }
+
+const SAME_LOCALS: Case<'static> = Case {
+    held: &[("k", NESTED)],
+    tasks: nested!(SECOND_5, FIRST_6, SECOND_6),
+    asked: &[(REPLAY, DONE, SAME)],
+    ..EMPTY
+};
+
+const LOCALS: &[Case<'static>] = &[
+    SAME_LOCALS,
+    Case {
+        held: &[("k", NESTED)],
+        tasks: nested!(SECOND_5, FIRST_6, SECOND_5),
+        asked: &[(REPLAY, DIFFERS, "differs t-0.1-0.1.swl record 1\n")],
+        ..EMPTY
+    },
+    Case {
+        held: &[("k", NESTED)],
+        tasks: nested!(SECOND_5, FIRST_5, SECOND_5),
+        asked: &[(REPLAY, DIFFERS, "differs t-0.1-0.0.swl record 1\n")],
+        ..EMPTY
+    },
+    Case {
+        held: &[("k", NESTED)],
+        tasks: nested!(SECOND_6, FIRST_5, SECOND_5),
+        asked: &[(REPLAY, DIFFERS, "differs t-0.0-0.1.swl record 1\n")],
+        ..EMPTY
+    },
+];
 
 #[test]
 fn a_task_starts_from_the_locals_at_its_fork(rt: HostRuntime) -> Result<(), Fail> {
-    let alloc = rt.alloc();
-    let table: &[([u64; 3], u8, &str)] = &[
-        ([5, 6, 6], DONE, "same\n"),
-        ([5, 6, 5], DIFFERS, "differs t-0.1-0.1.swl record 1\n"),
-        ([5, 5, 5], DIFFERS, "differs t-0.1-0.0.swl record 1\n"),
-        ([6, 5, 5], DIFFERS, "differs t-0.0-0.1.swl record 1\n"),
-    ];
-    for (values, status, text) in table {
-        let mut folder = nested(alloc, *values)?;
-        answers(&rt, alloc, &mut folder, &REPLAY, *status, text)?;
-    }
-    Ok(())
+    all_pass(&rt, rt.alloc(), LOCALS)
 }
+
+const REFUSED: &[Case<'static>] = &[
+    Case {
+        asked: &[(REPLAY, KERNEL_REFUSED, "no kernel\n")],
+        ..EMPTY
+    },
+    Case {
+        held: &[("k", "main {\nb[0] = 1\n}")],
+        asked: &[(REPLAY, KERNEL_REFUSED, "kernel line 2: Unknown\n")],
+        ..EMPTY
+    },
+    Case {
+        held: &[("k", COUNT)],
+        asked: &[(REPLAY, FOLDER_REFUSED, "no index\n")],
+        ..EMPTY
+    },
+    Case {
+        held: &[("k", COUNT)],
+        tasks: &[(&[], ROOT), (&[(0, 0, 2)], &[END]), (&[(0, 1, 2)], &[])],
+        asked: &[(REPLAY, FOLDER_REFUSED, "bad index row 3: Records\n")],
+        ..EMPTY
+    },
+];
 
 #[test]
 fn no_kernel_or_no_folder_is_refused(rt: HostRuntime) -> Result<(), Fail> {
-    let alloc = rt.alloc();
-    let mut folder = MemFolder::new(alloc)?;
-    answers(
-        &rt,
-        alloc,
-        &mut folder,
-        &REPLAY,
-        KERNEL_REFUSED,
-        "no kernel\n",
-    )?;
-    folder.hold("k", b"main {\nb[0] = 1\n}")?;
-    let text = "kernel line 2: Unknown\n";
-    answers(&rt, alloc, &mut folder, &REPLAY, KERNEL_REFUSED, text)?;
-    folder.hold("k", COUNT.as_bytes())?;
-    answers(
-        &rt,
-        alloc,
-        &mut folder,
-        &REPLAY,
-        FOLDER_REFUSED,
-        "no index\n",
-    )?;
-    let lanes: &[Step] = &[(0, 0, 2)];
-    let mut folder = made_folder(alloc, &[(&[], ROOT), (lanes, &[END]), (&[(0, 1, 2)], &[])])?;
-    folder.hold("k", COUNT.as_bytes())?;
-    let text = "bad index row 3: Records\n";
-    answers(&rt, alloc, &mut folder, &REPLAY, FOLDER_REFUSED, text)
+    all_pass(&rt, rt.alloc(), REFUSED)
 }
+
+const OTHER_WORDS: Case<'static> = Case {
+    asked: &[
+        (&["replay"], USAGE, USAGE_LINE),
+        (&["replay", "k"], USAGE, USAGE_LINE),
+        (&["replay", "k", ""], USAGE, USAGE_LINE),
+        (&["replay", "", "d"], USAGE, USAGE_LINE),
+        (&["replay", "k", "d", "1"], USAGE, USAGE_LINE),
+    ],
+    ..EMPTY
+};
 
 #[test]
 fn other_words_are_a_usage_fault(rt: HostRuntime) -> Result<(), Fail> {
-    let alloc = rt.alloc();
-    let line =
-        "usage: sword check DIR W | run KERNEL DIR SIZE | replay KERNEL DIR | show DIR | gen N W\n";
-    let mut folder = MemFolder::new(alloc)?;
-    let table: &[&[&str]] = &[
-        &["replay"],
-        &["replay", "k"],
-        &["replay", "k", ""],
-        &["replay", "", "d"],
-        &["replay", "k", "d", "1"],
-    ];
-    for given in table {
-        answers(&rt, alloc, &mut folder, given, USAGE, line)?;
-    }
-    Ok(())
+    all_pass(&rt, rt.alloc(), &[OTHER_WORDS])
 }
+
+const READ_FAILS: Case<'static> = Case {
+    held: &[("k", NESTED)],
+    tasks: nested!(SECOND_5, FIRST_6, SECOND_6),
+    asked: &[(REPLAY, READ_FAULT, "")],
+    ..EMPTY
+};
+
+const WRITE_FAILS: Case<'static> = Case {
+    held: &[("k", NESTED)],
+    tasks: nested!(SECOND_5, FIRST_6, SECOND_6),
+    failing: &[1],
+    asked: &[(REPLAY, WRITE_FAULT, "...")],
+    ..EMPTY
+};
 
 #[test]
 fn a_call_that_fails_is_a_fault(rt: HostRuntime) -> Result<(), Fail> {
     let alloc = rt.alloc();
-    let mut faults = 0u32;
+    let mut faults = 0;
     for call in 1..100 {
-        let mut folder = nested(alloc, [5, 6, 6])?;
-        folder.fail(&[call])?;
-        let (status, out) = printed(&rt, alloc, &mut folder, &REPLAY)?;
-        if status == DONE {
+        if difference_at(&rt, alloc, call, &READ_FAILS)?.is_some() {
             break;
         }
-        assert_eq!(rt; status, READ_FAULT);
-        assert!(rt; out.written().is_empty());
-        faults = faults.wrapping_add(1);
+        faults = u64::wrapping_add(faults, 1);
     }
     assert!(rt; 10 < faults && faults < 99);
-    let mut folder = nested(alloc, [5, 6, 6])?;
-    let (status, _) = failing_out(&rt, alloc, &mut folder, &REPLAY, &[1])?;
-    assert_eq!(rt; status, WRITE_FAULT);
-    Ok(())
+    // Past the last call nothing fails.
+    passes_at(&rt, alloc, faults + 1, &SAME_LOCALS)?;
+    all_pass(&rt, alloc, &[WRITE_FAILS])
 }

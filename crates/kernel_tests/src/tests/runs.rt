@@ -1,12 +1,17 @@
-use asking::{answers, failing_out, printed};
+//! Runs of small kernels: what `run` prints and leaves, how its logs are cut, and which of its calls may fail.
+
+use asking::{
+    Case, EMPTY, RUN, SHOW, USAGE_LINE, all_pass, folder_of, holds, passes, passes_at, passes_past,
+    printed,
+};
 use command_answer::{
     DONE, INDEX_THERE, KERNEL_REFUSED, KERNEL_STOPPED, RACES, READ_FAULT, USAGE, WRITE_FAULT,
 };
-use std::alloc::Global;
+use std::alloc::{AllocError, Global};
 use std::sync::Wait;
 use std::test::Fail;
 use std::thread::{Builder, Threads};
-use sw_base::{MemFolder, Path};
+use sw_base::{MemFolder, Memory, Path};
 use top_call::STACK;
 
 // Each lane adds 1 to every other element.
@@ -39,279 +44,397 @@ const INDEX: &str = "d/index.swi";
 
 const LANE_0: &str = "d/t-0.0.swl";
 
-// A folder with this kernel.
-fn holding(alloc: Global, kernel: &str) -> Result<MemFolder, Fail> {
-    let mut folder = MemFolder::new(alloc)?;
-    folder.hold("k", kernel.as_bytes())?;
-    Ok(folder)
-}
-
-// A folder in which this kernel ran and printed the text.
-fn after<R: Threads + Wait + Sync>(
-    rt: &R,
-    alloc: Global,
-    kernel: &str,
-    size: &str,
-    status: u8,
-    text: &str,
-) -> Result<MemFolder, Fail> {
-    let mut folder = holding(alloc, kernel)?;
-    answers(
-        rt,
-        alloc,
-        &mut folder,
-        &["run", "k", "d", size],
-        status,
-        text,
-    )?;
-    Ok(folder)
-}
-
-fn show<R: Threads + Wait + Sync>(
-    rt: &R,
-    alloc: Global,
-    folder: &mut MemFolder,
-    text: &str,
-) -> Result<(), Fail> {
-    answers(rt, alloc, folder, &["show", "d"], DONE, text)
-}
+const COUNTING: Case<'static> = Case {
+    held: &[("k", COUNT)],
+    asked: &[
+        (RUN, DONE, COUNTED),
+        (&["check", "d", "2"], DONE, "races 0\n"),
+        (
+            SHOW,
+            DONE,
+            "log t.swl records 2\n1 region 2 line 3\n2 end line 8\nlog t-0.0.swl records 10\n1 read 8 site 1 line 5 addr 4096 value 0\n2 write 8 site 0 line 5 addr 4096 value 1\n3 read 8 site 1 line 5 addr 4112 value 0\n...",
+        ),
+    ],
+    left: &[(INDEX, Some(152))],
+    ..EMPTY
+};
 
 #[test]
 fn two_lanes_count(rt: HostRuntime) -> Result<(), Fail> {
-    let alloc = rt.alloc();
-    let mut folder = after(&rt, alloc, COUNT, "4096", DONE, COUNTED)?;
-    assert_eq!(rt; folder.file(INDEX).ok_or("an index")?.len(), 152);
-    let check = ["check", "d", "2"];
-    answers(&rt, alloc, &mut folder, &check, DONE, "races 0\n")?;
-    let (status, out) = printed(&rt, alloc, &mut folder, &["show", "d"])?;
-    assert_eq!(rt; status, DONE);
-    assert!(rt;
-        out.written().starts_with(
-            b"log t.swl records 2\n1 region 2 line 3\n2 end line 8\nlog t-0.0.swl records 10\n1 read 8 site 1 line 5 addr 4096 value 0\n2 write 8 site 0 line 5 addr 4096 value 1\n3 read 8 site 1 line 5 addr 4112 value 0\n"
-        )
-    );
-    Ok(())
+    all_pass(&rt, rt.alloc(), &[COUNTING])
+}
+
+const SINGLE: &[usize] = &[8, 24, 24, 24, 24, 24, 24, 24, 24, 24, 24];
+
+// Each lane counts with a buffer of this size.
+macro_rules! counting {
+    ($size:literal) => {
+        Case {
+            held: &[("k", COUNT)],
+            asked: &[(&["run", "k", "d", $size], DONE, COUNTED)],
+            left: &[(LANE_0, Some(248))],
+            sealed: &["d/t.swl", LANE_0, "d/t-0.1.swl"],
+            ..EMPTY
+        }
+    };
+}
+
+const UNCUT: Case<'static> = counting!("4096");
+
+// With the size of the buffer and the pieces of a lane's log.
+const CUT: &[(Case<'static>, &str, &[usize])] = &[
+    (counting!("24"), "24", SINGLE),
+    (counting!("47"), "47", SINGLE),
+    (counting!("48"), "48", &[8, 48, 48, 48, 48, 48]),
+    (counting!("100"), "100", &[8, 96, 96, 48]),
+    (counting!("4194304"), "4194304", &[8, 240]),
+];
+
+// Whether lane 0 has the same log in both, in these pieces in the second.
+fn is_cut(whole: &MemFolder, folder: &MemFolder, lengths: &[usize]) -> bool {
+    folder.file(LANE_0) == whole.file(LANE_0) && folder.sealed_lengths(1) == Some(lengths)
 }
 
 #[test]
 fn pieces_fill_the_buffer(rt: HostRuntime) -> Result<(), Fail> {
     let alloc = rt.alloc();
-    let whole = after(&rt, alloc, COUNT, "4096", DONE, COUNTED)?;
-    let log = whole.file(LANE_0).ok_or("a log")?;
-    assert_eq!(rt; log.len(), 248);
-    let single: &[usize] = &[8, 24, 24, 24, 24, 24, 24, 24, 24, 24, 24];
-    for (size, lengths) in [
-        ("24", single),
-        ("47", single),
-        ("48", &[8, 48, 48, 48, 48, 48]),
-        ("100", &[8, 96, 96, 48]),
-        ("4194304", &[8, 240]),
-    ] {
-        let folder = after(&rt, alloc, COUNT, size, DONE, COUNTED)?;
-        assert_eq!(rt; folder.file(LANE_0).ok_or("a log")?, log);
-        assert_eq!(rt; folder.sealed_name(0).ok_or("a log")?, "d/t.swl");
-        assert_eq!(rt; folder.sealed_name(1).ok_or("a log")?, LANE_0);
-        assert_eq!(rt; folder.sealed_lengths(1).ok_or("a log")?, lengths);
-        assert_eq!(rt; folder.sealed_name(2).ok_or("a log")?, "d/t-0.1.swl");
-        assert!(rt; folder.sealed_name(3).is_none());
+    let mut whole = folder_of(alloc, &UNCUT)?;
+    passes(&rt, alloc, &mut whole, &UNCUT)?;
+    for (case, size, lengths) in CUT {
+        let mut folder = folder_of(alloc, case)?;
+        passes(&rt, alloc, &mut folder, case)?;
+        holds(is_cut(&whole, &folder, lengths), size)?;
     }
     Ok(())
 }
+
+const SHARING: &[Case<'static>] = &[
+    Case {
+        held: &[("k", SHIFT)],
+        asked: &[
+            (RUN, DONE, "tasks 3\nrecords 22\nsum a 0\n"),
+            (&["check", "d", "1"], RACES, ONE_RACE),
+            (&["check", "d", "2"], RACES, ONE_RACE),
+            (&["check", "d", "3"], RACES, ONE_RACE),
+            (&["check", "d", "64"], RACES, ONE_RACE),
+        ],
+        ..EMPTY
+    },
+    Case {
+        held: &[("k", SHIFT_ON)],
+        asked: &[
+            (RUN, DONE, "tasks 3\nrecords 20\nsum a 0\n"),
+            (&["check", "d", "1"], RACES, ONE_RACE),
+            (&["check", "d", "2"], RACES, ONE_RACE),
+            (&["check", "d", "3"], RACES, ONE_RACE),
+            (&["check", "d", "64"], RACES, ONE_RACE),
+        ],
+        ..EMPTY
+    },
+];
+
+const ONE_RACE: &str = "race 3 3\nraces 1\n";
 
 #[test]
 fn a_run_races_where_lanes_share_an_element(rt: HostRuntime) -> Result<(), Fail> {
-    let alloc = rt.alloc();
-    for (kernel, text) in [
-        (SHIFT, "tasks 3\nrecords 22\nsum a 0\n"),
-        (SHIFT_ON, "tasks 3\nrecords 20\nsum a 0\n"),
-    ] {
-        let mut folder = after(&rt, alloc, kernel, "4096", DONE, text)?;
-        for workers in ["1", "2", "3", "64"] {
-            answers(
-                &rt,
-                alloc,
-                &mut folder,
-                &["check", "d", workers],
-                RACES,
-                "race 3 3\nraces 1\n",
-            )?;
-        }
-    }
-    Ok(())
+    all_pass(&rt, rt.alloc(), SHARING)
 }
+
+const IDLE: &[Case<'static>] = &[
+    Case {
+        held: &[("k", NOTHING)],
+        asked: &[
+            (RUN, DONE, "tasks 3\nrecords 6\nsum a 0\n"),
+            (
+                SHOW,
+                DONE,
+                "log t.swl records 2\n1 region 2 line 2\n2 end line 4\nlog t-0.0.swl records 2\n1 barrier line 3\n2 end line 4\nlog t-0.1.swl records 2\n1 barrier line 3\n2 end line 4\n",
+            ),
+        ],
+        ..EMPTY
+    },
+    Case {
+        held: &[("k", NOTHING_ON)],
+        asked: &[
+            (RUN, DONE, "tasks 3\nrecords 4\nsum a 0\n"),
+            (
+                SHOW,
+                DONE,
+                "log t.swl records 2\n1 region 2 line 2\n2 end line 4\nlog t-0.0.swl records 1\n1 end line 4\nlog t-0.1.swl records 1\n1 end line 4\n",
+            ),
+        ],
+        ..EMPTY
+    },
+];
 
 #[test]
 fn an_empty_loop_has_a_barrier_alone(rt: HostRuntime) -> Result<(), Fail> {
-    let alloc = rt.alloc();
-    let text = "tasks 3\nrecords 6\nsum a 0\n";
-    let mut waits = after(&rt, alloc, NOTHING, "4096", DONE, text)?;
-    show(
-        &rt,
-        alloc,
-        &mut waits,
-        "log t.swl records 2\n1 region 2 line 2\n2 end line 4\nlog t-0.0.swl records 2\n1 barrier line 3\n2 end line 4\nlog t-0.1.swl records 2\n1 barrier line 3\n2 end line 4\n",
-    )?;
-    let text = "tasks 3\nrecords 4\nsum a 0\n";
-    let mut goes_on = after(&rt, alloc, NOTHING_ON, "4096", DONE, text)?;
-    show(
-        &rt,
-        alloc,
-        &mut goes_on,
-        "log t.swl records 2\n1 region 2 line 2\n2 end line 4\nlog t-0.0.swl records 1\n1 end line 4\nlog t-0.1.swl records 1\n1 end line 4\n",
-    )
+    all_pass(&rt, rt.alloc(), IDLE)
 }
+
+const SIGNED: Case<'static> = Case {
+    held: &[(
+        "k",
+        "array a i8 2\narray b i64 3\nmain { parallel 1 {\nfor i in 0 .. 2 { a[i] = 200 b[i+1] = 9223372036854775807 }\n} }\n",
+    )],
+    asked: &[(
+        RUN,
+        DONE,
+        "tasks 2\nrecords 8\nsum a -112\nsum b 18446744073709551614\n",
+    )],
+    ..EMPTY
+};
 
 #[test]
 fn sums_are_signed(rt: HostRuntime) -> Result<(), Fail> {
-    let alloc = rt.alloc();
-    let kernel =
-        "array a i8 2\narray b i64 3\nmain { parallel 1 {\nfor i in 0 .. 2 { a[i] = 200 b[i+1] = 9223372036854775807 }\n} }\n";
-    let text = "tasks 2\nrecords 8\nsum a -112\nsum b 18446744073709551614\n";
-    after(&rt, alloc, kernel, "4096", DONE, text)?;
-    Ok(())
+    all_pass(&rt, rt.alloc(), &[SIGNED])
 }
+
+const RUN_AGAIN: Case<'static> = Case {
+    held: &[("k", COUNT), ("again", SHIFT)],
+    asked: &[
+        (RUN, DONE, COUNTED),
+        (&["run", "again", "d", "24"], INDEX_THERE, "index exists\n"),
+    ],
+    left: &[(INDEX, Some(152)), (LANE_0, Some(248))],
+    sealed: &["d/t.swl", LANE_0, "d/t-0.1.swl"],
+    ..EMPTY
+};
 
 #[test]
 fn an_index_is_kept(rt: HostRuntime) -> Result<(), Fail> {
-    let alloc = rt.alloc();
-    let mut folder = after(&rt, alloc, COUNT, "4096", DONE, COUNTED)?;
-    folder.hold("k", SHIFT.as_bytes())?;
-    let run = ["run", "k", "d", "24"];
-    answers(&rt, alloc, &mut folder, &run, INDEX_THERE, "index exists\n")?;
-    assert_eq!(rt; folder.file(INDEX).ok_or("an index")?.len(), 152);
-    assert_eq!(rt; folder.file(LANE_0).ok_or("a log")?.len(), 248);
-    assert!(rt; folder.sealed_name(3).is_none());
-    Ok(())
+    all_pass(&rt, rt.alloc(), &[RUN_AGAIN])
 }
+
+// Lane 0 has four Writes and waits at its Barrier, or it stops after a Read.
+const STOPPED: &[Case<'static>] = &[
+    Case {
+        held: &[("k", BEYOND)],
+        asked: &[(RUN, KERNEL_STOPPED, "stopped t-0.1.swl line 3: Index\n")],
+        left: &[(INDEX, None), (LANE_0, Some(128))],
+        sealed: &["d/t.swl", LANE_0, "d/t-0.1.swl"],
+        ..EMPTY
+    },
+    Case {
+        held: &[("k", DIVIDE)],
+        asked: &[(RUN, KERNEL_STOPPED, "stopped t-0.0.swl line 3: DivZero\n")],
+        left: &[(INDEX, None), (LANE_0, Some(32))],
+        sealed: &["d/t.swl", LANE_0, "d/t-0.1.swl"],
+        ..EMPTY
+    },
+];
 
 #[test]
 fn a_stop_names_the_least_lane(rt: HostRuntime) -> Result<(), Fail> {
-    let alloc = rt.alloc();
-    // Lane 0 has four Writes and waits at its Barrier, or it stops after a Read.
-    for (kernel, text, bytes) in [
-        (BEYOND, "stopped t-0.1.swl line 3: Index\n", 128),
-        (DIVIDE, "stopped t-0.0.swl line 3: DivZero\n", 32),
-    ] {
-        let folder = after(&rt, alloc, kernel, "4096", KERNEL_STOPPED, text)?;
-        assert!(rt; folder.file(INDEX).is_none());
-        assert_eq!(rt; folder.file(LANE_0).ok_or("a log")?.len(), bytes);
-        assert_eq!(rt; folder.sealed_name(2).ok_or("a log")?, "d/t-0.1.swl");
-        assert!(rt; folder.sealed_name(3).is_none());
-    }
-    Ok(())
+    all_pass(&rt, rt.alloc(), STOPPED)
 }
+
+const OTHER_SIZES: Case<'static> = Case {
+    held: &[("k", COUNT)],
+    asked: &[
+        (&["run", "k", "d", "23"], USAGE, USAGE_LINE),
+        (&["run", "k", "d", "4194305"], USAGE, USAGE_LINE),
+        (&["run", "k", "d", "024"], USAGE, USAGE_LINE),
+    ],
+    left: &[("d/t.swl", None)],
+    ..EMPTY
+};
 
 #[test]
 fn other_sizes_are_usage(rt: HostRuntime) -> Result<(), Fail> {
-    let alloc = rt.alloc();
-    let mut folder = holding(alloc, COUNT)?;
-    for size in ["23", "4194305", "024"] {
-        let (status, out) = printed(&rt, alloc, &mut folder, &["run", "k", "d", size])?;
-        assert_eq!(rt; status, USAGE);
-        assert!(rt;
-            out.written()
-                .starts_with(b"usage: sword check DIR W | run KERNEL DIR SIZE |")
-        );
-    }
-    assert!(rt; folder.file("d/t.swl").is_none());
-    Ok(())
+    all_pass(&rt, rt.alloc(), &[OTHER_SIZES])
 }
+
+const NO_KERNELS: &[Case<'static>] = &[
+    Case {
+        asked: &[(RUN, KERNEL_REFUSED, "no kernel\n")],
+        ..EMPTY
+    },
+    Case {
+        held: &[("k", "no kernel at all")],
+        asked: &[(RUN, KERNEL_REFUSED, "kernel line 1: Syntax\n")],
+        left: &[("d/t.swl", None)],
+        ..EMPTY
+    },
+    Case {
+        held: &[("k", "main {\n}\n$")],
+        asked: &[(RUN, KERNEL_REFUSED, "kernel line 3: Token\n")],
+        left: &[("d/t.swl", None)],
+        ..EMPTY
+    },
+    Case {
+        held: &[("k", "")],
+        asked: &[(RUN, KERNEL_REFUSED, "kernel line 1: Syntax\n")],
+        left: &[("d/t.swl", None)],
+        ..EMPTY
+    },
+    // A barrier in a loop of the lane.
+    Case {
+        held: &[(
+            "k",
+            "array a i64 8\nmain { parallel 2 {\nloop j in 0 .. tid {\nbarrier }\n} }\n",
+        )],
+        asked: &[(RUN, KERNEL_REFUSED, "kernel line 4: NotUniform\n")],
+        ..EMPTY
+    },
+];
 
 #[test]
 fn other_kernels_are_refused(rt: HostRuntime) -> Result<(), Fail> {
-    let alloc = rt.alloc();
-    let mut empty = MemFolder::new(alloc)?;
-    let run = ["run", "k", "d", "4096"];
-    answers(&rt, alloc, &mut empty, &run, KERNEL_REFUSED, "no kernel\n")?;
-    let rows = [
-        ("no kernel at all", "kernel line 1: Syntax\n"),
-        ("main {\n}\n$", "kernel line 3: Token\n"),
-        ("", "kernel line 1: Syntax\n"),
-    ];
-    for (kernel, text) in rows {
-        let folder = after(&rt, alloc, kernel, "4096", KERNEL_REFUSED, text)?;
-        assert!(rt; folder.file("d/t.swl").is_none());
+    all_pass(&rt, rt.alloc(), NO_KERNELS)
+}
+
+// Where a call on the folder fails nothing is printed. Only one that puts the index may leave a part of it.
+const READ_FAILS: Case<'static> = Case {
+    held: &[("k", COUNT)],
+    asked: &[(RUN, READ_FAULT, "")],
+    left: &[(INDEX, None)],
+    ..EMPTY
+};
+
+const WRITE_FAILS: Case<'static> = Case {
+    held: &[("k", COUNT)],
+    asked: &[(RUN, WRITE_FAULT, "")],
+    left: &[(INDEX, None)],
+    ..EMPTY
+};
+
+const INDEX_FAILS: Case<'static> = Case {
+    held: &[("k", COUNT)],
+    asked: &[(RUN, WRITE_FAULT, "")],
+    ..EMPTY
+};
+
+const NOTHING_FAILS: Case<'static> = Case {
+    held: &[("k", COUNT)],
+    asked: &[(RUN, DONE, COUNTED)],
+    ..EMPTY
+};
+
+// Whether the folder has a shorter prefix of the index, or none.
+fn has_index_prefix(folder: &MemFolder, whole: &MemFolder) -> bool {
+    match (whole.file(INDEX), folder.file(INDEX)) {
+        (Some(index), Some(part)) => index.starts_with(part) && part.len() < index.len(),
+        (Some(_), None) => true,
+        _ => false,
     }
-    Ok(())
 }
 
 #[test]
 fn each_call_of_a_run_may_fail(rt: HostRuntime) -> Result<(), Fail> {
-    let alloc = rt.alloc();
-    let whole = after(&rt, alloc, COUNT, "4096", DONE, COUNTED)?;
-    let index = whole.file(INDEX).ok_or("an index")?;
-    for call in 1..9 {
-        let mut folder = holding(alloc, COUNT)?;
-        folder.fail(&[call])?;
-        let status = if call < 4 { READ_FAULT } else { WRITE_FAULT };
-        let run = ["run", "k", "d", "4096"];
-        answers(&rt, alloc, &mut folder, &run, status, "")?;
-        let prefix = folder.file(INDEX).unwrap_or(b"");
-        assert!(rt; call == 8 || folder.file(INDEX).is_none());
-        assert!(rt; index.starts_with(prefix) && prefix.len() < index.len());
+    for call in 1..4 {
+        passes_at(&rt, rt.alloc(), call, &READ_FAILS)?;
     }
-    let mut folder = holding(alloc, COUNT)?;
-    folder.fail(&[9])?;
-    let run = ["run", "k", "d", "4096"];
-    answers(&rt, alloc, &mut folder, &run, DONE, COUNTED)
+    for call in 4..8 {
+        passes_at(&rt, rt.alloc(), call, &WRITE_FAILS)?;
+    }
+    passes_at(&rt, rt.alloc(), 9, &NOTHING_FAILS)
 }
+
+#[test]
+fn a_part_of_an_index_may_be_left(rt: HostRuntime) -> Result<(), Fail> {
+    let alloc = rt.alloc();
+    let mut whole = folder_of(alloc, &NOTHING_FAILS)?;
+    passes(&rt, alloc, &mut whole, &NOTHING_FAILS)?;
+    let mut cut = folder_of(alloc, &INDEX_FAILS)?;
+    cut.fail(&[8])?;
+    passes(&rt, alloc, &mut cut, &INDEX_FAILS)?;
+    holds(has_index_prefix(&cut, &whole), INDEX)
+}
+
+// With a buffer for four records each log takes four calls.
+const BY_FOUR: &[&str] = &["run", "k", "d", "96"];
+
+const LOG_FAILS: Case<'static> = Case {
+    held: &[("k", COUNT)],
+    asked: &[(BY_FOUR, WRITE_FAULT, "")],
+    left: &[
+        (INDEX, None),
+        ("d/t.swl", None),
+        (LANE_0, None),
+        ("d/t-0.1.swl", None),
+    ],
+    ..EMPTY
+};
+
+const NO_LOG_FAILS: Case<'static> = Case {
+    held: &[("k", COUNT)],
+    asked: &[(BY_FOUR, DONE, COUNTED)],
+    left: &[
+        (INDEX, Some(152)),
+        ("d/t.swl", Some(56)),
+        (LANE_0, Some(248)),
+        ("d/t-0.1.swl", Some(248)),
+    ],
+    ..EMPTY
+};
 
 #[test]
 fn each_call_on_a_log_may_fail(rt: HostRuntime) -> Result<(), Fail> {
-    let alloc = rt.alloc();
-    // With a buffer for four records each log takes four calls.
     let root = Path::root();
     for task in [root.copy(), root.child(0, 0, 2), root.child(0, 1, 2)] {
-        for call in 1..6 {
-            let mut folder = holding(alloc, COUNT)?;
-            folder.fail_log(&task, &[call])?;
-            let run = ["run", "k", "d", "96"];
-            if call == 5 {
-                answers(&rt, alloc, &mut folder, &run, DONE, COUNTED)?;
-            } else {
-                answers(&rt, alloc, &mut folder, &run, WRITE_FAULT, "")?;
-            }
-            for name in [INDEX, "d/t.swl", LANE_0, "d/t-0.1.swl"] {
-                assert_eq!(rt; folder.file(name).is_some(), call == 5, "{name}");
-            }
+        for call in 1..5 {
+            passes_past(&rt, rt.alloc(), &task, call, &LOG_FAILS)?;
         }
+        passes_past(&rt, rt.alloc(), &task, 5, &NO_LOG_FAILS)?;
     }
     Ok(())
 }
+
+// A write that fails has put the first half of its text.
+const NO_TEXT: &[Case<'static>] = &[
+    Case {
+        held: &[("k", COUNT)],
+        failing: &[1],
+        asked: &[(RUN, WRITE_FAULT, "tasks 3\nrecor")],
+        left: &[(INDEX, Some(152))],
+        ..EMPTY
+    },
+    Case {
+        held: &[("k", BEYOND)],
+        failing: &[1],
+        asked: &[(RUN, WRITE_FAULT, "stopped t-0.1.sw")],
+        left: &[(INDEX, None)],
+        ..EMPTY
+    },
+    Case {
+        held: &[("k", "no kernel")],
+        failing: &[1],
+        asked: &[(RUN, WRITE_FAULT, "kernel line")],
+        left: &[(INDEX, None)],
+        ..EMPTY
+    },
+];
 
 #[test]
 fn each_text_of_a_run_may_fail(rt: HostRuntime) -> Result<(), Fail> {
-    let alloc = rt.alloc();
-    for kernel in [COUNT, BEYOND, "no kernel"] {
-        let mut folder = holding(alloc, kernel)?;
-        let run = ["run", "k", "d", "4096"];
-        let (status, out) = failing_out(&rt, alloc, &mut folder, &run, &[1])?;
-        assert_eq!(rt; status, WRITE_FAULT);
-        assert!(rt; out.written().len() < COUNTED.len());
-        assert_eq!(rt; folder.file(INDEX).is_some(), kernel == COUNT);
-    }
-    Ok(())
+    all_pass(&rt, rt.alloc(), NO_TEXT)
 }
 
-// Whether a sum that is nearly as deep as its text is long is run; `None` where no memory was found.
-fn long_sum_is_run<R: AllocGlobal + Threads + Wait + Sync + Drop>(rt: R) -> Option<bool> {
-    let alloc = rt.alloc();
-    let begin = "array a i64 1 main { parallel 1 { for i in 0 .. 1 { a[0] = 1";
-    let mut kernel = String::from_str(alloc, begin).ok()?;
+// A sum that is nearly as deep as its text is long.
+fn long_sum(alloc: Global) -> Result<String, AllocError> {
+    let mut kernel = String::from_str(
+        alloc,
+        "array a i64 1 main { parallel 1 { for i in 0 .. 1 { a[0] = 1",
+    )?;
     for _ in 0..32_000 {
-        kernel.push_str("+1").ok()?;
+        kernel.push_str("+1")?;
     }
-    kernel.push_str(" } } }").ok()?;
-    let mut folder = MemFolder::new(alloc).ok()?;
-    folder.hold("k", kernel.as_bytes()).ok()?;
-    let (status, out) = printed(&rt, alloc, &mut folder, &["run", "k", "d", "4096"]).ok()?;
-    Some(status == DONE && out.written() == b"tasks 2\nrecords 5\nsum a 32001\n".as_slice())
+    kernel.push_str(" } } }")?;
+    Ok(kernel)
+}
+
+fn prints_long_sum<R: Threads + Wait + Sync>(rt: &R, alloc: Global) -> Result<bool, Memory> {
+    let mut folder = MemFolder::new(alloc)?;
+    folder.hold("k", long_sum(alloc)?.as_bytes())?;
+    let (status, out) = printed(rt, alloc, &mut folder, RUN, &[])?;
+    Ok(status == DONE && out.written() == b"tasks 2\nrecords 5\nsum a 32001\n".as_slice())
 }
 
 #[test]
 fn a_long_sum_is_run(rt: HostRuntime) -> Result<(), Fail> {
-    let work = move || long_sum_is_run(rt);
+    let work = move || prints_long_sum(&rt, rt.alloc());
     let thread = Builder::new().stack_size(STACK).spawn(&rt, work)?;
-    assert_eq!(rt; thread.join(&rt), Some(true));
+    assert!(rt; thread.join(&rt)?);
     Ok(())
 }

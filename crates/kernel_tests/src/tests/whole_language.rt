@@ -1,13 +1,12 @@
 //! Kernels of the whole language that run to their end: what `run` prints of each, and what `check` and `replay` print of the folder
 //! that it wrote.
 
-use asking::{answers, printed};
-use command_answer::{DIFFERS, DONE, KERNEL_REFUSED, RACES};
-use std::alloc::Global;
-use std::sync::Wait;
+use asking::{
+    Case, EMPTY, REPLAY, RUN, SHOW, Whole, all_pass, all_run, folder_of, holds, passes, printed,
+};
+use command_answer::{DIFFERS, DONE, RACES};
 use std::test::Fail;
-use std::thread::Threads;
-use sw_base::{MemFolder, MemOut};
+use sw_base::MemFolder;
 
 const NO_RACE: &str = "races 0\n";
 
@@ -130,115 +129,143 @@ u[i] = v[i]
 }
 ";
 
-/// A folder with this kernel, and its status and text once it ran there.
-pub fn after<R: Threads + Wait + Sync>(
-    rt: &R,
-    alloc: Global,
-    kernel: &str,
-) -> Result<(MemFolder, u8, MemOut), Fail> {
-    let mut folder = MemFolder::new(alloc)?;
-    folder.hold("k", kernel.as_bytes())?;
-    let (status, out) = printed(rt, alloc, &mut folder, &["run", "k", "d", "4096"])?;
-    Ok((folder, status, out))
-}
+const WITHOUT_A_RACE: &[Whole<'static>] = &[
+    (ONE_STORE, "tasks 1\nrecords 2\nsum a 1\n", DONE, NO_RACE),
+    (NARROW, "tasks 1\nrecords 2\nsum b -56\n", DONE, NO_RACE),
+    (LOCKED, "tasks 9\nrecords 42\nsum s 8\n", DONE, NO_RACE),
+    (TWO_REGIONS, "tasks 5\nrecords 11\nsum a 4\n", DONE, NO_RACE),
+    (DRAWN, "tasks 4\nrecords 24\nsum a 45\n", DONE, NO_RACE),
+    (DRAWN_TWICE, "tasks 3\nrecords 30\nsum a 8\n", DONE, NO_RACE),
+    (
+        FOUR_DEEP,
+        "tasks 117\nrecords 234\nsum a 64\n",
+        DONE,
+        NO_RACE,
+    ),
+    (
+        TRIANGLE,
+        "tasks 17\nrecords 34\nsum row 240\n",
+        DONE,
+        NO_RACE,
+    ),
+    (
+        WAVES,
+        "tasks 5\nrecords 73\nsum a 10412\nsum b -4\n",
+        DONE,
+        NO_RACE,
+    ),
+    (
+        CROWD,
+        "tasks 65\nrecords 256066\nsum s 64000\n",
+        DONE,
+        NO_RACE,
+    ),
+    (
+        HEAT,
+        "tasks 5\nrecords 1147\nsum u 1592\nsum v 592\n",
+        DONE,
+        NO_RACE,
+    ),
+];
 
 #[test]
 fn sums_are_printed_of_runs_without_a_race(rt: HostRuntime) -> Result<(), Fail> {
-    let alloc = rt.alloc();
-    let replay = ["replay", "k", "d"];
-    for (kernel, text) in [
-        (ONE_STORE, "tasks 1\nrecords 2\nsum a 1\n"),
-        (NARROW, "tasks 1\nrecords 2\nsum b -56\n"),
-        (LOCKED, "tasks 9\nrecords 42\nsum s 8\n"),
-        (TWO_REGIONS, "tasks 5\nrecords 11\nsum a 4\n"),
-        (DRAWN, "tasks 4\nrecords 24\nsum a 45\n"),
-        (DRAWN_TWICE, "tasks 3\nrecords 30\nsum a 8\n"),
-        (FOUR_DEEP, "tasks 117\nrecords 234\nsum a 64\n"),
-        (TRIANGLE, "tasks 17\nrecords 34\nsum row 240\n"),
-        (WAVES, "tasks 5\nrecords 73\nsum a 10412\nsum b -4\n"),
-        (CROWD, "tasks 65\nrecords 256066\nsum s 64000\n"),
-        (HEAT, "tasks 5\nrecords 1147\nsum u 1592\nsum v 592\n"),
-    ] {
-        let (mut folder, status, out) = after(&rt, alloc, kernel)?;
-        assert_eq!(rt; status, DONE);
-        assert_eq!(rt; out.written(), text.as_bytes());
-        answers(&rt, alloc, &mut folder, &["check", "d", "2"], DONE, NO_RACE)?;
-        answers(&rt, alloc, &mut folder, &replay, DONE, "same\n")?;
-    }
-    Ok(())
+    all_run(&rt, rt.alloc(), "2", WITHOUT_A_RACE)
 }
+
+// What some of them print isn't the same each time.
+const CHECKED: &[Whole<'static>] = &[
+    (UNLOCKED, "...", RACES, "race 4 4\nraces 1\n"),
+    (TWO_MUTEXES, "...", RACES, "race 5 6\nraces 1\n"),
+    (TWO_LOOPS, "...", DONE, NO_RACE),
+    (TWO_LOOPS_ON, "...", RACES, "race 4 5\nraces 1\n"),
+    (NESTED, "...", RACES, "race 4 5\nraces 1\n"),
+    (NESTED_APART, "...", DONE, NO_RACE),
+    (HEAT_ON, "...", RACES, "race 9 12\nraces 1\n"),
+];
+
+#[test]
+fn folders_of_runs_check_as_their_races(rt: HostRuntime) -> Result<(), Fail> {
+    all_run(&rt, rt.alloc(), "2", CHECKED)
+}
+
+const RESIZED: Case<'static> = Case {
+    held: &[("k", DRAWN), ("resized", DRAWN_OTHERWISE)],
+    asked: &[
+        (RUN, DONE, "..."),
+        (
+            &["replay", "resized", "d"],
+            DIFFERS,
+            "differs t-0.0.swl record 1\n",
+        ),
+    ],
+    ..EMPTY
+};
 
 #[test]
 fn chunks_of_another_size_differ_at_the_first_draw(rt: HostRuntime) -> Result<(), Fail> {
-    let alloc = rt.alloc();
-    let (mut folder, _, _) = after(&rt, alloc, DRAWN)?;
-    folder.hold("k", DRAWN_OTHERWISE.as_bytes())?;
-    let replay = ["replay", "k", "d"];
-    let text = "differs t-0.0.swl record 1\n";
-    answers(&rt, alloc, &mut folder, &replay, DIFFERS, text)
+    all_pass(&rt, rt.alloc(), &[RESIZED])
+}
+
+const ROOT_ALONE: Case<'static> = Case {
+    held: &[("k", ONE_STORE)],
+    asked: &[
+        (RUN, DONE, "..."),
+        (
+            SHOW,
+            DONE,
+            "log t.swl records 2\n1 write 8 site 0 line 1 addr 4096 value 1\n2 end line 1\n",
+        ),
+    ],
+    ..EMPTY
+};
+
+#[test]
+fn the_root_alone_is_shown(rt: HostRuntime) -> Result<(), Fail> {
+    all_pass(&rt, rt.alloc(), &[ROOT_ALONE])
+}
+
+const REPEATED: Case<'static> = Case {
+    held: &[("k", TWO_LOOPS)],
+    asked: &[(RUN, DONE, "..."), (&["check", "d", "1"], DONE, NO_RACE)],
+    ..EMPTY
+};
+
+// Whether this file is there, and the same in both folders.
+fn has_same_file(one: &MemFolder, other: &MemFolder, name: &str) -> bool {
+    one.file(name).is_some() && one.file(name) == other.file(name)
 }
 
 #[test]
 fn a_run_without_draws_has_the_same_logs_each_time(rt: HostRuntime) -> Result<(), Fail> {
     let alloc = rt.alloc();
-    let names = ["d/t.swl", "d/t-0.0.swl", "d/t-0.1.swl"];
-    let (first, _, _) = after(&rt, alloc, TWO_LOOPS)?;
+    let mut first = folder_of(alloc, &REPEATED)?;
+    passes(&rt, alloc, &mut first, &REPEATED)?;
     for _ in 0..200 {
-        let (mut again, status, _) = after(&rt, alloc, TWO_LOOPS)?;
-        assert_eq!(rt; status, DONE);
-        for name in names {
-            assert!(rt; again.file(name).is_some());
-            assert_eq!(rt; again.file(name), first.file(name), "{name}");
+        let mut again = folder_of(alloc, &REPEATED)?;
+        passes(&rt, alloc, &mut again, &REPEATED)?;
+        for name in ["d/t.swl", "d/t-0.0.swl", "d/t-0.1.swl"] {
+            holds(has_same_file(&again, &first, name), name)?;
         }
-        answers(&rt, alloc, &mut again, &["check", "d", "1"], DONE, NO_RACE)?;
     }
     Ok(())
 }
+
+const REDRAWN: Case<'static> = Case {
+    held: &[("k", DRAWN_TWICE)],
+    asked: &[
+        (RUN, DONE, "tasks 3\nrecords 30\nsum a 8\n"),
+        (&["check", "d", "1"], DONE, NO_RACE),
+    ],
+    ..EMPTY
+};
 
 #[test]
 fn each_run_with_draws_is_a_run_without_a_race(rt: HostRuntime) -> Result<(), Fail> {
-    let alloc = rt.alloc();
     for _ in 0..200 {
-        let (mut folder, status, out) = after(&rt, alloc, DRAWN_TWICE)?;
-        assert_eq!(rt; status, DONE);
-        assert_eq!(rt; out.written(), b"tasks 3\nrecords 30\nsum a 8\n".as_slice());
-        answers(&rt, alloc, &mut folder, &["check", "d", "1"], DONE, NO_RACE)?;
+        all_pass(&rt, rt.alloc(), &[REDRAWN])?;
     }
     Ok(())
-}
-
-#[test]
-fn folders_of_runs_check_as_their_races(rt: HostRuntime) -> Result<(), Fail> {
-    let alloc = rt.alloc();
-    for (kernel, races) in [
-        (UNLOCKED, "race 4 4\nraces 1\n"),
-        (TWO_MUTEXES, "race 5 6\nraces 1\n"),
-        (TWO_LOOPS, NO_RACE),
-        (TWO_LOOPS_ON, "race 4 5\nraces 1\n"),
-        (NESTED, "race 4 5\nraces 1\n"),
-        (NESTED_APART, NO_RACE),
-        (HEAT_ON, "race 9 12\nraces 1\n"),
-    ] {
-        let (mut folder, run, _) = after(&rt, alloc, kernel)?;
-        assert_eq!(rt; run, DONE);
-        let status = if races == NO_RACE { DONE } else { RACES };
-        answers(&rt, alloc, &mut folder, &["check", "d", "2"], status, races)?;
-    }
-    Ok(())
-}
-
-#[test]
-fn the_root_alone_is_shown(rt: HostRuntime) -> Result<(), Fail> {
-    let alloc = rt.alloc();
-    let (mut folder, _, _) = after(&rt, alloc, ONE_STORE)?;
-    answers(
-        &rt,
-        alloc,
-        &mut folder,
-        &["show", "d"],
-        DONE,
-        "log t.swl records 2\n1 write 8 site 0 line 1 addr 4096 value 1\n2 end line 1\n",
-    )
 }
 
 // How many lines of a text end so.
@@ -252,30 +279,28 @@ fn count(text: &[u8], ending: &[u8]) -> usize {
     found
 }
 
+// Each lane finds that there is none left.
+const DRAWS: &[(&str, usize)] = &[
+    (" chunk 0 of 3 line 3", 1),
+    (" chunk 1 of 3 line 3", 1),
+    (" chunk 2 of 3 line 3", 1),
+    (" chunk 3 of 3 line 3", 3),
+];
+
 #[test]
 fn each_chunk_is_drawn_once(rt: HostRuntime) -> Result<(), Fail> {
     let alloc = rt.alloc();
-    let (mut folder, _, _) = after(&rt, alloc, DRAWN)?;
-    let (status, out) = printed(&rt, alloc, &mut folder, &["show", "d"])?;
-    assert_eq!(rt; status, DONE);
-    // Each lane finds that there is none left.
-    for (ending, times) in [
-        (" chunk 0 of 3 line 3", 1),
-        (" chunk 1 of 3 line 3", 1),
-        (" chunk 2 of 3 line 3", 1),
-        (" chunk 3 of 3 line 3", 3),
-    ] {
-        assert_eq!(rt; count(out.written(), ending.as_bytes()), times, "{ending}");
+    let drawn = Case {
+        held: &[("k", DRAWN)],
+        asked: &[(RUN, DONE, "...")],
+        ..EMPTY
+    };
+    let mut folder = folder_of(alloc, &drawn)?;
+    passes(&rt, alloc, &mut folder, &drawn)?;
+    let (status, out) = printed(&rt, alloc, &mut folder, SHOW, &[])?;
+    holds(status == DONE, "show")?;
+    for (ending, times) in DRAWS {
+        holds(count(out.written(), ending.as_bytes()) == *times, ending)?;
     }
-    Ok(())
-}
-
-#[test]
-fn a_barrier_in_a_loop_of_the_lane_is_refused(rt: HostRuntime) -> Result<(), Fail> {
-    let alloc = rt.alloc();
-    let kernel = "array a i64 8\nmain { parallel 2 {\nloop j in 0 .. tid {\nbarrier }\n} }\n";
-    let (_, status, out) = after(&rt, alloc, kernel)?;
-    assert_eq!(rt; status, KERNEL_REFUSED);
-    assert_eq!(rt; out.written(), b"kernel line 4: NotUniform\n".as_slice());
     Ok(())
 }

@@ -1,0 +1,284 @@
+//! Tables of cases: a folder, what is asked over it, and what is left.
+
+use crate::commands::{REPLAY, RUN, printed};
+use crate::folders::{Task, hold_tasks};
+use command_answer::DONE;
+use std::alloc::Global;
+use std::sync::Wait;
+use std::test::Fail;
+use std::thread::Threads;
+use sw_base::{MemFolder, Memory, Path};
+
+/// The words, and the status and the text that answer them. A text with dots at its end stands for all that begin so.
+pub type Question<'a> = (&'a [&'a str], u8, &'a str);
+
+/// A folder in memory, what is asked one after another, and what is there then.
+#[derive(Clone, Copy, Drop)]
+pub struct Case<'a> {
+    /// The names and the texts of files.
+    pub held: &'a [(&'a str, &'a str)],
+    /// The tasks whose logs and index stand in `d`. Where there are none there is no index.
+    pub tasks: &'a [Task<'a>],
+    /// Which writes of the output fail, in each answer.
+    pub failing: &'a [u64],
+    pub asked: &'a [Question<'a>],
+    /// Files that have these lengths then, or aren't there.
+    pub left: &'a [(&'a str, Option<usize>)],
+    /// The logs that were sealed, in order. Where none is named they may be any.
+    pub sealed: &'a [&'a str],
+}
+
+/// An empty folder, of which nothing is asked.
+pub const EMPTY: Case<'static> = Case {
+    held: &[],
+    tasks: &[],
+    failing: &[],
+    asked: &[],
+    left: &[],
+    sealed: &[],
+};
+
+/// The folder of a case before anything is asked.
+pub fn folder_of(alloc: Global, case: &Case<'_>) -> Result<MemFolder, Memory> {
+    let mut folder = MemFolder::new(alloc)?;
+    for (name, text) in case.held {
+        folder.hold(name, text.as_bytes())?;
+    }
+    if !case.tasks.is_empty() {
+        hold_tasks(alloc, &mut folder, case.tasks)?;
+    }
+    Ok(folder)
+}
+
+fn is_due(text: &[u8], due: &[u8]) -> bool {
+    match due.strip_suffix(b"...") {
+        Some(begin) => text.starts_with(begin),
+        None => text == due,
+    }
+}
+
+// The status and the text that come out, where they aren't these.
+fn other_answer<R: Threads + Wait + Sync>(
+    rt: &R,
+    alloc: Global,
+    folder: &mut MemFolder,
+    failing: &[u64],
+    given: &[&str],
+    status: u8,
+    due: &str,
+) -> Result<Option<String>, Memory> {
+    let (answered, out) = printed(rt, alloc, folder, given, failing)?;
+    if answered == status && is_due(out.written(), due.as_bytes()) {
+        return Ok(None);
+    }
+    let text = String::from_utf8_lossy(alloc, out.written())?;
+    Ok(Some(format!(in alloc; "status {answered}: {text}")?))
+}
+
+// The first answer that isn't what is due, by the number of its question from 0.
+fn first_other_answer<R: Threads + Wait + Sync>(
+    rt: &R,
+    alloc: Global,
+    folder: &mut MemFolder,
+    case: &Case<'_>,
+) -> Result<Option<String>, Memory> {
+    for (number, (given, status, text)) in case.asked.iter().enumerate() {
+        if let Some(other) = other_answer(rt, alloc, folder, case.failing, given, *status, text)? {
+            return Ok(Some(format!(in alloc; "question {number}: {other}")?));
+        }
+    }
+    Ok(None)
+}
+
+// The first file that is left otherwise than is due.
+fn other_file<'a>(folder: &MemFolder, left: &[(&'a str, Option<usize>)]) -> Option<&'a str> {
+    for (name, due) in left {
+        let is_left = match (folder.file(name), due) {
+            (Some(bytes), Some(length)) => bytes.len() == *length,
+            (None, None) => true,
+            _ => false,
+        };
+        if !is_left {
+            return Some(*name);
+        }
+    }
+    None
+}
+
+// Whether these logs were sealed, in this order, and no other.
+fn are_sealed(folder: &MemFolder, names: &[&str]) -> bool {
+    for (number, name) in names.iter().enumerate() {
+        if folder.sealed_name(number) != Some(*name) {
+            return false;
+        }
+    }
+    names.is_empty() || folder.sealed_name(names.len()).is_none()
+}
+
+// What comes out otherwise than the case says, asked over this folder.
+fn difference<R: Threads + Wait + Sync>(
+    rt: &R,
+    alloc: Global,
+    folder: &mut MemFolder,
+    case: &Case<'_>,
+) -> Result<Option<String>, Memory> {
+    if let Some(other) = first_other_answer(rt, alloc, folder, case)? {
+        return Ok(Some(other));
+    }
+    if let Some(name) = other_file(folder, case.left) {
+        return Ok(Some(format!(in alloc; "what is left of {name}")?));
+    }
+    if !are_sealed(folder, case.sealed) {
+        return Ok(Some(String::from_str(alloc, "the logs that were sealed")?));
+    }
+    Ok(None)
+}
+
+// The first case, by its number from 0, and what comes out otherwise of it.
+fn first_difference<R: Threads + Wait + Sync>(
+    rt: &R,
+    alloc: Global,
+    cases: &[Case<'_>],
+) -> Result<Option<String>, Memory> {
+    for (number, case) in cases.iter().enumerate() {
+        let mut folder = folder_of(alloc, case)?;
+        if let Some(other) = difference(rt, alloc, &mut folder, case)? {
+            return Ok(Some(format!(in alloc; "case {number}: {other}")?));
+        }
+    }
+    Ok(None)
+}
+
+/// What comes out otherwise than the case says where this call on the folder fails.
+pub fn difference_at<R: Threads + Wait + Sync>(
+    rt: &R,
+    alloc: Global,
+    call: u64,
+    case: &Case<'_>,
+) -> Result<Option<String>, Memory> {
+    let mut folder = folder_of(alloc, case)?;
+    folder.fail(&[call])?;
+    difference(rt, alloc, &mut folder, case)
+}
+
+/// Fails with the name of a row that doesn't hold.
+pub fn holds(is_so: bool, row: &str) -> Result<(), Fail> {
+    if is_so {
+        return Ok(());
+    }
+    Err(Fail::from(row))
+}
+
+/// Fails with what comes out otherwise.
+pub fn no_difference(found: Result<Option<String>, Memory>) -> Result<(), Fail> {
+    match found {
+        Ok(None) => Ok(()),
+        Ok(Some(other)) => Err(Fail::from(other)),
+        Err(error) => Err(Fail::from(error)),
+    }
+}
+
+/// Fails with what comes out otherwise than the case says, asked over this folder.
+pub fn passes<R: Threads + Wait + Sync>(
+    rt: &R,
+    alloc: Global,
+    folder: &mut MemFolder,
+    case: &Case<'_>,
+) -> Result<(), Fail> {
+    no_difference(difference(rt, alloc, folder, case))
+}
+
+/// Fails with the first case, each in a folder of its own, and what comes out otherwise of it.
+pub fn all_pass<R: Threads + Wait + Sync>(
+    rt: &R,
+    alloc: Global,
+    cases: &[Case<'_>],
+) -> Result<(), Fail> {
+    no_difference(first_difference(rt, alloc, cases))
+}
+
+/// The same of one case where this call on the folder fails.
+pub fn passes_at<R: Threads + Wait + Sync>(
+    rt: &R,
+    alloc: Global,
+    call: u64,
+    case: &Case<'_>,
+) -> Result<(), Fail> {
+    no_difference(difference_at(rt, alloc, call, case))
+}
+
+/// The same of one case where this call on the log of this task fails.
+pub fn passes_past<R: Threads + Wait + Sync>(
+    rt: &R,
+    alloc: Global,
+    task: &Path,
+    call: u64,
+    case: &Case<'_>,
+) -> Result<(), Fail> {
+    let mut folder = folder_of(alloc, case)?;
+    folder.fail_log(task, &[call])?;
+    passes(rt, alloc, &mut folder, case)
+}
+
+/// Fails with the status and the text that come out, where they aren't these.
+pub fn answers<R: Threads + Wait + Sync>(
+    rt: &R,
+    alloc: Global,
+    folder: &mut MemFolder,
+    given: &[&str],
+    status: u8,
+    text: &str,
+) -> Result<(), Fail> {
+    no_difference(other_answer(rt, alloc, folder, &[], given, status, text))
+}
+
+/// A kernel, what its run prints, and the status and the text of `check`.
+pub type Whole<'a> = (&'a str, &'a str, u8, &'a str);
+
+// What comes out otherwise of a kernel that runs to its end.
+fn other_run<R: Threads + Wait + Sync>(
+    rt: &R,
+    alloc: Global,
+    workers: &str,
+    whole: &Whole<'_>,
+) -> Result<Option<String>, Memory> {
+    let (kernel, text, status, races) = whole;
+    let mut folder = MemFolder::new(alloc)?;
+    folder.hold("k", kernel.as_bytes())?;
+    let ran = other_answer(rt, alloc, &mut folder, &[], RUN, DONE, text)?;
+    if ran.is_some() {
+        return Ok(ran);
+    }
+    let check = ["check", "d", workers];
+    let checked = other_answer(rt, alloc, &mut folder, &[], &check, *status, races)?;
+    if checked.is_some() {
+        return Ok(checked);
+    }
+    other_answer(rt, alloc, &mut folder, &[], REPLAY, DONE, "same\n")
+}
+
+// The first kernel, by its number from 0, and what comes out otherwise of it.
+fn first_other_run<R: Threads + Wait + Sync>(
+    rt: &R,
+    alloc: Global,
+    workers: &str,
+    kernels: &[Whole<'_>],
+) -> Result<Option<String>, Memory> {
+    for (number, whole) in kernels.iter().enumerate() {
+        if let Some(other) = other_run(rt, alloc, workers, whole)? {
+            return Ok(Some(format!(in alloc; "kernel {number}: {other}")?));
+        }
+    }
+    Ok(None)
+}
+
+/// Fails with the first kernel that doesn't run to its end and print its text, or whose folder so many workers don't check so or
+/// isn't a run of it.
+pub fn all_run<R: Threads + Wait + Sync>(
+    rt: &R,
+    alloc: Global,
+    workers: &str,
+    kernels: &[Whole<'_>],
+) -> Result<(), Fail> {
+    no_difference(first_other_run(rt, alloc, workers, kernels))
+}
