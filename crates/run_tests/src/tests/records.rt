@@ -1,8 +1,12 @@
 //! Kernels without a race, whose logs are the same in each run: the words at the end, and the records of each log, in the order of
 //! the tasks' paths.
 
-use crate::tests::support::{listing, run};
+use crate::tests::support::{are_listed, finished};
+use std::alloc::Global;
+use std::process::Abort;
+use std::sync::Wait;
 use std::test::Fail;
+use std::thread::Threads;
 
 // Each lane begins with the variables of the task that forks it, and gives none back.
 const NESTED: &str = "array a i64 8
@@ -263,29 +267,40 @@ const MINUS_2: u64 = u64::MAX - 1;
 
 const MINUS_3: u64 = u64::MAX - 2;
 
+// A kernel, the words at its end, and the records of its logs.
+const ENDS: &[(&str, &[u64], &str)] = &[
+    (NESTED, &[50, 51, 60, 61, 5, 6, 0, 0], NESTED_LOGS),
+    (
+        FOUR_DEEP,
+        &[MINUS_2, MINUS_2, MINUS_3, MINUS_3],
+        FOUR_DEEP_LOGS,
+    ),
+    (IN_TURN, &[1, 2, 2, 1], IN_TURN_LOGS),
+    (SHARED, &[0, 0, 10, 11, 21, 22, 2], SHARED_LOGS),
+    (DRAWN, &[1, 2, 2], DRAWN_LOGS),
+    (LOCKED, &[1, 2], LOCKED_LOGS),
+    (TURNED, &[2, 2, 1, 1, 2, 2], TURNED_LOGS),
+];
+
+fn ends_so<R: Abort + Threads + Wait + Sync>(
+    rt: &R,
+    alloc: Global,
+    kernel: &str,
+    words: &[u64],
+    logs: &str,
+) -> Result<(), Fail> {
+    for size in [24, 60, 4096] {
+        let end = finished(rt, alloc, kernel, size)?;
+        assert!(rt; end.words.as_slice() == words, "{kernel}");
+        assert!(rt; are_listed(alloc, end.logs, logs)?, "{kernel}");
+    }
+    Ok(())
+}
+
 #[test]
 fn each_log_has_the_records_of_its_task(rt: HostRuntime) -> Result<(), Fail> {
-    let alloc = rt.alloc();
-    let table: [(&str, &[u64], &str); 7] = [
-        (NESTED, &[50, 51, 60, 61, 5, 6, 0, 0], NESTED_LOGS),
-        (
-            FOUR_DEEP,
-            &[MINUS_2, MINUS_2, MINUS_3, MINUS_3],
-            FOUR_DEEP_LOGS,
-        ),
-        (IN_TURN, &[1, 2, 2, 1], IN_TURN_LOGS),
-        (SHARED, &[0, 0, 10, 11, 21, 22, 2], SHARED_LOGS),
-        (DRAWN, &[1, 2, 2], DRAWN_LOGS),
-        (LOCKED, &[1, 2], LOCKED_LOGS),
-        (TURNED, &[2, 2, 1, 1, 2, 2], TURNED_LOGS),
-    ];
-    for (kernel, words, logs) in table {
-        for size in [24, 60, 4096] {
-            let finished = run(&rt, alloc, kernel, size)?.ok().ok_or("stopped")?;
-            assert_eq!(rt; finished.words.as_slice(), words);
-            let listed = listing(alloc, finished.logs)?;
-            assert_eq!(rt; listed.written(), logs.as_bytes());
-        }
+    for (kernel, words, logs) in ENDS {
+        ends_so(&rt, rt.alloc(), kernel, words, logs)?;
     }
     Ok(())
 }

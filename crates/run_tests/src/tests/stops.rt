@@ -1,8 +1,13 @@
 //! Runs that stop: which stop is told, and what the logs have then.
+ghost use Rattle.std.specs.Prelude.{◌<◌};
 
-use crate::tests::support::{has_failed, is_stopped_so, listing, run, run_with};
+use crate::tests::support::{are_listed, finished, has_failed, is_stopped_so, run_with, stopped};
 use lane_runner::Stop;
+use std::alloc::Global;
+use std::process::Abort;
+use std::sync::Wait;
 use std::test::Fail;
+use std::thread::Threads;
 use sw_base::{MemLog, NoGate, Path};
 
 // Lane 1 divides by 0, lane 2 leaves the array, and lanes 0 and 3 wait for them. No lane stores in the second phase.
@@ -65,37 +70,34 @@ log t-0.1-1.1.swl records 0
 // The value of an element that is stored as a number of 64 bits.
 const MINUS_5: u64 = u64::MAX - 4;
 
+// A kernel, the task that stops and why, the words then, and the records of the logs.
+const STOPS: &[(&str, &str, Stop, &[u64], &str)] = &[
+    (
+        TWO_STOP,
+        "t-0.1.swl",
+        Stop::DivZero { line: 4 },
+        &[MINUS_5, 1, 1, 4],
+        TWO_STOP_LOGS,
+    ),
+    (
+        INNER_STOPS,
+        "t-0.1-1.1.swl",
+        Stop::Index { line: 5 },
+        &[1, 0, 2, 0],
+        INNER_STOPS_LOGS,
+    ),
+];
+
 #[test]
 fn the_least_stop_of_a_phase_is_told_and_no_later_phase_is_run(
     rt: HostRuntime,
 ) -> Result<(), Fail> {
     let alloc = rt.alloc();
-    let divided = Stop::DivZero { line: 4 };
-    let left = Stop::Index { line: 5 };
-    for (kernel, name, why, words, logs) in [
-        (
-            TWO_STOP,
-            "t-0.1.swl",
-            divided,
-            [MINUS_5, 1, 1, 4],
-            TWO_STOP_LOGS,
-        ),
-        (
-            INNER_STOPS,
-            "t-0.1-1.1.swl",
-            left,
-            [1, 0, 2, 0],
-            INNER_STOPS_LOGS,
-        ),
-    ] {
+    for (kernel, name, why, words, logs) in STOPS {
         for size in [24, 4096] {
-            let stopped = run(&rt, alloc, kernel, size)?.err().ok_or("ended")?;
-            assert!(rt;
-                is_stopped_so(alloc, &stopped, name, why, &words)?,
-                "{name}"
-            );
-            let listed = listing(alloc, stopped.logs)?;
-            assert_eq!(rt; listed.written(), logs.as_bytes());
+            let stop = stopped(&rt, alloc, kernel, size, (&Path::root(), &[]))?;
+            assert!(rt; is_stopped_so(alloc, &stop, name, *why, words)?, "{name}");
+            assert!(rt; are_listed(alloc, stop.logs, logs)?, "{name}");
         }
     }
     Ok(())
@@ -116,22 +118,35 @@ fn begin(left: &[(Path, MemLog, u32)], whole: &[(Path, MemLog, u32)]) -> bool {
     })
 }
 
+// Each of so many calls on the log of this task fails in turn, and the next one is no more.
+fn each_call_fails<R: Abort + Threads + Wait + Sync>(
+    rt: &R,
+    alloc: Global,
+    task: &Path,
+    calls: u64,
+    whole: &[(Path, MemLog, u32)],
+) -> Result<(), Fail>
+    requires { calls < 100 }
+{
+    for call in 1..=calls {
+        let stop = stopped(rt, alloc, FORKING, 24, (task, &[call]))?;
+        assert!(rt; has_failed(&stop, task), "call {call}");
+        assert!(rt; begin(&stop.logs, whole), "call {call}");
+    }
+    let past = calls + 1;
+    assert!(rt; run_with(rt, alloc, FORKING, 24, &NoGate, (task, &[past]))?.is_ok());
+    Ok(())
+}
+
 #[test]
 fn each_call_on_each_log_of_nested_regions_fails_in_turn(rt: HostRuntime) -> Result<(), Fail> {
     let alloc = rt.alloc();
-    let whole = run(&rt, alloc, FORKING, 24)?.ok().ok_or("stopped")?;
+    let whole = finished(&rt, alloc, FORKING, 24)?.logs;
     // On a task's log: its header, each record, and the logs of the lanes that it forks.
     let all_calls = [5, 6, 3, 3, 6, 3, 3];
-    assert_eq!(rt; whole.logs.len(), all_calls.len());
-    for ((task, _, _), calls) in whole.logs.iter().zip(&all_calls) {
-        for call in 1..=*calls {
-            let run = run_with(&rt, alloc, FORKING, 24, &NoGate, (task, &[call]))?;
-            let stopped = run.err().ok_or("ended")?;
-            assert!(rt; has_failed(&stopped, task), "call {call}");
-            assert!(rt; begin(&stopped.logs, &whole.logs), "call {call}");
-        }
-        let past = calls + 1;
-        assert!(rt; run_with(&rt, alloc, FORKING, 24, &NoGate, (task, &[past]))?.is_ok());
+    assert!(rt; whole.len() == all_calls.len());
+    for ((task, _, _), calls) in whole.iter().zip(&all_calls) {
+        each_call_fails(&rt, alloc, task, *calls, &whole)?;
     }
     Ok(())
 }

@@ -45,31 +45,54 @@ pub(crate) fn run_with<R: Threads + Wait + Sync, G: Gate>(
     Ok(run_kernel(rt, alloc, &kernel, root, size, gate))
 }
 
-/// Runs the kernel of a text.
-pub(crate) fn run<R: Threads + Wait + Sync>(
+/// The end of a run of the kernel.
+pub(crate) fn finished<R: Threads + Wait + Sync>(
     rt: &R,
     alloc: Global,
     text: &str,
     size: usize,
-) -> Result<Ran, Fail>
+) -> Result<Finished<MemLog>, Fail>
     requires { IsBufferSize size }
 {
-    run_with(rt, alloc, text, size, &NoGate, (&Path::root(), &[]))
+    match run_with(rt, alloc, text, size, &NoGate, (&Path::root(), &[]))? {
+        Ok(finished) => Ok(finished),
+        Err(_) => Err(Fail::from("stopped")),
+    }
 }
 
-/// The names of these logs, in order, each with the records that it has.
-pub(crate) fn listing(alloc: Global, logs: Vec<(Path, MemLog, u32)>) -> Result<MemOut, Fail> {
+/// The stop of a run of the kernel, where these calls on the log of this task fail.
+pub(crate) fn stopped<R: Threads + Wait + Sync>(
+    rt: &R,
+    alloc: Global,
+    text: &str,
+    size: usize,
+    failing: (&Path, &[u64]),
+) -> Result<Stopped<MemLog>, Fail>
+    requires { IsBufferSize size }
+{
+    match run_with(rt, alloc, text, size, &NoGate, failing)? {
+        Ok(_) => Err(Fail::from("ended")),
+        Err(stopped) => Ok(stopped),
+    }
+}
+
+/// Whether these are the names of the logs, in order, each with the records that it has.
+pub(crate) fn are_listed(
+    alloc: Global,
+    logs: Vec<(Path, MemLog, u32)>,
+    text: &str,
+) -> Result<bool, Memory> {
     let mut folder = MemFolder::new(alloc)?;
     let mut rows = Vec::new(alloc);
     for (path, log, records) in logs {
         if folder.seal(alloc, log).is_err() {
-            return Err(Fail::from("a log isn't sealed"));
+            return Ok(false);
         }
         rows.push(Row { path, records })?;
     }
     let mut out = MemOut::new(alloc)?;
-    list(alloc, &mut folder, &mut out, "d", &rows)?;
-    Ok(out)
+    let is_listed = list(alloc, &mut folder, &mut out, "d", &rows).is_ok();
+    Ok(is_listed && out.written() == text.as_bytes())
 }
 
 /// Whether a run stopped in the task of this name, for this reason, with these words.
