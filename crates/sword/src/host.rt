@@ -235,6 +235,7 @@ impl<R: Print> Out for HostOut<R> {
 #[cfg(test)]
 mod tests {
     use super::*;
+    use std::alloc::AllocError;
     use std::test::Fail;
     use std::{env, process};
     use sw_base::read_file;
@@ -248,40 +249,58 @@ mod tests {
         Ok(format!(in alloc; "{base}/sword-{name}-{id}")?)
     }
 
-    #[test]
-    fn logs_are_written_piece_by_piece(rt: HostRuntime) -> Result<(), Fail> {
-        let alloc = rt.alloc();
-        let top = fresh(&rt, "pieces")?;
-        let dir = format!(in alloc; "{top}/made/below")?;
-        let mut folder = HostFolder::new(rt);
-        let mut root = folder.root(alloc, &dir)?;
+    type Host = HostFolder<HostRuntime>;
+
+    // Whether the file has these bytes.
+    fn has_bytes(
+        folder: &mut Host,
+        alloc: Global,
+        name: &str,
+        bytes: &[u8],
+    ) -> Result<bool, Trouble> {
+        match read_file(alloc, folder, name)? {
+            Some(whole) => Ok(whole.as_slice() == bytes),
+            None => Ok(false),
+        }
+    }
+
+    // Writes pieces of two logs in turn, and seals one of them.
+    fn write_logs(folder: &mut Host, alloc: Global, dir: &str) -> Result<bool, Trouble> {
+        let mut root = folder.root(alloc, dir)?;
         root.append(alloc, b"SWLOG001")?;
         let mut lane = root.child(alloc, 0, 1, 2)?;
         lane.append(alloc, b"one")?;
         root.append(alloc, b" and")?;
         root.append(alloc, b" more")?;
         lane.append(alloc, b" two")?;
-        let name = format!(in alloc; "{dir}/t.swl")?;
-        let whole = read_file(alloc, &mut folder, &name)?.ok_or("a log")?;
-        assert_eq!(rt; whole.as_slice(), b"SWLOG001 and more".as_slice());
-        let name = format!(in alloc; "{dir}/t-0.1.swl")?;
-        let whole = read_file(alloc, &mut folder, &name)?.ok_or("a log")?;
-        assert_eq!(rt; whole.as_slice(), b"one two".as_slice());
         folder.discard(lane);
-        assert!(rt; folder.seal(alloc, root).is_ok());
-        assert_eq!(rt; folder.write_faults, 0);
+        Ok(folder.seal(alloc, root).is_ok())
+    }
+
+    #[test]
+    fn logs_are_written_piece_by_piece(rt: HostRuntime) -> Result<(), Fail> {
+        let alloc = rt.alloc();
+        let top = fresh(&rt, "pieces")?;
+        let dir = format!(in alloc; "{top}/made/below")?;
+        let of_root = format!(in alloc; "{dir}/t.swl")?;
+        let of_lane = format!(in alloc; "{dir}/t-0.1.swl")?;
+        let mut folder = HostFolder::new(rt);
+        assert!(rt; write_logs(&mut folder, alloc, &dir)?);
+        assert!(rt; has_bytes(&mut folder, alloc, &of_root, b"SWLOG001 and more")?);
+        assert!(rt; has_bytes(&mut folder, alloc, &of_lane, b"one two")?);
+        assert!(rt; folder.write_faults == 0);
         fs::remove_dir_all(&rt, &top)?;
         Ok(())
     }
 
     // The file's bytes from a place on, as one call reads them.
     fn part(
-        folder: &mut HostFolder<HostRuntime>,
+        folder: &mut Host,
         alloc: Global,
         name: &str,
         at: u64,
         room: usize,
-    ) -> Result<Vec<u8>, Fail> {
+    ) -> Result<Vec<u8>, Trouble> {
         let mut into = Vec::new(alloc);
         into.resize(room, 0)?;
         let count = folder.read(alloc, name, at, &mut into)?;
@@ -289,60 +308,87 @@ mod tests {
         Ok(into)
     }
 
-    #[test]
-    fn a_file_is_read_from_each_place(rt: HostRuntime) -> Result<(), Fail> {
-        let alloc = rt.alloc();
-        let dir = fresh(&rt, "places")?;
-        let mut folder = HostFolder::new(rt);
-        let root = folder.root(alloc, &dir)?;
-        let name = format!(in alloc; "{dir}/whole")?;
+    // Where a call begins to read, and how many bytes it has room for.
+    const PARTS: &[(usize, usize)] = &[
+        (0, 10),
+        (4_090, 20),
+        (4_097, 3),
+        (9_990, 10),
+        (9_995, 20),
+        (10_000, 5),
+        (70_000, 5),
+    ];
+
+    // Whether each part of the file is that of these bytes.
+    fn has_parts(
+        folder: &mut Host,
+        alloc: Global,
+        name: &str,
+        bytes: &[u8],
+    ) -> Result<bool, Trouble> {
+        for (at, room) in PARTS {
+            let left = bytes.get(*at..).unwrap_or(&[]);
+            let due = left.get(..*room).unwrap_or(left);
+            if part(folder, alloc, name, *at as u64, *room)?.as_slice() != due {
+                return Ok(false);
+            }
+        }
+        Ok(true)
+    }
+
+    fn ten_thousand(alloc: Global) -> Result<Vec<u8>, AllocError> {
         let mut bytes = Vec::new(alloc);
         for i in 0..10_000_u32 {
             bytes.push((i % 251) as u8)?;
         }
-        folder.put(alloc, &name, &bytes)?;
-        assert_eq!(rt; folder.size(alloc, &name)?, Some(10_000));
-        let whole = read_file(alloc, &mut folder, &name)?.ok_or("a file")?;
-        assert!(rt; whole.as_slice() == bytes.as_slice());
-        for (at, room) in [
-            (0, 10),
-            (4_090, 20),
-            (4_097, 3),
-            (9_990, 10),
-            (9_995, 20),
-            (10_000, 5),
-            (70_000, 5),
-        ] {
-            let left = bytes.get(at..).unwrap_or(&[]);
-            let due = left.get(..room).unwrap_or(left);
-            let read = part(&mut folder, alloc, &name, at as u64, room)?;
-            assert!(rt; read.as_slice() == due);
-        }
-        folder.put(alloc, &name, b"short")?;
-        assert_eq!(rt; folder.size(alloc, &name)?, Some(5));
+        Ok(bytes)
+    }
+
+    // Whether a file that is put is read as it is, and then has the size of a shorter one that is put.
+    fn is_read_as_put(folder: &mut Host, alloc: Global, name: &str) -> Result<bool, Trouble> {
+        let bytes = ten_thousand(alloc)?;
+        folder.put(alloc, name, &bytes)?;
+        let is_read = folder.size(alloc, name)? == Some(10_000)
+            && has_bytes(folder, alloc, name, &bytes)?
+            && has_parts(folder, alloc, name, &bytes)?;
+        folder.put(alloc, name, b"short")?;
+        Ok(is_read && folder.size(alloc, name)? == Some(5))
+    }
+
+    #[test]
+    fn a_file_is_read_from_each_place(rt: HostRuntime) -> Result<(), Fail> {
+        let alloc = rt.alloc();
+        let dir = fresh(&rt, "places")?;
+        let name = format!(in alloc; "{dir}/whole")?;
+        let mut folder = HostFolder::new(rt);
+        let root = folder.root(alloc, &dir)?;
         folder.discard(root);
-        assert_eq!(rt; (folder.read_faults, folder.write_faults), (0, 0));
+        assert!(rt; is_read_as_put(&mut folder, alloc, &name)?);
+        assert!(rt; folder.read_faults == 0 && folder.write_faults == 0);
         fs::remove_dir_all(&rt, &dir)?;
         Ok(())
+    }
+
+    // Whether a file isn't there, and so has no byte.
+    fn is_missing_here(folder: &mut Host, alloc: Global, name: &str) -> Result<bool, Trouble> {
+        Ok(folder.size(alloc, name)?.is_none() && part(folder, alloc, name, 0, 8)?.is_empty())
     }
 
     #[test]
     fn what_is_not_there_has_no_byte(rt: HostRuntime) -> Result<(), Fail> {
         let alloc = rt.alloc();
         let dir = fresh(&rt, "missing")?;
-        let mut folder = HostFolder::new(rt);
-        let root = folder.root(alloc, &dir)?;
         let name = format!(in alloc; "{dir}/none")?;
         let below = format!(in alloc; "{dir}/t.swl/none")?;
-        for missing in [name.as_str(), below.as_str()] {
-            assert_eq!(rt; folder.size(alloc, missing)?, None);
-            assert_eq!(rt; part(&mut folder, alloc, missing, 0, 8)?.len(), 0);
-        }
-        assert_eq!(rt; folder.read_faults, 0);
+        let mut folder = HostFolder::new(rt);
+        let root = folder.root(alloc, &dir)?;
+        folder.discard(root);
+        assert!(rt; is_missing_here(&mut folder, alloc, &name)?);
+        assert!(rt; is_missing_here(&mut folder, alloc, &below)?);
+        assert!(rt; folder.read_faults == 0);
         assert!(rt; folder.put(alloc, &below, b"bytes").is_err());
         assert!(rt; folder.root(alloc, &below).is_err());
-        folder.discard(root);
-        assert_eq!(rt; folder.write_faults, 2);
+        assert!(rt; folder.write_faults == 2);
         fs::remove_dir_all(&rt, &dir)?;
         Ok(())
     }
@@ -351,21 +397,21 @@ mod tests {
     fn what_can_not_be_written_is_a_fault(rt: HostRuntime) -> Result<(), Fail> {
         let alloc = rt.alloc();
         let dir = fresh(&rt, "faults")?;
+        let name = format!(in alloc; "{dir}/t.swl")?;
         let mut folder = HostFolder::new(rt);
         let mut root = folder.root(alloc, &dir)?;
         assert!(rt; folder.put(alloc, &dir, b"bytes").is_err());
-        assert_eq!(rt; folder.write_faults, 1);
+        assert!(rt; folder.write_faults == 1);
         assert!(rt; folder.put(alloc, "/dev/full", b"bytes").is_err());
-        assert_eq!(rt; folder.write_faults, 2);
-        let name = format!(in alloc; "{dir}/t.swl")?;
+        assert!(rt; folder.write_faults == 2);
         fs::remove_file(&rt, &name)?;
         fs::create_dir(&rt, &name)?;
         assert!(rt; root.append(alloc, b"bytes").is_err());
-        assert_eq!(rt; root.faults, 1);
+        assert!(rt; root.faults == 1);
         assert!(rt; read_file(alloc, &mut folder, &name).is_err());
-        assert_eq!(rt; folder.read_faults, 1);
+        assert!(rt; folder.read_faults == 1);
         folder.discard(root);
-        assert_eq!(rt; folder.write_faults, 3);
+        assert!(rt; folder.write_faults == 3);
         fs::remove_dir_all(&rt, &dir)?;
         Ok(())
     }
