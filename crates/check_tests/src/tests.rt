@@ -1,6 +1,7 @@
 mod folders;
 mod generated;
 mod graph;
+mod reasons;
 mod sweeping;
 mod texts;
 mod workers;

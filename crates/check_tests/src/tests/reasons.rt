@@ -1,0 +1,183 @@
+//! The text of each reason for which a folder is refused.
+
+use asking::{BARRIER, Case, EMPTY, END, ROOT, Rec, all_pass, answers, lock, region, unlock};
+use command_answer::FOLDER_REFUSED;
+use std::alloc::{AllocError, Global};
+use std::test::Fail;
+use sw_base::MemFolder;
+
+const CHECK: &[&str] = &["check", "d", "2"];
+
+// The log of a root alone that is refused so.
+macro_rules! root_refused {
+    ($records:expr, $text:expr) => {
+        Case {
+            tasks: &[(&[], $records)],
+            asked: &[(CHECK, FOLDER_REFUSED, $text)],
+            ..EMPTY
+        }
+    };
+}
+
+// A folder of files that is refused so.
+macro_rules! files_refused {
+    ($files:expr, $text:expr) => {
+        Case {
+            held: $files,
+            asked: &[(CHECK, FOLDER_REFUSED, $text)],
+            ..EMPTY
+        }
+    };
+}
+
+const NINE_LOCKS: &[Rec] = &[
+    lock!(1, 0),
+    lock!(1, 1),
+    lock!(1, 2),
+    lock!(1, 3),
+    lock!(1, 4),
+    lock!(1, 5),
+    lock!(1, 6),
+    lock!(1, 7),
+    lock!(1, 8),
+    END,
+];
+
+const FIELDS: &[Case<'static>] = &[
+    root_refused!(&[(9, 0, 1, 0, 0), END], "bad log t.swl record 1: Kind\n"),
+    root_refused!(&[(1, 3, 1, 4096, 0), END], "bad log t.swl record 1: Size\n"),
+    root_refused!(
+        &[(1, 8, 0, 4096, 0), END],
+        "bad log t.swl record 1: LineZero\n"
+    ),
+    root_refused!(
+        &[(2, 8, 1, 281_474_976_710_649, 0), END],
+        "bad log t.swl record 1: Address\n"
+    ),
+    root_refused!(&[region!(1, 65), END], "bad log t.swl record 1: Span\n"),
+    root_refused!(
+        &[(5, 0, 1, 1, 0), END],
+        "bad log t.swl record 1: Reserved\n"
+    ),
+];
+
+const RULES: &[Case<'static>] = &[
+    root_refused!(&[END, END], "bad log t.swl record 1: EndEarly\n"),
+    root_refused!(
+        &[(2, 8, 1, 4096, 0)],
+        "bad log t.swl record 1: EndMissing\n"
+    ),
+    root_refused!(
+        &[lock!(1, 1), lock!(1, 1), END],
+        "bad log t.swl record 2: LockTwice\n"
+    ),
+    root_refused!(NINE_LOCKS, "bad log t.swl record 9: LocksDeep\n"),
+    root_refused!(
+        &[unlock!(1, 1), END],
+        "bad log t.swl record 1: UnlockOther\n"
+    ),
+    root_refused!(&[BARRIER, END], "bad log t.swl record 1: RootBarrier\n"),
+    root_refused!(&[lock!(1, 1), END], "bad log t.swl record 2: LockOpen\n"),
+    root_refused!(
+        &[region!(1, 1), END],
+        "bad log t.swl record 1: RegionRows\n"
+    ),
+    Case {
+        tasks: &[
+            (&[], &[lock!(1, 1), region!(2, 1), END]),
+            (&[(0, 0, 1)], &[END]),
+        ],
+        asked: &[(
+            CHECK,
+            FOLDER_REFUSED,
+            "bad log t.swl record 2: RegionLocked\n",
+        )],
+        ..EMPTY
+    },
+    Case {
+        tasks: &[
+            (&[], &[region!(1, 1), END]),
+            (&[(0, 0, 1)], &[lock!(2, 1), BARRIER, END]),
+        ],
+        asked: &[(
+            CHECK,
+            FOLDER_REFUSED,
+            "bad log t-0.0.swl record 2: BarrierLocked\n",
+        )],
+        ..EMPTY
+    },
+];
+
+// The index of a root alone whose log has one record.
+const ROOT_ROW: &str =
+    "SWIDX001\0\0\0\0\0\0\0\0\0\0\0\0\0\0\0\0\0\0\0\0\0\0\0\0\0\0\0\0\0\0\0\0\0\0\0\0\0\0\0\0\0\0\0\0\0\0\0\u{1}";
+
+const FILES: &[Case<'static>] = &[
+    files_refused!(&[("d/index.swi", "SWIDX000")], "bad index row 0: Header\n"),
+    // A path of five steps.
+    files_refused!(
+        &[(
+            "d/index.swi",
+            "SWIDX001\0\0\0\u{5}\0\0\0\0\0\0\0\0\0\0\0\0\0\0\0\0\0\0\0\0\0\0\0\0\0\0\0\0\0\0\0\0\0\0\0\0\0\0\0\0\0\0\0\u{1}"
+        )],
+        "bad index row 1: Depth\n"
+    ),
+    Case {
+        tasks: &[(&[], ROOT), (&[(0, 2, 2)], &[END])],
+        asked: &[(CHECK, FOLDER_REFUSED, "bad index row 2: Lane\n")],
+        ..EMPTY
+    },
+    files_refused!(
+        &[("d/index.swi", ROOT_ROW), ("d/t.swl", "SWLOG000")],
+        "bad log t.swl record 0: Header\n"
+    ),
+    // An End in line 9, and a byte after it.
+    files_refused!(
+        &[
+            ("d/index.swi", ROOT_ROW),
+            (
+                "d/t.swl",
+                "SWLOG001\u{8}\0\0\0\0\0\0\u{9}\0\0\0\0\0\0\0\0\0\0\0\0\0\0\0\0."
+            ),
+        ],
+        "bad log t.swl record 2: Extra\n"
+    ),
+];
+
+#[test]
+fn a_bad_field_of_a_record_is_told(rt: HostRuntime) -> Result<(), Fail> {
+    all_pass(&rt, rt.alloc(), FIELDS)
+}
+
+#[test]
+fn a_rule_that_a_record_breaks_is_told(rt: HostRuntime) -> Result<(), Fail> {
+    all_pass(&rt, rt.alloc(), RULES)
+}
+
+#[test]
+fn bytes_that_are_no_index_or_log_are_told(rt: HostRuntime) -> Result<(), Fail> {
+    all_pass(&rt, rt.alloc(), FILES)
+}
+
+// The index of a root with 65,535 regions of one lane each, and a byte after it.
+fn crowded_index(alloc: Global) -> Result<Vec<u8>, AllocError> {
+    let mut index = ROOT_ROW.as_bytes().to_vec(alloc)?;
+    for region in 0..65_535u32 {
+        index.extend_from_slice(&[0, 0, 0, 1, 0, 0, 0, 0])?;
+        index.extend_from_slice(&region.to_be_bytes())?;
+        index.extend_from_slice(&[0, 0, 0, 1])?;
+        index.extend_from_slice(&[0; 31])?;
+        index.push(1)?;
+    }
+    index.push(0)?;
+    Ok(index)
+}
+
+#[test]
+fn a_row_too_many_is_told(rt: HostRuntime) -> Result<(), Fail> {
+    let alloc = rt.alloc();
+    let mut folder = MemFolder::new(alloc)?;
+    folder.hold("d/index.swi", &crowded_index(alloc)?)?;
+    let text = "bad index row 65537: TooMany\n";
+    answers(&rt, alloc, &mut folder, CHECK, FOLDER_REFUSED, text)
+}
