@@ -1,11 +1,12 @@
 //! A reader of logs.
-ghost use Rattle.std.specs.Prelude.{◌≡◌, ◌<◌, ◌≤◌, List, Some, All, length, take, is_some, IsTrue, IfOk, IfSome, OnOk, OnErr};
+ghost use Rattle.std.specs.Prelude.{◌≡◌, ◌-◌, ◌<◌, ◌≤◌, List, Some, All, length, take, is_some, IsTrue, IfOk, IfSome, OnOk, OnErr};
 ghost use Rattle.log_format.specs.declared.record.Record.{Record};
 ghost use Rattle.log_format.specs.Format.{log_header};
 ghost use Rattle.log_format.specs.Spelling.{spelling, log_bytes};
 ghost use Rattle.log_format.specs.Table.{IsTabled};
 ghost use Rattle.sw_base.specs.Environment.{WhereTold, HasCause};
 ghost use Rattle.sw_base.specs.Names.{log_name};
+ghost use Rattle.sw_base.specs.Window.{skipped};
 ghost use Rattle.log_reader.specs.Reading.{StandsBefore, GivesNext};
 
 use log_format::{FORMAT, Format, Record, decode_as};
@@ -98,6 +99,16 @@ impl LogReader {
         Ok(())
     }
 
+    // Passes a record that is ahead.
+    fn pass_record(&mut self)
+        requires left { 0 < self.old.left }
+        requires ahead { 24 ≤ length self.old.window.ahead }
+        ensures { self.new ≡ record self.old { window = skipped 24 self.old.window; left = self.old.left - 1 } }
+    {
+        self.window.skip(RECORD);
+        self.left -= 1;
+    }
+
     /// The next record, or `None` after the last, and from then on. A read that fails changes nothing.
     pub fn next<F: Folder>(
         &mut self,
@@ -121,8 +132,7 @@ impl LogReader {
             self.left = 0;
             return Ok(None);
         };
-        self.window.skip(RECORD);
-        self.left -= 1;
+        self.pass_record();
         Ok(Some(next))
     }
 }
