@@ -5,4 +5,5 @@ mod memory;
 mod readers;
 mod records;
 mod reports;
+mod support;
 mod windows;

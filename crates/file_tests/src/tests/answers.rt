@@ -3,6 +3,7 @@
 use command_answer::{
     DONE, KERNEL_REFUSED, NO_MEMORY, RACES, WRITE_FAULT, failure, print, print_made,
 };
+use std::alloc::Global;
 use std::test::Fail;
 use sw_base::{MemOut, Memory, Trouble};
 
@@ -12,14 +13,34 @@ fn each_trouble_has_its_status(rt: HostRuntime) {
     assert!(rt; failure(Trouble::Failed) == WRITE_FAULT);
 }
 
+// The status of a text that was made, or for which there was no memory, printed as done.
+fn status_of_made(alloc: Global, out: &mut MemOut, made: Result<String, Memory>) -> u8 {
+    print_made(alloc, out, made, DONE)
+}
+
+// The statuses of a text with its own, of one that was made, and of one for which there was no memory, and what is written, where
+// these writes fail.
+fn printed(
+    alloc: Global,
+    failing: &[u64],
+    text: (&[u8], u8),
+    made: &str,
+) -> Result<([u8; 3], MemOut), Memory> {
+    let made = String::from_str(alloc, made)?;
+    let mut out = MemOut::new(alloc)?;
+    out.fail(failing)?;
+    let statuses = [
+        print(alloc, &mut out, text.0, text.1),
+        status_of_made(alloc, &mut out, Ok(made)),
+        status_of_made(alloc, &mut out, Err(Memory)),
+    ];
+    Ok((statuses, out))
+}
+
 #[test]
 fn texts_are_printed_with_their_status(rt: HostRuntime) -> Result<(), Fail> {
-    let alloc = rt.alloc();
-    let mut out = MemOut::new(alloc)?;
-    assert!(rt; print(alloc, &mut out, b"one\n", RACES) == RACES);
-    let made = String::from_str(alloc, "two\n")?;
-    assert!(rt; print_made(alloc, &mut out, Ok(made), DONE) == DONE);
-    assert!(rt; print_made(alloc, &mut out, Err(Memory), DONE) == NO_MEMORY);
+    let (statuses, out) = printed(rt.alloc(), &[], (b"one\n", RACES), "two\n")?;
+    assert!(rt; statuses == [RACES, DONE, NO_MEMORY]);
     assert!(rt; out.written() == b"one\ntwo\n".as_slice());
     Ok(())
 }
@@ -27,13 +48,9 @@ fn texts_are_printed_with_their_status(rt: HostRuntime) -> Result<(), Fail> {
 // A write that fails leaves the first half of its piece.
 #[test]
 fn a_failed_write_is_a_write_fault(rt: HostRuntime) -> Result<(), Fail> {
-    let alloc = rt.alloc();
-    let mut out = MemOut::new(alloc)?;
-    out.fail(&[1, 2])?;
-    let status = print(alloc, &mut out, b"no kernel\n", KERNEL_REFUSED);
-    assert!(rt; status == WRITE_FAULT);
-    let made = String::from_str(alloc, "records")?;
-    assert!(rt; print_made(alloc, &mut out, Ok(made), DONE) == WRITE_FAULT);
+    let text = (b"no kernel\n".as_slice(), KERNEL_REFUSED);
+    let (statuses, out) = printed(rt.alloc(), &[1, 2], text, "records")?;
+    assert!(rt; statuses == [WRITE_FAULT, WRITE_FAULT, NO_MEMORY]);
     assert!(rt; out.written() == b"no kerec".as_slice());
     Ok(())
 }

@@ -3,11 +3,12 @@
 ghost use Rattle.std.specs.Prelude.{IfOk};
 ghost use Rattle.race_model.specs.IndexFault.{AreRows};
 
+use crate::tests::support::folder_of;
 use log_format::FORMAT;
 use log_index::{IndexAnswer, IndexWhy, Row, read_index, read_index_as, write_index};
 use std::alloc::{AllocError, Global};
 use std::test::Fail;
-use sw_base::{INDEX_HEADER, MemFolder, ShortReads};
+use sw_base::{INDEX_HEADER, MemFolder, Memory, ShortReads};
 
 // A row by hand: its depth, a field that should be 0, its first two steps as region, lane and span, and its records.
 #[derive(Clone, Copy)]
@@ -21,15 +22,13 @@ struct Spelled {
 
 const NO_STEP: (u32, u16, u16) = (0, 0, 0);
 
-fn root() -> Spelled {
-    Spelled {
-        depth: 0,
-        reserved: 0,
-        first: NO_STEP,
-        second: NO_STEP,
-        records: 2,
-    }
-}
+const ROOT: Spelled = Spelled {
+    depth: 0,
+    reserved: 0,
+    first: NO_STEP,
+    second: NO_STEP,
+    records: 2,
+};
 
 fn lane(region: u32, lane: u16, span: u16) -> Spelled {
     Spelled {
@@ -41,19 +40,24 @@ fn lane(region: u32, lane: u16, span: u16) -> Spelled {
     }
 }
 
-fn push_step(bytes: &mut Vec<u8>, step: (u32, u16, u16)) -> Result<(), AllocError> {
-    bytes.extend_from_slice(&step.0.to_be_bytes())?;
-    bytes.extend_from_slice(&step.1.to_be_bytes())?;
-    bytes.extend_from_slice(&step.2.to_be_bytes())
+// The eight bytes of a step, as a number.
+fn number_of(step: (u32, u16, u16)) -> u64 {
+    u64::from(step.0) << 32 | u64::from(step.1) << 16 | u64::from(step.2)
 }
 
 fn push_row(bytes: &mut Vec<u8>, row: Spelled) -> Result<(), AllocError> {
-    bytes.extend_from_slice(&row.depth.to_be_bytes())?;
-    bytes.extend_from_slice(&row.reserved.to_be_bytes())?;
-    push_step(bytes, row.first)?;
-    push_step(bytes, row.second)?;
-    bytes.extend_from_slice(&[0; 16])?;
-    bytes.extend_from_slice(&row.records.to_be_bytes())
+    let numbers = [
+        u64::from(row.depth) << 32 | u64::from(row.reserved),
+        number_of(row.first),
+        number_of(row.second),
+        0,
+        0,
+        row.records,
+    ];
+    for number in numbers {
+        bytes.extend_from_slice(&number.to_be_bytes())?;
+    }
+    Ok(())
 }
 
 // The bytes of an index with these rows.
@@ -65,29 +69,31 @@ fn index(alloc: Global, rows: &[Spelled]) -> Result<Vec<u8>, AllocError> {
     Ok(bytes)
 }
 
-// What is answered of these bytes, also where no read gives more than five of them; `NoIndex` where that is answered otherwise.
+const INDEX: &str = "d/index.swi";
+
+// What is answered of these bytes.
 fn read(alloc: Global, bytes: &[u8]) -> Result<Vec<Row>, IndexAnswer>
     ensures { IfOk result (λ rows. AreRows rows.items) }
 {
-    let mut folder = MemFolder::new(alloc)?;
-    folder.hold("d/index.swi", bytes)?;
-    let whole = read_index_as(alloc, FORMAT, &mut folder, "d");
-    let short = read_index_as(alloc, FORMAT, &mut ShortReads { folder }, "d").err();
-    match whole {
-        Ok(rows) => {
-            if short.is_none() {
-                Ok(rows)
-            } else {
-                Err(IndexAnswer::NoIndex)
-            }
-        }
-        Err(answer) => {
-            if short == Some(answer) {
-                Err(answer)
-            } else {
-                Err(IndexAnswer::NoIndex)
-            }
-        }
+    let mut folder = folder_of(alloc, INDEX, bytes)?;
+    read_index_as(alloc, FORMAT, &mut folder, "d")
+}
+
+// The refusal of these bytes where no read gives more than five of them.
+fn refusal_of_short(alloc: Global, bytes: &[u8]) -> Option<IndexAnswer> {
+    match folder_of(alloc, INDEX, bytes) {
+        Ok(folder) => read_index_as(alloc, FORMAT, &mut ShortReads { folder }, "d").err(),
+        Err(_) => Some(IndexAnswer::Memory),
+    }
+}
+
+// The refusal of these bytes; `NoIndex` where another is answered in short reads.
+fn refusal(alloc: Global, bytes: &[u8]) -> Option<IndexAnswer> {
+    let whole = read(alloc, bytes).err();
+    if refusal_of_short(alloc, bytes) == whole {
+        whole
+    } else {
+        Some(IndexAnswer::NoIndex)
     }
 }
 
@@ -95,10 +101,62 @@ fn bad(row: u32, why: IndexWhy) -> Option<IndexAnswer> {
     Some(IndexAnswer::Bad { row, why })
 }
 
-// The answer for an index with these rows.
-fn answer(alloc: Global, rows: &[Spelled]) -> Result<Option<IndexAnswer>, AllocError> {
-    let bytes = index(alloc, rows)?;
-    Ok(read(alloc, &bytes).err())
+// The refusal of an index with these rows and one more.
+fn refusal_with(
+    alloc: Global,
+    before: &[Spelled],
+    last: Spelled,
+) -> Result<Option<IndexAnswer>, AllocError> {
+    let mut bytes = index(alloc, before)?;
+    push_row(&mut bytes, last)?;
+    Ok(refusal(alloc, &bytes))
+}
+
+// The first of these last rows, by its place from 0, that isn't refused so, as the row of this number behind the others.
+fn first_other(
+    alloc: Global,
+    before: &[Spelled],
+    number: u32,
+    rows: &[(Spelled, IndexWhy)],
+) -> Result<Option<usize>, AllocError> {
+    for (place, (row, why)) in rows.iter().enumerate() {
+        if refusal_with(alloc, before, *row)? != bad(number, *why) {
+            return Ok(Some(place));
+        }
+    }
+    Ok(None)
+}
+
+// Whether these are the rows, in order, each with the name of its log and its records.
+fn are_rows(alloc: Global, rows: &[Row], due: &[(&str, u32)]) -> Result<bool, Memory> {
+    for (row, (name, records)) in rows.iter().zip(due) {
+        if row.path.bare_name(alloc)?.as_str() != *name || row.records != *records {
+            return Ok(false);
+        }
+    }
+    Ok(rows.len() == due.len())
+}
+
+// Whether these are the rows of these bytes.
+fn has_rows(alloc: Global, bytes: &[u8], due: &[(&str, u32)]) -> Result<bool, IndexAnswer> {
+    let rows = read(alloc, bytes)?;
+    Ok(are_rows(alloc, &rows, due)?)
+}
+
+// Whether the rows of these bytes are written as the same bytes.
+fn is_written_back(alloc: Global, bytes: &[u8]) -> Result<bool, IndexAnswer> {
+    let rows = read(alloc, bytes)?;
+    let mut folder = MemFolder::new(alloc)?;
+    let is_written = write_index(alloc, &mut folder, "d", &rows).is_ok();
+    Ok(is_written && folder.file(INDEX) == Some(bytes))
+}
+
+// How many rows these bytes have.
+fn count(alloc: Global, bytes: &[u8]) -> Option<usize> {
+    match read(alloc, bytes) {
+        Ok(rows) => Some(rows.len()),
+        Err(_) => None,
+    }
 }
 
 #[test]
@@ -109,21 +167,21 @@ fn an_index_is_read_and_written_back(rt: HostRuntime) -> Result<(), Fail> {
         second: (0, 0, 1),
         ..lane(0, 1, 2)
     };
-    let bytes = index(
-        alloc,
-        &[root(), lane(0, 0, 2), lane(0, 1, 2), deep, lane(1, 0, 1)],
-    )?;
-    let rows = read(alloc, &bytes)?;
-    let [root, _, _, deep, last] = rows.as_slice() else {
-        panic!(rt; "not five rows");
-    };
-    assert!(rt; deep.path.bare_name(alloc)?.as_str() == "t-0.1-0.0.swl");
-    assert!(rt; last.path.bare_name(alloc)?.as_str() == "t-1.0.swl");
-    assert!(rt; root.records == 2 && last.records == 10);
-
-    let mut folder = MemFolder::new(alloc)?;
-    write_index(alloc, &mut folder, "d", &rows)?;
-    assert!(rt; folder.file("d/index.swi") == Some(bytes.as_slice()));
+    let rows = [ROOT, lane(0, 0, 2), lane(0, 1, 2), deep, lane(1, 0, 1)];
+    let bytes = index(alloc, &rows)?;
+    let due = [
+        ("t.swl", 2),
+        ("t-0.0.swl", 10),
+        ("t-0.1.swl", 10),
+        ("t-0.1-0.0.swl", 10),
+        ("t-1.0.swl", 10),
+    ];
+    assert!(rt; refusal(alloc, &bytes).is_none());
+    let told = [
+        has_rows(alloc, &bytes, &due),
+        is_written_back(alloc, &bytes),
+    ];
+    assert!(rt; told == [Ok(true), Ok(true)], "{told:?}");
     Ok(())
 }
 
@@ -138,15 +196,11 @@ fn a_folder_without_an_index_has_none(rt: HostRuntime) -> Result<(), Fail> {
 
 #[test]
 fn each_rule_is_told_at_row_1(rt: HostRuntime) -> Result<(), Fail> {
-    let alloc = rt.alloc();
     let reserved = Spelled {
         reserved: 1,
-        ..root()
+        ..ROOT
     };
-    let none = Spelled {
-        records: 0,
-        ..root()
-    };
+    let none = Spelled { records: 0, ..ROOT };
     let table = [
         (reserved, IndexWhy::Depth),
         (lane(0, 0, 65), IndexWhy::Span),
@@ -154,17 +208,20 @@ fn each_rule_is_told_at_row_1(rt: HostRuntime) -> Result<(), Fail> {
         (lane(0, 0, 2), IndexWhy::Order),
         (none, IndexWhy::Records),
     ];
-    for (row, why) in table {
-        assert_eq!(rt; answer(alloc, &[row])?, bad(1, why));
-    }
-    assert!(rt; answer(alloc, &[])? == bad(1, IndexWhy::Cut));
-    assert!(rt; answer(alloc, &[root()])?.is_none());
+    assert!(rt; first_other(rt.alloc(), &[], 1, &table)?.is_none());
+    Ok(())
+}
+
+#[test]
+fn an_index_has_a_root(rt: HostRuntime) -> Result<(), Fail> {
+    let alloc = rt.alloc();
+    assert!(rt; refusal(alloc, &INDEX_HEADER) == bad(1, IndexWhy::Cut));
+    assert!(rt; refusal(alloc, &index(alloc, &[ROOT])?).is_none());
     Ok(())
 }
 
 #[test]
 fn each_rule_is_told_at_row_2(rt: HostRuntime) -> Result<(), Fail> {
-    let alloc = rt.alloc();
     let deep = Spelled {
         depth: 5,
         ..lane(0, 0, 2)
@@ -181,16 +238,12 @@ fn each_rule_is_told_at_row_2(rt: HostRuntime) -> Result<(), Fail> {
         (lane(1, 0, 1), IndexWhy::Order),
         (none, IndexWhy::Records),
     ];
-    for (row, why) in table {
-        assert_eq!(rt; answer(alloc, &[root(), row])?, bad(2, why));
-    }
+    assert!(rt; first_other(rt.alloc(), &[ROOT], 2, &table)?.is_none());
     Ok(())
 }
 
 #[test]
 fn each_rule_is_told_at_row_3(rt: HostRuntime) -> Result<(), Fail> {
-    let alloc = rt.alloc();
-    let first = lane(0, 0, 2);
     let past = Spelled {
         second: (0, 0, 1),
         ..lane(0, 1, 2)
@@ -200,23 +253,29 @@ fn each_rule_is_told_at_row_3(rt: HostRuntime) -> Result<(), Fail> {
         ..lane(0, 1, 2)
     };
     let table = [
-        (first, past, IndexWhy::Depth),
-        (first, lane(0, 1, 0), IndexWhy::Span),
-        (first, lane(0, 2, 2), IndexWhy::Lane),
-        (lane(0, 0, 3), lane(0, 1, 2), IndexWhy::Order),
-        (lane(0, 0, 1), lane(2, 0, 1), IndexWhy::Order),
-        (first, many, IndexWhy::Records),
+        (past, IndexWhy::Depth),
+        (lane(0, 1, 0), IndexWhy::Span),
+        (lane(0, 2, 2), IndexWhy::Lane),
+        (many, IndexWhy::Records),
     ];
-    for (second, third, why) in table {
-        assert_eq!(rt; answer(alloc, &[root(), second, third])?, bad(3, why));
-    }
+    assert!(rt; first_other(rt.alloc(), &[ROOT, lane(0, 0, 2)], 3, &table)?.is_none());
     Ok(())
 }
 
-// The answer for this many bytes of the index.
-fn answer_of_prefix(alloc: Global, bytes: &[u8], count: usize) -> Option<IndexAnswer> {
+#[test]
+fn a_row_3_out_of_order_is_told(rt: HostRuntime) -> Result<(), Fail> {
+    let alloc = rt.alloc();
+    let narrower = [(lane(0, 1, 2), IndexWhy::Order)];
+    assert!(rt; first_other(alloc, &[ROOT, lane(0, 0, 3)], 3, &narrower)?.is_none());
+    let past = [(lane(2, 0, 1), IndexWhy::Order)];
+    assert!(rt; first_other(alloc, &[ROOT, lane(0, 0, 1)], 3, &past)?.is_none());
+    Ok(())
+}
+
+// The refusal of this many bytes of the index.
+fn refusal_of_prefix(alloc: Global, bytes: &[u8], count: usize) -> Option<IndexAnswer> {
     match bytes.get(..count) {
-        Some(prefix) => read(alloc, prefix).err(),
+        Some(prefix) => refusal(alloc, prefix),
         None => None,
     }
 }
@@ -224,7 +283,8 @@ fn answer_of_prefix(alloc: Global, bytes: &[u8], count: usize) -> Option<IndexAn
 #[test]
 fn an_index_cut_short_is_told(rt: HostRuntime) -> Result<(), Fail> {
     let alloc = rt.alloc();
-    let bytes = index(alloc, &[root(), lane(0, 0, 2), lane(0, 1, 2)])?;
+    let bytes = index(alloc, &[ROOT, lane(0, 0, 2), lane(0, 1, 2)])?;
+    assert!(rt; bytes.len() == 152);
     let table = [
         (151, 3, IndexWhy::Cut),
         (104, 3, IndexWhy::Order),
@@ -233,56 +293,64 @@ fn an_index_cut_short_is_told(rt: HostRuntime) -> Result<(), Fail> {
         (8, 1, IndexWhy::Cut),
         (7, 0, IndexWhy::Header),
     ];
-    assert!(rt; bytes.len() == 152);
     for (count, row, why) in table {
-        assert_eq!(rt;
-            answer_of_prefix(alloc, &bytes, count),
-            bad(row, why),
+        assert!(rt;
+            refusal_of_prefix(alloc, &bytes, count) == bad(row, why),
             "of {count} bytes"
         );
     }
-    assert!(rt; read(alloc, b"SWIDX00").err() == bad(0, IndexWhy::Header));
-    assert!(rt; read(alloc, b"SWIDX002").err() == bad(0, IndexWhy::Header));
     Ok(())
 }
 
 #[test]
-fn an_index_has_at_most_65536_rows(rt: HostRuntime) -> Result<(), Fail> {
-    let alloc = rt.alloc();
-    let mut bytes = index(alloc, &[root()])?;
+fn another_header_is_told(rt: HostRuntime) {
+    for bytes in [b"SWIDX00".as_slice(), b"SWIDX002".as_slice()] {
+        assert!(rt;
+            refusal(rt.alloc(), bytes) == bad(0, IndexWhy::Header),
+            "{bytes:?}"
+        );
+    }
+}
+
+// The bytes of an index with 65,536 rows.
+fn full_index(alloc: Global) -> Result<Vec<u8>, AllocError> {
+    let mut bytes = index(alloc, &[ROOT])?;
     for region in 0..1024 {
         let span = if region < 1023 { 64 } else { 63 };
         for number in 0..span {
             push_row(&mut bytes, lane(region, number, span))?;
         }
     }
-    assert!(rt; read(alloc, &bytes)?.len() == 65_536);
+    Ok(bytes)
+}
+
+#[test]
+fn an_index_has_at_most_65536_rows(rt: HostRuntime) -> Result<(), Fail> {
+    let alloc = rt.alloc();
+    let mut bytes = full_index(alloc)?;
+    let most = (refusal(alloc, &bytes), count(alloc, &bytes));
+    assert!(rt; most == (None, Some(65_536)), "{most:?}");
     bytes.push(0)?;
-    assert!(rt; read(alloc, &bytes).err() == bad(65_537, IndexWhy::TooMany));
+    assert!(rt; refusal(alloc, &bytes) == bad(65_537, IndexWhy::TooMany));
     Ok(())
+}
+
+// The refusal of these bytes where this call on the folder fails.
+fn refusal_failing(alloc: Global, bytes: &[u8], call: u64) -> Result<Option<IndexAnswer>, Memory> {
+    let mut folder = folder_of(alloc, INDEX, bytes)?;
+    folder.fail(&[call])?;
+    Ok(read_index(alloc, &mut folder, "d").err())
 }
 
 #[test]
 fn each_read_that_fails_is_told(rt: HostRuntime) -> Result<(), Fail> {
     let alloc = rt.alloc();
-    let mut bytes = index(alloc, &[root()])?;
-    for region in 0..2 {
-        push_row(&mut bytes, lane(region, 0, 1))?;
-    }
+    let bytes = index(alloc, &[ROOT, lane(0, 0, 1), lane(1, 0, 1)])?;
     // The size, and reads of 48, 48, 48, 8 and no bytes.
-    for call in 1..8 {
-        let mut folder = MemFolder::new(alloc)?;
-        folder.hold("d/index.swi", &bytes)?;
-        folder.fail(&[call])?;
-        let answer = read_index(alloc, &mut folder, "d").err();
-        assert_eq!(rt;
-            answer,
-            if call < 7 {
-                Some(IndexAnswer::ReadFault)
-            } else {
-                None
-            }
-        );
+    for call in 1..7 {
+        let answer = refusal_failing(alloc, &bytes, call)?;
+        assert!(rt; answer == Some(IndexAnswer::ReadFault), "at call {call}");
     }
+    assert!(rt; refusal_failing(alloc, &bytes, 7)?.is_none());
     Ok(())
 }

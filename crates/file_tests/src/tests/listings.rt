@@ -3,9 +3,9 @@
 use log_format::{Kind, Record, encode};
 use log_index::Row;
 use log_listing::{Unlisted, list};
-use std::alloc::Global;
+use std::alloc::{AllocError, Global};
 use std::test::Fail;
-use sw_base::{LOG_HEADER, MemFolder, MemOut, Path, ShortReads};
+use sw_base::{Folder, LOG_HEADER, MemFolder, MemOut, Memory, Path, ShortReads};
 
 // A region of two lanes, then the end.
 const ROOT: [Record; 2] = [
@@ -77,7 +77,7 @@ const TEXT: &[u8] = b"log t.swl records 2\n1 region 2 line 1\n2 end line 9\n\
 log t-0.1.swl records 6\n1 lock 3 line 2\n2 write 1 site 4 line 3 addr 4096 value -56\n\
 3 unlock 3 line 4\n4 chunk 1 of 2 line 5\n5 barrier line 6\n6 end line 9\n";
 
-fn log_of(alloc: Global, records: &[Record]) -> Result<Vec<u8>, Fail> {
+fn log_of(alloc: Global, records: &[Record]) -> Result<Vec<u8>, AllocError> {
     let mut bytes = LOG_HEADER.to_vec(alloc)?;
     for record in records {
         bytes.extend_from_slice(&encode(record))?;
@@ -85,10 +85,22 @@ fn log_of(alloc: Global, records: &[Record]) -> Result<Vec<u8>, Fail> {
     Ok(bytes)
 }
 
-fn folder(alloc: Global) -> Result<MemFolder, Fail> {
+// Makes the name hold a log of these records.
+fn hold_log(
+    alloc: Global,
+    folder: &mut MemFolder,
+    name: &str,
+    records: &[Record],
+) -> Result<(), Memory> {
+    let bytes = log_of(alloc, records)?;
+    folder.hold(name, &bytes)
+}
+
+// A folder with the logs of a root and a lane.
+fn folder_with(alloc: Global, lane: &[Record]) -> Result<MemFolder, Memory> {
     let mut folder = MemFolder::new(alloc)?;
-    folder.hold("d/t.swl", &log_of(alloc, &ROOT)?)?;
-    folder.hold("d/t-0.1.swl", &log_of(alloc, &LANE)?)?;
+    hold_log(alloc, &mut folder, "d/t.swl", &ROOT)?;
+    hold_log(alloc, &mut folder, "d/t-0.1.swl", lane)?;
     Ok(folder)
 }
 
@@ -105,17 +117,27 @@ fn rows() -> [Row; 2] {
     ]
 }
 
+// Whether the folder's two logs are listed so.
+fn is_listed<F: Folder>(alloc: Global, folder: &mut F, text: &[u8]) -> Result<bool, Memory> {
+    let rows = rows();
+    let mut out = MemOut::new(alloc)?;
+    let answer = list(alloc, folder, &mut out, "d", &rows);
+    Ok(answer.is_ok() && out.written() == text)
+}
+
 #[test]
 fn each_record_of_each_log_is_a_line(rt: HostRuntime) -> Result<(), Fail> {
     let alloc = rt.alloc();
-    let mut folder = folder(alloc)?;
-    let mut out = MemOut::new(alloc)?;
-    assert!(rt; list(alloc, &mut folder, &mut out, "d", &rows()).is_ok());
-    assert!(rt; out.written() == TEXT);
-    let mut short = ShortReads { folder };
-    let mut again = MemOut::new(alloc)?;
-    assert!(rt; list(alloc, &mut short, &mut again, "d", &rows()).is_ok());
-    assert!(rt; again.written() == TEXT);
+    let mut folder = folder_with(alloc, &LANE)?;
+    assert!(rt; is_listed(alloc, &mut folder, TEXT) == Ok(true));
+    Ok(())
+}
+
+#[test]
+fn each_record_is_a_line_where_reads_are_short(rt: HostRuntime) -> Result<(), Fail> {
+    let alloc = rt.alloc();
+    let folder = folder_with(alloc, &LANE)?;
+    assert!(rt; is_listed(alloc, &mut ShortReads { folder }, TEXT) == Ok(true));
     Ok(())
 }
 
@@ -124,41 +146,40 @@ fn listed(
     alloc: Global,
     reads: &[u64],
     writes: &[u64],
-) -> Result<(Result<(), Unlisted>, usize), Fail> {
-    let mut folder = folder(alloc)?;
-    folder.fail(reads)?;
+) -> Result<(Result<(), Unlisted>, usize), Memory> {
+    let rows = rows();
     let mut out = MemOut::new(alloc)?;
     out.fail(writes)?;
-    let answer = list(alloc, &mut folder, &mut out, "d", &rows());
+    let mut folder = folder_with(alloc, &LANE)?;
+    folder.fail(reads)?;
+    let answer = list(alloc, &mut folder, &mut out, "d", &rows);
     Ok((answer, out.written().len()))
 }
 
+// Reads and writes that fail, what is answered then, and how many bytes were written.
+const FAULTS: [(&[u64], &[u64], Result<(), Unlisted>, usize); 5] = [
+    (&[1], &[], Err(Unlisted::ReadFault), 20),
+    (&[2], &[], Err(Unlisted::ReadFault), 75),
+    (&[], &[1], Err(Unlisted::WriteFault), 10),
+    (&[], &[2], Err(Unlisted::WriteFault), 29),
+    (&[], &[11], Ok(()), TEXT.len()),
+];
+
 #[test]
-fn a_fault_leaves_what_was_listed(rt: HostRuntime) -> Result<(), Fail> {
-    let alloc = rt.alloc();
-    let table: [(&[u64], &[u64], Result<(), Unlisted>, usize); 5] = [
-        (&[1], &[], Err(Unlisted::ReadFault), 20),
-        (&[2], &[], Err(Unlisted::ReadFault), 75),
-        (&[], &[1], Err(Unlisted::WriteFault), 10),
-        (&[], &[2], Err(Unlisted::WriteFault), 29),
-        (&[], &[11], Ok(()), TEXT.len()),
-    ];
-    for (reads, writes, answer, length) in table {
-        assert_eq!(rt; listed(alloc, reads, writes)?, (answer, length));
+fn a_fault_leaves_what_was_listed(rt: HostRuntime) {
+    for (reads, writes, answer, length) in FAULTS {
+        let found = listed(rt.alloc(), reads, writes);
+        assert!(rt; found == Ok((answer, length)), "of {length} bytes");
     }
-    Ok(())
 }
 
 // The second log has one record less than its row tells.
 #[test]
 fn a_log_that_has_changed_ends_early(rt: HostRuntime) -> Result<(), Fail> {
     let alloc = rt.alloc();
-    let mut folder = folder(alloc)?;
     let short = LANE.get(..5).ok_or("records")?;
-    folder.hold("d/t-0.1.swl", &log_of(alloc, short)?)?;
-    let mut out = MemOut::new(alloc)?;
-    assert!(rt; list(alloc, &mut folder, &mut out, "d", &rows()).is_ok());
     let due = TEXT.get(..TEXT.len() - 13).ok_or("text")?;
-    assert!(rt; out.written() == due);
+    let mut folder = folder_with(alloc, short)?;
+    assert!(rt; is_listed(alloc, &mut folder, due) == Ok(true));
     Ok(())
 }

@@ -2,31 +2,46 @@
 ghost use Rattle.std.specs.Prelude.{◌≡◌, [], IfOk};
 ghost use Rattle.sw_base.specs.MemLog.{path_of};
 
+use crate::tests::support::folder_of;
 use std::alloc::Global;
 use std::cmp::Ordering;
 use std::test::Fail;
 use sw_base::{
-    Folder, Gate, INDEX_HEADER, LOG_HEADER, Log, MemFolder, MemLog, MemOut, NoGate, Out, Path,
-    Step, Trouble, index_name, read_file,
+    Folder, Gate, INDEX_HEADER, LOG_HEADER, Log, MemFolder, MemLog, MemOut, Memory, NoGate, Out,
+    Path, Step, Trouble, index_name, read_file,
 };
 
-#[test]
-fn a_log_is_named_after_its_steps(rt: HostRuntime) -> Result<(), Fail> {
-    let alloc = rt.alloc();
-    let root = Path::root();
-    let lane = root.child(0, 1, 2);
-    let deep = lane.child(4294967295, 65535, 65535);
-    let names = [
-        (root.name(alloc, "d")?, "d/t.swl"),
-        (lane.name(alloc, "d")?, "d/t-0.1.swl"),
-        (deep.bare_name(alloc)?, "t-0.1-4294967295.65535.swl"),
-        (index_name(alloc, "d")?, "d/index.swi"),
-    ];
-    for (name, due) in &names {
-        assert_eq!(rt; name.as_str(), *due);
+// Whether the name was made, and is this one.
+fn is_named(name: Result<String, Memory>, due: &str) -> bool {
+    match name {
+        Ok(name) => name.as_str() == due,
+        Err(_) => false,
     }
-    assert_eq!(rt; [LOG_HEADER, INDEX_HEADER], [*b"SWLOG001", *b"SWIDX001"]);
-    Ok(())
+}
+
+#[test]
+fn a_log_is_named_after_its_steps(rt: HostRuntime) {
+    let alloc = rt.alloc();
+    let lane = Path::root().child(0, 1, 2);
+    let deep = lane.child(4294967295, 65535, 65535);
+    let named = [
+        is_named(Path::root().name(alloc, "d"), "d/t.swl"),
+        is_named(lane.name(alloc, "d"), "d/t-0.1.swl"),
+        is_named(deep.bare_name(alloc), "t-0.1-4294967295.65535.swl"),
+        is_named(index_name(alloc, "d"), "d/index.swi"),
+    ];
+    assert!(rt; named == [true; 4], "{named:?}");
+    assert!(rt; LOG_HEADER == *b"SWLOG001" && INDEX_HEADER == *b"SWIDX001");
+}
+
+// Whether each path is less than the next.
+fn ascend(paths: &[Path]) -> bool {
+    for (low, high) in paths.iter().zip(paths.iter().skip(1)) {
+        if low.cmp(high) != Ordering::Less {
+            return false;
+        }
+    }
+    true
 }
 
 #[test]
@@ -40,9 +55,7 @@ fn paths_are_in_order(rt: HostRuntime) {
         Path::root().child(0, 2, 1),
         Path::root().child(1, 0, 1),
     ];
-    for (low, high) in ascending.iter().zip(ascending.iter().skip(1)) {
-        assert!(rt; low.cmp(high) == Ordering::Less);
-    }
+    assert!(rt; ascend(&ascending));
 }
 
 #[test]
@@ -68,16 +81,23 @@ fn a_path_has_its_steps(rt: HostRuntime) {
 fn a_task_is_under_its_proper_prefixes(rt: HostRuntime) {
     let lane = Path::root().child(0, 1, 2);
     let below = lane.child(3, 0, 1);
-    assert!(rt; below.is_under(&lane));
-    assert!(rt; below.is_under(&Path::root()));
-    assert!(rt; !lane.is_under(&lane.copy()));
-    assert!(rt; !lane.is_under(&below));
-    assert!(rt; !below.is_under(&Path::root().child(0, 1, 3)));
+    let under = [
+        below.is_under(&lane),
+        below.is_under(&Path::root()),
+        lane.is_under(&lane.copy()),
+        lane.is_under(&below),
+        below.is_under(&Path::root().child(0, 1, 3)),
+    ];
+    assert!(rt; under == [true, true, false, false, false], "{under:?}");
 }
 
 #[test]
 fn a_gate_lets_pass() {
     NoGate.enter(0);
+}
+
+fn write(alloc: Global, out: &mut MemOut, piece: &[u8]) -> Result<(), Trouble> {
+    out.append(alloc, piece)
 }
 
 #[test]
@@ -86,12 +106,12 @@ fn a_write_that_fails_leaves_half_of_the_piece(rt: HostRuntime) -> Result<(), Fa
     let mut out = MemOut::new(alloc)?;
     out.fail(&[2])?;
     let answers = [
-        out.append(alloc, b"abcd"),
-        out.append(alloc, b"efgh"),
-        out.append(alloc, b"ijkl"),
+        write(alloc, &mut out, b"abcd"),
+        write(alloc, &mut out, b"efgh"),
+        write(alloc, &mut out, b"ijkl"),
     ];
-    assert!(rt; answers == [Ok(()), Err(Trouble::Failed), Ok(())]);
-    assert!(rt; out.written() == b"abcdefijkl".as_slice());
+    let due = [Ok(()), Err(Trouble::Failed), Ok(())];
+    assert!(rt; answers == due && out.written() == b"abcdefijkl".as_slice());
     Ok(())
 }
 
@@ -100,16 +120,34 @@ fn has(log: &MemLog, bytes: &[u8], lengths: &[usize]) -> bool {
     log.bytes() == bytes && log.lengths() == lengths
 }
 
+// Appends a piece to a log.
+fn append(alloc: Global, log: &mut MemLog, piece: &[u8]) -> Result<(), Trouble>
+    ensures { path_of log.new ≡ path_of log.old }
+{
+    log.append(alloc, piece)
+}
+
+// The log of a lane of a root's region 0.
+fn lane_of(alloc: Global, root: &mut MemLog, lane: u16, span: u16) -> Result<MemLog, Trouble>
+    requires { path_of root.old ≡ [] }
+    ensures { path_of root.new ≡ path_of root.old }
+{
+    root.child(alloc, 0, lane, span)
+}
+
 #[test]
 fn a_log_keeps_its_pieces(rt: HostRuntime) -> Result<(), Fail> {
     let alloc = rt.alloc();
     let mut log = MemLog::new(alloc, "d")?;
-    log.append(alloc, b"abc")?;
-    let mut child = log.child(alloc, 0, 1, 2)?;
-    child.append(alloc, b"x")?;
-    log.append(alloc, b"de")?;
-    assert!(rt; has(&log, b"abcde", &[3, 2]));
-    assert!(rt; has(&child, b"x", &[1]));
+    let first = append(alloc, &mut log, b"abc");
+    let mut child = lane_of(alloc, &mut log, 1, 2)?;
+    let answers = [
+        first,
+        append(alloc, &mut child, b"x"),
+        append(alloc, &mut log, b"de"),
+    ];
+    let told = [has(&log, b"abcde", &[3, 2]), has(&child, b"x", &[1])];
+    assert!(rt; answers == [Ok(()), Ok(()), Ok(())] && told == [true; 2]);
     Ok(())
 }
 
@@ -118,14 +156,14 @@ fn calls_of_a_log_fail_by_their_number(rt: HostRuntime) -> Result<(), Fail> {
     let alloc = rt.alloc();
     let mut log = MemLog::new(alloc, "d")?;
     log.fail(&[2, 3])?;
-    let answers = [log.append(alloc, b"ab"), log.append(alloc, b"cdef")];
-    assert!(rt; answers == [Ok(()), Err(Trouble::Failed)]);
-    let faults = [
-        log.child(alloc, 0, 0, 1).err(),
-        log.child(alloc, 0, 0, 1).err(),
+    let answers = [
+        append(alloc, &mut log, b"ab").err(),
+        append(alloc, &mut log, b"cdef").err(),
+        lane_of(alloc, &mut log, 0, 1).err(),
+        lane_of(alloc, &mut log, 0, 1).err(),
     ];
-    assert!(rt; faults == [Some(Trouble::Failed), None]);
-    assert!(rt; has(&log, b"abcd", &[2]));
+    let failed = Some(Trouble::Failed);
+    assert!(rt; answers == [None, failed, failed, None] && has(&log, b"abcd", &[2]));
     Ok(())
 }
 
@@ -139,28 +177,45 @@ fn planned_root(alloc: Global) -> Result<MemLog, Fail>
     Ok(folder.root(alloc, "d")?)
 }
 
-// What each append of three pieces answers.
-fn three_appends(alloc: Global, log: &mut MemLog, pieces: [&[u8]; 3]) -> [Result<(), Trouble>; 3] {
-    let [first, second, third] = pieces;
-    [
-        log.append(alloc, first),
-        log.append(alloc, second),
-        log.append(alloc, third),
-    ]
+// What an append to the log of lane 0 answers.
+fn append_to_first(alloc: Global, root: &mut MemLog) -> Result<(), Trouble>
+    requires { path_of root.old ≡ [] }
+    ensures { path_of root.new ≡ path_of root.old }
+{
+    let mut first = lane_of(alloc, root, 0, 2)?;
+    append(alloc, &mut first, b"x")
+}
+
+// What three appends to the log of lane 1 answer, and whether it has these bytes then, in one piece.
+fn append_to_second(
+    alloc: Global,
+    root: &mut MemLog,
+    bytes: &[u8],
+) -> Result<([Result<(), Trouble>; 3], bool), Trouble>
+    requires { path_of root.old ≡ [] }
+{
+    let mut second = lane_of(alloc, root, 1, 2)?;
+    let answers = [
+        append(alloc, &mut second, b"yz"),
+        append(alloc, &mut second, b"u"),
+        append(alloc, &mut second, b"vw"),
+    ];
+    Ok((answers, has(&second, bytes, &[1])))
 }
 
 #[test]
 fn planned_calls_of_later_logs_fail(rt: HostRuntime) -> Result<(), Fail> {
     let alloc = rt.alloc();
     let mut root = planned_root(alloc)?;
-    root.append(alloc, b"ab")?;
-    assert!(rt; root.child(alloc, 0, 0, 2).err() == Some(Trouble::Failed));
-    let mut first = root.child(alloc, 0, 0, 2)?;
-    first.append(alloc, b"x")?;
-    let mut second = root.child(alloc, 0, 1, 2)?;
-    let answers = three_appends(alloc, &mut second, [b"yz", b"u", b"vw"]);
-    assert!(rt; answers == [Err(Trouble::Failed), Ok(()), Err(Trouble::Failed)]);
-    assert!(rt; has(&second, b"yuv", &[1]));
+    let answers = [
+        append(alloc, &mut root, b"ab"),
+        append_to_first(alloc, &mut root),
+        append_to_first(alloc, &mut root),
+    ];
+    assert!(rt; answers == [Ok(()), Err(Trouble::Failed), Ok(())]);
+    let second = append_to_second(alloc, &mut root, b"yuv");
+    let due = [Err(Trouble::Failed), Ok(()), Err(Trouble::Failed)];
+    assert!(rt; second == Ok((due, true)));
     Ok(())
 }
 
@@ -182,127 +237,215 @@ fn is_sealed(folder: &MemFolder, at: usize, name: &str, lengths: &[usize]) -> bo
     }
 }
 
+// Whether no log was sealed at this place.
+fn is_free(folder: &MemFolder, at: usize) -> bool {
+    folder.sealed_name(at).is_none() && folder.sealed_lengths(at).is_none()
+}
+
+fn seal(alloc: Global, folder: &mut MemFolder, log: MemLog) -> bool {
+    folder.seal(alloc, log).is_ok()
+}
+
+// The log of a root.
+fn root_of(alloc: Global, folder: &mut MemFolder) -> Result<MemLog, Trouble>
+    ensures { IfOk result (λ log. path_of log ≡ []) }
+{
+    folder.root(alloc, "d")
+}
+
+// The logs of a root and a lane, with one piece and with two.
+fn two_logs(alloc: Global, folder: &mut MemFolder) -> Result<(MemLog, MemLog), Trouble> {
+    let mut root = root_of(alloc, folder)?;
+    let mut lane = lane_of(alloc, &mut root, 1, 2)?;
+    let appended = [
+        append(alloc, &mut root, b"root"),
+        append(alloc, &mut lane, b"la"),
+        append(alloc, &mut lane, b"nes"),
+    ];
+    if appended != [Ok(()), Ok(()), Ok(())] {
+        return Err(Trouble::Failed);
+    }
+    Ok((root, lane))
+}
+
+// The name of a log, whether it was sealed there in these pieces.
+const SEALED: [(usize, &str, &[usize], bool); 4] = [
+    (0, "d/t.swl", &[4], true),
+    (1, "d/t-0.1.swl", &[2, 3], true),
+    (1, "d/t.swl", &[2, 3], false),
+    (1, "d/t-0.1.swl", &[5], false),
+];
+
+// Whether both logs are sealed.
+fn seal_both(alloc: Global, folder: &mut MemFolder) -> Result<bool, Trouble> {
+    let (root, lane) = two_logs(alloc, folder)?;
+    let sealed = [seal(alloc, folder, root), seal(alloc, folder, lane)];
+    Ok(sealed == [true; 2])
+}
+
 #[test]
 fn a_sealed_log_is_held_under_its_name(rt: HostRuntime) -> Result<(), Fail> {
     let alloc = rt.alloc();
     let mut folder = MemFolder::new(alloc)?;
-    let mut root = folder.root(alloc, "d")?;
-    let mut lane = root.child(alloc, 0, 1, 2)?;
-    root.append(alloc, b"root")?;
-    lane.append(alloc, b"la")?;
-    lane.append(alloc, b"nes")?;
-    assert!(rt; folder.seal(alloc, root).is_ok());
-    assert!(rt; folder.seal(alloc, lane).is_ok());
-    assert!(rt; holds(&folder, "d/t.swl", b"root"));
-    assert!(rt; holds(&folder, "d/t-0.1.swl", b"lanes"));
-    let table: [(usize, &str, &[usize], bool); 4] = [
-        (0, "d/t.swl", &[4], true),
-        (1, "d/t-0.1.swl", &[2, 3], true),
-        (1, "d/t.swl", &[2, 3], false),
-        (1, "d/t-0.1.swl", &[5], false),
+    let sealed = seal_both(alloc, &mut folder);
+    let told = [
+        holds(&folder, "d/t.swl", b"root"),
+        holds(&folder, "d/t-0.1.swl", b"lanes"),
+        is_free(&folder, 2),
     ];
-    for (at, name, lengths, due) in table {
+    assert!(rt; sealed == Ok(true) && told == [true; 3]);
+    for (at, name, lengths, due) in SEALED {
         assert!(rt;
             is_sealed(&folder, at, name, lengths) == due,
             "at {at} as {name}"
         );
     }
-    assert!(rt; folder.sealed_name(2).is_none());
-    assert!(rt; folder.sealed_lengths(2).is_none());
     Ok(())
 }
 
-#[test]
-fn a_file_is_read_from_a_place_on(rt: HostRuntime) -> Result<(), Fail> {
-    let alloc = rt.alloc();
+// A folder with two files, one of them put twice.
+fn two_files(alloc: Global) -> Result<MemFolder, Trouble> {
     let mut folder = MemFolder::new(alloc)?;
     folder.hold("other", b"other")?;
     folder.put(alloc, "name", b"first")?;
     folder.put(alloc, "name", b"seconds")?;
-    assert!(rt; folder.size(alloc, "name") == Ok(Some(7)));
-    assert!(rt; folder.size(alloc, "none") == Ok(None));
-    let mut into = [0; 4];
-    for (place, count, left) in [(2, 4, b"cond"), (5, 2, b"dsnd"), (7, 0, b"dsnd")] {
-        assert!(rt;
-            folder.read(alloc, "name", place, &mut into) == Ok(count),
-            "from {place} on"
-        );
-        assert!(rt; into == *left, "from {place} on");
-    }
-    assert!(rt; folder.read(alloc, "none", 0, &mut into) == Ok(0));
+    Ok(folder)
+}
+
+#[test]
+fn a_file_that_is_put_again_is_another(rt: HostRuntime) -> Result<(), Fail> {
+    let alloc = rt.alloc();
+    let mut folder = two_files(alloc)?;
+    let sizes = [folder.size(alloc, "name"), folder.size(alloc, "none")];
+    assert!(rt; sizes == [Ok(Some(7)), Ok(None)]);
     assert!(rt; holds(&folder, "other", b"other"));
     assert!(rt; folder.file("none").is_none());
     Ok(())
 }
 
 #[test]
-fn a_file_longer_than_a_window_is_read_whole(rt: HostRuntime) -> Result<(), Fail> {
+fn a_file_is_read_from_a_place_on(rt: HostRuntime) -> Result<(), Fail> {
     let alloc = rt.alloc();
-    let bytes = vec![in alloc; 7u8; 9000]?;
-    let mut folder = MemFolder::new(alloc)?;
-    folder.hold("name", &bytes)?;
-    let Some(file) = read_file(alloc, &mut folder, "name")? else {
-        panic!(rt; "no file");
-    };
-    assert!(rt; file.len() == 9000);
-    assert!(rt; read_file(alloc, &mut folder, "none")?.is_none());
-    Ok(())
-}
-
-// Makes each call of a folder once, and tells which answers were errors.
-fn errors_of(alloc: Global, folder: &mut MemFolder, log: MemLog) -> [bool; 5] {
+    let mut folder = two_files(alloc)?;
     let mut into = [0; 4];
-    [
-        folder.put(alloc, "name", b"abcd").is_err(),
-        folder.size(alloc, "name").is_err(),
-        folder.read(alloc, "name", 0, &mut into).is_err(),
-        folder.root(alloc, "d").is_err(),
-        folder.seal(alloc, log).is_err(),
-    ]
-}
-
-// The same, the call of this number failing.
-fn errors_where_one_fails(alloc: Global, number: u64) -> Result<[bool; 5], Fail> {
-    let mut folder = MemFolder::new(alloc)?;
-    folder.fail(&[number])?;
-    let log = MemLog::new(alloc, "d")?;
-    Ok(errors_of(alloc, &mut folder, log))
-}
-
-#[test]
-fn calls_of_a_folder_fail_by_their_number(rt: HostRuntime) -> Result<(), Fail> {
     let table = [
-        (0, [false, false, false, false, false]),
-        (1, [true, false, false, false, false]),
-        (2, [false, true, false, false, false]),
-        (3, [false, false, true, false, false]),
-        (4, [false, false, false, true, false]),
-        (5, [false, false, false, false, true]),
+        ("name", 2, 4, b"cond"),
+        ("name", 5, 2, b"dsnd"),
+        ("name", 7, 0, b"dsnd"),
+        ("none", 0, 0, b"dsnd"),
     ];
-    for (number, due) in table {
-        assert_eq!(rt;
-            errors_where_one_fails(rt.alloc(), number)?,
-            due,
-            "at call {number}"
+    for (name, place, count, left) in table {
+        let read = folder.read(alloc, name, place, &mut into);
+        assert!(rt;
+            read == Ok(count) && into == *left,
+            "{name} from {place} on"
         );
     }
     Ok(())
 }
 
+// How long the file is that is read whole.
+fn length_of(alloc: Global, folder: &mut MemFolder, name: &str) -> Result<Option<usize>, Trouble> {
+    match read_file(alloc, folder, name)? {
+        Some(file) => Ok(Some(file.len())),
+        None => Ok(None),
+    }
+}
+
+#[test]
+fn a_file_longer_than_a_window_is_read_whole(rt: HostRuntime) -> Result<(), Fail> {
+    let alloc = rt.alloc();
+    let bytes = vec![in alloc; 7u8; 9000]?;
+    let mut folder = folder_of(alloc, "name", &bytes)?;
+    let lengths = [
+        length_of(alloc, &mut folder, "name"),
+        length_of(alloc, &mut folder, "none"),
+    ];
+    assert!(rt; lengths == [Ok(Some(9000)), Ok(None)]);
+    Ok(())
+}
+
+// Makes calls of a folder once, and tells which answers were errors.
+fn errors_of_files(alloc: Global, folder: &mut MemFolder) -> [bool; 3] {
+    let mut into = [0; 4];
+    [
+        folder.put(alloc, "name", b"abcd").is_err(),
+        folder.size(alloc, "name").is_err(),
+        folder.read(alloc, "name", 0, &mut into).is_err(),
+    ]
+}
+
+// The same of those on logs.
+fn errors_of_logs(alloc: Global, folder: &mut MemFolder, log: MemLog) -> [bool; 2] {
+    [
+        folder.root(alloc, "d").is_err(),
+        folder.seal(alloc, log).is_err(),
+    ]
+}
+
+// Which answers were errors where the call of this number fails.
+fn errors_where_one_fails(alloc: Global, number: u64) -> Result<([bool; 3], [bool; 2]), Memory> {
+    let log = MemLog::new(alloc, "d")?;
+    let mut folder = MemFolder::new(alloc)?;
+    folder.fail(&[number])?;
+    let of_files = errors_of_files(alloc, &mut folder);
+    Ok((of_files, errors_of_logs(alloc, &mut folder, log)))
+}
+
+#[test]
+fn calls_of_a_folder_fail_by_their_number(rt: HostRuntime) {
+    let table = [
+        (0, ([false, false, false], [false, false])),
+        (1, ([true, false, false], [false, false])),
+        (2, ([false, true, false], [false, false])),
+        (3, ([false, false, true], [false, false])),
+        (4, ([false, false, false], [true, false])),
+        (5, ([false, false, false], [false, true])),
+    ];
+    for (number, due) in table {
+        let found = errors_where_one_fails(rt.alloc(), number);
+        assert!(rt; found == Ok(due), "at call {number}");
+    }
+}
+
+// A folder whose first call fails.
+fn failing_folder(alloc: Global) -> Result<MemFolder, Memory> {
+    let mut folder = MemFolder::new(alloc)?;
+    folder.fail(&[1])?;
+    Ok(folder)
+}
+
+// A log with one piece.
+fn one_piece(alloc: Global) -> Result<MemLog, Trouble> {
+    let mut log = MemLog::new(alloc, "d")?;
+    log.append(alloc, b"abcd")?;
+    Ok(log)
+}
+
+// Whether the log is whole, half of it is under its name, and it isn't sealed.
+fn is_given_back(folder: &MemFolder, log: &MemLog) -> bool {
+    log.bytes() == b"abcd".as_slice()
+        && holds(folder, "d/t.swl", b"ab")
+        && folder.sealed_name(0).is_none()
+}
+
+// Whether a seal fails, the log is given back, and is discarded without a trace.
+fn fails_to_seal(alloc: Global, folder: &mut MemFolder, log: MemLog) -> bool {
+    match folder.seal(alloc, log) {
+        Err((Trouble::Failed, log)) => {
+            let is_given_back = is_given_back(folder, &log);
+            folder.discard(log);
+            is_given_back && holds(folder, "d/t.swl", b"ab")
+        }
+        _ => false,
+    }
+}
+
 #[test]
 fn a_seal_that_fails_gives_the_log_back(rt: HostRuntime) -> Result<(), Fail> {
     let alloc = rt.alloc();
-    let mut folder = MemFolder::new(alloc)?;
-    folder.fail(&[1])?;
-    let mut log = MemLog::new(alloc, "d")?;
-    log.append(alloc, b"abcd")?;
-    let Err((Trouble::Failed, log)) = folder.seal(alloc, log) else {
-        panic!(rt; "no failure");
-    };
-    assert!(rt; log.bytes() == b"abcd".as_slice());
-    assert!(rt; holds(&folder, "d/t.swl", b"ab"));
-    assert!(rt; folder.sealed_name(0).is_none());
-    folder.discard(log);
-    assert!(rt; holds(&folder, "d/t.swl", b"ab"));
+    let log = one_piece(alloc)?;
+    let mut folder = failing_folder(alloc)?;
+    assert!(rt; fails_to_seal(alloc, &mut folder, log));
     Ok(())
 }

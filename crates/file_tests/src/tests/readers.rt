@@ -1,8 +1,9 @@
 //! Logs in memory: whole, read in short pieces, cut, and with bytes that spell no record.
 
+use crate::tests::support::folder_of;
 use log_format::{FORMAT, Kind, Record, encode};
 use log_reader::LogReader;
-use std::alloc::Global;
+use std::alloc::{AllocError, Global};
 use std::test::Fail;
 use sw_base::{Folder, LOG_HEADER, MemFolder, Path, ShortReads, Trouble};
 
@@ -18,7 +19,7 @@ fn record(kind: Kind, line: u32) -> Record {
 }
 
 // A log of so many barriers, of lines from 1 on, and an end at line 9.
-fn log_of(alloc: Global, barriers: u32) -> Result<Vec<u8>, Fail> {
+fn log_of(alloc: Global, barriers: u32) -> Result<Vec<u8>, AllocError> {
     let mut bytes = LOG_HEADER.to_vec(alloc)?;
     for line in 0..barriers {
         bytes.extend_from_slice(&encode(&record(Kind::Barrier, line + 1)))?;
@@ -44,23 +45,43 @@ fn lines<F: Folder>(
 }
 
 // The lines that come of a root's log of these bytes, for a row that tells so many records.
-fn lines_of(alloc: Global, bytes: &[u8], records: u32) -> Result<Vec<u32>, Fail> {
-    let mut folder = MemFolder::new(alloc)?;
-    folder.hold("d/t.swl", bytes)?;
-    Ok(lines(alloc, &mut folder, &Path::root(), records)?)
+fn lines_of(alloc: Global, bytes: &[u8], records: u32) -> Result<Vec<u32>, Trouble> {
+    let mut folder = folder_of(alloc, "d/t.swl", bytes)?;
+    lines(alloc, &mut folder, &Path::root(), records)
+}
+
+// The same where reads are short.
+fn lines_of_short(alloc: Global, bytes: &[u8], records: u32) -> Result<Vec<u32>, Trouble> {
+    let folder = folder_of(alloc, "d/t.swl", bytes)?;
+    lines(alloc, &mut ShortReads { folder }, &Path::root(), records)
+}
+
+// Whether these lines came.
+fn are(lines: Result<Vec<u32>, Trouble>, due: &[u32]) -> bool {
+    match lines {
+        Ok(lines) => lines.as_slice() == due,
+        Err(_) => false,
+    }
 }
 
 #[test]
 fn records_come_in_order_and_then_none(rt: HostRuntime) -> Result<(), Fail> {
     let alloc = rt.alloc();
     let whole = log_of(alloc, 3)?;
-    assert!(rt; lines_of(alloc, &whole, 4)?.as_slice() == [1, 2, 3, 9].as_slice());
-    let mut folder = MemFolder::new(alloc)?;
-    folder.hold("d/t.swl", &whole)?;
-    let mut folder = ShortReads { folder };
-    let lines = lines(alloc, &mut folder, &Path::root(), 4)?;
-    assert!(rt; lines.as_slice() == [1, 2, 3, 9].as_slice());
+    let due = [1, 2, 3, 9];
+    assert!(rt; are(lines_of(alloc, &whole, 4), &due));
+    assert!(rt; are(lines_of_short(alloc, &whole, 4), &due));
     Ok(())
+}
+
+// Whether the first 6000 lines are those from 1 on.
+fn ascend(lines: &[u32]) -> bool {
+    for (line, due) in lines.iter().zip(1..6001) {
+        if *line != due {
+            return false;
+        }
+    }
+    true
 }
 
 #[test]
@@ -68,18 +89,15 @@ fn a_log_longer_than_the_window_comes_whole(rt: HostRuntime) -> Result<(), Fail>
     let alloc = rt.alloc();
     let long = log_of(alloc, 6000)?;
     let lines = lines_of(alloc, &long, 6001)?;
-    assert!(rt; lines.len() == 6001);
-    for (index, line) in lines.iter().enumerate() {
-        let due = if index == 6000 { 9 } else { index as u32 + 1 };
-        assert_eq!(rt; *line, due);
-    }
+    assert!(rt; lines.len() == 6001 && lines.last() == Some(&9));
+    assert!(rt; ascend(&lines));
     Ok(())
 }
 
 #[test]
 fn a_changed_log_ends_before_its_first_bad_record(rt: HostRuntime) -> Result<(), Fail> {
     let alloc = rt.alloc();
-    let mut bytes = log_of(alloc, 3)?;
+    let bytes = log_of(alloc, 3)?;
     let cut = bytes.get(..79).ok_or("bytes")?;
     let table: [(&[u8], u32, &[u32]); 4] = [
         (cut, 4, &[1, 2]),
@@ -88,35 +106,75 @@ fn a_changed_log_ends_before_its_first_bad_record(rt: HostRuntime) -> Result<(),
         (b"", 1, &[]),
     ];
     for (log, records, due) in table {
-        assert_eq!(rt; lines_of(alloc, log, records)?.as_slice(), due);
+        assert!(rt; are(lines_of(alloc, log, records), due), "{due:?}");
     }
-    *bytes.get_mut(32).ok_or("bytes")? = 9;
-    assert!(rt; lines_of(alloc, &bytes, 4)?.as_slice() == [1].as_slice());
     Ok(())
+}
+
+#[test]
+fn a_changed_kind_ends_a_log(rt: HostRuntime) -> Result<(), Fail> {
+    let alloc = rt.alloc();
+    let mut bytes = log_of(alloc, 3)?;
+    *bytes.get_mut(32).ok_or("bytes")? = 9;
+    assert!(rt; are(lines_of(alloc, &bytes, 4), &[1]));
+    Ok(())
+}
+
+// A folder with a lane's log of so many records, of which these calls fail.
+fn failing(alloc: Global, barriers: u32, calls: &[u64]) -> Result<MemFolder, Fail> {
+    let bytes = log_of(alloc, barriers)?;
+    let mut folder = folder_of(alloc, "d/t-0.1.swl", &bytes)?;
+    folder.fail(calls)?;
+    Ok(folder)
+}
+
+fn opened(alloc: Global, reader: &mut LogReader, folder: &mut MemFolder) -> Result<(), Trouble> {
+    let lane = Path::root().child(0, 1, 2);
+    reader.open(alloc, FORMAT, folder, "d", &lane, 5461)
+}
+
+// The line of the next record.
+fn next_line(
+    alloc: Global,
+    reader: &mut LogReader,
+    folder: &mut MemFolder,
+) -> Result<Option<u32>, Trouble> {
+    match reader.next(alloc, folder)? {
+        Some(next) => Ok(Some(next.line)),
+        None => Ok(None),
+    }
+}
+
+// The last line, and whether a read fails before it, of so many.
+fn last_line(
+    alloc: Global,
+    reader: &mut LogReader,
+    folder: &mut MemFolder,
+    count: u32,
+) -> (u32, bool) {
+    let mut last = 0;
+    let mut fails = false;
+    for _ in 0..count {
+        match next_line(alloc, reader, folder) {
+            Ok(Some(line)) => last = line,
+            Ok(None) => {}
+            Err(_) => fails = true,
+        }
+    }
+    (last, fails)
 }
 
 #[test]
 fn a_read_that_fails_can_be_made_again(rt: HostRuntime) -> Result<(), Fail> {
     let alloc = rt.alloc();
-    let mut folder = MemFolder::new(alloc)?;
-    folder.hold("d/t-0.1.swl", &log_of(alloc, 5460)?)?;
-    folder.fail(&[1, 3])?;
-    let lane = Path::root().child(0, 1, 2);
+    let mut folder = failing(alloc, 5460, &[1, 3])?;
     let mut reader = LogReader::new(alloc)?;
-    let refused = reader.open(alloc, FORMAT, &mut folder, "d", &lane, 5461);
-    assert!(rt; refused == Err(Trouble::Failed));
-    assert!(rt; reader.next(alloc, &mut folder)?.is_none());
-    reader.open(alloc, FORMAT, &mut folder, "d", &lane, 5461)?;
-    let mut last = 0;
-    let mut faults = 0;
-    for _ in 0..5462 {
-        match reader.next(alloc, &mut folder) {
-            Ok(Some(next)) => last = next.line,
-            Ok(None) => {}
-            Err(_) => faults = 1,
-        }
-    }
-    assert!(rt; last == 9 && faults == 1);
-    assert!(rt; reader.next(alloc, &mut folder)?.is_none());
+    let refused = opened(alloc, &mut reader, &mut folder);
+    let nothing = next_line(alloc, &mut reader, &mut folder);
+    let accepted = opened(alloc, &mut reader, &mut folder);
+    let last = last_line(alloc, &mut reader, &mut folder, 5462);
+    let ended = next_line(alloc, &mut reader, &mut folder);
+    assert!(rt; (refused, accepted) == (Err(Trouble::Failed), Ok(())));
+    assert!(rt; (nothing, last, ended) == (Ok(None), (9, true), Ok(None)));
     Ok(())
 }

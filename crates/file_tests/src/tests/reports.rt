@@ -4,7 +4,7 @@ use race_report::report;
 use std::alloc::{AllocError, Global};
 use std::collections::BTreeSet;
 use std::test::Fail;
-use sw_base::{MemOut, Trouble};
+use sw_base::{MemOut, Memory, Trouble};
 
 fn three_pairs(alloc: Global) -> Result<BTreeSet<(u32, u32)>, AllocError> {
     let mut pairs = BTreeSet::new(alloc);
@@ -14,39 +14,57 @@ fn three_pairs(alloc: Global) -> Result<BTreeSet<(u32, u32)>, AllocError> {
     Ok(pairs)
 }
 
+fn print(alloc: Global, out: &mut MemOut, pairs: &BTreeSet<(u32, u32)>) -> Result<(), Trouble> {
+    report(alloc, out, pairs)
+}
+
 #[test]
 fn pairs_are_in_order_and_counted(rt: HostRuntime) -> Result<(), Fail> {
     let alloc = rt.alloc();
+    let pairs = three_pairs(alloc)?;
     let mut out = MemOut::new(alloc)?;
-    report(alloc, &mut out, &BTreeSet::new(alloc))?;
-    report(alloc, &mut out, &three_pairs(alloc)?)?;
+    let answers = [
+        print(alloc, &mut out, &BTreeSet::new(alloc)),
+        print(alloc, &mut out, &pairs),
+    ];
     let text = b"races 0\nrace 5 5\nrace 5 6\nrace 12 17\nraces 3\n";
-    assert!(rt; out.written() == text.as_slice());
+    assert!(rt; answers == [Ok(()), Ok(())] && out.written() == text.as_slice());
     Ok(())
 }
 
+// What is answered where this write fails, and whether these bytes are written then.
+fn reported(
+    alloc: Global,
+    pairs: &BTreeSet<(u32, u32)>,
+    call: u64,
+    due: &[u8],
+) -> Result<(Result<(), Trouble>, bool), Memory> {
+    let mut out = MemOut::new(alloc)?;
+    out.fail(&[call])?;
+    let answer = print(alloc, &mut out, pairs);
+    Ok((answer, out.written() == due))
+}
+
 // A write that fails leaves the first half of its piece.
+const PREFIXES: [(u64, Result<(), Trouble>, &[u8]); 5] = [
+    (1, Err(Trouble::Failed), b"race"),
+    (2, Err(Trouble::Failed), b"race 5 5\nrace"),
+    (3, Err(Trouble::Failed), b"race 5 5\nrace 5 6\nrace "),
+    (
+        4,
+        Err(Trouble::Failed),
+        b"race 5 5\nrace 5 6\nrace 12 17\nrace",
+    ),
+    (5, Ok(()), b"race 5 5\nrace 5 6\nrace 12 17\nraces 3\n"),
+];
+
 #[test]
 fn each_line_is_one_write(rt: HostRuntime) -> Result<(), Fail> {
     let alloc = rt.alloc();
     let pairs = three_pairs(alloc)?;
-    let prefixes: [(u64, &[u8]); 4] = [
-        (1, b"race"),
-        (2, b"race 5 5\nrace"),
-        (3, b"race 5 5\nrace 5 6\nrace "),
-        (4, b"race 5 5\nrace 5 6\nrace 12 17\nrace"),
-    ];
-    for (call, prefix) in prefixes {
-        let mut out = MemOut::new(alloc)?;
-        out.fail(&[call])?;
-        assert!(rt;
-            report(alloc, &mut out, &pairs) == Err(Trouble::Failed),
-            "at {call}"
-        );
-        assert!(rt; out.written() == prefix, "at {call}");
+    for (call, answer, due) in PREFIXES {
+        let found = reported(alloc, &pairs, call, due);
+        assert!(rt; found == Ok((answer, true)), "at {call}");
     }
-    let mut out = MemOut::new(alloc)?;
-    out.fail(&[5])?;
-    assert!(rt; report(alloc, &mut out, &pairs).is_ok());
     Ok(())
 }
