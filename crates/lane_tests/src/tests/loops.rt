@@ -77,7 +77,7 @@ fn goes_round<R: Wait>(
     requires schedule { IsBoundedSchedule schedule }
 {
     let stmt = shared(to, schedule, summing(alloc, 5)?);
-    goes_on(rt, alloc, setting, &stmt, records)
+    goes_on(rt, alloc, setting, stmt, records)
 }
 
 #[test]

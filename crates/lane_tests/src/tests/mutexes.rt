@@ -3,14 +3,15 @@ ghost use Rattle.std.specs.Prelude.{◌≡◌, ◌≤◌, ◌<◌, []};
 ghost use Rattle.kernel_model.specs.Trace.{log_limit};
 ghost use Rattle.shared_words.specs.Handles.{Belongs};
 
-use crate::tests::support::{buffer, bytes_of, log_of, step};
+use crate::tests::support::{buffer, is_log_of, log_of, step};
 use kernel_syntax::Array;
 use lane_runner::{Track, World};
-use log_format::Kind;
+use log_format::{Kind, Record};
 use shared_words::{ChunkHand, Chunks, Hand, Words};
 use std::alloc::Global;
 use std::sync::Wait;
 use std::test::Fail;
+use sw_base::MemLog;
 
 // What a lane with this hand leaves that takes mutex 1, and stops with it.
 fn stopped<R: Wait>(
@@ -19,7 +20,7 @@ fn stopped<R: Wait>(
     world: &World,
     hand: Hand,
     draws: ChunkHand,
-) -> Result<Vec<u8>, Fail>
+) -> Option<MemLog>
     requires hand { Belongs hand world.now.words.table }
     requires home { hand.view.out ≡ [] }
     requires free { hand.view.held ≡ [] }
@@ -27,10 +28,12 @@ fn stopped<R: Wait>(
     requires draws { Belongs draws world.now.chunks.table }
     requires enough { log_limit ≤ draws.view.left }
 {
-    let mut track = Track::new(alloc, hand, buffer(alloc)?, draws);
-    track.lock(rt, alloc, world, 1, 5)?;
+    let mut track = Track::new(alloc, hand, buffer(alloc).ok()?, draws);
+    let Ok(()) = track.lock(rt, alloc, world, 1, 5) else {
+        return None;
+    };
     track.release(world, 1);
-    bytes_of(alloc, track)
+    Some(log_of(alloc, track))
 }
 
 // The same of one that takes it and gives it back.
@@ -40,7 +43,7 @@ fn passed<R: Wait>(
     world: &World,
     hand: Hand,
     draws: ChunkHand,
-) -> Result<Vec<u8>, Fail>
+) -> Option<MemLog>
     requires hand { Belongs hand world.now.words.table }
     requires home { hand.view.out ≡ [] }
     requires free { hand.view.held ≡ [] }
@@ -48,10 +51,22 @@ fn passed<R: Wait>(
     requires draws { Belongs draws world.now.chunks.table }
     requires enough { log_limit ≤ draws.view.left }
 {
-    let mut track = Track::new(alloc, hand, buffer(alloc)?, draws);
-    track.lock(rt, alloc, world, 1, 6)?;
-    track.unlock(alloc, world, 1, 7)?;
-    bytes_of(alloc, track)
+    let mut track = Track::new(alloc, hand, buffer(alloc).ok()?, draws);
+    let Ok(()) = track.lock(rt, alloc, world, 1, 6) else {
+        return None;
+    };
+    let Ok(()) = track.unlock(alloc, world, 1, 7) else {
+        return None;
+    };
+    Some(log_of(alloc, track))
+}
+
+// Whether a log was left, and has these records.
+fn has(left: Option<MemLog>, records: &[Record]) -> bool {
+    match left {
+        Some(log) => is_log_of(log.bytes(), records),
+        None => false,
+    }
 }
 
 #[test]
@@ -64,23 +79,24 @@ fn a_mutex_released_at_a_stop_is_won_by_another(rt: HostRuntime) -> Result<(), F
     let (chunks, mut draws) = Chunks::new(alloc, 0)?;
     let lent = chunks.split(&mut draws);
     let world = World::new(&arrays, &words, &chunks, 0, 1);
-    let one = stopped(&rt, alloc, &world, one, draws)?;
-    let two = passed(&rt, alloc, &world, other, lent)?;
-    assert!(rt; one == log_of(alloc, &[step(Kind::Lock, 1, 5)])?);
-    assert!(rt; two == log_of(alloc, &[step(Kind::Lock, 1, 6), step(Kind::Unlock, 1, 7)])?);
+    let one = stopped(&rt, alloc, &world, one, draws);
+    let two = passed(&rt, alloc, &world, other, lent);
+    assert!(rt; has(one, &[step(Kind::Lock, 1, 5)]));
+    assert!(rt; has(two, &[step(Kind::Lock, 1, 6), step(Kind::Unlock, 1, 7)]));
     Ok(())
 }
 
 #[test]
 fn a_lane_goes_on_in_its_log_with_another_hand(rt: HostRuntime) -> Result<(), Fail> {
     let alloc = rt.alloc();
+    let buffer = buffer(alloc)?;
     let (words, mut first) = Words::new(alloc, 0, 2)?;
     let one = words.split(&mut first, 0, 1);
     let two = words.split(&mut first, 0, 1);
     let arrays: [Array; 0] = [];
     let (chunks, draws) = Chunks::new(alloc, 0)?;
     let world = World::new(&arrays, &words, &chunks, 0, 1);
-    let mut track = Track::new(alloc, one, buffer(alloc)?, draws);
+    let mut track = Track::new(alloc, one, buffer, draws);
 
     let Ok(()) = track.lock(&rt, alloc, &world, 1, 5) else {
         panic!(rt; "no room");
@@ -91,7 +107,7 @@ fn a_lane_goes_on_in_its_log_with_another_hand(rt: HostRuntime) -> Result<(), Fa
         panic!(rt; "no room");
     };
 
-    let both = log_of(alloc, &[step(Kind::Lock, 1, 5), step(Kind::Lock, 1, 6)])?;
-    assert!(rt; bytes_of(alloc, track)? == both);
+    let both = [step(Kind::Lock, 1, 5), step(Kind::Lock, 1, 6)];
+    assert!(rt; is_log_of(log_of(alloc, track).bytes(), &both));
     Ok(())
 }

@@ -10,7 +10,7 @@ ghost use Rattle.shared_words.specs.Handles.{Belongs};
 ghost use Rattle.lane_runner.specs.Alone.{IsAlone};
 ghost use Rattle.lane_runner.specs.Phase.{IsOfTeam};
 
-use crate::tests::support::{buffer_failing, bytes_of, log_of, without_memory};
+use crate::tests::support::{buffer_failing, is_log_of, log_of, without_memory};
 use kernel_syntax::{Array, Name, Stmt};
 use lane_runner::{Frame, Halt, Locals, Track, World};
 use log_format::{Kind, Record};
@@ -18,6 +18,7 @@ use shared_words::{ChunkHand, Chunks, Words};
 use std::alloc::Global;
 use std::sync::Wait;
 use std::test::Fail;
+use sw_base::MemLog;
 
 /// How many bytes the elements have, which lane it is, whether another hand has drawn a number, and which call on its log fails.
 #[derive(Drop)]
@@ -28,12 +29,19 @@ pub(crate) struct Setting {
     pub failing: u64,
 }
 
-/// Why a lane didn't go on, its variable 1, and what is in its log.
+/// Why a lane didn't go on, its variable 1, and its log.
 #[derive(Drop)]
 pub(crate) struct Left {
     pub halt: Option<Halt>,
     pub variable: i64,
-    pub bytes: Vec<u8>,
+    pub log: MemLog,
+}
+
+impl Left {
+    /// Whether the lane went on, and its log has these records.
+    pub(crate) fn went_on(&self, records: &[Record]) -> bool {
+        self.halt.is_none() && is_log_of(self.log.bytes(), records)
+    }
 }
 
 /// A lane over elements of so many bytes.
@@ -101,22 +109,21 @@ pub(crate) fn executed<R: Wait>(
     requires own { IsOfTeam 1 (stmt_code stmt.now Done) }
     requires drawn { drawn_count (part_of_stmt stmt.now ∷ []) ≤ 1 }
 {
+    let arrays = [array(setting.width)?];
+    let slots = vec![in alloc; 0, 0]?;
+    let buffer = buffer_failing(alloc, setting.failing)?;
     let (words, hand) = Words::new(alloc, 8, 1)?;
     let (chunks, draws) = counter(alloc, setting.taken)?;
-    let arrays = [array(setting.width)?];
     let world = World::new(&arrays, &words, &chunks, setting.lane, 2);
-    let buffer = buffer_failing(alloc, setting.failing)?;
     let track = Track::new(alloc, hand, buffer, draws);
-    let locals = Locals {
-        slots: vec![in alloc; 0, 0]?,
-    };
+    let locals = Locals { slots };
     let mut frame = Frame { locals, track };
     let halt = frame.part(stmt, rt, alloc, &world, &without_memory).err();
     let variable = frame.locals.get(1);
     Ok(Left {
         halt,
         variable,
-        bytes: bytes_of(alloc, frame.track)?,
+        log: log_of(alloc, frame.track),
     })
 }
 
@@ -125,14 +132,14 @@ pub(crate) fn alone<R: Wait>(
     rt: &R,
     alloc: Global,
     setting: &Setting,
-    stmt: &Stmt,
+    stmt: Stmt,
 ) -> Result<Left, Fail>
     requires width { IsWidth setting.now.width }
     requires lane { setting.now.lane < 2 }
-    requires bounded { IsBoundedCode (stmt_code stmt.now Done) }
-    requires alone { IsAlone 1 [] (stmt_code stmt.now Done) }
+    requires bounded { IsBoundedCode (stmt_code stmt Done) }
+    requires alone { IsAlone 1 [] (stmt_code stmt Done) }
 {
-    executed(rt, alloc, setting, stmt)
+    executed(rt, alloc, setting, &stmt)
 }
 
 /// Whether the lane goes on that executes a statement of its team, and leaves these records.
@@ -140,17 +147,16 @@ pub(crate) fn goes_on<R: Wait>(
     rt: &R,
     alloc: Global,
     setting: &Setting,
-    stmt: &Stmt,
+    stmt: Stmt,
     records: &[Record],
 ) -> Result<bool, Fail>
     requires width { IsWidth setting.now.width }
     requires lane { setting.now.lane < 2 }
-    requires bounded { IsBoundedCode (stmt_code stmt.now Done) }
-    requires own { IsOfTeam 1 (stmt_code stmt.now Done) }
-    requires drawn { drawn_count (part_of_stmt stmt.now ∷ []) ≤ 1 }
+    requires bounded { IsBoundedCode (stmt_code stmt Done) }
+    requires own { IsOfTeam 1 (stmt_code stmt Done) }
+    requires drawn { drawn_count (part_of_stmt stmt ∷ []) ≤ 1 }
 {
-    let left = executed(rt, alloc, setting, stmt)?;
-    Ok(left.halt.is_none() && left.bytes == log_of(alloc, records)?)
+    Ok(executed(rt, alloc, setting, &stmt)?.went_on(records))
 }
 
 /// The same of a statement without its team.
@@ -158,14 +164,13 @@ pub(crate) fn goes_on_alone<R: Wait>(
     rt: &R,
     alloc: Global,
     setting: &Setting,
-    stmt: &Stmt,
+    stmt: Stmt,
     records: &[Record],
 ) -> Result<bool, Fail>
     requires width { IsWidth setting.now.width }
     requires lane { setting.now.lane < 2 }
-    requires bounded { IsBoundedCode (stmt_code stmt.now Done) }
-    requires alone { IsAlone 1 [] (stmt_code stmt.now Done) }
+    requires bounded { IsBoundedCode (stmt_code stmt Done) }
+    requires alone { IsAlone 1 [] (stmt_code stmt Done) }
 {
-    let left = alone(rt, alloc, setting, stmt)?;
-    Ok(left.halt.is_none() && left.bytes == log_of(alloc, records)?)
+    Ok(alone(rt, alloc, setting, stmt)?.went_on(records))
 }

@@ -2,7 +2,7 @@
 ghost use Rattle.std.specs.Prelude.{OnOk};
 ghost use Rattle.lane_runner.specs.Going.{CanGo};
 
-use crate::tests::support::{buffer, bytes_of, log_of};
+use crate::tests::support::{buffer, is_log_of, log_of};
 use kernel_model::Item;
 use kernel_syntax::{Array, Team};
 use lane_runner::{Frame, Halt, Locals, Stop, Track, World};
@@ -29,19 +29,20 @@ fn event(kind: Kind, line: u32) -> Record {
 #[test]
 fn a_barrier_and_an_end_are_recorded(rt: HostRuntime) -> Result<(), Fail> {
     let alloc = rt.alloc();
+    let buffer = buffer(alloc)?;
     let (words, hand) = Words::new(alloc, 0, 1)?;
     let (chunks, draws) = Chunks::new(alloc, 0)?;
     let arrays: [Array; 0] = [];
     let world = World::new(&arrays, &words, &chunks, 0, 1);
-    let mut track = Track::new(alloc, hand, buffer(alloc)?, draws);
+    let mut track = Track::new(alloc, hand, buffer, draws);
     let Ok(()) = track.meet(alloc, 5) else {
         panic!(rt; "no room");
     };
     let Ok(()) = track.finish(alloc, 9) else {
         panic!(rt; "no room");
     };
-    let expected = log_of(alloc, &[event(Kind::Barrier, 5), event(Kind::End, 9)])?;
-    assert!(rt; bytes_of(alloc, track)? == expected);
+    let expected = [event(Kind::Barrier, 5), event(Kind::End, 9)];
+    assert!(rt; is_log_of(log_of(alloc, track).bytes(), &expected));
     Ok(())
 }
 
@@ -59,22 +60,23 @@ fn fill(alloc: Global, world: &World, track: &mut Track<MemLog>) -> Result<(), H
 #[test]
 fn a_full_log_takes_no_barrier_and_no_end(rt: HostRuntime) -> Result<(), Fail> {
     let alloc = rt.alloc();
+    let buffer = buffer(alloc)?;
     let (words, hand) = Words::new(alloc, 0, 1)?;
     let (chunks, draws) = Chunks::new(alloc, 0)?;
     let arrays: [Array; 0] = [];
     let world = World::new(&arrays, &words, &chunks, 0, 1);
-    let mut track = Track::new(alloc, hand, buffer(alloc)?, draws);
+    let mut track = Track::new(alloc, hand, buffer, draws);
     let Ok(()) = fill(alloc, &world, &mut track) else {
         panic!(rt; "no room");
     };
     let Err(Halt::LogFull { line }) = track.meet(alloc, 6) else {
         panic!(rt; "a barrier too many");
     };
-    assert_eq!(rt; line, 6);
+    assert!(rt; line == 6);
     let Err(Halt::LogFull { line }) = track.finish(alloc, 7) else {
         panic!(rt; "an end too many");
     };
-    assert_eq!(rt; line, 7);
+    assert!(rt; line == 7);
     Ok(())
 }
 
@@ -93,12 +95,13 @@ fn stuck(
 #[test]
 fn a_value_is_set_before_the_lanes_meet(rt: HostRuntime) -> Result<(), Fail> {
     let alloc = rt.alloc();
+    let slots = vec![in alloc; 7i64, 7]?;
+    let buffer = buffer(alloc)?;
     let (words, hand) = Words::new(alloc, 0, 1)?;
     let (chunks, draws) = Chunks::new(alloc, 0)?;
     let arrays: [Array; 0] = [];
     let world = World::new(&arrays, &words, &chunks, 0, 1);
-    let track = Track::new(alloc, hand, buffer(alloc)?, draws);
-    let slots = vec![in alloc; 7i64, 7]?;
+    let track = Track::new(alloc, hand, buffer, draws);
     let mut frame = Frame {
         locals: Locals { slots },
         track,
@@ -111,8 +114,8 @@ fn a_value_is_set_before_the_lanes_meet(rt: HostRuntime) -> Result<(), Fail> {
     let Ok(()) = frame.step(&bar, &rt, alloc, &world, &stuck) else {
         panic!(rt; "no room");
     };
-    assert_eq!(rt; frame.locals.get(0), 7);
-    assert_eq!(rt; frame.locals.get(1), 3);
-    assert!(rt; bytes_of(alloc, frame.track)? == log_of(alloc, &[event(Kind::Barrier, 5)])?);
+    assert!(rt; frame.locals.get(0) == 7 && frame.locals.get(1) == 3);
+    let log = log_of(alloc, frame.track);
+    assert!(rt; is_log_of(log.bytes(), &[event(Kind::Barrier, 5)]));
     Ok(())
 }

@@ -9,7 +9,7 @@ ghost use Rattle.lane_runner.specs.Alone.{IsAlone};
 ghost use Rattle.lane_runner.specs.Phase.{IsOfTeam};
 
 use crate::tests::one_lane::{executed, lane_over};
-use crate::tests::support::{in_loop, log_of, nothing, only, tested};
+use crate::tests::support::{in_loop, is_log_of, nothing, only, tested};
 use kernel_syntax::{Body, Expr, Schedule, Stmt, Team};
 use log_format::{Kind, Record};
 use std::alloc::Global;
@@ -60,14 +60,28 @@ fn in_shares(body: Body) -> Stmt
 }
 
 // Whether a lane of a team of two stops in its first region, and its log has the record of the fork.
-fn stops_in_region<R: Wait>(rt: &R, alloc: Global, lane: u16, stmt: &Stmt) -> Result<bool, Fail>
+fn stops_in_region<R: Wait>(rt: &R, alloc: Global, lane: u16, stmt: Stmt) -> Result<bool, Fail>
     requires lane { lane < 2 }
-    requires bounded { IsBoundedCode (stmt_code stmt.now Done) }
-    requires own { IsOfTeam 1 (stmt_code stmt.now Done) }
-    requires undrawn { drawn_count (part_of_stmt stmt.now ∷ []) ≡ 0 }
+    requires bounded { IsBoundedCode (stmt_code stmt Done) }
+    requires own { IsOfTeam 1 (stmt_code stmt Done) }
+    requires undrawn { drawn_count (part_of_stmt stmt ∷ []) ≡ 0 }
 {
-    let left = executed(rt, alloc, &lane_over(8, lane), stmt)?;
-    Ok(left.halt.is_some() && left.bytes == log_of(alloc, &[fork()])?)
+    let left = executed(rt, alloc, &lane_over(8, lane), &stmt)?;
+    Ok(left.halt.is_some() && is_log_of(left.log.bytes(), &[fork()]))
+}
+
+// The same of a loop over this variable with a region where variable 0 isn't 0.
+fn stops_in_loop<R: Wait>(rt: &R, alloc: Global, slot: u32) -> Result<bool, Fail> {
+    let turns = in_loop(slot, region_past_zero(alloc)?);
+    stops_in_region(rt, alloc, 0, turns)
+}
+
+// The same of a worksharing loop.
+fn stops_in_share<R: Wait>(rt: &R, alloc: Global, lane: u16) -> Result<bool, Fail>
+    requires { lane < 2 }
+{
+    let shares = in_shares(region_past_zero(alloc)?);
+    stops_in_region(rt, alloc, lane, shares)
 }
 
 // The record of the fork of the region.
@@ -84,11 +98,8 @@ fn fork() -> Record {
 
 #[test]
 fn a_region_in_a_loop_is_run_in_its_turn(rt: HostRuntime) -> Result<(), Fail> {
-    let alloc = rt.alloc();
-    let turns = in_loop(0, region_past_zero(alloc)?);
-    assert!(rt; stops_in_region(&rt, alloc, 0, &turns)?);
-    let others = in_loop(1, region_past_zero(alloc)?);
-    assert!(rt; !stops_in_region(&rt, alloc, 0, &others)?);
+    assert!(rt; stops_in_loop(&rt, rt.alloc(), 0)?);
+    assert!(rt; !stops_in_loop(&rt, rt.alloc(), 1)?);
     Ok(())
 }
 
@@ -96,9 +107,7 @@ fn a_region_in_a_loop_is_run_in_its_turn(rt: HostRuntime) -> Result<(), Fail> {
 fn a_region_in_a_worksharing_loop_is_run_by_the_lane_that_has_its_iteration(
     rt: HostRuntime,
 ) -> Result<(), Fail> {
-    let alloc = rt.alloc();
-    let shares = in_shares(region_past_zero(alloc)?);
-    assert!(rt; !stops_in_region(&rt, alloc, 0, &shares)?);
-    assert!(rt; stops_in_region(&rt, alloc, 1, &shares)?);
+    assert!(rt; !stops_in_share(&rt, rt.alloc(), 0)?);
+    assert!(rt; stops_in_share(&rt, rt.alloc(), 1)?);
     Ok(())
 }

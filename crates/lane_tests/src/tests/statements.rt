@@ -7,7 +7,7 @@ ghost use Rattle.kernel_syntax.specs.Tree.{Done};
 ghost use Rattle.lane_runner.specs.Alone.{IsAlone};
 
 use crate::tests::one_lane::{Left, Setting, accessed, alone, goes_on_alone, lane_over};
-use crate::tests::support::{in_loop, log_of, nothing, only, step, tested};
+use crate::tests::support::{in_loop, is_log_of, nothing, only, step, tested};
 use kernel_syntax::{Body, Expr, Op, Stmt};
 use lane_runner::Halt;
 use log_format::{Kind, Record};
@@ -126,10 +126,8 @@ fn failing(call: u64) -> Setting
 fn a_variable_is_set_without_a_record(rt: HostRuntime) -> Result<(), Fail> {
     let alloc = rt.alloc();
     let value = binary(alloc, Op::Sub, Expr::Number(2), Expr::Number(5))?;
-    let left = alone(&rt, alloc, &lane_over(8, 0), &set(value))?;
-    assert!(rt; left.halt.is_none());
-    assert!(rt; left.variable == -3);
-    assert!(rt; left.bytes == log_of(alloc, &[])?);
+    let left = alone(&rt, alloc, &lane_over(8, 0), set(value))?;
+    assert!(rt; left.went_on(&[]) && left.variable == -3);
     Ok(())
 }
 
@@ -153,7 +151,7 @@ fn turn(width: u8, read: i64, element: u64, written: i64) -> [Record; 2] {
 fn a_value_is_read_before_the_store_that_it_is_for(rt: HostRuntime) -> Result<(), Fail> {
     let alloc = rt.alloc();
     let stmt = sum(alloc, 1)?;
-    assert!(rt; goes_on_alone(&rt, alloc, &lane_over(8, 0), &stmt, &turn(8, 0, 0, 1))?);
+    assert!(rt; goes_on_alone(&rt, alloc, &lane_over(8, 0), stmt, &turn(8, 0, 0, 1))?);
     Ok(())
 }
 
@@ -161,7 +159,7 @@ fn a_value_is_read_before_the_store_that_it_is_for(rt: HostRuntime) -> Result<()
 fn a_test_chooses_what_is_executed(rt: HostRuntime) -> Result<(), Fail> {
     let alloc = rt.alloc();
     let no = tested(nothing(alloc), summing(alloc, 1)?);
-    assert!(rt; goes_on_alone(&rt, alloc, &lane_over(8, 0), &no, &turn(8, 0, 0, 1))?);
+    assert!(rt; goes_on_alone(&rt, alloc, &lane_over(8, 0), no, &turn(8, 0, 0, 1))?);
     Ok(())
 }
 
@@ -170,7 +168,7 @@ fn a_test_that_holds_chooses_the_other_body(rt: HostRuntime) -> Result<(), Fail>
     let alloc = rt.alloc();
     let yes = tested(summing(alloc, 1)?, nothing(alloc));
     let second = in_loop(0, only(alloc, yes)?);
-    assert!(rt; goes_on_alone(&rt, alloc, &lane_over(8, 0), &second, &turn(8, 0, 1, 1))?);
+    assert!(rt; goes_on_alone(&rt, alloc, &lane_over(8, 0), second, &turn(8, 0, 1, 1))?);
     Ok(())
 }
 
@@ -184,7 +182,7 @@ fn a_loop_has_the_turns_of_its_bounds(rt: HostRuntime) -> Result<(), Fail> {
         accessed(Kind::Read, 8, 0, 5),
         accessed(Kind::Write, 8, 1, 10),
     ];
-    assert!(rt; goes_on_alone(&rt, alloc, &lane_over(8, 1), &fixed, &records)?);
+    assert!(rt; goes_on_alone(&rt, alloc, &lane_over(8, 1), fixed, &records)?);
     Ok(())
 }
 
@@ -192,7 +190,7 @@ fn a_loop_has_the_turns_of_its_bounds(rt: HostRuntime) -> Result<(), Fail> {
 fn a_loop_starts_where_its_lane_is(rt: HostRuntime) -> Result<(), Fail> {
     let alloc = rt.alloc();
     let free = from_lane_to_span(summing(alloc, 5)?);
-    assert!(rt; goes_on_alone(&rt, alloc, &lane_over(8, 1), &free, &turn(8, 0, 1, 5))?);
+    assert!(rt; goes_on_alone(&rt, alloc, &lane_over(8, 1), free, &turn(8, 0, 1, 5))?);
     Ok(())
 }
 
@@ -206,7 +204,7 @@ fn a_critical_section_is_between_the_steps_on_its_mutex(rt: HostRuntime) -> Resu
         accessed(Kind::Write, 8, 0, 1),
         step(Kind::Unlock, 0, 8),
     ];
-    assert!(rt; goes_on_alone(&rt, alloc, &lane_over(8, 0), &section, &records)?);
+    assert!(rt; goes_on_alone(&rt, alloc, &lane_over(8, 0), section, &records)?);
     Ok(())
 }
 
@@ -214,9 +212,9 @@ fn a_critical_section_is_between_the_steps_on_its_mutex(rt: HostRuntime) -> Resu
 fn a_stop_in_a_critical_section_puts_no_more(rt: HostRuntime) -> Result<(), Fail> {
     let alloc = rt.alloc();
     let section = critical(alloc, store(Expr::Number(-1), Expr::Number(1), 5))?;
-    let left = alone(&rt, alloc, &lane_over(8, 0), &section)?;
+    let left = alone(&rt, alloc, &lane_over(8, 0), section)?;
     assert!(rt; matches!(left.halt, Some(Halt::Index { line: 5 })));
-    assert!(rt; left.bytes == log_of(alloc, &[step(Kind::Lock, 0, 7)])?);
+    assert!(rt; is_log_of(left.log.bytes(), &[step(Kind::Lock, 0, 7)]));
     Ok(())
 }
 
@@ -224,9 +222,9 @@ fn a_stop_in_a_critical_section_puts_no_more(rt: HostRuntime) -> Result<(), Fail
 fn an_index_outside_its_array_stops(rt: HostRuntime) -> Result<(), Fail> {
     let alloc = rt.alloc();
     let outside = store(Expr::Number(8), Expr::Number(1), 5);
-    let left = alone(&rt, alloc, &lane_over(8, 1), &outside)?;
+    let left = alone(&rt, alloc, &lane_over(8, 1), outside)?;
     assert!(rt; matches!(left.halt, Some(Halt::Index { line: 5 })));
-    assert!(rt; left.bytes == log_of(alloc, &[])?);
+    assert!(rt; is_log_of(left.log.bytes(), &[]));
     Ok(())
 }
 
@@ -243,9 +241,9 @@ fn quotient(alloc: Global) -> Result<Stmt, Fail>
 #[test]
 fn a_zero_divisor_stops(rt: HostRuntime) -> Result<(), Fail> {
     let alloc = rt.alloc();
-    let left = alone(&rt, alloc, &lane_over(8, 1), &quotient(alloc)?)?;
+    let left = alone(&rt, alloc, &lane_over(8, 1), quotient(alloc)?)?;
     assert!(rt; matches!(left.halt, Some(Halt::DivZero { line: 5 })));
-    assert!(rt; left.bytes == log_of(alloc, &[])?);
+    assert!(rt; is_log_of(left.log.bytes(), &[]));
     Ok(())
 }
 
@@ -253,7 +251,7 @@ fn a_zero_divisor_stops(rt: HostRuntime) -> Result<(), Fail> {
 fn a_divisor_that_is_not_zero_divides(rt: HostRuntime) -> Result<(), Fail> {
     let alloc = rt.alloc();
     let records = [accessed(Kind::Write, 8, 0, -1)];
-    assert!(rt; goes_on_alone(&rt, alloc, &lane_over(8, 0), &quotient(alloc)?, &records)?);
+    assert!(rt; goes_on_alone(&rt, alloc, &lane_over(8, 0), quotient(alloc)?, &records)?);
     Ok(())
 }
 
@@ -275,43 +273,68 @@ fn holds<R: Wait>(
         accessed(Kind::Read, width, 0, held),
         accessed(Kind::Write, width, 1, twice),
     ];
-    goes_on_alone(rt, alloc, &lane_over(width, 0), &turns, &records)
+    goes_on_alone(rt, alloc, &lane_over(width, 0), turns, &records)
+}
+
+// The same of each of these numbers.
+fn all_hold<R: Wait>(
+    rt: &R,
+    alloc: Global,
+    width: u8,
+    rows: &[(i64, i64, i64)],
+) -> Result<bool, Fail>
+    requires { IsWidth width }
+{
+    for (number, held, twice) in rows {
+        if !holds(rt, alloc, width, *number, *held, *twice)? {
+            return Ok(false);
+        }
+    }
+    Ok(true)
 }
 
 #[test]
 fn an_element_has_the_low_bytes_of_a_value(rt: HostRuntime) -> Result<(), Fail> {
     let alloc = rt.alloc();
-    assert!(rt; holds(&rt, alloc, 1, 127, 127, -2)?);
-    assert!(rt; holds(&rt, alloc, 1, 128, -128, 0)?);
-    assert!(rt; holds(&rt, alloc, 2, 32_767, 32_767, -2)?);
-    assert!(rt; holds(&rt, alloc, 2, 32_768, -32_768, 0)?);
-    assert!(rt; holds(&rt, alloc, 4, 2_147_483_647, 2_147_483_647, -2)?);
-    assert!(rt; holds(&rt, alloc, 4, 2_147_483_648, -2_147_483_648, 0)?);
-    assert!(rt; holds(&rt, alloc, 8, i64::MAX, i64::MAX, -2)?);
-    assert!(rt; holds(&rt, alloc, 8, i64::MIN, i64::MIN, 0)?);
+    let int = [
+        (2_147_483_647, 2_147_483_647, -2),
+        (2_147_483_648, -2_147_483_648, 0),
+    ];
+    let long = [(i64::MAX, i64::MAX, -2), (i64::MIN, i64::MIN, 0)];
+    assert!(rt; all_hold(&rt, alloc, 1, &[(127, 127, -2), (128, -128, 0)])?);
+    assert!(rt; all_hold(&rt, alloc, 2, &[(32_767, 32_767, -2), (32_768, -32_768, 0)])?);
+    assert!(rt; all_hold(&rt, alloc, 4, &int)?);
+    assert!(rt; all_hold(&rt, alloc, 8, &long)?);
     Ok(())
 }
 
 // What a lane leaves whose log fails at this call, of a loop of two turns.
 fn left_failing<R: Wait>(rt: &R, alloc: Global, call: u64) -> Result<Left, Fail> {
     let turns = in_loop(0, summing(alloc, 5)?);
-    alone(rt, alloc, &failing(call), &turns)
+    alone(rt, alloc, &failing(call), turns)
+}
+
+// Whether a lane stopped since its log failed, or went on, and left so many of these bytes.
+fn is_left(left: &Left, stops: bool, all: &[u8], length: usize) -> bool {
+    let failed = matches!(left.halt, Some(Halt::Trouble(Trouble::Failed)));
+    let bytes = left.log.bytes();
+    failed == stops
+        && left.halt.is_some() == stops
+        && bytes.len() == length
+        && all.starts_with(bytes)
 }
 
 #[test]
 fn a_call_that_fails_leaves_the_records_before(rt: HostRuntime) -> Result<(), Fail> {
     let alloc = rt.alloc();
-    let all = left_failing(&rt, alloc, 0)?.bytes;
-    assert!(rt; all.len() == 104);
+    let all = left_failing(&rt, alloc, 0)?.log;
+    assert!(rt; all.bytes().len() == 104);
     for (call, stops, length) in [(2, true, 32), (3, false, 80), (4, false, 104)] {
         let left = left_failing(&rt, alloc, call)?;
-        let failed = matches!(left.halt, Some(Halt::Trouble(Trouble::Failed)));
         assert!(rt;
-            failed == stops && left.halt.is_some() == stops,
+            is_left(&left, stops, all.bytes(), length),
             "at call {call}"
         );
-        assert!(rt; left.bytes.len() == length, "at call {call}");
-        assert!(rt; all.starts_with(&left.bytes), "at call {call}");
     }
     Ok(())
 }

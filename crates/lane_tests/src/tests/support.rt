@@ -31,17 +31,23 @@ pub(crate) fn step(kind: Kind, mutex: u64, line: u32) -> Record {
     }
 }
 
-/// The bytes of a log of these records.
-pub(crate) fn log_of(alloc: Global, records: &[Record]) -> Result<Vec<u8>, Fail> {
-    let mut bytes = LOG_HEADER.to_vec(alloc)?;
+/// Whether these are the bytes of a log of the records.
+pub(crate) fn is_log_of(bytes: &[u8], records: &[Record]) -> bool {
+    let mut rest = match bytes.strip_prefix(&LOG_HEADER) {
+        Some(after) => after,
+        None => return false,
+    };
     for record in records {
-        bytes.extend_from_slice(&encode(record))?;
+        match rest.strip_prefix(&encode(record)) {
+            Some(after) => rest = after,
+            None => return false,
+        }
     }
-    Ok(bytes)
+    rest.is_empty()
 }
 
 /// A buffer before the empty log of a new folder.
-pub(crate) fn buffer(alloc: Global) -> Result<Buffer<MemLog>, Fail>
+pub(crate) fn buffer(alloc: Global) -> Result<Buffer<MemLog>, Trouble>
     ensures unrefused { IfOk result (λ b. b.refused ≡ None) }
     ensures empty { IfOk result (λ b. b.count ≡ 0) }
     ensures root { IfOk result (λ b. b.path ≡ []) }
@@ -50,7 +56,7 @@ pub(crate) fn buffer(alloc: Global) -> Result<Buffer<MemLog>, Fail>
 }
 
 /// A buffer for two records, before the empty log of a new folder, of which this call fails. The first call has the number 1.
-pub(crate) fn buffer_failing(alloc: Global, call: u64) -> Result<Buffer<MemLog>, Fail>
+pub(crate) fn buffer_failing(alloc: Global, call: u64) -> Result<Buffer<MemLog>, Trouble>
     ensures unrefused { IfOk result (λ b. b.refused ≡ None) }
     ensures empty { IfOk result (λ b. b.count ≡ 0) }
     ensures root { IfOk result (λ b. b.path ≡ []) }
@@ -59,16 +65,16 @@ pub(crate) fn buffer_failing(alloc: Global, call: u64) -> Result<Buffer<MemLog>,
     folder.fail_log(&Path::root(), &[call])?;
     match Buffer::start(alloc, folder.root(alloc, "d")?, 48) {
         Ok(buffer) => Ok(buffer),
-        Err((trouble, _)) => Err(trouble.into()),
+        Err((trouble, _)) => Err(trouble),
     }
 }
 
-/// What a lane's log has at its end, also where its last call failed.
-pub(crate) fn bytes_of(alloc: Global, track: Track<MemLog>) -> Result<Vec<u8>, Fail> {
+/// A lane's log at its end, also where its last call failed.
+pub(crate) fn log_of(alloc: Global, track: Track<MemLog>) -> MemLog {
     let (_, buffer, _, _) = track.into_parts();
     match buffer.close(alloc) {
-        Ok(log) => Ok(log.bytes().to_vec(alloc)?),
-        Err((_, log)) => Ok(log.bytes().to_vec(alloc)?),
+        Ok(log) => log,
+        Err((_, log)) => log,
     }
 }
 
