@@ -46,49 +46,60 @@ fn bytes_of(run: &Run) -> u64 {
     bytes
 }
 
-#[test]
-fn interleaved_runs_are_apart(rt: HostRuntime) -> Result<(), Fail> {
-    let evens = run_of(0, 8, 4, 4).ok_or("no run")?;
-    let odds = run_of(4, 8, 4, 4).ok_or("no run")?;
-    assert!(rt; !overlap(&evens, &odds));
-    Ok(())
+// A run by its base, stride, count and size.
+type Shape = (u64, u64, u32, u8);
+
+// Whether the two runs overlap, where they are runs.
+fn meet(one: Shape, other: Shape) -> Option<bool> {
+    let one = run_of(one.0, one.1, one.2, one.3)?;
+    let other = run_of(other.0, other.1, other.2, other.3)?;
+    Some(overlap(&one, &other))
 }
 
 #[test]
-fn runs_meet_at_a_common_multiple_in_both(rt: HostRuntime) -> Result<(), Fail> {
-    let threes = run_of(3, 9, 2, 1).ok_or("no run")?;
-    assert!(rt; overlap(&run_of(0, 6, 3, 1).ok_or("no run")?, &threes));
-    assert!(rt; !overlap(&run_of(0, 6, 2, 1).ok_or("no run")?, &threes));
-    Ok(())
+fn interleaved_runs_are_apart(rt: HostRuntime) {
+    assert!(rt; meet((0, 8, 4, 4), (4, 8, 4, 4)) == Some(false));
 }
 
 #[test]
-fn eight_bytes_meet_their_last_and_not_the_next(rt: HostRuntime) -> Result<(), Fail> {
-    let eight = run_of(100, 0, 1, 8).ok_or("no run")?;
-    assert!(rt; overlap(&eight, &run_of(107, 0, 1, 1).ok_or("no run")?));
-    assert!(rt; !overlap(&eight, &run_of(108, 0, 1, 1).ok_or("no run")?));
-    Ok(())
+fn runs_meet_at_a_common_multiple_in_both(rt: HostRuntime) {
+    let threes = (3, 9, 2, 1);
+    assert!(rt; meet((0, 6, 3, 1), threes) == Some(true));
+    assert!(rt; meet((0, 6, 2, 1), threes) == Some(false));
 }
 
 #[test]
-fn long_runs_of_even_strides_meet_at_even_bytes(rt: HostRuntime) -> Result<(), Fail> {
-    let long = run_of(0, 67_108_864, 4_194_304, 1).ok_or("no run")?;
-    assert!(rt; !overlap(&long, &run_of(1, 67_108_862, 4_194_304, 1).ok_or("no run")?));
-    assert!(rt; overlap(&long, &run_of(2, 67_108_862, 4_194_304, 1).ok_or("no run")?));
-    Ok(())
+fn eight_bytes_meet_their_last_and_not_the_next(rt: HostRuntime) {
+    let eight = (100, 0, 1, 8);
+    assert!(rt; meet(eight, (107, 0, 1, 1)) == Some(true));
+    assert!(rt; meet(eight, (108, 0, 1, 1)) == Some(false));
 }
 
 #[test]
-fn the_greatest_numbers_are_met(rt: HostRuntime) -> Result<(), Fail> {
-    let top = (1 << 48) - 9;
-    let ends = run_of(0, top, 2, 8).ok_or("no run")?;
-    assert!(rt; overlap(&ends, &run_of(top + 0, 0, 1, 1).ok_or("no run")?));
-    assert!(rt; overlap(&run_of(1, top - 1, 2, 1).ok_or("no run")?, &ends));
-    assert!(rt; !overlap(&run_of(8, top - 9, 2, 1).ok_or("no run")?, &ends));
-    let all = run_of(0, 1, u32::MAX, 1).ok_or("no run")?;
-    assert!(rt; overlap(&all, &run_of((1 << 32) - 2, 0, 1, 1).ok_or("no run")?));
-    assert!(rt; !overlap(&all, &run_of((1 << 32) - 1, 0, 1, 1).ok_or("no run")?));
-    Ok(())
+fn long_runs_of_even_strides_meet_at_even_bytes(rt: HostRuntime) {
+    let long = (0, 67_108_864, 4_194_304, 1);
+    assert!(rt; meet(long, (1, 67_108_862, 4_194_304, 1)) == Some(false));
+    assert!(rt; meet(long, (2, 67_108_862, 4_194_304, 1)) == Some(true));
+}
+
+const TOP: u64 = (1 << 48) - 9;
+
+const ENDS: Shape = (0, TOP, 2, 8);
+
+const ALL: Shape = (0, 1, u32::MAX, 1);
+
+#[test]
+fn the_greatest_numbers_are_met(rt: HostRuntime) {
+    let table = [
+        (ENDS, (TOP, 0, 1, 1), true),
+        ((1, TOP - 1, 2, 1), ENDS, true),
+        ((8, TOP - 9, 2, 1), ENDS, false),
+        (ALL, ((1 << 32) - 2, 0, 1, 1), true),
+        (ALL, ((1 << 32) - 1, 0, 1, 1), false),
+    ];
+    for (one, other, due) in table {
+        assert!(rt; meet(one, other) == Some(due), "{one:?} and {other:?}");
+    }
 }
 
 fn small_runs(alloc: Global) -> Result<Vec<(Run, u64)>, AllocError> {
@@ -104,14 +115,22 @@ fn small_runs(alloc: Global) -> Result<Vec<(Run, u64)>, AllocError> {
     Ok(runs)
 }
 
+// Whether a run overlaps with each of these exactly where their bytes do.
+fn overlaps_as_its_bytes(run: &Run, bytes: u64, runs: &[(Run, u64)]) -> bool {
+    for (other, others) in runs {
+        if overlap(run, other) != (bytes & *others != 0) {
+            return false;
+        }
+    }
+    true
+}
+
 #[test]
 fn small_runs_overlap_where_their_bytes_do(rt: HostRuntime) -> Result<(), Fail> {
     let runs = small_runs(rt.alloc())?;
     assert!(rt; runs.len() == 1144);
-    for (a, bytes) in &runs {
-        for (b, others) in &runs {
-            assert_eq!(rt; overlap(a, b), *bytes & *others != 0);
-        }
+    for (run, bytes) in &runs {
+        assert!(rt; overlaps_as_its_bytes(run, *bytes, &runs));
     }
     Ok(())
 }

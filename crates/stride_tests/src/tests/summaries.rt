@@ -17,23 +17,23 @@ fn holding(mutexes: &[u16]) -> Result<Held, HeldFault> {
 
 #[test]
 fn copies_an_access(rt: HostRuntime) -> Result<(), Fail> {
+    let held = holding(&[3])?;
     let access = Access {
         write: true,
         size: 8,
         site: 1,
         line: 5,
         addr: 4096,
-        held: holding(&[3])?,
+        held,
     };
     let same = access.copy();
-    assert!(rt; same.write);
+    assert!(rt; same.write && same.held.ids() == [3].as_slice());
     assert!(rt; (same.size, same.site, same.line, same.addr) == (8, 1, 5, 4096));
-    assert!(rt; same.held.ids() == [3].as_slice());
     Ok(())
 }
 
 #[test]
-fn a_run_goes_from_its_base_to_its_last_byte(rt: HostRuntime) -> Result<(), Fail> {
+fn a_run_goes_from_its_base_to_its_last_byte(rt: HostRuntime) {
     let run = Run {
         base: 4096,
         stride: 104,
@@ -42,9 +42,13 @@ fn a_run_goes_from_its_base_to_its_last_byte(rt: HostRuntime) -> Result<(), Fail
         write: true,
         line: 5,
         site: 1,
-        held: holding(&[])?,
+        held: Held::none(),
     };
     assert!(rt; (run.low(), run.high()) == (4096, 4207));
+}
+
+#[test]
+fn the_widest_run_goes_to_the_last_byte_there_is(rt: HostRuntime) {
     let widest = Run {
         base: 0,
         stride: (1 << 48) - 1,
@@ -53,10 +57,9 @@ fn a_run_goes_from_its_base_to_its_last_byte(rt: HostRuntime) -> Result<(), Fail
         write: false,
         line: 1,
         site: 0,
-        held: holding(&[])?,
+        held: Held::none(),
     };
     assert!(rt; (widest.low(), widest.high()) == (0, (1 << 48) - 1));
-    Ok(())
 }
 
 fn write_at(line: u32, addr: u64) -> Access
@@ -72,13 +75,6 @@ fn write_at(line: u32, addr: u64) -> Access
     }
 }
 
-// Of each run its line, its first address, the distance and how many.
-fn shapes(alloc: Global, runs: &[Run]) -> Result<Vec<(u32, u64, u64, u32)>, AllocError> {
-    runs.iter()
-        .map(|run| (run.line, run.base, run.stride, run.count))
-        .collect(alloc)
-}
-
 fn runs_of(alloc: Global, writes: &[(u32, u64)]) -> Result<Vec<Run>, Memory> {
     let mut summary = Summary::new(alloc)?;
     for (line, addr) in writes {
@@ -89,17 +85,49 @@ fn runs_of(alloc: Global, writes: &[(u32, u64)]) -> Result<Vec<Run>, Memory> {
     Ok(summary.finish())
 }
 
+// Of a run its line, its first address, the distance and how many.
+type Shape = (u32, u64, u64, u32);
+
+// The shapes of the runs of these writes.
+fn shapes_of(alloc: Global, writes: &[(u32, u64)]) -> Result<Vec<Shape>, Memory> {
+    let mut shapes = Vec::new(alloc);
+    for run in &runs_of(alloc, writes)? {
+        shapes.push((run.line, run.base, run.stride, run.count))?;
+    }
+    Ok(shapes)
+}
+
+// Whether the runs of these writes have these shapes.
+fn has_shapes(alloc: Global, writes: &[(u32, u64)], due: &[Shape]) -> Result<bool, Memory> {
+    let shapes = shapes_of(alloc, writes)?;
+    Ok(shapes.as_slice() == due)
+}
+
+// The shapes by their lines.
+fn sorted_shapes_of(alloc: Global, writes: &[(u32, u64)]) -> Result<Vec<Shape>, Memory> {
+    let mut shapes = shapes_of(alloc, writes)?;
+    shapes.sort()?;
+    Ok(shapes)
+}
+
 #[test]
-fn an_address_that_comes_again_is_there_once(rt: HostRuntime) -> Result<(), Fail> {
-    let alloc = rt.alloc();
-    let again = runs_of(alloc, &[(1, 4096), (1, 4104), (1, 4096)])?;
-    assert!(rt; shapes(alloc, &again)?.as_slice() == [(1, 4096, 8, 2)].as_slice());
-    let gap = runs_of(alloc, &[(1, 4096), (1, 4104), (1, 4112), (1, 4200)])?;
-    let two = [(1, 4096, 8, 3), (1, 4200, 0, 1)];
-    assert!(rt; shapes(alloc, &gap)?.as_slice() == two.as_slice());
-    let top = runs_of(alloc, &[(1, (1 << 48) - 8), (1, 0)])?;
-    assert!(rt; top.len() == 1);
-    assert!(rt; top[0].high() == (1 << 48) - 1);
+fn an_address_that_comes_again_is_there_once(rt: HostRuntime) {
+    let table: [(&[(u32, u64)], &[Shape]); 2] = [
+        (&[(1, 4096), (1, 4104), (1, 4096)], &[(1, 4096, 8, 2)]),
+        (
+            &[(1, 4096), (1, 4104), (1, 4112), (1, 4200)],
+            &[(1, 4096, 8, 3), (1, 4200, 0, 1)],
+        ),
+    ];
+    for (writes, due) in table {
+        assert!(rt; has_shapes(rt.alloc(), writes, due) == Ok(true), "{due:?}");
+    }
+}
+
+#[test]
+fn a_run_may_go_to_the_last_byte_there_is(rt: HostRuntime) -> Result<(), Fail> {
+    let top = runs_of(rt.alloc(), &[(1, (1 << 48) - 8), (1, 0)])?;
+    assert!(rt; matches!(top.as_slice(), [run] if run.high() == (1 << 48) - 1));
     Ok(())
 }
 
@@ -116,85 +144,112 @@ fn writes_by(alloc: Global, step: u64) -> Result<Vec<(u32, u64)>, AllocError> {
 #[test]
 fn runs_are_the_same_in_every_order(rt: HostRuntime) -> Result<(), Fail> {
     let alloc = rt.alloc();
+    let due = [(7, 4096, 8, 60), (7, 4616, 8, 40)];
     for step in [1, 99, 37] {
-        let runs = runs_of(alloc, &writes_by(alloc, step)?)?;
-        assert_eq!(rt;
-            shapes(alloc, &runs)?.as_slice(),
-            [(7, 4096, 8, 60), (7, 4616, 8, 40)].as_slice()
-        );
+        let writes = writes_by(alloc, step)?;
+        assert!(rt; has_shapes(alloc, &writes, &due) == Ok(true), "by {step}");
     }
     Ok(())
 }
 
+// Whether there are so many runs, of the lines from 0 on, and each has this first address, distance and number of addresses.
+fn have_keys(found: &[Shape], keys: u32, due: (u64, u64, u32)) -> bool {
+    for ((line, base, stride, count), key) in found.iter().zip(0..keys) {
+        if *line != key || (*base, *stride, *count) != due {
+            return false;
+        }
+    }
+    found.len() == keys as usize
+}
+
 // Ten keys, each with ten addresses; which comes next jumps about.
-#[test]
-fn keys_that_take_turns_in_any_order_have_runs_of_their_own(rt: HostRuntime) -> Result<(), Fail> {
-    let alloc = rt.alloc();
+fn jumping_writes(alloc: Global) -> Result<Vec<(u32, u64)>, AllocError> {
     let mut writes = Vec::new(alloc);
     for number in 0..500u32 {
         let place = number % 100 * 37 % 100;
         writes.push((place % 10, 4096 + u64::from(place / 10) * 24))?;
     }
-    let runs = runs_of(alloc, &writes)?;
-    let mut found = shapes(alloc, &runs)?;
-    found.sort()?;
-    assert!(rt; found.len() == 10);
-    for (line, shape) in found.iter().enumerate() {
-        assert_eq!(rt; *shape, (line as u32, 4096, 24, 10));
-    }
+    Ok(writes)
+}
+
+#[test]
+fn keys_that_take_turns_in_any_order_have_runs_of_their_own(rt: HostRuntime) -> Result<(), Fail> {
+    let alloc = rt.alloc();
+    let writes = jumping_writes(alloc)?;
+    let found = sorted_shapes_of(alloc, &writes)?;
+    assert!(rt; have_keys(&found, 10, (4096, 24, 10)));
     Ok(())
+}
+
+// Three keys in turn, each with 100 addresses.
+fn writes_in_turn(alloc: Global) -> Result<Vec<(u32, u64)>, AllocError> {
+    let mut writes = Vec::new(alloc);
+    for number in 0..300u32 {
+        writes.push((number % 3, 4096 + u64::from(number / 3) * 16))?;
+    }
+    Ok(writes)
 }
 
 #[test]
 fn keys_that_take_turns_have_runs_of_their_own(rt: HostRuntime) -> Result<(), Fail> {
     let alloc = rt.alloc();
-    let mut writes = Vec::new(alloc);
-    for number in 0..300u32 {
-        writes.push((number % 3, 4096 + u64::from(number / 3) * 16))?;
-    }
-    let runs = runs_of(alloc, &writes)?;
-    let mut found = shapes(alloc, &runs)?;
-    found.sort()?;
-    assert_eq!(rt;
-        found.as_slice(),
-        [(0, 4096, 16, 100), (1, 4096, 16, 100), (2, 4096, 16, 100)].as_slice()
-    );
+    let writes = writes_in_turn(alloc)?;
+    let found = sorted_shapes_of(alloc, &writes)?;
+    assert!(rt; have_keys(&found, 3, (4096, 16, 100)));
     Ok(())
 }
 
+// All of an access but its address: whether it writes, its size, site, line and mutexes.
+type Key<'a> = (bool, u8, u16, u32, &'a [u16]);
+
+const KEYS: [Key<'static>; 8] = [
+    (true, 8, 0, 1, &[]),
+    (false, 8, 0, 1, &[]),
+    (true, 4, 0, 1, &[]),
+    (true, 8, 1, 1, &[]),
+    (true, 8, 0, 2, &[]),
+    (true, 8, 0, 1, &[3]),
+    (true, 8, 0, 1, &[3, 4]),
+    (true, 8, 0, 1, &[4, 3]),
+];
+
 // An access at one address, with this key.
-fn keyed(write: bool, size: u8, site: u16, line: u32, mutexes: &[u16]) -> Result<Access, HeldFault>
-    requires { IsAccessSize size }
-{
+fn keyed(key: &Key<'_>) -> Result<Access, Fail> {
+    let (write, size, site, line, mutexes) = *key;
+    let held = holding(mutexes)?;
+    if !matches!(size, 1 | 2 | 4 | 8) {
+        return Err(Fail::from("no size of an access"));
+    }
     Ok(Access {
         write,
         size,
         site,
         line,
         addr: 64,
-        held: holding(mutexes)?,
+        held,
     })
+}
+
+// Adds an access of each key.
+fn add_keys(summary: &mut Summary) -> Result<(), Fail> {
+    for key in &KEYS {
+        summary.add(&keyed(key)?)?;
+    }
+    Ok(())
 }
 
 #[test]
 fn the_key_has_all_but_the_address(rt: HostRuntime) -> Result<(), Fail> {
     let mut summary = Summary::new(rt.alloc())?;
-    for _ in 0..2 {
-        summary.add(&keyed(true, 8, 0, 1, &[])?)?;
-        summary.add(&keyed(false, 8, 0, 1, &[])?)?;
-        summary.add(&keyed(true, 4, 0, 1, &[])?)?;
-        summary.add(&keyed(true, 8, 1, 1, &[])?)?;
-        summary.add(&keyed(true, 8, 0, 2, &[])?)?;
-        summary.add(&keyed(true, 8, 0, 1, &[3])?)?;
-        summary.add(&keyed(true, 8, 0, 1, &[3, 4])?)?;
-        summary.add(&keyed(true, 8, 0, 1, &[4, 3])?)?;
-    }
-    assert_eq!(rt; summary.finish().len(), 8);
+    add_keys(&mut summary)?;
+    add_keys(&mut summary)?;
+    assert!(rt; summary.finish().len() == 8);
     Ok(())
 }
 
 #[test]
 fn the_last_byte_may_be_the_last_there_is(rt: HostRuntime) -> Result<(), Fail> {
+    let last = (1 << 48) - 1;
     let mut summary = Summary::new(rt.alloc())?;
     summary.add(&Access {
         write: false,
@@ -205,8 +260,6 @@ fn the_last_byte_may_be_the_last_there_is(rt: HostRuntime) -> Result<(), Fail> {
         held: Held::none(),
     })?;
     let runs = summary.finish();
-    assert!(rt; runs.len() == 1);
-    let last = (1 << 48) - 1;
-    assert!(rt; (runs[0].low(), runs[0].high()) == (last, last));
+    assert!(rt; matches!(runs.as_slice(), [run] if (run.low(), run.high()) == (last, last)));
     Ok(())
 }

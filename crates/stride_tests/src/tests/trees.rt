@@ -77,36 +77,44 @@ fn lines_met(
     lines_with::<Brand>(alloc, tree, bytes, most, Blank::new(1))
 }
 
+// Whether the runs of these lines are handed over, at most so many, and after that there is a refusal or none.
+fn meets(alloc: Global, tree: &Tree, bytes: (u64, u64), most: usize, due: (&[u32], bool)) -> bool {
+    let (lines, answer) = lines_met(alloc, tree, bytes, most);
+    lines.as_slice() == due.0 && answer.is_err() == due.1
+}
+
 #[test]
 fn finds_the_runs_that_a_range_meets(rt: HostRuntime) -> Result<(), Fail> {
     let alloc = rt.alloc();
     let runs = [run(1, 0, 0), run(2, 10, 0), run(3, 20, 0)];
     let tree = Tree::build(alloc, &runs)?;
     assert!(rt; tree.levels() == 2);
-    let (lines, answer) = lines_met(alloc, &tree, (2, 11), 9);
-    assert!(rt; lines.as_slice() == [1, 2].as_slice());
-    assert!(rt; answer.is_ok());
+    assert!(rt; meets(alloc, &tree, (2, 11), 9, (&[1, 2], false)));
     Ok(())
 }
 
 #[test]
-fn a_tree_of_no_run_and_one_of_one(rt: HostRuntime) -> Result<(), Fail> {
+fn a_tree_of_no_run_has_no_level(rt: HostRuntime) -> Result<(), Fail> {
     let alloc = rt.alloc();
     let none = Tree::build(alloc, &[])?;
     assert!(rt; none.levels() == 0);
-    let (lines, answer) = lines_met(alloc, &none, (0, u64::MAX), 9);
-    assert!(rt; lines.is_empty() && answer.is_ok());
+    assert!(rt; meets(alloc, &none, (0, u64::MAX), 9, (&[], false)));
+    Ok(())
+}
+
+#[test]
+fn a_run_is_met_from_its_first_byte_to_its_last(rt: HostRuntime) -> Result<(), Fail> {
+    let alloc = rt.alloc();
     let runs = [run(7, 100, 50)];
     let one = Tree::build(alloc, &runs)?;
-    for (bytes, found) in [
-        ((0, 99), 0),
-        ((0, 100), 1),
-        ((153, 200), 1),
-        ((154, 200), 0),
-    ] {
-        let (lines, answer) = lines_met(alloc, &one, bytes, 9);
-        assert!(rt; lines.len() == found);
-        assert!(rt; answer.is_ok());
+    let table: [((u64, u64), &[u32]); 4] = [
+        ((0, 99), &[]),
+        ((0, 100), &[7]),
+        ((153, 200), &[7]),
+        ((154, 200), &[]),
+    ];
+    for (bytes, lines) in table {
+        assert!(rt; meets(alloc, &one, bytes, 9, (lines, false)), "{bytes:?}");
     }
     Ok(())
 }
@@ -137,6 +145,17 @@ fn lines_by_filter(alloc: Global, runs: &[Run], bytes: (u64, u64)) -> Result<Vec
     found.iter().map(|(_, line)| *line).collect(alloc)
 }
 
+// Whether the runs of the tree that these bytes meet are those that a filter finds.
+fn meets_as_filtered(
+    alloc: Global,
+    tree: &Tree,
+    runs: &[Run],
+    bytes: (u64, u64),
+) -> Result<bool, AllocError> {
+    let due = lines_by_filter(alloc, runs, bytes)?;
+    Ok(meets(alloc, tree, bytes, 1000, (&due, false)))
+}
+
 #[test]
 fn meets_what_a_filter_finds(rt: HostRuntime) -> Result<(), Fail> {
     let alloc = rt.alloc();
@@ -146,9 +165,10 @@ fn meets_what_a_filter_finds(rt: HostRuntime) -> Result<(), Fail> {
     for number in 0..500u64 {
         let lo = number * 53 % 7000;
         let bytes = (lo, lo + number % 7 * 11);
-        let (lines, answer) = lines_met(alloc, &tree, bytes, 1000);
-        assert!(rt; answer.is_ok());
-        assert!(rt; lines.as_slice() == lines_by_filter(alloc, &runs, bytes)?.as_slice());
+        assert!(rt;
+            meets_as_filtered(alloc, &tree, &runs, bytes) == Ok(true),
+            "{bytes:?}"
+        );
     }
     Ok(())
 }
@@ -156,12 +176,15 @@ fn meets_what_a_filter_finds(rt: HostRuntime) -> Result<(), Fail> {
 #[test]
 fn hands_over_nothing_after_a_refusal(rt: HostRuntime) -> Result<(), Fail> {
     let alloc = rt.alloc();
-    let parts = [[run(1, 40, 0), run(2, 8, 0)], [run(3, 8, 0), run(4, 24, 0)]];
-    let tree = Tree::build_all(alloc, &[parts[0].as_slice(), parts[1].as_slice()])?;
+    let one = [run(1, 40, 0), run(2, 8, 0)];
+    let other = [run(3, 8, 0), run(4, 24, 0)];
+    let tree = Tree::build_all(alloc, &[one.as_slice(), other.as_slice()])?;
     for most in 0..6usize {
-        let (lines, answer) = lines_met(alloc, &tree, (0, 99), most);
-        assert!(rt; lines.as_slice() == &[2, 3, 4, 1][..most.min(4)]);
-        assert_eq!(rt; answer.is_err(), most < 4);
+        let lines = &[2, 3, 4, 1][..most.min(4)];
+        assert!(rt;
+            meets(alloc, &tree, (0, 99), most, (lines, most < 4)),
+            "{most}"
+        );
     }
     Ok(())
 }
