@@ -1,5 +1,7 @@
 //! Values and their arithmetic, the layout of arrays, and names.
 ghost use Rattle.std.specs.Prelude.{◌≡◌, IfOk};
+ghost use Rattle.kernel_syntax.specs.Arithmetic.{IsWidth};
+ghost use Rattle.kernel_syntax.specs.Layout.{IsWithinLimits};
 
 use kernel_syntax::{
     Array, Arrays, Body, Expr, Kernel, Name, Names, Op, Schedule, Stmt, Team, apply, even_share,
@@ -46,33 +48,61 @@ fn operations_wrap_round_and_compare(rt: HostRuntime) {
         (Op::Ge, -5, 4, Some(0)),
     ];
     for (op, left, right, expected) in rows {
-        assert_eq!(rt; apply(op, left, right), expected, "{op:?} {left} {right}");
+        assert!(rt; apply(op, left, right) == expected, "{op:?} {left} {right}");
     }
+}
+
+// Whether each value is kept so in an element of this width.
+fn all_fit(width: u8, rows: &[(i64, i64)]) -> bool
+    requires { IsWidth width }
+{
+    for (value, kept) in rows {
+        if fit(*value, width) != *kept {
+            return false;
+        }
+    }
+    true
 }
 
 #[test]
 fn stored_values_keep_their_low_bits(rt: HostRuntime) {
-    assert!(rt; fit(200, 1) == -56);
-    assert!(rt; fit(127, 1) == 127);
-    assert!(rt; fit(128, 1) == -128);
-    assert!(rt; fit(-129, 1) == 127);
-    assert!(rt; fit(0x1_8000, 2) == -0x8000);
-    assert!(rt; fit(-1, 2) == -1);
-    assert!(rt; fit(0x8000_0000, 4) == -0x8000_0000);
-    assert!(rt; fit(0x1_2345_6789, 4) == 0x2345_6789);
-    assert!(rt; fit(LEAST, 4) == 0);
-    assert!(rt; fit(LEAST, 8) == LEAST);
-    assert!(rt; fit(GREATEST, 8) == GREATEST);
+    let byte = [(200, -56), (127, 127), (128, -128), (-129, 127)];
+    let int = [
+        (0x8000_0000, -0x8000_0000),
+        (0x1_2345_6789, 0x2345_6789),
+        (LEAST, 0),
+    ];
+    assert!(rt; all_fit(1, &byte));
+    assert!(rt; all_fit(2, &[(0x1_8000, -0x8000), (-1, -1)]));
+    assert!(rt; all_fit(4, &int));
+    assert!(rt; all_fit(8, &[(LEAST, LEAST), (GREATEST, GREATEST)]));
+}
+
+// The share of a lane, if it is one.
+fn share_of(total: u64, lane: u16, span: u16) -> Option<(u64, u64)> {
+    if lane < span {
+        Some(even_share(total, lane, span))
+    } else {
+        None
+    }
 }
 
 #[test]
 fn eight_iterations_on_three_lanes(rt: HostRuntime) {
-    assert!(rt; even_share(8, 0, 3) == (0, 3));
-    assert!(rt; even_share(8, 1, 3) == (3, 3));
-    assert!(rt; even_share(8, 2, 3) == (6, 2));
-    assert!(rt; even_share(0, 1, 2) == (0, 0));
     let last = (u64::MAX - 0x3ff_ffff_ffff_ffff, 0x3ff_ffff_ffff_ffff);
-    assert!(rt; even_share(u64::MAX, 63, 64) == last);
+    let rows = [
+        (8, 0, 3, (0, 3)),
+        (8, 1, 3, (3, 3)),
+        (8, 2, 3, (6, 2)),
+        (0, 1, 2, (0, 0)),
+        (u64::MAX, 63, 64, last),
+    ];
+    for (total, lane, span, share) in rows {
+        assert!(rt;
+            share_of(total, lane, span) == Some(share),
+            "{total} {lane} {span}"
+        );
+    }
 }
 
 fn array(name: &str, width: u8, count: u32) -> Result<Array, Fail>
@@ -87,16 +117,39 @@ fn array(name: &str, width: u8, count: u32) -> Result<Array, Fail>
     })
 }
 
-fn kernel(alloc: Global, arrays: Arrays) -> Result<Kernel, Fail>
-    ensures { IfOk result (λ k. k.arrays ≡ arrays) }
+fn three_arrays(alloc: Global) -> Result<Arrays, Fail>
+    ensures { IfOk result (λ a. IsWithinLimits a) }
 {
+    let a = array("a", 8, 9)?;
+    let narrow = array("narrow", 1, 64)?;
+    let c = array("c", 4, 1)?;
+    let mut arrays = Arrays::new(alloc);
+    arrays.push(a)?;
+    arrays.push(narrow)?;
+    arrays.push(c)?;
+    Ok(arrays)
+}
+
+fn one_mutex(alloc: Global) -> Result<Names, Fail> {
     let mut mutexes = Names::new(alloc);
     mutexes.push(Name::new("c").ok_or("a long name")?)?;
+    Ok(mutexes)
+}
+
+fn one_statement(alloc: Global) -> Result<Vec<Stmt>, Fail> {
     let mut stmts = Vec::new(alloc);
     stmts.push(Stmt::Set {
         slot: 0,
         value: Expr::Number(5),
     })?;
+    Ok(stmts)
+}
+
+fn kernel(alloc: Global, arrays: Arrays) -> Result<Kernel, Fail>
+    ensures { IfOk result (λ k. k.arrays ≡ arrays) }
+{
+    let mutexes = one_mutex(alloc)?;
+    let stmts = one_statement(alloc)?;
     Ok(Kernel {
         arrays,
         mutexes,
@@ -110,26 +163,32 @@ fn kernel(alloc: Global, arrays: Arrays) -> Result<Kernel, Fail>
     })
 }
 
+// Whether the arrays begin at these addresses, with these elements of all, and nothing else is another.
+fn is_laid_out(kernel: &Kernel) -> bool {
+    let [first, narrow, last] = kernel.arrays.as_slice() else {
+        return false;
+    };
+    let bases = [first.base, narrow.base, last.base];
+    let elements = [first.first, narrow.first, last.first];
+    bases == [4096, 4224, 4288]
+        && elements == [0, 9, 73]
+        && narrow.name.as_str() == "narrow"
+        && narrow.width == 1
+        && narrow.count == 64
+}
+
+// Whether the kernel has one mutex, one statement and one slot.
+fn has_one_of_each(kernel: &Kernel) -> bool {
+    kernel.mutexes.as_slice().len() == 1 && kernel.main.body.stmts.len() == 1 && kernel.slots == 1
+}
+
 #[test]
 fn three_arrays_are_laid_out(rt: HostRuntime) -> Result<(), Fail> {
     let alloc = rt.alloc();
-    let mut arrays = Arrays::new(alloc);
-    arrays.push(array("a", 8, 9)?)?;
-    arrays.push(array("narrow", 1, 64)?)?;
-    arrays.push(array("c", 4, 1)?)?;
-    let mut kernel = kernel(alloc, arrays)?;
+    let mut kernel = kernel(alloc, three_arrays(alloc)?)?;
     layout(&mut kernel);
-    let [first, narrow, last] = kernel.arrays.as_slice() else {
-        panic!(rt; "not three arrays");
-    };
-    assert!(rt; first.base == 4096 && first.first == 0);
-    assert!(rt; narrow.base == 4224 && narrow.first == 9);
-    assert!(rt; last.base == 4288 && last.first == 73);
-    assert!(rt; narrow.name.as_str() == "narrow");
-    assert!(rt; narrow.width == 1 && narrow.count == 64);
-    assert!(rt; kernel.mutexes.as_slice().len() == 1);
-    assert!(rt; kernel.main.body.stmts.len() == 1);
-    assert!(rt; kernel.slots == 1);
+    assert!(rt; is_laid_out(&kernel));
+    assert!(rt; has_one_of_each(&kernel));
     Ok(())
 }
 
