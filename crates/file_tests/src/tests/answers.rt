@@ -4,7 +4,6 @@ use command_answer::{
     DONE, KERNEL_REFUSED, NO_MEMORY, RACES, WRITE_FAULT, failure, print, print_made,
 };
 use std::alloc::Global;
-use std::test::Fail;
 use sw_base::{MemOut, Memory, Trouble};
 
 #[test]
@@ -38,19 +37,19 @@ fn printed(
 }
 
 #[test]
-fn texts_are_printed_with_their_status(rt: HostRuntime) -> Result<(), Fail> {
-    let (statuses, out) = printed(rt.alloc(), &[], (b"one\n", RACES), "two\n")?;
+fn texts_are_printed_with_their_status(rt: HostRuntime) {
+    let (statuses, out) = printed(rt.alloc(), &[], (b"one\n", RACES), "two\n").expect(
+        &rt, "memory",
+    );
     assert!(rt; statuses == [RACES, DONE, NO_MEMORY]);
     assert!(rt; out.written() == b"one\ntwo\n".as_slice());
-    Ok(())
 }
 
 // A write that fails leaves the first half of its piece.
 #[test]
-fn a_failed_write_is_a_write_fault(rt: HostRuntime) -> Result<(), Fail> {
+fn a_failed_write_is_a_write_fault(rt: HostRuntime) {
     let text = (b"no kernel\n".as_slice(), KERNEL_REFUSED);
-    let (statuses, out) = printed(rt.alloc(), &[1, 2], text, "records")?;
+    let (statuses, out) = printed(rt.alloc(), &[1, 2], text, "records").expect(&rt, "memory");
     assert!(rt; statuses == [WRITE_FAULT, WRITE_FAULT, NO_MEMORY]);
     assert!(rt; out.written() == b"no kerec".as_slice());
-    Ok(())
 }

@@ -7,7 +7,6 @@ use crate::tests::support::folder_of;
 use log_format::FORMAT;
 use log_index::{IndexAnswer, IndexWhy, Row, read_index, read_index_as, write_index};
 use std::alloc::{AllocError, Global};
-use std::test::Fail;
 use sw_base::{INDEX_HEADER, MemFolder, Memory, ShortReads};
 
 // A row by hand: its depth, a field that should be 0, its first two steps as region, lane and span, and its records.
@@ -160,7 +159,7 @@ fn count(alloc: Global, bytes: &[u8]) -> Option<usize> {
 }
 
 #[test]
-fn an_index_is_read_and_written_back(rt: HostRuntime) -> Result<(), Fail> {
+fn an_index_is_read_and_written_back(rt: HostRuntime) {
     let alloc = rt.alloc();
     let deep = Spelled {
         depth: 2,
@@ -168,7 +167,7 @@ fn an_index_is_read_and_written_back(rt: HostRuntime) -> Result<(), Fail> {
         ..lane(0, 1, 2)
     };
     let rows = [ROOT, lane(0, 0, 2), lane(0, 1, 2), deep, lane(1, 0, 1)];
-    let bytes = index(alloc, &rows)?;
+    let bytes = index(alloc, &rows).expect(&rt, "memory");
     let due = [
         ("t.swl", 2),
         ("t-0.0.swl", 10),
@@ -182,20 +181,18 @@ fn an_index_is_read_and_written_back(rt: HostRuntime) -> Result<(), Fail> {
         is_written_back(alloc, &bytes),
     ];
     assert!(rt; told == [Ok(true), Ok(true)], "{told:?}");
-    Ok(())
 }
 
 #[test]
-fn a_folder_without_an_index_has_none(rt: HostRuntime) -> Result<(), Fail> {
+fn a_folder_without_an_index_has_none(rt: HostRuntime) {
     let alloc = rt.alloc();
-    let mut folder = MemFolder::new(alloc)?;
+    let mut folder = MemFolder::new(alloc).expect(&rt, "memory");
     let answer = read_index(alloc, &mut folder, "d").err();
     assert!(rt; answer == Some(IndexAnswer::NoIndex));
-    Ok(())
 }
 
 #[test]
-fn each_rule_is_told_at_row_1(rt: HostRuntime) -> Result<(), Fail> {
+fn each_rule_is_told_at_row_1(rt: HostRuntime) {
     let reserved = Spelled {
         reserved: 1,
         ..ROOT
@@ -208,20 +205,18 @@ fn each_rule_is_told_at_row_1(rt: HostRuntime) -> Result<(), Fail> {
         (lane(0, 0, 2), IndexWhy::Order),
         (none, IndexWhy::Records),
     ];
-    assert!(rt; first_other(rt.alloc(), &[], 1, &table)?.is_none());
-    Ok(())
+    assert!(rt; first_other(rt.alloc(), &[], 1, &table) == Ok(None));
 }
 
 #[test]
-fn an_index_has_a_root(rt: HostRuntime) -> Result<(), Fail> {
+fn an_index_has_a_root(rt: HostRuntime) {
     let alloc = rt.alloc();
     assert!(rt; refusal(alloc, &INDEX_HEADER) == bad(1, IndexWhy::Cut));
-    assert!(rt; refusal(alloc, &index(alloc, &[ROOT])?).is_none());
-    Ok(())
+    assert!(rt; refusal(alloc, &index(alloc, &[ROOT]).expect(&rt, "memory")).is_none());
 }
 
 #[test]
-fn each_rule_is_told_at_row_2(rt: HostRuntime) -> Result<(), Fail> {
+fn each_rule_is_told_at_row_2(rt: HostRuntime) {
     let deep = Spelled {
         depth: 5,
         ..lane(0, 0, 2)
@@ -238,12 +233,11 @@ fn each_rule_is_told_at_row_2(rt: HostRuntime) -> Result<(), Fail> {
         (lane(1, 0, 1), IndexWhy::Order),
         (none, IndexWhy::Records),
     ];
-    assert!(rt; first_other(rt.alloc(), &[ROOT], 2, &table)?.is_none());
-    Ok(())
+    assert!(rt; first_other(rt.alloc(), &[ROOT], 2, &table) == Ok(None));
 }
 
 #[test]
-fn each_rule_is_told_at_row_3(rt: HostRuntime) -> Result<(), Fail> {
+fn each_rule_is_told_at_row_3(rt: HostRuntime) {
     let past = Spelled {
         second: (0, 0, 1),
         ..lane(0, 1, 2)
@@ -258,18 +252,16 @@ fn each_rule_is_told_at_row_3(rt: HostRuntime) -> Result<(), Fail> {
         (lane(0, 2, 2), IndexWhy::Lane),
         (many, IndexWhy::Records),
     ];
-    assert!(rt; first_other(rt.alloc(), &[ROOT, lane(0, 0, 2)], 3, &table)?.is_none());
-    Ok(())
+    assert!(rt; first_other(rt.alloc(), &[ROOT, lane(0, 0, 2)], 3, &table) == Ok(None));
 }
 
 #[test]
-fn a_row_3_out_of_order_is_told(rt: HostRuntime) -> Result<(), Fail> {
+fn a_row_3_out_of_order_is_told(rt: HostRuntime) {
     let alloc = rt.alloc();
     let narrower = [(lane(0, 1, 2), IndexWhy::Order)];
-    assert!(rt; first_other(alloc, &[ROOT, lane(0, 0, 3)], 3, &narrower)?.is_none());
+    assert!(rt; first_other(alloc, &[ROOT, lane(0, 0, 3)], 3, &narrower) == Ok(None));
     let past = [(lane(2, 0, 1), IndexWhy::Order)];
-    assert!(rt; first_other(alloc, &[ROOT, lane(0, 0, 1)], 3, &past)?.is_none());
-    Ok(())
+    assert!(rt; first_other(alloc, &[ROOT, lane(0, 0, 1)], 3, &past) == Ok(None));
 }
 
 // The refusal of this many bytes of the index.
@@ -281,9 +273,9 @@ fn refusal_of_prefix(alloc: Global, bytes: &[u8], count: usize) -> Option<IndexA
 }
 
 #[test]
-fn an_index_cut_short_is_told(rt: HostRuntime) -> Result<(), Fail> {
+fn an_index_cut_short_is_told(rt: HostRuntime) {
     let alloc = rt.alloc();
-    let bytes = index(alloc, &[ROOT, lane(0, 0, 2), lane(0, 1, 2)])?;
+    let bytes = index(alloc, &[ROOT, lane(0, 0, 2), lane(0, 1, 2)]).expect(&rt, "memory");
     assert!(rt; bytes.len() == 152);
     let table = [
         (151, 3, IndexWhy::Cut),
@@ -299,7 +291,6 @@ fn an_index_cut_short_is_told(rt: HostRuntime) -> Result<(), Fail> {
             "of {count} bytes"
         );
     }
-    Ok(())
 }
 
 #[test]
@@ -325,14 +316,13 @@ fn full_index(alloc: Global) -> Result<Vec<u8>, AllocError> {
 }
 
 #[test]
-fn an_index_has_at_most_65536_rows(rt: HostRuntime) -> Result<(), Fail> {
+fn an_index_has_at_most_65536_rows(rt: HostRuntime) {
     let alloc = rt.alloc();
-    let mut bytes = full_index(alloc)?;
+    let mut bytes = full_index(alloc).expect(&rt, "memory");
     let most = (refusal(alloc, &bytes), count(alloc, &bytes));
     assert!(rt; most == (None, Some(65_536)), "{most:?}");
-    bytes.push(0)?;
+    bytes.push(0).expect(&rt, "memory");
     assert!(rt; refusal(alloc, &bytes) == bad(65_537, IndexWhy::TooMany));
-    Ok(())
 }
 
 // The refusal of these bytes where this call on the folder fails.
@@ -343,14 +333,16 @@ fn refusal_failing(alloc: Global, bytes: &[u8], call: u64) -> Result<Option<Inde
 }
 
 #[test]
-fn each_read_that_fails_is_told(rt: HostRuntime) -> Result<(), Fail> {
+fn each_read_that_fails_is_told(rt: HostRuntime) {
     let alloc = rt.alloc();
-    let bytes = index(alloc, &[ROOT, lane(0, 0, 1), lane(1, 0, 1)])?;
+    let bytes = index(alloc, &[ROOT, lane(0, 0, 1), lane(1, 0, 1)]).expect(&rt, "memory");
     // The size, and reads of 48, 48, 48, 8 and no bytes.
     for call in 1..7 {
-        let answer = refusal_failing(alloc, &bytes, call)?;
-        assert!(rt; answer == Some(IndexAnswer::ReadFault), "at call {call}");
+        let answer = refusal_failing(alloc, &bytes, call);
+        assert!(rt;
+            answer == Ok(Some(IndexAnswer::ReadFault)),
+            "at call {call}"
+        );
     }
-    assert!(rt; refusal_failing(alloc, &bytes, 7)?.is_none());
-    Ok(())
+    assert!(rt; refusal_failing(alloc, &bytes, 7) == Ok(None));
 }

@@ -4,7 +4,6 @@ use log_format::{Kind, Record, encode};
 use log_index::Row;
 use log_listing::{Unlisted, list};
 use std::alloc::{AllocError, Global};
-use std::test::Fail;
 use sw_base::{Folder, LOG_HEADER, MemFolder, MemOut, Memory, Path, ShortReads};
 
 // A region of two lanes, then the end.
@@ -126,19 +125,17 @@ fn is_listed<F: Folder>(alloc: Global, folder: &mut F, text: &[u8]) -> Result<bo
 }
 
 #[test]
-fn each_record_of_each_log_is_a_line(rt: HostRuntime) -> Result<(), Fail> {
+fn each_record_of_each_log_is_a_line(rt: HostRuntime) {
     let alloc = rt.alloc();
-    let mut folder = folder_with(alloc, &LANE)?;
+    let mut folder = folder_with(alloc, &LANE).expect(&rt, "memory");
     assert!(rt; is_listed(alloc, &mut folder, TEXT) == Ok(true));
-    Ok(())
 }
 
 #[test]
-fn each_record_is_a_line_where_reads_are_short(rt: HostRuntime) -> Result<(), Fail> {
+fn each_record_is_a_line_where_reads_are_short(rt: HostRuntime) {
     let alloc = rt.alloc();
-    let folder = folder_with(alloc, &LANE)?;
+    let folder = folder_with(alloc, &LANE).expect(&rt, "memory");
     assert!(rt; is_listed(alloc, &mut ShortReads { folder }, TEXT) == Ok(true));
-    Ok(())
 }
 
 // What is listed where the reads or the writes of these numbers fail.
@@ -175,11 +172,10 @@ fn a_fault_leaves_what_was_listed(rt: HostRuntime) {
 
 // The second log has one record less than its row tells.
 #[test]
-fn a_log_that_has_changed_ends_early(rt: HostRuntime) -> Result<(), Fail> {
+fn a_log_that_has_changed_ends_early(rt: HostRuntime) {
     let alloc = rt.alloc();
-    let short = LANE.get(..5).ok_or("records")?;
-    let due = TEXT.get(..TEXT.len() - 13).ok_or("text")?;
-    let mut folder = folder_with(alloc, short)?;
+    let short = LANE.get(..5).expect(&rt, "records");
+    let due = TEXT.get(..TEXT.len() - 13).expect(&rt, "text");
+    let mut folder = folder_with(alloc, short).expect(&rt, "memory");
     assert!(rt; is_listed(alloc, &mut folder, due) == Ok(true));
-    Ok(())
 }

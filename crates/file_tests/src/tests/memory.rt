@@ -5,7 +5,6 @@ ghost use Rattle.sw_base.specs.MemLog.{path_of};
 use crate::tests::support::folder_of;
 use std::alloc::Global;
 use std::cmp::Ordering;
-use std::test::Fail;
 use sw_base::{
     Folder, Gate, INDEX_HEADER, LOG_HEADER, Log, MemFolder, MemLog, MemOut, Memory, NoGate, Out,
     Path, Step, Trouble, index_name, read_file,
@@ -101,10 +100,10 @@ fn write(alloc: Global, out: &mut MemOut, piece: &[u8]) -> Result<(), Trouble> {
 }
 
 #[test]
-fn a_write_that_fails_leaves_half_of_the_piece(rt: HostRuntime) -> Result<(), Fail> {
+fn a_write_that_fails_leaves_half_of_the_piece(rt: HostRuntime) {
     let alloc = rt.alloc();
-    let mut out = MemOut::new(alloc)?;
-    out.fail(&[2])?;
+    let mut out = MemOut::new(alloc).expect(&rt, "memory");
+    out.fail(&[2]).expect(&rt, "memory");
     let answers = [
         write(alloc, &mut out, b"abcd"),
         write(alloc, &mut out, b"efgh"),
@@ -112,7 +111,6 @@ fn a_write_that_fails_leaves_half_of_the_piece(rt: HostRuntime) -> Result<(), Fa
     ];
     let due = [Ok(()), Err(Trouble::Failed), Ok(())];
     assert!(rt; answers == due && out.written() == b"abcdefijkl".as_slice());
-    Ok(())
 }
 
 // Whether the log has these bytes, in pieces of these lengths.
@@ -136,11 +134,11 @@ fn lane_of(alloc: Global, root: &mut MemLog, lane: u16, span: u16) -> Result<Mem
 }
 
 #[test]
-fn a_log_keeps_its_pieces(rt: HostRuntime) -> Result<(), Fail> {
+fn a_log_keeps_its_pieces(rt: HostRuntime) {
     let alloc = rt.alloc();
-    let mut log = MemLog::new(alloc, "d")?;
+    let mut log = MemLog::new(alloc, "d").expect(&rt, "memory");
     let first = append(alloc, &mut log, b"abc");
-    let mut child = lane_of(alloc, &mut log, 1, 2)?;
+    let mut child = lane_of(alloc, &mut log, 1, 2).expect(&rt, "memory");
     let answers = [
         first,
         append(alloc, &mut child, b"x"),
@@ -148,14 +146,13 @@ fn a_log_keeps_its_pieces(rt: HostRuntime) -> Result<(), Fail> {
     ];
     let told = [has(&log, b"abcde", &[3, 2]), has(&child, b"x", &[1])];
     assert!(rt; answers == [Ok(()), Ok(()), Ok(())] && told == [true; 2]);
-    Ok(())
 }
 
 #[test]
-fn calls_of_a_log_fail_by_their_number(rt: HostRuntime) -> Result<(), Fail> {
+fn calls_of_a_log_fail_by_their_number(rt: HostRuntime) {
     let alloc = rt.alloc();
-    let mut log = MemLog::new(alloc, "d")?;
-    log.fail(&[2, 3])?;
+    let mut log = MemLog::new(alloc, "d").expect(&rt, "memory");
+    log.fail(&[2, 3]).expect(&rt, "memory");
     let answers = [
         append(alloc, &mut log, b"ab").err(),
         append(alloc, &mut log, b"cdef").err(),
@@ -164,17 +161,16 @@ fn calls_of_a_log_fail_by_their_number(rt: HostRuntime) -> Result<(), Fail> {
     ];
     let failed = Some(Trouble::Failed);
     assert!(rt; answers == [None, failed, failed, None] && has(&log, b"abcd", &[2]));
-    Ok(())
 }
 
 // A root's log, in whose folder calls on it and on the log of a lane are planned to fail.
-fn planned_root(alloc: Global) -> Result<MemLog, Fail>
+fn planned_root(alloc: Global) -> Result<MemLog, Trouble>
     ensures { IfOk result (λ log. path_of log ≡ []) }
 {
     let mut folder = MemFolder::new(alloc)?;
     folder.fail_log(&Path::root(), &[2])?;
     folder.fail_log(&Path::root().child(0, 1, 2), &[1, 3])?;
-    Ok(folder.root(alloc, "d")?)
+    folder.root(alloc, "d")
 }
 
 // What an append to the log of lane 0 answers.
@@ -204,9 +200,9 @@ fn append_to_second(
 }
 
 #[test]
-fn planned_calls_of_later_logs_fail(rt: HostRuntime) -> Result<(), Fail> {
+fn planned_calls_of_later_logs_fail(rt: HostRuntime) {
     let alloc = rt.alloc();
-    let mut root = planned_root(alloc)?;
+    let mut root = planned_root(alloc).expect(&rt, "memory");
     let answers = [
         append(alloc, &mut root, b"ab"),
         append_to_first(alloc, &mut root),
@@ -216,7 +212,6 @@ fn planned_calls_of_later_logs_fail(rt: HostRuntime) -> Result<(), Fail> {
     let second = append_to_second(alloc, &mut root, b"yuv");
     let due = [Err(Trouble::Failed), Ok(()), Err(Trouble::Failed)];
     assert!(rt; second == Ok((due, true)));
-    Ok(())
 }
 
 // Whether the name holds these bytes.
@@ -284,9 +279,9 @@ fn seal_both(alloc: Global, folder: &mut MemFolder) -> Result<bool, Trouble> {
 }
 
 #[test]
-fn a_sealed_log_is_held_under_its_name(rt: HostRuntime) -> Result<(), Fail> {
+fn a_sealed_log_is_held_under_its_name(rt: HostRuntime) {
     let alloc = rt.alloc();
-    let mut folder = MemFolder::new(alloc)?;
+    let mut folder = MemFolder::new(alloc).expect(&rt, "memory");
     let sealed = seal_both(alloc, &mut folder);
     let told = [
         holds(&folder, "d/t.swl", b"root"),
@@ -300,7 +295,6 @@ fn a_sealed_log_is_held_under_its_name(rt: HostRuntime) -> Result<(), Fail> {
             "at {at} as {name}"
         );
     }
-    Ok(())
 }
 
 // A folder with two files, one of them put twice.
@@ -313,20 +307,19 @@ fn two_files(alloc: Global) -> Result<MemFolder, Trouble> {
 }
 
 #[test]
-fn a_file_that_is_put_again_is_another(rt: HostRuntime) -> Result<(), Fail> {
+fn a_file_that_is_put_again_is_another(rt: HostRuntime) {
     let alloc = rt.alloc();
-    let mut folder = two_files(alloc)?;
+    let mut folder = two_files(alloc).expect(&rt, "memory");
     let sizes = [folder.size(alloc, "name"), folder.size(alloc, "none")];
     assert!(rt; sizes == [Ok(Some(7)), Ok(None)]);
     assert!(rt; holds(&folder, "other", b"other"));
     assert!(rt; folder.file("none").is_none());
-    Ok(())
 }
 
 #[test]
-fn a_file_is_read_from_a_place_on(rt: HostRuntime) -> Result<(), Fail> {
+fn a_file_is_read_from_a_place_on(rt: HostRuntime) {
     let alloc = rt.alloc();
-    let mut folder = two_files(alloc)?;
+    let mut folder = two_files(alloc).expect(&rt, "memory");
     let mut into = [0; 4];
     let table = [
         ("name", 2, 4, b"cond"),
@@ -341,7 +334,6 @@ fn a_file_is_read_from_a_place_on(rt: HostRuntime) -> Result<(), Fail> {
             "{name} from {place} on"
         );
     }
-    Ok(())
 }
 
 // How long the file is that is read whole.
@@ -353,16 +345,15 @@ fn length_of(alloc: Global, folder: &mut MemFolder, name: &str) -> Result<Option
 }
 
 #[test]
-fn a_file_longer_than_a_window_is_read_whole(rt: HostRuntime) -> Result<(), Fail> {
+fn a_file_longer_than_a_window_is_read_whole(rt: HostRuntime) {
     let alloc = rt.alloc();
-    let bytes = vec![in alloc; 7u8; 9000]?;
-    let mut folder = folder_of(alloc, "name", &bytes)?;
+    let bytes = vec![in alloc; 7u8; 9000].expect(&rt, "memory");
+    let mut folder = folder_of(alloc, "name", &bytes).expect(&rt, "memory");
     let lengths = [
         length_of(alloc, &mut folder, "name"),
         length_of(alloc, &mut folder, "none"),
     ];
     assert!(rt; lengths == [Ok(Some(9000)), Ok(None)]);
-    Ok(())
 }
 
 // Makes calls of a folder once, and tells which answers were errors.
@@ -442,10 +433,9 @@ fn fails_to_seal(alloc: Global, folder: &mut MemFolder, log: MemLog) -> bool {
 }
 
 #[test]
-fn a_seal_that_fails_gives_the_log_back(rt: HostRuntime) -> Result<(), Fail> {
+fn a_seal_that_fails_gives_the_log_back(rt: HostRuntime) {
     let alloc = rt.alloc();
-    let log = one_piece(alloc)?;
-    let mut folder = failing_folder(alloc)?;
+    let log = one_piece(alloc).expect(&rt, "memory");
+    let mut folder = failing_folder(alloc).expect(&rt, "memory");
     assert!(rt; fails_to_seal(alloc, &mut folder, log));
-    Ok(())
 }

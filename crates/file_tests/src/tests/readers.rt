@@ -4,8 +4,7 @@ use crate::tests::support::folder_of;
 use log_format::{FORMAT, Kind, Record, encode};
 use log_reader::LogReader;
 use std::alloc::{AllocError, Global};
-use std::test::Fail;
-use sw_base::{Folder, LOG_HEADER, MemFolder, Path, ShortReads, Trouble};
+use sw_base::{Folder, LOG_HEADER, MemFolder, Memory, Path, ShortReads, Trouble};
 
 fn record(kind: Kind, line: u32) -> Record {
     Record {
@@ -65,13 +64,12 @@ fn are(lines: Result<Vec<u32>, Trouble>, due: &[u32]) -> bool {
 }
 
 #[test]
-fn records_come_in_order_and_then_none(rt: HostRuntime) -> Result<(), Fail> {
+fn records_come_in_order_and_then_none(rt: HostRuntime) {
     let alloc = rt.alloc();
-    let whole = log_of(alloc, 3)?;
+    let whole = log_of(alloc, 3).expect(&rt, "memory");
     let due = [1, 2, 3, 9];
     assert!(rt; are(lines_of(alloc, &whole, 4), &due));
     assert!(rt; are(lines_of_short(alloc, &whole, 4), &due));
-    Ok(())
 }
 
 // Whether the first 6000 lines are those from 1 on.
@@ -85,20 +83,19 @@ fn ascend(lines: &[u32]) -> bool {
 }
 
 #[test]
-fn a_log_longer_than_the_window_comes_whole(rt: HostRuntime) -> Result<(), Fail> {
+fn a_log_longer_than_the_window_comes_whole(rt: HostRuntime) {
     let alloc = rt.alloc();
-    let long = log_of(alloc, 6000)?;
-    let lines = lines_of(alloc, &long, 6001)?;
+    let long = log_of(alloc, 6000).expect(&rt, "memory");
+    let lines = lines_of(alloc, &long, 6001).expect(&rt, "memory");
     assert!(rt; lines.len() == 6001 && lines.last() == Some(&9));
     assert!(rt; ascend(&lines));
-    Ok(())
 }
 
 #[test]
-fn a_changed_log_ends_before_its_first_bad_record(rt: HostRuntime) -> Result<(), Fail> {
+fn a_changed_log_ends_before_its_first_bad_record(rt: HostRuntime) {
     let alloc = rt.alloc();
-    let bytes = log_of(alloc, 3)?;
-    let cut = bytes.get(..79).ok_or("bytes")?;
+    let bytes = log_of(alloc, 3).expect(&rt, "memory");
+    let cut = bytes.get(..79).expect(&rt, "bytes");
     let table: [(&[u8], u32, &[u32]); 4] = [
         (cut, 4, &[1, 2]),
         (&bytes, 2, &[1, 2]),
@@ -108,20 +105,18 @@ fn a_changed_log_ends_before_its_first_bad_record(rt: HostRuntime) -> Result<(),
     for (log, records, due) in table {
         assert!(rt; are(lines_of(alloc, log, records), due), "{due:?}");
     }
-    Ok(())
 }
 
 #[test]
-fn a_changed_kind_ends_a_log(rt: HostRuntime) -> Result<(), Fail> {
+fn a_changed_kind_ends_a_log(rt: HostRuntime) {
     let alloc = rt.alloc();
-    let mut bytes = log_of(alloc, 3)?;
-    *bytes.get_mut(32).ok_or("bytes")? = 9;
+    let mut bytes = log_of(alloc, 3).expect(&rt, "memory");
+    *bytes.get_mut(32).expect(&rt, "bytes") = 9;
     assert!(rt; are(lines_of(alloc, &bytes, 4), &[1]));
-    Ok(())
 }
 
 // A folder with a lane's log of so many records, of which these calls fail.
-fn failing(alloc: Global, barriers: u32, calls: &[u64]) -> Result<MemFolder, Fail> {
+fn failing(alloc: Global, barriers: u32, calls: &[u64]) -> Result<MemFolder, Memory> {
     let bytes = log_of(alloc, barriers)?;
     let mut folder = folder_of(alloc, "d/t-0.1.swl", &bytes)?;
     folder.fail(calls)?;
@@ -165,10 +160,10 @@ fn last_line(
 }
 
 #[test]
-fn a_read_that_fails_can_be_made_again(rt: HostRuntime) -> Result<(), Fail> {
+fn a_read_that_fails_can_be_made_again(rt: HostRuntime) {
     let alloc = rt.alloc();
-    let mut folder = failing(alloc, 5460, &[1, 3])?;
-    let mut reader = LogReader::new(alloc)?;
+    let mut folder = failing(alloc, 5460, &[1, 3]).expect(&rt, "memory");
+    let mut reader = LogReader::new(alloc).expect(&rt, "memory");
     let refused = opened(alloc, &mut reader, &mut folder);
     let nothing = next_line(alloc, &mut reader, &mut folder);
     let accepted = opened(alloc, &mut reader, &mut folder);
@@ -176,5 +171,4 @@ fn a_read_that_fails_can_be_made_again(rt: HostRuntime) -> Result<(), Fail> {
     let ended = next_line(alloc, &mut reader, &mut folder);
     assert!(rt; (refused, accepted) == (Err(Trouble::Failed), Ok(())));
     assert!(rt; (nothing, last, ended) == (Ok(None), (9, true), Ok(None)));
-    Ok(())
 }

@@ -3,7 +3,6 @@
 use race_report::report;
 use std::alloc::{AllocError, Global};
 use std::collections::BTreeSet;
-use std::test::Fail;
 use sw_base::{MemOut, Memory, Trouble};
 
 fn three_pairs(alloc: Global) -> Result<BTreeSet<(u32, u32)>, AllocError> {
@@ -19,17 +18,16 @@ fn print(alloc: Global, out: &mut MemOut, pairs: &BTreeSet<(u32, u32)>) -> Resul
 }
 
 #[test]
-fn pairs_are_in_order_and_counted(rt: HostRuntime) -> Result<(), Fail> {
+fn pairs_are_in_order_and_counted(rt: HostRuntime) {
     let alloc = rt.alloc();
-    let pairs = three_pairs(alloc)?;
-    let mut out = MemOut::new(alloc)?;
+    let pairs = three_pairs(alloc).expect(&rt, "memory");
+    let mut out = MemOut::new(alloc).expect(&rt, "memory");
     let answers = [
         print(alloc, &mut out, &BTreeSet::new(alloc)),
         print(alloc, &mut out, &pairs),
     ];
     let text = b"races 0\nrace 5 5\nrace 5 6\nrace 12 17\nraces 3\n";
     assert!(rt; answers == [Ok(()), Ok(())] && out.written() == text.as_slice());
-    Ok(())
 }
 
 // What is answered where this write fails, and whether these bytes are written then.
@@ -59,12 +57,11 @@ const PREFIXES: [(u64, Result<(), Trouble>, &[u8]); 5] = [
 ];
 
 #[test]
-fn each_line_is_one_write(rt: HostRuntime) -> Result<(), Fail> {
+fn each_line_is_one_write(rt: HostRuntime) {
     let alloc = rt.alloc();
-    let pairs = three_pairs(alloc)?;
+    let pairs = three_pairs(alloc).expect(&rt, "memory");
     for (call, answer, due) in PREFIXES {
         let found = reported(alloc, &pairs, call, due);
         assert!(rt; found == Ok((answer, true)), "at {call}");
     }
-    Ok(())
 }

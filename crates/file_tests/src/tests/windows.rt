@@ -3,7 +3,6 @@ ghost use Rattle.std.specs.Prelude.{◌≡◌, ◌+◌, ◌<◌, ◌≤◌};
 
 use crate::tests::support::folder_of;
 use std::alloc::Global;
-use std::test::Fail;
 use sw_base::{Folder, ShortReads, Trouble, Window};
 
 // Whether these bytes are ahead.
@@ -39,10 +38,10 @@ fn skips(window: &mut Window, count: usize) -> bool
 }
 
 #[test]
-fn a_file_longer_than_a_window_comes_in_order(rt: HostRuntime) -> Result<(), Fail> {
+fn a_file_longer_than_a_window_comes_in_order(rt: HostRuntime) {
     let alloc = rt.alloc();
-    let mut folder = folder_of(alloc, "name", b"abcdefgh")?;
-    let mut window = Window::new(alloc, 3)?;
+    let mut folder = folder_of(alloc, "name", b"abcdefgh").expect(&rt, "memory");
+    let mut window = Window::new(alloc, 3).expect(&rt, "memory");
     let told = [
         has(&window, b""),
         shows(alloc, &mut window, &mut folder, "name", 2, b"abc"),
@@ -55,20 +54,18 @@ fn a_file_longer_than_a_window_comes_in_order(rt: HostRuntime) -> Result<(), Fai
         shows(alloc, &mut window, &mut folder, "name", 1, b""),
     ];
     assert!(rt; told == [true; 9], "{told:?}");
-    Ok(())
 }
 
 #[test]
-fn a_file_that_is_not_there_ends_at_once(rt: HostRuntime) -> Result<(), Fail> {
+fn a_file_that_is_not_there_ends_at_once(rt: HostRuntime) {
     let alloc = rt.alloc();
-    let mut folder = folder_of(alloc, "name", b"ab")?;
-    let mut window = Window::new(alloc, 1)?;
+    let mut folder = folder_of(alloc, "name", b"ab").expect(&rt, "memory");
+    let mut window = Window::new(alloc, 1).expect(&rt, "memory");
     let told = [
         shows(alloc, &mut window, &mut folder, "none", 1, b""),
         shows(alloc, &mut window, &mut folder, "name", 0, b""),
     ];
     assert!(rt; told == [true; 2], "{told:?}");
-    Ok(())
 }
 
 fn restarted(window: &mut Window) -> bool {
@@ -77,11 +74,11 @@ fn restarted(window: &mut Window) -> bool {
 }
 
 #[test]
-fn a_window_starts_again_at_the_front(rt: HostRuntime) -> Result<(), Fail> {
+fn a_window_starts_again_at_the_front(rt: HostRuntime) {
     let alloc = rt.alloc();
-    let mut folder = folder_of(alloc, "name", b"abcdefgh")?;
-    folder.hold("other", b"uvwxyz")?;
-    let mut window = Window::new(alloc, 4)?;
+    let mut folder = folder_of(alloc, "name", b"abcdefgh").expect(&rt, "memory");
+    folder.hold("other", b"uvwxyz").expect(&rt, "memory");
+    let mut window = Window::new(alloc, 4).expect(&rt, "memory");
     let told = [
         shows(alloc, &mut window, &mut folder, "name", 4, b"abcd"),
         skips(&mut window, 3),
@@ -89,15 +86,14 @@ fn a_window_starts_again_at_the_front(rt: HostRuntime) -> Result<(), Fail> {
         shows(alloc, &mut window, &mut folder, "other", 2, b"uvwx"),
     ];
     assert!(rt; told == [true; 4], "{told:?}");
-    Ok(())
 }
 
 #[test]
-fn a_short_read_is_gone_on_with(rt: HostRuntime) -> Result<(), Fail> {
+fn a_short_read_is_gone_on_with(rt: HostRuntime) {
     let alloc = rt.alloc();
-    let folder = folder_of(alloc, "name", b"abcdefghijklmnopqr")?;
+    let folder = folder_of(alloc, "name", b"abcdefghijklmnopqr").expect(&rt, "memory");
     let mut folder = ShortReads { folder };
-    let mut window = Window::new(alloc, 16)?;
+    let mut window = Window::new(alloc, 16).expect(&rt, "memory");
     let long = b"abcdefghijklmno";
     let told = [
         shows(alloc, &mut window, &mut folder, "name", 11, long),
@@ -106,7 +102,6 @@ fn a_short_read_is_gone_on_with(rt: HostRuntime) -> Result<(), Fail> {
         shows(alloc, &mut window, &mut folder, "name", 8, b"lmnopqr"),
     ];
     assert!(rt; told == [true; 4], "{told:?}");
-    Ok(())
 }
 
 // Whether a fill of so many bytes fails, and these are ahead then.
@@ -124,18 +119,17 @@ fn fails<F: Folder>(
 }
 
 #[test]
-fn a_read_that_fails_loses_nothing(rt: HostRuntime) -> Result<(), Fail> {
+fn a_read_that_fails_loses_nothing(rt: HostRuntime) {
     let alloc = rt.alloc();
-    let mut folder = folder_of(alloc, "name", b"abcdefgh")?;
-    folder.fail(&[2])?;
-    let mut window = Window::new(alloc, 3)?;
+    let mut folder = folder_of(alloc, "name", b"abcdefgh").expect(&rt, "memory");
+    folder.fail(&[2]).expect(&rt, "memory");
+    let mut window = Window::new(alloc, 3).expect(&rt, "memory");
     let told = [
         fails(alloc, &mut window, &mut folder, 7, b"abc"),
         skips(&mut window, 1),
         shows(alloc, &mut window, &mut folder, "name", 7, b"bcdefgh"),
     ];
     assert!(rt; told == [true; 3], "{told:?}");
-    Ok(())
 }
 
 // Whether a file of these bytes begins with the header, and how many bytes are ahead then.
