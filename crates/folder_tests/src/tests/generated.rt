@@ -3,7 +3,34 @@
 use generated_run::{accesses, generate, segments};
 use std::alloc::Global;
 use std::test::Fail;
-use sw_base::{Folder, MemFolder, Trouble};
+use sw_base::{MemFolder, Memory, Trouble};
+
+const READ: &[u8] = &[
+    1, 8, 0, 1, 0, 0, 0, 30, 0, 0, 0, 0, 0, 0, 16, 24, 0, 0, 0, 0, 0, 0, 0, 0,
+];
+
+const WRITE: &[u8] = &[
+    2, 4, 0, 2, 0, 0, 0, 40, 0, 0, 0, 0, 0, 0, 16, 24, 0, 0, 0, 0, 0, 0, 0, 0,
+];
+
+// The last lane's third read, of the first lane's element.
+const WRAPPED: &[u8] = &[
+    1, 8, 0, 1, 0, 0, 0, 30, 0, 0, 0, 0, 0, 0, 16, 192, 0, 0, 0, 0, 0, 0, 0, 2,
+];
+
+// A log, the place of a record's first byte there, and its bytes.
+const SPELLED: &[(&str, usize, &[u8])] = &[
+    ("g/t-0.2.swl", 128, READ),
+    ("g/t-0.3.swl", 224, WRITE),
+    ("g/t-0.7.swl", 176, WRAPPED),
+];
+
+const LENGTHS: &[(&str, usize)] = &[
+    ("g/t.swl", 56),
+    ("g/t-0.0.swl", 248),
+    ("g/t-0.3.swl", 272),
+    ("g/index.swi", 440),
+];
 
 fn file<'f>(folder: &'f MemFolder, name: &str) -> &'f [u8] {
     match folder.file(name) {
@@ -12,79 +39,86 @@ fn file<'f>(folder: &'f MemFolder, name: &str) -> &'f [u8] {
     }
 }
 
-#[test]
-fn records_are_spelled_in_their_logs(rt: HostRuntime) -> Result<(), Fail> {
-    let alloc = rt.alloc();
-    let mut folder = MemFolder::new(alloc)?;
-    generate(alloc, &mut folder, "g", 4)?;
-    let read: &[u8] = &[
-        1, 8, 0, 1, 0, 0, 0, 30, 0, 0, 0, 0, 0, 0, 16, 24, 0, 0, 0, 0, 0, 0, 0, 0,
-    ];
-    let write: &[u8] = &[
-        2, 4, 0, 2, 0, 0, 0, 40, 0, 0, 0, 0, 0, 0, 16, 24, 0, 0, 0, 0, 0, 0, 0, 0,
-    ];
-    // The last lane's third read, of the first lane's element.
-    let wrapped: &[u8] = &[
-        1, 8, 0, 1, 0, 0, 0, 30, 0, 0, 0, 0, 0, 0, 16, 192, 0, 0, 0, 0, 0, 0, 0, 2,
-    ];
-    for (name, at, bytes) in [
-        ("g/t-0.2.swl", 128usize, read),
-        ("g/t-0.3.swl", 224, write),
-        ("g/t-0.7.swl", 176, wrapped),
-    ] {
-        let log = file(&folder, name);
-        assert!(rt; log.get(at..).is_some_and(|rest| rest.starts_with(bytes)));
+fn has_bytes(folder: &MemFolder, name: &str, at: usize, bytes: &[u8]) -> bool {
+    match file(folder, name).get(at..) {
+        Some(rest) => rest.starts_with(bytes),
+        None => false,
     }
-    for (name, length) in [
-        ("g/t.swl", 56usize),
-        ("g/t-0.0.swl", 248),
-        ("g/t-0.3.swl", 272),
-        ("g/index.swi", 440),
-    ] {
-        assert!(rt; file(&folder, name).len() == length, "of {name}");
-    }
-    assert!(rt; accesses(4) == 65);
-    assert!(rt; segments(4) == 16);
-    Ok(())
 }
 
-fn size(alloc: Global, folder: &mut MemFolder, name: &str) -> Result<Option<u64>, Trouble> {
-    folder.size(alloc, name)
+// The first file that has other records or another length.
+fn first_other(folder: &MemFolder) -> Option<&'static str> {
+    for (name, at, bytes) in SPELLED {
+        if !has_bytes(folder, name, *at, bytes) {
+            return Some(*name);
+        }
+    }
+    for (name, length) in LENGTHS {
+        if file(folder, name).len() != *length {
+            return Some(*name);
+        }
+    }
+    None
+}
+
+#[test]
+fn records_are_spelled_in_their_logs(rt: HostRuntime) -> Result<(), Fail> {
+    let mut folder = MemFolder::new(rt.alloc())?;
+    generate(rt.alloc(), &mut folder, "g", 4)?;
+    match first_other(&folder) {
+        Some(name) => Err(Fail::from(name)),
+        None => Ok(()),
+    }
+}
+
+#[test]
+fn a_run_has_so_many_accesses_and_segments(rt: HostRuntime) {
+    assert!(rt; (accesses(4), segments(4)) == (65, 16));
+}
+
+// The calls put the root's log, those of the lanes, and the index.
+const PUT: &[(u64, &str)] = &[
+    (1, "g/t.swl"),
+    (2, "g/t-0.0.swl"),
+    (3, "g/t-0.1.swl"),
+    (4, "g/t-0.2.swl"),
+    (5, "g/t-0.3.swl"),
+    (6, "g/t-0.4.swl"),
+    (7, "g/t-0.5.swl"),
+    (8, "g/t-0.6.swl"),
+    (9, "g/t-0.7.swl"),
+    (10, "g/index.swi"),
+];
+
+// Whether what was put before this call is there, and nothing that would have been put after it.
+fn has_first(folder: &MemFolder, call: u64) -> bool {
+    PUT.iter().all(|(put, name)| {
+        let held = folder.file(name).is_some();
+        if *put < call {
+            held
+        } else {
+            *put == call || !held
+        }
+    })
+}
+
+// The folder where this call failed, if it is told.
+fn failed_at(alloc: Global, call: u64) -> Result<Option<MemFolder>, Memory> {
+    let mut folder = MemFolder::new(alloc)?;
+    folder.hold("g/other", b"kept")?;
+    folder.fail(&[call])?;
+    match generate(alloc, &mut folder, "g", 1) {
+        Err(Trouble::Failed) => Ok(Some(folder)),
+        _ => Ok(None),
+    }
 }
 
 #[test]
 fn after_a_failed_call_no_later_log_is_there(rt: HostRuntime) -> Result<(), Fail> {
-    let alloc = rt.alloc();
-    for call in 1..11u64 {
-        let mut folder = MemFolder::new(alloc)?;
-        folder.hold("g/other", b"kept")?;
-        folder.fail(&[call])?;
-        let failed = matches!(generate(alloc, &mut folder, "g", 1), Err(Trouble::Failed));
-        assert!(rt; failed);
-        assert!(rt; size(alloc, &mut folder, "g/other")? == Some(4));
-        // The calls put the root's log, those of the lanes, and the index.
-        let names = [
-            "g/t.swl",
-            "g/t-0.0.swl",
-            "g/t-0.1.swl",
-            "g/t-0.2.swl",
-            "g/t-0.3.swl",
-            "g/t-0.4.swl",
-            "g/t-0.5.swl",
-            "g/t-0.6.swl",
-            "g/t-0.7.swl",
-            "g/index.swi",
-        ];
-        for (put, name) in (1..11u64).zip(names) {
-            let held = size(alloc, &mut folder, name)?.is_some();
-            assert!(rt;
-                if put < call {
-                    held
-                } else {
-                    put == call || !held
-                }
-            );
-        }
+    for call in 1..11 {
+        let folder = failed_at(rt.alloc(), call)?.ok_or("no failure")?;
+        assert!(rt; file(&folder, "g/other").len() == 4);
+        assert!(rt; has_first(&folder, call), "at call {call}");
     }
     Ok(())
 }

@@ -4,8 +4,9 @@ use log_format::{Kind, Record};
 use log_segment::{Segment, Walk, first_label};
 use mutex_set::Held;
 use span_label::{Label, Triple};
+use std::alloc::Global;
 use std::test::Fail;
-use sw_base::Path;
+use sw_base::{Memory, Path};
 
 const WRITE: Record = Record {
     kind: Kind::Write,
@@ -16,32 +17,48 @@ const WRITE: Record = Record {
     value: 1,
 };
 
+// The segments of a root that writes and ends.
+fn segments_of_root(alloc: Global) -> Result<Vec<Segment>, Memory> {
+    let path = Path::root();
+    let forks: Vec<Vec<Label>> = Vec::new(alloc);
+    let mut walk = Walk::new(alloc, first_label(&forks, &path));
+    let held = Held::none();
+    let mut found = Vec::new(alloc);
+    walk.step(alloc, &path, 1, &WRITE, &held, &mut found)?;
+    walk.close(&path, 2, &mut found)?;
+    Ok(found)
+}
+
+// Whether the segment's runs are the write alone.
+fn has_one_write(segment: &Segment) -> bool {
+    let [run] = segment.runs.as_slice() else {
+        return false;
+    };
+    run.write
+        && run.held.ids().is_empty()
+        && (run.size, run.site, run.line) == (8, 3, 5)
+        && (run.base, run.stride, run.count) == (4096, 0, 1)
+}
+
+const START: Triple = Triple {
+    offset: 0,
+    span: 1,
+    barrier: 0,
+};
+
+fn is_of_root(segment: &Segment) -> bool {
+    (segment.first, segment.last) == (1, 2)
+        && segment.path.steps().is_empty()
+        && segment.label.triples() == [START].as_slice()
+}
+
 #[test]
 fn a_root_alone_has_one_segment(rt: HostRuntime) -> Result<(), Fail> {
-    let path = Path::root();
-    let mut forks: Vec<Vec<Label>> = Vec::new(rt.alloc());
-    forks.clear();
-    let mut walk = Walk::new(rt.alloc(), first_label(&forks, &path));
-    let held = Held::none();
-    let mut found: Vec<Segment> = Vec::new(rt.alloc());
-    walk.step(rt.alloc(), &path, 1, &WRITE, &held, &mut found)?;
-    walk.close(&path, 2, &mut found)?;
+    let found = segments_of_root(rt.alloc())?;
     let [segment] = found.as_slice() else {
-        panic!(rt; "not one segment");
+        return Err(Fail::new("not one segment"));
     };
-    assert!(rt; segment.first == 1 && segment.last == 2);
-    assert!(rt; segment.path.steps().is_empty());
-    let start = Triple {
-        offset: 0,
-        span: 1,
-        barrier: 0,
-    };
-    assert!(rt; segment.label.triples() == [start].as_slice());
-    let [run] = segment.runs.as_slice() else {
-        panic!(rt; "not one run");
-    };
-    assert!(rt; run.write && run.held.ids().is_empty());
-    assert!(rt; run.size == 8 && run.site == 3 && run.line == 5);
-    assert!(rt; run.base == 4096 && run.stride == 0 && run.count == 1);
+    assert!(rt; is_of_root(segment));
+    assert!(rt; has_one_write(segment));
     Ok(())
 }

@@ -7,20 +7,80 @@ use std::alloc::{AllocError, Global};
 use std::test::Fail;
 use sw_base::{Folder, INDEX_HEADER, LOG_HEADER, MemFolder, Memory, Path, ShortReads};
 
-type Spelled = [u8; 24];
+// A record: kind, size, line, address and value.
+type Rec = (u8, u8, u8, u64, u8);
 
-const LOCK: u8 = 3;
+// A step of a path: region, lane and span.
+type Step = (u8, u8, u8);
 
-const UNLOCK: u8 = 4;
+// A row: the steps of its path, and how many records it tells.
+type Row<'a> = (&'a [Step], u32);
 
-const BARRIER: u8 = 5;
+// A folder: the rows of its index, its logs with their records, and files of other bytes.
+#[derive(Clone, Copy, Drop)]
+struct Files<'a> {
+    rows: &'a [Row<'a>],
+    logs: &'a [(&'a str, &'a [Rec])],
+    others: &'a [(&'a str, &'a [u8])],
+}
 
-const REGION: u8 = 6;
+const LOCK: Rec = (3, 0, 2, 1, 0);
 
-const END: u8 = 8;
+const UNLOCK: Rec = (4, 0, 4, 1, 0);
+
+const BARRIER: Rec = (5, 0, 5, 0, 0);
+
+const END: Rec = (8, 0, 8, 0, 0);
+
+// The root's End.
+const LAST: Rec = (8, 0, 9, 0, 0);
+
+// A write of eight bytes at this address.
+macro_rules! store {
+    ($address:expr) => {
+        (2, 8, 3, $address, 0)
+    };
+}
+
+// The fork of so many lanes in this line.
+macro_rules! region {
+    ($line:expr, $span:expr) => {
+        (6, 0, $line, 0, $span)
+    };
+}
+
+const ROOT: &[Rec] = &[region!(1, 2), LAST];
+
+const LANE_0: &[Rec] = &[LOCK, store!(4096), UNLOCK, BARRIER, END];
+
+const LANE_1: &[Rec] = &[LOCK, store!(4104), UNLOCK, BARRIER, END];
+
+// The rows of a root with a region of two lanes.
+macro_rules! rows {
+    ($root:expr, $first:expr, $second:expr) => {
+        &[(&[], $root), (&[(0, 0, 2)], $first), (&[(0, 1, 2)], $second)]
+    };
+}
+
+// Such a root, and the logs of the three.
+macro_rules! three {
+    ($rows:expr, $root:expr, $first:expr, $second:expr) => {
+        Files {
+            rows: $rows,
+            logs: &[
+                ("d/t.swl", $root),
+                ("d/t-0.0.swl", $first),
+                ("d/t-0.1.swl", $second),
+            ],
+            others: &[],
+        }
+    };
+}
+
+const GOOD: Files<'static> = three!(rows!(2, 5, 5), ROOT, LANE_0, LANE_1);
 
 // What a walk answered; a task is told by 0 for the root, and by its lane plus 1.
-#[derive(Clone, Copy, Debug, PartialEq, Eq)]
+#[derive(Clone, Copy, PartialEq, Eq)]
 enum Told {
     Good,
     NoIndex,
@@ -51,163 +111,102 @@ fn fault_told(fault: &WalkFault) -> Told {
     }
 }
 
-fn answer_of(answer: Result<Vec<Segment>, WalkFault>) -> Told {
-    match answer {
+fn walked<F: Folder>(alloc: Global, folder: &mut F, dir: &str) -> Told {
+    match walk(alloc, folder, dir) {
         Ok(_found) => Told::Good,
         Err(fault) => fault_told(&fault),
     }
 }
 
-fn spelled(kind: u8, size: u8, line: u8, addr: u64, value: u8) -> Spelled {
-    let mut bytes = [0; 24];
-    bytes[0] = kind;
-    bytes[1] = size;
-    bytes[7] = line;
-    bytes[8..16].copy_from_slice(&addr.to_be_bytes());
-    bytes[23] = value;
-    bytes
-}
-
-fn write(addr: u64) -> Spelled {
-    spelled(2, 8, 3, addr, 0)
-}
-
-fn other(kind: u8, line: u8, addr: u64, value: u8) -> Spelled {
-    spelled(kind, 0, line, addr, value)
-}
-
-fn root() -> [Spelled; 2] {
-    [other(REGION, 1, 0, 2), other(END, 9, 0, 0)]
-}
-
-fn lane(addr: u64) -> [Spelled; 5] {
-    [
-        other(LOCK, 2, 1, 0),
-        write(addr),
-        other(UNLOCK, 4, 1, 0),
-        other(BARRIER, 5, 0, 0),
-        other(END, 8, 0, 0),
-    ]
-}
-
-fn log(alloc: Global, records: &[Spelled]) -> Result<Vec<u8>, AllocError> {
-    let mut bytes = Vec::from_slice(alloc, &LOG_HEADER)?;
-    for record in records {
-        bytes.extend_from_slice(record)?;
+fn log_of(alloc: Global, records: &[Rec]) -> Result<Vec<u8>, AllocError> {
+    let mut log = Vec::from_slice(alloc, &LOG_HEADER)?;
+    for (kind, size, line, address, value) in records {
+        log.extend_from_slice(&[*kind, *size, 0, 0, 0, 0, 0, *line])?;
+        log.extend_from_slice(&address.to_be_bytes())?;
+        log.extend_from_slice(&[0, 0, 0, 0, 0, 0, 0, *value])?;
     }
-    Ok(bytes)
+    Ok(log)
 }
 
-// A row of the root, or of a lane of its region.
-fn row(depth: u8, lane: u8, span: u8, records: u32) -> [u8; 48] {
-    let mut bytes = [0; 48];
-    bytes[3] = depth;
-    bytes[13] = lane;
-    bytes[15] = span;
-    bytes[44..].copy_from_slice(&records.to_be_bytes());
-    bytes
+fn spell_row(index: &mut Vec<u8>, row: &Row<'_>) -> Result<(), AllocError> {
+    let (steps, records) = row;
+    index.extend_from_slice(&[0, 0, 0, steps.len().min(4) as u8, 0, 0, 0, 0])?;
+    for at in 0..4 {
+        let (region, lane, span) = *steps.get(at).unwrap_or(&(0, 0, 0));
+        index.extend_from_slice(&[0, 0, 0, region, 0, lane, 0, span])?;
+    }
+    index.extend_from_slice(&u64::from(*records).to_be_bytes())
 }
 
-// The rows of a root with a region of two lanes.
-fn rows(records: [u32; 3]) -> [[u8; 48]; 3] {
-    [
-        row(0, 0, 0, records[0]),
-        row(1, 0, 2, records[1]),
-        row(1, 1, 2, records[2]),
-    ]
-}
-
-// A folder with these rows in its index, and these logs.
-fn folder_of(
-    alloc: Global,
-    rows: &[[u8; 48]],
-    logs: &[(&str, &[Spelled])],
-) -> Result<MemFolder, Memory> {
-    let mut folder = MemFolder::new(alloc)?;
+fn index_of(alloc: Global, rows: &[Row<'_>]) -> Result<Vec<u8>, AllocError> {
     let mut index = Vec::from_slice(alloc, &INDEX_HEADER)?;
     for row in rows {
-        index.extend_from_slice(row)?;
+        spell_row(&mut index, row)?;
     }
-    folder.hold("d/index.swi", &index)?;
-    for (name, records) in logs {
-        folder.hold(name, &log(alloc, records)?)?;
+    Ok(index)
+}
+
+fn folder_of(alloc: Global, files: &Files<'_>) -> Result<MemFolder, Memory> {
+    let mut folder = MemFolder::new(alloc)?;
+    folder.hold("d/index.swi", &index_of(alloc, files.rows)?)?;
+    for (name, records) in files.logs {
+        folder.hold(name, &log_of(alloc, records)?)?;
+    }
+    for (name, bytes) in files.others {
+        folder.hold(name, bytes)?;
     }
     Ok(folder)
 }
 
-// A root with a region of two lanes, and the logs of the three.
-fn folder(
-    alloc: Global,
-    records: [u32; 3],
-    root: &[Spelled],
-    first: &[Spelled],
-    second: &[Spelled],
-) -> Result<MemFolder, Memory> {
-    let logs = [
-        ("d/t.swl", root),
-        ("d/t-0.0.swl", first),
-        ("d/t-0.1.swl", second),
-    ];
-    folder_of(alloc, &rows(records), &logs)
+// Whether this is told of a folder, the same where no read gives more than five bytes.
+fn is_told(alloc: Global, folder: MemFolder, due: Told) -> bool {
+    let mut folder = folder;
+    walked(alloc, &mut folder, "d") == due && walked(alloc, &mut ShortReads { folder }, "d") == due
 }
 
-// What is told of a folder, the same where no read gives more than five bytes.
-fn told_twice(alloc: Global, folder: MemFolder) -> Result<Told, Fail> {
-    let mut folder = folder;
-    let whole = answer_of(walk(alloc, &mut folder, "d"));
-    let short = answer_of(walk(alloc, &mut ShortReads { folder }, "d"));
-    if whole == short {
-        Ok(whole)
-    } else {
-        Err(Fail::new("short reads are answered otherwise"))
+// The first of these folders of which something else is told, by its number from 0.
+fn first_other(alloc: Global, table: &[(Files<'_>, Told)]) -> Result<Option<usize>, Memory> {
+    for (number, (files, due)) in table.iter().enumerate() {
+        if !is_told(alloc, folder_of(alloc, files)?, *due) {
+            return Ok(Some(number));
+        }
+    }
+    Ok(None)
+}
+
+fn segments_of(alloc: Global, files: &Files<'_>) -> Result<Vec<Segment>, Fail> {
+    let mut folder = folder_of(alloc, files)?;
+    match walk(alloc, &mut folder, "d") {
+        Ok(found) => Ok(found),
+        Err(_) => Err(Fail::new("refused")),
     }
 }
 
-// What is told where lane 1 has these records, and its row this number.
-fn lane_1(alloc: Global, records: u32, second: &[Spelled]) -> Result<Told, Fail> {
-    let folder = folder(alloc, [2, 5, records], &root(), &lane(4096), second)?;
-    told_twice(alloc, folder)
+fn has_one_run_under_mutex_1(segment: &Segment) -> bool {
+    match segment.runs.as_slice() {
+        [run] => run.held.ids() == [1].as_slice(),
+        _ => false,
+    }
 }
 
-// What is told where the root and lane 0 have these records.
-fn root_and_lane_0(
-    alloc: Global,
-    root: &[Spelled],
-    first: &[Spelled],
-    second: &[Spelled],
-) -> Result<Told, Fail> {
-    let folder = folder(alloc, [2, 5, 5], root, first, second)?;
-    told_twice(alloc, folder)
-}
-
-// What is told where lane 1's log has these bytes.
-fn lane_1_bytes(alloc: Global, bytes: &[u8]) -> Result<Told, Fail> {
-    let mut folder = folder(alloc, [2, 5, 5], &root(), &lane(4096), &lane(4104))?;
-    folder.hold("d/t-0.1.swl", bytes)?;
-    told_twice(alloc, folder)
+// Whether there are two segments, the second in lane 1 from its Lock to its Unlock.
+fn end_in_lane_1(alloc: Global, found: &[Segment]) -> Result<bool, Memory> {
+    let [_, second] = found else {
+        return Ok(false);
+    };
+    let name = second.path.bare_name(alloc)?;
+    Ok(
+        name.as_str() == "t-0.1.swl"
+            && (second.first, second.last) == (1, 3)
+            && has_one_run_under_mutex_1(second),
+    )
 }
 
 #[test]
 fn a_good_folder_is_read_and_walked(rt: HostRuntime) -> Result<(), Fail> {
-    let alloc = rt.alloc();
-    let mut folder = folder(alloc, [2, 5, 5], &root(), &lane(4096), &lane(4104))?;
-    let Ok(found) = walk(alloc, &mut folder, "d") else {
-        return Err(Fail::new("refused"));
-    };
-    assert!(rt; found.len() == 2);
-    assert!(rt; (found[1].first, found[1].last) == (1, 3));
-    assert!(rt; found[1].path.bare_name(alloc)?.as_str() == "t-0.1.swl");
-    assert!(rt; found[1].runs.len() == 1);
-    assert!(rt; found[1].runs[0].held.ids() == [1].as_slice());
+    let found = segments_of(rt.alloc(), &GOOD)?;
+    assert!(rt; end_in_lane_1(rt.alloc(), &found)?);
     Ok(())
-}
-
-// A row of a lane below lane 0 of the root's region, both of teams of two.
-fn nested_row(lane: u8, records: u32) -> [u8; 48] {
-    let mut bytes = row(2, 0, 2, records);
-    bytes[21] = lane;
-    bytes[23] = 2;
-    bytes
 }
 
 fn triple(offset: u64, span: u16, barrier: u32) -> Triple {
@@ -218,296 +217,419 @@ fn triple(offset: u64, span: u16, barrier: u32) -> Triple {
     }
 }
 
+// A region in lane 0 of another one, both of two lanes.
+const NESTED: Files<'static> = Files {
+    rows: &[
+        (&[], 2),
+        (&[(0, 0, 2)], 3),
+        (&[(0, 0, 2), (0, 0, 2)], 2),
+        (&[(0, 0, 2), (0, 1, 2)], 2),
+        (&[(0, 1, 2)], 3),
+    ],
+    logs: &[
+        ("d/t.swl", ROOT),
+        ("d/t-0.0.swl", &[region!(3, 2), BARRIER, LAST]),
+        ("d/t-0.0-0.0.swl", &[store!(4096), LAST]),
+        ("d/t-0.0-0.1.swl", &[store!(4104), LAST]),
+        ("d/t-0.1.swl", &[BARRIER, store!(4104), LAST]),
+    ],
+    others: &[],
+};
+
+// Whether there are three segments, and the last two are of these tasks.
+fn end_in_two_lanes(found: &[Segment]) -> bool {
+    let [_, second, third] = found else {
+        return false;
+    };
+    let inner = [triple(0, 1, 0), triple(0, 2, 0), triple(1, 2, 0)];
+    let outer = [triple(0, 1, 0), triple(1, 2, 1)];
+    second.label.triples() == inner.as_slice()
+        && third.label.triples() == outer.as_slice()
+        && (third.first, third.last) == (2, 3)
+}
+
 #[test]
 fn segments_have_the_labels_of_their_tasks(rt: HostRuntime) -> Result<(), Fail> {
-    let alloc = rt.alloc();
-    let barrier = other(BARRIER, 5, 0, 0);
-    let end = other(END, 9, 0, 0);
-    let rows = [
-        row(0, 0, 0, 2),
-        row(1, 0, 2, 3),
-        nested_row(0, 2),
-        nested_row(1, 2),
-        row(1, 1, 2, 3),
-    ];
-    let logs: [(&str, &[Spelled]); 5] = [
-        ("d/t.swl", &root()),
-        ("d/t-0.0.swl", &[other(REGION, 3, 0, 2), barrier, end]),
-        ("d/t-0.0-0.0.swl", &[write(4096), end]),
-        ("d/t-0.0-0.1.swl", &[write(4104), end]),
-        ("d/t-0.1.swl", &[barrier, write(4104), end]),
-    ];
-    let mut folder = folder_of(alloc, &rows, &logs)?;
-    let Ok(found) = walk(alloc, &mut folder, "d") else {
-        return Err(Fail::new("refused"));
-    };
-    assert!(rt; found.len() == 3);
-    let triples = [triple(0, 1, 0), triple(0, 2, 0), triple(1, 2, 0)];
-    assert!(rt; found[1].label.triples() == triples.as_slice());
-    let triples = [triple(0, 1, 0), triple(1, 2, 1)];
-    assert!(rt; found[2].label.triples() == triples.as_slice());
-    assert!(rt; (found[2].first, found[2].last) == (2, 3));
+    let found = segments_of(rt.alloc(), &NESTED)?;
+    assert!(rt; end_in_two_lanes(&found));
     Ok(())
 }
+
+// The records of lane 1, and what is told where its row has as many as it says.
+macro_rules! lane_1 {
+    ($records:expr, $row:expr, $number:expr, $why:ident) => {
+        (
+            three!(rows!(2, 5, $row), ROOT, LANE_0, $records),
+            Told::Record(2, $number, RecordWhy::$why),
+        )
+    };
+}
+
+const BROKEN: &[(Files<'static>, Told)] = &[
+    lane_1!(
+        &[LOCK, (0, 8, 3, 4104, 0), UNLOCK, BARRIER, END],
+        5,
+        2,
+        Kind
+    ),
+    lane_1!(
+        &[LOCK, (2, 3, 3, 4104, 0), UNLOCK, BARRIER, END],
+        5,
+        2,
+        Size
+    ),
+    lane_1!(
+        &[LOCK, (2, 8, 0, 4104, 0), UNLOCK, BARRIER, END],
+        5,
+        2,
+        LineZero
+    ),
+    lane_1!(
+        &[LOCK, store!(281_474_976_710_649), UNLOCK, BARRIER, END],
+        5,
+        2,
+        Address
+    ),
+    lane_1!(
+        &[LOCK, store!(4104), UNLOCK, (5, 0, 5, 0, 1), END],
+        5,
+        4,
+        Reserved
+    ),
+    lane_1!(&[LOCK, store!(4104), UNLOCK, END, END], 5, 4, EndEarly),
+    lane_1!(
+        &[LOCK, store!(4104), UNLOCK, BARRIER, BARRIER],
+        5,
+        5,
+        EndMissing
+    ),
+    lane_1!(&[LOCK, store!(4104), LOCK, BARRIER, END], 5, 3, LockTwice),
+    lane_1!(
+        &[LOCK, store!(4104), (4, 0, 4, 2, 0), BARRIER, END],
+        5,
+        3,
+        UnlockOther
+    ),
+    lane_1!(
+        &[LOCK, store!(4104), BARRIER, BARRIER, END],
+        5,
+        3,
+        BarrierLocked
+    ),
+    lane_1!(
+        &[LOCK, store!(4104), region!(5, 1), BARRIER, END],
+        5,
+        3,
+        RegionLocked
+    ),
+    lane_1!(
+        &[LOCK, store!(4104), UNLOCK, region!(5, 1), END],
+        5,
+        4,
+        RegionRows
+    ),
+    lane_1!(
+        &[LOCK, store!(4104), UNLOCK, store!(4104), END],
+        5,
+        5,
+        BarrierCount
+    ),
+];
 
 #[test]
 fn one_record_that_breaks_a_rule_is_told(rt: HostRuntime) -> Result<(), Fail> {
-    let alloc = rt.alloc();
-    let table = [
-        (1, spelled(0, 8, 3, 4104, 0), 2, RecordWhy::Kind),
-        (1, spelled(2, 3, 3, 4104, 0), 2, RecordWhy::Size),
-        (1, spelled(2, 8, 0, 4104, 0), 2, RecordWhy::LineZero),
-        (1, write(281_474_976_710_649), 2, RecordWhy::Address),
-        (3, other(BARRIER, 5, 0, 1), 4, RecordWhy::Reserved),
-        (3, other(END, 8, 0, 0), 4, RecordWhy::EndEarly),
-        (4, other(BARRIER, 5, 0, 0), 5, RecordWhy::EndMissing),
-        (2, other(LOCK, 2, 1, 0), 3, RecordWhy::LockTwice),
-        (2, other(UNLOCK, 4, 2, 0), 3, RecordWhy::UnlockOther),
-        (2, other(BARRIER, 5, 0, 0), 3, RecordWhy::BarrierLocked),
-        (2, other(REGION, 5, 0, 1), 3, RecordWhy::RegionLocked),
-        (3, other(REGION, 5, 0, 1), 4, RecordWhy::RegionRows),
-        (3, write(4104), 5, RecordWhy::BarrierCount),
-    ];
-    for (at, changed, number, why) in table {
-        let mut second = lane(4104);
-        if let Some(record) = second.get_mut(at) {
-            *record = changed;
-        }
-        assert_eq!(rt; lane_1(alloc, 5, &second)?, Told::Record(2, number, why));
-    }
+    assert_eq!(rt; first_other(rt.alloc(), BROKEN)?, None);
     Ok(())
 }
+
+// The lock of this mutex.
+macro_rules! lock {
+    ($mutex:expr) => {
+        (3, 0, 2, $mutex, 0)
+    };
+}
+
+const COUNTED: &[(Files<'static>, Told)] = &[
+    lane_1!(
+        &[LOCK, store!(4104), store!(4104), store!(4104), END],
+        5,
+        5,
+        LockOpen
+    ),
+    lane_1!(
+        &[
+            lock!(1),
+            lock!(2),
+            lock!(3),
+            lock!(4),
+            lock!(5),
+            lock!(6),
+            lock!(7),
+            lock!(8),
+            lock!(9),
+            END
+        ],
+        10,
+        9,
+        LocksDeep
+    ),
+    lane_1!(LANE_1, 6, 5, EndEarly),
+    lane_1!(LANE_1, 4, 4, EndMissing),
+];
 
 #[test]
 fn open_and_deep_locks_and_wrong_counts_are_told(rt: HostRuntime) -> Result<(), Fail> {
-    let alloc = rt.alloc();
-    let [lock, access, unlock, barrier, end] = lane(4104);
-    let open = [lock, access, access, access, end];
-    assert!(rt; lane_1(alloc, 5, &open)? == Told::Record(2, 5, RecordWhy::LockOpen));
-
-    let mut deep = Vec::new(alloc);
-    for mutex in 1..10 {
-        deep.push(other(LOCK, 2, mutex, 0))?;
-    }
-    deep.push(end)?;
-    assert!(rt; lane_1(alloc, 10, &deep)? == Told::Record(2, 9, RecordWhy::LocksDeep));
-
-    let same = [lock, access, unlock, barrier, end];
-    assert!(rt; lane_1(alloc, 6, &same)? == Told::Record(2, 5, RecordWhy::EndEarly));
-    assert!(rt; lane_1(alloc, 4, &same)? == Told::Record(2, 4, RecordWhy::EndMissing));
+    assert_eq!(rt; first_other(rt.alloc(), COUNTED)?, None);
     Ok(())
 }
+
+const TWICE_BROKEN: &[(Files<'static>, Told)] = &[
+    lane_1!(&[LOCK, END, UNLOCK, BARRIER, END], 5, 2, EndEarly),
+    lane_1!(
+        &[LOCK, store!(4104), store!(4104), store!(4104), LOCK],
+        5,
+        5,
+        EndMissing
+    ),
+    lane_1!(
+        &[LOCK, store!(4104), store!(4104), store!(4104), BARRIER],
+        5,
+        5,
+        EndMissing
+    ),
+    lane_1!(
+        &[
+            lock!(1),
+            lock!(2),
+            lock!(3),
+            lock!(4),
+            lock!(5),
+            lock!(6),
+            lock!(7),
+            lock!(8),
+            LOCK,
+            END
+        ],
+        10,
+        9,
+        LockTwice
+    ),
+    (
+        three!(rows!(2, 5, 5), &[LOCK, END], LANE_0, LANE_1),
+        Told::Record(0, 2, RecordWhy::LockOpen),
+    ),
+    (
+        three!(rows!(3, 5, 5), &[LOCK, BARRIER, END], LANE_0, LANE_1),
+        Told::Record(0, 2, RecordWhy::RootBarrier),
+    ),
+];
 
 #[test]
 fn of_two_broken_rules_the_first_is_told(rt: HostRuntime) -> Result<(), Fail> {
-    let alloc = rt.alloc();
-    let [lock, access, unlock, barrier, end] = lane(4104);
-    let table = [
-        ([lock, end, unlock, barrier, end], 2, RecordWhy::EndEarly),
-        (
-            [lock, access, access, access, lock],
-            5,
-            RecordWhy::EndMissing,
-        ),
-        (
-            [lock, access, access, access, barrier],
-            5,
-            RecordWhy::EndMissing,
-        ),
-    ];
-    for (second, number, why) in table {
-        assert_eq!(rt; lane_1(alloc, 5, &second)?, Told::Record(2, number, why));
-    }
+    assert_eq!(rt; first_other(rt.alloc(), TWICE_BROKEN)?, None);
     Ok(())
 }
 
-#[test]
-fn a_ninth_lock_and_the_root_break_two_rules(rt: HostRuntime) -> Result<(), Fail> {
-    let alloc = rt.alloc();
-    let [lock, _, _, barrier, end] = lane(4104);
-    let mut twice = Vec::new(alloc);
-    for mutex in 1..9 {
-        twice.push(other(LOCK, 2, mutex, 0))?;
-    }
-    twice.push(lock)?;
-    twice.push(end)?;
-    assert!(rt; lane_1(alloc, 10, &twice)? == Told::Record(2, 9, RecordWhy::LockTwice));
-
-    let open = root_and_lane_0(alloc, &[lock, end], &lane(4096), &lane(4104))?;
-    assert!(rt; open == Told::Record(0, 2, RecordWhy::LockOpen));
-    let root = [lock, barrier, end];
-    let folder = folder(alloc, [3, 5, 5], &root, &lane(4096), &lane(4104))?;
-    assert!(rt; told_twice(alloc, folder)? == Told::Record(0, 2, RecordWhy::RootBarrier));
-    Ok(())
-}
+// A row below lane 1, which forks no region, and barriers that lane 0 passes alone.
+const TOO_FEW_BARRIERS: &[(Files<'static>, Told)] = &[
+    (
+        Files {
+            rows: &[
+                (&[], 2),
+                (&[(0, 0, 2)], 5),
+                (&[(0, 1, 2)], 1),
+                (&[(0, 1, 2), (0, 0, 1)], 1),
+            ],
+            logs: &[
+                ("d/t.swl", ROOT),
+                ("d/t-0.0.swl", LANE_0),
+                ("d/t-0.1.swl", &[LAST]),
+            ],
+            others: &[],
+        },
+        Told::Record(2, 1, RecordWhy::RegionRows),
+    ),
+    (
+        three!(rows!(2, 2, 1), ROOT, &[BARRIER, LAST], &[LAST]),
+        Told::Record(2, 1, RecordWhy::BarrierCount),
+    ),
+];
 
 #[test]
 fn a_region_that_is_not_forked_comes_before_too_few_barriers(rt: HostRuntime) -> Result<(), Fail> {
-    let alloc = rt.alloc();
-    let end = other(END, 9, 0, 0);
-    let mut below = row(2, 1, 2, 1);
-    below[23] = 1;
-    let [first, second, third] = rows([2, 5, 1]);
-    let logs: [(&str, &[Spelled]); 3] = [
-        ("d/t.swl", &root()),
-        ("d/t-0.0.swl", &lane(4096)),
-        ("d/t-0.1.swl", &[end]),
-    ];
-    let folder = folder_of(alloc, &[first, second, third, below], &logs)?;
-    assert_eq!(rt;
-        told_twice(alloc, folder)?,
-        Told::Record(2, 1, RecordWhy::RegionRows)
-    );
+    assert_eq!(rt; first_other(rt.alloc(), TOO_FEW_BARRIERS)?, None);
     Ok(())
 }
 
-#[test]
-fn a_cut_or_long_log_is_told(rt: HostRuntime) -> Result<(), Fail> {
-    let alloc = rt.alloc();
-    let mut bytes = log(alloc, &lane(4104))?;
-    let short = bytes.len().min(79);
-    assert!(rt; lane_1_bytes(alloc, &bytes[..short])? == Told::Record(2, 3, RecordWhy::Cut));
-    assert!(rt; lane_1_bytes(alloc, &[])? == Told::Record(2, 0, RecordWhy::Header));
-    assert!(rt; lane_1_bytes(alloc, b"SWLOG002")? == Told::Record(2, 0, RecordWhy::Header));
-    bytes.push(0)?;
-    assert!(rt; lane_1_bytes(alloc, &bytes)? == Told::Record(2, 6, RecordWhy::Extra));
-    Ok(())
+// The root's records, and what is told of it.
+macro_rules! root {
+    ($records:expr, $number:expr, $why:ident) => {
+        (
+            three!(rows!(2, 5, 5), $records, LANE_0, LANE_1),
+            Told::Record(0, $number, RecordWhy::$why),
+        )
+    };
 }
+
+const IN_ORDER: &[(Files<'static>, Told)] = &[
+    root!(&[region!(1, 65), LAST], 1, Span),
+    root!(&[(5, 0, 1, 0, 0), LAST], 1, RootBarrier),
+    root!(&[store!(4096), LAST], 2, RegionRows),
+    // Lane 0's last record and lane 1's first one have no kind.
+    (
+        three!(
+            rows!(2, 5, 5),
+            ROOT,
+            &[LOCK, store!(4096), UNLOCK, BARRIER, (0, 0, 8, 0, 0)],
+            &[(0, 0, 2, 1, 0), store!(4096), UNLOCK, BARRIER, LAST]
+        ),
+        Told::Record(1, 5, RecordWhy::Kind),
+    ),
+    // Lane 0 has no log, and lane 1's is no log.
+    (
+        Files {
+            rows: rows!(2, 5, 5),
+            logs: &[("d/t.swl", ROOT)],
+            others: &[("d/t-0.1.swl", b"SWLOG002")],
+        },
+        Told::Missing(1),
+    ),
+];
 
 #[test]
 fn the_first_log_in_row_order_is_told(rt: HostRuntime) -> Result<(), Fail> {
-    let alloc = rt.alloc();
-    let end = other(END, 9, 0, 0);
-    let table = [
-        (other(REGION, 1, 0, 65), 1, RecordWhy::Span),
-        (other(BARRIER, 1, 0, 0), 1, RecordWhy::RootBarrier),
-        (write(4096), 2, RecordWhy::RegionRows),
-    ];
-    for (changed, number, why) in table {
-        let root = [changed, end];
-        let answer = root_and_lane_0(alloc, &root, &lane(4096), &lane(4104))?;
-        assert_eq!(rt; answer, Told::Record(0, number, why));
-    }
-    let [lock, access, unlock, barrier, _] = lane(4096);
-    let first = [lock, access, unlock, barrier, spelled(0, 0, 8, 0, 0)];
-    let second = [spelled(0, 0, 2, 1, 0), access, unlock, barrier, end];
-    let answer = root_and_lane_0(alloc, &root(), &first, &second)?;
-    assert!(rt; answer == Told::Record(1, 5, RecordWhy::Kind));
+    assert_eq!(rt; first_other(rt.alloc(), IN_ORDER)?, None);
     Ok(())
 }
+
+// A lane of a team of none, and a root whose first record has no kind.
+const BAD_INDEX: Files<'static> = three!(
+    &[(&[], 2), (&[(0, 0, 2)], 5), (&[(0, 1, 0)], 5)],
+    &[(0, 0, 1, 0, 2), LAST],
+    LANE_0,
+    LANE_1
+);
 
 #[test]
 fn the_index_comes_before_the_logs(rt: HostRuntime) -> Result<(), Fail> {
-    let alloc = rt.alloc();
-    let bad = [spelled(0, 0, 1, 0, 2), other(END, 9, 0, 0)];
-    let rows = [row(0, 0, 0, 2), row(1, 0, 2, 5), row(1, 1, 0, 5)];
-    let logs: [(&str, &[Spelled]); 3] = [
-        ("d/t.swl", &bad),
-        ("d/t-0.0.swl", &lane(4096)),
-        ("d/t-0.1.swl", &lane(4104)),
-    ];
-    let mut folder = folder_of(alloc, &rows, &logs)?;
-    assert!(rt; answer_of(walk(alloc, &mut folder, "e")) == Told::NoIndex);
-    assert!(rt; told_twice(alloc, folder)? == Told::Row(3, IndexWhy::Span));
-    Ok(())
-}
-
-#[test]
-fn a_missing_log_comes_before_a_later_bad_one(rt: HostRuntime) -> Result<(), Fail> {
-    let alloc = rt.alloc();
-    let logs: [(&str, &[Spelled]); 1] = [("d/t.swl", &root())];
-    let mut folder = folder_of(alloc, &rows([2, 5, 5]), &logs)?;
-    folder.hold("d/t-0.1.swl", b"SWLOG002")?;
-    assert_eq!(rt; told_twice(alloc, folder)?, Told::Missing(1));
-    Ok(())
-}
-
-#[test]
-fn unequal_barrier_counts_are_told(rt: HostRuntime) -> Result<(), Fail> {
-    let alloc = rt.alloc();
-    let end = other(END, 9, 0, 0);
-    let first = [other(BARRIER, 5, 0, 0), end];
-    let folder = folder(alloc, [2, 2, 1], &root(), &first, &[end])?;
-    assert_eq!(rt;
-        told_twice(alloc, folder)?,
-        Told::Record(2, 1, RecordWhy::BarrierCount)
-    );
-    Ok(())
-}
-
-#[test]
-fn the_65537th_segment_is_one_too_many(rt: HostRuntime) -> Result<(), Fail> {
-    let alloc = rt.alloc();
-    let mut records = Vec::new(alloc);
-    for _ in 0..65_537 {
-        records.push(write(4096))?;
-        records.push(other(BARRIER, 5, 0, 0))?;
-    }
-    records.push(other(END, 8, 0, 0))?;
-    let root = [other(REGION, 1, 0, 1), other(END, 9, 0, 0)];
-    let rows = [row(0, 0, 0, 2), row(1, 0, 1, 131_075)];
-    let logs: [(&str, &[Spelled]); 2] = [("d/t.swl", &root), ("d/t-0.0.swl", &records)];
-    let mut folder = folder_of(alloc, &rows, &logs)?;
-    assert_eq!(rt;
-        answer_of(walk(alloc, &mut folder, "d")),
-        Told::TooMany(1, 131_073)
-    );
-    Ok(())
-}
-
-#[test]
-fn each_read_that_fails_is_told(rt: HostRuntime) -> Result<(), Fail> {
-    let alloc = rt.alloc();
-    // The size of the index and its five reads, and for each of three logs its size and two reads.
-    for call in 1..16 {
-        let mut folder = folder(alloc, [2, 5, 5], &root(), &lane(4096), &lane(4104))?;
-        folder.fail(&[call])?;
-        let answer = answer_of(walk(alloc, &mut folder, "d"));
-        assert!(rt; answer == Told::ReadFault, "at call {call}");
-    }
-    let mut folder = folder(alloc, [2, 5, 5], &root(), &lane(4096), &lane(4104))?;
-    folder.fail(&[16])?;
-    assert!(rt; answer_of(walk(alloc, &mut folder, "d")) == Told::Good);
-    Ok(())
-}
-
-#[test]
-fn a_byte_that_changes_or_is_left_out_is_told(rt: HostRuntime) -> Result<(), Fail> {
-    let alloc = rt.alloc();
-    let whole = log(alloc, &lane(4104))?;
-    assert!(rt; lane_1_bytes(alloc, &whole)? == Told::Good);
-    let rest = whole.get(1..).ok_or("bytes")?;
-    assert!(rt; lane_1_bytes(alloc, rest)? == Told::Record(2, 0, RecordWhy::Header));
-    let mut other = whole.clone()?;
-    assert!(rt; other.len() == 128);
-    other[8 + 24] = 0;
-    assert!(rt; lane_1_bytes(alloc, &other)? == Told::Record(2, 2, RecordWhy::Kind));
+    let mut folder = folder_of(rt.alloc(), &BAD_INDEX)?;
+    assert!(rt; walked(rt.alloc(), &mut folder, "e") == Told::NoIndex);
+    assert!(rt; is_told(rt.alloc(), folder, Told::Row(3, IndexWhy::Span)));
     Ok(())
 }
 
 // A row may claim any number of records: what is read is what is there.
+const CLAIMED: &[(Files<'static>, Told)] = &[lane_1!(
+    &[LOCK, store!(4104), UNLOCK, BARRIER],
+    4_194_304,
+    5,
+    Cut
+)];
+
 #[test]
 fn a_row_that_claims_too_many_records_is_told(rt: HostRuntime) -> Result<(), Fail> {
-    let alloc = rt.alloc();
-    let answer = lane_1(alloc, 4_194_304, &lane(4104)[..4])?;
-    assert_eq!(rt; answer, Told::Record(2, 5, RecordWhy::Cut));
+    assert_eq!(rt; first_other(rt.alloc(), CLAIMED)?, None);
+    Ok(())
+}
+
+// Lane 1's log up to a byte, these bytes, and the log from another byte on.
+type Splice<'a> = (usize, &'a [u8], usize);
+
+fn spliced(alloc: Global, splice: &Splice<'_>) -> Result<Vec<u8>, Fail> {
+    let (from, bytes, to) = splice;
+    let whole = log_of(alloc, LANE_1)?;
+    let before = whole.get(..*from).ok_or("bytes before")?;
+    let behind = whole.get(*to..).ok_or("bytes behind")?;
+    Ok([before, bytes, behind].concat(alloc)?)
+}
+
+// Whether this is told of the good folder with such a log.
+fn is_told_of(alloc: Global, splice: &Splice<'_>, due: Told) -> Result<bool, Fail> {
+    let bytes = spliced(alloc, splice)?;
+    let mut folder = folder_of(alloc, &GOOD)?;
+    folder.hold("d/t-0.1.swl", &bytes)?;
+    Ok(is_told(alloc, folder, due))
+}
+
+const SPLICED: &[(Splice<'static>, Told)] = &[
+    ((79, &[], 128), Told::Record(2, 3, RecordWhy::Cut)),
+    ((0, &[], 128), Told::Record(2, 0, RecordWhy::Header)),
+    ((0, b"SWLOG002", 128), Told::Record(2, 0, RecordWhy::Header)),
+    ((128, &[0], 128), Told::Record(2, 6, RecordWhy::Extra)),
+    ((0, &[], 0), Told::Good),
+    ((0, &[], 1), Told::Record(2, 0, RecordWhy::Header)),
+    ((8 + 24, &[0], 8 + 25), Told::Record(2, 2, RecordWhy::Kind)),
+];
+
+#[test]
+fn bytes_that_change_or_are_left_out_or_added_are_told(rt: HostRuntime) -> Result<(), Fail> {
+    for (splice, due) in SPLICED {
+        assert!(rt; is_told_of(rt.alloc(), splice, *due)?, "{splice:?}");
+    }
+    Ok(())
+}
+
+// What is told of a lane with so many segments.
+fn told_of_segments(alloc: Global, count: u32, row: u32) -> Result<Told, Memory> {
+    let mut records = Vec::new(alloc);
+    for _ in 0..count {
+        records.extend_from_slice(&[store!(4096), BARRIER])?;
+    }
+    records.push(END)?;
+    let files = Files {
+        rows: &[(&[], 2), (&[(0, 0, 1)], row)],
+        logs: &[
+            ("d/t.swl", &[region!(1, 1), LAST]),
+            ("d/t-0.0.swl", &records),
+        ],
+        others: &[],
+    };
+    let mut folder = folder_of(alloc, &files)?;
+    Ok(walked(alloc, &mut folder, "d"))
+}
+
+#[test]
+fn the_65537th_segment_is_one_too_many(rt: HostRuntime) -> Result<(), Fail> {
+    let answer = told_of_segments(rt.alloc(), 65_537, 131_075)?;
+    assert!(rt; answer == Told::TooMany(1, 131_073));
+    Ok(())
+}
+
+// The folder of these files, where this call on it fails.
+fn failing_at(alloc: Global, files: &Files<'_>, call: u64) -> Result<MemFolder, Memory> {
+    let mut folder = folder_of(alloc, files)?;
+    folder.fail(&[call])?;
+    Ok(folder)
+}
+
+#[test]
+fn each_read_that_fails_is_told(rt: HostRuntime) -> Result<(), Fail> {
+    // The size of the index and its five reads, and for each of three logs its size and two reads.
+    for call in 1..17 {
+        let due = if call < 16 {
+            Told::ReadFault
+        } else {
+            Told::Good
+        };
+        let mut folder = failing_at(rt.alloc(), &GOOD, call)?;
+        assert!(rt;
+            walked(rt.alloc(), &mut folder, "d") == due,
+            "at call {call}"
+        );
+    }
     Ok(())
 }
 
 // A root that forks two regions of one lane each, each with an access.
-fn two_regions(alloc: Global) -> Result<MemFolder, Memory> {
-    let mut second = row(1, 0, 1, 2);
-    second[11] = 1;
-    let fork = other(REGION, 1, 0, 1);
-    let end = other(END, 9, 0, 0);
-    let rows = [row(0, 0, 0, 3), row(1, 0, 1, 2), second];
-    let logs: [(&str, &[Spelled]); 3] = [
-        ("d/t.swl", &[fork, fork, end]),
-        ("d/t-0.0.swl", &[write(4096), end]),
-        ("d/t-1.0.swl", &[write(4104), end]),
-    ];
-    folder_of(alloc, &rows, &logs)
-}
+const TWO_REGIONS: Files<'static> = Files {
+    rows: &[(&[], 3), (&[(0, 0, 1)], 2), (&[(1, 0, 1)], 2)],
+    logs: &[
+        ("d/t.swl", &[region!(1, 1), region!(1, 1), LAST]),
+        ("d/t-0.0.swl", &[store!(4096), LAST]),
+        ("d/t-1.0.swl", &[store!(4104), LAST]),
+    ],
+    others: &[],
+};
 
 // How many regions a sweep gives, up to two.
 fn regions_given<F: Folder>(alloc: Global, folder: &mut F, dir: &str) -> u32 {
@@ -525,7 +647,6 @@ fn regions_given<F: Folder>(alloc: Global, folder: &mut F, dir: &str) -> u32 {
 
 #[test]
 fn a_region_is_given_before_the_next_is_read(rt: HostRuntime) -> Result<(), Fail> {
-    let alloc = rt.alloc();
     // The size of the index and its five reads, and for each of three logs its size and two reads.
     for call in 1..17 {
         let given = if call <= 12 {
@@ -535,9 +656,8 @@ fn a_region_is_given_before_the_next_is_read(rt: HostRuntime) -> Result<(), Fail
         } else {
             2
         };
-        let mut folder = two_regions(alloc)?;
-        folder.fail(&[call])?;
-        assert_eq!(rt; regions_given(alloc, &mut folder, "d"), given);
+        let mut folder = failing_at(rt.alloc(), &TWO_REGIONS, call)?;
+        assert_eq!(rt; regions_given(rt.alloc(), &mut folder, "d"), given);
     }
     Ok(())
 }
