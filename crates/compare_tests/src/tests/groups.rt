@@ -38,37 +38,38 @@ fn spell(log: &mut Vec<u8>, record: &Rec) -> Result<(), AllocError> {
     log.extend_from_slice(&bytes)
 }
 
-// Adds the row of a task to the index, and the steps of its path to the name of its log.
-fn spell_row(
-    index: &mut Vec<u8>,
-    name: &mut String,
-    steps: &[Step],
-    records: &[Rec],
-) -> Result<(), AllocError> {
-    index.extend_from_slice(&(steps.len() as u64).to_be_bytes()[4..])?;
-    index.extend_from_slice(&[0; 4])?;
-    for (region, lane, span) in steps {
-        index.extend_from_slice(&[0, 0, 0, *region, 0, *lane, 0, *span])?;
-        write!(name, "-{region}.{lane}")?;
-    }
-    for _ in steps.len()..4 {
-        index.extend_from_slice(&[0; 8])?;
+fn spell_row(index: &mut Vec<u8>, steps: &[Step], records: &[Rec]) -> Result<(), AllocError> {
+    index.extend_from_slice(&[0, 0, 0, steps.len().min(255) as u8, 0, 0, 0, 0])?;
+    for at in 0..4 {
+        let (region, lane, span) = *steps.get(at).unwrap_or(&(0, 0, 0));
+        index.extend_from_slice(&[0, 0, 0, region, 0, lane, 0, span])?;
     }
     index.extend_from_slice(&(records.len() as u64).to_be_bytes())
 }
 
-fn folder(alloc: Global, tasks: &[Task<'_>]) -> Result<MemFolder, Fail> {
+fn log_name(alloc: Global, steps: &[Step]) -> Result<String, AllocError> {
+    let mut name = String::from_str(alloc, "d/t")?;
+    for (region, lane, _) in steps {
+        write!(name, "-{region}.{lane}")?;
+    }
+    name.push_str(".swl")?;
+    Ok(name)
+}
+
+fn log_of(alloc: Global, records: &[Rec]) -> Result<Vec<u8>, AllocError> {
+    let mut log = Vec::from_slice(alloc, &LOG_HEADER)?;
+    for record in records {
+        spell(&mut log, record)?;
+    }
+    Ok(log)
+}
+
+fn folder(alloc: Global, tasks: &[Task<'_>]) -> Result<MemFolder, Memory> {
     let mut folder = MemFolder::new(alloc)?;
     let mut index = Vec::from_slice(alloc, &INDEX_HEADER)?;
     for (steps, records) in tasks {
-        let mut log = Vec::from_slice(alloc, &LOG_HEADER)?;
-        for record in records.iter() {
-            spell(&mut log, record)?;
-        }
-        let mut name = String::from_str(alloc, "d/t")?;
-        spell_row(&mut index, &mut name, steps, records)?;
-        name.push_str(".swl")?;
-        folder.hold(&name, &log)?;
+        spell_row(&mut index, steps, records)?;
+        folder.hold(&log_name(alloc, steps)?, &log_of(alloc, records)?)?;
     }
     folder.hold("d/index.swi", &index)?;
     Ok(folder)
@@ -142,50 +143,95 @@ fn by_pairs(
     Ok(found)
 }
 
-// The folder's first partners of each segment, at most so many, and whether they are all.
-fn table(alloc: Global, tasks: &[Task<'_>], most: usize) -> Result<Vec<(Vec<usize>, bool)>, Fail> {
+// A segment's first partners, at most so many, and whether they are all.
+type Partners = (Vec<usize>, bool);
+
+// Adds the first partners of this segment, if all pairs tell the same.
+fn add_partners(
+    alloc: Global,
+    groups: &Groups,
+    at: usize,
+    most: usize,
+    found: &mut Vec<Partners>,
+) -> Result<bool, AllocError>
+    requires { at < length groups.now }
+{
+    let due = by_pairs(alloc, groups.segments(), at, most)?;
+    let partners = partners(alloc, groups, at, most);
+    if partners.0 != due {
+        return Ok(false);
+    }
+    found.push(partners)?;
+    Ok(true)
+}
+
+// The first partners of each segment, up to one of which all pairs tell others.
+fn partners_of_each(
+    alloc: Global,
+    groups: &Groups,
+    most: usize,
+) -> Result<Vec<Partners>, AllocError> {
+    let mut found = Vec::new(alloc);
+    for at in 0..groups.segments().len() {
+        if !add_partners(alloc, groups, at, most, &mut found)? {
+            break;
+        }
+    }
+    Ok(found)
+}
+
+// Those of the folder's segments, which are the same by all pairs.
+fn table(alloc: Global, tasks: &[Task<'_>], most: usize) -> Result<Vec<Partners>, Fail> {
     let mut folder = folder(alloc, tasks)?;
     let Ok(segments) = walk(alloc, &mut folder, "d") else {
         return Err(Fail::new("refused"));
     };
     let groups = Groups::build(alloc, segments.as_slice())?;
-    let mut found = Vec::new(alloc);
-    for at in 0..groups.segments().len() {
-        let partners = partners(alloc, &groups, at, most);
-        if partners.0 != by_pairs(alloc, groups.segments(), at, most)? {
-            return Err(Fail::new("other positions"));
-        }
-        found.push(partners)?;
+    let found = partners_of_each(alloc, &groups, most)?;
+    if found.len() == segments.len() {
+        Ok(found)
+    } else {
+        Err(Fail::new("other positions"))
     }
-    Ok(found)
+}
+
+fn have_positions(found: &[Partners], due: &[&[usize]]) -> bool {
+    found.len() == due.len()
+        && found
+            .iter()
+            .zip(due)
+            .all(|(one, due)| one.0.as_slice() == *due)
+}
+
+// The tasks of a nested team's first lane and of its second, which have these records.
+fn nested<'a>(first: &'a [Rec], second: &'a [Rec]) -> [Task<'a>; 5] {
+    [
+        (&[], &[FORK, END]),
+        (&[(0, 0, 2)], first),
+        (&[(0, 0, 2), (0, 0, 2)], &[WRITE, END]),
+        (&[(0, 0, 2), (0, 1, 2)], &[WRITE, END]),
+        (&[(0, 1, 2)], second),
+    ]
 }
 
 #[test]
 fn the_lanes_of_a_nested_team_and_another_lane(rt: HostRuntime) -> Result<(), Fail> {
-    let alloc = rt.alloc();
-    let inner: &[Rec] = &[WRITE, END];
-    let cases: [(&[Rec], &[Rec], usize); 2] = [
-        (&[FORK, END], &[WRITE, END], 2),
-        (&[FORK, BARRIER, END], &[BARRIER, WRITE, END], 1),
+    let cases: [(&[Rec], &[Rec], [&[usize]; 3]); 2] = [
+        (&[FORK, END], &[WRITE, END], [&[1, 2], &[2], &[]]),
+        (
+            &[FORK, BARRIER, END],
+            &[BARRIER, WRITE, END],
+            [&[1], &[], &[]],
+        ),
     ];
-    for (first, second, partners) in cases {
-        let tasks: [Task; 5] = [
-            (&[], &[FORK, END]),
-            (&[(0, 0, 2)], first),
-            (&[(0, 0, 2), (0, 0, 2)], inner),
-            (&[(0, 0, 2), (0, 1, 2)], inner),
-            (&[(0, 1, 2)], second),
-        ];
-        let found = table(alloc, &tasks, 9)?;
-        assert!(rt; found.len() == 3);
-        assert!(rt; found[0].0.as_slice() == &[1, 2][..partners]);
-        assert!(rt; found[1].0.as_slice() == &[2][..partners - 1]);
-        assert!(rt; found[2].0.is_empty());
+    for (first, second, due) in cases {
+        let found = table(rt.alloc(), &nested(first, second), 9)?;
+        assert!(rt; have_positions(&found, &due));
     }
     Ok(())
 }
 
-const DEEP: [Task<'static>; 12] = [
+const DEEP: &[Task<'static>] = &[
     (&[], &[WRITE, FORK, WRITE, FORK, END]),
     (&[(0, 0, 2)], &[WRITE, FORK, BARRIER, WRITE, END]),
     (
@@ -201,19 +247,26 @@ const DEEP: [Task<'static>; 12] = [
     (&[(0, 1, 2), (0, 0, 2)], &[WRITE, END]),
     (&[(0, 1, 2), (0, 1, 2)], &[WRITE, END]),
     (&[(1, 0, 2)], &[WRITE, END]),
+    (&[(1, 1, 2)], &[WRITE, END]),
 ];
+
+// Whether these are the first partners of all, and told to be all where they are.
+fn are_first(all: &[Partners], first: &[Partners], most: usize) -> bool {
+    all.len() == first.len()
+        && all
+            .iter()
+            .zip(first)
+            .all(|(all, first)| all.1 && first.1 == (all.0.len() <= most))
+}
 
 #[test]
 fn partners_are_those_of_all_pairs(rt: HostRuntime) -> Result<(), Fail> {
-    let alloc = rt.alloc();
-    let mut tasks: Vec<Task> = Vec::from_slice(alloc, &DEEP)?;
-    tasks.push((&[(1, 1, 2)], &[WRITE, END]))?;
-    let all = table(alloc, &tasks, 99)?;
-    for most in 0..8usize {
-        for (whole, part) in all.iter().zip(&table(alloc, &tasks, most)?) {
-            assert!(rt; whole.1);
-            assert_eq!(rt; part.1, whole.0.len() <= most);
-        }
+    let all = table(rt.alloc(), DEEP, 99)?;
+    for most in 0..8 {
+        assert!(rt;
+            are_first(&all, &table(rt.alloc(), DEEP, most)?, most),
+            "at most {most}"
+        );
     }
     Ok(())
 }

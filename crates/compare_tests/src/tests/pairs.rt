@@ -1,5 +1,5 @@
 //! Races of barrier intervals by hand, for several numbers of workers.
-ghost use Rattle.std.specs.Prelude.{◌≡◌, ◌+◌, ◌^◌, ◌<◌};
+ghost use Rattle.std.specs.Prelude.{◌≡◌, ◌+◌, ◌^◌, ◌<◌, ◌≤◌, length};
 
 use interval_tree::{Steps, Tree};
 use log_segment::Segment;
@@ -13,8 +13,12 @@ use std::sync::atomic::{AtomicU64, Ordering};
 use std::sync::ledger::{Blank, Ledger};
 use std::test::Fail;
 use std::thread;
+use std::thread::Threads;
 use stride_summary::Run;
 use sw_base::{Gate, Memory, NoGate, Path};
+
+// Lines of accesses that race, the smaller first, in ascending order.
+type Races = Vec<(u32, u32)>;
 
 // One access of eight bytes.
 fn run(write: bool, line: u32, base: u64, mutexes: &[u16]) -> Result<Run, HeldFault>
@@ -46,7 +50,7 @@ fn segment(label: Label, runs: Vec<Run>) -> Segment {
     }
 }
 
-fn listed(alloc: Global, pairs: &BTreeSet<(u32, u32)>) -> Result<Vec<(u32, u32)>, AllocError> {
+fn listed(alloc: Global, pairs: &BTreeSet<(u32, u32)>) -> Result<Races, AllocError> {
     let mut found = Vec::new(alloc);
     for pair in pairs {
         found.push(*pair)?;
@@ -64,41 +68,80 @@ fn compared_with<L: Ledger>(
     requires parts { blank.parts ≡ L.parts }
     requires some { 0 < blank.parts }
 {
+    let tree = Tree::build(alloc, b.runs.as_slice())?;
     let mut pairs = BTreeSet::new(alloc);
     let mut steps = Steps::<L>::new(blank);
-    let tree = Tree::build(alloc, b.runs.as_slice())?;
     compare(alloc, a, b, &tree, &mut pairs, &mut steps)?;
     Ok(pairs)
 }
 
-fn compared(alloc: Global, a: &Segment, b: &Segment) -> Result<BTreeSet<(u32, u32)>, Memory> {
-    compared_with::<Brand>(alloc, a, b, Blank::new(1))
+fn compared(alloc: Global, a: &Segment, b: &Segment) -> Result<Races, Memory> {
+    let pairs = compared_with::<Brand>(alloc, a, b, Blank::new(1))?;
+    Ok(listed(alloc, &pairs)?)
+}
+
+// An access of a lane of two: the lane, whether it writes, its line, its first byte and its mutexes.
+type Access<'a> = (u16, bool, u32, u64, &'a [u16]);
+
+// The interval of a lane that has this access alone.
+fn lane_of(alloc: Global, access: &Access<'_>) -> Result<Segment, Fail> {
+    let (lane, writes, line, base, mutexes) = access;
+    let run = run(*writes, *line, *base % 1000, mutexes)?;
+    let runs = vec![in alloc; run]?;
+    Ok(segment(Label::root().fork(*lane % 2, 2), runs))
+}
+
+const GUARDED_WRITE: Access<'static> = (0, true, 9, 100, &[3]);
+
+// The races of two lanes, of which one has the guarded write.
+fn races_with(alloc: Global, access: &Access<'_>) -> Result<Races, Fail> {
+    let write = lane_of(alloc, &GUARDED_WRITE)?;
+    let other = lane_of(alloc, access)?;
+    Ok(compared(alloc, &write, &other)?)
 }
 
 #[test]
 fn lanes_race_where_they_share_a_byte_and_no_mutex(rt: HostRuntime) -> Result<(), Fail> {
-    let alloc = rt.alloc();
-    let write = segment(
-        Label::root().fork(0, 2),
-        vec![in alloc; run(true, 9, 100, &[3])?]?,
-    );
-    let table: [(u16, bool, u64, &[u16], &[(u32, u32)]); 6] = [
-        (1, false, 107, &[], &[(5, 9)]),
-        (1, false, 108, &[], &[]),
-        (1, true, 93, &[5], &[(5, 9)]),
-        (1, true, 92, &[5], &[]),
-        (1, true, 100, &[5, 3], &[]),
-        (0, true, 100, &[], &[]),
+    let table: [(Access<'_>, &[(u32, u32)]); 6] = [
+        ((1, false, 5, 107, &[]), &[(5, 9)]),
+        ((1, false, 5, 108, &[]), &[]),
+        ((1, true, 5, 93, &[5]), &[(5, 9)]),
+        ((1, true, 5, 92, &[5]), &[]),
+        ((1, true, 5, 100, &[5, 3]), &[]),
+        ((0, true, 5, 100, &[]), &[]),
     ];
-    for (lane, writes, addr, mutexes, races) in table {
-        let other = segment(
-            Label::root().fork(lane % 2, 2),
-            vec![in alloc; run(writes, 5, addr % 1000, mutexes)?]?,
-        );
-        let pairs = compared(alloc, &write, &other)?;
-        assert_eq!(rt; listed(alloc, &pairs)?.as_slice(), races);
+    for (access, races) in table {
+        assert!(rt; races_with(rt.alloc(), &access)?.as_slice() == races);
     }
     Ok(())
+}
+
+// The races that so many workers find.
+fn found<R: Threads + Sync>(
+    rt: &R,
+    alloc: Global,
+    segments: &[Segment],
+    workers: usize,
+) -> Result<Races, Memory>
+    requires { (1 ≤ workers) × (workers ≤ 64) }
+{
+    let pairs = compare_all(rt, alloc, segments, workers, &NoGate)?;
+    Ok(listed(alloc, &pairs)?)
+}
+
+// Whether each number of workers finds these races.
+fn each_finds<R: Threads + Sync>(
+    rt: &R,
+    alloc: Global,
+    segments: &[Segment],
+    races: &[(u32, u32)],
+) -> Result<bool, Memory> {
+    for workers in [1, 2, 3, 7, 64] {
+        if found(rt, alloc, segments, workers)?.as_slice() != races {
+            return Ok(false);
+        }
+    }
+    Ok(true)
 }
 
 // Each lane writes an element and reads the next lane's.
@@ -108,13 +151,57 @@ fn team(alloc: Global, span: u16) -> Result<Vec<Segment>, Fail>
     let mut segments = Vec::new(alloc);
     for lane in 0..span {
         let own = u64::from(lane) * 8;
-        let runs = vec![in alloc;
-            run(true, 1000 + u32::from(lane), own, &[])?,
-            run(false, 2000 + u32::from(lane), own + 8, &[])?,
-        ]?;
+        let write = run(true, 1000 + u32::from(lane), own, &[])?;
+        let read = run(false, 2000 + u32::from(lane), own + 8, &[])?;
+        let runs = vec![in alloc; write, read]?;
         segments.push(segment(Label::root().fork(lane, span), runs))?;
     }
     Ok(segments)
+}
+
+// So many elements that the group's bytes are cut into ranges: one lane writes each, and another reads it.
+fn long_team(alloc: Global, elements: u32) -> Result<Vec<Segment>, Fail>
+    requires { elements < 2 ^ 16 }
+{
+    let mut segments = Vec::new(alloc);
+    for lane in 0..2u16 {
+        let mut runs = Vec::new(alloc);
+        for element in 0..elements {
+            let line = 1 + element + 100_000 * u32::from(lane);
+            runs.push(run(lane == 0, line, u64::from(element) * 8, &[])?)?;
+        }
+        segments.push(segment(Label::root().fork(lane, 2), runs))?;
+    }
+    Ok(segments)
+}
+
+// So many lanes that access one element, in lines from this one on. One of them writes it.
+fn add_lanes(
+    alloc: Global,
+    above: &Label,
+    span: u16,
+    line: u32,
+    writing: u16,
+    segments: &mut Vec<Segment>,
+) -> Result<(), Fail>
+    requires room { length above.now < 5 }
+    requires line { line < 2 ^ 16 }
+{
+    for lane in 0..span {
+        let run = run(lane == writing, line + u32::from(lane), 64, &[])?;
+        let runs = vec![in alloc; run]?;
+        segments.push(segment(above.fork(lane, span), runs))?;
+    }
+    Ok(())
+}
+
+// Of each lane but the first: what the lane before it reads is what it writes.
+fn neighbours(alloc: Global, span: u16) -> Result<Races, AllocError> {
+    let mut races = Vec::new(alloc);
+    for lane in 1..u32::from(span) {
+        races.push((1000 + lane, 1999 + lane))?;
+    }
+    Ok(races)
 }
 
 #[test]
@@ -122,52 +209,74 @@ fn each_number_of_workers_finds_all_races(rt: HostRuntime) -> Result<(), Fail> {
     let alloc = rt.alloc();
     for span in [1, 2, 3, 7, 64] {
         let segments = team(alloc, span)?;
-        let mut races = Vec::new(alloc);
-        for lane in 1..u32::from(span) {
-            races.push((1000 + lane, 1999 + lane))?;
-        }
-        for workers in [1, 2, 3, 7, 64] {
-            let pairs = compare_all(&rt, alloc, segments.as_slice(), workers, &NoGate)?;
-            assert_eq!(rt; listed(alloc, &pairs)?.as_slice(), races.as_slice());
-        }
+        let races = neighbours(alloc, span)?;
+        assert!(rt;
+            each_finds(&rt, alloc, &segments, &races)?,
+            "of {span} lanes"
+        );
     }
     Ok(())
 }
 
-// A lane of the outer team forks two, of which the second forks one alone, and this one three: the second of them does nothing.
+// The label of a lane, by the lanes and the spans of the teams on the way to it.
+fn lane_below(forks: &[(u16, u16)]) -> Label {
+    let mut label = Label::root();
+    for (lane, span) in forks {
+        if label.triples().len() < 5 && lane < span {
+            label = label.fork(*lane, *span);
+        }
+    }
+    label
+}
+
+// An interval that writes one element in each of these lines.
+fn writing(alloc: Global, label: Label, lines: &[u32]) -> Result<Segment, Fail> {
+    let mut runs = Vec::new(alloc);
+    for line in lines {
+        runs.push(run(true, *line, 64, &[])?)?;
+    }
+    Ok(segment(label, runs))
+}
+
+// The lanes on the way to a lane, and the lines in which it writes. A lane of the outer team forks two, of which the second forks one
+// alone, and this one three: the second of them does nothing.
+const NESTED: &[(&[(u16, u16)], &[u32])] = &[
+    (&[(0, 2)], &[1]),
+    (&[(0, 2), (0, 2)], &[2]),
+    (&[(0, 2), (1, 2)], &[3]),
+    (&[(0, 2), (1, 2), (0, 1), (0, 3)], &[6]),
+    (&[(0, 2), (1, 2), (0, 1), (1, 3)], &[]),
+    (&[(0, 2), (1, 2), (0, 1), (2, 3)], &[7]),
+];
+
+// Their intervals, and then that of the outer lane past a barrier, and that of the other outer lane.
+fn nested_teams(alloc: Global) -> Result<Vec<Segment>, Fail> {
+    let mut segments = Vec::new(alloc);
+    for (forks, lines) in NESTED {
+        segments.push(writing(alloc, lane_below(forks), lines)?)?;
+    }
+    let past = Label::root().fork(0, 2).barrier();
+    segments.push(writing(alloc, past, &[4])?)?;
+    segments.push(writing(alloc, lane_below(&[(1, 2)]), &[5])?)?;
+    Ok(segments)
+}
+
+const NESTED_RACES: &[(u32, u32)] = &[
+    (1, 5),
+    (2, 3),
+    (2, 5),
+    (2, 6),
+    (2, 7),
+    (3, 5),
+    (5, 6),
+    (5, 7),
+    (6, 7),
+];
+
 #[test]
 fn the_intervals_of_nested_teams_are_compared_by_labels(rt: HostRuntime) -> Result<(), Fail> {
-    let alloc = rt.alloc();
-    let outer = Label::root().fork(0, 2);
-    let alone = outer.fork(1, 2).fork(0, 1);
-    let segments = [
-        segment(outer.copy(), vec![in alloc; run(true, 1, 64, &[])?]?),
-        segment(outer.fork(0, 2), vec![in alloc; run(true, 2, 64, &[])?]?),
-        segment(outer.fork(1, 2), vec![in alloc; run(true, 3, 64, &[])?]?),
-        segment(alone.fork(0, 3), vec![in alloc; run(true, 6, 64, &[])?]?),
-        segment(alone.fork(1, 3), Vec::new(alloc)),
-        segment(alone.fork(2, 3), vec![in alloc; run(true, 7, 64, &[])?]?),
-        segment(outer.barrier(), vec![in alloc; run(true, 4, 64, &[])?]?),
-        segment(
-            Label::root().fork(1, 2),
-            vec![in alloc; run(true, 5, 64, &[])?]?,
-        ),
-    ];
-    let races = [
-        (1, 5),
-        (2, 3),
-        (2, 5),
-        (2, 6),
-        (2, 7),
-        (3, 5),
-        (5, 6),
-        (5, 7),
-        (6, 7),
-    ];
-    for workers in [1, 2, 3, 7, 64] {
-        let pairs = compare_all(&rt, alloc, segments.as_slice(), workers, &NoGate)?;
-        assert_eq!(rt; listed(alloc, &pairs)?.as_slice(), races.as_slice());
-    }
+    let segments = nested_teams(rt.alloc())?;
+    assert!(rt; each_finds(&rt, rt.alloc(), &segments, NESTED_RACES)?);
     Ok(())
 }
 
@@ -193,99 +302,76 @@ impl Gate for Meeting {
     }
 }
 
-#[test]
-fn workers_run_at_once(rt: HostRuntime) -> Result<(), Fail> {
-    let alloc = rt.alloc();
-    let segments = team(alloc, 2)?;
+// How many races two workers find in a team of two, how many came, and how many of them alone.
+fn two_at_once<R: Threads + Sync>(rt: &R, alloc: Global) -> Result<(usize, u64, u64), Fail> {
     let gate = Meeting {
         come: AtomicU64::new(0),
         alone: AtomicU64::new(0),
     };
-    let pairs = compare_all(&rt, alloc, segments.as_slice(), 2, &gate)?;
-    assert!(rt; pairs.len() == 1);
-    assert!(rt; gate.come.load(Ordering::SeqCst) == 2);
-    assert!(rt; gate.alone.load(Ordering::SeqCst) == 0);
+    let segments = team(alloc, 2)?;
+    let found = compare_all(rt, alloc, &segments, 2, &gate)?.len();
+    let come = gate.come.load(Ordering::SeqCst);
+    Ok((found, come, gate.alone.load(Ordering::SeqCst)))
+}
+
+#[test]
+fn workers_run_at_once(rt: HostRuntime) -> Result<(), Fail> {
+    assert!(rt; two_at_once(&rt, rt.alloc())? == (1, 2, 0));
     Ok(())
 }
 
-// So many elements that the group's bytes are cut into ranges: one lane writes each, and another reads it.
-fn long_team(alloc: Global, elements: u32) -> Result<Vec<Segment>, Fail>
+// The write and the read of each element.
+fn of_elements(alloc: Global, elements: u32) -> Result<Races, AllocError>
     requires { elements < 2 ^ 16 }
 {
-    let mut segments = Vec::new(alloc);
-    for lane in 0..2u16 {
-        let mut runs = Vec::new(alloc);
-        for element in 0..elements {
-            let line = 1 + element + 100_000 * u32::from(lane);
-            runs.push(run(lane == 0, line, u64::from(element) * 8, &[])?)?;
-        }
-        segments.push(segment(Label::root().fork(lane, 2), runs))?;
+    let mut races = Vec::new(alloc);
+    for element in 0..elements {
+        races.push((1 + element, 100_001 + element))?;
     }
-    Ok(segments)
+    Ok(races)
 }
 
 #[test]
 fn ranges_of_bytes_lose_no_race(rt: HostRuntime) -> Result<(), Fail> {
-    let alloc = rt.alloc();
-    let segments = long_team(alloc, 9000)?;
-    let mut races = Vec::new(alloc);
-    for element in 0..9000u32 {
-        races.push((1 + element, 100_001 + element))?;
-    }
-    for workers in [1, 3, 64] {
-        let pairs = compare_all(&rt, alloc, segments.as_slice(), workers, &NoGate)?;
-        assert_eq!(rt; listed(alloc, &pairs)?.as_slice(), races.as_slice());
-    }
+    let segments = long_team(rt.alloc(), 9000)?;
+    let races = of_elements(rt.alloc(), 9000)?;
+    assert!(rt; each_finds(&rt, rt.alloc(), &segments, &races)?);
     Ok(())
 }
 
-#[test]
-fn one_write_among_reads_of_one_element(rt: HostRuntime) -> Result<(), Fail> {
-    let alloc = rt.alloc();
+// Eight lanes, of which one writes, and after a barrier eight that read.
+fn one_write(alloc: Global) -> Result<Vec<Segment>, Fail> {
     let mut segments = Vec::new(alloc);
-    for lane in 0..8u16 {
-        let line = 1 + u32::from(lane);
-        let runs = vec![in alloc; run(lane == 5, line, 64, &[])?]?;
-        segments.push(segment(Label::root().fork(0, 1).fork(lane, 8), runs))?;
-    }
-    for lane in 0..8u16 {
-        let line = 101 + u32::from(lane);
-        let runs = vec![in alloc; run(false, line, 64, &[])?]?;
-        let label = Label::root().fork(0, 1).barrier().fork(lane, 8);
-        segments.push(segment(label, runs))?;
-    }
-    for workers in [1, 2] {
-        let pairs = compare_all(&rt, alloc, segments.as_slice(), workers, &NoGate)?;
-        let races = [(1, 6), (2, 6), (3, 6), (4, 6), (5, 6), (6, 7), (6, 8)];
-        assert_eq!(rt; listed(alloc, &pairs)?.as_slice(), races.as_slice());
-    }
-    Ok(())
-}
-
-// So many lanes that read one element, which the last of them writes.
-fn reading_team(alloc: Global, span: u16) -> Result<Vec<Segment>, Fail>
-    requires { span < 2 ^ 14 }
-{
-    let mut segments = Vec::new(alloc);
-    for lane in 0..span {
-        let line = 1 + u32::from(lane);
-        let runs = vec![in alloc; run(lane + 1 == span, line, 64, &[])?]?;
-        segments.push(segment(Label::root().fork(lane, span), runs))?;
-    }
+    add_lanes(alloc, &Label::root().fork(0, 1), 8, 1, 5, &mut segments)?;
+    let past = Label::root().fork(0, 1).barrier();
+    add_lanes(alloc, &past, 8, 101, 8, &mut segments)?;
     Ok(segments)
 }
 
+const ONE_WRITE: &[(u32, u32)] = &[(1, 6), (2, 6), (3, 6), (4, 6), (5, 6), (6, 7), (6, 8)];
+
+#[test]
+fn one_write_among_reads_of_one_element(rt: HostRuntime) -> Result<(), Fail> {
+    let segments = one_write(rt.alloc())?;
+    assert!(rt; each_finds(&rt, rt.alloc(), &segments, ONE_WRITE)?);
+    Ok(())
+}
+
+// Each line before the last, with the last.
+fn with_last(alloc: Global, last: u32) -> Result<Races, AllocError> {
+    let mut races = Vec::new(alloc);
+    for line in 1..last {
+        races.push((line, last))?;
+    }
+    Ok(races)
+}
+
+// The last of many lanes writes what all read.
 #[test]
 fn each_of_many_reads_meets_the_write(rt: HostRuntime) -> Result<(), Fail> {
-    let alloc = rt.alloc();
-    let segments = reading_team(alloc, 500)?;
-    let mut races = Vec::new(alloc);
-    for line in 1..500u32 {
-        races.push((line, 500))?;
-    }
-    for workers in [1, 3] {
-        let pairs = compare_all(&rt, alloc, segments.as_slice(), workers, &NoGate)?;
-        assert_eq!(rt; listed(alloc, &pairs)?.as_slice(), races.as_slice());
-    }
+    let mut segments = Vec::new(rt.alloc());
+    add_lanes(rt.alloc(), &Label::root(), 500, 1, 499, &mut segments)?;
+    let races = with_last(rt.alloc(), 500)?;
+    assert!(rt; each_finds(&rt, rt.alloc(), &segments, &races)?);
     Ok(())
 }
