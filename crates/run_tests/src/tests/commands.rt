@@ -3,11 +3,10 @@
 use command_answer::{DONE, INDEX_THERE, KERNEL_STOPPED};
 use run_command::{print_outcome, run};
 use std::alloc::Global;
-use std::process::Abort;
 use std::sync::Wait;
 use std::test::Fail;
 use std::thread::Threads;
-use sw_base::{MemFolder, MemOut, NoGate};
+use sw_base::{MemFolder, MemOut, Memory, NoGate};
 
 // One lane stores once.
 const STORE: &str = "array a i64 1\nmain { parallel 1 {\nfor i in 0 .. 1 { a[0] = 7 }\n} }\n";
@@ -17,19 +16,27 @@ const BEYOND: &str = "array a i64 1\nmain { parallel 1 {\nfor i in 0 .. 2 { a[i]
 
 const INDEX: &str = "d/index.swi";
 
-// Runs the kernel that the folder holds.
-fn answers<R: Abort + Threads + Wait + Sync>(
+// Whether a run of the kernel that the folder holds is answered so.
+fn is_answered<R: Threads + Wait + Sync>(
     rt: &R,
     alloc: Global,
     folder: &mut MemFolder,
     status: u8,
     text: &str,
-) -> Result<(), Fail> {
+) -> Result<bool, Memory> {
     let mut out = MemOut::new(alloc)?;
     let outcome = run(rt, alloc, "k", "d", 48, folder, &NoGate);
-    assert!(rt; print_outcome(alloc, &mut out, &outcome) == status);
-    assert!(rt; out.written() == text.as_bytes());
-    Ok(())
+    let answered = print_outcome(alloc, &mut out, &outcome);
+    Ok(answered == status && out.written() == text.as_bytes())
+}
+
+// Whether the folder has an index of this length, or none.
+fn has_index(folder: &MemFolder, length: Option<usize>) -> bool {
+    match (folder.file(INDEX), length) {
+        (Some(index), Some(length)) => index.len() == length,
+        (None, None) => true,
+        _ => false,
+    }
 }
 
 // Whether the logs of the root and of its one lane were sealed, the root's first, in these pieces, and no other.
@@ -41,17 +48,22 @@ fn are_sealed(folder: &MemFolder, root: &[usize], lane: &[usize]) -> bool {
         && folder.sealed_name(2).is_none()
 }
 
+fn with_kernel(alloc: Global, text: &str) -> Result<MemFolder, Memory> {
+    let mut folder = MemFolder::new(alloc)?;
+    folder.hold("k", text.as_bytes())?;
+    Ok(folder)
+}
+
 #[test]
 fn one_store_is_run(rt: HostRuntime) -> Result<(), Fail> {
     let alloc = rt.alloc();
-    let mut folder = MemFolder::new(alloc)?;
-    folder.hold("k", STORE.as_bytes())?;
+    let mut folder = with_kernel(alloc, STORE)?;
     let text = "tasks 2\nrecords 5\nsum a 7\n";
-    answers(&rt, alloc, &mut folder, DONE, text)?;
-    assert!(rt; are_sealed(&folder, &[8, 48], &[8, 48, 24]));
-    assert!(rt; matches!(folder.file(INDEX), Some(index) if index.len() == 104));
+    assert!(rt; is_answered(&rt, alloc, &mut folder, DONE, text)?);
+    assert!(rt; are_sealed(&folder, &[8, 48], &[8, 48, 24]) && has_index(&folder, Some(104)));
 
-    answers(&rt, alloc, &mut folder, INDEX_THERE, "index exists\n")?;
+    let text = "index exists\n";
+    assert!(rt; is_answered(&rt, alloc, &mut folder, INDEX_THERE, text)?);
     assert!(rt; folder.sealed_name(2).is_none());
     Ok(())
 }
@@ -59,11 +71,9 @@ fn one_store_is_run(rt: HostRuntime) -> Result<(), Fail> {
 #[test]
 fn a_stop_is_told(rt: HostRuntime) -> Result<(), Fail> {
     let alloc = rt.alloc();
-    let mut folder = MemFolder::new(alloc)?;
-    folder.hold("k", BEYOND.as_bytes())?;
+    let mut folder = with_kernel(alloc, BEYOND)?;
     let text = "stopped t-0.0.swl line 3: Index\n";
-    answers(&rt, alloc, &mut folder, KERNEL_STOPPED, text)?;
-    assert!(rt; are_sealed(&folder, &[8, 24], &[8, 24]));
-    assert!(rt; folder.file(INDEX).is_none());
+    assert!(rt; is_answered(&rt, alloc, &mut folder, KERNEL_STOPPED, text)?);
+    assert!(rt; are_sealed(&folder, &[8, 24], &[8, 24]) && has_index(&folder, None));
     Ok(())
 }

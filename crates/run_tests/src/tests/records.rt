@@ -1,9 +1,9 @@
 //! Kernels without a race, whose logs are the same in each run: the words at the end, and the records of each log, in the order of
 //! the tasks' paths.
+ghost use Rattle.region_runner.specs.Answer.{IsBufferSize};
 
 use crate::tests::support::{are_listed, finished};
 use std::alloc::Global;
-use std::process::Abort;
 use std::sync::Wait;
 use std::test::Fail;
 use std::thread::Threads;
@@ -267,8 +267,10 @@ const MINUS_2: u64 = u64::MAX - 1;
 
 const MINUS_3: u64 = u64::MAX - 2;
 
-// A kernel, the words at its end, and the records of its logs.
-const ENDS: &[(&str, &[u64], &str)] = &[
+/// A kernel, the words at its end, and the records of its logs.
+type Ending<'a> = (&'a str, &'a [u64], &'a str);
+
+const ENDS: &[Ending<'static>] = &[
     (NESTED, &[50, 51, 60, 61, 5, 6, 0, 0], NESTED_LOGS),
     (
         FOUR_DEEP,
@@ -282,25 +284,31 @@ const ENDS: &[(&str, &[u64], &str)] = &[
     (TURNED, &[2, 2, 1, 1, 2, 2], TURNED_LOGS),
 ];
 
-fn ends_so<R: Abort + Threads + Wait + Sync>(
+// Whether the kernel ends with these words and logs.
+fn ends_so<R: Threads + Wait + Sync>(
     rt: &R,
     alloc: Global,
-    kernel: &str,
-    words: &[u64],
-    logs: &str,
-) -> Result<(), Fail> {
-    for size in [24, 60, 4096] {
-        let end = finished(rt, alloc, kernel, size)?;
-        assert!(rt; end.words.as_slice() == words, "{kernel}");
-        assert!(rt; are_listed(alloc, end.logs, logs)?, "{kernel}");
-    }
-    Ok(())
+    size: usize,
+    due: &Ending<'_>,
+) -> Result<bool, Fail>
+    requires { IsBufferSize size }
+{
+    let (kernel, words, logs) = due;
+    let end = finished(rt, alloc, kernel, size)?;
+    let has_words = end.words.as_slice() == *words;
+    Ok(are_listed(alloc, end.logs, logs)? && has_words)
 }
 
 #[test]
 fn each_log_has_the_records_of_its_task(rt: HostRuntime) -> Result<(), Fail> {
-    for (kernel, words, logs) in ENDS {
-        ends_so(&rt, rt.alloc(), kernel, words, logs)?;
+    for due in ENDS {
+        for size in [24, 60, 4096] {
+            assert!(rt;
+                ends_so(&rt, rt.alloc(), size, due)?,
+                "in {size}: {}",
+                due.0
+            );
+        }
     }
     Ok(())
 }

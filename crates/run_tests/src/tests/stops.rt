@@ -1,10 +1,10 @@
 //! Runs that stop: which stop is told, and what the logs have then.
 ghost use Rattle.std.specs.Prelude.{◌<◌};
+ghost use Rattle.region_runner.specs.Answer.{IsBufferSize};
 
 use crate::tests::support::{are_listed, finished, has_failed, is_stopped_so, run_with, stopped};
 use lane_runner::Stop;
 use std::alloc::Global;
-use std::process::Abort;
 use std::sync::Wait;
 use std::test::Fail;
 use std::thread::Threads;
@@ -70,8 +70,10 @@ log t-0.1-1.1.swl records 0
 // The value of an element that is stored as a number of 64 bits.
 const MINUS_5: u64 = u64::MAX - 4;
 
-// A kernel, the task that stops and why, the words then, and the records of the logs.
-const STOPS: &[(&str, &str, Stop, &[u64], &str)] = &[
+/// A kernel, the task that stops and why, the words then, and the records of the logs.
+type Stopping<'a> = (&'a str, &'a str, Stop, &'a [u64], &'a str);
+
+const STOPS: &[Stopping<'static>] = &[
     (
         TWO_STOP,
         "t-0.1.swl",
@@ -88,16 +90,32 @@ const STOPS: &[(&str, &str, Stop, &[u64], &str)] = &[
     ),
 ];
 
+// Whether the kernel stops so, and leaves these logs.
+fn stops_so<R: Threads + Wait + Sync>(
+    rt: &R,
+    alloc: Global,
+    size: usize,
+    due: &Stopping<'_>,
+) -> Result<bool, Fail>
+    requires { IsBufferSize size }
+{
+    let (kernel, name, why, words, logs) = due;
+    let stop = stopped(rt, alloc, kernel, size, (&Path::root(), &[]))?;
+    let is_told = is_stopped_so(alloc, &stop, name, *why, words)?;
+    Ok(are_listed(alloc, stop.logs, logs)? && is_told)
+}
+
 #[test]
 fn the_least_stop_of_a_phase_is_told_and_no_later_phase_is_run(
     rt: HostRuntime,
 ) -> Result<(), Fail> {
-    let alloc = rt.alloc();
-    for (kernel, name, why, words, logs) in STOPS {
+    for due in STOPS {
         for size in [24, 4096] {
-            let stop = stopped(&rt, alloc, kernel, size, (&Path::root(), &[]))?;
-            assert!(rt; is_stopped_so(alloc, &stop, name, *why, words)?, "{name}");
-            assert!(rt; are_listed(alloc, stop.logs, logs)?, "{name}");
+            assert!(rt;
+                stops_so(&rt, rt.alloc(), size, due)?,
+                "in {size}: {}",
+                due.1
+            );
         }
     }
     Ok(())
@@ -118,35 +136,56 @@ fn begin(left: &[(Path, MemLog, u32)], whole: &[(Path, MemLog, u32)]) -> bool {
     })
 }
 
-// Each of so many calls on the log of this task fails in turn, and the next one is no more.
-fn each_call_fails<R: Abort + Threads + Wait + Sync>(
+// Whether this call on the log of this task fails, and leaves the beginnings of logs of a whole run.
+fn call_fails<R: Threads + Wait + Sync>(
+    rt: &R,
+    alloc: Global,
+    task: &Path,
+    call: u64,
+    whole: &[(Path, MemLog, u32)],
+) -> Result<bool, Fail> {
+    let stop = stopped(rt, alloc, FORKING, 24, (task, &[call]))?;
+    Ok(has_failed(&stop, task) && begin(&stop.logs, whole))
+}
+
+// Whether each of so many calls on the log of this task fails in turn, and the next one is no more.
+fn each_call_fails<R: Threads + Wait + Sync>(
     rt: &R,
     alloc: Global,
     task: &Path,
     calls: u64,
     whole: &[(Path, MemLog, u32)],
-) -> Result<(), Fail>
+) -> Result<bool, Fail>
     requires { calls < 100 }
 {
     for call in 1..=calls {
-        let stop = stopped(rt, alloc, FORKING, 24, (task, &[call]))?;
-        assert!(rt; has_failed(&stop, task), "call {call}");
-        assert!(rt; begin(&stop.logs, whole), "call {call}");
+        if !call_fails(rt, alloc, task, call, whole)? {
+            return Ok(false);
+        }
     }
     let past = calls + 1;
-    assert!(rt; run_with(rt, alloc, FORKING, 24, &NoGate, (task, &[past]))?.is_ok());
-    Ok(())
+    Ok(run_with(rt, alloc, FORKING, 24, &NoGate, (task, &[past]))?.is_ok())
+}
+
+// Each call on each log of nested regions fails in turn.
+fn all_calls_fail<R: Threads + Wait + Sync>(
+    rt: &R,
+    alloc: Global,
+    whole: &[(Path, MemLog, u32)],
+) -> Result<bool, Fail> {
+    // On a task's log: its header, each record, and the logs of the lanes that it forks.
+    let all_calls = [5, 6, 3, 3, 6, 3, 3];
+    for ((task, _, _), calls) in whole.iter().zip(&all_calls) {
+        if !each_call_fails(rt, alloc, task, *calls, whole)? {
+            return Ok(false);
+        }
+    }
+    Ok(whole.len() == all_calls.len())
 }
 
 #[test]
 fn each_call_on_each_log_of_nested_regions_fails_in_turn(rt: HostRuntime) -> Result<(), Fail> {
-    let alloc = rt.alloc();
-    let whole = finished(&rt, alloc, FORKING, 24)?.logs;
-    // On a task's log: its header, each record, and the logs of the lanes that it forks.
-    let all_calls = [5, 6, 3, 3, 6, 3, 3];
-    assert!(rt; whole.len() == all_calls.len());
-    for ((task, _, _), calls) in whole.iter().zip(&all_calls) {
-        each_call_fails(&rt, alloc, task, *calls, &whole)?;
-    }
+    let whole = finished(&rt, rt.alloc(), FORKING, 24)?;
+    assert!(rt; all_calls_fail(&rt, rt.alloc(), &whole.logs)?);
     Ok(())
 }

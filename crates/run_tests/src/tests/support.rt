@@ -37,11 +37,11 @@ pub(crate) fn run_with<R: Threads + Wait + Sync, G: Gate>(
 ) -> Result<Ran, Fail>
     requires { IsBufferSize size }
 {
-    let kernel = kernel_of(alloc, text)?;
     let (path, calls) = failing;
     let mut folder = MemFolder::new(alloc)?;
     folder.fail_log(path, calls)?;
     let root = folder.root(alloc, "d")?;
+    let kernel = kernel_of(alloc, text)?;
     Ok(run_kernel(rt, alloc, &kernel, root, size, gate))
 }
 
@@ -54,10 +54,8 @@ pub(crate) fn finished<R: Threads + Wait + Sync>(
 ) -> Result<Finished<MemLog>, Fail>
     requires { IsBufferSize size }
 {
-    match run_with(rt, alloc, text, size, &NoGate, (&Path::root(), &[]))? {
-        Ok(finished) => Ok(finished),
-        Err(_) => Err(Fail::from("stopped")),
-    }
+    let ran = run_with(rt, alloc, text, size, &NoGate, (&Path::root(), &[]))?;
+    Ok(ran.ok().ok_or("stopped")?)
 }
 
 /// The stop of a run of the kernel, where these calls on the log of this task fail.
@@ -70,10 +68,36 @@ pub(crate) fn stopped<R: Threads + Wait + Sync>(
 ) -> Result<Stopped<MemLog>, Fail>
     requires { IsBufferSize size }
 {
-    match run_with(rt, alloc, text, size, &NoGate, failing)? {
-        Ok(_) => Err(Fail::from("ended")),
-        Err(stopped) => Ok(stopped),
+    let ran = run_with(rt, alloc, text, size, &NoGate, failing)?;
+    Ok(ran.err().ok_or("ended")?)
+}
+
+// Seals these logs, up to one that can't be, and gives their rows.
+fn sealed(
+    alloc: Global,
+    folder: &mut MemFolder,
+    logs: Vec<(Path, MemLog, u32)>,
+) -> Result<Vec<Row>, Memory> {
+    let mut rows = Vec::new(alloc);
+    for (path, log, records) in logs {
+        if folder.seal(alloc, log).is_err() {
+            break;
+        }
+        rows.push(Row { path, records })?;
     }
+    Ok(rows)
+}
+
+// Whether the folder's logs of these rows are listed so.
+fn are_printed(
+    alloc: Global,
+    folder: &mut MemFolder,
+    rows: &[Row],
+    text: &str,
+) -> Result<bool, Memory> {
+    let mut out = MemOut::new(alloc)?;
+    let is_listed = list(alloc, folder, &mut out, "d", rows).is_ok();
+    Ok(is_listed && out.written() == text.as_bytes())
 }
 
 /// Whether these are the names of the logs, in order, each with the records that it has.
@@ -83,16 +107,8 @@ pub(crate) fn are_listed(
     text: &str,
 ) -> Result<bool, Memory> {
     let mut folder = MemFolder::new(alloc)?;
-    let mut rows = Vec::new(alloc);
-    for (path, log, records) in logs {
-        if folder.seal(alloc, log).is_err() {
-            return Ok(false);
-        }
-        rows.push(Row { path, records })?;
-    }
-    let mut out = MemOut::new(alloc)?;
-    let is_listed = list(alloc, &mut folder, &mut out, "d", &rows).is_ok();
-    Ok(is_listed && out.written() == text.as_bytes())
+    let rows = sealed(alloc, &mut folder, logs)?;
+    are_printed(alloc, &mut folder, &rows, text)
 }
 
 /// Whether a run stopped in the task of this name, for this reason, with these words.
