@@ -33,6 +33,29 @@ fn is_refused(alloc: Global, text: &[u8], line: u32, why: KernelWhy) -> bool {
     }
 }
 
+// The first of these texts that isn't read, by its number from 0.
+fn first_unread(alloc: Global, texts: &[&[u8]]) -> Option<usize> {
+    for (number, text) in texts.iter().enumerate() {
+        if !is_read(alloc, text) {
+            return Some(number);
+        }
+    }
+    None
+}
+
+// A text, and the line and the reason for which it is refused.
+type Refused<'a> = (&'a [u8], u32, KernelWhy);
+
+// The first of these texts that isn't refused so, by its number from 0.
+fn first_other(alloc: Global, rows: &[Refused<'_>]) -> Option<usize> {
+    for (number, (text, line, why)) in rows.iter().enumerate() {
+        if !is_refused(alloc, text, *line, *why) {
+            return Some(number);
+        }
+    }
+    None
+}
+
 // Whether a text is refused at this line for this reason, or is read where none is given.
 fn tells(alloc: Global, text: &[u8], refusal: Option<(u32, KernelWhy)>) -> bool {
     match refusal {
@@ -128,271 +151,295 @@ fn a_store_has_site_0_and_its_load_site_1(rt: HostRuntime) -> Result<(), Fail> {
     Ok(())
 }
 
+const READ: &[&[u8]] = &[
+    b"main { let abcdefghijklmnopqrstuvwxyz012345 = 9223372036854775807 }",
+    LOCKED,
+    HEAT,
+    b"main { }",
+    b"array a i64 8\nmain { parallel 2 {\nif tid == 1 {\nlet k = 8\na[k] = 1 }\n} }",
+    b"array a i64 8\nmain { parallel 2 {\nif tid == 1 {\nlet k = 8\na[0] = 1 / (tid - 1) }\n} }",
+    b"array a i64 8 main { parallel 3 { for i in 0 .. 8 { a[i] = i } } }",
+    b"array a i64 8\nmain { parallel 2 { for i in 0 .. 8 nowait { a[i] = i } for i in 0 .. 7 static { a[i] = 1 } } }",
+    b"array a i64 10\nmain { parallel 3 {\nfor i in 0 .. 10 dynamic 4 { a[i] = i }\n} }",
+    b"array b i8 1 main { b[0] = 200 }",
+    b"main {\nloop k in 0 .. 1024 {\nparallel 64 { }\n}\n}",
+    b"main { let x = 1 if x < 2 { x = 2 } else { x = 3 } loop k in 0 .. x { } }",
+    b"mutex m mutex n main { parallel 2 { critical { critical m { critical n { } } } barrier } }",
+    b"main { let x = 1 if 1 { let y = 2 } let y = x }",
+    b"main { parallel 2 { loop i in -1 .. (3) { for j in i .. span { } barrier } } }",
+    b"main { parallel 2 { parallel 2 { parallel 2 { parallel 8 { barrier } } } } }",
+];
+
 #[test]
 fn kernels_of_the_whole_language_are_read(rt: HostRuntime) {
-    let texts: [&[u8]; 16] = [
-        b"main { let abcdefghijklmnopqrstuvwxyz012345 = 9223372036854775807 }",
-        LOCKED,
-        HEAT,
-        b"main { }",
-        b"array a i64 8\nmain { parallel 2 {\nif tid == 1 {\nlet k = 8\na[k] = 1 }\n} }",
-        b"array a i64 8\nmain { parallel 2 {\nif tid == 1 {\nlet k = 8\na[0] = 1 / (tid - 1) }\n} }",
-        b"array a i64 8 main { parallel 3 { for i in 0 .. 8 { a[i] = i } } }",
-        b"array a i64 8\nmain { parallel 2 { for i in 0 .. 8 nowait { a[i] = i } for i in 0 .. 7 static { a[i] = 1 } } }",
-        b"array a i64 10\nmain { parallel 3 {\nfor i in 0 .. 10 dynamic 4 { a[i] = i }\n} }",
-        b"array b i8 1 main { b[0] = 200 }",
-        b"main {\nloop k in 0 .. 1024 {\nparallel 64 { }\n}\n}",
-        b"main { let x = 1 if x < 2 { x = 2 } else { x = 3 } loop k in 0 .. x { } }",
-        b"mutex m mutex n main { parallel 2 { critical { critical m { critical n { } } } barrier } }",
-        b"main { let x = 1 if 1 { let y = 2 } let y = x }",
-        b"main { parallel 2 { loop i in -1 .. (3) { for j in i .. span { } barrier } } }",
-        b"main { parallel 2 { parallel 2 { parallel 2 { parallel 8 { barrier } } } } }",
-    ];
-    for text in texts {
-        assert!(rt; is_read(rt.alloc(), text));
-    }
+    assert_eq!(rt; first_unread(rt.alloc(), READ), None);
 }
+
+const DECLARATIONS: &[Refused<'static>] = &[
+    (b"array a i8 1\narray a i8 1 main { }", 2, KernelWhy::Twice),
+    (b"array a i8 1\nmutex a main { }", 2, KernelWhy::Twice),
+    (b"mutex m\nmutex m main { }", 2, KernelWhy::Twice),
+    (b"mutex m\narray m f 0 main { }", 2, KernelWhy::Twice),
+    (b"array a\ni7 1 main { }", 2, KernelWhy::Width),
+    (b"array a f64\n0 main { }", 1, KernelWhy::Width),
+    (b"array a i8\n0 main { }", 2, KernelWhy::Count),
+    (b"array a i8 1048577 main { }", 1, KernelWhy::Count),
+    (
+        b"array a i8 9223372036854775807 main { }",
+        1,
+        KernelWhy::Count,
+    ),
+    (
+        b"array a i64 1048576\narray b i8\n1 main { }",
+        3,
+        KernelWhy::Large,
+    ),
+    (
+        b"array a i64 1048575\narray b i8 1\narray c i8 1 main { x = 1 }",
+        3,
+        KernelWhy::Large,
+    ),
+    (b"main {\nx = 1 }", 2, KernelWhy::Unknown),
+    (b"array a i8 1\nmain { a\n= 1 }", 2, KernelWhy::Unknown),
+    (b"mutex m\nmain { m[0] = 1 }", 2, KernelWhy::Unknown),
+];
 
 #[test]
 fn a_broken_rule_of_a_declaration_tells_its_line_and_why(rt: HostRuntime) {
-    let rows: [(&[u8], u32, KernelWhy); 14] = [
-        (b"array a i8 1\narray a i8 1 main { }", 2, KernelWhy::Twice),
-        (b"array a i8 1\nmutex a main { }", 2, KernelWhy::Twice),
-        (b"mutex m\nmutex m main { }", 2, KernelWhy::Twice),
-        (b"mutex m\narray m f 0 main { }", 2, KernelWhy::Twice),
-        (b"array a\ni7 1 main { }", 2, KernelWhy::Width),
-        (b"array a f64\n0 main { }", 1, KernelWhy::Width),
-        (b"array a i8\n0 main { }", 2, KernelWhy::Count),
-        (b"array a i8 1048577 main { }", 1, KernelWhy::Count),
-        (
-            b"array a i8 9223372036854775807 main { }",
-            1,
-            KernelWhy::Count,
-        ),
-        (
-            b"array a i64 1048576\narray b i8\n1 main { }",
-            3,
-            KernelWhy::Large,
-        ),
-        (
-            b"array a i64 1048575\narray b i8 1\narray c i8 1 main { x = 1 }",
-            3,
-            KernelWhy::Large,
-        ),
-        (b"main {\nx = 1 }", 2, KernelWhy::Unknown),
-        (b"array a i8 1\nmain { a\n= 1 }", 2, KernelWhy::Unknown),
-        (b"mutex m\nmain { m[0] = 1 }", 2, KernelWhy::Unknown),
-    ];
-    for (text, line, why) in rows {
-        assert!(rt; is_refused(rt.alloc(), text, line, why));
-    }
+    assert_eq!(rt; first_other(rt.alloc(), DECLARATIONS), None);
 }
+
+const NAMES: &[Refused<'static>] = &[
+    (b"main { let x = 1\nlet x = y }", 2, KernelWhy::Twice),
+    (b"array a i8 1 main { let\na = 1 }", 2, KernelWhy::Twice),
+    (
+        b"mutex m main { loop\nm in 0 .. 1 { } }",
+        2,
+        KernelWhy::Twice,
+    ),
+    (
+        b"main { parallel 2 { loop i in 0 .. 1 { for\ni in 0 .. 1 { } } } }",
+        2,
+        KernelWhy::Twice,
+    ),
+    (b"main { let x =\nx }", 2, KernelWhy::Unknown),
+    (b"main { loop i in 0 ..\ni { } }", 2, KernelWhy::Unknown),
+    (
+        b"main { loop i in 0 .. 1 {\ni = 2 } }",
+        2,
+        KernelWhy::Unknown,
+    ),
+    (
+        b"main { loop i in 0 .. 1 { }\nlet j = i }",
+        2,
+        KernelWhy::Unknown,
+    ),
+    (
+        b"main { if 1 { let x = 1 } else {\nx = 2 } }",
+        2,
+        KernelWhy::Unknown,
+    ),
+    (
+        b"array a i8 1 main { a[0] = a[\nb[0]] }",
+        2,
+        KernelWhy::Unknown,
+    ),
+    (b"array a i8 1 main { a[0] =\na }", 2, KernelWhy::Unknown),
+    (b"array a i8 1 main { b[x] = y }", 1, KernelWhy::Unknown),
+    (
+        b"main { parallel 2 { critical\nm { } critical { critical { } } } }",
+        1,
+        KernelWhy::Unknown,
+    ),
+    (
+        b"main { parallel 2 {\ncritical\nm { } } }",
+        2,
+        KernelWhy::Unknown,
+    ),
+    (
+        b"main { let x = 1 + 2\n+ z let x = 3 }",
+        2,
+        KernelWhy::Unknown,
+    ),
+    (b"main { if q { let q = 1 } }", 1, KernelWhy::Unknown),
+];
 
 #[test]
 fn a_broken_rule_of_a_name_tells_its_line_and_why(rt: HostRuntime) {
-    let rows: [(&[u8], u32, KernelWhy); 16] = [
-        (b"main { let x = 1\nlet x = y }", 2, KernelWhy::Twice),
-        (b"array a i8 1 main { let\na = 1 }", 2, KernelWhy::Twice),
-        (
-            b"mutex m main { loop\nm in 0 .. 1 { } }",
-            2,
-            KernelWhy::Twice,
-        ),
-        (
-            b"main { parallel 2 { loop i in 0 .. 1 { for\ni in 0 .. 1 { } } } }",
-            2,
-            KernelWhy::Twice,
-        ),
-        (b"main { let x =\nx }", 2, KernelWhy::Unknown),
-        (b"main { loop i in 0 ..\ni { } }", 2, KernelWhy::Unknown),
-        (
-            b"main { loop i in 0 .. 1 {\ni = 2 } }",
-            2,
-            KernelWhy::Unknown,
-        ),
-        (
-            b"main { loop i in 0 .. 1 { }\nlet j = i }",
-            2,
-            KernelWhy::Unknown,
-        ),
-        (
-            b"main { if 1 { let x = 1 } else {\nx = 2 } }",
-            2,
-            KernelWhy::Unknown,
-        ),
-        (
-            b"array a i8 1 main { a[0] = a[\nb[0]] }",
-            2,
-            KernelWhy::Unknown,
-        ),
-        (b"array a i8 1 main { a[0] =\na }", 2, KernelWhy::Unknown),
-        (b"array a i8 1 main { b[x] = y }", 1, KernelWhy::Unknown),
-        (
-            b"main { parallel 2 { critical\nm { } critical { critical { } } } }",
-            1,
-            KernelWhy::Unknown,
-        ),
-        (
-            b"main { parallel 2 {\ncritical\nm { } } }",
-            2,
-            KernelWhy::Unknown,
-        ),
-        (
-            b"main { let x = 1 + 2\n+ z let x = 3 }",
-            2,
-            KernelWhy::Unknown,
-        ),
-        (b"main { if q { let q = 1 } }", 1, KernelWhy::Unknown),
-    ];
-    for (text, line, why) in rows {
-        assert!(rt; is_refused(rt.alloc(), text, line, why));
-    }
+    assert_eq!(rt; first_other(rt.alloc(), NAMES), None);
 }
+
+const SECTIONS: &[Refused<'static>] = &[
+    (
+        b"array a i64 8\nmain { parallel 2 {\nloop j in 0 .. tid {\nbarrier\n}\n} }",
+        4,
+        KernelWhy::NotUniform,
+    ),
+    (
+        b"main { parallel 1 { parallel 1 { parallel 1 { parallel 1 { barrier if 1 { } else { loop i in 0 .. 1 {\nparallel 0 { x = 1 } } } } } } } }",
+        2,
+        KernelWhy::Deep,
+    ),
+    (b"main { parallel\n0 { } }", 2, KernelWhy::Count),
+    (b"main { parallel 65 { x = 1 } }", 1, KernelWhy::Count),
+    (
+        b"main { parallel 8 { parallel\n9 { } } }",
+        2,
+        KernelWhy::Large,
+    ),
+    (
+        b"main { parallel 2 { parallel 2 { parallel 2 { parallel 8 {\nparallel 1 { } } } } } }",
+        2,
+        KernelWhy::Deep,
+    ),
+    (
+        b"main { critical {\nparallel 0 { } } }",
+        2,
+        KernelWhy::ParallelHere,
+    ),
+    (
+        b"main { parallel 2 { critical { if 1 {\nparallel 1 { } } } } }",
+        2,
+        KernelWhy::ParallelHere,
+    ),
+    (b"main {\nfor i in 0 .. 1 { } }", 2, KernelWhy::WorkHere),
+    (
+        b"main { parallel 2 { for i in 0 .. 1 {\nfor j in tid .. 1 { } } } }",
+        2,
+        KernelWhy::WorkHere,
+    ),
+    (
+        b"main { parallel 2 { if 1 { critical {\nfor j in 0 .. 1 { } } } } }",
+        2,
+        KernelWhy::WorkHere,
+    ),
+    (b"main { if 1 {\nbarrier } }", 2, KernelWhy::BarrierHere),
+    (
+        b"main { parallel 2 { critical {\nbarrier } } }",
+        2,
+        KernelWhy::BarrierHere,
+    ),
+    (
+        b"main { parallel 2 { loop j in 0 .. tid {\nbarrier\n} } }",
+        2,
+        KernelWhy::NotUniform,
+    ),
+    (
+        b"main { parallel 2 { if 1 { } else {\nfor tid2 in tid .. 1 { } } } }",
+        2,
+        KernelWhy::NotUniform,
+    ),
+    (
+        b"main { parallel 2 { for i in 0 ..\ntid { } } }",
+        2,
+        KernelWhy::NotUniform,
+    ),
+    (
+        b"main { let x = 1 parallel 2 { for i in\nx .. 1 { } } }",
+        2,
+        KernelWhy::NotUniform,
+    ),
+    (
+        b"array a i8 1 main { parallel 2 { for i in a\n[0] .. 1 { } } }",
+        1,
+        KernelWhy::NotUniform,
+    ),
+    (
+        b"main { parallel 2 { for i in 4\n/ 2 .. tid { } } }",
+        2,
+        KernelWhy::NotUniform,
+    ),
+    (
+        b"main { parallel 2 { for i in 0 .. 1 static\n0 { } } }",
+        2,
+        KernelWhy::Count,
+    ),
+    (
+        b"main { parallel 2 { for i in 0 .. 1 dynamic 1048577 { } } }",
+        1,
+        KernelWhy::Count,
+    ),
+    (
+        b"mutex m main { critical m {\ncritical m { } } }",
+        2,
+        KernelWhy::CriticalOrder,
+    ),
+    (
+        b"mutex m main { critical m {\ncritical { } } }",
+        2,
+        KernelWhy::CriticalOrder,
+    ),
+    (
+        b"mutex m main { critical m { if 1 {\ncritical { } } } }",
+        2,
+        KernelWhy::CriticalOrder,
+    ),
+    (
+        b"main { parallel 2 {\nloop i in 0 .. 32768 { barrier }\nbarrier\n} }",
+        4,
+        KernelWhy::Large,
+    ),
+];
 
 #[test]
 fn a_broken_rule_of_a_section_tells_its_line_and_why(rt: HostRuntime) {
-    let rows: [(&[u8], u32, KernelWhy); 25] = [
-        (
-            b"array a i64 8\nmain { parallel 2 {\nloop j in 0 .. tid {\nbarrier\n}\n} }",
-            4,
-            KernelWhy::NotUniform,
-        ),
-        (
-            b"main { parallel 1 { parallel 1 { parallel 1 { parallel 1 { barrier if 1 { } else { loop i in 0 .. 1 {\nparallel 0 { x = 1 } } } } } } } }",
-            2,
-            KernelWhy::Deep,
-        ),
-        (b"main { parallel\n0 { } }", 2, KernelWhy::Count),
-        (b"main { parallel 65 { x = 1 } }", 1, KernelWhy::Count),
-        (
-            b"main { parallel 8 { parallel\n9 { } } }",
-            2,
-            KernelWhy::Large,
-        ),
-        (
-            b"main { parallel 2 { parallel 2 { parallel 2 { parallel 8 {\nparallel 1 { } } } } } }",
-            2,
-            KernelWhy::Deep,
-        ),
-        (
-            b"main { critical {\nparallel 0 { } } }",
-            2,
-            KernelWhy::ParallelHere,
-        ),
-        (
-            b"main { parallel 2 { critical { if 1 {\nparallel 1 { } } } } }",
-            2,
-            KernelWhy::ParallelHere,
-        ),
-        (b"main {\nfor i in 0 .. 1 { } }", 2, KernelWhy::WorkHere),
-        (
-            b"main { parallel 2 { for i in 0 .. 1 {\nfor j in tid .. 1 { } } } }",
-            2,
-            KernelWhy::WorkHere,
-        ),
-        (
-            b"main { parallel 2 { if 1 { critical {\nfor j in 0 .. 1 { } } } } }",
-            2,
-            KernelWhy::WorkHere,
-        ),
-        (b"main { if 1 {\nbarrier } }", 2, KernelWhy::BarrierHere),
-        (
-            b"main { parallel 2 { critical {\nbarrier } } }",
-            2,
-            KernelWhy::BarrierHere,
-        ),
-        (
-            b"main { parallel 2 { loop j in 0 .. tid {\nbarrier\n} } }",
-            2,
-            KernelWhy::NotUniform,
-        ),
-        (
-            b"main { parallel 2 { if 1 { } else {\nfor tid2 in tid .. 1 { } } } }",
-            2,
-            KernelWhy::NotUniform,
-        ),
-        (
-            b"main { parallel 2 { for i in 0 ..\ntid { } } }",
-            2,
-            KernelWhy::NotUniform,
-        ),
-        (
-            b"main { let x = 1 parallel 2 { for i in\nx .. 1 { } } }",
-            2,
-            KernelWhy::NotUniform,
-        ),
-        (
-            b"array a i8 1 main { parallel 2 { for i in a\n[0] .. 1 { } } }",
-            1,
-            KernelWhy::NotUniform,
-        ),
-        (
-            b"main { parallel 2 { for i in 4\n/ 2 .. tid { } } }",
-            2,
-            KernelWhy::NotUniform,
-        ),
-        (
-            b"main { parallel 2 { for i in 0 .. 1 static\n0 { } } }",
-            2,
-            KernelWhy::Count,
-        ),
-        (
-            b"main { parallel 2 { for i in 0 .. 1 dynamic 1048577 { } } }",
-            1,
-            KernelWhy::Count,
-        ),
-        (
-            b"mutex m main { critical m {\ncritical m { } } }",
-            2,
-            KernelWhy::CriticalOrder,
-        ),
-        (
-            b"mutex m main { critical m {\ncritical { } } }",
-            2,
-            KernelWhy::CriticalOrder,
-        ),
-        (
-            b"mutex m main { critical m { if 1 {\ncritical { } } } }",
-            2,
-            KernelWhy::CriticalOrder,
-        ),
-        (
-            b"main { parallel 2 {\nloop i in 0 .. 32768 { barrier }\nbarrier\n} }",
-            4,
-            KernelWhy::Large,
-        ),
-    ];
-    for (text, line, why) in rows {
-        assert!(rt; is_refused(rt.alloc(), text, line, why));
-    }
+    assert_eq!(rt; first_other(rt.alloc(), SECTIONS), None);
 }
+
+const LIGHT: &[&[u8]] = &[
+    b"main { parallel 2 { loop i in 0 .. 32768 { barrier } } }",
+    b"main { parallel 2 { loop i in 0 .. 9223372036854775807 { loop j in 0 .. 9223372036854775807 { parallel 2 { barrier } } } } }",
+];
+
+const HEAVY: &[Refused<'static>] = &[(
+    b"main { parallel 2 { loop i in 0 .. 9223372036854775807 { loop j in 0 .. 9223372036854775807 { barrier } }\n} }",
+    2,
+    KernelWhy::Large,
+)];
 
 #[test]
 fn a_region_weighs_at_most_65536(rt: HostRuntime) {
-    let full = b"main { parallel 2 { loop i in 0 .. 32768 { barrier } } }";
-    assert!(rt; is_read(rt.alloc(), full));
-    let inner =
-        b"main { parallel 2 { loop i in 0 .. 9223372036854775807 { loop j in 0 .. 9223372036854775807 { parallel 2 { barrier } } } } }";
-    assert!(rt; is_read(rt.alloc(), inner));
-    let more =
-        b"main { parallel 2 { loop i in 0 .. 9223372036854775807 { loop j in 0 .. 9223372036854775807 { barrier } }\n} }";
-    assert!(rt; is_refused(rt.alloc(), more, 2, KernelWhy::Large));
+    assert_eq!(rt; first_unread(rt.alloc(), LIGHT), None);
+    assert_eq!(rt; first_other(rt.alloc(), HEAVY), None);
 }
 
-#[test]
-fn eight_critical_sections_nest(rt: HostRuntime) -> Result<(), Fail> {
-    let names =
-        b"mutex a mutex b mutex c mutex d mutex e mutex f mutex g mutex h mutex i main { critical a { critical b { critical c { critical d { critical e { critical f { critical g { critical h { ";
-    let eight = repeated(rt.alloc(), names, b"} ", 9, b"")?;
-    assert!(rt; is_read(rt.alloc(), &eight));
-    let nine = repeated(
-        rt.alloc(),
-        names,
+// A text, so many times another one behind it, and a third; and the refusal of all, if it is one.
+type Long<'a> = (
+    &'a [u8],
+    &'a [u8],
+    usize,
+    &'a [u8],
+    Option<(u32, KernelWhy)>,
+);
+
+// The first of these texts that is told otherwise, by its number from 0.
+fn first_other_long(alloc: Global, rows: &[Long<'_>]) -> Result<Option<usize>, AllocError> {
+    for (number, (before, text, count, behind, refusal)) in rows.iter().enumerate() {
+        let bytes = repeated(alloc, before, text, *count, behind)?;
+        if !tells(alloc, &bytes, *refusal) {
+            return Ok(Some(number));
+        }
+    }
+    Ok(None)
+}
+
+const EIGHT: &[u8] =
+    b"mutex a mutex b mutex c mutex d mutex e mutex f mutex g mutex h mutex i main { critical a { critical b { critical c { critical d { critical e { critical f { critical g { critical h { ";
+
+const NESTED: &[Long<'static>] = &[
+    (EIGHT, b"} ", 9, b"", None),
+    (
+        EIGHT,
         b"\n critical i {",
         1,
         b"} } } } } } } } } }",
-    )?;
-    assert!(rt; is_refused(rt.alloc(), &nine, 2, KernelWhy::Deep));
+        Some((2, KernelWhy::Deep)),
+    ),
+];
+
+#[test]
+fn eight_critical_sections_nest(rt: HostRuntime) -> Result<(), Fail> {
+    assert_eq!(rt; first_other_long(rt.alloc(), NESTED)?, None);
     Ok(())
 }
 
@@ -461,211 +508,279 @@ fn at_most_63_mutexes_are_declared(rt: HostRuntime) -> Result<(), Fail> {
     Ok(())
 }
 
+// Whether a text that is padded to so many bytes is told so.
+fn tells_padded(
+    alloc: Global,
+    len: usize,
+    refusal: Option<(u32, KernelWhy)>,
+) -> Result<bool, AllocError> {
+    let bytes = padded(alloc, TWO_LANES, len)?;
+    Ok(tells(alloc, &bytes, refusal))
+}
+
+const TOO_LONG: Option<(u32, KernelWhy)> = Some((1, KernelWhy::Large));
+
+const NO_UTF8: &[Long<'static>] = &[(b"\n\xff", b"\xff", 65535, b"", TOO_LONG)];
+
 #[test]
 fn a_text_has_at_most_65536_bytes(rt: HostRuntime) -> Result<(), Fail> {
-    let largest = padded(rt.alloc(), TWO_LANES, 65536)?;
-    assert!(rt; is_read(rt.alloc(), &largest));
-    let larger = padded(rt.alloc(), TWO_LANES, 65537)?;
-    assert!(rt; is_refused(rt.alloc(), &larger, 1, KernelWhy::Large));
-    let bytes = repeated(rt.alloc(), b"\n\xff", b"\xff", 65535, b"")?;
-    assert!(rt; is_refused(rt.alloc(), &bytes, 1, KernelWhy::Large));
+    assert!(rt; tells_padded(rt.alloc(), 65536, None)?);
+    assert!(rt; tells_padded(rt.alloc(), 65537, TOO_LONG)?);
+    assert_eq!(rt; first_other_long(rt.alloc(), NO_UTF8)?, None);
     Ok(())
 }
+
+const NO_KERNELS: &[Refused<'static>] = &[
+    (b"\xff\nmain { $ }", 1, KernelWhy::NotUtf8),
+    (b"main {\n} # \xc3\x28\n\xff", 2, KernelWhy::NotUtf8),
+    (b"main { }\n# \xe2\x82", 2, KernelWhy::NotUtf8),
+    (b"! main { } $", 1, KernelWhy::Token),
+    (b"main { }\n9223372036854775808", 2, KernelWhy::Token),
+    (
+        b"main { }\nname_of_more_than_32_bytes_in_all",
+        2,
+        KernelWhy::Token,
+    ),
+    (b"", 1, KernelWhy::Syntax),
+    (b"main {\n", 2, KernelWhy::Syntax),
+    (b"main {\n}\n}", 3, KernelWhy::Syntax),
+    (b"array a i64\nmain { }", 2, KernelWhy::Syntax),
+    (b"main {\n1 }", 2, KernelWhy::Syntax),
+    (b"main {\nlet x\n1 }", 3, KernelWhy::Syntax),
+    (b"main { x = 1 +\n}", 2, KernelWhy::Syntax),
+    (b"main { x = 1 < 2\n< 3 }", 2, KernelWhy::Syntax),
+    (b"main { x = (1 < 2) <\n(2 < 3 }", 2, KernelWhy::Syntax),
+    (b"main { x = 1\n[0] = 2 }", 2, KernelWhy::Syntax),
+    (b"main { if 1 { }\nx = 1\nelse { } }", 3, KernelWhy::Syntax),
+    (
+        b"main { for i in 0 .. 1\nnowait\nstatic { } }",
+        3,
+        KernelWhy::Syntax,
+    ),
+    (
+        b"main { loop i in 0 .. 1\nstatic { } }",
+        2,
+        KernelWhy::Syntax,
+    ),
+    (b"main { critical\n1 { } }", 2, KernelWhy::Syntax),
+    (b"main { a[0] = 1 a[0]\n}", 2, KernelWhy::Syntax),
+    (b"main {\n$ } $", 2, KernelWhy::Token),
+    (b"main { }\n\xff", 2, KernelWhy::NotUtf8),
+    (
+        b"main { x =\n---------------------------------1 }",
+        2,
+        KernelWhy::Deep,
+    ),
+    (
+        b"main { x =\n((((((((((((((((a[((((((((((((((((1 }",
+        2,
+        KernelWhy::Deep,
+    ),
+    (
+        b"main {{\n---------------------------------1 }",
+        1,
+        KernelWhy::Syntax,
+    ),
+];
 
 #[test]
 fn a_text_that_is_no_kernel_tells_its_line_and_why(rt: HostRuntime) {
-    let rows: [(&[u8], u32, KernelWhy); 26] = [
-        (b"\xff\nmain { $ }", 1, KernelWhy::NotUtf8),
-        (b"main {\n} # \xc3\x28\n\xff", 2, KernelWhy::NotUtf8),
-        (b"main { }\n# \xe2\x82", 2, KernelWhy::NotUtf8),
-        (b"! main { } $", 1, KernelWhy::Token),
-        (b"main { }\n9223372036854775808", 2, KernelWhy::Token),
-        (
-            b"main { }\nname_of_more_than_32_bytes_in_all",
-            2,
-            KernelWhy::Token,
-        ),
-        (b"", 1, KernelWhy::Syntax),
-        (b"main {\n", 2, KernelWhy::Syntax),
-        (b"main {\n}\n}", 3, KernelWhy::Syntax),
-        (b"array a i64\nmain { }", 2, KernelWhy::Syntax),
-        (b"main {\n1 }", 2, KernelWhy::Syntax),
-        (b"main {\nlet x\n1 }", 3, KernelWhy::Syntax),
-        (b"main { x = 1 +\n}", 2, KernelWhy::Syntax),
-        (b"main { x = 1 < 2\n< 3 }", 2, KernelWhy::Syntax),
-        (b"main { x = (1 < 2) <\n(2 < 3 }", 2, KernelWhy::Syntax),
-        (b"main { x = 1\n[0] = 2 }", 2, KernelWhy::Syntax),
-        (b"main { if 1 { }\nx = 1\nelse { } }", 3, KernelWhy::Syntax),
-        (
-            b"main { for i in 0 .. 1\nnowait\nstatic { } }",
-            3,
-            KernelWhy::Syntax,
-        ),
-        (
-            b"main { loop i in 0 .. 1\nstatic { } }",
-            2,
-            KernelWhy::Syntax,
-        ),
-        (b"main { critical\n1 { } }", 2, KernelWhy::Syntax),
-        (b"main { a[0] = 1 a[0]\n}", 2, KernelWhy::Syntax),
-        (b"main {\n$ } $", 2, KernelWhy::Token),
-        (b"main { }\n\xff", 2, KernelWhy::NotUtf8),
-        (
-            b"main { x =\n---------------------------------1 }",
-            2,
-            KernelWhy::Deep,
-        ),
-        (
-            b"main { x =\n((((((((((((((((a[((((((((((((((((1 }",
-            2,
-            KernelWhy::Deep,
-        ),
-        (
-            b"main {{\n---------------------------------1 }",
-            1,
-            KernelWhy::Syntax,
-        ),
-    ];
-    for (text, line, why) in rows {
-        assert!(rt; is_refused(rt.alloc(), text, line, why));
-    }
+    assert_eq!(rt; first_other(rt.alloc(), NO_KERNELS), None);
 }
+
+// A text, so many times another one, a third, and so many times a fourth, and a fifth.
+type Closed<'a> = (
+    &'a [u8],
+    &'a [u8],
+    usize,
+    &'a [u8],
+    &'a [u8],
+    usize,
+    &'a [u8],
+);
+
+const OPEN: &[Closed<'static>] = &[
+    (b"main {", b"if 1 {", 31, b"", b"}", 32, b""),
+    (b"main { let x = ", b"-", 32, b"1 ", b"", 0, b"}"),
+    (b"main { let x = ", b"(", 32, b"1", b")", 32, b" }"),
+];
+
+fn is_closed_read(alloc: Global, text: &Closed<'_>) -> Result<bool, AllocError> {
+    let (before, opening, count, between, closing, closed, behind) = text;
+    let opened = repeated(alloc, before, opening, *count, between)?;
+    let bytes = repeated(alloc, &opened, closing, *closed, behind)?;
+    Ok(is_read(alloc, &bytes))
+}
+
+const TOO_DEEP: &[Long<'static>] = &[
+    (b"main {", b"if 1\n{", 32, b"", Some((33, KernelWhy::Deep))),
+    (
+        b"main { let x = ",
+        b"\n(",
+        33,
+        b"1",
+        Some((34, KernelWhy::Deep)),
+    ),
+];
 
 #[test]
 fn at_most_32_levels_are_open(rt: HostRuntime) -> Result<(), Fail> {
-    let read: [(&[u8], &[u8], usize, &[u8], &[u8], usize, &[u8]); 3] = [
-        (b"main {", b"if 1 {", 31, b"", b"}", 32, b""),
-        (b"main { let x = ", b"-", 32, b"1 ", b"", 0, b"}"),
-        (b"main { let x = ", b"(", 32, b"1", b")", 32, b" }"),
-    ];
-    for (before, opening, count, between, closing, closed, behind) in read {
-        let opened = repeated(rt.alloc(), before, opening, count, between)?;
-        let text = repeated(rt.alloc(), &opened, closing, closed, behind)?;
-        assert!(rt; is_read(rt.alloc(), &text));
+    for text in OPEN {
+        assert!(rt; is_closed_read(rt.alloc(), text)?);
     }
-    let refused: [(&[u8], &[u8], usize, &[u8], u32); 2] = [
-        (b"main {", b"if 1\n{", 32, b"", 33),
-        (b"main { let x = ", b"\n(", 33, b"1", 34),
-    ];
-    for (before, opening, count, behind, line) in refused {
-        let text = repeated(rt.alloc(), before, opening, count, behind)?;
-        assert!(rt; is_refused(rt.alloc(), &text, line, KernelWhy::Deep));
-    }
+    assert_eq!(rt; first_other_long(rt.alloc(), TOO_DEEP)?, None);
     Ok(())
 }
+
+const LONG: &[Long<'static>] = &[
+    (b"main { let x = 1", b"+1", 32_000, b" }", None),
+    (b"main { let x = 1 ", b"x=1 ", 10_000, b"}", None),
+    (
+        b"main {",
+        b"if 1{}",
+        10_000,
+        b"\nx = 1 }",
+        Some((2, KernelWhy::Unknown)),
+    ),
+    // as many `else` parts as a text has room for
+    (b"main{", b"if 1{}else{}", 5_460, b"}", None),
+    (
+        b"main{",
+        b"if 1{}else{}",
+        5_459,
+        b"\nelse{}}",
+        Some((2, KernelWhy::Syntax)),
+    ),
+];
 
 #[test]
 fn long_texts_are_read_to_their_end(rt: HostRuntime) -> Result<(), Fail> {
-    let unknown = Some((2, KernelWhy::Unknown));
-    let no_syntax = Some((2, KernelWhy::Syntax));
-    let rows: [(&[u8], &[u8], usize, &[u8], Option<(u32, KernelWhy)>); 5] = [
-        (b"main { let x = 1", b"+1", 32_000, b" }", None),
-        (b"main { let x = 1 ", b"x=1 ", 10_000, b"}", None),
-        (b"main {", b"if 1{}", 10_000, b"\nx = 1 }", unknown),
-        // as many `else` parts as a text has room for
-        (b"main{", b"if 1{}else{}", 5_460, b"}", None),
-        (b"main{", b"if 1{}else{}", 5_459, b"\nelse{}}", no_syntax),
-    ];
-    for (before, text, count, behind, refusal) in rows {
-        let text = repeated(rt.alloc(), before, text, count, behind)?;
-        assert!(rt; tells(rt.alloc(), &text, refusal));
-    }
+    assert_eq!(rt; first_other_long(rt.alloc(), LONG)?, None);
     Ok(())
 }
+
+const NAMED: &[Long<'static>] = &[
+    (b"main { let\n_", b"z", 31, b" = 1 }", None),
+    (
+        b"main { let\n_",
+        b"z",
+        32,
+        b" = 1 }",
+        Some((2, KernelWhy::Token)),
+    ),
+];
 
 #[test]
 fn a_name_has_at_most_32_bytes(rt: HostRuntime) -> Result<(), Fail> {
-    let longest = repeated(rt.alloc(), b"main { let\n_", b"z", 31, b" = 1 }")?;
-    assert!(rt; is_read(rt.alloc(), &longest));
-    let longer = repeated(rt.alloc(), b"main { let\n_", b"z", 32, b" = 1 }")?;
-    assert!(rt; is_refused(rt.alloc(), &longer, 2, KernelWhy::Token));
+    assert_eq!(rt; first_other_long(rt.alloc(), NAMED)?, None);
     Ok(())
 }
 
+const NUMBERS: &[&[u8]] = &[
+    b"main { let x = 9223372036854775807 }",
+    b"main { let x = 00000000000000000000000000000000001 }",
+];
+
+const TOO_LARGE: &[Refused<'static>] = &[
+    (
+        b"main { let x =\n9223372036854775808 }",
+        2,
+        KernelWhy::Token,
+    ),
+    (
+        b"main { let x =\n-9223372036854775808 }",
+        2,
+        KernelWhy::Token,
+    ),
+    (
+        b"main { let x =\n18446744073709551617 }",
+        2,
+        KernelWhy::Token,
+    ),
+];
+
 #[test]
 fn a_number_is_at_most_9223372036854775807(rt: HostRuntime) {
-    assert!(rt; is_read(rt.alloc(), b"main { let x = 9223372036854775807 }"));
-    assert!(rt;
-        is_read(
-            rt.alloc(),
-            b"main { let x = 00000000000000000000000000000000001 }"
-        )
-    );
-    let rows: [&[u8]; 3] = [
-        b"main { let x =\n9223372036854775808 }",
-        b"main { let x =\n-9223372036854775808 }",
-        b"main { let x =\n18446744073709551617 }",
-    ];
-    for text in rows {
-        assert!(rt; is_refused(rt.alloc(), text, 2, KernelWhy::Token));
-    }
+    assert_eq!(rt; first_unread(rt.alloc(), NUMBERS), None);
+    assert_eq!(rt; first_other(rt.alloc(), TOO_LARGE), None);
 }
+
+const SPANS: &[&[u8]] = &[b"main { parallel 1 { } }", b"main { parallel 64 { } }"];
+
+const OTHER_SPANS: &[Refused<'static>] = &[
+    (b"main { parallel\n65 { } }", 2, KernelWhy::Count),
+    (
+        b"main { parallel 64 { parallel\n65 { } } }",
+        2,
+        KernelWhy::Count,
+    ),
+    (
+        b"main { parallel\n9223372036854775807 { } }",
+        2,
+        KernelWhy::Count,
+    ),
+];
 
 #[test]
 fn a_region_has_1_to_64_lanes(rt: HostRuntime) {
-    assert!(rt; is_read(rt.alloc(), b"main { parallel 1 { } }"));
-    assert!(rt; is_read(rt.alloc(), b"main { parallel 64 { } }"));
-    assert!(rt;
-        is_refused(
-            rt.alloc(),
-            b"main { parallel\n65 { } }",
-            2,
-            KernelWhy::Count
-        )
-    );
-    assert!(rt;
-        is_refused(
-            rt.alloc(),
-            b"main { parallel 64 { parallel\n65 { } } }",
-            2,
-            KernelWhy::Count
-        )
-    );
-    assert!(rt;
-        is_refused(
-            rt.alloc(),
-            b"main { parallel\n9223372036854775807 { } }",
-            2,
-            KernelWhy::Count
-        )
-    );
+    assert_eq!(rt; first_unread(rt.alloc(), SPANS), None);
+    assert_eq!(rt; first_other(rt.alloc(), OTHER_SPANS), None);
 }
+
+const MOST_LANES: &[&[u8]] = &[
+    b"main { parallel 8 { parallel 8 { } } }",
+    b"main { parallel 1 { parallel 64 { parallel 1 { parallel 1 { } } } } }",
+    b"main { parallel 2 { parallel 4 { parallel 8 { } parallel 8 { } } } }",
+    b"main { parallel 64 { } parallel 64 { } }",
+];
+
+const MORE_LANES: &[Refused<'static>] = &[
+    (
+        b"main { parallel 2 { parallel\n33 { } } }",
+        2,
+        KernelWhy::Large,
+    ),
+    (
+        b"main { parallel 64 { parallel\n2 { } } }",
+        2,
+        KernelWhy::Large,
+    ),
+    (
+        b"main { parallel 2 { parallel 4 { parallel 8 { } parallel\n9 { } } } }",
+        2,
+        KernelWhy::Large,
+    ),
+    (
+        b"main { parallel 2 { parallel 2 { parallel 4 { parallel\n5 { } } } } }",
+        2,
+        KernelWhy::Large,
+    ),
+];
 
 #[test]
 fn nested_regions_have_at_most_64_lanes_in_all(rt: HostRuntime) {
-    let most: [&[u8]; 4] = [
-        b"main { parallel 8 { parallel 8 { } } }",
-        b"main { parallel 1 { parallel 64 { parallel 1 { parallel 1 { } } } } }",
-        b"main { parallel 2 { parallel 4 { parallel 8 { } parallel 8 { } } } }",
-        b"main { parallel 64 { } parallel 64 { } }",
-    ];
-    for text in most {
-        assert!(rt; is_read(rt.alloc(), text));
-    }
-    let more: [&[u8]; 4] = [
-        b"main { parallel 2 { parallel\n33 { } } }",
-        b"main { parallel 64 { parallel\n2 { } } }",
-        b"main { parallel 2 { parallel 4 { parallel 8 { } parallel\n9 { } } } }",
-        b"main { parallel 2 { parallel 2 { parallel 4 { parallel\n5 { } } } } }",
-    ];
-    for text in more {
-        assert!(rt; is_refused(rt.alloc(), text, 2, KernelWhy::Large));
-    }
+    assert_eq!(rt; first_unread(rt.alloc(), MOST_LANES), None);
+    assert_eq!(rt; first_other(rt.alloc(), MORE_LANES), None);
 }
+
+const IN_UTF8: &[&[u8]] = &[b"# \xc3\xa9\nmain { } # \xe2\x82\xac"];
+
+const NOT_IN_UTF8: &[Refused<'static>] = &[
+    (b"\xffmain { }", 1, KernelWhy::NotUtf8),
+    (b"\x80\nmain { }", 1, KernelWhy::NotUtf8),
+    (b"main {\n# \xc3\n}", 2, KernelWhy::NotUtf8),
+    (
+        b"main {\n\n# \xe2\x82\xac \xe2\x82 \xff\n$ }",
+        3,
+        KernelWhy::NotUtf8,
+    ),
+    (b"main { }\n\xff", 2, KernelWhy::NotUtf8),
+    (b"main { } #\n# \xe2\x82", 2, KernelWhy::NotUtf8),
+    (b"main { }\n\xc3\xa9", 2, KernelWhy::Token),
+];
 
 #[test]
 fn a_text_is_utf8_to_its_last_byte(rt: HostRuntime) {
-    assert!(rt; is_read(rt.alloc(), b"# \xc3\xa9\nmain { } # \xe2\x82\xac"));
-    let rows: [(&[u8], u32); 6] = [
-        (b"\xffmain { }", 1),
-        (b"\x80\nmain { }", 1),
-        (b"main {\n# \xc3\n}", 2),
-        (b"main {\n\n# \xe2\x82\xac \xe2\x82 \xff\n$ }", 3),
-        (b"main { }\n\xff", 2),
-        (b"main { } #\n# \xe2\x82", 2),
-    ];
-    for (text, line) in rows {
-        assert!(rt; is_refused(rt.alloc(), text, line, KernelWhy::NotUtf8));
-    }
-    assert!(rt; is_refused(rt.alloc(), b"main { }\n\xc3\xa9", 2, KernelWhy::Token));
+    assert_eq!(rt; first_unread(rt.alloc(), IN_UTF8), None);
+    assert_eq!(rt; first_other(rt.alloc(), NOT_IN_UTF8), None);
 }
