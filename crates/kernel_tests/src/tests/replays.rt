@@ -8,7 +8,9 @@ use command_answer::{
     DIFFERS, DONE, FOLDER_REFUSED, KERNEL_REFUSED, READ_FAULT, USAGE, WRITE_FAULT,
 };
 use std::alloc::Global;
+use std::sync::Wait;
 use std::test::Fail;
+use std::thread::Threads;
 use sw_base::MemFolder;
 
 // Each lane adds 1 to every other element.
@@ -41,8 +43,11 @@ const SECOND: usize = 32;
 
 const LANE_0: &str = "d/t-0.0.swl";
 
+/// A log, the place of a byte there, by how much it is raised, and what is told then.
+type Field<'a> = (&'a str, usize, u8, &'a str);
+
 // The last byte of each field: kind, size, site, line, address and value. A write becomes no record by one more.
-const FIELDS: &[(&str, usize, u8, &str)] = &[
+const FIELDS: &[Field<'static>] = &[
     (LANE_0, SECOND, 255, "differs t-0.0.swl record 2\n"),
     (LANE_0, SECOND + 1, 252, "differs t-0.0.swl record 2\n"),
     (LANE_0, SECOND + 3, 1, "differs t-0.0.swl record 2\n"),
@@ -63,14 +68,24 @@ const FIELDS: &[(&str, usize, u8, &str)] = &[
     ),
 ];
 
+// Fails where the run of the folder's kernel isn't the same, or is told otherwise once this field is another.
+fn differs_at<R: Threads + Wait + Sync>(
+    rt: &R,
+    alloc: Global,
+    folder: &mut MemFolder,
+    field: &Field<'_>,
+) -> Result<(), Fail> {
+    let (name, at, by, text) = field;
+    passes(rt, alloc, folder, &COUNTING)?;
+    raise(alloc, folder, name, *at, *by)?;
+    answers(rt, alloc, folder, REPLAY, DIFFERS, text)
+}
+
 #[test]
 fn a_run_is_the_same_until_a_field_is_another(rt: HostRuntime) -> Result<(), Fail> {
-    let alloc = rt.alloc();
-    for (name, at, by, text) in FIELDS {
-        let mut folder = folder_of(alloc, &COUNTING)?;
-        passes(&rt, alloc, &mut folder, &COUNTING)?;
-        raise(alloc, &mut folder, name, *at, *by)?;
-        answers(&rt, alloc, &mut folder, REPLAY, DIFFERS, text)?;
+    for field in FIELDS {
+        let mut folder = folder_of(rt.alloc(), &COUNTING)?;
+        differs_at(&rt, rt.alloc(), &mut folder, field)?;
     }
     Ok(())
 }

@@ -95,14 +95,22 @@ fn is_cut(whole: &MemFolder, folder: &MemFolder, lengths: &[usize]) -> bool {
     folder.file(LANE_0) == whole.file(LANE_0) && folder.sealed_lengths(1) == Some(lengths)
 }
 
+/// The folder that a case leaves, which passes.
+pub fn left_by<R: Threads + Wait + Sync>(
+    rt: &R,
+    alloc: Global,
+    case: &Case<'_>,
+) -> Result<MemFolder, Fail> {
+    let mut folder = folder_of(alloc, case)?;
+    passes(rt, alloc, &mut folder, case)?;
+    Ok(folder)
+}
+
 #[test]
 fn pieces_fill_the_buffer(rt: HostRuntime) -> Result<(), Fail> {
-    let alloc = rt.alloc();
-    let mut whole = folder_of(alloc, &UNCUT)?;
-    passes(&rt, alloc, &mut whole, &UNCUT)?;
+    let whole = left_by(&rt, rt.alloc(), &UNCUT)?;
     for (case, size, lengths) in CUT {
-        let mut folder = folder_of(alloc, case)?;
-        passes(&rt, alloc, &mut folder, case)?;
+        let folder = left_by(&rt, rt.alloc(), case)?;
         holds(is_cut(&whole, &folder, lengths), size)?;
     }
     Ok(())
@@ -331,14 +339,18 @@ fn each_call_of_a_run_may_fail(rt: HostRuntime) -> Result<(), Fail> {
     passes_at(&rt, rt.alloc(), 9, &NOTHING_FAILS)
 }
 
+// What is left where the call that puts the index fails.
+fn left_by_index_fault<R: Threads + Wait + Sync>(rt: &R, alloc: Global) -> Result<MemFolder, Fail> {
+    let mut folder = folder_of(alloc, &INDEX_FAILS)?;
+    folder.fail(&[8])?;
+    passes(rt, alloc, &mut folder, &INDEX_FAILS)?;
+    Ok(folder)
+}
+
 #[test]
 fn a_part_of_an_index_may_be_left(rt: HostRuntime) -> Result<(), Fail> {
-    let alloc = rt.alloc();
-    let mut whole = folder_of(alloc, &NOTHING_FAILS)?;
-    passes(&rt, alloc, &mut whole, &NOTHING_FAILS)?;
-    let mut cut = folder_of(alloc, &INDEX_FAILS)?;
-    cut.fail(&[8])?;
-    passes(&rt, alloc, &mut cut, &INDEX_FAILS)?;
+    let whole = left_by(&rt, rt.alloc(), &NOTHING_FAILS)?;
+    let cut = left_by_index_fault(&rt, rt.alloc())?;
     holds(has_index_prefix(&cut, &whole), INDEX)
 }
 

@@ -1,11 +1,13 @@
 //! Kernels of the whole language that run to their end: what `run` prints of each, and what `check` and `replay` print of the folder
 //! that it wrote.
 
-use asking::{
-    Case, EMPTY, REPLAY, RUN, SHOW, Whole, all_pass, all_run, folder_of, holds, passes, printed,
-};
+use super::runs::left_by;
+use asking::{Case, EMPTY, RUN, SHOW, Whole, all_pass, all_run, holds, printed};
 use command_answer::{DIFFERS, DONE, RACES};
+use std::alloc::Global;
+use std::sync::Wait;
 use std::test::Fail;
+use std::thread::Threads;
 use sw_base::MemFolder;
 
 const NO_RACE: &str = "races 0\n";
@@ -236,17 +238,20 @@ fn has_same_file(one: &MemFolder, other: &MemFolder, name: &str) -> bool {
     one.file(name).is_some() && one.file(name) == other.file(name)
 }
 
+// Fails where a log isn't the same in both folders.
+fn have_same_logs(one: &MemFolder, other: &MemFolder) -> Result<(), Fail> {
+    for name in ["d/t.swl", "d/t-0.0.swl", "d/t-0.1.swl"] {
+        holds(has_same_file(one, other, name), name)?;
+    }
+    Ok(())
+}
+
 #[test]
 fn a_run_without_draws_has_the_same_logs_each_time(rt: HostRuntime) -> Result<(), Fail> {
-    let alloc = rt.alloc();
-    let mut first = folder_of(alloc, &REPEATED)?;
-    passes(&rt, alloc, &mut first, &REPEATED)?;
+    let first = left_by(&rt, rt.alloc(), &REPEATED)?;
     for _ in 0..200 {
-        let mut again = folder_of(alloc, &REPEATED)?;
-        passes(&rt, alloc, &mut again, &REPEATED)?;
-        for name in ["d/t.swl", "d/t-0.0.swl", "d/t-0.1.swl"] {
-            holds(has_same_file(&again, &first, name), name)?;
-        }
+        let again = left_by(&rt, rt.alloc(), &REPEATED)?;
+        have_same_logs(&again, &first)?;
     }
     Ok(())
 }
@@ -287,20 +292,28 @@ const DRAWS: &[(&str, usize)] = &[
     (" chunk 3 of 3 line 3", 3),
 ];
 
-#[test]
-fn each_chunk_is_drawn_once(rt: HostRuntime) -> Result<(), Fail> {
-    let alloc = rt.alloc();
-    let drawn = Case {
-        held: &[("k", DRAWN)],
-        asked: &[(RUN, DONE, "...")],
-        ..EMPTY
-    };
-    let mut folder = folder_of(alloc, &drawn)?;
-    passes(&rt, alloc, &mut folder, &drawn)?;
-    let (status, out) = printed(&rt, alloc, &mut folder, SHOW, &[])?;
+const DRAWING: Case<'static> = Case {
+    held: &[("k", DRAWN)],
+    asked: &[(RUN, DONE, "...")],
+    ..EMPTY
+};
+
+// Fails where the folder's records aren't shown, or a draw is shown otherwise than so often.
+fn shows_draws<R: Threads + Wait + Sync>(
+    rt: &R,
+    alloc: Global,
+    folder: &mut MemFolder,
+) -> Result<(), Fail> {
+    let (status, out) = printed(rt, alloc, folder, SHOW, &[])?;
     holds(status == DONE, "show")?;
     for (ending, times) in DRAWS {
         holds(count(out.written(), ending.as_bytes()) == *times, ending)?;
     }
     Ok(())
+}
+
+#[test]
+fn each_chunk_is_drawn_once(rt: HostRuntime) -> Result<(), Fail> {
+    let mut folder = left_by(&rt, rt.alloc(), &DRAWING)?;
+    shows_draws(&rt, rt.alloc(), &mut folder)
 }
