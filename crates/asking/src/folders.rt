@@ -65,16 +65,12 @@ fn spell(bytes: &mut Vec<u8>, record: &Rec) -> Result<(), AllocError> {
 }
 
 fn spell_row(bytes: &mut Vec<u8>, steps: &[Step], records: usize) -> Result<(), AllocError> {
-    let depth = steps.len() as u64;
-    bytes.extend_from_slice(&depth.to_be_bytes()[4..])?;
-    bytes.extend_from_slice(&[0; 4])?;
-    for (region, lane, span) in steps {
+    bytes.extend_from_slice(&[0, 0, 0, steps.len().min(255) as u8, 0, 0, 0, 0])?;
+    for at in 0..4 {
+        let (region, lane, span) = *steps.get(at).unwrap_or(&(0, 0, 0));
         bytes.extend_from_slice(&region.to_be_bytes())?;
         bytes.extend_from_slice(&lane.to_be_bytes())?;
         bytes.extend_from_slice(&span.to_be_bytes())?;
-    }
-    for _ in steps.len()..4 {
-        bytes.extend_from_slice(&[0; 8])?;
     }
     bytes.extend_from_slice(&(records as u64).to_be_bytes())
 }

@@ -134,29 +134,36 @@ fn fill(
     Ok(())
 }
 
+/// Takes the task that waits on top, gives it its records, and has its lanes wait, the first on top.
+fn finish_next(
+    alloc: Global,
+    numbers: &mut Numbers,
+    waiting: &mut Vec<Task>,
+    tasks: &mut Vec<Task>,
+) -> Result<(), AllocError> {
+    let Some(mut task) = waiting.pop() else {
+        return Ok(());
+    };
+    let mut lanes = Vec::new(alloc);
+    fill(alloc, numbers, &mut task, &mut lanes)?;
+    lanes.reverse();
+    waiting.append(&mut lanes)?;
+    tasks.push(task)?;
+    Ok(())
+}
+
 /// The tasks of a run, in the order of their rows.
 fn run(alloc: Global, state: u64) -> Result<Vec<Task>, AllocError> {
     let mut numbers = Numbers { state, line: 100 };
+    let root = Task {
+        steps: Vec::new(alloc),
+        barriers: 0,
+        records: Vec::new(alloc),
+    };
+    let mut waiting = vec![in alloc; root]?;
     let mut tasks = Vec::new(alloc);
-    let mut waiting = vec![in alloc;
-        Task {
-            steps: Vec::new(alloc),
-            barriers: 0,
-            records: Vec::new(alloc),
-        },
-    ]?;
     for _ in 0..1000 {
-        let Some(mut task) = waiting.pop() else {
-            break;
-        };
-        let mut lanes = Vec::new(alloc);
-        fill(alloc, &mut numbers, &mut task, &mut lanes)?;
-        tasks.push(task)?;
-        for _ in 0..lanes.len() {
-            if let Some(lane) = lanes.pop() {
-                waiting.push(lane)?;
-            }
-        }
+        finish_next(alloc, &mut numbers, &mut waiting, &mut tasks)?;
     }
     Ok(tasks)
 }
@@ -261,6 +268,19 @@ fn edges(alloc: Global, nodes: &[Node<'_>]) -> Result<Vec<Vec<usize>>, AllocErro
     Ok(all)
 }
 
+/// Finds these records, and has those wait that weren't found before.
+fn find(after: &[usize], found: &mut [bool], waiting: &mut Vec<usize>) -> Result<(), AllocError> {
+    for y in after {
+        if let Some(is_found) = found.get_mut(*y)
+            && !*is_found
+        {
+            *is_found = true;
+            waiting.push(*y)?;
+        }
+    }
+    Ok(())
+}
+
 /// Which records are reached along edges from this one.
 fn reached(alloc: Global, edges: &[Vec<usize>], from: usize) -> Result<Vec<bool>, AllocError> {
     let mut found = vec![in alloc; false; edges.len()]?;
@@ -269,16 +289,8 @@ fn reached(alloc: Global, edges: &[Vec<usize>], from: usize) -> Result<Vec<bool>
         let Some(x) = waiting.pop() else {
             break;
         };
-        let Some(after) = edges.get(x) else {
-            break;
-        };
-        for y in after.iter() {
-            if let Some(is_found) = found.get_mut(*y)
-                && !*is_found
-            {
-                *is_found = true;
-                waiting.push(*y)?;
-            }
+        if let Some(after) = edges.get(x) {
+            find(after, &mut found, &mut waiting)?;
         }
     }
     Ok(found)
@@ -345,6 +357,22 @@ fn segments(tasks: &[Task]) -> usize {
     count
 }
 
+/// The records of the run.
+fn nodes_of(alloc: Global, tasks: &[Task]) -> Result<Vec<Node<'_>>, AllocError> {
+    let mut nodes = Vec::new(alloc);
+    for task in tasks {
+        add_nodes(&mut nodes, task)?;
+    }
+    Ok(nodes)
+}
+
+/// The report of the run's race pairs.
+fn due_report(alloc: Global, tasks: &[Task]) -> Result<String, AllocError> {
+    let nodes = nodes_of(alloc, tasks)?;
+    let pairs = race_pairs(alloc, &nodes)?;
+    report(alloc, &pairs)
+}
+
 #[test]
 fn races_are_those_of_a_search_of_the_graph(rt: HostRuntime) -> Result<(), Fail> {
     let alloc = rt.alloc();
@@ -356,12 +384,7 @@ fn races_are_those_of_a_search_of_the_graph(rt: HostRuntime) -> Result<(), Fail>
                 .iter()
                 .any(|task| task.steps.len() == 4 && task.barriers > 0)
         );
-        let mut nodes = Vec::new(alloc);
-        for task in tasks.iter() {
-            add_nodes(&mut nodes, task)?;
-        }
-        let pairs = race_pairs(alloc, &nodes)?;
-        let text = report(alloc, &pairs)?;
+        let text = due_report(alloc, &tasks)?;
         let mut folder = folder_of(alloc, &tasks)?;
         each_answers(&rt, alloc, &mut folder, RACES, &text)?;
     }

@@ -159,15 +159,21 @@ fn bytes_that_are_no_index_or_log_are_told(rt: HostRuntime) -> Result<(), Fail> 
     all_pass(&rt, rt.alloc(), FILES)
 }
 
+// The row of a lane that is alone in this region, whose log has one record.
+fn add_row(index: &mut Vec<u8>, region: u32) -> Result<(), AllocError> {
+    index.extend_from_slice(&[0, 0, 0, 1, 0, 0, 0, 0])?;
+    index.extend_from_slice(&region.to_be_bytes())?;
+    index.extend_from_slice(&[0, 0, 0, 1])?;
+    index.extend_from_slice(&[0; 31])?;
+    index.push(1)?;
+    Ok(())
+}
+
 // The index of a root with 65,535 regions of one lane each, and a byte after it.
 fn crowded_index(alloc: Global) -> Result<Vec<u8>, AllocError> {
     let mut index = ROOT_ROW.as_bytes().to_vec(alloc)?;
-    for region in 0..65_535u32 {
-        index.extend_from_slice(&[0, 0, 0, 1, 0, 0, 0, 0])?;
-        index.extend_from_slice(&region.to_be_bytes())?;
-        index.extend_from_slice(&[0, 0, 0, 1])?;
-        index.extend_from_slice(&[0; 31])?;
-        index.push(1)?;
+    for region in 0..65_535 {
+        add_row(&mut index, region)?;
     }
     index.push(0)?;
     Ok(index)

@@ -1,6 +1,6 @@
 //! In which order `check` reads and compares.
 
-use asking::{Case, EMPTY, END, asked, folder_of, no_difference, region, store};
+use asking::{Case, EMPTY, END, asked, folder_of, region, store};
 use command_answer::{RACES, READ_FAULT};
 use std::alloc::Global;
 use std::sync::Wait;
@@ -23,6 +23,8 @@ impl Gate for Counted {
 
 const WORKERS: u64 = 3;
 
+const CHECK: &[&str] = &["check", "d", "3"];
+
 // A root that forks two regions of two lanes each, which race in the second.
 const TWO_REGIONS: Case<'static> = Case {
     tasks: &[
@@ -35,27 +37,20 @@ const TWO_REGIONS: Case<'static> = Case {
     ..EMPTY
 };
 
-// What comes out otherwise than this status and so many workers, where this call on the folder fails, if a check makes so many.
-fn difference<R: Threads + Wait + Sync>(
+// The status of a check by three workers where this call on the folder fails, and how many workers came.
+fn answered<R: Threads + Wait + Sync>(
     rt: &R,
     alloc: Global,
     call: u64,
-    status: u8,
-    workers: u64,
-) -> Result<Option<String>, Memory> {
-    let mut folder = folder_of(alloc, &TWO_REGIONS)?;
-    folder.fail(&[call])?;
-    let mut out = MemOut::new(alloc)?;
+) -> Result<(u8, u64), Memory> {
     let gate = Counted {
         come: AtomicU64::new(0),
     };
-    let check = ["check", "d", "3"];
-    let answered = asked(rt, alloc, &mut folder, &check, &mut out, &gate)?;
-    let come = gate.come.load(Ordering::SeqCst);
-    if answered == status && come == workers {
-        return Ok(None);
-    }
-    Ok(Some(format!(in alloc; "call {call}: status {answered}, {come} workers")?))
+    let mut out = MemOut::new(alloc)?;
+    let mut folder = folder_of(alloc, &TWO_REGIONS)?;
+    folder.fail(&[call])?;
+    let status = asked(rt, alloc, &mut folder, CHECK, &mut out, &gate)?;
+    Ok((status, gate.come.load(Ordering::SeqCst)))
 }
 
 #[test]
@@ -63,10 +58,17 @@ fn a_region_is_compared_before_the_next_is_read(rt: HostRuntime) -> Result<(), F
     let alloc = rt.alloc();
     // The size of the index and its seven reads, and for each of five logs its size and two reads.
     for call in 1..=17 {
-        no_difference(difference(&rt, alloc, call, READ_FAULT, 0))?;
+        assert!(rt;
+            answered(&rt, alloc, call)? == (READ_FAULT, 0),
+            "call {call}"
+        );
     }
     for call in 18..24 {
-        no_difference(difference(&rt, alloc, call, READ_FAULT, WORKERS))?;
+        assert!(rt;
+            answered(&rt, alloc, call)? == (READ_FAULT, WORKERS),
+            "call {call}"
+        );
     }
-    no_difference(difference(&rt, alloc, 24, RACES, 2 * WORKERS))
+    assert!(rt; answered(&rt, alloc, 24)? == (RACES, 2 * WORKERS));
+    Ok(())
 }

@@ -1,7 +1,8 @@
 //! Refusals of folders that are made or changed byte by byte.
 
-use asking::{BARRIER, Case, EMPTY, END, ROOT, Rec, answers, folder_of, hold_tasks, region, store};
+use asking::{BARRIER, Case, EMPTY, END, ROOT, Rec, answers, folder_of, region, store};
 use command_answer::FOLDER_REFUSED;
+use std::alloc::{AllocError, Global};
 use std::test::Fail;
 use sw_base::MemFolder;
 
@@ -12,14 +13,21 @@ const TWO_LANES: Case<'static> = Case {
     ..EMPTY
 };
 
+// A folder with these files of another one.
+fn with_files(alloc: Global, whole: &MemFolder, names: &[&str]) -> Result<MemFolder, Fail> {
+    let mut folder = MemFolder::new(alloc)?;
+    for name in names {
+        folder.hold(name, whole.file(name).ok_or("a file")?)?;
+    }
+    Ok(folder)
+}
+
 #[test]
 fn a_missing_log_is_named(rt: HostRuntime) -> Result<(), Fail> {
     let alloc = rt.alloc();
     let whole = folder_of(alloc, &TWO_LANES)?;
-    let mut folder = MemFolder::new(alloc)?;
-    for name in ["d/index.swi", "d/t.swl", "d/t-0.0.swl"] {
-        folder.hold(name, whole.file(name).ok_or("a file")?)?;
-    }
+    let names = ["d/index.swi", "d/t.swl", "d/t-0.0.swl"];
+    let mut folder = with_files(alloc, &whole, &names)?;
     let text = "missing log t-0.1.swl\n";
     answers(&rt, alloc, &mut folder, CHECK, FOLDER_REFUSED, text)
 }
@@ -42,33 +50,43 @@ const OF_TEN: Case<'static> = Case {
     ..EMPTY
 };
 
+// Cuts a file to this length.
+fn cut(alloc: Global, folder: &mut MemFolder, name: &str, length: usize) -> Result<(), Fail> {
+    let mut bytes = folder.file(name).ok_or("a log")?.to_vec(alloc)?;
+    bytes.truncate(length);
+    folder.hold(name, &bytes)?;
+    Ok(())
+}
+
 #[test]
 fn a_log_that_is_cut_is_named(rt: HostRuntime) -> Result<(), Fail> {
     let alloc = rt.alloc();
     let mut folder = folder_of(alloc, &OF_TEN)?;
-    let mut log = folder.file("d/t-0.1.swl").ok_or("a log")?.to_vec(alloc)?;
-    log.truncate(162);
-    folder.hold("d/t-0.1.swl", &log)?;
+    cut(alloc, &mut folder, "d/t-0.1.swl", 162)?;
     let text = "bad log t-0.1.swl record 7: Cut\n";
     answers(&rt, alloc, &mut folder, CHECK, FOLDER_REFUSED, text)
+}
+
+// The records of a lane with so many segments.
+fn segments(alloc: Global, count: u32) -> Result<Vec<Rec>, AllocError> {
+    let mut records = Vec::new(alloc);
+    for _ in 0..count {
+        records.push(store!(2, 4096))?;
+        records.push(BARRIER)?;
+    }
+    records.push(END)?;
+    Ok(records)
 }
 
 #[test]
 fn a_segment_too_many_is_named(rt: HostRuntime) -> Result<(), Fail> {
     let alloc = rt.alloc();
-    let mut records = Vec::new(alloc);
-    for _ in 0..65_537 {
-        records.push(store!(2, 4096))?;
-        records.push(BARRIER)?;
-    }
-    records.push(END)?;
-    let root = [region!(1, 1), END];
-    let mut folder = MemFolder::new(alloc)?;
-    hold_tasks(
-        alloc,
-        &mut folder,
-        &[(&[], &root), (&[(0, 0, 1)], &records)],
-    )?;
+    let records = segments(alloc, 65_537)?;
+    let lane = Case {
+        tasks: &[(&[], &[region!(1, 1), END]), (&[(0, 0, 1)], &records)],
+        ..EMPTY
+    };
+    let mut folder = folder_of(alloc, &lane)?;
     let text = "too many segments at t-0.0.swl record 131073\n";
     answers(&rt, alloc, &mut folder, CHECK, FOLDER_REFUSED, text)
 }

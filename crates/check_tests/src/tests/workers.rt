@@ -117,46 +117,76 @@ fn each_number_of_workers_reports_the_same(rt: HostRuntime) -> Result<(), Fail> 
     Ok(())
 }
 
+// The lines in which each lane writes one element.
+const LINES: [[u32; 3]; 4] = [[11, 12, 13], [21, 22, 23], [31, 32, 33], [41, 42, 43]];
+
+fn writing(alloc: Global, lines: &[u32]) -> Result<Vec<Rec>, AllocError> {
+    let mut records = Vec::new(alloc);
+    for line in lines {
+        records.push(store!(*line, 4096))?;
+    }
+    records.push(END)?;
+    Ok(records)
+}
+
+fn writing_lanes(alloc: Global) -> Result<Vec<Lane>, AllocError> {
+    let mut lanes = Vec::new(alloc);
+    for (lane, lines) in [0u16, 1, 2, 3].iter().zip(&LINES) {
+        lanes.push(Lane {
+            steps: [(0, *lane, 4)],
+            records: writing(alloc, lines)?,
+        })?;
+    }
+    Ok(lanes)
+}
+
+// The races of one line with those of later lanes.
+fn add_races(text: &mut String, line: u32, later: &[[u32; 3]]) -> Result<(), AllocError> {
+    for others in later {
+        for other in others {
+            write!(text, "race {line} {other}\n")?;
+        }
+    }
+    Ok(())
+}
+
+fn all_races(alloc: Global) -> Result<String, AllocError> {
+    let mut text = String::new(alloc);
+    for (lane, lines) in [0usize, 1, 2, 3].iter().zip(&LINES) {
+        for line in lines {
+            add_races(&mut text, *line, LINES.get(lane + 1..).unwrap_or(&[]))?;
+        }
+    }
+    text.push_str("races 54\n")?;
+    Ok(text)
+}
+
 #[test]
 fn every_access_races_with_every_other_lane(rt: HostRuntime) -> Result<(), Fail> {
     let alloc = rt.alloc();
-    let lines: [[u32; 3]; 4] = [[11, 12, 13], [21, 22, 23], [31, 32, 33], [41, 42, 43]];
-    let mut lanes = Vec::new(alloc);
-    let mut text = String::new(alloc);
-    for (lane, own) in [0u16, 1, 2, 3].iter().zip(lines.iter()) {
-        let mut records = Vec::new(alloc);
-        for line in own {
-            records.push(store!(*line, 4096))?;
-            for others in lines.iter().skip(usize::from(*lane) + 1) {
-                for other in others {
-                    write!(text, "race {line} {other}\n")?;
-                }
-            }
-        }
-        records.push(END)?;
-        lanes.push(Lane {
-            steps: [(0, *lane, 4)],
-            records,
-        })?;
-    }
-    text.push_str("races 54\n")?;
+    let lanes = writing_lanes(alloc)?;
     let mut folder = with_lanes(alloc, &lanes)?;
-    each_answers(&rt, alloc, &mut folder, RACES, &text)
+    each_answers(&rt, alloc, &mut folder, RACES, &all_races(alloc)?)
 }
 
-// Two lanes with so many intervals of one write each.
+// So many intervals of one write each.
+fn one_each(alloc: Global, line: u32, addr: u64) -> Result<Vec<Rec>, AllocError> {
+    let mut records = Vec::new(alloc);
+    for _ in 0..32_768 {
+        records.push(store!(line, addr))?;
+        records.push(BARRIER)?;
+    }
+    records.push(END)?;
+    Ok(records)
+}
+
+// Two lanes of such intervals.
 fn intervals(alloc: Global, addr: u64) -> Result<Vec<Lane>, AllocError> {
     let mut lanes = Vec::new(alloc);
     for (lane, line, own) in [(0u16, 5u32, 4096), (1, 6, addr)] {
-        let mut records = Vec::new(alloc);
-        for _ in 0..32_768 {
-            records.push(store!(line, own))?;
-            records.push(BARRIER)?;
-        }
-        records.push(END)?;
         lanes.push(Lane {
             steps: [(0, lane, 2)],
-            records,
+            records: one_each(alloc, line, own)?,
         })?;
     }
     Ok(lanes)
