@@ -202,7 +202,7 @@ module _ (program : Program) (lawful : IsLawful program) (dir : List ℕ) (size 
   entries = tree_listed own_place (stop_in r) 4 work logs rests.hands (root_within own_place (stop_in r) 4 work logs rests.hands nests)
 
   -- it stopped
-  module _ (path : List Step) (why : Stop) (is : r ≡ Err (path, why)) where
+  module _ (path : List Step) (why : Stop) (is : r ≡ Err (path, why)) (all : (length words ≡ elements program.arrays) ⊎ ((why ≡ stop.Trouble Memory) × (words ≡ []))) where
     stopped : StopsRoot program path why work
     stopped = rests.stops path why is
 
@@ -222,9 +222,8 @@ module _ (program : Program) (lawful : IsLawful program) (dir : List ℕ) (size 
     pub has_stopped : HasStoppedRun program dir size root logs path why words
     has_stopped = record {
       tasks = tasks;
-      final = words;
       execution = execution;
-      words_are = inl refl;
+      all = all;
       listed = are_listed 4 work nests;
       logs_are = subst (λ (x : Answer). AreEntriesOf own_place (stop_in x) tasks logs) is entries;
       stops = stops_in;
@@ -264,4 +263,4 @@ no_words items none = subst (λ (xs : List Item). HasHistory xs []) (sym none) (
 pub stopped_at_once : (program : Program) → IsLawful program → (dir : List ℕ) (size : ℕ) (root : Option Text) → HasStoppedRun program dir size root [] [] (stop.Trouble Memory) []
 stopped_at_once program lawful dir size root =
     let hand : HandValue View = hand_with no_table (newcomer []) in
-    has_stopped program lawful dir size size root no_table hand hand None [] (Err ([], stop.Trouble Memory)) [] refl refl refl (refl, refl) (omega arith) (no_words hand.view.items refl) [] (stop.Trouble Memory) refl
+    has_stopped program lawful dir size size root no_table hand hand None [] (Err ([], stop.Trouble Memory)) [] refl refl refl (refl, refl) (omega arith) (no_words hand.view.items refl) [] (stop.Trouble Memory) refl (inr (refl, refl))

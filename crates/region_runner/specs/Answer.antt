@@ -86,12 +86,11 @@ pub record StopsIn (program : Program) (tasks : Trace) (path : List Step) (why :
 
 -- The logs of a run that stopped so in the task of this path. They are those of an execution of the kernel, in the order of their paths:
 -- each with all its records, or a prefix of them, where it may lack some; one may be missing where no memory was found. The words
--- are the last ones of its history; there are none where no memory was found for them.
+-- are the last ones of its history, one for each element; there are none where no memory was found for them.
 pub record HasStoppedRun (program : Program) (dir : List ℕ) (size : ℕ) (root : Option Text) (logs : List Entry) (path : List Step) (why : Stop) (words : List ℕ) : Type 0 where
   pub tasks : Trace
-  pub final : List ℕ
-  pub execution : IsExecution program tasks (element_address program.arrays) final
-  pub words_are : (words ≡ final) ⊎ ((why ≡ stop.Trouble Memory) × (words ≡ []))
+  pub execution : IsExecution program tasks (element_address program.arrays) words
+  pub all : (length words ≡ elements program.arrays) ⊎ ((why ≡ stop.Trouble Memory) × (words ≡ []))
   pub listed : IsListing (paths_of tasks)
   pub logs_are : AreEntriesOf (record { dir = dir; size = size; tells = is_some root }) (Some (path, why)) tasks logs
   pub stops : StopsIn program tasks path why

@@ -237,7 +237,7 @@ module _ (rose : Type 0) (file dir : List ℕ) (size : ℕ) (root : Text) (progr
     why = why;
     told = is_told;
     tasks = has.tasks;
-    words = has.final;
+    words = words;
     execution = has.execution;
     listed = has.listed;
     logs_are = left_logs rose dir size path why (line, name) is_told has.tasks entries has.logs_are raise;

@@ -1,4 +1,4 @@
-use Rattle.std.proofs.Common.{◌≡◌, ◌∙◌, ap, sym, subst, refl, List, [], ℕ, arith}
+use Rattle.std.proofs.Common.{◌≡◌, ◌∙◌, ap, sym, subst, refl, List, [], ℕ, arith, inl}
 use Rattle.std.specs.Prelude.{length}
 use Rattle.kernel_syntax.specs.declared.syntax.Array.{Array}
 use Rattle.kernel_syntax.specs.Layout.{elements}
@@ -66,4 +66,4 @@ returns-in-Err-clause-stopped g c =
     has_stopped program c.requires.lawful (g.L.Log.dir c.args.root) c.args.size c.new-ground.result.size (g.L.Log.text c.args.root) c.in-Ok.words.table c.in-Ok.hand c.run_root-closed.new.hand c.run_root-closed.result
     (entries_of {T = g.row.L.Denot} seen c.settle.result.0.items) c.settle.result.1 c.close-words.result.words.items (ap (λ (v : GroundValue). v.size) c.new-ground.ensures) c.in-Ok.ensures.hand c.run_root-closed.ensures.ran c.settle.ensures
     (omega (arith, long)) c.close-words.ensures.history
-    c.in-Err.path c.in-Err.why c.in-Err.is
+    c.in-Err.path c.in-Err.why c.in-Err.is (inl long)
