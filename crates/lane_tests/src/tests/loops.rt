@@ -15,7 +15,7 @@ use kernel_syntax::{Body, Expr, Schedule, Stmt};
 use log_format::{Kind, Record};
 use std::alloc::Global;
 use std::sync::Wait;
-use std::test::Fail;
+use sw_base::Trouble;
 
 // A worksharing loop over variable 0, from 0 to below this number.
 fn shared(to: i64, schedule: Schedule, body: Body) -> Stmt
@@ -71,7 +71,7 @@ fn goes_round<R: Wait>(
     to: i64,
     schedule: Schedule,
     records: &[Record],
-) -> Result<bool, Fail>
+) -> Result<bool, Trouble>
     requires width { IsWidth setting.now.width }
     requires lane { setting.now.lane < 2 }
     requires schedule { IsBoundedSchedule schedule }
@@ -81,7 +81,7 @@ fn goes_round<R: Wait>(
 }
 
 #[test]
-fn even_shares_are_in_a_row(rt: HostRuntime) -> Result<(), Fail> {
+fn even_shares_are_in_a_row(rt: HostRuntime) {
     let alloc = rt.alloc();
     let records = [
         accessed(Kind::Read, 8, 0, 0),
@@ -89,17 +89,16 @@ fn even_shares_are_in_a_row(rt: HostRuntime) -> Result<(), Fail> {
         accessed(Kind::Read, 8, 0, 5),
         accessed(Kind::Write, 8, 1, 10),
     ];
-    assert!(rt; goes_round(&rt, alloc, &lane_over(8, 0), 3, Schedule::Even, &records)?);
+    assert!(rt; goes_round(&rt, alloc, &lane_over(8, 0), 3, Schedule::Even, &records) == Ok(true));
     let records = [
         accessed(Kind::Read, 8, 0, 0),
         accessed(Kind::Write, 8, 2, 5),
     ];
-    assert!(rt; goes_round(&rt, alloc, &lane_over(8, 1), 3, Schedule::Even, &records)?);
-    Ok(())
+    assert!(rt; goes_round(&rt, alloc, &lane_over(8, 1), 3, Schedule::Even, &records) == Ok(true));
 }
 
 #[test]
-fn dealt_chunks_go_to_the_lanes_in_turn(rt: HostRuntime) -> Result<(), Fail> {
+fn dealt_chunks_go_to_the_lanes_in_turn(rt: HostRuntime) {
     let alloc = rt.alloc();
     let records = [
         accessed(Kind::Read, 8, 0, 0),
@@ -115,7 +114,7 @@ fn dealt_chunks_go_to_the_lanes_in_turn(rt: HostRuntime) -> Result<(), Fail> {
             3,
             Schedule::Static(1),
             &records
-        )?
+        ) == Ok(true)
     );
     let records = [
         accessed(Kind::Read, 8, 0, 0),
@@ -129,13 +128,12 @@ fn dealt_chunks_go_to_the_lanes_in_turn(rt: HostRuntime) -> Result<(), Fail> {
             3,
             Schedule::Static(1),
             &records
-        )?
+        ) == Ok(true)
     );
-    Ok(())
 }
 
 #[test]
-fn a_lane_that_is_alone_draws_all_chunks(rt: HostRuntime) -> Result<(), Fail> {
+fn a_lane_that_is_alone_draws_all_chunks(rt: HostRuntime) {
     let records = [
         drawn(0, 2),
         accessed(Kind::Read, 8, 0, 0),
@@ -148,12 +146,11 @@ fn a_lane_that_is_alone_draws_all_chunks(rt: HostRuntime) -> Result<(), Fail> {
         drawn(2, 2),
     ];
     let chunks = Schedule::Dynamic(2);
-    assert!(rt; goes_round(&rt, rt.alloc(), &lane_over(8, 0), 3, chunks, &records)?);
-    Ok(())
+    assert!(rt; goes_round(&rt, rt.alloc(), &lane_over(8, 0), 3, chunks, &records) == Ok(true));
 }
 
 #[test]
-fn a_lane_draws_what_another_has_left(rt: HostRuntime) -> Result<(), Fail> {
+fn a_lane_draws_what_another_has_left(rt: HostRuntime) {
     let records = [
         drawn(1, 2),
         accessed(Kind::Read, 8, 0, 0),
@@ -161,15 +158,13 @@ fn a_lane_draws_what_another_has_left(rt: HostRuntime) -> Result<(), Fail> {
         drawn(2, 2),
     ];
     let chunks = Schedule::Dynamic(2);
-    assert!(rt; goes_round(&rt, rt.alloc(), &second(), 3, chunks, &records)?);
-    Ok(())
+    assert!(rt; goes_round(&rt, rt.alloc(), &second(), 3, chunks, &records) == Ok(true));
 }
 
 #[test]
-fn a_lane_that_draws_none_records_the_count_of_chunks(rt: HostRuntime) -> Result<(), Fail> {
+fn a_lane_that_draws_none_records_the_count_of_chunks(rt: HostRuntime) {
     let alloc = rt.alloc();
     let chunks = Schedule::Dynamic(3);
-    assert!(rt; goes_round(&rt, alloc, &second(), 3, chunks, &[drawn(1, 1)])?);
-    assert!(rt; goes_round(&rt, alloc, &second(), 0, chunks, &[drawn(0, 0)])?);
-    Ok(())
+    assert!(rt; goes_round(&rt, alloc, &second(), 3, chunks, &[drawn(1, 1)]) == Ok(true));
+    assert!(rt; goes_round(&rt, alloc, &second(), 0, chunks, &[drawn(0, 0)]) == Ok(true));
 }

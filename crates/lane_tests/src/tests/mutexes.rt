@@ -10,7 +10,6 @@ use log_format::{Kind, Record};
 use shared_words::{ChunkHand, Chunks, Hand, Words};
 use std::alloc::Global;
 use std::sync::Wait;
-use std::test::Fail;
 use sw_base::MemLog;
 
 // What a lane with this hand leaves that takes mutex 1, and stops with it.
@@ -70,31 +69,30 @@ fn has(left: Option<MemLog>, records: &[Record]) -> bool {
 }
 
 #[test]
-fn a_mutex_released_at_a_stop_is_won_by_another(rt: HostRuntime) -> Result<(), Fail> {
+fn a_mutex_released_at_a_stop_is_won_by_another(rt: HostRuntime) {
     let alloc = rt.alloc();
-    let (words, mut hand) = Words::new(alloc, 0, 2)?;
+    let (words, mut hand) = Words::new(alloc, 0, 2).expect(&rt, "memory");
     let one = words.split(&mut hand, 0, 2);
     let other = words.split(&mut hand, 1, 2);
     let arrays: [Array; 0] = [];
-    let (chunks, mut draws) = Chunks::new(alloc, 0)?;
+    let (chunks, mut draws) = Chunks::new(alloc, 0).expect(&rt, "memory");
     let lent = chunks.split(&mut draws);
     let world = World::new(&arrays, &words, &chunks, 0, 1);
     let one = stopped(&rt, alloc, &world, one, draws);
     let two = passed(&rt, alloc, &world, other, lent);
     assert!(rt; has(one, &[step(Kind::Lock, 1, 5)]));
     assert!(rt; has(two, &[step(Kind::Lock, 1, 6), step(Kind::Unlock, 1, 7)]));
-    Ok(())
 }
 
 #[test]
-fn a_lane_goes_on_in_its_log_with_another_hand(rt: HostRuntime) -> Result<(), Fail> {
+fn a_lane_goes_on_in_its_log_with_another_hand(rt: HostRuntime) {
     let alloc = rt.alloc();
-    let buffer = buffer(alloc)?;
-    let (words, mut first) = Words::new(alloc, 0, 2)?;
+    let buffer = buffer(alloc).expect(&rt, "memory");
+    let (words, mut first) = Words::new(alloc, 0, 2).expect(&rt, "memory");
     let one = words.split(&mut first, 0, 1);
     let two = words.split(&mut first, 0, 1);
     let arrays: [Array; 0] = [];
-    let (chunks, draws) = Chunks::new(alloc, 0)?;
+    let (chunks, draws) = Chunks::new(alloc, 0).expect(&rt, "memory");
     let world = World::new(&arrays, &words, &chunks, 0, 1);
     let mut track = Track::new(alloc, one, buffer, draws);
 
@@ -109,5 +107,4 @@ fn a_lane_goes_on_in_its_log_with_another_hand(rt: HostRuntime) -> Result<(), Fa
 
     let both = [step(Kind::Lock, 1, 5), step(Kind::Lock, 1, 6)];
     assert!(rt; is_log_of(log_of(alloc, track).bytes(), &both));
-    Ok(())
 }

@@ -17,8 +17,7 @@ use log_format::{Kind, Record};
 use shared_words::{ChunkHand, Chunks, Words};
 use std::alloc::Global;
 use std::sync::Wait;
-use std::test::Fail;
-use sw_base::MemLog;
+use sw_base::{MemLog, Trouble};
 
 /// How many bytes the elements have, which lane it is, whether another hand has drawn a number, and which call on its log fails.
 #[derive(Drop)]
@@ -70,11 +69,11 @@ pub(crate) fn accessed(kind: Kind, size: u8, element: u64, value: i64) -> Record
 }
 
 // The array: eight elements of this width.
-fn array(width: u8) -> Result<Array, Fail>
+fn array(width: u8) -> Result<Array, Trouble>
     ensures { IfOk result (λ a. (a.base ≡ 4096) × (a.first ≡ 0) × (a.count ≡ 8) × (a.width ≡ width)) }
 {
     Ok(Array {
-        name: Name::new("a").ok_or("a long name")?,
+        name: Name::new("a").ok_or(Trouble::Failed)?,
         width,
         count: 8,
         base: 4096,
@@ -83,7 +82,7 @@ fn array(width: u8) -> Result<Array, Fail>
 }
 
 // The counter of a loop, from which another hand may have drawn a number.
-fn counter(alloc: Global, taken: bool) -> Result<(Chunks, ChunkHand), Fail>
+fn counter(alloc: Global, taken: bool) -> Result<(Chunks, ChunkHand), Trouble>
     ensures loops { IfOk result (λ r. r.0.loops ≡ 1) }
     ensures draws { IfOk result (λ r. Belongs r.1 r.0.table) }
     ensures enough { IfOk result (λ r. r.1.view.left ≡ 4194304) }
@@ -102,7 +101,7 @@ pub(crate) fn executed<R: Wait>(
     alloc: Global,
     setting: &Setting,
     stmt: &Stmt,
-) -> Result<Left, Fail>
+) -> Result<Left, Trouble>
     requires width { IsWidth setting.now.width }
     requires lane { setting.now.lane < 2 }
     requires bounded { IsBoundedCode (stmt_code stmt.now Done) }
@@ -133,7 +132,7 @@ pub(crate) fn alone<R: Wait>(
     alloc: Global,
     setting: &Setting,
     stmt: Stmt,
-) -> Result<Left, Fail>
+) -> Result<Left, Trouble>
     requires width { IsWidth setting.now.width }
     requires lane { setting.now.lane < 2 }
     requires bounded { IsBoundedCode (stmt_code stmt Done) }
@@ -149,7 +148,7 @@ pub(crate) fn goes_on<R: Wait>(
     setting: &Setting,
     stmt: Stmt,
     records: &[Record],
-) -> Result<bool, Fail>
+) -> Result<bool, Trouble>
     requires width { IsWidth setting.now.width }
     requires lane { setting.now.lane < 2 }
     requires bounded { IsBoundedCode (stmt_code stmt Done) }
@@ -166,7 +165,7 @@ pub(crate) fn goes_on_alone<R: Wait>(
     setting: &Setting,
     stmt: Stmt,
     records: &[Record],
-) -> Result<bool, Fail>
+) -> Result<bool, Trouble>
     requires width { IsWidth setting.now.width }
     requires lane { setting.now.lane < 2 }
     requires bounded { IsBoundedCode (stmt_code stmt Done) }

@@ -9,7 +9,6 @@ use lane_runner::{Frame, Halt, Locals, Stop, Track, World};
 use log_format::{Kind, Record};
 use shared_words::{Chunks, Hand, Words};
 use std::alloc::Global;
-use std::test::Fail;
 use sw_base::{MemLog, Path, Trouble};
 
 const FULL: u32 = 4_194_304;
@@ -27,11 +26,11 @@ fn event(kind: Kind, line: u32) -> Record {
 }
 
 #[test]
-fn a_barrier_and_an_end_are_recorded(rt: HostRuntime) -> Result<(), Fail> {
+fn a_barrier_and_an_end_are_recorded(rt: HostRuntime) {
     let alloc = rt.alloc();
-    let buffer = buffer(alloc)?;
-    let (words, hand) = Words::new(alloc, 0, 1)?;
-    let (chunks, draws) = Chunks::new(alloc, 0)?;
+    let buffer = buffer(alloc).expect(&rt, "memory");
+    let (words, hand) = Words::new(alloc, 0, 1).expect(&rt, "memory");
+    let (chunks, draws) = Chunks::new(alloc, 0).expect(&rt, "memory");
     let arrays: [Array; 0] = [];
     let world = World::new(&arrays, &words, &chunks, 0, 1);
     let mut track = Track::new(alloc, hand, buffer, draws);
@@ -43,7 +42,6 @@ fn a_barrier_and_an_end_are_recorded(rt: HostRuntime) -> Result<(), Fail> {
     };
     let expected = [event(Kind::Barrier, 5), event(Kind::End, 9)];
     assert!(rt; is_log_of(log_of(alloc, track).bytes(), &expected));
-    Ok(())
 }
 
 // Fills a log with barriers.
@@ -58,11 +56,11 @@ fn fill(alloc: Global, world: &World, track: &mut Track<MemLog>) -> Result<(), H
 }
 
 #[test]
-fn a_full_log_takes_no_barrier_and_no_end(rt: HostRuntime) -> Result<(), Fail> {
+fn a_full_log_takes_no_barrier_and_no_end(rt: HostRuntime) {
     let alloc = rt.alloc();
-    let buffer = buffer(alloc)?;
-    let (words, hand) = Words::new(alloc, 0, 1)?;
-    let (chunks, draws) = Chunks::new(alloc, 0)?;
+    let buffer = buffer(alloc).expect(&rt, "memory");
+    let (words, hand) = Words::new(alloc, 0, 1).expect(&rt, "memory");
+    let (chunks, draws) = Chunks::new(alloc, 0).expect(&rt, "memory");
     let arrays: [Array; 0] = [];
     let world = World::new(&arrays, &words, &chunks, 0, 1);
     let mut track = Track::new(alloc, hand, buffer, draws);
@@ -77,7 +75,6 @@ fn a_full_log_takes_no_barrier_and_no_end(rt: HostRuntime) -> Result<(), Fail> {
         panic!(rt; "an end too many");
     };
     assert!(rt; line == 7);
-    Ok(())
 }
 
 // Runs no region: no memory is found.
@@ -93,12 +90,12 @@ fn stuck(
 }
 
 #[test]
-fn a_value_is_set_before_the_lanes_meet(rt: HostRuntime) -> Result<(), Fail> {
+fn a_value_is_set_before_the_lanes_meet(rt: HostRuntime) {
     let alloc = rt.alloc();
-    let slots = vec![in alloc; 7i64, 7]?;
-    let buffer = buffer(alloc)?;
-    let (words, hand) = Words::new(alloc, 0, 1)?;
-    let (chunks, draws) = Chunks::new(alloc, 0)?;
+    let slots = vec![in alloc; 7i64, 7].expect(&rt, "memory");
+    let buffer = buffer(alloc).expect(&rt, "memory");
+    let (words, hand) = Words::new(alloc, 0, 1).expect(&rt, "memory");
+    let (chunks, draws) = Chunks::new(alloc, 0).expect(&rt, "memory");
     let arrays: [Array; 0] = [];
     let world = World::new(&arrays, &words, &chunks, 0, 1);
     let track = Track::new(alloc, hand, buffer, draws);
@@ -117,5 +114,4 @@ fn a_value_is_set_before_the_lanes_meet(rt: HostRuntime) -> Result<(), Fail> {
     assert!(rt; frame.locals.get(0) == 7 && frame.locals.get(1) == 3);
     let log = log_of(alloc, frame.track);
     assert!(rt; is_log_of(log.bytes(), &[event(Kind::Barrier, 5)]));
-    Ok(())
 }

@@ -14,7 +14,7 @@ use kernel_syntax::{Body, Expr, Schedule, Stmt, Team};
 use log_format::{Kind, Record};
 use std::alloc::Global;
 use std::sync::Wait;
-use std::test::Fail;
+use sw_base::Trouble;
 
 fn region(body: Body) -> Stmt
     requires bounded { IsBoundedCode (code_of body.stmts.items) }
@@ -31,7 +31,7 @@ fn region(body: Body) -> Stmt
 }
 
 // A region where variable 0 isn't 0.
-fn region_past_zero(alloc: Global) -> Result<Body, Fail>
+fn region_past_zero(alloc: Global) -> Result<Body, Trouble>
     ensures bounded { IfOk result (λ b. IsBoundedCode (code_of b.stmts.items)) }
     ensures alone { IfOk result (λ b. IsAlone 1 [] (code_of b.stmts.items)) }
 {
@@ -60,7 +60,7 @@ fn in_shares(body: Body) -> Stmt
 }
 
 // Whether a lane of a team of two stops in its first region, and its log has the record of the fork.
-fn stops_in_region<R: Wait>(rt: &R, alloc: Global, lane: u16, stmt: Stmt) -> Result<bool, Fail>
+fn stops_in_region<R: Wait>(rt: &R, alloc: Global, lane: u16, stmt: Stmt) -> Result<bool, Trouble>
     requires lane { lane < 2 }
     requires bounded { IsBoundedCode (stmt_code stmt Done) }
     requires own { IsOfTeam 1 (stmt_code stmt Done) }
@@ -71,13 +71,13 @@ fn stops_in_region<R: Wait>(rt: &R, alloc: Global, lane: u16, stmt: Stmt) -> Res
 }
 
 // The same of a loop over this variable with a region where variable 0 isn't 0.
-fn stops_in_loop<R: Wait>(rt: &R, alloc: Global, slot: u32) -> Result<bool, Fail> {
+fn stops_in_loop<R: Wait>(rt: &R, alloc: Global, slot: u32) -> Result<bool, Trouble> {
     let turns = in_loop(slot, region_past_zero(alloc)?);
     stops_in_region(rt, alloc, 0, turns)
 }
 
 // The same of a worksharing loop.
-fn stops_in_share<R: Wait>(rt: &R, alloc: Global, lane: u16) -> Result<bool, Fail>
+fn stops_in_share<R: Wait>(rt: &R, alloc: Global, lane: u16) -> Result<bool, Trouble>
     requires { lane < 2 }
 {
     let shares = in_shares(region_past_zero(alloc)?);
@@ -97,17 +97,13 @@ fn fork() -> Record {
 }
 
 #[test]
-fn a_region_in_a_loop_is_run_in_its_turn(rt: HostRuntime) -> Result<(), Fail> {
-    assert!(rt; stops_in_loop(&rt, rt.alloc(), 0)?);
-    assert!(rt; !stops_in_loop(&rt, rt.alloc(), 1)?);
-    Ok(())
+fn a_region_in_a_loop_is_run_in_its_turn(rt: HostRuntime) {
+    assert!(rt; stops_in_loop(&rt, rt.alloc(), 0) == Ok(true));
+    assert!(rt; stops_in_loop(&rt, rt.alloc(), 1) == Ok(false));
 }
 
 #[test]
-fn a_region_in_a_worksharing_loop_is_run_by_the_lane_that_has_its_iteration(
-    rt: HostRuntime,
-) -> Result<(), Fail> {
-    assert!(rt; !stops_in_share(&rt, rt.alloc(), 0)?);
-    assert!(rt; stops_in_share(&rt, rt.alloc(), 1)?);
-    Ok(())
+fn a_region_in_a_worksharing_loop_is_run_by_the_lane_that_has_its_iteration(rt: HostRuntime) {
+    assert!(rt; stops_in_share(&rt, rt.alloc(), 0) == Ok(false));
+    assert!(rt; stops_in_share(&rt, rt.alloc(), 1) == Ok(true));
 }

@@ -13,11 +13,10 @@ use lane_runner::Halt;
 use log_format::{Kind, Record};
 use std::alloc::Global;
 use std::sync::Wait;
-use std::test::Fail;
 use sw_base::Trouble;
 
 // The operation on two expressions, at line 5.
-fn binary(alloc: Global, op: Op, left: Expr, right: Expr) -> Result<Expr, Fail>
+fn binary(alloc: Global, op: Op, left: Expr, right: Expr) -> Result<Expr, Trouble>
     requires left { IsBoundedTerm (term_of left) }
     requires right { IsBoundedTerm (term_of right) }
     ensures { IfOk result (λ e. IsBoundedTerm (term_of e)) }
@@ -31,7 +30,7 @@ fn binary(alloc: Global, op: Op, left: Expr, right: Expr) -> Result<Expr, Fail>
 }
 
 // The first element.
-fn first(alloc: Global) -> Result<Expr, Fail>
+fn first(alloc: Global) -> Result<Expr, Trouble>
     ensures { IfOk result (λ e. IsBoundedTerm (term_of e)) }
 {
     Ok(Expr::Load {
@@ -61,7 +60,7 @@ fn store(index: Expr, value: Expr, line: u32) -> Stmt
 }
 
 // The sum of the first element and a number is stored in the element of variable 0.
-fn sum(alloc: Global, number: i64) -> Result<Stmt, Fail>
+fn sum(alloc: Global, number: i64) -> Result<Stmt, Trouble>
     ensures bounded { IfOk result (λ s. IsBoundedCode (stmt_code s Done)) }
     ensures alone { IfOk result (λ s. IsAlone 1 [] (stmt_code s Done)) }
     ensures held { IfOk result (λ s. IsAlone 1 (0 ∷ []) (stmt_code s Done)) }
@@ -71,7 +70,7 @@ fn sum(alloc: Global, number: i64) -> Result<Stmt, Fail>
 }
 
 // A statement in a critical section.
-fn critical(alloc: Global, stmt: Stmt) -> Result<Stmt, Fail>
+fn critical(alloc: Global, stmt: Stmt) -> Result<Stmt, Trouble>
     requires bounded { IsBoundedCode (stmt_code stmt Done) }
     requires alone { IsAlone 1 (0 ∷ []) (stmt_code stmt Done) }
     ensures bounded { IfOk result (λ s. IsBoundedCode (stmt_code s Done)) }
@@ -123,16 +122,15 @@ fn failing(call: u64) -> Setting
 }
 
 #[test]
-fn a_variable_is_set_without_a_record(rt: HostRuntime) -> Result<(), Fail> {
+fn a_variable_is_set_without_a_record(rt: HostRuntime) {
     let alloc = rt.alloc();
-    let value = binary(alloc, Op::Sub, Expr::Number(2), Expr::Number(5))?;
-    let left = alone(&rt, alloc, &lane_over(8, 0), set(value))?;
+    let value = binary(alloc, Op::Sub, Expr::Number(2), Expr::Number(5)).expect(&rt, "memory");
+    let left = alone(&rt, alloc, &lane_over(8, 0), set(value)).expect(&rt, "memory");
     assert!(rt; left.went_on(&[]) && left.variable == -3);
-    Ok(())
 }
 
 // A body in which the sum of the first element and a number is stored in the element of variable 0.
-pub(crate) fn summing(alloc: Global, number: i64) -> Result<Body, Fail>
+pub(crate) fn summing(alloc: Global, number: i64) -> Result<Body, Trouble>
     ensures bounded { IfOk result (λ b. IsBoundedCode (code_of b.stmts.items)) }
     ensures alone { IfOk result (λ b. IsAlone 1 [] (code_of b.stmts.items)) }
 {
@@ -148,88 +146,82 @@ fn turn(width: u8, read: i64, element: u64, written: i64) -> [Record; 2] {
 }
 
 #[test]
-fn a_value_is_read_before_the_store_that_it_is_for(rt: HostRuntime) -> Result<(), Fail> {
+fn a_value_is_read_before_the_store_that_it_is_for(rt: HostRuntime) {
     let alloc = rt.alloc();
-    let stmt = sum(alloc, 1)?;
-    assert!(rt; goes_on_alone(&rt, alloc, &lane_over(8, 0), stmt, &turn(8, 0, 0, 1))?);
-    Ok(())
+    let stmt = sum(alloc, 1).expect(&rt, "memory");
+    assert!(rt; goes_on_alone(&rt, alloc, &lane_over(8, 0), stmt, &turn(8, 0, 0, 1)) == Ok(true));
 }
 
 #[test]
-fn a_test_chooses_what_is_executed(rt: HostRuntime) -> Result<(), Fail> {
+fn a_test_chooses_what_is_executed(rt: HostRuntime) {
     let alloc = rt.alloc();
-    let no = tested(nothing(alloc), summing(alloc, 1)?);
-    assert!(rt; goes_on_alone(&rt, alloc, &lane_over(8, 0), no, &turn(8, 0, 0, 1))?);
-    Ok(())
+    let no = tested(nothing(alloc), summing(alloc, 1).expect(&rt, "memory"));
+    assert!(rt; goes_on_alone(&rt, alloc, &lane_over(8, 0), no, &turn(8, 0, 0, 1)) == Ok(true));
 }
 
 #[test]
-fn a_test_that_holds_chooses_the_other_body(rt: HostRuntime) -> Result<(), Fail> {
+fn a_test_that_holds_chooses_the_other_body(rt: HostRuntime) {
     let alloc = rt.alloc();
-    let yes = tested(summing(alloc, 1)?, nothing(alloc));
-    let second = in_loop(0, only(alloc, yes)?);
-    assert!(rt; goes_on_alone(&rt, alloc, &lane_over(8, 0), second, &turn(8, 0, 1, 1))?);
-    Ok(())
+    let yes = tested(summing(alloc, 1).expect(&rt, "memory"), nothing(alloc));
+    let second = in_loop(0, only(alloc, yes).expect(&rt, "memory"));
+    assert!(rt; goes_on_alone(&rt, alloc, &lane_over(8, 0), second, &turn(8, 0, 1, 1)) == Ok(true));
 }
 
 #[test]
-fn a_loop_has_the_turns_of_its_bounds(rt: HostRuntime) -> Result<(), Fail> {
+fn a_loop_has_the_turns_of_its_bounds(rt: HostRuntime) {
     let alloc = rt.alloc();
-    let fixed = in_loop(0, summing(alloc, 5)?);
+    let fixed = in_loop(0, summing(alloc, 5).expect(&rt, "memory"));
     let records = [
         accessed(Kind::Read, 8, 0, 0),
         accessed(Kind::Write, 8, 0, 5),
         accessed(Kind::Read, 8, 0, 5),
         accessed(Kind::Write, 8, 1, 10),
     ];
-    assert!(rt; goes_on_alone(&rt, alloc, &lane_over(8, 1), fixed, &records)?);
-    Ok(())
+    assert!(rt; goes_on_alone(&rt, alloc, &lane_over(8, 1), fixed, &records) == Ok(true));
 }
 
 #[test]
-fn a_loop_starts_where_its_lane_is(rt: HostRuntime) -> Result<(), Fail> {
+fn a_loop_starts_where_its_lane_is(rt: HostRuntime) {
     let alloc = rt.alloc();
-    let free = from_lane_to_span(summing(alloc, 5)?);
-    assert!(rt; goes_on_alone(&rt, alloc, &lane_over(8, 1), free, &turn(8, 0, 1, 5))?);
-    Ok(())
+    let free = from_lane_to_span(summing(alloc, 5).expect(&rt, "memory"));
+    assert!(rt; goes_on_alone(&rt, alloc, &lane_over(8, 1), free, &turn(8, 0, 1, 5)) == Ok(true));
 }
 
 #[test]
-fn a_critical_section_is_between_the_steps_on_its_mutex(rt: HostRuntime) -> Result<(), Fail> {
+fn a_critical_section_is_between_the_steps_on_its_mutex(rt: HostRuntime) {
     let alloc = rt.alloc();
-    let section = critical(alloc, sum(alloc, 1)?)?;
+    let section = critical(alloc, sum(alloc, 1).expect(&rt, "memory")).expect(&rt, "memory");
     let records = [
         step(Kind::Lock, 0, 7),
         accessed(Kind::Read, 8, 0, 0),
         accessed(Kind::Write, 8, 0, 1),
         step(Kind::Unlock, 0, 8),
     ];
-    assert!(rt; goes_on_alone(&rt, alloc, &lane_over(8, 0), section, &records)?);
-    Ok(())
+    assert!(rt; goes_on_alone(&rt, alloc, &lane_over(8, 0), section, &records) == Ok(true));
 }
 
 #[test]
-fn a_stop_in_a_critical_section_puts_no_more(rt: HostRuntime) -> Result<(), Fail> {
+fn a_stop_in_a_critical_section_puts_no_more(rt: HostRuntime) {
     let alloc = rt.alloc();
-    let section = critical(alloc, store(Expr::Number(-1), Expr::Number(1), 5))?;
-    let left = alone(&rt, alloc, &lane_over(8, 0), section)?;
+    let section = critical(alloc, store(Expr::Number(-1), Expr::Number(1), 5)).expect(
+        &rt, "memory",
+    );
+    let left = alone(&rt, alloc, &lane_over(8, 0), section).expect(&rt, "memory");
     assert!(rt; matches!(left.halt, Some(Halt::Index { line: 5 })));
     assert!(rt; is_log_of(left.log.bytes(), &[step(Kind::Lock, 0, 7)]));
-    Ok(())
 }
 
 #[test]
-fn an_index_outside_its_array_stops(rt: HostRuntime) -> Result<(), Fail> {
+fn an_index_outside_its_array_stops(rt: HostRuntime) {
     let alloc = rt.alloc();
     let outside = store(Expr::Number(8), Expr::Number(1), 5);
-    let left = alone(&rt, alloc, &lane_over(8, 1), outside)?;
+    let left = alone(&rt, alloc, &lane_over(8, 1), outside).expect(&rt, "memory");
     assert!(rt; matches!(left.halt, Some(Halt::Index { line: 5 })));
     assert!(rt; is_log_of(left.log.bytes(), &[]));
-    Ok(())
 }
 
 // 1 by the lane's number less 1 is stored in the first element.
-fn quotient(alloc: Global) -> Result<Stmt, Fail>
+fn quotient(alloc: Global) -> Result<Stmt, Trouble>
     ensures bounded { IfOk result (λ s. IsBoundedCode (stmt_code s Done)) }
     ensures alone { IfOk result (λ s. IsAlone 1 [] (stmt_code s Done)) }
 {
@@ -239,20 +231,32 @@ fn quotient(alloc: Global) -> Result<Stmt, Fail>
 }
 
 #[test]
-fn a_zero_divisor_stops(rt: HostRuntime) -> Result<(), Fail> {
+fn a_zero_divisor_stops(rt: HostRuntime) {
     let alloc = rt.alloc();
-    let left = alone(&rt, alloc, &lane_over(8, 1), quotient(alloc)?)?;
+    let left = alone(
+        &rt,
+        alloc,
+        &lane_over(8, 1),
+        quotient(alloc).expect(&rt, "memory"),
+    )
+    .expect(&rt, "memory");
     assert!(rt; matches!(left.halt, Some(Halt::DivZero { line: 5 })));
     assert!(rt; is_log_of(left.log.bytes(), &[]));
-    Ok(())
 }
 
 #[test]
-fn a_divisor_that_is_not_zero_divides(rt: HostRuntime) -> Result<(), Fail> {
+fn a_divisor_that_is_not_zero_divides(rt: HostRuntime) {
     let alloc = rt.alloc();
     let records = [accessed(Kind::Write, 8, 0, -1)];
-    assert!(rt; goes_on_alone(&rt, alloc, &lane_over(8, 0), quotient(alloc)?, &records)?);
-    Ok(())
+    assert!(rt;
+        goes_on_alone(
+            &rt,
+            alloc,
+            &lane_over(8, 0),
+            quotient(alloc).expect(&rt, "memory"),
+            &records
+        ) == Ok(true)
+    );
 }
 
 // Whether a number that is stored is read back so, and so is the sum of both.
@@ -263,7 +267,7 @@ fn holds<R: Wait>(
     number: i64,
     held: i64,
     twice: i64,
-) -> Result<bool, Fail>
+) -> Result<bool, Trouble>
     requires { IsWidth width }
 {
     let turns = in_loop(0, summing(alloc, number)?);
@@ -282,7 +286,7 @@ fn all_hold<R: Wait>(
     alloc: Global,
     width: u8,
     rows: &[(i64, i64, i64)],
-) -> Result<bool, Fail>
+) -> Result<bool, Trouble>
     requires { IsWidth width }
 {
     for (number, held, twice) in rows {
@@ -294,22 +298,21 @@ fn all_hold<R: Wait>(
 }
 
 #[test]
-fn an_element_has_the_low_bytes_of_a_value(rt: HostRuntime) -> Result<(), Fail> {
+fn an_element_has_the_low_bytes_of_a_value(rt: HostRuntime) {
     let alloc = rt.alloc();
     let int = [
         (2_147_483_647, 2_147_483_647, -2),
         (2_147_483_648, -2_147_483_648, 0),
     ];
     let long = [(i64::MAX, i64::MAX, -2), (i64::MIN, i64::MIN, 0)];
-    assert!(rt; all_hold(&rt, alloc, 1, &[(127, 127, -2), (128, -128, 0)])?);
-    assert!(rt; all_hold(&rt, alloc, 2, &[(32_767, 32_767, -2), (32_768, -32_768, 0)])?);
-    assert!(rt; all_hold(&rt, alloc, 4, &int)?);
-    assert!(rt; all_hold(&rt, alloc, 8, &long)?);
-    Ok(())
+    assert!(rt; all_hold(&rt, alloc, 1, &[(127, 127, -2), (128, -128, 0)]) == Ok(true));
+    assert!(rt; all_hold(&rt, alloc, 2, &[(32_767, 32_767, -2), (32_768, -32_768, 0)]) == Ok(true));
+    assert!(rt; all_hold(&rt, alloc, 4, &int) == Ok(true));
+    assert!(rt; all_hold(&rt, alloc, 8, &long) == Ok(true));
 }
 
 // What a lane leaves whose log fails at this call, of a loop of two turns.
-fn left_failing<R: Wait>(rt: &R, alloc: Global, call: u64) -> Result<Left, Fail> {
+fn left_failing<R: Wait>(rt: &R, alloc: Global, call: u64) -> Result<Left, Trouble> {
     let turns = in_loop(0, summing(alloc, 5)?);
     alone(rt, alloc, &failing(call), turns)
 }
@@ -325,16 +328,15 @@ fn is_left(left: &Left, stops: bool, all: &[u8], length: usize) -> bool {
 }
 
 #[test]
-fn a_call_that_fails_leaves_the_records_before(rt: HostRuntime) -> Result<(), Fail> {
+fn a_call_that_fails_leaves_the_records_before(rt: HostRuntime) {
     let alloc = rt.alloc();
-    let all = left_failing(&rt, alloc, 0)?.log;
+    let all = left_failing(&rt, alloc, 0).expect(&rt, "memory").log;
     assert!(rt; all.bytes().len() == 104);
     for (call, stops, length) in [(2, true, 32), (3, false, 80), (4, false, 104)] {
-        let left = left_failing(&rt, alloc, call)?;
+        let left = left_failing(&rt, alloc, call).expect(&rt, "memory");
         assert!(rt;
             is_left(&left, stops, all.bytes(), length),
             "at call {call}"
         );
     }
-    Ok(())
 }

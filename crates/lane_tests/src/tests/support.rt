@@ -16,7 +16,6 @@ use lane_runner::{Locals, Stop, Track};
 use log_format::{Kind, Record, encode};
 use shared_words::Hand;
 use std::alloc::Global;
-use std::test::Fail;
 use sw_base::{Folder, LOG_HEADER, MemFolder, MemLog, Path, Trouble};
 
 /// The record of a step on a mutex.
@@ -106,7 +105,7 @@ pub(crate) fn nothing(alloc: Global) -> Body
 }
 
 /// A body of one statement.
-pub(crate) fn only(alloc: Global, stmt: Stmt) -> Result<Body, Fail>
+pub(crate) fn only(alloc: Global, stmt: Stmt) -> Result<Body, Trouble>
     requires bounded { IsBoundedCode (stmt_code stmt Done) }
     requires alone { IsAlone 1 [] (stmt_code stmt Done) }
     ensures bounded { IfOk result (λ b. IsBoundedCode (code_of b.stmts.items)) }
