@@ -204,11 +204,11 @@ fn planned_calls_of_later_logs_fail(rt: HostRuntime) {
     let alloc = rt.alloc();
     let mut root = planned_root(alloc).expect(&rt, "memory");
     let answers = [
-        append(alloc, &mut root, b"ab"),
-        append_to_first(alloc, &mut root),
-        append_to_first(alloc, &mut root),
+        append(alloc, &mut root, b"ab").err(),
+        lane_of(alloc, &mut root, 0, 2).err(),
+        append_to_first(alloc, &mut root).err(),
     ];
-    assert!(rt; answers == [Ok(()), Err(Trouble::Failed), Ok(())]);
+    assert!(rt; answers == [None, Some(Trouble::Failed), None]);
     let second = append_to_second(alloc, &mut root, b"yuv");
     let due = [Err(Trouble::Failed), Ok(()), Err(Trouble::Failed)];
     assert!(rt; second == Ok((due, true)));
