@@ -1,11 +1,11 @@
 -- How a lane goes on: lists of statements, and the statements that have some.
-use Rattle.std.proofs.Common.{◌≡◌, ◌≢◌, refl, ap, sym, ◌∙◌, subst, ℕ, zero, suc, ◌+◌, ◌-◌, ◌<◌, List, [], ◌∷◌, ◌++◌, ℤ, pos, negsuc, ◌+ℤ◌, Result, Ok, Err, arith}
+use Rattle.std.proofs.Common.{◌≡◌, ◌≢◌, refl, ap, ◌∙◌, subst, ℕ, suc, ◌+◌, ◌-◌, ◌<◌, List, [], ◌∷◌, ◌++◌, ℤ, pos, Result, Ok, Err, arith}
 use Rattle.kernel_syntax.specs.declared.syntax.Stmt.{Stmt}
 use Rattle.kernel_syntax.specs.Program.{stmt_code, code_of}
 use Rattle.kernel_syntax.proofs.Equations.{stmts_code-append}
 use Rattle.kernel_syntax.specs.Tree as tree
 use Rattle.kernel_syntax.specs.Tree.{Term, Code}
-use Rattle.kernel_model.specs.State.{State, Outcome, and_then, after, assign, state_of}
+use Rattle.kernel_model.specs.State.{State, Outcome, and_then, after, state_of}
 use Rattle.kernel_model.specs.Growth.{Grows}
 use Rattle.kernel_model.specs.Iterations.{total_of}
 use Rattle.kernel_model.specs.Trace.{run, branch, turns, log_limit}

@@ -1,10 +1,9 @@
 -- A chunk that is drawn: where it begins, and that it is executed.
-use Rattle.std.proofs.Common.{◌≡◌, refl, ℕ, ◌+◌, ◌-◌, ◌*◌, ◌<◌, ◌≤◌, min, Bool, true, false, List, ℤ, Ok, Err, nat_lt, arith}
+use Rattle.std.proofs.Common.{◌≡◌, refl, ℕ, ◌-◌, ◌*◌, min, true, false, List, ℤ, Ok, Err, nat_lt, arith}
 use Rattle.kernel_syntax.specs.Tree.{Code}
-use Rattle.kernel_model.specs.State.{State, Outcome, Gives, state_of}
-use Rattle.kernel_model.specs.Growth.{Grows}
-use Rattle.kernel_model.specs.Iterations.{chunk_count, chunk_iterations}
-use Rattle.kernel_model.specs.Trace.{log_limit, draw, each, turns}
+use Rattle.kernel_model.specs.State.{State, Outcome, Gives}
+use Rattle.kernel_model.specs.Iterations.{chunk_count}
+use Rattle.kernel_model.specs.Trace.{log_limit, draw, turns}
 use Rattle.kernel_model.specs.Value.{Site}
 use Rattle.kernel_model.specs.Effect.{Returned}
 use Rattle.kernel_model.proofs.Effects.{makes-stays}

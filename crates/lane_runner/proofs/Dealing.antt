@@ -1,5 +1,5 @@
 -- How a lane goes on in a worksharing loop: turns one after another, its share of them, and the loop.
-use Rattle.std.proofs.Common.{◌≡◌, refl, ap, sym, ◌∙◌, subst, ℕ, zero, suc, ◌+◌, ◌-◌, ◌*◌, ◌%◌, ◌^◌, ◌<◌, ◌≤◌, min, true, List, [], ◌++◌, ℤ, pos, ◌+ℤ◌, ◌≤ℤ◌, Result, Ok, Err, append_assoc, arith}
+use Rattle.std.proofs.Common.{◌≡◌, ap, sym, ◌∙◌, subst, ℕ, ◌+◌, ◌-◌, ◌*◌, ◌^◌, ◌<◌, ◌≤◌, min, true, List, [], ◌++◌, ℤ, Result, Ok, Err}
 use Rattle.std.specs.List.{range_with_len}
 use Rattle.kernel_syntax.specs.declared.syntax.Schedule.{Schedule}
 use Rattle.kernel_syntax.specs.declared.syntax.Schedule.TheVariants.{Even, Static, Dynamic}
@@ -17,7 +17,7 @@ use Rattle.kernel_model.proofs.Growing.{grows-plain, run-grows, value-grows}
 use Rattle.kernel_model.proofs.Joining.{each-append, after-done}
 use Rattle.kernel_model.proofs.Shares.{static_from}
 use Rattle.kernel_model.proofs.Turns.{turn_grows, each_grows, each-range, DealtBefore, dealt_none, dealt_all, dealt_then, dealt_more}
-use Rattle.kernel_model.proofs.Steps.{kept-and_then, kept-after, kept-each, kept-shared}
+use Rattle.kernel_model.proofs.Steps.{kept-and_then, kept-after, kept-shared}
 use Rattle.lane_runner.specs.declared.stop.Halt.{Halt}
 use Rattle.lane_runner.specs.World.{WorldValue}
 use Rattle.kernel_model.specs.Drawing.{turn_from, draw_all}

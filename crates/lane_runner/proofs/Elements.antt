@@ -1,5 +1,5 @@
 -- The element of an array at an index.
-use Rattle.std.proofs.Common.{◌≡◌, refl, ap, sym, ◌∙◌, ℕ, ◌+◌, ◌*◌, ◌<◌, List, ℤ, pos, negsuc, ◌≤ℤ◌, Some, false, arith, length, get_or, subst}
+use Rattle.std.proofs.Common.{◌≡◌, ap, sym, ◌∙◌, ℕ, ◌+◌, ◌*◌, ◌<◌, ℤ, pos, ◌≤ℤ◌, Some, arith, subst}
 use Rattle.std.specs.Prelude.{slice_get}
 use Rattle.std.specs.Int.RustNames.{unsigned_abs}
 use Rattle.kernel_syntax.specs.declared.syntax.Array.{Array}

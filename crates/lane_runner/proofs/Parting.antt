@@ -1,7 +1,6 @@
 -- What holds of a list of statements holds of each.
-use Rattle.std.proofs.Common.{◌≡◌, refl, ap, ◌∙◌, sym, subst, ℕ, zero, suc, Bool, false, List, [], ◌∷◌, Some}
+use Rattle.std.proofs.Common.{◌≡◌, refl, ap, ◌∙◌, sym, subst, ℕ, Bool, false, List, [], ◌∷◌, Some}
 use Rattle.std.specs.Prelude.{slice_get}
-use Rattle.std.proofs.lemmas.Option.{same_Some}
 use Rattle.kernel_syntax.specs.declared.syntax.Expr.{Expr}
 use Rattle.kernel_syntax.specs.declared.syntax.Stmt.{Stmt}
 use Rattle.kernel_syntax.specs.declared.syntax.Stmt.TheOpen as layer
@@ -14,8 +13,7 @@ use Rattle.kernel_syntax.specs.declared.syntax.Team.{Team}
 use Rattle.kernel_syntax.proofs.Equations.{stmt_code-Set, stmt_code-Store, stmt_code-If, stmt_code-Loop, stmt_code-Parallel, stmt_code-For, stmt_code-Barrier, stmt_code-Critical}
 use Rattle.kernel_syntax.specs.Program.{stmt_code, code_of}
 use Rattle.kernel_syntax.specs.Tree.{TeamTree, Code, Done, Set, Store, If, Loop, Parallel, For, Barrier, Critical}
-use Rattle.kernel_syntax.specs.Bounds.{IsBoundedCode}
-use Rattle.kernel_syntax.proofs.Following.{followed_by, stmt_code-first}
+use Rattle.kernel_syntax.proofs.Following.{followed_by}
 use Rattle.kernel_syntax.specs.declared.syntax.Schedule.{Schedule}
 use Rattle.lane_runner.specs.Alone.{IsAlone}
 use Rattle.lane_runner.specs.Phase.{IsOfTeam}
