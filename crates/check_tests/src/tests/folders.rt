@@ -1,11 +1,15 @@
 //! Folders by hand: what `check` and `show` print of them, and the usage line.
 
 use asking::{
-    BARRIER, Case, EMPTY, END, ROOT, Rec, SHOW, Step, USAGE_LINE, all_pass, lock, passes_at,
-    region, store, unlock,
+    BARRIER, Case, EMPTY, END, ROOT, Rec, SHOW, Step, USAGE_LINE, all_pass, answers, lock,
+    passes_at, region, store, unlock,
 };
 use command_answer::{DONE, FOLDER_REFUSED, RACES, READ_FAULT, USAGE, WRITE_FAULT};
+use std::alloc::Global;
+use std::sync::Wait;
 use std::test::Fail;
+use std::thread::Threads;
+use sw_base::MemFolder;
 
 const NO_RACE: &str = "races 0\n";
 
@@ -367,6 +371,25 @@ const OTHER_WORDS: Case<'static> = Case {
 #[test]
 fn other_arguments_are_a_usage_fault(rt: HostRuntime) -> Result<(), Fail> {
     all_pass(&rt, rt.alloc(), &[OTHER_WORDS])
+}
+
+// What `check` answers for an empty folder whose name has so many bytes.
+fn answers_named<R: Threads + Wait + Sync>(
+    rt: &R,
+    alloc: Global,
+    count: usize,
+    status: u8,
+    text: &str,
+) -> Result<(), Fail> {
+    let name = "d".repeat(alloc, count)?;
+    let mut folder = MemFolder::new(alloc)?;
+    answers(rt, alloc, &mut folder, &["check", &name, "1"], status, text)
+}
+
+#[test]
+fn a_name_has_at_most_1024_bytes(rt: HostRuntime) -> Result<(), Fail> {
+    answers_named(&rt, rt.alloc(), 1024, FOLDER_REFUSED, "no index\n")?;
+    answers_named(&rt, rt.alloc(), 1025, USAGE, USAGE_LINE)
 }
 
 const READ_FAILS: Case<'static> = Case {
