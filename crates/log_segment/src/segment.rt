@@ -13,6 +13,6 @@ pub struct Segment {
     pub last: u32,
     /// The offset-span label of all its records.
     pub label: Label,
-    /// The reads and writes, in order of their first addresses.
+    /// The reads and writes, as runs.
     pub runs: Vec<Run>,
 }

@@ -30,7 +30,7 @@ fn add(words: &Words, hand: &mut Hand)
 // The same, under the mutex 0 or without it.
 fn add_one<R: Wait>(rt: &R, words: &Words, hand: &mut Hand, guarded: bool)
     requires free { IsFree hand.old words.now.table }
-    requires mutex { 0 < words.now.locks }
+    requires mutex { 1 < words.now.locks }
     requires word { 0 < words.now.elements }
     ensures free { IsFree hand.new words.now.table }
     ensures name { hand.new.view.name ≡ hand.old.view.name }
@@ -40,14 +40,14 @@ fn add_one<R: Wait>(rt: &R, words: &Words, hand: &mut Hand, guarded: bool)
         add(words, hand);
         return;
     }
-    words.lock(rt, hand, 0);
+    words.lock(rt, hand, 1);
     add(words, hand);
-    words.unlock(hand, 0);
+    words.unlock(hand, 1);
 }
 
 fn add_many<R: Wait>(rt: &R, words: &Words, mut hand: Hand, guarded: bool) -> Hand
     requires free { IsFree hand words.now.table }
-    requires mutex { 0 < words.now.locks }
+    requires mutex { 1 < words.now.locks }
     requires word { 0 < words.now.elements }
     ensures free { IsFree result words.now.table }
     ensures name { result.view.name ≡ hand.view.name }
@@ -70,7 +70,7 @@ fn add_in_threads<R: Threads + Wait + Sync>(
 ) -> Hand
     requires free { IsFree hand words.now.table }
     requires none_out { hand.view.out ≡ [] }
-    requires mutex { 0 < words.now.locks }
+    requires mutex { 1 < words.now.locks }
     requires word { 0 < words.now.elements }
     ensures free { IsFree result words.now.table }
     ensures none_out { result.view.out ≡ [] }
@@ -83,11 +83,11 @@ fn add_in_threads<R: Threads + Wait + Sync>(
     let (mut hand, other) = join(
         rt,
         || -> Hand
-            requires { IsSync R.row × IsFree hand words.now.table × (0 < words.now.locks) × (0 < words.now.elements) }
+            requires { IsSync R.row × IsFree hand words.now.table × (1 < words.now.locks) × (0 < words.now.elements) }
             ensures { IsFree result words.entry.now.table × (result.view.name ≡ hand.view.name) × (result.view.out ≡ hand.view.out) }
         { add_many(rt, words, hand, guarded) },
         || -> Hand
-            requires { IsSync R.row × IsFree other words.now.table × (other.view.out ≡ []) × (0 < words.now.locks) × (0 < words.now.elements) × (1 < threads) }
+            requires { IsSync R.row × IsFree other words.now.table × (other.view.out ≡ []) × (1 < words.now.locks) × (0 < words.now.elements) × (1 < threads) }
             ensures { IsFree result words.entry.now.table × (result.view.name ≡ other.view.name) × (result.view.out ≡ []) }
         { add_in_threads(rt, words, other, threads - 1, guarded) },
     );
@@ -163,7 +163,7 @@ fn hands_split_inside_a_split(rt: HostRuntime) -> Result<(), Fail> {
 
 #[test]
 fn eight_threads_add_under_a_mutex(rt: HostRuntime) -> Result<(), Fail> {
-    let (words, hand) = Words::new(rt.alloc(), 1, 1)?;
+    let (words, hand) = Words::new(rt.alloc(), 1, 2)?;
     let hand = add_in_threads(&rt, &words, hand, 8, true);
     let closed = words.close(hand);
     assert_eq!(rt; closed.words.as_slice(), [8 * ROUNDS].as_slice());
@@ -172,7 +172,7 @@ fn eight_threads_add_under_a_mutex(rt: HostRuntime) -> Result<(), Fail> {
 
 #[test]
 fn without_a_mutex_a_sum_may_be_lost(rt: HostRuntime) -> Result<(), Fail> {
-    let (words, hand) = Words::new(rt.alloc(), 1, 1)?;
+    let (words, hand) = Words::new(rt.alloc(), 1, 2)?;
     let hand = add_in_threads(&rt, &words, hand, 8, false);
     let closed = words.close(hand);
     let [sum] = closed.words.as_slice() else {
