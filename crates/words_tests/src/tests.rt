@@ -27,7 +27,7 @@ fn add(words: &Words, hand: &mut Hand)
     words.store(hand, 0, value.wrapping_add(1));
 }
 
-// The same, under the mutex 0 or without it.
+// The same, under the mutex 1 or without it.
 fn add_one<R: Wait>(rt: &R, words: &Words, hand: &mut Hand, guarded: bool)
     requires free { IsFree hand.old words.now.table }
     requires mutex { 1 < words.now.locks }
