@@ -45,9 +45,9 @@ def write_folder(folder, lanes):
         logs.append((f"t-0.{lane}.swl", [(0, lane, span)], records + [record(END, 0, 0, 50, 0, 0)]))
     for name, _, records in logs:
         with open(os.path.join(folder, name), "wb") as out:
-            out.write(b"SWLOG001" + b"".join(records))
+            out.write(b"SWLOG002" + b"".join(records))
     with open(os.path.join(folder, "index.swi"), "wb") as out:
-        out.write(b"SWIDX001" + b"".join(row(steps, len(records)) for _, steps, records in logs))
+        out.write(b"SWIDX002" + b"".join(row(steps, len(records)) for _, steps, records in logs))
 
 
 def neighbours(lane, span, rounds):

@@ -45,9 +45,9 @@ def main():
         logs[f"t-0.{lane}.swl"] = ([(0, lane, LANES)], lane_log(lane, n))
     for name, (_, records) in logs.items():
         with open(os.path.join(folder, name), "wb") as out:
-            out.write(b"SWLOG001" + b"".join(records))
+            out.write(b"SWLOG002" + b"".join(records))
     with open(os.path.join(folder, "index.swi"), "wb") as out:
-        out.write(b"SWIDX001" + b"".join(row(steps, len(records)) for steps, records in logs.values()))
+        out.write(b"SWIDX002" + b"".join(row(steps, len(records)) for steps, records in logs.values()))
 
 
 main()

@@ -39,15 +39,15 @@ def one_log(folder, elements):
     turns, rest = divmod(MOST - 1, elements)
     end = record(END, 0, 9, 0, 0)
     with open(os.path.join(folder, "t.swl"), "wb") as out:
-        out.write(b"SWLOG001" + record(REGION, 0, 1, 0, 1) + end)
+        out.write(b"SWLOG002" + record(REGION, 0, 1, 0, 1) + end)
     # In pieces, since a process that is started counts the memory that this one had as its own.
     with open(os.path.join(folder, "t-0.0.swl"), "wb") as out:
-        out.write(b"SWLOG001")
+        out.write(b"SWLOG002")
         for _ in range(turns):
             out.write(turn)
         out.write(turn[:24 * rest] + end)
     with open(os.path.join(folder, "index.swi"), "wb") as out:
-        out.write(b"SWIDX001" + row([], 2) + row([(0, 0, 1)], MOST))
+        out.write(b"SWIDX002" + row([], 2) + row([(0, 0, 1)], MOST))
     return os.path.join(folder, "t-0.0.swl")
 
 
@@ -61,7 +61,7 @@ def claiming(folder):
 def tell(folder, records):
     """Has the row of the lane tell so many records."""
     with open(os.path.join(folder, "index.swi"), "wb") as out:
-        out.write(b"SWIDX001" + row([], 2) + row([(0, 0, 1)], records))
+        out.write(b"SWIDX002" + row([], 2) + row([(0, 0, 1)], records))
 
 
 def answers(folder, space):

@@ -15,7 +15,7 @@ pub type Question<'a> = (&'a [&'a str], u8, &'a str);
 /// A folder in memory, what is asked one after another, and what is there then.
 #[derive(Clone, Copy, Drop)]
 pub struct Case<'a> {
-    /// The names and the texts of files.
+    /// The names and the texts of files, which may stand for a log or the index of the tasks.
     pub held: &'a [(&'a str, &'a str)],
     /// The tasks whose logs and index stand in `d`. Where there are none there is no index.
     pub tasks: &'a [Task<'a>],
@@ -41,11 +41,11 @@ pub const EMPTY: Case<'static> = Case {
 /// The folder of a case before anything is asked.
 pub fn folder_of(alloc: Global, case: &Case<'_>) -> Result<MemFolder, Memory> {
     let mut folder = MemFolder::new(alloc)?;
-    for (name, text) in case.held {
-        folder.hold(name, text.as_bytes())?;
-    }
     if !case.tasks.is_empty() {
         hold_tasks(alloc, &mut folder, case.tasks)?;
+    }
+    for (name, text) in case.held {
+        folder.hold(name, text.as_bytes())?;
     }
     Ok(folder)
 }
@@ -149,18 +149,6 @@ fn first_difference<R: Threads + Wait + Sync>(
     Ok(None)
 }
 
-/// What comes out otherwise than the case says where this call on the folder fails.
-pub fn difference_at<R: Threads + Wait + Sync>(
-    rt: &R,
-    alloc: Global,
-    call: u64,
-    case: &Case<'_>,
-) -> Result<Option<String>, Memory> {
-    let mut folder = folder_of(alloc, case)?;
-    folder.fail(&[call])?;
-    difference(rt, alloc, &mut folder, case)
-}
-
 /// Fails with the name of a row that doesn't hold.
 pub fn holds(is_so: bool, row: &str) -> Result<(), Fail> {
     if is_so {
@@ -197,17 +185,7 @@ pub fn all_pass<R: Threads + Wait + Sync>(
     no_difference(first_difference(rt, alloc, cases))
 }
 
-/// The same of one case where this call on the folder fails.
-pub fn passes_at<R: Threads + Wait + Sync>(
-    rt: &R,
-    alloc: Global,
-    call: u64,
-    case: &Case<'_>,
-) -> Result<(), Fail> {
-    no_difference(difference_at(rt, alloc, call, case))
-}
-
-/// The same of one case where this call on the log of this task fails.
+/// The same of one case in a folder of its own, where this call on the log of this task fails.
 pub fn passes_past<R: Threads + Wait + Sync>(
     rt: &R,
     alloc: Global,

@@ -86,9 +86,9 @@ fn log_name(alloc: Global, steps: &[Step]) -> Result<String, AllocError> {
 
 /// Puts the logs of these tasks into the folder `d`, and an index with their rows.
 pub fn hold_tasks(alloc: Global, folder: &mut MemFolder, tasks: &[Task<'_>]) -> Result<(), Memory> {
-    let mut index = b"SWIDX001".to_vec(alloc)?;
+    let mut index = b"SWIDX002".to_vec(alloc)?;
     for (steps, records) in tasks {
-        let mut log = b"SWLOG001".to_vec(alloc)?;
+        let mut log = b"SWLOG002".to_vec(alloc)?;
         for record in records.iter() {
             spell(&mut log, record)?;
         }

@@ -8,11 +8,13 @@
 
 mod cases;
 mod commands;
+mod faults;
 mod folders;
 
 pub use cases::{
-    Case, EMPTY, Question, Whole, all_pass, all_run, answers, difference_at, folder_of, holds,
-    no_difference, passes, passes_at, passes_past,
+    Case, EMPTY, Question, Whole, all_pass, all_run, answers, folder_of, holds, no_difference,
+    passes, passes_past,
 };
 pub use commands::{REPLAY, RUN, SHOW, USAGE_LINE, asked, printed};
+pub use faults::{Calls, each_call_may_fail};
 pub use folders::{BARRIER, END, ROOT, Rec, Step, Task, hold_tasks};

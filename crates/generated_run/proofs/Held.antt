@@ -19,7 +19,7 @@ use Rattle.log_format.specs.declared.record.Kind.TheVariants.{Barrier, End}
 use Rattle.race_model.specs.FirstBad.{HoldsTrace, rows_of}
 use Rattle.race_model.specs.Row.{index_bytes}
 use Rattle.race_model.specs.Trace.{TaskLog, Trace}
-use Rattle.race_model.proofs.IndexRows.{put_is_index}
+use Rattle.race_laws.proofs.IndexRows.{put_is_index}
 use Rattle.generated_run.specs.Generated.{element, generated, path_of_lane, lane_records, log_of_lane, logs_of_lanes, late_write, late_writes, bare_record, read_of, root_records, root_task, rounds_of, write_of}
 use Rattle.generated_run.specs.Puts.{with_run, with_task, with_tasks}
 use Rattle.generated_run.proofs.Counting.{lane_parts}

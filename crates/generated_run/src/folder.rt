@@ -43,9 +43,10 @@ fn put_log<F: Folder>(
     path: &Path,
     records: &[Record],
 ) -> Result<(), Trouble>
-    ensures done { OnOk result (F.content folder.new ≡ option_map (with_task dir.now (task_of path.now «records».now)) (F.content folder.old)) }
-    ensures refused { OnErr result (LeavesTask dir.now (task_of path.now «records».now) (F.content folder.old) (F.content folder.new)) }
-    ensures cause { HasCause (F.write_faults folder.old) (F.write_faults folder.new) result }
+    ensures done { OnOk result ((F.state folder.new).content ≡ option_map (with_task dir.now (task_of path.now «records».now)) (F.state folder.old).content) }
+    ensures refused { OnErr result (LeavesTask dir.now (task_of path.now «records».now) (F.state folder.old).content (F.state folder.new).content) }
+    ensures cause { HasCause (F.state folder.old).write_faults (F.state folder.new).write_faults result }
+    ensures same_roots { (F.state folder.new).roots ≡ (F.state folder.old).roots }
     ensures same_reads { F.read_faults folder.new ≡ F.read_faults folder.old }
 {
     let name = path.name(alloc, dir)?;
@@ -64,10 +65,11 @@ fn put_lane<F: Folder>(
 ) -> Result<(), Trouble>
     requires rounds { rounds ≤ 100000 }
     requires lane { lane < 8 }
-    ensures done { OnOk result (F.content folder.new ≡ option_map (with_task dir.now (log_of_lane rounds lane)) (F.content folder.old)) }
+    ensures done { OnOk result ((F.state folder.new).content ≡ option_map (with_task dir.now (log_of_lane rounds lane)) (F.state folder.old).content) }
     ensures row { OnOk result (rows.new.items ≡ rows.old.items ++ row_of (log_of_lane rounds lane) ∷ []) }
-    ensures refused { OnErr result (LeavesTask dir.now (log_of_lane rounds lane) (F.content folder.old) (F.content folder.new)) }
-    ensures cause { HasCause (F.write_faults folder.old) (F.write_faults folder.new) result }
+    ensures refused { OnErr result (LeavesTask dir.now (log_of_lane rounds lane) (F.state folder.old).content (F.state folder.new).content) }
+    ensures cause { HasCause (F.state folder.old).write_faults (F.state folder.new).write_faults result }
+    ensures same_roots { (F.state folder.new).roots ≡ (F.state folder.old).roots }
     ensures same_reads { F.read_faults folder.new ≡ F.read_faults folder.old }
 {
     let path = Path::root().child(0, lane, SPAN);
@@ -92,10 +94,11 @@ fn put_lanes<F: Folder>(
     rows: &mut Vec<Row>,
 ) -> Result<(), Trouble>
     requires rounds { rounds ≤ 100000 }
-    ensures done { OnOk result (F.content folder.new ≡ option_map (with_tasks dir.now (logs_of_lanes rounds 8)) (F.content folder.old)) }
+    ensures done { OnOk result ((F.state folder.new).content ≡ option_map (with_tasks dir.now (logs_of_lanes rounds 8)) (F.state folder.old).content) }
     ensures row { OnOk result (rows.new.items ≡ rows.old.items ++ rows_of (logs_of_lanes rounds 8)) }
-    ensures refused { OnErr result (PutsLogs dir.now (logs_of_lanes rounds 8) (F.content folder.old) (F.content folder.new)) }
-    ensures cause { HasCause (F.write_faults folder.old) (F.write_faults folder.new) result }
+    ensures refused { OnErr result (PutsLogs dir.now (logs_of_lanes rounds 8) (F.state folder.old).content (F.state folder.new).content) }
+    ensures cause { HasCause (F.state folder.old).write_faults (F.state folder.new).write_faults result }
+    ensures same_roots { (F.state folder.new).roots ≡ (F.state folder.old).roots }
     ensures same_reads { F.read_faults folder.new ≡ F.read_faults folder.old }
 {
     for lane in 0..SPAN {
@@ -111,10 +114,11 @@ fn put_root<F: Folder>(
     dir: &str,
     rows: &mut Vec<Row>,
 ) -> Result<(), Trouble>
-    ensures done { OnOk result (F.content folder.new ≡ option_map (with_task dir.now root_task) (F.content folder.old)) }
+    ensures done { OnOk result ((F.state folder.new).content ≡ option_map (with_task dir.now root_task) (F.state folder.old).content) }
     ensures row { OnOk result (rows.new.items ≡ rows.old.items ++ row_of root_task ∷ []) }
-    ensures refused { OnErr result (LeavesTask dir.now root_task (F.content folder.old) (F.content folder.new)) }
-    ensures cause { HasCause (F.write_faults folder.old) (F.write_faults folder.new) result }
+    ensures refused { OnErr result (LeavesTask dir.now root_task (F.state folder.old).content (F.state folder.new).content) }
+    ensures cause { HasCause (F.state folder.old).write_faults (F.state folder.new).write_faults result }
+    ensures same_roots { (F.state folder.new).roots ≡ (F.state folder.old).roots }
     ensures same_reads { F.read_faults folder.new ≡ F.read_faults folder.old }
 {
     rows.try_reserve(1)?;
@@ -136,9 +140,10 @@ pub fn generate<F: Folder>(
     rounds: u32,
 ) -> Result<(), Trouble>
     requires { (1 ≤ rounds) × (rounds ≤ 100000) }
-    ensures done { OnOk result (F.content folder.new ≡ option_map (with_run dir.now (generated rounds)) (F.content folder.old)) }
-    ensures refused { OnErr result (PutsPart dir.now (generated rounds) (F.content folder.old) (F.content folder.new)) }
-    ensures cause { HasCause (F.write_faults folder.old) (F.write_faults folder.new) result }
+    ensures done { OnOk result ((F.state folder.new).content ≡ option_map (with_run dir.now (generated rounds)) (F.state folder.old).content) }
+    ensures refused { OnErr result (PutsPart dir.now (generated rounds) (F.state folder.old).content (F.state folder.new).content) }
+    ensures cause { HasCause (F.state folder.old).write_faults (F.state folder.new).write_faults result }
+    ensures same_roots { (F.state folder.new).roots ≡ (F.state folder.old).roots }
     ensures same_reads { F.read_faults folder.new ≡ F.read_faults folder.old }
 {
     let mut rows = Vec::new(alloc);

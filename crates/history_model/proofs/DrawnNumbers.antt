@@ -8,10 +8,10 @@ use Rattle.std.proofs.lemmas.List.Sums.{sum_by-append}
 use Rattle.std.proofs.lemmas.List.Elements.{All-nil, All-cons, All-head, All-tail}
 use Rattle.log_format.specs.declared.record.Record.{Record}
 use Rattle.log_format.specs.declared.record.Kind.{Kind}
-use Rattle.log_format.specs.declared.record.Kind.TheVariants.{Read, Write, Lock, Unlock, Barrier, Region, Chunk, End}
+use Rattle.log_format.specs.declared.record.Kind.TheVariants.{Read, Write, Lock, Unlock, Barrier, Region, Chunk, End, Update}
 use Rattle.race_model.specs.Draws.{in_first_loop, with_draw, draws_by_loop, loop_draws, with_closing, closed_loops, times_drawn, DrewEachOnce}
 use Rattle.history_model.specs.Drawn.{LaneDraws, TellsDraws, times_given, GaveEachOnce, then_loops}
-use Rattle.history_model.proofs.ActsOrder.{count_cons}
+use Rattle.history_model.proofs.Parts.{count_cons}
 
 count_append : (number : ℕ) (xs ys : List ℕ) → count_by (λ n. n == number) (xs ++ ys) ≡ count_by (λ n. n == number) xs + count_by (λ n. n == number) ys
 count_append number xs ys = sum_by-append (λ (n : ℕ). cond (n == number) 1 0) xs ys
@@ -121,6 +121,7 @@ some_loop (r ∷ records) = by_kind r.kind (some_loop records) where
   by_kind Barrier some = some
   by_kind Region some = some
   by_kind End some = some
+  by_kind Update some = some
   by_kind Chunk (first, later, same) = at (r.addr == r.value) where
     at : (b : Bool) → (f : List ℕ) × (l : List (List ℕ)) × ((if b then [] ∷ draws_by_loop records else in_first_loop r.addr (draws_by_loop records)) ≡ f ∷ l)
     at true = ([], draws_by_loop records, refl)
@@ -142,6 +143,7 @@ draws_more (r ∷ records) more = by_kind r.kind (draws_more records more) (some
   by_kind Barrier same some other = same
   by_kind Region same some other = same
   by_kind End same some other = same
+  by_kind Update same some other = same
   by_kind Chunk same (first, later, is) (next, rest, also) = at (r.addr == r.value) where
     closes : (loops : List (List ℕ)) → loops ≡ first ∷ later → [] ∷ then_loops loops (draws_by_loop more) ≡ then_loops ([] ∷ loops) (draws_by_loop more)
     closes [] none = cc
@@ -170,6 +172,7 @@ closed_more (r ∷ records) more = by_kind r.kind (closed_more records more) whe
   by_kind Barrier same = same
   by_kind Region same = same
   by_kind End same = same
+  by_kind Update same = same
   by_kind Chunk same = at (r.addr == r.value) where
     at : (b : Bool) → (if b then r.value ∷ closed_loops (records ++ more) else closed_loops (records ++ more)) ≡ (if b then r.value ∷ closed_loops records else closed_loops records) ++ closed_loops more
     at true = ap (λ (ns : List ℕ). r.value ∷ ns) same

@@ -1,8 +1,10 @@
 -- How works and phases compose.
-use Rattle.std.proofs.Common.{◌≡◌, ◌⊎◌, inl, inr, refl, sym, ap, ap₂, ◌∙◌, ℕ, zero, suc, ◌+◌, ◌*◌, ◌<◌, cond, List, [], ◌∷◌, ◌++◌, map, arith}
+use Rattle.std.proofs.Common.{◌≡◌, ◌⊎◌, inl, inr, refl, sym, ap, ap₂, ◌∙◌, ℕ, zero, suc, ◌+◌, ◌*◌, ◌<◌, Bool, cond, List, [], ◌∷◌, ◌++◌, map, arith}
+use Rattle.std.specs.Prelude.{count_by}
 use Rattle.std.specs.List.{flat_map}
 use Rattle.std.proofs.lemmas.Grind.{flat_map-append}
 use Rattle.std.proofs.lemmas.List.{append-nil, append_assoc}
+use Rattle.std.proofs.lemmas.List.Sums.{sum_by-append}
 use Rattle.log_format.specs.declared.record.Record.{Record}
 use Rattle.log_format.specs.declared.record.Kind.{Kind}
 use Rattle.log_format.specs.declared.record.Kind.TheVariants.{Barrier}
@@ -11,11 +13,17 @@ use Rattle.step_history.specs.declared.item.Item.{Item}
 use Rattle.step_history.specs.declared.item.Deed.{Deed}
 use Rattle.step_history.specs.declared.item.Deed.TheVariants.{Split, Home}
 use Rattle.step_history.specs.History.{Name, item}
-use Rattle.history_model.specs.Work.{Work, Rest, Put, Fork, Phases, NoPhase, Phase, TeamWork, NoWork, Beside, fork_record, work_records, work_at, lane_works, then_work, then_phases, phase_count, end_team, end_phases}
+use Rattle.history_model.specs.Work.{Work, Rest, Put, Fork, Phases, NoPhase, Phase, TeamWork, NoWork, Beside, fork_record, logged, work_records, work_at, lane_works, then_work, then_phases, phase_count, end_team, end_phases}
 use Rattle.history_model.specs.Did.{deeds_of, lane_count_of, phase_splits, split_count, splits_of, did, did_phases, did_team, DoesNothing}
 use Rattle.history_model.specs.Sound.{WordLayout, IsSound, ArePhasesSound, IsTeamSound, PassesBarrier, PassAllBarriers, PassesNone, EndWithoutBarrier}
-use Rattle.history_model.proofs.ActsOrder.{count_cons}
-use Rattle.history_model.proofs.TaskEntries.{then_records}
+
+pub count_cons : {X : Type 0} (test : X → Bool) (x : X) (xs : List X) → count_by test (x ∷ xs) ≡ count_by test (x ∷ []) + count_by test xs
+count_cons {X} test x xs = sum_by-append (λ (y : X). cond (test y) 1 0) (x ∷ []) xs
+
+pub then_records : (work other : Work) → work_records (then_work work other) ≡ work_records work ++ work_records other
+then_records Rest other = refl
+then_records (Put r more) other = ap (λ (rs : List Record). logged r ∷ rs) (then_records more other)
+then_records (Fork line span phases more) other = ap (λ (rs : List Record). fork_record line span ∷ rs) (then_records more other)
 
 pub then_splits : (work other : Work) → split_count (then_work work other) ≡ split_count work + split_count other
 then_splits Rest other = omega arith

@@ -19,6 +19,7 @@ deeds_of word kind.Barrier r = []
 deeds_of word kind.Region r = []
 deeds_of word kind.Chunk r = []
 deeds_of word kind.End r = []
+deeds_of word kind.Update r = deed.Update (word r.addr) r.value ∷ []
 
 abbrev pub lane_count_of : TeamWork → ℕ
 lane_count_of NoWork = 0

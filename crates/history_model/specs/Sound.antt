@@ -1,25 +1,39 @@
 -- When a tree of work is that of a fork-join run.
-use Rattle.std.specs.Prelude.{◌≡◌, ◌⊎◌, ℕ, ◌<◌, List, length}
+use Rattle.std.specs.Prelude.{◌≡◌, ◌⊎◌, ℕ, ◌<◌, List, length, slice_index}
 use Rattle.log_format.specs.declared.record.Record.{Record}
-use Rattle.log_format.specs.declared.record.Kind.TheVariants.{Barrier, Region}
+use Rattle.log_format.specs.declared.record.Kind.TheVariants.{Write, Barrier, Region}
+use Rattle.log_format.specs.Fitting.{IsWidth, fit, CanHave}
 use Rattle.race_model.specs.Trace.{barrier_count}
 use Rattle.race_model.specs.Race.{IsAccess}
 use Rattle.history_model.specs.Work.{Work, Rest, Put, Fork, Phases, NoPhase, Phase, TeamWork, NoWork, Beside, work_records}
 use Rattle.history_model.specs.Did.{lane_count_of}
 
--- where the elements lie: the word of an address, and the address of a word
+-- where the elements lie: the word of an address, the address of a word, and the bytes of the element in a word
 pub record WordLayout : Type 0 where
   pub word : ℕ → ℕ
   pub address : ℕ → ℕ
+  pub width : ℕ → ℕ
 
--- each of these words has an address
+-- each of these words has an address, and its element a width
 abbrev pub HasAddresses : WordLayout → List ℕ → Type 0
-HasAddresses layout words = (word : ℕ) → word < length words → layout.word (layout.address word) ≡ word
+HasAddresses layout words = (word : ℕ) → word < length words → (layout.word (layout.address word) ≡ word) × IsWidth (layout.width word)
 
--- a record that a task puts forks no region, and an access is that of a word
+-- these are the values of the elements in the words of a memory
+pub record AreFitted (layout : WordLayout) (memory words : List ℕ) : Type 0 where
+  pub count : length words ≡ length memory
+  pub each : (word : ℕ) → word < length memory → slice_index words word ≡ fit (slice_index memory word) (layout.width word)
+
+-- an access has the address of a word, and the bytes of the element there
+pub record IsOfElement (layout : WordLayout) (r : Record) : Type 0 where
+  pub address : layout.address (layout.word r.addr) ≡ r.addr
+  pub size : r.size ≡ layout.width (layout.word r.addr)
+  pub width : IsWidth r.size
+
+-- a record that a task puts forks no region, an access is that of an element, and a value stored is one that the element can have
 pub record IsSoundRecord (layout : WordLayout) (r : Record) : Type 0 where
   pub no_region : r.kind ≡ Region → ⊥
-  pub element : IsAccess r → layout.address (layout.word r.addr) ≡ r.addr
+  pub element : IsAccess r → IsOfElement layout r
+  pub stores : r.kind ≡ Write → CanHave r.size r.value
 
 -- each lane passes one barrier
 abbrev pub PassesBarrier : TeamWork → Type 0

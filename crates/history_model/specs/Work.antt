@@ -1,9 +1,12 @@
--- What a task did, as a tree: the records that it put, and the regions that it forked, with what each lane did in each phase.
+-- What a task did, as a tree: the records that it put, a Read with the whole word that was loaded, and the regions that it forked, with
+-- what each lane did in each phase.
 use Rattle.std.specs.Prelude.{ℕ, zero, suc, ◌==◌, if◌then◌else◌, List, [], ◌∷◌, ◌++◌, Option, Some, None, slice_get}
 use Rattle.std.specs.List.{flat_map}
 use Rattle.sw_base.specs.declared.path.Step.{Step}
 use Rattle.log_format.specs.declared.record.Record.{Record}
-use Rattle.log_format.specs.declared.record.Kind.TheVariants.{Region}
+use Rattle.log_format.specs.declared.record.Kind.{Kind}
+use Rattle.log_format.specs.declared.record.Kind.TheVariants.{Read, Region}
+use Rattle.log_format.specs.Fitting.{fit}
 use Rattle.race_model.specs.Trace.{Logs}
 
 -- A task rests, or puts a record and goes on, or forks a region and then goes on. A region has phases, with a barrier after
@@ -26,10 +29,18 @@ mutual
 abbrev pub fork_record : ℕ → ℕ → Record
 fork_record line span = record { kind = Region; size = 0; site = 0; line = line; addr = 0; value = span }
 
--- the records that the task itself puts
+-- The value of a record in a log: a task reads a whole word, and its log tells the value of the element there.
+abbrev pub logged_value : Kind → Record → ℕ
+logged_value Read r = fit r.value r.size
+logged_value _ r = r.value
+
+abbrev pub logged : Record → Record
+logged r = record r { value = logged_value r.kind r }
+
+-- the records of the task itself, as its log tells them
 abbrev pub work_records : Work → List Record
 work_records Rest = []
-work_records (Put r more) = r ∷ work_records more
+work_records (Put r more) = logged r ∷ work_records more
 work_records (Fork line span phases more) = fork_record line span ∷ work_records more
 
 -- a region that was forked: its span, and what its lanes did

@@ -1,24 +1,13 @@
 //! One history of a run: what the hands of nested teams did, as a tree of work, and what its tasks' logs say.
 //!
-//! The laws: where the steps of all hands have one legal history that ends in some words, the logs of all tasks have one that
-//! keeps each task's order and that of forks, joins and barriers, and ends in the same words (sequential consistency), at any
-//! depth and span; and so do the logs of a run that stopped, with the mutexes released that were held at the stop. Works and
-//! phases compose: one after another, their steps, records and soundness are those of the parts. The tasks of a tree are those
-//! of a fork-join run, in the order of an index, none goes on after a barrier that another lane of its team hasn't passed, and none
-//! goes on after a region before all its lanes have ended.
-//! What the lanes of a team drew from one counter, their logs tell each once.
+//! A hand's work has each Read with the whole word that was loaded; the task's log has the value of the element there.
+//!
+//! The laws here: works and phases compose, one after another their steps, records and soundness are those of the parts; and what the
+//! lanes of a team drew from one counter, their logs tell each once. Those of whole trees stand in `history_laws`.
 #![tactic(auto)]
 
-mod barriers;
 mod composing;
 mod draws;
-mod history;
-mod joins;
-mod tasks;
 
-pub use barriers::barriers_are_met;
 pub use composing::{last_records_are_no_steps, phases_compose, works_compose};
 pub use draws::{draws_compose, lanes_draw_each_chunk_once};
-pub use history::{history_of_a_run, history_of_a_stopped_run};
-pub use joins::lanes_end_before_their_task_goes_on;
-pub use tasks::tasks_of_a_tree_of_work;

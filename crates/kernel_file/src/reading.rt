@@ -55,14 +55,13 @@ pub fn read_kernel_file<F: Folder>(
     folder: &mut F,
     name: &str,
 ) -> Result<Kernel, KernelRefusal>
-    ensures kernel { IfOk result (λ k. WhereTold (F.content folder.old) (λ c. HoldsKernel c.held name.now (program_of k))) }
+    ensures kernel { IfOk result (λ k. WhereTold (F.state folder.old).content (λ c. HoldsKernel c.held name.now (program_of k))) }
     ensures text { IfOk result (λ k. IsOfText (program_of k)) }
     ensures bounded { IfOk result (λ k. IsBounded (program_of k)) }
     ensures alone { IfOk result (λ k. k.main.span ≡ 1) }
-    ensures refused { IfErr result (λ why. WhereTold (F.content folder.old) (λ c. IsRefusal c.held name.now why)) }
+    ensures refused { IfErr result (λ why. WhereTold (F.state folder.old).content (λ c. IsRefusal c.held name.now why)) }
 
-    ensures same { F.content folder.new ≡ F.content folder.old }
-    ensures same_writes { F.write_faults folder.new ≡ F.write_faults folder.old }
+    ensures same { F.state folder.new ≡ F.state folder.old }
     ensures later { F.read_faults folder.old ≤ F.read_faults folder.new }
     ensures cause { IfErr result (λ why. why ≡ refusal.Trouble trouble.Failed → Rose (F.read_faults folder.old) (F.read_faults folder.new)) }
 {

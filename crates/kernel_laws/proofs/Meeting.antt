@@ -19,7 +19,7 @@ use Rattle.kernel_model.specs.Lawful.{IsEven, IsLawful}
 use Rattle.kernel_model.specs.Parts.{parts_of, bar_count}
 use Rattle.kernel_model.proofs.SingleSteps.{KeepsPlainSteps, KeepsBarriers}
 use Rattle.kernel_model.proofs.Steps.{Part, Kept, kept-and_then, kept-after, kept-put, kept-bar, kept-value, kept-stored, kept-branch, kept-turns, kept-shared, kept-loop_end}
-use Rattle.kernel_model.proofs.SameBarriers.{ended_barriers, most_barriers}
+use Rattle.kernel_rules.proofs.SameBarriers.{ended_barriers, most_barriers}
 
 -- ---- every team that a task forks is even
 

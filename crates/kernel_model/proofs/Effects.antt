@@ -5,7 +5,7 @@ use Rattle.std.specs.List.{cons_option}
 use Rattle.std.proofs.lemmas.List.{append-nil, length-append}
 use Rattle.std.proofs.lemmas.List.Elements.{filter_map-append}
 use Rattle.std.proofs.lemmas.Int.{to_z-of_z}
-use Rattle.kernel_syntax.specs.Arithmetic.{fitted}
+use Rattle.log_format.specs.Fitting.{fitted}
 use Rattle.kernel_syntax.specs.Tree as tree
 use Rattle.kernel_syntax.specs.Tree.{Term}
 use Rattle.log_format.specs.declared.record.Record.{Record}

@@ -3,7 +3,8 @@ use Rattle.std.proofs.Common.{◌≡◌, refl, ℕ, zero, suc, min, Bool, List, 
 use Rattle.std.specs.Prelude.{slice_index_or}
 use Rattle.kernel_syntax.specs.declared.syntax.Op.{Op}
 use Rattle.kernel_syntax.specs.declared.syntax.Schedule.{Schedule}
-use Rattle.kernel_syntax.specs.Arithmetic.{applied, negated, fitted}
+use Rattle.log_format.specs.Fitting.{fitted}
+use Rattle.kernel_syntax.specs.Arithmetic.{applied, negated}
 use Rattle.kernel_syntax.specs.Tree as tree
 use Rattle.kernel_syntax.specs.Tree.{Term, Code}
 use Rattle.log_format.specs.declared.record.Record.{Record}

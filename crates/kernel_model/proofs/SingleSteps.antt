@@ -3,7 +3,7 @@ use Rattle.std.specs.Prelude.{◌≡◌, ℕ, suc, min, List, [], ◌∷◌, ◌
 use Rattle.log_format.specs.declared.record.Record.{Record}
 use Rattle.log_format.specs.declared.record.Kind.TheVariants as kind
 use Rattle.log_format.specs.declared.record.Kind.{Kind}
-use Rattle.kernel_syntax.specs.Arithmetic.{fitted}
+use Rattle.log_format.specs.Fitting.{fitted}
 use Rattle.kernel_syntax.specs.Tree.{TeamTree}
 use Rattle.kernel_model.specs.State.{State, event, assign}
 use Rattle.kernel_model.specs.Value.{Element, access}

@@ -3,7 +3,8 @@ use Rattle.std.proofs.Common.{◌≡◌, refl, ℕ, zero, suc, Bool, true, false
 use Rattle.std.specs.Prelude.{◌||◌}
 use Rattle.kernel_syntax.specs.declared.syntax.Schedule.{Schedule}
 use Rattle.kernel_syntax.specs.declared.syntax.Schedule.TheVariants.{Even, Static, Dynamic}
-use Rattle.kernel_syntax.specs.Arithmetic.{applied, fitted}
+use Rattle.log_format.specs.Fitting.{fitted}
+use Rattle.kernel_syntax.specs.Arithmetic.{applied}
 use Rattle.kernel_syntax.specs.Tree.{Term, Code, TeamTree, Number, Slot, Tid, Span, Load, Neg, Binary, Done, Set, Store, If, Loop, Parallel, For, Barrier, Critical}
 use Rattle.kernel_syntax.specs.Program.{Program}
 use Rattle.log_format.specs.declared.record.Record.{Record}

@@ -7,7 +7,6 @@ pub mod Iterations
 pub mod Lawful
 pub mod Parts
 pub mod Phases
-pub mod Pieces
 pub mod State
 pub mod Trace
 pub mod Value

@@ -2,7 +2,8 @@
 use Rattle.std.specs.Prelude.{ℕ, zero, suc, ◌+◌, ◌*◌, List, [], ◌∷◌, ◌++◌, ℤ, pos, negsuc, nat_lt, if◌then◌else◌, Option, Some, None, slice_get, slice_index_or}
 use Rattle.kernel_syntax.specs.declared.syntax.Array.{Array}
 use Rattle.kernel_syntax.specs.Tree.{Term, Number, Slot, Tid, Span, Load, Neg, Binary}
-use Rattle.kernel_syntax.specs.Arithmetic.{applied, negated, fitted}
+use Rattle.log_format.specs.Fitting.{fitted}
+use Rattle.kernel_syntax.specs.Arithmetic.{applied, negated}
 use Rattle.log_format.specs.declared.record.Record.{Record}
 use Rattle.log_format.specs.declared.record.Kind.{Kind}
 use Rattle.log_format.specs.declared.record.Kind.TheVariants.{Read}

@@ -20,7 +20,7 @@ pub enum Item<'k> {
 /// What each lane of a team executes up to a barrier, or to the end. Contracts see its items.
 #[derive(Debug, Drop)]
 pub struct Phase<'k> {
-    pub(crate) items: Vec<Item<'k>>,
+    items: Vec<Item<'k>>,
 }
 
 impl<'k> Model for Phase<'k> {
@@ -37,6 +37,13 @@ impl<'k> Model for Phase<'k> {
 }
 
 impl<'k> Phase<'k> {
+    /// The phase with these items.
+    pub fn new(items: Vec<Item<'k>>) -> Self
+        ensures { result ≡ items.entry.items }
+    {
+        Phase { items }
+    }
+
     /// The items in order.
     pub fn items(&self) -> &[Item<'k>]
         ensures { result.now ≡ self.now }

@@ -8,7 +8,7 @@ use Rattle.std.proofs.lemmas.List.Sums.{sum_by_push}
 use Rattle.std.proofs.lemmas.List.Elements.{All-nil, All-push}
 use Rattle.std.proofs.lemmas.List.Quantifiers.{position-Some}
 use Rattle.kernel_syntax.specs.declared.syntax.Array.{Array}
-use Rattle.kernel_syntax.specs.Arithmetic.{IsWidth}
+use Rattle.log_format.specs.Fitting.{IsWidth}
 use Rattle.kernel_syntax.specs.Layout.{elements, IsWithinLimits}
 use Rattle.kernel_syntax.specs.Program.{Program}
 use Rattle.kernel_syntax.specs.Bounds.{IsLine, IsSpan, IsChunk, IsBoundedSchedule, IsBoundedTerm, IsBoundedCode, IsBounded}

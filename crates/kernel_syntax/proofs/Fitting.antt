@@ -4,7 +4,7 @@ use Rattle.std.specs.Int.RustNames.{unsigned_abs}
 use Rattle.std.proofs.Math.Nat.{mod-eq_of_lt}
 use Rattle.std.proofs.lemmas.Bool.{cases_lt}
 use Rattle.std.proofs.lemmas.Bool.Decides.{nat_tests}
-use Rattle.kernel_syntax.specs.Arithmetic.{wrapped, signed, fitted, IsWidth}
+use Rattle.log_format.specs.Fitting.{wrapped, signed, fitted, IsWidth}
 use Rattle.kernel_syntax.proofs.Wrapping.{remainder-is, signed-small}
 
 signed-negative : (r n : ℕ) → r / 2 ≤ n → signed r n ≡ negsuc (r - suc n)

@@ -5,7 +5,7 @@ use Rattle.std.proofs.lemmas.List.{drop_more, take_more, get_or_at, set_at, leng
 use Rattle.std.proofs.lemmas.List.Sums.{sum_by-append, sum_by-cons}
 use Rattle.std.proofs.lemmas.List.Elements.{All-nil, All-cons, All-head, All-tail}
 use Rattle.kernel_syntax.specs.declared.syntax.Array.{Array}
-use Rattle.kernel_syntax.specs.Arithmetic.{IsWidth}
+use Rattle.log_format.specs.Fitting.{IsWidth}
 use Rattle.kernel_syntax.specs.Layout.{laid, laid_from, aligned, elements}
 
 -- as many arrays are laid out

@@ -5,7 +5,7 @@ use Rattle.std.specs.Int.RustNames.{int_div, unsigned_abs}
 use Rattle.std.proofs.Math.Nat.{mod-eq_of_lt, mod-lt, div-le_self}
 use Rattle.std.proofs.lemmas.Bool.Decides.{nat_tests}
 use Rattle.std.proofs.lemmas.Int.{wrapping_add_is, wrapping_sub_is, wrapping_mul_is, int_wrap_fits, to_z-of_z, fits_signed_from_abs, ints}
-use Rattle.kernel_syntax.specs.Arithmetic.{wrapped, signed}
+use Rattle.log_format.specs.Fitting.{wrapped, signed}
 
 pub wrapped-64 : (z : ℤ) → wrapped (2 ^ 64) z ≡ int_wrap w64 z
 unfolding wrapped int_wrap

@@ -1,25 +1,9 @@
 -- Arithmetic on values: integers in two's complement.
-use Rattle.std.specs.Prelude.{◌≡◌, ℕ, zero, suc, ◌-◌, ◌*◌, ◌/◌, ◌^◌, Bool, true, false, not, ℤ, pos, negsuc, ◌+ℤ◌, ◌-ℤ◌, ◌*ℤ◌, neg_ℤ, unsigned_abs, int_lt, int_le, int_div, int_rem, nat_lt, if◌then◌else◌, Option, Some, None, ◌⊎◌}
+use Rattle.std.specs.Prelude.{zero, ◌^◌, Bool, true, false, not, ℤ, pos, ◌+ℤ◌, ◌-ℤ◌, ◌*ℤ◌, neg_ℤ, int_lt, int_le, int_div, int_rem, Option, Some, None}
 use Rattle.std.specs.Ordering.{int_eq}
-use Rattle.std.specs.Int.{int_rem_euclid}
+use Rattle.log_format.specs.Fitting.{wrapped}
 use Rattle.kernel_syntax.specs.declared.syntax.Op.{Op}
 use Rattle.kernel_syntax.specs.declared.syntax.Op.TheVariants.{Add, Sub, Mul, Div, Rem, Eq, Ne, Lt, Le, Gt, Ge}
-
--- the number that n stands for in two's complement, where there are so many numbers
-abbrev pub signed : ℕ → ℕ → ℤ
-signed range n = if nat_lt n (range / 2) then pos n else negsuc (range - suc n)
-
--- z wrapped to the numbers from -range / 2 to range / 2 - 1: the one that differs from z by a multiple of the range
-unfoldable pub wrapped : ℕ → ℤ → ℤ
-wrapped range z = signed range (unsigned_abs (int_rem_euclid z (pos range)))
-
--- the widths of elements, in bytes
-abbrev pub IsWidth : ℕ → Type 0
-IsWidth width = (width ≡ 1) ⊎ (width ≡ 2) ⊎ (width ≡ 4) ⊎ (width ≡ 8)
-
--- the value that an element of so many bytes has after z is stored: its low bits, extended by their sign
-abbrev pub fitted : ℤ → ℕ → ℤ
-fitted z width = wrapped (2 ^ (8 * width)) z
 
 -- a comparison's value
 abbrev pub truth : Bool → ℤ

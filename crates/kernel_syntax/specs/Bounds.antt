@@ -3,7 +3,7 @@
 use Rattle.std.specs.Prelude.{◌≡◌, ℕ, ◌^◌, ◌<◌, ◌≤◌, All}
 use Rattle.kernel_syntax.specs.declared.syntax.Schedule.{Schedule}
 use Rattle.kernel_syntax.specs.declared.syntax.Schedule.TheVariants.{Even, Static, Dynamic}
-use Rattle.kernel_syntax.specs.Arithmetic.{IsWidth}
+use Rattle.log_format.specs.Fitting.{IsWidth}
 use Rattle.kernel_syntax.specs.Layout.{laid, IsWithinLimits}
 use Rattle.kernel_syntax.specs.Tree as tree
 use Rattle.kernel_syntax.specs.Tree.{Term, Code}

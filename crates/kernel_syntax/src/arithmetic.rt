@@ -1,6 +1,7 @@
 //! The arithmetic of a kernel's values.
 ghost use Rattle.std.specs.Prelude.{◌≡◌, ◌^◌, pos, unsigned_abs, ◌≤ℤ◌};
-ghost use Rattle.kernel_syntax.specs.Arithmetic.{applied, fitted, truth, wrapped, IsWidth};
+ghost use Rattle.log_format.specs.Fitting.{fitted, wrapped, IsWidth};
+ghost use Rattle.kernel_syntax.specs.Arithmetic.{applied, truth};
 
 use crate::syntax::Op;
 

@@ -1,4 +1,5 @@
 mod examples;
+mod faults;
 mod pairs;
 mod replays;
 mod runs;

@@ -18,10 +18,10 @@ use Rattle.shared_words.specs.Handles.{HandValue, with_view}
 use Rattle.shared_words.specs.Draws.{drew}
 use Rattle.history_model.specs.Work.{Rest, Put}
 use Rattle.execution_model.specs.Runs.{RunsRegions}
-use Rattle.lane_runner.specs.World.{WorldValue, element_word}
+use Rattle.lane_runner.specs.World.{WorldValue, element_word, layout_of}
 use Rattle.lane_runner.specs.Drawing.{Tally, TellDraws, HasDrawn}
 use Rattle.lane_runner.specs.Going.{Progress, GainsRecords, HasRoomFor, Made, log_of}
-use Rattle.lane_runner.proofs.Working.{hand_still, worked_put_nothing}
+use Rattle.lane_runner.proofs.Working.{hand_still, no_access, worked_put_nothing}
 use Rattle.lane_runner.proofs.Stepping.{put_one, gains_after}
 use Rattle.lane_runner.proofs.Ending.{ended_none}
 use Rattle.lane_runner.proofs.Handing.{work_hands_none, few_still}
@@ -76,8 +76,7 @@ module _ (w : WorldValue) (line n number : ℕ) (some : 1 ≤ line) (old mid new
       draws = subst (λ (rs : List Record). HasDrawn old.tally new.tally rs) (sym (put_one told some)) has_drawn;
       forked = let same = forked ∙ ap (λ (t : Tally). t.forked) room.waits.tally in omega (arith, same);
       told = omega arith;
-      elements = (tt, tt);
-      sound = (record { no_region = λ is. cc; element = λ is. absurd (⊎_elim (λ e. cc) (λ e. cc) is) }, (λ is. refl), tt);
+      sound = (no_access (layout_of w.arrays) told (λ is. cc) (λ is. cc) (λ is. cc) (λ is. cc), (λ is. refl), tt);
       barriers = refl;
     };
     released = record {
@@ -90,10 +89,10 @@ module _ (w : WorldValue) (line n number : ℕ) (some : 1 ≤ line) (old mid new
     handed = work_hands_none old new (Put told Rest) (done_is ∙ room.waits.done) refl;
     few = few_still old.done new.done (done_is ∙ room.waits.done);
     unrefused = unrefused;
-    makes = λ fit.
+    makes =
         let below = room.may_put.below in
         let same = room.waits.count in
         subst (λ (rs : List Record). Makes (draw line n) slots (log_limit - old.buffer.count) (adds slots rs) (Returned (min number n))) (sym (put_one told some))
         (makes-draw line n slots (log_limit - old.buffer.count) (min number n) (omega (arith, below, same)) (omega arith));
-    regions = λ fit program is. RunsRegions.no_region;
+    regions = λ program is. RunsRegions.no_region;
   }

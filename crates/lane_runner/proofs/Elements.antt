@@ -3,7 +3,7 @@ use Rattle.std.proofs.Common.{◌≡◌, ap, sym, ◌∙◌, ℕ, ◌+◌, ◌*�
 use Rattle.std.specs.Prelude.{slice_get}
 use Rattle.std.specs.Int.RustNames.{unsigned_abs}
 use Rattle.kernel_syntax.specs.declared.syntax.Array.{Array}
-use Rattle.kernel_syntax.specs.Arithmetic.{IsWidth}
+use Rattle.log_format.specs.Fitting.{IsWidth}
 use Rattle.kernel_model.specs.Value.{element_at}
 use Rattle.kernel_model.proofs.Elements.{element_is}
 use Rattle.lane_runner.specs.declared.element.Element.{Element}
@@ -22,6 +22,6 @@ element_stands w e k a i n world found low high n_is word addr width =
         inside = omega (arith, inside);
         word = ap (λ (m : ℕ). element_word w.arrays m) addr ∙ world.apart.word k n a found high ∙ sym word;
         address = ap (λ (m : ℕ). element_address w.arrays m) word ∙ world.apart.address k n a found high ∙ sym addr;
-        bytes = ap (λ (m : ℕ). element_width w.arrays m) addr ∙ world.apart.width k n a found high ∙ sym width;
+        bytes = ap (λ (m : ℕ). element_width w.arrays m) word ∙ world.apart.width k n a found high ∙ sym width;
       };
     }

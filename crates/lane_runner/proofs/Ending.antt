@@ -1,24 +1,18 @@
--- Works one after another: what they read, and how their regions ended.
+-- Works one after another: how their regions ended.
 use Rattle.std.proofs.Common.{◌≡◌, ap, sym, ◌∙◌, subst, ℕ, ◌+◌, List, [], ◌∷◌, ◌++◌, length, Some, None, append_assoc, arith}
 use Rattle.std.proofs.lemmas.List.{length-append}
 use Rattle.sw_base.specs.declared.path.Step.{Step}
 use Rattle.std.proofs.lemmas.List.Elements.{All-append, All-nil, All-cons}
 use Rattle.kernel_syntax.specs.declared.syntax.Array.{Array}
 use Rattle.kernel_model.specs.State as model
-use Rattle.history_model.specs.Work.{Work, Rest, Put, Fork, RegionWork, work_regions, then_work}
+use Rattle.history_model.specs.Work.{Work, Fork, RegionWork, work_regions, then_work}
 use Rattle.history_model.specs.Joined.{PhasesEnd, ArePhasesJoined}
-use Rattle.lane_runner.specs.Fitting.{WorkFits}
 use Rattle.lane_runner.specs.Handed.{AreFew, place_of}
 use Rattle.lane_runner.specs.Stopping.{HaveEnded, StopsRegion, StopsAtLast}
 use Rattle.lane_runner.specs.declared.stop.Stop.{Stop}
 use Rattle.lane_runner.specs.Going.{Progress, Cause, AtLog, AtRegion, AtTasks, AreFewBefore, StopsBy}
 use Rattle.lane_runner.proofs.Working.{regions_then}
 use Rattle.lane_runner.proofs.Handing.{few_before_then}
-
-pub fits_then : (work other : Work) → WorkFits (then_work work other) → WorkFits work × WorkFits other
-fits_then Rest other fit = (tt, fit)
-fits_then (Put r more) other fit = let rest = fits_then more other fit.1 in ((fit.0, rest.0), rest.1)
-fits_then (Fork line span phases more) other fit = let rest = fits_then more other fit.1 in ((fit.0, rest.0), rest.1)
 
 ended_both : (xs ys : List RegionWork) → HaveEnded xs → HaveEnded ys → HaveEnded (xs ++ ys)
 ended_both xs ys x y = All-append (λ (r : RegionWork). PhasesEnd r.phases × ArePhasesJoined r.phases) xs ys x y

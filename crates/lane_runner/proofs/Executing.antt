@@ -5,6 +5,7 @@ use denote.Ref.{Bor, MutBor}
 use Rattle.std.specs.Global.{Vec}
 use Rattle.sw_base.specs.declared.path.Step.{Step}
 use Rattle.log_format.specs.declared.record.Kind.TheVariants as kind
+use Rattle.sw_base.specs.declared.closed_log.ClosedLog.{ClosedLog}
 use Rattle.event_buffer.specs.Buffered.{Buffered}
 use Rattle.kernel_syntax.specs.declared.syntax.Team.{Team}
 use Rattle.kernel_model.specs.declared.phase.Item.{Item}
@@ -81,7 +82,7 @@ puts_end line old inside new same after r is takes log =
     }))
 
 -- what is asked for the regions of a phase, told of the same log
-pub forks_same : {T : Type 0} (w : WorldValue) (accepts : MutBor (HandValue View) → Bor Locals → ℕ → Vec T → Bor Team → MutBor (Vec (List Step × T × ℕ)) → Type 0)
-    (gives : MutBor (HandValue View) → Bor Locals → ℕ → Vec T → Bor Team → MutBor (Vec (List Step × T × ℕ)) → Answer → MutBor (HandValue View) → MutBor (Vec (List Step × T × ℕ)) → Type 0)
+pub forks_same : {T : Type 0} (w : WorldValue) (accepts : MutBor (HandValue View) → Bor Locals → ℕ → Vec T → Bor Team → MutBor (Vec (ClosedLog T)) → Type 0)
+    (gives : MutBor (HandValue View) → Bor Locals → ℕ → Vec T → Bor Team → MutBor (Vec (ClosedLog T)) → Answer → MutBor (HandValue View) → MutBor (Vec (ClosedLog T)) → Type 0)
     (seen : LogView T) (b b' : Buffered) (items : List Item) → b' ≡ b → All (EachTeamIn (MayFork w accepts gives seen b)) items → All (EachTeamIn (MayFork w accepts gives seen b')) items
 forks_same w accepts gives seen b b' items same all = subst (λ (x : Buffered). All (EachTeamIn (MayFork w accepts gives seen x)) items) (sym same) all

@@ -1,6 +1,5 @@
 -- How a lane goes on: parts one after another.
-use Rattle.std.proofs.Common.{◌≡◌, refl, ap, sym, subst, ℕ, ◌-◌, List, [], ◌∷◌, ◌++◌, length, ℤ, None, Result, Ok, Err, arith}
-use Rattle.std.proofs.lemmas.List.Elements.{All-nil, All-cons, All-head, All-tail}
+use Rattle.std.proofs.Common.{◌≡◌, refl, ap, sym, subst, ℕ, ◌-◌, List, ◌++◌, length, ℤ, None, Result, Ok, Err, arith}
 use Rattle.log_format.specs.declared.record.Record.{Record}
 use Rattle.kernel_model.specs.State as model
 use Rattle.kernel_model.specs.State.{State, Fork, Outcome, and_then, after, state_of}
@@ -8,9 +7,7 @@ use Rattle.kernel_model.specs.Growth.{Grows}
 use Rattle.kernel_model.specs.Trace.{log_limit}
 use Rattle.kernel_model.specs.Effect.{Effect, Finish, Returned, Halted, Makes, then_effect}
 use Rattle.kernel_model.proofs.Effects.{makes-then, makes-halt, makes-same}
-use Rattle.history_model.specs.Work.{Work, work_records, then_work}
-use Rattle.history_model.proofs.TaskEntries.{then_records}
-use Rattle.execution_model.specs.Fitting.{ReadsFit, IsFittingRead}
+use Rattle.history_model.specs.Work.{Work, then_work}
 use Rattle.lane_runner.specs.declared.stop.Halt.{Halt}
 use Rattle.lane_runner.specs.declared.stop.Halt.TheVariants as halt
 use Rattle.lane_runner.specs.Handed.{MaybeStop}
@@ -20,20 +17,9 @@ use Rattle.shared_words.specs.declared.view.View.{View}
 use Rattle.shared_words.specs.Handles.{HandValue}
 use Rattle.lane_runner.proofs.Working.{log_then, done_then, runs_then}
 use Rattle.lane_runner.proofs.Releasing.{released_then, ends_then}
-use Rattle.lane_runner.proofs.Ending.{fits_then, ended_then, stops_then}
+use Rattle.lane_runner.proofs.Ending.{ended_then, stops_then}
 use Rattle.lane_runner.proofs.Handing.{work_hands_then}
 use Rattle.lane_runner.proofs.Beginning.{begins_first, begins_then, begins_same}
-
--- the reads of both parts
-pub fit_first : (xs ys : List Record) → ReadsFit (xs ++ ys) → ReadsFit xs
-fit_first [] ys all = All-nil (λ (r : Record). IsFittingRead r.kind r)
-fit_first (x ∷ xs) ys all =
-    All-cons (λ (r : Record). IsFittingRead r.kind r) x xs (All-head (λ (r : Record). IsFittingRead r.kind r) x (xs ++ ys) all)
-    (fit_first xs ys (All-tail (λ (r : Record). IsFittingRead r.kind r) x (xs ++ ys) all))
-
-pub fit_last : (xs ys : List Record) → ReadsFit (xs ++ ys) → ReadsFit ys
-fit_last [] ys all = all
-fit_last (x ∷ xs) ys all = fit_last xs ys (All-tail (λ (r : Record). IsFittingRead r.kind r) x (xs ++ ys) all)
 
 pub effect_then : (one two : Work) (slots slots' : List ℤ) (forks later : List Fork) → then_effect (effect_of slots one forks) (effect_of slots' two later) ≡ effect_of slots' (then_work one two) (forks ++ later)
 effect_then one two slots slots' forks later = λ i. record { slots = slots'; added = sym (log_then one two) i; forks = forks ++ later }
@@ -52,7 +38,7 @@ module _ (w : WorldValue) {A B : Type 0} (part : State → Outcome A) (next : A 
     handed = m.handed;
     few = m.few;
     unrefused = m.unrefused;
-    makes = λ fit. makes-halt part next slots (log_limit - old.buffer.count) (effect_of slots' m.work m.forks) why line (m.makes fit);
+    makes = makes-halt part next slots (log_limit - old.buffer.count) (effect_of slots' m.work m.forks) why line m.makes;
     regions = m.regions;
   }
 
@@ -66,7 +52,7 @@ module _ (w : WorldValue) {A B : Type 0} (part : State → Outcome A) (next : A 
     ends = m.ends;
     stops = m.stops;
     handed = m.handed;
-    begins = λ fit. begins_first part next slots (log_limit - old.buffer.count) (log_of m.work) m.forks grows (m.begins fit);
+    begins = begins_first part next slots (log_limit - old.buffer.count) (log_of m.work) m.forks grows m.begins;
     regions = m.regions;
   }
 
@@ -86,12 +72,6 @@ module _ (w : WorldValue) {A B : Type 0} (part : State → Outcome A) (next : A 
 
   done : {bars : ℕ} (work : Work) → HasDonePast bars w mid new work → HasDonePast bars w old new (then_work one.work work)
   done work d = done_then w old mid new one.work work one.done d
-
-  fits_one : (work : Work) → ReadsFit (work_records (then_work one.work work)) → ReadsFit (work_records one.work)
-  fits_one work fit = fit_first (work_records one.work) (work_records work) (subst (λ (rs : List Record). ReadsFit rs) (then_records one.work work) fit)
-
-  fits_two : (work : Work) → ReadsFit (work_records (then_work one.work work)) → ReadsFit (work_records work)
-  fits_two work fit = fit_last (work_records one.work) (work_records work) (subst (λ (rs : List Record). ReadsFit rs) (then_records one.work work) fit)
 
   held_is : mid.hand.view.held ≡ old.hand.view.held
   held_is = ap (λ (h : HandValue View). h.view.held) one.done.hand
@@ -118,11 +98,11 @@ module _ (w : WorldValue) {A B : Type 0} (part : State → Outcome A) (next : A 
       handed = handed None m.work m.handed;
       few = λ less. m.few (one.few less);
       unrefused = m.unrefused;
-      makes = λ fit.
+      makes =
           subst (λ (e : Effect). Makes (λ s. and_then (part s) next) slots (log_limit - old.buffer.count) e finish) (effect_then one.work m.work mid_slots slots' one.forks m.forks)
-          (makes-then part next slots (log_limit - old.buffer.count) (effect_of mid_slots one.work one.forks) a (effect_of slots' m.work m.forks) finish (one.makes (fits_one m.work fit))
-          (subst (λ (room : ℕ). Makes (next a) mid_slots room (effect_of slots' m.work m.forks) finish) left (m.makes (fits_two m.work fit))));
-      regions = λ fit program is. let both = fits_then one.work m.work fit in runs_then program one.forks m.forks one.work m.work (one.regions both.0 program is) (m.regions both.1 program is);
+          (makes-then part next slots (log_limit - old.buffer.count) (effect_of mid_slots one.work one.forks) a (effect_of slots' m.work m.forks) finish one.makes
+          (subst (λ (room : ℕ). Makes (next a) mid_slots room (effect_of slots' m.work m.forks) finish) left m.makes));
+      regions = λ program is. runs_then program one.forks m.forks one.work m.work (one.regions program is) (m.regions program is);
     },
     refl,
   )
@@ -140,11 +120,11 @@ module _ (w : WorldValue) {A B : Type 0} (part : State → Outcome A) (next : A 
     ends = subst (λ (rs : List Record). EndsBy cause m.own rs) (sym (log_then one.work m.work)) (ends_then cause m.own (log_of one.work) (log_of m.work) m.ends);
     stops = stops_then w.arrays old mid new cause one.forks m.forks one.work m.work one.done.log.place one.done.log.path one.done.forked one.ended one.few m.stops;
     handed = handed (stop_by cause) m.work m.handed;
-    begins = λ fit.
+    begins =
         subst (λ (rs : List Record). BeginsPart (λ s. and_then (part s) next) slots (log_limit - old.buffer.count) rs (one.forks ++ m.forks)) (sym (log_then one.work m.work))
-        (begins_then part next slots (log_limit - old.buffer.count) (effect_of mid_slots one.work one.forks) a (log_of m.work) m.forks (one.makes (fits_one m.work fit))
-        (subst (λ (room : ℕ). BeginsPart (next a) mid_slots room (log_of m.work) m.forks) left (m.begins (fits_two m.work fit))));
-    regions = λ fit program is. let both = fits_then one.work m.work fit in runs_then program one.forks m.forks one.work m.work (one.regions both.0 program is) (m.regions both.1 program is);
+        (begins_then part next slots (log_limit - old.buffer.count) (effect_of mid_slots one.work one.forks) a (log_of m.work) m.forks one.makes
+        (subst (λ (room : ℕ). BeginsPart (next a) mid_slots room (log_of m.work) m.forks) left m.begins));
+    regions = λ program is. runs_then program one.forks m.forks one.work m.work (one.regions program is) (m.regions program is);
   }
 
   pub past_then : (bars : ℕ) (r : Result B Halt) → GoesPast bars w (next a) mid_slots slots' mid new r → GoesPast bars w (λ s. and_then (part s) next) slots slots' old new r
@@ -174,7 +154,7 @@ module _ (w : WorldValue) {A : Type 0} (part other : State → Outcome A) (slots
       handed = m.handed;
       few = m.few;
       unrefused = m.unrefused;
-      makes = λ fit. makes-same part other slots (log_limit - old.buffer.count) (effect_of slots' m.work m.forks) finish same (m.makes fit);
+      makes = makes-same part other slots (log_limit - old.buffer.count) (effect_of slots' m.work m.forks) finish same m.makes;
       regions = m.regions;
     },
     refl,
@@ -193,7 +173,7 @@ module _ (w : WorldValue) {A : Type 0} (part other : State → Outcome A) (slots
     ends = m.ends;
     stops = m.stops;
     handed = m.handed;
-    begins = λ fit. begins_same part other slots (log_limit - old.buffer.count) (log_of m.work) m.forks same (m.begins fit);
+    begins = begins_same part other slots (log_limit - old.buffer.count) (log_of m.work) m.forks same m.begins;
     regions = m.regions;
   }
 

@@ -70,12 +70,11 @@ module _ (w : WorldValue) (team : TeamTree) (slots : List ℤ) (task : Buffered)
   nothing_ran r ends handed = record {
     phases = NoPhase;
     sound = tt;
-    elements = tt;
     hand = hand_still hand there ∙ ap (λ (v : View). with_view hand v) (view_same hand.view hand.view.splits (hand.view.splits + 0) hand.view.items (hand.view.items ++ []) (omega arith) (sym (append-nil hand.view.items)));
-    lanes = λ fit program is lane less.
+    lanes = λ program is lane less.
         let start = lane_begin (record { team = team; slots = slots }) lane in
         RunsTask.runs start [] [] (own_trace program start []).forks (record { rest = (own_trace program start []).records; begins = refl }) (inl refl) refl RunsRegions.no_region;
-    drawn = λ fit program is loop. drew_none team.span loop;
+    drawn = λ program is loop. drew_none team.span loop;
     joined = tt;
     ends = ends;
     handed = handed;
@@ -84,7 +83,7 @@ module _ (w : WorldValue) (team : TeamTree) (slots : List ℤ) (task : Buffered)
   -- no memory was found for it
   pub no_memory_for : (path : List Step) → IsInRegion task.path number team.span path → later ≡ before → RanRegion w team slots task number hand hand before later (Err (path, stop.Trouble trouble.Memory))
   no_memory_for path inside kept =
-      nothing_ran (Err (path, stop.Trouble trouble.Memory)) (record { inside = inside; traced = λ fit program same end some. absurd (no_end some); crowded = λ line is. absurd cc; least = λ other. absurd other })
+      nothing_ran (Err (path, stop.Trouble trouble.Memory)) (record { inside = inside; traced = λ program same end some. absurd (no_end some); crowded = λ line is. absurd cc; least = λ other. absurd other })
       (record {
         added = [];
         grows = kept ∙ sym (append-nil before);

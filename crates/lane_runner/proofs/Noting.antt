@@ -1,5 +1,5 @@
 -- Records that no step on the shared words belongs to: a barrier, and the end of a task.
-use Rattle.std.proofs.Common.{◌≡◌, refl, inr, ap, sym, ◌∙◌, subst, ℕ, ◌-◌, ◌≤◌, false, List, [], ◌∷◌, ℤ, None, Result, Ok, Err, ⊎_elim, arith}
+use Rattle.std.proofs.Common.{◌≡◌, refl, inr, ap, sym, ◌∙◌, subst, ℕ, ◌-◌, ◌≤◌, false, List, [], ◌∷◌, ℤ, None, Result, Ok, Err, arith}
 use Rattle.std.specs.Prelude.{OnOk, reverse}
 use Rattle.std.proofs.lemmas.List.{append-nil}
 use Rattle.log_format.specs.declared.record.Record.{Record}
@@ -14,19 +14,18 @@ use Rattle.kernel_model.proofs.Steps.{kept-put}
 use Rattle.race_model.specs.Trace.{barrier_count, is_region_kind, region_count}
 use Rattle.race_model.specs.Race.{held_after, held_after_kind}
 use Rattle.shared_words.specs.Handles.{with_view}
-use Rattle.history_model.specs.Work.{Rest, Put}
+use Rattle.history_model.specs.Work.{Rest, Put, logged}
 use Rattle.history_model.specs.Did.{deeds_of}
 use Rattle.history_model.specs.Sound.{IsSoundRecord}
 use Rattle.execution_model.specs.Runs.{RunsRegions}
-use Rattle.execution_model.specs.Fitting.{IsOfElement}
 use Rattle.lane_runner.specs.declared.stop.Halt.{Halt}
 use Rattle.lane_runner.specs.declared.stop.Halt.TheVariants as halt
 use Rattle.lane_runner.specs.Drawing.{Tally, HasDrawn}
-use Rattle.lane_runner.specs.World.{WorldValue, element_word, element_width, layout_of}
+use Rattle.lane_runner.specs.World.{WorldValue, element_word, layout_of}
 use Rattle.lane_runner.specs.Going.{Progress, CanGo, GainsRecords, HasDonePast, MadePast, GoesPast, Takes, TakesOrHalts, log_of}
 use Rattle.lane_runner.proofs.Drawing.{drew_nothing}
-use Rattle.lane_runner.proofs.Working.{worked_put_nothing}
-use Rattle.lane_runner.proofs.Stepping.{put_one, goes_unready}
+use Rattle.lane_runner.proofs.Working.{no_access, worked_put_nothing}
+use Rattle.lane_runner.proofs.Stepping.{put_one, put_same, goes_unready}
 use Rattle.lane_runner.proofs.Values.{can_past}
 use Rattle.lane_runner.proofs.Ending.{ended_none}
 use Rattle.lane_runner.proofs.Handing.{work_hands_none, few_still}
@@ -49,7 +48,7 @@ pub record IsNote (w : WorldValue) (event : Record) (bars : ℕ) : Type 0 where
   unread : value_read event.kind event.value ≡ None
   undrawn : number_drawn event.kind event.addr ≡ None
   region : is_region_kind event.kind ≡ false
-  element : IsOfElement (element_width w.arrays) event.kind event
+  same : logged event ≡ event
   sound : IsSoundRecord (layout_of w.arrays) event
   holds : (held : List ℕ) → held_after_kind event.kind event.addr held ≡ held
 
@@ -61,8 +60,8 @@ barrier_note w line some = record {
   unread = refl;
   undrawn = refl;
   region = refl;
-  element = tt;
-  sound = record { no_region = λ is. cc; element = λ is. absurd (⊎_elim (λ e. cc) (λ e. cc) is) };
+  same = refl;
+  sound = no_access (layout_of w.arrays) (event kind.Barrier line 0 0) (λ is. cc) (λ is. cc) (λ is. cc) (λ is. cc);
   holds = λ held. refl;
 }
 
@@ -74,8 +73,8 @@ end_note w line some = record {
   unread = refl;
   undrawn = refl;
   region = refl;
-  element = tt;
-  sound = record { no_region = λ is. cc; element = λ is. absurd (⊎_elim (λ e. cc) (λ e. cc) is) };
+  same = refl;
+  sound = no_access (layout_of w.arrays) (event kind.End line 0 0) (λ is. cc) (λ is. cc) (λ is. cc) (λ is. cc);
   holds = λ held. refl;
 }
 
@@ -93,12 +92,11 @@ module _ (w : WorldValue) (event : Record) (bars : ℕ) (note : IsNote w event b
   note_done : Takes event old.hand.view old new → HasDonePast bars w old new (Put event Rest)
   note_done taken = record {
     hand = taken.hand ∙ ap (λ v. with_view old.hand v) (worked_put_nothing (element_word w.arrays) old.hand.view event note.deeds);
-    log = subst (λ (rs : List Record). GainsRecords old.buffer new.buffer rs) (sym (put_one event note.some)) taken.log;
-    draws = subst (λ (rs : List Record). HasDrawn old.tally new.tally rs) (sym (put_one event note.some))
+    log = subst (λ (rs : List Record). GainsRecords old.buffer new.buffer rs) (sym (put_same event note.some note.same)) taken.log;
+    draws = subst (λ (rs : List Record). HasDrawn old.tally new.tally rs) (sym (put_same event note.some note.same))
         (subst (λ (t : Tally). HasDrawn old.tally t (event ∷ [])) (sym taken.tally) (drew_nothing old.tally event note.undrawn));
     forked = let same = ap (λ (t : Tally). t.forked) taken.tally in omega (arith, same);
     told = omega arith;
-    elements = (note.element, tt);
     sound = (note.sound, (λ is. refl), tt);
     barriers = note.count;
   }
@@ -112,7 +110,7 @@ module _ (w : WorldValue) (event : Record) (bars : ℕ) (note : IsNote w event b
       done = note_done taken;
       released = record {
         records = sym (put_one event note.some) ∙ sym (append-nil (log_of (Put event Rest)));
-        held = ap (λ (rs : List Record). held_after (reverse old.hand.view.held) rs) (put_one event note.some) ∙ note.holds (reverse old.hand.view.held);
+        held = ap (λ (rs : List Record). held_after (reverse old.hand.view.held) rs) (put_same event note.some note.same) ∙ note.holds (reverse old.hand.view.held);
         apart = inr refl;
       };
       closes = refl;
@@ -120,10 +118,10 @@ module _ (w : WorldValue) (event : Record) (bars : ℕ) (note : IsNote w event b
       handed = work_hands_none old new (Put event Rest) taken.done refl;
       few = few_still old.done new.done taken.done;
       unrefused = taken.unrefused;
-      makes = λ fit.
-          subst (λ (rs : List Record). Makes (put event) slots (log_limit - old.buffer.count) (adds slots rs) (Returned tt)) (sym (put_one event note.some))
+      makes =
+          subst (λ (rs : List Record). Makes (put event) slots (log_limit - old.buffer.count) (adds slots rs) (Returned tt)) (sym (put_same event note.some note.same))
           (makes-put event slots (log_limit - old.buffer.count) (let below = taken.below in omega arith) note.unread note.undrawn);
-      regions = λ fit program is. RunsRegions.no_region;
+      regions = λ program is. RunsRegions.no_region;
     },
     refl,
   )

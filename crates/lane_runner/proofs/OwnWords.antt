@@ -6,7 +6,7 @@ use Rattle.std.proofs.lemmas.Bool.Decides.{nat_tests}
 use Rattle.std.proofs.lemmas.Option.{same_Some}
 use Rattle.std.proofs.lemmas.List.Elements.{All-head, All-tail}
 use Rattle.kernel_syntax.specs.declared.syntax.Array.{Array}
-use Rattle.kernel_syntax.specs.Arithmetic.{IsWidth}
+use Rattle.log_format.specs.Fitting.{IsWidth}
 use Rattle.kernel_syntax.specs.Layout.{aligned, laid_from, elements}
 use Rattle.kernel_syntax.specs.Program.{Program}
 use Rattle.kernel_syntax.specs.Bounds.{IsBounded}
@@ -74,21 +74,22 @@ module _ (a : Array) (rest : List Array) where
   word_later : (addr : ℕ) → a.base + a.count * a.width ≤ addr → element_word (a ∷ rest) addr ≡ element_word rest addr
   word_later addr past = ap (λ (b : Bool). if b then a.first + (addr - a.base) / a.width else element_word rest addr) (lies_later addr past)
 
-  width_here : (i : ℕ) → IsWidth a.width → i < a.count → element_width (a ∷ rest) (a.base + i * a.width) ≡ a.width
-  width_here i width less = ap (λ (b : Bool). if b then a.width else element_width rest (a.base + i * a.width)) (lies_here i less width)
-
-  width_later : (addr : ℕ) → a.base + a.count * a.width ≤ addr → element_width (a ∷ rest) addr ≡ element_width rest addr
-  width_later addr past = ap (λ (b : Bool). if b then a.width else element_width rest addr) (lies_later addr past)
-
   address_here : (i : ℕ) → i < a.count → element_address (a ∷ rest) (a.first + i) ≡ a.base + i * a.width
   address_here i less =
       rw (le_yes a.first (a.first + i) (omega arith), lt_yes (a.first + i) (a.first + a.count) (omega arith))
       (ap (λ (n : ℕ). a.base + n * a.width) (let e : a.first + i - a.first ≡ i = omega arith in e))
 
+  width_here : (i : ℕ) → i < a.count → element_width (a ∷ rest) (a.first + i) ≡ a.width
+  width_here i less = rw (le_yes a.first (a.first + i) (omega arith), lt_yes (a.first + i) (a.first + a.count) (omega arith)) refl
+
+  past_words : (word : ℕ) → a.first + a.count ≤ word → (nat_le a.first word && nat_lt word (a.first + a.count)) ≡ false
+  past_words word past = and_no (nat_le a.first word) (nat_lt word (a.first + a.count)) (lt_no word (a.first + a.count) past)
+
   address_later : (word : ℕ) → a.first + a.count ≤ word → element_address (a ∷ rest) word ≡ element_address rest word
-  address_later word past =
-      ap (λ (b : Bool). if b then a.base + (word - a.first) * a.width else element_address rest word)
-      (and_no (nat_le a.first word) (nat_lt word (a.first + a.count)) (lt_no word (a.first + a.count) past))
+  address_later word past = ap (λ (b : Bool). if b then a.base + (word - a.first) * a.width else element_address rest word) (past_words word past)
+
+  width_later : (word : ℕ) → a.first + a.count ≤ word → element_width (a ∷ rest) word ≡ element_width rest word
+  width_later word past = ap (λ (b : Bool). if b then a.width else element_width rest word) (past_words word past)
 
 words_of : (base first : ℕ) (xs : List Array) → All HasWidth xs → (k i : ℕ) (a : Array) → slice_get (laid_from base first xs) k ≡ Some a → i < a.count
     → element_word (laid_from base first xs) (a.base + i * a.width) ≡ a.first + i
@@ -102,17 +103,16 @@ words_of base first (x ∷ xs) widths (suc k) i a found less =
     word_later (record x { base = base; first = first }) (laid_from (aligned (base + x.width * x.count)) (first + x.count) xs) (a.base + i * a.width) (omega arith)
     ∙ words_of (aligned (base + x.width * x.count)) (first + x.count) xs (All-tail HasWidth x xs widths) k i a found less
 
-widths_of : (base first : ℕ) (xs : List Array) → All HasWidth xs → (k i : ℕ) (a : Array) → slice_get (laid_from base first xs) k ≡ Some a → i < a.count
-    → element_width (laid_from base first xs) (a.base + i * a.width) ≡ a.width
-widths_of base first [] widths k i a found less = cc
-widths_of base first (x ∷ xs) widths zero i a found less =
-    subst (λ (y : Array). i < y.count → element_width (laid_from base first (x ∷ xs)) (y.base + i * y.width) ≡ y.width) (same_Some (record x { base = base; first = first }) a found)
-    (λ within. width_here (record x { base = base; first = first }) (laid_from (aligned (base + x.width * x.count)) (first + x.count) xs) i (All-head HasWidth x xs widths) within) less
-widths_of base first (x ∷ xs) widths (suc k) i a found less =
-    let least = aligned_least (base + x.width * x.count) in
-    let behind = base_least (aligned (base + x.width * x.count)) (first + x.count) xs k a found in
-    width_later (record x { base = base; first = first }) (laid_from (aligned (base + x.width * x.count)) (first + x.count) xs) (a.base + i * a.width) (omega arith)
-    ∙ widths_of (aligned (base + x.width * x.count)) (first + x.count) xs (All-tail HasWidth x xs widths) k i a found less
+widths_of : (base first : ℕ) (xs : List Array) (k i : ℕ) (a : Array) → slice_get (laid_from base first xs) k ≡ Some a → i < a.count
+    → element_width (laid_from base first xs) (a.first + i) ≡ a.width
+widths_of base first [] k i a found less = cc
+widths_of base first (x ∷ xs) zero i a found less =
+    subst (λ (y : Array). i < y.count → element_width (laid_from base first (x ∷ xs)) (y.first + i) ≡ y.width) (same_Some (record x { base = base; first = first }) a found)
+    (λ within. width_here (record x { base = base; first = first }) (laid_from (aligned (base + x.width * x.count)) (first + x.count) xs) i within) less
+widths_of base first (x ∷ xs) (suc k) i a found less =
+    let behind = first_least (aligned (base + x.width * x.count)) (first + x.count) xs k a found in
+    width_later (record x { base = base; first = first }) (laid_from (aligned (base + x.width * x.count)) (first + x.count) xs) (a.first + i) (omega arith)
+    ∙ widths_of (aligned (base + x.width * x.count)) (first + x.count) xs k i a found less
 
 addresses_of : (base first : ℕ) (xs : List Array) (k i : ℕ) (a : Array) → slice_get (laid_from base first xs) k ≡ Some a → i < a.count
     → element_address (laid_from base first xs) (a.first + i) ≡ a.base + i * a.width
@@ -133,21 +133,21 @@ bounded_world program words chunks lane span bounded count within = record {
   apart = subst (λ (xs : List Array). HaveOwnWords xs) (sym bounded.placed) (record {
     word = λ k i a found less. words_of 4096 0 program.arrays bounded.widths k i a found less;
     address = λ k i a found less. addresses_of 4096 0 program.arrays k i a found less;
-    width = λ k i a found less. widths_of 4096 0 program.arrays bounded.widths k i a found less;
+    width = λ k i a found less. widths_of 4096 0 program.arrays k i a found less;
   });
   within = within;
 }
 
--- at each address there is a width of the language
+-- the element of each word has a width of the language
 either_width : (b : Bool) (m n : ℕ) → IsWidth m → IsWidth n → IsWidth (if b then m else n)
 either_width true m n one other = one
 either_width false m n one other = other
 
-some_widths : (xs : List Array) → All HasWidth xs → (addr : ℕ) → IsWidth (element_width xs addr)
-some_widths [] widths addr = inl refl
-some_widths (a ∷ xs) widths addr =
-    either_width (nat_le a.base addr && nat_lt addr (a.base + a.count * a.width)) a.width (element_width xs addr) (All-head HasWidth a xs widths)
-    (some_widths xs (All-tail HasWidth a xs widths) addr)
+some_widths : (xs : List Array) → All HasWidth xs → (word : ℕ) → IsWidth (element_width xs word)
+some_widths [] widths word = inl refl
+some_widths (a ∷ xs) widths word =
+    either_width (nat_le a.first word && nat_lt word (a.first + a.count)) a.width (element_width xs word) (All-head HasWidth a xs widths)
+    (some_widths xs (All-tail HasWidth a xs widths) word)
 
-pub bounded_widths : (program : Program) → IsBounded program → (addr : ℕ) → IsWidth (element_width program.arrays addr)
-bounded_widths program bounded addr = some_widths program.arrays bounded.widths addr
+pub bounded_widths : (program : Program) → IsBounded program → (word : ℕ) → IsWidth (element_width program.arrays word)
+bounded_widths program bounded word = some_widths program.arrays bounded.widths word

@@ -27,7 +27,6 @@ use Rattle.lane_runner.proofs.Drawing.{drew_forked}
 use Rattle.lane_runner.specs.World.{WorldValue, element_word}
 use Rattle.lane_runner.specs.Going.{Progress, HasDone, HasReleased, GainsRecords, AtRegion, AtTasks, WorkHandsOn, AreFewBefore, log_of, worked, BeginsPart, effect_of, Made, Began, Takes}
 use Rattle.lane_runner.specs.Forking.{Answer, RanRegion, EndsAs, after_phases, stop_in}
-use Rattle.lane_runner.specs.Fitting.{WorkFits}
 use Rattle.lane_runner.specs.Handed.{Entry, MaybeStop, HandsOn, AreFew, place_of, task_limit}
 use Rattle.lane_runner.specs.Stopping.{StopsRegion, HaveEnded}
 use Rattle.lane_runner.specs.declared.stop.Stop.{Stop}
@@ -72,7 +71,6 @@ module _ (w : WorldValue) (at : Site) (team : TeamTree) (some : 1 ≤ team.line)
         (subst (λ (t : Tally). HasDrawn old.tally t (work.fork_record team.line team.span ∷ [])) (sym counted) (drew_forked old.tally (old.tally.forked + 1) (work.fork_record team.line team.span) refl));
     forked = ap (λ (t : Tally). t.forked) counted;
     told = let one = ap (λ (rs : List Record). length rs) region_log in omega (arith, one);
-    elements = (ran.elements, tt);
     sound = (ran.sound, tt);
     barriers = refl;
   }
@@ -90,8 +88,8 @@ module _ (w : WorldValue) (at : Site) (team : TeamTree) (some : 1 ≤ team.line)
       (makes-Parallel at slots (log_limit - old.buffer.count) team tree.Done (adds slots []) (Returned tt) (let below = taken.below in omega arith)
       (makes-Done at slots (log_limit - old.buffer.count - 1)))
 
-  region_runs : WorkFits region_work → (program : Program) → program.arrays ≡ w.arrays → RunsRegions program (this_fork ∷ []) (work_regions region_work)
-  region_runs fit program is = RunsRegions.region this_fork [] (record { span = team.span; phases = ran.phases }) [] refl (ran.lanes fit.0 program is) (ran.drawn fit.0 program is) RunsRegions.no_region
+  region_runs : (program : Program) → program.arrays ≡ w.arrays → RunsRegions program (this_fork ∷ []) (work_regions region_work)
+  region_runs program is = RunsRegions.region this_fork [] (record { span = team.span; phases = ran.phases }) [] refl (ran.lanes program is) (ran.drawn program is) RunsRegions.no_region
 
   abbrev this_region : RegionWork
   this_region = record { span = team.span; phases = ran.phases }
@@ -130,7 +128,7 @@ module _ (w : WorldValue) (at : Site) (team : TeamTree) (some : 1 ≤ team.line)
     handed = hands_by (Ok u) is;
     few = λ less. few;
     unrefused = ap (λ (b : Buffered). b.refused) still ∙ taken.unrefused;
-    makes = λ fit. region_makes;
+    makes = region_makes;
     regions = region_runs;
   }
 
@@ -158,7 +156,7 @@ module _ (w : WorldValue) (at : Site) (team : TeamTree) (some : 1 ≤ team.line)
       few_before (Some (path, why)) (hands_by (Err (path, why)) is),
     );
     handed = hands_by (Err (path, why)) is;
-    begins = λ fit. region_begins;
+    begins = region_begins;
     regions = region_runs;
   }
     where
@@ -176,6 +174,6 @@ module _ (w : WorldValue) (at : Site) (team : TeamTree) (some : 1 ≤ team.line)
     ends = (refl, record { region = record { prefix = []; last = work.fork_record team.line team.span; parts = region_log; forks = refl }; line_is = refl });
     stops = (region_ends u is, many, few_before None (hands_by (Ok u) is));
     handed = hands_by (Ok u) is;
-    begins = λ fit. region_begins;
+    begins = region_begins;
     regions = region_runs;
   }

@@ -6,7 +6,7 @@ use Rattle.log_format.specs.declared.record.Record.{Record}
 use Rattle.race_model.specs.Race.{held_after, held_after_kind}
 use Rattle.race_model.specs.History.{release}
 use Rattle.history_model.specs.Work.{Work, Rest, RegionWork, work_records, work_regions, then_work}
-use Rattle.history_model.proofs.TaskEntries.{then_records}
+use Rattle.history_model.proofs.Parts.{then_records}
 use Rattle.lane_runner.specs.Going.{log_of, HasReleased, Cause, AtLog, AtRegion, AtTasks, EndsBy}
 use Rattle.lane_runner.specs.Stopping.{LastIsRegion}
 use Rattle.lane_runner.proofs.Working.{log_then, regions_then}

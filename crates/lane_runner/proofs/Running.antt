@@ -1,12 +1,12 @@
 -- How a lane goes on: statements.
 use Rattle.std.proofs.Common.{◌≡◌, ◌∙◌, refl, ap, sym, subst, ℕ, ◌-◌, List, ℤ, Option, Some, None, Result, Ok, Err}
 use Rattle.std.specs.Prelude.{slice_set}
-use Rattle.kernel_syntax.specs.Arithmetic.{fitted}
+use Rattle.log_format.specs.Fitting.{fitted}
 use Rattle.kernel_syntax.specs.Tree as tree
 use Rattle.kernel_syntax.specs.Tree.{Term}
 use Rattle.log_format.specs.declared.record.Kind.TheVariants as kind
 use Rattle.kernel_model.specs.State as model
-use Rattle.kernel_model.specs.State.{State, Outcome, Gives, and_then, after, assign, put, state_of}
+use Rattle.kernel_model.specs.State.{State, Outcome, and_then, after, assign, put, state_of}
 use Rattle.kernel_model.specs.Growth.{Grows}
 use Rattle.kernel_model.specs.Trace.{log_limit, run, stored}
 use Rattle.kernel_model.specs.Value.{Site, Element, element_at, access, value}
@@ -66,7 +66,7 @@ module _ (w : WorldValue) (part : State → Outcome (Unit {0})) (slot : ℕ) (v 
     handed = m.handed;
     few = m.few;
     unrefused = m.unrefused;
-    makes = λ fit. makes-assign part slot v slots (log_limit - old.buffer.count) (effect_of slots' m.work m.forks) finish (m.makes fit);
+    makes = makes-assign part slot v slots (log_limit - old.buffer.count) (effect_of slots' m.work m.forks) finish m.makes;
     regions = m.regions;
   }
 
@@ -80,7 +80,7 @@ module _ (w : WorldValue) (part : State → Outcome (Unit {0})) (slot : ℕ) (v 
     ends = m.ends;
     stops = m.stops;
     handed = m.handed;
-    begins = λ fit. let b = m.begins fit in record { within = b.within; begins = λ records before reads chunks. b.begins records before reads chunks };
+    begins = let b = m.begins in record { within = b.within; begins = λ records before reads chunks. b.begins records before reads chunks };
     regions = m.regions;
   }
 

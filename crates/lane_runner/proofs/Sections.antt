@@ -30,9 +30,7 @@ use Rattle.shared_words.specs.Views.{locked, unlocked}
 use Rattle.history_model.specs.Work.{Work, Rest, Put, RegionWork, work_records, work_regions, then_work}
 use Rattle.history_model.specs.Did.{split_count, did}
 use Rattle.history_model.specs.Sound.{IsSoundRecord}
-use Rattle.history_model.proofs.Parts.{then_splits, then_did, then_sound}
-use Rattle.history_model.proofs.TaskEntries.{then_records}
-use Rattle.execution_model.specs.Fitting.{ReadsFit, IsFittingRead}
+use Rattle.history_model.proofs.Parts.{then_records, then_splits, then_did, then_sound}
 use Rattle.execution_model.specs.Runs.{RunsRegions}
 use Rattle.event_buffer.specs.Buffered.{Buffered}
 use Rattle.event_buffer.specs.Logged.{HoldsRecords}
@@ -42,17 +40,15 @@ use Rattle.lane_runner.specs.declared.stop.Halt.{Halt}
 use Rattle.lane_runner.specs.declared.stop.Halt.TheVariants as halt
 use Rattle.lane_runner.specs.Drawing.{Tally, HasDrawn}
 use Rattle.lane_runner.proofs.Drawing.{drew_none, drew_nothing, drew_then}
-use Rattle.lane_runner.specs.World.{WorldValue, element_word, element_width, layout_of}
+use Rattle.lane_runner.specs.World.{WorldValue, element_word, layout_of}
 use Rattle.lane_runner.specs.Handed.{Entry, MaybeStop, place_of, task_limit}
 use Rattle.lane_runner.proofs.Handing.{work_hands, few_between, few_before_between}
 use Rattle.lane_runner.specs.Going.{Progress, CanGo, HasDone, HasReleased, GainsRecords, Cause, AtLog, AtRegion, AtTasks, stop_by, WorkHandsOn, EndsBy, StopsBy, log_of, worked, BeginsPart, effect_of, Made, Began, Goes, Takes}
-use Rattle.lane_runner.proofs.Working.{log_then, view_same, gains_then, barriers_later, regions_then, elements_then}
-use Rattle.lane_runner.specs.Fitting.{WorkFits}
+use Rattle.lane_runner.proofs.Working.{log_then, no_access, view_same, gains_then, barriers_later, regions_then}
 use Rattle.lane_runner.specs.Stopping.{HaveEnded, StopsAtLast}
-use Rattle.lane_runner.proofs.Ending.{fits_then}
 use Rattle.lane_runner.proofs.Stepping.{put_first}
 use Rattle.lane_runner.proofs.Releasing.{held_both}
-use Rattle.lane_runner.proofs.Following.{fit_first, after_is}
+use Rattle.lane_runner.proofs.Following.{after_is}
 use Rattle.lane_runner.proofs.Beginning.{begins_then, begins_same}
 
 -- the work of a section: a lock, what is done, and an unlock, which has line 0 where no log has it
@@ -178,10 +174,10 @@ released_at_stop mutex line some body h own r = record {
 -- ---- what was done
 
 lock_sound : (w : WorldValue) (mutex line : ℕ) → IsSoundRecord (layout_of w.arrays) (event kind.Lock line mutex 0)
-lock_sound w mutex line = record { no_region = λ is. cc; element = λ is. absurd (⊎_elim (λ e. cc) (λ e. cc) is) }
+lock_sound w mutex line = no_access (layout_of w.arrays) (event kind.Lock line mutex 0) (λ is. cc) (λ is. cc) (λ is. cc) (λ is. cc)
 
 unlock_sound : (w : WorldValue) (mutex line : ℕ) → IsSoundRecord (layout_of w.arrays) (event kind.Unlock line mutex 0)
-unlock_sound w mutex line = record { no_region = λ is. cc; element = λ is. absurd (⊎_elim (λ e. cc) (λ e. cc) is) }
+unlock_sound w mutex line = no_access (layout_of w.arrays) (event kind.Unlock line mutex 0) (λ is. cc) (λ is. cc) (λ is. cc) (λ is. cc)
 
 module _ (w : WorldValue) (mutex line end : ℕ) (some : 1 ≤ line) (old a b new : Progress) (body : Work) (taken : Takes (event kind.Lock line mutex 0) (locked old.hand.view mutex) old a)
     (hand_is : new.hand ≡ with_view b.hand (unlocked b.hand.view mutex)) (log_is : GainsRecords b.buffer new.buffer (log_of (Put (event kind.Unlock end mutex 0) Rest)))
@@ -207,7 +203,6 @@ module _ (w : WorldValue) (mutex line end : ℕ) (some : 1 ≤ line) (old a b ne
         let records = ap (λ (rs : List Record). length rs) (section_log mutex line end some body) in
         let within = done.told in
         omega (arith, same, records, within, length-append (log_of body) (log_of (Put (event kind.Unlock end mutex 0) Rest)));
-    elements = (tt, elements_then (element_width w.arrays) body (Put (event kind.Unlock end mutex 0) Rest) done.elements (tt, tt));
     sound = (
       lock_sound w mutex line,
       (λ is. cc),
@@ -221,21 +216,11 @@ module _ (w : WorldValue) (mutex line end : ℕ) (some : 1 ≤ line) (old a b ne
   held_is : a.hand.view.held ≡ mutex ∷ old.hand.view.held
   held_is = ap (λ (h : HandValue View). h.view.held) taken.hand
 
-  -- the reads of a section are those of what is done in it
-  section_fits : ReadsFit (work_records (section mutex line end body)) → ReadsFit (work_records body)
-  section_fits fit =
-      fit_first (work_records body) (event kind.Unlock end mutex 0 ∷ [])
-      (subst (λ (rs : List Record). ReadsFit rs) (then_records body (Put (event kind.Unlock end mutex 0) Rest))
-      (All-tail (λ (r : Record). IsFittingRead r.kind r) (event kind.Lock line mutex 0) (work_records (then_work body (Put (event kind.Unlock end mutex 0) Rest))) fit))
-
   section_forks_no_region : work_regions (section mutex line end body) ≡ work_regions body
   section_forks_no_region = regions_then body (Put (event kind.Unlock end mutex 0) Rest) ∙ append-nil (work_regions body)
 
   section_regions : (P : List RegionWork → Type 0) → P (work_regions body) → P (work_regions (section mutex line end body))
   section_regions P holds = subst P (sym section_forks_no_region) holds
-
-  section_reads : WorkFits (section mutex line end body) → WorkFits body
-  section_reads fit = (fits_then body (Put (event kind.Unlock end mutex 0) Rest) fit.1).0
 
   room_left : log_limit - a.buffer.count ≡ log_limit - old.buffer.count - 1
   room_left = let count = taken.log.count in omega arith
@@ -295,14 +280,14 @@ module _ (w : WorldValue) (at : Site) (code : Code) (mutex line end : ℕ) (some
     handed = section_hands None mutex line end old a b new taken m.work given.done m.handed;
     few = few_between old.done a.done b.done new.done taken.done given.done m.few;
     unrefused = given.unrefused;
-    makes = λ fit.
+    makes =
         subst (λ (e : Effect). Makes (run at (tree.Critical mutex line end code tree.Done)) slots (log_limit - old.buffer.count) e (Returned tt)) effect_is
         (makes-Critical at slots (log_limit - old.buffer.count) mutex line end code tree.Done (effect_of slots' m.work m.forks) (adds slots' (event kind.Unlock end mutex 0 ∷ [])) (Returned tt)
         (some_room w mutex line end some old a b new m.work taken given.hand gained tallied forked)
         (subst (λ (k : ℕ). Makes (run at code) slots k (effect_of slots' m.work m.forks) (Returned tt)) (room_left w mutex line end some old a b new m.work taken given.hand gained tallied forked)
-        (m.makes (section_fits w mutex line end some old a b new m.work taken given.hand gained tallied forked fit)))
+        m.makes)
         (unlocks (log_limit - old.buffer.count - 1 - length (log_of m.work)) (let first = taken.log.count in let body = m.done.log.count in let below = given.below in omega arith)));
-    regions = λ fit program is. section_regions w mutex line end some old a b new m.work taken given.hand gained tallied forked (λ rs. RunsRegions program m.forks rs) (m.regions (section_reads w mutex line end some old a b new m.work taken given.hand gained tallied forked fit) program is);
+    regions = λ program is. section_regions w mutex line end some old a b new m.work taken given.hand gained tallied forked (λ rs. RunsRegions program m.forks rs) (m.regions program is);
   }
     where
       forked : new.tally.forked ≡ b.tally.forked
@@ -386,14 +371,14 @@ module _ (w : WorldValue) (part inner : State → Outcome (Unit {0})) (mutex lin
     handed = section_hands None mutex line 0 old a b new taken m.work done_is m.handed;
     few = few_between old.done a.done b.done new.done taken.done done_is m.few;
     unrefused = ap (λ (x : Buffered). x.refused) buffer_is ∙ m.unrefused;
-    makes = λ fit.
+    makes =
         makes-same (λ s. after (put lock_record s) inner) part slots (log_limit - old.buffer.count) (effect_of slots' (section mutex line 0 m.work) m.forks) (Halted why at_line) same
         (subst (λ (rs : List Record). Makes (λ s. after (put lock_record s) inner) slots (log_limit - old.buffer.count) (record { slots = slots'; added = rs; forks = m.forks }) (Halted why at_line)) (left_log m.work)
         (makes-after (put lock_record) inner slots (log_limit - old.buffer.count) (adds slots (lock_record ∷ [])) (effect_of slots' m.work m.forks) (Halted why at_line)
         (makes-put lock_record slots (log_limit - old.buffer.count) (some_room w mutex line 0 some old a b new m.work taken hand_is gained tallied forked) refl refl)
         (subst (λ (k : ℕ). Makes inner slots k (effect_of slots' m.work m.forks) (Halted why at_line)) (room_left w mutex line 0 some old a b new m.work taken hand_is gained tallied forked)
-        (m.makes (section_fits w mutex line 0 some old a b new m.work taken hand_is gained tallied forked fit)))));
-    regions = λ fit program is. section_regions w mutex line 0 some old a b new m.work taken hand_is gained tallied forked (λ rs. RunsRegions program m.forks rs) (m.regions (section_reads w mutex line 0 some old a b new m.work taken hand_is gained tallied forked fit) program is);
+        m.makes)));
+    regions = λ program is. section_regions w mutex line 0 some old a b new m.work taken hand_is gained tallied forked (λ rs. RunsRegions program m.forks rs) (m.regions program is);
   }
 
   -- no region was forked in the section
@@ -417,14 +402,14 @@ module _ (w : WorldValue) (part inner : State → Outcome (Unit {0})) (mutex lin
     ends = left_ends cause m.forks m.work m.own m.released m.stops;
     stops = section_regions w mutex line 0 some old a b new m.work taken hand_is gained tallied forked (λ rs. StopsBy w.arrays old new cause m.forks rs) (stops_from w.arrays old a b new cause m.forks (work_regions m.work) taken done_is m.stops);
     handed = section_hands (stop_by cause) mutex line 0 old a b new taken m.work done_is m.handed;
-    begins = λ fit.
+    begins =
         begins_same (λ s. and_then (put lock_record s) (λ u t. inner t)) part slots (log_limit - old.buffer.count) (log_of (section mutex line 0 m.work)) m.forks (λ s. same s ∙ after_is (put lock_record s) inner)
         (subst (λ (rs : List Record). BeginsPart (λ s. and_then (put lock_record s) (λ u t. inner t)) slots (log_limit - old.buffer.count) rs m.forks) (left_log m.work)
         (begins_then (put lock_record) (λ u t. inner t) slots (log_limit - old.buffer.count) (adds slots (lock_record ∷ [])) tt (log_of m.work) m.forks
         (makes-put lock_record slots (log_limit - old.buffer.count) (some_room w mutex line 0 some old a b new m.work taken hand_is gained tallied forked) refl refl)
         (subst (λ (k : ℕ). BeginsPart inner slots k (log_of m.work) m.forks) (room_left w mutex line 0 some old a b new m.work taken hand_is gained tallied forked)
-        (m.begins (section_fits w mutex line 0 some old a b new m.work taken hand_is gained tallied forked fit)))));
-    regions = λ fit program is. section_regions w mutex line 0 some old a b new m.work taken hand_is gained tallied forked (λ rs. RunsRegions program m.forks rs) (m.regions (section_reads w mutex line 0 some old a b new m.work taken hand_is gained tallied forked fit) program is);
+        m.begins)));
+    regions = λ program is. section_regions w mutex line 0 some old a b new m.work taken hand_is gained tallied forked (λ rs. RunsRegions program m.forks rs) (m.regions program is);
   }
 
   pub section_left : (why : Halt) → Goes w inner slots slots' a b (Err why) → Goes w part slots slots' old new (Err why)

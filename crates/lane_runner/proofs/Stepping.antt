@@ -2,7 +2,6 @@
 use Rattle.std.proofs.Common.{◌≡◌, ◌≢◌, refl, inr, ap, sym, ◌∙◌, subst, ℕ, ◌+◌, ◌-◌, ◌<◌, ◌≤◌, Bool, true, false, not, List, [], ◌∷◌, ◌++◌, ℤ, None, Result, Ok, Err, arith}
 use Rattle.std.specs.Prelude.{OnOk, ◌==◌, map, reverse}
 use Rattle.std.proofs.lemmas.List.{append-nil}
-use Rattle.std.proofs.lemmas.List.Elements.{All-head}
 use Rattle.log_format.specs.declared.record.Record.{Record}
 use Rattle.kernel_model.specs.State as model
 use Rattle.kernel_model.specs.State.{State, Outcome, state_of, number_drawn}
@@ -14,7 +13,7 @@ use Rattle.step_history.specs.History.{item}
 use Rattle.shared_words.specs.declared.view.View.{View}
 use Rattle.shared_words.specs.Handles.{HandValue, with_view}
 use Rattle.shared_words.specs.Views as hand
-use Rattle.history_model.specs.Work.{Work, Rest, Put}
+use Rattle.history_model.specs.Work.{Work, Rest, Put, logged}
 use Rattle.history_model.specs.Did.{deeds_of}
 use Rattle.history_model.specs.Sound.{IsSoundRecord}
 use Rattle.race_model.specs.Trace.{is_barrier_kind}
@@ -22,12 +21,11 @@ use Rattle.race_model.specs.Race.{held_after, held_after_kind}
 use Rattle.execution_model.specs.Runs.{RunsRegions}
 use Rattle.event_buffer.specs.Logged.{HoldsRecords}
 use Rattle.event_buffer.specs.declared.fault.BufferFault.{BufferFault}
-use Rattle.execution_model.specs.Fitting.{IsFittingRead, IsOfElement}
 use Rattle.lane_runner.specs.declared.stop.Halt.{Halt}
 use Rattle.lane_runner.specs.declared.stop.Halt.TheVariants as halt
 use Rattle.lane_runner.specs.Drawing.{Tally, HasDrawn}
 use Rattle.lane_runner.proofs.Drawing.{drew_none, drew_nothing}
-use Rattle.lane_runner.specs.World.{WorldValue, element_word, element_width, layout_of}
+use Rattle.lane_runner.specs.World.{WorldValue, element_word, layout_of}
 use Rattle.lane_runner.specs.Going.{Progress, CanGo, log_of, worked, GainsRecords, HasDone, Made, Goes, Waits, HasRoomFor, MakesRoom}
 use Rattle.lane_runner.proofs.Working.{done_none, view_same}
 use Rattle.lane_runner.proofs.Beginning.{begins_none}
@@ -55,7 +53,6 @@ waits_done w old new there waits =
       draws = subst (λ (t : Tally). HasDrawn old.tally t []) (sym waits.tally) (drew_none old.tally);
       forked = let same = ap (λ (t : Tally). t.forked) waits.tally in omega (arith, same);
       told = omega arith;
-      elements = tt;
       sound = tt;
       barriers = refl;
     }
@@ -77,8 +74,8 @@ module _ (w : WorldValue) {A : Type 0} (part : State → Outcome A) (slots : Lis
         handed = work_hands_none old old Rest refl refl;
         few = λ less. less;
         unrefused = can.unrefused;
-        makes = λ fit. subst (λ (room : ℕ). Makes part slots room (adds slots []) (Halted model.LogFull line)) (let none_left : 0 ≡ log_limit - old.buffer.count = omega arith in none_left) full;
-        regions = λ fit program is. RunsRegions.no_region;
+        makes = subst (λ (room : ℕ). Makes part slots room (adds slots []) (Halted model.LogFull line)) (let none_left : 0 ≡ log_limit - old.buffer.count = omega arith in none_left) full;
+        regions = λ program is. RunsRegions.no_region;
       }))
 
   -- the stop of a record that has no place
@@ -94,8 +91,8 @@ module _ (w : WorldValue) {A : Type 0} (part : State → Outcome A) (slots : Lis
       ends = tt;
       stops = (ended_none, few_still old.done new.done waits.done);
       handed = work_hands_none old new Rest waits.done refl;
-      begins = λ fit. begins_none part slots (log_limit - old.buffer.count) grows;
-      regions = λ fit program is. RunsRegions.no_region;
+      begins = begins_none part slots (log_limit - old.buffer.count) grows;
+      regions = λ program is. RunsRegions.no_region;
     },
     refused,
   )
@@ -112,11 +109,15 @@ not_zero line some = grind arith
 pub is_put_one : (line : ℕ) → 1 ≤ line → not (line == 0) ≡ true
 is_put_one line some = ap (λ (b : Bool). not b) (not_zero line some)
 
-pub put_first : (event : Record) (more : Work) → 1 ≤ event.line → log_of (Put event more) ≡ event ∷ log_of more
+pub put_first : (event : Record) (more : Work) → 1 ≤ event.line → log_of (Put event more) ≡ logged event ∷ log_of more
 put_first event more some = rw (is_put_one event.line some) refl
 
-pub put_one : (event : Record) → 1 ≤ event.line → log_of (Put event Rest) ≡ event ∷ []
+pub put_one : (event : Record) → 1 ≤ event.line → log_of (Put event Rest) ≡ logged event ∷ []
 put_one event some = rw (is_put_one event.line some) refl
+
+-- the log tells it as it was put
+pub put_same : (event : Record) → 1 ≤ event.line → logged event ≡ event → log_of (Put event Rest) ≡ event ∷ []
+put_same event some same = put_one event some ∙ ap (λ (r : Record). r ∷ []) same
 
 worked_one : (word : ℕ → ℕ) (v : View) (event : Record) (deed : Deed) → deeds_of word event.kind event ≡ deed ∷ [] → hand.did v deed ≡ worked word v (Put event Rest)
 worked_one word v event deed is =
@@ -134,32 +135,31 @@ gains_after old mid new event room gains = record {
 
 module _ (w : WorldValue) (old mid new : Progress) (event : Record) (deed : Deed) where
   one_done : HasRoomFor old mid → new.hand ≡ with_view mid.hand (hand.did mid.hand.view deed) → deeds_of (element_word w.arrays) event.kind event ≡ deed ∷ []
-      → GainsRecords mid.buffer new.buffer (event ∷ []) → 1 ≤ event.line → IsSoundRecord (layout_of w.arrays) event → is_barrier_kind event.kind ≡ false → new.tally ≡ mid.tally → number_drawn event.kind event.addr ≡ None
-      → IsOfElement (element_width w.arrays) event.kind event → HasDone w old new (Put event Rest)
-  one_done room hand_is deeds gains some sound plain tally none element = record {
+      → GainsRecords mid.buffer new.buffer (logged event ∷ []) → 1 ≤ event.line → IsSoundRecord (layout_of w.arrays) event → is_barrier_kind event.kind ≡ false → new.tally ≡ mid.tally → number_drawn event.kind event.addr ≡ None
+      → HasDone w old new (Put event Rest)
+  one_done room hand_is deeds gains some sound plain tally none = record {
     hand = hand_is
         ∙ ap (λ (h : HandValue View). with_view h (hand.did h.view deed)) room.waits.hand
         ∙ ap (λ (v : View). with_view old.hand v) (worked_one (element_word w.arrays) old.hand.view event deed deeds);
-    log = subst (λ (rs : List Record). GainsRecords old.buffer new.buffer rs) (sym (put_one event some)) (gains_after old mid new event room gains);
+    log = subst (λ (rs : List Record). GainsRecords old.buffer new.buffer rs) (sym (put_one event some)) (gains_after old mid new (logged event) room gains);
     draws = subst (λ (rs : List Record). HasDrawn old.tally new.tally rs) (sym (put_one event some))
-        (subst (λ (t : Tally). HasDrawn old.tally t (event ∷ [])) (sym (tally ∙ room.waits.tally)) (drew_nothing old.tally event none));
+        (subst (λ (t : Tally). HasDrawn old.tally t (logged event ∷ [])) (sym (tally ∙ room.waits.tally)) (drew_nothing old.tally (logged event) none));
     forked = let same = ap (λ (t : Tally). t.forked) (tally ∙ room.waits.tally) in omega (arith, same);
     told = omega arith;
-    elements = (element, tt);
     sound = (sound, (λ is. refl), tt);
     barriers = rw plain refl;
   }
 
   -- the record was put, and its step taken
   pub made_one : {A : Type 0} (part : State → Outcome A) (slots : List ℤ) (a : A) → HasRoomFor old mid → new.hand ≡ with_view mid.hand (hand.did mid.hand.view deed)
-      → deeds_of (element_word w.arrays) event.kind event ≡ deed ∷ [] → new.buffer.refused ≡ None → GainsRecords mid.buffer new.buffer (event ∷ [])
+      → deeds_of (element_word w.arrays) event.kind event ≡ deed ∷ [] → new.buffer.refused ≡ None → GainsRecords mid.buffer new.buffer (logged event ∷ [])
       → 1 ≤ event.line → IsSoundRecord (layout_of w.arrays) event → is_barrier_kind event.kind ≡ false
-      → new.tally ≡ mid.tally → new.done ≡ mid.done → number_drawn event.kind event.addr ≡ None → IsOfElement (element_width w.arrays) event.kind event → ((held : List ℕ) → held_after_kind event.kind event.addr held ≡ held) → ((room : ℕ) → 0 < room → IsFittingRead event.kind event → Makes part slots room (adds slots (event ∷ [])) (Returned a)) → Made w part slots slots old new (Returned a)
-  made_one part slots a room hand_is deeds unrefused gains some sound plain tally same none element holds makes = record {
+      → new.tally ≡ mid.tally → new.done ≡ mid.done → number_drawn event.kind event.addr ≡ None → ((held : List ℕ) → held_after_kind event.kind event.addr held ≡ held) → ((room : ℕ) → 0 < room → Makes part slots room (adds slots (logged event ∷ [])) (Returned a)) → Made w part slots slots old new (Returned a)
+  made_one part slots a room hand_is deeds unrefused gains some sound plain tally same none holds makes = record {
     work = Put event Rest;
     forks = [];
     own = [];
-    done = one_done room hand_is deeds gains some sound plain tally none element;
+    done = one_done room hand_is deeds gains some sound plain tally none;
     released = record {
       records = sym (put_one event some) ∙ sym (append-nil (log_of (Put event Rest)));
       held = ap (λ (rs : List Record). held_after (reverse old.hand.view.held) rs) (put_one event some) ∙ holds (reverse old.hand.view.held);
@@ -170,10 +170,10 @@ module _ (w : WorldValue) (old mid new : Progress) (event : Record) (deed : Deed
     handed = work_hands_none old new (Put event Rest) (same ∙ room.waits.done) refl;
     few = few_still old.done new.done (same ∙ room.waits.done);
     unrefused = unrefused;
-    makes = λ fit.
+    makes =
         let below = room.may_put.below in
         let count = room.waits.count in
         subst (λ (rs : List Record). Makes part slots (log_limit - old.buffer.count) (adds slots rs) (Returned a)) (sym (put_one event some))
-        (makes (log_limit - old.buffer.count) (omega (arith, below, count)) (All-head (λ (r : Record). IsFittingRead r.kind r) event [] fit));
-    regions = λ fit program is. RunsRegions.no_region;
+        (makes (log_limit - old.buffer.count) (omega (arith, below, count)));
+    regions = λ program is. RunsRegions.no_region;
   }

@@ -4,6 +4,7 @@ use Rattle.std.specs.Prelude.{Some, All, length, slice_get}
 use denote.Ref.{Bor, MutBor}
 use Rattle.std.specs.Global.{Vec}
 use Rattle.sw_base.specs.declared.path.Step.{Step}
+use Rattle.sw_base.specs.declared.closed_log.ClosedLog.{ClosedLog}
 use Rattle.event_buffer.specs.Buffered.{Buffered}
 use Rattle.kernel_syntax.specs.declared.syntax.Stmt.{Stmt}
 use Rattle.kernel_syntax.specs.declared.syntax.Team.{Team}
@@ -35,8 +36,8 @@ teams_all P Q each (For slot from to schedule nowait line end body rest) all = (
 teams_all P Q each (Barrier line rest) all = teams_all P Q each rest all
 teams_all P Q each (Critical mutex line end body rest) all = (teams_all P Q each body all.0, teams_all P Q each rest all.1)
 
-module _ {T : Type 0} (w : WorldValue) (accepts : MutBor (HandValue View) → Bor Locals → ℕ → Vec T → Bor Team → MutBor (Vec (List Step × T × ℕ)) → Type 0)
-    (gives : MutBor (HandValue View) → Bor Locals → ℕ → Vec T → Bor Team → MutBor (Vec (List Step × T × ℕ)) → Answer → MutBor (HandValue View) → MutBor (Vec (List Step × T × ℕ)) → Type 0)
+module _ {T : Type 0} (w : WorldValue) (accepts : MutBor (HandValue View) → Bor Locals → ℕ → Vec T → Bor Team → MutBor (Vec (ClosedLog T)) → Type 0)
+    (gives : MutBor (HandValue View) → Bor Locals → ℕ → Vec T → Bor Team → MutBor (Vec (ClosedLog T)) → Answer → MutBor (HandValue View) → MutBor (Vec (ClosedLog T)) → Type 0)
     (seen : LogView T) (old : Buffered) where
   pub teams_of : {code code' : Code} → code ≡ code' → EachTeam (MayFork w accepts gives seen old) code → EachTeam (MayFork w accepts gives seen old) code'
   teams_of is all = subst (EachTeam (MayFork w accepts gives seen old)) is all
@@ -60,7 +61,6 @@ module _ {T : Type 0} (w : WorldValue) (accepts : MutBor (HandValue View) → Bo
           record {
             phases = ran.phases;
             sound = ran.sound;
-            elements = ran.elements;
             hand = ran.hand;
             lanes = ran.lanes;
             drawn = ran.drawn;

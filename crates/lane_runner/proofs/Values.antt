@@ -63,8 +63,8 @@ made_still w part slots p finish can m = record {
   handed = work_hands_none p p Rest refl refl;
   few = λ less. less;
   unrefused = can.unrefused;
-  makes = λ fit. m;
-  regions = λ fit program is. RunsRegions.no_region;
+  makes = m;
+  regions = λ program is. RunsRegions.no_region;
 }
 
 -- an element that isn't there, and one that is

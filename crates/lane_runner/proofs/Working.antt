@@ -1,10 +1,12 @@
 -- Works one after another: what a hand has of them, and a log.
-use Rattle.std.proofs.Common.{◌≡◌, refl, ap, sym, ◌∙◌, subst, ℕ, ◌+◌, List, [], ◌∷◌, ◌++◌, length, arith, append_assoc, true, cond}
+use Rattle.std.proofs.Common.{◌≡◌, refl, ap, sym, ◌∙◌, subst, ℕ, ◌+◌, List, [], ◌∷◌, ◌++◌, length, arith, append_assoc, true, cond, inl, inr}
 use Rattle.std.proofs.lemmas.List.{append-nil, length-append}
 use Rattle.std.proofs.lemmas.List.Elements.{filter-append}
 use Rattle.std.proofs.lemmas.List.Sums.{sum_by-append}
 use Rattle.race_model.specs.Trace.{is_barrier_kind, barrier_count}
 use Rattle.log_format.specs.declared.record.Record.{Record}
+use Rattle.log_format.specs.declared.record.Kind.TheVariants as kind
+use Rattle.race_model.specs.Race.{IsAccess}
 use Rattle.kernel_syntax.specs.Program.{Program}
 use Rattle.kernel_model.specs.State.{Fork}
 use Rattle.step_history.specs.declared.item.Item.{Item}
@@ -14,16 +16,15 @@ use Rattle.std.specs.Prelude.{map}
 use Rattle.shared_words.specs.declared.view.View.{View}
 use Rattle.shared_words.specs.Handles.{HandValue, with_view}
 use Rattle.history_model.specs.Work.{Work, Rest, Put, RegionWork, work_records, work_regions, then_work}
+use Rattle.history_model.specs.Sound.{WordLayout, IsSoundRecord}
 use Rattle.history_model.specs.Did.{split_count, did, deeds_of}
-use Rattle.history_model.proofs.Parts.{then_splits, then_did, then_sound}
-use Rattle.history_model.proofs.TaskEntries.{then_records}
+use Rattle.history_model.proofs.Parts.{then_records, then_splits, then_did, then_sound}
 use Rattle.execution_model.specs.Runs.{is_put, put_records, RunsRegions}
 use Rattle.event_buffer.specs.Buffered.{Buffered}
 use Rattle.event_buffer.specs.Logged.{HoldsRecords}
 use Rattle.lane_runner.specs.Drawing.{HasDrawn}
 use Rattle.lane_runner.proofs.Drawing.{drew_none, drew_then}
-use Rattle.lane_runner.specs.World.{WorldValue, element_word, element_width, layout_of}
-use Rattle.lane_runner.specs.Fitting.{AccessesElements}
+use Rattle.lane_runner.specs.World.{WorldValue, element_word, layout_of}
 use Rattle.lane_runner.specs.Going.{Progress, log_of, worked, GainsRecords, HasDonePast, HasDone}
 
 put_append : (xs ys : List Record) → put_records (xs ++ ys) ≡ put_records xs ++ put_records ys
@@ -61,6 +62,15 @@ hand_then word a b c work other first second =
     ∙ ap (λ (h : HandValue View). with_view h (worked word h.view other)) first
     ∙ ap (λ (v : View). with_view a v) (worked_then word a.view work other)
 
+-- ---- records
+
+pub no_access : (layout : WordLayout) (r : Record) → (r.kind ≡ kind.Region → ⊥) → (r.kind ≡ kind.Read → ⊥) → (r.kind ≡ kind.Write → ⊥) → (r.kind ≡ kind.Update → ⊥) → IsSoundRecord layout r
+no_access layout r no_region no_read no_write no_update = record { no_region = no_region; element = λ access. absurd (none access); stores = λ write. absurd (no_write write) } where
+  none : IsAccess r → ⊥
+  none (inl read) = no_read read
+  none (inr (inl write)) = no_write write
+  none (inr (inr update)) = no_update update
+
 -- ---- logs
 
 pub gains_then : (a b c : Buffered) (one more : List Record) → GainsRecords a b one → GainsRecords b c more → GainsRecords a c (one ++ more)
@@ -70,11 +80,6 @@ gains_then a b c one more x y = record {
   path = y.path ∙ x.path;
   place = y.place ∙ x.place;
 }
-
-pub elements_then : (width : ℕ → ℕ) (work other : Work) → AccessesElements width work → AccessesElements width other → AccessesElements width (then_work work other)
-elements_then width Rest other x y = y
-elements_then width (Put r more) other x y = (x.0, elements_then width more other x.1 y)
-elements_then width (Work.Fork line span phases more) other x y = (x.0, elements_then width more other x.1 y)
 
 pub barriers_later : (bars : ℕ) (xs ys : List Record) → barrier_count xs ≡ 0 → barrier_count ys ≡ bars → barrier_count (xs ++ ys) ≡ bars
 barriers_later bars xs ys one more = let sum = sum_by-append (λ (r : Record). cond (is_barrier_kind r.kind) 1 0) xs ys in omega (arith, sum, one, more)
@@ -95,7 +100,6 @@ done_then {bars} w a b c work other x y = record {
       let regions = ap (λ (rs : List RegionWork). length rs) (regions_then work other) ∙ length-append (work_regions work) (work_regions other) in
       let records = ap (λ (rs : List Record). length rs) (log_then work other) ∙ length-append (log_of work) (log_of other) in
       omega (arith, regions, records, x.told, y.told);
-  elements = elements_then (element_width w.arrays) work other x.elements y.elements;
   sound = then_sound (layout_of w.arrays) work other x.sound y.sound x.barriers;
   barriers = ap (λ (rs : List Record). barrier_count rs) (then_records work other) ∙ barriers_later bars (work_records work) (work_records other) x.barriers y.barriers;
 }
@@ -116,7 +120,6 @@ done_none w a there = record {
   draws = drew_none a.tally;
   forked = omega arith;
   told = omega arith;
-  elements = tt;
   sound = tt;
   barriers = refl;
 }

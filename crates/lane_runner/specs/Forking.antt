@@ -1,5 +1,6 @@
 -- Regions that a lane forks: what it asks of who runs them, and what that gives.
 use Rattle.std.specs.Prelude.{◌≡◌, ℕ, ◌+◌, ◌<◌, List, [], ◌∷◌, ◌++◌, ℤ, Some, None, Result, Ok, Err}
+use Rattle.sw_base.specs.declared.closed_log.ClosedLog.{ClosedLog}
 use Rattle.sw_base.specs.declared.path.Step.{Step}
 use denote.Ref.{Bor, MutBor}
 use Rattle.std.specs.Global.{Vec}
@@ -20,10 +21,9 @@ use Rattle.execution_model.specs.Runs.{RunsTask, lane_begin, region_logs}
 use Rattle.lane_runner.specs.declared.locals.Locals.{Locals}
 use Rattle.lane_runner.specs.declared.stop.Stop.{Stop}
 use Rattle.lane_runner.specs.Children.{LogView, AreNewLogs}
-use Rattle.lane_runner.specs.Fitting.{PhasesFit, PhasesAccessElements}
 use Rattle.lane_runner.specs.Handed.{Entry, HandsOn, MaybeStop, entries_of, place_of}
 use Rattle.lane_runner.specs.Stopping.{StopsRegion}
-use Rattle.lane_runner.specs.World.{WorldValue, element_word, element_width, layout_of}
+use Rattle.lane_runner.specs.World.{WorldValue, element_word, layout_of}
 
 -- a hand's view once all hands that it split off for the phases are home
 abbrev pub after_phases : (ℕ → ℕ) → ℕ → Phases → View → View
@@ -48,11 +48,10 @@ stop_in (Err stopped) = Some stopped
 pub record RanRegion (w : WorldValue) (team : TeamTree) (slots : List ℤ) (task : Buffered) (number : ℕ) (old new : HandValue View) (before after : List Entry) (r : Answer) : Type 0 where
   pub phases : Phases
   pub sound : ArePhasesSound (layout_of w.arrays) team.span phases
-  pub elements : PhasesAccessElements (element_width w.arrays) phases
   pub hand : new ≡ with_view old (after_phases (element_word w.arrays) team.span phases old.view)
-  pub lanes : PhasesFit phases → (program : Program) → program.arrays ≡ w.arrays → (lane : ℕ) → lane < team.span →
+  pub lanes : (program : Program) → program.arrays ≡ w.arrays → (lane : ℕ) → lane < team.span →
       RunsTask program (lane_begin (record { team = team; slots = slots }) lane) (lane_works lane phases)
-  pub drawn : PhasesFit phases → (program : Program) → program.arrays ≡ w.arrays → (loop : ℕ) → DrewSome (region_logs phases team.span) loop
+  pub drawn : (program : Program) → program.arrays ≡ w.arrays → (loop : ℕ) → DrewSome (region_logs phases team.span) loop
   pub joined : ArePhasesJoined phases
   pub ends : EndsAs w.arrays task.path number (record { team = team; slots = slots }) phases r
   pub handed : HandsOn (place_of task) (stop_in r) task.path number (record { span = team.span; phases = phases } ∷ []) before after
@@ -65,11 +64,11 @@ pub record IsReady (hand : HandValue View) (words : WordsValue) : Type 0 where
 -- What a lane asks of the function that runs regions, for a region of this team of a task with this log: it may be called with each
 -- hand that is ready, with the region's number among those of the task and with new logs for its lanes, and runs the region from
 -- the locals given.
-pub record RunsTeam {T : Type 0} (w : WorldValue) (accepts : MutBor (HandValue View) → Bor Locals → ℕ → Vec T → Bor Team → MutBor (Vec (List Step × T × ℕ)) → Type 0)
-    (gives : MutBor (HandValue View) → Bor Locals → ℕ → Vec T → Bor Team → MutBor (Vec (List Step × T × ℕ)) → Answer → MutBor (HandValue View) → MutBor (Vec (List Step × T × ℕ)) → Type 0)
+pub record RunsTeam {T : Type 0} (w : WorldValue) (accepts : MutBor (HandValue View) → Bor Locals → ℕ → Vec T → Bor Team → MutBor (Vec (ClosedLog T)) → Type 0)
+    (gives : MutBor (HandValue View) → Bor Locals → ℕ → Vec T → Bor Team → MutBor (Vec (ClosedLog T)) → Answer → MutBor (HandValue View) → MutBor (Vec (ClosedLog T)) → Type 0)
     (seen : LogView T) (task : Buffered) (team : TeamTree) : Type 0 where
-  pub accepted : (hand : MutBor (HandValue View)) (locals : Bor Locals) (number : ℕ) (logs : Vec T) (given : Bor Team) (done : MutBor (Vec (List Step × T × ℕ))) → team_of given.now ≡ team
+  pub accepted : (hand : MutBor (HandValue View)) (locals : Bor Locals) (number : ℕ) (logs : Vec T) (given : Bor Team) (done : MutBor (Vec (ClosedLog T))) → team_of given.now ≡ team
       → IsReady hand.now w.words → AreNewLogs seen task number team.span logs.items → accepts hand locals number logs given done
-  pub ran : (hand after : MutBor (HandValue View)) (locals : Bor Locals) (number : ℕ) (logs : Vec T) (given : Bor Team) (done now_done : MutBor (Vec (List Step × T × ℕ))) (r : Answer) → team_of given.now ≡ team
+  pub ran : (hand after : MutBor (HandValue View)) (locals : Bor Locals) (number : ℕ) (logs : Vec T) (given : Bor Team) (done now_done : MutBor (Vec (ClosedLog T))) (r : Answer) → team_of given.now ≡ team
       → IsReady hand.now w.words → AreNewLogs seen task number team.span logs.items → gives hand locals number logs given done r after now_done
       → RanRegion w team locals.now.slots.items task number hand.now after.now (entries_of seen done.now.items) (entries_of seen now_done.now.items) r

@@ -20,7 +20,6 @@ use Rattle.race_model.specs.History.{release}
 use Rattle.history_model.specs.Sound.{IsSound}
 use Rattle.history_model.specs.Did as tree
 use Rattle.history_model.specs.Did.{split_count}
-use Rattle.execution_model.specs.Fitting.{ReadsFit}
 use Rattle.execution_model.specs.Runs.{put_records, RunsRegions}
 use Rattle.event_buffer.specs.Buffered.{Buffered, MayPut}
 use Rattle.event_buffer.specs.Logged.{HoldsRecords}
@@ -30,10 +29,9 @@ use Rattle.lane_runner.specs.declared.stop.Halt.{Halt}
 use Rattle.lane_runner.specs.declared.stop.Stop.{Stop}
 use Rattle.lane_runner.specs.declared.stop.Halt.TheVariants as halt
 use Rattle.lane_runner.specs.Drawing.{Tally, HasDrawn}
-use Rattle.lane_runner.specs.Fitting.{WorkFits, AccessesElements}
 use Rattle.lane_runner.specs.Handed.{Entry, HandsOn, MaybeStop, AreFew, place_of, task_limit}
 use Rattle.lane_runner.specs.Stopping.{HaveEnded, LastIsRegion, LastIsRegionAt, StopsAtLast}
-use Rattle.lane_runner.specs.World.{WorldValue, element_word, element_width, layout_of}
+use Rattle.lane_runner.specs.World.{WorldValue, element_word, layout_of}
 
 -- where a lane runs
 abbrev pub site : WorldValue → Site
@@ -87,7 +85,6 @@ pub record HasDonePast (bars : ℕ) (w : WorldValue) (old new : Progress) (work 
   pub draws : HasDrawn old.tally new.tally (log_of work)
   pub forked : new.tally.forked ≡ old.tally.forked + length (work_regions work)
   pub told : length (work_regions work) ≤ length (log_of work)
-  pub elements : AccessesElements (element_width w.arrays) work
   pub sound : IsSound (layout_of w.arrays) work
   pub barriers : barrier_count (work_records work) ≡ bars
 
@@ -175,8 +172,8 @@ pub record MadePast {A : Type 0} (bars : ℕ) (w : WorldValue) (part : State →
   pub handed : WorkHandsOn None old new work
   pub few : AreFew old.done → AreFew new.done
   pub unrefused : new.buffer.refused ≡ None
-  pub makes : ReadsFit (work_records work) → Makes part slots (log_limit - old.buffer.count) (effect_of slots' work forks) finish
-  pub regions : WorkFits work → (program : Program) → program.arrays ≡ w.arrays → RunsRegions program forks (work_regions work)
+  pub makes : Makes part slots (log_limit - old.buffer.count) (effect_of slots' work forks) finish
+  pub regions : (program : Program) → program.arrays ≡ w.arrays → RunsRegions program forks (work_regions work)
 
 -- past none
 abbrev pub Made : {A : Type 0} → WorldValue → (State → Outcome A) → List ℤ → List ℤ → Progress → Progress → Finish A → Type 0
@@ -192,8 +189,8 @@ pub record Began {A : Type 0} (w : WorldValue) (part : State → Outcome A) (slo
   pub ends : EndsBy cause own (log_of work)
   pub stops : StopsBy w.arrays old new cause forks (work_regions work)
   pub handed : WorkHandsOn (stop_by cause) old new work
-  pub begins : ReadsFit (work_records work) → BeginsPart part slots (log_limit - old.buffer.count) (log_of work) forks
-  pub regions : WorkFits work → (program : Program) → program.arrays ≡ w.arrays → RunsRegions program forks (work_regions work)
+  pub begins : BeginsPart part slots (log_limit - old.buffer.count) (log_of work) forks
+  pub regions : (program : Program) → program.arrays ≡ w.arrays → RunsRegions program forks (work_regions work)
 
 -- nothing was put, whatever the log took
 pub record Waits (old new : Progress) : Type 0 where

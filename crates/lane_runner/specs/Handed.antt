@@ -2,6 +2,7 @@
 -- tasks below it.
 use Rattle.std.specs.Prelude.{◌≡◌, ◌⊎◌, ℕ, suc, ◌+◌, ◌<◌, ◌≤◌, Bool, List, [], ◌∷◌, ◌++◌, length, map, All, Contains, Option, Some, None, is_some}
 use Rattle.std.specs.List.{flat_map}
+use Rattle.sw_base.specs.declared.closed_log.ClosedLog.{ClosedLog}
 use Rattle.sw_base.specs.declared.path.Step.{Step}
 use Rattle.sw_base.specs.declared.trouble.Trouble.TheVariants.{Failed, Memory}
 use Rattle.sw_base.specs.Environment.{Text, WhereTold}
@@ -29,10 +30,17 @@ pub record Entry : Type 0 where
   pub count : ℕ
 
 module _ {T : Type 0} (seen : LogView T) where
-  abbrev pub entry_of : List Step × T × ℕ → Entry
-  entry_of e = record { task = e.0; dir = seen.dir e.1; path = seen.path e.1; text = seen.text e.1; faults = seen.faults e.1; count = e.2 }
+  abbrev pub entry_of : ClosedLog T → Entry
+  entry_of closed = record {
+    task = closed.path;
+    dir = seen.dir closed.log;
+    path = seen.path closed.log;
+    text = seen.text closed.log;
+    faults = seen.faults closed.log;
+    count = closed.records;
+  }
 
-  abbrev pub entries_of : List (List Step × T × ℕ) → List Entry
+  abbrev pub entries_of : List (ClosedLog T) → List Entry
   entries_of es = map entry_of es
 
 -- how the logs of a run are written: into which folder, from blocks of which size, and whether they tell their text

@@ -1,7 +1,6 @@
 pub mod Alone
 pub mod Children
 pub mod Drawing
-pub mod Fitting
 pub mod Forking
 pub mod Going
 pub mod Handed

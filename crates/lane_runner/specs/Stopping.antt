@@ -16,7 +16,6 @@ use Rattle.history_model.specs.Joined.{LastIsEnd, PhasesEnd, ArePhasesJoined}
 use Rattle.execution_model.specs.Runs.{works_log, lane_begin}
 use Rattle.lane_runner.specs.declared.stop.Stop.{Stop}
 use Rattle.lane_runner.specs.declared.stop.Stop.TheVariants as stop
-use Rattle.lane_runner.specs.Fitting.{PhasesFit}
 
 -- each of these regions ended: each lane put its End in the last phase, and whoever went on after a region waited for its lanes
 abbrev pub HaveEnded : List RegionWork → Type 0
@@ -111,7 +110,7 @@ IsNoTrouble why = Unit {0}
 -- where too many tasks were below it, it did so after a region; and but for trouble, each smaller lane went further.
 pub record StopsRegion (arrays : List Array) (at : List Step) (number : ℕ) (path : List Step) (why : Stop) (fork : Fork) (phases : Phases) : Type 0 where
   pub inside : IsInRegion at number fork.team.span path
-  pub traced : PhasesFit phases → (program : Program) → program.arrays ≡ arrays → (end : Ending) → ending_for why ≡ Some end → EndsInLane program end at number path fork phases
+  pub traced : (program : Program) → program.arrays ≡ arrays → (end : Ending) → ending_for why ≡ Some end → EndsInLane program end at number path fork phases
   pub crowded : (line : ℕ) → why ≡ stop.Tasks line → RestsInLane line at number fork.team.span path phases
   pub least : IsNoTrouble why → IsLeastInLane at number fork.team.span path phases
 

@@ -1,8 +1,8 @@
 -- The regions that statements fork, and what is asked for each.
-use Rattle.std.specs.Prelude.{ℕ, ◌<◌, List, length}
+use Rattle.std.specs.Prelude.{ℕ, ◌<◌, length}
 use denote.Ref.{Bor, MutBor}
 use Rattle.std.specs.Global.{Vec}
-use Rattle.sw_base.specs.declared.path.Step.{Step}
+use Rattle.sw_base.specs.declared.closed_log.ClosedLog.{ClosedLog}
 use Rattle.event_buffer.specs.Buffered.{Buffered}
 use Rattle.kernel_syntax.specs.declared.syntax.Team.{Team}
 use Rattle.kernel_syntax.specs.Program.{stmt_code}
@@ -34,8 +34,8 @@ EachTeamIn P (item.Run stmt which) = EachTeam P (stmt_code stmt.now Done)
 EachTeamIn P _ = Unit {0}
 
 -- a task with this log may fork a region of this team: it isn't too deep for one, and the function that is called runs it
-pub record MayFork {T : Type 0} (w : WorldValue) (accepts : MutBor (HandValue View) → Bor Locals → ℕ → Vec T → Bor Team → MutBor (Vec (List Step × T × ℕ)) → Type 0)
-    (gives : MutBor (HandValue View) → Bor Locals → ℕ → Vec T → Bor Team → MutBor (Vec (List Step × T × ℕ)) → Answer → MutBor (HandValue View) → MutBor (Vec (List Step × T × ℕ)) → Type 0)
+pub record MayFork {T : Type 0} (w : WorldValue) (accepts : MutBor (HandValue View) → Bor Locals → ℕ → Vec T → Bor Team → MutBor (Vec (ClosedLog T)) → Type 0)
+    (gives : MutBor (HandValue View) → Bor Locals → ℕ → Vec T → Bor Team → MutBor (Vec (ClosedLog T)) → Answer → MutBor (HandValue View) → MutBor (Vec (ClosedLog T)) → Type 0)
     (seen : LogView T) (task : Buffered) (team : TeamTree) : Type 0 where
   pub path : length task.path < 4
   pub runs : RunsTeam w accepts gives seen task team

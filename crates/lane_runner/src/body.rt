@@ -20,7 +20,7 @@ use kernel_syntax::{Body, Stmt, Team};
 use shared_words::Hand;
 use std::alloc::Global;
 use std::sync::Wait;
-use sw_base::{Log, Path};
+use sw_base::{ClosedLog, Log, Path};
 
 /// How many turns a loop has.
 pub(crate) fn total_of(from: i64, to: i64) -> u64
@@ -48,7 +48,7 @@ impl<L: Log> Frame<L> {
             u32,
             Vec<L>,
             &Team,
-            &mut Vec<(Path, L, u32)>,
+            &mut Vec<ClosedLog<L>>,
         ) -> Result<(), (Path, Stop)>,
     >(&mut self, body: &Body, rt: &R, alloc: Global, world: &World, region: &F) -> Result<(), Halt>
         requires can { CanGo world.now self.old.track }
@@ -75,7 +75,7 @@ impl<L: Log> Frame<L> {
             u32,
             Vec<L>,
             &Team,
-            &mut Vec<(Path, L, u32)>,
+            &mut Vec<ClosedLog<L>>,
         ) -> Result<(), (Path, Stop)>,
     >(
         &mut self,
@@ -115,7 +115,7 @@ impl<L: Log> Frame<L> {
             u32,
             Vec<L>,
             &Team,
-            &mut Vec<(Path, L, u32)>,
+            &mut Vec<ClosedLog<L>>,
         ) -> Result<(), (Path, Stop)>,
     >(
         &mut self,
@@ -158,7 +158,7 @@ impl<L: Log> Frame<L> {
             u32,
             Vec<L>,
             &Team,
-            &mut Vec<(Path, L, u32)>,
+            &mut Vec<ClosedLog<L>>,
         ) -> Result<(), (Path, Stop)>,
     >(&mut self, stmt: &Stmt, rt: &R, alloc: Global, world: &World, region: &F) -> Result<(), Halt>
         requires can { CanGo world.now self.old.track }

@@ -18,7 +18,7 @@ use kernel_syntax::{Body, Team};
 use shared_words::Hand;
 use std::alloc::Global;
 use std::sync::Wait;
-use sw_base::{Log, Path};
+use sw_base::{ClosedLog, Log, Path};
 
 impl<L: Log> Frame<L> {
     /// Draws a chunk of the loop that is open, and executes it. False where none is left.
@@ -30,7 +30,7 @@ impl<L: Log> Frame<L> {
             u32,
             Vec<L>,
             &Team,
-            &mut Vec<(Path, L, u32)>,
+            &mut Vec<ClosedLog<L>>,
         ) -> Result<(), (Path, Stop)>,
     >(
         &mut self,
@@ -89,7 +89,7 @@ impl<L: Log> Frame<L> {
             u32,
             Vec<L>,
             &Team,
-            &mut Vec<(Path, L, u32)>,
+            &mut Vec<ClosedLog<L>>,
         ) -> Result<(), (Path, Stop)>,
     >(
         &mut self,

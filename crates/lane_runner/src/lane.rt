@@ -15,7 +15,7 @@ use shared_words::Hand;
 use std::alloc::Global;
 use std::marker::Model;
 use std::sync::Wait;
-use sw_base::{Log, Path};
+use sw_base::{ClosedLog, Log, Path};
 
 /// A lane of a team: the path of its task; its locals, its hands, the buffer before its log, and the logs that its regions handed on; and,
 /// if it doesn't go on, the path of the task that stopped, its own or one in the region that it forked last, and why. Its number in
@@ -151,7 +151,7 @@ impl<L: Log> Lane<L> {
             u32,
             Vec<L>,
             &Team,
-            &mut Vec<(Path, L, u32)>,
+            &mut Vec<ClosedLog<L>>,
         ) -> Result<(), (Path, Stop)>,
     >(
         &mut self,

@@ -5,7 +5,7 @@ ghost use Rattle.kernel_syntax.specs.Layout.{elements};
 ghost use Rattle.kernel_syntax.specs.Program.{Program};
 ghost use Rattle.kernel_syntax.specs.Bounds.{IsBounded};
 ghost use Rattle.shared_words.specs.Handles.{WordsValue, ChunksValue};
-ghost use Rattle.kernel_syntax.specs.Arithmetic.{IsWidth};
+ghost use Rattle.log_format.specs.Fitting.{IsWidth};
 ghost use Rattle.sw_base.specs.declared.path.Step.{Step};
 ghost use Rattle.sw_base.specs.Names.{IsUnder};
 ghost use Rattle.history_model.specs.Work.{Work, RegionWork};
@@ -20,9 +20,9 @@ pub fn arrays_of_a_kernel_have_words()
         IsWorld (record { arrays = program.arrays; words = words; chunks = chunks; lane = lane; span = span }) }
 {}
 
-/// At each address the arrays of a kernel within the bounds of the language have a width of the language.
+/// The element of each word of a kernel within the bounds of the language has a width of the language.
 pub fn elements_of_a_kernel_have_widths()
-    ensures { (program : Program) → IsBounded program → (addr : ℕ) → IsWidth (element_width program.arrays addr) }
+    ensures { (program : Program) → IsBounded program → (word : ℕ) → IsWidth (element_width program.arrays word) }
 {}
 
 /// The logs that the regions of a task hand on are those of tasks below it.

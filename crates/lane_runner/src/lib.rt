@@ -10,9 +10,8 @@
 //! log gained, its items those that the hand gained, one for one and in order, and its draws those of the hand on the counters; and
 //! these are the records that the meaning of what was executed puts, under the values that the records read, from the locals before
 //! it to those after it. Where the log refuses a record, they are the first of these. A lane that stops in critical sections gives
-//! their mutexes back, the innermost first, without a record; one that goes on holds no more than before. That a value read is one
-//! that its element can have is a premise there: it holds of each legal history whose stores fit their elements, and that these do is said
-//! of each witness without that premise. A region that stopped is told with the path of the task that did.
+//! their mutexes back, the innermost first, without a record; one that goes on holds no more than before. A word that was
+//! loaded stands in the witness as it was, and its value, fitted to the element, in the log and in what the lane goes on with. A region that stopped is told with the path of the task that did.
 //!
 //! What a region hands on, the logs of its tasks, is kept behind that of the regions before: lane by lane, each task's log before those
 //! of the tasks below it. Where the region ended, none is missing, each has all its records, and none counts a fault; where it stopped, a
@@ -25,6 +24,7 @@ mod body;
 mod children;
 mod dynamic;
 mod element;
+mod fitting;
 mod frame;
 mod lane;
 mod laws;
@@ -38,6 +38,7 @@ mod value;
 mod world;
 
 pub use element::Element;
+pub use fitting::fit_words;
 pub use frame::Frame;
 pub use lane::Lane;
 pub use laws::{

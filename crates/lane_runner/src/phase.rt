@@ -19,7 +19,7 @@ use kernel_syntax::{Stmt, Team};
 use shared_words::Hand;
 use std::alloc::Global;
 use std::sync::Wait;
-use sw_base::{Log, Path};
+use sw_base::{ClosedLog, Log, Path};
 
 impl<L: Log> Frame<L> {
     /// Executes a statement of the team: of a worksharing loop all but the barrier at its end.
@@ -31,7 +31,7 @@ impl<L: Log> Frame<L> {
             u32,
             Vec<L>,
             &Team,
-            &mut Vec<(Path, L, u32)>,
+            &mut Vec<ClosedLog<L>>,
         ) -> Result<(), (Path, Stop)>,
     >(&mut self, stmt: &Stmt, rt: &R, alloc: Global, world: &World, region: &F) -> Result<(), Halt>
         requires can { CanGo world.now self.old.track }
@@ -71,7 +71,7 @@ impl<L: Log> Frame<L> {
             u32,
             Vec<L>,
             &Team,
-            &mut Vec<(Path, L, u32)>,
+            &mut Vec<ClosedLog<L>>,
         ) -> Result<(), (Path, Stop)>,
     >(&mut self, item: &Item, rt: &R, alloc: Global, world: &World, region: &F) -> Result<(), Halt>
         requires can { CanGo world.now self.old.track }

@@ -16,7 +16,7 @@ use kernel_syntax::Team;
 use shared_words::Hand;
 use std::alloc::Global;
 use std::sync::Wait;
-use sw_base::{Log, Path};
+use sw_base::{ClosedLog, Log, Path};
 
 impl<L: Log> Frame<L> {
     /// Executes the items of a phase.
@@ -28,7 +28,7 @@ impl<L: Log> Frame<L> {
             u32,
             Vec<L>,
             &Team,
-            &mut Vec<(Path, L, u32)>,
+            &mut Vec<ClosedLog<L>>,
         ) -> Result<(), (Path, Stop)>,
     >(
         &mut self,

@@ -22,7 +22,7 @@ use kernel_syntax::{Body, Expr, Schedule, Team, even_share};
 use shared_words::Hand;
 use std::alloc::Global;
 use std::sync::Wait;
-use sw_base::{Log, Path};
+use sw_base::{ClosedLog, Log, Path};
 
 impl<L: Log> Frame<L> {
     /// Executes the lane's chunks of a loop whose chunks are dealt in turn.
@@ -34,7 +34,7 @@ impl<L: Log> Frame<L> {
             u32,
             Vec<L>,
             &Team,
-            &mut Vec<(Path, L, u32)>,
+            &mut Vec<ClosedLog<L>>,
         ) -> Result<(), (Path, Stop)>,
     >(
         &mut self,
@@ -78,7 +78,7 @@ impl<L: Log> Frame<L> {
             u32,
             Vec<L>,
             &Team,
-            &mut Vec<(Path, L, u32)>,
+            &mut Vec<ClosedLog<L>>,
         ) -> Result<(), (Path, Stop)>,
     >(
         &mut self,
@@ -137,7 +137,7 @@ impl<L: Log> Frame<L> {
             u32,
             Vec<L>,
             &Team,
-            &mut Vec<(Path, L, u32)>,
+            &mut Vec<ClosedLog<L>>,
         ) -> Result<(), (Path, Stop)>,
     >(
         &mut self,

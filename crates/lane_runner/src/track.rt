@@ -15,7 +15,7 @@ ghost use Rattle.lane_runner.specs.Children.{AreNewLogs};
 ghost use Rattle.lane_runner.specs.Forking.{RunsTeam};
 ghost use Rattle.lane_runner.specs.Handed.{entries_of};
 ghost use Rattle.shared_words.specs.Views.{locked, unlocked, rest};
-ghost use Rattle.kernel_syntax.specs.Arithmetic.{fitted};
+ghost use Rattle.log_format.specs.Fitting.{fitted};
 ghost use Rattle.lane_runner.specs.Placing.{StandsIn, meant};
 
 use crate::children::children;
@@ -24,17 +24,17 @@ use crate::locals::Locals;
 use crate::stop::{Halt, Stop, TASK_LIMIT};
 use crate::world::World;
 use event_buffer::{Buffer, BufferFault};
-use kernel_syntax::Team;
+use kernel_syntax::{Team, fit};
 use log_format::{Kind, Record};
 use shared_words::{ChunkHand, Hand};
 use std::alloc::Global;
 use std::marker::Model;
 use std::mem;
 use std::sync::Wait;
-use sw_base::{Log, Path};
+use sw_base::{ClosedLog, Log, Path};
 
 /// A lane's hand on the shared words, the buffer before its log, its hand on the counters of its team's loops, and the logs that the
-/// regions of its task handed on: each with its task's path and number of records.
+/// regions of its task handed on.
 #[derive(Drop)]
 pub struct Track<L: Log> {
     hand: Hand,
@@ -42,7 +42,7 @@ pub struct Track<L: Log> {
     draws: ChunkHand,
     next_loop: usize,
     forked: u32,
-    done: Vec<(Path, L, u32)>,
+    done: Vec<ClosedLog<L>>,
 }
 
 impl<L: Log> Model for Track<L> {
@@ -134,7 +134,7 @@ impl<L: Log> Track<L> {
     }
 
     /// The hand, the buffer, the hand on the counters, and the logs handed on.
-    pub fn into_parts(self) -> (Hand, Buffer<L>, ChunkHand, Vec<(Path, L, u32)>)
+    pub fn into_parts(self) -> (Hand, Buffer<L>, ChunkHand, Vec<ClosedLog<L>>)
         ensures hand { result.0 ≡ self.hand }
         ensures buffer { result.1 ≡ self.buffer }
         ensures draws { result.2 ≡ self.tally.draws }
@@ -156,7 +156,7 @@ impl<L: Log> Track<L> {
         Ok(())
     }
 
-    /// Reads an element, and puts the record.
+    /// Reads an element, whose value is its word fitted to it, and puts the record.
     pub fn read(
         &mut self,
         alloc: Global,
@@ -174,9 +174,10 @@ impl<L: Log> Track<L> {
     {
         self.ready(alloc, line)?;
         let bits = world.words().load(&mut self.hand, element.word);
-        let event = access(Kind::Read, element, line, site, bits);
+        let found = fit(bits.cast_signed(), element.width);
+        let event = access(Kind::Read, element, line, site, found.cast_unsigned());
         self.buffer.put(&event);
-        Ok(bits.cast_signed())
+        Ok(found)
     }
 
     /// Puts the record of a store, and stores the value, which the element can have.
@@ -334,7 +335,7 @@ impl<L: Log> Track<L> {
             u32,
             Vec<L>,
             &Team,
-            &mut Vec<(Path, L, u32)>,
+            &mut Vec<ClosedLog<L>>,
         ) -> Result<(), (Path, Stop)>,
     >(
         &mut self,

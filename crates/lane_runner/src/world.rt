@@ -1,7 +1,7 @@
 //! Where a lane runs.
 ghost use Rattle.std.specs.Prelude.{◌≡◌, ◌+◌, ◌*◌, ◌<◌, MatchOption, None, Some, slice_get};
 ghost use Rattle.kernel_model.specs.Value.{element_at};
-ghost use Rattle.kernel_syntax.specs.Arithmetic.{IsWidth};
+ghost use Rattle.log_format.specs.Fitting.{IsWidth};
 ghost use Rattle.kernel_syntax.specs.Layout.{IsPlaced};
 ghost use Rattle.lane_runner.specs.Placing.{IsElement};
 ghost use Rattle.lane_runner.specs.World.{IsWorld};

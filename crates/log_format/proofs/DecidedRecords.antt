@@ -4,7 +4,7 @@ use Rattle.std.specs.Int.{w16, w32, w64, from_be_bytes}
 use Rattle.log_format.specs.declared.format.Format.{Format}
 use Rattle.log_format.specs.Format.{last_code}
 use Rattle.log_format.specs.declared.record.Kind.{Kind}
-use Rattle.log_format.specs.declared.record.Kind.TheVariants.{Read, Write, Lock, Unlock, Barrier, Region, Chunk, End}
+use Rattle.log_format.specs.declared.record.Kind.TheVariants.{Read, Write, Lock, Unlock, Barrier, Region, Chunk, End, Update}
 use Rattle.log_format.specs.declared.record.Record.{Record}
 use Rattle.log_format.specs.declared.record.Why.{Why}
 use Rattle.log_format.specs.declared.record.Why.TheVariants as why
@@ -30,16 +30,18 @@ below_one Barrier same = absurd (omega arith)
 below_one Region same = absurd (omega arith)
 below_one Chunk same = absurd (omega arith)
 below_one End same = absurd (omega arith)
+below_one Update same = absurd (omega arith)
 
-above_eight : (n : ℕ) (k : Kind) → 8 < n → n ≡ kind_code k → ⊥
-above_eight n Read more same = absurd (omega arith)
-above_eight n Write more same = absurd (omega arith)
-above_eight n Lock more same = absurd (omega arith)
-above_eight n Unlock more same = absurd (omega arith)
-above_eight n Barrier more same = absurd (omega arith)
-above_eight n Region more same = absurd (omega arith)
-above_eight n Chunk more same = absurd (omega arith)
-above_eight n End more same = absurd (omega arith)
+above_nine : (n : ℕ) (k : Kind) → 9 < n → n ≡ kind_code k → ⊥
+above_nine n Read more same = absurd (omega arith)
+above_nine n Write more same = absurd (omega arith)
+above_nine n Lock more same = absurd (omega arith)
+above_nine n Unlock more same = absurd (omega arith)
+above_nine n Barrier more same = absurd (omega arith)
+above_nine n Region more same = absurd (omega arith)
+above_nine n Chunk more same = absurd (omega arith)
+above_nine n End more same = absurd (omega arith)
+above_nine n Update more same = absurd (omega arith)
 
 kind_of_code : (n : ℕ) → HasCode n ⊎ ((k : Kind) → n ≢ kind_code k)
 kind_of_code zero = inr below_one
@@ -51,7 +53,8 @@ kind_of_code (suc (suc (suc (suc (suc zero))))) = inl (record { kind = Barrier; 
 kind_of_code (suc (suc (suc (suc (suc (suc zero)))))) = inl (record { kind = Region; is = refl })
 kind_of_code (suc (suc (suc (suc (suc (suc (suc zero))))))) = inl (record { kind = Chunk; is = refl })
 kind_of_code (suc (suc (suc (suc (suc (suc (suc (suc zero)))))))) = inl (record { kind = End; is = refl })
-kind_of_code (suc (suc (suc (suc (suc (suc (suc (suc (suc n))))))))) = inr (λ k. above_eight (suc (suc (suc (suc (suc (suc (suc (suc (suc n))))))))) k (omega arith))
+kind_of_code (suc (suc (suc (suc (suc (suc (suc (suc (suc zero))))))))) = inl (record { kind = Update; is = refl })
+kind_of_code (suc (suc (suc (suc (suc (suc (suc (suc (suc (suc n)))))))))) = inr (λ k. above_nine (suc (suc (suc (suc (suc (suc (suc (suc (suc (suc n)))))))))) k (omega arith))
 
 -- ---- tests
 
@@ -67,6 +70,7 @@ has_size Barrier n = equal n 0
 has_size Region n = equal n 0
 has_size Chunk n = equal n 0
 has_size End n = equal n 0
+has_size Update n = access_size n
 
 has_address : (k : Kind) (r : Record) → Decided (HasAddress k r)
 has_address Read r = at_most (r.addr + r.size) (2 ^ 48)
@@ -77,6 +81,7 @@ has_address Barrier r = inl tt
 has_address Region r = inl tt
 has_address Chunk r = inl tt
 has_address End r = inl tt
+has_address Update r = at_most (r.addr + r.size) (2 ^ 48)
 
 span_is_tabled : (k : Kind) (r : Record) → Decided (SpanIsTabled k r)
 span_is_tabled Region r = both (at_most 1 r.value) (at_most r.value 64)
@@ -87,6 +92,7 @@ span_is_tabled Unlock r = inl tt
 span_is_tabled Barrier r = inl tt
 span_is_tabled Chunk r = inl tt
 span_is_tabled End r = inl tt
+span_is_tabled Update r = inl tt
 
 three : {A B C : Type 0} → Decided A → Decided B → Decided C → Decided (A × B × C)
 three (inl a) (inl b) (inl c) = inl (a, b, c)
@@ -103,6 +109,7 @@ has_nothing_else Barrier r = three (equal r.site 0) (equal r.addr 0) (equal r.va
 has_nothing_else Region r = both (equal r.site 0) (equal r.addr 0)
 has_nothing_else Chunk r = both (equal r.site 0) (at_most r.addr r.value)
 has_nothing_else End r = three (equal r.site 0) (equal r.addr 0) (equal r.value 0)
+has_nothing_else Update r = inl tt
 
 passes : (format : Format) (r : Record) (w : Why) → Decided (PassesTable format r w)
 passes format r why.Kind = at_most (kind_code r.kind) (last_code format)

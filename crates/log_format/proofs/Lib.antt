@@ -1,6 +1,8 @@
 pub mod Bytes
 pub mod DecidedRecords
 pub mod Deciding
+pub mod FittedBits
+pub mod Formats
 pub mod Headers
 pub mod Logs
 pub mod Records

@@ -6,7 +6,7 @@ use Rattle.std.proofs.lemmas.Bool.{cases_order}
 use Rattle.log_format.specs.declared.format.Format.{Format}
 use Rattle.log_format.specs.Format.{AllowsKind}
 use Rattle.log_format.specs.declared.record.Kind.{Kind}
-use Rattle.log_format.specs.declared.record.Kind.TheVariants.{Read, Write, Lock, Unlock, Barrier, Region, Chunk, End}
+use Rattle.log_format.specs.declared.record.Kind.TheVariants.{Read, Write, Lock, Unlock, Barrier, Region, Chunk, End, Update}
 use Rattle.log_format.specs.declared.record.Record.{Record}
 use Rattle.log_format.specs.declared.record.Why.{Why}
 use Rattle.log_format.specs.declared.record.Why.TheVariants as why
@@ -26,7 +26,7 @@ spelling-kind r = refl
 
 -- the kind of a number
 kind_at : ℕ → Kind
-kind_at n = cond (n == 1) Read (cond (n == 2) Write (cond (n == 3) Lock (cond (n == 4) Unlock (cond (n == 5) Barrier (cond (n == 6) Region (cond (n == 7) Chunk End))))))
+kind_at n = cond (n == 1) Read (cond (n == 2) Write (cond (n == 3) Lock (cond (n == 4) Unlock (cond (n == 5) Barrier (cond (n == 6) Region (cond (n == 7) Chunk (cond (n == 8) End Update)))))))
 
 kind_at-code : (k : Kind) → kind_at (kind_code k) ≡ k
 unfolding kind_at
@@ -38,6 +38,7 @@ kind_at-code Barrier = refl
 kind_at-code Region = refl
 kind_at-code Chunk = refl
 kind_at-code End = refl
+kind_at-code Update = refl
 
 -- the fields that bytes tell
 fields_at : List ℕ → Record

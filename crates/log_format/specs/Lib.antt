@@ -1,3 +1,4 @@
+pub mod Fitting
 pub mod Format
 pub mod Limit
 pub mod Spelling

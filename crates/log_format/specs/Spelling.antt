@@ -3,7 +3,7 @@ use Rattle.std.specs.Prelude.{ℕ, List, ◌∷◌, ◌++◌}
 use Rattle.std.specs.Int.{w16, w32, w64, to_be_bytes}
 use Rattle.std.specs.List.{flat_map}
 use Rattle.log_format.specs.declared.record.Kind.{Kind}
-use Rattle.log_format.specs.declared.record.Kind.TheVariants.{Read, Write, Lock, Unlock, Barrier, Region, Chunk, End}
+use Rattle.log_format.specs.declared.record.Kind.TheVariants.{Read, Write, Lock, Unlock, Barrier, Region, Chunk, End, Update}
 use Rattle.log_format.specs.declared.record.Record.{Record}
 
 -- the number of a kind
@@ -16,6 +16,7 @@ kind_code Barrier = 5
 kind_code Region = 6
 kind_code Chunk = 7
 kind_code End = 8
+kind_code Update = 9
 
 -- the 24 bytes of a record: kind and size, then site, line, address and value, each high byte first
 unfoldable pub spelling : Record → List ℕ

@@ -1,11 +1,12 @@
 -- The table of records: which values each kind allows, as one test for each fault.
-use Rattle.std.specs.Prelude.{◌≡◌, ◌≢◌, ◌⊎◌, ℕ, ◌+◌, ◌^◌, ◌<◌, ◌≤◌, List, slice_index}
+use Rattle.std.specs.Prelude.{◌≡◌, ◌≢◌, ℕ, ◌+◌, ◌^◌, ◌<◌, ◌≤◌, List, slice_index}
 use Rattle.log_format.specs.declared.record.Kind.{Kind}
-use Rattle.log_format.specs.declared.record.Kind.TheVariants.{Read, Write, Lock, Unlock, Barrier, Region, Chunk, End}
+use Rattle.log_format.specs.declared.record.Kind.TheVariants.{Read, Write, Lock, Unlock, Barrier, Region, Chunk, End, Update}
 use Rattle.log_format.specs.declared.record.Record.{Record}
 use Rattle.log_format.specs.declared.record.Why.{Why}
 use Rattle.log_format.specs.declared.record.Why.TheVariants as why
 use Rattle.log_format.specs.declared.format.Format.{Format}
+use Rattle.log_format.specs.Fitting.{IsWidth}
 use Rattle.log_format.specs.Format.{AllowsKind}
 use Rattle.log_format.specs.Spelling.{kind_code, spelling}
 
@@ -19,7 +20,7 @@ pub record RecordFits (r : Record) : Type 0 where
 
 -- how many bytes an access has
 abbrev pub IsAccessSize : ℕ → Type 0
-IsAccessSize n = (n ≡ 1) ⊎ (n ≡ 2) ⊎ (n ≡ 4) ⊎ (n ≡ 8)
+IsAccessSize = IsWidth
 
 -- an access has 1, 2, 4 or 8 bytes, and nothing else has any
 abbrev pub HasSize : Kind → ℕ → Type 0
@@ -31,6 +32,7 @@ HasSize Barrier n = n ≡ 0
 HasSize Region n = n ≡ 0
 HasSize Chunk n = n ≡ 0
 HasSize End n = n ≡ 0
+HasSize Update n = IsAccessSize n
 
 -- an access ends at 2^48 or before; a mutex's number is below 2^16
 abbrev pub HasAddress : Kind → Record → Type 0
@@ -42,6 +44,7 @@ HasAddress Barrier r = Unit {0}
 HasAddress Region r = Unit {0}
 HasAddress Chunk r = Unit {0}
 HasAddress End r = Unit {0}
+HasAddress Update r = r.addr + r.size ≤ 2 ^ 48
 
 -- a region has 1 to 64 lanes
 abbrev pub SpanIsTabled : Kind → Record → Type 0
@@ -53,6 +56,7 @@ SpanIsTabled Barrier r = Unit {0}
 SpanIsTabled Region r = (1 ≤ r.value) × (r.value ≤ 64)
 SpanIsTabled Chunk r = Unit {0}
 SpanIsTabled End r = Unit {0}
+SpanIsTabled Update r = Unit {0}
 
 -- what a kind doesn't use is 0, and a chunk's number is at most how many there are
 abbrev pub HasNothingElse : Kind → Record → Type 0
@@ -64,6 +68,7 @@ HasNothingElse Barrier r = (r.site ≡ 0) × (r.addr ≡ 0) × (r.value ≡ 0)
 HasNothingElse Region r = (r.site ≡ 0) × (r.addr ≡ 0)
 HasNothingElse Chunk r = (r.site ≡ 0) × (r.addr ≤ r.value)
 HasNothingElse End r = (r.site ≡ 0) × (r.addr ≡ 0) × (r.value ≡ 0)
+HasNothingElse Update r = Unit {0}
 
 -- a record passes the test that the fault names
 abbrev pub PassesTable : Format → Record → Why → Type 0

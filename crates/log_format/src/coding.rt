@@ -50,6 +50,7 @@ pub fn encode(r: &Record) -> [u8; 24]
 
 fn fields(kind: Kind, bytes: &[u8; 24]) -> Record
     requires { slice_index bytes.now 0 ≡ kind_code kind }
+    ensures kind { result.kind ≡ kind }
     ensures fits { RecordFits result }
     ensures spelled { bytes.now ≡ spelling result }
 {
@@ -75,6 +76,16 @@ pub fn decode(bytes: &[u8; 24]) -> Result<Record, Why>
     ensures told { (w : Why) → IsFirstFault FORMAT bytes.now w → result ≡ Err w }
 {
     decode_as(FORMAT, bytes)
+}
+
+/// The record that these bytes spell in the first format, or the first test that they fail.
+pub fn decode_old(bytes: &[u8; 24]) -> Result<Record, Why>
+    ensures found { IfOk result (λ r. Spells Format.First bytes.now r) }
+    ensures only { (r : Record) → Spells Format.First bytes.now r → result ≡ Ok r }
+    ensures fault { IfErr result (λ w. IsFirstFault Format.First bytes.now w) }
+    ensures told { (w : Why) → IsFirstFault Format.First bytes.now w → result ≡ Err w }
+{
+    decode_as(Format::First, bytes)
 }
 
 /// The record that these bytes spell in this format, or the first test that they fail.

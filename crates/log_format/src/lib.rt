@@ -10,7 +10,7 @@ mod laws;
 mod record;
 mod table;
 
-pub use coding::{decode, decode_as, encode};
+pub use coding::{decode, decode_as, decode_old, encode};
 pub use format::{FORMAT, Format};
-pub use laws::{logged_once, spelled_once};
+pub use laws::{first_is_second, logged_once, spelled_once};
 pub use record::{Kind, RECORD_LIMIT, Record, Why};

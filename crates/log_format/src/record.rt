@@ -20,6 +20,8 @@ pub enum Kind {
     Chunk,
     /// The task ended.
     End,
+    /// An access that adds to what is there, in one step.
+    Update,
 }
 
 /// One step of a task, as its log tells it.
@@ -34,7 +36,7 @@ pub struct Record {
     pub line: u32,
     /// The address of an access, the number of a mutex or of a chunk.
     pub addr: u64,
-    /// What an access read or wrote, in two's complement; the span of a region; how many chunks there are.
+    /// What an access read, wrote or added, in two's complement; the span of a region; how many chunks there are.
     pub value: u64,
 }
 

@@ -21,6 +21,7 @@ pub fn code_of(kind: Kind) -> u8
         Kind::Region => 6,
         Kind::Chunk => 7,
         Kind::End => 8,
+        Kind::Update => 9,
     }
 }
 
@@ -40,6 +41,7 @@ pub fn kind_of(format: Format, code: u8) -> Option<Kind>
         6 => Some(Kind::Region),
         7 => Some(Kind::Chunk),
         8 => Some(Kind::End),
+        9 => Some(Kind::Update),
         _ => None,
     }
 }
@@ -54,7 +56,7 @@ fn has_size(kind: Kind, size: u8) -> bool
     ensures { IsTrue result ↔ HasSize kind size }
 {
     match kind {
-        Kind::Read | Kind::Write => is_access_size(size),
+        Kind::Read | Kind::Write | Kind::Update => is_access_size(size),
         Kind::Lock | Kind::Unlock | Kind::Barrier | Kind::Region | Kind::Chunk | Kind::End => size
             == 0,
     }
@@ -65,7 +67,7 @@ fn has_address(r: &Record) -> bool
     ensures { IsTrue result ↔ HasAddress r.now.kind r.now }
 {
     match r.kind {
-        Kind::Read | Kind::Write => r.addr <= (1 << 48) - u64::from(r.size),
+        Kind::Read | Kind::Write | Kind::Update => r.addr <= (1 << 48) - u64::from(r.size),
         Kind::Lock | Kind::Unlock => r.addr < 1 << 16,
         Kind::Barrier | Kind::Region | Kind::Chunk | Kind::End => true,
     }
@@ -82,7 +84,8 @@ fn has_span(r: &Record) -> bool
         | Kind::Unlock
         | Kind::Barrier
         | Kind::Chunk
-        | Kind::End => true,
+        | Kind::End
+        | Kind::Update => true,
     }
 }
 
@@ -90,7 +93,7 @@ fn has_nothing_else(r: &Record) -> bool
     ensures { IsTrue result ↔ HasNothingElse r.now.kind r.now }
 {
     match r.kind {
-        Kind::Read | Kind::Write => true,
+        Kind::Read | Kind::Write | Kind::Update => true,
         Kind::Lock | Kind::Unlock => r.site == 0 && r.value == 0,
         Kind::Barrier | Kind::End => r.site == 0 && r.addr == 0 && r.value == 0,
         Kind::Region => r.site == 0 && r.addr == 0,

@@ -11,13 +11,13 @@ use Rattle.sw_base.specs.Names.{index_name}
 use Rattle.log_format.specs.declared.format.Format.{Format}
 use Rattle.log_format.specs.Format.{index_header}
 use Rattle.race_model.specs.declared.why.IndexWhy.{IndexWhy}
-use Rattle.race_model.specs.declared.why.IndexWhy.TheVariants.{Header, TooMany, Cut, Depth, Span, Lane, Order, Records}
+use Rattle.race_model.specs.declared.why.IndexWhy.TheVariants.{Old, Header, TooMany, Cut, Depth, Span, Lane, Order, Records}
 use Rattle.race_model.specs.BadPlace.{BadPlace, no_index, bad_row}
 use Rattle.race_model.specs.Row.{Row, RawRow, StepFits, RowFits, step_spelling, row_spelling, used, unused, no_step, raw_of, index_bytes}
 use Rattle.race_model.specs.Listing.{BeginsListing, IsListing, IsLastLane, IsNextLane, IsFirstLane, IsNextRegion, IsNextPath}
 use Rattle.race_model.specs.IndexFault.{HasRegionSpan, HasLaneInSpan, RowPasses, FailsTest, Fails as HasFault, IsAtRow, IsBadRow, IsBadIndexPlace, AreFirstRows, IsIndex}
-use Rattle.race_model.proofs.Listings.{begins_none, begins_at_root, begins_one, begins_less, begins_more, lists_less, lists_more, lists_some}
-use Rattle.race_model.proofs.IndexPlaces.{used-raws_of, raws_fit}
+use Rattle.race_laws.proofs.Listings.{begins_none, begins_at_root, begins_one, begins_less, begins_more, lists_less, lists_more, lists_some}
+use Rattle.race_laws.proofs.IndexPlaces.{used-raws_of, raws_fit}
 use Rattle.log_index.specs.Rows.{AddsRow, OneMore}
 use Rattle.race_model.specs.Row.{row_path}
 use Rattle.log_index.proofs.Ends.{more_parts}
@@ -106,6 +106,7 @@ whole rows begins = by_view (view rows) where
 
 -- each test of a row can be told
 passes : (before : List Row) (raw : RawRow) → BeginsListing (map row_path before) → (why : IndexWhy) → Decided (RowPasses (map raw_of before) raw why)
+passes before raw begins Old = inl tt
 passes before raw begins Header = inl tt
 passes before raw begins TooMany = inl tt
 passes before raw begins Cut = inl tt
@@ -241,6 +242,7 @@ module _ (format : Format) (files : Files) (dir : List ℕ) (bytes : List ℕ) (
       at_row = record { number = omega (arith, length-map rows raw_of); fit = raws_fit rows first.each; parts = parts }
 
       by_why : (w : IndexWhy) → HasFault (map raw_of rows) rest w → ⊥
+      by_why Old fails = fails
       by_why Header fails = fails
       by_why TooMany fails = not_bad (length rows + 1) TooMany (record { before = map raw_of rows; rest = rest; at_row = at_row; fails = fails })
       by_why Cut fails = not_bad (length rows + 1) Cut (record { before = map raw_of rows; rest = rest; at_row = at_row; fails = fails })
@@ -284,6 +286,7 @@ module _ (format : Format) (files : Files) (dir : List ℕ) (bytes : List ℕ) (
             test w not = record { row = raw; more = drop 48 rest; fits = fits; spelled = spelled; fails = not }
 
             fails : (w : IndexWhy) → (RowPasses (map raw_of rows) raw w → ⊥) → ⊥
+            fails Old not = not tt
             fails Header not = not tt
             fails TooMany not = not tt
             fails Cut not = not tt

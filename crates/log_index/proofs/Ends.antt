@@ -1,21 +1,21 @@
 -- How the reading of rows goes on and ends.
-use Rattle.std.proofs.Common.{◌≡◌, ◌≢◌, inl, inr, ℕ, ◌+◌, ◌<◌, List, [], ◌∷◌, ◌++◌, length, drop, map, refl, sym, ap, subst, ◌∙◌, arith, append_assoc, length-append}
+use Rattle.std.proofs.Common.{◌≡◌, ◌≢◌, inl, inr, ℕ, ◌+◌, ◌<◌, List, [], ◌∷◌, ◌++◌, length, take, drop, map, Some, refl, sym, ap, subst, ◌∙◌, arith, append_assoc, length-append}
 use Rattle.std.specs.List.{flat_map}
 use Rattle.std.proofs.lemmas.Grind.{flat_map-append}
 use Rattle.std.proofs.lemmas.List.{append-nil, map-append, length-map, drop-drop}
 use Rattle.sw_base.specs.declared.path.Step.{Step}
 use Rattle.sw_base.specs.Window.{Window, Shows}
 use Rattle.log_format.specs.declared.format.Format.{Format}
-use Rattle.log_format.specs.Format.{index_header}
+use Rattle.log_format.specs.Format.{index_header, older_header}
 use Rattle.race_model.specs.declared.why.IndexWhy.{IndexWhy}
-use Rattle.race_model.specs.declared.why.IndexWhy.TheVariants.{Header, TooMany, Cut, Depth, Span, Lane, Order, Records}
+use Rattle.race_model.specs.declared.why.IndexWhy.TheVariants.{Old, Header, TooMany, Cut, Depth, Span, Lane, Order, Records}
 use Rattle.race_model.specs.BadPlace.{index_rank, bad_row}
 use Rattle.race_model.specs.Row.{Row, RawRow, row_spelling, raw_of}
 use Rattle.race_model.specs.Listing.{IsListing}
 use Rattle.race_model.specs.IndexFault.{FailsTest, Fails as HasFault, FailsIndexFirst, AreFirstRows, IsFirstBadIndexPlace}
-use Rattle.race_model.proofs.Listings.{begins_none}
-use Rattle.race_model.proofs.RowSpelling.{length-row}
-use Rattle.race_model.proofs.IndexPlaces.{used-raws_of, row_first}
+use Rattle.race_laws.proofs.Listings.{begins_none}
+use Rattle.race_laws.proofs.RowSpelling.{length-row}
+use Rattle.race_laws.proofs.IndexPlaces.{used-raws_of, row_first, old_first as old_first_place, header_first as header_first_place}
 use Rattle.log_index.specs.declared.row.IndexAnswer.TheVariants.{Bad}
 use Rattle.log_index.specs.Rows.{OneMore, ReadsRow, StopsAt, SpellsFirstRows, IsFirstBadRow}
 use Rattle.race_model.specs.Row.{row_path}
@@ -32,7 +32,8 @@ end_fails rows some not = record { fails = inr (refl, λ is. not (subst (λ (pat
   no_test : (why : IndexWhy) → FailsTest (map raw_of rows) [] why → ⊥
   no_test why test = absurd (omega (arith, ap length test.spelled, length-append (row_spelling test.row) test.more, length-row test.row test.fits.four))
 
-  least : (other : IndexWhy) → index_rank other < 6 → HasFault (map raw_of rows) [] other → ⊥
+  least : (other : IndexWhy) → index_rank other < 7 → HasFault (map raw_of rows) [] other → ⊥
+  least Old less fails = fails
   least Header less fails = fails
   least TooMany less fails = fails.1 refl
   least Cut less (inl short) = short.0 refl
@@ -99,6 +100,13 @@ module _ (format : Format) (bytes rest : List ℕ) (parts : bytes ≡ index_head
   pub end_first : (rows : List Row) (why : IndexWhy) → SpellsFirstRows rest rows → FailsIndexFirst (map raw_of rows) [] why → IsFirstBadRow format bytes (length rows + 1) why
   end_first rows why first fails files dir held =
       row_first files dir bytes held rows [] first.good (whole_parts rows [] (first.spelled ∙ sym (append-nil (flat_map row_spelling (map raw_of rows))))) why fails
+
+-- before it
+pub old_first : (format : Format) (bytes : List ℕ) → older_header format ≡ Some (take 8 bytes) → IsFirstBadRow format bytes 0 Old
+old_first format bytes old files dir held = old_first_place files dir bytes held old
+
+pub header_first : (format : Format) (bytes : List ℕ) → (older_header format ≡ Some (take 8 bytes) → ⊥) → take 8 bytes ≢ index_header format → IsFirstBadRow format bytes 0 Header
+header_first format bytes not_old other files dir held = header_first_place files dir bytes held not_old other
 
 -- no row is good
 pub none_good : (rows : List Row) → rows ≡ [] → AreFirstRows rows

@@ -3,7 +3,7 @@ use Rattle.std.proofs.Common.{◌≡◌, ℕ, suc, ◌-◌, List, [], ◌∷◌,
 use Rattle.std.proofs.lemmas.List.{map-append}
 use Rattle.sw_base.specs.declared.path.Step.{Step}
 use Rattle.race_model.specs.Listing.{BeginsListing, IsListing, IsLastLane, IsNextPath}
-use Rattle.race_model.proofs.Listings.{begins_at_root, begins_one, begins_less, begins_more, lists_less, lists_more}
+use Rattle.race_laws.proofs.Listings.{begins_at_root, begins_one, begins_less, begins_more, lists_less, lists_more}
 use Rattle.race_model.specs.Row.{Row}
 use Rattle.race_model.specs.Row.{row_path}
 

@@ -4,12 +4,12 @@ use Rattle.std.proofs.lemmas.List.{map-append, length-map, take-append-drop}
 use Rattle.std.proofs.lemmas.List.Elements.{All-head, All-tail, All-take, All-push}
 use Rattle.sw_base.specs.declared.path.Step.{Step}
 use Rattle.race_model.specs.declared.why.IndexWhy.{IndexWhy}
-use Rattle.race_model.specs.declared.why.IndexWhy.TheVariants.{Header, TooMany, Cut, Depth, Span, Lane, Order, Records}
+use Rattle.race_model.specs.declared.why.IndexWhy.TheVariants.{Old, Header, TooMany, Cut, Depth, Span, Lane, Order, Records}
 use Rattle.race_model.specs.BadPlace.{index_rank}
 use Rattle.race_model.specs.Row.{Row, RawRow, StepFits, RowFits, row_spelling, used, unused, no_step, raw_of}
 use Rattle.race_model.specs.Listing.{BeginsListing}
 use Rattle.race_model.specs.IndexFault.{HasDepth, HasRegionSpan, HasLaneInSpan, HasRecords, RowPasses, FailsTest, Fails as HasFault, FailsIndexFirst, IsRow, AreFirstRows}
-use Rattle.race_model.proofs.RowSpelling.{SameRow, same_row, length-row}
+use Rattle.race_laws.proofs.RowSpelling.{SameRow, same_row, length-row}
 use Rattle.log_index.specs.Rows.{FailsTestFirst, AddsRow}
 use Rattle.race_model.specs.Row.{row_path}
 use Rattle.log_index.proofs.RowTests.{paths_same}
@@ -73,6 +73,7 @@ fails_first before raw rest more why room fits spelled first = record { fails = 
   test w fails = record { row = raw; more = more; fits = fits; spelled = spelled; fails = fails }
 
   fault : (w : IndexWhy) → (RowPasses before raw w → ⊥) → HasFault before rest w
+  fault Old fails = absurd (fails tt)
   fault Header fails = absurd (fails tt)
   fault TooMany fails = absurd (fails tt)
   fault Cut fails = absurd (fails tt)
@@ -88,6 +89,7 @@ fails_first before raw rest more why room fits spelled first = record { fails = 
       other.fails (subst (λ (r : RawRow). RowPasses before r w) same.row passes)
 
   not_fault : (w : IndexWhy) → RowPasses before raw w → HasFault before rest w → ⊥
+  not_fault Old passes fails = fails
   not_fault Header passes fails = fails
   not_fault TooMany passes fails = room fails.0
   not_fault Cut passes (inl short) = absurd (omega (arith, short.1, there))

@@ -3,12 +3,12 @@ use Rattle.std.proofs.Common.{◌≡◌, Bool, true, false, List, [], ◌∷◌,
 use Rattle.std.proofs.lemmas.List.{map-append}
 use Rattle.sw_base.specs.declared.path.Step.{Step}
 use Rattle.race_model.specs.declared.why.IndexWhy.{IndexWhy}
-use Rattle.race_model.specs.declared.why.IndexWhy.TheVariants.{Header, TooMany, Cut, Depth, Span, Lane, Order, Records}
+use Rattle.race_model.specs.declared.why.IndexWhy.TheVariants.{Old, Header, TooMany, Cut, Depth, Span, Lane, Order, Records}
 use Rattle.race_model.specs.BadPlace.{index_rank}
 use Rattle.race_model.specs.Row.{Row, RawRow, used, raw_of}
 use Rattle.race_model.specs.Listing.{BeginsListing}
 use Rattle.race_model.specs.IndexFault.{HasDepth, HasRegionSpan, HasLaneInSpan, HasRecords, RowPasses}
-use Rattle.race_model.proofs.IndexPlaces.{used-raws_of}
+use Rattle.race_laws.proofs.IndexPlaces.{used-raws_of}
 use Rattle.log_index.specs.Rows.{FailsTestFirst}
 use Rattle.race_model.specs.Row.{row_path}
 
@@ -22,7 +22,8 @@ paths_same before row = map-append used (map raw_of before) (row ∷ []) ∙ ap 
 module _ (before : List Row) (row : RawRow) (depth : HasDepth row) (spans : All HasRegionSpan (used row)) (lanes : All HasLaneInSpan (used row)) where
   pub order_fails : (BeginsListing (map row_path before ++ used row ∷ []) → ⊥) → FailsTestFirst (map raw_of before) row Order
   order_fails not = record { fails = λ begins. not (subst (λ (paths : List (List Step)). BeginsListing paths) (paths_same before row) begins); passed = passed } where
-    passed : (other : IndexWhy) → index_rank other < 6 → RowPasses (map raw_of before) row other
+    passed : (other : IndexWhy) → index_rank other < 7 → RowPasses (map raw_of before) row other
+    passed Old less = tt
     passed Header less = tt
     passed TooMany less = tt
     passed Cut less = tt
@@ -38,7 +39,8 @@ module _ (before : List Row) (row : RawRow) (depth : HasDepth row) (spans : All 
 
     pub records_fail : (HasRecords row.records → ⊥) → FailsTestFirst (map raw_of before) row Records
     records_fail not = record { fails = not; passed = passed } where
-      passed : (other : IndexWhy) → index_rank other < 7 → RowPasses (map raw_of before) row other
+      passed : (other : IndexWhy) → index_rank other < 8 → RowPasses (map raw_of before) row other
+      passed Old less = tt
       passed Header less = tt
       passed TooMany less = tt
       passed Cut less = tt
@@ -49,6 +51,7 @@ module _ (before : List Row) (row : RawRow) (depth : HasDepth row) (spans : All 
       passed Records less = absurd (omega arith)
 
     pub all_pass : HasRecords row.records → (why : IndexWhy) → RowPasses (map raw_of before) row why
+    all_pass records Old = tt
     all_pass records Header = tt
     all_pass records TooMany = tt
     all_pass records Cut = tt

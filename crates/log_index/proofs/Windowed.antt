@@ -2,10 +2,10 @@
 use Rattle.std.proofs.Common.{◌≡◌, inl, inr, ℕ, ◌<◌, ◌≤◌, List, [], ◌∷◌, ◌++◌, length, take, drop, refl, sym, ap, subst, ◌∙◌, arith, length-append, length-take, length-drop}
 use Rattle.std.proofs.lemmas.List.{take_all, take-append-drop, take-append-le}
 use Rattle.race_model.specs.declared.why.IndexWhy.{IndexWhy}
-use Rattle.race_model.specs.declared.why.IndexWhy.TheVariants.{Header, TooMany, Cut, Depth, Span, Lane, Order, Records}
+use Rattle.race_model.specs.declared.why.IndexWhy.TheVariants.{Old, Header, TooMany, Cut, Depth, Span, Lane, Order, Records}
 use Rattle.race_model.specs.Row.{Row, RawRow, row_spelling, raw_of}
 use Rattle.race_model.specs.IndexFault.{FailsTest, Fails as HasFault, FailsIndexFirst}
-use Rattle.race_model.proofs.RowSpelling.{length-row}
+use Rattle.race_laws.proofs.RowSpelling.{length-row}
 use Rattle.log_index.specs.Rows.{AddsRow, OneMore}
 
 no_bytes : (bs : List ℕ) → length bs ≡ 0 → bs ≡ []
@@ -41,6 +41,7 @@ module _ (a b : List ℕ) (same : take 48 a ≡ take 48 b) where
   some_left none = no_bytes a (omega (arith, ap length none, ap length same, length-take 48 a, length-take 48 b))
 
   fault_left : (before : List RawRow) (why : IndexWhy) → HasFault before a why → HasFault before b why
+  fault_left before Old fails = fails
   fault_left before Header fails = fails
   fault_left before TooMany fails = (fails.0, λ none. fails.1 (some_left none))
   fault_left before Cut (inl short) = inl (λ none. short.0 (some_left none), subst (λ (bs : List ℕ). length bs < 48) (all_same short.1) short.1)

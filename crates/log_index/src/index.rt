@@ -22,15 +22,14 @@ pub fn read_index<F: Folder>(
     dir: &str,
 ) -> Result<Vec<Row>, IndexAnswer>
     ensures rows { IfOk result (λ rows. AreRows rows.items) }
-    ensures found { IfOk result (λ rows. WhereTold (F.content folder.old) (λ c. IsIndex FORMAT c.held dir.now rows.items)) }
-    ensures missing { IsErrOf result IndexAnswer.NoIndex → WhereTold (F.content folder.old) (λ c. IsFirstBadIndexPlace FORMAT c.held dir.now no_index) }
+    ensures found { IfOk result (λ rows. WhereTold (F.state folder.old).content (λ c. IsIndex FORMAT c.held dir.now rows.items)) }
+    ensures missing { IsErrOf result IndexAnswer.NoIndex → WhereTold (F.state folder.old).content (λ c. IsFirstBadIndexPlace FORMAT c.held dir.now no_index) }
     ensures bad { (n : ℕ) (why : IndexWhy) → IsErrOf result (IndexAnswer.Bad n why) →
-        WhereTold (F.content folder.old) (λ c. IsFirstBadIndexPlace FORMAT c.held dir.now (bad_row n why)) }
+        WhereTold (F.state folder.old).content (λ c. IsFirstBadIndexPlace FORMAT c.held dir.now (bad_row n why)) }
 
-    ensures same { F.content folder.new ≡ F.content folder.old }
+    ensures same { F.state folder.new ≡ F.state folder.old }
     ensures later { F.read_faults folder.old ≤ F.read_faults folder.new }
     ensures cause { IsErrOf result IndexAnswer.ReadFault → Rose (F.read_faults folder.old) (F.read_faults folder.new) }
-    ensures same_writes { F.write_faults folder.new ≡ F.write_faults folder.old }
 {
     read_index_as(alloc, FORMAT, folder, dir)
 }
@@ -43,15 +42,14 @@ pub fn read_index_as<F: Folder>(
     dir: &str,
 ) -> Result<Vec<Row>, IndexAnswer>
     ensures rows { IfOk result (λ rows. AreRows rows.items) }
-    ensures found { IfOk result (λ rows. WhereTold (F.content folder.old) (λ c. IsIndex format c.held dir.now rows.items)) }
-    ensures missing { IsErrOf result IndexAnswer.NoIndex → WhereTold (F.content folder.old) (λ c. IsFirstBadIndexPlace format c.held dir.now no_index) }
+    ensures found { IfOk result (λ rows. WhereTold (F.state folder.old).content (λ c. IsIndex format c.held dir.now rows.items)) }
+    ensures missing { IsErrOf result IndexAnswer.NoIndex → WhereTold (F.state folder.old).content (λ c. IsFirstBadIndexPlace format c.held dir.now no_index) }
     ensures bad { (n : ℕ) (why : IndexWhy) → IsErrOf result (IndexAnswer.Bad n why) →
-        WhereTold (F.content folder.old) (λ c. IsFirstBadIndexPlace format c.held dir.now (bad_row n why)) }
+        WhereTold (F.state folder.old).content (λ c. IsFirstBadIndexPlace format c.held dir.now (bad_row n why)) }
 
-    ensures same { F.content folder.new ≡ F.content folder.old }
+    ensures same { F.state folder.new ≡ F.state folder.old }
     ensures later { F.read_faults folder.old ≤ F.read_faults folder.new }
     ensures cause { IsErrOf result IndexAnswer.ReadFault → Rose (F.read_faults folder.old) (F.read_faults folder.new) }
-    ensures same_writes { F.write_faults folder.new ≡ F.write_faults folder.old }
 {
     let name = index_name(alloc, dir)?;
     match folder.size(alloc, &name) {
@@ -69,11 +67,12 @@ pub fn write_index<F: Folder>(
     rows: &[Row],
 ) -> Result<(), Trouble>
     requires { AreRows rows.now }
-    ensures done { OnOk result (F.content folder.new ≡ option_map (with_put (index_name dir.now) (index_bytes FORMAT rows.now)) (F.content folder.old)) }
-    ensures refused { OnErr result (LeavesPrefix (F.content folder.old) (F.content folder.new) (index_name dir.now) (index_bytes FORMAT rows.now)) }
+    ensures done { OnOk result ((F.state folder.new).content ≡ option_map (with_put (index_name dir.now) (index_bytes FORMAT rows.now)) (F.state folder.old).content) }
+    ensures refused { OnErr result (LeavesPrefix (F.state folder.old).content (F.state folder.new).content (index_name dir.now) (index_bytes FORMAT rows.now)) }
 
-    ensures cause { HasCause (F.write_faults folder.old) (F.write_faults folder.new) result }
-    ensures no_fault { OnOk result (F.write_faults folder.new ≡ F.write_faults folder.old) }
+    ensures cause { HasCause (F.state folder.old).write_faults (F.state folder.new).write_faults result }
+    ensures no_fault { OnOk result ((F.state folder.new).write_faults ≡ (F.state folder.old).write_faults) }
+    ensures same_roots { (F.state folder.new).roots ≡ (F.state folder.old).roots }
     ensures same_reads { F.read_faults folder.new ≡ F.read_faults folder.old }
 {
     let name = index_name(alloc, dir)?;

@@ -1,6 +1,7 @@
-ghost use Rattle.std.specs.Prelude.{◌≡◌, ◌≢◌, ℕ, ◌+◌, ◌*◌, ◌≤◌, [], length, drop, map, IsTrue, IsFalse, IfOk, IfErr, IsErrOf, OnOk};
-ghost use Rattle.sw_base.specs.Environment.{WhereTold, Rose};
+ghost use Rattle.std.specs.Prelude.{◌≡◌, ◌≢◌, ℕ, ◌+◌, ◌*◌, ◌≤◌, [], length, take, drop, map, IsTrue, IsFalse, IfOk, IfErr, IsErrOf, OnOk};
+ghost use Rattle.sw_base.specs.Environment.{WhereTold, HasCause, Rose};
 ghost use Rattle.sw_base.specs.Window.{Shows, file_of};
+ghost use Rattle.log_format.specs.Format.{index_header};
 ghost use Rattle.race_model.specs.declared.why.IndexWhy.{IndexWhy};
 ghost use Rattle.race_model.specs.Row.{raw_of, used};
 ghost use Rattle.race_model.specs.IndexFault.{HasDepth, HasRecords, AreFirstRows, AreRows, FailsIndexFirst, max_rows};
@@ -14,7 +15,7 @@ use crate::rules::check;
 use log_format::Format;
 use race_model::IndexWhy;
 use std::alloc::Global;
-use sw_base::{Folder, Window};
+use sw_base::{Folder, Trouble, Window};
 
 /// The most rows that an index has.
 const MAX_ROWS: usize = 65_536;
@@ -95,19 +96,18 @@ fn read_row<F: Folder>(
     requires good { AreFirstRows rows.old.items }
     requires place { window.old.place ≡ 8 + 48 * length rows.old.items }
     ensures grows { IfOk result (λ more. IsTrue more → Grows rows.old.items rows.new.items window.old window.new) }
-    ensures reads { IfOk result (λ more. IsTrue more → WhereTold (F.content folder.old) (λ c. Shows window.old (file_of c name.now)
+    ensures reads { IfOk result (λ more. IsTrue more → WhereTold (F.state folder.old).content (λ c. Shows window.old (file_of c name.now)
         → ReadsRow (file_of c name.now) rows.old.items rows.new.items window.old window.new)) }
     ensures ends { IfOk result (λ more. IsFalse more → rows.new.items ≡ rows.old.items) }
-    ensures all { IfOk result (λ more. IsFalse more → WhereTold (F.content folder.old) (λ c. Shows window.old (file_of c name.now)
+    ensures all { IfOk result (λ more. IsFalse more → WhereTold (F.state folder.old).content (λ c. Shows window.old (file_of c name.now)
         → drop window.old.place (file_of c name.now) ≡ [])) }
     ensures bad { IfErr result (λ answer. (n : ℕ) (why : IndexWhy) → answer ≡ IndexAnswer.Bad n why → (n ≡ length rows.old.items + 1)
-        × WhereTold (F.content folder.old) (λ c. Shows window.old (file_of c name.now) → FailsIndexFirst (map raw_of rows.old.items) (drop window.old.place (file_of c name.now)) why)) }
+        × WhereTold (F.state folder.old).content (λ c. Shows window.old (file_of c name.now) → FailsIndexFirst (map raw_of rows.old.items) (drop window.old.place (file_of c name.now)) why)) }
     ensures there { IsErrOf result IndexAnswer.NoIndex → ⊥ }
 
-    ensures same { F.content folder.new ≡ F.content folder.old }
+    ensures same { F.state folder.new ≡ F.state folder.old }
     ensures later { F.read_faults folder.old ≤ F.read_faults folder.new }
     ensures cause { IsErrOf result IndexAnswer.ReadFault → Rose (F.read_faults folder.old) (F.read_faults folder.new) }
-    ensures same_writes { F.write_faults folder.new ≡ F.write_faults folder.old }
 {
     window.fill(alloc, folder, name, ROW)?;
     if window.ahead().is_empty() {
@@ -127,16 +127,15 @@ fn first_rows<F: Folder>(
 ) -> Result<Vec<Row>, IndexAnswer>
     requires place { window.old.place ≡ 8 }
     ensures good { IfOk result (λ rows. AreFirstRows rows.items) }
-    ensures rows { IfOk result (λ rows. WhereTold (F.content folder.old) (λ c. Shows window.old (file_of c name.now)
+    ensures rows { IfOk result (λ rows. WhereTold (F.state folder.old).content (λ c. Shows window.old (file_of c name.now)
         → SpellsFirstRows (drop 8 (file_of c name.now)) rows.items)) }
     ensures bad { IfErr result (λ answer. (n : ℕ) (why : IndexWhy) → answer ≡ IndexAnswer.Bad n why
-        → WhereTold (F.content folder.old) (λ c. Shows window.old (file_of c name.now) → StopsAt (drop 8 (file_of c name.now)) n why)) }
+        → WhereTold (F.state folder.old).content (λ c. Shows window.old (file_of c name.now) → StopsAt (drop 8 (file_of c name.now)) n why)) }
     ensures there { IsErrOf result IndexAnswer.NoIndex → ⊥ }
 
-    ensures same { F.content folder.new ≡ F.content folder.old }
+    ensures same { F.state folder.new ≡ F.state folder.old }
     ensures later { F.read_faults folder.old ≤ F.read_faults folder.new }
     ensures cause { IsErrOf result IndexAnswer.ReadFault → Rose (F.read_faults folder.old) (F.read_faults folder.new) }
-    ensures same_writes { F.write_faults folder.new ≡ F.write_faults folder.old }
 {
     let mut rows = Vec::new(alloc);
     'rows: loop {
@@ -161,6 +160,30 @@ fn check_end(rows: &[Row]) -> Result<(), IndexWhy>
     Ok(())
 }
 
+/// Why a file with another header than the format's is no index: it may be one of the format before.
+fn header_fault<F: Folder>(
+    alloc: Global,
+    format: Format,
+    folder: &mut F,
+    name: &str,
+    window: &mut Window,
+) -> Result<IndexWhy, Trouble>
+    ensures bad { IfOk result (λ why. WhereTold (F.state folder.old).content (λ c. take 8 (file_of c name.now) ≢ index_header format
+        → IsFirstBadRow format (file_of c name.now) 0 why)) }
+
+    ensures same { F.state folder.new ≡ F.state folder.old }
+    ensures cause { HasCause (F.read_faults folder.old) (F.read_faults folder.new) result }
+{
+    let Some(older) = format.older_header() else {
+        return Ok(IndexWhy::Header);
+    };
+    window.restart();
+    if window.pass_header(alloc, folder, name, &older)? {
+        return Ok(IndexWhy::Old);
+    }
+    Ok(IndexWhy::Header)
+}
+
 /// The rows of the index of this format under this name, or the first bad row.
 pub fn read_rows<F: Folder>(
     alloc: Global,
@@ -169,22 +192,19 @@ pub fn read_rows<F: Folder>(
     name: &str,
 ) -> Result<Vec<Row>, IndexAnswer>
     ensures good { IfOk result (λ rows. AreRows rows.items) }
-    ensures rows { IfOk result (λ rows. WhereTold (F.content folder.old) (λ c. SpellsRows format (file_of c name.now) rows.items)) }
+    ensures rows { IfOk result (λ rows. WhereTold (F.state folder.old).content (λ c. SpellsRows format (file_of c name.now) rows.items)) }
     ensures bad { IfErr result (λ answer. (n : ℕ) (why : IndexWhy) → answer ≡ IndexAnswer.Bad n why
-        → WhereTold (F.content folder.old) (λ c. IsFirstBadRow format (file_of c name.now) n why)) }
+        → WhereTold (F.state folder.old).content (λ c. IsFirstBadRow format (file_of c name.now) n why)) }
     ensures there { IsErrOf result IndexAnswer.NoIndex → ⊥ }
 
-    ensures same { F.content folder.new ≡ F.content folder.old }
+    ensures same { F.state folder.new ≡ F.state folder.old }
     ensures later { F.read_faults folder.old ≤ F.read_faults folder.new }
     ensures cause { IsErrOf result IndexAnswer.ReadFault → Rose (F.read_faults folder.old) (F.read_faults folder.new) }
-    ensures same_writes { F.write_faults folder.new ≡ F.write_faults folder.old }
 {
     let mut window = Window::new(alloc, ROW)?;
     if !window.pass_header(alloc, folder, name, &format.index_header())? {
-        return Err(IndexAnswer::Bad {
-            row: 0,
-            why: IndexWhy::Header,
-        });
+        let why = header_fault(alloc, format, folder, name, &mut window)?;
+        return Err(IndexAnswer::Bad { row: 0, why });
     }
     let rows = first_rows(alloc, folder, name, &mut window)?;
     match check_end(&rows) {

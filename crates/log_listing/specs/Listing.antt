@@ -6,7 +6,7 @@ use Rattle.sw_base.specs.declared.path.Step.{Step}
 use Rattle.sw_base.specs.Names.{bare_log_name}
 use Rattle.log_format.specs.declared.record.Record.{Record}
 use Rattle.log_format.specs.declared.record.Kind.{Kind}
-use Rattle.log_format.specs.declared.record.Kind.TheVariants.{Read, Write, Lock, Unlock, Barrier, Region, Chunk, End}
+use Rattle.log_format.specs.declared.record.Kind.TheVariants.{Read, Write, Lock, Unlock, Barrier, Region, Chunk, End, Update}
 use Rattle.race_model.specs.Trace.{TaskLog, Trace}
 
 -- the size of an access, and where it stands in the kernel
@@ -27,6 +27,7 @@ record_text Barrier r = codes "barrier line " ++ decimal r.line
 record_text Region r = codes "region " ++ decimal r.value ++ codes " line " ++ decimal r.line
 record_text Chunk r = codes "chunk " ++ decimal r.addr ++ codes " of " ++ decimal r.value ++ codes " line " ++ decimal r.line
 record_text End r = codes "end line " ++ decimal r.line
+record_text Update r = codes "update " ++ access_text r
 
 -- the line of record n
 abbrev pub record_line : ℕ → Record → List ℕ

@@ -39,6 +39,7 @@ fn record_part(alloc: Global, r: &Record) -> Result<String, Memory>
         Kind::Region => format!(in alloc; "region {value} line {line}")?,
         Kind::Chunk => format!(in alloc; "chunk {addr} of {value} line {line}")?,
         Kind::End => format!(in alloc; "end line {line}")?,
+        Kind::Update => format!(in alloc; "update {}", access_part(alloc, r)?)?,
     };
     Ok(text)
 }

@@ -50,13 +50,12 @@ fn next_record<F: Folder>(
     folder: &mut F,
     reader: &mut LogReader,
 ) -> Result<Option<Record>, Unlisted>
-    ensures gives { WhereTold (F.content folder.old) (λ c. (events : List Record) → StandsBefore c reader.old events → IfOk result (λ answer. GivesNext c events answer reader.new)) }
+    ensures gives { WhereTold (F.state folder.old).content (λ c. (events : List Record) → StandsBefore c reader.old events → IfOk result (λ answer. GivesNext c events answer reader.new)) }
     ensures fewer { IfOk result (λ answer. IsTrue (is_some answer) → reader.new.left < reader.old.left) }
-    ensures same { F.content folder.new ≡ F.content folder.old }
+    ensures same { F.state folder.new ≡ F.state folder.old }
     ensures later { F.read_faults folder.old ≤ F.read_faults folder.new }
     ensures read_cause { IsErrOf result Unlisted.ReadFault → Rose (F.read_faults folder.old) (F.read_faults folder.new) }
     ensures no_write { IsErrOf result Unlisted.WriteFault → ⊥ }
-    ensures same_writes { F.write_faults folder.new ≡ F.write_faults folder.old }
 {
     match reader.next(alloc, folder) {
         Ok(next) => Ok(next),
@@ -72,13 +71,12 @@ fn open_log<F: Folder>(
     records: u32,
     reader: &mut LogReader,
 ) -> Result<(), Unlisted>
-    ensures stands { OnOk result (WhereTold (F.content folder.old) (λ c. (events : List Record) → IsWholeLog FORMAT c.held dir.now path.now events → records ≡ length events → StandsBefore c reader.new events)) }
+    ensures stands { OnOk result (WhereTold (F.state folder.old).content (λ c. (events : List Record) → IsWholeLog FORMAT c.held dir.now path.now events → records ≡ length events → StandsBefore c reader.new events)) }
     ensures most { reader.new.left ≤ records }
-    ensures same { F.content folder.new ≡ F.content folder.old }
+    ensures same { F.state folder.new ≡ F.state folder.old }
     ensures later { F.read_faults folder.old ≤ F.read_faults folder.new }
     ensures read_cause { IsErrOf result Unlisted.ReadFault → Rose (F.read_faults folder.old) (F.read_faults folder.new) }
     ensures no_write { IsErrOf result Unlisted.WriteFault → ⊥ }
-    ensures same_writes { F.write_faults folder.new ≡ F.write_faults folder.old }
 {
     match reader.open(alloc, FORMAT, folder, dir, path, records) {
         Ok(()) => Ok(()),
@@ -94,12 +92,11 @@ fn list_records<F: Folder, O: Out>(
     reader: &mut LogReader,
 ) -> Result<(), Unlisted>
     requires { reader.old.left < 2 ^ 32 }
-    ensures done { WhereTold (F.content folder.old) (λ c. (events : List Record) → StandsBefore c reader.old events → OnOk result (O.written out.new ≡ gained (O.written out.old) (records_text events))) }
-    ensures refused { WhereTold (F.content folder.old) (λ c. (events : List Record) → StandsBefore c reader.old events → OnErr result (GainsPrefix (O.written out.old) (O.written out.new) (records_text events))) }
-    ensures same { F.content folder.new ≡ F.content folder.old }
+    ensures done { WhereTold (F.state folder.old).content (λ c. (events : List Record) → StandsBefore c reader.old events → OnOk result (O.written out.new ≡ gained (O.written out.old) (records_text events))) }
+    ensures refused { WhereTold (F.state folder.old).content (λ c. (events : List Record) → StandsBefore c reader.old events → OnErr result (GainsPrefix (O.written out.old) (O.written out.new) (records_text events))) }
+    ensures same { F.state folder.new ≡ F.state folder.old }
     ensures later { F.read_faults folder.old ≤ F.read_faults folder.new }
     ensures read_cause { IsErrOf result Unlisted.ReadFault → Rose (F.read_faults folder.old) (F.read_faults folder.new) }
-    ensures same_writes { F.write_faults folder.new ≡ F.write_faults folder.old }
     ensures later_out { O.faults out.old ≤ O.faults out.new }
     ensures write_cause { IsErrOf result Unlisted.WriteFault → Rose (O.faults out.old) (O.faults out.new) }
 {
@@ -120,14 +117,13 @@ fn list_log<F: Folder, O: Out>(
     records: u32,
     reader: &mut LogReader,
 ) -> Result<(), Unlisted>
-    ensures done { WhereTold (F.content folder.old) (λ c. (events : List Record) → IsWholeLog FORMAT c.held dir.now path.now events → records ≡ length events
+    ensures done { WhereTold (F.state folder.old).content (λ c. (events : List Record) → IsWholeLog FORMAT c.held dir.now path.now events → records ≡ length events
         → OnOk result (O.written out.new ≡ gained (O.written out.old) (log_text path.now events))) }
-    ensures refused { WhereTold (F.content folder.old) (λ c. (events : List Record) → IsWholeLog FORMAT c.held dir.now path.now events → records ≡ length events
+    ensures refused { WhereTold (F.state folder.old).content (λ c. (events : List Record) → IsWholeLog FORMAT c.held dir.now path.now events → records ≡ length events
         → OnErr result (GainsPrefix (O.written out.old) (O.written out.new) (log_text path.now events))) }
-    ensures same { F.content folder.new ≡ F.content folder.old }
+    ensures same { F.state folder.new ≡ F.state folder.old }
     ensures later { F.read_faults folder.old ≤ F.read_faults folder.new }
     ensures read_cause { IsErrOf result Unlisted.ReadFault → Rose (F.read_faults folder.old) (F.read_faults folder.new) }
-    ensures same_writes { F.write_faults folder.new ≡ F.write_faults folder.old }
     ensures later_out { O.faults out.old ≤ O.faults out.new }
     ensures write_cause { IsErrOf result Unlisted.WriteFault → Rose (O.faults out.old) (O.faults out.new) }
 {
@@ -144,15 +140,14 @@ pub fn list<F: Folder, O: Out>(
     dir: &str,
     rows: &[Row],
 ) -> Result<(), Unlisted>
-    ensures done { WhereTold (F.content folder.old) (λ c. (trace : Trace) → rows_of trace ≡ rows.now → HoldsLogs FORMAT c.held dir.now trace
+    ensures done { WhereTold (F.state folder.old).content (λ c. (trace : Trace) → rows_of trace ≡ rows.now → HoldsLogs FORMAT c.held dir.now trace
         → OnOk result (O.written out.new ≡ gained (O.written out.old) (show_text trace))) }
-    ensures refused { WhereTold (F.content folder.old) (λ c. (trace : Trace) → rows_of trace ≡ rows.now → HoldsLogs FORMAT c.held dir.now trace
+    ensures refused { WhereTold (F.state folder.old).content (λ c. (trace : Trace) → rows_of trace ≡ rows.now → HoldsLogs FORMAT c.held dir.now trace
         → OnErr result (GainsPrefix (O.written out.old) (O.written out.new) (show_text trace))) }
 
-    ensures same { F.content folder.new ≡ F.content folder.old }
+    ensures same { F.state folder.new ≡ F.state folder.old }
     ensures later { F.read_faults folder.old ≤ F.read_faults folder.new }
     ensures read_cause { IsErrOf result Unlisted.ReadFault → Rose (F.read_faults folder.old) (F.read_faults folder.new) }
-    ensures same_writes { F.write_faults folder.new ≡ F.write_faults folder.old }
     ensures later_out { O.faults out.old ≤ O.faults out.new }
     ensures write_cause { IsErrOf result Unlisted.WriteFault → Rose (O.faults out.old) (O.faults out.new) }
 {

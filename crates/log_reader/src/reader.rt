@@ -77,14 +77,13 @@ impl LogReader {
         path: &Path,
         records: u32,
     ) -> Result<(), Trouble>
-        ensures stands { OnOk result (WhereTold (F.content folder.old) (λ c. (events : List Record) → c.held (log_name dir.now path.now) ≡ Some (log_bytes (log_header format) events)
+        ensures stands { OnOk result (WhereTold (F.state folder.old).content (λ c. (events : List Record) → c.held (log_name dir.now path.now) ≡ Some (log_bytes (log_header format) events)
             → All (IsTabled format) events → records ≡ length events → StandsBefore c self.new events)) }
         ensures most { self.new.left ≤ records }
         ensures none { OnErr result (self.new.left ≡ 0) }
 
-        ensures same { F.content folder.new ≡ F.content folder.old }
+        ensures same { F.state folder.new ≡ F.state folder.old }
         ensures cause { HasCause (F.read_faults folder.old) (F.read_faults folder.new) result }
-        ensures same_writes { F.write_faults folder.new ≡ F.write_faults folder.old }
     {
         self.left = 0;
         self.format = format;
@@ -115,14 +114,13 @@ impl LogReader {
         alloc: Global,
         folder: &mut F,
     ) -> Result<Option<Record>, Trouble>
-        ensures gives { WhereTold (F.content folder.old) (λ c. (events : List Record) → StandsBefore c self.old events → IfOk result (λ answer. GivesNext c events answer self.new)) }
-        ensures kept { WhereTold (F.content folder.old) (λ c. (events : List Record) → StandsBefore c self.old events → OnErr result (StandsBefore c self.new events)) }
+        ensures gives { WhereTold (F.state folder.old).content (λ c. (events : List Record) → StandsBefore c self.old events → IfOk result (λ answer. GivesNext c events answer self.new)) }
+        ensures kept { WhereTold (F.state folder.old).content (λ c. (events : List Record) → StandsBefore c self.old events → OnErr result (StandsBefore c self.new events)) }
         ensures fewer { IfOk result (λ answer. IsTrue (is_some answer) → self.new.left < self.old.left) }
         ensures ended { IfOk result (λ answer. answer ≡ None → self.new.left ≡ 0) }
 
-        ensures same { F.content folder.new ≡ F.content folder.old }
+        ensures same { F.state folder.new ≡ F.state folder.old }
         ensures cause { HasCause (F.read_faults folder.old) (F.read_faults folder.new) result }
-        ensures same_writes { F.write_faults folder.new ≡ F.write_faults folder.old }
     {
         if self.left == 0 {
             return Ok(None);

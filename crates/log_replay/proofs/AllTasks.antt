@@ -16,21 +16,22 @@ use Rattle.race_model.specs.Row.{Row}
 use Rattle.sw_base.specs.Environment.{Files}
 use Rattle.race_model.specs.Listing.{IsListing}
 use Rattle.race_model.specs.Trace.{TaskLog, Trace, Logs, logs_of, region_count, is_region_kind}
-use Rattle.race_model.proofs.Counts.{count_finds}
-use Rattle.race_model.proofs.FolderForkJoin.{fork_join, has_begun, path_at, paths_same, row_all}
-use Rattle.race_model.proofs.LabelPlace.{has_last, HasLast}
-use Rattle.race_model.proofs.Listed.{root_listed}
-use Rattle.race_model.proofs.ListedOnce.{first_path, logs_at, next_path, next_shape}
+use Rattle.race_laws.proofs.Counts.{count_finds}
+use Rattle.race_laws.proofs.FolderForkJoin.{fork_join, has_begun, path_at, paths_same, row_all}
+use Rattle.race_laws.proofs.LabelPlace.{has_last, HasLast}
+use Rattle.race_laws.proofs.Listed.{root_listed}
+use Rattle.race_laws.proofs.ListedOnce.{first_path, logs_at, next_path, next_shape}
 use Rattle.race_model.proofs.TraceLogs.{all_at, find_task}
 use Rattle.kernel_syntax.specs.Program.{Program}
 use Rattle.kernel_model.specs.State.{Fork}
 use Rattle.kernel_model.specs.Trace.{Start, log_limit}
 use Rattle.kernel_model.specs.Folder.{own_trace, root_start, lane_start, start_at, IsTraced, IsTracedTask, IsTracedFolder, paths_of}
-use Rattle.kernel_model.proofs.DistinctPaths.{listed_once}
-use Rattle.kernel_model.proofs.EndedTraces.{whole_trace}
-use Rattle.kernel_model.proofs.LawfulFolder.{at_lane, at_root, descend, each_task, lane_started, starts_lane}
-use Rattle.kernel_model.proofs.LawfulLogs.{span_at, spans_count}
-use Rattle.kernel_model.proofs.LawfulRecords.{spans_of, spans_forked}
+use Rattle.kernel_rules.proofs.DistinctPaths.{listed_once}
+use Rattle.kernel_rules.proofs.EndedTraces.{whole_trace}
+use Rattle.kernel_model.proofs.Starts.{at_lane, at_root, descend, lane_started, starts_lane}
+use Rattle.kernel_rules.proofs.LawfulFolder.{each_task}
+use Rattle.kernel_rules.proofs.LawfulLogs.{span_at, spans_count}
+use Rattle.kernel_rules.proofs.LawfulRecords.{spans_of, spans_forked}
 use Rattle.log_replay.specs.Ancestors.{ComparesTask, GoesOn, KeepsForks, KeepsAllForks, trace_from}
 use Rattle.log_replay.specs.Differing.{DiffersAt}
 use Rattle.log_replay.specs.Following.{HasEnd}

@@ -1,7 +1,7 @@
 -- Worksharing loops, as far as they follow the log: chunks that are dealt in turn, and chunks that are drawn.
 use Rattle.std.proofs.Common.{◌≡◌, refl, ap, sym, ◌∙◌, subst, ℕ, ◌+◌, ◌-◌, ◌*◌, ◌^◌, ◌<◌, ◌≤◌, min, Bool, true, false, List, [], ◌++◌, ℤ, nat_lt, Option, Result, Ok, Err, arith}
 use Rattle.std.specs.List.{range_with_len}
-use Rattle.sw_base.specs.Environment.{Content}
+use Rattle.sw_base.specs.Environment.{FolderState}
 use Rattle.kernel_syntax.specs.declared.syntax.Schedule.{Schedule}
 use Rattle.kernel_syntax.specs.declared.syntax.Schedule.TheVariants.{Even, Static, Dynamic}
 use Rattle.kernel_syntax.specs.Share.{even_share_of}
@@ -23,7 +23,7 @@ use Rattle.log_replay.proofs.Following.{follows_same, follows_then, follows_stop
 
 -- ---- turns by a list of iterations
 
-module _ (told : Option Content) (at : Site) (body : Code) (slot : ℕ) (from : ℤ) where
+module _ (told : FolderState) (at : Site) (body : Code) (slot : ℕ) (from : ℤ) where
   pub range_goes : (first count : ℕ) (old new : Standing) (r : Result (Unit {0}) Stray) → Follows told (turns count first (turn_from at body slot from)) old new r
       → Follows told (each (range_with_len first count) (turn_from at body slot from)) old new r
   range_goes first count old new r goes =
@@ -45,12 +45,12 @@ module _ (told : Option Content) (at : Site) (body : Code) (slot : ℕ) (from : 
 -- ---- chunks that are dealt in turn
 
 -- The lane's chunks before the one that begins at `first` were followed, and no other turns.
-pub record FollowedChunks (told : Option Content) (at : Site) (body : Code) (slot : ℕ) (from : ℤ) (chunk total first : ℕ) (old new : Standing) : Type 0 where
+pub record FollowedChunks (told : FolderState) (at : Site) (body : Code) (slot : ℕ) (from : ℤ) (chunk total first : ℕ) (old new : Standing) : Type 0 where
   pub done : List ℕ
   pub dealt : DealtBefore chunk total at.lane at.span first done
   pub follows : Follows told (each done (turn_from at body slot from)) old new (Ok tt)
 
-module _ (told : Option Content) (at : Site) (body : Code) (slot : ℕ) (from : ℤ) (chunk total : ℕ) (some : 0 < chunk) (within : at.lane < at.span) where
+module _ (told : FolderState) (at : Site) (body : Code) (slot : ℕ) (from : ℤ) (chunk total : ℕ) (some : 0 < chunk) (within : at.lane < at.span) where
   pub chunks_none : (x : Standing) → chunk * at.lane < 2 ^ 64 → FollowedChunks told at body slot from chunk total (chunk * at.lane) x x
   chunks_none x small = record { done = []; dealt = dealt_none chunk total at.lane at.span some within small; follows = follows_nothing told tt x }
 
@@ -87,7 +87,7 @@ module _ (told : Option Content) (at : Site) (body : Code) (slot : ℕ) (from : 
 
 -- ---- by the loop's schedule
 
-module _ (told : Option Content) (at : Site) (body : Code) (slot : ℕ) (from : ℤ) (line total : ℕ) (old new : Standing) (r : Result (Unit {0}) Stray) where
+module _ (told : FolderState) (at : Site) (body : Code) (slot : ℕ) (from : ℤ) (line total : ℕ) (old new : Standing) (r : Result (Unit {0}) Stray) where
   pub shared_even : (schedule : Schedule) (share : ℕ × ℕ) → schedule ≡ Even → share ≡ even_share_of total at.lane at.span
       → Follows told (turns share.1 share.0 (turn_from at body slot from)) old new r → Follows told (shared schedule at line total (turn_from at body slot from)) old new r
   shared_even schedule share is same m =
@@ -112,11 +112,11 @@ module _ (told : Option Content) (at : Site) (body : Code) (slot : ℕ) (from : 
 -- ---- chunks that are drawn
 
 -- Whatever the lane follows from here on, it follows in the part.
-pub record FollowsOn (told : Option Content) (part : State → Outcome (Unit {0})) (old mid : Standing) : Type 0 where
+pub record FollowsOn (told : FolderState) (part : State → Outcome (Unit {0})) (old mid : Standing) : Type 0 where
   pub on : (new : Standing) (r : Result (Unit {0}) Stray) → Follows told part mid new r → Follows told part old new r
 
 module _ (line n : ℕ) (chunk : ℕ → State → Outcome (Unit {0})) (grows : (q : ℕ) (s : State) → Grows s (state_of (chunk q s))) where
-  module _ (told : Option Content) (old mid new : Standing) (before : FollowsOn told (draw_all line n chunk) old mid) where
+  module _ (told : FolderState) (old mid new : Standing) (before : FollowsOn told (draw_all line n chunk) old mid) where
     in_loop : (r : Result (Unit {0}) Stray) (last : Standing) → Follows told (λ s. and_then (draw_once line n chunk s) (again line n chunk)) mid last r → Follows told (draw_all line n chunk) old last r
     in_loop r last goes = before.on last r (follows_same told (λ s. and_then (draw_once line n chunk s) (again line n chunk)) (draw_all line n chunk) mid last r (draw_all_is line n chunk grows) goes)
 
@@ -129,7 +129,7 @@ module _ (line n : ℕ) (chunk : ℕ → State → Outcome (Unit {0})) (grows : 
     pub draws_stop : (why : Stray) → Follows told (draw_once line n chunk) mid new (Err why) → Follows told (draw_all line n chunk) old new (Err why)
     draws_stop why goes = in_loop (Err why) new (follows_stop told (draw_once line n chunk) (again line n chunk) mid new new why (again_grows line n chunk grows) goes)
 
-module _ (told : Option Content) (at : Site) (body : Code) (slot : ℕ) (from : ℤ) (line total chunk : ℕ) where
+module _ (told : FolderState) (at : Site) (body : Code) (slot : ℕ) (from : ℤ) (line total chunk : ℕ) where
   abbrev chunks : ℕ → State → Outcome (Unit {0})
   chunks = chunk_turns at body slot from total chunk
 

@@ -11,7 +11,7 @@ use Rattle.kernel_syntax.specs.Program.{Program}
 use Rattle.kernel_model.specs.State.{Fork}
 use Rattle.kernel_model.specs.Trace.{Start}
 use Rattle.kernel_model.specs.Folder.{own_trace, root_start, lane_start, start_at}
-use Rattle.kernel_model.proofs.LawfulFolder.{at_root, at_lane}
+use Rattle.kernel_model.proofs.Starts.{at_root, at_lane}
 use Rattle.log_replay.specs.Ancestors.{ComparesTask, GoesOn, IsFoundOf, KeepsForks, KeepsAllForks, forks_kept, trace_from}
 use Rattle.log_replay.specs.Differing.{DiffersAt}
 use Rattle.log_replay.specs.Following.{HasEnd}

@@ -1,12 +1,12 @@
 -- Statements, as far as they follow the log.
 use Rattle.std.proofs.Common.{◌≡◌, ◌≢◌, refl, ap, sym, ◌∙◌, subst, ℕ, zero, suc, ◌+◌, ◌-◌, ◌<◌, Bool, true, false, List, [], ◌∷◌, ◌++◌, ℤ, pos, negsuc, ◌+ℤ◌, Option, Some, None, Result, Ok, Err, arith}
 use Rattle.std.specs.Prelude.{slice_set}
-use Rattle.sw_base.specs.Environment.{Content}
+use Rattle.sw_base.specs.Environment.{FolderState}
 use Rattle.log_format.specs.declared.record.Record.{Record}
 use Rattle.log_format.specs.declared.record.Kind.TheVariants as kind
 use Rattle.kernel_syntax.specs.declared.syntax.Schedule.{Schedule}
 use Rattle.kernel_syntax.specs.declared.syntax.Stmt.{Stmt}
-use Rattle.kernel_syntax.specs.Arithmetic.{fitted}
+use Rattle.log_format.specs.Fitting.{fitted}
 use Rattle.kernel_syntax.specs.Program.{stmt_code, code_of}
 use Rattle.kernel_syntax.proofs.Equations.{stmts_code-append}
 use Rattle.kernel_syntax.specs.Tree as tree
@@ -33,7 +33,7 @@ use Rattle.log_replay.proofs.Values.{next_number}
 abbrev pub Part : Type 0
 Part = State → Outcome (Unit {0})
 
-pub follows_done : (told : Option Content) (at : Site) (x : Standing) → Follows told (run at tree.Done) x x (Ok tt)
+pub follows_done : (told : FolderState) (at : Site) (x : Standing) → Follows told (run at tree.Done) x x (Ok tt)
 follows_done told at x = follows_same told (λ s. Gives tt s) (run at tree.Done) x x (Ok tt) (run-Done at) (follows_nothing told tt x)
 
 -- ---- a variable is set
@@ -41,7 +41,7 @@ follows_done told at x = follows_same told (λ s. Gives tt s) (run at tree.Done)
 abbrev pub assigned : ℕ → ℤ → Standing → Standing
 assigned slot v x = record x { slots = slice_set x.slots slot v }
 
-is_at_assigned : (told : Option Content) (log done rest : List Record) (slot : ℕ) (v : ℤ) (x : Standing) → IsAt told log done rest x → IsAt told log done rest (assigned slot v x)
+is_at_assigned : (told : FolderState) (log done rest : List Record) (slot : ℕ) (v : ℤ) (x : Standing) → IsAt told log done rest x → IsAt told log done rest (assigned slot v x)
 is_at_assigned told log done rest slot v x at = record {
   content = at.content;
   is_told = at.is_told;
@@ -52,11 +52,11 @@ is_at_assigned told log done rest slot v x at = record {
   fits = at.fits;
 }
 
-pub follows_assigned : (told : Option Content) (part : Part) (slot : ℕ) (v : ℤ) (x new : Standing) (r : Result (Unit {0}) Stray) → Follows told part (assigned slot v x) new r
+pub follows_assigned : (told : FolderState) (part : Part) (slot : ℕ) (v : ℤ) (x new : Standing) (r : Result (Unit {0}) Stray) → Follows told part (assigned slot v x) new r
     → Follows told (λ s. part (assign slot v s)) x new r
 follows_assigned told part slot v x new r follows = λ log done rest at. follows log done rest (is_at_assigned told log done rest slot v x at)
 
-module _ (told : Option Content) (at : Site) (slot : ℕ) (e : Term) (old mid : Standing) where
+module _ (told : FolderState) (at : Site) (slot : ℕ) (e : Term) (old mid : Standing) where
   abbrev after_value : ℤ → Part
   after_value v s = run at tree.Done (assign slot v s)
 
@@ -74,20 +74,20 @@ module _ (told : Option Content) (at : Site) (slot : ℕ) (e : Term) (old mid : 
 
 -- ---- a store
 
-pub stores_none : (told : Option Content) (found : Option Element) (v : ℤ) (line site : ℕ) (old new : Standing) (e : Stray) → found ≡ None → e ≡ stray.Differs (next_number old)
+pub stores_none : (told : FolderState) (found : Option Element) (v : ℤ) (line site : ℕ) (old new : Standing) (e : Stray) → found ≡ None → e ≡ stray.Differs (next_number old)
     → Follows told (stored found v line site) old new (Err e)
 stores_none told found v line site old new e none is = λ log done rest at.
     subst (λ (x : Stray). Ends told log (stored found v line site (here old done rest)) new (Err x)) (sym is)
     (subst (λ (o : Option Element). Ends told log (stored o v line site (here old done rest)) new (Err (stray.Differs (next_number old)))) (sym none)
     (stops_off (Unit {0}) told log done rest old at (next_number old) refl Index line))
 
-pub stores_some : (told : Option Content) (found : Option Element) (e : Element) (v number : ℤ) (line site : ℕ) (old new : Standing) (r : Result (Unit {0}) Stray) → found ≡ Some e → number ≡ fitted v e.width
+pub stores_some : (told : FolderState) (found : Option Element) (e : Element) (v number : ℤ) (line site : ℕ) (old new : Standing) (r : Result (Unit {0}) Stray) → found ≡ Some e → number ≡ fitted v e.width
     → Follows told (put (access kind.Write e site line number)) old new r → Follows told (stored found v line site) old new r
 stores_some told found e v number line site old new r is number_is follows =
     subst (λ (o : Option Element). Follows told (stored o v line site) old new r) (sym is)
     (subst (λ (x : ℤ). Follows told (put (access kind.Write e site line x)) old new r) number_is follows)
 
-module _ (told : Option Content) (at : Site) (array : ℕ) (index e : Term) (line site : ℕ) (old : Standing) where
+module _ (told : FolderState) (at : Site) (array : ℕ) (index e : Term) (line site : ℕ) (old : Standing) where
   abbrev put_value : ℤ → ℤ → Part
   put_value i v s = after (stored (element_at at.arrays array i) v line site s) (run at tree.Done)
 
@@ -123,7 +123,7 @@ module _ (told : Option Content) (at : Site) (array : ℕ) (index e : Term) (lin
 
 -- ---- lists of statements
 
-module _ (told : Option Content) (at : Site) (prefix : List Stmt) (stmt : Stmt) (old mid new : Standing) (before : Follows told (run at (code_of prefix)) old mid (Ok tt)) where
+module _ (told : FolderState) (at : Site) (prefix : List Stmt) (stmt : Stmt) (old mid new : Standing) (before : Follows told (run at (code_of prefix)) old mid (Ok tt)) where
   -- one statement more
   pub statements_next : Follows told (run at (stmt_code stmt tree.Done)) mid new (Ok tt) → Follows told (run at (code_of (prefix ++ stmt ∷ []))) old new (Ok tt)
   statements_next next =
@@ -142,7 +142,7 @@ module _ (told : Option Content) (at : Site) (prefix : List Stmt) (stmt : Stmt) 
 
 -- ---- tests
 
-module _ (told : Option Content) (at : Site) (test : Term) (if_true if_false : Code) (old mid : Standing) where
+module _ (told : FolderState) (at : Site) (test : Term) (if_true if_false : Code) (old mid : Standing) where
   abbrev after_test : ℤ → Part
   after_test v s = after (branch v (run at if_true) (run at if_false) s) (run at tree.Done)
 
@@ -172,7 +172,7 @@ module _ (told : Option Content) (at : Site) (test : Term) (if_true if_false : C
 
 -- ---- loops
 
-module _ (told : Option Content) (at : Site) (body : Code) (slot : ℕ) (from : ℤ) (first : ℕ) where
+module _ (told : FolderState) (at : Site) (body : Code) (slot : ℕ) (from : ℤ) (first : ℕ) where
   module _ (i : ℕ) (old mid new : Standing) (before : Follows told (turns i first (turn_from at body slot from)) old mid (Ok tt)) where
     turns_more : (n : ℕ) (r : Result (Unit {0}) Stray) → Follows told (turns n (first + i) (turn_from at body slot from)) mid new r → Follows told (turns (i + n) first (turn_from at body slot from)) old new r
     turns_more n r next =
@@ -191,7 +191,7 @@ module _ (told : Option Content) (at : Site) (body : Code) (slot : ℕ) (from : 
         (λ s. kept-turns Grows grows-plain (count - i - 1) (suc (first + i)) (turn_from at body slot from) s (turn_grows at body slot from)) next))
 
 -- what comes after two bounds
-module _ (told : Option Content) (at : Site) (from to : Term) (rest : ℤ → ℤ → Part) (grows : (a b : ℤ) (s : State) → Grows s (state_of (rest a b s))) (old : Standing) where
+module _ (told : FolderState) (at : Site) (from to : Term) (rest : ℤ → ℤ → Part) (grows : (a b : ℤ) (s : State) → Grows s (state_of (rest a b s))) (old : Standing) where
   abbrev pub bounded_part : Part
   bounded_part s = and_then (value at from s) (λ a s. and_then (value at to s) (rest a))
 
@@ -263,7 +263,7 @@ loop_end_grows at true end s = grows-plain.same s
 loop_end_grows at false end s =
     subst (λ (o : Outcome (Unit {0})). Grows s (state_of o)) (run-Barrier at end tree.Done s ∙ after-done at (put (event kind.Barrier end 0 0) s)) (run-grows at (tree.Barrier end tree.Done) s)
 
-module _ (told : Option Content) (at : Site) (slot : ℕ) (from to : Term) (schedule : Schedule) (nowait : Bool) (line end : ℕ) (body : Code) (old mid : Standing) where
+module _ (told : FolderState) (at : Site) (slot : ℕ) (from to : Term) (schedule : Schedule) (nowait : Bool) (line end : ℕ) (body : Code) (old mid : Standing) where
   abbrev for_loop : Part
   for_loop = run at (tree.For slot from to schedule nowait line end body tree.Done)
 
@@ -278,14 +278,14 @@ module _ (told : Option Content) (at : Site) (slot : ℕ) (from to : Term) (sche
       follows_same told (λ s. after (sharing at slot from to schedule line body s) (loop_end nowait end)) for_loop old new r (for_is at slot from to schedule nowait line end body)
       (then_after told (sharing at slot from to schedule line body) (loop_end nowait end) old told refl mid new r first second)
 
-pub barrier_goes : (told : Option Content) (at : Site) (line : ℕ) (old new : Standing) (r : Result (Unit {0}) Stray) → Follows told (put (event kind.Barrier line 0 0)) old new r
+pub barrier_goes : (told : FolderState) (at : Site) (line : ℕ) (old new : Standing) (r : Result (Unit {0}) Stray) → Follows told (put (event kind.Barrier line 0 0)) old new r
     → Follows told (run at (tree.Barrier line tree.Done)) old new r
 barrier_goes told at line old new r follows =
     follows_same told (put (event kind.Barrier line 0 0)) (run at (tree.Barrier line tree.Done)) old new r (λ s. run-Barrier at line tree.Done s ∙ after-done at (put (event kind.Barrier line 0 0) s)) follows
 
 -- ---- critical sections
 
-module _ (told : Option Content) (at : Site) (mutex line end : ℕ) (body : Code) (old : Standing) where
+module _ (told : FolderState) (at : Site) (mutex line end : ℕ) (body : Code) (old : Standing) where
   abbrev section : Part
   section = run at (tree.Critical mutex line end body tree.Done)
 
@@ -323,7 +323,7 @@ module _ (told : Option Content) (at : Site) (mutex line end : ℕ) (body : Code
 abbrev pub with_fork : TeamTree → Standing → Standing
 with_fork team x = record x { forks = x.forks ++ record { team = team; slots = x.slots } ∷ [] }
 
-module _ (told : Option Content) (at : Site) (team : TeamTree) (old mid : Standing) where
+module _ (told : FolderState) (at : Site) (team : TeamTree) (old mid : Standing) where
   abbrev region : Part
   region = run at (tree.Parallel team.span team.line team.end team.body tree.Done)
 

@@ -1,12 +1,12 @@
 -- From one record of a log to the next.
 use Rattle.std.proofs.Common.{◌≡◌, inl, inr, refl, ap, sym, ◌∙◌, subst, ℕ, suc, ◌+◌, ◌-◌, min, List, [], ◌∷◌, ◌++◌, length, length-append, append_assoc, append-nil, ℤ, Option, Some, None, Err, arith}
 use Rattle.std.specs.List.{cons_option}
-use Rattle.sw_base.specs.Environment.{Content}
+use Rattle.sw_base.specs.Environment.{Content, FolderState}
 use Rattle.log_format.specs.declared.record.Record.{Record}
 use Rattle.log_format.specs.declared.record.Kind.{Kind}
 use Rattle.log_format.specs.declared.record.Kind.TheVariants as kind
 use Rattle.log_reader.specs.Reading.{Reading, StandsBefore, GivesNext}
-use Rattle.kernel_syntax.specs.Arithmetic.{fitted}
+use Rattle.log_format.specs.Fitting.{fitted}
 use Rattle.kernel_model.specs.State.{State, Fork, Stop, Outcome, Gives, Stops, put, event, from_bits, value_read, number_drawn, reads_of, chunks_of}
 use Rattle.kernel_model.specs.Effect.{state_with}
 use Rattle.kernel_model.specs.Trace.{draw, log_limit}
@@ -25,6 +25,7 @@ no_read kind.Lock value mark = refl
 no_read kind.Unlock value mark = refl
 no_read kind.Barrier value mark = refl
 no_read kind.Region value mark = refl
+no_read kind.Update value mark = refl
 no_read kind.Read value mark = absurd mark
 no_read kind.Chunk value mark = absurd mark
 no_read kind.End value mark = absurd mark
@@ -35,6 +36,7 @@ no_draw kind.Lock addr mark = refl
 no_draw kind.Unlock addr mark = refl
 no_draw kind.Barrier addr mark = refl
 no_draw kind.Region addr mark = refl
+no_draw kind.Update addr mark = refl
 no_draw kind.Read addr mark = absurd mark
 no_draw kind.Chunk addr mark = absurd mark
 no_draw kind.End addr mark = absurd mark
@@ -58,7 +60,7 @@ state_is : (slots slots' : List ℤ) (records : List Record) (forks forks' : Lis
     → state_with slots records forks room reads chunks ≡ state_with slots' records forks' room reads' chunks'
 state_is slots slots' records forks forks' room reads reads' chunks chunks' a b c d = rw (a, b, c, d) refl
 
-module _ (told : Option Content) (log done rest : List Record) (x : Standing) (at : IsAt told log done rest x) (r : Record) (y : Standing) (took : Took told rest r x y) where
+module _ (told : FolderState) (log done rest : List Record) (x : Standing) (at : IsAt told log done rest x) (r : Record) (y : Standing) (took : Took told rest r x y) where
   pub is_log : log ≡ done ++ r ∷ took.others
   is_log = at.parts ∙ ap (λ (l : List Record). done ++ l) took.rest_is
 
@@ -208,7 +210,7 @@ module _ (told : Option Content) (log done rest : List Record) (x : Standing) (a
 -- ---- the end of what was read
 
 -- where a part stops, the log goes on
-pub stops_off : (A : Type 0) (told : Option Content) (log done rest : List Record) (x : Standing) → IsAt told log done rest x → (number : ℕ) → number ≡ min (x.count + 1) 4294967295 → (why : Stop) (line : ℕ)
+pub stops_off : (A : Type 0) (told : FolderState) (log done rest : List Record) (x : Standing) → IsAt told log done rest x → (number : ℕ) → number ≡ min (x.count + 1) 4294967295 → (why : Stop) (line : ℕ)
     → IsOff {A = A} log number (Stops why line (here x done rest))
 stops_off A told log done [] x at number is why line = absurd at.ahead
 stops_off A told log done (r ∷ rest) x at number is why line = record {
@@ -223,7 +225,7 @@ stops_off A told log done (r ∷ rest) x at number is why line = record {
 }
 
 -- what the reader answers
-pub gives_took : (told : Option Content) (content : Content) → told ≡ Some content → (rest : List Record) (r : Record) (reading : Reading) (old new : Standing) → GivesNext content rest (Some r) reading
+pub gives_took : (told : FolderState) (content : Content) → told.content ≡ Some content → (rest : List Record) (r : Record) (reading : Reading) (old new : Standing) → GivesNext content rest (Some r) reading
     → new.reading ≡ reading → new.count ≡ min (old.count + 1) 4294967295 → new.slots ≡ old.slots → new.forks ≡ old.forks → Took told rest r old new
 gives_took told content is_told [] r reading old new gives is count slots forks = absurd (cc gives.0)
 gives_took told content is_told (q ∷ rest) r reading old new gives is count slots forks =
@@ -242,7 +244,7 @@ none_is_left content [] reading gives ahead = ahead
 none_is_left content (r ∷ rest) reading gives ahead = cc gives.0
 
 -- no record was read, where one is there
-pub unread : {A : Type 0} (told : Option Content) (log rest : List Record) (outcome : Outcome A) (old new : Standing) (e : Stray) → Takes told rest old new (Err e) → Ends told log outcome new (Err e)
+pub unread : {A : Type 0} (told : FolderState) (log rest : List Record) (outcome : Outcome A) (old new : Standing) (e : Stray) → Takes told rest old new (Err e) → Ends told log outcome new (Err e)
 unread told log rest outcome old new (stray.Differs number) takes = absurd takes
 unread told log rest outcome old new stray.ReadFault takes = tt
 unread told log rest outcome old new stray.Memory takes = tt

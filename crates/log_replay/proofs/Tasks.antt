@@ -1,6 +1,6 @@
 -- A whole task, as far as it follows its log.
 use Rattle.std.proofs.Common.{◌≡◌, refl, ap, sym, ◌∙◌, subst, ℕ, suc, ◌+◌, ◌-◌, min, List, [], ◌∷◌, ◌++◌, length, length-append, append_assoc, append-nil, cond, ℤ, Option, Some, None, Result, Ok, Err, arith}
-use Rattle.sw_base.specs.Environment.{Content}
+use Rattle.sw_base.specs.Environment.{Content, FolderState}
 use Rattle.sw_base.specs.declared.trouble.Trouble.{Trouble}
 use Rattle.sw_base.specs.declared.trouble.Trouble.TheVariants as trouble
 use Rattle.log_replay.specs.Trouble.{of_trouble}
@@ -29,7 +29,7 @@ use Rattle.log_replay.proofs.Stepping.{is_log, number_is, strays_next}
 
 -- ---- the end of the log
 
-pub unread_end : (told : Option Content) (log done rest : List Record) (line : ℕ) (old new : Standing) (e : Stray) → Takes told rest old new (Err e) → EndsLog log done line old new (Err e)
+pub unread_end : (told : FolderState) (log done rest : List Record) (line : ℕ) (old new : Standing) (e : Stray) → Takes told rest old new (Err e) → EndsLog log done line old new (Err e)
 unread_end told log done rest line old new (stray.Differs number) takes = absurd takes
 unread_end told log done rest line old new stray.ReadFault takes = tt
 unread_end told log done rest line old new stray.Memory takes = tt
@@ -48,7 +48,7 @@ some_other : (content : Content) (others : List Record) (q : Record) (reading : 
 some_other content [] q reading gives = absurd (cc gives.0)
 some_other content (first ∷ rest) q reading gives = record { first = first; rest = rest; are = refl }
 
-module _ (told : Option Content) (log done rest : List Record) (x : Standing) (at : IsAt told log done rest x) (r : Record) (y : Standing) (took : Took told rest r x y) (line : ℕ) where
+module _ (told : FolderState) (log done rest : List Record) (x : Standing) (at : IsAt told log done rest x) (r : Record) (y : Standing) (took : Took told rest r x y) (line : ℕ) where
   pub other_end : (number : ℕ) → (r ≡ event kind.End line 0 0 → ⊥) → number ≡ y.count → DiffersAt (done ++ event kind.End line 0 0 ∷ []) log number
   other_end number apart is =
       strays_differ (done ++ event kind.End line 0 0 ∷ []) log number
@@ -98,7 +98,7 @@ end_grows r s is = kept-put Grows grows-plain r s (λ room left. record {
   fork_count = sym (ap (λ (k : Kind). 0 + cond (is_region_kind k) 1 0) is);
 })
 
-module _ (told : Option Content) (log : List Record) (program : Program) (start : Start) (site : Site) (site_is : site_of program start ≡ site) (old : Standing) (at : IsAt told log [] log old) (slots : old.slots ≡ start.slots) (forks : old.forks ≡ []) where
+module _ (told : FolderState) (log : List Record) (program : Program) (start : Start) (site : Site) (site_is : site_of program start ≡ site) (old : Standing) (at : IsAt told log [] log old) (slots : old.slots ≡ start.slots) (forks : old.forks ≡ []) where
   abbrev body : State → Outcome (Unit {0})
   body = run site start.team.body
 

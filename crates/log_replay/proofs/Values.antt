@@ -1,7 +1,7 @@
 -- The value of an expression, as far as it follows the log.
 use Rattle.std.proofs.Common.{◌≡◌, refl, sym, subst, ℕ, ◌+◌, ℤ, pos, min, Option, Some, None, Result, Ok, Err}
 use Rattle.std.specs.Prelude.{slice_index_or, ok_or}
-use Rattle.sw_base.specs.Environment.{Content}
+use Rattle.sw_base.specs.Environment.{FolderState}
 use Rattle.kernel_syntax.specs.declared.syntax.Op.{Op}
 use Rattle.kernel_syntax.specs.Arithmetic.{applied, negated}
 use Rattle.kernel_syntax.specs.Tree as tree
@@ -22,25 +22,25 @@ use Rattle.log_replay.proofs.Stepping.{stops_off}
 abbrev pub next_number : Standing → ℕ
 next_number x = min (x.count + 1) 4294967295
 
-pub loads_none : (told : Option Content) (found : Option Element) (line site : ℕ) (old new : Standing) (e : Stray) → found ≡ None → e ≡ stray.Differs (next_number old) → Follows told (loaded found line site) old new (Err e)
+pub loads_none : (told : FolderState) (found : Option Element) (line site : ℕ) (old new : Standing) (e : Stray) → found ≡ None → e ≡ stray.Differs (next_number old) → Follows told (loaded found line site) old new (Err e)
 loads_none told found line site old new e none is = λ log done rest at.
     subst (λ (x : Stray). Ends told log (loaded found line site (here old done rest)) new (Err x)) (sym is)
     (subst (λ (o : Option Element). Ends told log (loaded o line site (here old done rest)) new (Err (stray.Differs (next_number old)))) (sym none)
     (stops_off ℤ told log done rest old at (next_number old) refl Index line))
 
-pub loads_some : (told : Option Content) (found : Option Element) (e : Element) (line site : ℕ) (old new : Standing) (r : Result ℤ Stray) → found ≡ Some e → Follows told (loaded (Some e) line site) old new r
+pub loads_some : (told : FolderState) (found : Option Element) (e : Element) (line site : ℕ) (old new : Standing) (r : Result ℤ Stray) → found ≡ Some e → Follows told (loaded (Some e) line site) old new r
     → Follows told (loaded found line site) old new r
 loads_some told found e line site old new r is follows = subst (λ (o : Option Element). Follows told (loaded o line site) old new r) (sym is) follows
 
 -- an operation, after its operands
-operates : (told : Option Content) (o : Option ℤ) (line : ℕ) (x : Standing) → Follows told (operated o line) x x (ok_or o (stray.Differs (next_number x)))
+operates : (told : FolderState) (o : Option ℤ) (line : ℕ) (x : Standing) → Follows told (operated o line) x x (ok_or o (stray.Differs (next_number x)))
 operates told None line x = λ log done rest at. stops_off ℤ told log done rest x at (next_number x) refl DivZero line
 operates told (Some v) line x = follows_nothing told v x
 
-pub slot_goes : (told : Option Content) (at : Site) (k : ℕ) (x : Standing) → Follows told (value at (tree.Slot k)) x x (Ok (slice_index_or x.slots k (pos 0)))
+pub slot_goes : (told : FolderState) (at : Site) (k : ℕ) (x : Standing) → Follows told (value at (tree.Slot k)) x x (Ok (slice_index_or x.slots k (pos 0)))
 slot_goes told at k x = λ log done rest is_at. record { done = done; rest = rest; at = is_at; gives = value-Slot at k (here x done rest) }
 
-module _ (told : Option Content) (at : Site) (old : Standing) where
+module _ (told : FolderState) (at : Site) (old : Standing) where
   module _ (array : ℕ) (index : Term) (line site : ℕ) where
     abbrev after_index : ℤ → State → Outcome ℤ
     after_index i s = loaded (element_at at.arrays array i) line site s
@@ -50,7 +50,7 @@ module _ (told : Option Content) (at : Site) (old : Standing) where
         follows_same told _ (value at (tree.Load array index line site)) old mid (Err e) (value-Load at array index line site)
         (follows_stop told (value at index) after_index old mid mid e (λ i s. kept-loaded Grows grows-plain (element_at at.arrays array i) line site s) first)
 
-    pub load_goes : (told' : Option Content) → told' ≡ told → (mid new : Standing) (i : ℤ) (r : Result ℤ Stray) → Follows told (value at index) old mid (Ok i)
+    pub load_goes : (told' : FolderState) → told' ≡ told → (mid new : Standing) (i : ℤ) (r : Result ℤ Stray) → Follows told (value at index) old mid (Ok i)
         → Follows told' (loaded (element_at at.arrays array i) line site) mid new r → Follows told (value at (tree.Load array index line site)) old new r
     load_goes told' same mid new i r first second =
         follows_same told _ (value at (tree.Load array index line site)) old new r (value-Load at array index line site)
@@ -84,7 +84,7 @@ module _ (told : Option Content) (at : Site) (old : Standing) where
         follows_same told _ (value at (tree.Binary op line left right)) old mid (Err e) (value-Binary at op line left right)
         (follows_stop told (value at left) after_left old mid mid e (λ x s. kept-and_then Grows grows-plain s (value at right s) (after_right x) (value-grows at right s) (right_grows x)) first)
 
-    module _ (told' : Option Content) (same : told' ≡ told) (x : ℤ) (mid : Standing) (first : Follows told (value at left) old mid (Ok x)) where
+    module _ (told' : FolderState) (same : told' ≡ told) (x : ℤ) (mid : Standing) (first : Follows told (value at left) old mid (Ok x)) where
       left_then : (new : Standing) (r : Result ℤ Stray) → Follows told' (after_left x) mid new r → Follows told (value at (tree.Binary op line left right)) old new r
       left_then new r second =
           follows_same told _ (value at (tree.Binary op line left right)) old new r (value-Binary at op line left right)

@@ -1,6 +1,6 @@
 -- How a task follows its log: what it has done is its trace so far, under the values that the log tells, as far as the log was read.
 use Rattle.std.specs.Prelude.{◌≡◌, ◌⊎◌, ℕ, ◌+◌, ◌-◌, ◌≤◌, List, [], ◌∷◌, ◌++◌, length, min, ℤ, Option, Some, Result, Ok, Err}
-use Rattle.sw_base.specs.Environment.{Content}
+use Rattle.sw_base.specs.Environment.{Content, FolderState}
 use Rattle.log_format.specs.declared.record.Record.{Record}
 use Rattle.log_format.specs.declared.record.Kind.{Kind}
 use Rattle.log_format.specs.declared.record.Kind.TheVariants as kind
@@ -25,9 +25,9 @@ HasEnd [] = ⊥
 HasEnd (r ∷ rs) = (r.kind ≡ kind.End) ⊎ HasEnd rs
 
 -- these records of the log were read, and these are left, with an End among them
-pub record IsAt (told : Option Content) (log done rest : List Record) (x : Standing) : Type 0 where
+pub record IsAt (told : FolderState) (log done rest : List Record) (x : Standing) : Type 0 where
   pub content : Content
-  pub is_told : told ≡ Some content
+  pub is_told : told.content ≡ Some content
   pub stands : StandsBefore content x.reading rest
   pub parts : log ≡ done ++ rest
   pub count : x.count ≡ length done
@@ -39,16 +39,16 @@ abbrev pub here : Standing → List Record → List Record → State
 here x done rest = state_with x.slots done x.forks (log_limit - length done) (reads_of rest) (chunks_of rest)
 
 -- the next record was read
-pub record Took (told : Option Content) (rest : List Record) (r : Record) (old new : Standing) : Type 0 where
+pub record Took (told : FolderState) (rest : List Record) (r : Record) (old new : Standing) : Type 0 where
   pub others : List Record
   pub rest_is : rest ≡ r ∷ others
-  pub stands : (content : Content) → told ≡ Some content → StandsBefore content new.reading others
+  pub stands : (content : Content) → told.content ≡ Some content → StandsBefore content new.reading others
   pub count : new.count ≡ min (old.count + 1) 4294967295
   pub slots : new.slots ≡ old.slots
   pub forks : new.forks ≡ old.forks
 
 -- the record that comes next was read; there is one
-abbrev pub Takes : Option Content → List Record → Standing → Standing → Result Record Stray → Type 0
+abbrev pub Takes : FolderState → List Record → Standing → Standing → Result Record Stray → Type 0
 Takes told rest old new (Ok r) = Took told rest r old new
 Takes told rest old new (Err (stray.Differs number)) = ⊥
 Takes told rest old new (Err _) = Unit {0}
@@ -56,6 +56,7 @@ Takes told rest old new (Err _) = Unit {0}
 -- the kinds of records in a task's statements that tell no value that the task takes from its log
 abbrev pub IsMark : Kind → Type 0
 IsMark kind.Write = Unit {0}
+IsMark kind.Update = Unit {0}
 IsMark kind.Lock = Unit {0}
 IsMark kind.Unlock = Unit {0}
 IsMark kind.Barrier = Unit {0}
@@ -81,18 +82,18 @@ IsOff log number (Stops why line s) = DiffersAt s.records log number
 IsOff log number (Wants s) = DiffersAt s.records log number
 
 -- a part gave this value, and all that it did is in the log
-pub record Reached {A : Type 0} (told : Option Content) (log : List Record) (outcome : Outcome A) (value : A) (x : Standing) : Type 0 where
+pub record Reached {A : Type 0} (told : FolderState) (log : List Record) (outcome : Outcome A) (value : A) (x : Standing) : Type 0 where
   pub done : List Record
   pub rest : List Record
   pub at : IsAt told log done rest x
   pub gives : outcome ≡ Gives value (here x done rest)
 
 -- how a part ends, by what is answered
-abbrev pub Ends : {A : Type 0} → Option Content → List Record → Outcome A → Standing → Result A Stray → Type 0
+abbrev pub Ends : {A : Type 0} → FolderState → List Record → Outcome A → Standing → Result A Stray → Type 0
 Ends told log outcome new (Ok v) = Reached told log outcome v new
 Ends told log outcome new (Err (stray.Differs number)) = IsOff log number outcome
 Ends told log outcome new (Err _) = Unit {0}
 
 -- the lane followed a part of its trace
-abbrev pub Follows : {A : Type 0} → Option Content → (State → Outcome A) → Standing → Standing → Result A Stray → Type 0
+abbrev pub Follows : {A : Type 0} → FolderState → (State → Outcome A) → Standing → Standing → Result A Stray → Type 0
 Follows told part old new r = (log done rest : List Record) → IsAt told log done rest old → Ends told log (part (here old done rest)) new r

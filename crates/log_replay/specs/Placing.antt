@@ -1,6 +1,6 @@
 -- Where a task runs, and where the elements of its kernel's arrays stand.
 use Rattle.std.specs.Prelude.{◌≡◌, ◌<◌, Option, Some}
-use Rattle.kernel_syntax.specs.Arithmetic.{IsWidth}
+use Rattle.log_format.specs.Fitting.{IsWidth}
 use Rattle.kernel_syntax.specs.Layout.{ArePlaced, elements}
 use Rattle.kernel_model.specs.Value as model
 use Rattle.kernel_model.specs.Value.{Site}

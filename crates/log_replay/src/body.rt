@@ -52,12 +52,11 @@ impl<'k> Lane<'k> {
         line: u32,
         site: u16,
     ) -> Result<(), Stray>
-        ensures follows { Follows (F.content folder.old) (stored (element_at place.now.arrays array index) number line site) (standing self.old) (standing self.new) result }
+        ensures follows { Follows (F.state folder.old) (stored (element_at place.now.arrays array index) number line site) (standing self.old) (standing self.new) result }
         ensures fewer { IfOk result (λ _. self.new.reader.left ≤ self.old.reader.left) }
-        ensures same { F.content folder.new ≡ F.content folder.old }
+        ensures same { F.state folder.new ≡ F.state folder.old }
         ensures later { F.read_faults folder.old ≤ F.read_faults folder.new }
         ensures cause { IsErrOf result Stray.ReadFault → Rose (F.read_faults folder.old) (F.read_faults folder.new) }
-        ensures same_writes { F.write_faults folder.new ≡ F.write_faults folder.old }
     {
         let Some(element) = place.element(array, index) else {
             return Err(self.stray());
@@ -76,12 +75,11 @@ impl<'k> Lane<'k> {
         place: &Place,
         slot: u32,
     ) -> Result<(), Stray>
-        ensures follows { Follows (F.content folder.old) (run place.now (tree.Set slot (term_of expr.now) Done)) (standing self.old) (standing self.new) result }
+        ensures follows { Follows (F.state folder.old) (run place.now (tree.Set slot (term_of expr.now) Done)) (standing self.old) (standing self.new) result }
         ensures fewer { IfOk result (λ _. self.new.reader.left ≤ self.old.reader.left) }
-        ensures same { F.content folder.new ≡ F.content folder.old }
+        ensures same { F.state folder.new ≡ F.state folder.old }
         ensures later { F.read_faults folder.old ≤ F.read_faults folder.new }
         ensures cause { IsErrOf result Stray.ReadFault → Rose (F.read_faults folder.old) (F.read_faults folder.new) }
-        ensures same_writes { F.write_faults folder.new ≡ F.write_faults folder.old }
     {
         let number = self.value(expr, alloc, folder, place)?;
         self.set(slot, number);
@@ -100,12 +98,11 @@ impl<'k> Lane<'k> {
         line: u32,
         site: u16,
     ) -> Result<(), Stray>
-        ensures follows { Follows (F.content folder.old) (run place.now (tree.Store array (term_of index.now) (term_of expr.now) line site Done)) (standing self.old) (standing self.new) result }
+        ensures follows { Follows (F.state folder.old) (run place.now (tree.Store array (term_of index.now) (term_of expr.now) line site Done)) (standing self.old) (standing self.new) result }
         ensures fewer { IfOk result (λ _. self.new.reader.left ≤ self.old.reader.left) }
-        ensures same { F.content folder.new ≡ F.content folder.old }
+        ensures same { F.state folder.new ≡ F.state folder.old }
         ensures later { F.read_faults folder.old ≤ F.read_faults folder.new }
         ensures cause { IsErrOf result Stray.ReadFault → Rose (F.read_faults folder.old) (F.read_faults folder.new) }
-        ensures same_writes { F.write_faults folder.new ≡ F.write_faults folder.old }
     {
         let at = self.value(index, alloc, folder, place)?;
         let number = self.value(expr, alloc, folder, place)?;
@@ -121,12 +118,11 @@ impl<'k> Lane<'k> {
         place: &Place,
     ) -> Result<(), Stray>
         requires bounded { IsBoundedCode (code_of team.now.body.stmts.items) }
-        ensures follows { Follows (F.content folder.old) (run place.now (tree.Parallel team.now.span team.now.line team.now.end (code_of team.now.body.stmts.items) Done)) (standing self.old) (standing self.new) result }
+        ensures follows { Follows (F.state folder.old) (run place.now (tree.Parallel team.now.span team.now.line team.now.end (code_of team.now.body.stmts.items) Done)) (standing self.old) (standing self.new) result }
         ensures fewer { IfOk result (λ _. self.new.reader.left ≤ self.old.reader.left) }
-        ensures same { F.content folder.new ≡ F.content folder.old }
+        ensures same { F.state folder.new ≡ F.state folder.old }
         ensures later { F.read_faults folder.old ≤ F.read_faults folder.new }
         ensures cause { IsErrOf result Stray.ReadFault → Rose (F.read_faults folder.old) (F.read_faults folder.new) }
-        ensures same_writes { F.write_faults folder.new ≡ F.write_faults folder.old }
     {
         let due = event(Kind::Region, team.line, 0, u64::from(team.span));
         self.put(alloc, folder, due)?;
@@ -143,12 +139,11 @@ impl<'k> Lane<'k> {
         nowait: bool,
         end: u32,
     ) -> Result<(), Stray>
-        ensures follows { Follows (F.content folder.old) (loop_end nowait end) (standing self.old) (standing self.new) result }
+        ensures follows { Follows (F.state folder.old) (loop_end nowait end) (standing self.old) (standing self.new) result }
         ensures fewer { IfOk result (λ _. self.new.reader.left ≤ self.old.reader.left) }
-        ensures same { F.content folder.new ≡ F.content folder.old }
+        ensures same { F.state folder.new ≡ F.state folder.old }
         ensures later { F.read_faults folder.old ≤ F.read_faults folder.new }
         ensures cause { IsErrOf result Stray.ReadFault → Rose (F.read_faults folder.old) (F.read_faults folder.new) }
-        ensures same_writes { F.write_faults folder.new ≡ F.write_faults folder.old }
     {
         if nowait {
             return Ok(());
@@ -166,12 +161,11 @@ impl<'k> Lane<'k> {
         place: &Place,
     ) -> Result<(), Stray>
         requires bounded { IsBoundedCode (code_of body.now.stmts.items) }
-        ensures follows { Follows (F.content folder.old) (run place.now (code_of body.now.stmts.items)) (standing self.old) (standing self.new) result }
+        ensures follows { Follows (F.state folder.old) (run place.now (code_of body.now.stmts.items)) (standing self.old) (standing self.new) result }
         ensures fewer { IfOk result (λ _. self.new.reader.left ≤ self.old.reader.left) }
-        ensures same { F.content folder.new ≡ F.content folder.old }
+        ensures same { F.state folder.new ≡ F.state folder.old }
         ensures later { F.read_faults folder.old ≤ F.read_faults folder.new }
         ensures cause { IsErrOf result Stray.ReadFault → Rose (F.read_faults folder.old) (F.read_faults folder.new) }
-        ensures same_writes { F.write_faults folder.new ≡ F.write_faults folder.old }
     {
         for stmt in &body.stmts {
             self.statement(stmt, alloc, folder, place)?;
@@ -194,12 +188,11 @@ impl<'k> Lane<'k> {
     ) -> Result<(), Stray>
         requires bounded { IsBoundedCode (code_of body.now.stmts.items) }
         requires top { (from +ℤ pos (first + count)) ≤ℤ pos (2 ^ 63 - 1) }
-        ensures follows { Follows (F.content folder.old) (turns count first (turn_from place.now (code_of body.now.stmts.items) slot from)) (standing self.old) (standing self.new) result }
+        ensures follows { Follows (F.state folder.old) (turns count first (turn_from place.now (code_of body.now.stmts.items) slot from)) (standing self.old) (standing self.new) result }
         ensures fewer { IfOk result (λ _. self.new.reader.left ≤ self.old.reader.left) }
-        ensures same { F.content folder.new ≡ F.content folder.old }
+        ensures same { F.state folder.new ≡ F.state folder.old }
         ensures later { F.read_faults folder.old ≤ F.read_faults folder.new }
         ensures cause { IsErrOf result Stray.ReadFault → Rose (F.read_faults folder.old) (F.read_faults folder.new) }
-        ensures same_writes { F.write_faults folder.new ≡ F.write_faults folder.old }
     {
         for i in 0..count {
             self.set(slot, number_at(from, first, i));
@@ -221,12 +214,11 @@ impl<'k> Lane<'k> {
         end: u32,
     ) -> Result<(), Stray>
         requires bounded { IsBoundedCode (code_of body.now.stmts.items) }
-        ensures follows { Follows (F.content folder.old) (run place.now (tree.Critical mutex line end (code_of body.now.stmts.items) Done)) (standing self.old) (standing self.new) result }
+        ensures follows { Follows (F.state folder.old) (run place.now (tree.Critical mutex line end (code_of body.now.stmts.items) Done)) (standing self.old) (standing self.new) result }
         ensures fewer { IfOk result (λ _. self.new.reader.left ≤ self.old.reader.left) }
-        ensures same { F.content folder.new ≡ F.content folder.old }
+        ensures same { F.state folder.new ≡ F.state folder.old }
         ensures later { F.read_faults folder.old ≤ F.read_faults folder.new }
         ensures cause { IsErrOf result Stray.ReadFault → Rose (F.read_faults folder.old) (F.read_faults folder.new) }
-        ensures same_writes { F.write_faults folder.new ≡ F.write_faults folder.old }
     {
         self.put(alloc, folder, event(Kind::Lock, line, u64::from(mutex), 0))?;
         self.statements(body, alloc, folder, place)?;
@@ -249,12 +241,11 @@ impl<'k> Lane<'k> {
         requires bounded { IsBoundedCode (code_of body.now.stmts.items) }
         requires some { 0 < chunk }
         requires top { (from +ℤ pos total) ≤ℤ pos (2 ^ 63 - 1) }
-        ensures follows { Follows (F.content folder.old) (each (static_iterations chunk total place.now.lane place.now.span) (turn_from place.now (code_of body.now.stmts.items) slot from)) (standing self.old) (standing self.new) result }
+        ensures follows { Follows (F.state folder.old) (each (static_iterations chunk total place.now.lane place.now.span) (turn_from place.now (code_of body.now.stmts.items) slot from)) (standing self.old) (standing self.new) result }
         ensures fewer { IfOk result (λ _. self.new.reader.left ≤ self.old.reader.left) }
-        ensures same { F.content folder.new ≡ F.content folder.old }
+        ensures same { F.state folder.new ≡ F.state folder.old }
         ensures later { F.read_faults folder.old ≤ F.read_faults folder.new }
         ensures cause { IsErrOf result Stray.ReadFault → Rose (F.read_faults folder.old) (F.read_faults folder.new) }
-        ensures same_writes { F.write_faults folder.new ≡ F.write_faults folder.old }
     {
         let chunk = u64::from(chunk);
         let stride = chunk * u64::from(place.span());
@@ -284,13 +275,12 @@ impl<'k> Lane<'k> {
         requires bounded { IsBoundedCode (code_of body.now.stmts.items) }
         requires some { 0 < chunk }
         requires top { (from +ℤ pos total) ≤ℤ pos (2 ^ 63 - 1) }
-        ensures follows { Follows (F.content folder.old) (draw_once line (chunk_count chunk total) (λ q. each (chunk_iterations chunk total q) (turn_from place.now (code_of body.now.stmts.items) slot from))) (standing self.old) (standing self.new) result }
+        ensures follows { Follows (F.state folder.old) (draw_once line (chunk_count chunk total) (λ q. each (chunk_iterations chunk total q) (turn_from place.now (code_of body.now.stmts.items) slot from))) (standing self.old) (standing self.new) result }
         ensures less { IfOk result (λ _. self.new.reader.left < self.old.reader.left) }
         ensures fewer { IfOk result (λ _. self.new.reader.left ≤ self.old.reader.left) }
-        ensures same { F.content folder.new ≡ F.content folder.old }
+        ensures same { F.state folder.new ≡ F.state folder.old }
         ensures later { F.read_faults folder.old ≤ F.read_faults folder.new }
         ensures cause { IsErrOf result Stray.ReadFault → Rose (F.read_faults folder.old) (F.read_faults folder.new) }
-        ensures same_writes { F.write_faults folder.new ≡ F.write_faults folder.old }
     {
         let chunks = total.div_ceil(chunk);
         let number = self.draw(alloc, folder, line, chunks)?;
@@ -320,12 +310,11 @@ impl<'k> Lane<'k> {
         requires bounded { IsBoundedCode (code_of body.now.stmts.items) }
         requires some { 0 < chunk }
         requires top { (from +ℤ pos total) ≤ℤ pos (2 ^ 63 - 1) }
-        ensures follows { Follows (F.content folder.old) (draw_all line (chunk_count chunk total) (λ q. each (chunk_iterations chunk total q) (turn_from place.now (code_of body.now.stmts.items) slot from))) (standing self.old) (standing self.new) result }
+        ensures follows { Follows (F.state folder.old) (draw_all line (chunk_count chunk total) (λ q. each (chunk_iterations chunk total q) (turn_from place.now (code_of body.now.stmts.items) slot from))) (standing self.old) (standing self.new) result }
         ensures fewer { IfOk result (λ _. self.new.reader.left ≤ self.old.reader.left) }
-        ensures same { F.content folder.new ≡ F.content folder.old }
+        ensures same { F.state folder.new ≡ F.state folder.old }
         ensures later { F.read_faults folder.old ≤ F.read_faults folder.new }
         ensures cause { IsErrOf result Stray.ReadFault → Rose (F.read_faults folder.old) (F.read_faults folder.new) }
-        ensures same_writes { F.write_faults folder.new ≡ F.write_faults folder.old }
     {
         'draws: loop {
             if !self.drawn_chunk(body, alloc, folder, place, slot, from, total, chunk, line)? {
@@ -351,12 +340,11 @@ impl<'k> Lane<'k> {
         requires bounded { IsBoundedCode (code_of body.now.stmts.items) }
         requires chunk { IsBoundedSchedule schedule }
         requires top { (from +ℤ pos total) ≤ℤ pos (2 ^ 63 - 1) }
-        ensures follows { Follows (F.content folder.old) (shared schedule place.now line total (turn_from place.now (code_of body.now.stmts.items) slot from)) (standing self.old) (standing self.new) result }
+        ensures follows { Follows (F.state folder.old) (shared schedule place.now line total (turn_from place.now (code_of body.now.stmts.items) slot from)) (standing self.old) (standing self.new) result }
         ensures fewer { IfOk result (λ _. self.new.reader.left ≤ self.old.reader.left) }
-        ensures same { F.content folder.new ≡ F.content folder.old }
+        ensures same { F.state folder.new ≡ F.state folder.old }
         ensures later { F.read_faults folder.old ≤ F.read_faults folder.new }
         ensures cause { IsErrOf result Stray.ReadFault → Rose (F.read_faults folder.old) (F.read_faults folder.new) }
-        ensures same_writes { F.write_faults folder.new ≡ F.write_faults folder.old }
     {
         match schedule {
             Schedule::Even => {
@@ -389,12 +377,11 @@ impl<'k> Lane<'k> {
     ) -> Result<(), Stray>
         requires bounded { IsBoundedCode (code_of body.now.stmts.items) }
         requires chunk { IsBoundedSchedule schedule }
-        ensures follows { Follows (F.content folder.old) (sharing place.now slot (term_of from.now) (term_of to.now) schedule line (code_of body.now.stmts.items)) (standing self.old) (standing self.new) result }
+        ensures follows { Follows (F.state folder.old) (sharing place.now slot (term_of from.now) (term_of to.now) schedule line (code_of body.now.stmts.items)) (standing self.old) (standing self.new) result }
         ensures fewer { IfOk result (λ _. self.new.reader.left ≤ self.old.reader.left) }
-        ensures same { F.content folder.new ≡ F.content folder.old }
+        ensures same { F.state folder.new ≡ F.state folder.old }
         ensures later { F.read_faults folder.old ≤ F.read_faults folder.new }
         ensures cause { IsErrOf result Stray.ReadFault → Rose (F.read_faults folder.old) (F.read_faults folder.new) }
-        ensures same_writes { F.write_faults folder.new ≡ F.write_faults folder.old }
     {
         let first = self.value(from, alloc, folder, place)?;
         let last = self.value(to, alloc, folder, place)?;
@@ -417,12 +404,11 @@ impl<'k> Lane<'k> {
         slot: u32,
     ) -> Result<(), Stray>
         requires bounded { IsBoundedCode (code_of body.now.stmts.items) }
-        ensures follows { Follows (F.content folder.old) (run place.now (tree.Loop slot (term_of from.now) (term_of to.now) (code_of body.now.stmts.items) Done)) (standing self.old) (standing self.new) result }
+        ensures follows { Follows (F.state folder.old) (run place.now (tree.Loop slot (term_of from.now) (term_of to.now) (code_of body.now.stmts.items) Done)) (standing self.old) (standing self.new) result }
         ensures fewer { IfOk result (λ _. self.new.reader.left ≤ self.old.reader.left) }
-        ensures same { F.content folder.new ≡ F.content folder.old }
+        ensures same { F.state folder.new ≡ F.state folder.old }
         ensures later { F.read_faults folder.old ≤ F.read_faults folder.new }
         ensures cause { IsErrOf result Stray.ReadFault → Rose (F.read_faults folder.old) (F.read_faults folder.new) }
-        ensures same_writes { F.write_faults folder.new ≡ F.write_faults folder.old }
     {
         let first = self.value(from, alloc, folder, place)?;
         let last = self.value(to, alloc, folder, place)?;
@@ -440,12 +426,11 @@ impl<'k> Lane<'k> {
         place: &Place,
     ) -> Result<(), Stray>
         requires bounded { IsBoundedCode (stmt_code stmt.now Done) }
-        ensures follows { Follows (F.content folder.old) (run place.now (stmt_code stmt.now Done)) (standing self.old) (standing self.new) result }
+        ensures follows { Follows (F.state folder.old) (run place.now (stmt_code stmt.now Done)) (standing self.old) (standing self.new) result }
         ensures fewer { IfOk result (λ _. self.new.reader.left ≤ self.old.reader.left) }
-        ensures same { F.content folder.new ≡ F.content folder.old }
+        ensures same { F.state folder.new ≡ F.state folder.old }
         ensures later { F.read_faults folder.old ≤ F.read_faults folder.new }
         ensures cause { IsErrOf result Stray.ReadFault → Rose (F.read_faults folder.old) (F.read_faults folder.new) }
-        ensures same_writes { F.write_faults folder.new ≡ F.write_faults folder.old }
     {
         match stmt {
             Stmt::Set { slot, value } => self.assign(value, alloc, folder, place, *slot),

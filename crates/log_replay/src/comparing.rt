@@ -33,13 +33,12 @@ impl<'k> Lane<'k> {
         records: u32,
         slots: Vec<i64>,
     ) -> Result<Lane<'k>, Trouble>
-        ensures begun { IfOk result (λ lane. WhereTold (F.content folder.old) (λ c. (log : List Record) → IsWholeLog FORMAT c.held dir.now path.now log → records ≡ length log
-            → HasEnd log → length log ≤ log_limit → IsAt (F.content folder.old) log [] log (standing lane))) }
+        ensures begun { IfOk result (λ lane. WhereTold (F.state folder.old).content (λ c. (log : List Record) → IsWholeLog FORMAT c.held dir.now path.now log → records ≡ length log
+            → HasEnd log → length log ≤ log_limit → IsAt (F.state folder.old) log [] log (standing lane))) }
         ensures slots { IfOk result (λ lane. lane.slots.items ≡ slots.items) }
         ensures forks { IfOk result (λ lane. lane.forks.items ≡ []) }
-        ensures same { F.content folder.new ≡ F.content folder.old }
+        ensures same { F.state folder.new ≡ F.state folder.old }
         ensures cause { HasCause (F.read_faults folder.old) (F.read_faults folder.new) result }
-        ensures same_writes { F.write_faults folder.new ≡ F.write_faults folder.old }
     {
         let mut reader = LogReader::new(alloc)?;
         reader.open(alloc, FORMAT, folder, dir, path, records)?;
@@ -53,11 +52,10 @@ impl<'k> Lane<'k> {
 
     // Puts the End of the task, which is to be the last record of the log.
     fn finish<F: Folder>(&mut self, alloc: Global, folder: &mut F, line: u32) -> Result<(), Stray>
-        ensures ends { (log done rest : List Record) → IsAt (F.content folder.old) log done rest (standing self.old) → EndsLog log done line (standing self.old) (standing self.new) result }
-        ensures same { F.content folder.new ≡ F.content folder.old }
+        ensures ends { (log done rest : List Record) → IsAt (F.state folder.old) log done rest (standing self.old) → EndsLog log done line (standing self.old) (standing self.new) result }
+        ensures same { F.state folder.new ≡ F.state folder.old }
         ensures later { F.read_faults folder.old ≤ F.read_faults folder.new }
         ensures cause { IsErrOf result Stray.ReadFault → Rose (F.read_faults folder.old) (F.read_faults folder.new) }
-        ensures same_writes { F.write_faults folder.new ≡ F.write_faults folder.old }
     {
         let next = self.next(alloc, folder)?;
         let due = event(Kind::End, line, 0, 0);
@@ -79,13 +77,12 @@ impl<'k> Lane<'k> {
         place: &Place,
     ) -> Result<(), Stray>
         requires bounded { IsBoundedCode (code_of team.now.body.stmts.items) }
-        ensures compares { (log : List Record) → IsAt (F.content folder.old) log [] log (standing self.old) → self.old.forks.items ≡ [] → (program : Program) → program.arrays ≡ place.now.arrays
+        ensures compares { (log : List Record) → IsAt (F.state folder.old) log [] log (standing self.old) → self.old.forks.items ≡ [] → (program : Program) → program.arrays ≡ place.now.arrays
             → team.now.span ≡ place.now.span
             → Compares program (record { team = team_of team.now; lane = place.now.lane; slots = self.old.slots.items }) log (standing self.new) result }
-        ensures same { F.content folder.new ≡ F.content folder.old }
+        ensures same { F.state folder.new ≡ F.state folder.old }
         ensures later { F.read_faults folder.old ≤ F.read_faults folder.new }
         ensures cause { IsErrOf result Stray.ReadFault → Rose (F.read_faults folder.old) (F.read_faults folder.new) }
-        ensures same_writes { F.write_faults folder.new ≡ F.write_faults folder.old }
     {
         self.statements(&team.body, alloc, folder, place)?;
         self.finish(alloc, folder, team.end)
@@ -108,17 +105,16 @@ pub fn follow<'k, F: Folder>(
 ) -> Result<Vec<Forked<'k>>, Stray>
     requires bounded { IsBoundedCode (code_of team.now.body.stmts.items) }
     requires place { IsPlace (record { arrays = arrays.now; lane = lane; span = team.now.span }) }
-    ensures followed { IfOk result (λ forks. WhereTold (F.content folder.old) (λ c. (log : List Record) → IsWholeLog FORMAT c.held dir.now path.now log → records ≡ length log
+    ensures followed { IfOk result (λ forks. WhereTold (F.state folder.old).content (λ c. (log : List Record) → IsWholeLog FORMAT c.held dir.now path.now log → records ≡ length log
         → HasEnd log → length log ≤ log_limit → (program : Program) → program.arrays ≡ arrays.now
         → IsFollowed program (record { team = team_of team.now; lane = lane; slots = slots.items }) log (map fork_of forks.items))) }
-    ensures strays { IfErr result (λ e. WhereTold (F.content folder.old) (λ c. (log : List Record) → IsWholeLog FORMAT c.held dir.now path.now log → records ≡ length log
+    ensures strays { IfErr result (λ e. WhereTold (F.state folder.old).content (λ c. (log : List Record) → IsWholeLog FORMAT c.held dir.now path.now log → records ≡ length log
         → HasEnd log → length log ≤ log_limit → (program : Program) → program.arrays ≡ arrays.now
         → StraysSo program (record { team = team_of team.now; lane = lane; slots = slots.items }) log e)) }
 
-    ensures same { F.content folder.new ≡ F.content folder.old }
+    ensures same { F.state folder.new ≡ F.state folder.old }
     ensures later { F.read_faults folder.old ≤ F.read_faults folder.new }
     ensures cause { IsErrOf result Stray.ReadFault → Rose (F.read_faults folder.old) (F.read_faults folder.new) }
-    ensures same_writes { F.write_faults folder.new ≡ F.write_faults folder.old }
 {
     let mut begun = Lane::begin(alloc, folder, dir, path, records, slots)?;
     let place = Place::new(arrays, lane, team.span);

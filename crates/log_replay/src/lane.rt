@@ -6,7 +6,7 @@ ghost use Rattle.log_format.specs.declared.record.Kind.TheVariants as kind;
 ghost use Rattle.kernel_model.specs.State.{put, event};
 ghost use Rattle.kernel_model.specs.Trace.{draw};
 ghost use Rattle.kernel_model.specs.Value.{access, read};
-ghost use Rattle.kernel_syntax.specs.Arithmetic.{IsWidth};
+ghost use Rattle.log_format.specs.Fitting.{IsWidth};
 ghost use Rattle.log_replay.specs.Following.{Follows, IsAt, IsMark, Takes};
 ghost use Rattle.log_replay.specs.Forks.{standing};
 ghost use Rattle.log_replay.specs.Placing.{meant};
@@ -112,12 +112,11 @@ impl<'k> Lane<'k> {
 
     // The next record of the log.
     pub(crate) fn next<F: Folder>(&mut self, alloc: Global, folder: &mut F) -> Result<Record, Stray>
-        ensures takes { (log done rest : List Record) → IsAt (F.content folder.old) log done rest (standing self.old) → Takes (F.content folder.old) rest (standing self.old) (standing self.new) result }
+        ensures takes { (log done rest : List Record) → IsAt (F.state folder.old) log done rest (standing self.old) → Takes (F.state folder.old) rest (standing self.old) (standing self.new) result }
         ensures less { IfOk result (λ _. self.new.reader.left < self.old.reader.left) }
-        ensures same { F.content folder.new ≡ F.content folder.old }
+        ensures same { F.state folder.new ≡ F.state folder.old }
         ensures later { F.read_faults folder.old ≤ F.read_faults folder.new }
         ensures cause { IsErrOf result Stray.ReadFault → Rose (F.read_faults folder.old) (F.read_faults folder.new) }
-        ensures same_writes { F.write_faults folder.new ≡ F.write_faults folder.old }
     {
         match self.reader.next(alloc, folder)? {
             Some(next) => {
@@ -138,12 +137,11 @@ impl<'k> Lane<'k> {
         site: u16,
     ) -> Result<i64, Stray>
         requires { IsWidth element.now.width }
-        ensures follows { Follows (F.content folder.old) (read (meant element.now) site line) (standing self.old) (standing self.new) result }
+        ensures follows { Follows (F.state folder.old) (read (meant element.now) site line) (standing self.old) (standing self.new) result }
         ensures fewer { IfOk result (λ _. self.new.reader.left ≤ self.old.reader.left) }
-        ensures same { F.content folder.new ≡ F.content folder.old }
+        ensures same { F.state folder.new ≡ F.state folder.old }
         ensures later { F.read_faults folder.old ≤ F.read_faults folder.new }
         ensures cause { IsErrOf result Stray.ReadFault → Rose (F.read_faults folder.old) (F.read_faults folder.new) }
-        ensures same_writes { F.write_faults folder.new ≡ F.write_faults folder.old }
     {
         let next = self.next(alloc, folder)?;
         let value = fit(next.value.cast_signed(), element.width);
@@ -162,12 +160,11 @@ impl<'k> Lane<'k> {
         due: Record,
     ) -> Result<(), Stray>
         requires { IsMark due.kind }
-        ensures follows { Follows (F.content folder.old) (put due) (standing self.old) (standing self.new) result }
+        ensures follows { Follows (F.state folder.old) (put due) (standing self.old) (standing self.new) result }
         ensures fewer { IfOk result (λ _. self.new.reader.left ≤ self.old.reader.left) }
-        ensures same { F.content folder.new ≡ F.content folder.old }
+        ensures same { F.state folder.new ≡ F.state folder.old }
         ensures later { F.read_faults folder.old ≤ F.read_faults folder.new }
         ensures cause { IsErrOf result Stray.ReadFault → Rose (F.read_faults folder.old) (F.read_faults folder.new) }
-        ensures same_writes { F.write_faults folder.new ≡ F.write_faults folder.old }
     {
         let next = self.next(alloc, folder)?;
         if !is_same(&next, &due) {
@@ -184,13 +181,12 @@ impl<'k> Lane<'k> {
         line: u32,
         chunks: u64,
     ) -> Result<u64, Stray>
-        ensures follows { Follows (F.content folder.old) (draw line chunks) (standing self.old) (standing self.new) result }
+        ensures follows { Follows (F.state folder.old) (draw line chunks) (standing self.old) (standing self.new) result }
         ensures within { IfOk result (λ number. number ≤ chunks) }
         ensures less { IfOk result (λ _. self.new.reader.left < self.old.reader.left) }
-        ensures same { F.content folder.new ≡ F.content folder.old }
+        ensures same { F.state folder.new ≡ F.state folder.old }
         ensures later { F.read_faults folder.old ≤ F.read_faults folder.new }
         ensures cause { IsErrOf result Stray.ReadFault → Rose (F.read_faults folder.old) (F.read_faults folder.new) }
-        ensures same_writes { F.write_faults folder.new ≡ F.write_faults folder.old }
     {
         let next = self.next(alloc, folder)?;
         let due = event(Kind::Chunk, line, next.addr.min(chunks), chunks);

@@ -1,7 +1,7 @@
 //! Where a task runs, and the elements of its kernel's arrays.
 ghost use Rattle.std.specs.Prelude.{◌≡◌, ◌+◌, ◌*◌, ◌<◌, MatchOption, None, Some};
 ghost use Rattle.kernel_model.specs.Value.{element_at};
-ghost use Rattle.kernel_syntax.specs.Arithmetic.{IsWidth};
+ghost use Rattle.log_format.specs.Fitting.{IsWidth};
 ghost use Rattle.log_replay.specs.Placing.{IsElement, IsPlace};
 
 use kernel_syntax::Array;

@@ -59,15 +59,14 @@ fn compare_task<'k, F: Folder>(
     row: &Row,
 ) -> Result<Option<u32>, WalkFault>
     requires { IsReplayable (program_of kernel.now) }
-    ensures compares { IfOk result (λ found. WhereTold (F.content folder.old) (λ c. (logs : Logs) → KeepsAllForks (program_of kernel.now) logs (forks_kept kept.old.items) row.now.path
+    ensures compares { IfOk result (λ found. WhereTold (F.state folder.old).content (λ c. (logs : Logs) → KeepsAllForks (program_of kernel.now) logs (forks_kept kept.old.items) row.now.path
         → IsWholeLog FORMAT c.held dir.now row.now.path (logs row.now.path) → row.now.records ≡ length (logs row.now.path) → HasEnd (logs row.now.path) → length (logs row.now.path) ≤ log_limit
         → ComparesTask (program_of kernel.now) logs row.now.path (forks_kept kept.old.items) (forks_kept kept.new.items) found)) }
     ensures only_faults { IfErr result (λ e. IsTroubled e) }
 
-    ensures same { F.content folder.new ≡ F.content folder.old }
+    ensures same { F.state folder.new ≡ F.state folder.old }
     ensures later { F.read_faults folder.old ≤ F.read_faults folder.new }
     ensures cause { IsErrOf result WalkFault.ReadFault → Rose (F.read_faults folder.old) (F.read_faults folder.new) }
-    ensures same_writes { F.write_faults folder.new ≡ F.write_faults folder.old }
 {
     let Some(start) = find_start(alloc, kernel, kept, &row.path)? else {
         return Ok(Some(1));
@@ -102,14 +101,13 @@ fn compare_rows<F: Folder>(
     rows: &[Row],
 ) -> Result<Replayed, WalkFault>
     requires { IsReplayable (program_of kernel.now) }
-    ensures compares { IfOk result (λ found. WhereTold (F.content folder.old) (λ c. (tasks : Trace) → rows_of tasks ≡ rows.now → HoldsLogs FORMAT c.held dir.now tasks → KeepsRules FORMAT tasks
+    ensures compares { IfOk result (λ found. WhereTold (F.state folder.old).content (λ c. (tasks : Trace) → rows_of tasks ≡ rows.now → HoldsLogs FORMAT c.held dir.now tasks → KeepsRules FORMAT tasks
         → IsReplayed (program_of kernel.now) tasks found)) }
     ensures only_faults { IfErr result (λ e. IsTroubled e) }
 
-    ensures same { F.content folder.new ≡ F.content folder.old }
+    ensures same { F.state folder.new ≡ F.state folder.old }
     ensures later { F.read_faults folder.old ≤ F.read_faults folder.new }
     ensures cause { IsErrOf result WalkFault.ReadFault → Rose (F.read_faults folder.old) (F.read_faults folder.new) }
-    ensures same_writes { F.write_faults folder.new ≡ F.write_faults folder.old }
 {
     let mut kept = Vec::new(alloc);
     'rows: for row in rows {
@@ -132,13 +130,12 @@ pub fn replay<F: Folder>(
     dir: &str,
 ) -> Result<Replayed, WalkFault>
     requires { IsReplayable (program_of kernel.now) }
-    ensures compares { IfOk result (λ found. AnswersFolder (program_of kernel.now) (F.content folder.old) dir.now found) }
-    ensures refused { IfErr result (λ e. WhereTold (F.content folder.old) (λ c. TellsFirstBad FORMAT c.held dir.now e)) }
+    ensures compares { IfOk result (λ found. AnswersFolder (program_of kernel.now) (F.state folder.old).content dir.now found) }
+    ensures refused { IfErr result (λ e. WhereTold (F.state folder.old).content (λ c. TellsFirstBad FORMAT c.held dir.now e)) }
 
-    ensures same { F.content folder.new ≡ F.content folder.old }
+    ensures same { F.state folder.new ≡ F.state folder.old }
     ensures later { F.read_faults folder.old ≤ F.read_faults folder.new }
     ensures cause { IsErrOf result WalkFault.ReadFault → Rose (F.read_faults folder.old) (F.read_faults folder.new) }
-    ensures same_writes { F.write_faults folder.new ≡ F.write_faults folder.old }
 {
     let sweep = sweep_all(alloc, folder, dir)?;
     compare_rows(alloc, kernel, folder, dir, sweep.rows())

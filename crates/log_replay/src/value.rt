@@ -34,12 +34,11 @@ impl<'k> Lane<'k> {
         line: u32,
         site: u16,
     ) -> Result<i64, Stray>
-        ensures follows { Follows (F.content folder.old) (loaded (element_at place.now.arrays array index) line site) (standing self.old) (standing self.new) result }
+        ensures follows { Follows (F.state folder.old) (loaded (element_at place.now.arrays array index) line site) (standing self.old) (standing self.new) result }
         ensures fewer { IfOk result (λ _. self.new.reader.left ≤ self.old.reader.left) }
-        ensures same { F.content folder.new ≡ F.content folder.old }
+        ensures same { F.state folder.new ≡ F.state folder.old }
         ensures later { F.read_faults folder.old ≤ F.read_faults folder.new }
         ensures cause { IsErrOf result Stray.ReadFault → Rose (F.read_faults folder.old) (F.read_faults folder.new) }
-        ensures same_writes { F.write_faults folder.new ≡ F.write_faults folder.old }
     {
         let Some(element) = place.element(array, index) else {
             return Err(self.stray());
@@ -62,12 +61,11 @@ impl<'k> Lane<'k> {
         folder: &mut F,
         place: &Place,
     ) -> Result<i64, Stray>
-        ensures follows { Follows (F.content folder.old) (value place.now (term_of expr.now)) (standing self.old) (standing self.new) result }
+        ensures follows { Follows (F.state folder.old) (value place.now (term_of expr.now)) (standing self.old) (standing self.new) result }
         ensures fewer { IfOk result (λ _. self.new.reader.left ≤ self.old.reader.left) }
-        ensures same { F.content folder.new ≡ F.content folder.old }
+        ensures same { F.state folder.new ≡ F.state folder.old }
         ensures later { F.read_faults folder.old ≤ F.read_faults folder.new }
         ensures cause { IsErrOf result Stray.ReadFault → Rose (F.read_faults folder.old) (F.read_faults folder.new) }
-        ensures same_writes { F.write_faults folder.new ≡ F.write_faults folder.old }
     {
         match expr {
             Expr::Number(number) => Ok(*number),

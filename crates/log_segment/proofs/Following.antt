@@ -8,17 +8,17 @@ use Rattle.std.proofs.lemmas.Option.{same_Some}
 use Rattle.sw_base.specs.declared.path.Step.{Step}
 use Rattle.log_format.specs.declared.record.Record.{Record}
 use Rattle.log_format.specs.declared.record.Kind.{Kind}
-use Rattle.log_format.specs.declared.record.Kind.TheVariants.{Read, Write, Lock, Unlock, Barrier, Region, Chunk, End}
+use Rattle.log_format.specs.declared.record.Kind.TheVariants.{Read, Write, Lock, Unlock, Barrier, Region, Chunk, End, Update}
 use Rattle.log_format.specs.declared.record.Why.TheVariants as why
 use Rattle.log_format.specs.Table.{HasAddress, HasSize, IsAccessSize, IsTabled}
 use Rattle.race_model.specs.Trace.{Logs, Node, HasKind, regions_before, barriers_before, is_region_kind, is_barrier_kind}
 use Rattle.race_model.specs.Race.{held_after, held_after_kind}
 use Rattle.race_model.specs.Label.{Triple, IsLabel}
 use Rattle.race_model.specs.Segment.{Event, Segment as Interval, is_access, is_access_event, has_access, segment_of, first_number, last_number}
-use Rattle.race_model.proofs.LabelPlace.{same_node}
+use Rattle.race_laws.proofs.LabelPlace.{same_node}
 use Rattle.stride_summary.specs.declared.key.Key.{Key}
 use Rattle.stride_summary.specs.declared.summary.Summary.{Summary}
-use Rattle.log_segment.specs.Accesses.{is_write, key_at}
+use Rattle.log_segment.specs.Accesses.{key_at}
 use Rattle.log_segment.specs.declared.segment.Segment.{Segment}
 use Rattle.log_segment.specs.declared.walking.Walk.{Walk}
 use Rattle.log_segment.specs.Intervals.{HasEvent, IsSegmentOf}
@@ -197,6 +197,7 @@ module _ (logs : Logs) (path : List Step) (before : List Record) (r : Record) (n
   begun_plain Region e begun a b = cc
   begun_plain Chunk e begun a b = refl
   begun_plain End e begun a b = refl
+  begun_plain Update e begun a b = refl
 
   by_kind : (walk new : Walk) (begun : List Event) → is_region_kind r.kind ≡ false → is_barrier_kind r.kind ≡ false
       → new.first ≡ walk.first → new.label ≡ walk.label → new.forks.items ≡ walk.forks.items
@@ -216,6 +217,7 @@ module _ (logs : Logs) (path : List Step) (before : List Record) (r : Record) (n
   key_held Region held is = cc
   key_held Chunk held is = cc
   key_held End held is = cc
+  key_held Update held is = refl
 
   not_ordering : (k : Kind) → is_access k ≡ true → (is_region_kind k ≡ false) × (is_barrier_kind k ≡ false)
   not_ordering Read is = (refl, refl)
@@ -226,20 +228,18 @@ module _ (logs : Logs) (path : List Step) (before : List Record) (r : Record) (n
   not_ordering Region is = cc
   not_ordering Chunk is = cc
   not_ordering End is = cc
+  not_ordering Update is = (refl, refl)
 
-  pub follows_access : (walk new : Walk) (begun : List Event) (held : List ℕ) (write : Bool) → is_access r.kind ≡ true → write ≡ is_write r.kind → held ≡ held_after [] (before ++ r ∷ [])
-      → GainsAccess walk.summary new.summary (record { write = write; size = r.size; site = r.site; line = r.line; held = held }) r.addr → new ≡ record walk { summary = new.summary }
+  pub follows_access : (walk new : Walk) (begun : List Event) (held : List ℕ) → is_access r.kind ≡ true → held ≡ held_after [] (before ++ r ∷ [])
+      → GainsAccess walk.summary new.summary (key_at r held) r.addr → new ≡ record walk { summary = new.summary }
       → Follows logs path before walk begun → Follows logs path (before ++ r ∷ []) new (begun_after r.kind (event_after before r) begun)
-  follows_access walk new begun held write is writes held_is gains same f =
+  follows_access walk new begun held is held_is gains same f =
       let plain = not_ordering r.kind is in
       by_kind walk new begun plain.0 plain.1 (ap (λ (w : Walk). w.first) same) (ap (λ (w : Walk). w.label) same) (ap (λ (w : Walk). w.forks.items) same)
-      (sums_access walk.summary new.summary begun (event_after before r) is (subst (λ (key : Key). GainsAccess walk.summary new.summary key r.addr) keyed gains)) f
+      (sums_access walk.summary new.summary begun (event_after before r) is (subst (λ (mutexes : List ℕ). GainsAccess walk.summary new.summary (key_at r mutexes) r.addr) here_held gains)) f
     where
       here_held : held ≡ held_after [] before
       here_held = held_is ∙ (held_push [] before r ∙ sym (key_held r.kind (held_after [] before) is))
-
-      keyed : (record { write = write; size = r.size; site = r.site; line = r.line; held = held }) ≡ key_at r (held_after [] before)
-      keyed = λ i. record { write = writes i; size = r.size; site = r.site; line = r.line; held = here_held i }
 
   -- where no access is kept
   pub follows_quiet : (walk : Walk) (begun : List Event) → is_region_kind r.kind ≡ false → is_barrier_kind r.kind ≡ false → is_access r.kind ≡ false
@@ -436,6 +436,11 @@ adds_ended logs path before walk begun last old new is_last empty some f = go wa
     }
     go (Some summary) e = one summary e (some summary e)
 
+pub kind_access : (k : Kind) → (k ≡ Read) ⊎ (k ≡ Write) ⊎ (k ≡ Update) → is_access k ≡ true
+kind_access k (inl e) = rw e refl
+kind_access k (inr (inl e)) = rw e refl
+kind_access k (inr (inr e)) = rw e refl
+
 -- an access fits a summary
 pub access_sized : (r : Record) → is_access r.kind ≡ true → HasSize r.kind r.size → IsAccessSize r.size
 access_sized r is size = at r.kind is size where
@@ -448,6 +453,7 @@ access_sized r is size = at r.kind is size where
   at Region e h = cc
   at Chunk e h = cc
   at End e h = cc
+  at Update e h = h
 
 pub access_fits : (r : Record) → is_access r.kind ≡ true → HasAddress r.kind r → r.addr + r.size ≤ 2 ^ 48
 access_fits r is address = at r.kind is address where
@@ -460,3 +466,4 @@ access_fits r is address = at r.kind is address where
   at Region e h = cc
   at Chunk e h = cc
   at End e h = cc
+  at Update e h = h

@@ -5,7 +5,7 @@ use Rattle.std.specs.List.{AllZip}
 use Rattle.std.proofs.lemmas.Option.{same_Some}
 use Rattle.sw_base.specs.declared.path.Step.{Step}
 use Rattle.log_format.specs.declared.record.Kind.{Kind}
-use Rattle.log_format.specs.declared.record.Kind.TheVariants.{Read, Write, Lock, Unlock, Barrier, Region, Chunk, End}
+use Rattle.log_format.specs.declared.record.Kind.TheVariants.{Read, Write, Lock, Unlock, Barrier, Region, Chunk, End, Update}
 use Rattle.race_model.specs.Segment.{Event, Segment as Interval, has_access, segment_of, runs_of, with_event, in_first, events, intervals, task_segments, segments_of, first_number, last_number}
 use Rattle.race_model.specs.Trace.{TaskLog, Trace, Logs}
 use Rattle.log_segment.specs.declared.segment.Segment.{Segment}
@@ -71,6 +71,7 @@ rising_with Lock n e runs here rest = rising_first n e runs here rest
 rising_with Unlock n e runs here rest = rising_first n e runs here rest
 rising_with Chunk n e runs here rest = rising_first n e runs here rest
 rising_with End n e runs here rest = rising_first n e runs here rest
+rising_with Update n e runs here rest = rising_first n e runs here rest
 
 rising_of : (n : ℕ) (es : List Event) → AreNumbered n es → IsRising n (runs_of es)
 rising_of n [] all = (tt, (n, omega arith, tt))

@@ -4,7 +4,7 @@ use Rattle.std.specs.Prelude.{slice_get}
 use Rattle.std.proofs.lemmas.List.{length_push}
 use Rattle.std.proofs.lemmas.Option.{same_Some}
 use Rattle.race_model.specs.Label.{Triple}
-use Rattle.race_model.proofs.LabelPlace.{has_last, HasLast}
+use Rattle.race_laws.proofs.LabelPlace.{has_last, HasLast}
 use Rattle.span_label.specs.Levels.{own_level}
 use Rattle.log_segment.specs.Walking.{IsOwnAfter}
 

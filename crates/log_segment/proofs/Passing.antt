@@ -6,12 +6,12 @@ use Rattle.std.proofs.lemmas.List.{length_push, append-nil}
 use Rattle.sw_base.specs.declared.path.Step.{Step}
 use Rattle.log_format.specs.declared.record.Record.{Record}
 use Rattle.log_format.specs.declared.record.Kind.{Kind}
-use Rattle.log_format.specs.declared.record.Kind.TheVariants.{Read, Write, Lock, Unlock, Barrier, Region, Chunk, End}
+use Rattle.log_format.specs.declared.record.Kind.TheVariants.{Read, Write, Lock, Unlock, Barrier, Region, Chunk, End, Update}
 use Rattle.race_model.specs.Trace.{Logs, Node}
 use Rattle.race_model.specs.Race.{held_after, held_after_kind}
 use Rattle.race_model.specs.Label.{Triple, IsLabel}
 use Rattle.race_model.specs.Segment.{Event, Segment as Interval, has_access, segment_of, runs_of, with_event, in_first, events_from, events, task_segments}
-use Rattle.race_model.proofs.LabelPlace.{same_node}
+use Rattle.race_laws.proofs.LabelPlace.{same_node}
 use Rattle.log_segment.specs.declared.segment.Segment.{Segment}
 use Rattle.log_segment.specs.declared.walking.Walk.{Walk}
 use Rattle.log_segment.specs.Intervals.{IsSegmentOf}
@@ -71,6 +71,7 @@ has_run Lock e [] = record { first = _; others = _; parts = refl }
 has_run Unlock e [] = record { first = _; others = _; parts = refl }
 has_run Chunk e [] = record { first = _; others = _; parts = refl }
 has_run End e [] = record { first = _; others = _; parts = refl }
+has_run Update e [] = record { first = _; others = _; parts = refl }
 has_run Region e runs = record { first = _; others = _; parts = refl }
 has_run Barrier e runs = record { first = _; others = _; parts = refl }
 has_run Read e (run ∷ runs) = record { first = _; others = _; parts = refl }
@@ -79,6 +80,7 @@ has_run Lock e (run ∷ runs) = record { first = _; others = _; parts = refl }
 has_run Unlock e (run ∷ runs) = record { first = _; others = _; parts = refl }
 has_run Chunk e (run ∷ runs) = record { first = _; others = _; parts = refl }
 has_run End e (run ∷ runs) = record { first = _; others = _; parts = refl }
+has_run Update e (run ∷ runs) = record { first = _; others = _; parts = refl }
 
 runs_some : (es : List Event) → Some_run (runs_of es)
 runs_some [] = record { first = []; others = []; parts = refl }
@@ -99,6 +101,7 @@ by_kind Lock path begun e runs some = ap (λ (rs : List (List Event)). segs path
 by_kind Unlock path begun e runs some = ap (λ (rs : List (List Event)). segs path rs) (onto_more begun e runs)
 by_kind Chunk path begun e runs some = ap (λ (rs : List (List Event)). segs path rs) (onto_more begun e runs)
 by_kind End path begun e runs some = ap (λ (rs : List (List Event)). segs path rs) (onto_more begun e runs)
+by_kind Update path begun e runs some = ap (λ (rs : List (List Event)). segs path rs) (onto_more begun e runs)
 
 ends_are : (path : List Step) (begun : List Event) (es : List Event) → ends_from path begun es ≡ segs path (onto begun (runs_of es))
 ends_are path begun [] = ap (λ (r : List Event). segs path (r ∷ [])) (sym (append-nil begun))

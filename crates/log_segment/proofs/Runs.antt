@@ -4,7 +4,7 @@ use Rattle.std.specs.Prelude.{slice_get}
 use Rattle.std.proofs.lemmas.Option.{same_Some}
 use Rattle.log_format.specs.declared.record.Record.{Record}
 use Rattle.log_format.specs.declared.record.Kind.{Kind}
-use Rattle.log_format.specs.declared.record.Kind.TheVariants.{Read, Write, Lock, Unlock, Barrier, Region, Chunk, End}
+use Rattle.log_format.specs.declared.record.Kind.TheVariants.{Read, Write, Lock, Unlock, Barrier, Region, Chunk, End, Update}
 use Rattle.race_model.specs.Race.{held_after, held_after_kind}
 use Rattle.race_model.specs.Segment.{Event, is_access, is_access_event, has_access, runs_of, with_event, in_first, events_from, first_number, last_number}
 use Rattle.log_segment.specs.Walking.{AreNumbered}
@@ -73,6 +73,7 @@ joined_on Lock n e runs is all = taken n e runs is all
 joined_on Unlock n e runs is all = taken n e runs is all
 joined_on Chunk n e runs is all = taken n e runs is all
 joined_on End n e runs is all = taken n e runs is all
+joined_on Update n e runs is all = taken n e runs is all
 
 runs_on : (n : ℕ) (es : List Event) → AreNumbered n es → Numbered n (runs_of es)
 runs_on n [] all = record { first = []; others = []; parts = refl; first_on = tt; others_on = λ run h. absurd h }
@@ -135,6 +136,7 @@ joined_back Lock e runs run x listed h = taken_back e runs run x listed h
 joined_back Unlock e runs run x listed h = taken_back e runs run x listed h
 joined_back Chunk e runs run x listed h = taken_back e runs run x listed h
 joined_back End e runs run x listed h = taken_back e runs run x listed h
+joined_back Update e runs run x listed h = taken_back e runs run x listed h
 
 pub run_back : (es : List Event) (run : List Event) (x : Event) → In run (runs_of es) → In x run → In x es
 run_back [] run x (inl e) h = absurd (subst (λ (r : List Event). In x r) (sym e) h)
@@ -164,6 +166,7 @@ joined_has Barrier e runs is = cc
 joined_has Region e runs is = cc
 joined_has Chunk e runs is = cc
 joined_has End e runs is = cc
+joined_has Update e runs is = first_has e runs
 
 first_more : (e : Event) (runs : List (List Event)) (x : Event) → InRun runs x → InRun (in_first e runs) x
 first_more e [] x r = absurd r.is_run
@@ -184,6 +187,7 @@ joined_more Lock e runs x r = first_more e runs x r
 joined_more Unlock e runs x r = first_more e runs x r
 joined_more Chunk e runs x r = first_more e runs x r
 joined_more End e runs x r = first_more e runs x r
+joined_more Update e runs x r = first_more e runs x r
 
 in_run : (es : List Event) (e : Event) → In e es → is_access_event e ≡ true → InRun (runs_of es) e
 in_run [] e h is = absurd h

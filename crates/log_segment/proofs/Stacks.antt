@@ -10,7 +10,7 @@ use Rattle.race_model.specs.Label.{Triple, IsLabel}
 use Rattle.race_model.specs.Order.{IsLane}
 use Rattle.race_model.specs.Trace.{Logs, Node, regions_before}
 use Rattle.race_model.specs.ForkJoin.{WasForked}
-use Rattle.race_model.proofs.LabelPlace.{is_region}
+use Rattle.race_laws.proofs.LabelPlace.{is_region}
 use Rattle.log_segment.specs.Stack.{HasFork, HasForks}
 use Rattle.log_segment.specs.Walking.{AreForks, IsOwnAfter}
 use Rattle.log_segment.proofs.OwnLevel.{own_last}

@@ -6,7 +6,7 @@ use Rattle.std.proofs.lemmas.Option.{slice_get_within}
 use Rattle.sw_base.specs.declared.path.Step.{Step}
 use Rattle.log_format.specs.declared.record.Record.{Record}
 use Rattle.log_format.specs.declared.record.Kind.{Kind}
-use Rattle.log_format.specs.declared.record.Kind.TheVariants.{Read, Write, Lock, Unlock, Barrier, Region, Chunk, End}
+use Rattle.log_format.specs.declared.record.Kind.TheVariants.{Read, Write, Lock, Unlock, Barrier, Region, Chunk, End, Update}
 use Rattle.race_model.specs.Trace.{TaskLog, Trace, Logs, Node, record_at}
 use Rattle.race_model.specs.ForkJoin.{IsTask}
 use Rattle.race_model.specs.Race.{IsAccess, held_after}
@@ -17,23 +17,21 @@ use Rattle.log_segment.specs.Accesses.{key_at}
 use Rattle.log_segment.specs.declared.segment.Segment.{Segment}
 use Rattle.log_segment.specs.Intervals.{HasEvent, IsSegmentOf, IsAccessAt, HasAccess, AreSegments}
 use Rattle.log_segment.specs.OneTree.{IsSegmentIn}
+use Rattle.log_segment.proofs.Following.{kind_access}
 use Rattle.log_segment.proofs.Members.{In, from_contains, to_contains, in_map, map_back, in_filter, filter_back, flat_back, in_flat, zip_back, zip_on}
 use Rattle.log_segment.proofs.Runs.{event_back, event_there, events_numbered, run_numbered, within_run, run_back, OfRun, of_run, run_accesses}
 
 -- kinds
-access_kind : (k : Kind) → is_access k ≡ true → (k ≡ Read) ⊎ (k ≡ Write)
+access_kind : (k : Kind) → is_access k ≡ true → (k ≡ Read) ⊎ (k ≡ Write) ⊎ (k ≡ Update)
 access_kind Read e = inl refl
-access_kind Write e = inr refl
+access_kind Write e = inr (inl refl)
 access_kind Lock e = cc
 access_kind Unlock e = cc
 access_kind Barrier e = cc
 access_kind Region e = cc
 access_kind Chunk e = cc
 access_kind End e = cc
-
-kind_access : (k : Kind) → (k ≡ Read) ⊎ (k ≡ Write) → is_access k ≡ true
-kind_access k (inl e) = rw e refl
-kind_access k (inr e) = rw e refl
+access_kind Update e = inr (inr refl)
 
 -- an access of an interval stands in the log, between its ends
 record Stands (logs : Logs) (path : List Step) (m : Interval) (e : Event) : Type 0 where

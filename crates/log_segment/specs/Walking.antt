@@ -4,7 +4,7 @@ use Rattle.std.specs.List.{AllZip}
 use Rattle.std.specs.Option.{ForSome}
 use Rattle.sw_base.specs.declared.path.Step.{Step}
 use Rattle.log_format.specs.declared.record.Kind.{Kind}
-use Rattle.log_format.specs.declared.record.Kind.TheVariants.{Read, Write, Lock, Unlock, Barrier, Region, Chunk, End}
+use Rattle.log_format.specs.declared.record.Kind.TheVariants.{Read, Write, Lock, Unlock, Barrier, Region, Chunk, End, Update}
 use Rattle.log_format.specs.declared.record.Record.{Record}
 use Rattle.span_label.specs.Levels.{own_level}
 use Rattle.race_model.specs.Trace.{TaskLog, Trace, Logs, Node, HasKind, regions_before}
@@ -38,6 +38,7 @@ open_after Lock open_before = open_before
 open_after Unlock open_before = open_before
 open_after Chunk open_before = open_before
 open_after End open_before = open_before
+open_after Update open_before = true
 
 -- an access of the key at the address was added
 abbrev pub HasSum : Option Summary → Key → ℕ → Type 0
@@ -69,6 +70,7 @@ begun_after Barrier e begun = []
 begun_after Region e begun = []
 begun_after Chunk e begun = begun ++ e ∷ []
 begun_after End e begun = begun ++ e ∷ []
+begun_after Update e begun = begun ++ e ∷ []
 
 -- what has begun, ended here
 abbrev pub ended : List Step → List Event → List Interval
@@ -84,6 +86,7 @@ ended_by path Barrier begun = ended path begun
 ended_by path Region begun = ended path begun
 ended_by path Chunk begun = []
 ended_by path End begun = []
+ended_by path Update begun = []
 
 -- the events are numbered on from here
 abbrev pub AreNumbered : ℕ → List Event → Type 0

@@ -12,6 +12,7 @@ ghost use Rattle.race_model.specs.Trace.{Logs, is_region_kind};
 ghost use Rattle.span_label.specs.Levels.{own_level};
 ghost use Rattle.stride_summary.specs.declared.summary.Summary.{Summary};
 ghost use Rattle.stride_summary.specs.declared.key.Key.{Key};
+ghost use Rattle.log_segment.specs.Accesses.{is_atomic, is_write, key_at};
 ghost use Rattle.log_segment.specs.declared.segment.Segment.{Segment};
 ghost use Rattle.log_segment.specs.Walking.{AddsSegments, Follows, GainsAccess, HasSum, IsClosed, IsNextOf, IsOwnAfter, OrdersInLane, begun_after, ended_by, event_after, is_open, open_after};
 
@@ -22,6 +23,37 @@ use span_label::Label;
 use std::alloc::Global;
 use stride_summary::{Access, Summary};
 use sw_base::{Memory, Path};
+
+fn is_write(kind: Kind) -> bool
+    ensures { result ≡ is_write kind }
+{
+    match kind {
+        Kind::Write | Kind::Update => true,
+        Kind::Read
+        | Kind::Lock
+        | Kind::Unlock
+        | Kind::Barrier
+        | Kind::Region
+        | Kind::Chunk
+        | Kind::End => false,
+    }
+}
+
+fn is_atomic(kind: Kind) -> bool
+    ensures { result ≡ is_atomic kind }
+{
+    match kind {
+        Kind::Update => true,
+        Kind::Read
+        | Kind::Write
+        | Kind::Lock
+        | Kind::Unlock
+        | Kind::Barrier
+        | Kind::Region
+        | Kind::Chunk
+        | Kind::End => false,
+    }
+}
 
 /// What is kept of the records of a log that were gone over.
 #[derive(Drop)]
@@ -79,8 +111,7 @@ impl Walk {
             → OnOk result (AddsSegments logs (ended_by path.now next.now.kind begun) found.old.items found.new.items) }
     {
         match next.kind {
-            Kind::Read => self.access(alloc, next, false, held)?,
-            Kind::Write => self.access(alloc, next, true, held)?,
+            Kind::Read | Kind::Write | Kind::Update => self.access(alloc, next, held)?,
             Kind::Region => {
                 self.close(path, number - 1, found)?;
                 self.fork()?;
@@ -137,20 +168,15 @@ impl Walk {
         Ok(())
     }
 
-    fn access(
-        &mut self,
-        alloc: Global,
-        event: &Record,
-        write: bool,
-        held: &Held,
-    ) -> Result<(), Memory>
+    fn access(&mut self, alloc: Global, event: &Record, held: &Held) -> Result<(), Memory>
         requires size { IsAccessSize event.now.size }
         requires end { event.now.addr + event.now.size ≤ 2 ^ 48 }
-        ensures added { OnOk result (GainsAccess self.old.summary self.new.summary (record { write = write; size = event.now.size; site = event.now.site; line = event.now.line; held = held.now }) event.now.addr) }
+        ensures added { OnOk result (GainsAccess self.old.summary self.new.summary (key_at event.now held.now) event.now.addr) }
         ensures same { self.new ≡ record self.old { summary = self.new.summary } }
     {
         let access = Access {
-            write,
+            write: is_write(event.kind),
+            atomic: is_atomic(event.kind),
             size: event.size,
             site: event.site,
             line: event.line,

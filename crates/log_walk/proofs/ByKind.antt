@@ -3,7 +3,7 @@ use Rattle.std.proofs.Common.{◌≡◌, ◌≢◌, ◌⊎◌, inl, inr, ℕ, �
 use Rattle.std.specs.Prelude.{slice_get, Option, None, MatchOption}
 use Rattle.log_format.specs.declared.record.Record.{Record}
 use Rattle.log_format.specs.declared.record.Kind.{Kind}
-use Rattle.log_format.specs.declared.record.Kind.TheVariants.{Read, Write, Lock, Unlock, Barrier, Region, Chunk, End}
+use Rattle.log_format.specs.declared.record.Kind.TheVariants.{Read, Write, Lock, Unlock, Barrier, Region, Chunk, End, Update}
 use Rattle.log_format.specs.Table.{HasAddress}
 use Rattle.mutex_set.specs.Held.{IsInnermost}
 use Rattle.race_model.specs.declared.why.RecordWhy.{RecordWhy}
@@ -28,16 +28,18 @@ abbrev IsPlain : Kind → Type 0
 IsPlain Read = Unit {0}
 IsPlain Write = Unit {0}
 IsPlain Chunk = Unit {0}
+IsPlain Update = Unit {0}
 IsPlain Lock = ⊥
 IsPlain Unlock = ⊥
 IsPlain Barrier = ⊥
 IsPlain Region = ⊥
 IsPlain End = ⊥
 
-plain_of : (kind : Kind) → (kind ≡ Read) ⊎ ((kind ≡ Write) ⊎ (kind ≡ Chunk)) → IsPlain kind
+plain_of : (kind : Kind) → (kind ≡ Read) ⊎ ((kind ≡ Write) ⊎ ((kind ≡ Chunk) ⊎ (kind ≡ Update))) → IsPlain kind
 plain_of kind (inl is) = subst IsPlain (sym is) tt
 plain_of kind (inr (inl is)) = subst IsPlain (sym is) tt
-plain_of kind (inr (inr is)) = subst IsPlain (sym is) tt
+plain_of kind (inr (inr (inl is))) = subst IsPlain (sym is) tt
+plain_of kind (inr (inr (inr is))) = subst IsPlain (sym is) tt
 
 plain_below : (task : LogTask) (before : List Record) (r : Record) (n : ℕ) → IsPlain r.kind → Placed task before r
     → (rule : RecordWhy) → record_rank rule < n → Breaks task before r rule → ⊥
@@ -297,11 +299,12 @@ end_told result task before r held regions barriers is count passed kind place t
     (subst (λ (n : ℕ). MatchOption result (MayEnd held task (region_count before) n) (CantEnd held task (region_count before) n)) passed
     (subst (λ (n : ℕ). MatchOption result (MayEnd held task n barriers) (CantEnd held task n barriers)) count told))
 
-plain_kept : (before : List Record) (r : Record) (held : List ℕ) → held ≡ held_after [] before → (r.kind ≡ Read) ⊎ ((r.kind ≡ Write) ⊎ (r.kind ≡ Chunk)) → Keeps before r held
+plain_kept : (before : List Record) (r : Record) (held : List ℕ) → held ≡ held_after [] before → (r.kind ≡ Read) ⊎ ((r.kind ≡ Write) ⊎ ((r.kind ≡ Chunk) ⊎ (r.kind ≡ Update))) → Keeps before r held
 plain_kept before r held is (inl kind) = kept before r held held Read kind is refl
 plain_kept before r held is (inr (inl kind)) = kept before r held held Write kind is refl
-plain_kept before r held is (inr (inr kind)) = kept before r held held Chunk kind is refl
+plain_kept before r held is (inr (inr (inl kind))) = kept before r held held Chunk kind is refl
+plain_kept before r held is (inr (inr (inr kind))) = kept before r held held Update kind is refl
 
-pub other_told : (task : LogTask) (before : List Record) (r : Record) (held : List ℕ) → held ≡ held_after [] before → (r.kind ≡ Read) ⊎ ((r.kind ≡ Write) ⊎ (r.kind ≡ Chunk)) → Placed task before r
+pub other_told : (task : LogTask) (before : List Record) (r : Record) (held : List ℕ) → held ≡ held_after [] before → (r.kind ≡ Read) ⊎ ((r.kind ≡ Write) ⊎ ((r.kind ≡ Chunk) ⊎ (r.kind ≡ Update))) → Placed task before r
     → BreaksNone task before r × Keeps before r held
 other_told task before r held is kinds place = (none_of task before r (plain_below task before r last_rank (plain_of r.kind kinds) place), plain_kept before r held is kinds)

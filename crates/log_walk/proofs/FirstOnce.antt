@@ -19,13 +19,13 @@ use Rattle.race_model.specs.declared.why.RecordWhy.{RecordWhy}
 use Rattle.race_model.specs.declared.why.RecordWhy.TheVariants as log
 use Rattle.race_model.specs.BadPlace.{BadPlace, no_index, bad_row, missing_log, bad_record, too_many_segments, place_key}
 use Rattle.race_model.specs.FirstBad.{IsFirstBad}
-use Rattle.race_model.proofs.IndexRows.{index_once}
+use Rattle.race_laws.proofs.IndexRows.{index_once}
 use Rattle.log_walk.specs.Walk.{IsLogRow}
 use Rattle.race_model.specs.BadPlace.{last_rank}
 
 -- the rules by their ranks
 abbrev index_rule : ℕ → IndexWhy
-index_rule n = cond (n == 0) index.Header (cond (n == 1) index.TooMany (cond (n == 2) index.Cut (cond (n == 3) index.Depth (cond (n == 4) index.Span (cond (n == 5) index.Lane (cond (n == 6) index.Order (index.Records)))))))
+index_rule n = cond (n == 0) index.Old (cond (n == 1) index.Header (cond (n == 2) index.TooMany (cond (n == 3) index.Cut (cond (n == 4) index.Depth (cond (n == 5) index.Span (cond (n == 6) index.Lane (cond (n == 7) index.Order (index.Records))))))))
 
 abbrev record_rule : ℕ → RecordWhy
 record_rule n = cond (n == 0) log.Header (cond (n == 1) log.Cut (cond (n == 2) log.Kind (cond (n == 3) log.Size (cond (n == 4) log.LineZero (cond (n == 5) log.Address (cond (n == 6) log.Span (cond (n == 7) log.Reserved (cond (n == 8) log.EndEarly (cond (n == 9) log.EndMissing (cond (n == 10) log.LockTwice (cond (n == 11) log.LocksDeep (cond (n == 12) log.UnlockOther (cond (n == 13) log.RootBarrier (cond (n == 14) log.BarrierLocked (cond (n == 15) log.RegionLocked (cond (n == 16) log.LockOpen (cond (n == 17) log.RegionRows (cond (n == 18) log.BarrierCount (log.Extra)))))))))))))))))))
@@ -39,6 +39,7 @@ of_key key = cond (get_or key 0 0 == 0) no_index (cond (get_or key 0 0 == 1) (ba
     (cond (length key == 2) (missing_log (get_or key 1 0)) (of_log_key key (get_or key 3 0))))
 
 of_index_key : (n : ℕ) (rule : IndexWhy) → of_key (place_key (bad_row n rule)) ≡ bad_row n rule
+of_index_key n index.Old = refl
 of_index_key n index.Header = refl
 of_index_key n index.TooMany = refl
 of_index_key n index.Cut = refl

@@ -11,7 +11,7 @@ use Rattle.sw_base.specs.declared.path.Step.{Step}
 use Rattle.log_format.specs.declared.format.Format.{Format}
 use Rattle.log_format.specs.declared.record.Record.{Record}
 use Rattle.log_format.specs.declared.record.Kind.{Kind}
-use Rattle.log_format.specs.declared.record.Kind.TheVariants.{Read, Write, Lock, Unlock, Barrier, Region, Chunk, End}
+use Rattle.log_format.specs.declared.record.Kind.TheVariants.{Read, Write, Lock, Unlock, Barrier, Region, Chunk, End, Update}
 use Rattle.race_model.specs.declared.why.RecordWhy.TheVariants as log
 use Rattle.race_model.specs.Row.{Row}
 use Rattle.race_model.specs.IndexFault.{AreRows, IsRow, IsStep}
@@ -20,11 +20,11 @@ use Rattle.race_model.specs.LogFault.{LogTask}
 use Rattle.race_model.specs.FirstBad.{row_of}
 use Rattle.race_model.specs.Trace.{TaskLog, Trace, Logs, logs_of, region_count, is_region_kind}
 use Rattle.race_model.specs.ForkJoin.{WasForked}
-use Rattle.race_model.proofs.Counts.{count_finds, Counted}
-use Rattle.race_model.proofs.LabelPlace.{has_last, HasLast}
-use Rattle.race_model.proofs.Listed.{above_listed}
+use Rattle.race_laws.proofs.Counts.{count_finds, Counted}
+use Rattle.race_laws.proofs.LabelPlace.{has_last, HasLast}
+use Rattle.race_laws.proofs.Listed.{above_listed}
 use Rattle.race_model.proofs.TraceLogs.{task_in}
-use Rattle.race_model.proofs.FolderRules.{region_of}
+use Rattle.race_laws.proofs.FolderRules.{region_of}
 use Rattle.log_segment.specs.Stack.{HasForks}
 use Rattle.log_segment.specs.Walking.{AreForks, HasLogs, IsOwnAfter}
 use Rattle.log_segment.proofs.Stacks.{Fork, fork_there, lane_first, root_first}
@@ -48,6 +48,7 @@ is_end Unlock = inr (λ e. cc)
 is_end Barrier = inr (λ e. cc)
 is_end Region = inr (λ e. cc)
 is_end Chunk = inr (λ e. cc)
+is_end Update = inr (λ e. cc)
 
 region_from : (k : Kind) → is_region_kind k ≡ true → k ≡ Region
 region_from Region e = refl
@@ -58,6 +59,7 @@ region_from Unlock e = cc
 region_from Barrier e = cc
 region_from Chunk e = cc
 region_from End e = cc
+region_from Update e = cc
 
 not_not_same : (m n : ℕ) → ((m ≢ n) → ⊥) → m ≡ n
 not_not_same m n h = at (same_or_not m n) where

@@ -27,8 +27,8 @@ use Rattle.race_model.specs.LogFault.{LogTask, IsAt, IsLogFault, IsRead, IsWhole
 use Rattle.race_model.specs.Row.{Row}
 use Rattle.race_model.specs.Trace.{TaskLog, Trace}
 use Rattle.race_model.specs.WellFormed.{IsWellFormed}
-use Rattle.race_model.proofs.FolderRules.{lists_spans}
-use Rattle.race_model.proofs.Listed.{spans_listed}
+use Rattle.race_laws.proofs.FolderRules.{lists_spans}
+use Rattle.race_laws.proofs.Listed.{spans_listed}
 
 -- every element is a byte
 abbrev pub AreSmall : List ℕ → Type 0

@@ -16,8 +16,8 @@ use Rattle.race_model.specs.BadPlace.{record_rank}
 use Rattle.race_model.specs.Segment.{segment_count}
 use Rattle.race_model.specs.LogFault.{LogTask, Breaks, IsRead, IsCutRecord, IsUntabled, IsBroken, IsLogFault, OpensTooMany, max_segments}
 use Rattle.log_walk.specs.Check.{KeepsLogRules, NothingBefore, of_why}
-use Rattle.race_model.proofs.LogReading.{same_first, is_next}
-use Rattle.race_model.proofs.LogFaults.{find, not_cut, not_untabled, same_record, no_fault_in}
+use Rattle.race_laws.proofs.LogReading.{same_first, is_next}
+use Rattle.race_laws.proofs.LogFaults.{find, not_cut, not_untabled, same_record, no_fault_in}
 use Rattle.log_walk.proofs.Opening.{segment_count-take}
 
 -- no record that was read opens one segment too many

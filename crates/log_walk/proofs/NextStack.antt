@@ -16,7 +16,7 @@ use Rattle.race_model.specs.IndexFault.{AreRows}
 use Rattle.race_model.specs.Label.{Triple, IsLabel}
 use Rattle.race_model.specs.Listing.{IsNextPath}
 use Rattle.race_model.specs.Trace.{TaskLog, Trace, Logs}
-use Rattle.race_model.proofs.ListedOnce.{next_path}
+use Rattle.race_laws.proofs.ListedOnce.{next_path}
 use Rattle.log_segment.specs.Walking.{HasLogs, WalksLog}
 use Rattle.log_segment.specs.declared.segment.Segment.{Segment}
 use Rattle.log_walk.specs.Check.{ChecksLog}

@@ -3,7 +3,7 @@ use Rattle.std.proofs.Common.{◌≡◌, ℕ, zero, suc, ◌+◌, ◌≤◌, Boo
 use Rattle.std.specs.Prelude.{filter}
 use Rattle.log_format.specs.declared.record.Record.{Record}
 use Rattle.log_format.specs.declared.record.Kind.{Kind}
-use Rattle.log_format.specs.declared.record.Kind.TheVariants.{Read, Write, Lock, Unlock, Barrier, Region, Chunk, End}
+use Rattle.log_format.specs.declared.record.Kind.TheVariants.{Read, Write, Lock, Unlock, Barrier, Region, Chunk, End, Update}
 use Rattle.race_model.specs.Race.{held_after_kind}
 use Rattle.race_model.specs.Segment.{Event, events_from, runs_of, with_event, in_first, has_access, is_access, is_access_event, segment_count}
 use Rattle.log_segment.specs.Walking.{open_after}
@@ -55,6 +55,8 @@ with_prefix-nil (e ∷ es) = at e.event.kind (runs_of es) where
   at Chunk (run ∷ runs) = refl
   at End [] = refl
   at End (run ∷ runs) = refl
+  at Update [] = refl
+  at Update (run ∷ runs) = refl
 
 with_prefix-in_first : (prefix : List Event) (e : Event) (runs : List (List Event)) → with_prefix prefix (in_first e runs) ≡ with_prefix (prefix ++ e ∷ []) runs
 with_prefix-in_first prefix e [] = refl
@@ -83,6 +85,8 @@ goes_on Read true records x h _ _ = omega (arith, h true refl)
 goes_on Read false records x h _ _ = omega (arith, h true refl)
 goes_on Write true records x h _ _ = omega (arith, h true refl)
 goes_on Write false records x h _ _ = omega (arith, h true refl)
+goes_on Update true records x h _ _ = omega (arith, h true refl)
+goes_on Update false records x h _ _ = omega (arith, h true refl)
 goes_on Region b records x h differs _ = absurd (differs refl)
 goes_on Barrier b records x h _ differs = absurd (differs refl)
 goes_on _ true records x h _ _ = omega (arith, h true refl)
@@ -122,6 +126,8 @@ step_runs prefix e n held records rest Chunk is =
     goes_on Chunk (has_access prefix) records _ (keeps_run prefix e n held records rest Chunk is) (λ (same : Chunk ≡ Region). absurd cc) (λ (same : Chunk ≡ Barrier). absurd cc)
 step_runs prefix e n held records rest End is =
     goes_on End (has_access prefix) records _ (keeps_run prefix e n held records rest End is) (λ (same : End ≡ Region). absurd cc) (λ (same : End ≡ Barrier). absurd cc)
+step_runs prefix e n held records rest Update is =
+    goes_on Update (has_access prefix) records _ (keeps_run prefix e n held records rest Update is) (λ (same : Update ≡ Region). absurd cc) (λ (same : Update ≡ Barrier). absurd cc)
 
 -- a run that is open counts once it has an access, and the records after it count what they open
 count_runs : (n : ℕ) (held : List ℕ) (records : List Record) → Counts n held records

@@ -29,18 +29,18 @@ use Rattle.race_model.specs.BadPlace.{BadPlace, no_index, bad_row, missing_log, 
 use Rattle.race_model.specs.LogFault.{LogTask, IsLogFault, OpensTooMany, IsWholeLog, HasTeamBarriers, RowAt, ListsSpans, IsMissingLog, IsBadRecord, max_segments}
 use Rattle.race_model.specs.FirstBad.{rows_of, row_of, segments_in, HoldsLogs, HoldsTrace, IsOneTooMany, IsBad, IsFirstBad}
 use Rattle.race_model.specs.WellFormed.{IsWellFormed}
-use Rattle.race_model.proofs.IndexPlaces.{index_good}
+use Rattle.race_laws.proofs.IndexPlaces.{index_good}
 use Rattle.log_walk.specs.Check.{NothingBefore}
 use Rattle.log_walk.specs.GoodTrace.{IsGoodTask, IsGoodTrace, AreTeamBarriers, FollowsTeam, log_task}
 use Rattle.log_walk.specs.Walk.{Walked}
 use Rattle.log_walk.proofs.SoFar.{below_or_at, slice_get_left, slice_get_last}
 use Rattle.log_walk.proofs.Next.{no_overflow_in}
-use Rattle.race_model.proofs.IndexRows.{index_once}
-use Rattle.race_model.proofs.FolderTrace.{same_tasks}
+use Rattle.race_laws.proofs.IndexRows.{index_once}
+use Rattle.race_laws.proofs.FolderTrace.{same_tasks}
 use Rattle.race_model.proofs.TraceLogs.{RowTask, task_in}
-use Rattle.race_model.proofs.LogOnce.{log_once, spans_once}
-use Rattle.race_model.proofs.LogReading.{whole_read}
-use Rattle.race_model.proofs.LogFaults.{no_fault_whole, other_team}
+use Rattle.race_laws.proofs.LogOnce.{log_once, spans_once}
+use Rattle.race_laws.proofs.LogReading.{whole_read}
+use Rattle.race_laws.proofs.LogFaults.{no_fault_whole, other_team}
 use Rattle.race_model.specs.BadPlace.{last_rank}
 
 -- ---- what a place tells stands on the trace

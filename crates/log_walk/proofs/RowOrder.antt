@@ -5,7 +5,7 @@ use Rattle.std.proofs.lemmas.Bool.{cases_order}
 use Rattle.std.proofs.lemmas.Option.{same_Some}
 use Rattle.sw_base.specs.declared.path.Step.{Step}
 use Rattle.race_model.specs.Listing.{IsListing, BeginsListing, IsNextPath}
-use Rattle.race_model.proofs.Listings.{IsChain, chain_of_begins, begins_at_root, lists_begins}
+use Rattle.race_laws.proofs.Listings.{IsChain, chain_of_begins, begins_at_root, lists_begins}
 
 -- an earlier region, or an earlier lane of the same
 abbrev pub StepBefore : Step → Step → Type 0

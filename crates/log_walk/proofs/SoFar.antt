@@ -24,7 +24,7 @@ use Rattle.log_walk.specs.Check.{KeepsLogRules, NothingBefore, of_why, IsLogRefu
 use Rattle.log_walk.specs.Rules.{BreaksNone}
 use Rattle.log_walk.specs.State.{IsStateAfter}
 use Rattle.log_walk.proofs.Next.{next_cut, next_untabled, before_next, before_cut, before_untabled, before_broken}
-use Rattle.race_model.proofs.LogFaults.{past_end}
+use Rattle.race_laws.proofs.LogFaults.{past_end}
 use Rattle.log_walk.proofs.Opening.{segment_count-push}
 
 -- these records were read of a log, and the rest is left

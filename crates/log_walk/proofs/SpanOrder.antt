@@ -10,7 +10,7 @@ use Rattle.race_model.specs.Row.{Row}
 use Rattle.race_model.specs.Listing.{IsListing, lane_of}
 use Rattle.race_model.specs.LogFault.{ListsRegion, ListsSpans}
 use Rattle.race_model.specs.IndexFault.{AreRows}
-use Rattle.race_model.proofs.Listed.{AreSpans, HasSpans, spans_listed}
+use Rattle.race_laws.proofs.Listed.{AreSpans, HasSpans, spans_listed}
 use Rattle.log_walk.proofs.RowOrder.{PathBefore, listing_sorted, listed_once, lane_not_before, step_trans, not_before_itself}
 use Rattle.log_walk.proofs.SoFar.{below_or_at}
 

@@ -10,8 +10,8 @@ use Rattle.log_format.specs.declared.record.Record.{Record}
 use Rattle.race_model.specs.Label.{Triple}
 use Rattle.race_model.specs.Listing.{IsNextPath, lane_of}
 use Rattle.race_model.specs.Trace.{TaskLog, Trace, Logs, barrier_count}
-use Rattle.race_model.proofs.LabelPlace.{has_last, HasLast}
-use Rattle.race_model.proofs.ListedOnce.{NextShape, next_shape}
+use Rattle.race_laws.proofs.LabelPlace.{has_last, HasLast}
+use Rattle.race_laws.proofs.ListedOnce.{NextShape, next_shape}
 use Rattle.log_segment.specs.Stack.{HasForks}
 use Rattle.log_segment.specs.Walking.{AreForks, HasLogs}
 use Rattle.log_walk.specs.GoodTrace.{AreTeamBarriers, LeadsTeam}

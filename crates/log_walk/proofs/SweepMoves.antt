@@ -14,7 +14,7 @@ use Rattle.race_model.specs.IndexFault.{AreRows, IsIndex, IsRow, IsStep}
 use Rattle.race_model.specs.Listing.{IsListing, IsNextPath}
 use Rattle.race_model.specs.Segment.{Segment as Interval, segments_of, task_segments}
 use Rattle.race_model.specs.Trace.{TaskLog, Trace, Logs, logs_of}
-use Rattle.race_model.proofs.ListedOnce.{next_path}
+use Rattle.race_laws.proofs.ListedOnce.{next_path}
 use Rattle.log_segment.specs.declared.segment.Segment.{Segment}
 use Rattle.log_segment.specs.Intervals.{IsSegmentOf}
 use Rattle.log_segment.specs.Walking.{AddsSegments, HasLogs}

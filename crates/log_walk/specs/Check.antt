@@ -3,7 +3,7 @@ use Rattle.std.specs.Prelude.{◌≡◌, ◌⊎◌, ℕ, ◌+◌, ◌<◌, ◌�
 use Rattle.log_format.specs.declared.format.Format.{Format}
 use Rattle.log_format.specs.Format.{log_header}
 use Rattle.log_format.specs.declared.record.Kind.{Kind}
-use Rattle.log_format.specs.declared.record.Kind.TheVariants.{Read, Write, Lock, Unlock, Barrier, Region, Chunk, End}
+use Rattle.log_format.specs.declared.record.Kind.TheVariants.{Read, Write, Lock, Unlock, Barrier, Region, Chunk, End, Update}
 use Rattle.log_format.specs.declared.record.Record.{Record}
 use Rattle.log_format.specs.declared.record.Why.{Why}
 use Rattle.log_format.specs.declared.record.Why.TheVariants as why
@@ -56,6 +56,7 @@ opens_by Barrier open_before = 0
 opens_by Region open_before = 0
 opens_by Chunk open_before = 0
 opens_by End open_before = 0
+opens_by Update open_before = cond open_before 0 1
 
 -- whether a segment with an access is open after these records
 abbrev pub is_open : Bool → List Record → Bool

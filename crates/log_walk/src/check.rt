@@ -158,18 +158,17 @@ fn next_record<F: Folder>(
         → IfOk result (λ r. IsTabled format r × BreaksNone (log_task_of task.now) before r) }
     ensures follows { (opened : ℕ) (before : List Record) → IsStateAfter state.old opened before → IsWalkAfter walk.now before → index ≡ length before
         → IfOk result (λ r. IsStateAfter state.new opened (before ++ r ∷ [])) }
-    ensures read { IfOk result (λ r. WhereTold (F.content folder.old) (λ c. Shows window.old (file_of c name.now) → PassesRecord (file_of c name.now) r window.old window.new)) }
+    ensures read { IfOk result (λ r. WhereTold (F.state folder.old).content (λ c. Shows window.old (file_of c name.now) → PassesRecord (file_of c name.now) r window.old window.new)) }
     ensures refused { (opened : ℕ) (before : List Record) → IsStateAfter state.old opened before → IsWalkAfter walk.now before → index ≡ length before
-        → IfErr result (λ e. WhereTold (F.content folder.old) (λ c. Shows window.old (file_of c name.now)
+        → IfErr result (λ e. WhereTold (F.state folder.old).content (λ c. Shows window.old (file_of c name.now)
         → IsLeftRefused format (drop window.old.place (file_of c name.now)) (log_task_of task.now) opened before (index + 1) e)) }
     ensures place { OnOk result (window.new.place ≡ window.old.place + 24) }
     ensures limit { OnOk result (state.new.segments ≤ max_segments) }
     ensures barriers { OnOk result (state.new.barriers ≤ index + 1) }
 
-    ensures same { F.content folder.new ≡ F.content folder.old }
+    ensures same { F.state folder.new ≡ F.state folder.old }
     ensures later { F.read_faults folder.old ≤ F.read_faults folder.new }
     ensures cause { IsErrOf result LogFault.ReadFault → Rose (F.read_faults folder.old) (F.read_faults folder.new) }
-    ensures same_writes { F.write_faults folder.new ≡ F.write_faults folder.old }
 {
     let number = index + 1;
     window.fill(alloc, folder, name, RECORD)?;
@@ -199,13 +198,12 @@ pub fn check_log<F: Folder>(
     requires opened { opened ≤ max_segments }
     requires records { task.now.records ≤ max_records }
     requires own { IsOwnAfter label 1 }
-    ensures good { IfOk result (λ checked. ChecksLog format (F.content folder.old) name.now task.now opened label checked found.old.items found.new.items) }
-    ensures refused { IfErr result (λ e. WhereTold (F.content folder.old) (λ x. IsLogRefused format (file_of x name.now) (log_task_of task.now) opened e)) }
+    ensures good { IfOk result (λ checked. ChecksLog format (F.state folder.old).content name.now task.now opened label checked found.old.items found.new.items) }
+    ensures refused { IfErr result (λ e. WhereTold (F.state folder.old).content (λ x. IsLogRefused format (file_of x name.now) (log_task_of task.now) opened e)) }
 
-    ensures same { F.content folder.new ≡ F.content folder.old }
+    ensures same { F.state folder.new ≡ F.state folder.old }
     ensures later { F.read_faults folder.old ≤ F.read_faults folder.new }
     ensures cause { IsErrOf result LogFault.ReadFault → Rose (F.read_faults folder.old) (F.read_faults folder.new) }
-    ensures same_writes { F.write_faults folder.new ≡ F.write_faults folder.old }
 {
     window.restart();
     if !window.pass_header(alloc, folder, name, &format.log_header())? {

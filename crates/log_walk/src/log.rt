@@ -30,12 +30,11 @@ fn find_log<F: Folder>(
     path: &Path,
 ) -> Result<String, WalkFault>
     ensures name { IfOk result (λ name. string_bytes name ≡ log_name dir.now path.now) }
-    ensures found { OnOk result (WhereTold (F.content folder.old) (λ c. HoldsFile c (log_name dir.now path.now))) }
-    ensures unread { IfErr result (λ e. IsUnread (F.content folder.old) dir.now path.now e) }
-    ensures same { F.content folder.new ≡ F.content folder.old }
+    ensures found { OnOk result (WhereTold (F.state folder.old).content (λ c. HoldsFile c (log_name dir.now path.now))) }
+    ensures unread { IfErr result (λ e. IsUnread (F.state folder.old).content dir.now path.now e) }
+    ensures same { F.state folder.new ≡ F.state folder.old }
     ensures later { F.read_faults folder.old ≤ F.read_faults folder.new }
     ensures cause { IsErrOf result WalkFault.ReadFault → Rose (F.read_faults folder.old) (F.read_faults folder.new) }
-    ensures same_writes { F.write_faults folder.new ≡ F.write_faults folder.old }
 {
     let name = path.name(alloc, dir)?;
     match folder.size(alloc, &name) {
@@ -95,15 +94,14 @@ pub fn walk_log<F: Folder>(
     requires within { stack.old.place < length rows.now }
     requires stands { (trace : Trace) × IsStackAfter format rows.now stack.old trace }
     ensures walks { (trace : Trace) (row : Row) → IsStackAfter format rows.now stack.old trace → slice_get rows.now stack.old.place ≡ Some row
-        → OnOk result (WalksTask format (F.content folder.old) dir.now rows.now stack.new trace row found.old.items found.new.items) }
+        → OnOk result (WalksTask format (F.state folder.old).content dir.now rows.now stack.new trace row found.old.items found.new.items) }
     ensures place { OnOk result (stack.new.place ≡ stack.old.place + 1) }
     ensures refused { (trace : Trace) (row : Row) → IsStackAfter format rows.now stack.old trace → slice_get rows.now stack.old.place ≡ Some row
-        → IfErr result (λ e. WhereTold (F.content folder.old) (λ c. Walked format c.held dir.now rows.now trace → TellsFirstBad format c.held dir.now e)) }
+        → IfErr result (λ e. WhereTold (F.state folder.old).content (λ c. Walked format c.held dir.now rows.now trace → TellsFirstBad format c.held dir.now e)) }
     ensures of_row { (row : Row) → slice_get rows.now stack.old.place ≡ Some row → IfErr result (λ e. RefusesLogOf (λ path. path ≡ row.path) e) }
-    ensures same { F.content folder.new ≡ F.content folder.old }
+    ensures same { F.state folder.new ≡ F.state folder.old }
     ensures later { F.read_faults folder.old ≤ F.read_faults folder.new }
     ensures cause { IsErrOf result WalkFault.ReadFault → Rose (F.read_faults folder.old) (F.read_faults folder.new) }
-    ensures same_writes { F.write_faults folder.new ≡ F.write_faults folder.old }
 {
     let row = &rows[stack.place];
     let name = find_log(alloc, folder, dir, &row.path)?;

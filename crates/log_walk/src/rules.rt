@@ -21,7 +21,8 @@ pub fn place(kind: Kind, number: u32, count: u32) -> Option<RecordWhy>
         | Kind::Unlock
         | Kind::Barrier
         | Kind::Region
-        | Kind::Chunk => (number == count).then_some(RecordWhy::EndMissing),
+        | Kind::Chunk
+        | Kind::Update => (number == count).then_some(RecordWhy::EndMissing),
     }
 }
 

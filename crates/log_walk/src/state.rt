@@ -64,7 +64,7 @@ impl State {
             Kind::Barrier => rules::barrier(&self.held, &task.path),
             Kind::Region => rules::region(&self.held, &task.spans, regions, next.value),
             Kind::End => rules::end(&self.held, task, regions, self.barriers),
-            Kind::Read | Kind::Write | Kind::Chunk => None,
+            Kind::Read | Kind::Write | Kind::Chunk | Kind::Update => None,
         }
     }
 
@@ -95,7 +95,7 @@ impl State {
                 self.barriers += 1;
                 true
             }
-            Kind::Read | Kind::Write => is_open || self.open(),
+            Kind::Read | Kind::Write | Kind::Update => is_open || self.open(),
             Kind::Lock | Kind::Unlock | Kind::Region | Kind::Chunk | Kind::End => true,
         }
     }

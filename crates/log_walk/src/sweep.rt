@@ -56,13 +56,12 @@ fn walk_region<F: Folder>(
     requires fits { (trace : Trace) × IsStackAfter format rows.now stack.old trace }
     requires ahead { stack.old.place < length rows.now }
     ensures walks { (trace : Trace) → IsStackAfter format rows.now stack.old trace → AreRegions region rows.now trace
-        → IfOk result (λ found. WalksRegion format (F.content folder.old) dir.now rows.now region stack.new trace found.items) }
-    ensures refused { (trace : Trace) → IsStackAfter format rows.now stack.old trace → WhereTold (F.content folder.old) (λ c. Walked format c.held dir.now rows.now trace)
-        → IfErr result (λ e. RefusesLogOf (IsUnderRegion region) e × WhereTold (F.content folder.old) (λ c. TellsFirstBad format c.held dir.now e)) }
-    ensures same { F.content folder.new ≡ F.content folder.old }
+        → IfOk result (λ found. WalksRegion format (F.state folder.old).content dir.now rows.now region stack.new trace found.items) }
+    ensures refused { (trace : Trace) → IsStackAfter format rows.now stack.old trace → WhereTold (F.state folder.old).content (λ c. Walked format c.held dir.now rows.now trace)
+        → IfErr result (λ e. RefusesLogOf (IsUnderRegion region) e × WhereTold (F.state folder.old).content (λ c. TellsFirstBad format c.held dir.now e)) }
+    ensures same { F.state folder.new ≡ F.state folder.old }
     ensures later { F.read_faults folder.old ≤ F.read_faults folder.new }
     ensures cause { IsErrOf result WalkFault.ReadFault → Rose (F.read_faults folder.old) (F.read_faults folder.new) }
-    ensures same_writes { F.write_faults folder.new ≡ F.write_faults folder.old }
 {
     let mut found = Vec::new(alloc);
     'tasks: for index in stack.place..rows.len() {
@@ -82,13 +81,12 @@ impl Sweep {
         folder: &mut F,
         dir: &str,
     ) -> Result<(Sweep, Vec<Segment>), WalkFault>
-        ensures begins { IfOk result (λ pair. BeginsSweep FORMAT (F.content folder.old) dir.now pair.0 pair.1.items) }
-        ensures refused { IfErr result (λ e. RefusesIndexOrRoot e × WhereTold (F.content folder.old) (λ c. TellsFirstBad FORMAT c.held dir.now e)) }
+        ensures begins { IfOk result (λ pair. BeginsSweep FORMAT (F.state folder.old).content dir.now pair.0 pair.1.items) }
+        ensures refused { IfErr result (λ e. RefusesIndexOrRoot e × WhereTold (F.state folder.old).content (λ c. TellsFirstBad FORMAT c.held dir.now e)) }
 
-        ensures same { F.content folder.new ≡ F.content folder.old }
+        ensures same { F.state folder.new ≡ F.state folder.old }
         ensures later { F.read_faults folder.old ≤ F.read_faults folder.new }
         ensures cause { IsErrOf result WalkFault.ReadFault → Rose (F.read_faults folder.old) (F.read_faults folder.new) }
-        ensures same_writes { F.write_faults folder.new ≡ F.write_faults folder.old }
     {
         Sweep::open_as(alloc, FORMAT, folder, dir)
     }
@@ -100,13 +98,12 @@ impl Sweep {
         folder: &mut F,
         dir: &str,
     ) -> Result<(Sweep, Vec<Segment>), WalkFault>
-        ensures begins { IfOk result (λ pair. BeginsSweep format (F.content folder.old) dir.now pair.0 pair.1.items) }
-        ensures refused { IfErr result (λ e. RefusesIndexOrRoot e × WhereTold (F.content folder.old) (λ c. TellsFirstBad format c.held dir.now e)) }
+        ensures begins { IfOk result (λ pair. BeginsSweep format (F.state folder.old).content dir.now pair.0 pair.1.items) }
+        ensures refused { IfErr result (λ e. RefusesIndexOrRoot e × WhereTold (F.state folder.old).content (λ c. TellsFirstBad format c.held dir.now e)) }
 
-        ensures same { F.content folder.new ≡ F.content folder.old }
+        ensures same { F.state folder.new ≡ F.state folder.old }
         ensures later { F.read_faults folder.old ≤ F.read_faults folder.new }
         ensures cause { IsErrOf result WalkFault.ReadFault → Rose (F.read_faults folder.old) (F.read_faults folder.new) }
-        ensures same_writes { F.write_faults folder.new ≡ F.write_faults folder.old }
     {
         let mut found = Vec::new(alloc);
         let rows = read_index_as(alloc, format, folder, dir)?;
@@ -144,22 +141,21 @@ impl Sweep {
         alloc: Global,
         folder: &mut F,
     ) -> Result<Option<Vec<Segment>>, WalkFault>
-        requires swept { (format : Format) × (dir : List ℕ) × (trace : Trace) × HasSwept format (F.content folder.old) dir self.old trace }
-        ensures region { (format : Format) (dir : List ℕ) (trace : Trace) → HasSwept format (F.content folder.old) dir self.old trace
-            → IfOk result (λ found. IfSome found (λ segments. GivesRegion format (F.content folder.old) dir self.old self.new trace segments.items)) }
+        requires swept { (format : Format) × (dir : List ℕ) × (trace : Trace) × HasSwept format (F.state folder.old).content dir self.old trace }
+        ensures region { (format : Format) (dir : List ℕ) (trace : Trace) → HasSwept format (F.state folder.old).content dir self.old trace
+            → IfOk result (λ found. IfSome found (λ segments. GivesRegion format (F.state folder.old).content dir self.old self.new trace segments.items)) }
         ensures shrinks { IfOk result (λ found. IfSome found (λ _. logs_left self.new < logs_left self.old)) }
-        ensures all { (format : Format) (dir : List ℕ) (trace : Trace) → HasSwept format (F.content folder.old) dir self.old trace
-            → IfOk result (λ found. found ≡ None → (self.new ≡ self.old) × HasSweptAll format (F.content folder.old) dir self.old trace) }
-        ensures refused { (format : Format) (dir : List ℕ) (trace : Trace) → HasSwept format (F.content folder.old) dir self.old trace
+        ensures all { (format : Format) (dir : List ℕ) (trace : Trace) → HasSwept format (F.state folder.old).content dir self.old trace
+            → IfOk result (λ found. found ≡ None → (self.new ≡ self.old) × HasSweptAll format (F.state folder.old).content dir self.old trace) }
+        ensures refused { (format : Format) (dir : List ℕ) (trace : Trace) → HasSwept format (F.state folder.old).content dir self.old trace
             → IfErr result (λ e. HasRefused self.new e × RefusesLogOf (IsUnderRegion (regions_given self.old)) e
-            × WhereTold (F.content folder.old) (λ c. TellsFirstBad format c.held dir e) × HasSwept format (F.content folder.old) dir self.new trace) }
+            × WhereTold (F.state folder.old).content (λ c. TellsFirstBad format c.held dir e) × HasSwept format (F.state folder.old).content dir self.new trace) }
         ensures unrefused { OnOk result ((e : WalkFault) → HasRefused self.new e → ⊥) }
         ensures again { (e : WalkFault) → HasRefused self.old e → result ≡ Err e }
 
-        ensures same { F.content folder.new ≡ F.content folder.old }
+        ensures same { F.state folder.new ≡ F.state folder.old }
         ensures later { F.read_faults folder.old ≤ F.read_faults folder.new }
         ensures cause { IsErrOf result WalkFault.ReadFault → Rose (F.read_faults folder.old) (F.read_faults folder.new) ⊎ HasRefused self.old WalkFault.ReadFault }
-        ensures same_writes { F.write_faults folder.new ≡ F.write_faults folder.old }
     {
         if let Some(refusal) = &self.refused {
             return Err(refusal.copy());

@@ -13,13 +13,12 @@ use sw_base::Folder;
 
 /// Sweeps through a folder for its first bad place. Segments are dropped.
 pub fn sweep_all<F: Folder>(alloc: Global, folder: &mut F, dir: &str) -> Result<Sweep, WalkFault>
-    ensures all { IfOk result (λ sweep. (trace : Trace) × HasSweptAll FORMAT (F.content folder.old) dir.now sweep trace) }
-    ensures refused { IfErr result (λ e. WhereTold (F.content folder.old) (λ c. TellsFirstBad FORMAT c.held dir.now e)) }
+    ensures all { IfOk result (λ sweep. (trace : Trace) × HasSweptAll FORMAT (F.state folder.old).content dir.now sweep trace) }
+    ensures refused { IfErr result (λ e. WhereTold (F.state folder.old).content (λ c. TellsFirstBad FORMAT c.held dir.now e)) }
 
-    ensures same { F.content folder.new ≡ F.content folder.old }
+    ensures same { F.state folder.new ≡ F.state folder.old }
     ensures later { F.read_faults folder.old ≤ F.read_faults folder.new }
     ensures cause { IsErrOf result WalkFault.ReadFault → Rose (F.read_faults folder.old) (F.read_faults folder.new) }
-    ensures same_writes { F.write_faults folder.new ≡ F.write_faults folder.old }
 {
     let (mut sweep, _root) = Sweep::open(alloc, folder, dir)?;
     'regions: while let Some(_segments) = sweep.next(alloc, folder)? {}

@@ -16,14 +16,13 @@ use sw_base::Folder;
 /// The barrier intervals of a folder's trace, in the order of its rows, and in each log by number, each with its label,
 /// where the folder is well formed. Else the folder's first bad place.
 pub fn walk<F: Folder>(alloc: Global, folder: &mut F, dir: &str) -> Result<Vec<Segment>, WalkFault>
-    ensures segments { IfOk result (λ found. AreOfFolder FORMAT (F.content folder.old) dir.now found.items) }
-    ensures well_formed { OnOk result (WhereTold (F.content folder.old) (λ c. IsWellFormed FORMAT c.held dir.now)) }
-    ensures refused { IfErr result (λ e. WhereTold (F.content folder.old) (λ c. TellsFirstBad FORMAT c.held dir.now e)) }
+    ensures segments { IfOk result (λ found. AreOfFolder FORMAT (F.state folder.old).content dir.now found.items) }
+    ensures well_formed { OnOk result (WhereTold (F.state folder.old).content (λ c. IsWellFormed FORMAT c.held dir.now)) }
+    ensures refused { IfErr result (λ e. WhereTold (F.state folder.old).content (λ c. TellsFirstBad FORMAT c.held dir.now e)) }
 
-    ensures same { F.content folder.new ≡ F.content folder.old }
+    ensures same { F.state folder.new ≡ F.state folder.old }
     ensures later { F.read_faults folder.old ≤ F.read_faults folder.new }
     ensures cause { IsErrOf result WalkFault.ReadFault → Rose (F.read_faults folder.old) (F.read_faults folder.new) }
-    ensures same_writes { F.write_faults folder.new ≡ F.write_faults folder.old }
 {
     walk_as(alloc, FORMAT, folder, dir)
 }
@@ -35,14 +34,13 @@ pub fn walk_as<F: Folder>(
     folder: &mut F,
     dir: &str,
 ) -> Result<Vec<Segment>, WalkFault>
-    ensures segments { IfOk result (λ found. AreOfFolder format (F.content folder.old) dir.now found.items) }
-    ensures well_formed { OnOk result (WhereTold (F.content folder.old) (λ c. IsWellFormed format c.held dir.now)) }
-    ensures refused { IfErr result (λ e. WhereTold (F.content folder.old) (λ c. TellsFirstBad format c.held dir.now e)) }
+    ensures segments { IfOk result (λ found. AreOfFolder format (F.state folder.old).content dir.now found.items) }
+    ensures well_formed { OnOk result (WhereTold (F.state folder.old).content (λ c. IsWellFormed format c.held dir.now)) }
+    ensures refused { IfErr result (λ e. WhereTold (F.state folder.old).content (λ c. TellsFirstBad format c.held dir.now e)) }
 
-    ensures same { F.content folder.new ≡ F.content folder.old }
+    ensures same { F.state folder.new ≡ F.state folder.old }
     ensures later { F.read_faults folder.old ≤ F.read_faults folder.new }
     ensures cause { IsErrOf result WalkFault.ReadFault → Rose (F.read_faults folder.old) (F.read_faults folder.new) }
-    ensures same_writes { F.write_faults folder.new ≡ F.write_faults folder.old }
 {
     let (mut sweep, mut found) = Sweep::open_as(alloc, format, folder, dir)?;
     let left = sweep.left();

@@ -7,7 +7,7 @@ use Rattle.race_model.specs.Label.{IsLabelBefore, IsConcurrent}
 use Rattle.race_model.specs.Order.{HappensBefore}
 use Rattle.race_model.specs.Race.{IsUnordered}
 use Rattle.race_model.specs.Trace.{Logs, Node, IsThere}
-use Rattle.race_model.proofs.LabelLaw.{happens_before_by_labels, concurrent_unordered, unordered_concurrent}
+use Rattle.race_laws.proofs.LabelLaw.{happens_before_by_labels, concurrent_unordered, unordered_concurrent}
 use Rattle.pair_compare.specs.Accesses.{AreDifferent, IsAccessOf}
 use Rattle.pair_compare.proofs.SegmentPlace.{different_labels}
 

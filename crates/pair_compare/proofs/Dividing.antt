@@ -5,7 +5,7 @@ use Rattle.std.proofs.lemmas.List.{append-nil}
 use Rattle.std.proofs.lemmas.List.Elements.{All-contains, All-contains_itself, All-filter, filter_passes}
 use Rattle.log_segment.specs.declared.segment.Segment.{Segment}
 use Rattle.race_model.specs.Label.{Triple, IsConcurrent, IsLabelBefore}
-use Rattle.race_model.proofs.LabelOrder.{label_before_longer}
+use Rattle.race_laws.proofs.LabelOrder.{label_before_longer}
 use Rattle.pair_compare.specs.Fields.{Agrees, AreHalves, field_value, label_value}
 use Rattle.pair_compare.specs.Groups.{pointed}
 use Rattle.pair_compare.specs.declared.field.Field.{Field}

@@ -1,7 +1,7 @@
 -- Labels that are the same before a field and differ there.
 use Rattle.std.proofs.Common.{◌≡◌, ◌⊎◌, ◌%◌, ◌<◌, List, [], ◌∷◌, ◌++◌, inl, inr, refl, sym, ap, arith}
 use Rattle.race_model.specs.Label.{Triple, IsConcurrent, IsLabelBefore, IsTripleBefore}
-use Rattle.race_model.proofs.LabelOrder.{label_before_below, label_before_first, label_before_rest}
+use Rattle.race_laws.proofs.LabelOrder.{label_before_below, label_before_first, label_before_rest}
 
 -- two labels of which one is before the other
 abbrev pub AreOrdered : List Triple → List Triple → Type 0

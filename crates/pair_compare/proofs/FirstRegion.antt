@@ -8,8 +8,8 @@ use Rattle.race_model.specs.ForkJoin.{IsForkJoin, IsTask}
 use Rattle.race_model.specs.Label.{IsConcurrent, IsLabel, IsLabelBefore, Triple, lane_triple}
 use Rattle.race_model.specs.Race.{IsRacePair}
 use Rattle.race_model.specs.Trace.{Logs, Node, IsThere, regions_before}
-use Rattle.race_model.proofs.LabelLaw.{unordered_concurrent}
-use Rattle.race_model.proofs.LabelPlace.{label_exists}
+use Rattle.race_laws.proofs.LabelLaw.{unordered_concurrent}
+use Rattle.race_laws.proofs.LabelPlace.{label_exists}
 use Rattle.std.proofs.lemmas.Option.{slice_get_within}
 use Rattle.pair_compare.specs.Compare.{IsSegmentPair}
 use Rattle.pair_compare.specs.Conflict.{AddsPairs}

@@ -1,10 +1,8 @@
 pub mod Adds
 pub mod Inserts
 pub mod Meeting
-pub mod Finding
 pub mod Races
 pub mod FirstRegion
-pub mod Segments
 pub mod Tasks
 pub mod Findings
 pub mod Members

@@ -40,6 +40,7 @@ IsPairOfRuns-from xs ys pair h =
               | inl w ↦ inl (subst (λ (k : Key). IsTrue k.write) (sym mine) w)
               | inr w ↦ inr (subst (λ (k : Key). IsTrue k.write) (sym yours) w)
             ];
+            not_both_atomic = λ m n. h.conflict.not_both_atomic (subst (λ (k : Key). IsTrue k.atomic) mine m) (subst (λ (k : Key). IsTrue k.atomic) yours n);
             no_mutex = subst (λ (k : Key). AreDisjoint k.held b.run.held) (sym mine) (subst (λ (k : Key). AreDisjoint h.key.held k.held) (sym yours) h.conflict.no_mutex);
           };
           lines = h.lines ∙ sym (λ i. line_pair (mine i).line (yours i).line);
@@ -65,6 +66,7 @@ IsConflictPair-from xs ys pair h =
         first = record { from_start = both.shares.first.from_start; to_end = both.shares.first.to_end };
         second = record { from_start = both.shares.second.from_start; to_end = both.shares.second.to_end };
         writes = both.writes;
+        not_both_atomic = both.not_both_atomic;
         no_mutex = both.no_mutex;
       };
       lines = h.has.has.lines;

@@ -1,17 +1,17 @@
 -- The pairs of segments of a run are its races.
-use Rattle.std.proofs.Common.{◌≡◌, ◌↔◌, ℕ, List, Some, Contains, inl, inr, refl, sym, ap, ◌∙◌, subst, IsTrue, arith}
+use Rattle.std.proofs.Common.{◌≡◌, ◌↔◌, ◌⊎◌, ℕ, List, Some, Contains, inl, inr, refl, sym, ap, ◌∙◌, subst, IsTrue, arith}
 use Rattle.sw_base.specs.declared.path.Step.{Step}
 use Rattle.log_format.specs.declared.record.Record.{Record}
 use Rattle.log_format.specs.declared.record.Kind.{Kind}
-use Rattle.log_format.specs.declared.record.Kind.TheVariants.{Write}
+use Rattle.log_format.specs.declared.record.Kind.TheVariants.{Write, Update}
 use Rattle.stride_summary.specs.declared.key.Key.{Key}
 use Rattle.log_segment.specs.declared.segment.Segment.{Segment}
-use Rattle.log_segment.specs.Accesses.{is_write}
+use Rattle.log_segment.specs.Accesses.{is_atomic, is_write}
 use Rattle.log_segment.specs.Intervals.{IsAccessAt, HasAccess, AreSegments}
 use Rattle.race_model.specs.Trace.{Logs, Node, IsThere, record_at}
-use Rattle.race_model.specs.Race.{HasByte, IsRacePair, held_at}
+use Rattle.race_model.specs.Race.{HasByte, IsChange, IsRacePair, held_at}
 use Rattle.race_model.specs.ForkJoin.{IsForkJoin}
-use Rattle.race_model.proofs.LabelLaw.{concurrent_unordered, unordered_concurrent}
+use Rattle.race_laws.proofs.LabelLaw.{concurrent_unordered, unordered_concurrent}
 use Rattle.std.proofs.lemmas.Option.{slice_get_within}
 use Rattle.pair_compare.specs.Conflict.{Touches, line_pair}
 use Rattle.pair_compare.specs.Compare.{IsRacingPair, IsSegmentPair}
@@ -34,21 +34,40 @@ Touches-from logs x r key address byte is h =
     let to = h.to_end in
     record { from_start = omega arith; to_end = omega arith }
 
-write_kind : (kind : Kind) → IsTrue (is_write kind) → kind ≡ Write
-write_kind Kind.Read h = cc
-write_kind Kind.Write h = refl
-write_kind Kind.Lock h = cc
-write_kind Kind.Unlock h = cc
-write_kind Kind.Barrier h = cc
-write_kind Kind.Region h = cc
-write_kind Kind.Chunk h = cc
-write_kind Kind.End h = cc
+-- a record whose key writes changes memory, and one whose key is atomic is an update
+changes_kind : (kind : Kind) → IsTrue (is_write kind) ↔ ((kind ≡ Write) ⊎ (kind ≡ Update))
+changes_kind Kind.Read = ((λ h. cc), (λ h. elim h [ inl e ↦ cc | inr e ↦ cc ]))
+changes_kind Kind.Write = ((λ h. inl refl), (λ h. refl))
+changes_kind Kind.Lock = ((λ h. cc), (λ h. elim h [ inl e ↦ cc | inr e ↦ cc ]))
+changes_kind Kind.Unlock = ((λ h. cc), (λ h. elim h [ inl e ↦ cc | inr e ↦ cc ]))
+changes_kind Kind.Barrier = ((λ h. cc), (λ h. elim h [ inl e ↦ cc | inr e ↦ cc ]))
+changes_kind Kind.Region = ((λ h. cc), (λ h. elim h [ inl e ↦ cc | inr e ↦ cc ]))
+changes_kind Kind.Chunk = ((λ h. cc), (λ h. elim h [ inl e ↦ cc | inr e ↦ cc ]))
+changes_kind Kind.End = ((λ h. cc), (λ h. elim h [ inl e ↦ cc | inr e ↦ cc ]))
+changes_kind Kind.Update = ((λ h. inr refl), (λ h. refl))
 
-is_write_from : (logs : Logs) (x : Node) (r : Record) (key : Key) (address : ℕ) → IsAccessAt logs x r key address → IsTrue key.write → r.kind ≡ Write
-is_write_from logs x r key address is w = write_kind r.kind (subst (λ (k : Key). IsTrue k.write) is.keyed w)
+update_kind : (kind : Kind) → IsTrue (is_atomic kind) → kind ≡ Update
+update_kind Kind.Read h = cc
+update_kind Kind.Write h = cc
+update_kind Kind.Lock h = cc
+update_kind Kind.Unlock h = cc
+update_kind Kind.Barrier h = cc
+update_kind Kind.Region h = cc
+update_kind Kind.Chunk h = cc
+update_kind Kind.End h = cc
+update_kind Kind.Update h = refl
 
-write_from : (logs : Logs) (x : Node) (r : Record) (key : Key) (address : ℕ) → IsAccessAt logs x r key address → r.kind ≡ Write → IsTrue key.write
-write_from logs x r key address is w = subst (λ (k : Key). IsTrue k.write) (sym is.keyed) (subst (λ (k : Kind). IsTrue (is_write k)) (sym w) refl)
+changes_from : (logs : Logs) (x : Node) (r : Record) (key : Key) (address : ℕ) → IsAccessAt logs x r key address → IsTrue key.write ↔ IsChange r
+changes_from logs x r key address is = (
+  λ w. (changes_kind r.kind).0 (subst (λ (k : Key). IsTrue k.write) is.keyed w),
+  λ change. subst (λ (k : Key). IsTrue k.write) (sym is.keyed) ((changes_kind r.kind).1 change),
+)
+
+update_from : (logs : Logs) (x : Node) (r : Record) (key : Key) (address : ℕ) → IsAccessAt logs x r key address → IsTrue key.atomic ↔ (r.kind ≡ Update)
+update_from logs x r key address is = (
+  λ a. update_kind r.kind (subst (λ (k : Key). IsTrue k.atomic) is.keyed a),
+  λ update. subst (λ (k : Key). IsTrue k.atomic) (sym is.keyed) (subst (λ (k : Kind). IsTrue (is_atomic k)) (sym update) refl),
+)
 
 held_is : (logs : Logs) (x : Node) (r : Record) (key : Key) (address : ℕ) → IsAccessAt logs x r key address → key.held ≡ held_at logs x
 held_is logs x r key address is = ap (λ (k : Key). k.held) is.keyed
@@ -79,7 +98,8 @@ module _ (logs : Logs) (IsOne : List Step → Type 0) (segments : List Segment) 
             right_access = yours.access;
             unordered = concurrent_unordered logs x y h.a.label h.b.label tree (there logs x r mine.found) (there logs y s yours.found) left.label right.label h.racing.concurrent;
             shares = (pair.conflict.byte, HasByte-from logs x r pair.key pair.address pair.conflict.byte mine pair.conflict.first, HasByte-from logs y s pair.other pair.beside pair.conflict.byte yours pair.conflict.second);
-            writes = elim pair.conflict.writes [ inl w ↦ inl (is_write_from logs x r pair.key pair.address mine w) | inr w ↦ inr (is_write_from logs y s pair.other pair.beside yours w) ];
+            changes = elim pair.conflict.writes [ inl w ↦ inl ((changes_from logs x r pair.key pair.address mine).0 w) | inr w ↦ inr ((changes_from logs y s pair.other pair.beside yours).0 w) ];
+            not_both_updates = λ u v. pair.conflict.not_both_atomic ((update_from logs x r pair.key pair.address mine).1 u) ((update_from logs y s pair.other pair.beside yours).1 v);
             no_mutex = λ m in_x in_y. pair.conflict.no_mutex m (subst (λ (held : List ℕ). Contains held m) (sym (held_is logs x r pair.key pair.address mine)) in_x) (subst (λ (held : List ℕ). Contains held m) (sym (held_is logs y s pair.other pair.beside yours)) in_y);
           };
           lines = pair.lines ∙ (λ i. line_pair (line_is logs x r pair.key pair.address mine i) (line_is logs y s pair.other pair.beside yours i));
@@ -123,7 +143,8 @@ module _ (logs : Logs) (IsOne : List Step → Type 0) (segments : List Segment) 
                 byte = h.race.shares.0;
                 first = Touches-from logs h.x h.r key address h.race.shares.0 mine h.race.shares.1;
                 second = Touches-from logs h.y h.s other beside h.race.shares.0 yours h.race.shares.2;
-                writes = elim h.race.writes [ inl w ↦ inl (write_from logs h.x h.r key address mine w) | inr w ↦ inr (write_from logs h.y h.s other beside yours w) ];
+                writes = elim h.race.changes [ inl w ↦ inl ((changes_from logs h.x h.r key address mine).1 w) | inr w ↦ inr ((changes_from logs h.y h.s other beside yours).1 w) ];
+                not_both_atomic = λ m n. h.race.not_both_updates ((update_from logs h.x h.r key address mine).0 m) ((update_from logs h.y h.s other beside yours).0 n);
                 no_mutex = λ m in_u in_v. h.race.no_mutex m (subst (λ (held : List ℕ). Contains held m) (held_is logs h.x h.r key address mine) in_u) (subst (λ (held : List ℕ). Contains held m) (held_is logs h.y h.s other beside yours) in_v);
               };
               lines = h.lines ∙ sym (λ i. line_pair (line_is logs h.x h.r key address mine i) (line_is logs h.y h.s other beside yours i));

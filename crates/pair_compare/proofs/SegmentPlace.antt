@@ -5,13 +5,13 @@ use Rattle.std.proofs.lemmas.Option.{same_Some}
 use Rattle.std.proofs.lemmas.List.Sums.{sum_by-cons}
 use Rattle.log_format.specs.declared.record.Record.{Record}
 use Rattle.log_format.specs.declared.record.Kind.{Kind}
-use Rattle.log_format.specs.declared.record.Kind.TheVariants.{Read, Write, Lock, Unlock, Barrier, Region, Chunk, End}
+use Rattle.log_format.specs.declared.record.Kind.TheVariants.{Read, Write, Lock, Unlock, Barrier, Region, Chunk, End, Update}
 use Rattle.race_model.specs.ForkJoin.{IsForkJoin}
 use Rattle.race_model.specs.Label.{IsLabel}
 use Rattle.race_model.specs.Race.{held_after_kind}
 use Rattle.race_model.specs.Segment.{Event, has_access, runs_of, with_event, in_first, events, events_from, first_number, last_number, segment_of}
 use Rattle.race_model.specs.Trace.{Logs, Node, is_region_kind, is_barrier_kind, region_count, barrier_count}
-use Rattle.race_model.proofs.LabelLaw.{same_label_same_log, same_label_regions, same_label_barriers}
+use Rattle.race_laws.proofs.LabelLaw.{same_label_same_log, same_label_regions, same_label_barriers}
 use Rattle.log_segment.specs.Intervals.{IsSegmentOf}
 use Rattle.log_segment.specs.OneTree.{IsSegmentIn}
 use Rattle.log_segment.specs.declared.segment.Segment.{Segment}
@@ -29,6 +29,7 @@ part Barrier = 1
 part Region = 1
 part Chunk = 0
 part End = 0
+part Update = 0
 
 abbrev parted : List Record → ℕ
 parted [] = 0
@@ -43,6 +44,7 @@ part_is Barrier = refl
 part_is Region = refl
 part_is Chunk = refl
 part_is End = refl
+part_is Update = refl
 
 parted_is : (records : List Record) → parted records ≡ region_count records + barrier_count records
 parted_is [] = refl
@@ -89,6 +91,7 @@ moved Lock first runs j run e found h = moved_first Lock first runs j run e refl
 moved Unlock first runs j run e found h = moved_first Unlock first runs j run e refl found h
 moved Chunk first runs j run e found h = moved_first Chunk first runs j run e refl found h
 moved End first runs j run e found h = moved_first End first runs j run e refl found h
+moved Update first runs j run e found h = moved_first Update first runs j run e refl found h
 
 -- the place of a run is how many Regions and Barriers are before each of its events
 record EventPlace (n : ℕ) (records : List Record) (j : ℕ) (e : Event) : Type 0 where

@@ -6,7 +6,7 @@ use Rattle.std.proofs.lemmas.List.{get_or-take, get_or_default, length-take-le, 
 use Rattle.std.proofs.lemmas.List.Elements.{Contains-append_left, Contains-push, Contains-push_cases}
 use Rattle.stride_summary.specs.declared.run.Run.{Run}
 use Rattle.pair_compare.specs.Conflict.{AddsPairs, IsLinesOf, IsRunPair, OneHas}
-use Rattle.pair_compare.specs.Sweeps.{Activates, AreReads, IsActive, IsHullOf, IsHullPair, IsMetPair, IsReachedPair, Reach, reach_of}
+use Rattle.pair_compare.specs.Sweeps.{Activates, AreOfKind, IsActive, IsHullOf, IsHullPair, IsMetPair, IsReachedPair, Reach, reach_of}
 use Rattle.pair_compare.specs.declared.active.Active.{Active}
 use Rattle.pair_compare.specs.declared.hull.Hull.{Hull}
 use Rattle.pair_compare.proofs.Adds.{AddsPairs-both, AddsPairs-same, OneHas-cons, OneHas-first, not_in_nothing}
@@ -22,6 +22,7 @@ IsLinesOf-sym a b pair h = record {
   conflict = record {
     shares = record { byte = h.conflict.shares.byte; first = h.conflict.shares.second; second = h.conflict.shares.first };
     writes = elim h.conflict.writes [ inl w ↦ inr w | inr w ↦ inl w ];
+    not_both_atomic = λ mine yours. h.conflict.not_both_atomic yours mine;
     no_mutex = λ m in_b in_a. h.conflict.no_mutex m in_a in_b;
   };
   lines = h.lines ∙ (λ i. (min_comm a.line b.line i, max_comm a.line b.line i));
@@ -76,13 +77,13 @@ from_two from hulls pair h = record {
 pub record IsOpen (hulls : List Hull) (count : ℕ) (active : Active) : Type 0 where
   pub seen : (hull : Hull) → IsActive active hull → Contains (take count hulls) hull
   pub others : (hull : Hull) (j : ℕ) (d : Hull) → Contains (take count hulls) hull → count ≤ j → j < length hulls → IsActive active hull ⊎ (hull.high < (get_or hulls j d).low)
-  pub reads : AreReads active
+  pub kinds : AreOfKind active
 
 -- nothing is active before the first
-pub open_first : (from : ℕ) (hulls : List Hull) (keys : List (ℕ × ℕ)) (active : Active) → ((hull : Hull) → IsActive active hull → ⊥) → AreReads active → AddsPairs keys keys (IsMetPair from (OneHas IsHullOf (take 0 hulls))) × IsOpen hulls 0 active
-open_first from hulls keys active none reads = (
+pub open_first : (from : ℕ) (hulls : List Hull) (keys : List (ℕ × ℕ)) (active : Active) → ((hull : Hull) → IsActive active hull → ⊥) → AreOfKind active → AddsPairs keys keys (IsMetPair from (OneHas IsHullOf (take 0 hulls))) × IsOpen hulls 0 active
+open_first from hulls keys active none kinds = (
   record { kept = λ pair h. h; added = λ pair h. absurd (not_in_nothing h.a_in.one h.a_in.listed); only = λ pair h. inl h },
-  record { seen = λ hull h. absurd (none hull h); others = λ hull j d h later inside. absurd (not_in_nothing hull h); reads = reads },
+  record { seen = λ hull h. absurd (none hull h); others = λ hull j d h later inside. absurd (not_in_nothing hull h); kinds = kinds },
 )
 
 module _ (from : ℕ) (hulls : List Hull) (i : ℕ) (x : Hull) (active : Active) (within : i < length hulls) (is : x ≡ get_or hulls i x) (up : IsNonDecreasingBy (λ hull. hull.low) hulls) (before : IsOpen hulls i active) where
@@ -127,7 +128,7 @@ module _ (from : ℕ) (hulls : List Hull) (i : ℕ) (x : Hull) (active : Active)
       ]
       | inr same ↦ inl (subst (λ (z : Hull). IsActive next z) same step.own)
     ];
-    reads = step.reads;
+    kinds = step.kinds;
   }
 
   -- what meets the next hull is active

@@ -10,12 +10,13 @@ pub record Touches (key : Key) (address byte : ℕ) : Type 0 where
   pub from_start : address ≤ byte
   pub to_end : byte < address + key.size
 
--- two accesses of a common byte, one a write, under no common mutex
+-- two accesses of a common byte, one that writes, not both atomic, under no common mutex
 pub record IsConflict (key : Key) (address : ℕ) (other : Key) (beside : ℕ) : Type 0 where
   pub byte : ℕ
   pub first : Touches key address byte
   pub second : Touches other beside byte
   pub writes : IsTrue key.write ⊎ IsTrue other.write
+  pub not_both_atomic : IsTrue key.atomic → IsTrue other.atomic → ⊥
   pub no_mutex : AreDisjoint key.held other.held
 
 -- the lines of two accesses, the smaller first
@@ -33,10 +34,11 @@ pub record IsConflictPair (xs ys : List Run) (pair : ℕ × ℕ) : Type 0 where
   pub conflict : IsConflict key address other beside
   pub lines : pair ≡ line_pair key.line other.line
 
--- two runs with a common byte, one of writes, under no common mutex
+-- two runs with a common byte, one that writes, not both atomic, under no common mutex
 pub record IsRunConflict (a b : Run) : Type 0 where
   pub shares : SharesRunByte a b
   pub writes : IsTrue a.write ⊎ IsTrue b.write
+  pub not_both_atomic : IsTrue a.atomic → IsTrue b.atomic → ⊥
   pub no_mutex : AreDisjoint a.held b.held
 
 -- the lines of two runs that conflict

@@ -1,8 +1,8 @@
 -- Stretches of bytes in which the addresses of runs lie, and those that meet.
-use Rattle.std.specs.Prelude.{◌≡◌, ◌⊎◌, ℕ, ◌+◌, ◌-◌, ◌≤◌, List, [], ◌∷◌, All, Bool, false, cond, nat_eq, nat_le, Contains, IsTrue}
+use Rattle.std.specs.Prelude.{◌≡◌, ◌⊎◌, ℕ, ◌+◌, ◌-◌, ◌≤◌, List, [], ◌∷◌, Bool, false, true, cond, nat_eq, nat_le, Contains, IsTrue}
 use Rattle.stride_summary.specs.declared.run.Run.{Run}
 use Rattle.stride_summary.specs.Run.{last_address, last_byte}
-use Rattle.pair_compare.specs.Conflict.{IsLinesOf}
+use Rattle.pair_compare.specs.Conflict.{IsLinesOf, IsRunConflict}
 use Rattle.pair_compare.specs.declared.active.Active.{Active}
 use Rattle.pair_compare.specs.declared.hull.Hull.{Hull}
 
@@ -52,32 +52,39 @@ reaches byte hull = nat_le byte hull.high
 
 -- one of the active hulls
 abbrev pub IsActive : Active → Hull → Type 0
-IsActive active hull = Contains active.reads.items hull ⊎ Contains active.writes.items hull
+IsActive active hull = Contains active.reads.list.items hull ⊎ Contains active.updates.list.items hull ⊎ Contains active.writes.list.items hull
 
--- the reads don't write
-abbrev pub AreReads : Active → Type 0
-AreReads active = All (λ hull. hull.run.now.write ≡ false) active.reads.items
+-- the reads don't write, and the updates are atomic
+pub record AreOfKind (active : Active) : Type 0 where
+  pub reads : (hull : Hull) → Contains active.reads.list.items hull → hull.run.now.write ≡ false
+  pub updates : (hull : Hull) → Contains active.updates.list.items hull → hull.run.now.atomic ≡ true
 
--- of what was active only hulls that end before this one were dropped, and all that may conflict with it and do so
+-- only hulls that end before the byte were dropped, and where it is asked for all of them
+pub record DropsBefore (low : ℕ) (every : Bool) (old new : List Hull) : Type 0 where
+  pub kept : (other : Hull) → Contains old other → low ≤ other.high → Contains new other
+  pub only : (other : Hull) → Contains new other → Contains old other
+  pub ended : IsTrue every → (other : Hull) → Contains new other → low ≤ other.high
+
+-- of what was active only hulls that end before this one were dropped, and all of them that conflict with it
 pub record DropsEnded (hull : Hull) (old new : Active) : Type 0 where
   pub kept : (other : Hull) → IsActive old other → hull.low ≤ other.high → IsActive new other
   pub only : (other : Hull) → IsActive new other → IsActive old other
-  pub ended : (other : Hull) → IsActive new other → IsTrue hull.run.now.write ⊎ IsTrue other.run.now.write → hull.low ≤ other.high
-  pub reads : AreReads new
+  pub ended : (other : Hull) → IsActive new other → IsRunConflict hull.run.now other.run.now → hull.low ≤ other.high
+  pub kinds : AreOfKind new
 
 -- one more hull is active
 pub record AddsHull (hull : Hull) (old new : Active) : Type 0 where
   pub own : IsActive new hull
   pub kept : (other : Hull) → IsActive old other → IsActive new other
   pub only : (other : Hull) → IsActive new other → IsActive old other ⊎ (hull ≡ other)
-  pub reads : AreReads new
+  pub kinds : AreOfKind new
 
 -- the hull is active now, beside those that don't end before it and perhaps others that were active
 pub record Activates (hull : Hull) (old new : Active) : Type 0 where
   pub own : IsActive new hull
   pub kept : (other : Hull) → IsActive old other → hull.low ≤ other.high → IsActive new other
   pub only : (other : Hull) → IsActive new other → IsActive old other ⊎ (hull ≡ other)
-  pub reads : AreReads new
+  pub kinds : AreOfKind new
 
 -- the line pair of the hull and an active one, where the hull doesn't begin before the byte
 pub record IsActivePair (from : ℕ) (hull : Hull) (active : Active) (pair : ℕ × ℕ) : Type 0 where

@@ -12,7 +12,8 @@ use std::thread::Threads;
 use sw_base::{Gate, Memory};
 
 /// The line pairs of the races of the segments, in ascending order: accesses of two segments with concurrent labels, of a common
-/// byte, one a write, under no common mutex. So many workers search at once; each enters the gate with its number when it starts.
+/// byte, one that writes and not both atomic, under no common mutex. So many workers search at once; each enters the gate with its
+/// number when it starts.
 pub fn compare_all<R: Threads + Sync, G: Gate>(
     rt: &R,
     alloc: Global,

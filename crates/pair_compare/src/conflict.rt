@@ -3,16 +3,16 @@ ghost use Rattle.mutex_set.specs.Held.{AreDisjoint};
 ghost use Rattle.stride_summary.specs.Run.{SharesRunByte};
 ghost use Rattle.pair_compare.specs.Conflict.{IsRunPair, AddsPairs, AddsSome, line_pair};
 
-use interval_tree::Visit;
 use std::collections::BTreeSet;
 use stride_overlap::overlap;
 use stride_summary::Run;
 use sw_base::Memory;
 
-fn one_writes(a: &Run, b: &Run) -> bool
-    ensures { IsTrue result ↔ (IsTrue a.now.write ⊎ IsTrue b.now.write) }
+// Whether one of them writes, and not both are atomic.
+fn may_conflict(a: &Run, b: &Run) -> bool
+    ensures { IsTrue result ↔ ((IsTrue a.now.write ⊎ IsTrue b.now.write) × (IsTrue a.now.atomic → IsTrue b.now.atomic → ⊥)) }
 {
-    a.write || b.write
+    (a.write || b.write) && !(a.atomic && b.atomic)
 }
 
 /// Whether the two runs have a common byte, and no mutex was held at both.
@@ -33,7 +33,7 @@ pub fn add_conflict(a: &Run, b: &Run, pairs: &mut BTreeSet<(u32, u32)>) -> Resul
     ensures added { OnOk result (AddsPairs pairs.old.keys pairs.new.keys (IsRunPair a.now (b.now ∷ []))) }
     ensures refused { OnErr result (AddsSome pairs.old.keys pairs.new.keys (IsRunPair a.now (b.now ∷ []))) }
 {
-    if !one_writes(a, b) {
+    if !may_conflict(a, b) {
         return Ok(());
     }
     let lines = lines_of(a, b);
@@ -44,23 +44,4 @@ pub fn add_conflict(a: &Run, b: &Run, pairs: &mut BTreeSet<(u32, u32)>) -> Resul
         pairs.insert(lines)?;
     }
     Ok(())
-}
-
-/// A run that is looked up, and the line pairs that were found so far.
-pub struct Finder<'r> {
-    pub run: &'r Run,
-    pub pairs: BTreeSet<(u32, u32)>,
-}
-
-impl<'r> Visit for Finder<'r> {
-    ghost use Rattle.std.specs.Prelude.{[], ◌∷◌};
-    ghost use Rattle.pair_compare.specs.Conflict.{IsRunPair, AddsPairs, AddsSome};
-
-    ghost took = { λ before run after. (after.run.now ≡ before.run.now) × AddsPairs before.pairs.keys after.pairs.keys (IsRunPair before.run.now (run ∷ [])) };
-
-    ghost refused = { λ before run after. (after.run.now ≡ before.run.now) × AddsSome before.pairs.keys after.pairs.keys (IsRunPair before.run.now (run ∷ [])) };
-
-    fn take(&mut self, run: &Run) -> Result<(), Memory> {
-        add_conflict(self.run, run, &mut self.pairs)
-    }
 }

@@ -1,13 +1,13 @@
 //! The race pairs of a run, found from its barrier intervals.
 //!
 //! `compare_all` answers exactly the line pairs of the intervals' races, the smaller line first, each once and in ascending
-//! order, for every number of workers: two accesses of intervals with concurrent labels, of a common byte, one a write, under
-//! no common mutex. Labels are compared level by level: intervals that are the same there stand in groups, as the lanes of a team
-//! between two barriers. A group's runs are swept in order of their first bytes. The workers sweep at once, each the runs that meet
-//! its ranges of bytes: two runs are compared in the range in which the later one begins.
+//! order, for every number of workers: two accesses of intervals with concurrent labels, of a common byte, one that writes and not
+//! both atomic, under no common mutex. Labels are compared level by level: intervals that are the same there stand in groups, as the
+//! lanes of a team between two barriers. A group's runs are swept in order of their first bytes, where reads meet no reads and
+//! updates no updates. The workers sweep at once, each the runs that meet its ranges of bytes: two runs are compared in the range in
+//! which the later one begins.
 //!
-//! `compare` adds the race pairs of two intervals, over a tree of the second's runs, and counts its steps. After an error some
-//! of the pairs may be there, and nothing else was added or lost. `unite` adds one set of pairs to another.
+//! `add_conflict` adds the line pair of two runs, if they conflict, and `unite` adds one set of pairs to another.
 //! The law `pairs_are_races` says that the pairs of a run's intervals are its race pairs, region by region of the root, and
 //! `labels_order_accesses` that the labels of two intervals are ordered as their accesses are by happens-before.
 #![tactic(auto)]
@@ -15,7 +15,6 @@
 mod active;
 mod all;
 mod collecting;
-mod comparing;
 mod conflict;
 mod divide;
 mod field;
@@ -26,14 +25,13 @@ mod member;
 mod ordering;
 mod parting;
 mod regions;
-mod searching;
 mod sweeping;
 mod task;
 mod team;
 mod worker;
 
 pub use all::compare_all;
-pub use comparing::compare;
+pub use conflict::add_conflict;
 pub use ordering::labels_order_accesses;
 pub use regions::pairs_are_races;
 pub use team::unite;

@@ -1,7 +1,7 @@
-ghost use Rattle.std.specs.Prelude.{OnOk};
+ghost use Rattle.std.specs.Prelude.{◌≡◌, Contains, false, OnOk};
 ghost use Rattle.std.specs.List.Sorted.{IsNonDecreasingBy};
-ghost use Rattle.pair_compare.specs.Conflict.{AddsPairs, OneHas};
-ghost use Rattle.pair_compare.specs.Sweeps.{Activates, AreReads, IsActivePair, IsHullOf, IsHullPair, IsMetPair, IsReachedPair};
+ghost use Rattle.pair_compare.specs.Conflict.{AddsPairs, IsRunConflict, OneHas};
+ghost use Rattle.pair_compare.specs.Sweeps.{Activates, AreOfKind, IsActivePair, IsHullOf, IsHullPair, IsMetPair, IsReachedPair};
 
 use crate::active::Active;
 use crate::conflict::add_conflict;
@@ -29,24 +29,38 @@ fn meet_all(hull: &Hull, others: &[Hull], pairs: &mut BTreeSet<(u32, u32)>) -> R
     Ok(())
 }
 
-// Compares a hull that doesn't begin before the byte with the active ones, and a read with the writes alone.
+// Compares a hull with others, if it may conflict with them.
+fn meet_if(
+    may: bool,
+    hull: &Hull,
+    others: &[Hull],
+    pairs: &mut BTreeSet<(u32, u32)>,
+) -> Result<(), Memory>
+    requires { may ≡ false → (other : _) → Contains others.now other → IsRunConflict hull.now.run.now other.run.now → ⊥ }
+    ensures { OnOk result (AddsPairs pairs.old.keys pairs.new.keys (OneHas (IsHullPair hull.now) others.now)) }
+{
+    if may {
+        return meet_all(hull, others, pairs);
+    }
+    Ok(())
+}
+
+// Compares a hull that doesn't begin before the byte with the active ones, but no read with reads and no update with updates.
 fn meet_active(
     hull: &Hull,
     from: u64,
     active: &Active,
     pairs: &mut BTreeSet<(u32, u32)>,
 ) -> Result<(), Memory>
-    requires { AreReads active.now }
+    requires { AreOfKind active.now }
     ensures { OnOk result (AddsPairs pairs.old.keys pairs.new.keys (IsActivePair from hull.now active.now)) }
 {
     if hull.low < from {
         return Ok(());
     }
-    if !hull.run.write {
-        return meet_all(hull, active.writes.as_slice(), pairs);
-    }
-    meet_all(hull, active.reads.as_slice(), pairs)?;
-    meet_all(hull, active.writes.as_slice(), pairs)
+    meet_if(hull.run.write, hull, &active.reads.list, pairs)?;
+    meet_if(!hull.run.atomic, hull, &active.updates.list, pairs)?;
+    meet_all(hull, &active.writes.list, pairs)
 }
 
 fn step<'r>(
@@ -55,7 +69,7 @@ fn step<'r>(
     active: &mut Active<'r>,
     pairs: &mut BTreeSet<(u32, u32)>,
 ) -> Result<(), Memory>
-    requires { AreReads active.old }
+    requires { AreOfKind active.old }
     ensures active { OnOk result (Activates hull.now active.old active.new) }
     ensures added { OnOk result (AddsPairs pairs.old.keys pairs.new.keys (IsReachedPair from hull.now active.old)) }
 {

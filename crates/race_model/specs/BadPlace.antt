@@ -19,14 +19,15 @@ pub data BadPlace : Type 0 where
 
 -- the order in which the rules of one row are tried
 abbrev pub index_rank : IndexWhy → ℕ
-index_rank index.Header = 0
-index_rank index.TooMany = 1
-index_rank index.Cut = 2
-index_rank index.Depth = 3
-index_rank index.Span = 4
-index_rank index.Lane = 5
-index_rank index.Order = 6
-index_rank index.Records = 7
+index_rank index.Old = 0
+index_rank index.Header = 1
+index_rank index.TooMany = 2
+index_rank index.Cut = 3
+index_rank index.Depth = 4
+index_rank index.Span = 5
+index_rank index.Lane = 6
+index_rank index.Order = 7
+index_rank index.Records = 8
 
 -- the order in which the rules of one record are tried
 abbrev pub record_rank : RecordWhy → ℕ

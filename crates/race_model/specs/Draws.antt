@@ -3,7 +3,7 @@ use Rattle.std.specs.Prelude.{◌≡◌, ℕ, ◌<◌, ◌≤◌, ◌==◌, if�
 use Rattle.std.specs.List.{flat_map}
 use Rattle.log_format.specs.declared.record.Record.{Record}
 use Rattle.log_format.specs.declared.record.Kind.{Kind}
-use Rattle.log_format.specs.declared.record.Kind.TheVariants.{Read, Write, Lock, Unlock, Barrier, Region, Chunk, End}
+use Rattle.log_format.specs.declared.record.Kind.TheVariants.{Read, Write, Lock, Unlock, Barrier, Region, Chunk, End, Update}
 
 -- a number before the numbers of a first loop
 abbrev pub in_first_loop : ℕ → List (List ℕ) → List (List ℕ)
@@ -21,6 +21,7 @@ with_draw Unlock r loops = loops
 with_draw Barrier r loops = loops
 with_draw Region r loops = loops
 with_draw End r loops = loops
+with_draw Update r loops = loops
 
 -- the numbers that a log draws, parted where a loop closes
 abbrev pub draws_by_loop : List Record → List (List ℕ)
@@ -40,6 +41,7 @@ with_closing Unlock r counts = counts
 with_closing Barrier r counts = counts
 with_closing Region r counts = counts
 with_closing End r counts = counts
+with_closing Update r counts = counts
 
 -- how many chunks each loop has that the log closes, in order
 abbrev pub closed_loops : List Record → List ℕ

@@ -4,7 +4,8 @@ use Rattle.std.specs.Prelude.{◌≡◌, ◌⊎◌, ℕ, ◌+◌, ◌<◌, ◌==
 use Rattle.sw_base.specs.declared.path.Step.{Step}
 use Rattle.log_format.specs.declared.record.Record.{Record}
 use Rattle.log_format.specs.declared.record.Kind.{Kind}
-use Rattle.log_format.specs.declared.record.Kind.TheVariants.{Read, Write, Lock, Unlock, Barrier, Region, Chunk, End}
+use Rattle.log_format.specs.declared.record.Kind.TheVariants.{Read, Write, Lock, Unlock, Barrier, Region, Chunk, End, Update}
+use Rattle.log_format.specs.Fitting.{fit}
 use Rattle.race_model.specs.Trace.{Logs, Node, path_eq}
 use Rattle.race_model.specs.Order.{HappensBefore}
 use Rattle.race_model.specs.Race.{held_after}
@@ -24,6 +25,7 @@ entry_of Barrier e = []
 entry_of Region e = []
 entry_of Chunk e = []
 entry_of End e = []
+entry_of Update e = e ∷ []
 
 -- what a history has of a log, from the log's record i on
 abbrev pub entries_from : List Step → ℕ → List Record → List Entry
@@ -34,7 +36,7 @@ entries_from path i (r ∷ records) = entry_of r.kind (record { node = record { 
 abbrev pub task_entries : List Step → List Entry → List Entry
 task_entries path history = filter (λ (e : Entry). path_eq e.node.path path) history
 
--- the value at the address after a record of this kind
+-- the value at the address after a record of this kind: what a write stores, and of an update the sum, cut to its bytes
 abbrev pub stored_after : Kind → Record → ℕ → ℕ → ℕ
 stored_after Write r addr value = if r.addr == addr then r.value else value
 stored_after Read r addr value = value
@@ -44,12 +46,13 @@ stored_after Barrier r addr value = value
 stored_after Region r addr value = value
 stored_after Chunk r addr value = value
 stored_after End r addr value = value
+stored_after Update r addr value = if r.addr == addr then fit (value + r.value) r.size else value
 
 abbrev pub stored_from : ℕ → List Entry → ℕ → ℕ
 stored_from addr [] value = value
 stored_from addr (e ∷ history) value = stored_from addr history (stored_after e.event.kind e.event addr value)
 
--- the value of the last write at the address, else 0
+-- the value that the writes and updates leave at the address, which has 0 before them
 abbrev pub stored_value : ℕ → List Entry → ℕ
 stored_value addr history = stored_from addr history 0
 
@@ -63,6 +66,7 @@ owner_after Barrier r path mutex owner = owner
 owner_after Region r path mutex owner = owner
 owner_after Chunk r path mutex owner = owner
 owner_after End r path mutex owner = owner
+owner_after Update r path mutex owner = owner
 
 abbrev pub owner_from : ℕ → List Entry → Option (List Step) → Option (List Step)
 owner_from mutex [] owner = owner
@@ -72,7 +76,7 @@ owner_from mutex (e ∷ history) owner = owner_from mutex history (owner_after e
 abbrev pub mutex_owner : ℕ → List Entry → Option (List Step)
 mutex_owner mutex history = owner_from mutex history None
 
--- a record fits those before it: a read has the last value, a mutex is locked while no task has it and unlocked by the task
+-- a record fits those before it: a read has the value that is there, a mutex is locked while no task has it and unlocked by the task
 -- that has it
 abbrev pub FitsKind : Kind → List Entry → Record → List Step → Type 0
 FitsKind Read before r path = r.value ≡ stored_value r.addr before
@@ -83,6 +87,7 @@ FitsKind Barrier before r path = Unit {0}
 FitsKind Region before r path = Unit {0}
 FitsKind Chunk before r path = Unit {0}
 FitsKind End before r path = Unit {0}
+FitsKind Update before r path = Unit {0}
 
 abbrev pub IsLegalAfter : List Entry → List Entry → Type 0
 IsLegalAfter before [] = Unit {0}

@@ -5,10 +5,10 @@ use Rattle.sw_base.specs.declared.path.Step.{Step}
 use Rattle.sw_base.specs.Environment.{Files}
 use Rattle.sw_base.specs.Names.{index_name}
 use Rattle.log_format.specs.declared.format.Format.{Format}
-use Rattle.log_format.specs.Format.{index_header}
+use Rattle.log_format.specs.Format.{index_header, older_header}
 use Rattle.log_format.specs.Limit.{record_limit}
 use Rattle.race_model.specs.declared.why.IndexWhy.{IndexWhy}
-use Rattle.race_model.specs.declared.why.IndexWhy.TheVariants.{Header, TooMany, Cut, Depth, Span, Lane, Order, Records}
+use Rattle.race_model.specs.declared.why.IndexWhy.TheVariants.{Old, Header, TooMany, Cut, Depth, Span, Lane, Order, Records}
 use Rattle.race_model.specs.BadPlace.{BadPlace, no_index, bad_row, missing_log, bad_record, too_many_segments, index_rank, IsEarlier}
 use Rattle.race_model.specs.Row.{Row, RawRow, RowFits, row_path, row_spelling, used, unused, no_step, index_bytes}
 use Rattle.race_model.specs.Listing.{IsListing, BeginsListing}
@@ -59,6 +59,7 @@ pub record FailsTest (before : List RawRow) (rest : List ℕ) (why : IndexWhy) :
 
 -- after these rows, the bytes that are left have this fault
 abbrev pub Fails : List RawRow → List ℕ → IndexWhy → Type 0
+Fails before rest Old = ⊥
 Fails before rest Header = ⊥
 Fails before rest TooMany = (length before ≡ max_rows) × (rest ≢ [])
 Fails before rest Cut = ((rest ≢ []) × (length rest < 48)) ⊎ ((before ≡ []) × (rest ≡ []))
@@ -83,8 +84,9 @@ pub record HasRowFault (format : Format) (bytes : List ℕ) (n : ℕ) (why : Ind
   pub at_row : IsAtRow format bytes n before rest
   pub fails : Fails before rest why
 
--- row n of these bytes is bad, rows numbered from 1; row 0 is the header
+-- row n of these bytes is bad, rows numbered from 1; row 0 is the header, which may be that of the format before
 abbrev pub IsBadRow : Format → List ℕ → ℕ → IndexWhy → Type 0
+IsBadRow format bytes n Old = (n ≡ 0) × (older_header format ≡ Some (take 8 bytes))
 IsBadRow format bytes n Header = (n ≡ 0) × (take 8 bytes ≢ index_header format)
 IsBadRow format bytes n why = HasRowFault format bytes n why
 

@@ -1,4 +1,5 @@
--- Data races: two accesses of a common byte, one a write, that no fork, join or barrier orders and no mutex excludes
+-- Data races: two accesses of a common byte, one of which changes memory and not both atomic, that no fork, join or barrier orders
+-- and no mutex excludes
 -- (SWORD, Atzeni and others, IPDPS 2018).
 use Rattle.std.specs.Prelude.{◌≡◌, ◌↔◌, ◌⊎◌, ℕ, ◌+◌, ◌<◌, ◌≤◌, not, ◌==◌, List, [], ◌∷◌, ◌++◌, take, filter, min, max, Contains, Some}
 use Rattle.std.specs.declared.cmp.Ordering.{Ordering}
@@ -6,13 +7,17 @@ use Rattle.std.specs.Ordering.{nat_cmp, ordering_then}
 use Rattle.std.specs.List.Sorted.{IsStrictlySortedBy}
 use Rattle.log_format.specs.declared.record.Record.{Record}
 use Rattle.log_format.specs.declared.record.Kind.{Kind}
-use Rattle.log_format.specs.declared.record.Kind.TheVariants.{Read, Write, Lock, Unlock, Barrier, Region, Chunk, End}
+use Rattle.log_format.specs.declared.record.Kind.TheVariants.{Read, Write, Lock, Unlock, Barrier, Region, Chunk, End, Update}
 use Rattle.race_model.specs.Trace.{Logs, Node, record_at}
 use Rattle.race_model.specs.Order.{HappensBefore}
 
--- a record reads or writes memory
+-- a record changes memory
+abbrev pub IsChange : Record → Type 0
+IsChange r = (r.kind ≡ Write) ⊎ (r.kind ≡ Update)
+
+-- a record reads or changes memory
 abbrev pub IsAccess : Record → Type 0
-IsAccess r = (r.kind ≡ Read) ⊎ (r.kind ≡ Write)
+IsAccess r = (r.kind ≡ Read) ⊎ IsChange r
 
 -- the access touches the byte
 pub record HasByte (r : Record) (byte : ℕ) : Type 0 where
@@ -33,6 +38,7 @@ held_after_kind Barrier m held = held
 held_after_kind Region m held = held
 held_after_kind Chunk m held = held
 held_after_kind End m held = held
+held_after_kind Update m held = held
 
 abbrev pub held_after : List ℕ → List Record → List ℕ
 held_after held [] = held
@@ -55,7 +61,8 @@ pub record IsRace (logs : Logs) (x y : Node) (r s : Record) : Type 0 where
   pub right_access : IsAccess s
   pub unordered : IsUnordered logs x y
   pub shares : SharesByte r s
-  pub writes : (r.kind ≡ Write) ⊎ (s.kind ≡ Write)
+  pub changes : IsChange r ⊎ IsChange s
+  pub not_both_updates : r.kind ≡ Update → s.kind ≡ Update → ⊥
   pub no_mutex : (m : ℕ) → Contains (held_at logs x) m → Contains (held_at logs y) m → ⊥
 
 -- the lines of a race, the smaller first

@@ -4,7 +4,7 @@ use Rattle.std.specs.List.{list_any}
 use Rattle.sw_base.specs.declared.path.Step.{Step}
 use Rattle.log_format.specs.declared.record.Record.{Record}
 use Rattle.log_format.specs.declared.record.Kind.{Kind}
-use Rattle.log_format.specs.declared.record.Kind.TheVariants.{Read, Write, Lock, Unlock, Barrier, Region, Chunk, End}
+use Rattle.log_format.specs.declared.record.Kind.TheVariants.{Read, Write, Lock, Unlock, Barrier, Region, Chunk, End, Update}
 use Rattle.race_model.specs.Trace.{TaskLog, Trace}
 use Rattle.race_model.specs.Race.{held_after_kind}
 
@@ -31,6 +31,7 @@ is_access Barrier = false
 is_access Region = false
 is_access Chunk = false
 is_access End = false
+is_access Update = true
 
 -- puts an event at the start of the first run
 abbrev pub in_first : Event → List (List Event) → List (List Event)
@@ -47,6 +48,7 @@ with_event Lock e runs = in_first e runs
 with_event Unlock e runs = in_first e runs
 with_event Chunk e runs = in_first e runs
 with_event End e runs = in_first e runs
+with_event Update e runs = in_first e runs
 
 -- the events, parted at each Region and Barrier
 abbrev pub runs_of : List Event → List (List Event)

@@ -4,7 +4,7 @@ use lib.Pointwise.{pointwise}
 use Rattle.sw_base.specs.declared.path.Step.{Step}
 use Rattle.log_format.specs.declared.record.Record.{Record}
 use Rattle.log_format.specs.declared.record.Kind.{Kind}
-use Rattle.log_format.specs.declared.record.Kind.TheVariants.{Read, Write, Lock, Unlock, Barrier, Region, Chunk, End}
+use Rattle.log_format.specs.declared.record.Kind.TheVariants.{Read, Write, Lock, Unlock, Barrier, Region, Chunk, End, Update}
 
 -- the records of one task
 pub record TaskLog : Type 0 where
@@ -55,6 +55,7 @@ is_region_kind Unlock = false
 is_region_kind Barrier = false
 is_region_kind Chunk = false
 is_region_kind End = false
+is_region_kind Update = false
 
 abbrev pub is_barrier_kind : Kind → Bool
 is_barrier_kind Barrier = true
@@ -65,6 +66,7 @@ is_barrier_kind Unlock = false
 is_barrier_kind Region = false
 is_barrier_kind Chunk = false
 is_barrier_kind End = false
+is_barrier_kind Update = false
 
 abbrev pub region_count : List Record → ℕ
 region_count records = count_by (λ r. is_region_kind r.kind) records

@@ -1,25 +1,8 @@
-//! What the checker means, as definitions and laws: the records of a run, happens-before by forks, joins and barriers,
+//! What the checker means, as definitions: the records of a run, happens-before by forks, joins and barriers,
 //! the mutexes held at an access, data races and their line pairs, offset-span labels, the first bad place of a folder,
-//! the sequentially consistent histories of a run, and the draws of its dynamic loops.
-//!
-//! The laws: happens-before is a partial order, and labels tell it; a folder that is bad nowhere holds at most one run, and
-//! that is a fork-join run; rows are a listing where each path is the next after the one before; the first bad place is one.
+//! the sequentially consistent histories of a run, and the draws of its dynamic loops. Their laws are `race_laws`.
 #![tactic(auto)]
 
-mod folders;
-mod index;
-mod labels;
-mod listing;
-mod mutexes;
 mod why;
 
-pub use folders::{
-    folder_tells_its_trace, kept_rules_leave_no_bad_place, well_formed_folder_is_fork_join,
-};
-pub use index::{
-    first_bad_index_place_is_unique, index_tells_its_rows, well_formed_index_has_no_bad_place,
-};
-pub use labels::{happens_before_is_an_order, labels_are_happens_before};
-pub use listing::listing_by_next_paths;
-pub use mutexes::mutexes_are_held_from_lock_to_unlock;
 pub use why::{IndexWhy, RecordWhy};

@@ -1,6 +1,8 @@
-/// Why a row of an index is bad, in the order in which the rules are tried. `Header` stands at row 0.
+/// Why a row of an index is bad, in the order in which the rules are tried. `Old` and `Header` stand at row 0.
 #[derive(Clone, Copy, Debug, PartialEq, Eq, Hash)]
 pub enum IndexWhy {
+    /// The file begins with the header of an index of the format before.
+    Old,
     /// The file doesn't begin with the index's header.
     Header,
     /// A byte follows the 65,536th row.

@@ -9,24 +9,21 @@ use Rattle.kernel_model.specs.Trace.{log_limit}
 use Rattle.kernel_model.specs.Effect.{Effect, Finish, Returned, Halted, Makes}
 use Rattle.kernel_model.proofs.Effects.{makes-then, makes-same}
 use Rattle.history_model.specs.Work.{Work, Rest, Put, RegionWork, work_records, work_regions, then_work}
-use Rattle.history_model.proofs.TaskEntries.{then_records}
-use Rattle.execution_model.specs.Fitting.{ReadsFit}
 use Rattle.execution_model.specs.Runs.{RunsRegions}
 use Rattle.lane_runner.specs.declared.stop.Halt.{Halt}
 use Rattle.lane_runner.specs.declared.stop.Halt.TheVariants as halt
 use Rattle.lane_runner.specs.World.{WorldValue}
 use Rattle.lane_runner.specs.Going.{Progress, HasDonePast, GainsRecords, HasReleased, Cause, AtLog, AtRegion, AtTasks, EndsBy, StopsBy, WorkHandsOn, stop_by, log_of, BeginsPart, effect_of, MadePast, Began, GoesPast}
 use Rattle.lane_runner.specs.Drawing.{HasDrawn}
-use Rattle.lane_runner.specs.Fitting.{WorkFits}
 use Rattle.lane_runner.specs.Stopping.{HaveEnded}
 use Rattle.lane_runner.specs.Handed.{Entry, HandsOn, MaybeStop, AreFew, place_of}
 use Rattle.lane_runner.proofs.Handing.{work_hands_then}
 use Rattle.lane_runner.proofs.Drawing.{drew_then}
 use Rattle.lane_runner.proofs.Working.{log_then, gains_then, regions_then, runs_then}
 use Rattle.lane_runner.proofs.Releasing.{released_then, ends_then}
-use Rattle.lane_runner.proofs.Ending.{fits_then, ended_then, stops_then}
+use Rattle.lane_runner.proofs.Ending.{ended_then, stops_then}
 use Rattle.lane_runner.proofs.Beginning.{begins_then, begins_same}
-use Rattle.lane_runner.proofs.Following.{fit_first, fit_last, effect_then, after_is}
+use Rattle.lane_runner.proofs.Following.{effect_then, after_is}
 use Rattle.region_runner.proofs.JoinedWork.{work_of}
 use Rattle.region_runner.specs.Ran.{in_one, TakesUp, HasLogged, TaskRan, TaskBegan, TaskGoes}
 
@@ -69,12 +66,6 @@ module _ (w : WorldValue) (part next : State → Outcome (Unit {0})) (slots mid_
   left : log_limit - start.buffer.count ≡ log_limit - old.buffer.count - length (log_of (in_one works))
   left = let count = ran.logged.log.count in let same : start.buffer.count ≡ mid.buffer.count = ap (λ b. b.count) up.buffer in omega (arith, count, same)
 
-  fits_one : (work : Work) → ReadsFit (work_records (then_work (in_one works) work)) → ReadsFit (work_records (in_one works))
-  fits_one work fit = fit_first (work_records (in_one works)) (work_records work) (subst (λ (rs : List Record). ReadsFit rs) (then_records (in_one works) work) fit)
-
-  fits_two : (work : Work) → ReadsFit (work_records (then_work (in_one works) work)) → ReadsFit (work_records work)
-  fits_two work fit = fit_last (work_records (in_one works)) (work_records work) (subst (λ (rs : List Record). ReadsFit rs) (then_records (in_one works) work) fit)
-
   released : (work : Work) (own : List ℕ) → HasReleased start.hand.view.held work own → HasReleased [] (then_work (in_one works) work) own
   released work own r =
       released_then [] (in_one works) work own (subst (λ (l : List ℕ). HasReleased [] (in_one works) l) ran.closes ran.released)
@@ -112,15 +103,14 @@ module _ (w : WorldValue) (part next : State → Outcome (Unit {0})) (slots mid_
     few = λ less. m.few (few less);
     unrefused = m.unrefused;
     makes =
-        subst (λ (x : Work). ReadsFit (work_records x) → Makes both slots (log_limit - old.buffer.count) (effect_of slots' x (ran.forks ++ m.forks)) finish) (sym (one_more works m.work))
-        (λ fit.
-        makes-same (λ s. and_then (part s) (λ a t. next t)) both slots (log_limit - old.buffer.count) (effect_of slots' (then_work (in_one works) m.work) (ran.forks ++ m.forks)) finish (λ s. after_is (part s) next)
+        subst (λ (x : Work). Makes both slots (log_limit - old.buffer.count) (effect_of slots' x (ran.forks ++ m.forks)) finish) (sym (one_more works m.work))
+        (makes-same (λ s. and_then (part s) (λ a t. next t)) both slots (log_limit - old.buffer.count) (effect_of slots' (then_work (in_one works) m.work) (ran.forks ++ m.forks)) finish (λ s. after_is (part s) next)
         (subst (λ (e : Effect). Makes (λ s. and_then (part s) (λ a t. next t)) slots (log_limit - old.buffer.count) e finish) (effect_then (in_one works) m.work mid_slots slots' ran.forks m.forks)
-        (makes-then part (λ a t. next t) slots (log_limit - old.buffer.count) (effect_of mid_slots (in_one works) ran.forks) tt (effect_of slots' m.work m.forks) finish (ran.makes (fits_one m.work fit))
-        (subst (λ (room : ℕ). Makes next mid_slots room (effect_of slots' m.work m.forks) finish) left (m.makes (fits_two m.work fit))))));
+        (makes-then part (λ a t. next t) slots (log_limit - old.buffer.count) (effect_of mid_slots (in_one works) ran.forks) tt (effect_of slots' m.work m.forks) finish ran.makes
+        (subst (λ (room : ℕ). Makes next mid_slots room (effect_of slots' m.work m.forks) finish) left m.makes))));
     regions =
-        subst (λ (x : Work). WorkFits x → (program : Program) → program.arrays ≡ w.arrays → RunsRegions program (ran.forks ++ m.forks) (work_regions x)) (sym (one_more works m.work))
-        (λ fit program same. let fits = fits_then (in_one works) m.work fit in runs_then program ran.forks m.forks (in_one works) m.work (ran.regions fits.0 program same) (m.regions fits.1 program same));
+        subst (λ (x : Work). (program : Program) → program.arrays ≡ w.arrays → RunsRegions program (ran.forks ++ m.forks) (work_regions x)) (sym (one_more works m.work))
+        (λ program same. runs_then program ran.forks m.forks (in_one works) m.work (ran.regions program same) (m.regions program same));
   }
 
   pub began_on : (cause : Cause) (m : Began w next mid_slots start new cause) → TaskBegan w both slots old new (works ++ m.work ∷ []) cause
@@ -137,15 +127,14 @@ module _ (w : WorldValue) (part next : State → Outcome (Unit {0})) (slots mid_
         (stops_then w.arrays old start new cause ran.forks m.forks (in_one works) m.work place_is path_is forked_is ran.ended few m.stops);
     handed = subst (λ (x : Work). WorkHandsOn (stop_by cause) old new x) (sym (one_more works m.work)) (handed (stop_by cause) m.work m.handed);
     begins =
-        subst (λ (x : Work). ReadsFit (work_records x) → BeginsPart both slots (log_limit - old.buffer.count) (log_of x) (ran.forks ++ m.forks)) (sym (one_more works m.work))
-        (λ fit.
-        begins_same (λ s. and_then (part s) (λ a t. next t)) both slots (log_limit - old.buffer.count) (log_of (then_work (in_one works) m.work)) (ran.forks ++ m.forks) (λ s. after_is (part s) next)
+        subst (λ (x : Work). BeginsPart both slots (log_limit - old.buffer.count) (log_of x) (ran.forks ++ m.forks)) (sym (one_more works m.work))
+        (begins_same (λ s. and_then (part s) (λ a t. next t)) both slots (log_limit - old.buffer.count) (log_of (then_work (in_one works) m.work)) (ran.forks ++ m.forks) (λ s. after_is (part s) next)
         (subst (λ (rs : List Record). BeginsPart (λ s. and_then (part s) (λ a t. next t)) slots (log_limit - old.buffer.count) rs (ran.forks ++ m.forks)) (sym (log_then (in_one works) m.work))
-        (begins_then part (λ a t. next t) slots (log_limit - old.buffer.count) (effect_of mid_slots (in_one works) ran.forks) tt (log_of m.work) m.forks (ran.makes (fits_one m.work fit))
-        (subst (λ (room : ℕ). BeginsPart next mid_slots room (log_of m.work) m.forks) left (m.begins (fits_two m.work fit))))));
+        (begins_then part (λ a t. next t) slots (log_limit - old.buffer.count) (effect_of mid_slots (in_one works) ran.forks) tt (log_of m.work) m.forks ran.makes
+        (subst (λ (room : ℕ). BeginsPart next mid_slots room (log_of m.work) m.forks) left m.begins))));
     regions =
-        subst (λ (x : Work). WorkFits x → (program : Program) → program.arrays ≡ w.arrays → RunsRegions program (ran.forks ++ m.forks) (work_regions x)) (sym (one_more works m.work))
-        (λ fit program same. let fits = fits_then (in_one works) m.work fit in runs_then program ran.forks m.forks (in_one works) m.work (ran.regions fits.0 program same) (m.regions fits.1 program same));
+        subst (λ (x : Work). (program : Program) → program.arrays ≡ w.arrays → RunsRegions program (ran.forks ++ m.forks) (work_regions x)) (sym (one_more works m.work))
+        (λ program same. runs_then program ran.forks m.forks (in_one works) m.work (ran.regions program same) (m.regions program same));
   }
 
   -- by what the phase answers

@@ -3,6 +3,7 @@ use Rattle.std.proofs.Common.{◌≡◌, sym, subst, ℕ, List}
 use denote.Ref.{Bor, MutBor}
 use Rattle.std.specs.Prelude.{All}
 use Rattle.std.specs.Global.{Vec}
+use Rattle.sw_base.specs.declared.closed_log.ClosedLog.{ClosedLog}
 use Rattle.sw_base.specs.declared.path.Step.{Step}
 use Rattle.event_buffer.specs.Buffered.{Buffered}
 use Rattle.kernel_syntax.specs.declared.syntax.Team.{Team}
@@ -27,8 +28,8 @@ item_forks P Q each (item.Run stmt which) h = teams_all P Q each (stmt_code stmt
 item_forks P Q each (item.Bar line) h = tt
 
 -- who runs each inner team, runs those of a lawful phase
-pub phase_forks : {T : Type 0} (w w' : WorldValue) (accepts : MutBor (HandValue View) → Bor Locals → ℕ → Vec T → Bor Team → MutBor (Vec (List Step × T × ℕ)) → Type 0)
-    (gives : MutBor (HandValue View) → Bor Locals → ℕ → Vec T → Bor Team → MutBor (Vec (List Step × T × ℕ)) → Answer → MutBor (HandValue View) → MutBor (Vec (List Step × T × ℕ)) → Type 0)
+pub phase_forks : {T : Type 0} (w w' : WorldValue) (accepts : MutBor (HandValue View) → Bor Locals → ℕ → Vec T → Bor Team → MutBor (Vec (ClosedLog T)) → Type 0)
+    (gives : MutBor (HandValue View) → Bor Locals → ℕ → Vec T → Bor Team → MutBor (Vec (ClosedLog T)) → Answer → MutBor (HandValue View) → MutBor (Vec (ClosedLog T)) → Type 0)
     (seen : LogView T) (task : Buffered) (mutexes regions : ℕ) (items : List Item) → w' ≡ w → IsLawfulPhase mutexes regions items → ((team : TeamTree) → IsInnerTeam mutexes regions team → MayFork w accepts gives seen task team)
     → All (EachTeamIn (MayFork w' accepts gives seen task)) items
 phase_forks w w' accepts gives seen task mutexes regions items is lawful each =

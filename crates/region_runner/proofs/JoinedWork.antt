@@ -10,7 +10,7 @@ use Rattle.kernel_model.specs.State as model
 use Rattle.kernel_model.specs.State.{State, Fork, Outcome}
 use Rattle.kernel_model.specs.Effect.{Finish, Returned, Halted}
 use Rattle.race_model.specs.Trace.{barrier_count}
-use Rattle.history_model.specs.Work.{Work, Rest, Put, RegionWork, fork_record, work_records, work_regions}
+use Rattle.history_model.specs.Work.{Work, Rest, Put, RegionWork, fork_record, logged, work_records, work_regions}
 use Rattle.history_model.specs.Sound.{WordLayout, IsSound}
 use Rattle.history_model.specs.Joined.{IsJoined, PhasesEnd, ArePhasesJoined}
 use Rattle.lane_runner.specs.declared.stop.Halt.{Halt}
@@ -42,7 +42,7 @@ region_joined : (layout : WordLayout) (work : Work) (before : List RegionWork) (
     → IsSound layout work → LastIsRegion (work_records work) → IsJoined work
 region_joined layout Rest before region is ended joined sound last = tt
 region_joined layout (Put r more) before region is ended joined sound last =
-    region_joined layout more before region is ended joined sound.2 (last_of_more r (work_records more) last sound.0.no_region)
+    region_joined layout more before region is ended joined sound.2 (last_of_more (logged r) (work_records more) last sound.0.no_region)
 region_joined layout (Work.Fork line span phases more) [] region is ended joined sound last =
     (inl (nothing_more more (ap (λ (rs : List RegionWork). tail_of rs) is) sound.1 last), subst (λ (r : RegionWork). ArePhasesJoined r.phases) (sym (ap (λ (rs : List RegionWork). head_of region rs) is)) joined, ended_joined more none)
   where
@@ -62,13 +62,13 @@ region_joined layout (Work.Fork line span phases more) [] region is ended joined
       by : (prefix : List Record) (x : Record) → [] ≡ prefix ++ x ∷ [] → ⊥
       by [] x is = cc
       by (p ∷ prefix) x is = cc
-    puts_last (Put r more) is sound last = puts_last more is sound.2 (last_of_more r (work_records more) last sound.0.no_region)
+    puts_last (Put r more) is sound last = puts_last more is sound.2 (last_of_more (logged r) (work_records more) last sound.0.no_region)
     puts_last (Work.Fork line span phases more) is sound last = cc
 
     nothing_more : (work : Work) → work_regions work ≡ [] → IsSound layout work → LastIsRegion (fork_record line span ∷ work_records work) → work ≡ Rest
     nothing_more Rest is sound last = refl
     nothing_more (Put r more) is sound last = absurd (by last.prefix last.last last.parts last.forks) where
-      by : (prefix : List Record) (x : Record) → fork_record line span ∷ (r ∷ work_records more) ≡ prefix ++ x ∷ [] → x.kind ≡ Region → ⊥
+      by : (prefix : List Record) (x : Record) → fork_record line span ∷ (logged r ∷ work_records more) ≡ prefix ++ x ∷ [] → x.kind ≡ Region → ⊥
       by [] x is forks = cc
       by (p ∷ prefix) x parts forks = puts_last (Put r more) is sound (record { prefix = prefix; last = x; parts = cc; forks = forks })
     nothing_more (Work.Fork line span phases more) is sound last = cc
@@ -113,13 +113,12 @@ began_joined w old new (AtRegion path why) work forks own sound released (none, 
 
 module _ (w : WorldValue) (part : State → Outcome (Unit {0})) (slots slots' : List ℤ) (old new : Progress) (free : old.hand.view.held ≡ []) where
   made_did : (bars : ℕ) (finish : Finish (Unit {0})) (m : MadePast bars w part slots slots' old new finish) → DidWork w.arrays old.hand new.hand m.work
-  made_did bars finish m = record { hand = m.done.hand; sound = m.done.sound; elements = m.done.elements; joined = ended_joined m.work m.ended }
+  made_did bars finish m = record { hand = m.done.hand; sound = m.done.sound; joined = ended_joined m.work m.ended }
 
   began_did : (cause : Cause) (m : Began w part slots old new cause) → DidWork w.arrays old.hand new.hand m.work
   began_did cause m = record {
     hand = m.done.hand;
     sound = m.done.sound;
-    elements = m.done.elements;
     joined = began_joined w old new cause m.work m.forks m.own m.done.sound (subst (λ (h : List ℕ). HasReleased h m.work m.own) free m.released) m.ends m.stops;
   }
 

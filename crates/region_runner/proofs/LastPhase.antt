@@ -11,7 +11,7 @@ use Rattle.kernel_model.specs.Effect.{Returned}
 use Rattle.shared_words.specs.declared.view.View.{View}
 use Rattle.shared_words.specs.Handles.{HandValue, WordsValue}
 use Rattle.history_model.specs.Work.{Rest, Put, work_records, then_work}
-use Rattle.history_model.proofs.TaskEntries.{then_records}
+use Rattle.history_model.proofs.Parts.{then_records}
 use Rattle.lane_runner.specs.declared.stop.Halt.{Halt}
 use Rattle.lane_runner.specs.declared.stop.Halt.TheVariants as halt
 use Rattle.lane_runner.specs.Drawing.{Tally}

@@ -1,7 +1,4 @@
 pub mod Numbers
-pub mod WholeTree
-pub mod TaskListing
-pub mod FinishedRun
 pub mod JoinedHands
 pub mod Verdicts
 pub mod GatheredLanes

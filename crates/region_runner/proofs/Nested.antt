@@ -19,15 +19,15 @@ use Rattle.kernel_model.proofs.Steps.{kept-and_then, kept-after, kept-put, kept-
 use Rattle.history_model.specs.Did.{lane_count_of}
 use Rattle.history_model.specs.Sound.{WordLayout, IsSound, ArePhasesSound}
 use Rattle.history_model.specs.Work.{Work, Rest, Put, Fork as Forked, Phases, NoPhase, Phase, TeamWork, NoWork, Beside, RegionWork, work_regions, work_at, lane_works}
-use Rattle.history_model.proofs.TaskTree.{AreSound, lane_is, sound_at_step, sound_regions}
+use Rattle.history_laws.proofs.TaskTree.{AreSound, lane_is, sound_at_step, sound_regions}
 use Rattle.execution_model.specs.Runs.{RunsTask, lane_begin, works_log}
-use Rattle.execution_model.proofs.Descent.{RegionAt, task_region}
+use Rattle.execution_laws.proofs.Descent.{RegionAt, task_region}
 use Rattle.lane_runner.specs.Teams.{EachTeam}
 use Rattle.lane_runner.specs.World.{layout_of}
 use Rattle.region_runner.specs.Lawful.{IsTeam, IsInnerTeam}
-use Rattle.region_runner.specs.Nesting.{NestsWithin, PhasesNest, TeamNests}
+use Rattle.execution_laws.specs.Nesting.{NestsWithin, PhasesNest, TeamNests}
 use Rattle.region_runner.proofs.LawfulParts.{teams_of}
-use Rattle.region_runner.proofs.TaskListing.{RegionNests, RegionsNest, WorksNest}
+use Rattle.execution_laws.proofs.TaskListing.{RegionNests, RegionsNest, WorksNest}
 
 -- ---- the teams that a task forks stand in its body
 

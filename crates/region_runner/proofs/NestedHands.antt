@@ -7,8 +7,8 @@ use Rattle.sw_base.specs.declared.path.Step.{Step}
 use Rattle.race_model.specs.Listing.{lane_of}
 use Rattle.history_model.specs.Work.{Work, RegionWork, work_regions, lane_works}
 use Rattle.lane_runner.specs.Handed.{Entry, LogPlace, MaybeStop, TaskHands, RegionsHand, LanesHand, AreWithin}
-use Rattle.region_runner.specs.Nesting.{NestsWithin, PhasesNest}
-use Rattle.region_runner.proofs.TaskListing.{RegionsNest, WorksNest, all_regions_nest, lane_nests}
+use Rattle.execution_laws.specs.Nesting.{NestsWithin, PhasesNest}
+use Rattle.execution_laws.proofs.TaskListing.{RegionsNest, WorksNest, all_regions_nest, lane_nests}
 
 abbrev IsWithinDepth : ℕ → Entry → Type 0
 IsWithinDepth n e = length e.task ≤ n

@@ -54,6 +54,7 @@ plain_draw kind.Unlock r loops none = refl
 plain_draw kind.Barrier r loops none = refl
 plain_draw kind.Region r loops none = refl
 plain_draw kind.End r loops none = refl
+plain_draw kind.Update r loops none = refl
 plain_draw kind.Chunk r loops none = absurd cc
 
 plain_closing : (k : Kind) (r : Record) (counts : List ℕ) → number_drawn k r.addr ≡ None → with_closing k r counts ≡ counts
@@ -64,6 +65,7 @@ plain_closing kind.Unlock r counts none = refl
 plain_closing kind.Barrier r counts none = refl
 plain_closing kind.Region r counts none = refl
 plain_closing kind.End r counts none = refl
+plain_closing kind.Update r counts none = refl
 plain_closing kind.Chunk r counts none = absurd cc
 
 no_chunk : (k : Kind) (addr : ℕ) → k ≡ kind.Chunk → number_drawn k addr ≡ None → ⊥

@@ -7,7 +7,7 @@ use Rattle.kernel_model.specs.State.{State, Outcome}
 use Rattle.history_model.specs.Joined.{LastIsEnd}
 use Rattle.history_model.specs.Work.{Work, work_records}
 use Rattle.execution_model.specs.Runs.{AreReleased, works_log}
-use Rattle.execution_model.proofs.Prefixes.{barriers_same, ends_same}
+use Rattle.execution_laws.proofs.Prefixes.{barriers_same, ends_same}
 use Rattle.lane_runner.specs.declared.stop.Halt.{Halt}
 use Rattle.lane_runner.specs.declared.stop.Halt.TheVariants as halt
 use Rattle.lane_runner.specs.Going.{Progress, HasReleased}

@@ -21,7 +21,6 @@ use Rattle.shared_words.specs.Draws.{AreEachOnce, numbers}
 use Rattle.shared_words.specs.Handles.{HandValue}
 use Rattle.lane_runner.specs.declared.stop.Halt.{Halt}
 use Rattle.lane_runner.specs.Drawing.{Tally, TellDraws, after_draws}
-use Rattle.lane_runner.specs.Fitting.{PhasesFit}
 use Rattle.lane_runner.specs.Going.{site}
 use Rattle.lane_runner.specs.Handed.{LogPlace}
 use Rattle.lane_runner.specs.Stopping.{GoesFurther}
@@ -60,9 +59,9 @@ module _ (crew : CrewValue) (team : TeamTree) (slots : List ℤ) (items : List (
       subst (λ (ss : List ℤ). TaskGoes (world_of crew k) (task_part (site (world_of crew k)) ran.done ran.end) ss (now k).locals (progress (start k)) (ran.stands.lanes k d less).last (lane_works k ran.phases) (answer_of (halt_in (now k))))
       (begins k d less).locals_are (ran.stands.lanes k d less).goes
 
-  pub ran_lanes : PhasesFit ran.phases → (program : Program) → program.arrays ≡ crew.arrays → (k : ℕ) → k < crew.span → RunsTask program (lane_begin fork k) (lane_works k ran.phases)
-  ran_lanes fit program arrays k less =
-      lane_ran program fork k (world_of crew k) arrays (task_part (site (world_of crew k)) ran.done ran.end) (first k) (now k).locals (progress (start k)) (ran.stands.lanes k d less).last (begins k d less).none_put ran.phases fit
+  pub ran_lanes : (program : Program) → program.arrays ≡ crew.arrays → (k : ℕ) → k < crew.span → RunsTask program (lane_begin fork k) (lane_works k ran.phases)
+  ran_lanes program arrays k less =
+      lane_ran program fork k (world_of crew k) arrays (task_part (site (world_of crew k)) ran.done ran.end) (first k) (now k).locals (progress (start k)) (ran.stands.lanes k d less).last (begins k d less).none_put ran.phases
       (answer_of (halt_in (now k))) (lane_goes k less)
 
   drew : (k : ℕ) → k < crew.span → TellDraws 0 (works_log (lane_works k ran.phases)) (now k).tally.draws.view.drawn (now k).tally.next_loop
@@ -87,9 +86,9 @@ module _ (crew : CrewValue) (team : TeamTree) (slots : List ℤ) (items : List (
       )
 
   pub ran_draws : HasCounts team slots → ((loop : ℕ) → AreEachOnce (numbers loop (drawn_by (λ k. (now k).tally.draws.view.drawn) 0 crew.span)))
-      → PhasesFit ran.phases → (program : Program) → program.arrays ≡ crew.arrays → (loop : ℕ) → DrewSome (region_logs ran.phases crew.span) loop
-  ran_draws has once fit program arrays loop =
-      region_draws program fork has crew.span ran.phases (λ k. progress (now k)) drew (ran_lanes fit program arrays) once loop
+      → (program : Program) → program.arrays ≡ crew.arrays → (loop : ℕ) → DrewSome (region_logs ran.phases crew.span) loop
+  ran_draws has once program arrays loop =
+      region_draws program fork has crew.span ran.phases (λ k. progress (now k)) drew (ran_lanes program arrays) once loop
 
   pub ran_stops : (k : ℕ) (less : k < crew.span) (h : Halt) → halt_in (now k) ≡ Some h
       → StopsTask crew.arrays (lane_of at number k team.span) (stop_of (lane_of at number k team.span) h).0 (stop_of (lane_of at number k team.span) h).1 (lane_begin fork k) (lane_works k ran.phases)

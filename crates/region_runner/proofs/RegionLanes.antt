@@ -19,13 +19,12 @@ use Rattle.kernel_model.proofs.Steps.{kept-after}
 use Rattle.history_model.specs.Work.{Phases, lane_works}
 use Rattle.execution_model.specs.Runs.{RunsTask, lane_begin}
 use Rattle.lane_runner.specs.declared.stop.Halt.{Halt}
-use Rattle.lane_runner.specs.Fitting.{PhasesFit}
 use Rattle.lane_runner.specs.Going.{Progress, site}
 use Rattle.lane_runner.specs.World.{WorldValue}
 use Rattle.lane_runner.proofs.Noting.{note_grows}
 use Rattle.lane_runner.proofs.Phases.{run_parts_both, parts_grow}
 use Rattle.region_runner.specs.Ran.{task_part, TaskGoes}
-use Rattle.region_runner.proofs.Traced.{lane_fits, runs_goes}
+use Rattle.region_runner.proofs.Traced.{runs_goes}
 
 -- the parts of phases, one after another
 pub parts_both : (done left : List (List Item)) → parts_in (done ++ left) ≡ parts_in done ++ parts_in left
@@ -90,8 +89,7 @@ module _ (fork : Fork) (lane : ℕ) (w : WorldValue) (lane_is : w.lane ≡ lane)
 
 module _ (program : Program) (fork : Fork) (lane : ℕ) (w : WorldValue) (arrays : program.arrays ≡ w.arrays) (part : State → Outcome (Unit {0})) (first : BeginsLane fork lane w part) where
   -- it ran its task
-  pub lane_ran : (slots' : List ℤ) (old new : Progress) → old.buffer.count ≡ 0 → (phases : Phases) → PhasesFit phases → (r : Result (Unit {0}) Halt)
+  pub lane_ran : (slots' : List ℤ) (old new : Progress) → old.buffer.count ≡ 0 → (phases : Phases) → (r : Result (Unit {0}) Halt)
       → TaskGoes w part fork.slots slots' old new (lane_works lane phases) r → RunsTask program (lane_begin fork lane) (lane_works lane phases)
-  lane_ran slots' old new none phases fit r goes =
-      runs_goes program (lane_begin fork lane) w arrays part first.rest first.grows (first.is program arrays) slots' old new none (lane_works lane phases)
-      (lane_fits lane phases fit) r goes
+  lane_ran slots' old new none phases r goes =
+      runs_goes program (lane_begin fork lane) w arrays part first.rest first.grows (first.is program arrays) slots' old new none (lane_works lane phases) r goes

@@ -8,7 +8,6 @@ use Rattle.execution_model.specs.Runs.{lane_begin}
 use Rattle.lane_runner.specs.declared.stop.Stop.{Stop}
 use Rattle.lane_runner.specs.Stopping.{IsLeastLane, IsNoTrouble, StopsRegion}
 use Rattle.region_runner.specs.Stopping.{IsAtOrBelow, StopsTask}
-use Rattle.region_runner.proofs.Traced.{lane_fits}
 
 module _ (fork : Fork) (lane : ℕ) (within : lane < fork.team.span) (phases : Phases) (at : List Step) (number : ℕ) (own_path : List Step)
     (path_is : own_path ≡ at ++ record { region = number; lane = lane; span = fork.team.span } ∷ []) where
@@ -20,8 +19,8 @@ module _ (fork : Fork) (lane : ℕ) (within : lane < fork.team.span) (phases : P
   pub region_stops : (arrays : List Array) (path : List Step) (why : Stop) → StopsTask arrays own_path path why (lane_begin fork lane) (lane_works lane phases) → (IsNoTrouble why → IsLeastLane phases lane) → StopsRegion arrays at number path why fork phases
   region_stops arrays path why s least = record {
     inside = record { lane = lane; below = s.at.rest; path_is = in_region path s.at };
-    traced = λ fit program same end told.
-        let ends = s.traced (lane_fits lane phases fit) program same end told in
+    traced = λ program same end told.
+        let ends = s.traced program same end told in
         record { lane = lane; within = within; below = ends.at.rest; path_is = in_region path ends.at; ends = ends.ends };
     crowded = λ line told.
         let rests = s.crowded line told in

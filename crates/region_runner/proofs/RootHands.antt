@@ -49,7 +49,7 @@ module _ (program : Program) (place : LogPlace) (old new : HandValue View) (c : 
   log_stops : (path : List Step) (trouble : Trouble) → path ≡ c.path → Stops path (stop.Trouble trouble)
   log_stops path trouble own = record {
     at = record { rest = []; path_is = own ∙ g.path_is };
-    traced = λ fit other same end told. absurd cc;
+    traced = λ other same end told. absurd cc;
     crowded = λ line told. absurd cc;
     least = λ other. absurd other;
   }
@@ -162,13 +162,13 @@ module _ (program : Program) (place : LogPlace) (hand : HandValue View) (there :
   stopped_at = ([], stop.Trouble Memory)
 
   no_stop : StopsRoot program [] (stop.Trouble Memory) Rest
-  no_stop = record { at = record { rest = []; path_is = refl }; traced = λ fit other same end told. absurd cc; crowded = λ line told. absurd cc; least = λ other. absurd other }
+  no_stop = record { at = record { rest = []; path_is = refl }; traced = λ other same end told. absurd cc; crowded = λ line told. absurd cc; least = λ other. absurd other }
 
   nothing_done : RootRests program place hand hand [] (Err stopped_at)
   nothing_done = record {
     work = Rest;
     did = did_nothing program.arrays hand there;
-    runs = λ fit. runs_nothing program;
+    runs = runs_nothing program;
     hands = TaskHands.missing [] (Rest ∷ []) [] refl (RegionsHand.no_region [] 0);
     tell = tells_none [] (stop.Trouble Memory) [] (λ e. cc) (λ line e. cc);
     ends = λ is. no_end stopped_at is;

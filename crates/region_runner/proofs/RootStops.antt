@@ -11,19 +11,19 @@ use Rattle.kernel_syntax.specs.Program.{Program}
 use Rattle.kernel_model.specs.State.{Fork}
 use Rattle.kernel_model.specs.Trace.{Start, Ending}
 use Rattle.kernel_model.specs.Folder.{IsTracedTo, own_trace, root_start, lane_start, start_at, start_below}
-use Rattle.kernel_model.proofs.LawfulFolder.{lane_started}
+use Rattle.kernel_model.proofs.Starts.{lane_started}
 use Rattle.history_model.specs.Sound.{IsSound}
 use Rattle.history_model.specs.Tasks.{tree_tasks}
 use Rattle.history_model.specs.Work.{Work, RegionWork, work_regions, lane_works, works_at_region, works_at_step, works_of, works_under}
-use Rattle.history_model.proofs.TaskTree.{AreForked, lane_is, listed_of}
+use Rattle.history_laws.proofs.TaskTree.{AreForked, lane_is, listed_of}
 use Rattle.execution_model.specs.Runs.{IsWithin, RunsTask, lane_begin, logged_tasks, works_log}
-use Rattle.execution_model.proofs.Descent.{RunsAt, down}
-use Rattle.execution_model.proofs.LoggedTasks.{lists_logged, log_is}
+use Rattle.execution_laws.proofs.Descent.{RunsAt, down}
+use Rattle.execution_laws.proofs.LoggedTasks.{lists_logged, log_is}
 use Rattle.lane_runner.specs.Stopping.{GoesFurther, IsLeastBelow, EndsBelow, LastIsRegionAt, RestsBelow}
 use Rattle.lane_runner.specs.World.{layout_of}
 use Rattle.region_runner.specs.Answer.{EndsTask, IsLeast}
-use Rattle.region_runner.specs.Nesting.{NestsWithin}
-use Rattle.region_runner.proofs.TaskListing.{RegionNests, WorksNest, all_regions_nest, found_nests, lane_of_region_nests}
+use Rattle.execution_laws.specs.Nesting.{NestsWithin}
+use Rattle.execution_laws.proofs.TaskListing.{RegionNests, WorksNest, all_regions_nest, found_nests, lane_of_region_nests}
 
 -- a forked path is no longer than the regions nest
 forked_within : (path : List Step) (d : ℕ) (works : List Work) → WorksNest d works → AreForked works path → length path ≤ d

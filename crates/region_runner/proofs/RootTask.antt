@@ -40,7 +40,7 @@ use Rattle.region_runner.proofs.RegionLanes.{BeginsLane, task_begins}
 use Rattle.region_runner.proofs.Standing.{StepsOn, lane_steps}
 use Rattle.region_runner.proofs.TaskStops.{stops_task}
 use Rattle.region_runner.proofs.TeamLoop.{stands_first}
-use Rattle.region_runner.proofs.Traced.{fits_both, runs_goes}
+use Rattle.region_runner.proofs.Traced.{runs_goes}
 
 -- ---- a root that executed its phase
 
@@ -99,9 +99,9 @@ module _ (program : Program) (place : LogPlace) (crew : CrewValue) (items : List
     did = subst (λ (h : HandValue View). DidWork program.arrays old h steps.work) (sym closed.hand) (subst (λ (xs : List Array). DidWork xs old after.hand steps.work) arrays steps.did);
     path_is = path_is;
     gave = gave;
-    runs = λ fit.
+    runs =
         runs_goes program (lane_begin fork 0) (world_of crew 0) (sym arrays) part first.rest first.grows (first.is program (sym arrays)) after.locals (progress root) (progress after) begins.none_put (steps.work ∷ [])
-        (fits_both steps.work Rest fit tt) (answer_of c.halt) goes;
+        (answer_of c.halt) goes;
     ends = λ none unrefused. steps.ends program.main.end refl (stopped_none after (sym closed.closes.4 ∙ none));
     halts = halts;
     few = λ none unrefused. few c.halt none goes;
@@ -110,7 +110,7 @@ module _ (program : Program) (place : LogPlace) (crew : CrewValue) (items : List
 -- ---- a root that executed nothing
 
 pub did_nothing : (arrays : List Array) (hand : HandValue View) → hand.there ≡ true → DidWork arrays hand hand Rest
-did_nothing arrays hand there = record { hand = hand_still hand there ∙ ap (λ (v : View). with_view hand v) (sym (worked_none (element_word arrays) hand.view)); sound = tt; elements = tt; joined = tt }
+did_nothing arrays hand there = record { hand = hand_still hand there ∙ ap (λ (v : View). with_view hand v) (sym (worked_none (element_word arrays) hand.view)); sound = tt; joined = tt }
 
 pub runs_nothing : (program : Program) → RunsTask program (root_start program) (Rest ∷ [])
 runs_nothing program =
@@ -140,7 +140,7 @@ root_torn program place hand draws c there (nothing, refused) = record {
   did = did_nothing program.arrays hand there;
   path_is = nothing.path_is;
   gave = gave_rest place c nothing.gave;
-  runs = λ fit. runs_nothing program;
+  runs = runs_nothing program;
   ends = λ none unrefused. absurd (refused unrefused);
   halts = λ h is. absurd (no_halt (sym nothing.none_halted ∙ is));
   few = λ none unrefused. absurd (refused unrefused);

@@ -44,7 +44,7 @@ module _ (place : LogPlace) (arrays : List Array) (at : List Step) (number : ℕ
   log_stops : (k : ℕ) → k < fork.team.span → (path : List Step) (trouble : Trouble) → path ≡ (lanes k).path → StopsRegion arrays at number path (stop.Trouble trouble) fork phases
   log_stops k less path trouble own = record {
     inside = record { lane = k; below = []; path_is = own ∙ paths k less };
-    traced = λ fit program same end told. absurd cc;
+    traced = λ program same end told. absurd cc;
     crowded = λ line told. absurd cc;
     least = λ other. absurd other;
   }

@@ -21,7 +21,7 @@ use Rattle.shared_words.specs.Handles.{HandValue}
 use Rattle.history_model.specs.Work.{Work, Rest, Phases, lane_works, work_records}
 use Rattle.history_model.specs.Joined.{LastIsEnd}
 use Rattle.execution_model.specs.Runs.{RunsRegions}
-use Rattle.history_model.proofs.ActsOrder.{count_cons}
+use Rattle.history_model.proofs.Parts.{count_cons}
 use Rattle.lane_runner.specs.declared.stop.Halt.{Halt}
 use Rattle.lane_runner.specs.Going.{GainsRecords, GoesPast, Progress, site}
 use Rattle.lane_runner.specs.World.{WorldValue}
@@ -62,8 +62,8 @@ ran_none w at slots p unrefused = record {
   handed = work_hands_none p p Rest refl refl;
   few = λ less. less;
   unrefused = unrefused;
-  makes = λ fit. makes-stays (task_part at [] None) slots (log_limit - p.buffer.count) (Returned tt) (λ s same full. refl);
-  regions = λ fit program is. RunsRegions.no_region;
+  makes = makes-stays (task_part at [] None) slots (log_limit - p.buffer.count) (Returned tt) (λ s same full. refl);
+  regions = λ program is. RunsRegions.no_region;
 }
 
 -- ---- one phase more

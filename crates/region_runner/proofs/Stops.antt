@@ -1,8 +1,7 @@
 -- Of a task that stopped below another one: how its trace ends.
 use Rattle.std.proofs.Common.{◌≡◌, refl, ap, sym, ◌∙◌, subst, ℕ, ◌+◌, ◌<◌, List, [], ◌∷◌, ◌++◌, length, Some, arith, append_assoc}
-use Rattle.std.specs.Prelude.{slice_get, All}
+use Rattle.std.specs.Prelude.{slice_get}
 use Rattle.std.specs.List.{flat_map}
-use Rattle.std.proofs.lemmas.List.Elements.{All-nil, All-cons, All-head, All-tail}
 use Rattle.sw_base.specs.declared.path.Step.{Step}
 use Rattle.log_format.specs.declared.record.Record.{Record}
 use Rattle.kernel_syntax.specs.declared.syntax.Array.{Array}
@@ -10,25 +9,14 @@ use Rattle.kernel_syntax.specs.Program.{Program}
 use Rattle.kernel_model.specs.State.{Fork}
 use Rattle.kernel_model.specs.Trace.{Ending, Start}
 use Rattle.kernel_model.specs.Folder.{own_trace}
-use Rattle.history_model.specs.Work.{Work, Rest, Put, RegionWork, work_regions}
+use Rattle.history_model.specs.Work.{Work, RegionWork, work_regions}
 use Rattle.execution_model.specs.Runs.{RunsRegions, works_log}
 use Rattle.lane_runner.specs.declared.stop.Stop.{Stop}
-use Rattle.lane_runner.specs.Fitting.{WorkFits, PhasesFit}
 use Rattle.lane_runner.specs.Stopping.{ending_for, EndsInLane, StopsAtLast, below as under}
 use Rattle.lane_runner.specs.Going.{log_of}
 use Rattle.region_runner.specs.Ran.{in_one}
 use Rattle.region_runner.specs.Stopping.{EndsUnder}
 use Rattle.region_runner.proofs.Traced.{TracesFirst, one_log, one_regions}
-
--- the regions of a work that reads what elements can have do so too
-regions_fit : (work : Work) → WorkFits work → All (λ (r : RegionWork). PhasesFit r.phases) (work_regions work)
-regions_fit Rest fit = All-nil (λ (r : RegionWork). PhasesFit r.phases)
-regions_fit (Put r more) fit = regions_fit more fit.1
-regions_fit (Work.Fork line span phases more) fit = All-cons (λ (r : RegionWork). PhasesFit r.phases) (record { span = span; phases = phases }) (work_regions more) fit.0 (regions_fit more fit.1)
-
-all_at : (P : RegionWork → Type 0) (before : List RegionWork) (region : RegionWork) (after : List RegionWork) → All P (before ++ region ∷ after) → P region
-all_at P [] region after all = All-head P region after all
-all_at P (b ∷ before) region after all = all_at P before region after (All-tail P b (before ++ region ∷ after) all)
 
 pub get_at : {A : Type 0} (before : List A) (x : A) (after : List A) → slice_get (before ++ x ∷ after) (length before) ≡ Some x
 get_at [] x after = refl
@@ -51,9 +39,9 @@ lasts_meet program (e ∷ earlier) fork (b ∷ before) region (RunsRegions.regio
 
 -- a task below one with these works stopped, in the region that it forked last
 module _ (program : Program) (end : Ending) (start : Start) where
-  pub task_stops : (arrays : List Array) (own path : List Step) (why : Stop) (forks : List Fork) (works : List Work) → program.arrays ≡ arrays → ending_for why ≡ Some end → WorkFits (in_one works)
+  pub task_stops : (arrays : List Array) (own path : List Step) (why : Stop) (forks : List Fork) (works : List Work) → program.arrays ≡ arrays → ending_for why ≡ Some end
       → StopsAtLast arrays own 0 path why forks (work_regions (in_one works)) → RunsRegions program forks (work_regions (in_one works)) → TracesFirst program start (log_of (in_one works)) forks → EndsUnder program end own path start works
-  task_stops arrays own path why forks works same ending fit s runs first = record {
+  task_stops arrays own path why forks works same ending s runs first = record {
     at = record {
       rest = record { region = length s.before; lane = inner.lane; span = s.region.span } ∷ inner.below;
       path_is = inner.path_is ∙ ap (λ (n : ℕ). own ++ record { region = length s.before; lane = inner.lane; span = n } ∷ inner.below) (sym meet.1);
@@ -67,10 +55,7 @@ module _ (program : Program) (end : Ending) (start : Start) where
 
       inner : EndsInLane program end own (length s.before) path s.fork s.region.phases
       inner = subst (λ (n : ℕ). EndsInLane program end own n path s.fork s.region.phases) (let e : 0 + length s.before ≡ length s.before = omega arith in e)
-          (s.stopped.traced
-          (all_at (λ (r : RegionWork). PhasesFit r.phases) s.before s.region []
-          (subst (λ (rs : List RegionWork). All (λ (r : RegionWork). PhasesFit r.phases) rs) s.regions_are (regions_fit (in_one works) fit)))
-          program same end ending)
+          (s.stopped.traced program same end ending)
 
       fork_is : slice_get (own_trace program start (works_log works)).forks (length s.before) ≡ Some s.fork
       fork_is =

@@ -41,12 +41,12 @@ module _ (fork : Fork) (lane : ℕ) (w : WorldValue) (part : State → Outcome (
       → StopsTask w.arrays own own it (lane_begin fork lane) works
   itself_stops why line it ending other t = record {
     at = itself_at;
-    traced = λ fit program same end told. record {
+    traced = λ program same end told. record {
       at = itself_at;
       ends =
           itself (lane_begin fork lane) works
           (subst (λ (e : Ending). IsTracedTo program (lane_begin fork lane) (works_log works) e) (same_Some (Stopped why line) end (sym ending ∙ told))
-          (stopped_trace program (lane_begin fork lane) w same part first_part.rest first_part.grows (first_part.is program same) slots' old new none works fit why line t));
+          (stopped_trace program (lane_begin fork lane) w same part first_part.rest first_part.grows (first_part.is program same) slots' old new none works why line t));
     };
     crowded = λ l told. absurd (other l told);
     least = λ other. itself_least;
@@ -64,7 +64,7 @@ module _ (fork : Fork) (lane : ℕ) (w : WorldValue) (part : State → Outcome (
   tasks_stop : (line : ℕ) → TaskBegan w part fork.slots old new works (AtTasks line) → StopsTask w.arrays own own (stop.Tasks line) (lane_begin fork lane) works
   tasks_stop line t = record {
     at = itself_at;
-    traced = λ fit program same end told. absurd (no_ending told);
+    traced = λ program same end told. absurd (no_ending told);
     crowded = λ l told. subst (λ (n : ℕ). RestsUnder n own own works) (line_of told) (itself_rests line t);
     least = λ other. itself_least;
   }
@@ -76,7 +76,7 @@ module _ (fork : Fork) (lane : ℕ) (w : WorldValue) (part : State → Outcome (
       line_of e = cc
 
   trouble_stops : (it : Stop) → ending_for it ≡ None → ((l : ℕ) → it ≡ stop.Tasks l → ⊥) → StopsTask w.arrays own own it (lane_begin fork lane) works
-  trouble_stops it none_told other = record { at = itself_at; traced = λ fit program same end told. absurd (no_ending (sym none_told ∙ told)); crowded = λ l told. absurd (other l told); least = λ other. itself_least } where
+  trouble_stops it none_told other = record { at = itself_at; traced = λ program same end told. absurd (no_ending (sym none_told ∙ told)); crowded = λ l told. absurd (other l told); least = λ other. itself_least } where
     no_ending : {end : Ending} → None ≡ Some end → ⊥
     no_ending e = cc
 
@@ -90,9 +90,9 @@ module _ (fork : Fork) (lane : ℕ) (w : WorldValue) (part : State → Outcome (
           stops.stopped.inside.path_is
           ∙ ap (λ (n : ℕ). own ++ record { region = n; lane = stops.stopped.inside.lane; span = stops.fork.team.span } ∷ stops.stopped.inside.below) (let e : 0 + length stops.before ≡ length stops.before = omega arith in e);
     };
-    traced = λ fit program same end told.
-        task_stops program end (lane_begin fork lane) w.arrays own path why t.forks works same told fit stops (t.regions fit program same)
-        (traces_begun program (lane_begin fork lane) w same part first_part.rest first_part.grows (first_part.is program same) slots' old new none works fit (AtRegion path why) t);
+    traced = λ program same end told.
+        task_stops program end (lane_begin fork lane) w.arrays own path why t.forks works same told stops (t.regions program same)
+        (traces_begun program (lane_begin fork lane) w same part first_part.rest first_part.grows (first_part.is program same) slots' old new none works (AtRegion path why) t);
     crowded = λ l told. rests_below l (stops.stopped.crowded l told);
     least = λ other. least_below (stops.stopped.least other);
   }

@@ -10,7 +10,7 @@ use Rattle.kernel_model.specs.declared.phase.Item.{Item}
 use Rattle.kernel_model.specs.declared.phase.Item.TheVariants as item
 use Rattle.kernel_model.specs.Parts.{bar_count, drawn_count, is_bar}
 use Rattle.kernel_model.specs.Phases.{AreDivided, EndsInBar, IsNoBar, part_of, parts_in}
-use Rattle.history_model.proofs.ActsOrder.{count_cons}
+use Rattle.history_model.proofs.Parts.{count_cons}
 use Rattle.shared_words.specs.declared.view.View.{View}
 use Rattle.shared_words.specs.Handles.{HandValue}
 use Rattle.history_model.specs.Work.{Phases, NoPhase}

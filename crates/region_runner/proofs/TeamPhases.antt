@@ -15,10 +15,9 @@ use Rattle.history_model.specs.Did.{lane_count_of, phase_splits, did_phases}
 use Rattle.history_model.specs.Sound.{WordLayout, IsSound, IsTeamSound, PassesBarrier, PassAllBarriers}
 use Rattle.history_model.specs.Joined.{LastIsEnd, IsJoined, IsTeamJoined, ArePhasesJoined, TeamEnds, PhasesEnd}
 use Rattle.history_model.proofs.Parts.{phases_splits_sum, phases_did, phases_works, phases_sound}
-use Rattle.lane_runner.specs.Fitting.{AccessesElements, TeamAccessesElements, PhasesAccessElements}
 use Rattle.lane_runner.specs.Forking.{after_phases}
 use Rattle.lane_runner.specs.Going.{worked}
-use Rattle.lane_runner.specs.World.{element_word, element_width, layout_of}
+use Rattle.lane_runner.specs.World.{element_word, layout_of}
 use Rattle.region_runner.specs.Hands.{HaveWorked, joined_with, parted_for}
 use Rattle.region_runner.specs.Team.{team_of_works, DidWork, DidPhases}
 use Rattle.region_runner.proofs.JoinedHands.{did_phase}
@@ -63,9 +62,6 @@ module _ (P : Work → Type 0) (Q : TeamWork → Type 0) (none : Q NoWork) (one 
 pub team_sound : (layout : WordLayout) (count : ℕ) (works : ℕ → Work) → ((k : ℕ) → k < count → IsSound layout (works k)) → IsTeamSound layout (team_of_works 0 count works)
 team_sound layout count works each = of_each (λ work. IsSound layout work) (λ team. IsTeamSound layout team) tt (λ work others x xs. (x, xs)) count works each
 
-pub team_elements : (width : ℕ → ℕ) (count : ℕ) (works : ℕ → Work) → ((k : ℕ) → k < count → AccessesElements width (works k)) → TeamAccessesElements width (team_of_works 0 count works)
-team_elements width count works each = of_each (λ work. AccessesElements width work) (λ team. TeamAccessesElements width team) tt (λ work others x xs. (x, xs)) count works each
-
 pub team_joined : (count : ℕ) (works : ℕ → Work) → ((k : ℕ) → k < count → IsJoined (works k)) → IsTeamJoined (team_of_works 0 count works)
 team_joined count works each = of_each IsJoined IsTeamJoined tt (λ work others x xs. (x, xs)) count works each
 
@@ -100,7 +96,6 @@ pub phase_did : (arrays : List Array) (span : ℕ) (old new : HandValue View) (w
     → new ≡ with_view old (joined_with (views_from 0 span (λ k. (hand k).view)) (parted_for 0 span span old.view)) → DidPhases arrays span old new (Phase (team_of_works 0 span works) NoPhase)
 phase_did arrays span old new works hand start rests none begun did home = record {
   sound = (team_count 0 span works, team_sound (layout_of arrays) span works (λ k less. (did k less).sound), inl refl, tt);
-  elements = (team_elements (element_width arrays) span works (λ k less. (did k less).elements), tt);
   joined = (team_joined span works (λ k less. (did k less).joined), tt);
   hand = home ∙ ap (λ (v : View). with_view old v) (did_phase (element_word arrays) span (team_of_works 0 span works) old.view (views_from 0 span (λ k. (hand k).view)) rests none (team_count 0 span works) have);
 }
@@ -112,10 +107,6 @@ phase_did arrays span old new works hand start rests none begun did home = recor
         (ap (λ (h : HandValue View). h.view) (did i less).hand ∙ ap (λ (v : View). worked (element_word arrays) v (works i)) (begun i less)))
 
 -- ---- phases
-
-phases_elements : (width : ℕ → ℕ) (phases later : Phases) → PhasesAccessElements width phases → PhasesAccessElements width later → PhasesAccessElements width (then_phases phases later)
-phases_elements width NoPhase later one more = more
-phases_elements width (Phase team rest) later one more = (one.0, phases_elements width rest later one.1 more)
 
 phases_joined : (phases later : Phases) → ArePhasesJoined phases → ArePhasesJoined later → ArePhasesJoined (then_phases phases later)
 phases_joined NoPhase later one more = more
@@ -131,7 +122,6 @@ after_both word span phases later v = λ i. record v {
 pub none_did : (arrays : List Array) (span : ℕ) (old : HandValue View) → old.there ≡ true → DidPhases arrays span old old NoPhase
 none_did arrays span old there = record {
   sound = tt;
-  elements = tt;
   joined = tt;
   hand = λ i. record old { there = there i; view = record old.view { splits = (let e : old.view.splits ≡ old.view.splits + 0 = omega arith in e) i; items = sym (append-nil old.view.items) i } };
 }
@@ -140,7 +130,6 @@ pub phases_did_more : (arrays : List Array) (span : ℕ) (old mid new : HandValu
     → DidPhases arrays span old new (then_phases phases later)
 phases_did_more arrays span old mid new phases later one pass more = record {
   sound = phases_sound (layout_of arrays) span phases later one.sound more.sound pass;
-  elements = phases_elements (element_width arrays) phases later one.elements more.elements;
   joined = phases_joined phases later one.joined more.joined;
   hand =
       more.hand

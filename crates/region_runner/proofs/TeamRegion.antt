@@ -133,13 +133,12 @@ module _ (w : WorldValue) (crew : CrewValue) (team : TeamTree) (slots : List ℤ
       record {
         phases = ran.phases;
         sound = did.sound;
-        elements = did.elements;
         hand = did.hand;
-        lanes = λ fit program same lane less.
-            ran_lanes crew team slots items old new before after (place_of task) at number (λ k. lent_hand share) span_is runs ran begins (λ k less. refl) d fit program (same ∙ arrays) lane (within lane less);
-        drawn = λ fit program same loop.
+        lanes = λ program same lane less.
+            ran_lanes crew team slots items old new before after (place_of task) at number (λ k. lent_hand share) span_is runs ran begins (λ k less. refl) d program (same ∙ arrays) lane (within lane less);
+        drawn = λ program same loop.
             subst (λ (n : ℕ). DrewSome (region_logs ran.phases n) loop) span_is
-            (ran_draws crew team slots items old new before after (place_of task) at number (λ k. lent_hand share) span_is runs ran begins (λ k less. refl) d has drawn_once fit program (same ∙ arrays) loop);
+            (ran_draws crew team slots items old new before after (place_of task) at number (λ k. lent_hand share) span_is runs ran begins (λ k less. refl) d has drawn_once program (same ∙ arrays) loop);
         joined = did.joined;
         ends = settled.0;
         handed = subst (λ (es : List Entry). HandsOn (place_of task) (stop_in r) at number (record { span = team.span; phases = ran.phases } ∷ []) given es) (sym gathered.grows) settled.1;

@@ -14,8 +14,8 @@ use Rattle.shared_words.specs.Handles.{HandValue, with_view}
 use Rattle.history_model.specs.Work.{Work, Phases, NoPhase, Phase, TeamWork, lane_works, then_phases, work_records}
 use Rattle.history_model.specs.Sound.{PassesBarrier, PassAllBarriers}
 use Rattle.history_model.specs.Joined.{LastIsEnd, PhasesEnd}
-use Rattle.history_model.proofs.EndedLanes.{ends_behind}
-use Rattle.history_model.proofs.MetBarriers.{barriers_both}
+use Rattle.history_laws.proofs.EndedLanes.{ends_behind}
+use Rattle.history_laws.proofs.MetBarriers.{barriers_both}
 use Rattle.lane_runner.specs.Going.{IsSameLog, site}
 use Rattle.lane_runner.proofs.Bodies.{log_later}
 use Rattle.region_runner.specs.LastPhase.{IsLast, WentOn}

@@ -16,13 +16,11 @@ use Rattle.kernel_model.specs.Effect.{Finish, Returned, Halted, Makes, state_wit
 use Rattle.kernel_model.proofs.Effects.{makes-halt, makes-same}
 use Rattle.kernel_model.proofs.RunEffects.{parts, own_trace-is}
 use Rattle.history_model.specs.Work.{Work, Rest, Put, RegionWork, Phases, NoPhase, Phase, TeamWork, NoWork, Beside, fork_record, work_records, work_regions, work_at, lane_works, then_work}
-use Rattle.history_model.proofs.TaskEntries.{then_records}
+use Rattle.history_model.proofs.Parts.{then_records}
 use Rattle.execution_model.specs.Execution.{BeginsTrace}
-use Rattle.execution_model.specs.Fitting.{ReadsFit, IsFittingRead}
 use Rattle.execution_model.specs.Runs.{AreReleased, RunsTask, RunsRegions, put_records, works_log}
 use Rattle.lane_runner.specs.declared.stop.Halt.{Halt}
 use Rattle.lane_runner.specs.declared.stop.Halt.TheVariants as halt
-use Rattle.lane_runner.specs.Fitting.{WorkFits, PhasesFit, TeamFits}
 use Rattle.lane_runner.specs.World.{WorldValue}
 use Rattle.lane_runner.specs.Going.{Progress, HasReleased, Cause, AtLog, AtRegion, AtTasks, log_of, BeginsPart, effect_of}
 use Rattle.lane_runner.proofs.Beginning.{begins_first, begins_same, begins_made}
@@ -42,27 +40,6 @@ one_log works = ap (λ (rs : List Record). put_records rs) (one_records works)
 pub one_regions : (works : List Work) → work_regions (in_one works) ≡ flat_map work_regions works
 one_regions [] = refl
 one_regions (work ∷ works) = regions_then work (in_one works) ∙ ap (λ (rs : List RegionWork). work_regions work ++ rs) (one_regions works)
-
-pub fits_both : (one two : Work) → WorkFits one → WorkFits two → WorkFits (then_work one two)
-fits_both Rest two x y = y
-fits_both (Put r more) two x y = (x.0, fits_both more two x.1 y)
-fits_both (Work.Fork line span phases more) two x y = (x.0, fits_both more two x.1 y)
-
--- what a lane of a team read
-one_lane_fits : (lane : ℕ) (team : TeamWork) (works : List Work) → TeamFits team → WorkFits (in_one works) → WorkFits (in_one (work_at lane team ++ works))
-one_lane_fits lane NoWork works fit later = later
-one_lane_fits ℕ.zero (Beside work others) works fit later = fits_both work (in_one works) fit.0 later
-one_lane_fits (ℕ.suc lane) (Beside work others) works fit later = one_lane_fits lane others works fit.1 later
-
-pub lane_fits : (lane : ℕ) (phases : Phases) → PhasesFit phases → WorkFits (in_one (lane_works lane phases))
-lane_fits lane NoPhase fit = tt
-lane_fits lane (Phase team later) fit = one_lane_fits lane team (lane_works lane later) fit.0 (lane_fits lane later fit.1)
-
--- the reads of a task among those of its tree
-pub reads_fit : (work : Work) → WorkFits work → ReadsFit (work_records work)
-reads_fit Rest fit = All-nil (λ (r : Record). IsFittingRead r.kind r)
-reads_fit (Put r more) fit = All-cons (λ (r : Record). IsFittingRead r.kind r) r (work_records more) fit.0 (reads_fit more fit.1)
-reads_fit (Work.Fork line span phases more) fit = All-cons (λ (r : Record). IsFittingRead r.kind r) (fork_record line span) (work_records more) tt (reads_fit more fit.1)
 
 -- ---- what was released
 
@@ -105,7 +82,7 @@ module _ (program : Program) (start : Start) where
 
   -- a task that stands at a part of its trace
   module _ (w : WorldValue) (same : program.arrays ≡ w.arrays) (part rest : State → Outcome (Unit {0})) (grows : (s : State) → Grows s (state_of (rest s)))
-      (is : (s : State) → parts program start s ≡ after (part s) rest) (slots' : List ℤ) (old new : Progress) (none : old.buffer.count ≡ 0) (works : List Work) (fit : WorkFits (in_one works)) where
+      (is : (s : State) → parts program start s ≡ after (part s) rest) (slots' : List ℤ) (old new : Progress) (none : old.buffer.count ≡ 0) (works : List Work) where
     room_is : log_limit - old.buffer.count ≡ log_limit
     room_is = omega (arith, none)
 
@@ -119,14 +96,14 @@ module _ (program : Program) (start : Start) where
         runs_first works t.own t.forks
         (begun_trace (log_of (in_one works)) t.forks
         (whole_begins (log_of (in_one works)) t.forks
-        (begins_made part start.slots (log_limit - old.buffer.count) (effect_of slots' (in_one works) t.forks) finish (t.makes (reads_fit (in_one works) fit)))))
-        t.released (t.regions fit program same)
+        (begins_made part start.slots (log_limit - old.buffer.count) (effect_of slots' (in_one works) t.forks) finish t.makes)))
+        t.released (t.regions program same)
 
     pub traces_begun : (cause : Cause) (t : TaskBegan w part start.slots old new works cause) → TracesFirst program start (log_of (in_one works)) t.forks
-    traces_begun cause t = begun_trace (log_of (in_one works)) t.forks (whole_begins (log_of (in_one works)) t.forks (t.begins (reads_fit (in_one works) fit)))
+    traces_begun cause t = begun_trace (log_of (in_one works)) t.forks (whole_begins (log_of (in_one works)) t.forks t.begins)
 
     runs_begun : (cause : Cause) → TaskBegan w part start.slots old new works cause → RunsTask program start works
-    runs_begun cause t = runs_first works t.own t.forks (traces_begun cause t) t.released (t.regions fit program same)
+    runs_begun cause t = runs_first works t.own t.forks (traces_begun cause t) t.released (t.regions program same)
 
     pub runs_goes : (r : Result (Unit {0}) Halt) → TaskGoes w part start.slots slots' old new works r → RunsTask program start works
     runs_goes (Ok u) t = runs_ran (Returned tt) t
@@ -142,7 +119,7 @@ module _ (program : Program) (start : Start) where
     stopped_trace why line t =
         let halted = makes-same (λ s. and_then (part s) (λ a t. rest t)) (parts program start) start.slots log_limit (effect_of slots' (in_one works) t.forks) (Halted why line) (λ s. is s ∙ after_is (part s) rest)
         (makes-halt part (λ a t. rest t) start.slots log_limit (effect_of slots' (in_one works) t.forks) why line
-        (subst (λ (room : ℕ). Makes part start.slots room (effect_of slots' (in_one works) t.forks) (Halted why line)) room_is (t.makes (reads_fit (in_one works) fit)))) in
+        (subst (λ (room : ℕ). Makes part start.slots room (effect_of slots' (in_one works) t.forks) (Halted why line)) room_is t.makes)) in
         let trace = own_trace-is program start (effect_of slots' (in_one works) t.forks) (Halted why line) halted in
         subst (λ (rs : List Record). IsTracedTo program start rs (Stopped why line)) (one_log works)
         (record { records_are = ap (λ t. t.records) trace; ended = ap (λ t. t.end) trace })

@@ -7,6 +7,7 @@ use Rattle.std.proofs.lemmas.Bool.{cases_lt}
 use Rattle.std.proofs.lemmas.List.{append-nil}
 use Rattle.std.proofs.lemmas.List.Elements.{All-cons, All-nil}
 use Rattle.std.proofs.lemmas.List.Sums.{sum_by-cons}
+use Rattle.sw_base.specs.declared.closed_log.ClosedLog.{ClosedLog}
 use Rattle.sw_base.specs.declared.path.Step.{Step}
 use Rattle.sw_base.specs.declared.trouble.Trouble.TheVariants.{Memory}
 use Rattle.sw_base.specs.Environment.{Text, WhereTold}
@@ -22,7 +23,7 @@ use Rattle.kernel_syntax.specs.Layout.{aligned, elements, laid_from}
 use Rattle.kernel_syntax.specs.Program.{Program}
 use Rattle.kernel_model.specs.Folder.{root_start}
 use Rattle.kernel_model.specs.Lawful.{IsLawful}
-use Rattle.kernel_model.proofs.LawfulFolder.{folder_keeps}
+use Rattle.kernel_rules.proofs.LawfulFolder.{folder_keeps}
 use Rattle.atomic_table.specs.Seated.{TableId}
 use Rattle.step_history.specs.declared.item.Item.{Item}
 use Rattle.step_history.specs.History.{HasHistory}
@@ -32,35 +33,33 @@ use Rattle.shared_words.specs.Views.{newcomer}
 use Rattle.event_buffer.specs.Logged.{HasAll}
 use Rattle.history_model.specs.Did.{did}
 use Rattle.history_model.specs.Joined.{LastIsEnd}
-use Rattle.history_model.specs.Sound.{HasAddresses}
+use Rattle.history_model.specs.Sound.{AreFitted, HasAddresses}
 use Rattle.history_model.specs.Work.{Work, Rest, work_records}
 use Rattle.execution_model.specs.Execution.{IsExecution}
 use Rattle.execution_model.specs.Runs.{IsWithin, RunsTask, logged_tasks, works_log}
-use Rattle.execution_model.proofs.Descent.{released_of}
-use Rattle.execution_model.proofs.LoggedTasks.{log_is}
-use Rattle.execution_model.proofs.Prefixes.{ends_same}
+use Rattle.execution_laws.proofs.Descent.{released_of}
+use Rattle.execution_laws.proofs.LoggedTasks.{log_is}
+use Rattle.execution_laws.proofs.Prefixes.{ends_same}
+use Rattle.execution_laws.proofs.Whole.{execution}
 use Rattle.lane_runner.specs.declared.stop.Stop.{Stop}
 use Rattle.lane_runner.specs.declared.stop.Stop.TheVariants as stop
 use Rattle.lane_runner.specs.Children.{LogView}
-use Rattle.lane_runner.specs.Fitting.{WorkFits}
 use Rattle.lane_runner.specs.Forking.{Answer, stop_in}
 use Rattle.lane_runner.specs.Handed.{AreEntriesOf, Entry, IsEntryOf, Keeps, LogPlace, TellStop, entries_of, entry_of}
 use Rattle.lane_runner.specs.Stopping.{LastIsRegionAt}
 use Rattle.lane_runner.specs.World.{HaveOwnWords, element_address, element_word, layout_of}
 use Rattle.lane_runner.proofs.HandedTasks.{tree_listed}
-use Rattle.lane_runner.proofs.OwnWords.{bounded_world}
+use Rattle.lane_runner.proofs.OwnWords.{bounded_widths, bounded_world}
 use Rattle.region_runner.specs.Answer.{AreFaultless, EndsTask, HasRun, HasStoppedRun, IsLeast, IsRun, StopsIn, whole_log, whole_outline}
-use Rattle.region_runner.specs.Nesting.{NestsWithin}
+use Rattle.execution_laws.specs.Nesting.{NestsWithin}
 use Rattle.region_runner.specs.Gathering.{ClosedValue}
 use Rattle.region_runner.specs.Root.{IsSettled, RanRoot, RootRests, StopsRoot}
-use Rattle.region_runner.proofs.FinishedRun.{whole_folder}
+use Rattle.execution_laws.proofs.FinishedRun.{whole_folder}
 use Rattle.region_runner.proofs.Nested.{root_nests}
 use Rattle.region_runner.proofs.NestedHands.{root_within}
 use Rattle.region_runner.proofs.RootHands.{root_rests}
 use Rattle.region_runner.proofs.RootStops.{ends_task, least_task, rests_task}
-use Rattle.region_runner.proofs.TaskListing.{are_listed, are_within}
-use Rattle.region_runner.proofs.Traced.{fits_both}
-use Rattle.region_runner.proofs.WholeTree.{all_fits, executes}
+use Rattle.execution_laws.proofs.TaskListing.{are_listed, are_within}
 
 -- ---- the words of elements
 
@@ -85,13 +84,15 @@ element_in base first (a ∷ arrays) word low high =
         let e = later past in
         record { number = suc e.number; array = e.array; index = e.index; found = e.found; within = e.within; is = e.is }
 
--- each word of a table with one for each element has an address
+-- each word of a table with one for each element has an address, and its element a width
 have_addresses : (program : Program) → IsBounded program → HaveOwnWords program.arrays → (words : List ℕ) → length words ≤ elements program.arrays → HasAddresses (layout_of program.arrays) words
 have_addresses program bounded apart words few word less =
-    let e = subst (λ (arrays : List Array). HasElement arrays word) (sym bounded.placed) (element_in 4096 0 program.arrays word (omega arith) (omega (arith, few, less))) in
-    subst (λ (n : ℕ). element_word program.arrays (element_address program.arrays n) ≡ n) e.is
-    (ap (λ (addr : ℕ). element_word program.arrays addr) (apart.address e.number e.index e.array e.found e.within)
-    ∙ apart.word e.number e.index e.array e.found e.within)
+    let e = subst (λ (arrays : List Array). HasElement arrays word) (sym bounded.placed) (element_in 4096 0 program.arrays word (omega arith) (omega (arith, few, less))) in (
+      subst (λ (n : ℕ). element_word program.arrays (element_address program.arrays n) ≡ n) e.is
+          (ap (λ (addr : ℕ). element_word program.arrays addr) (apart.address e.number e.index e.array e.found e.within)
+          ∙ apart.word e.number e.index e.array e.found e.within),
+      bounded_widths program bounded word,
+    )
 
 -- ---- the logs of a run that ended
 
@@ -114,15 +115,15 @@ module _ {T : Type 0} (seen : LogView T) (dir : List ℕ) (size : ℕ) (root : O
   abbrev place : LogPlace
   place = record { dir = dir; size = size; tells = is_some root }
 
-  abbrev handed : List Step × T × ℕ → HandedLog
+  abbrev handed : ClosedLog T → HandedLog
   handed = handed_log seen.dir seen.path seen.text
 
-  log_whole : (task : TaskLog) (item : List Step × T × ℕ) → IsEntryOf place None task.path task.records (entry_of seen item) → handed item ≡ whole_log dir size root task
+  log_whole : (task : TaskLog) (item : ClosedLog T) → IsEntryOf place None task.path task.records (entry_of seen item) → handed item ≡ whole_log dir size root task
   log_whole task item is =
-      let told = told_whole (seen.text item.1) root task.records size is.tells (kept_whole (seen.text item.1) task.path task.records size (seen.faults item.1) is.keeps) in
+      let told = told_whole (seen.text item.log) root task.records size is.tells (kept_whole (seen.text item.log) task.path task.records size (seen.faults item.log) is.keeps) in
       λ i. record { task = is.task i; dir = is.dir i; path = is.own i; told = told i; count = is.count i }
 
-  all_whole : (tasks : Trace) (items : List (List Step × T × ℕ)) (es : List Entry) → es ≡ entries_of seen items → AreEntriesOf place None tasks es → map handed items ≡ map (whole_log dir size root) tasks
+  all_whole : (tasks : Trace) (items : List (ClosedLog T)) (es : List Entry) → es ≡ entries_of seen items → AreEntriesOf place None tasks es → map handed items ≡ map (whole_log dir size root) tasks
   all_whole _ [] _ same AreEntriesOf.no_task = refl
   all_whole _ (item ∷ items) _ same AreEntriesOf.no_task = absurd cc
   all_whole _ [] _ same (AreEntriesOf.given task tasks e es is rest) = absurd cc
@@ -134,14 +135,14 @@ module _ {T : Type 0} (seen : LogView T) (dir : List ℕ) (size : ℕ) (root : O
   all_whole _ items _ same (AreEntriesOf.missing task tasks es none rest) = absurd none
 
   -- none counts a fault
-  all_faultless : (tasks : Trace) (items : List (List Step × T × ℕ)) (es : List Entry) → es ≡ entries_of seen items → AreEntriesOf place None tasks es → AreFaultless seen.faults items
-  all_faultless _ [] _ same AreEntriesOf.no_task = All-nil (λ (x : List Step × T × ℕ). seen.faults x.1 ≡ 0)
+  all_faultless : (tasks : Trace) (items : List (ClosedLog T)) (es : List Entry) → es ≡ entries_of seen items → AreEntriesOf place None tasks es → AreFaultless seen.faults items
+  all_faultless _ [] _ same AreEntriesOf.no_task = All-nil (λ (x : ClosedLog T). seen.faults x.log ≡ 0)
   all_faultless _ (item ∷ items) _ same AreEntriesOf.no_task = absurd cc
   all_faultless _ [] _ same (AreEntriesOf.given task tasks e es is rest) = absurd cc
   all_faultless _ (item ∷ items) _ same (AreEntriesOf.given task tasks e es is rest) =
       let first : e ≡ entry_of seen item = cc in
       let others : es ≡ entries_of seen items = cc in
-      All-cons (λ (x : List Step × T × ℕ). seen.faults x.1 ≡ 0) item items (sym (ap (λ (x : Entry). x.faults) first) ∙ is.faultless refl) (all_faultless tasks items es others rest)
+      All-cons (λ (x : ClosedLog T). seen.faults x.log ≡ 0) item items (sym (ap (λ (x : Entry). x.faults) first) ∙ is.faultless refl) (all_faultless tasks items es others rest)
   all_faultless _ items _ same (AreEntriesOf.missing task tasks es none rest) = absurd none
 
 -- as many as there are tasks
@@ -160,9 +161,9 @@ own_words : (program : Program) → IsBounded program → HaveOwnWords program.a
 own_words program bounded =
     (bounded_world program (record { table = no_table; elements = elements program.arrays; locks = 0 }) (record { table = no_table; loops = 0 }) 0 1 bounded refl (omega arith)).apart
 
-module _ (program : Program) (lawful : IsLawful program) (dir : List ℕ) (size taken : ℕ) (root : Option Text) (table : TableId) (hand new : HandValue View) (closed : Option ClosedValue) (logs : List Entry) (r : Answer) (words : List ℕ)
-    (same_size : taken ≡ size) (first : hand ≡ hand_with table (newcomer [])) (ran : RanRoot program (record { dir = dir; size = taken; tells = is_some root }) hand new closed) (settled : IsSettled closed logs r) (few : length words ≤ elements program.arrays)
-    (history : HasHistory new.view.items words) where
+module _ (program : Program) (lawful : IsLawful program) (dir : List ℕ) (size taken : ℕ) (root : Option Text) (table : TableId) (hand new : HandValue View) (closed : Option ClosedValue) (logs : List Entry) (r : Answer) (memory words : List ℕ)
+    (same_size : taken ≡ size) (first : hand ≡ hand_with table (newcomer [])) (ran : RanRoot program (record { dir = dir; size = taken; tells = is_some root }) hand new closed) (settled : IsSettled closed logs r) (few : length memory ≤ elements program.arrays)
+    (history : HasHistory new.view.items memory) (fitted : AreFitted (layout_of program.arrays) memory words) where
   abbrev own_place : LogPlace
   own_place = record { dir = dir; size = size; tells = is_some root }
 
@@ -177,17 +178,14 @@ module _ (program : Program) (lawful : IsLawful program) (dir : List ℕ) (size 
   abbrev tasks : Trace
   tasks = logged_tasks 4 work
 
-  addresses : HasAddresses (layout_of program.arrays) words
-  addresses = have_addresses program lawful.bounded (own_words program lawful.bounded) words few
+  addresses : HasAddresses (layout_of program.arrays) memory
+  addresses = have_addresses program lawful.bounded (own_words program lawful.bounded) memory few
 
-  one_history : HasHistory (did (element_word program.arrays) [] 0 work) words
-  one_history = subst (λ (h : HandValue View). HasHistory h.view.items words) rests.did.hand history
-
-  fit : WorkFits work
-  fit = all_fits program work words lawful.bounded rests.did.sound rests.did.elements addresses one_history
+  one_history : HasHistory (did (element_word program.arrays) [] 0 work) memory
+  one_history = subst (λ (h : HandValue View). HasHistory h.view.items memory) rests.did.hand history
 
   runs : RunsTask program (root_start program) (work ∷ [])
-  runs = rests.runs fit
+  runs = rests.runs
 
   nests : NestsWithin 4 work
   nests = root_nests program lawful work rests.did.sound runs
@@ -195,8 +193,8 @@ module _ (program : Program) (lawful : IsLawful program) (dir : List ℕ) (size 
   within : IsWithin 4 work
   within = are_within 4 work nests
 
-  execution : IsExecution program tasks (element_address program.arrays) words
-  execution = executes program 4 work words lawful.bounded rests.did.sound rests.did.joined rests.did.elements rests.runs within addresses one_history
+  executed : IsExecution program tasks (element_address program.arrays) words
+  executed = execution program (layout_of program.arrays) 4 work rests.did.sound rests.did.joined runs within memory words addresses fitted one_history
 
   entries : AreEntriesOf own_place (stop_in r) tasks logs
   entries = tree_listed own_place (stop_in r) 4 work logs rests.hands (root_within own_place (stop_in r) 4 work logs rests.hands nests)
@@ -209,7 +207,7 @@ module _ (program : Program) (lawful : IsLawful program) (dir : List ℕ) (size 
     stops_in : StopsIn program tasks path why
     stops_in = record {
       traced = λ end told.
-          let ends = stopped.traced (fits_both work Rest fit tt) program refl end told in
+          let ends = stopped.traced program refl end told in
           subst (λ (p : List Step). EndsTask program tasks p end) (sym ends.at.path_is) (ends_task program 4 work rests.did.sound within runs nests end ends.at.rest ends.ends);
       crowded = λ line told.
           let rests_at = stopped.crowded line told in
@@ -222,7 +220,7 @@ module _ (program : Program) (lawful : IsLawful program) (dir : List ℕ) (size 
     pub has_stopped : HasStoppedRun program dir size root logs path why words
     has_stopped = record {
       tasks = tasks;
-      execution = execution;
+      execution = executed;
       all = all;
       listed = are_listed 4 work nests;
       logs_are = subst (λ (x : Answer). AreEntriesOf own_place (stop_in x) tasks logs) is entries;
@@ -246,13 +244,13 @@ module _ (program : Program) (lawful : IsLawful program) (dir : List ℕ) (size 
 
     is_run : IsRun program tasks words
     is_run =
-        let whole = whole_folder program tasks (element_address program.arrays) words execution (are_listed 4 work nests) root_ended in
-        record { traced = whole; rules = folder_keeps program lawful tasks whole (are_listed 4 work nests) few_tasks; execution = execution; all = all }
+        let whole = whole_folder program tasks (element_address program.arrays) words executed (are_listed 4 work nests) root_ended in
+        record { traced = whole; rules = folder_keeps program lawful tasks whole (are_listed 4 work nests) few_tasks; execution = executed; all = all }
 
-    pub has_run : {T : Type 0} (seen : LogView T) (items : List (List Step × T × ℕ)) → logs ≡ entries_of seen items → HasRun program dir size root (map (handed_log seen.dir seen.path seen.text) items) words
+    pub has_run : {T : Type 0} (seen : LogView T) (items : List (ClosedLog T)) → logs ≡ entries_of seen items → HasRun program dir size root (map (handed_log seen.dir seen.path seen.text) items) words
     has_run seen items same = record { tasks = tasks; run = is_run; logs_are = all_whole seen dir size root tasks items logs same ended_entries; few = few_tasks }
 
-    pub has_no_fault : {T : Type 0} (seen : LogView T) (items : List (List Step × T × ℕ)) → logs ≡ entries_of seen items → AreFaultless seen.faults items
+    pub has_no_fault : {T : Type 0} (seen : LogView T) (items : List (ClosedLog T)) → logs ≡ entries_of seen items → AreFaultless seen.faults items
     has_no_fault seen items same = all_faultless seen dir size root tasks items logs same ended_entries
 
 -- ---- no memory was found for the words
@@ -263,4 +261,4 @@ no_words items none = subst (λ (xs : List Item). HasHistory xs []) (sym none) (
 pub stopped_at_once : (program : Program) → IsLawful program → (dir : List ℕ) (size : ℕ) (root : Option Text) → HasStoppedRun program dir size root [] [] (stop.Trouble Memory) []
 stopped_at_once program lawful dir size root =
     let hand : HandValue View = hand_with no_table (newcomer []) in
-    has_stopped program lawful dir size size root no_table hand hand None [] (Err ([], stop.Trouble Memory)) [] refl refl refl (refl, refl) (omega arith) (no_words hand.view.items refl) [] (stop.Trouble Memory) refl (inr (refl, refl))
+    has_stopped program lawful dir size size root no_table hand hand None [] (Err ([], stop.Trouble Memory)) [] [] refl refl refl (refl, refl) (omega arith) (no_words hand.view.items refl) (record { count = refl; each = λ word less. absurd (omega (arith, less)) }) [] (stop.Trouble Memory) refl (inr (refl, refl))

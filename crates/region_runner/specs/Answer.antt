@@ -5,6 +5,7 @@ use Rattle.log_format.specs.declared.format.TheConstants.{FORMAT}
 use Rattle.log_format.specs.declared.record.Record.{Record}
 use Rattle.log_format.specs.Format.{log_header}
 use Rattle.log_format.specs.Spelling.{log_bytes}
+use Rattle.sw_base.specs.declared.closed_log.ClosedLog.{ClosedLog}
 use Rattle.sw_base.specs.declared.path.Step.{Step}
 use Rattle.sw_base.specs.declared.trouble.Trouble.TheVariants.{Memory}
 use Rattle.sw_base.specs.Environment.{Outline, Text}
@@ -61,8 +62,8 @@ pub record HasRun (program : Program) (dir : List ℕ) (size : ℕ) (root : Opti
   pub few : length tasks ≤ max_rows
 
 -- none of these logs counts a fault
-abbrev pub AreFaultless : {L : Type 0} → (L → ℕ) → List (List Step × L × ℕ) → Type 0
-AreFaultless faults_of entries = All (λ e. faults_of e.1 ≡ 0) entries
+abbrev pub AreFaultless : {L : Type 0} → (L → ℕ) → List (ClosedLog L) → Type 0
+AreFaultless faults_of entries = All (λ closed. faults_of closed.log ≡ 0) entries
 
 -- the task of this path starts where the run forks it, and its log is its whole trace, which ends so
 pub record EndsTask (program : Program) (tasks : Trace) (path : List Step) (end : Ending) : Type 0 where

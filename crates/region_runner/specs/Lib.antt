@@ -1,5 +1,4 @@
 pub mod Drawing
-pub mod Nesting
 pub mod Hands
 pub mod Ran
 pub mod Team

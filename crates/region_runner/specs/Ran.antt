@@ -10,13 +10,11 @@ use Rattle.kernel_model.specs.Parts.{run_parts}
 use Rattle.kernel_model.specs.Phases.{parts_in}
 use Rattle.kernel_model.specs.Trace.{log_limit}
 use Rattle.kernel_model.specs.Effect.{Finish, Returned, Halted, Makes}
-use Rattle.history_model.specs.Work.{Work, Rest, then_work, work_records, work_regions}
-use Rattle.execution_model.specs.Fitting.{ReadsFit}
+use Rattle.history_model.specs.Work.{Work, Rest, then_work, work_regions}
 use Rattle.execution_model.specs.Runs.{RunsRegions}
 use Rattle.lane_runner.specs.declared.stop.Halt.{Halt}
 use Rattle.lane_runner.specs.declared.stop.Halt.TheVariants as halt
 use Rattle.lane_runner.specs.Drawing.{HasDrawn}
-use Rattle.lane_runner.specs.Fitting.{WorkFits}
 use Rattle.lane_runner.specs.Handed.{AreFew}
 use Rattle.lane_runner.specs.Stopping.{HaveEnded}
 use Rattle.lane_runner.specs.World.{WorldValue}
@@ -55,8 +53,8 @@ pub record TaskRan (w : WorldValue) (part : State → Outcome (Unit {0})) (slots
   pub handed : WorkHandsOn None old new (in_one works)
   pub few : AreFew old.done → AreFew new.done
   pub unrefused : new.buffer.refused ≡ None
-  pub makes : ReadsFit (work_records (in_one works)) → Makes part slots (log_limit - old.buffer.count) (effect_of slots' (in_one works) forks) finish
-  pub regions : WorkFits (in_one works) → (program : Program) → program.arrays ≡ w.arrays → RunsRegions program forks (work_regions (in_one works))
+  pub makes : Makes part slots (log_limit - old.buffer.count) (effect_of slots' (in_one works) forks) finish
+  pub regions : (program : Program) → program.arrays ≡ w.arrays → RunsRegions program forks (work_regions (in_one works))
 
 -- The task executed the part in these works up to a record that its log, or a region that its lanes, didn't take.
 pub record TaskBegan (w : WorldValue) (part : State → Outcome (Unit {0})) (slots : List ℤ) (old new : Progress) (works : List Work) (cause : Cause) : Type 0 where
@@ -67,8 +65,8 @@ pub record TaskBegan (w : WorldValue) (part : State → Outcome (Unit {0})) (slo
   pub ends : EndsBy cause own (log_of (in_one works))
   pub stops : StopsBy w.arrays old new cause forks (work_regions (in_one works))
   pub handed : WorkHandsOn (stop_by cause) old new (in_one works)
-  pub begins : ReadsFit (work_records (in_one works)) → BeginsPart part slots (log_limit - old.buffer.count) (log_of (in_one works)) forks
-  pub regions : WorkFits (in_one works) → (program : Program) → program.arrays ≡ w.arrays → RunsRegions program forks (work_regions (in_one works))
+  pub begins : BeginsPart part slots (log_limit - old.buffer.count) (log_of (in_one works)) forks
+  pub regions : (program : Program) → program.arrays ≡ w.arrays → RunsRegions program forks (work_regions (in_one works))
 
 -- how a task stands after these works, by what its last phase answered
 abbrev pub TaskGoes : WorldValue → (State → Outcome (Unit {0})) → List ℤ → List ℤ → Progress → Progress → List Work → Result (Unit {0}) Halt → Type 0

@@ -14,7 +14,6 @@ use Rattle.lane_runner.specs.declared.stop.Halt.{Halt}
 use Rattle.lane_runner.specs.declared.stop.Stop.{Stop}
 use Rattle.lane_runner.specs.declared.stop.Stop.TheVariants as stop
 use Rattle.sw_base.specs.declared.trouble.Trouble.TheVariants.{Memory}
-use Rattle.lane_runner.specs.Fitting.{WorkFits}
 use Rattle.lane_runner.specs.Forking.{Answer, stop_in}
 use Rattle.lane_runner.specs.Handed.{AreFew, Entry, LogPlace, TaskHands, TellStop}
 use Rattle.region_runner.specs.Crew.{CrewValue, world_of}
@@ -43,7 +42,7 @@ pub record RootGave (program : Program) (place : LogPlace) (old new : HandValue 
   pub did : DidWork program.arrays old new work
   pub path_is : c.path ≡ []
   pub gave : LaneGave place (work ∷ []) c
-  pub runs : WorkFits work → RunsTask program (root_start program) (work ∷ [])
+  pub runs : RunsTask program (root_start program) (work ∷ [])
   pub ends : c.halt ≡ None → c.refused ≡ None → LastIsEnd (work_records work)
   pub halts : (h : Halt) → c.halt ≡ Some h → StopsRoot program (stop_of [] h).0 (stop_of [] h).1 work
   pub few : c.halt ≡ None → c.refused ≡ None → AreFew c.below
@@ -67,7 +66,7 @@ IsSettled None logs r = (logs ≡ []) × (r ≡ Err ([], stop.Trouble Memory))
 pub record RootRests (program : Program) (place : LogPlace) (old new : HandValue View) (logs : List Entry) (r : Answer) : Type 0 where
   pub work : Work
   pub did : DidWork program.arrays old new work
-  pub runs : WorkFits work → RunsTask program (root_start program) (work ∷ [])
+  pub runs : RunsTask program (root_start program) (work ∷ [])
   pub hands : TaskHands place (stop_in r) [] (work ∷ []) logs
   pub tell : TellStop (stop_in r) logs
   pub ends : r ≡ Ok tt → LastIsEnd (work_records work)

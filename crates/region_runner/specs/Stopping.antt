@@ -5,11 +5,9 @@ use Rattle.kernel_syntax.specs.declared.syntax.Array.{Array}
 use Rattle.kernel_syntax.specs.Program.{Program}
 use Rattle.kernel_model.specs.Trace.{Ending, Start}
 use Rattle.history_model.specs.Work.{Work}
-use Rattle.lane_runner.specs.Fitting.{WorkFits}
 use Rattle.lane_runner.specs.Stopping.{EndsBelow, IsLeastBelow, IsNoTrouble, RestsBelow, ending_for}
 use Rattle.lane_runner.specs.declared.stop.Stop.{Stop}
 use Rattle.lane_runner.specs.declared.stop.Stop.TheVariants as stop
-use Rattle.region_runner.specs.Ran.{in_one}
 
 -- the path is that of the task at this path, or of one below it
 pub record IsAtOrBelow (own path : List Step) : Type 0 where
@@ -36,6 +34,6 @@ pub record IsLeastUnder (own path : List Step) (works : List Work) : Type 0 wher
 -- each smaller lane went further.
 pub record StopsTask (arrays : List Array) (own path : List Step) (why : Stop) (start : Start) (works : List Work) : Type 0 where
   pub at : IsAtOrBelow own path
-  pub traced : WorkFits (in_one works) → (program : Program) → program.arrays ≡ arrays → (end : Ending) → ending_for why ≡ Some end → EndsUnder program end own path start works
+  pub traced : (program : Program) → program.arrays ≡ arrays → (end : Ending) → ending_for why ≡ Some end → EndsUnder program end own path start works
   pub crowded : (line : ℕ) → why ≡ stop.Tasks line → RestsUnder line own path works
   pub least : IsNoTrouble why → IsLeastUnder own path works

@@ -6,11 +6,10 @@ use Rattle.history_model.specs.Work.{Work, Phases, TeamWork, NoWork, Beside}
 use Rattle.history_model.specs.Sound.{IsSound, ArePhasesSound}
 use Rattle.history_model.specs.Joined.{IsJoined, ArePhasesJoined}
 use Rattle.kernel_syntax.specs.declared.syntax.Array.{Array}
-use Rattle.lane_runner.specs.Fitting.{AccessesElements, PhasesAccessElements}
 use Rattle.lane_runner.specs.Forking.{after_phases}
 use Rattle.lane_runner.specs.Going.{worked}
 use Rattle.lane_runner.specs.Handed.{Entry}
-use Rattle.lane_runner.specs.World.{element_word, element_width, layout_of}
+use Rattle.lane_runner.specs.World.{element_word, layout_of}
 
 -- the works of so many lanes, from this one on
 abbrev pub team_of_works : ℕ → ℕ → (ℕ → Work) → TeamWork
@@ -21,13 +20,11 @@ team_of_works lane (suc count) works = Beside (works lane) (team_of_works (suc l
 pub record DidWork (arrays : List Array) (old new : HandValue View) (work : Work) : Type 0 where
   pub hand : new ≡ with_view old (worked (element_word arrays) old.view work)
   pub sound : IsSound (layout_of arrays) work
-  pub elements : AccessesElements (element_width arrays) work
   pub joined : IsJoined work
 
 -- The lanes of a team did these phases, and all their hands are home with the one that they were split off.
 pub record DidPhases (arrays : List Array) (span : ℕ) (old new : HandValue View) (phases : Phases) : Type 0 where
   pub sound : ArePhasesSound (layout_of arrays) span phases
-  pub elements : PhasesAccessElements (element_width arrays) phases
   pub joined : ArePhasesJoined phases
   pub hand : new ≡ with_view old (after_phases (element_word arrays) span phases old.view)
 

@@ -9,14 +9,14 @@ use lane_runner::{Lane, Stop};
 use shared_words::ChunkHand;
 use std::alloc::Global;
 use std::marker::Model;
-use sw_base::{Log, Path, Trouble};
+use sw_base::{ClosedLog, Log, Path, Trouble};
 
-// A lane whose log is closed: its path, its log and its number of records; the logs of the tasks below it; its hand on the counters;
+// A lane whose log is closed: its log; the logs of the tasks below it; its hand on the counters;
 // which task stopped, its own or one below, and why, if it didn't go on; and why its log refused a record or what waited, if it did.
 #[derive(Drop)]
 pub(crate) struct Closed<L: Log> {
-    pub(crate) own: (Path, L, u32),
-    pub(crate) below: Vec<(Path, L, u32)>,
+    pub(crate) own: ClosedLog<L>,
+    pub(crate) below: Vec<ClosedLog<L>>,
     pub(crate) draws: ChunkHand,
     pub(crate) stopped: Option<(Path, Stop)>,
     pub(crate) refused: Option<Trouble>,
@@ -30,10 +30,10 @@ impl<L: Log> Model for Closed<L> {
     ghost Value = { ClosedValue };
 
     ghost view = { λ c. record {
-      path = c.own.0;
+      path = c.own.path;
       own = entry_of (record { dir = L.dir; path = L.path; text = L.text; faults = L.faults }) c.own;
       below = entries_of (record { dir = L.dir; path = L.path; text = L.text; faults = L.faults }) c.below.items;
-      halt = halt_of c.own.0 c.stopped;
+      halt = halt_of c.own.path c.stopped;
       refused = c.refused;
       draws = c.draws;
     } };
@@ -49,17 +49,17 @@ pub(crate) fn close<L: Log>(alloc: Global, lane: Lane<L>) -> Closed<L>
 {
     let (path, track, stopped) = lane.into_parts();
     let (_hand, buffer, draws, below) = track.into_parts();
-    let count = buffer.count();
+    let records = buffer.count();
     match buffer.close(alloc) {
         Ok(log) => Closed {
-            own: (path, log, count),
+            own: ClosedLog { path, log, records },
             below,
             draws,
             stopped,
             refused: None,
         },
         Err((trouble, log)) => Closed {
-            own: (path, log, count),
+            own: ClosedLog { path, log, records },
             below,
             draws,
             stopped,

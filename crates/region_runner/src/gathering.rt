@@ -10,7 +10,7 @@ ghost use Rattle.region_runner.specs.Gathering.{ClosedValue, Gathered, IsVerdict
 use crate::closing::Closed;
 use lane_runner::Stop;
 use shared_words::{ChunkHand, Chunks};
-use sw_base::{Log, Memory, Path, Trouble};
+use sw_base::{ClosedLog, Log, Memory, Path, Trouble};
 
 // What a lane answers, or lanes so far: all ended, and their logs found a place; or the task of this path stopped so, since its log
 // refused what waited, or since a lane didn't go on; or no memory was found there.
@@ -86,9 +86,9 @@ fn judge(path: Path, stopped: Option<(Path, Stop)>, refused: Option<Trouble>, ke
 
 // Puts a lane's own log and then those below it at the end. Where no memory is found for it, they are dropped.
 fn hand_on<L: Log>(
-    own: (Path, L, u32),
-    mut below: Vec<(Path, L, u32)>,
-    done: &mut Vec<(Path, L, u32)>,
+    own: ClosedLog<L>,
+    mut below: Vec<ClosedLog<L>>,
+    done: &mut Vec<ClosedLog<L>>,
 ) -> Result<(), Memory>
     ensures given { OnOk result (done.new.items ≡ done.old.items ++ own ∷ below.items) }
     ensures dropped { OnErr result (done.new.items ≡ done.old.items) }
@@ -99,7 +99,7 @@ fn hand_on<L: Log>(
 }
 
 // Puts a task's logs at the end. Its hand on the counters, and what it answers.
-pub(crate) fn keep<L: Log>(lane: Closed<L>, done: &mut Vec<(Path, L, u32)>) -> (ChunkHand, Verdict)
+pub(crate) fn keep<L: Log>(lane: Closed<L>, done: &mut Vec<ClosedLog<L>>) -> (ChunkHand, Verdict)
     ensures draws { result.0 ≡ lane.draws }
     ensures taken { TookIn lane (entries_of (record { dir = L.dir; path = L.path; text = L.text; faults = L.faults }) done.old.items)
         (entries_of (record { dir = L.dir; path = L.path; text = L.text; faults = L.faults }) done.new.items) result.1 }
@@ -111,7 +111,7 @@ pub(crate) fn keep<L: Log>(lane: Closed<L>, done: &mut Vec<(Path, L, u32)>) -> (
         stopped,
         refused,
     } = lane;
-    let path = own.0.copy();
+    let path = own.path.copy();
     let kept = hand_on(own, below, done).is_ok();
     (draws, judge(path, stopped, refused, kept))
 }
@@ -121,7 +121,7 @@ fn take_in<L: Log>(
     chunks: &Chunks,
     share: &mut ChunkHand,
     lane: Closed<L>,
-    done: &mut Vec<(Path, L, u32)>,
+    done: &mut Vec<ClosedLog<L>>,
 ) -> Verdict
     requires share { Belongs share.old chunks.now.table }
     requires first { share.old.view.first ≡ true }
@@ -143,7 +143,7 @@ pub(crate) fn gather<L: Log>(
     chunks: &Chunks,
     share: &mut ChunkHand,
     lanes: Vec<Closed<L>>,
-    done: &mut Vec<(Path, L, u32)>,
+    done: &mut Vec<ClosedLog<L>>,
 ) -> Result<(), (Path, Stop)>
     requires share { Belongs share.old chunks.now.table }
     requires first { share.old.view.first ≡ true }

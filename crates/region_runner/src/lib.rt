@@ -12,25 +12,19 @@
 //! each whole or a prefix, and the task that is named stopped as is told. What is told of a region is what a lane asks of the
 //! function that runs its regions.
 //!
-//! Five laws, on which this rests. `hands_tell_each_chunk_once`: what the hands of a team drew from its counters, the logs of its
-//! lanes tell. `works_are_executions`: where the works of all tasks access elements of their widths, and each task runs its trace as
-//! far as what it read is what elements can have, they are an execution of the kernel. `tasks_of_works_are_listed`: the tasks of a
-//! tree of work stand in the order of an index. `ended_executions_are_whole`: where the root of an execution ended, its tasks are
-//! those of a whole run. `joined_hands_did_a_phase`: a hand that split off one for each lane and joined them has the steps of the
-//! phase.
+//! Two laws, on which this rests. `hands_tell_each_chunk_once`: what the hands of a team drew from its counters, the logs of its
+//! lanes tell. `joined_hands_did_a_phase`: a hand that split off one for each lane and joined them has the steps of the phase. Those of
+//! executions stand in `execution_laws`.
 #![tactic(auto)]
 
 mod closing;
 mod crew;
 mod drawn;
 mod ending;
-mod executions;
-mod finished;
 mod gathering;
 mod ground;
 mod handing;
 mod hands;
-mod listing;
 mod loops;
 mod opening;
 mod region;
@@ -38,8 +32,5 @@ mod root;
 mod run;
 
 pub use drawn::hands_tell_each_chunk_once;
-pub use executions::works_are_executions;
-pub use finished::ended_executions_are_whole;
 pub use hands::joined_hands_did_a_phase;
-pub use listing::tasks_of_works_are_listed;
 pub use run::{Finished, Stopped, run_kernel};

@@ -3,7 +3,8 @@ ghost use Rattle.std.specs.Prelude.{◌≡◌, ◌+◌, ◌<◌, ◌≤◌, IfSo
 ghost use Rattle.kernel_model.specs.Parts.{drawn_count, is_drawn};
 ghost use Rattle.kernel_model.specs.Phases.{part_of, parts_in};
 
-use kernel_model::{Item, Phase, is_drawing};
+use kernel_model::{Item, Phase};
+use team_phases::is_drawing;
 
 // Whether the item is a worksharing loop whose chunks are drawn.
 fn is_drawn(item: &Item<'_>) -> bool

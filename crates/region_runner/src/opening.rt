@@ -18,7 +18,7 @@ use event_buffer::Buffer;
 use lane_runner::{Lane, Locals, Track};
 use shared_words::{ChunkHand, Chunks, Hand};
 use std::alloc::Global;
-use sw_base::{Gate, Log, Path, Trouble};
+use sw_base::{ClosedLog, Gate, Log, Path, Trouble};
 
 // The lanes of a team, which begin; or what they gave, where the log of one refused; or nothing, where no memory was found for them.
 #[derive(Drop)]
@@ -32,7 +32,7 @@ pub(crate) enum Opened<L: Log> {
 fn torn<L: Log>(alloc: Global, path: Path, log: L, draws: ChunkHand, trouble: Trouble) -> Closed<L>
     ensures { result ≡ record {
       path = path;
-      own = entry_of (record { dir = L.dir; path = L.path; text = L.text; faults = L.faults }) (path, log, 0);
+      own = entry_of (record { dir = L.dir; path = L.path; text = L.text; faults = L.faults }) (record { path = path; log = log; records = 0 });
       below = [];
       halt = None;
       refused = Some trouble;
@@ -40,7 +40,11 @@ fn torn<L: Log>(alloc: Global, path: Path, log: L, draws: ChunkHand, trouble: Tr
     } }
 {
     Closed {
-        own: (path, log, 0),
+        own: ClosedLog {
+            path,
+            log,
+            records: 0,
+        },
         below: Vec::new(alloc),
         draws,
         stopped: None,

@@ -1,5 +1,6 @@
 //! A region: its lanes on threads of their own, phase by phase.
 ghost use Rattle.std.specs.Prelude.{◌≡◌, ◌+◌, ◌*◌, ◌-◌, ◌<◌, ◌≤◌, ℕ, [], true, false, length, All, Some, slice_index_or};
+ghost use contract.BorrowLft.{◌⊑◌};
 ghost use Rattle.std.specs.Thread.{IsSend, IsSync};
 ghost use Rattle.std.specs.Vec.{vec_capacity, vec_len};
 ghost use Rattle.race_model.specs.Listing.{lane_of};
@@ -26,7 +27,7 @@ use crate::ground::Ground;
 use crate::handing::{join_hands, split_hands};
 use crate::loops::drawn_in;
 use crate::opening::{Opened, open};
-use kernel_model::{Phase, phases};
+use kernel_model::Phase;
 use kernel_syntax::Team;
 use lane_runner::{Lane, Locals, Stop};
 use shared_words::{Chunks, Hand};
@@ -34,7 +35,8 @@ use std::alloc::Global;
 use std::sync::Wait;
 use std::thread;
 use std::thread::Threads;
-use sw_base::{Gate, Log, Path, Trouble};
+use sw_base::{ClosedLog, Gate, Log, Path, Trouble};
+use team_phases::phases;
 
 // A task executes a phase, and puts its End, where a line is given for it; the regions that it forks are run in turn.
 #[cycle(region)]
@@ -68,7 +70,7 @@ pub(crate) fn run_task<R: Threads + Wait + Sync, L: Log, G: Gate>(
         alloc,
         &world,
         &|hand: &mut Hand, locals: &Locals, number: u32, logs: Vec<L>, team: &Team, done: &mut Vec<
-            (Path, L, u32),
+            ClosedLog<L>,
         >| -> Result<(), (Path, Stop)>
             requires sync { IsSync R.row × IsSend L.row }
             requires inner { 0 < depth }
@@ -131,6 +133,7 @@ fn run_lanes<R: Threads + Wait + Sync, L: Log, G: Gate>(
         count,
         &|index: usize, lane: &mut Lane<L>|
             requires sync { IsSync R.row × IsSend L.row }
+            requires lives { [] ⊑ L.row.lives }
             requires crew { crew.now ≡ crew_of ground.now crew.now.chunks crew.now.span }
             requires number { crew.now.chunks.loops < 4294967296 }
             requires span { crew.now.span ≤ 64 }
@@ -291,7 +294,7 @@ pub(crate) fn region<R: Threads + Wait + Sync, L: Log, G: Gate>(
     number: u32,
     logs: Vec<L>,
     team: &Team,
-    done: &mut Vec<(Path, L, u32)>,
+    done: &mut Vec<ClosedLog<L>>,
 ) -> Result<(), (Path, Stop)>
     requires deep { length path.now + depth + 1 ≡ 4 }
     requires team { IsOurTeam ground.now (length path.now + 1) (team_of team.now) }

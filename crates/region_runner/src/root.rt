@@ -18,7 +18,7 @@ use crate::gathering::keep;
 use crate::ground::Ground;
 use crate::opening::open_lane;
 use crate::region::run_task;
-use kernel_model::{Phase, phases};
+use kernel_model::Phase;
 use kernel_syntax::Kernel;
 use lane_runner::{Lane, Locals, Stop};
 use shared_words::{Chunks, Hand};
@@ -26,7 +26,8 @@ use std::alloc::{AllocError, Global};
 use std::mem;
 use std::sync::Wait;
 use std::thread::Threads;
-use sw_base::{Gate, Log, Path, Trouble};
+use sw_base::{ClosedLog, Gate, Log, Path, Trouble};
+use team_phases::phases;
 
 // All locals 0.
 fn locals(alloc: Global, slots: u32) -> Result<Locals, AllocError>
@@ -112,7 +113,7 @@ pub(crate) fn run_root<R: Threads + Wait + Sync, L: Log, G: Gate>(
 pub(crate) fn settle<L: Log>(
     alloc: Global,
     root: Option<Closed<L>>,
-) -> (Vec<(Path, L, u32)>, Result<(), (Path, Stop)>)
+) -> (Vec<ClosedLog<L>>, Result<(), (Path, Stop)>)
     ensures { IsSettled root (entries_of (record { dir = L.dir; path = L.path; text = L.text; faults = L.faults }) result.0.items) result.1 }
 {
     let mut logs = Vec::new(alloc);

@@ -1,27 +1,30 @@
 //! A whole run.
-ghost use Rattle.std.specs.Prelude.{◌≡◌, [], map, IfOk, IfErr};
+ghost use Rattle.std.specs.Prelude.{◌≡◌, ℕ, [], map, IfOk, IfErr};
 ghost use Rattle.sw_base.specs.Environment.{WhereTold, empty_text};
 ghost use Rattle.sw_base.specs.HandedLog.{handed_log};
 ghost use Rattle.kernel_syntax.specs.Layout.{IsWithinLimits, elements};
 ghost use Rattle.kernel_syntax.specs.Program.{program_of};
 ghost use Rattle.kernel_model.specs.Lawful.{IsLawful};
+ghost use Rattle.log_format.specs.Fitting.{IsWidth};
+ghost use Rattle.history_model.specs.Sound.{AreFitted};
 ghost use Rattle.lane_runner.specs.Handed.{entries_of};
+ghost use Rattle.lane_runner.specs.World.{element_width, layout_of};
 ghost use Rattle.region_runner.specs.Answer.{AreFaultless, HasRun, HasStoppedRun, IsBufferSize};
 
 use crate::ground::Ground;
 use crate::root::{run_root, settle};
 use kernel_syntax::{Array, Kernel};
-use lane_runner::Stop;
+use lane_runner::{Stop, fit_words};
 use shared_words::Words;
 use std::alloc::Global;
 use std::sync::Wait;
 use std::thread::Threads;
-use sw_base::{Gate, Log, Path, Trouble};
+use sw_base::{ClosedLog, Gate, Log, Path, Trouble};
 
-/// A run that ended: each task's path, log and number of records, in the order of their paths, and the last value of each element.
+/// A run that ended: the logs of the tasks, in the order of their paths, and the last value of each element.
 #[derive(Drop)]
 pub struct Finished<L: Log> {
-    pub logs: Vec<(Path, L, u32)>,
+    pub logs: Vec<ClosedLog<L>>,
     pub words: Vec<u64>,
 }
 
@@ -31,7 +34,7 @@ pub struct Finished<L: Log> {
 pub struct Stopped<L: Log> {
     pub path: Path,
     pub why: Stop,
-    pub logs: Vec<(Path, L, u32)>,
+    pub logs: Vec<ClosedLog<L>>,
     pub words: Vec<u64>,
 }
 
@@ -41,6 +44,16 @@ fn element_count(arrays: &[Array]) -> usize
     ensures { result ≡ elements arrays.now }
 {
     arrays.iter().map(|array| array.count as usize).sum()
+}
+
+// The values of the elements in these words.
+fn values(arrays: &[Array], words: Vec<u64>) -> Vec<u64>
+    requires widths { (word : ℕ) → IsWidth (element_width arrays.now word) }
+    ensures fitted { AreFitted (layout_of arrays.now) words.items result.items }
+{
+    let mut values = words;
+    fit_words(arrays, &mut values);
+    values
 }
 
 /// Runs a kernel: its root, and the lanes of each region on threads of their own, phase by phase.
@@ -84,7 +97,7 @@ pub fn run_kernel<R: Threads + Wait + Sync, L: Log, G: Gate>(
         let closed = run_root(rt, alloc, &ground, kernel, &mut hand, root);
         settle(alloc, closed)
     };
-    let words = words.close(hand).words;
+    let words = values(arrays, words.close(hand).words);
     match answer {
         Ok(()) => Ok(Finished { logs, words }),
         Err((path, why)) => Err(Stopped {

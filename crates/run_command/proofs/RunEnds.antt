@@ -7,6 +7,7 @@ use Rattle.std.proofs.lemmas.Option.{none-some, same_Some}
 use Rattle.std.proofs.lemmas.Simd.{map-map}
 use Rattle.log_format.specs.declared.format.TheConstants.{FORMAT}
 use Rattle.log_format.specs.Format.{log_header}
+use Rattle.sw_base.specs.declared.closed_log.ClosedLog.{ClosedLog}
 use Rattle.sw_base.specs.declared.path.Step.{Step}
 use Rattle.sw_base.specs.declared.trouble.Trouble as fault
 use Rattle.sw_base.specs.declared.trouble.Trouble.TheVariants as trouble
@@ -54,7 +55,7 @@ whole_tell dir size root tasks = All-map (IsOwnLog dir true) (whole_log dir size
 own_dirs : (dir : List ℕ) (all : List HandedLog) → AllTell dir all → All (IsOfFolder dir) all
 own_dirs dir all tell = All-weaker (IsOwnLog dir true) (IsOfFolder dir) (λ log own. own.dir_is) all tell
 
-module _ {L : Type 0} (program : Program) (dir : List ℕ) (size : ℕ) (root : Option Text) (dir_of : L → List ℕ) (path_of : L → List Step) (text_of : L → Option Text) (entries : List (List Step × L × ℕ))
+module _ {L : Type 0} (program : Program) (dir : List ℕ) (size : ℕ) (root : Option Text) (dir_of : L → List ℕ) (path_of : L → List Step) (text_of : L → Option Text) (entries : List (ClosedLog L))
     (words : List ℕ) (has : HasRun program dir size root (all_logged dir_of path_of text_of entries) words) where
   -- the rows of the logs are those of the tasks
   pub entry_rows : map row_of_entry entries ≡ rows_of has.tasks
@@ -266,7 +267,7 @@ module _ (rose : Type 0) (file dir : List ℕ) (size : ℕ) (root : Text) (progr
       (left.logs program can stop_logs (left.stopped path line name are_stopped) first (prefix_keeps_index dir stop_logs c d (own_dirs dir stop_logs all_tell) first ∙ can.fresh))
 
 -- the same of the logs as they are answered
-module _ {L : Type 0} (dir_of : L → List ℕ) (path_of : L → List Step) (text_of : L → Option Text) (faults_of : L → ℕ) (entries : List (List Step × L × ℕ)) where
+module _ {L : Type 0} (dir_of : L → List ℕ) (path_of : L → List Step) (text_of : L → Option Text) (faults_of : L → ℕ) (entries : List (ClosedLog L)) where
   abbrev seen : LogView L
   seen = record { dir = dir_of; path = path_of; text = text_of; faults = faults_of }
 

@@ -17,8 +17,8 @@ use Rattle.race_model.specs.IndexFault.{IsRow, IsStep}
 use Rattle.race_model.specs.BadPlace.{IsTooMany, BadPlace}
 use Rattle.race_model.specs.Row.{index_bytes}
 use Rattle.race_model.specs.Trace.{TaskLog, Trace, Logs, logs_of, path_eq}
-use Rattle.race_model.proofs.IndexRows.{put_is_index}
-use Rattle.race_model.proofs.KeptFolder.{kept_bad}
+use Rattle.race_laws.proofs.IndexRows.{put_is_index}
+use Rattle.race_laws.proofs.KeptFolder.{kept_bad}
 use Rattle.race_model.proofs.TraceLogs.{path_itself}
 use Rattle.kernel_syntax.specs.Program.{Program}
 use Rattle.kernel_model.specs.Folder.{lane_start, own_trace, paths_of, root_start, start_at, start_below}

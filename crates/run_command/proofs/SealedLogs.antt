@@ -3,6 +3,7 @@ use Rattle.std.proofs.Common.{◌≡◌, ◌<◌, ⊎_elim, append-nil, refl, sy
 use Rattle.std.specs.Option.{option_map}
 use Rattle.std.proofs.lemmas.List.{append_assoc, map-append}
 use Rattle.std.proofs.lemmas.List.Elements.{All-nil, All-pop, All-push, All-weaker}
+use Rattle.sw_base.specs.declared.closed_log.ClosedLog.{ClosedLog}
 use Rattle.sw_base.specs.declared.path.Step.{Step}
 use Rattle.sw_base.specs.declared.trouble.Trouble.{Trouble}
 use Rattle.sw_base.specs.Environment.{Content, LeavesPrefix, Outline, Text, WhereTold, outline_of, with_log, with_put}
@@ -97,37 +98,37 @@ seals_all_next logs log text (Err trouble) r old mid new told before done refuse
     }
 
 -- the same of the logs as they are answered
-pub seals_all_push : {L : Type 0} (dir_of : L → List ℕ) (path_of : L → List Step) (text_of : L → Option Text) (entries : List (List Step × L × ℕ)) (path : List Step) (log : L) (count : ℕ)
+pub seals_all_push : {L : Type 0} (dir_of : L → List ℕ) (path_of : L → List Step) (text_of : L → Option Text) (entries : List (ClosedLog L)) (last : ClosedLog L)
     (so_far r : Result (Unit {0}) Trouble) (old mid new : Option Content) → SealsAll (all_logged dir_of path_of text_of entries) so_far old mid
-    → OnOk so_far (OnOk r (WhereTold (text_of log) (λ t. new ≡ option_map (with_log (log_name (dir_of log) (path_of log)) t) mid)))
-    → OnOk so_far (OnErr r (WhereTold (text_of log) (λ t. LeavesPrefix mid new (log_name (dir_of log) (path_of log)) t.bytes)))
-    → OnErr so_far ((r ≡ so_far) × (new ≡ mid)) → SealsAll (all_logged dir_of path_of text_of (entries ++ (path, log, count) ∷ [])) r old new
-seals_all_push dir_of path_of text_of entries path log count so_far r old mid new before done refused given_up =
-    subst (λ (logs : List HandedLog). SealsAll logs r old new) (sym (map-append (handed_log dir_of path_of text_of) entries ((path, log, count) ∷ [])))
-    (seals_all_next (all_logged dir_of path_of text_of entries) (handed_log dir_of path_of text_of (path, log, count)) (text_of log) so_far r old mid new refl before done refused given_up)
+    → OnOk so_far (OnOk r (WhereTold (text_of last.log) (λ t. new ≡ option_map (with_log (log_name (dir_of last.log) (path_of last.log)) t) mid)))
+    → OnOk so_far (OnErr r (WhereTold (text_of last.log) (λ t. LeavesPrefix mid new (log_name (dir_of last.log) (path_of last.log)) t.bytes)))
+    → OnErr so_far ((r ≡ so_far) × (new ≡ mid)) → SealsAll (all_logged dir_of path_of text_of (entries ++ last ∷ [])) r old new
+seals_all_push dir_of path_of text_of entries last so_far r old mid new before done refused given_up =
+    subst (λ (logs : List HandedLog). SealsAll logs r old new) (sym (map-append (handed_log dir_of path_of text_of) entries (last ∷ [])))
+    (seals_all_next (all_logged dir_of path_of text_of entries) (handed_log dir_of path_of text_of last) (text_of last.log) so_far r old mid new refl before done refused given_up)
 
 -- ---- faults of logs
 
 -- no log counts a fault where there is none
 pub faults_none : {L : Type 0} (faults_of : L → ℕ) (rose : Type 0) → RaiseFaults faults_of [] rose
-faults_none faults_of rose = All-nil (λ e. 0 < faults_of e.1 → rose)
+faults_none faults_of rose = All-nil (λ e. 0 < faults_of e.log → rose)
 
 -- what follows from a fault, and more from that
-pub faults_weaker : {L : Type 0} (faults_of : L → ℕ) (entries : List (List Step × L × ℕ)) (rose more : Type 0) → (rose → more) → RaiseFaults faults_of entries rose → RaiseFaults faults_of entries more
-faults_weaker faults_of entries rose more rises = All-weaker (λ e. 0 < faults_of e.1 → rose) (λ e. 0 < faults_of e.1 → more) (λ e raise faulty. rises (raise faulty)) entries
+pub faults_weaker : {L : Type 0} (faults_of : L → ℕ) (entries : List (ClosedLog L)) (rose more : Type 0) → (rose → more) → RaiseFaults faults_of entries rose → RaiseFaults faults_of entries more
+faults_weaker faults_of entries rose more rises = All-weaker (λ e. 0 < faults_of e.log → rose) (λ e. 0 < faults_of e.log → more) (λ e raise faulty. rises (raise faulty)) entries
 
 -- one more log
-pub faults_push : {L : Type 0} (faults_of : L → ℕ) (entries : List (List Step × L × ℕ)) (last : List Step × L × ℕ) (rose more : Type 0) → (rose → more) → RaiseFaults faults_of entries rose
-    → (0 < faults_of last.1 → more) → RaiseFaults faults_of (entries ++ last ∷ []) more
+pub faults_push : {L : Type 0} (faults_of : L → ℕ) (entries : List (ClosedLog L)) (last : ClosedLog L) (rose more : Type 0) → (rose → more) → RaiseFaults faults_of entries rose
+    → (0 < faults_of last.log → more) → RaiseFaults faults_of (entries ++ last ∷ []) more
 faults_push faults_of entries last rose more rises before own =
-    All-push (λ e. 0 < faults_of e.1 → more) entries last (faults_weaker faults_of entries rose more rises before) own
+    All-push (λ e. 0 < faults_of e.log → more) entries last (faults_weaker faults_of entries rose more rises before) own
 
 -- one more log was sealed after others, none of which counted a fault, and nor does it
-pub faultless_push : {L : Type 0} (faults_of : L → ℕ) (entries : List (List Step × L × ℕ)) (last : List Step × L × ℕ) (so_far r : Result (Unit {0}) Trouble) (mid_told new_told : Option Content) (old mid new : ℕ)
-    → OnOk so_far (AreFaultless faults_of entries → mid ≡ old) → OnOk so_far (OnOk r (faults_of last.1 ≡ 0 → new ≡ mid)) → OnErr so_far ((r ≡ so_far) × (new_told ≡ mid_told))
+pub faultless_push : {L : Type 0} (faults_of : L → ℕ) (entries : List (ClosedLog L)) (last : ClosedLog L) (so_far r : Result (Unit {0}) Trouble) (mid_told new_told : Option Content) (old mid new : ℕ)
+    → OnOk so_far (AreFaultless faults_of entries → mid ≡ old) → OnOk so_far (OnOk r (faults_of last.log ≡ 0 → new ≡ mid)) → OnErr so_far ((r ≡ so_far) × (new_told ≡ mid_told))
     → OnOk r (AreFaultless faults_of (entries ++ last ∷ []) → new ≡ old)
 faultless_push faults_of entries last (Ok x) (Ok y) mid_told new_told old mid new before one given_up = λ all.
-    let parts = All-pop (λ e. faults_of e.1 ≡ 0) (entries ++ last ∷ []) entries (Some last) refl all in
+    let parts = All-pop (λ e. faults_of e.log ≡ 0) (entries ++ last ∷ []) entries (Some last) refl all in
     one parts.1 ∙ before parts.0
 faultless_push faults_of entries last (Ok x) (Err trouble) mid_told new_told old mid new before one given_up = tt
 faultless_push faults_of entries last (Err trouble) (Ok y) mid_told new_told old mid new before one given_up = absurd cc

@@ -3,6 +3,7 @@ use Rattle.std.proofs.Common.{◌≡◌, refl, ap, ◌∙◌, ⊎_elim, ℕ, Lis
 use Rattle.std.specs.Option.{option_map}
 use Rattle.std.proofs.lemmas.Simd.{map-map}
 use Rattle.log_format.specs.declared.format.TheConstants.{FORMAT}
+use Rattle.sw_base.specs.declared.closed_log.ClosedLog.{ClosedLog}
 use Rattle.sw_base.specs.declared.path.Step.{Step}
 use Rattle.sw_base.specs.declared.trouble.Trouble.{Trouble}
 use Rattle.sw_base.specs.Environment.{Content, LeavesPrefix, Text, with_put}
@@ -12,7 +13,7 @@ use Rattle.sw_base.specs.HandedLog.{HandedLog, handed_log, between}
 use Rattle.run_command.specs.Seals.{SealsAll, StoresAll, StoresPrefix, StoresPart, TellsSuch, all_logged, prefix, part, row_of_entry, rows_of_logs, with_index}
 
 -- the rows of a run's logs
-pub rows-logged : {L : Type 0} (dir_of : L → List ℕ) (path_of : L → List Step) (text_of : L → Option Text) (entries : List (List Step × L × ℕ)) →
+pub rows-logged : {L : Type 0} (dir_of : L → List ℕ) (path_of : L → List Step) (text_of : L → Option Text) (entries : List (ClosedLog L)) →
     rows_of_logs (all_logged dir_of path_of text_of entries) ≡ map row_of_entry entries
 rows-logged dir_of path_of text_of entries = map-map (λ (log : HandedLog). record { path = log.task; records = log.count }) (handed_log dir_of path_of text_of) entries
 

@@ -1,6 +1,7 @@
 -- What sealing the logs of a run does to a folder.
 use Rattle.std.specs.Prelude.{◌≡◌, ℕ, ◌<◌, List, ◌++◌, map, All, Option, Some, true, Result, OnOk}
 use Rattle.log_format.specs.declared.format.TheConstants.{FORMAT}
+use Rattle.sw_base.specs.declared.closed_log.ClosedLog.{ClosedLog}
 use Rattle.sw_base.specs.declared.path.Step.{Step}
 use Rattle.sw_base.specs.declared.trouble.Trouble.{Trouble}
 use Rattle.sw_base.specs.Environment.{Content, Text, with_put}
@@ -8,20 +9,20 @@ use Rattle.sw_base.specs.Names.{index_name}
 use Rattle.race_model.specs.Row.{Row, index_bytes}
 use Rattle.sw_base.specs.HandedLog.{IsOwnLog, HandedLog, handed_log, SealsPrefix, with_sealed}
 
--- the logs of a run, each beside its task and its number of records, as they are answered
-abbrev pub all_logged : {L : Type 0} → (L → List ℕ) → (L → List Step) → (L → Option Text) → List (List Step × L × ℕ) → List HandedLog
+-- the logs of a run, as they are answered
+abbrev pub all_logged : {L : Type 0} → (L → List ℕ) → (L → List Step) → (L → Option Text) → List (ClosedLog L) → List HandedLog
 all_logged dir_of path_of text_of entries = map (handed_log dir_of path_of text_of) entries
 
 -- the row of a log's task
-abbrev pub row_of_entry : {L : Type 0} → List Step × L × ℕ → Row
-row_of_entry entry = record { path = entry.0; records = entry.2 }
+abbrev pub row_of_entry : {L : Type 0} → ClosedLog L → Row
+row_of_entry closed = record { path = closed.path; records = closed.records }
 
 abbrev pub rows_of_logs : List HandedLog → List Row
 rows_of_logs logs = map (λ (log : HandedLog). record { path = log.task; records = log.count }) logs
 
 -- where one of the logs counts a fault, this holds
-abbrev pub RaiseFaults : {L : Type 0} → (L → ℕ) → List (List Step × L × ℕ) → Type 0 → Type 0
-RaiseFaults faults_of entries rose = All (λ e. 0 < faults_of e.1 → rose) entries
+abbrev pub RaiseFaults : {L : Type 0} → (L → ℕ) → List (ClosedLog L) → Type 0 → Type 0
+RaiseFaults faults_of entries rose = All (λ closed. 0 < faults_of closed.log → rose) entries
 
 -- what a folder tells, and a fact about it
 pub record TellsSuch (told : Option Content) (P : Content → Type 0) : Type 0 where

@@ -20,10 +20,9 @@ pub fn begin<F: Folder>(
     dir: &str,
 ) -> Result<Kernel, Outcome>
     ensures lawful { IfOk result (λ k. IsLawful (program_of k)) }
-    ensures can { IfOk result (λ k. WhereTold (F.content folder.old) (λ c. CanRun c.held kernel.now dir.now (program_of k))) }
-    ensures came { IfErr result (λ o. WhereTold (F.content folder.old) (λ c. (size before after : ℕ) → CameOut (Rose before after) kernel.now dir.now size c c o)) }
-    ensures same { F.content folder.new ≡ F.content folder.old }
-    ensures same_writes { F.write_faults folder.new ≡ F.write_faults folder.old }
+    ensures can { IfOk result (λ k. WhereTold (F.state folder.old).content (λ c. CanRun c.held kernel.now dir.now (program_of k))) }
+    ensures came { IfErr result (λ o. WhereTold (F.state folder.old).content (λ c. (size before after : ℕ) → CameOut (Rose before after) kernel.now dir.now size c c o)) }
+    ensures same { F.state folder.new ≡ F.state folder.old }
     ensures cause { IfErr result (λ o. o ≡ outcome.ReadFault → Rose (F.read_faults folder.old) (F.read_faults folder.new)) }
     ensures no_write { IfErr result (λ o. o ≡ outcome.WriteFault → ⊥) }
 {

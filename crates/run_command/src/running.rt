@@ -1,6 +1,6 @@
 //! `run`: a kernel is run, and its logs and their index are written.
-ghost use Rattle.std.specs.Prelude.{◌≡◌, ◌≤◌, ℕ, List, Some, map, is_some, string_bytes, IfOk, Ok, Err, MatchResult};
-ghost use Rattle.sw_base.specs.Environment.{Rose, Text, WhereTold};
+ghost use Rattle.std.specs.Prelude.{◌≡◌, ◌⊎◌, ◌≤◌, ℕ, List, Some, map, is_some, string_bytes, IfOk, Ok, Err, MatchResult};
+ghost use Rattle.sw_base.specs.Environment.{Rose, Text, WhereTold, next_count};
 ghost use Rattle.sw_base.specs.declared.trouble.Trouble.TheVariants as trouble;
 ghost use Rattle.race_model.specs.IndexFault.{AreRows};
 ghost use Rattle.command_answer.specs.declared.status.TheConstants.{DONE};
@@ -47,12 +47,13 @@ fn finish<F: Folder>(
     requires { AreRows (map row_of_entry finished.logs.items) }
     ensures ends { (before : ℕ) (file : List ℕ) (size : ℕ) (root : Text)
         → HasRun (program_of kernel) dir.now size (Some root) (all_logged F.Log.dir F.Log.path F.Log.text finished.logs.items) finished.words.items
-        → EndsSo (Rose before (F.write_faults folder.new)) file dir.now size (program_of kernel) (F.content folder.old) (F.content folder.new) result }
-    ensures tells { is_some (F.content folder.new) ≡ is_some (F.content folder.old) }
-    ensures faulty { RaiseFaults F.Log.faults finished.logs.items (Rose (F.write_faults folder.old) (F.write_faults folder.new)) }
-    ensures write_fault { result ≡ outcome.WriteFault → Rose (F.write_faults folder.old) (F.write_faults folder.new) }
-    ensures no_fault { AreFaultless F.Log.faults finished.logs.items → due_status result ≡ DONE → F.write_faults folder.new ≡ F.write_faults folder.old }
+        → EndsSo (Rose before (F.state folder.new).write_faults) file dir.now size (program_of kernel) (F.state folder.old).content (F.state folder.new).content result }
+    ensures tells { is_some (F.state folder.new).content ≡ is_some (F.state folder.old).content }
+    ensures faulty { RaiseFaults F.Log.faults finished.logs.items (Rose (F.state folder.old).write_faults (F.state folder.new).write_faults) }
+    ensures write_fault { result ≡ outcome.WriteFault → Rose (F.state folder.old).write_faults (F.state folder.new).write_faults }
+    ensures no_fault { AreFaultless F.Log.faults finished.logs.items → due_status result ≡ DONE → (F.state folder.new).write_faults ≡ (F.state folder.old).write_faults }
     ensures no_read { result ≡ outcome.ReadFault → ⊥ }
+    ensures same_roots { (F.state folder.new).roots ≡ (F.state folder.old).roots }
 {
     let Finished { logs, words } = finished;
     match store(alloc, folder, dir, logs) {
@@ -81,16 +82,17 @@ fn told(why: Stop) -> Result<(u32, &'static str), Trouble>
 
 /// Seals the logs of a kernel that stopped. After trouble they are given up.
 fn stop<F: Folder>(alloc: Global, stopped: Stopped<F::Log>, folder: &mut F) -> Outcome
-    ensures ends { (before : ℕ) (file : List ℕ) (program : Program) (dir : List ℕ) (size : ℕ) (root : Text) → before ≤ F.write_faults folder.old
+    ensures ends { (before : ℕ) (file : List ℕ) (program : Program) (dir : List ℕ) (size : ℕ) (root : Text) → before ≤ (F.state folder.old).write_faults
         → HasStoppedRun program dir size (Some root) (entries_of (record { dir = F.Log.dir; path = F.Log.path; text = F.Log.text; faults = F.Log.faults }) stopped.logs.items) stopped.path stopped.why stopped.words.items
-        → EndsSo (Rose before (F.write_faults folder.new)) file dir size program (F.content folder.old) (F.content folder.new) result }
-    ensures tells { is_some (F.content folder.new) ≡ is_some (F.content folder.old) }
-    ensures faulty { RaiseFaults F.Log.faults stopped.logs.items (Rose (F.write_faults folder.old) (F.write_faults folder.new)) }
+        → EndsSo (Rose before (F.state folder.new).write_faults) file dir size program (F.state folder.old).content (F.state folder.new).content result }
+    ensures tells { is_some (F.state folder.new).content ≡ is_some (F.state folder.old).content }
+    ensures faulty { RaiseFaults F.Log.faults stopped.logs.items (Rose (F.state folder.old).write_faults (F.state folder.new).write_faults) }
     ensures write_fault { (stopped.why ≡ stop.Trouble trouble.Failed
         → HasFaultyLog stopped.path (entries_of (record { dir = F.Log.dir; path = F.Log.path; text = F.Log.text; faults = F.Log.faults }) stopped.logs.items))
-        → result ≡ outcome.WriteFault → Rose (F.write_faults folder.old) (F.write_faults folder.new) }
+        → result ≡ outcome.WriteFault → Rose (F.state folder.old).write_faults (F.state folder.new).write_faults }
     ensures not_done { due_status result ≡ DONE → ⊥ }
     ensures no_read { result ≡ outcome.ReadFault → ⊥ }
+    ensures same_roots { (F.state folder.new).roots ≡ (F.state folder.old).roots }
 {
     let Stopped {
         path,
@@ -122,12 +124,13 @@ fn execute<R: Threads + Wait + Sync, F: Folder, G: Gate>(
 ) -> Outcome
     requires lawful { IsLawful (program_of kernel) }
     requires size { IsBufferSize size }
-    ensures ends { (file : List ℕ) → EndsSo (Rose (F.write_faults folder.old) (F.write_faults folder.new)) file dir.now size (program_of kernel)
-        (F.content folder.old) (F.content folder.new) result }
-    ensures tells { is_some (F.content folder.new) ≡ is_some (F.content folder.old) }
-    ensures write_fault { result ≡ outcome.WriteFault → Rose (F.write_faults folder.old) (F.write_faults folder.new) }
-    ensures no_fault { due_status result ≡ DONE → F.write_faults folder.new ≡ F.write_faults folder.old }
+    ensures ends { (file : List ℕ) → EndsSo (Rose (F.state folder.old).write_faults (F.state folder.new).write_faults) file dir.now size (program_of kernel)
+        (F.state folder.old).content (F.state folder.new).content result }
+    ensures tells { is_some (F.state folder.new).content ≡ is_some (F.state folder.old).content }
+    ensures write_fault { result ≡ outcome.WriteFault → Rose (F.state folder.old).write_faults (F.state folder.new).write_faults }
+    ensures no_fault { due_status result ≡ DONE → (F.state folder.new).write_faults ≡ (F.state folder.old).write_faults }
     ensures no_read { result ≡ outcome.ReadFault → ⊥ }
+    ensures asks_once { (F.state folder.new).roots ≡ next_count (F.state folder.old).roots }
 {
     let root = match folder.root(alloc, dir) {
         Ok(root) => root,
@@ -151,16 +154,18 @@ pub fn run<R: Threads + Wait + Sync, F: Folder, G: Gate>(
     gate: &G,
 ) -> Outcome
     requires { IsBufferSize size }
-    ensures came { WhereTold (F.content folder.old) (λ c. WhereTold (F.content folder.new) (λ d.
-        CameOut (Rose (F.write_faults folder.old) (F.write_faults folder.new)) kernel.now dir.now size c d result)) }
-    ensures tells { is_some (F.content folder.new) ≡ is_some (F.content folder.old) }
-    ensures reads { result ≡ outcome.ReadFault → F.content folder.new ≡ F.content folder.old }
+    ensures came { WhereTold (F.state folder.old).content (λ c. WhereTold (F.state folder.new).content (λ d.
+        CameOut (Rose (F.state folder.old).write_faults (F.state folder.new).write_faults) kernel.now dir.now size c d result)) }
+    ensures tells { is_some (F.state folder.new).content ≡ is_some (F.state folder.old).content }
+    ensures reads { result ≡ outcome.ReadFault → F.state folder.new ≡ F.state folder.old }
     ensures read_fault { result ≡ outcome.ReadFault → Rose (F.read_faults folder.old) (F.read_faults folder.new) }
-    ensures write_fault { result ≡ outcome.WriteFault → Rose (F.write_faults folder.old) (F.write_faults folder.new) }
-    ensures no_fault { due_status result ≡ DONE → F.write_faults folder.new ≡ F.write_faults folder.old }
-    ensures only_runs_write { WhereTold (F.content folder.old) (λ c. ((p : Program) → CanRun c.held kernel.now dir.now p → ⊥) → result ≡ outcome.WriteFault → ⊥) }
-    ensures same_writes { WhereTold (F.content folder.old) (λ c. ((p : Program) → CanRun c.held kernel.now dir.now p → ⊥) →
-        F.write_faults folder.new ≡ F.write_faults folder.old) }
+    ensures write_fault { result ≡ outcome.WriteFault → Rose (F.state folder.old).write_faults (F.state folder.new).write_faults }
+    ensures no_fault { due_status result ≡ DONE → (F.state folder.new).write_faults ≡ (F.state folder.old).write_faults }
+    ensures only_runs_write { WhereTold (F.state folder.old).content (λ c. ((p : Program) → CanRun c.held kernel.now dir.now p → ⊥) → result ≡ outcome.WriteFault → ⊥) }
+    ensures untouched { WhereTold (F.state folder.old).content (λ c. ((p : Program) → CanRun c.held kernel.now dir.now p → ⊥) →
+        F.state folder.new ≡ F.state folder.old) }
+    // The root's log is asked for once at most, and not where the run can't begin.
+    ensures asks_once { ((F.state folder.new).roots ≡ (F.state folder.old).roots) ⊎ ((F.state folder.new).roots ≡ next_count (F.state folder.old).roots) }
 {
     match begin(alloc, folder, kernel, dir) {
         Ok(kernel) => execute(rt, alloc, kernel, dir, size, folder, gate),

@@ -10,18 +10,19 @@ ghost use Rattle.run_command.specs.Seals.{SealsAll, StoresAll, StoresPrefix, all
 
 use log_index::{Row, write_index};
 use std::alloc::{AllocError, Global};
-use sw_base::{Folder, Log, Path, Trouble};
+use sw_base::{ClosedLog, Folder, Log, Trouble};
 
 /// Seals a log. One that is refused is given up.
 fn seal_one<F: Folder>(alloc: Global, folder: &mut F, log: F::Log) -> Result<(), Trouble>
     ensures done { OnOk result (WhereTold (F.Log.text log) (λ text.
-        F.content folder.new ≡ option_map (with_log (log_name (F.Log.dir log) (F.Log.path log)) text) (F.content folder.old))) }
+        (F.state folder.new).content ≡ option_map (with_log (log_name (F.Log.dir log) (F.Log.path log)) text) (F.state folder.old).content)) }
     ensures refused { OnErr result (WhereTold (F.Log.text log) (λ text.
-        LeavesPrefix (F.content folder.old) (F.content folder.new) (log_name (F.Log.dir log) (F.Log.path log)) text.bytes)) }
-    ensures tells { is_some (F.content folder.new) ≡ is_some (F.content folder.old) }
-    ensures log_faults { TakesFaults (F.Log.faults log) (F.write_faults folder.old) (F.write_faults folder.new) }
-    ensures cause { HasCause (F.write_faults folder.old) (F.write_faults folder.new) result }
-    ensures no_fault { OnOk result (F.Log.faults log ≡ 0 → F.write_faults folder.new ≡ F.write_faults folder.old) }
+        LeavesPrefix (F.state folder.old).content (F.state folder.new).content (log_name (F.Log.dir log) (F.Log.path log)) text.bytes)) }
+    ensures tells { is_some (F.state folder.new).content ≡ is_some (F.state folder.old).content }
+    ensures log_faults { TakesFaults (F.Log.faults log) (F.state folder.old).write_faults (F.state folder.new).write_faults }
+    ensures cause { HasCause (F.state folder.old).write_faults (F.state folder.new).write_faults result }
+    ensures no_fault { OnOk result (F.Log.faults log ≡ 0 → (F.state folder.new).write_faults ≡ (F.state folder.old).write_faults) }
+    ensures same_roots { (F.state folder.new).roots ≡ (F.state folder.old).roots }
 {
     match folder.seal(alloc, log) {
         Ok(()) => Ok(()),
@@ -40,14 +41,15 @@ fn seal_next<F: Folder>(
     so_far: Result<(), Trouble>,
 ) -> Result<(), Trouble>
     ensures sealed { OnOk so_far (OnOk result (WhereTold (F.Log.text log) (λ text.
-        F.content folder.new ≡ option_map (with_log (log_name (F.Log.dir log) (F.Log.path log)) text) (F.content folder.old)))) }
+        (F.state folder.new).content ≡ option_map (with_log (log_name (F.Log.dir log) (F.Log.path log)) text) (F.state folder.old).content))) }
     ensures refused { OnOk so_far (OnErr result (WhereTold (F.Log.text log) (λ text.
-        LeavesPrefix (F.content folder.old) (F.content folder.new) (log_name (F.Log.dir log) (F.Log.path log)) text.bytes))) }
-    ensures given_up { OnErr so_far ((result ≡ so_far) × (F.content folder.new ≡ F.content folder.old)) }
-    ensures tells { is_some (F.content folder.new) ≡ is_some (F.content folder.old) }
-    ensures log_faults { TakesFaults (F.Log.faults log) (F.write_faults folder.old) (F.write_faults folder.new) }
-    ensures cause { IsErrOf result Trouble.Failed → IsErrOf so_far Trouble.Failed ⊎ Rose (F.write_faults folder.old) (F.write_faults folder.new) }
-    ensures no_fault { OnOk so_far (OnOk result (F.Log.faults log ≡ 0 → F.write_faults folder.new ≡ F.write_faults folder.old)) }
+        LeavesPrefix (F.state folder.old).content (F.state folder.new).content (log_name (F.Log.dir log) (F.Log.path log)) text.bytes))) }
+    ensures given_up { OnErr so_far ((result ≡ so_far) × ((F.state folder.new).content ≡ (F.state folder.old).content)) }
+    ensures tells { is_some (F.state folder.new).content ≡ is_some (F.state folder.old).content }
+    ensures log_faults { TakesFaults (F.Log.faults log) (F.state folder.old).write_faults (F.state folder.new).write_faults }
+    ensures cause { IsErrOf result Trouble.Failed → IsErrOf so_far Trouble.Failed ⊎ Rose (F.state folder.old).write_faults (F.state folder.new).write_faults }
+    ensures no_fault { OnOk so_far (OnOk result (F.Log.faults log ≡ 0 → (F.state folder.new).write_faults ≡ (F.state folder.old).write_faults)) }
+    ensures same_roots { (F.state folder.new).roots ≡ (F.state folder.old).roots }
 {
     match so_far {
         Ok(()) => seal_one(alloc, folder, log),
@@ -62,41 +64,43 @@ fn seal_next<F: Folder>(
 pub fn seal_all<F: Folder>(
     alloc: Global,
     folder: &mut F,
-    logs: Vec<(Path, F::Log, u32)>,
+    logs: Vec<ClosedLog<F::Log>>,
 ) -> Result<(), Trouble>
-    ensures seals { SealsAll (all_logged F.Log.dir F.Log.path F.Log.text logs.items) result (F.content folder.old) (F.content folder.new) }
-    ensures tells { is_some (F.content folder.new) ≡ is_some (F.content folder.old) }
-    ensures faulty { RaiseFaults F.Log.faults logs.items (Rose (F.write_faults folder.old) (F.write_faults folder.new)) }
-    ensures cause { HasCause (F.write_faults folder.old) (F.write_faults folder.new) result }
-    ensures no_fault { OnOk result (AreFaultless F.Log.faults logs.items → F.write_faults folder.new ≡ F.write_faults folder.old) }
+    ensures seals { SealsAll (all_logged F.Log.dir F.Log.path F.Log.text logs.items) result (F.state folder.old).content (F.state folder.new).content }
+    ensures tells { is_some (F.state folder.new).content ≡ is_some (F.state folder.old).content }
+    ensures faulty { RaiseFaults F.Log.faults logs.items (Rose (F.state folder.old).write_faults (F.state folder.new).write_faults) }
+    ensures cause { HasCause (F.state folder.old).write_faults (F.state folder.new).write_faults result }
+    ensures no_fault { OnOk result (AreFaultless F.Log.faults logs.items → (F.state folder.new).write_faults ≡ (F.state folder.old).write_faults) }
+    ensures same_roots { (F.state folder.new).roots ≡ (F.state folder.old).roots }
 {
     let mut outcome = Ok(());
-    for (_, log, _) in logs {
+    for ClosedLog { log, .. } in logs {
         outcome = seal_next(alloc, folder, log, outcome);
     }
     outcome
 }
 
 /// Gives up logs.
-pub fn discard_all<F: Folder>(folder: &mut F, logs: Vec<(Path, F::Log, u32)>)
-    ensures same { F.content folder.new ≡ F.content folder.old }
-    ensures later { F.write_faults folder.old ≤ F.write_faults folder.new }
-    ensures faulty { RaiseFaults F.Log.faults logs.items (Rose (F.write_faults folder.old) (F.write_faults folder.new)) }
+pub fn discard_all<F: Folder>(folder: &mut F, logs: Vec<ClosedLog<F::Log>>)
+    ensures same { (F.state folder.new).content ≡ (F.state folder.old).content }
+    ensures later { (F.state folder.old).write_faults ≤ (F.state folder.new).write_faults }
+    ensures faulty { RaiseFaults F.Log.faults logs.items (Rose (F.state folder.old).write_faults (F.state folder.new).write_faults) }
+    ensures same_roots { (F.state folder.new).roots ≡ (F.state folder.old).roots }
 {
-    for (_, log, _) in logs {
+    for ClosedLog { log, .. } in logs {
         folder.discard(log);
     }
 }
 
 /// The rows of the index for these logs.
-fn index_rows<L: Log>(alloc: Global, logs: &[(Path, L, u32)]) -> Result<Vec<Row>, AllocError>
+fn index_rows<L: Log>(alloc: Global, logs: &[ClosedLog<L>]) -> Result<Vec<Row>, AllocError>
     ensures { IfOk result (λ rows. rows.items ≡ map row_of_entry logs.now) }
 {
     let mut rows = Vec::new(alloc);
-    for (path, _, records) in logs {
+    for closed in logs {
         rows.push(Row {
-            path: path.copy(),
-            records: *records,
+            path: closed.path.copy(),
+            records: closed.records,
         })?;
     }
     Ok(rows)
@@ -119,16 +123,17 @@ pub fn store<F: Folder>(
     alloc: Global,
     folder: &mut F,
     dir: &str,
-    logs: Vec<(Path, F::Log, u32)>,
+    logs: Vec<ClosedLog<F::Log>>,
 ) -> Result<Vec<Row>, Trouble>
     requires { AreRows (map row_of_entry logs.items) }
     ensures rows { IfOk result (λ rows. rows.items ≡ map row_of_entry logs.items) }
-    ensures stored { OnOk result (StoresAll dir.now (all_logged F.Log.dir F.Log.path F.Log.text logs.items) (F.content folder.old) (F.content folder.new)) }
-    ensures refused { OnErr result (StoresPrefix dir.now (all_logged F.Log.dir F.Log.path F.Log.text logs.items) (F.content folder.old) (F.content folder.new)) }
-    ensures tells { is_some (F.content folder.new) ≡ is_some (F.content folder.old) }
-    ensures faulty { RaiseFaults F.Log.faults logs.items (Rose (F.write_faults folder.old) (F.write_faults folder.new)) }
-    ensures cause { HasCause (F.write_faults folder.old) (F.write_faults folder.new) result }
-    ensures no_fault { OnOk result (AreFaultless F.Log.faults logs.items → F.write_faults folder.new ≡ F.write_faults folder.old) }
+    ensures stored { OnOk result (StoresAll dir.now (all_logged F.Log.dir F.Log.path F.Log.text logs.items) (F.state folder.old).content (F.state folder.new).content) }
+    ensures refused { OnErr result (StoresPrefix dir.now (all_logged F.Log.dir F.Log.path F.Log.text logs.items) (F.state folder.old).content (F.state folder.new).content) }
+    ensures tells { is_some (F.state folder.new).content ≡ is_some (F.state folder.old).content }
+    ensures faulty { RaiseFaults F.Log.faults logs.items (Rose (F.state folder.old).write_faults (F.state folder.new).write_faults) }
+    ensures cause { HasCause (F.state folder.old).write_faults (F.state folder.new).write_faults result }
+    ensures no_fault { OnOk result (AreFaultless F.Log.faults logs.items → (F.state folder.new).write_faults ≡ (F.state folder.old).write_faults) }
+    ensures same_roots { (F.state folder.new).roots ≡ (F.state folder.old).roots }
 {
     let Ok(rows) = index_rows(alloc, &logs) else {
         discard_all(folder, logs);

@@ -1,7 +1,7 @@
 -- Two labels are concurrent exactly where they share a group and their lanes differ there.
 use Rattle.std.proofs.Common.{◌≡◌, ◌≢◌, ◌⊎◌, inl, inr, ℕ, zero, suc, ◌%◌, ◌<◌, List, [], ◌∷◌, ◌++◌, refl, sym, ap, subst, arith}
 use Rattle.race_model.specs.Label.{Triple, IsConcurrent, IsLabelBefore, IsTripleBefore}
-use Rattle.race_model.proofs.LabelOrder.{label_before_first, label_before_rest, not_earlier}
+use Rattle.race_laws.proofs.LabelOrder.{label_before_first, label_before_rest, not_earlier}
 use Rattle.segment_groups.specs.Group.{ShareGroup, group_key, lane_at}
 use Rattle.segment_groups.proofs.Lists.{three}
 

@@ -7,8 +7,8 @@ use Rattle.log_segment.specs.OneTree.{IsPathBefore, IsStepBefore}
 use Rattle.race_model.specs.Label.{Triple, IsLabel, lane_triple}
 use Rattle.race_model.specs.Order.{IsLane, lane_path}
 use Rattle.race_model.specs.Trace.{Logs, Node, regions_before}
-use Rattle.race_model.proofs.LabelPlace.{HasLast, label_last, not_both_empty, offset_residue, same_place, same_region, is_region}
-use Rattle.race_model.proofs.Parting.{ancestor}
+use Rattle.race_laws.proofs.LabelPlace.{HasLast, label_last, not_both_empty, offset_residue, same_place, same_region, is_region}
+use Rattle.race_laws.proofs.Parting.{ancestor}
 use Rattle.segment_groups.specs.Group.{ShareGroup, lane_at}
 use Rattle.segment_groups.proofs.LabelGroups.{AgreeOnSpans, ShareFirst, share_first}
 

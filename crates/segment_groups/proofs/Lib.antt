@@ -6,3 +6,5 @@ pub mod Depths
 pub mod Levels
 pub mod Threading
 pub mod TreeGroups
+pub mod Finding
+pub mod TwoSegments

@@ -1,3 +1,4 @@
 pub mod Group
 pub mod Level
 pub mod Partners
+pub mod Search

@@ -3,7 +3,7 @@ use Rattle.std.proofs.Common.{◌≡◌, refl, sym, ap, ◌∙◌, subst, ℕ, s
 use Rattle.std.specs.Prelude.{Contains, ◌==◌}
 use Rattle.step_history.specs.declared.item.Item.{Item}
 use Rattle.step_history.specs.declared.item.Deed.{Deed}
-use Rattle.step_history.specs.declared.item.Deed.TheVariants.{Read, Write, Lock, Unlock, Split, Home}
+use Rattle.step_history.specs.declared.item.Deed.TheVariants.{Read, Write, Lock, Unlock, Split, Home, Update}
 use Rattle.step_history.specs.History.{Name, item, holder, holder_after, FitsDeed, LegalAfter, Legal}
 use Rattle.step_history.proofs.Folds.{holder_more, legal_rest}
 
@@ -24,6 +24,7 @@ kept mutex owner name before has (Read w x) fits = stays refl
 kept mutex owner name before has (Write w x) fits = stays refl
 kept mutex owner name before has (Split k lane span) fits = stays refl
 kept mutex owner name before has (Home k) fits = stays refl
+kept mutex owner name before has (Update w d) fits = stays refl
 kept mutex owner name before has (Lock m) fits = at (m == mutex) refl
   where
     at : (b : Bool) → (m == mutex) ≡ b → Keeps mutex owner name (Lock m)

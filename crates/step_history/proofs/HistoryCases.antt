@@ -1,7 +1,7 @@
 -- Worked histories, legal and illegal. Two hands each add 1 to word 0 under mutex 5: their names are [0] and [1].
 use Rattle.std.proofs.Common.{◌≡◌, refl, sym, ap, ◌∙◌, subst, cond, ℕ, zero, suc, ◌<◌, Bool, true, false, List, [], ◌∷◌, ◌++◌, get_or, arith}
 use Rattle.step_history.specs.declared.item.Item.{Item}
-use Rattle.step_history.specs.declared.item.Deed.TheVariants.{Read, Write, Lock, Unlock, Split, Home}
+use Rattle.step_history.specs.declared.item.Deed.TheVariants.{Read, Write, Lock, Unlock, Split, Home, Update}
 use Rattle.step_history.proofs.Names.{same_name, is_same_name}
 use Rattle.step_history.specs.History.{Name, name_eq, item, of, value_at, Fits, Legal, HasHistory}
 
@@ -73,6 +73,19 @@ last_value = refl
 
 pub never_written : value_at 2 (item first (Write 0 7) ∷ item first (Read 2 5) ∷ []) ≡ 0
 never_written = refl
+
+-- an update adds to what the word has, modulo 2 ^ 64, and leaves the other words
+pub added : value_at 0 (item first (Write 0 7) ∷ item one (Update 0 5) ∷ item two (Update 1 9) ∷ []) ≡ 12
+added = refl
+
+pub added_past_the_end : Fits (item first (Write 0 18446744073709551615) ∷ item first (Update 0 3) ∷ []) (item first (Read 0 2))
+added_past_the_end = record { out = refl; fits = refl }
+
+pub unwrapped_sum_refused : Fits (item first (Write 0 18446744073709551615) ∷ item first (Update 0 3) ∷ []) (item first (Read 0 18446744073709551618)) → ⊥
+unwrapped_sum_refused fits = let found = fits.fits in omega arith
+
+pub update_is_no_store : Fits (item first (Write 0 7) ∷ item first (Update 0 5) ∷ []) (item first (Read 0 5)) → ⊥
+update_is_no_store fits = let found = fits.fits in omega arith
 
 -- a read finds the last value, and no earlier one
 pub earlier_value_refused : Fits (forked ++ adds two 0) (item one (Read 0 0)) → ⊥

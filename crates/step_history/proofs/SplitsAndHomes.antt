@@ -7,7 +7,7 @@ use Rattle.std.proofs.lemmas.List.{append-nil, append_assoc}
 use Rattle.std.proofs.lemmas.Option.{same_Some}
 use Rattle.step_history.specs.declared.item.Item.{Item}
 use Rattle.step_history.specs.declared.item.Deed.{Deed}
-use Rattle.step_history.specs.declared.item.Deed.TheVariants.{Read, Write, Lock, Unlock, Split, Home}
+use Rattle.step_history.specs.declared.item.Deed.TheVariants.{Read, Write, Lock, Unlock, Split, Home, Update}
 use Rattle.step_history.specs.History.{Name, name_eq, item, is_split, is_home, was_split, came_home, is_out, Fits, LegalAfter, Legal}
 use Rattle.step_history.proofs.Names.{same_name, is_same_name}
 
@@ -101,6 +101,7 @@ module _ (log : List Item) (t : ℕ) (x : Item) (parent : Name) (k : ℕ) (legal
       by_deed place name (Lock m) less there same is = cc
       by_deed place name (Unlock m) less there same is = cc
       by_deed place name (Home j) less there same is = cc
+      by_deed place name (Update w d) less there same is = cc
 
       at : Found (λ (y : Item). name_eq y.name parent && is_split k y.deed) (take t log) → SplitBefore log t parent k
       at f =

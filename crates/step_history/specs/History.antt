@@ -1,11 +1,11 @@
 -- A history of shared words and mutexes: all steps of all hands in one order, each of which fits those before it
 -- (sequential consistency: Lamport 1979; critical sections and teams: OpenMP 5.2).
-use Rattle.std.specs.Prelude.{◌≡◌, ℕ, ◌<◌, Bool, true, false, not, ◌==◌, ◌&&◌, if◌then◌else◌, List, [], ◌∷◌, ◌++◌, length, filter, slice_index, Option, Some, None}
+use Rattle.std.specs.Prelude.{◌≡◌, ℕ, ◌+◌, ◌%◌, ◌^◌, ◌<◌, Bool, true, false, not, ◌==◌, ◌&&◌, if◌then◌else◌, List, [], ◌∷◌, ◌++◌, length, filter, slice_index, Option, Some, None}
 use Rattle.std.specs.List.{list_any}
 use lib.Pointwise.{pointwise}
 use Rattle.step_history.specs.declared.item.Item.{Item}
 use Rattle.step_history.specs.declared.item.Deed.{Deed}
-use Rattle.step_history.specs.declared.item.Deed.TheVariants.{Read, Write, Lock, Unlock, Split, Home}
+use Rattle.step_history.specs.declared.item.Deed.TheVariants.{Read, Write, Lock, Unlock, Split, Home, Update}
 
 -- whose step it is: the first hand has the name [], and the hand of the split k of the hand p has the name k ∷ p
 abbrev pub Name : Type 0
@@ -24,13 +24,14 @@ of name items = filter (λ (x : Item). name_eq x.name name) items
 -- the value of the word after a deed
 abbrev pub value_after : ℕ → Deed → ℕ → ℕ
 value_after word (Write w x) value = if w == word then x else value
+value_after word (Update w d) value = if w == word then (value + d) % 2 ^ 64 else value
 value_after word _ value = value
 
 abbrev pub value_from : ℕ → List Item → ℕ → ℕ
 value_from word [] value = value
 value_from word (x ∷ xs) value = value_from word xs (value_after word x.deed value)
 
--- the value of the last write of the word, else 0
+-- the value of the last write of the word, else 0, and all that was added since
 abbrev pub value_at : ℕ → List Item → ℕ
 value_at word items = value_from word items 0
 
@@ -78,6 +79,7 @@ FitsDeed before name (Lock m) = holder m before ≡ None
 FitsDeed before name (Unlock m) = holder m before ≡ Some name
 FitsDeed before name (Split k lane span) = Unit {0}
 FitsDeed before name (Home k) = is_out (k ∷ name) before ≡ true
+FitsDeed before name (Update w d) = Unit {0}
 
 -- the step fits those before it
 pub record Fits (before : List Item) (x : Item) : Type 0 where

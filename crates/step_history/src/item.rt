@@ -12,6 +12,8 @@ pub enum Deed {
     Split(u64, u64, u64),
     /// The hand of this number is joined.
     Home(u64),
+    /// It adds the amount to the word in one step, modulo 2^64.
+    Update(u64, u64),
 }
 
 /// One step of the history, and who took it. No value of it is made.

@@ -33,10 +33,10 @@ pub record SharesRunByte (a b : Run) : Type 0 where
 
 -- what tells an access apart but its address
 abbrev pub access_key : Access → Key
-access_key a = record { write = a.write; size = a.size; site = a.site; line = a.line; held = a.held }
+access_key a = record { write = a.write; atomic = a.atomic; size = a.size; site = a.site; line = a.line; held = a.held }
 
 abbrev pub run_key : Run → Key
-run_key run = record { write = run.write; size = run.size; site = run.site; line = run.line; held = run.held }
+run_key run = record { write = run.write; atomic = run.atomic; size = run.size; site = run.site; line = run.line; held = run.held }
 
 -- one of the runs has the key and the address
 pub record HasPair (runs : List Run) (key : Key) (address : ℕ) : Type 0 where

@@ -4,11 +4,13 @@ ghost use Rattle.stride_summary.specs.Sizes.{access_size_prop};
 
 use mutex_set::Held;
 
-/// One read or write of memory: what kind, where in the kernel, which bytes, and the mutexes that were held. Its last byte is
-/// below 2^48.
+/// One read, write or update of memory: what kind, where in the kernel, which bytes, and the mutexes that were held. Its last
+/// byte is below 2^48.
 #[derive(Drop)]
 pub struct Access {
     pub write: bool,
+    /// Whether it reads and writes in one step, which no other such access can part.
+    pub atomic: bool,
     /// How many bytes, 1, 2, 4 or 8.
     pub size: u8,
     /// The place in the kernel's text that made the access.
@@ -30,6 +32,7 @@ impl Access {
     {
         Access {
             write: self.write,
+            atomic: self.atomic,
             size: self.size,
             site: self.site,
             line: self.line,

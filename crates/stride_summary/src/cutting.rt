@@ -41,6 +41,7 @@ fn first_run(key: &Key, addresses: &[u64], count: usize) -> Run
         count: count as u32,
         size: key.size,
         write: key.write,
+        atomic: key.atomic,
         line: key.line,
         site: key.site,
         held: key.held.copy(),

@@ -8,6 +8,7 @@ use mutex_set::Held;
 #[derive(Drop)]
 pub struct Key {
     pub write: bool,
+    pub atomic: bool,
     pub size: u8,
     pub site: u16,
     pub line: u32,
@@ -21,6 +22,7 @@ impl Key {
     {
         Key {
             write: access.write,
+            atomic: access.atomic,
             size: access.size,
             site: access.site,
             line: access.line,
@@ -33,6 +35,7 @@ impl Key {
         ensures { IsTrue result ↔ (self.now ≡ access_key access.now) }
     {
         self.write == access.write
+            && self.atomic == access.atomic
             && self.size == access.size
             && self.site == access.site
             && self.line == access.line

@@ -16,6 +16,7 @@ pub struct Run {
     /// How many bytes at each address, 1, 2, 4 or 8.
     pub size: u8,
     pub write: bool,
+    pub atomic: bool,
     /// The line in the kernel's text, from 1.
     pub line: u32,
     /// The place in the kernel's text that made the accesses.

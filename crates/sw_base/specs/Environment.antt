@@ -19,6 +19,13 @@ pub record Content : Type 0 where
   pub held : Files
   pub sealed : List Sealed
 
+-- what calls that only read leave of a folder: what it tells, how often another call failed or a log with faults came back, and how
+-- often a root's log was asked for
+pub record FolderState : Type 0 where
+  pub content : Option Content
+  pub write_faults : ℕ
+  pub roots : ℕ
+
 -- what a log tells: its bytes, and the pieces that it took
 pub record Text : Type 0 where
   pub bytes : List ℕ
@@ -28,9 +35,13 @@ pub record Text : Type 0 where
 abbrev pub WhereTold : {X : Type 0} → Option X → (X → Type 0) → Type 0
 WhereTold {X} told P = (x : X) → told ≡ Some x → P x
 
--- a count of faults rose; at the end of its type it stands still
+-- one more in a count, which stands still at the end of its type
+abbrev pub next_count : ℕ → ℕ
+next_count count = min (count + 1) (2 ^ 64 - 1)
+
+-- a count of faults rose
 abbrev pub Rose : ℕ → ℕ → Type 0
-Rose before now = min (before + 1) (2 ^ 64 - 1) ≤ now
+Rose before now = next_count before ≤ now
 
 -- a count never falls, and `Failed` is answered only where it rose
 pub record HasCause {T : Type 0} (before now : ℕ) (result : Result T Trouble) : Type 0 where

@@ -3,6 +3,7 @@ use Rattle.std.specs.Prelude.{◌≡◌, ℕ, List, [], ◌∷◌, ◌++◌, Boo
 use Rattle.std.specs.Option.{option_map}
 use Rattle.sw_base.specs.Environment.{Content, Outline, Text, outline_of, with_outline, with_put}
 use Rattle.sw_base.specs.Names.{log_name}
+use Rattle.sw_base.specs.declared.closed_log.ClosedLog.{ClosedLog}
 use Rattle.sw_base.specs.declared.path.Step.{Step}
 
 -- what is told of a log, where it tells its content
@@ -17,9 +18,9 @@ pub record HandedLog : Type 0 where
   pub told : Option Outline
   pub count : ℕ
 
--- a log that stands beside its task and its number of records, by what is seen of it
-abbrev pub handed_log : {L : Type 0} → (L → List ℕ) → (L → List Step) → (L → Option Text) → List Step × L × ℕ → HandedLog
-handed_log dir path text entry = record { task = entry.0; dir = dir entry.1; path = path entry.1; told = outline (text entry.1); count = entry.2 }
+-- a closed log by what is seen of it
+abbrev pub handed_log : {L : Type 0} → (L → List ℕ) → (L → List Step) → (L → Option Text) → ClosedLog L → HandedLog
+handed_log dir path text closed = record { task = closed.path; dir = dir closed.log; path = path closed.log; told = outline (text closed.log); count = closed.records }
 
 -- the log is that of its task, in the folder `dir`, and tells its content or doesn't
 pub record IsOwnLog (dir : List ℕ) (tells : Bool) (log : HandedLog) : Type 0 where

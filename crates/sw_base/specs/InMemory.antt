@@ -1,9 +1,6 @@
 -- The calls of an object in memory, and what one that fails leaves.
-use Rattle.std.specs.Prelude.{◌≡◌, ◌↔◌, ℕ, ◌+◌, ◌-◌, ◌^◌, min, List, ◌++◌, Contains}
-
--- one more in a count, which stands still at the end of its type
-abbrev pub next_count : ℕ → ℕ
-next_count count = min (count + 1) (2 ^ 64 - 1)
+use Rattle.std.specs.Prelude.{◌≡◌, ◌↔◌, ℕ, List, ◌++◌, Contains}
+use Rattle.sw_base.specs.Environment.{next_count}
 
 -- the calls of an object: how many there were, the numbers of those that are to fail, and how many failed
 pub record Counted : Type 0 where

@@ -4,8 +4,8 @@ use Rattle.std.specs.declared.alloc.Global.{Global}
 use Rattle.std.specs.declared.string.String.{String}
 use Rattle.std.specs.BTreeMap.{BTreeMap, get_by_text}
 use Rattle.std.specs.Option.{option_map}
-use Rattle.sw_base.specs.Environment.{Content, Files, Sealed}
-use Rattle.sw_base.specs.InMemory.{next_count, Counted, CountsCall}
+use Rattle.sw_base.specs.Environment.{Content, Files, FolderState, Sealed, next_count}
+use Rattle.sw_base.specs.InMemory.{Counted, CountsCall}
 use Rattle.sw_base.specs.Plans.{Plan, plans_by}
 use Rattle.sw_base.specs.declared.in_memory.folder.MemFolder.{MemFolder}
 use Rattle.sw_base.specs.declared.in_memory.folder.SealedLog.{SealedLog}
@@ -38,6 +38,14 @@ read_faults_of folder = folder.read_faults
 abbrev pub write_faults_of : MemFolder → ℕ
 write_faults_of folder = folder.write_faults
 
+-- how often `root` was called
+abbrev pub roots_of : MemFolder → ℕ
+roots_of folder = folder.roots
+
+-- all that calls that only read leave
+abbrev pub state_of : MemFolder → FolderState
+state_of folder = record { content = content_of folder; write_faults = write_faults_of folder; roots = roots_of folder }
+
 -- how many calls there were, those of `discard` left out
 abbrev pub calls_of : MemFolder → ℕ
 calls_of folder = folder.calls.made
@@ -62,13 +70,13 @@ counted_writes folder = record { calls = calls_of folder; failing = failing_of f
 pub record IsUncounted (old new : MemFolder) : Type 0 where
   pub reads : read_faults_of new ≡ read_faults_of old
   pub writes : write_faults_of new ≡ write_faults_of old
+  pub roots : roots_of new ≡ roots_of old
   pub calls : calls_of new ≡ calls_of old
   pub same_plans : plans_of new ≡ plans_of old
 
 -- a call that reads, and whether it failed
 pub record CountsRead (failed : Type 0) (old new : MemFolder) : Type 0 where
   pub counts : CountsCall failed (counted_reads old) (counted_reads new)
-  pub same_writes : write_faults_of new ≡ write_faults_of old
   pub same_plans : plans_of new ≡ plans_of old
 
 -- another call, and whether it failed

@@ -5,7 +5,7 @@
 //! should, so a call that failed and was made again shows.
 ghost use Rattle.std.specs.Prelude.{◌≡◌, ◌+◌, ◌<◌, ◌≤◌, ℕ, List, [], ◌∷◌, ◌++◌, length, Option, unwrap_or, is_some, IfOk, IfErr, OnOk, OnErr, IsErrOf};
 ghost use Rattle.std.specs.Option.{option_map};
-ghost use Rattle.sw_base.specs.Environment.{Content, Text, WhereTold, Rose, HasCause, TakesFaults, Reads, LeavesPrefix, TearsPiece, GainsPrefix, with_put, with_log, with_piece, empty_text, gained};
+ghost use Rattle.sw_base.specs.Environment.{FolderState, Text, WhereTold, Rose, next_count, HasCause, TakesFaults, Reads, LeavesPrefix, TearsPiece, GainsPrefix, with_put, with_log, with_piece, empty_text, gained};
 ghost use Rattle.sw_base.specs.Names.{log_name};
 ghost use Rattle.sw_base.specs.declared.path.Step.{Step};
 
@@ -43,7 +43,7 @@ pub trait Out {
 }
 
 /// The log of one task: the pieces of its bytes, as they are appended.
-pub trait Log: Drop + Send + Sized {
+pub trait Log: Drop + Send + Sized + 'static {
     /// The folder's name.
     ghost dir: { Self → List ℕ };
 
@@ -89,23 +89,20 @@ pub trait Log: Drop + Send + Sized {
 pub trait Folder {
     type Log: Log;
 
-    /// The files that the folder holds and the logs that it sealed, where the folder tells them.
-    ghost content: { Self → Option Content };
+    /// The files that the folder holds and the logs that it sealed, where the folder tells them; how often a call other than `size`
+    /// and `read` failed, or a log with faults came back; and how often `root` was called.
+    ghost state: { Self → FolderState };
 
     /// How often `size` or `read` failed.
     ghost read_faults: { Self → ℕ };
 
-    /// How often another call failed, or a log with faults came back.
-    ghost write_faults: { Self → ℕ };
-
     /// How many bytes the named file has. `None` where there is none.
     fn size(&mut self, alloc: Global, name: &str) -> Result<Option<u64>, Trouble>
-        ensures size { IfOk result (λ size. WhereTold (content self.old) (λ c. size ≡ option_map length (c.held name.now))) }
+        ensures size { IfOk result (λ size. WhereTold (state self.old).content (λ c. size ≡ option_map length (c.held name.now))) }
 
-        ensures same { content self.new ≡ content self.old }
+        ensures same { state self.new ≡ state self.old }
         ensures cause { HasCause (read_faults self.old) (read_faults self.new) result }
-        ensures no_fault { OnOk result (read_faults self.new ≡ read_faults self.old) }
-        ensures same_writes { write_faults self.new ≡ write_faults self.old };
+        ensures no_fault { OnOk result (read_faults self.new ≡ read_faults self.old) };
 
     /// Reads bytes of the named file, from the place `at` on, into the start of `into`, and answers how many. A file that
     /// isn't there is read as one without a byte. Fewer may come than `into` has room for, but none only at the end or where
@@ -118,52 +115,55 @@ pub trait Folder {
         into: &mut [u8],
     ) -> Result<usize, Trouble>
         ensures fits { IfOk result (λ count. count ≤ length into.old) }
-        ensures bytes { IfOk result (λ count. WhereTold (content self.old) (λ c. Reads (unwrap_or (c.held name.now) []) at count into.new)) }
+        ensures bytes { IfOk result (λ count. WhereTold (state self.old).content (λ c. Reads (unwrap_or (c.held name.now) []) at count into.new)) }
 
-        ensures same { content self.new ≡ content self.old }
+        ensures same { state self.new ≡ state self.old }
         ensures cause { HasCause (read_faults self.old) (read_faults self.new) result }
-        ensures no_fault { OnOk result (read_faults self.new ≡ read_faults self.old) }
-        ensures same_writes { write_faults self.new ≡ write_faults self.old };
+        ensures no_fault { OnOk result (read_faults self.new ≡ read_faults self.old) };
 
     /// Makes the named file hold these bytes.
     fn put(&mut self, alloc: Global, name: &str, bytes: &[u8]) -> Result<(), Trouble>
-        ensures done { OnOk result (content self.new ≡ option_map (with_put name.now bytes.now) (content self.old)) }
-        ensures refused { OnErr result (LeavesPrefix (content self.old) (content self.new) name.now bytes.now) }
+        ensures done { OnOk result ((state self.new).content ≡ option_map (with_put name.now bytes.now) (state self.old).content) }
+        ensures refused { OnErr result (LeavesPrefix (state self.old).content (state self.new).content name.now bytes.now) }
 
-        ensures cause { HasCause (write_faults self.old) (write_faults self.new) result }
-        ensures no_fault { OnOk result (write_faults self.new ≡ write_faults self.old) }
+        ensures cause { HasCause (state self.old).write_faults (state self.new).write_faults result }
+        ensures no_fault { OnOk result ((state self.new).write_faults ≡ (state self.old).write_faults) }
+        ensures same_roots { (state self.new).roots ≡ (state self.old).roots }
         ensures same_reads { read_faults self.new ≡ read_faults self.old };
 
     /// A new empty log for the root task, in the folder `dir`.
     fn root(&mut self, alloc: Global, dir: &str) -> Result<Self::Log, Trouble>
         ensures log_dir { IfOk result (λ log. Self.Log.dir log ≡ dir.now) }
         ensures log_path { IfOk result (λ log. Self.Log.path log ≡ []) }
-        ensures log_text { IfOk result (λ log. Self.Log.text log ≡ option_map (λ _. empty_text) (content self.old)) }
+        ensures log_text { IfOk result (λ log. Self.Log.text log ≡ option_map (λ _. empty_text) (state self.old).content) }
         ensures log_faults { IfOk result (λ log. Self.Log.faults log ≡ 0) }
 
-        ensures same { content self.new ≡ content self.old }
-        ensures cause { HasCause (write_faults self.old) (write_faults self.new) result }
-        ensures no_fault { OnOk result (write_faults self.new ≡ write_faults self.old) }
+        ensures same { (state self.new).content ≡ (state self.old).content }
+        ensures cause { HasCause (state self.old).write_faults (state self.new).write_faults result }
+        ensures no_fault { OnOk result ((state self.new).write_faults ≡ (state self.old).write_faults) }
+        ensures roots { (state self.new).roots ≡ next_count (state self.old).roots }
         ensures same_reads { read_faults self.new ≡ read_faults self.old };
 
     /// Makes the log's name hold its bytes, and notes the lengths of its pieces. An error hands the log back.
     fn seal(&mut self, alloc: Global, log: Self::Log) -> Result<(), (Trouble, Self::Log)>
         ensures done { OnOk result (WhereTold (Self.Log.text log) (λ text.
-            content self.new ≡ option_map (with_log (log_name (Self.Log.dir log) (Self.Log.path log)) text) (content self.old))) }
+            (state self.new).content ≡ option_map (with_log (log_name (Self.Log.dir log) (Self.Log.path log)) text) (state self.old).content)) }
         ensures refused { OnErr result (WhereTold (Self.Log.text log) (λ text.
-            LeavesPrefix (content self.old) (content self.new) (log_name (Self.Log.dir log) (Self.Log.path log)) text.bytes)) }
-        ensures tells { is_some (content self.new) ≡ is_some (content self.old) }
+            LeavesPrefix (state self.old).content (state self.new).content (log_name (Self.Log.dir log) (Self.Log.path log)) text.bytes)) }
+        ensures tells { is_some (state self.new).content ≡ is_some (state self.old).content }
         ensures given_back { IfErr result (λ error. error.1 ≡ log) }
 
-        ensures log_faults { TakesFaults (Self.Log.faults log) (write_faults self.old) (write_faults self.new) }
-        ensures cause { IfErr result (λ error. error.0 ≡ Trouble.Failed → Rose (write_faults self.old) (write_faults self.new)) }
-        ensures no_fault { OnOk result (Self.Log.faults log ≡ 0 → write_faults self.new ≡ write_faults self.old) }
+        ensures log_faults { TakesFaults (Self.Log.faults log) (state self.old).write_faults (state self.new).write_faults }
+        ensures cause { IfErr result (λ error. error.0 ≡ Trouble.Failed → Rose (state self.old).write_faults (state self.new).write_faults) }
+        ensures no_fault { OnOk result (Self.Log.faults log ≡ 0 → (state self.new).write_faults ≡ (state self.old).write_faults) }
+        ensures same_roots { (state self.new).roots ≡ (state self.old).roots }
         ensures same_reads { read_faults self.new ≡ read_faults self.old };
 
     /// Gives up a log.
     fn discard(&mut self, log: Self::Log)
-        ensures same { content self.new ≡ content self.old }
-        ensures log_faults { TakesFaults (Self.Log.faults log) (write_faults self.old) (write_faults self.new) }
-        ensures no_faults { Self.Log.faults log ≡ 0 → write_faults self.new ≡ write_faults self.old }
+        ensures same { (state self.new).content ≡ (state self.old).content }
+        ensures log_faults { TakesFaults (Self.Log.faults log) (state self.old).write_faults (state self.new).write_faults }
+        ensures no_faults { Self.Log.faults log ≡ 0 → (state self.new).write_faults ≡ (state self.old).write_faults }
+        ensures same_roots { (state self.new).roots ≡ (state self.old).roots }
         ensures same_reads { read_faults self.new ≡ read_faults self.old };
 }

@@ -6,10 +6,16 @@ use crate::trouble::Memory;
 use std::alloc::Global;
 
 /// The eight bytes that a log begins with.
-pub const LOG_HEADER: [u8; 8] = *b"SWLOG001";
+pub const LOG_HEADER: [u8; 8] = *b"SWLOG002";
 
 /// The eight bytes that an index begins with.
-pub const INDEX_HEADER: [u8; 8] = *b"SWIDX001";
+pub const INDEX_HEADER: [u8; 8] = *b"SWIDX002";
+
+/// The eight bytes that a log of the first format begins with.
+pub const OLD_LOG_HEADER: [u8; 8] = *b"SWLOG001";
+
+/// The eight bytes that an index of the first format begins with.
+pub const OLD_INDEX_HEADER: [u8; 8] = *b"SWIDX001";
 
 /// The name of the index of the folder `dir`.
 #[tactic(auto, unfolding(crate::specs::Names::index_name))]

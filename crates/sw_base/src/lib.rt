@@ -6,6 +6,7 @@
 //! The versions in memory meet them, and can be told which of their calls are to fail.
 #![tactic(auto)]
 
+mod closed_log;
 mod environment;
 mod files;
 mod in_memory;
@@ -14,8 +15,9 @@ mod reading;
 mod trouble;
 mod window;
 
+pub use closed_log::ClosedLog;
 pub use environment::{Folder, Gate, Log, NoGate, Out};
-pub use files::{INDEX_HEADER, LOG_HEADER, index_name};
+pub use files::{INDEX_HEADER, LOG_HEADER, OLD_INDEX_HEADER, OLD_LOG_HEADER, index_name};
 pub use in_memory::{MemFolder, MemLog, MemOut, ShortReads};
 pub use path::{Path, Step};
 pub use reading::read_file;

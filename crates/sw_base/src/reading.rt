@@ -15,12 +15,11 @@ pub fn read_file<F: Folder>(
     folder: &mut F,
     name: &str,
 ) -> Result<Option<Vec<u8>>, Trouble>
-    ensures read { IfOk result (λ file. WhereTold (F.content folder.old) (λ c.
+    ensures read { IfOk result (λ file. WhereTold (F.state folder.old).content (λ c.
         MatchOption file (c.held name.now ≡ None) (λ bytes. c.held name.now ≡ Some bytes.items))) }
 
-    ensures same { F.content folder.new ≡ F.content folder.old }
+    ensures same { F.state folder.new ≡ F.state folder.old }
     ensures cause { HasCause (F.read_faults folder.old) (F.read_faults folder.new) result }
-    ensures same_writes { F.write_faults folder.new ≡ F.write_faults folder.old }
 {
     let Some(size) = folder.size(alloc, name)? else {
         return Ok(None);

@@ -54,14 +54,13 @@ fn read_on<F: Folder>(
 ) -> Result<(), Trouble>
     requires place { place < 2 ^ 63 }
     requires chunk { 0 < length chunk.old }
-    ensures shows { WhereTold (F.content folder.old) (λ c. Shows (record { place = place; ahead = bytes.old.items }) (file_of c name.now)
+    ensures shows { WhereTold (F.state folder.old).content (λ c. Shows (record { place = place; ahead = bytes.old.items }) (file_of c name.now)
         → Shows (record { place = place; ahead = bytes.new.items }) (file_of c name.now)) }
-    ensures next { OnOk result (WhereTold (F.content folder.old) (λ c. Shows (record { place = place; ahead = bytes.old.items }) (file_of c name.now)
+    ensures next { OnOk result (WhereTold (F.state folder.old).content (λ c. Shows (record { place = place; ahead = bytes.old.items }) (file_of c name.now)
         → ShowsNext count (record { place = place; ahead = bytes.new.items }) (file_of c name.now))) }
 
-    ensures same { F.content folder.new ≡ F.content folder.old }
+    ensures same { F.state folder.new ≡ F.state folder.old }
     ensures cause { HasCause (F.read_faults folder.old) (F.read_faults folder.new) result }
-    ensures same_writes { F.write_faults folder.new ≡ F.write_faults folder.old }
 {
     'reads: while bytes.len() < count {
         let more = folder.read(alloc, name, place + bytes.len() as u64, chunk)?;
@@ -105,12 +104,11 @@ impl Window {
         count: usize,
     ) -> Result<(), Trouble>
         ensures place { self.new.place ≡ self.old.place }
-        ensures shows { WhereTold (F.content folder.old) (λ c. Shows self.old (file_of c name.now) → Shows self.new (file_of c name.now)) }
-        ensures next { OnOk result (WhereTold (F.content folder.old) (λ c. Shows self.old (file_of c name.now) → ShowsNext count self.new (file_of c name.now))) }
+        ensures shows { WhereTold (F.state folder.old).content (λ c. Shows self.old (file_of c name.now) → Shows self.new (file_of c name.now)) }
+        ensures next { OnOk result (WhereTold (F.state folder.old).content (λ c. Shows self.old (file_of c name.now) → ShowsNext count self.new (file_of c name.now))) }
 
-        ensures same { F.content folder.new ≡ F.content folder.old }
+        ensures same { F.state folder.new ≡ F.state folder.old }
         ensures cause { HasCause (F.read_faults folder.old) (F.read_faults folder.new) result }
-        ensures same_writes { F.write_faults folder.new ≡ F.write_faults folder.old }
     {
         if self.bytes.len() - self.passed >= count {
             return Ok(());
@@ -155,13 +153,12 @@ impl Window {
     ) -> Result<bool, Trouble>
         requires { self.old ≡ at_start }
         ensures place { IfOk result (λ passed. IsTrue passed → self.new.place ≡ 8) }
-        ensures passed { IfOk result (λ passed. IsTrue passed → WhereTold (F.content folder.old) (λ c.
+        ensures passed { IfOk result (λ passed. IsTrue passed → WhereTold (F.state folder.old).content (λ c.
             Shows self.new (file_of c name.now) × (file_of c name.now ≡ header.now ++ drop 8 (file_of c name.now)))) }
-        ensures other { IfOk result (λ passed. IsFalse passed → WhereTold (F.content folder.old) (λ c. take 8 (file_of c name.now) ≢ header.now)) }
+        ensures other { IfOk result (λ passed. IsFalse passed → WhereTold (F.state folder.old).content (λ c. take 8 (file_of c name.now) ≢ header.now)) }
 
-        ensures same { F.content folder.new ≡ F.content folder.old }
+        ensures same { F.state folder.new ≡ F.state folder.old }
         ensures cause { HasCause (F.read_faults folder.old) (F.read_faults folder.new) result }
-        ensures same_writes { F.write_faults folder.new ≡ F.write_faults folder.old }
     {
         self.fill(alloc, folder, name, 8)?;
         if !self.ahead().starts_with(header) {

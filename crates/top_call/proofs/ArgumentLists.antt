@@ -2,7 +2,7 @@
 use Rattle.std.proofs.Common.{◌≡◌, ℕ, ◌≤◌, ◌<◌, List, [], ◌∷◌, length, String, string_bytes, get_or, sym, subst, ◌∙◌, arith}
 use Rattle.std.specs.declared.alloc.Global.{Global}
 use Rattle.std.proofs.lemmas.Fmt.{decimal_injective}
-use Rattle.top_call.specs.Arguments.{texts, SaysCheck, SaysGen, SaysReplay, SaysRun, SaysShow}
+use Rattle.top_call.specs.Arguments.{texts, SaysCheck, SaysGen, SaysReplay, SaysRun, SaysShow, UsageDue}
 
 pub texts-three : (arguments : List (String Global)) (a b c : String Global) → 3 ≤ length arguments → length arguments < 4 → a ≡ get_or arguments 0 a → b ≡ get_or arguments 1 b → c ≡ get_or arguments 2 c
     → texts arguments ≡ string_bytes a ∷ string_bytes b ∷ string_bytes c ∷ []
@@ -67,3 +67,7 @@ same_replay P arguments kernel dir other_kernel other_dir a b holds =
     let kernel_is : kernel ≡ other_kernel = cc both in
     let dir_is : dir ≡ other_dir = cc both in
     subst (λ (k : List ℕ). P k other_dir) kernel_is (subst (P kernel) dir_is holds)
+
+-- they have one answer, where they ask for nothing
+pub usage_once : (s r : ℕ) (t u : List ℕ) → UsageDue s t → UsageDue r u → t ≡ u
+usage_once s r t u a b = a.1 ∙ sym b.1

@@ -1,7 +1,1 @@
 pub mod ArgumentLists
-pub mod FolderAnswers
-pub mod OneSummary
-pub mod OneAnswer
-pub mod Sweeping
-pub mod Listed
-pub mod Refusals

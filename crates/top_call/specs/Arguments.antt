@@ -5,7 +5,6 @@ use Rattle.sw_base.specs.Environment.{Files}
 use Rattle.command_answer.specs.declared.status.TheConstants.{USAGE}
 use Rattle.kernel_syntax.specs.Program.{Program}
 use Rattle.run_command.specs.Run.{CanRun}
-use Rattle.top_call.specs.Texts.{usage_text}
 
 -- what the arguments after the program's name may ask for
 pub data Request : Type 0 where
@@ -79,6 +78,17 @@ Says arguments (replay kernel dir) = SaysReplay arguments kernel dir
 Says arguments (show dir) = SaysShow arguments dir
 Says arguments (gen rounds workers) = SaysGen arguments rounds workers
 
+-- the request reads a folder, or a kernel's file
+abbrev pub IsToRead : Request → Type 0
+IsToRead (gen rounds workers) = ⊥
+IsToRead _ = Unit {0}
+
+-- the arguments ask for a command that reads
+pub record AsksToRead (arguments : List (List ℕ)) : Type 0 where
+  pub request : Request
+  pub says : Says arguments request
+  pub reads : IsToRead request
+
 -- the arguments ask for nothing
 abbrev pub IsUsage : List (List ℕ) → Type 0
 IsUsage arguments = (request : Request) → Says arguments request → ⊥
@@ -86,6 +96,9 @@ IsUsage arguments = (request : Request) → Says arguments request → ⊥
 -- the bytes of each word
 abbrev pub texts : List (String Global) → List (List ℕ)
 texts arguments = map string_bytes arguments
+
+abbrev pub usage_text : List ℕ
+usage_text = codes "usage: sword check DIR W | run KERNEL DIR SIZE | replay KERNEL DIR | show DIR | gen N W\n"
 
 -- the one answer to arguments that ask for nothing
 abbrev pub UsageDue : ℕ → List ℕ → Type 0

@@ -5,14 +5,7 @@
 #![tactic(auto)]
 
 mod arguments;
-mod checking;
-mod generating;
-mod printing;
-mod refusing;
-mod replaying;
 mod running;
-mod showing;
-mod texts;
 mod top;
 
 pub use top::{STACK, sword};

@@ -1,6 +1,6 @@
 //! `run`: what comes out of a run is printed.
 ghost use Rattle.std.specs.Prelude.{◌≡◌, ◌⊎◌, is_some};
-ghost use Rattle.sw_base.specs.Environment.{Rose, WhereTold};
+ghost use Rattle.sw_base.specs.Environment.{Rose, WhereTold, next_count};
 ghost use Rattle.kernel_syntax.specs.Program.{Program};
 ghost use Rattle.region_runner.specs.Answer.{IsBufferSize};
 ghost use Rattle.run_command.specs.Run.{CanRun, LeavesPart, RunDue};
@@ -25,19 +25,20 @@ pub fn run_file<R: Threads + Wait + Sync, F: Folder, O: Out, G: Gate>(
     gate: &G,
 ) -> u8
     requires { IsBufferSize size }
-    ensures answers { WhereTold (F.content folder.old) (λ c. WhereTold (F.content folder.new) (λ d.
-        Tries (RunDue (Rose (F.write_faults folder.old) (F.write_faults folder.new)) kernel.now dir.now size c d) (O.written out.old) (O.written out.new) result)) }
-    ensures leaves { WhereTold (F.content folder.old) (λ c. WhereTold (F.content folder.new) (λ d.
-        IsFailure result → LeavesPart (Rose (F.write_faults folder.old) (F.write_faults folder.new)) kernel.now dir.now size c d)) }
-    ensures reads { result ≡ READ_FAULT → F.content folder.new ≡ F.content folder.old }
+    ensures answers { WhereTold (F.state folder.old).content (λ c. WhereTold (F.state folder.new).content (λ d.
+        Tries (RunDue (Rose (F.state folder.old).write_faults (F.state folder.new).write_faults) kernel.now dir.now size c d) (O.written out.old) (O.written out.new) result)) }
+    ensures leaves { WhereTold (F.state folder.old).content (λ c. WhereTold (F.state folder.new).content (λ d.
+        IsFailure result → LeavesPart (Rose (F.state folder.old).write_faults (F.state folder.new).write_faults) kernel.now dir.now size c d)) }
+    ensures reads { result ≡ READ_FAULT → F.state folder.new ≡ F.state folder.old }
     ensures read_fault { result ≡ READ_FAULT → Rose (F.read_faults folder.old) (F.read_faults folder.new) }
-    ensures write_fault { result ≡ WRITE_FAULT → Rose (O.faults out.old) (O.faults out.new) ⊎ Rose (F.write_faults folder.old) (F.write_faults folder.new) }
-    ensures no_fault { result ≡ DONE → F.write_faults folder.new ≡ F.write_faults folder.old }
-    ensures only_printed { WhereTold (F.content folder.old) (λ c. ((p : Program) → CanRun c.held kernel.now dir.now p → ⊥) →
+    ensures write_fault { result ≡ WRITE_FAULT → Rose (O.faults out.old) (O.faults out.new) ⊎ Rose (F.state folder.old).write_faults (F.state folder.new).write_faults }
+    ensures no_fault { result ≡ DONE → (F.state folder.new).write_faults ≡ (F.state folder.old).write_faults }
+    ensures only_printed { WhereTold (F.state folder.old).content (λ c. ((p : Program) → CanRun c.held kernel.now dir.now p → ⊥) →
         result ≡ WRITE_FAULT → Rose (O.faults out.old) (O.faults out.new)) }
-    ensures same_writes { WhereTold (F.content folder.old) (λ c. ((p : Program) → CanRun c.held kernel.now dir.now p → ⊥) →
-        F.write_faults folder.new ≡ F.write_faults folder.old) }
-    ensures tells { is_some (F.content folder.new) ≡ is_some (F.content folder.old) }
+    ensures untouched { WhereTold (F.state folder.old).content (λ c. ((p : Program) → CanRun c.held kernel.now dir.now p → ⊥) →
+        F.state folder.new ≡ F.state folder.old) }
+    ensures asks_once { ((F.state folder.new).roots ≡ (F.state folder.old).roots) ⊎ ((F.state folder.new).roots ≡ next_count (F.state folder.old).roots) }
+    ensures tells { is_some (F.state folder.new).content ≡ is_some (F.state folder.old).content }
     ensures no_usage { result ≡ USAGE → ⊥ }
 {
     let outcome = run(rt, alloc, kernel, dir, size, folder, gate);

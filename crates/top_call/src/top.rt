@@ -1,22 +1,19 @@
 //! The top call: what the program does for the arguments that it is given.
 ghost use Rattle.std.specs.Prelude.{◌≡◌, ◌⊎◌, ℕ, List, is_some};
-ghost use Rattle.sw_base.specs.Environment.{Rose, WhereTold};
+ghost use Rattle.sw_base.specs.Environment.{Rose, WhereTold, next_count};
 ghost use Rattle.command_answer.specs.Answer.{Answers, IsFailure, Tries};
-ghost use Rattle.top_call.specs.Check.{FolderDue, HasReport};
+ghost use Rattle.folder_commands.specs.Check.{FolderDue, HasReport};
 ghost use Rattle.run_command.specs.Run.{LeavesPart, RunDue};
-ghost use Rattle.top_call.specs.Gen.{GenDue};
-ghost use Rattle.top_call.specs.Replay.{ReplayDue};
-ghost use Rattle.top_call.specs.Show.{ShowsRecords};
-ghost use Rattle.top_call.specs.Arguments.{AsksRun, BeginsRun, IsUsage, SaysCheck, SaysGen, SaysReplay, SaysRun, SaysShow, UsageDue, texts};
+ghost use Rattle.folder_commands.specs.Gen.{GenDue};
+ghost use Rattle.folder_commands.specs.Replay.{ReplayDue};
+ghost use Rattle.folder_commands.specs.Show.{ShowsRecords};
+ghost use Rattle.top_call.specs.Arguments.{AsksRun, AsksToRead, BeginsRun, IsUsage, SaysCheck, SaysGen, SaysReplay, SaysRun, SaysShow, UsageDue, texts};
 ghost use Rattle.command_answer.specs.declared.status.TheConstants.{DONE, USAGE, READ_FAULT, WRITE_FAULT};
 
 use crate::arguments::{Command, read_arguments};
-use crate::checking::check;
-use crate::generating::check_generated;
-use crate::replaying::replay_file;
 use crate::running::run_file;
-use crate::showing::show;
 use command_answer::{NO_MEMORY, USAGE, print};
+use folder_commands::{check, check_generated, replay_file, show};
 use std::alloc::Global;
 use std::sync::Wait;
 use std::thread::Threads;
@@ -46,18 +43,19 @@ pub fn sword<R: Threads + Wait + Sync, F: Folder, O: Out, G: Gate>(
     ensures only_usage { result ≡ USAGE → IsUsage (texts arguments.now) }
 
     // `check` answers the first bad place of the folder; or, of the run that it holds, exactly the line pairs of accesses that
-    // share a byte, one a write, unordered by forks, joins and barriers, without a common mutex, once and in order.
-    ensures check { (dir : List ℕ) (workers : ℕ) → SaysCheck (texts arguments.now) dir workers → WhereTold (F.content folder.old) (λ c.
+    // share a byte, one that writes or updates and not both updates, unordered by forks, joins and barriers, without a common mutex, once
+    // and in order.
+    ensures check { (dir : List ℕ) (workers : ℕ) → SaysCheck (texts arguments.now) dir workers → WhereTold (F.state folder.old).content (λ c.
         Answers (FolderDue HasReport c.held dir) (O.written out.old) (O.written out.new) result) }
 
     // `show` answers the first bad place of the folder, or every record of the run that it holds.
-    ensures show { (dir : List ℕ) → SaysShow (texts arguments.now) dir → WhereTold (F.content folder.old) (λ c.
+    ensures show { (dir : List ℕ) → SaysShow (texts arguments.now) dir → WhereTold (F.state folder.old).content (λ c.
         Answers (FolderDue ShowsRecords c.held dir) (O.written out.old) (O.written out.new) result) }
 
     // `replay` answers that there is no kernel, or the first bad place of the folder; that the folder holds a run of the kernel, each log the
     // whole trace of its task under what the log reads and draws; or the first record, in the order of the rows and then by number,
     // that isn't the trace's.
-    ensures replay { (kernel dir : List ℕ) → SaysReplay (texts arguments.now) kernel dir → WhereTold (F.content folder.old) (λ c.
+    ensures replay { (kernel dir : List ℕ) → SaysReplay (texts arguments.now) kernel dir → WhereTold (F.state folder.old).content (λ c.
         Tries (ReplayDue c.held kernel dir) (O.written out.old) (O.written out.new) result) }
 
     // `gen` answers how many accesses and barrier intervals the run of so many rounds has, and the line pairs of its races.
@@ -66,24 +64,26 @@ pub fn sword<R: Threads + Wait + Sync, F: Folder, O: Out, G: Gate>(
     // `run` answers that there is no kernel; that the folder has an index; where the kernel stopped, with the logs of one execution of it;
     // or the counts of a run and the sums in which a legal history of it ends. Its logs and index are then there: those of the kernel's
     // tasks, each with its whole trace under what it read, cut into pieces that fill the buffer.
-    ensures run { (kernel dir : List ℕ) (size : ℕ) → SaysRun (texts arguments.now) kernel dir size → WhereTold (F.content folder.old) (λ c.
-        WhereTold (F.content folder.new) (λ d. Tries (RunDue (Rose (F.write_faults folder.old) (F.write_faults folder.new)) kernel dir size c d) (O.written out.old) (O.written out.new) result)) }
-    ensures run_leaves { (kernel dir : List ℕ) (size : ℕ) → SaysRun (texts arguments.now) kernel dir size → WhereTold (F.content folder.old) (λ c.
-        WhereTold (F.content folder.new) (λ d. IsFailure result → LeavesPart (Rose (F.write_faults folder.old) (F.write_faults folder.new)) kernel dir size c d)) }
-    ensures run_reads { result ≡ READ_FAULT → F.content folder.new ≡ F.content folder.old }
+    ensures run { (kernel dir : List ℕ) (size : ℕ) → SaysRun (texts arguments.now) kernel dir size → WhereTold (F.state folder.old).content (λ c.
+        WhereTold (F.state folder.new).content (λ d. Tries (RunDue (Rose (F.state folder.old).write_faults (F.state folder.new).write_faults) kernel dir size c d) (O.written out.old) (O.written out.new) result)) }
+    ensures run_leaves { (kernel dir : List ℕ) (size : ℕ) → SaysRun (texts arguments.now) kernel dir size → WhereTold (F.state folder.old).content (λ c.
+        WhereTold (F.state folder.new).content (λ d. IsFailure result → LeavesPart (Rose (F.state folder.old).write_faults (F.state folder.new).write_faults) kernel dir size c d)) }
+    ensures run_reads { result ≡ READ_FAULT → F.state folder.new ≡ F.state folder.old }
 
     // A fault has its cause, and only a run that can begin writes anything. With status 0 no call failed that writes: none was made again.
     ensures read_fault { result ≡ READ_FAULT → Rose (F.read_faults folder.old) (F.read_faults folder.new) }
+    ensures only_reads { result ≡ READ_FAULT → AsksToRead (texts arguments.now) }
     ensures write_fault { result ≡ WRITE_FAULT → Rose (O.faults out.old) (O.faults out.new)
-        ⊎ (AsksRun (texts arguments.now) × Rose (F.write_faults folder.old) (F.write_faults folder.new)) }
-    ensures no_fault { result ≡ DONE → F.write_faults folder.new ≡ F.write_faults folder.old }
-    ensures only_printed { WhereTold (F.content folder.old) (λ c. (BeginsRun (texts arguments.now) c.held → ⊥) →
+        ⊎ (AsksRun (texts arguments.now) × Rose (F.state folder.old).write_faults (F.state folder.new).write_faults) }
+    ensures no_fault { result ≡ DONE → (F.state folder.new).write_faults ≡ (F.state folder.old).write_faults }
+    ensures only_printed { WhereTold (F.state folder.old).content (λ c. (BeginsRun (texts arguments.now) c.held → ⊥) →
         result ≡ WRITE_FAULT → Rose (O.faults out.old) (O.faults out.new)) }
-    ensures no_writes { WhereTold (F.content folder.old) (λ c. (BeginsRun (texts arguments.now) c.held → ⊥) →
-        F.write_faults folder.new ≡ F.write_faults folder.old) }
-    ensures same { (AsksRun (texts arguments.now) → ⊥) → F.content folder.new ≡ F.content folder.old }
-    ensures same_writes { (AsksRun (texts arguments.now) → ⊥) → F.write_faults folder.new ≡ F.write_faults folder.old }
-    ensures tells { is_some (F.content folder.new) ≡ is_some (F.content folder.old) }
+    ensures untouched { WhereTold (F.state folder.old).content (λ c. (BeginsRun (texts arguments.now) c.held → ⊥) →
+        F.state folder.new ≡ F.state folder.old) }
+    ensures same { (AsksRun (texts arguments.now) → ⊥) → F.state folder.new ≡ F.state folder.old }
+    // No run is made twice: the root's log is asked for once at most.
+    ensures asks_once { ((F.state folder.new).roots ≡ (F.state folder.old).roots) ⊎ ((F.state folder.new).roots ≡ next_count (F.state folder.old).roots) }
+    ensures tells { is_some (F.state folder.new).content ≡ is_some (F.state folder.old).content }
 {
     match read_arguments(alloc, arguments) {
         Ok(None) => print(alloc, out, USAGE_LINE, USAGE),

@@ -170,6 +170,18 @@ fn eight_threads_add_under_a_mutex(rt: HostRuntime) -> Result<(), Fail> {
     Ok(())
 }
 
+// When one of two threads has ended nobody gives the mutex back again, so the other would sleep for ever at a free one.
+#[test]
+fn no_thread_sleeps_at_a_free_mutex(rt: HostRuntime) -> Result<(), Fail> {
+    for _ in 0..200 {
+        let (words, hand) = Words::new(rt.alloc(), 1, 2)?;
+        let hand = add_in_threads(&rt, &words, hand, 2, true);
+        let closed = words.close(hand);
+        assert_eq!(rt; closed.words.as_slice(), [2 * ROUNDS].as_slice());
+    }
+    Ok(())
+}
+
 #[test]
 fn without_a_mutex_a_sum_may_be_lost(rt: HostRuntime) -> Result<(), Fail> {
     let (words, hand) = Words::new(rt.alloc(), 1, 2)?;

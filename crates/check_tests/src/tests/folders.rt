@@ -1,10 +1,10 @@
 //! Folders by hand: what `check` and `show` print of them, and the usage line.
 
 use asking::{
-    BARRIER, Case, EMPTY, END, ROOT, Rec, SHOW, Step, USAGE_LINE, all_pass, answers, lock,
-    passes_at, region, store, unlock,
+    BARRIER, Case, EMPTY, END, ROOT, Rec, SHOW, Step, USAGE_LINE, all_pass, answers, lock, region,
+    store, unlock,
 };
-use command_answer::{DONE, FOLDER_REFUSED, RACES, READ_FAULT, USAGE, WRITE_FAULT};
+use command_answer::{DONE, FOLDER_REFUSED, RACES, USAGE};
 use std::alloc::Global;
 use std::sync::Wait;
 use std::test::Fail;
@@ -250,7 +250,7 @@ const REFUSED: &[Case<'static>] = &[
         ..EMPTY
     },
     Case {
-        held: &[("d/index.swi", "SWIDX001")],
+        held: &[("d/index.swi", "SWIDX002")],
         asked: &[(
             &["check", "d", "2"],
             FOLDER_REFUSED,
@@ -390,39 +390,4 @@ fn answers_named<R: Threads + Wait + Sync>(
 fn a_name_has_at_most_1024_bytes(rt: HostRuntime) -> Result<(), Fail> {
     answers_named(&rt, rt.alloc(), 1024, FOLDER_REFUSED, "no index\n")?;
     answers_named(&rt, rt.alloc(), 1025, USAGE, USAGE_LINE)
-}
-
-const READ_FAILS: Case<'static> = Case {
-    tasks: &[(&[], &[END])],
-    asked: &[(&["check", "d", "1"], READ_FAULT, "")],
-    ..EMPTY
-};
-
-// A write that fails has put the first half of its text.
-const WRITE_FAILS: Case<'static> = Case {
-    tasks: &[(&[], &[END])],
-    failing: &[1],
-    asked: &[(&["check", "d", "1"], WRITE_FAULT, "race")],
-    ..EMPTY
-};
-
-#[test]
-fn each_call_of_a_check_may_fail(rt: HostRuntime) -> Result<(), Fail> {
-    // The size of the index and its three reads, and the size of the log and its two.
-    for call in 1..=7 {
-        passes_at(&rt, rt.alloc(), call, &READ_FAILS)?;
-    }
-    passes_at(&rt, rt.alloc(), 8, &WRITE_FAILS)
-}
-
-const SHOW_FAILS: Case<'static> = Case {
-    tasks: &[(&[], &[END])],
-    failing: &[2],
-    asked: &[(SHOW, WRITE_FAULT, "log t.swl records 1\n...")],
-    ..EMPTY
-};
-
-#[test]
-fn a_failed_write_ends_what_is_shown(rt: HostRuntime) -> Result<(), Fail> {
-    all_pass(&rt, rt.alloc(), &[SHOW_FAILS])
 }

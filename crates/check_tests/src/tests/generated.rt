@@ -1,7 +1,7 @@
 //! `gen`, and `check` of the folder that it makes.
 
-use asking::{Case, EMPTY, all_pass, answers, passes_at};
-use command_answer::{RACES, WRITE_FAULT};
+use asking::{Case, EMPTY, all_pass, answers};
+use command_answer::RACES;
 use generated_run::generate;
 use std::test::Fail;
 use sw_base::MemFolder;
@@ -47,40 +47,4 @@ fn a_large_generated_folder_is_checked(rt: HostRuntime) -> Result<(), Fail> {
         RACES,
         "race 30 40\nraces 1\n",
     )
-}
-
-// The counts, the one pair, and the number of pairs. A write that fails has put the first half of its text.
-const WRITES_FAIL: &[Case<'static>] = &[
-    Case {
-        failing: &[1],
-        asked: &[(&["gen", "4", "2"], WRITE_FAULT, "accesses 65\n")],
-        ..EMPTY
-    },
-    Case {
-        failing: &[2],
-        asked: &[(
-            &["gen", "4", "2"],
-            WRITE_FAULT,
-            "accesses 65\nsegments 16\nrace ",
-        )],
-        ..EMPTY
-    },
-    Case {
-        failing: &[3],
-        asked: &[(
-            &["gen", "4", "2"],
-            WRITE_FAULT,
-            "accesses 65\nsegments 16\nrace 30 40\nrace",
-        )],
-        ..EMPTY
-    },
-];
-
-// No call on the folder is made, so that one that would fail changes nothing.
-#[test]
-fn each_write_of_a_generated_report_may_fail(rt: HostRuntime) -> Result<(), Fail> {
-    for case in WRITES_FAIL {
-        passes_at(&rt, rt.alloc(), 1, case)?;
-    }
-    Ok(())
 }

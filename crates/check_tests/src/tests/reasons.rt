@@ -44,7 +44,7 @@ const NINE_LOCKS: &[Rec] = &[
 ];
 
 const FIELDS: &[Case<'static>] = &[
-    root_refused!(&[(9, 0, 1, 0, 0), END], "bad log t.swl record 1: Kind\n"),
+    root_refused!(&[(10, 0, 1, 0, 0), END], "bad log t.swl record 1: Kind\n"),
     root_refused!(&[(1, 3, 1, 4096, 0), END], "bad log t.swl record 1: Size\n"),
     root_refused!(
         &[(1, 8, 0, 4096, 0), END],
@@ -110,15 +110,16 @@ const RULES: &[Case<'static>] = &[
 
 // The index of a root alone whose log has one record.
 const ROOT_ROW: &str =
-    "SWIDX001\0\0\0\0\0\0\0\0\0\0\0\0\0\0\0\0\0\0\0\0\0\0\0\0\0\0\0\0\0\0\0\0\0\0\0\0\0\0\0\0\0\0\0\0\0\0\0\u{1}";
+    "SWIDX002\0\0\0\0\0\0\0\0\0\0\0\0\0\0\0\0\0\0\0\0\0\0\0\0\0\0\0\0\0\0\0\0\0\0\0\0\0\0\0\0\0\0\0\0\0\0\0\u{1}";
 
 const FILES: &[Case<'static>] = &[
+    files_refused!(&[("d/index.swi", "SWIDX001")], "bad index row 0: Old\n"),
     files_refused!(&[("d/index.swi", "SWIDX000")], "bad index row 0: Header\n"),
     // A path of five steps.
     files_refused!(
         &[(
             "d/index.swi",
-            "SWIDX001\0\0\0\u{5}\0\0\0\0\0\0\0\0\0\0\0\0\0\0\0\0\0\0\0\0\0\0\0\0\0\0\0\0\0\0\0\0\0\0\0\0\0\0\0\0\0\0\0\u{1}"
+            "SWIDX002\0\0\0\u{5}\0\0\0\0\0\0\0\0\0\0\0\0\0\0\0\0\0\0\0\0\0\0\0\0\0\0\0\0\0\0\0\0\0\0\0\0\0\0\0\0\0\0\0\u{1}"
         )],
         "bad index row 1: Depth\n"
     ),
@@ -137,7 +138,7 @@ const FILES: &[Case<'static>] = &[
             ("d/index.swi", ROOT_ROW),
             (
                 "d/t.swl",
-                "SWLOG001\u{8}\0\0\0\0\0\0\u{9}\0\0\0\0\0\0\0\0\0\0\0\0\0\0\0\0."
+                "SWLOG002\u{8}\0\0\0\0\0\0\u{9}\0\0\0\0\0\0\0\0\0\0\0\0\0\0\0\0."
             ),
         ],
         "bad log t.swl record 2: Extra\n"

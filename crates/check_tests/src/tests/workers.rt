@@ -6,14 +6,13 @@ use asking::{
     store,
 };
 use command_answer::{DONE, RACES};
+use meeting_gate::MeetingGate;
 use std::alloc::{AllocError, Global};
 use std::process::Abort;
 use std::sync::Wait;
-use std::sync::atomic::{AtomicBool, Ordering};
 use std::test::Fail;
-use std::thread;
 use std::thread::Threads;
-use sw_base::{Gate, MemFolder, MemOut, Memory};
+use sw_base::{MemFolder, MemOut, Memory};
 
 /// Fails where some number of workers is answered otherwise.
 pub fn each_answers<R: Threads + Wait + Sync>(
@@ -206,49 +205,26 @@ fn many_barrier_intervals_are_compared_each_with_its_own(rt: HostRuntime) -> Res
     Ok(())
 }
 
-const TURNS: u64 = 100_000_000;
-
-// Lets each of two workers go on once the other has come, or after so many turns, and then notes it.
-#[derive(Drop)]
-struct Pair {
-    came: [AtomicBool; 2],
-    alone: AtomicBool,
-}
-
-impl Gate for Pair {
-    fn enter(&self, number: usize) {
-        let own = number % 2;
-        self.came[own].store(true, Ordering::SeqCst);
-        for _ in 0..TURNS {
-            if self.came[1 - own].load(Ordering::SeqCst) {
-                return;
-            }
-            thread::yield_now();
-        }
-        self.alone.store(true, Ordering::SeqCst);
-    }
-}
-
-// Whether two came together, and this status and text came out.
+// Whether so many met, and this status and text came out.
 fn at_once<R: Abort + Threads + Wait + Sync>(
     rt: &R,
     alloc: Global,
     folder: &mut MemFolder,
     given: &[&str],
+    count: usize,
     status: u8,
     text: &str,
 ) -> Result<(), Fail> {
     let mut out = MemOut::new(alloc)?;
-    let gate = Pair {
-        came: [AtomicBool::new(false), AtomicBool::new(false)],
-        alone: AtomicBool::new(false),
-    };
+    let gate = MeetingGate::new(count);
     let answered = asked(rt, alloc, folder, given, &mut out, &gate)?;
     assert!(rt; answered == status && out.written() == text.as_bytes());
-    assert!(rt; gate.came[0].load(Ordering::SeqCst) && gate.came[1].load(Ordering::SeqCst));
-    assert!(rt; !gate.alone.load(Ordering::SeqCst));
+    assert!(rt; gate.have_met());
     Ok(())
 }
+
+// So many run at once, as the words are written.
+const COUNTS: &[(&str, usize)] = &[("2", 2), ("4", 4), ("64", 64)];
 
 const TWO_LANES: Case<'static> = Case {
     tasks: &[
@@ -262,17 +238,49 @@ const TWO_LANES: Case<'static> = Case {
 #[test]
 fn the_workers_of_a_check_run_at_once(rt: HostRuntime) -> Result<(), Fail> {
     let alloc = rt.alloc();
-    let mut folder = folder_of(alloc, &TWO_LANES)?;
-    let check = ["check", "d", "2"];
     let text = "race 3 3\nraces 1\n";
-    at_once(&rt, alloc, &mut folder, &check, RACES, text)
+    for (workers, count) in COUNTS {
+        let mut folder = folder_of(alloc, &TWO_LANES)?;
+        let check = ["check", "d", *workers];
+        at_once(&rt, alloc, &mut folder, &check, *count, RACES, text)?;
+    }
+    Ok(())
+}
+
+#[test]
+fn the_workers_of_a_generated_run_run_at_once(rt: HostRuntime) -> Result<(), Fail> {
+    let alloc = rt.alloc();
+    let text = "accesses 65\nsegments 16\nrace 30 40\nraces 1\n";
+    let mut folder = MemFolder::new(alloc)?;
+    for (workers, count) in COUNTS {
+        at_once(
+            &rt,
+            alloc,
+            &mut folder,
+            &["gen", "4", *workers],
+            *count,
+            RACES,
+            text,
+        )?;
+    }
+    Ok(())
 }
 
 #[test]
 fn the_lanes_of_a_run_run_at_once(rt: HostRuntime) -> Result<(), Fail> {
     let alloc = rt.alloc();
-    let mut folder = MemFolder::new(alloc)?;
-    folder.hold("k", b"array a i64 2\nmain { parallel 2 { a[tid] = 1 } }\n")?;
-    let text = "tasks 3\nrecords 6\nsum a 2\n";
-    at_once(&rt, alloc, &mut folder, RUN, DONE, text)
+    for (lanes, count) in COUNTS {
+        let mut folder = MemFolder::new(alloc)?;
+        let kernel = format!(in alloc;
+            "array a i64 64\nmain {{ parallel {lanes} {{ a[tid] = 1 }} }}\n"
+        )?;
+        folder.hold("k", kernel.as_bytes())?;
+        let text = format!(in alloc;
+            "tasks {}\nrecords {}\nsum a {lanes}\n",
+            count + 1,
+            2 * count + 2
+        )?;
+        at_once(&rt, alloc, &mut folder, RUN, *count, DONE, &text)?;
+    }
+    Ok(())
 }

@@ -3,25 +3,33 @@ ghost use Rattle.std.specs.Prelude.{◌≡◌, ◌+◌, ◌^◌, ◌<◌, ◌≤
 
 use interval_tree::{Steps, Tree};
 use log_segment::Segment;
+use meeting_gate::MeetingGate;
 use mutex_set::{Held, HeldFault};
-use pair_compare::{compare, compare_all};
+use pair_compare::compare_all;
+use segment_groups::compare;
 use span_label::Label;
 use std::alloc::{AllocError, Global};
 use std::collections::BTreeSet;
 use std::marker::Brand;
-use std::sync::atomic::{AtomicU64, Ordering};
 use std::sync::ledger::{Blank, Ledger};
 use std::test::Fail;
-use std::thread;
 use std::thread::Threads;
 use stride_summary::Run;
-use sw_base::{Gate, Memory, NoGate, Path};
+use sw_base::{Memory, NoGate, Path};
 
 // Lines of accesses that race, the smaller first, in ascending order.
 type Races = Vec<(u32, u32)>;
 
-// One access of eight bytes.
-fn run(write: bool, line: u32, base: u64, mutexes: &[u16]) -> Result<Run, HeldFault>
+// What an access does to its bytes.
+#[derive(Clone, Copy)]
+enum Does {
+    Read,
+    Write,
+    Update,
+}
+
+// One access of so many bytes, or of eight where no access has so many.
+fn sized(does: Does, bytes: u8, line: u32, base: u64, mutexes: &[u16]) -> Result<Run, HeldFault>
     requires { base < 2 ^ 40 }
 {
     let mut held = Held::none();
@@ -32,12 +40,24 @@ fn run(write: bool, line: u32, base: u64, mutexes: &[u16]) -> Result<Run, HeldFa
         base,
         stride: 0,
         count: 1,
-        size: 8,
-        write,
+        size: if matches!(bytes, 1 | 2 | 4) { bytes } else { 8 },
+        write: !matches!(does, Does::Read),
+        atomic: matches!(does, Does::Update),
         line,
         site: 0,
         held,
     })
+}
+
+// One access of eight bytes.
+fn run(does: Does, line: u32, base: u64, mutexes: &[u16]) -> Result<Run, HeldFault>
+    requires { base < 2 ^ 40 }
+{
+    sized(does, 8, line, base, mutexes)
+}
+
+fn writing_if(writes: bool) -> Does {
+    if writes { Does::Write } else { Does::Read }
 }
 
 fn segment(label: Label, runs: Vec<Run>) -> Segment {
@@ -80,38 +100,40 @@ fn compared(alloc: Global, a: &Segment, b: &Segment) -> Result<Races, Memory> {
     Ok(listed(alloc, &pairs)?)
 }
 
-// An access of a lane of two: the lane, whether it writes, its line, its first byte and its mutexes.
-type Access<'a> = (u16, bool, u32, u64, &'a [u16]);
+// An access of a lane of two: the lane, what it does, to how many bytes, its line, its first byte and its mutexes.
+type Access<'a> = (u16, Does, u8, u32, u64, &'a [u16]);
 
 // The interval of a lane that has this access alone.
 fn lane_of(alloc: Global, access: &Access<'_>) -> Result<Segment, Fail> {
-    let (lane, writes, line, base, mutexes) = access;
-    let run = run(*writes, *line, *base % 1000, mutexes)?;
+    let (lane, does, bytes, line, base, mutexes) = access;
+    let run = sized(*does, *bytes, *line, *base % 1000, mutexes)?;
     let runs = vec![in alloc; run]?;
     Ok(segment(Label::root().fork(*lane % 2, 2), runs))
 }
 
-const GUARDED_WRITE: Access<'static> = (0, true, 9, 100, &[3]);
+const GUARDED_WRITE: Access<'static> = (0, Does::Write, 8, 9, 100, &[3]);
 
-// The races of two lanes, of which one has the guarded write.
-fn races_with(alloc: Global, access: &Access<'_>) -> Result<Races, Fail> {
-    let write = lane_of(alloc, &GUARDED_WRITE)?;
+const GUARDED_UPDATE: Access<'static> = (0, Does::Update, 8, 9, 100, &[3]);
+
+// The races of two lanes that have these accesses.
+fn races_with(alloc: Global, guarded: &Access<'_>, access: &Access<'_>) -> Result<Races, Fail> {
+    let one = lane_of(alloc, guarded)?;
     let other = lane_of(alloc, access)?;
-    Ok(compared(alloc, &write, &other)?)
+    Ok(compared(alloc, &one, &other)?)
 }
 
 #[test]
 fn lanes_race_where_they_share_a_byte_and_no_mutex(rt: HostRuntime) -> Result<(), Fail> {
     let table: [(Access<'_>, &[(u32, u32)]); 6] = [
-        ((1, false, 5, 107, &[]), &[(5, 9)]),
-        ((1, false, 5, 108, &[]), &[]),
-        ((1, true, 5, 93, &[5]), &[(5, 9)]),
-        ((1, true, 5, 92, &[5]), &[]),
-        ((1, true, 5, 100, &[5, 3]), &[]),
-        ((0, true, 5, 100, &[]), &[]),
+        ((1, Does::Read, 8, 5, 107, &[]), &[(5, 9)]),
+        ((1, Does::Read, 8, 5, 108, &[]), &[]),
+        ((1, Does::Write, 8, 5, 93, &[5]), &[(5, 9)]),
+        ((1, Does::Write, 8, 5, 92, &[5]), &[]),
+        ((1, Does::Write, 8, 5, 100, &[5, 3]), &[]),
+        ((0, Does::Write, 8, 5, 100, &[]), &[]),
     ];
     for (access, races) in table {
-        assert!(rt; races_with(rt.alloc(), &access)?.as_slice() == races);
+        assert!(rt; races_with(rt.alloc(), &GUARDED_WRITE, &access)?.as_slice() == races);
     }
     Ok(())
 }
@@ -151,8 +173,8 @@ fn team(alloc: Global, span: u16) -> Result<Vec<Segment>, Fail>
     let mut segments = Vec::new(alloc);
     for lane in 0..span {
         let own = u64::from(lane) * 8;
-        let write = run(true, 1000 + u32::from(lane), own, &[])?;
-        let read = run(false, 2000 + u32::from(lane), own + 8, &[])?;
+        let write = run(Does::Write, 1000 + u32::from(lane), own, &[])?;
+        let read = run(Does::Read, 2000 + u32::from(lane), own + 8, &[])?;
         let runs = vec![in alloc; write, read]?;
         segments.push(segment(Label::root().fork(lane, span), runs))?;
     }
@@ -168,7 +190,8 @@ fn long_team(alloc: Global, elements: u32) -> Result<Vec<Segment>, Fail>
         let mut runs = Vec::new(alloc);
         for element in 0..elements {
             let line = 1 + element + 100_000 * u32::from(lane);
-            runs.push(run(lane == 0, line, u64::from(element) * 8, &[])?)?;
+            let does = writing_if(lane == 0);
+            runs.push(run(does, line, u64::from(element) * 8, &[])?)?;
         }
         segments.push(segment(Label::root().fork(lane, 2), runs))?;
     }
@@ -188,7 +211,8 @@ fn add_lanes(
     requires line { line < 2 ^ 16 }
 {
     for lane in 0..span {
-        let run = run(lane == writing, line + u32::from(lane), 64, &[])?;
+        let does = writing_if(lane == writing);
+        let run = run(does, line + u32::from(lane), 64, &[])?;
         let runs = vec![in alloc; run]?;
         segments.push(segment(above.fork(lane, span), runs))?;
     }
@@ -233,7 +257,7 @@ fn lane_below(forks: &[(u16, u16)]) -> Label {
 fn writing(alloc: Global, label: Label, lines: &[u32]) -> Result<Segment, Fail> {
     let mut runs = Vec::new(alloc);
     for line in lines {
-        runs.push(run(true, *line, 64, &[])?)?;
+        runs.push(run(Does::Write, *line, 64, &[])?)?;
     }
     Ok(segment(label, runs))
 }
@@ -280,43 +304,25 @@ fn the_intervals_of_nested_teams_are_compared_by_labels(rt: HostRuntime) -> Resu
     Ok(())
 }
 
-const TURNS: u64 = 100_000_000;
-
-// Lets a worker go on once two have come, or after so many turns, and then counts it.
-#[derive(Drop)]
-struct Meeting {
-    come: AtomicU64,
-    alone: AtomicU64,
-}
-
-impl Gate for Meeting {
-    fn enter(&self, _number: usize) {
-        self.come.fetch_add(1, Ordering::SeqCst);
-        for _ in 0..TURNS {
-            if self.come.load(Ordering::SeqCst) >= 2 {
-                return;
-            }
-            thread::yield_now();
-        }
-        self.alone.fetch_add(1, Ordering::SeqCst);
-    }
-}
-
-// How many races two workers find in a team of two, how many came, and how many of them alone.
-fn two_at_once<R: Threads + Sync>(rt: &R, alloc: Global) -> Result<(usize, u64, u64), Fail> {
-    let gate = Meeting {
-        come: AtomicU64::new(0),
-        alone: AtomicU64::new(0),
-    };
+// How many races so many workers find in a team of two, and whether they met.
+fn found_at_once<R: Threads + Sync>(
+    rt: &R,
+    alloc: Global,
+    workers: usize,
+) -> Result<(usize, bool), Fail>
+    requires workers { (1 ≤ workers) × (workers ≤ 64) }
+{
+    let gate = MeetingGate::new(workers);
     let segments = team(alloc, 2)?;
-    let found = compare_all(rt, alloc, &segments, 2, &gate)?.len();
-    let come = gate.come.load(Ordering::SeqCst);
-    Ok((found, come, gate.alone.load(Ordering::SeqCst)))
+    let found = compare_all(rt, alloc, &segments, workers, &gate)?.len();
+    Ok((found, gate.have_met()))
 }
 
 #[test]
-fn workers_run_at_once(rt: HostRuntime) -> Result<(), Fail> {
-    assert!(rt; two_at_once(&rt, rt.alloc())? == (1, 2, 0));
+fn all_workers_run_at_once(rt: HostRuntime) -> Result<(), Fail> {
+    for workers in [2, 4, 64] {
+        assert!(rt; found_at_once(&rt, rt.alloc(), workers)? == (1, true));
+    }
     Ok(())
 }
 
@@ -373,5 +379,54 @@ fn each_of_many_reads_meets_the_write(rt: HostRuntime) -> Result<(), Fail> {
     add_lanes(rt.alloc(), &Label::root(), 500, 1, 499, &mut segments)?;
     let races = with_last(rt.alloc(), 500)?;
     assert!(rt; each_finds(&rt, rt.alloc(), &segments, &races)?);
+    Ok(())
+}
+
+#[test]
+fn updates_race_with_all_but_updates(rt: HostRuntime) -> Result<(), Fail> {
+    let table: [(Access<'_>, &[(u32, u32)]); 11] = [
+        ((1, Does::Update, 8, 5, 100, &[]), &[]),
+        ((1, Does::Update, 4, 5, 104, &[]), &[]),
+        ((1, Does::Update, 1, 5, 107, &[3]), &[]),
+        ((1, Does::Read, 4, 5, 104, &[]), &[(5, 9)]),
+        ((1, Does::Read, 8, 5, 93, &[5]), &[(5, 9)]),
+        ((1, Does::Read, 4, 5, 108, &[]), &[]),
+        ((1, Does::Read, 8, 5, 100, &[5, 3]), &[]),
+        ((1, Does::Write, 1, 5, 107, &[]), &[(5, 9)]),
+        ((1, Does::Write, 2, 5, 98, &[]), &[]),
+        ((1, Does::Write, 8, 5, 100, &[3]), &[]),
+        ((0, Does::Write, 8, 5, 100, &[]), &[]),
+    ];
+    for (access, races) in table {
+        assert!(rt; races_with(rt.alloc(), &GUARDED_UPDATE, &access)?.as_slice() == races);
+    }
+    Ok(())
+}
+
+// Each of 64 lanes updates one element in 1000 lines, and one of them does this to it before.
+fn histogram(alloc: Global, first: Does) -> Result<Vec<Segment>, Fail> {
+    let mut segments = Vec::new(alloc);
+    for lane in 0..64u16 {
+        let does = if lane == 40 { first } else { Does::Update };
+        let mut runs = vec![in alloc; run(does, 1000, 64, &[])?]?;
+        for line in 1..1000u32 {
+            runs.push(run(Does::Update, line, 64, &[])?)?;
+        }
+        segments.push(segment(Label::root().fork(lane, 64), runs))?;
+    }
+    Ok(segments)
+}
+
+// A sweep that compared each two of the updates would take too long.
+#[test]
+fn many_updates_of_one_element_are_not_compared(rt: HostRuntime) -> Result<(), Fail> {
+    let updates = histogram(rt.alloc(), Does::Update)?;
+    assert!(rt; each_finds(&rt, rt.alloc(), &updates, &[])?);
+    let mut races = with_last(rt.alloc(), 1000)?;
+    races.push((1000, 1000))?;
+    let with_read = histogram(rt.alloc(), Does::Read)?;
+    assert!(rt; each_finds(&rt, rt.alloc(), &with_read, &races)?);
+    let with_write = histogram(rt.alloc(), Does::Write)?;
+    assert!(rt; each_finds(&rt, rt.alloc(), &with_write, &races)?);
     Ok(())
 }

@@ -4,10 +4,10 @@ ghost use Rattle.std.specs.Prelude.{IfOk};
 ghost use Rattle.race_model.specs.IndexFault.{AreRows};
 
 use crate::tests::support::folder_of;
-use log_format::FORMAT;
+use log_format::{FORMAT, Format};
 use log_index::{IndexAnswer, IndexWhy, Row, read_index, read_index_as, write_index};
 use std::alloc::{AllocError, Global};
-use sw_base::{INDEX_HEADER, MemFolder, Memory, ShortReads};
+use sw_base::{INDEX_HEADER, MemFolder, Memory, OLD_INDEX_HEADER, ShortReads};
 
 // A row by hand: its depth, a field that should be 0, its first two steps as region, lane and span, and its records.
 #[derive(Clone, Copy)]
@@ -295,12 +295,37 @@ fn an_index_cut_short_is_told(rt: HostRuntime) {
 
 #[test]
 fn another_header_is_told(rt: HostRuntime) {
-    for bytes in [b"SWIDX00".as_slice(), b"SWIDX002".as_slice()] {
+    for bytes in [b"SWIDX00".as_slice(), b"SWIDX003".as_slice()] {
         assert!(rt;
             refusal(rt.alloc(), bytes) == bad(0, IndexWhy::Header),
             "{bytes:?}"
         );
     }
+}
+
+// The bytes of an index of a root alone, with another header.
+fn index_with(alloc: Global, header: &[u8; 8]) -> Result<Vec<u8>, AllocError> {
+    let mut bytes = Vec::from_slice(alloc, header)?;
+    push_row(&mut bytes, ROOT)?;
+    Ok(bytes)
+}
+
+// What is answered of these bytes as an index of the first format: how many rows it has.
+fn read_first(alloc: Global, bytes: &[u8]) -> Result<usize, IndexAnswer> {
+    let mut folder = folder_of(alloc, INDEX, bytes)?;
+    let rows = read_index_as(alloc, Format::First, &mut folder, "d")?;
+    Ok(rows.len())
+}
+
+#[test]
+fn an_index_of_the_first_format_is_old(rt: HostRuntime) {
+    let alloc = rt.alloc();
+    let old = index_with(alloc, &OLD_INDEX_HEADER).expect(&rt, "memory");
+    assert!(rt; refusal(alloc, &old) == bad(0, IndexWhy::Old));
+    assert!(rt; refusal(alloc, &OLD_INDEX_HEADER) == bad(0, IndexWhy::Old));
+    assert!(rt; read_first(alloc, &old) == Ok(1));
+    let new = index_with(alloc, &INDEX_HEADER).expect(&rt, "memory");
+    assert!(rt; read_first(alloc, &new).err() == bad(0, IndexWhy::Header));
 }
 
 // The bytes of an index with 65,536 rows.

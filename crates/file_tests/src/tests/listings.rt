@@ -19,7 +19,7 @@ const ROOT: [Record; 2] = [
     END,
 ];
 
-const LANE: [Record; 6] = [
+const LANE: [Record; 7] = [
     Record {
         kind: Kind::Lock,
         size: 0,
@@ -35,6 +35,14 @@ const LANE: [Record; 6] = [
         line: 3,
         addr: 4096,
         value: 0xffff_ffff_ffff_ffc8,
+    },
+    Record {
+        kind: Kind::Update,
+        size: 4,
+        site: 5,
+        line: 3,
+        addr: 4100,
+        value: u64::MAX,
     },
     Record {
         kind: Kind::Unlock,
@@ -73,8 +81,9 @@ const END: Record = Record {
 };
 
 const TEXT: &[u8] = b"log t.swl records 2\n1 region 2 line 1\n2 end line 9\n\
-log t-0.1.swl records 6\n1 lock 3 line 2\n2 write 1 site 4 line 3 addr 4096 value -56\n\
-3 unlock 3 line 4\n4 chunk 1 of 2 line 5\n5 barrier line 6\n6 end line 9\n";
+log t-0.1.swl records 7\n1 lock 3 line 2\n2 write 1 site 4 line 3 addr 4096 value -56\n\
+3 update 4 site 5 line 3 addr 4100 value -1\n\
+4 unlock 3 line 4\n5 chunk 1 of 2 line 5\n6 barrier line 6\n7 end line 9\n";
 
 fn log_of(alloc: Global, records: &[Record]) -> Result<Vec<u8>, AllocError> {
     let mut bytes = LOG_HEADER.to_vec(alloc)?;
@@ -111,7 +120,7 @@ fn rows() -> [Row; 2] {
         },
         Row {
             path: Path::root().child(0, 1, 2),
-            records: 6,
+            records: 7,
         },
     ]
 }
@@ -159,7 +168,7 @@ const FAULTS: [(&[u64], &[u64], Result<(), Unlisted>, usize); 5] = [
     (&[2], &[], Err(Unlisted::ReadFault), 75),
     (&[], &[1], Err(Unlisted::WriteFault), 10),
     (&[], &[2], Err(Unlisted::WriteFault), 29),
-    (&[], &[11], Ok(()), TEXT.len()),
+    (&[], &[12], Ok(()), TEXT.len()),
 ];
 
 #[test]
@@ -174,7 +183,7 @@ fn a_fault_leaves_what_was_listed(rt: HostRuntime) {
 #[test]
 fn a_log_that_has_changed_ends_early(rt: HostRuntime) {
     let alloc = rt.alloc();
-    let short = LANE.get(..5).expect(&rt, "records");
+    let short = LANE.get(..6).expect(&rt, "records");
     let due = TEXT.get(..TEXT.len() - 13).expect(&rt, "text");
     let mut folder = folder_with(alloc, short).expect(&rt, "memory");
     assert!(rt; is_listed(alloc, &mut folder, due) == Ok(true));

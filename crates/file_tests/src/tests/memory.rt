@@ -6,8 +6,8 @@ use crate::tests::support::folder_of;
 use std::alloc::Global;
 use std::cmp::Ordering;
 use sw_base::{
-    Folder, Gate, INDEX_HEADER, LOG_HEADER, Log, MemFolder, MemLog, MemOut, Memory, NoGate, Out,
-    Path, Step, Trouble, index_name, read_file,
+    Folder, Gate, INDEX_HEADER, LOG_HEADER, Log, MemFolder, MemLog, MemOut, Memory, NoGate,
+    OLD_INDEX_HEADER, OLD_LOG_HEADER, Out, Path, Step, Trouble, index_name, read_file,
 };
 
 // Whether the name was made, and is this one.
@@ -30,7 +30,8 @@ fn a_log_is_named_after_its_steps(rt: HostRuntime) {
         is_named(index_name(alloc, "d"), "d/index.swi"),
     ];
     assert!(rt; named == [true; 4], "{named:?}");
-    assert!(rt; LOG_HEADER == *b"SWLOG001" && INDEX_HEADER == *b"SWIDX001");
+    assert!(rt; LOG_HEADER == *b"SWLOG002" && INDEX_HEADER == *b"SWIDX002");
+    assert!(rt; OLD_LOG_HEADER == *b"SWLOG001" && OLD_INDEX_HEADER == *b"SWIDX001");
 }
 
 // Whether each path is less than the next.

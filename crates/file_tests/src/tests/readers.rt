@@ -99,7 +99,7 @@ fn a_changed_log_ends_before_its_first_bad_record(rt: HostRuntime) {
     let table: [(&[u8], u32, &[u32]); 4] = [
         (cut, 4, &[1, 2]),
         (&bytes, 2, &[1, 2]),
-        (b"SWLOG002", 1, &[]),
+        (b"SWLOG001", 1, &[]),
         (b"", 1, &[]),
     ];
     for (log, records, due) in table {
@@ -111,7 +111,7 @@ fn a_changed_log_ends_before_its_first_bad_record(rt: HostRuntime) {
 fn a_changed_kind_ends_a_log(rt: HostRuntime) {
     let alloc = rt.alloc();
     let mut bytes = log_of(alloc, 3).expect(&rt, "memory");
-    *bytes.get_mut(32).expect(&rt, "bytes") = 9;
+    *bytes.get_mut(32).expect(&rt, "bytes") = 10;
     assert!(rt; are(lines_of(alloc, &bytes, 4), &[1]));
 }
 

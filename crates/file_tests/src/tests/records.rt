@@ -1,4 +1,4 @@
-use log_format::{FORMAT, Kind, Record, Why, decode, decode_as, encode};
+use log_format::{FORMAT, Format, Kind, Record, Why, decode, decode_as, decode_old, encode};
 
 /// The bytes of three groups of eight.
 fn joined(groups: [u64; 3]) -> [u8; 24] {
@@ -21,7 +21,7 @@ fn access(kind: Kind, size: u8, site: u16, line: u32, addr: u64, value: u64) -> 
 }
 
 /// The bytes of the format's vectors, and what they are.
-fn vectors() -> [([u64; 3], Result<Record, Why>); 10] {
+fn vectors() -> [([u64; 3], Result<Record, Why>); 11] {
     [
         (
             [0x0108_0001_0000_0005, 0x1000, 0],
@@ -39,7 +39,11 @@ fn vectors() -> [([u64; 3], Result<Record, Why>); 10] {
             [0x0108_0000_0000_0001, 0xffff_ffff_fff9, 0],
             Err(Why::Address),
         ),
-        ([0x0908_0000_0000_0001, 0, 0], Err(Why::Kind)),
+        (
+            [0x0908_0000_0000_0001, 0, 0],
+            Ok(access(Kind::Update, 8, 0, 1, 0, 0)),
+        ),
+        ([0x0a08_0000_0000_0001, 0, 0], Err(Why::Kind)),
         ([0x0103_0000_0000_0001, 0, 0], Err(Why::Size)),
         ([0x0800_0000_0000_0000, 0, 0], Err(Why::LineZero)),
         ([0x0600_0000_0000_0001, 0, 0x41], Err(Why::Span)),
@@ -57,11 +61,33 @@ fn decodes_the_vectors(rt: HostRuntime) {
     }
 }
 
+// What bytes are that spell this in the second format, in the first.
+fn without_updates(found: Result<Record, Why>) -> Result<Record, Why> {
+    match found {
+        Ok(record) if record.kind == Kind::Update => Err(Why::Kind),
+        _ => found,
+    }
+}
+
+#[test]
+fn the_first_format_has_no_updates(rt: HostRuntime) {
+    for (groups, second) in vectors() {
+        let bytes = joined(groups);
+        let found = [decode_old(&bytes), decode_as(Format::First, &bytes)];
+        assert!(rt; found == [without_updates(second); 2], "of {groups:?}");
+    }
+}
+
 #[test]
 fn the_headers_tell_the_format(rt: HostRuntime) {
-    assert!(rt; FORMAT.log_header() == *b"SWLOG001");
-    assert!(rt; FORMAT.index_header() == *b"SWIDX001");
-    assert!(rt; FORMAT.last_code() == 8);
+    let headers = [
+        (Format::First, b"SWLOG001", b"SWIDX001", None, 8),
+        (FORMAT, b"SWLOG002", b"SWIDX002", Some(*b"SWIDX001"), 9),
+    ];
+    for (format, log, index, older, last) in headers {
+        assert!(rt; format.log_header() == *log && format.index_header() == *index);
+        assert!(rt; format.older_header() == older && format.last_code() == last);
+    }
 }
 
 #[test]
@@ -77,7 +103,9 @@ fn encodes_what_the_vectors_spell(rt: HostRuntime) {
 #[test]
 fn the_first_of_many_faults_is_told(rt: HostRuntime) {
     let table = [
-        ([0x0903_0001_0000_0000, u64::MAX, 65], Why::Kind),
+        ([0x0a03_0001_0000_0000, u64::MAX, 65], Why::Kind),
+        ([0x0903_0001_0000_0000, u64::MAX, 65], Why::Size),
+        ([0x0908_0000_0000_0001, 0xffff_ffff_fff9, 65], Why::Address),
         ([0x0103_0001_0000_0000, u64::MAX, 65], Why::Size),
         ([0x0108_0001_0000_0000, u64::MAX, 65], Why::LineZero),
         ([0x0601_0001_0000_0000, 1, 65], Why::Size),

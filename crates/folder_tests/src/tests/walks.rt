@@ -42,6 +42,13 @@ macro_rules! store {
     };
 }
 
+// An update of eight bytes at this address, which adds 1.
+macro_rules! update {
+    ($address:expr) => {
+        (9, 8, 3, $address, 1)
+    };
+}
+
 // The fork of so many lanes in this line.
 macro_rules! region {
     ($line:expr, $span:expr) => {
@@ -209,6 +216,26 @@ fn a_good_folder_is_read_and_walked(rt: HostRuntime) -> Result<(), Fail> {
     Ok(())
 }
 
+// Whether the segment has one run, which writes, and is atomic or not.
+fn writes(segment: &Segment, atomic: bool) -> bool {
+    match segment.runs.as_slice() {
+        [run] => run.write && run.atomic == atomic,
+        _ => false,
+    }
+}
+
+#[test]
+fn an_update_is_a_write_that_is_atomic(rt: HostRuntime) -> Result<(), Fail> {
+    let updates: &[Rec] = &[LOCK, update!(4096), UNLOCK, BARRIER, END];
+    let files = three!(rows!(2, 5, 5), ROOT, updates, LANE_1);
+    let found = segments_of(rt.alloc(), &files)?;
+    let [first, second] = found.as_slice() else {
+        return Err(Fail::new("two segments"));
+    };
+    assert!(rt; writes(first, true) && writes(second, false));
+    Ok(())
+}
+
 fn triple(offset: u64, span: u16, barrier: u32) -> Triple {
     Triple {
         offset,
@@ -286,6 +313,12 @@ const BROKEN: &[(Files<'static>, Told)] = &[
     ),
     lane_1!(
         &[LOCK, store!(281_474_976_710_649), UNLOCK, BARRIER, END],
+        5,
+        2,
+        Address
+    ),
+    lane_1!(
+        &[LOCK, update!(281_474_976_710_649), UNLOCK, BARRIER, END],
         5,
         2,
         Address
@@ -490,7 +523,7 @@ const IN_ORDER: &[(Files<'static>, Told)] = &[
         Files {
             rows: rows!(2, 5, 5),
             logs: &[("d/t.swl", ROOT)],
-            others: &[("d/t-0.1.swl", b"SWLOG002")],
+            others: &[("d/t-0.1.swl", b"SWLOG001")],
         },
         Told::Missing(1),
     ),
@@ -510,11 +543,20 @@ const BAD_INDEX: Files<'static> = three!(
     LANE_1
 );
 
+// An index of the first format, and a root whose first record has no kind.
+const OLD_INDEX: Files<'static> = Files {
+    rows: rows!(2, 5, 5),
+    logs: &[("d/t.swl", &[(0, 0, 1, 0, 2), LAST])],
+    others: &[("d/index.swi", b"SWIDX001")],
+};
+
 #[test]
 fn the_index_comes_before_the_logs(rt: HostRuntime) -> Result<(), Fail> {
     let mut folder = folder_of(rt.alloc(), &BAD_INDEX)?;
     assert!(rt; walked(rt.alloc(), &mut folder, "e") == Told::NoIndex);
     assert!(rt; is_told(rt.alloc(), folder, Told::Row(3, IndexWhy::Span)));
+    let old = folder_of(rt.alloc(), &OLD_INDEX)?;
+    assert!(rt; is_told(rt.alloc(), old, Told::Row(0, IndexWhy::Old)));
     Ok(())
 }
 
@@ -554,7 +596,7 @@ fn is_told_of(alloc: Global, splice: &Splice<'_>, due: Told) -> Result<bool, Fai
 const SPLICED: &[(Splice<'static>, Told)] = &[
     ((79, &[], 128), Told::Record(2, 3, RecordWhy::Cut)),
     ((0, &[], 128), Told::Record(2, 0, RecordWhy::Header)),
-    ((0, b"SWLOG002", 128), Told::Record(2, 0, RecordWhy::Header)),
+    ((0, b"SWLOG001", 128), Told::Record(2, 0, RecordWhy::Header)),
     ((128, &[0], 128), Told::Record(2, 6, RecordWhy::Extra)),
     ((0, &[], 0), Told::Good),
     ((0, &[], 1), Told::Record(2, 0, RecordWhy::Header)),
@@ -569,11 +611,16 @@ fn bytes_that_change_or_are_left_out_or_added_are_told(rt: HostRuntime) -> Resul
     Ok(())
 }
 
-// What is told of a lane with so many segments.
+// What is told of a lane with so many segments, of writes and of updates in turn.
 fn told_of_segments(alloc: Global, count: u32, row: u32) -> Result<Told, Memory> {
     let mut records = Vec::new(alloc);
-    for _ in 0..count {
-        records.extend_from_slice(&[store!(4096), BARRIER])?;
+    for number in 0..count {
+        let access: Rec = if number % 2 == 0 {
+            store!(4096)
+        } else {
+            update!(4096)
+        };
+        records.extend_from_slice(&[access, BARRIER])?;
     }
     records.push(END)?;
     let files = Files {

@@ -1,12 +1,10 @@
 //! `replay`: folders against their kernels and against others, and why there is no comparison.
 
 use asking::{
-    Case, EMPTY, END, REPLAY, ROOT, RUN, Rec, USAGE_LINE, all_pass, answers, difference_at,
-    folder_of, passes, passes_at, region, store,
+    Case, EMPTY, END, REPLAY, ROOT, RUN, Rec, USAGE_LINE, all_pass, answers, folder_of, passes,
+    region, store,
 };
-use command_answer::{
-    DIFFERS, DONE, FOLDER_REFUSED, KERNEL_REFUSED, READ_FAULT, USAGE, WRITE_FAULT,
-};
+use command_answer::{DIFFERS, DONE, FOLDER_REFUSED, KERNEL_REFUSED, USAGE};
 use std::alloc::Global;
 use std::sync::Wait;
 use std::test::Fail;
@@ -360,35 +358,4 @@ const OTHER_WORDS: Case<'static> = Case {
 #[test]
 fn other_words_are_a_usage_fault(rt: HostRuntime) -> Result<(), Fail> {
     all_pass(&rt, rt.alloc(), &[OTHER_WORDS])
-}
-
-const READ_FAILS: Case<'static> = Case {
-    held: &[("k", NESTED)],
-    tasks: nested!(SECOND_5, FIRST_6, SECOND_6),
-    asked: &[(REPLAY, READ_FAULT, "")],
-    ..EMPTY
-};
-
-const WRITE_FAILS: Case<'static> = Case {
-    held: &[("k", NESTED)],
-    tasks: nested!(SECOND_5, FIRST_6, SECOND_6),
-    failing: &[1],
-    asked: &[(REPLAY, WRITE_FAULT, "...")],
-    ..EMPTY
-};
-
-#[test]
-fn a_call_that_fails_is_a_fault(rt: HostRuntime) -> Result<(), Fail> {
-    let alloc = rt.alloc();
-    let mut faults = 0;
-    for call in 1..100 {
-        if difference_at(&rt, alloc, call, &READ_FAILS)?.is_some() {
-            break;
-        }
-        faults = u64::wrapping_add(faults, 1);
-    }
-    assert!(rt; 10 < faults && faults < 99);
-    // Past the last call nothing fails.
-    passes_at(&rt, alloc, faults + 1, &SAME_LOCALS)?;
-    all_pass(&rt, alloc, &[WRITE_FAILS])
 }

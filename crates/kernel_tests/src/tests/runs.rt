@@ -1,17 +1,14 @@
-//! Runs of small kernels: what `run` prints and leaves, how its logs are cut, and which of its calls may fail.
+//! Runs of small kernels: what `run` prints and leaves, and how its logs are cut.
 
-use asking::{
-    Case, EMPTY, RUN, SHOW, USAGE_LINE, all_pass, folder_of, holds, passes, passes_at, passes_past,
-    printed,
-};
+use asking::{Case, EMPTY, RUN, SHOW, USAGE_LINE, all_pass, folder_of, holds, passes, printed};
 use command_answer::{
-    DONE, INDEX_THERE, KERNEL_REFUSED, KERNEL_STOPPED, RACES, READ_FAULT, USAGE, WRITE_FAULT,
+    DONE, INDEX_THERE, KERNEL_REFUSED, KERNEL_STOPPED, RACES, USAGE, WRITE_FAULT,
 };
 use std::alloc::{AllocError, Global};
 use std::sync::Wait;
 use std::test::Fail;
 use std::thread::{Builder, Threads};
-use sw_base::{MemFolder, Memory, Path};
+use sw_base::{MemFolder, Memory};
 use top_call::STACK;
 
 // Each lane adds 1 to every other element.
@@ -292,134 +289,17 @@ fn other_kernels_are_refused(rt: HostRuntime) -> Result<(), Fail> {
     all_pass(&rt, rt.alloc(), NO_KERNELS)
 }
 
-// Where a call on the folder fails nothing is printed. Only one that puts the index may leave a part of it.
-const READ_FAILS: Case<'static> = Case {
-    held: &[("k", COUNT)],
-    asked: &[(RUN, READ_FAULT, "")],
-    left: &[(INDEX, None)],
-    ..EMPTY
-};
-
-const WRITE_FAILS: Case<'static> = Case {
-    held: &[("k", COUNT)],
-    asked: &[(RUN, WRITE_FAULT, "")],
-    left: &[(INDEX, None)],
-    ..EMPTY
-};
-
-const INDEX_FAILS: Case<'static> = Case {
-    held: &[("k", COUNT)],
-    asked: &[(RUN, WRITE_FAULT, "")],
-    ..EMPTY
-};
-
-const NOTHING_FAILS: Case<'static> = Case {
-    held: &[("k", COUNT)],
-    asked: &[(RUN, DONE, COUNTED)],
-    ..EMPTY
-};
-
-// Whether the folder has a shorter prefix of the index, or none.
-fn has_index_prefix(folder: &MemFolder, whole: &MemFolder) -> bool {
-    match (whole.file(INDEX), folder.file(INDEX)) {
-        (Some(index), Some(part)) => index.starts_with(part) && part.len() < index.len(),
-        (Some(_), None) => true,
-        _ => false,
-    }
-}
-
-#[test]
-fn each_call_of_a_run_may_fail(rt: HostRuntime) -> Result<(), Fail> {
-    for call in 1..4 {
-        passes_at(&rt, rt.alloc(), call, &READ_FAILS)?;
-    }
-    for call in 4..8 {
-        passes_at(&rt, rt.alloc(), call, &WRITE_FAILS)?;
-    }
-    passes_at(&rt, rt.alloc(), 9, &NOTHING_FAILS)
-}
-
-// What is left where the call that puts the index fails.
-fn left_by_index_fault<R: Threads + Wait + Sync>(rt: &R, alloc: Global) -> Result<MemFolder, Fail> {
-    let mut folder = folder_of(alloc, &INDEX_FAILS)?;
-    folder.fail(&[8])?;
-    passes(rt, alloc, &mut folder, &INDEX_FAILS)?;
-    Ok(folder)
-}
-
-#[test]
-fn a_part_of_an_index_may_be_left(rt: HostRuntime) -> Result<(), Fail> {
-    let whole = left_by(&rt, rt.alloc(), &NOTHING_FAILS)?;
-    let cut = left_by_index_fault(&rt, rt.alloc())?;
-    holds(has_index_prefix(&cut, &whole), INDEX)
-}
-
-// With a buffer for four records each log takes four calls.
-const BY_FOUR: &[&str] = &["run", "k", "d", "96"];
-
-const LOG_FAILS: Case<'static> = Case {
-    held: &[("k", COUNT)],
-    asked: &[(BY_FOUR, WRITE_FAULT, "")],
-    left: &[
-        (INDEX, None),
-        ("d/t.swl", None),
-        (LANE_0, None),
-        ("d/t-0.1.swl", None),
-    ],
-    ..EMPTY
-};
-
-const NO_LOG_FAILS: Case<'static> = Case {
-    held: &[("k", COUNT)],
-    asked: &[(BY_FOUR, DONE, COUNTED)],
-    left: &[
-        (INDEX, Some(152)),
-        ("d/t.swl", Some(56)),
-        (LANE_0, Some(248)),
-        ("d/t-0.1.swl", Some(248)),
-    ],
-    ..EMPTY
-};
-
-#[test]
-fn each_call_on_a_log_may_fail(rt: HostRuntime) -> Result<(), Fail> {
-    let root = Path::root();
-    for task in [root.copy(), root.child(0, 0, 2), root.child(0, 1, 2)] {
-        for call in 1..5 {
-            passes_past(&rt, rt.alloc(), &task, call, &LOG_FAILS)?;
-        }
-        passes_past(&rt, rt.alloc(), &task, 5, &NO_LOG_FAILS)?;
-    }
-    Ok(())
-}
-
 // A write that fails has put the first half of its text.
-const NO_TEXT: &[Case<'static>] = &[
-    Case {
-        held: &[("k", COUNT)],
-        failing: &[1],
-        asked: &[(RUN, WRITE_FAULT, "tasks 3\nrecor")],
-        left: &[(INDEX, Some(152))],
-        ..EMPTY
-    },
-    Case {
-        held: &[("k", BEYOND)],
-        failing: &[1],
-        asked: &[(RUN, WRITE_FAULT, "stopped t-0.1.sw")],
-        left: &[(INDEX, None)],
-        ..EMPTY
-    },
-    Case {
-        held: &[("k", "no kernel")],
-        failing: &[1],
-        asked: &[(RUN, WRITE_FAULT, "kernel line")],
-        left: &[(INDEX, None)],
-        ..EMPTY
-    },
-];
+const NO_TEXT: &[Case<'static>] = &[Case {
+    held: &[("k", "no kernel")],
+    failing: &[1],
+    asked: &[(RUN, WRITE_FAULT, "kernel line")],
+    left: &[(INDEX, None)],
+    ..EMPTY
+}];
 
 #[test]
-fn each_text_of_a_run_may_fail(rt: HostRuntime) -> Result<(), Fail> {
+fn the_text_of_a_refused_kernel_may_fail(rt: HostRuntime) -> Result<(), Fail> {
     all_pass(&rt, rt.alloc(), NO_TEXT)
 }
 

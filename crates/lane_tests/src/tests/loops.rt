@@ -1,6 +1,6 @@
 //! Worksharing loops of every schedule that one lane executes, with the records that it puts.
 ghost use Rattle.std.specs.Prelude.{◌≡◌, ◌≤◌, ◌<◌, true, [], ◌∷◌};
-ghost use Rattle.kernel_syntax.specs.Arithmetic.{IsWidth};
+ghost use Rattle.log_format.specs.Fitting.{IsWidth};
 ghost use Rattle.kernel_syntax.specs.Bounds.{IsBoundedCode, IsBoundedSchedule};
 ghost use Rattle.kernel_syntax.specs.Program.{code_of, stmt_code};
 ghost use Rattle.kernel_syntax.specs.Tree.{Done};
@@ -52,13 +52,14 @@ fn drawn(number: u64, chunks: u64) -> Record {
 
 // A lane that another has drawn a number before.
 fn second() -> Setting
-    ensures { result ≡ record { width = 8; lane = 0; taken = true; failing = 0 } }
+    ensures { result ≡ record { width = 8; lane = 0; taken = true; failing = 0; word = 0 } }
 {
     Setting {
         width: 8,
         lane: 0,
         taken: true,
         failing: 0,
+        word: 0,
     }
 }
 

@@ -1,6 +1,6 @@
 //! A lane of a team of two, over one array and the counter of one loop, and what it leaves.
 ghost use Rattle.std.specs.Prelude.{◌≡◌, ◌<◌, ◌≤◌, false, [], ◌∷◌, IfOk};
-ghost use Rattle.kernel_syntax.specs.Arithmetic.{IsWidth};
+ghost use Rattle.log_format.specs.Fitting.{IsWidth};
 ghost use Rattle.kernel_syntax.specs.Bounds.{IsBoundedCode};
 ghost use Rattle.kernel_syntax.specs.Program.{stmt_code};
 ghost use Rattle.kernel_syntax.specs.Tree.{Done};
@@ -19,13 +19,15 @@ use std::alloc::Global;
 use std::sync::Wait;
 use sw_base::{MemLog, Trouble};
 
-/// How many bytes the elements have, which lane it is, whether another hand has drawn a number, and which call on its log fails.
+/// How many bytes the elements have, which lane it is, whether another hand has drawn a number, which call on its log fails, and what the
+/// first word holds.
 #[derive(Drop)]
 pub(crate) struct Setting {
     pub width: u8,
     pub lane: u16,
     pub taken: bool,
     pub failing: u64,
+    pub word: u64,
 }
 
 /// Why a lane didn't go on, its variable 1, and its log.
@@ -45,13 +47,14 @@ impl Left {
 
 /// A lane over elements of so many bytes.
 pub(crate) fn lane_over(width: u8, lane: u16) -> Setting
-    ensures { result ≡ record { width = width; lane = lane; taken = false; failing = 0 } }
+    ensures { result ≡ record { width = width; lane = lane; taken = false; failing = 0; word = 0 } }
 {
     Setting {
         width,
         lane,
         taken: false,
         failing: 0,
+        word: 0,
     }
 }
 
@@ -111,7 +114,8 @@ pub(crate) fn executed<R: Wait>(
     let arrays = [array(setting.width)?];
     let slots = vec![in alloc; 0, 0]?;
     let buffer = buffer_failing(alloc, setting.failing)?;
-    let (words, hand) = Words::new(alloc, 8, 1)?;
+    let (words, mut hand) = Words::new(alloc, 8, 1)?;
+    words.store(&mut hand, 0, setting.word);
     let (chunks, draws) = counter(alloc, setting.taken)?;
     let world = World::new(&arrays, &words, &chunks, setting.lane, 2);
     let track = Track::new(alloc, hand, buffer, draws);

@@ -9,7 +9,7 @@ use lane_runner::{Frame, Halt, Locals, Stop, Track, World};
 use log_format::{Kind, Record};
 use shared_words::{Chunks, Hand, Words};
 use std::alloc::Global;
-use sw_base::{MemLog, Path, Trouble};
+use sw_base::{ClosedLog, MemLog, Path, Trouble};
 
 const FULL: u32 = 4_194_304;
 
@@ -84,7 +84,7 @@ fn stuck(
     _: u32,
     _: Vec<MemLog>,
     _: &Team,
-    _: &mut Vec<(Path, MemLog, u32)>,
+    _: &mut Vec<ClosedLog<MemLog>>,
 ) -> Result<(), (Path, Stop)> {
     Err((Path::root(), Stop::Trouble(Trouble::Memory)))
 }

@@ -1,6 +1,6 @@
 //! Statements that one lane executes, with the records that they put.
 ghost use Rattle.std.specs.Prelude.{◌≡◌, false, [], ◌∷◌, IfOk};
-ghost use Rattle.kernel_syntax.specs.Arithmetic.{IsWidth};
+ghost use Rattle.log_format.specs.Fitting.{IsWidth};
 ghost use Rattle.kernel_syntax.specs.Bounds.{IsBoundedCode, IsBoundedTerm, IsLine};
 ghost use Rattle.kernel_syntax.specs.Program.{code_of, stmt_code, term_of};
 ghost use Rattle.kernel_syntax.specs.Tree.{Done};
@@ -111,13 +111,14 @@ fn from_lane_to_span(body: Body) -> Stmt
 
 // A lane whose log fails at this call.
 fn failing(call: u64) -> Setting
-    ensures { result ≡ record { width = 8; lane = 0; taken = false; failing = call } }
+    ensures { result ≡ record { width = 8; lane = 0; taken = false; failing = call; word = 0 } }
 {
     Setting {
         width: 8,
         lane: 0,
         taken: false,
         failing: call,
+        word: 0,
     }
 }
 
@@ -150,6 +151,15 @@ fn a_value_is_read_before_the_store_that_it_is_for(rt: HostRuntime) {
     let alloc = rt.alloc();
     let stmt = sum(alloc, 1).expect(&rt, "memory");
     assert!(rt; goes_on_alone(&rt, alloc, &lane_over(8, 0), stmt, &turn(8, 0, 0, 1)) == Ok(true));
+}
+
+#[test]
+fn a_read_fits_the_word_to_its_element(rt: HostRuntime) {
+    let alloc = rt.alloc();
+    let stmt = sum(alloc, 1).expect(&rt, "memory");
+    let mut setting = lane_over(1, 0);
+    setting.word = 200;
+    assert!(rt; goes_on_alone(&rt, alloc, &setting, stmt, &turn(1, -56, 0, -55)) == Ok(true));
 }
 
 #[test]

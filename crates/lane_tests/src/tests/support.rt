@@ -16,7 +16,7 @@ use lane_runner::{Locals, Stop, Track};
 use log_format::{Kind, Record, encode};
 use shared_words::Hand;
 use std::alloc::Global;
-use sw_base::{Folder, LOG_HEADER, MemFolder, MemLog, Path, Trouble};
+use sw_base::{ClosedLog, Folder, LOG_HEADER, MemFolder, MemLog, Path, Trouble};
 
 /// The record of a step on a mutex.
 pub(crate) fn step(kind: Kind, mutex: u64, line: u32) -> Record {
@@ -84,7 +84,7 @@ pub(crate) fn without_memory(
     number: u32,
     _logs: Vec<MemLog>,
     team: &Team,
-    _done: &mut Vec<(Path, MemLog, u32)>,
+    _done: &mut Vec<ClosedLog<MemLog>>,
 ) -> Result<(), (Path, Stop)>
     ensures hand { hand.new ≡ hand.old }
     ensures done { _done.new ≡ _done.old }

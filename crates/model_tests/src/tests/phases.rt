@@ -1,8 +1,9 @@
 //! The phases of a team, item by item.
 
-use kernel_model::{Item, Phase, phases};
+use kernel_model::{Item, Phase};
 use kernel_syntax::{Body, Expr, Schedule, Stmt, Team};
 use std::alloc::{AllocError, Global};
+use team_phases::phases;
 
 // Adds `s3=5 ` where slot 3 is set, `r2 ` for a statement with the number 2, and `b7 ` for the barrier of line 7.
 fn push_item(text: &mut String, item: &Item) -> Result<(), AllocError> {

@@ -1,6 +1,6 @@
 //! Values and their arithmetic, the layout of arrays, and names.
 ghost use Rattle.std.specs.Prelude.{◌≡◌, IfOk};
-ghost use Rattle.kernel_syntax.specs.Arithmetic.{IsWidth};
+ghost use Rattle.log_format.specs.Fitting.{IsWidth};
 ghost use Rattle.kernel_syntax.specs.Layout.{IsWithinLimits};
 
 use kernel_syntax::{

@@ -1,46 +1,87 @@
-//! Lanes run at once.
+//! Lanes run at once, and each sees the gate before it does anything.
 
 use crate::tests::support::run_with;
+use meeting_gate::MeetingGate;
+use std::alloc::Global;
+use std::process::Abort;
+use std::sync::Wait;
 use std::sync::atomic::{AtomicBool, Ordering};
 use std::test::Fail;
 use std::thread;
+use std::thread::Threads;
 use sw_base::{Gate, Path};
 
-const TWO_LANES: &str = "array a i64 2 main { parallel 2 { a[tid] = 1 } }";
-
-const TURNS: u64 = 100_000_000;
-
-// Lets each of two lanes go on once the other has come, or after so many turns, and then notes it.
-#[derive(Drop)]
-struct Pair {
-    come: [AtomicBool; 2],
-    alone: AtomicBool,
-}
-
-impl Gate for Pair {
-    fn enter(&self, number: usize) {
-        let own = number % 2;
-        self.come[own].store(true, Ordering::SeqCst);
-        for _ in 0..TURNS {
-            if self.come[1 - own].load(Ordering::SeqCst) {
-                return;
-            }
-            thread::yield_now();
-        }
-        self.alone.store(true, Ordering::SeqCst);
-    }
+// Whether the lanes of a team of this size meet, and each does its work.
+fn meet<R: Abort + Threads + Wait + Sync>(
+    rt: &R,
+    alloc: Global,
+    lanes: usize,
+) -> Result<bool, Fail> {
+    let text = format!(in alloc;
+        "array a i64 {lanes} main {{ parallel {lanes} {{ a[tid] = 1 }} }}"
+    )?;
+    let gate = MeetingGate::new(lanes);
+    let run = run_with(rt, alloc, &text, 4096, &gate, (&Path::root(), &[]))?;
+    let end = run.ok().ok_or("stopped")?;
+    let words = end.words.as_slice();
+    Ok(gate.have_met() && words.len() == lanes && words.iter().all(|word| *word == 1))
 }
 
 #[test]
-fn two_lanes_run_at_once(rt: HostRuntime) -> Result<(), Fail> {
-    let alloc = rt.alloc();
-    let gate = Pair {
-        come: [AtomicBool::new(false), AtomicBool::new(false)],
-        alone: AtomicBool::new(false),
+fn all_lanes_run_at_once(rt: HostRuntime) -> Result<(), Fail> {
+    for lanes in [2, 4, 64] {
+        assert!(rt; meet(&rt, rt.alloc(), lanes)?);
+    }
+    Ok(())
+}
+
+const TURNS: u64 = 4_000_000;
+
+// Holds each lane 0 until a lane 2 has come, or for so many turns, which it notes.
+#[derive(Drop)]
+struct HoldingGate {
+    has_come: AtomicBool,
+    is_late: AtomicBool,
+}
+
+impl HoldingGate {
+    fn comes(&self) -> bool {
+        for _ in 0..TURNS {
+            if self.has_come.load(Ordering::SeqCst) {
+                return true;
+            }
+            thread::yield_now();
+        }
+        false
+    }
+}
+
+impl Gate for HoldingGate {
+    fn enter(&self, number: usize) {
+        if number == 2 {
+            self.has_come.store(true, Ordering::SeqCst);
+        }
+        if number == 0 && !self.comes() {
+            self.is_late.store(true, Ordering::SeqCst);
+        }
+    }
+}
+
+// Lane 1 draws all chunks that lane 0 doesn't, and forks three lanes then.
+const DRAWING: &str = "array a i64 4096 main { parallel 2 {
+for i in 0 .. 4096 dynamic nowait { a[i] = tid }
+loop k in 0 .. tid { parallel 3 { } }
+} }";
+
+#[test]
+fn a_lane_does_nothing_before_the_gate(rt: HostRuntime) -> Result<(), Fail> {
+    let gate = HoldingGate {
+        has_come: AtomicBool::new(false),
+        is_late: AtomicBool::new(false),
     };
-    let run = run_with(&rt, alloc, TWO_LANES, 4096, &gate, (&Path::root(), &[]))?;
-    assert!(rt; matches!(&run, Ok(end) if end.words.as_slice() == [1, 1].as_slice()));
-    assert!(rt; gate.come[0].load(Ordering::SeqCst) && gate.come[1].load(Ordering::SeqCst));
-    assert!(rt; !gate.alone.load(Ordering::SeqCst));
+    let run = run_with(&rt, rt.alloc(), DRAWING, 4096, &gate, (&Path::root(), &[]))?;
+    let end = run.ok().ok_or("stopped")?;
+    assert!(rt; end.words.as_slice().iter().all(|word| *word == 1));
+    assert!(rt; !gate.is_late.load(Ordering::SeqCst));
     Ok(())
 }

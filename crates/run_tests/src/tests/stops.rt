@@ -8,7 +8,7 @@ use std::alloc::Global;
 use std::sync::Wait;
 use std::test::Fail;
 use std::thread::Threads;
-use sw_base::{MemLog, NoGate, Path};
+use sw_base::{ClosedLog, MemLog, NoGate, Path};
 
 // Lane 1 divides by 0, lane 2 leaves the array, and lanes 0 and 3 wait for them. No lane stores in the second phase.
 const TWO_STOP: &str = "array a i64 4
@@ -130,9 +130,10 @@ parallel 2 { a[2 + tid] = 2 }
 ";
 
 // Whether each of these logs is the beginning of the log of the same task in a whole run.
-fn begin(left: &[(Path, MemLog, u32)], whole: &[(Path, MemLog, u32)]) -> bool {
-    left.iter().all(|(path, log, _)| {
-        whole.iter().any(|(task, full, _)| task == path && full.bytes().starts_with(log.bytes()))
+fn begin(left: &[ClosedLog<MemLog>], whole: &[ClosedLog<MemLog>]) -> bool {
+    left.iter().all(|one| {
+        whole.iter().any(|full| full.path == one.path
+            && full.log.bytes().starts_with(one.log.bytes()))
     })
 }
 
@@ -142,7 +143,7 @@ fn call_fails<R: Threads + Wait + Sync>(
     alloc: Global,
     task: &Path,
     call: u64,
-    whole: &[(Path, MemLog, u32)],
+    whole: &[ClosedLog<MemLog>],
 ) -> Result<bool, Fail> {
     let stop = stopped(rt, alloc, FORKING, 24, (task, &[call]))?;
     Ok(has_failed(&stop, task) && begin(&stop.logs, whole))
@@ -154,7 +155,7 @@ fn each_call_fails<R: Threads + Wait + Sync>(
     alloc: Global,
     task: &Path,
     calls: u64,
-    whole: &[(Path, MemLog, u32)],
+    whole: &[ClosedLog<MemLog>],
 ) -> Result<bool, Fail>
     requires { calls < 100 }
 {
@@ -171,12 +172,12 @@ fn each_call_fails<R: Threads + Wait + Sync>(
 fn all_calls_fail<R: Threads + Wait + Sync>(
     rt: &R,
     alloc: Global,
-    whole: &[(Path, MemLog, u32)],
+    whole: &[ClosedLog<MemLog>],
 ) -> Result<bool, Fail> {
     // On a task's log: its header, each record, and the logs of the lanes that it forks.
     let all_calls = [5, 6, 3, 3, 6, 3, 3];
-    for ((task, _, _), calls) in whole.iter().zip(&all_calls) {
-        if !each_call_fails(rt, alloc, task, *calls, whole)? {
+    for (log, calls) in whole.iter().zip(&all_calls) {
+        if !each_call_fails(rt, alloc, &log.path, *calls, whole)? {
             return Ok(false);
         }
     }

@@ -14,7 +14,7 @@ use std::alloc::Global;
 use std::sync::Wait;
 use std::test::Fail;
 use std::thread::Threads;
-use sw_base::{Folder, Gate, MemFolder, MemLog, MemOut, Memory, NoGate, Path, Trouble};
+use sw_base::{ClosedLog, Folder, Gate, MemFolder, MemLog, MemOut, Memory, NoGate, Path, Trouble};
 
 /// What the run of a kernel answers.
 pub(crate) type Ran = Result<Finished<MemLog>, Stopped<MemLog>>;
@@ -76,10 +76,10 @@ pub(crate) fn stopped<R: Threads + Wait + Sync>(
 fn sealed(
     alloc: Global,
     folder: &mut MemFolder,
-    logs: Vec<(Path, MemLog, u32)>,
+    logs: Vec<ClosedLog<MemLog>>,
 ) -> Result<Vec<Row>, Memory> {
     let mut rows = Vec::new(alloc);
-    for (path, log, records) in logs {
+    for ClosedLog { path, log, records } in logs {
         if folder.seal(alloc, log).is_err() {
             break;
         }
@@ -103,7 +103,7 @@ fn are_printed(
 /// Whether these are the names of the logs, in order, each with the records that it has.
 pub(crate) fn are_listed(
     alloc: Global,
-    logs: Vec<(Path, MemLog, u32)>,
+    logs: Vec<ClosedLog<MemLog>>,
     text: &str,
 ) -> Result<bool, Memory> {
     let mut folder = MemFolder::new(alloc)?;

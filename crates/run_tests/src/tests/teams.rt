@@ -9,7 +9,7 @@ use std::sync::Wait;
 use std::sync::atomic::{AtomicU64, Ordering};
 use std::test::Fail;
 use std::thread::Threads;
-use sw_base::{Gate, MemLog, Memory, NoGate, Path, Trouble};
+use sw_base::{ClosedLog, Gate, MemLog, Memory, NoGate, Path, Trouble};
 
 // Each of two lanes adds 1 to every other element.
 const COUNTING: &str = "array a i64 8
@@ -77,17 +77,16 @@ const DIVIDED: Stop = Stop::DivZero { line: 4 };
 type Size<'a> = (&'a str, u32, usize);
 
 // A log is of a task of this name, with so many records and bytes.
-fn is_sized(alloc: Global, log: &(Path, MemLog, u32), due: &Size<'_>) -> Result<bool, Memory> {
-    let (path, log, count) = log;
+fn is_sized(alloc: Global, log: &ClosedLog<MemLog>, due: &Size<'_>) -> Result<bool, Memory> {
     let (name, records, bytes) = due;
-    let is_named = path.bare_name(alloc)?.as_str() == *name;
-    Ok(is_named && count == records && log.bytes().len() == *bytes)
+    let is_named = log.path.bare_name(alloc)?.as_str() == *name;
+    Ok(is_named && log.records == *records && log.log.bytes().len() == *bytes)
 }
 
 // These are the logs, in order.
 fn are_sized(
     alloc: Global,
-    logs: &[(Path, MemLog, u32)],
+    logs: &[ClosedLog<MemLog>],
     expected: &[Size<'_>],
 ) -> Result<bool, Memory> {
     for (log, due) in logs.iter().zip(expected) {
@@ -98,17 +97,17 @@ fn are_sized(
     Ok(logs.len() == expected.len())
 }
 
-fn have_same_bytes(one: &[(Path, MemLog, u32)], other: &[(Path, MemLog, u32)]) -> bool {
+fn have_same_bytes(one: &[ClosedLog<MemLog>], other: &[ClosedLog<MemLog>]) -> bool {
     one.len() == other.len()
         && one
             .iter()
             .zip(other)
-            .all(|(one, other)| one.1.bytes() == other.1.bytes())
+            .all(|(one, other)| one.log.bytes() == other.log.bytes())
 }
 
-fn has_pieces(log: Option<&(Path, MemLog, u32)>, lengths: &[usize]) -> bool {
+fn has_pieces(log: Option<&ClosedLog<MemLog>>, lengths: &[usize]) -> bool {
     match log {
-        Some((_, log, _)) => log.lengths() == lengths,
+        Some(closed) => closed.log.lengths() == lengths,
         None => false,
     }
 }
@@ -135,7 +134,7 @@ fn is_cut_so<R: Threads + Wait + Sync>(
     alloc: Global,
     size: usize,
     lengths: &[usize],
-    whole: &[(Path, MemLog, u32)],
+    whole: &[ClosedLog<MemLog>],
 ) -> Result<bool, Fail>
     requires { IsBufferSize size }
 {
@@ -171,13 +170,13 @@ const FIRST_WRITE: [u8; 24] = [
     2, 8, 0, 0, 0, 0, 0, 5, 0, 0, 0, 0, 0, 0, 16, 0, 0, 0, 0, 0, 0, 0, 0, 1,
 ];
 
-fn begins_with_first_records(log: Option<&(Path, MemLog, u32)>) -> bool {
-    let Some((_, log, _)) = log else {
+fn begins_with_first_records(log: Option<&ClosedLog<MemLog>>) -> bool {
+    let Some(ClosedLog { log, .. }) = log else {
         return false;
     };
     let bytes = log.bytes();
     bytes.len() > 56
-        && bytes.starts_with(b"SWLOG001")
+        && bytes.starts_with(b"SWLOG002")
         && bytes.get(8..32) == Some(FIRST_READ.as_slice())
         && bytes.get(32..56) == Some(FIRST_WRITE.as_slice())
 }
@@ -269,9 +268,9 @@ const BARRIER: [u8; 24] = [
     5, 0, 0, 0, 0, 0, 0, 3, 0, 0, 0, 0, 0, 0, 0, 0, 0, 0, 0, 0, 0, 0, 0, 0,
 ];
 
-fn ends_with_barrier(log: Option<&(Path, MemLog, u32)>) -> bool {
+fn ends_with_barrier(log: Option<&ClosedLog<MemLog>>) -> bool {
     match log {
-        Some((_, log, _)) => log.bytes().get(8..) == Some(BARRIER.as_slice()),
+        Some(closed) => closed.log.bytes().get(8..) == Some(BARRIER.as_slice()),
         None => false,
     }
 }

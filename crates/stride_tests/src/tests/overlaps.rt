@@ -18,6 +18,7 @@ fn run_of(base: u64, stride: u64, count: u32, size: u8) -> Option<Run> {
         count,
         size,
         write: true,
+        atomic: false,
         line: 1,
         site: 0,
         held: Held::none(),

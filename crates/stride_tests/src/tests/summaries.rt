@@ -20,6 +20,7 @@ fn copies_an_access(rt: HostRuntime) -> Result<(), Fail> {
     let held = holding(&[3])?;
     let access = Access {
         write: true,
+        atomic: true,
         size: 8,
         site: 1,
         line: 5,
@@ -27,7 +28,7 @@ fn copies_an_access(rt: HostRuntime) -> Result<(), Fail> {
         held,
     };
     let same = access.copy();
-    assert!(rt; same.write && same.held.ids() == [3].as_slice());
+    assert!(rt; same.write && same.atomic && same.held.ids() == [3].as_slice());
     assert!(rt; (same.size, same.site, same.line, same.addr) == (8, 1, 5, 4096));
     Ok(())
 }
@@ -40,6 +41,7 @@ fn a_run_goes_from_its_base_to_its_last_byte(rt: HostRuntime) {
         count: 2,
         size: 8,
         write: true,
+        atomic: false,
         line: 5,
         site: 1,
         held: Held::none(),
@@ -55,6 +57,7 @@ fn the_widest_run_goes_to_the_last_byte_there_is(rt: HostRuntime) {
         count: 2,
         size: 1,
         write: false,
+        atomic: false,
         line: 1,
         site: 0,
         held: Held::none(),
@@ -67,6 +70,7 @@ fn write_at(line: u32, addr: u64) -> Access
 {
     Access {
         write: true,
+        atomic: false,
         size: 8,
         site: 0,
         line,
@@ -199,29 +203,31 @@ fn keys_that_take_turns_have_runs_of_their_own(rt: HostRuntime) -> Result<(), Fa
     Ok(())
 }
 
-// All of an access but its address: whether it writes, its size, site, line and mutexes.
-type Key<'a> = (bool, u8, u16, u32, &'a [u16]);
+// All of an access but its address: whether it writes, and in one step with a read, its size, site, line and mutexes.
+type Key<'a> = (bool, bool, u8, u16, u32, &'a [u16]);
 
-const KEYS: [Key<'static>; 8] = [
-    (true, 8, 0, 1, &[]),
-    (false, 8, 0, 1, &[]),
-    (true, 4, 0, 1, &[]),
-    (true, 8, 1, 1, &[]),
-    (true, 8, 0, 2, &[]),
-    (true, 8, 0, 1, &[3]),
-    (true, 8, 0, 1, &[3, 4]),
-    (true, 8, 0, 1, &[4, 3]),
+const KEYS: [Key<'static>; 9] = [
+    (true, false, 8, 0, 1, &[]),
+    (false, false, 8, 0, 1, &[]),
+    (true, true, 8, 0, 1, &[]),
+    (true, false, 4, 0, 1, &[]),
+    (true, false, 8, 1, 1, &[]),
+    (true, false, 8, 0, 2, &[]),
+    (true, false, 8, 0, 1, &[3]),
+    (true, false, 8, 0, 1, &[3, 4]),
+    (true, false, 8, 0, 1, &[4, 3]),
 ];
 
 // An access at one address, with this key.
 fn keyed(key: &Key<'_>) -> Result<Access, Fail> {
-    let (write, size, site, line, mutexes) = *key;
+    let (write, atomic, size, site, line, mutexes) = *key;
     let held = holding(mutexes)?;
     if !matches!(size, 1 | 2 | 4 | 8) {
         return Err(Fail::from("no size of an access"));
     }
     Ok(Access {
         write,
+        atomic,
         size,
         site,
         line,
@@ -243,7 +249,7 @@ fn the_key_has_all_but_the_address(rt: HostRuntime) -> Result<(), Fail> {
     let mut summary = Summary::new(rt.alloc())?;
     add_keys(&mut summary)?;
     add_keys(&mut summary)?;
-    assert!(rt; summary.finish().len() == 8);
+    assert!(rt; summary.finish().len() == 9);
     Ok(())
 }
 
@@ -253,6 +259,7 @@ fn the_last_byte_may_be_the_last_there_is(rt: HostRuntime) -> Result<(), Fail> {
     let mut summary = Summary::new(rt.alloc())?;
     summary.add(&Access {
         write: false,
+        atomic: false,
         size: 1,
         site: 0,
         line: 1,

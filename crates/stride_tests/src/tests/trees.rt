@@ -41,6 +41,7 @@ fn run(line: u32, base: u64, stride: u64) -> Run
         count: if stride == 0 { 1 } else { 2 },
         size: 4,
         write: false,
+        atomic: false,
         line,
         site: 0,
         held: Held::none(),

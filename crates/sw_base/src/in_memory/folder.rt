@@ -2,8 +2,8 @@
 ghost use Rattle.std.specs.Prelude.{◌≡◌, ◌<◌, ◌≤◌, ◌↔◌, [], ◌∷◌, ◌++◌, length, drop, unwrap_or, is_some, IfOk, IfErr, OnOk, OnErr, IsErrOf, IsErrAnd, IsTrue, slice_get};
 ghost use Rattle.std.specs.Bool.{OnFalse};
 ghost use Rattle.std.specs.Option.{option_copied, option_map};
-ghost use Rattle.sw_base.specs.Environment.{HasCause, LeavesPrefix, Reads, Rose, TakesFaults, WhereTold, empty_text, no_files, with_file, with_log, with_put};
-ghost use Rattle.sw_base.specs.MemFolder.{content_of, held_of, sealed_of, read_faults_of, write_faults_of, calls_of, failing_of, plans_of, CountsRead, CountsSeal, CountsWrite, IsUncounted};
+ghost use Rattle.sw_base.specs.Environment.{HasCause, LeavesPrefix, Reads, Rose, TakesFaults, WhereTold, empty_text, next_count, no_files, with_file, with_log, with_put};
+ghost use Rattle.sw_base.specs.MemFolder.{content_of, held_of, sealed_of, read_faults_of, roots_of, state_of, write_faults_of, calls_of, failing_of, plans_of, CountsRead, CountsSeal, CountsWrite, IsUncounted};
 ghost use Rattle.sw_base.specs.MemLog.{dir_of, path_of, text_of, faults_of, bytes_of, pieces_of, failing_of as log_failing_of, plans_of as log_plans_of};
 ghost use Rattle.sw_base.specs.Names.{log_name};
 ghost use Rattle.sw_base.specs.Plans.{FailsAsPlanned};
@@ -33,6 +33,7 @@ pub struct MemFolder {
     sealed: Vec<SealedLog>,
     read_faults: u64,
     write_faults: u64,
+    roots: u64,
     calls: Calls,
     plans: Plans,
 }
@@ -45,6 +46,7 @@ impl MemFolder {
         ensures sealed { IfOk result (λ folder. sealed_of folder ≡ []) }
         ensures read_faults { IfOk result (λ folder. read_faults_of folder ≡ 0) }
         ensures write_faults { IfOk result (λ folder. write_faults_of folder ≡ 0) }
+        ensures roots { IfOk result (λ folder. roots_of folder ≡ 0) }
         ensures calls { IfOk result (λ folder. calls_of folder ≡ 0) }
         ensures failing { IfOk result (λ folder. failing_of folder ≡ []) }
         ensures plans { IfOk result (λ folder. plans_of folder ≡ []) }
@@ -55,6 +57,7 @@ impl MemFolder {
             sealed: Vec::new(alloc),
             read_faults: 0,
             write_faults: 0,
+            roots: 0,
             calls: Calls::new(alloc),
             plans: Plans::new(alloc),
         })
@@ -81,6 +84,7 @@ impl MemFolder {
         ensures same_sealed { sealed_of self.new ≡ sealed_of self.old }
         ensures same_reads { read_faults_of self.new ≡ read_faults_of self.old }
         ensures same_writes { write_faults_of self.new ≡ write_faults_of self.old }
+        ensures same_roots { roots_of self.new ≡ roots_of self.old }
         ensures same_calls { calls_of self.new ≡ calls_of self.old }
         ensures same_failing { failing_of self.new ≡ failing_of self.old }
     {
@@ -159,6 +163,7 @@ impl MemFolder {
         ensures no_faults { faults_of log.now ≡ 0 → write_faults_of self.new ≡ write_faults_of self.old }
         ensures same_reads { read_faults_of self.new ≡ read_faults_of self.old }
         ensures same { content_of self.new ≡ content_of self.old }
+        ensures same_roots { roots_of self.new ≡ roots_of self.old }
         ensures same_calls { calls_of self.new ≡ calls_of self.old }
         ensures same_failing { failing_of self.new ≡ failing_of self.old }
         ensures same_plans { plans_of self.new ≡ plans_of self.old }
@@ -167,24 +172,32 @@ impl MemFolder {
             self.write_faults = self.write_faults.saturating_add(1);
         }
     }
+
+    // Counts that a root's log is asked for.
+    pub(crate) fn count_root(&mut self)
+        ensures counts { state_of self.new ≡ record (state_of self.old) { roots = next_count (roots_of self.old) } }
+        ensures same_reads { read_faults_of self.new ≡ read_faults_of self.old }
+        ensures same_calls { calls_of self.new ≡ calls_of self.old }
+        ensures same_failing { failing_of self.new ≡ failing_of self.old }
+        ensures same_plans { plans_of self.new ≡ plans_of self.old }
+    {
+        self.roots = self.roots.saturating_add(1);
+    }
 }
 
 impl Folder for MemFolder {
     type Log = MemLog;
 
-    ghost content = { content_of };
+    ghost state = { state_of };
 
     ghost read_faults = { read_faults_of };
-
-    ghost write_faults = { write_faults_of };
 
     fn size(&mut self, _alloc: Global, name: &str) -> Result<Option<u64>, Trouble>
         ensures size { IfOk result (λ size. WhereTold (content_of self.old) (λ c. size ≡ option_map length (c.held name.now))) }
 
-        ensures same { content_of self.new ≡ content_of self.old }
+        ensures same { state_of self.new ≡ state_of self.old }
         ensures cause { HasCause (read_faults_of self.old) (read_faults_of self.new) result }
         ensures no_fault { OnOk result (read_faults_of self.new ≡ read_faults_of self.old) }
-        ensures same_writes { write_faults_of self.new ≡ write_faults_of self.old }
 
         ensures counts { CountsRead (IsErrOf result Trouble.Failed) self.old self.new }
         ensures no_memory { IsErrOf result Trouble.Memory → ⊥ }
@@ -207,10 +220,9 @@ impl Folder for MemFolder {
         ensures rest { IfOk result (λ count. drop count into.new ≡ drop count into.old) }
         ensures unread { OnErr result (into.new ≡ into.old) }
 
-        ensures same { content_of self.new ≡ content_of self.old }
+        ensures same { state_of self.new ≡ state_of self.old }
         ensures cause { HasCause (read_faults_of self.old) (read_faults_of self.new) result }
         ensures no_fault { OnOk result (read_faults_of self.new ≡ read_faults_of self.old) }
-        ensures same_writes { write_faults_of self.new ≡ write_faults_of self.old }
 
         ensures counts { CountsRead (IsErrOf result Trouble.Failed) self.old self.new }
         ensures no_memory { IsErrOf result Trouble.Memory → ⊥ }
@@ -231,6 +243,7 @@ impl Folder for MemFolder {
 
         ensures cause { HasCause (write_faults_of self.old) (write_faults_of self.new) result }
         ensures no_fault { OnOk result (write_faults_of self.new ≡ write_faults_of self.old) }
+        ensures same_roots { roots_of self.new ≡ roots_of self.old }
         ensures same_reads { read_faults_of self.new ≡ read_faults_of self.old }
 
         ensures counts { CountsWrite (IsErrOf result Trouble.Failed) self.old self.new }
@@ -254,10 +267,12 @@ impl Folder for MemFolder {
         ensures same { content_of self.new ≡ content_of self.old }
         ensures cause { HasCause (write_faults_of self.old) (write_faults_of self.new) result }
         ensures no_fault { OnOk result (write_faults_of self.new ≡ write_faults_of self.old) }
+        ensures roots { roots_of self.new ≡ next_count (roots_of self.old) }
         ensures same_reads { read_faults_of self.new ≡ read_faults_of self.old }
 
         ensures counts { CountsWrite (IsErrOf result Trouble.Failed) self.old self.new }
     {
+        self.count_root();
         if self.calls.fails(&mut self.write_faults) {
             return Err(Trouble::Failed);
         }
@@ -276,6 +291,7 @@ impl Folder for MemFolder {
         ensures log_faults { TakesFaults (faults_of log) (write_faults_of self.old) (write_faults_of self.new) }
         ensures cause { IfErr result (λ error. error.0 ≡ Trouble.Failed → Rose (write_faults_of self.old) (write_faults_of self.new)) }
         ensures no_fault { OnOk result (faults_of log ≡ 0 → write_faults_of self.new ≡ write_faults_of self.old) }
+        ensures same_roots { roots_of self.new ≡ roots_of self.old }
         ensures same_reads { read_faults_of self.new ≡ read_faults_of self.old }
 
         ensures counts { CountsSeal (faults_of log ≡ 0) (IsErrAnd result (λ error. error.0 ≡ Trouble.Failed)) self.old self.new }
@@ -297,6 +313,7 @@ impl Folder for MemFolder {
         ensures same { content_of self.new ≡ content_of self.old }
         ensures log_faults { TakesFaults (faults_of log) (write_faults_of self.old) (write_faults_of self.new) }
         ensures no_faults { faults_of log ≡ 0 → write_faults_of self.new ≡ write_faults_of self.old }
+        ensures same_roots { roots_of self.new ≡ roots_of self.old }
         ensures same_reads { read_faults_of self.new ≡ read_faults_of self.old }
 
         ensures same_calls { calls_of self.new ≡ calls_of self.old }

@@ -1,6 +1,6 @@
 //! A folder of which one read gives at most five bytes. It tells nothing of what it holds.
 ghost use Rattle.std.specs.Prelude.{None};
-ghost use Rattle.sw_base.specs.MemFolder.{read_faults_of, write_faults_of};
+ghost use Rattle.sw_base.specs.MemFolder.{read_faults_of, roots_of, write_faults_of};
 
 use crate::environment::Folder;
 use crate::in_memory::folder::MemFolder;
@@ -17,11 +17,9 @@ pub struct ShortReads {
 impl Folder for ShortReads {
     type Log = MemLog;
 
-    ghost content = { λ _. None };
+    ghost state = { λ s. record { content = None; write_faults = write_faults_of s.folder; roots = roots_of s.folder } };
 
     ghost read_faults = { λ s. read_faults_of s.folder };
-
-    ghost write_faults = { λ s. write_faults_of s.folder };
 
     fn size(&mut self, alloc: Global, name: &str) -> Result<Option<u64>, Trouble> {
         self.folder.size(alloc, name)
@@ -43,6 +41,7 @@ impl Folder for ShortReads {
     }
 
     fn root(&mut self, _alloc: Global, _dir: &str) -> Result<MemLog, Trouble> {
+        self.folder.count_root();
         Err(Trouble::Memory)
     }
 

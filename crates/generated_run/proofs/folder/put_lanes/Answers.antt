@@ -11,6 +11,7 @@ loop-lane-preserved g c = record {
   content = put_more c.args.dir.now c.args.rounds c.loop-lane.lane _ _ _ c.loop-lane.invariant.content c.in_ok-put_lane.ensures.done;
   rows = rows_more c.args.rounds c.loop-lane.lane _ _ _ c.loop-lane.invariant.rows c.in_ok-put_lane.ensures.row;
   later = let later = c.put_lane.ensures.cause.later in let before = c.loop-lane.invariant.later in omega (arith, later, before);
+  same_roots = c.put_lane.ensures.same_roots ∙ c.loop-lane.invariant.same_roots;
   same_reads = c.put_lane.ensures.same_reads ∙ c.loop-lane.invariant.same_reads;
 }
 
@@ -22,4 +23,4 @@ returns-in_err-put_lane-clause-refused g c =
 pub returns-clause-done : goal.returns-clause-done
 returns-clause-done g c =
     let last : c.loop-lane.lane ≡ 8 = omega (arith, c.loop-lane-test.false, c.loop-lane.auto.lane-end) in
-    subst (λ (n : ℕ). g.F.Folder.content c.loop-lane.folder ≡ option_map (with_tasks c.args.dir.now (logs_of_lanes c.args.rounds n)) (g.F.Folder.content c.args.folder.now)) last c.loop-lane.invariant.content
+    subst (λ (n : ℕ). (g.F.Folder.state c.loop-lane.folder).content ≡ option_map (with_tasks c.args.dir.now (logs_of_lanes c.args.rounds n)) (g.F.Folder.state c.args.folder.now).content) last c.loop-lane.invariant.content

@@ -7,8 +7,9 @@ use Rattle.generated_run.proofs.folder.put_lanes.Given as goal
 
 abbrev pub invariant-loop-lane : goal.invariant-loop-lane
 invariant-loop-lane g l = record {
-  content : g.F.Folder.content l.folder ≡ option_map (with_tasks l.dir (logs_of_lanes l.rounds l.lane)) (g.F.Folder.content l.fn.folder);
+  content : (g.F.Folder.state l.folder).content ≡ option_map (with_tasks l.dir (logs_of_lanes l.rounds l.lane)) (g.F.Folder.state l.fn.folder).content;
   rows : l.rows.items ≡ l.fn.rows.items ++ rows_of (logs_of_lanes l.rounds l.lane);
-  later : g.F.Folder.write_faults l.fn.folder ≤ g.F.Folder.write_faults l.folder;
+  later : (g.F.Folder.state l.fn.folder).write_faults ≤ (g.F.Folder.state l.folder).write_faults;
+  same_roots : (g.F.Folder.state l.folder).roots ≡ (g.F.Folder.state l.fn.folder).roots;
   same_reads : g.F.Folder.read_faults l.folder ≡ g.F.Folder.read_faults l.fn.folder;
 }

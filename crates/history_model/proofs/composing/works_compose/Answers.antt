@@ -1,5 +1,4 @@
-use Rattle.history_model.proofs.Parts.{then_splits, then_did, then_sound}
-use Rattle.history_model.proofs.TaskEntries.{then_records}
+use Rattle.history_model.proofs.Parts.{then_records, then_splits, then_did, then_sound}
 use Rattle.history_model.proofs.composing.works_compose.Goals as goal
 
 pub returns : goal.returns

@@ -1,4 +1,4 @@
-use Rattle.kernel_model.proofs.LawfulFolder.{folder_keeps}
+use Rattle.kernel_rules.proofs.LawfulFolder.{folder_keeps}
 use Rattle.kernel_laws.proofs.Lawfulness.{kernels_are_lawful}
 use Rattle.kernel_laws.proofs.laws.folders_of_kernels_keep_the_rules.Goals as goal
 

@@ -1,7 +1,7 @@
 -- At width 8 the value is itself.
 use Rattle.std.proofs.Common.{◌≡◌, ◌≢◌, inl, inr, ap, ◌∙◌, sym, ◌*◌, ◌^◌, ℕ, ℤ, FitsSigned, w64, to_z, of_z}
 use Rattle.std.proofs.lemmas.Int.{to_z-of_z}
-use Rattle.kernel_syntax.specs.Arithmetic.{fitted, wrapped, IsWidth}
+use Rattle.log_format.specs.Fitting.{fitted, wrapped, IsWidth}
 use Rattle.kernel_syntax.proofs.Wrapping.{wrapped-fits}
 use Rattle.kernel_syntax.proofs.arithmetic.fit.Goals as goal
 

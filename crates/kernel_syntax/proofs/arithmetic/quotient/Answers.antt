@@ -3,7 +3,8 @@ use Rattle.std.proofs.Common.{rules, ◌≡◌, ap, ◌∙◌, refl, ◌^◌, Fi
 use Rattle.std.specs.Int.{int_wrapping_div}
 use Rattle.std.specs.Int.RustNames.{int_div}
 use Rattle.std.proofs.lemmas.Int.{to_z-of_z}
-use Rattle.kernel_syntax.specs.Arithmetic.{wrapped, quotient}
+use Rattle.log_format.specs.Fitting.{wrapped}
+use Rattle.kernel_syntax.specs.Arithmetic.{quotient}
 use Rattle.kernel_syntax.proofs.Wrapping.{wrapping_div-wrapped}
 use Rattle.kernel_syntax.proofs.arithmetic.quotient.Goals as goal
 

@@ -1,6 +1,6 @@
 use Rattle.std.proofs.Common.{◌≡◌, ap, sym, ◌∙◌, subst, ℤ, w64, to_z, of_z, FitsSigned, rules}
 use Rattle.std.proofs.lemmas.Int.{to_z-of_z}
-use Rattle.kernel_syntax.specs.Arithmetic.{fitted}
+use Rattle.log_format.specs.Fitting.{fitted}
 use Rattle.kernel_syntax.proofs.Fitting.{fitted-fitted}
 use Rattle.log_format.specs.declared.record.Kind.TheVariants as kind
 use Rattle.kernel_model.specs.State.{put}

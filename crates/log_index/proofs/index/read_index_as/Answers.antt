@@ -17,4 +17,4 @@ returns-in-Ok-Some-clause-bad g c n why is x tells =
     let size = rw c.in-Ok-Some.field-0-is at (c.in-Ok-Some.ensures.size x tells) in
     let held : x.held (index_name c.args.dir.now) ≡ Some (file_of x (index_name c.args.dir.now)) =
     subst (λ (n : List ℕ). x.held n ≡ Some (file_of x n)) name (sized (x.held c.deref.result.now) c.in-Ok-Some.field-0-0 size) in
-    bad n why refl x (c.in-Ok-Some.ensures.same ∙ tells) x.held c.args.dir.now (held ∙ ap (λ (n : List ℕ). Some (file_of x n)) (sym same))
+    bad n why refl x (ap (λ s. s.content) c.in-Ok-Some.ensures.same ∙ tells) x.held c.args.dir.now (held ∙ ap (λ (n : List ℕ). Some (file_of x n)) (sym same))

@@ -1,4 +1,4 @@
-use Rattle.std.proofs.Common.{rules, ◌∙◌}
+use Rattle.std.proofs.Common.{rules, ap, ◌∙◌}
 use Rattle.sw_base.specs.Window.{file_of}
 use Rattle.log_index.proofs.Ends.{none_good, read_none, read_more}
 use Rattle.log_index.proofs.rows.first_rows.Goals as goal
@@ -10,7 +10,6 @@ rows-init g c = record {
   told = λ x told shows. read_none (file_of x c.args.name.now) c.new-rows.result.items c.args.window.now c.new-rows.ensures.items c.requires.place shows;
   same = search rules;
   later = search rules;
-  same_writes = search rules;
 }
 
 pub rows-preserved : goal.rows-preserved
@@ -19,10 +18,9 @@ rows-preserved g c = record {
   place = search rules;
   told = λ x told shows.
       let before = c.rows.invariant.told x told shows in
-      let reads = c.in_ok-read_row.ensures.reads c.if-not-branch.false x (c.rows.invariant.same ∙ told) before.shows in
+      let reads = c.in_ok-read_row.ensures.reads c.if-not-branch.false x (ap (λ s. s.content) c.rows.invariant.same ∙ told) before.shows in
       let grows = c.in_ok-read_row.ensures.grows c.if-not-branch.false in
       read_more (file_of x c.args.name.now) c.rows.rows.items c.read_row.new.rows.items c.rows.window c.read_row.new.window before reads grows.place;
   same = search rules;
   later = search rules;
-  same_writes = search rules;
 }

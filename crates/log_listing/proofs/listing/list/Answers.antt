@@ -21,7 +21,7 @@ returns-in_err-list_log-clause-refused g c =
     (holds_next (λ (task : TaskLog). log_text task.path task.records) trace c.args.rows.now same _ _ c.rows.row-index listed (λ (task : TaskLog). IsWholeLog FORMAT x.held c.args.dir.now task.path task.records) holds c.row-item.result next) in
     logs_refused (λ (task : TaskLog). log_text task.path task.records) trace c.args.rows.now same _ _ c.rows.row-index listed c.row-item.result next _
     (subst (λ (q : List Step). GainsPrefix (g.O.Out.written c.rows.out) (g.O.Out.written c.list_log.new.out) (log_text q next.task.records)) path
-    (c.in_err-list_log.ensures.refused x (c.rows.invariant.same ∙ told) next.task.records whole (ap (λ (r : Row). r.records) (c.row.view_is ∙ next.row_is)))))
+    (c.in_err-list_log.ensures.refused x (ap (λ s. s.content) c.rows.invariant.same ∙ told) next.task.records whole (ap (λ (r : Row). r.records) (c.row.view_is ∙ next.row_is)))))
 
 pub rows-preserved : goal.rows-preserved
 rows-preserved g c = record {
@@ -33,10 +33,9 @@ rows-preserved g c = record {
       (holds_next (λ (task : TaskLog). log_text task.path task.records) trace c.args.rows.now same _ _ c.rows.row-index listed (λ (task : TaskLog). IsWholeLog FORMAT x.held c.args.dir.now task.path task.records) holds c.row-item.result next) in
       logs_next (λ (task : TaskLog). log_text task.path task.records) trace c.args.rows.now same _ _ c.rows.row-index listed c.row-item.result next _
       (subst (λ (q : List Step). g.O.Out.written c.list_log.new.out ≡ gained (g.O.Out.written c.rows.out) (log_text q next.task.records)) path
-      (c.in_ok-list_log.ensures.done x (c.rows.invariant.same ∙ told) next.task.records whole (ap (λ (r : Row). r.records) (c.row.view_is ∙ next.row_is))));
+      (c.in_ok-list_log.ensures.done x (ap (λ s. s.content) c.rows.invariant.same ∙ told) next.task.records whole (ap (λ (r : Row). r.records) (c.row.view_is ∙ next.row_is))));
   same = c.in_ok-list_log.ensures.same ∙ c.rows.invariant.same;
   later = omega (arith, c.in_ok-list_log.ensures.later, c.rows.invariant.later);
-  same_writes = c.in_ok-list_log.ensures.same_writes ∙ c.rows.invariant.same_writes;
   later_out = omega (arith, c.in_ok-list_log.ensures.later_out, c.rows.invariant.later_out);
 }
 

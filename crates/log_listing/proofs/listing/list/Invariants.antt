@@ -9,10 +9,9 @@ use Rattle.log_listing.proofs.listing.list.Given as goal
 
 abbrev pub invariant-rows : goal.invariant-rows
 invariant-rows g l = record {
-  listed : WhereTold (g.F.Folder.content l.initial.folder) (λ c. (trace : Trace) → rows_of trace ≡ l.fn.rows → HoldsLogs FORMAT c.held l.dir trace
+  listed : WhereTold (g.F.Folder.state l.initial.folder).content (λ c. (trace : Trace) → rows_of trace ≡ l.fn.rows → HoldsLogs FORMAT c.held l.dir trace
       → LogsTo (λ (task : TaskLog). log_text task.path task.records) trace (g.O.Out.written l.initial.out) (g.O.Out.written l.out) l.row-index);
-  same : g.F.Folder.content l.folder ≡ g.F.Folder.content l.initial.folder;
+  same : g.F.Folder.state l.folder ≡ g.F.Folder.state l.initial.folder;
   later : g.F.Folder.read_faults l.initial.folder ≤ g.F.Folder.read_faults l.folder;
-  same_writes : g.F.Folder.write_faults l.folder ≡ g.F.Folder.write_faults l.initial.folder;
   later_out : g.O.Out.faults l.initial.out ≤ g.O.Out.faults l.out;
 }

@@ -8,12 +8,11 @@ use Rattle.log_listing.proofs.listing.list_records.Given as goal
 
 abbrev pub invariant-records : goal.invariant-records
 invariant-records g l = record {
-  listed : WhereTold (g.F.Folder.content l.initial.folder) (λ c. (events : List Record) → StandsBefore c l.initial.reader events
+  listed : WhereTold (g.F.Folder.state l.initial.folder).content (λ c. (events : List Record) → StandsBefore c l.initial.reader events
       → ListedTo record_line c l.reader events (g.O.Out.written l.initial.out) (g.O.Out.written l.out) l.number);
   room : l.number + l.reader.left ≤ l.initial.reader.left + 1;
-  same : g.F.Folder.content l.folder ≡ g.F.Folder.content l.initial.folder;
+  same : g.F.Folder.state l.folder ≡ g.F.Folder.state l.initial.folder;
   later : g.F.Folder.read_faults l.initial.folder ≤ g.F.Folder.read_faults l.folder;
-  same_writes : g.F.Folder.write_faults l.folder ≡ g.F.Folder.write_faults l.initial.folder;
   later_out : g.O.Out.faults l.initial.out ≤ g.O.Out.faults l.out;
 }
 

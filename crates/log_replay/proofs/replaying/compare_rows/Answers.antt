@@ -21,7 +21,6 @@ rows-init g c = record {
       (compared_none (program_of c.args.kernel.now) tasks rules);
   same = refl;
   later = omega arith;
-  same_writes = refl;
 }
 
 pub rows-preserved : goal.rows-preserved
@@ -39,10 +38,9 @@ rows-preserved g c = record {
       (log_of_row program tasks rules old index compared next.task next.found x.held c.args.dir.now new None holds row next.row_is
       (λ logs keeps whole counted ahead fits.
       subst (λ (o : Option ℕ). ComparesTask program logs row.path old new o) c.in_default.is
-      (c.in_ok-number.ensures.compares x (c.rows.invariant.same ∙ told) logs keeps whole counted ahead fits)));
+      (c.in_ok-number.ensures.compares x (ap (λ s. s.content) c.rows.invariant.same ∙ told) logs keeps whole counted ahead fits)));
   same = c.in_ok-number.ensures.same ∙ c.rows.invariant.same;
   later = omega (arith, c.in_ok-number.ensures.later, c.rows.invariant.later);
-  same_writes = c.in_ok-number.ensures.same_writes ∙ c.rows.invariant.same_writes;
 }
 
 pub returns-in-Some-clause-compares : goal.returns-in-Some-clause-compares
@@ -61,7 +59,7 @@ returns-in-Some-clause-compares g c = λ x told tasks same holds rules.
     (log_of_row program tasks rules old index compared next.task next.found x.held c.args.dir.now new (Some c.in-Some.number) holds row next.row_is
     (λ logs keeps whole counted ahead fits.
     subst (λ (o : Option ℕ). ComparesTask program logs row.path old new o) c.in-Some.is
-    (c.in_ok-number.ensures.compares x (c.rows.invariant.same ∙ told) logs keeps whole counted ahead fits))))
+    (c.in_ok-number.ensures.compares x (ap (λ s. s.content) c.rows.invariant.same ∙ told) logs keeps whole counted ahead fits))))
 
 pub returns-clause-compares : goal.returns-clause-compares
 returns-clause-compares g c = λ x told tasks same holds rules.

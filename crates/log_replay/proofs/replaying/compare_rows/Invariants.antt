@@ -11,9 +11,8 @@ use Rattle.log_replay.proofs.replaying.compare_rows.Given as goal
 
 abbrev pub invariant-rows : goal.invariant-rows
 invariant-rows g l = record {
-  compared : WhereTold (g.F.Folder.content l.initial.folder) (λ c. (tasks : Trace) → rows_of tasks ≡ l.fn.rows → HoldsLogs FORMAT c.held l.dir tasks → KeepsRules FORMAT tasks
+  compared : WhereTold (g.F.Folder.state l.initial.folder).content (λ c. (tasks : Trace) → rows_of tasks ≡ l.fn.rows → HoldsLogs FORMAT c.held l.dir tasks → KeepsRules FORMAT tasks
       → Compared (program_of l.kernel) tasks (forks_kept l.kept.items) l.row-index);
-  same : g.F.Folder.content l.folder ≡ g.F.Folder.content l.initial.folder;
+  same : g.F.Folder.state l.folder ≡ g.F.Folder.state l.initial.folder;
   later : g.F.Folder.read_faults l.initial.folder ≤ g.F.Folder.read_faults l.folder;
-  same_writes : g.F.Folder.write_faults l.folder ≡ g.F.Folder.write_faults l.initial.folder;
 }

@@ -1,6 +1,6 @@
 use Rattle.std.proofs.Common.{◌≡◌, ap, ◌∙◌, ℤ, pos, neg_ℤ, ◌-ℤ◌, ◌^◌, w64, FitsSigned, arith}
 use Rattle.std.proofs.lemmas.Int.{ints}
-use Rattle.kernel_syntax.specs.Arithmetic.{wrapped}
+use Rattle.log_format.specs.Fitting.{wrapped}
 use Rattle.kernel_syntax.proofs.Wrapping.{wrapping_sub-wrapped}
 use Rattle.log_replay.proofs.value.negate.Goals as goal
 

@@ -31,7 +31,6 @@ records-init g c = record {
   place = c.in_ok-pass_header.ensures.place (search rules);
   same = c.pass_header.ensures.same;
   later = c.pass_header.ensures.cause.later;
-  same_writes = c.pass_header.ensures.same_writes;
 }
 
 pub returns-in_err-next-clause-refused : goal.returns-in_err-next-clause-refused
@@ -45,7 +44,7 @@ returns-in_err-next-clause-refused g c =
     let so : SoFar c.args.format file task c.args.opened c.records.state known.records (drop c.records.window.place file) c.records.index =
     so_far file task c.args.opened c.records.state known.records c.records.window c.records.index known.checks read in
     left_refused file task c.args.opened c.records.state known.records (drop c.records.window.place file) c.records.index c.in_err-next.field-0.0 so c.records-test.true
-    (c.in_err-next.ensures.refused c.args.opened known.records known.checks.follows known.after (sym known.checks.count) x (c.records.invariant.same ∙ told) read.shows))
+    (c.in_err-next.ensures.refused c.args.opened known.records known.checks.follows known.after (sym known.checks.count) x (ap (λ s. s.content) c.records.invariant.same ∙ told) read.shows))
 
 pub step-requires-clause-size : goal.step-requires-clause-size
 step-requires-clause-size g c =
@@ -70,17 +69,16 @@ records-preserved g c =
     let number : c.records.index + 1 ≡ length known.records + 1 = omega (arith, checks.count) in
     let after = c.in_ok-next.ensures.follows c.args.opened known.records checks.follows known.after (sym checks.count) in
     record {
-      so = log_next (g.F.Folder.content c.args.folder.now) c.args.name.now task c.args.opened c.args.label c.records.state c.next_record.new.state c.records.walk c.step.new.self c.records.window c.next_record.new.window
+      so = log_next (g.F.Folder.state c.args.folder.now).content c.args.name.now task c.args.opened c.args.label c.records.state c.next_record.new.state c.records.walk c.step.new.self c.records.window c.next_record.new.window
           c.args.found.now.items c.records.found.items c.step.new.found.items c.records.index c.in_ok-next.next known
           (c.in_ok-next.ensures.good c.args.opened known.records checks.follows known.after (sym checks.count)) after c.in_ok-next.ensures.barriers c.in_ok-next.ensures.limit
-          (λ x told. c.in_ok-next.ensures.read x (c.records.invariant.same ∙ told)) c.in_ok-step.ensures.own
+          (λ x told. c.in_ok-next.ensures.read x (ap (λ s. s.content) c.records.invariant.same ∙ told)) c.in_ok-step.ensures.own
           (walk_push c.records.walk c.step.new.self known.records c.in_ok-next.next known.after c.in_ok-step.ensures.forks c.in_ok-step.ensures.begun)
           (λ logs begun next. c.in_ok-step.ensures.follows logs known.records begun next number after.held)
           (λ logs begun next. c.in_ok-step.ensures.adds logs known.records begun next number);
       place = omega (arith, c.in_ok-next.ensures.place, c.records.invariant.place);
       same = c.in_ok-next.ensures.same ∙ c.records.invariant.same;
       later = omega (arith, c.in_ok-next.ensures.later, c.records.invariant.later);
-      same_writes = c.in_ok-next.ensures.same_writes ∙ c.records.invariant.same_writes;
     }
 
 pub returns-then-not-is_empty-clause-refused : goal.returns-then-not-is_empty-clause-refused
@@ -92,7 +90,7 @@ returns-then-not-is_empty-clause-refused g c = λ x told.
     let so : SoFar c.args.format file task c.args.opened c.records.state known.records (drop c.records.window.place file) c.records.index =
     so_far file task c.args.opened c.records.state known.records c.records.window c.records.index known.checks read in
     let same : take 1 c.ahead.result.now ≡ take 1 (drop c.records.window.place file) =
-    ap (λ (bs : List ℕ). take 1 bs) c.ahead.ensures ∙ c.in_ok-fill.ensures.next x (c.records.invariant.same ∙ told) read.shows
+    ap (λ (bs : List ℕ). take 1 bs) c.ahead.ensures ∙ c.in_ok-fill.ensures.next x (ap (λ s. s.content) c.records.invariant.same ∙ told) read.shows
     ∙ ap (λ (n : ℕ). take 1 (drop n file)) c.fill.ensures.place in
     let some : 0 < length c.ahead.result.now = grind (arith, c.if-not-is_empty.ensures) in
     extra_refused file task c.args.opened c.records.state known.records (drop c.records.window.place file) c.records.index so (omega arith)
@@ -111,7 +109,7 @@ returns-clause-good g c =
           let file : List ℕ = file_of x c.args.name.now in
           let read = known.read x told in
           let same : take 1 c.ahead.result.now ≡ take 1 (drop c.records.window.place file) =
-          ap (λ (bs : List ℕ). take 1 bs) c.ahead.ensures ∙ c.in_ok-fill.ensures.next x (c.records.invariant.same ∙ told) read.shows
+          ap (λ (bs : List ℕ). take 1 bs) c.ahead.ensures ∙ c.in_ok-fill.ensures.next x (ap (λ s. s.content) c.records.invariant.same ∙ told) read.shows
           ∙ ap (λ (n : ℕ). take 1 (drop n file)) c.fill.ensures.place in
           let none : length c.ahead.result.now ≡ 0 = grind (arith, c.if-not-is_empty.ensures) in
           whole_log file known.records c.records.window read (none_left c.ahead.result.now (drop c.records.window.place file) same none);

@@ -5,9 +5,8 @@ use Rattle.log_walk.proofs.check.check_log.Given as goal
 
 abbrev pub invariant-records : goal.invariant-records
 invariant-records g l = record {
-  so : LogSoFar l.format (g.F.Folder.content l.fn.folder) l.name (log_task_of l.task) l.opened l.fn.label l.state l.walk l.window l.fn.found.items l.found.items l.index;
+  so : LogSoFar l.format (g.F.Folder.state l.fn.folder).content l.name (log_task_of l.task) l.opened l.fn.label l.state l.walk l.window l.fn.found.items l.found.items l.index;
   place : l.window.place ≡ 8 + 24 * l.index;
-  same : g.F.Folder.content l.folder ≡ g.F.Folder.content l.fn.folder;
+  same : g.F.Folder.state l.folder ≡ g.F.Folder.state l.fn.folder;
   later : g.F.Folder.read_faults l.fn.folder ≤ g.F.Folder.read_faults l.folder;
-  same_writes : g.F.Folder.write_faults l.folder ≡ g.F.Folder.write_faults l.fn.folder;
 }

@@ -4,7 +4,7 @@ use Rattle.std.specs.Global.{Vec}
 use Rattle.std.proofs.lemmas.Option.{same_Some}
 use Rattle.std.proofs.lemmas.Result.{err_from_is_err_and}
 use Rattle.sw_base.specs.declared.path.Step.{Step}
-use Rattle.sw_base.specs.Environment.{Content}
+use Rattle.sw_base.specs.Environment.{FolderState}
 use Rattle.sw_base.specs.Window.{file_of}
 use Rattle.race_model.specs.Row.{Row}
 use Rattle.race_model.specs.IndexFault.{IsRow, max_records}
@@ -29,7 +29,7 @@ returns-in_err-name-clause-refused g c = λ trace row stands told_row.
     let p = err_from_is_err_and c.from_residual.result c.from_residual.ensures.1 in
     let at = ap (λ (n : ℕ). slice_get c.args.rows.now n) (sym stands.place) ∙ read in
     rw (p.1, p.2) (λ content told walked.
-    unread_told (g.F.Folder.content c.args.folder.now) content c.args.dir.now c.args.rows.now trace mine c.in_err-name.field-0.0 told walked at c.in_err-name.ensures.unread)
+    unread_told (g.F.Folder.state c.args.folder.now).content content c.args.dir.now c.args.rows.now trace mine c.in_err-name.field-0.0 told walked at c.in_err-name.ensures.unread)
 
 pub returns-in_err-name-clause-of_row : goal.returns-in_err-name-clause-of_row
 returns-in_err-name-clause-of_row g c = λ row told_row.
@@ -37,7 +37,7 @@ returns-in_err-name-clause-of_row g c = λ row told_row.
     let read : slice_get c.args.rows.now c.args.stack.now.place ≡ Some (record { path = c.row.inside.path; records = c.row.inside.records }) = row_read c.args.rows.now c.args.stack.now.place c.index-rows-stack.result _ c.requires.within c.index-rows-stack.is c.row.view_is in
     let p = err_from_is_err_and c.from_residual.result c.from_residual.ensures.1 in
     let same : mine ≡ row = same_Some mine row (sym read ∙ told_row) in
-    rw (p.1, p.2) (unread_of (g.F.Folder.content c.args.folder.now) c.args.dir.now c.row.inside.path row.path c.in_err-name.field-0.0 (ap (λ (r : Row). r.path) same) c.in_err-name.ensures.unread)
+    rw (p.1, p.2) (unread_of (g.F.Folder.state c.args.folder.now).content c.args.dir.now c.row.inside.path row.path c.in_err-name.field-0.0 (ap (λ (r : Row). r.path) same) c.in_err-name.ensures.unread)
 
 pub first_label-label-requires : goal.first_label-label-requires
 first_label-label-requires g c = λ above step is.
@@ -75,10 +75,10 @@ returns-in-Ok-clause-walks g c = λ trace row stands told_row.
     let read : slice_get c.args.rows.now c.args.stack.now.place ≡ Some (record { path = c.row.inside.path; records = c.row.inside.records }) = row_read c.args.rows.now c.args.stack.now.place c.index-rows-stack.result _ c.requires.within c.index-rows-stack.is c.row.view_is in
     let at = ap (λ (n : ℕ). slice_get c.args.rows.now n) (sym stands.place) ∙ read in
     let same : mine ≡ row = same_Some mine row (sym read ∙ told_row) in
-    subst (λ (r : Row). WalksTask c.args.format (g.F.Folder.content c.args.folder.now) c.args.dir.now c.args.rows.now c.push.new.self trace r c.args.found.now.items c.check_log.new.found.items) same
-    (walks_task (g.F.Folder.content c.args.folder.now) c.args.dir.now c.deref-2.result.now c.args.rows.now c.args.stack.now c.push.new.self trace mine c.in_ok-task.task c.first_label-label.result c.in-Ok.checked c.unwrap_or-barriers.result
+    subst (λ (r : Row). WalksTask c.args.format (g.F.Folder.state c.args.folder.now).content c.args.dir.now c.args.rows.now c.push.new.self trace r c.args.found.now.items c.check_log.new.found.items) same
+    (walks_task (g.F.Folder.state c.args.folder.now).content c.args.dir.now c.deref-2.result.now c.args.rows.now c.args.stack.now c.push.new.self trace mine c.in_ok-task.task c.first_label-label.result c.in-Ok.checked c.unwrap_or-barriers.result
     c.args.found.now.items c.check_log.new.found.items c.requires.rows stands at (c.in_ok-task.ensures.task mine read c.args.format trace stands)
-    (subst (λ (told : Option Content). ChecksLog c.args.format told c.deref-2.result.now c.in_ok-task.task c.args.stack.now.segments c.first_label-label.result c.in-Ok.checked c.args.found.now.items c.check_log.new.found.items) c.in_ok-name.ensures.same c.in-Ok.ensures.good)
+    (subst (λ (s : FolderState). ChecksLog c.args.format s.content c.deref-2.result.now c.in_ok-task.task c.args.stack.now.segments c.first_label-label.result c.in-Ok.checked c.args.found.now.items c.check_log.new.found.items) c.in_ok-name.ensures.same c.in-Ok.ensures.good)
     (λ content told. c.in_ok-name.ensures.found content told ∙ ap (λ (n : List ℕ). Some (file_of content n)) (sym (c.deref-2.ensures ∙ c.in_ok-name.ensures.name)))
     (λ logs has. (let it = next_label c.args.rows.now c.args.stack.now trace logs mine c.first_label-label.result c.requires.rows stands.good has at (stands.forks mine at) c.first_label-label.ensures.root
     (λ above step labels fork e there forked. c.first_label-label.ensures.lane above step labels fork e (ap (λ (fs : List (Vec (List Triple))). slice_get fs (length above)) c.deref.ensures.value ∙ there) forked) in it.0))
@@ -95,7 +95,7 @@ returns-clause-refused g c = λ trace row stands told_row content told walked.
     (log_told content.held c.args.dir.now c.args.rows.now trace mine (log_task_of c.in_ok-task.task) (file_of content c.deref-2.result.now) c.args.stack.now.segments
     c.in-Err.fault walked at (c.in_ok-task.ensures.task mine read c.args.format trace stands)
     (c.in_ok-name.ensures.found content told ∙ ap (λ (n : List ℕ). Some (file_of content n)) (sym (c.deref-2.ensures ∙ c.in_ok-name.ensures.name))) stands.counted
-    (c.in-Err.ensures.refused content (c.in_ok-name.ensures.same ∙ told)))
+    (c.in-Err.ensures.refused content (ap (λ s. s.content) c.in_ok-name.ensures.same ∙ told)))
 
 pub returns-clause-of_row : goal.returns-clause-of_row
 returns-clause-of_row g c = λ row told_row.

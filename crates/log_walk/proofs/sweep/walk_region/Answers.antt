@@ -1,7 +1,7 @@
 use Rattle.std.proofs.Common.{◌≡◌, ◌∙◌, ◌++◌, List, ℕ, Option, Some, rules, refl, sym, ap, subst, arith}
 use Rattle.std.specs.Prelude.{slice_get}
 use Rattle.std.proofs.lemmas.Result.{err_from_is_err_and}
-use Rattle.sw_base.specs.Environment.{Content}
+use Rattle.sw_base.specs.Environment.{FolderState}
 use Rattle.race_model.specs.Row.{Row}
 use Rattle.log_segment.specs.declared.segment.Segment.{Segment}
 use Rattle.log_walk.specs.Stack.{WalksTask}
@@ -12,17 +12,16 @@ use Rattle.log_walk.proofs.sweep.walk_region.Goals as goal
 
 pub tasks-init : goal.tasks-init
 tasks-init g c = record {
-  so = λ trace stands. subst (λ (xs : List Segment). RegionSoFar c.args.format (g.F.Folder.content c.args.folder.now) c.args.dir.now c.args.rows.now c.args.region trace c.args.stack.now c.args.stack.now.place xs) (sym c.new-found.ensures.items)
-      (region_none (g.F.Folder.content c.args.folder.now) c.args.dir.now c.args.rows.now c.args.region trace c.args.stack.now c.args.stack.now.place stands refl);
+  so = λ trace stands. subst (λ (xs : List Segment). RegionSoFar c.args.format (g.F.Folder.state c.args.folder.now).content c.args.dir.now c.args.rows.now c.args.region trace c.args.stack.now c.args.stack.now.place xs) (sym c.new-found.ensures.items)
+      (region_none (g.F.Folder.state c.args.folder.now).content c.args.dir.now c.args.rows.now c.args.region trace c.args.stack.now c.args.stack.now.place stands refl);
   same = refl;
   later = omega arith;
-  same_writes = refl;
 }
 
 pub returns-then-not-is_under-clause-walks : goal.returns-then-not-is_under-clause-walks
 returns-then-not-is_under-clause-walks g c = λ trace stands regions.
     let read : slice_get c.args.rows.now c.tasks.index ≡ Some (record { path = c.row.inside.path; records = c.row.inside.records }) = row_read c.args.rows.now c.tasks.index c.index-rows-index.result _ c.tasks-test.true c.index-rows-index.is c.row.view_is in
-    region_stop (g.F.Folder.content c.args.folder.now) c.args.dir.now c.args.rows.now c.args.region trace c.tasks.stack c.tasks.index (record { path = c.row.inside.path; records = c.row.inside.records }) c.tasks.found.items (c.tasks.invariant.so trace stands) regions read
+    region_stop (g.F.Folder.state c.args.folder.now).content c.args.dir.now c.args.rows.now c.args.region trace c.tasks.stack c.tasks.index (record { path = c.row.inside.path; records = c.row.inside.records }) c.tasks.found.items (c.tasks.invariant.so trace stands) regions read
     (λ is_under. let yes_it_is = c.is_under.ensures.1 is_under in cc (yes_it_is, c.if-not-is_under.true))
 
 pub walk_log-requires-clause-within : goal.walk_log-requires-clause-within
@@ -44,7 +43,7 @@ returns-in_err-walk_log-clause-refused g c = λ trace stands holds.
     let at : slice_get c.args.rows.now c.tasks.stack.place ≡ Some mine = ap (λ (n : ℕ). slice_get c.args.rows.now n) (so.stands.place ∙ sym so.at_row) ∙ read in
     rw (p.1, p.2) (
       refuses_one (IsUnderRegion c.args.region) c.row.inside.path c.in_err-walk_log.field-0.0 (c.is_under.ensures.0 (search (rules, c.if-not-is_under.false))) (c.in_err-walk_log.ensures.of_row mine at),
-      λ content told. c.in_err-walk_log.ensures.refused (trace ++ so.more) mine so.stands at content (c.tasks.invariant.same ∙ told) (so.holds holds content told),
+      λ content told. c.in_err-walk_log.ensures.refused (trace ++ so.more) mine so.stands at content (ap (λ s. s.content) c.tasks.invariant.same ∙ told) (so.holds holds content told),
     )
 
 pub tasks-preserved : goal.tasks-preserved
@@ -56,15 +55,14 @@ tasks-preserved g c =
       so = λ trace stands.
           (let so = c.tasks.invariant.so trace stands in
           let at : slice_get c.args.rows.now c.tasks.stack.place ≡ Some mine = ap (λ (n : ℕ). slice_get c.args.rows.now n) (so.stands.place ∙ sym so.at_row) ∙ read in
-          region_next (g.F.Folder.content c.args.folder.now) c.args.dir.now c.args.rows.now c.args.region trace c.tasks.stack c.walk_log.new.stack c.tasks.index mine c.tasks.found.items c.walk_log.new.found.items so read under
-          (subst (λ (told : Option Content). WalksTask c.args.format told c.args.dir.now c.args.rows.now c.walk_log.new.stack (trace ++ so.more) mine c.tasks.found.items c.walk_log.new.found.items) c.tasks.invariant.same
+          region_next (g.F.Folder.state c.args.folder.now).content c.args.dir.now c.args.rows.now c.args.region trace c.tasks.stack c.walk_log.new.stack c.tasks.index mine c.tasks.found.items c.walk_log.new.found.items so read under
+          (subst (λ (s : FolderState). WalksTask c.args.format s.content c.args.dir.now c.args.rows.now c.walk_log.new.stack (trace ++ so.more) mine c.tasks.found.items c.walk_log.new.found.items) c.tasks.invariant.same
           (c.in_ok-walk_log.ensures.walks (trace ++ so.more) mine so.stands at)));
       same = c.in_ok-walk_log.ensures.same ∙ c.tasks.invariant.same;
       later = omega (arith, c.in_ok-walk_log.ensures.later, c.tasks.invariant.later);
-      same_writes = c.in_ok-walk_log.ensures.same_writes ∙ c.tasks.invariant.same_writes;
     }
 
 pub returns-clause-walks : goal.returns-clause-walks
 returns-clause-walks g c = λ trace stands regions.
     let so = c.tasks.invariant.so trace stands in
-    region_end (g.F.Folder.content c.args.folder.now) c.args.dir.now c.args.rows.now c.args.region trace c.tasks.stack c.tasks.index c.tasks.found.items so (omega arith) (omega (arith, stands.place, c.requires.ahead))
+    region_end (g.F.Folder.state c.args.folder.now).content c.args.dir.now c.args.rows.now c.args.region trace c.tasks.stack c.tasks.index c.tasks.found.items so (omega arith) (omega (arith, stands.place, c.requires.ahead))

@@ -6,8 +6,7 @@ use Rattle.log_walk.proofs.sweep.walk_region.Given as goal
 
 abbrev pub invariant-tasks : goal.invariant-tasks
 invariant-tasks g l = record {
-  so : (trace : Trace) → IsStackAfter l.format l.rows l.fn.stack trace → RegionSoFar l.format (g.F.Folder.content l.fn.folder) l.dir l.rows l.region trace l.stack l.index l.found.items;
-  same : g.F.Folder.content l.folder ≡ g.F.Folder.content l.fn.folder;
+  so : (trace : Trace) → IsStackAfter l.format l.rows l.fn.stack trace → RegionSoFar l.format (g.F.Folder.state l.fn.folder).content l.dir l.rows l.region trace l.stack l.index l.found.items;
+  same : g.F.Folder.state l.folder ≡ g.F.Folder.state l.fn.folder;
   later : g.F.Folder.read_faults l.fn.folder ≤ g.F.Folder.read_faults l.folder;
-  same_writes : g.F.Folder.write_faults l.folder ≡ g.F.Folder.write_faults l.fn.folder;
 }

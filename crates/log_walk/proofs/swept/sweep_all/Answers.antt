@@ -1,7 +1,7 @@
-use Rattle.std.proofs.Common.{◌++◌, Option, sym, subst, ◌∙◌, arith}
+use Rattle.std.proofs.Common.{◌++◌, Option, sym, subst, ◌∙◌, arith, ap}
 use Rattle.std.proofs.lemmas.Result.{err_from_is_err_and}
 use Rattle.log_format.specs.declared.format.TheConstants.{FORMAT}
-use Rattle.sw_base.specs.Environment.{Content}
+use Rattle.sw_base.specs.Environment.{FolderState}
 use Rattle.log_walk.specs.Sweep.{HasSwept, HasSweptAll}
 use Rattle.log_walk.specs.declared.sweep.Sweep.{Sweep}
 use Rattle.log_walk.proofs.swept.sweep_all.Goals as goal
@@ -13,33 +13,31 @@ regions-init g c = record {
   fresh = λ e is. let none_yet = c.in_ok-sweep.ensures.begins.fresh in absurd (cc (none_yet, is));
   same = c.in_ok-sweep.ensures.same;
   later = c.in_ok-sweep.ensures.later;
-  same_writes = c.in_ok-sweep.ensures.same_writes;
 }
 
 pub returns-in_err-_segments-clause-refused : goal.returns-in_err-_segments-clause-refused
 returns-in_err-_segments-clause-refused g c =
     let p = err_from_is_err_and c.from_residual-in_err-_segments.result c.from_residual-in_err-_segments.ensures.1 in
-    let now = subst (λ (t : Option Content). HasSwept FORMAT t c.args.dir.now c.regions.sweep c.regions.invariant.trace) (sym c.regions.invariant.same) c.regions.invariant.swept in
-    rw (p.1, p.2) (λ x told. (c.in_err-_segments.ensures.refused FORMAT c.args.dir.now c.regions.invariant.trace now).2 x (c.regions.invariant.same ∙ told))
+    let now = subst (λ (s : FolderState). HasSwept FORMAT s.content c.args.dir.now c.regions.sweep c.regions.invariant.trace) (sym c.regions.invariant.same) c.regions.invariant.swept in
+    rw (p.1, p.2) (λ x told. (c.in_err-_segments.ensures.refused FORMAT c.args.dir.now c.regions.invariant.trace now).2 x (ap (λ s. s.content) c.regions.invariant.same ∙ told))
 
 pub regions-preserved : goal.regions-preserved
 regions-preserved g c =
-    let now = subst (λ (t : Option Content). HasSwept FORMAT t c.args.dir.now c.regions.sweep c.regions.invariant.trace) (sym c.regions.invariant.same) c.regions.invariant.swept in
+    let now = subst (λ (s : FolderState). HasSwept FORMAT s.content c.args.dir.now c.regions.sweep c.regions.invariant.trace) (sym c.regions.invariant.same) c.regions.invariant.swept in
     let gives = rw c.in-Some.is at (c.in_ok-_segments.ensures.region FORMAT c.args.dir.now c.regions.invariant.trace now) in
     record {
       trace = c.regions.invariant.trace ++ gives.more;
-      swept = subst (λ (t : Option Content). HasSwept FORMAT t c.args.dir.now c.next.new.self (c.regions.invariant.trace ++ gives.more)) c.regions.invariant.same gives.swept;
+      swept = subst (λ (s : FolderState). HasSwept FORMAT s.content c.args.dir.now c.next.new.self (c.regions.invariant.trace ++ gives.more)) c.regions.invariant.same gives.swept;
       fresh = c.in_ok-_segments.ensures.unrefused;
       same = c.in_ok-_segments.ensures.same ∙ c.regions.invariant.same;
       later = omega (arith, c.in_ok-_segments.ensures.later, c.regions.invariant.later);
-      same_writes = c.in_ok-_segments.ensures.same_writes ∙ c.regions.invariant.same_writes;
     }
 
 pub returns-clause-all : goal.returns-clause-all
 returns-clause-all g c =
-    let now = subst (λ (t : Option Content). HasSwept FORMAT t c.args.dir.now c.regions.sweep c.regions.invariant.trace) (sym c.regions.invariant.same) c.regions.invariant.swept in
+    let now = subst (λ (s : FolderState). HasSwept FORMAT s.content c.args.dir.now c.regions.sweep c.regions.invariant.trace) (sym c.regions.invariant.same) c.regions.invariant.swept in
     let all = c.in_ok-_segments.ensures.all FORMAT c.args.dir.now c.regions.invariant.trace now c.in_default.is in (
       c.regions.invariant.trace,
-      subst (λ (s : Sweep). HasSweptAll FORMAT (g.F.Folder.content c.args.folder.now) c.args.dir.now s c.regions.invariant.trace) (sym all.0)
-          (subst (λ (t : Option Content). HasSweptAll FORMAT t c.args.dir.now c.regions.sweep c.regions.invariant.trace) c.regions.invariant.same all.1),
+      subst (λ (s : Sweep). HasSweptAll FORMAT (g.F.Folder.state c.args.folder.now).content c.args.dir.now s c.regions.invariant.trace) (sym all.0)
+          (subst (λ (s : FolderState). HasSweptAll FORMAT s.content c.args.dir.now c.regions.sweep c.regions.invariant.trace) c.regions.invariant.same all.1),
     )

@@ -8,11 +8,10 @@ use Rattle.log_walk.proofs.swept.sweep_all.Given as goal
 abbrev pub invariant-regions : goal.invariant-regions
 invariant-regions g l = record {
   trace : Trace;
-  swept : HasSwept FORMAT (g.F.Folder.content l.fn.folder) l.dir l.sweep trace;
+  swept : HasSwept FORMAT (g.F.Folder.state l.fn.folder).content l.dir l.sweep trace;
   fresh : (e : WalkFault) → HasRefused l.sweep e → ⊥;
-  same : g.F.Folder.content l.folder ≡ g.F.Folder.content l.fn.folder;
+  same : g.F.Folder.state l.folder ≡ g.F.Folder.state l.fn.folder;
   later : g.F.Folder.read_faults l.fn.folder ≤ g.F.Folder.read_faults l.folder;
-  same_writes : g.F.Folder.write_faults l.folder ≡ g.F.Folder.write_faults l.fn.folder;
 }
 
 abbrev pub decreases-regions : goal.decreases-regions

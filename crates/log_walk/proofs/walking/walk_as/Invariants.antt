@@ -5,10 +5,9 @@ use Rattle.log_walk.proofs.walking.walk_as.Given as goal
 
 abbrev pub invariant-regions : goal.invariant-regions
 invariant-regions g l = record {
-  so : WalkedTo l.fn.format (g.F.Folder.content l.fn.folder) l.dir l.sweep l.found.items;
+  so : WalkedTo l.fn.format (g.F.Folder.state l.fn.folder).content l.dir l.sweep l.found.items;
   fewer : logs_left l.sweep + l.round ≤ l.left;
   fresh : l.sweep.refused ≡ None;
-  same : g.F.Folder.content l.folder ≡ g.F.Folder.content l.fn.folder;
+  same : g.F.Folder.state l.folder ≡ g.F.Folder.state l.fn.folder;
   later : g.F.Folder.read_faults l.fn.folder ≤ g.F.Folder.read_faults l.folder;
-  same_writes : g.F.Folder.write_faults l.folder ≡ g.F.Folder.write_faults l.fn.folder;
 }

@@ -2,7 +2,7 @@ use Rattle.pair_compare.proofs.Swept.{open_first, opened, swept}
 use Rattle.pair_compare.proofs.sweeping.sweep.Goals as goal
 
 pub loop-hull-init : goal.loop-hull-init
-loop-hull-init c = open_first c.args.from c.args.hulls.now c.args.pairs.now.keys c.new-active.result c.new-active.ensures.none c.new-active.ensures.reads
+loop-hull-init c = open_first c.args.from c.args.hulls.now c.args.pairs.now.keys c.new-active.result c.new-active.ensures.none c.new-active.ensures.kinds
 
 pub loop-hull-preserved : goal.loop-hull-preserved
 loop-hull-preserved c =

@@ -32,7 +32,7 @@ use Rattle.kernel_syntax.specs.Program.{team_of}
 use Rattle.kernel_model.specs.State.{State}
 use Rattle.kernel_model.specs.Trace.{run}
 use Rattle.kernel_model.specs.Value.{Site}
-use Rattle.kernel_model.proofs.SameChunks.{same_chunks}
+use Rattle.kernel_rules.proofs.SameChunks.{same_chunks}
 use Rattle.lane_runner.specs.declared.stop.Stop.{Stop}
 use Rattle.region_runner.specs.Gathering.{ClosedValue, Gathered}
 use Rattle.region_runner.specs.Opening.{AreLanes, AreTorn, ClosesAs, lent_hand}
@@ -65,28 +65,31 @@ run_task-run_phase-requires-clause-runs g n c κs within =
               (
                 λ a m. m,
                 (
-                  ((search rules), (search rules)),
+                  (search rules),
                   (
-                    (let i = inner.deeper in omega (arith, i)),
+                    ((search rules), (search rules)),
                     (
-                      deep,
+                      (let i = inner.deeper in omega (arith, i)),
                       (
-                        record {
-                          mutexes = mutexes;
-                          locks = c.requires.phase.locks;
-                          lawful = subst (λ (t : TeamTree). IsTeam mutexes (length c.path-path.result + 1) t) (sym is)
-                              (subst (λ (n : ℕ). IsTeam mutexes n team) (let e : 4 - c.args.depth + 1 ≡ length c.path-path.result + 1 = omega (arith, deep) in e) inner.lawful);
-                        },
+                        deep,
                         (
-                          subst (λ (words : WordsValue). IsReady hand.now words) (ap (λ (v : CrewValue). v.words) c.requires.crew) ready,
+                          record {
+                            mutexes = mutexes;
+                            locks = c.requires.phase.locks;
+                            lawful = subst (λ (t : TeamTree). IsTeam mutexes (length c.path-path.result + 1) t) (sym is)
+                                (subst (λ (n : ℕ). IsTeam mutexes n team) (let e : 4 - c.args.depth + 1 ≡ length c.path-path.result + 1 = omega (arith, deep) in e) inner.lawful);
+                          },
                           (
-                            record {
-                              task = c.args.lane.now.buffer;
-                              path_is = own.path_is ∙ sym c.path-path.ensures.is;
-                              size_is = own.size_is;
-                              new = subst (λ (t : TeamTree). AreNewLogs {T = g.row.L.Denot} seen c.args.lane.now.buffer number t.span logs.items) (sym is) new;
-                            },
-                            ((search rules), (search rules), (search rules)),
+                            subst (λ (words : WordsValue). IsReady hand.now words) (ap (λ (v : CrewValue). v.words) c.requires.crew) ready,
+                            (
+                              record {
+                                task = c.args.lane.now.buffer;
+                                path_is = own.path_is ∙ sym c.path-path.ensures.is;
+                                size_is = own.size_is;
+                                new = subst (λ (t : TeamTree). AreNewLogs {T = g.row.L.Denot} seen c.args.lane.now.buffer number t.span logs.items) (sym is) new;
+                              },
+                              ((search rules), (search rules), (search rules)),
+                            ),
                           ),
                         ),
                       ),
@@ -130,24 +133,30 @@ run_lanes-for_each_mut-requires-clause-accepts g n c κs within = λ i p less is
       (
         λ a m. m,
         (
-          ((search rules), (search rules)),
+          (search rules),
           (
-            c.requires.crew,
+            ((search rules), (search rules)),
             (
-              c.requires.number,
+              (search rules),
               (
-                c.requires.span,
+                c.requires.crew,
                 (
-                  c.requires.phase,
+                  c.requires.number,
                   (
-                    c.requires.last,
+                    c.requires.span,
                     (
-                      let count = c.requires.count in omega (arith, less, count),
+                      c.requires.phase,
                       (
-                        subst (λ (m : LaneValue). CanGoOn (world_of c.args.crew.now i) c.args.phase.now m) (sym is) (c.requires.can i p.now less),
+                        c.requires.last,
                         (
-                          subst (λ (m : LaneValue). IsOurLane c.args.ground.now c.args.depth m) (sym is) (c.requires.own i p.now less),
-                          ((search rules), (search rules), (search rules)),
+                          let count = c.requires.count in omega (arith, less, count),
+                          (
+                            subst (λ (m : LaneValue). CanGoOn (world_of c.args.crew.now i) c.args.phase.now m) (sym is) (c.requires.can i p.now less),
+                            (
+                              subst (λ (m : LaneValue). IsOurLane c.args.ground.now c.args.depth m) (sym is) (c.requires.own i p.now less),
+                              ((search rules), (search rules), (search rules)),
+                            ),
+                          ),
                         ),
                       ),
                     ),
@@ -492,3 +501,6 @@ region-returns g n c = record {
             (subst (λ (n : ℕ). Gathered n (λ k. slice_index_or c.match-open.lanes.items k e) before after c.gather.result) torn.count (c.gather.ensures.gathered e)))
       ];
 }
+
+pub run_lanes-for_each_mut-run_task-requires-static-L : goal.run_lanes-for_each_mut-run_task-requires-static-L
+run_lanes-for_each_mut-run_task-requires-static-L g t c κs within = c.requires.lives

@@ -6,8 +6,10 @@ use Rattle.kernel_syntax.specs.Program.{program_of}
 use Rattle.sw_base.specs.declared.path.Step.{Step}
 use Rattle.lane_runner.specs.Children.{LogView}
 use Rattle.lane_runner.specs.Handed.{entries_of}
-use Rattle.lane_runner.specs.World.{IsWorld}
-use Rattle.lane_runner.proofs.OwnWords.{bounded_world}
+use Rattle.history_model.specs.Sound.{AreFitted}
+use Rattle.log_format.specs.Fitting.{IsWidth}
+use Rattle.lane_runner.specs.World.{IsWorld, element_width, layout_of}
+use Rattle.lane_runner.proofs.OwnWords.{bounded_widths, bounded_world}
 use Rattle.lane_runner.specs.declared.stop.Stop.TheVariants as stop
 use Rattle.sw_base.specs.declared.trouble.Trouble.TheVariants as trouble
 use Rattle.region_runner.specs.Answer.{HasStoppedRun}
@@ -39,31 +41,42 @@ pub returns-in-Ok-answer-clause-finished : goal.returns-in-Ok-answer-clause-fini
 returns-in-Ok-answer-clause-finished g c =
     let program = program_of c.args.kernel.now in
     let seen : LogView g.row.L.Denot = record { dir = g.L.Log.dir; path = g.L.Log.path; text = g.L.Log.text; faults = g.L.Log.faults } in
-    let long : length c.close-words.result.words.items ≡ elements c.args.kernel.now.arrays =
-    sym c.close-words.result.words.ok.0 ∙ c.close-words.ensures.len ∙ c.in-Ok.ensures.counts.0 ∙ c.element_count.ensures ∙ ap (λ (xs : List Array). elements xs) c.as_slice-arrays.ensures in
+    let long : length c.close.result.words.items ≡ elements c.args.kernel.now.arrays =
+    sym c.close.result.words.ok.0 ∙ c.close.ensures.len ∙ c.in-Ok.ensures.counts.0 ∙ c.element_count.ensures ∙ ap (λ (xs : List Array). elements xs) c.as_slice-arrays.ensures in
+    let fitted : AreFitted (layout_of program.arrays) c.close.result.words.items c.values-words.result.items =
+    subst (λ (arrays : List Array). AreFitted (layout_of arrays) c.close.result.words.items c.values-words.result.items) c.as_slice-arrays.ensures c.values-words.ensures.fitted in
     has_run program c.requires.lawful (g.L.Log.dir c.args.root) c.args.size c.new-ground.result.size (g.L.Log.text c.args.root) c.in-Ok.words.table c.in-Ok.hand c.run_root-closed.new.hand c.run_root-closed.result
-    (entries_of {T = g.row.L.Denot} seen c.settle.result.0.items) c.settle.result.1 c.close-words.result.words.items (ap (λ (v : GroundValue). v.size) c.new-ground.ensures) c.in-Ok.ensures.hand c.run_root-closed.ensures.ran c.settle.ensures
-    (omega (arith, long)) c.close-words.ensures.history
-    c.in-Ok-answer.is long seen c.settle.result.0.items refl
+    (entries_of {T = g.row.L.Denot} seen c.settle.result.0.items) c.settle.result.1 c.close.result.words.items c.values-words.result.items (ap (λ (v : GroundValue). v.size) c.new-ground.ensures) c.in-Ok.ensures.hand c.run_root-closed.ensures.ran c.settle.ensures
+    (omega (arith, long)) c.close.ensures.history fitted
+    c.in-Ok-answer.is (fitted.count ∙ long) seen c.settle.result.0.items refl
 
 pub returns-in-Ok-answer-clause-no_fault : goal.returns-in-Ok-answer-clause-no_fault
 returns-in-Ok-answer-clause-no_fault g c =
     let program = program_of c.args.kernel.now in
     let seen : LogView g.row.L.Denot = record { dir = g.L.Log.dir; path = g.L.Log.path; text = g.L.Log.text; faults = g.L.Log.faults } in
-    let long : length c.close-words.result.words.items ≡ elements c.args.kernel.now.arrays =
-    sym c.close-words.result.words.ok.0 ∙ c.close-words.ensures.len ∙ c.in-Ok.ensures.counts.0 ∙ c.element_count.ensures ∙ ap (λ (xs : List Array). elements xs) c.as_slice-arrays.ensures in
+    let long : length c.close.result.words.items ≡ elements c.args.kernel.now.arrays =
+    sym c.close.result.words.ok.0 ∙ c.close.ensures.len ∙ c.in-Ok.ensures.counts.0 ∙ c.element_count.ensures ∙ ap (λ (xs : List Array). elements xs) c.as_slice-arrays.ensures in
+    let fitted : AreFitted (layout_of program.arrays) c.close.result.words.items c.values-words.result.items =
+    subst (λ (arrays : List Array). AreFitted (layout_of arrays) c.close.result.words.items c.values-words.result.items) c.as_slice-arrays.ensures c.values-words.ensures.fitted in
     has_no_fault program c.requires.lawful (g.L.Log.dir c.args.root) c.args.size c.new-ground.result.size (g.L.Log.text c.args.root) c.in-Ok.words.table c.in-Ok.hand c.run_root-closed.new.hand c.run_root-closed.result
-    (entries_of {T = g.row.L.Denot} seen c.settle.result.0.items) c.settle.result.1 c.close-words.result.words.items (ap (λ (v : GroundValue). v.size) c.new-ground.ensures) c.in-Ok.ensures.hand c.run_root-closed.ensures.ran c.settle.ensures
-    (omega (arith, long)) c.close-words.ensures.history
-    c.in-Ok-answer.is long seen c.settle.result.0.items refl
+    (entries_of {T = g.row.L.Denot} seen c.settle.result.0.items) c.settle.result.1 c.close.result.words.items c.values-words.result.items (ap (λ (v : GroundValue). v.size) c.new-ground.ensures) c.in-Ok.ensures.hand c.run_root-closed.ensures.ran c.settle.ensures
+    (omega (arith, long)) c.close.ensures.history fitted
+    c.in-Ok-answer.is (fitted.count ∙ long) seen c.settle.result.0.items refl
 
 pub returns-in-Err-clause-stopped : goal.returns-in-Err-clause-stopped
 returns-in-Err-clause-stopped g c =
     let program = program_of c.args.kernel.now in
     let seen : LogView g.row.L.Denot = record { dir = g.L.Log.dir; path = g.L.Log.path; text = g.L.Log.text; faults = g.L.Log.faults } in
-    let long : length c.close-words.result.words.items ≡ elements c.args.kernel.now.arrays =
-    sym c.close-words.result.words.ok.0 ∙ c.close-words.ensures.len ∙ c.in-Ok.ensures.counts.0 ∙ c.element_count.ensures ∙ ap (λ (xs : List Array). elements xs) c.as_slice-arrays.ensures in
+    let long : length c.close.result.words.items ≡ elements c.args.kernel.now.arrays =
+    sym c.close.result.words.ok.0 ∙ c.close.ensures.len ∙ c.in-Ok.ensures.counts.0 ∙ c.element_count.ensures ∙ ap (λ (xs : List Array). elements xs) c.as_slice-arrays.ensures in
+    let fitted : AreFitted (layout_of program.arrays) c.close.result.words.items c.values-words.result.items =
+    subst (λ (arrays : List Array). AreFitted (layout_of arrays) c.close.result.words.items c.values-words.result.items) c.as_slice-arrays.ensures c.values-words.ensures.fitted in
     has_stopped program c.requires.lawful (g.L.Log.dir c.args.root) c.args.size c.new-ground.result.size (g.L.Log.text c.args.root) c.in-Ok.words.table c.in-Ok.hand c.run_root-closed.new.hand c.run_root-closed.result
-    (entries_of {T = g.row.L.Denot} seen c.settle.result.0.items) c.settle.result.1 c.close-words.result.words.items (ap (λ (v : GroundValue). v.size) c.new-ground.ensures) c.in-Ok.ensures.hand c.run_root-closed.ensures.ran c.settle.ensures
-    (omega (arith, long)) c.close-words.ensures.history
-    c.in-Err.path c.in-Err.why c.in-Err.is (inl long)
+    (entries_of {T = g.row.L.Denot} seen c.settle.result.0.items) c.settle.result.1 c.close.result.words.items c.values-words.result.items (ap (λ (v : GroundValue). v.size) c.new-ground.ensures) c.in-Ok.ensures.hand c.run_root-closed.ensures.ran c.settle.ensures
+    (omega (arith, long)) c.close.ensures.history fitted
+    c.in-Err.path c.in-Err.why c.in-Err.is (inl (fitted.count ∙ long))
+
+pub values-words-requires : goal.values-words-requires
+values-words-requires g c =
+    let program = program_of c.args.kernel.now in
+    record { widths = λ word. subst (λ (arrays : List Array). IsWidth (element_width arrays word)) (sym c.as_slice-arrays.ensures) (bounded_widths program c.requires.lawful.bounded word) }

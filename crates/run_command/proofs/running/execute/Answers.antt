@@ -21,7 +21,7 @@ returns-in-Ok-run_kernel-clause-ends g c = λ file old new can is.
     let told : g.F.Log.Log.text c.in-Ok.root ≡ Some empty_text = c.in-Ok.ensures.log_text ∙ ap (option_map (λ _. empty_text)) is in
     let here = subst (λ (dir : List ℕ). HasRun program dir c.args.size (g.F.Log.Log.text c.in-Ok.root) logs words) c.in-Ok.ensures.log_dir c.in-Ok-run_kernel.ensures.finished in
     let has = subst (λ (text : Option Text). HasRun program c.args.dir.now c.args.size text logs words) told here in
-    c.finish.ensures.ends (g.F.Folder.write_faults c.args.folder.now) file c.args.size empty_text has old new can (c.root.ensures.same ∙ is)
+    c.finish.ensures.ends (g.F.Folder.state c.args.folder.now).write_faults file c.args.size empty_text has old new can (c.root.ensures.same ∙ is)
 
 pub returns-in-Err-run_kernel-clause-ends : goal.returns-in-Err-run_kernel-clause-ends
 returns-in-Err-run_kernel-clause-ends g c = λ file old new can is.
@@ -31,10 +31,10 @@ returns-in-Err-run_kernel-clause-ends g c = λ file old new can is.
     let told : g.F.Log.Log.text c.in-Ok.root ≡ Some empty_text = c.in-Ok.ensures.log_text ∙ ap (option_map (λ _. empty_text)) is in
     let here = subst (λ (dir : List ℕ). HasStoppedRun program dir c.args.size (g.F.Log.Log.text c.in-Ok.root) logs stopped.path stopped.why stopped.words.items) c.in-Ok.ensures.log_dir c.in-Err-run_kernel.ensures.stopped in
     let has = subst (λ (text : Option Text). HasStoppedRun program c.args.dir.now c.args.size text logs stopped.path stopped.why stopped.words.items) told here in
-    c.stop.ensures.ends (g.F.Folder.write_faults c.args.folder.now) file program c.args.dir.now c.args.size empty_text c.root.ensures.cause.later has old new can (c.root.ensures.same ∙ is)
+    c.stop.ensures.ends (g.F.Folder.state c.args.folder.now).write_faults file program c.args.dir.now c.args.size empty_text c.root.ensures.cause.later has old new can (c.root.ensures.same ∙ is)
 
 pub returns-in-Err-run_kernel-clause-write_fault : goal.returns-in-Err-run_kernel-clause-write_fault
 returns-in-Err-run_kernel-clause-write_fault g c = λ fault.
     let path = c.in-Err-run_kernel.stopped.path in
-    rose_more (g.F.Folder.write_faults c.args.folder.now) _ _ c.root.ensures.cause.later
+    rose_more (g.F.Folder.state c.args.folder.now).write_faults _ _ c.root.ensures.cause.later
     (c.stop.ensures.write_fault (λ failed. c.in-Err-run_kernel.ensures.stopped.tell.failed path (ap (λ (why : Stop). Some (path, why)) failed)) fault)

@@ -13,10 +13,10 @@ returns-in-Ok-clause-ends g c = λ before file size root has.
     c.in-Ok.ensures.rows ∙ entry_rows (program_of c.args.kernel) c.args.dir.now size _ g.F.Log.Log.dir g.F.Log.Log.path g.F.Log.Log.text c.args.finished.logs.items c.args.finished.words.items has in
     let counted : c.len.result ≡ length c.in-Ok.rows.items = search rules in
     rw (counted, c.records_in.ensures, c.deref.ensures.value)
-    (run_stored (Rose before (g.F.Folder.write_faults c.store.new.folder)) file c.args.dir.now size root (program_of c.args.kernel) c.args.finished.words.items logs has _ _ c.in-Ok.rows.items rows c.in-Ok.ensures.stored)
+    (run_stored (Rose before (g.F.Folder.state c.store.new.folder).write_faults) file c.args.dir.now size root (program_of c.args.kernel) c.args.finished.words.items logs has _ _ c.in-Ok.rows.items rows c.in-Ok.ensures.stored)
 
 pub returns-in-Err-clause-ends : goal.returns-in-Err-clause-ends
 returns-in-Err-clause-ends g c = λ before file size root has.
     let logs = all_logged g.F.Log.Log.dir g.F.Log.Log.path g.F.Log.Log.text c.args.finished.logs.items in
     rw c.unwritten.ensures
-    (run_refused (Rose before (g.F.Folder.write_faults c.store.new.folder)) file c.args.dir.now size root (program_of c.args.kernel) c.args.finished.words.items logs has _ _ c.in-Err.trouble c.in-Err.ensures.refused)
+    (run_refused (Rose before (g.F.Folder.state c.store.new.folder).write_faults) file c.args.dir.now size root (program_of c.args.kernel) c.args.finished.words.items logs has _ _ c.in-Err.trouble c.in-Err.ensures.refused)

@@ -5,7 +5,8 @@ use Rattle.run_command.proofs.sealing.discard_all.Given as goal
 
 abbrev pub invariant-loop-log : goal.invariant-loop-log
 invariant-loop-log g l = record {
-  same : g.F.Folder.content l.folder ≡ g.F.Folder.content l.initial.folder;
-  later : g.F.Folder.write_faults l.initial.folder ≤ g.F.Folder.write_faults l.folder;
-  faulty : RaiseFaults g.F.Log.Log.faults l.yielded (Rose (g.F.Folder.write_faults l.initial.folder) (g.F.Folder.write_faults l.folder));
+  same : (g.F.Folder.state l.folder).content ≡ (g.F.Folder.state l.initial.folder).content;
+  same_roots : (g.F.Folder.state l.folder).roots ≡ (g.F.Folder.state l.initial.folder).roots;
+  later : (g.F.Folder.state l.initial.folder).write_faults ≤ (g.F.Folder.state l.folder).write_faults;
+  faulty : RaiseFaults g.F.Log.Log.faults l.yielded (Rose (g.F.Folder.state l.initial.folder).write_faults (g.F.Folder.state l.folder).write_faults);
 }

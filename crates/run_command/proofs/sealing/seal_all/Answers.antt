@@ -7,8 +7,9 @@ use Rattle.run_command.proofs.sealing.seal_all.Goals as goal
 
 pub loop-log-init : goal.loop-log-init
 loop-log-init g c = record {
-  seals = seals_all_none (g.F.Folder.content c.args.folder.now);
+  seals = seals_all_none (g.F.Folder.state c.args.folder.now).content;
   tells = refl;
+  same_roots = refl;
   later = omega arith;
   faulty = faults_none g.F.Log.Log.faults _;
   no_fault = λ all. refl;
@@ -17,9 +18,10 @@ loop-log-init g c = record {
 
 pub loop-log-preserved : goal.loop-log-preserved
 loop-log-preserved g c = record {
-  seals = seals_all_push _ _ _ c.loop-log.yielded c.in-Some.field-0-0 c.in-Some.log c.in-Some.field-0-2 c.loop-log.outcome c.seal_next-outcome.result _ (g.F.Folder.content c.loop-log.folder) _
+  seals = seals_all_push _ _ _ c.loop-log.yielded c.in-Some.field-0 c.loop-log.outcome c.seal_next-outcome.result _ (g.F.Folder.state c.loop-log.folder).content _
       c.loop-log.invariant.seals c.seal_next-outcome.ensures.sealed c.seal_next-outcome.ensures.refused c.seal_next-outcome.ensures.given_up;
   tells = cc;
+  same_roots = cc;
   later = let taken = c.seal_next-outcome.ensures.log_faults in omega arith;
   faulty = faults_push g.F.Log.Log.faults c.loop-log.yielded _ _ _ (λ rose. let taken = c.seal_next-outcome.ensures.log_faults in omega arith) c.loop-log.invariant.faulty
       (λ own. let rose = c.seal_next-outcome.ensures.log_faults.faulty own in let before = c.loop-log.invariant.later in omega arith);

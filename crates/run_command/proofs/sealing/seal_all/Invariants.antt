@@ -7,10 +7,11 @@ use Rattle.run_command.proofs.sealing.seal_all.Given as goal
 
 abbrev pub invariant-loop-log : goal.invariant-loop-log
 invariant-loop-log g l = record {
-  seals : SealsAll (all_logged g.F.Log.Log.dir g.F.Log.Log.path g.F.Log.Log.text l.yielded) l.outcome (g.F.Folder.content l.initial.folder) (g.F.Folder.content l.folder);
-  tells : is_some (g.F.Folder.content l.folder) ≡ is_some (g.F.Folder.content l.initial.folder);
-  later : g.F.Folder.write_faults l.initial.folder ≤ g.F.Folder.write_faults l.folder;
-  faulty : RaiseFaults g.F.Log.Log.faults l.yielded (Rose (g.F.Folder.write_faults l.initial.folder) (g.F.Folder.write_faults l.folder));
-  no_fault : OnOk l.outcome (AreFaultless g.F.Log.Log.faults l.yielded → g.F.Folder.write_faults l.folder ≡ g.F.Folder.write_faults l.initial.folder);
-  cause : IsErrOf l.outcome trouble.Failed → Rose (g.F.Folder.write_faults l.initial.folder) (g.F.Folder.write_faults l.folder);
+  seals : SealsAll (all_logged g.F.Log.Log.dir g.F.Log.Log.path g.F.Log.Log.text l.yielded) l.outcome (g.F.Folder.state l.initial.folder).content (g.F.Folder.state l.folder).content;
+  tells : is_some (g.F.Folder.state l.folder).content ≡ is_some (g.F.Folder.state l.initial.folder).content;
+  same_roots : (g.F.Folder.state l.folder).roots ≡ (g.F.Folder.state l.initial.folder).roots;
+  later : (g.F.Folder.state l.initial.folder).write_faults ≤ (g.F.Folder.state l.folder).write_faults;
+  faulty : RaiseFaults g.F.Log.Log.faults l.yielded (Rose (g.F.Folder.state l.initial.folder).write_faults (g.F.Folder.state l.folder).write_faults);
+  no_fault : OnOk l.outcome (AreFaultless g.F.Log.Log.faults l.yielded → (g.F.Folder.state l.folder).write_faults ≡ (g.F.Folder.state l.initial.folder).write_faults);
+  cause : IsErrOf l.outcome trouble.Failed → Rose (g.F.Folder.state l.initial.folder).write_faults (g.F.Folder.state l.folder).write_faults;
 }

@@ -21,13 +21,13 @@ returns-in_err-write_index-clause-refused g c =
     let p = err_from_is_err_and c.from_residual-in_err-write_index.result c.from_residual-in_err-write_index.ensures.1 in
     let logs = all_logged g.F.Log.Log.dir g.F.Log.Log.path g.F.Log.Log.text c.args.logs.items in
     let rows : c.deref-2.result.now ≡ rows_of_logs logs = rw (c.deref-2.ensures.value, c.in-Ok.ensures, c.deref.ensures.value) (sym (rows-logged g.F.Log.Log.dir g.F.Log.Log.path g.F.Log.Log.text c.args.logs.items)) in
-    rw (p.1) (stores_prefix c.args.dir.now logs _ (g.F.Folder.content c.seal_all.new.folder) _ c.in_ok-seal_all.ensures.seals (rw rows at c.in_err-write_index.ensures.refused))
+    rw (p.1) (stores_prefix c.args.dir.now logs _ (g.F.Folder.state c.seal_all.new.folder).content _ c.in_ok-seal_all.ensures.seals (rw rows at c.in_err-write_index.ensures.refused))
 
 pub returns-clause-stored : goal.returns-clause-stored
 returns-clause-stored g c =
     let logs = all_logged g.F.Log.Log.dir g.F.Log.Log.path g.F.Log.Log.text c.args.logs.items in
     let rows : c.deref-2.result.now ≡ rows_of_logs logs = rw (c.deref-2.ensures.value, c.in-Ok.ensures, c.deref.ensures.value) (sym (rows-logged g.F.Log.Log.dir g.F.Log.Log.path g.F.Log.Log.text c.args.logs.items)) in
-    stores_all c.args.dir.now logs _ (g.F.Folder.content c.seal_all.new.folder) _ c.in_ok-seal_all.ensures.seals (rw rows at c.in_ok-write_index.ensures.done)
+    stores_all c.args.dir.now logs _ (g.F.Folder.state c.seal_all.new.folder).content _ c.in_ok-seal_all.ensures.seals (rw rows at c.in_ok-write_index.ensures.done)
 
 pub returns-in_err-write_index-clause-faulty : goal.returns-in_err-write_index-clause-faulty
 returns-in_err-write_index-clause-faulty g c = faults_weaker g.F.Log.Log.faults _ _ _ (λ rose. let cause = c.write_index.ensures.cause in omega arith) c.seal_all.ensures.faulty

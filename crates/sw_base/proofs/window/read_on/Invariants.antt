@@ -5,11 +5,10 @@ use Rattle.sw_base.proofs.window.read_on.Given as goal
 
 abbrev pub invariant-reads : goal.invariant-reads
 invariant-reads g l = record {
-  same : g.F.Folder.content l.folder ≡ g.F.Folder.content l.fn.folder;
+  same : g.F.Folder.state l.folder ≡ g.F.Folder.state l.fn.folder;
   later : g.F.Folder.read_faults l.fn.folder ≤ g.F.Folder.read_faults l.folder;
-  same_writes : g.F.Folder.write_faults l.folder ≡ g.F.Folder.write_faults l.fn.folder;
   chunk : length l.chunk ≡ length l.fn.chunk;
-  shows : WhereTold (g.F.Folder.content l.fn.folder) (λ c. Shows (record { place = l.place; ahead = l.fn.bytes.items }) (file_of c l.name)
+  shows : WhereTold (g.F.Folder.state l.fn.folder).content (λ c. Shows (record { place = l.place; ahead = l.fn.bytes.items }) (file_of c l.name)
       → Shows (record { place = l.place; ahead = l.bytes.items }) (file_of c l.name));
 }
 

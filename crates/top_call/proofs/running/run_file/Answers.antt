@@ -9,7 +9,7 @@ use Rattle.top_call.proofs.running.run_file.Goals as goal
 
 pub returns-clause-answers : goal.returns-clause-answers
 returns-clause-answers g c = λ old is new now.
-    Tries-weaker (IsDue c.run-outcome.result) (RunDue (Rose (g.F.Folder.write_faults c.args.folder.now) (g.F.Folder.write_faults c.run-outcome.new.folder)) c.args.kernel.now c.args.dir.now c.args.size old new) _ _ _
+    Tries-weaker (IsDue c.run-outcome.result) (RunDue (Rose (g.F.Folder.state c.args.folder.now).write_faults (g.F.Folder.state c.run-outcome.new.folder).write_faults) c.args.kernel.now c.args.dir.now c.args.size old new) _ _ _
     (λ status text due. record { outcome = c.run-outcome.result; came = c.run-outcome.ensures.came old is new now; due = due }) c.print_outcome.ensures.prints
 
 pub returns-clause-leaves : goal.returns-clause-leaves

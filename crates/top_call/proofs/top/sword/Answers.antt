@@ -1,16 +1,15 @@
-use Rattle.std.proofs.Common.{refl, inr, subst, List, ℕ}
+use Rattle.std.proofs.Common.{refl, ap, inl, inr, subst, List, ℕ}
 use Rattle.sw_base.specs.Environment.{Rose}
 use Rattle.command_answer.specs.Answer.{Answers, Tries, silent}
 use Rattle.command_answer.proofs.Answering.{Answers-of, Tries-from_prints}
-use Rattle.top_call.specs.Check.{FolderDue, HasReport}
+use Rattle.folder_commands.specs.Check.{FolderDue, HasReport}
 use Rattle.run_command.specs.Run.{LeavesPart, RunDue}
-use Rattle.top_call.specs.Show.{ShowsRecords}
+use Rattle.folder_commands.specs.Show.{ShowsRecords}
 use Rattle.top_call.specs.Arguments.{UsageDue, check, gen, replay, run, show, texts}
-use Rattle.top_call.proofs.FolderAnswers.{usage_once}
-use Rattle.top_call.proofs.ArgumentLists.{same_check, same_gen, same_replay, same_run, same_show}
-use Rattle.top_call.specs.Gen.{GenDue}
-use Rattle.top_call.specs.Replay.{ReplayDue}
-use Rattle.top_call.proofs.OneSummary.{one_summary}
+use Rattle.top_call.proofs.ArgumentLists.{same_check, same_gen, same_replay, same_run, same_show, usage_once}
+use Rattle.folder_commands.specs.Gen.{GenDue}
+use Rattle.folder_commands.specs.Replay.{ReplayDue}
+use Rattle.folder_commands.proofs.OneSummary.{one_summary}
 use Rattle.top_call.proofs.top.sword.Goals as goal
 
 pub returns-in-Ok-None-clause-usage : goal.returns-in-Ok-None-clause-usage
@@ -45,23 +44,23 @@ returns-in-Ok-None-clause-run g c = λ kernel dir size says. let usage = rw c.in
 pub returns-in-Ok-Some-Run-clause-run : goal.returns-in-Ok-Some-Run-clause-run
 returns-in-Ok-Some-Run-clause-run g c = λ kernel dir size says old is new now.
     let said = rw (c.in-Ok-Some-Run.field-0-is, c.in-Ok-Some-Run.field-0-0-is) at c.in-Ok-Some-Run.ensures.said in
-    same_run (λ (k d : List ℕ) (n : ℕ). Tries (RunDue (Rose (g.F.Folder.write_faults c.args.folder.now) (g.F.Folder.write_faults c.run_file.new.folder)) k d n old new) (g.O.Out.written c.args.out.now) (g.O.Out.written c.run_file.new.out) c.run_file.result) (texts c.args.arguments.now) _ _ kernel dir _ size
+    same_run (λ (k d : List ℕ) (n : ℕ). Tries (RunDue (Rose (g.F.Folder.state c.args.folder.now).write_faults (g.F.Folder.state c.run_file.new.folder).write_faults) k d n old new) (g.O.Out.written c.args.out.now) (g.O.Out.written c.run_file.new.out) c.run_file.result) (texts c.args.arguments.now) _ _ kernel dir _ size
     said says (c.run_file.ensures.answers old is new now)
 
 pub returns-in-Ok-Some-Run-clause-run_leaves : goal.returns-in-Ok-Some-Run-clause-run_leaves
 returns-in-Ok-Some-Run-clause-run_leaves g c = λ kernel dir size says old is new now failure.
     let said = rw (c.in-Ok-Some-Run.field-0-is, c.in-Ok-Some-Run.field-0-0-is) at c.in-Ok-Some-Run.ensures.said in
-    same_run (λ (k d : List ℕ) (n : ℕ). LeavesPart (Rose (g.F.Folder.write_faults c.args.folder.now) (g.F.Folder.write_faults c.run_file.new.folder)) k d n old new) (texts c.args.arguments.now) _ _ kernel dir _ size said says (c.run_file.ensures.leaves old is new now failure)
+    same_run (λ (k d : List ℕ) (n : ℕ). LeavesPart (Rose (g.F.Folder.state c.args.folder.now).write_faults (g.F.Folder.state c.run_file.new.folder).write_faults) k d n old new) (texts c.args.arguments.now) _ _ kernel dir _ size said says (c.run_file.ensures.leaves old is new now failure)
 
 pub returns-in-Ok-Some-Run-clause-only_printed : goal.returns-in-Ok-Some-Run-clause-only_printed
 returns-in-Ok-Some-Run-clause-only_printed g c = λ old is none.
     let said = rw (c.in-Ok-Some-Run.field-0-is, c.in-Ok-Some-Run.field-0-0-is) at c.in-Ok-Some-Run.ensures.said in
     c.run_file.ensures.only_printed old is (λ p can. none (record { kernel = _; dir = _; size = _; says = said; program = p; can = can }))
 
-pub returns-in-Ok-Some-Run-clause-no_writes : goal.returns-in-Ok-Some-Run-clause-no_writes
-returns-in-Ok-Some-Run-clause-no_writes g c = λ old is none.
+pub returns-in-Ok-Some-Run-clause-untouched : goal.returns-in-Ok-Some-Run-clause-untouched
+returns-in-Ok-Some-Run-clause-untouched g c = λ old is none.
     let said = rw (c.in-Ok-Some-Run.field-0-is, c.in-Ok-Some-Run.field-0-0-is) at c.in-Ok-Some-Run.ensures.said in
-    c.run_file.ensures.same_writes old is (λ p can. none (record { kernel = _; dir = _; size = _; says = said; program = p; can = can }))
+    c.run_file.ensures.untouched old is (λ p can. none (record { kernel = _; dir = _; size = _; says = said; program = p; can = can }))
 
 pub returns-in-Ok-None-clause-gen_ : goal.returns-in-Ok-None-clause-gen_
 returns-in-Ok-None-clause-gen_ g c = λ rounds workers says. let usage = rw c.in-Ok-None.field-0-is at c.in-Ok-None.ensures.usage in absurd (usage (gen rounds workers) says)
@@ -93,3 +92,32 @@ returns-in-Ok-Some-Replay-clause-replay g c = λ kernel dir says content told.
     let said = rw (c.in-Ok-Some-Replay.field-0-is, c.in-Ok-Some-Replay.field-0-0-is) at c.in-Ok-Some-Replay.ensures.said in
     same_replay (λ (k d : List ℕ). Tries (ReplayDue content.held k d) (g.O.Out.written c.args.out.now) (g.O.Out.written c.replay_file.new.out) c.replay_file.result) (texts c.args.arguments.now) _ _ kernel dir
     said says (c.replay_file.ensures.answers content told)
+
+pub returns-in-Ok-Some-Check-clause-only_reads : goal.returns-in-Ok-Some-Check-clause-only_reads
+returns-in-Ok-Some-Check-clause-only_reads g c = λ _.
+    let said = rw (c.in-Ok-Some-Check.field-0-is, c.in-Ok-Some-Check.field-0-0-is) at c.in-Ok-Some-Check.ensures.said in
+    record { request = check _ _; says = said; reads = tt }
+
+pub returns-in-Ok-Some-Run-clause-only_reads : goal.returns-in-Ok-Some-Run-clause-only_reads
+returns-in-Ok-Some-Run-clause-only_reads g c = λ _.
+    let said = rw (c.in-Ok-Some-Run.field-0-is, c.in-Ok-Some-Run.field-0-0-is) at c.in-Ok-Some-Run.ensures.said in
+    record { request = run _ _ _; says = said; reads = tt }
+
+pub returns-in-Ok-Some-Replay-clause-only_reads : goal.returns-in-Ok-Some-Replay-clause-only_reads
+returns-in-Ok-Some-Replay-clause-only_reads g c = λ _.
+    let said = rw (c.in-Ok-Some-Replay.field-0-is, c.in-Ok-Some-Replay.field-0-0-is) at c.in-Ok-Some-Replay.ensures.said in
+    record { request = replay _ _; says = said; reads = tt }
+
+pub returns-in-Ok-Some-Show-clause-only_reads : goal.returns-in-Ok-Some-Show-clause-only_reads
+returns-in-Ok-Some-Show-clause-only_reads g c = λ _.
+    let said = rw (c.in-Ok-Some-Show.field-0-is, c.in-Ok-Some-Show.field-0-0-is) at c.in-Ok-Some-Show.ensures.said in
+    record { request = show _; says = said; reads = tt }
+
+pub returns-in-Ok-Some-Check-clause-asks_once : goal.returns-in-Ok-Some-Check-clause-asks_once
+returns-in-Ok-Some-Check-clause-asks_once g c = inl (ap (λ s. s.roots) c.check.ensures.same)
+
+pub returns-in-Ok-Some-Show-clause-asks_once : goal.returns-in-Ok-Some-Show-clause-asks_once
+returns-in-Ok-Some-Show-clause-asks_once g c = inl (ap (λ s. s.roots) c.show.ensures.same)
+
+pub returns-in-Ok-Some-Replay-clause-asks_once : goal.returns-in-Ok-Some-Replay-clause-asks_once
+returns-in-Ok-Some-Replay-clause-asks_once g c = inl (ap (λ s. s.roots) c.replay_file.ensures.same)

@@ -32,7 +32,7 @@ module _ (old mid : Progress) (new : Buffered) (room : HasRoomFor old mid) (same
 pub put-requires : goal.put-requires
 put-requires g c =
     let room = subst (λ (p : Progress). HasRoomFor c.args.self.now p) (sym c.self.view_is) c.in_ok-ready.ensures.room in
-    (search rules, may_still c.args.self.now (record { hand = c.self.inside.hand; buffer = c.self.inside.buffer; tally = record { draws = c.self.inside.draws; next_loop = c.self.inside.next_loop; forked = c.self.inside.forked }; done = entries_of (record { dir = g.L.Log.dir; path = g.L.Log.path; text = g.L.Log.text; faults = g.L.Log.faults }) c.self.inside.done.items }) c.children.new.buffer room c.children.ensures.same c.in-Ok.ensures.unrefused)
+    (search rules, (search rules, may_still c.args.self.now (record { hand = c.self.inside.hand; buffer = c.self.inside.buffer; tally = record { draws = c.self.inside.draws; next_loop = c.self.inside.next_loop; forked = c.self.inside.forked }; done = entries_of (record { dir = g.L.Log.dir; path = g.L.Log.path; text = g.L.Log.text; faults = g.L.Log.faults }) c.self.inside.done.items }) c.children.new.buffer room c.children.ensures.same c.in-Ok.ensures.unrefused))
 
 pub returns-in-Err-clause-takes : goal.returns-in-Err-clause-takes
 returns-in-Err-clause-takes g c =

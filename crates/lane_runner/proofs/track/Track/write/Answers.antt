@@ -1,4 +1,4 @@
-use Rattle.std.proofs.Common.{refl, ap, sym, ◌∙◌, subst, ℕ, [], ◌∷◌, ◌++◌, ℤ, w64}
+use Rattle.std.proofs.Common.{refl, ap, sym, ◌∙◌, subst, ℕ, [], ◌∷◌, ◌++◌, ℤ, w64, rules}
 use Rattle.std.proofs.lemmas.Result.{err_from_is_err_and}
 use Rattle.std.proofs.lemmas.Int.{to_z-of_z}
 use Rattle.log_format.specs.declared.record.Record.{Record}
@@ -30,7 +30,7 @@ returns-clause-goes g c =
     let bits : ℕ = c.cast_unsigned-bits.result in
     let room = subst (λ (p : Progress). HasRoomFor c.args.self.now p) (sym c.self.view_is) c.in_ok-ready.ensures.room in
     λ slots.
-    write_made c.args.world.now c.args.element.now c.requires.stands c.args.line c.args.site bits c.requires.line c.args.self.now mid new room
+    write_made c.args.world.now c.args.element.now c.requires.stands c.args.line c.args.site bits c.requires.line (search rules) c.args.self.now mid new room
     (ap (λ (b : Buffered). b.refused) c.put.ensures.put ∙ room.may_put.unrefused) refl refl slots c.args.value (ap (λ (z : ℤ). to_bits z) (sym (to_z-of_z w64 c.args.value c.ranges.value)) ∙ sym c.cast_unsigned-bits.ensures) c.ranges.value c.requires.fits c.store.ensures
     (record {
       records = λ header records holds. subst (λ (r : Record). HoldsRecords header c.put.new.self (records ++ r ∷ [])) c.access-event.ensures (c.put.ensures.records header records holds);

@@ -4,6 +4,7 @@ use Rattle.std.specs.Prelude.{length}
 use Rattle.std.proofs.lemmas.List.Elements.{All-nil, All-cons}
 use denote.Ref.{Bor, MutBor}
 use Rattle.std.specs.Global.{Vec}
+use Rattle.sw_base.specs.declared.closed_log.ClosedLog.{ClosedLog}
 use Rattle.sw_base.specs.declared.path.Step.{Step}
 use Rattle.sw_base.specs.declared.trouble.Trouble.TheVariants as trouble
 use Rattle.event_buffer.specs.Buffered.{Buffered}
@@ -21,7 +22,7 @@ use Rattle.lane_runner.specs.Stopping.{IsInRegion}
 use Rattle.kernel_syntax.specs.declared.syntax.Array.{Array}
 use Rattle.lane_runner.specs.Teams.{EachTeam, MayFork}
 use Rattle.lane_runner.specs.World.{WorldValue, IsWorld}
-use Rattle.kernel_syntax.specs.Arithmetic.{IsWidth}
+use Rattle.log_format.specs.Fitting.{IsWidth}
 use Rattle.lane_runner.proofs.NoRegion.{no_memory_for}
 use Rattle.lane_runner.proofs.OwnWords.{bounded_world}
 use Rattle.lane_tests.proofs.tests.one_lane.executed.Goals as goal
@@ -33,11 +34,11 @@ ran_none w team slots task path number hand after before later r there same kept
     (subst (λ (h : HandValue View). RanRegion w team slots task number hand h before later (Err (path, stop.Trouble trouble.Memory))) (sym same)
     (no_memory_for w team slots task number hand before later there path inside kept))
 
-module _ {T : Type 0} (w : WorldValue) (accepts : MutBor (HandValue View) → Bor Locals → ℕ → Vec T → Bor Team → MutBor (Vec (List Step × T × ℕ)) → Type 0)
-    (gives : MutBor (HandValue View) → Bor Locals → ℕ → Vec T → Bor Team → MutBor (Vec (List Step × T × ℕ)) → Answer → MutBor (HandValue View) → MutBor (Vec (List Step × T × ℕ)) → Type 0)
+module _ {T : Type 0} (w : WorldValue) (accepts : MutBor (HandValue View) → Bor Locals → ℕ → Vec T → Bor Team → MutBor (Vec (ClosedLog T)) → Type 0)
+    (gives : MutBor (HandValue View) → Bor Locals → ℕ → Vec T → Bor Team → MutBor (Vec (ClosedLog T)) → Answer → MutBor (HandValue View) → MutBor (Vec (ClosedLog T)) → Type 0)
     (seen : LogView T) (task : Buffered) (root : task.path ≡ [])
-    (accepted : (hand : MutBor (HandValue View)) (locals : Bor Locals) (number : ℕ) (logs : Vec T) (given : Bor Team) (done : MutBor (Vec (List Step × T × ℕ))) → accepts hand locals number logs given done)
-    (told : (hand after : MutBor (HandValue View)) (locals : Bor Locals) (number : ℕ) (logs : Vec T) (given : Bor Team) (done now_done : MutBor (Vec (List Step × T × ℕ))) (r : Answer) → gives hand locals number logs given done r after now_done
+    (accepted : (hand : MutBor (HandValue View)) (locals : Bor Locals) (number : ℕ) (logs : Vec T) (given : Bor Team) (done : MutBor (Vec (ClosedLog T))) → accepts hand locals number logs given done)
+    (told : (hand after : MutBor (HandValue View)) (locals : Bor Locals) (number : ℕ) (logs : Vec T) (given : Bor Team) (done now_done : MutBor (Vec (ClosedLog T))) (r : Answer) → gives hand locals number logs given done r after now_done
     → (after.now ≡ hand.now) × (now_done.now ≡ done.now) × (r ≡ Err (record { region = number; lane = 0; span = given.now.span } ∷ [], stop.Trouble trouble.Memory))) where
   may_fork : (team : TeamTree) → MayFork w accepts gives seen task team
   may_fork team = record {
@@ -46,7 +47,7 @@ module _ {T : Type 0} (w : WorldValue) (accepts : MutBor (HandValue View) → Bo
       accepted = λ hand locals number logs given done is free new. accepted hand locals number logs given done;
       ran = λ hand after locals number logs given done now_done r is free new gave.
           let t = told hand after locals number logs given done now_done r gave in
-          ran_none w team locals.now.slots.items task _ number hand.now after.now (entries_of seen done.now.items) (entries_of seen now_done.now.items) r free.free.belongs.there t.0 (ap (λ (v : Vec (List Step × T × ℕ)). entries_of seen v.items) t.1) t.2
+          ran_none w team locals.now.slots.items task _ number hand.now after.now (entries_of seen done.now.items) (entries_of seen now_done.now.items) r free.free.belongs.there t.0 (ap (λ (v : Vec (ClosedLog T)). entries_of seen v.items) t.1) t.2
           (record {
             lane = 0;
             below = [];

@@ -10,12 +10,11 @@ use Rattle.log_replay.proofs.lane.Lane.+executing.Given as goal
 
 abbrev pub invariant-chunks-chunks : goal.invariant-chunks-chunks
 invariant-chunks-chunks g l = record {
-  followed : FollowedChunks (g.F.Folder.content l.fn.folder) l.place (code_of l.body.stmts.items) l.fn.slot l.fn.from l.fn.chunk l.fn.total l.first (standing l.fn.self) (standing l.self);
+  followed : FollowedChunks (g.F.Folder.state l.fn.folder) l.place (code_of l.body.stmts.items) l.fn.slot l.fn.from l.fn.chunk l.fn.total l.first (standing l.fn.self) (standing l.self);
   stride : l.stride ≡ l.fn.chunk * l.place.span;
   fewer : l.self.reader.left ≤ l.fn.self.reader.left;
-  same : g.F.Folder.content l.folder ≡ g.F.Folder.content l.fn.folder;
+  same : g.F.Folder.state l.folder ≡ g.F.Folder.state l.fn.folder;
   later : g.F.Folder.read_faults l.fn.folder ≤ g.F.Folder.read_faults l.folder;
-  same_writes : g.F.Folder.write_faults l.folder ≡ g.F.Folder.write_faults l.fn.folder;
 }
 
 abbrev pub decreases-chunks-chunks : goal.decreases-chunks-chunks
@@ -23,11 +22,10 @@ decreases-chunks-chunks g l = l.total - l.first
 
 abbrev pub invariant-drawn_chunks-draws : goal.invariant-drawn_chunks-draws
 invariant-drawn_chunks-draws g l = record {
-  on : FollowsOn (g.F.Folder.content l.fn.folder) (draw_all l.fn.line (chunk_count l.fn.chunk l.fn.total) (λ q. each (chunk_iterations l.fn.chunk l.fn.total q) (turn_from l.place (code_of l.body.stmts.items) l.fn.slot l.fn.from))) (standing l.fn.self) (standing l.self);
+  on : FollowsOn (g.F.Folder.state l.fn.folder) (draw_all l.fn.line (chunk_count l.fn.chunk l.fn.total) (λ q. each (chunk_iterations l.fn.chunk l.fn.total q) (turn_from l.place (code_of l.body.stmts.items) l.fn.slot l.fn.from))) (standing l.fn.self) (standing l.self);
   fewer : l.self.reader.left ≤ l.fn.self.reader.left;
-  same : g.F.Folder.content l.folder ≡ g.F.Folder.content l.fn.folder;
+  same : g.F.Folder.state l.folder ≡ g.F.Folder.state l.fn.folder;
   later : g.F.Folder.read_faults l.fn.folder ≤ g.F.Folder.read_faults l.folder;
-  same_writes : g.F.Folder.write_faults l.folder ≡ g.F.Folder.write_faults l.fn.folder;
 }
 
 abbrev pub decreases-drawn_chunks-draws : goal.decreases-drawn_chunks-draws
@@ -35,19 +33,17 @@ decreases-drawn_chunks-draws g l = l.self.reader.left
 
 abbrev pub invariant-repeat-loop-i : goal.invariant-repeat-loop-i
 invariant-repeat-loop-i g l = record {
-  follows : Follows (g.F.Folder.content l.fn.folder) (turns l.i l.fn.first (turn_from l.place (code_of l.body.stmts.items) l.slot l.from)) (standing l.fn.self) (standing l.self) (Ok tt);
+  follows : Follows (g.F.Folder.state l.fn.folder) (turns l.i l.fn.first (turn_from l.place (code_of l.body.stmts.items) l.slot l.from)) (standing l.fn.self) (standing l.self) (Ok tt);
   fewer : l.self.reader.left ≤ l.fn.self.reader.left;
-  same : g.F.Folder.content l.folder ≡ g.F.Folder.content l.fn.folder;
+  same : g.F.Folder.state l.folder ≡ g.F.Folder.state l.fn.folder;
   later : g.F.Folder.read_faults l.fn.folder ≤ g.F.Folder.read_faults l.folder;
-  same_writes : g.F.Folder.write_faults l.folder ≡ g.F.Folder.write_faults l.fn.folder;
 }
 
 abbrev pub invariant-statements-loop-stmt : goal.invariant-statements-loop-stmt
 invariant-statements-loop-stmt g l = record {
   items : l.stmt-items ≡ l.body.stmts.items;
-  follows : Follows (g.F.Folder.content l.fn.folder) (run l.place (code_of (take l.stmt-index l.body.stmts.items))) (standing l.fn.self) (standing l.self) (Ok tt);
+  follows : Follows (g.F.Folder.state l.fn.folder) (run l.place (code_of (take l.stmt-index l.body.stmts.items))) (standing l.fn.self) (standing l.self) (Ok tt);
   fewer : l.self.reader.left ≤ l.fn.self.reader.left;
-  same : g.F.Folder.content l.folder ≡ g.F.Folder.content l.fn.folder;
+  same : g.F.Folder.state l.folder ≡ g.F.Folder.state l.fn.folder;
   later : g.F.Folder.read_faults l.fn.folder ≤ g.F.Folder.read_faults l.folder;
-  same_writes : g.F.Folder.write_faults l.folder ≡ g.F.Folder.write_faults l.fn.folder;
 }

@@ -13,10 +13,10 @@ pub returns-in_err-number-clause-follows : goal.returns-in_err-number-clause-fol
 returns-in_err-number-clause-follows g c =
     let p = err_from_is_err_and c.from_residual.result c.from_residual.ensures.1 in
     rw (p.1, p.2)
-    (set_stops (g.F.Folder.content c.args.folder.now) c.args.place.now c.args.slot (term_of c.args.expr.now) (standing c.args.self.now) (standing c.value.new.self) c.in_err-number.field-0.0 c.in_err-number.ensures.follows)
+    (set_stops (g.F.Folder.state c.args.folder.now) c.args.place.now c.args.slot (term_of c.args.expr.now) (standing c.args.self.now) (standing c.value.new.self) c.in_err-number.field-0.0 c.in_err-number.ensures.follows)
 
 pub returns-clause-follows : goal.returns-clause-follows
 returns-clause-follows g c =
-    subst (λ (x : Standing). Follows (g.F.Folder.content c.args.folder.now) (run c.args.place.now (tree.Set c.args.slot (term_of c.args.expr.now) tree.Done)) (standing c.args.self.now) x (Ok tt))
+    subst (λ (x : Standing). Follows (g.F.Folder.state c.args.folder.now) (run c.args.place.now (tree.Set c.args.slot (term_of c.args.expr.now) tree.Done)) (standing c.args.self.now) x (Ok tt))
     (ap (λ (z : ℤ). assigned c.args.slot z (standing c.value.new.self)) (sym (to_z-of_z w64 c.in_ok-number.number (search rules))) ∙ sym c.set.ensures.set)
-    (set_goes (g.F.Folder.content c.args.folder.now) c.args.place.now c.args.slot (term_of c.args.expr.now) (standing c.args.self.now) (standing c.value.new.self) c.in_ok-number.number c.in_ok-number.ensures.follows)
+    (set_goes (g.F.Folder.state c.args.folder.now) c.args.place.now c.args.slot (term_of c.args.expr.now) (standing c.args.self.now) (standing c.value.new.self) c.in_ok-number.number c.in_ok-number.ensures.follows)

@@ -8,10 +8,10 @@ use Rattle.log_replay.proofs.lane.Lane.load.Goals as goal
 
 pub returns-in_default-clause-follows : goal.returns-in_default-clause-follows
 returns-in_default-clause-follows g c =
-    loads_none (g.F.Folder.content c.args.folder.now) (element_at c.args.place.now.arrays c.args.array c.args.index) c.args.line c.args.site (standing c.args.self.now) (standing c.args.self.now) c.stray.result
+    loads_none (g.F.Folder.state c.args.folder.now) (element_at c.args.place.now.arrays c.args.array c.args.index) c.args.line c.args.site (standing c.args.self.now) (standing c.args.self.now) c.stray.result
     (ap (λ (z : ℤ). element_at c.args.place.now.arrays c.args.array z) (sym (to_z-of_z w64 c.args.index c.ranges.index)) ∙ c.in_default.ensures) c.stray.ensures
 
 pub returns-clause-follows : goal.returns-clause-follows
 returns-clause-follows g c =
-    loads_some (g.F.Folder.content c.args.folder.now) (element_at c.args.place.now.arrays c.args.array c.args.index) (meant c.in-Some.element) c.args.line c.args.site (standing c.args.self.now) (standing c.read.new.self) c.read.result
+    loads_some (g.F.Folder.state c.args.folder.now) (element_at c.args.place.now.arrays c.args.array c.args.index) (meant c.in-Some.element) c.args.line c.args.site (standing c.args.self.now) (standing c.read.new.self) c.read.result
     (ap (λ (z : ℤ). element_at c.args.place.now.arrays c.args.array z) (sym (to_z-of_z w64 c.args.index c.ranges.index)) ∙ c.in-Some.ensures.is) c.read.ensures.follows

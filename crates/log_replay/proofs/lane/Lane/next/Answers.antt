@@ -6,7 +6,7 @@ use Rattle.log_replay.proofs.lane.Lane.next.Goals as goal
 
 pub returns-in-Some-clause-takes : goal.returns-in-Some-clause-takes
 returns-in-Some-clause-takes g c = λ log done rest at.
-    gives_took (g.F.Folder.content c.args.folder.now) at.content at.is_told rest c.in-Some.next c.next.new.self _ _
+    gives_took (g.F.Folder.state c.args.folder.now) at.content at.is_told rest c.in-Some.next c.next.new.self _ _
     (subst (λ (o : Option Record). GivesNext at.content rest o c.next.new.self) c.in-Some.is (c.in_ok-next.ensures.gives at.content at.is_told rest at.stands))
     refl (search rules) refl refl
 

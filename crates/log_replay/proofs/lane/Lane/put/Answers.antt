@@ -7,14 +7,14 @@ use Rattle.log_replay.proofs.lane.Lane.put.Goals as goal
 pub returns-in_err-next-clause-follows : goal.returns-in_err-next-clause-follows
 returns-in_err-next-clause-follows g c =
     let p = err_from_is_err_and c.from_residual.result c.from_residual.ensures.1 in
-    rw (p.1, p.2) (λ log done rest at. unread (g.F.Folder.content c.args.folder.now) log rest _ (standing c.args.self.now) (standing c.next.new.self) c.in_err-next.field-0.0 (c.in_err-next.ensures.takes log done rest at))
+    rw (p.1, p.2) (λ log done rest at. unread (g.F.Folder.state c.args.folder.now) log rest _ (standing c.args.self.now) (standing c.next.new.self) c.in_err-next.field-0.0 (c.in_err-next.ensures.takes log done rest at))
 
 pub returns-then-not-is_same-clause-follows : goal.returns-then-not-is_same-clause-follows
 returns-then-not-is_same-clause-follows g c = λ log done rest at.
-    put_strays (g.F.Folder.content c.args.folder.now) log done rest (standing c.args.self.now) at c.in_ok-next.next (standing c.next.new.self) (c.in_ok-next.ensures.takes log done rest at) c.args.due c.next.new.self.count
+    put_strays (g.F.Folder.state c.args.folder.now) log done rest (standing c.args.self.now) at c.in_ok-next.next (standing c.next.new.self) (c.in_ok-next.ensures.takes log done rest at) c.args.due c.next.new.self.count
     (λ is. let same = c.is_same.ensures.1 is in cc (same, c.if-not-is_same.true)) refl
 
 pub returns-clause-follows : goal.returns-clause-follows
 returns-clause-follows g c = λ log done rest at.
-    put_reaches (g.F.Folder.content c.args.folder.now) log done rest (standing c.args.self.now) at c.in_ok-next.next (standing c.next.new.self) (c.in_ok-next.ensures.takes log done rest at) c.args.due c.requires
+    put_reaches (g.F.Folder.state c.args.folder.now) log done rest (standing c.args.self.now) at c.in_ok-next.next (standing c.next.new.self) (c.in_ok-next.ensures.takes log done rest at) c.args.due c.requires
     (c.is_same.ensures.0 (search (rules, c.if-not-is_same.false)))

@@ -2,7 +2,7 @@ use Rattle.std.proofs.Common.{◌≡◌, ℤ, refl, sym, ap, ◌∙◌, subst, w
 use Rattle.std.proofs.lemmas.Result.{err_from_is_err_and}
 use Rattle.std.proofs.lemmas.Int.{to_z-of_z}
 use Rattle.log_format.specs.declared.record.Kind.TheVariants as kind
-use Rattle.kernel_syntax.specs.Arithmetic.{fitted}
+use Rattle.log_format.specs.Fitting.{fitted}
 use Rattle.kernel_model.specs.State.{from_bits}
 use Rattle.kernel_model.specs.Value.{access, read}
 use Rattle.log_replay.specs.Following.{Reached, here}
@@ -14,7 +14,7 @@ use Rattle.log_replay.proofs.lane.Lane.read.Goals as goal
 pub returns-in_err-next-clause-follows : goal.returns-in_err-next-clause-follows
 returns-in_err-next-clause-follows g c =
     let p = err_from_is_err_and c.from_residual.result c.from_residual.ensures.1 in
-    rw (p.1, p.2) (λ log done rest at. unread (g.F.Folder.content c.args.folder.now) log rest _ (standing c.args.self.now) (standing c.next.new.self) c.in_err-next.field-0.0 (c.in_err-next.ensures.takes log done rest at))
+    rw (p.1, p.2) (λ log done rest at. unread (g.F.Folder.state c.args.folder.now) log rest _ (standing c.args.self.now) (standing c.next.new.self) c.in_err-next.field-0.0 (c.in_err-next.ensures.takes log done rest at))
 
 pub returns-then-not-is_same-clause-follows : goal.returns-then-not-is_same-clause-follows
 returns-then-not-is_same-clause-follows g c = λ log done rest at.
@@ -23,7 +23,7 @@ returns-then-not-is_same-clause-follows g c = λ log done rest at.
     to_z-of_z w64 c.fit-value.result (search rules) ∙ c.fit-value.ensures ∙ ap (λ (z : ℤ). fitted z c.args.element.now.width) (to_z-of_z w64 c.cast_signed.result (search rules) ∙ c.cast_signed.ensures) in
     let due : c.access-due.result ≡ access kind.Read e c.args.site c.args.line (fitted (from_bits c.in_ok-next.next.value) c.args.element.now.width) =
     c.access-due.ensures ∙ ap (λ (z : ℤ). access kind.Read e c.args.site c.args.line z) value_is in
-    read_strays (g.F.Folder.content c.args.folder.now) log done rest (standing c.args.self.now) at c.in_ok-next.next (standing c.next.new.self) (c.in_ok-next.ensures.takes log done rest at) e c.args.site c.args.line c.next.new.self.count
+    read_strays (g.F.Folder.state c.args.folder.now) log done rest (standing c.args.self.now) at c.in_ok-next.next (standing c.next.new.self) (c.in_ok-next.ensures.takes log done rest at) e c.args.site c.args.line c.next.new.self.count
     (λ is. let same = c.is_same.ensures.1 (is ∙ sym due) in cc (same, c.if-not-is_same.true)) refl
 
 pub returns-clause-follows : goal.returns-clause-follows
@@ -33,6 +33,6 @@ returns-clause-follows g c = λ log done rest at.
     to_z-of_z w64 c.fit-value.result (search rules) ∙ c.fit-value.ensures ∙ ap (λ (z : ℤ). fitted z c.args.element.now.width) (to_z-of_z w64 c.cast_signed.result (search rules) ∙ c.cast_signed.ensures) in
     let due : c.access-due.result ≡ access kind.Read e c.args.site c.args.line (fitted (from_bits c.in_ok-next.next.value) c.args.element.now.width) =
     c.access-due.ensures ∙ ap (λ (z : ℤ). access kind.Read e c.args.site c.args.line z) value_is in
-    subst (λ (z : ℤ). Reached (g.F.Folder.content c.args.folder.now) log (read e c.args.site c.args.line (here (standing c.args.self.now) done rest)) z (standing c.next.new.self)) (sym value_is)
-    (read_reaches (g.F.Folder.content c.args.folder.now) log done rest (standing c.args.self.now) at c.in_ok-next.next (standing c.next.new.self) (c.in_ok-next.ensures.takes log done rest at) e c.args.site c.args.line
+    subst (λ (z : ℤ). Reached (g.F.Folder.state c.args.folder.now) log (read e c.args.site c.args.line (here (standing c.args.self.now) done rest)) z (standing c.next.new.self)) (sym value_is)
+    (read_reaches (g.F.Folder.state c.args.folder.now) log done rest (standing c.args.self.now) at c.in_ok-next.next (standing c.next.new.self) (c.in_ok-next.ensures.takes log done rest at) e c.args.site c.args.line
     (c.is_same.ensures.0 (search (rules, c.if-not-is_same.false)) ∙ due))

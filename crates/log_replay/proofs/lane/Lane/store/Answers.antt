@@ -14,22 +14,22 @@ pub returns-in_err-at-clause-follows : goal.returns-in_err-at-clause-follows
 returns-in_err-at-clause-follows g c =
     let p = err_from_is_err_and c.from_residual.result c.from_residual.ensures.1 in
     rw (p.1, p.2)
-    (index_stops (g.F.Folder.content c.args.folder.now) c.args.place.now c.args.array (term_of c.args.index.now) (term_of c.args.expr.now) c.args.line c.args.site (standing c.args.self.now) (standing c.value.new.self) c.in_err-at.field-0.0 c.in_err-at.ensures.follows)
+    (index_stops (g.F.Folder.state c.args.folder.now) c.args.place.now c.args.array (term_of c.args.index.now) (term_of c.args.expr.now) c.args.line c.args.site (standing c.args.self.now) (standing c.value.new.self) c.in_err-at.field-0.0 c.in_err-at.ensures.follows)
 
 pub returns-in_err-number-clause-follows : goal.returns-in_err-number-clause-follows
 returns-in_err-number-clause-follows g c =
     let p = err_from_is_err_and c.from_residual-in_err-number.result c.from_residual-in_err-number.ensures.1 in
     rw (p.1, p.2)
-    (stored_stops (g.F.Folder.content c.args.folder.now) c.args.place.now c.args.array (term_of c.args.index.now) (term_of c.args.expr.now) c.args.line c.args.site (standing c.args.self.now) c.in_ok-at.at (standing c.value.new.self) c.in_ok-at.ensures.follows (standing c.value-2.new.self) c.in_err-number.field-0.0
-    (retold (g.F.Folder.content c.args.folder.now) (g.F.Folder.content c.value.new.folder) (value c.args.place.now (term_of c.args.expr.now)) (standing c.value.new.self) (standing c.value-2.new.self) (Err c.in_err-number.field-0.0) c.value.ensures.same c.in_err-number.ensures.follows))
+    (stored_stops (g.F.Folder.state c.args.folder.now) c.args.place.now c.args.array (term_of c.args.index.now) (term_of c.args.expr.now) c.args.line c.args.site (standing c.args.self.now) c.in_ok-at.at (standing c.value.new.self) c.in_ok-at.ensures.follows (standing c.value-2.new.self) c.in_err-number.field-0.0
+    (retold (g.F.Folder.state c.args.folder.now) (g.F.Folder.state c.value.new.folder) (value c.args.place.now (term_of c.args.expr.now)) (standing c.value.new.self) (standing c.value-2.new.self) (Err c.in_err-number.field-0.0) c.value.ensures.same c.in_err-number.ensures.follows))
 
 pub returns-clause-follows : goal.returns-clause-follows
 returns-clause-follows g c =
     let i : FitsSigned w64 c.in_ok-at.at = search rules in
     let v : FitsSigned w64 c.in_ok-number.number = search rules in
-    store_goes (g.F.Folder.content c.args.folder.now) c.args.place.now c.args.array (term_of c.args.index.now) (term_of c.args.expr.now) c.args.line c.args.site (standing c.args.self.now) c.in_ok-at.at (standing c.value.new.self) c.in_ok-at.ensures.follows (standing c.value-2.new.self) (standing c.put_value.new.self) c.in_ok-number.number c.put_value.result
-    (retold (g.F.Folder.content c.args.folder.now) (g.F.Folder.content c.value.new.folder) (value c.args.place.now (term_of c.args.expr.now)) (standing c.value.new.self) (standing c.value-2.new.self) (Ok c.in_ok-number.number) c.value.ensures.same c.in_ok-number.ensures.follows)
-    (subst (λ (z : ℤ). Follows (g.F.Folder.content c.args.folder.now) (stored (element_at c.args.place.now.arrays c.args.array c.in_ok-at.at) z c.args.line c.args.site) (standing c.value-2.new.self) (standing c.put_value.new.self) c.put_value.result) (to_z-of_z w64 c.in_ok-number.number v)
-    (subst (λ (z : ℤ). Follows (g.F.Folder.content c.args.folder.now) (stored (element_at c.args.place.now.arrays c.args.array z) (to_z w64 (of_z w64 c.in_ok-number.number)) c.args.line c.args.site) (standing c.value-2.new.self) (standing c.put_value.new.self) c.put_value.result) (to_z-of_z w64 c.in_ok-at.at i)
-    (retold (g.F.Folder.content c.args.folder.now) (g.F.Folder.content c.value-2.new.folder) (stored (element_at c.args.place.now.arrays c.args.array (to_z w64 (of_z w64 c.in_ok-at.at))) (to_z w64 (of_z w64 c.in_ok-number.number)) c.args.line c.args.site) (standing c.value-2.new.self) (standing c.put_value.new.self) c.put_value.result
+    store_goes (g.F.Folder.state c.args.folder.now) c.args.place.now c.args.array (term_of c.args.index.now) (term_of c.args.expr.now) c.args.line c.args.site (standing c.args.self.now) c.in_ok-at.at (standing c.value.new.self) c.in_ok-at.ensures.follows (standing c.value-2.new.self) (standing c.put_value.new.self) c.in_ok-number.number c.put_value.result
+    (retold (g.F.Folder.state c.args.folder.now) (g.F.Folder.state c.value.new.folder) (value c.args.place.now (term_of c.args.expr.now)) (standing c.value.new.self) (standing c.value-2.new.self) (Ok c.in_ok-number.number) c.value.ensures.same c.in_ok-number.ensures.follows)
+    (subst (λ (z : ℤ). Follows (g.F.Folder.state c.args.folder.now) (stored (element_at c.args.place.now.arrays c.args.array c.in_ok-at.at) z c.args.line c.args.site) (standing c.value-2.new.self) (standing c.put_value.new.self) c.put_value.result) (to_z-of_z w64 c.in_ok-number.number v)
+    (subst (λ (z : ℤ). Follows (g.F.Folder.state c.args.folder.now) (stored (element_at c.args.place.now.arrays c.args.array z) (to_z w64 (of_z w64 c.in_ok-number.number)) c.args.line c.args.site) (standing c.value-2.new.self) (standing c.put_value.new.self) c.put_value.result) (to_z-of_z w64 c.in_ok-at.at i)
+    (retold (g.F.Folder.state c.args.folder.now) (g.F.Folder.state c.value-2.new.folder) (stored (element_at c.args.place.now.arrays c.args.array (to_z w64 (of_z w64 c.in_ok-at.at))) (to_z w64 (of_z w64 c.in_ok-number.number)) c.args.line c.args.site) (standing c.value-2.new.self) (standing c.put_value.new.self) c.put_value.result
     (c.value-2.ensures.same ∙ c.value.ensures.same) c.put_value.ensures.follows)))

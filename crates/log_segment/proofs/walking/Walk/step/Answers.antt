@@ -2,31 +2,20 @@ use Rattle.std.proofs.Common.{true, false, ◌≡◌, ◌∙◌, ◌-◌, List, 
 use Rattle.race_model.specs.Segment.{Segment as Interval}
 use Rattle.log_segment.specs.declared.walking.Walk.{Walk}
 use Rattle.log_segment.specs.Walking.{AddsSegments}
-use Rattle.log_segment.proofs.Following.{follows_access, follows_other, closed_region, closed_barrier, ends_region, ends_barrier, adds_ended, access_fits, access_sized}
+use Rattle.log_segment.proofs.Following.{follows_access, follows_other, closed_region, closed_barrier, ends_region, ends_barrier, adds_ended, access_fits, access_sized, kind_access}
 use Rattle.log_segment.proofs.OwnLevel.{own_raised, own_passed}
 use Rattle.log_segment.proofs.walking.Walk.step.Goals as goal
 
 pub access-requires-clause-size : goal.access-requires-clause-size
-access-requires-clause-size c = access_sized c.args.next.now (rw c.in-Read.is refl) c.requires.size
+access-requires-clause-size c = access_sized c.args.next.now (kind_access c.args.next.now.kind c.in-Read.is) c.requires.size
 
 pub access-requires-clause-end : goal.access-requires-clause-end
-access-requires-clause-end c = access_fits c.args.next.now (rw c.in-Read.is refl) c.requires.address
-
-pub access-requires-in-Write-clause-size : goal.access-requires-in-Write-clause-size
-access-requires-in-Write-clause-size c = access_sized c.args.next.now (rw c.in-Write.is refl) c.requires.size
-
-pub access-requires-in-Write-clause-end : goal.access-requires-in-Write-clause-end
-access-requires-in-Write-clause-end c = access_fits c.args.next.now (rw c.in-Write.is refl) c.requires.address
+access-requires-clause-end c = access_fits c.args.next.now (kind_access c.args.next.now.kind c.in-Read.is) c.requires.address
 
 pub returns-in_ok-access-in-Read-clause-follows : goal.returns-in_ok-access-in-Read-clause-follows
 returns-in_ok-access-in-Read-clause-follows c = λ logs before begun next number held f.
-    follows_access logs c.args.path.now before c.args.next.now next c.args.self.now c.access.new.self begun c.args.held.now false (rw c.in-Read.is refl) (rw c.in-Read.is refl) held
+    follows_access logs c.args.path.now before c.args.next.now next c.args.self.now c.access.new.self begun c.args.held.now (kind_access c.args.next.now.kind c.in-Read.is) held
     c.in_ok-access-in-Read.ensures.added c.in_ok-access-in-Read.ensures.same f
-
-pub returns-in_ok-access-in-Write-clause-follows : goal.returns-in_ok-access-in-Write-clause-follows
-returns-in_ok-access-in-Write-clause-follows c = λ logs before begun next number held f.
-    follows_access logs c.args.path.now before c.args.next.now next c.args.self.now c.access-in-Write.new.self begun c.args.held.now true (rw c.in-Write.is refl) (rw c.in-Write.is refl) held
-    c.in_ok-access-in-Write.ensures.added c.in_ok-access-in-Write.ensures.same f
 
 pub returns-in_ok-fork-in-Region-clause-own : goal.returns-in_ok-fork-in-Region-clause-own
 returns-in_ok-fork-in-Region-clause-own c =

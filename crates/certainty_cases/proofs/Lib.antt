@@ -1,0 +1,4 @@
+pub mod FixedVectors
+pub mod WorkRuns
+pub mod TwoLanes
+pub mod CertainLanes

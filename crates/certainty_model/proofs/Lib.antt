@@ -1,0 +1,12 @@
+pub mod Pairs
+pub mod FixedRuns
+pub mod TwoTraces
+pub mod Lists
+pub mod TwoLogs
+pub mod Descent
+pub mod Reach
+pub mod Entries
+pub mod LastStores
+pub mod SameReads
+pub mod WholeRuns
+pub mod CertainRuns

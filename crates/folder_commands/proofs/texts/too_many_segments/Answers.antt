@@ -1,0 +1,5 @@
+use Rattle.std.proofs.Common.{append_assoc}
+use Rattle.folder_commands.proofs.texts.too_many_segments.Goals as goal
+
+pub returns : goal.returns
+returns c = simp append_assoc (cc (c.in_ok-format.ensures.ok, c.in_ok-name.ensures))

@@ -1,0 +1,57 @@
+-- What `check` answers: the first bad place of the folder, or the race pairs of the run that it holds.
+use Rattle.std.specs.Prelude.{◌≡◌, ℕ, List, [], ◌∷◌, Option}
+use Rattle.log_format.specs.declared.format.TheConstants.{FORMAT}
+use Rattle.sw_base.specs.declared.path.Step.{Step}
+use Rattle.sw_base.specs.Environment.{Files, Content, WhereTold}
+use Rattle.race_model.specs.BadPlace.{BadPlace, no_index, bad_row, missing_log, bad_record, too_many_segments}
+use Rattle.race_model.specs.FirstBad.{IsFirstBad, HoldsTrace}
+use Rattle.race_model.specs.WellFormed.{IsWellFormed}
+use Rattle.race_model.specs.Race.{IsRacePair, Lists}
+use Rattle.race_model.specs.Trace.{Trace, logs_of}
+use Rattle.race_report.specs.Report.{report_text}
+use Rattle.log_walk.specs.Walk.{IsLogRow}
+use Rattle.command_answer.specs.declared.status.TheConstants.{DONE, RACES, FOLDER_REFUSED}
+use Rattle.folder_commands.specs.Texts.{no_index_text, bad_row_text, missing_log_text, bad_record_text, too_many_segments_text}
+
+-- whether there are races
+abbrev pub report_status : List (ℕ × ℕ) → ℕ
+report_status [] = DONE
+report_status (pair ∷ pairs) = RACES
+
+-- a text that names the log of a row of the folder's index
+abbrev pub NamesLog : Files → List ℕ → ℕ → (List Step → List ℕ) → List ℕ → Type 0
+NamesLog files dir row text_of text = (path : List Step) × IsLogRow FORMAT files dir path row × (text ≡ text_of path)
+
+-- the text for a bad place
+abbrev pub IsPlaceText : Files → List ℕ → BadPlace → List ℕ → Type 0
+IsPlaceText files dir no_index text = text ≡ no_index_text
+IsPlaceText files dir (bad_row n why) text = text ≡ bad_row_text n why
+IsPlaceText files dir (missing_log row) text = NamesLog files dir row missing_log_text text
+IsPlaceText files dir (bad_record row n why) text = NamesLog files dir row (λ path. bad_record_text path n why) text
+IsPlaceText files dir (too_many_segments row n) text = NamesLog files dir row (λ path. too_many_segments_text path n) text
+
+-- the folder is refused at its first bad place
+pub record IsRefusedFolder (files : Files) (dir : List ℕ) (status : ℕ) (text : List ℕ) : Type 0 where
+  pub place : BadPlace
+  pub first : IsFirstBad FORMAT files dir place
+  pub names : IsPlaceText files dir place text
+  pub status_is : status ≡ FOLDER_REFUSED
+
+-- what is due of a command that reads the run of a folder: the first bad place, or the command's answer for the run
+pub data FolderDue (answer : Trace → ℕ → List ℕ → Type 0) (files : Files) (dir : List ℕ) (status : ℕ) (text : List ℕ) : Type 0 where
+  refused : IsRefusedFolder files dir status text → FolderDue answer files dir status text
+  answered : (trace : Trace) → IsWellFormed FORMAT files dir → HoldsTrace FORMAT files dir trace → answer trace status text → FolderDue answer files dir status text
+
+-- the report of the race pairs of a run
+pub record HasReport (trace : Trace) (status : ℕ) (text : List ℕ) : Type 0 where
+  pub pairs : List (ℕ × ℕ)
+  pub races : Lists (IsRacePair (logs_of trace)) pairs
+  pub text_is : text ≡ report_text pairs
+  pub status_is : status ≡ report_status pairs
+
+-- the pairs are the race pairs of the run that the folder holds, where it tells what it holds
+pub record AreFolderPairs (told : Option Content) (dir : List ℕ) (pairs : List (ℕ × ℕ)) : Type 0 where
+  pub trace : Trace
+  pub holds : WhereTold told (λ c. HoldsTrace FORMAT c.held dir trace)
+  pub well_formed : WhereTold told (λ c. IsWellFormed FORMAT c.held dir)
+  pub races : Lists (IsRacePair (logs_of trace)) pairs

@@ -1,0 +1,5 @@
+pub mod Check
+pub mod Gen
+pub mod Replay
+pub mod Show
+pub mod Texts

@@ -1,0 +1,18 @@
+//! The commands that read a folder, and `gen`, whose folder is made from a number: what each prints and which status it answers.
+//!
+//! `check` prints exactly the line pairs of accesses that race, `show` every record, and `replay` whether the folder holds a run of a
+//! kernel; or each the folder's first bad place.
+#![tactic(auto)]
+
+mod checking;
+mod generating;
+mod printing;
+mod refusing;
+mod replaying;
+mod showing;
+mod texts;
+
+pub use checking::check;
+pub use generating::check_generated;
+pub use replaying::replay_file;
+pub use showing::show;

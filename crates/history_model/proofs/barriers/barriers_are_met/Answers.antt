@@ -1,5 +1,0 @@
-use Rattle.history_model.proofs.MetBarriers.{barriers_met}
-use Rattle.history_model.proofs.barriers.barriers_are_met.Goals as goal
-
-pub returns : goal.returns
-returns c = barriers_met

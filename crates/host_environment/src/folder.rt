@@ -1,0 +1,107 @@
+//! A folder of real files.
+ghost use Rattle.std.specs.Prelude.{◌≤◌, None, length, IfOk};
+
+use crate::log::HostLog;
+use crate::system::{counted, is_missing, make_empty, put_whole, trouble};
+use std::alloc::Global;
+use std::fs;
+use std::fs::File;
+use std::io::{self, Read, Seek, SeekFrom};
+use std::rt::Files;
+use sw_base::{Folder, Path, Trouble};
+
+/// Real files, under the names that the calls give.
+#[derive(Drop)]
+pub struct HostFolder<R> {
+    rt: R,
+    pub(crate) read_faults: u64,
+    pub(crate) write_faults: u64,
+    pub(crate) roots: u64,
+}
+
+impl<R: Files> HostFolder<R> {
+    /// Real files, with no fault yet.
+    pub fn new(rt: R) -> Self {
+        HostFolder {
+            rt,
+            read_faults: 0,
+            write_faults: 0,
+            roots: 0,
+        }
+    }
+}
+
+fn read_at<R: Files>(rt: &R, name: &str, at: u64, into: &mut [u8]) -> io::Result<usize>
+    ensures { IfOk result (λ count. count ≤ length into.old) }
+{
+    let mut file = File::open(rt, name)?;
+    file.seek(SeekFrom::Start(at))?;
+    file.read(into)
+}
+
+fn make_root<R: Files>(rt: &R, dir: &str, name: &str) -> io::Result<()> {
+    fs::create_dir_all(rt, dir)?;
+    make_empty(rt, name)
+}
+
+impl<R: Files + Clone + Drop + Send + 'static> Folder for HostFolder<R> {
+    type Log = HostLog<R>;
+
+    ghost state = { λ folder. record { content = None; write_faults = folder.write_faults; roots = folder.roots } };
+
+    ghost read_faults = { λ folder. folder.read_faults };
+
+    fn size(&mut self, _alloc: Global, name: &str) -> Result<Option<u64>, Trouble> {
+        match fs::metadata(&self.rt, name) {
+            Ok(about) => Ok(Some(about.len())),
+            Err(error) if is_missing(&error) => Ok(None),
+            Err(error) => Err(trouble(error, &mut self.read_faults)),
+        }
+    }
+
+    fn read(
+        &mut self,
+        _alloc: Global,
+        name: &str,
+        at: u64,
+        into: &mut [u8],
+    ) -> Result<usize, Trouble> {
+        match read_at(&self.rt, name, at, into) {
+            Ok(count) => Ok(count),
+            Err(error) if is_missing(&error) => Ok(0),
+            Err(error) => Err(trouble(error, &mut self.read_faults)),
+        }
+    }
+
+    fn put(&mut self, _alloc: Global, name: &str, bytes: &[u8]) -> Result<(), Trouble> {
+        counted(put_whole(&self.rt, name, bytes), &mut self.write_faults)
+    }
+
+    fn root(&mut self, alloc: Global, dir: &str) -> Result<HostLog<R>, Trouble> {
+        self.roots = self.roots.saturating_add(1);
+        let path = Path::root();
+        let name = path.name(alloc, dir)?;
+        let rt = self.rt.clone()?;
+        let dir = String::from_str(alloc, dir)?;
+        match make_root(&rt, dir.as_str(), name.as_str()) {
+            Ok(()) => Ok(HostLog {
+                rt,
+                dir,
+                path,
+                faults: 0,
+            }),
+            Err(error) => Err(trouble(error, &mut self.write_faults)),
+        }
+    }
+
+    fn seal(&mut self, _alloc: Global, log: HostLog<R>) -> Result<(), (Trouble, HostLog<R>)> {
+        self.discard(log);
+        Ok(())
+    }
+
+    fn discard(&mut self, log: HostLog<R>) {
+        if log.faults > 0 {
+            self.write_faults = self.write_faults.saturating_add(1);
+        }
+    }
+}

@@ -1,0 +1,18 @@
+//! The environment on the host: real files, the standard output, and a program's arguments and status.
+//!
+//! The objects tell nothing of what they hold; their counts of faults rise at each error of the system but want of memory before
+//! anything was written. What they do to real files is tested.
+#![tactic(auto)]
+
+mod arguments;
+mod folder;
+mod log;
+mod out;
+mod system;
+#[cfg(test)]
+mod tests;
+
+pub use arguments::given_arguments;
+pub use folder::HostFolder;
+pub use log::HostLog;
+pub use out::HostOut;

@@ -1,0 +1,74 @@
+//! Calls of the system, and what their errors are here.
+ghost use Rattle.std.specs.Prelude.{◌≡◌, ◌≤◌, ◌↔◌, IsOk, IsErrOf};
+ghost use Rattle.sw_base.specs.Environment.{Rose, HasCause};
+ghost use Rattle.sw_base.specs.declared.trouble.Trouble.TheVariants as trouble;
+
+use std::fs::{File, OpenOptions};
+use std::io::{self, Error, ErrorKind, Write};
+use std::rt::Files;
+use sw_base::Trouble;
+
+/// What an error of the system is here: each raises the count, but want of memory.
+pub(crate) fn trouble(error: Error, faults: &mut u64) -> Trouble
+    ensures later { faults.old ≤ faults.new }
+    ensures rose { result ≡ trouble.Failed → Rose faults.old faults.new }
+    ensures memory { result ≡ trouble.Memory → faults.new ≡ faults.old }
+{
+    if error.kind() == ErrorKind::OutOfMemory {
+        return Trouble::Memory;
+    }
+    *faults = faults.saturating_add(1);
+    Trouble::Failed
+}
+
+/// What a call of the system came to. An error is a fault that is counted, or want of memory; where there is none, none is counted.
+pub(crate) fn counted(outcome: io::Result<()>, faults: &mut u64) -> Result<(), Trouble>
+    ensures ok { IsOk result ↔ IsOk outcome }
+    ensures none { IsOk outcome → faults.new ≡ faults.old }
+    ensures cause { HasCause faults.old faults.new result }
+    ensures memory { IsErrOf result trouble.Memory → faults.new ≡ faults.old }
+{
+    match outcome {
+        Ok(()) => Ok(()),
+        Err(error) => Err(trouble(error, faults)),
+    }
+}
+
+pub(crate) fn is_missing(error: &Error) -> bool {
+    error.kind() == ErrorKind::NotFound || error.kind() == ErrorKind::NotADirectory
+}
+
+/// Writes the whole piece. Once something was written, want of memory is an error as others are.
+pub(crate) fn write_whole<W: Write>(to: &mut W, piece: &[u8]) -> io::Result<()> {
+    let mut rest = piece;
+    while !rest.is_empty() {
+        match to.write(rest) {
+            Ok(0) => return Err(Error::from(ErrorKind::WriteZero)),
+            Ok(count) => rest = &rest[count..],
+            Err(_) if rest.len() < piece.len() => return Err(Error::from(ErrorKind::Other)),
+            Err(error) => return Err(error),
+        }
+    }
+    match to.flush() {
+        Ok(()) => Ok(()),
+        Err(_) if !piece.is_empty() => Err(Error::from(ErrorKind::Other)),
+        Err(error) => Err(error),
+    }
+}
+
+/// Makes the file hold these bytes.
+pub(crate) fn put_whole<R: Files>(rt: &R, name: &str, bytes: &[u8]) -> io::Result<()> {
+    let mut file = File::create(rt, name)?;
+    write_whole(&mut file, bytes)
+}
+
+pub(crate) fn append_to<R: Files>(rt: &R, name: &str, piece: &[u8]) -> io::Result<()> {
+    let mut file = OpenOptions::new().append(true).open(rt, name)?;
+    write_whole(&mut file, piece)
+}
+
+/// Makes the file, or empties it.
+pub(crate) fn make_empty<R: Files>(rt: &R, name: &str) -> io::Result<()> {
+    File::create(rt, name)?;
+    Ok(())
+}

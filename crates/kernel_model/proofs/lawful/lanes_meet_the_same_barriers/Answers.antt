@@ -1,5 +1,0 @@
-use Rattle.kernel_model.proofs.SameBarriers.{ended_barriers, most_barriers, same_barriers}
-use Rattle.kernel_model.proofs.lawful.lanes_meet_the_same_barriers.Goals as goal
-
-pub returns : goal.returns
-returns c = record { ended = ended_barriers; stopped = most_barriers; same = same_barriers }

@@ -1,5 +1,0 @@
-use Rattle.kernel_model.proofs.LawfulFolder.{folder_keeps}
-use Rattle.kernel_model.proofs.lawful.lawful_folder_keeps_the_rules.Goals as goal
-
-pub returns : goal.returns
-returns c program tasks lawful folder listing few = folder_keeps program lawful tasks folder listing few

@@ -1,7 +1,0 @@
-use Rattle.std.proofs.Common.{take}
-use Rattle.std.specs.Prelude.{map}
-use Rattle.kernel_model.specs.Pieces.{part_of_piece, IsPhasing}
-use Rattle.kernel_model.proofs.phasing.divide.Given as goal
-
-abbrev pub invariant-loop-piece : goal.invariant-loop-piece
-invariant-loop-piece l = IsPhasing (map part_of_piece (take l.piece-index l.pieces)) l.phasing

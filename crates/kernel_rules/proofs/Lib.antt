@@ -1,0 +1,13 @@
+pub mod LawfulFolder
+pub mod LawfulValues
+pub mod LawfulRecords
+pub mod LawfulLogs
+pub mod LawfulVectors
+pub mod SameBarriers
+pub mod SameChunks
+pub mod BarrierCounts
+pub mod EndedTraces
+pub mod DistinctPaths
+pub mod Tabled
+pub mod WorkedRows
+pub mod RunningParts

@@ -1,9 +1,0 @@
-use Rattle.race_model.proofs.FolderForkJoin.{fork_join}
-use Rattle.race_model.proofs.FolderKeepsRules.{keeps_rules}
-use Rattle.race_model.proofs.folders.well_formed_folder_is_fork_join.Goals as goal
-
-pub returns : goal.returns
-returns c = record {
-  keeps = λ format files dir trace good holds. keeps_rules files dir trace holds good;
-  fork_join = λ format trace good. fork_join trace good;
-}

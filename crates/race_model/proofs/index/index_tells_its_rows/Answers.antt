@@ -1,5 +1,0 @@
-use Rattle.race_model.proofs.IndexRows.{index_once, put_is_index}
-use Rattle.race_model.proofs.index.index_tells_its_rows.Goals as goal
-
-pub returns : goal.returns
-returns c = record { once = λ format. index_once; put = λ format. put_is_index }

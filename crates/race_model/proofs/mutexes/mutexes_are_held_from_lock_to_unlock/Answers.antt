@@ -1,5 +1,0 @@
-use Rattle.race_model.proofs.HeldMutexes.{held_exactly}
-use Rattle.race_model.proofs.mutexes.mutexes_are_held_from_lock_to_unlock.Goals as goal
-
-pub returns : goal.returns
-returns c = λ logs x mutex. held_exactly (logs x.path) x.index mutex

@@ -1,0 +1,46 @@
+-- A run that ended is the certain run, and has its words.
+use Rattle.std.proofs.Common.{◌≡◌, refl, ap, ap₂, sym, ◌∙◌, subst, ℕ, List, [], ◌∷◌, length, map, Some}
+use Rattle.sw_base.specs.declared.path.Step.{Step}
+use Rattle.log_format.specs.declared.format.TheConstants.{FORMAT}
+use Rattle.race_model.specs.FirstBad.{rows_of}
+use Rattle.race_model.specs.ForkJoin.{ListsTask}
+use Rattle.race_model.specs.Listing.{IsListing}
+use Rattle.race_model.specs.Row.{Row}
+use Rattle.race_model.specs.Trace.{Trace, logs_of}
+use Rattle.kernel_syntax.specs.Program.{Program}
+use Rattle.kernel_model.specs.Folder.{paths_of, start_at}
+use Rattle.kernel_model.specs.Lawful.{IsLawful}
+use Rattle.region_runner.specs.Answer.{IsRun}
+use Rattle.certainty_model.specs.Certain as certainty
+use Rattle.certainty_model.proofs.CertainRuns.{only_run, end_alike}
+use Rattle.certainty_model.proofs.WholeRuns.{listed_starts, starts_listed}
+use Rattle.lane_runner.specs.World.{element_address}
+use Rattle.run_certainty.specs.CertainRun.{IsCertainRun}
+use Rattle.run_certainty.proofs.SameListing.{same_listing}
+
+row_paths : (tasks : Trace) → map (λ (row : Row). row.path) (rows_of tasks) ≡ paths_of tasks
+row_paths [] = refl
+row_paths (t ∷ tasks) = ap (λ (ps : List (List Step)). t.path ∷ ps) (row_paths tasks)
+
+module _ (program : Program) (lawful : IsLawful program) (run : Trace) (words : List ℕ) (c : IsCertainRun program run words) (tasks : Trace) (others : List ℕ) (ended : IsRun program tasks others) where
+  is_run : certainty.IsRun program tasks
+  is_run = record { traced = ended.traced; address = element_address program.arrays; words = others; history = ended.execution.history }
+
+  same : certainty.AreSame program run tasks
+  same = only_run program lawful run c.certain tasks is_run
+
+  there : (path : List Step) → ListsTask run path → ListsTask tasks path
+  there path lists =
+      let s = listed_starts program lawful c.certain.fixed run c.certain.run.traced path lists in
+      starts_listed program lawful c.certain.fixed tasks ended.traced path s.0 (same.starts path ∙ s.1)
+
+  back : (path : List Step) → ListsTask tasks path → ListsTask run path
+  back path lists =
+      let s = listed_starts program lawful c.certain.fixed tasks ended.traced path lists in
+      starts_listed program lawful c.certain.fixed run c.certain.run.traced path s.0 (sym (same.starts path) ∙ s.1)
+
+  pub tasks_are : tasks ≡ run
+  tasks_are = same_listing run tasks c.listed (subst IsListing (row_paths tasks) ended.rules.rows.lists) there back same.logs
+
+  pub words_are : words ≡ others
+  words_are = end_alike program lawful run c.certain tasks is_run (element_address program.arrays) words others c.ends ended.execution.history (c.all ∙ sym ended.all)

@@ -1,0 +1,2 @@
+pub mod SameListing
+pub mod EndedRuns

@@ -1,0 +1,3 @@
+pub mod BodyParts
+pub mod StmtKinds
+pub mod Dividing

@@ -1,6 +1,0 @@
-use Rattle.std.proofs.Common.{codes}
-use Rattle.top_call.proofs.OneSummary.{holds_run}
-use Rattle.top_call.proofs.generating.generated_folder.Goals as goal
-
-pub returns-in-Ok : goal.returns-in-Ok
-returns-in-Ok c = holds_run (codes "g") c.args.rounds _ _ c.requires.0 c.requires.1 c.in-Ok.ensures.done

@@ -1,5 +1,0 @@
-use Rattle.std.proofs.Common.{append_assoc}
-use Rattle.top_call.proofs.texts.differs.Goals as goal
-
-pub returns : goal.returns
-returns c = simp append_assoc (cc (c.in_ok-format.ensures.ok, c.in_ok-name.ensures))
