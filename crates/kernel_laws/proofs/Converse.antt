@@ -10,7 +10,7 @@ use Rattle.kernel_syntax.specs.Bounds.{IsChunk, IsBoundedSchedule, IsBoundedCode
 use Rattle.kernel_text.specs.declared.fault.KernelWhy.{KernelWhy}
 use Rattle.kernel_text.specs.declared.fault.KernelWhy.TheVariants as why
 use Rattle.kernel_text.specs.Tokens.{Refusal}
-use Rattle.kernel_text.specs.Grammar.{Tree, NumberAt, NameAt, TidAt, SpanAt, Element, Group, Minus, Binary, ScheduleTree, Unsaid, Static, StaticBy, Dynamic, DynamicBy, Stmts, NoMore, Let, Assign, Store, If, IfElse, Loop, Parallel, For, Barrier, Critical, CriticalOf}
+use Rattle.kernel_text.specs.Grammar.{Tree, NumberAt, NameAt, TidAt, SpanAt, Element, Group, Minus, Binary, ScheduleTree, Unsaid, Static, StaticBy, Dynamic, DynamicBy, Stmts, NoMore, Let, Assign, Store, Update, If, IfElse, Loop, Parallel, For, Barrier, Critical, CriticalOf}
 use Rattle.kernel_reader.specs.declared.binding.Variable.{Variable}
 use Rattle.kernel_reader.specs.Scope.{Names, Place, is_array, is_among, is_between, variable_of, with_local, slots, past, count_literal}
 use Rattle.kernel_reader.specs.Rules.{fault_at, fault_if, is_unfit, name_faults, array_faults, tree_faults, assigned_faults, schedule_faults, critical_faults, is_fixed, holds_work, weight, is_misplaced, is_taken, mutex_of, stmts_faults}
@@ -238,6 +238,10 @@ faultless (Assign line name sign_line value rest) total mutexes p site a held f 
     (faultless rest total mutexes p (site + sites value) a held (record { below = f.below; named = f.named.2; small = f.small; quiet = f.quiet; scoped = scope; bounded = f.bounded.1; even = f.even; nested = f.nested; light = f.light; locked = f.locked })))
 faultless (Store line name opened index closed sign_line value rest) total mutexes p site a held f =
     none-of-both (array_faults p.names false line name) _ (array-none (is_array name p.names.arrays) line f.named.0) (none-of-both (tree_faults p.names false index) _ (known-none index p.names f.named.1)
+    (none-of-both (tree_faults p.names false value) _ (known-none value p.names f.named.2)
+    (faultless rest total mutexes p (site + 1 + sites index + sites value) a held (record { below = f.below; named = f.named.3; small = f.small; quiet = f.quiet; scoped = f.scoped.3; bounded = f.bounded.3; even = f.even; nested = f.nested; light = f.light; locked = f.locked }))))
+faultless (Update line name_line name opened index closed minus sign_line value rest) total mutexes p site a held f =
+    none-of-both (array_faults p.names false name_line name) _ (array-none (is_array name p.names.arrays) name_line f.named.0) (none-of-both (tree_faults p.names false index) _ (known-none index p.names f.named.1)
     (none-of-both (tree_faults p.names false value) _ (known-none value p.names f.named.2)
     (faultless rest total mutexes p (site + 1 + sites index + sites value) a held (record { below = f.below; named = f.named.3; small = f.small; quiet = f.quiet; scoped = f.scoped.3; bounded = f.bounded.3; even = f.even; nested = f.nested; light = f.light; locked = f.locked }))))
 faultless (If line test opened if_true closed rest) total mutexes p site a held f =

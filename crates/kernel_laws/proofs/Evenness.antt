@@ -1,7 +1,7 @@
 -- In the code of statements that break no rule, every lane meets each worksharing loop and barrier of its team.
 use Rattle.std.proofs.Common.{◌≡◌, refl, ap₂, ◌∙◌, sym, ℕ, ◌+◌, Bool, true, false, not, ◌&&◌, true≢false}
 use Rattle.std.specs.Prelude.{is_some, option_map, neg_ℤ}
-use Rattle.kernel_text.specs.Grammar.{Tree, NumberAt, NameAt, TidAt, SpanAt, Element, Group, Minus, Binary, Stmts, NoMore, Let, Assign, Store, If, IfElse, Loop, Parallel, For, Barrier, Critical, CriticalOf}
+use Rattle.kernel_text.specs.Grammar.{Tree, NumberAt, NameAt, TidAt, SpanAt, Element, Group, Minus, Binary, Stmts, NoMore, Let, Assign, Store, Update, If, IfElse, Loop, Parallel, For, Barrier, Critical, CriticalOf}
 use Rattle.kernel_reader.specs.Scope.{Names, Place, with_local, slots, past, count_literal}
 use Rattle.kernel_reader.specs.Rules.{plain_value, fixed_value, is_fixed, holds_work, in_branch, in_region, in_work, in_critical, mutex_of}
 use Rattle.kernel_reader.specs.Resolve.{sites, term, code}
@@ -50,6 +50,7 @@ even-code NoMore p q site kept = tt
 even-code (Let line name_line name sign_line value rest) p q site kept = even-code rest _ (with_local q name true) _ kept.2
 even-code (Assign line name sign_line value rest) p q site kept = even-code rest _ q _ kept.2
 even-code (Store line name opened index closed sign_line value rest) p q site kept = even-code rest _ q _ kept.3
+even-code (Update line name_line name opened index closed minus sign_line value rest) p q site kept = even-code rest _ q _ kept.3
 even-code (If line test opened if_true closed rest) p q site kept = (
   free p (in_branch q true) _ if_true (branch-barred q) kept.1,
   refl,

@@ -3,7 +3,7 @@ use Rattle.std.proofs.Common.{ℕ, ◌+◌, true, false, [], ◌∷◌, ◌++◌
 use Rattle.std.proofs.lemmas.Int.{fits_signed_from_abs}
 use Rattle.kernel_text.specs.declared.token.Word.TheVariants as word
 use Rattle.kernel_text.specs.declared.token.Sign.TheVariants as sign
-use Rattle.kernel_text.specs.Grammar.{Tree, NumberAt, NameAt, TidAt, SpanAt, Element, Group, Minus, Binary, tree_tokens, sign_of, reserved, mark, block, schedule_tokens, nowait_tokens, Stmts, NoMore, Let, Assign, Store, If, IfElse, Loop, Parallel, For, Barrier, Critical, CriticalOf, stmts_tokens}
+use Rattle.kernel_text.specs.Grammar.{Tree, NumberAt, NameAt, TidAt, SpanAt, Element, Group, Minus, Binary, tree_tokens, sign_of, update_sign, reserved, mark, block, schedule_tokens, nowait_tokens, Stmts, NoMore, Let, Assign, Store, Update, If, IfElse, Loop, Parallel, For, Barrier, Critical, CriticalOf, stmts_tokens}
 use Rattle.kernel_reader.specs.Scope.{Names, Place, with_local, slots, past}
 use Rattle.kernel_reader.specs.Resolve.{sites, stmts_sites, term, code}
 use Rattle.kernel_model.specs.Lawful.{TermFits, CodeFits}
@@ -38,6 +38,14 @@ code-fits p site (Assign line name sign_line value rest) small =
 code-fits p site (Store line name opened index closed sign_line value rest) small =
     let behind = mark closed sign.CloseBracket ∷ mark sign_line sign.Assign ∷ tree_tokens value ++ stmts_tokens rest in
     let first = small-split (tree_tokens index) behind small.1.1 in
+    let parts = small-split (tree_tokens value) (stmts_tokens rest) first.1.1.1 in (
+      term-fits p.names (site + 1) index first.0,
+      term-fits p.names (site + 1 + sites index) value parts.0,
+      code-fits p (site + 1 + sites index + sites value) rest parts.1,
+    )
+code-fits p site (Update line name_line name opened index closed minus sign_line value rest) small =
+    let behind = mark closed sign.CloseBracket ∷ mark sign_line (update_sign minus) ∷ tree_tokens value ++ stmts_tokens rest in
+    let first = small-split (tree_tokens index) behind small.1.1.1 in
     let parts = small-split (tree_tokens value) (stmts_tokens rest) first.1.1.1 in (
       term-fits p.names (site + 1) index first.0,
       term-fits p.names (site + 1 + sites index) value parts.0,

@@ -4,7 +4,7 @@ use Rattle.std.specs.Prelude.{◌&&◌, is_none, IsTrue, IsSome, unwrap_or}
 use Rattle.kernel_syntax.specs.declared.syntax.Array.{Array}
 use Rattle.kernel_syntax.specs.Layout.{elements}
 use Rattle.kernel_text.specs.declared.fault.KernelWhy.TheVariants as why
-use Rattle.kernel_text.specs.Grammar.{Tree, NumberAt, NameAt, TidAt, SpanAt, Element, Group, Minus, Binary, Stmts, NoMore, Let, Assign, Store, If, IfElse, Loop, Parallel, For, Barrier, Critical, CriticalOf, Declaration, ArrayOf, MutexOf, KernelTree}
+use Rattle.kernel_text.specs.Grammar.{Tree, NumberAt, NameAt, TidAt, SpanAt, Element, Group, Minus, Binary, Stmts, NoMore, Let, Assign, Store, Update, If, IfElse, Loop, Parallel, For, Barrier, Critical, CriticalOf, Declaration, ArrayOf, MutexOf, KernelTree}
 use Rattle.kernel_reader.specs.declared.binding.Variable.{Variable}
 use Rattle.kernel_reader.specs.Scope.{Names, Place, is_array, is_among, is_between, variable_of, with_local, slots, past, count_literal}
 use Rattle.kernel_reader.specs.Rules.{fault_at, fault_if, is_unfit, array_faults, tree_faults, is_fixed, width_of, array_of, declarations_faults, mutex_of, at_main, kernel_faults}
@@ -54,6 +54,8 @@ named-stmts (Assign line name sign_line value rest) p a kept =
     (some-target (variable_of name p.names.scope) line kept.0, named-tree value p.names false kept.1, named-stmts rest p a kept.2)
 named-stmts (Store line name opened index closed sign_line value rest) p a kept =
     (some-array (is_array name p.names.arrays) false line kept.0, named-tree index p.names false kept.1, named-tree value p.names false kept.2, named-stmts rest p a kept.3)
+named-stmts (Update line name_line name opened index closed minus sign_line value rest) p a kept =
+    (some-array (is_array name p.names.arrays) false name_line kept.0, named-tree index p.names false kept.1, named-tree value p.names false kept.2, named-stmts rest p a kept.3)
 named-stmts (If line test opened if_true closed rest) p a kept =
     (named-tree test p.names false kept.0, named-stmts if_true p (record a { uneven = a.uneven || true }) kept.1, named-stmts rest (past p (slots if_true)) a kept.2)
 named-stmts (IfElse line test opened if_true closed else_line else_opened if_false else_closed rest) p a kept =

@@ -4,7 +4,7 @@ use Rattle.std.specs.Prelude.{is_some}
 use Rattle.kernel_text.specs.declared.fault.KernelWhy.{KernelWhy}
 use Rattle.kernel_text.specs.declared.fault.KernelWhy.TheVariants as why
 use Rattle.kernel_text.specs.Tokens.{Refusal}
-use Rattle.kernel_text.specs.Grammar.{Stmts, NoMore, Let, Assign, Store, If, IfElse, Loop, Parallel, For, Barrier, Critical, CriticalOf}
+use Rattle.kernel_text.specs.Grammar.{Stmts, NoMore, Let, Assign, Store, Update, If, IfElse, Loop, Parallel, For, Barrier, Critical, CriticalOf}
 use Rattle.kernel_reader.specs.Scope.{Place, with_local, slots, past, count_literal, is_among, is_between}
 use Rattle.kernel_reader.specs.Rules.{fault_if, array_faults, tree_faults, is_fixed, weight, assigned_faults, is_misplaced, is_taken, schedule_faults, in_branch, in_region, in_work, in_critical, mutex_of, critical_faults, stmts_faults}
 use Rattle.kernel_reader.proofs.Broken.{nil_left, nil_right, fault_if-none}
@@ -28,6 +28,8 @@ AreKept q (Let line name_line name sign_line value rest) =
 AreKept q (Assign line name sign_line value rest) = (assigned_faults q line name ≡ []) × (tree_faults q.names false value ≡ []) × AreKept q rest
 AreKept q (Store line name opened index closed sign_line value rest) =
     (array_faults q.names false line name ≡ []) × (tree_faults q.names false index ≡ []) × (tree_faults q.names false value ≡ []) × AreKept q rest
+AreKept q (Update line name_line name opened index closed minus sign_line value rest) =
+    (array_faults q.names false name_line name ≡ []) × (tree_faults q.names false index ≡ []) × (tree_faults q.names false value ≡ []) × AreKept q rest
 AreKept q (If line test opened if_true closed rest) =
     (tree_faults q.names false test ≡ []) × AreKept (in_branch q true) if_true × AreKept (past q (slots if_true)) rest
 AreKept q (IfElse line test opened if_true closed else_line else_opened if_false else_closed rest) =
@@ -73,6 +75,11 @@ are-kept q (Assign line name sign_line value rest) lawful =
     (there.0, known.0, are-kept q rest known.1)
 are-kept q (Store line name opened index closed sign_line value rest) lawful =
     let there = both (array_faults q.names false line name) _ lawful in
+    let indexed = both (tree_faults q.names false index) _ there.1 in
+    let known = both (tree_faults q.names false value) _ indexed.1 in
+    (there.0, indexed.0, known.0, are-kept q rest known.1)
+are-kept q (Update line name_line name opened index closed minus sign_line value rest) lawful =
+    let there = both (array_faults q.names false name_line name) _ lawful in
     let indexed = both (tree_faults q.names false index) _ there.1 in
     let known = both (tree_faults q.names false value) _ indexed.1 in
     (there.0, indexed.0, known.0, are-kept q rest known.1)

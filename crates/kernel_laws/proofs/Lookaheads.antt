@@ -6,7 +6,7 @@ use Rattle.kernel_text.specs.declared.token.Sign.TheVariants as sign
 use Rattle.kernel_text.specs.declared.token.Lexeme.{Lexeme}
 use Rattle.kernel_text.specs.declared.token.Lexeme.TheVariants.{Named, Number, Reserved, Mark}
 use Rattle.kernel_text.specs.declared.token.Token.{Token}
-use Rattle.kernel_text.specs.Grammar.{Stmts, NoMore, Let, Assign, Store, If, IfElse, Loop, Parallel, For, Barrier, Critical, CriticalOf}
+use Rattle.kernel_text.specs.Grammar.{Stmts, NoMore, Let, Assign, Store, Update, If, IfElse, Loop, Parallel, For, Barrier, Critical, CriticalOf}
 use Rattle.kernel_parser.specs.declared.lookahead.Lead.{Lead}
 use Rattle.kernel_parser.specs.declared.lookahead.Lead.TheVariants as lead
 use Rattle.kernel_parser.specs.Parsing.{lead_of_stmts, inside}
@@ -66,6 +66,7 @@ is_bracketed (t ∷ ts) = is_bracket t.lexeme
 -- the lead of a statement by its first two tokens
 abbrev lead_of : Lexeme → List Token → Option Lead
 lead_of (Reserved word.Let) rest = Some lead.Let
+lead_of (Reserved word.Atomic) rest = Some lead.Update
 lead_of (Reserved word.If) rest = Some lead.If
 lead_of (Reserved word.Loop) rest = Some lead.Loop
 lead_of (Reserved word.Parallel) rest = Some lead.Parallel
@@ -84,6 +85,7 @@ lead-inside NoMore end tail = refl
 lead-inside (Let line name_line name sign_line value rest) end tail = refl
 lead-inside (Assign line name sign_line value rest) end tail = refl
 lead-inside (Store line name opened index closed sign_line value rest) end tail = refl
+lead-inside (Update line name_line name opened index closed minus sign_line value rest) end tail = refl
 lead-inside (If line test opened if_true closed rest) end tail = refl
 lead-inside (IfElse line test opened if_true closed else_line else_opened if_false else_closed rest) end tail = refl
 lead-inside (Loop line name_line name in_line from dots to opened body closed rest) end tail = refl

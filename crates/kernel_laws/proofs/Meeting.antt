@@ -9,16 +9,16 @@ use Rattle.log_format.specs.declared.record.Kind.TheVariants as kind
 use Rattle.race_model.specs.Trace.{Logs, barrier_count}
 use Rattle.race_model.proofs.TraceLogs.{all_at}
 use Rattle.kernel_syntax.specs.Program.{Program}
-use Rattle.kernel_syntax.specs.Tree.{Code, TeamTree, Done, Set, Store, If, Loop, Parallel, For, Barrier, Critical}
+use Rattle.kernel_syntax.specs.Tree.{Code, TeamTree, Done, Set, Store, Update, If, Loop, Parallel, For, Barrier, Critical}
 use Rattle.kernel_model.specs.State.{State, Fork, after, put, put_in, event, assign, reads_of, chunks_of}
 use Rattle.kernel_model.specs.Value.{Site, element_at, value}
 use Rattle.kernel_model.specs.Iterations.{total_of}
-use Rattle.kernel_model.specs.Trace.{stored, branch, turns, shared, loop_end, forked, run, task, trace, Start, Ended, site_of, state_at}
+use Rattle.kernel_model.specs.Trace.{stored, updated, amount_of, branch, turns, shared, loop_end, forked, run, task, trace, Start, Ended, site_of, state_at}
 use Rattle.kernel_model.specs.Folder.{own_trace, root_start, lane_start, start_at, start_below}
 use Rattle.kernel_model.specs.Lawful.{IsEven, IsLawful}
 use Rattle.kernel_model.specs.Parts.{parts_of, bar_count}
-use Rattle.kernel_model.proofs.SingleSteps.{KeepsPlainSteps, KeepsBarriers}
-use Rattle.kernel_model.proofs.Steps.{Part, Kept, kept-and_then, kept-after, kept-put, kept-bar, kept-value, kept-stored, kept-branch, kept-turns, kept-shared, kept-loop_end}
+use Rattle.kernel_model.proofs.SingleSteps.{KeepsPlainSteps, KeepsUpdates, KeepsBarriers}
+use Rattle.kernel_model.proofs.Steps.{Part, Kept, kept-and_then, kept-after, kept-put, kept-bar, kept-value, kept-stored, kept-updated, kept-branch, kept-turns, kept-shared, kept-loop_end}
 use Rattle.kernel_rules.proofs.SameBarriers.{ended_barriers, most_barriers}
 
 -- ---- every team that a task forks is even
@@ -38,6 +38,9 @@ keeps = record {
   reads = λ e site line room v reads s is prefix even. even;
   draws = λ line n room q chunks s is prefix even. even;
 }
+
+updates : KeepsUpdates ForksEven
+updates = record { updates = λ r room s is update even. even }
 
 bars : KeepsBarriers ForksEven
 bars = record { bars = λ line room s is even. even }
@@ -63,6 +66,12 @@ even-run at (Store array index e line site rest) s even =
     kept-and_then ForksEven keeps t (value at e t) _ (kept-value ForksEven keeps at e t) (λ v u.
     kept-after ForksEven keeps u (stored (element_at at.arrays array i) v line site u) (run at rest)
     (kept-stored ForksEven keeps (element_at at.arrays array i) v line site u)
+    (λ w. even-run at rest w even)))
+even-run at (Update array index e minus line site rest) s even =
+    kept-and_then ForksEven keeps s (value at index s) _ (kept-value ForksEven keeps at index s) (λ i t.
+    kept-and_then ForksEven keeps t (value at e t) _ (kept-value ForksEven keeps at e t) (λ v u.
+    kept-after ForksEven keeps u (updated (element_at at.arrays array i) (amount_of minus v) line site u) (run at rest)
+    (kept-updated ForksEven keeps updates (element_at at.arrays array i) (amount_of minus v) line site u)
     (λ w. even-run at rest w even)))
 even-run at (If test if_true if_false rest) s even =
     kept-and_then ForksEven keeps s (value at test s) _ (kept-value ForksEven keeps at test s) (λ v t.

@@ -4,7 +4,7 @@ use Rattle.std.specs.Prelude.{is_some, bytes_eq}
 use Rattle.std.proofs.lemmas.Bool.{leb-false, ltb-false}
 use Rattle.std.proofs.lemmas.List.Elements.{All-nil, All-push, All-weaker}
 use Rattle.std.proofs.lemmas.List.Quantifiers.{position-Some}
-use Rattle.kernel_text.specs.Grammar.{Stmts, NoMore, Let, Assign, Store, If, IfElse, Loop, Parallel, For, Barrier, Critical, CriticalOf}
+use Rattle.kernel_text.specs.Grammar.{Stmts, NoMore, Let, Assign, Store, Update, If, IfElse, Loop, Parallel, For, Barrier, Critical, CriticalOf}
 use Rattle.kernel_reader.specs.Scope.{number_of, Place, with_local, slots, past, count_literal}
 use Rattle.kernel_reader.specs.Rules.{is_fixed, in_branch, in_region, in_work, in_critical, mutex_of}
 use Rattle.kernel_reader.specs.Resolve.{code}
@@ -77,6 +77,7 @@ nested-code NoMore p q site held same h kept = tt
 nested-code (Let line name_line name sign_line value rest) p q site held same h kept = nested-code rest _ (with_local q name true) _ held same h kept.2
 nested-code (Assign line name sign_line value rest) p q site held same h kept = nested-code rest _ q _ held same h kept.2
 nested-code (Store line name opened index closed sign_line value rest) p q site held same h kept = nested-code rest _ q _ held same h kept.3
+nested-code (Update line name_line name opened index closed minus sign_line value rest) p q site held same h kept = nested-code rest _ q _ held same h kept.3
 nested-code (If line test opened if_true closed rest) p q site held same h kept = (
   nested-code if_true p (in_branch q true) _ held same h kept.1,
   tt,

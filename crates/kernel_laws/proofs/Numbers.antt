@@ -12,7 +12,7 @@ use Rattle.kernel_text.specs.declared.token.Lexeme.{Lexeme}
 use Rattle.kernel_text.specs.declared.token.Lexeme.TheVariants.{Named, Number, Reserved, Mark}
 use Rattle.kernel_text.specs.declared.token.Token.{Token}
 use Rattle.kernel_text.specs.Tokens.{Found, is_line_feed, is_white, begins_name, is_in_name, word_of, two_byte_sign, one_byte_sign, value_of, name_lexeme, number_lexeme, sign_lexeme, lexeme_at, with_token, tokens_from, tokens_of}
-use Rattle.kernel_text.specs.Grammar.{Tree, NumberAt, NameAt, TidAt, SpanAt, Element, Group, Minus, Binary, tree_tokens, reserved, mark, block, range, schedule_tokens, nowait_tokens, Stmts, NoMore, Let, Assign, Store, If, IfElse, Loop, Parallel, For, Barrier, Critical, CriticalOf, stmts_tokens}
+use Rattle.kernel_text.specs.Grammar.{Tree, NumberAt, NameAt, TidAt, SpanAt, Element, Group, Minus, Binary, tree_tokens, update_sign, reserved, mark, block, range, schedule_tokens, nowait_tokens, Stmts, NoMore, Let, Assign, Store, Update, If, IfElse, Loop, Parallel, For, Barrier, Critical, CriticalOf, stmts_tokens}
 use Rattle.kernel_text.proofs.Few.{read, read-is, chosen, tokens_of-is}
 
 abbrev pub IsSmall : ℤ → Type 0
@@ -136,6 +136,7 @@ HaveSmallBounds NoMore = Unit {0}
 HaveSmallBounds (Let line name_line name sign_line value rest) = HaveSmallBounds rest
 HaveSmallBounds (Assign line name sign_line value rest) = HaveSmallBounds rest
 HaveSmallBounds (Store line name opened index closed sign_line value rest) = HaveSmallBounds rest
+HaveSmallBounds (Update line name_line name opened index closed minus sign_line value rest) = HaveSmallBounds rest
 HaveSmallBounds (If line test opened if_true closed rest) = HaveSmallBounds if_true × HaveSmallBounds rest
 HaveSmallBounds (IfElse line test opened if_true closed else_line else_opened if_false else_closed rest) =
     HaveSmallBounds if_true × HaveSmallBounds if_false × HaveSmallBounds rest
@@ -154,6 +155,10 @@ small-bounds (Assign line name sign_line value rest) small = small-bounds rest (
 small-bounds (Store line name opened index closed sign_line value rest) small =
     let behind = mark closed sign.CloseBracket ∷ mark sign_line sign.Assign ∷ tree_tokens value ++ stmts_tokens rest in
     let first = small-split (tree_tokens index) behind small.1.1 in
+    small-bounds rest (small-split (tree_tokens value) (stmts_tokens rest) first.1.1.1).1
+small-bounds (Update line name_line name opened index closed minus sign_line value rest) small =
+    let behind = mark closed sign.CloseBracket ∷ mark sign_line (update_sign minus) ∷ tree_tokens value ++ stmts_tokens rest in
+    let first = small-split (tree_tokens index) behind small.1.1.1 in
     small-bounds rest (small-split (tree_tokens value) (stmts_tokens rest) first.1.1.1).1
 small-bounds (If line test opened if_true closed rest) small =
     let first = small-split (tree_tokens test) (block opened (stmts_tokens if_true) closed ++ stmts_tokens rest) small.1 in

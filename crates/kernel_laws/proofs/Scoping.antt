@@ -8,7 +8,7 @@ use Rattle.kernel_syntax.specs.declared.syntax.Op.{Op}
 use Rattle.kernel_syntax.specs.declared.syntax.Op.TheVariants.{Add, Sub, Mul, Div, Rem, Eq, Ne, Lt, Le, Gt, Ge}
 use Rattle.kernel_text.specs.declared.fault.KernelWhy.TheVariants as why
 use Rattle.kernel_text.specs.Tokens.{Refusal}
-use Rattle.kernel_text.specs.Grammar.{Tree, NumberAt, NameAt, TidAt, SpanAt, Element, Group, Minus, Binary, Stmts, NoMore, Let, Assign, Store, If, IfElse, Loop, Parallel, For, Barrier, Critical, CriticalOf}
+use Rattle.kernel_text.specs.Grammar.{Tree, NumberAt, NameAt, TidAt, SpanAt, Element, Group, Minus, Binary, Stmts, NoMore, Let, Assign, Store, Update, If, IfElse, Loop, Parallel, For, Barrier, Critical, CriticalOf}
 use Rattle.kernel_reader.specs.declared.binding.Variable.{Variable}
 use Rattle.kernel_reader.specs.Scope.{Names, Place, array_number, is_array, variable_of, with_local, slots, past, count_literal}
 use Rattle.kernel_reader.specs.Rules.{fault_at, fault_if, is_unfit, name_faults, array_faults, tree_faults, assigned_faults, is_fixed, in_branch, in_region, in_work, in_critical, mutex_of}
@@ -236,6 +236,12 @@ scoped-code (Assign line name sign_line value rest) total q site below room kept
     (known-term value total q.slot q.names site below kept.1, parts.0, parts.1)
 scoped-code (Store line name opened index closed sign_line value rest) total q site below room kept = (
   known-array q.names line name kept.0,
+  known-term index total q.slot q.names (site + 1) below kept.1,
+  known-term value total q.slot q.names (site + 1 + sites index) below kept.2,
+  scoped-code rest total q (site + 1 + sites index + sites value) below room kept.3,
+)
+scoped-code (Update line name_line name opened index closed minus sign_line value rest) total q site below room kept = (
+  known-array q.names name_line name kept.0,
   known-term index total q.slot q.names (site + 1) below kept.1,
   known-term value total q.slot q.names (site + 1 + sites index) below kept.2,
   scoped-code rest total q (site + 1 + sites index + sites value) below room kept.3,

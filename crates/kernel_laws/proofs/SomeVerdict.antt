@@ -16,10 +16,10 @@ use Rattle.kernel_text.specs.Grammar.{op_of, sign_of, is_comparison}
 use Rattle.kernel_text.specs.Faults.{IsVerdict}
 use Rattle.kernel_text.specs.Wanting.{Plain, At, Fill, fill_tokens, AreDelimited, token, Refuses, LeadsTo, Skips}
 use Rattle.kernel_text.proofs.Operators.{of-op}
-use Rattle.kernel_text.proofs.Unfolding.{lexeme-of, name-takes, number-takes, in-takes, assign-takes, close_bracket-takes, close_paren-takes, close_brace-takes, dots-takes, chunk-takes, chunk-skips, nowait-takes, nowait-skips, section_name-takes, section_name-skips, else-skips, index-skips, schedule-skips}
+use Rattle.kernel_text.proofs.Unfolding.{lexeme-of, name-takes, number-takes, in-takes, assign-takes, update_sign-takes, update_sign-refuses, open_bracket-takes, close_bracket-takes, close_paren-takes, close_brace-takes, dots-takes, chunk-takes, chunk-skips, nowait-takes, nowait-skips, section_name-takes, section_name-skips, else-skips, index-skips, schedule-skips}
 use Rattle.kernel_text.proofs.UnfoldingExprs.{block-takes, target-assign, target-index, else-takes, static-takes, dynamic-takes, index-takes, number-operand, named-operand, tid-operand, span-operand, minus-operand, group-operand, operand-refuses, operand-some}
 use Rattle.kernel_text.proofs.UnfoldingOperators.{plain-takes, comparison-takes, comparison-skips, operators-skip, expr-apart, expr-takes, expr-refuses}
-use Rattle.kernel_text.proofs.UnfoldingStmts.{array-takes, mutex-takes, main-takes, kernel-refuses, let-takes, if-takes, loop-takes, parallel-takes, for-takes, barrier-takes, critical-takes, stmts-skip}
+use Rattle.kernel_text.proofs.UnfoldingStmts.{array-takes, mutex-takes, main-takes, kernel-refuses, let-takes, update-takes, if-takes, loop-takes, parallel-takes, for-takes, barrier-takes, critical-takes, stmts-skip}
 use Rattle.kernel_text.proofs.UnfoldingStmts as stmts
 use Rattle.kernel_text.proofs.Moving.{Reaches, reaches-all, reaches-more, reaches-refuses, reaches-none, reaches-takes}
 use Rattle.kernel_text.proofs.Judgement.{start, Judged, judged-none, judged-more, is-kernel, is-syntax, is-deep, is-early}
@@ -54,6 +54,15 @@ in-answer _ s a = Refused (λ line ts ls r. let same = lexeme-of _ _ _ _ r.token
 assign-answer : Answers want.Assign
 assign-answer (Mark sign.Assign) s a = Taken _ _ (assign-takes s a)
 assign-answer _ s a = Refused (λ line ts ls r. let same = lexeme-of _ _ _ _ r.tokens in absurd cc)
+
+update_sign-answer : Answers want.UpdateSign
+update_sign-answer (Mark sign.PlusAssign) s a = Taken _ _ (update_sign-takes (Mark sign.PlusAssign) s refl a)
+update_sign-answer (Mark sign.MinusAssign) s a = Taken _ _ (update_sign-takes (Mark sign.MinusAssign) s refl a)
+update_sign-answer _ s a = Refused (update_sign-refuses _ refl s)
+
+open_bracket-answer : Answers want.OpenBracket
+open_bracket-answer (Mark sign.OpenBracket) s a = Taken _ _ (open_bracket-takes s a)
+open_bracket-answer _ s a = Refused (λ line ts ls r. let same = lexeme-of _ _ _ _ r.tokens in absurd cc)
 
 close_bracket-answer : Answers want.CloseBracket
 close_bracket-answer (Mark sign.CloseBracket) s a = Taken _ _ (close_bracket-takes s a)
@@ -120,6 +129,7 @@ index-answer n _ s a = LeftOut (index-skips _ n s refl)
 stmts-answer : (n : ℕ) → Answers (want.Stmts n)
 stmts-answer n (Named name) s a = Taken _ _ (stmts.assign-takes name n s a)
 stmts-answer n (Reserved word.Let) s a = Taken _ _ (let-takes n s a)
+stmts-answer n (Reserved word.Atomic) s a = Taken _ _ (update-takes n s a)
 stmts-answer n (Reserved word.If) s a = Taken _ _ (if-takes n s a)
 stmts-answer n (Reserved word.Loop) s a = Taken _ _ (loop-takes n s a)
 stmts-answer n (Reserved word.Parallel) s a = Taken _ _ (parallel-takes n s a)
@@ -162,6 +172,8 @@ answer want.Name = name-answer
 answer want.Number = number-answer
 answer want.In = in-answer
 answer want.Assign = assign-answer
+answer want.UpdateSign = update_sign-answer
+answer want.OpenBracket = open_bracket-answer
 answer want.CloseBracket = close_bracket-answer
 answer want.CloseParen = close_paren-answer
 answer want.CloseBrace = close_brace-answer

@@ -2,16 +2,17 @@
 use Rattle.std.proofs.Common.{◌≡◌, ℕ, Bool, true, false, List, [], ◌∷◌, ◌++◌, drop, Option, Some, None, refl, sym, ap, ◌∙◌, append_assoc}
 use Rattle.std.specs.Prelude.{ℤ, ◌-◌}
 use Rattle.kernel_text.specs.declared.token.Word.TheVariants as word
+use Rattle.kernel_text.specs.declared.token.Sign.{Sign}
 use Rattle.kernel_text.specs.declared.token.Sign.TheVariants as sign
-use Rattle.kernel_text.specs.declared.token.Lexeme.TheVariants.{Named, Number}
+use Rattle.kernel_text.specs.declared.token.Lexeme.TheVariants.{Named, Number, Mark}
 use Rattle.kernel_text.specs.declared.token.Token.{Token}
-use Rattle.kernel_text.specs.Grammar.{Tree, tree_tokens, Derives, expr, IsFlat, mark, reserved, block, ScheduleTree, Unsaid, Static, StaticBy, Dynamic, DynamicBy, schedule_tokens, nowait_tokens, Stmts, NoMore, Let, Assign, Store, If, IfElse, Loop, Parallel, For, Barrier, Critical, CriticalOf, stmts_tokens, StmtsDerive, AreShallow, Declaration, ArrayOf, MutexOf, declarations_tokens, KernelTree, kernel_tokens, IsKernel, IsShallow}
+use Rattle.kernel_text.specs.Grammar.{Tree, tree_tokens, Derives, expr, IsFlat, mark, reserved, block, ScheduleTree, Unsaid, Static, StaticBy, Dynamic, DynamicBy, schedule_tokens, nowait_tokens, update_sign, Stmts, NoMore, Let, Assign, Store, Update, If, IfElse, Loop, Parallel, For, Barrier, Critical, CriticalOf, stmts_tokens, StmtsDerive, AreShallow, Declaration, ArrayOf, MutexOf, declarations_tokens, KernelTree, kernel_tokens, IsKernel, IsShallow}
 use Rattle.kernel_parser.specs.declared.lookahead.Lead.TheVariants as lead
 use Rattle.kernel_parser.specs.Parsing.{IsExpression, inside}
 use Rattle.kernel_parser.proofs.Signs.{heads-is, begins-with, stops-at}
 use Rattle.kernel_laws.proofs.Lookaheads.{line_of, number_of, is_number, is_static, is_dynamic, is_nowait, lead-same}
 use Rattle.kernel_laws.proofs.OneExpression.{one-expression}
-use Rattle.kernel_parser.proofs.Heading.{follows-schedule, no-else, before-stmts, block-opens, body-opens, View, IsEnd, IsLet, IsAssign, IsStore, IsIf, IsIfElse, IsLoop, IsParallel, IsFor, IsBarrier, IsCritical, IsCriticalOf, seen}
+use Rattle.kernel_parser.proofs.Heading.{follows-schedule, no-else, before-stmts, block-opens, body-opens, View, IsEnd, IsLet, IsAssign, IsStore, IsUpdate, IsIf, IsIfElse, IsLoop, IsParallel, IsFor, IsBarrier, IsCritical, IsCriticalOf, seen}
 
 -- statements with these tokens, the brace behind them, and the tokens behind it
 abbrev AreOnly : Stmts → Type 0
@@ -103,10 +104,10 @@ only-critical-of line name_line name opened body closed rest only more c n m end
         let r = more rest2 n m end last tail after k.3 d.1 g.1 s.2 h.2 in (cc, r.1, r.2)
 
 -- an index and a value
-index-first : (index : Tree) (closed sign_line : ℕ) (value : Tree) (b : Stmts) (end : ℕ) (tail : List Token) → Derives expr index → IsFlat index
-    → IsExpression ((tree_tokens index ++ (mark closed sign.CloseBracket ∷ mark sign_line sign.Assign ∷ tree_tokens value ++ stmts_tokens b)) ++ mark end sign.CloseBrace ∷ tail) index
-    (mark closed sign.CloseBracket ∷ mark sign_line sign.Assign ∷ (tree_tokens value ++ stmts_tokens b) ++ mark end sign.CloseBrace ∷ tail)
-index-first index closed sign_line value b end tail d f = record { parts = append_assoc (tree_tokens index) _ _; derives = d; flat = f; ends = stops-at expr _ (refl, refl) }
+index-first : (index : Tree) (closed : ℕ) (sign_is : Sign) (sign_line : ℕ) (value : Tree) (b : Stmts) (end : ℕ) (tail : List Token) → Derives expr index → IsFlat index
+    → IsExpression ((tree_tokens index ++ (mark closed sign.CloseBracket ∷ mark sign_line sign_is ∷ tree_tokens value ++ stmts_tokens b)) ++ mark end sign.CloseBrace ∷ tail) index
+    (mark closed sign.CloseBracket ∷ mark sign_line sign_is ∷ (tree_tokens value ++ stmts_tokens b) ++ mark end sign.CloseBrace ∷ tail)
+index-first index closed sign_is sign_line value b end tail d f = record { parts = append_assoc (tree_tokens index) _ _; derives = d; flat = f; ends = stops-at expr _ (refl, refl) }
 
 only-store : (line : ℕ) (name : List ℕ) (opened : ℕ) (index : Tree) (closed sign_line : ℕ) (value : Tree) (rest : Stmts) → AreOnly rest → AreOnly (Store line name opened index closed sign_line value rest)
 only-store line name opened index closed sign_line value rest more c n m end last tail after e d g s h = same c (seen (Some lead.Store) c (lead-same (Store line name opened index closed sign_line value rest) c end last tail after e)) e g h
@@ -116,11 +117,35 @@ only-store line name opened index closed sign_line value rest more c n m end las
     same _ (IsStore line2 name2 opened2 index2 closed2 sign_line2 value2 rest2) e g h =
         let a = heads-is _ _ _ _ e in
         let b = heads-is _ _ _ _ a.2 in
-        let i = one-expression _ _ index index2 _ _ b.2 (index-first index closed sign_line value rest end tail d.0 s.0) (index-first index2 closed2 sign_line2 value2 rest2 last after g.0 h.0) in
+        let i = one-expression _ _ index index2 _ _ b.2 (index-first index closed sign.Assign sign_line value rest end tail d.0 s.0) (index-first index2 closed2 sign.Assign sign_line2 value2 rest2 last after g.0 h.0) in
         let k = heads-is _ _ _ _ i.1 in
         let l = heads-is _ _ _ _ k.2 in
         let v = one-expression _ _ value value2 _ _ l.2 (before-stmts value rest end tail d.1 s.1) (before-stmts value2 rest2 last after g.1 h.1) in
         let r = more rest2 n m end last tail after v.1 d.2 g.2 s.2 h.2 in (cc, r.1, r.2)
+
+-- an update adds or takes away by its sign
+one-sign : (minus minus2 : Bool) → Mark (update_sign minus) ≡ Mark (update_sign minus2) → minus ≡ minus2
+one-sign true true e = refl
+one-sign false false e = refl
+one-sign true false e = absurd cc
+one-sign false true e = absurd cc
+
+only-update : (line name_line : ℕ) (name : List ℕ) (opened : ℕ) (index : Tree) (closed : ℕ) (minus : Bool) (sign_line : ℕ) (value : Tree) (rest : Stmts) → AreOnly rest → AreOnly (Update line name_line name opened index closed minus sign_line value rest)
+only-update line name_line name opened index closed minus sign_line value rest more c n m end last tail after e d g s h =
+    same c (seen (Some lead.Update) c (lead-same (Update line name_line name opened index closed minus sign_line value rest) c end last tail after e)) e g h
+  where
+    same : (c : Stmts) → View (Some lead.Update) c → inside (Update line name_line name opened index closed minus sign_line value rest) end tail ≡ inside c last after → StmtsDerive c → AreShallow m c
+        → (Update line name_line name opened index closed minus sign_line value rest ≡ c) × (end ≡ last) × (tail ≡ after)
+    same _ (IsUpdate line2 name_line2 name2 opened2 index2 closed2 minus2 sign_line2 value2 rest2) e g h =
+        let a = heads-is _ _ _ _ e in
+        let m = heads-is _ _ _ _ a.2 in
+        let b = heads-is _ _ _ _ m.2 in
+        let i = one-expression _ _ index index2 _ _ b.2 (index-first index closed (update_sign minus) sign_line value rest end tail d.0 s.0) (index-first index2 closed2 (update_sign minus2) sign_line2 value2 rest2 last after g.0 h.0) in
+        let k = heads-is _ _ _ _ i.1 in
+        let l = heads-is _ _ _ _ k.2 in
+        let same_sign = one-sign minus minus2 l.1 in
+        let v = one-expression _ _ value value2 _ _ l.2 (before-stmts value rest end tail d.1 s.1) (before-stmts value2 rest2 last after g.1 h.1) in
+        let r = more rest2 n _ end last tail after v.1 d.2 g.2 s.2 h.2 in (cc, r.1, r.2)
 
 -- a test and what is behind it
 before-block : (test : Tree) (opened : ℕ) (body : Stmts) (closed : ℕ) (b : Stmts) (end : ℕ) (tail : List Token) → Derives expr test → IsFlat test
@@ -296,6 +321,8 @@ only NoMore = only-end
 only (Let line name_line name sign_line value rest) = only-let line name_line name sign_line value rest (only rest)
 only (Assign line name sign_line value rest) = only-assign line name sign_line value rest (only rest)
 only (Store line name opened index closed sign_line value rest) = only-store line name opened index closed sign_line value rest (only rest)
+only (Update line name_line name opened index closed minus sign_line value rest) =
+    only-update line name_line name opened index closed minus sign_line value rest (only rest)
 only (If line test opened if_true closed rest) = only-if line test opened if_true closed rest (only if_true) (only rest)
 only (IfElse line test opened if_true closed else_line else_opened if_false else_closed rest) =
     only-if-else line test opened if_true closed else_line else_opened if_false else_closed rest (only if_true) (only if_false) (only rest)

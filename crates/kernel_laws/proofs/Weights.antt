@@ -5,7 +5,7 @@ use Rattle.std.proofs.lemmas.Bool.{ltb-false}
 use Rattle.std.proofs.lemmas.Int.{fits_signed_from_abs}
 use Rattle.kernel_syntax.specs.Tree.{Neg}
 use Rattle.kernel_syntax.proofs.Wrapping.{wrapped-fits}
-use Rattle.kernel_text.specs.Grammar.{Tree, NumberAt, NameAt, TidAt, SpanAt, Element, Group, Minus, Binary, Stmts, NoMore, Let, Assign, Store, If, IfElse, Loop, Parallel, For, Barrier, Critical, CriticalOf}
+use Rattle.kernel_text.specs.Grammar.{Tree, NumberAt, NameAt, TidAt, SpanAt, Element, Group, Minus, Binary, Stmts, NoMore, Let, Assign, Store, Update, If, IfElse, Loop, Parallel, For, Barrier, Critical, CriticalOf}
 use Rattle.kernel_reader.specs.Scope.{Names, Place, with_local, slots, past, count_literal}
 use Rattle.kernel_reader.specs.Rules.{plain_value, fixed_value, is_fixed, holds_work, loop_weight, weight, in_branch, in_region, in_work, in_critical, mutex_of}
 use Rattle.kernel_reader.specs.Resolve.{sites, stmts_sites, term, code}
@@ -67,6 +67,7 @@ weight-same NoMore p site small = refl
 weight-same (Let line name_line name sign_line value rest) p site small = one-more (weight-same rest _ _ small)
 weight-same (Assign line name sign_line value rest) p site small = one-more (weight-same rest _ _ small)
 weight-same (Store line name opened index closed sign_line value rest) p site small = one-more (weight-same rest _ _ small)
+weight-same (Update line name_line name opened index closed minus sign_line value rest) p site small = one-more (weight-same rest _ _ small)
 weight-same (If line test opened if_true closed rest) p site small = one-more (weight-same rest _ _ small.1)
 weight-same (IfElse line test opened if_true closed else_line else_opened if_false else_closed rest) p site small = one-more (weight-same rest _ _ small.2)
 weight-same (Loop line name_line name in_line from dots to opened body closed rest) p site small =
@@ -89,6 +90,7 @@ light-code NoMore p q site small kept = tt
 light-code (Let line name_line name sign_line value rest) p q site small kept = light-code rest _ (with_local q name true) _ small kept.2
 light-code (Assign line name sign_line value rest) p q site small kept = light-code rest _ q _ small kept.2
 light-code (Store line name opened index closed sign_line value rest) p q site small kept = light-code rest _ q _ small kept.3
+light-code (Update line name_line name opened index closed minus sign_line value rest) p q site small kept = light-code rest _ q _ small kept.3
 light-code (If line test opened if_true closed rest) p q site small kept =
     (light-code if_true p (in_branch q true) _ small.0 kept.1, tt, light-code rest _ (past q (slots if_true)) _ small.1 kept.2)
 light-code (IfElse line test opened if_true closed else_line else_opened if_false else_closed rest) p q site small kept = (

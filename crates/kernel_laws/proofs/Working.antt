@@ -1,6 +1,6 @@
 -- Where work stands: in the code where it stands in the text, and in no statements whose lanes don't all meet it.
 use Rattle.std.proofs.Common.{◌≡◌, refl, ap, ap₂, ◌∙◌, ℕ, ◌+◌, Bool, true, false, not, ◌||◌, eqb}
-use Rattle.kernel_text.specs.Grammar.{Stmts, NoMore, Let, Assign, Store, If, IfElse, Loop, Parallel, For, Barrier, Critical, CriticalOf}
+use Rattle.kernel_text.specs.Grammar.{Stmts, NoMore, Let, Assign, Store, Update, If, IfElse, Loop, Parallel, For, Barrier, Critical, CriticalOf}
 use Rattle.kernel_reader.specs.Scope.{Place, with_local, slots, past}
 use Rattle.kernel_reader.specs.Rules.{is_fixed, holds_work, is_misplaced, in_branch, in_critical, mutex_of}
 use Rattle.kernel_reader.specs.Resolve.{sites, code}
@@ -16,6 +16,7 @@ work-same NoMore p site = refl
 work-same (Let line name_line name sign_line value rest) p site = work-same rest _ _
 work-same (Assign line name sign_line value rest) p site = work-same rest _ _
 work-same (Store line name opened index closed sign_line value rest) p site = work-same rest _ _
+work-same (Update line name_line name opened index closed minus sign_line value rest) p site = work-same rest _ _
 work-same (If line test opened if_true closed rest) p site = either _ _ _ _ (work-same if_true p (site + sites test)) (work-same rest _ _)
 work-same (IfElse line test opened if_true closed else_line else_opened if_false else_closed rest) p site =
     either _ _ _ _ (work-same if_true p (site + sites test)) (either _ _ _ _ (work-same if_false _ _) (work-same rest _ _))
@@ -70,6 +71,7 @@ no-work q NoMore barred kept = refl
 no-work q (Let line name_line name sign_line value rest) barred kept = no-work (with_local q name true) rest barred kept.2
 no-work q (Assign line name sign_line value rest) barred kept = no-work q rest barred kept.2
 no-work q (Store line name opened index closed sign_line value rest) barred kept = no-work q rest barred kept.3
+no-work q (Update line name_line name opened index closed minus sign_line value rest) barred kept = no-work q rest barred kept.3
 no-work q (If line test opened if_true closed rest) barred kept =
     neither (holds_work if_true) (holds_work rest) (no-work (in_branch q true) if_true (branch-barred q) kept.1) (no-work (past q (slots if_true)) rest barred kept.2)
 no-work q (IfElse line test opened if_true closed else_line else_opened if_false else_closed rest) barred kept =

@@ -1,7 +1,7 @@
 -- The names of a kernel: each that is used is known where it stands, and each that is declared is new there.
 use Rattle.std.specs.Prelude.{◌≡◌, ℕ, ◌+◌, true, false, ◌||◌, List, [], ◌∷◌, ◌++◌, IsTrue, IsSome, unwrap_or}
 use Rattle.kernel_syntax.specs.declared.syntax.Array.{Array}
-use Rattle.kernel_text.specs.Grammar.{Tree, NumberAt, NameAt, TidAt, SpanAt, Element, Group, Minus, Binary, Stmts, NoMore, Let, Assign, Store, If, IfElse, Loop, Parallel, For, Barrier, Critical, CriticalOf, Declaration, ArrayOf, MutexOf, KernelTree}
+use Rattle.kernel_text.specs.Grammar.{Tree, NumberAt, NameAt, TidAt, SpanAt, Element, Group, Minus, Binary, Stmts, NoMore, Let, Assign, Store, Update, If, IfElse, Loop, Parallel, For, Barrier, Critical, CriticalOf, Declaration, ArrayOf, MutexOf, KernelTree}
 use Rattle.kernel_reader.specs.Scope.{Names, Place, is_among, is_array, variable_of, with_local, slots, past}
 use Rattle.kernel_reader.specs.Rules.{is_taken, width_of, array_of, at_main}
 
@@ -26,6 +26,8 @@ AreNamed p NoMore = Unit {0}
 AreNamed p (Let line name_line name sign_line value rest) = IsNewName p name × IsNamed p.names value × AreNamed (with_local p name true) rest
 AreNamed p (Assign line name sign_line value rest) = IsSome (variable_of name p.names.scope) × IsNamed p.names value × AreNamed p rest
 AreNamed p (Store line name opened index closed sign_line value rest) =
+    IsTrue (is_array name p.names.arrays) × IsNamed p.names index × IsNamed p.names value × AreNamed p rest
+AreNamed p (Update line name_line name opened index closed minus sign_line value rest) =
     IsTrue (is_array name p.names.arrays) × IsNamed p.names index × IsNamed p.names value × AreNamed p rest
 AreNamed p (If line test opened if_true closed rest) = IsNamed p.names test × AreNamed p if_true × AreNamed (past p (slots if_true)) rest
 AreNamed p (IfElse line test opened if_true closed else_line else_opened if_false else_closed rest) =

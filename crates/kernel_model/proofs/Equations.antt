@@ -12,7 +12,7 @@ use Rattle.log_format.specs.declared.record.Kind.TheVariants as kind
 use Rattle.kernel_model.specs.State.{State, Gives, Stops, Wants, LogFull, and_then, after, put, event, assign}
 use Rattle.kernel_model.specs.Value.{Site, Element, element_at, access, read, loaded, operated, value}
 use Rattle.kernel_model.specs.Iterations.{total_of}
-use Rattle.kernel_model.specs.Trace.{stored, branch, turns, draw, shared, loop_end, forked, run}
+use Rattle.kernel_model.specs.Trace.{stored, updated, amount_of, branch, turns, draw, shared, loop_end, forked, run}
 
 -- ---- steps
 
@@ -106,6 +106,13 @@ pub run-Store : (at : Site) (array : ℕ) (index e : Term) (line site : ℕ) (re
     after (stored (element_at at.arrays array i) v line site s) (run at rest)))
 unfolding run
 run-Store at array index e line site rest s = refl
+
+pub run-Update : (at : Site) (array : ℕ) (index e : Term) (minus : Bool) (line site : ℕ) (rest : Code) (s : State) →
+    run at (tree.Update array index e minus line site rest) s
+    ≡ and_then (value at index s) (λ i s. and_then (value at e s) (λ v s.
+    after (updated (element_at at.arrays array i) (amount_of minus v) line site s) (run at rest)))
+unfolding run
+run-Update at array index e minus line site rest s = refl
 
 pub run-If : (at : Site) (test : Term) (if_true if_false rest : Code) (s : State) →
     run at (tree.If test if_true if_false rest) s

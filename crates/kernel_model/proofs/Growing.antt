@@ -12,7 +12,7 @@ use Rattle.kernel_model.specs.State.{State, state_of, event}
 use Rattle.kernel_model.specs.Value.{Site, value}
 use Rattle.kernel_model.specs.Trace.{run, task, Start, state_at}
 use Rattle.kernel_model.specs.Growth.{Grows}
-use Rattle.kernel_model.proofs.SingleSteps.{IsMark, KeepsPlainSteps, KeepsBarriers, KeepsEnds, KeepsSteps}
+use Rattle.kernel_model.proofs.SingleSteps.{IsMark, KeepsPlainSteps, KeepsUpdates, KeepsBarriers, KeepsEnds, KeepsSteps}
 use Rattle.kernel_model.proofs.Steps.{kept-value, kept-run, kept-task}
 
 region_count-append : (xs ys : List Record) → region_count (xs ++ ys) ≡ region_count xs + region_count ys
@@ -73,6 +73,9 @@ grows-plain = record {
   draws = λ line n room q chunks s is prefix. grows-record _ room s _ is refl refl refl refl;
 }
 
+pub grows-updates : KeepsUpdates Grows
+grows-updates = record { updates = λ r room s is update. grows-record r room s _ is (ap is_region_kind update) refl refl refl }
+
 grows-barriers : KeepsBarriers Grows
 grows-barriers = record { bars = λ line room s is. grows-record (event kind.Barrier line 0 0) room s _ is refl refl refl refl }
 
@@ -82,6 +85,7 @@ grows-ends = record { ends = λ line room s is. grows-record (event kind.End lin
 pub grows-steps : KeepsSteps Grows
 grows-steps = record {
   plain = grows-plain;
+  updates = grows-updates;
   marks = λ r room s is mark. grows-record r room s _ is (plain_mark r.kind mark) refl refl refl;
   forks = λ team room s is. record {
     added = event kind.Region team.line 0 team.span ∷ [];

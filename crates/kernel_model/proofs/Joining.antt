@@ -2,13 +2,13 @@
 use Rattle.std.proofs.Common.{◌≡◌, refl, ap, ◌∙◌, sym, ℕ, zero, suc, ◌+◌, arith, List, [], ◌∷◌, ◌++◌, ℤ, pos, negsuc, ◌+ℤ◌}
 use Rattle.kernel_syntax.specs.declared.syntax.Stmt.{Stmt}
 use Rattle.kernel_syntax.specs.Program.{stmt_code, stmts_code, code_of}
-use Rattle.kernel_syntax.specs.Tree.{Code, Done, Set, Store, If, Loop, Parallel, For, Barrier, Critical}
+use Rattle.kernel_syntax.specs.Tree.{Code, Done, Set, Store, Update, If, Loop, Parallel, For, Barrier, Critical}
 use Rattle.kernel_syntax.proofs.Following.{followed_by, stmts_code-follows, stmt_code-first}
 use Rattle.log_format.specs.declared.record.Kind.TheVariants as kind
 use Rattle.kernel_model.specs.State.{State, Outcome, Gives, Stops, Wants, and_then, after, put, event, assign}
 use Rattle.kernel_model.specs.Value.{Site, element_at, value}
 use Rattle.kernel_model.specs.Iterations.{total_of}
-use Rattle.kernel_model.specs.Trace.{stored, branch, turns, each, shared, loop_end, forked, run}
+use Rattle.kernel_model.specs.Trace.{stored, updated, amount_of, branch, turns, each, shared, loop_end, forked, run}
 
 pub after-after : (m : Outcome (Unit {0})) (f g : State → Outcome (Unit {0})) → after (after m f) g ≡ after m (λ s. after (f s) g)
 after-after (Gives a s) f g = refl
@@ -91,6 +91,14 @@ run-follows at (Store array index e line site rest) later s =
     ∙ sym (after-and_then (value at e t) (λ v u. after (stored (element_at at.arrays array i) v line site u) (run at rest)) (run at later)))
     ∙ sym (after-and_then (value at index s) (λ i t. and_then (value at e t) (λ v u.
     after (stored (element_at at.arrays array i) v line site u) (run at rest))) (run at later))
+run-follows at (Update array index e minus line site rest) later s =
+    and_then-same (value at index s) _ _ (λ i t.
+    and_then-same (value at e t) _ _ (λ v u.
+    after-same (updated (element_at at.arrays array i) (amount_of minus v) line site u) _ _ (run-follows at rest later)
+    ∙ sym (after-after (updated (element_at at.arrays array i) (amount_of minus v) line site u) (run at rest) (run at later)))
+    ∙ sym (after-and_then (value at e t) (λ v u. after (updated (element_at at.arrays array i) (amount_of minus v) line site u) (run at rest)) (run at later)))
+    ∙ sym (after-and_then (value at index s) (λ i t. and_then (value at e t) (λ v u.
+    after (updated (element_at at.arrays array i) (amount_of minus v) line site u) (run at rest))) (run at later))
 run-follows at (If test if_true if_false rest) later s =
     and_then-same (value at test s) _ _ (λ v t.
     after-same (branch v (run at if_true) (run at if_false) t) _ _ (run-follows at rest later)

@@ -11,3 +11,4 @@ pub mod Draining
 pub mod Elements
 pub mod StmtLists
 pub mod Starts
+pub mod Changing

@@ -30,6 +30,10 @@ IsMark kind.Lock = Unit {0}
 IsMark kind.Unlock = Unit {0}
 IsMark _ = ⊥
 
+-- an atomic update is in the relation
+pub record KeepsUpdates (R : State → State → Type 0) : Type 0 where
+  pub updates : (r : Record) (room : ℕ) (s : State) → s.room ≡ suc room → r.kind ≡ kind.Update → R s (with_record r room s)
+
 -- a barrier is in the relation
 pub record KeepsBarriers (R : State → State → Type 0) : Type 0 where
   pub bars : (line room : ℕ) (s : State) → s.room ≡ suc room → R s (with_record (event kind.Barrier line 0 0) room s)
@@ -38,9 +42,10 @@ pub record KeepsBarriers (R : State → State → Type 0) : Type 0 where
 pub record KeepsEnds (R : State → State → Type 0) : Type 0 where
   pub ends : (line room : ℕ) (s : State) → s.room ≡ suc room → R s (with_record (event kind.End line 0 0) room s)
 
--- the same with the records of mutexes and forks
+-- the same with atomic updates, the records of mutexes and forks
 pub record KeepsSteps (R : State → State → Type 0) : Type 0 where
   pub plain : KeepsPlainSteps R
+  pub updates : KeepsUpdates R
   pub marks : (r : Record) (room : ℕ) (s : State) → s.room ≡ suc room → IsMark r.kind → R s (with_record r room s)
   pub forks : (team : TeamTree) (room : ℕ) (s : State) → s.room ≡ suc room →
       R s (forked team (with_record (event kind.Region team.line 0 team.span) room s))

@@ -5,15 +5,15 @@ use Rattle.kernel_syntax.specs.declared.syntax.Schedule.{Schedule}
 use Rattle.kernel_syntax.specs.declared.syntax.Schedule.TheVariants.{Even, Static, Dynamic}
 use Rattle.log_format.specs.Fitting.{fitted}
 use Rattle.kernel_syntax.specs.Arithmetic.{applied}
-use Rattle.kernel_syntax.specs.Tree.{Term, Code, TeamTree, Number, Slot, Tid, Span, Load, Neg, Binary, Done, Set, Store, If, Loop, Parallel, For, Barrier, Critical}
+use Rattle.kernel_syntax.specs.Tree.{Term, Code, TeamTree, Number, Slot, Tid, Span, Load, Neg, Binary, Done, Set, Store, Update, If, Loop, Parallel, For, Barrier, Critical}
 use Rattle.kernel_syntax.specs.Program.{Program}
 use Rattle.log_format.specs.declared.record.Record.{Record}
 use Rattle.log_format.specs.declared.record.Kind.TheVariants as kind
 use Rattle.kernel_model.specs.State.{State, Outcome, Gives, Stops, Wants, and_then, after, put, put_in, event, assign, state_of}
 use Rattle.kernel_model.specs.Value.{Site, Element, element_at, access, read, read_in, loaded, operated, value}
 use Rattle.kernel_model.specs.Iterations.{total_of, even_iterations, static_iterations, chunk_count, chunk_iterations}
-use Rattle.kernel_model.specs.Trace.{stored, branch, turns, each, drawn, draw, draw_in, draws, shared, loop_end, forked, run, task, Start, site_of, state_at}
-use Rattle.kernel_model.proofs.SingleSteps.{with_record, KeepsPlainSteps, KeepsBarriers, KeepsEnds, KeepsSteps}
+use Rattle.kernel_model.specs.Trace.{stored, updated, amount_of, branch, turns, each, drawn, draw, draw_in, draws, shared, loop_end, forked, run, task, Start, site_of, state_at}
+use Rattle.kernel_model.proofs.SingleSteps.{with_record, KeepsPlainSteps, KeepsUpdates, KeepsBarriers, KeepsEnds, KeepsSteps}
 use Rattle.kernel_model.specs.Lawful.{code_holds_work}
 
 -- what a part of a task does, as a function of its state
@@ -82,6 +82,10 @@ module _ (R : State → State → Type 0) (keeps : KeepsPlainSteps R) where
   pub kept-stored : (e : Option Element) (v : ℤ) (line site : ℕ) (s : State) → Kept s (stored e v line site s)
   kept-stored None v line site s = keeps.same s
   kept-stored (Some e) v line site s = kept-put (access kind.Write e site line (fitted v e.width)) s (λ room is. keeps.writes _ room s is refl)
+
+  pub kept-updated : KeepsUpdates R → (e : Option Element) (v : ℤ) (line site : ℕ) (s : State) → Kept s (updated e v line site s)
+  kept-updated also None v line site s = keeps.same s
+  kept-updated also (Some e) v line site s = kept-put (access kind.Update e site line (fitted v e.width)) s (λ room is. also.updates _ room s is refl)
 
   pub kept-branch : (v : ℤ) (if_true if_false : Part) (s : State) → Kept s (if_true s) → Kept s (if_false s) → Kept s (branch v if_true if_false s)
   kept-branch (pos zero) if_true if_false s one other = other
@@ -168,6 +172,12 @@ module _ (R : State → State → Type 0) (all : KeepsSteps R) where
       kept-and_then R keeps t (value at e t) _ (kept-value R keeps at e t) (λ v u.
       kept-after R keeps u (stored (element_at at.arrays array i) v line site u) (run at rest)
       (kept-stored R keeps (element_at at.arrays array i) v line site u)
+      (λ w. kept-run at rest w bars)))
+  kept-run at (Update array index e minus line site rest) s bars =
+      kept-and_then R keeps s (value at index s) _ (kept-value R keeps at index s) (λ i t.
+      kept-and_then R keeps t (value at e t) _ (kept-value R keeps at e t) (λ v u.
+      kept-after R keeps u (updated (element_at at.arrays array i) (amount_of minus v) line site u) (run at rest)
+      (kept-updated R keeps all.updates (element_at at.arrays array i) (amount_of minus v) line site u)
       (λ w. kept-run at rest w bars)))
   kept-run at (If test if_true if_false rest) s bars =
       let others = right_bars (code_holds_work if_true) (code_holds_work if_false || code_holds_work rest) bars in

@@ -5,7 +5,7 @@ use Rattle.std.proofs.lemmas.List.{take_more, drop_more, take-append-drop}
 use Rattle.std.proofs.lemmas.Option.{same_Some}
 use Rattle.kernel_syntax.specs.declared.syntax.Stmt.{Stmt}
 use Rattle.kernel_syntax.specs.Program.{stmt_code, code_of}
-use Rattle.kernel_syntax.specs.Tree.{Code, Done, Set, Store, If, Loop, Parallel, For, Barrier, Critical}
+use Rattle.kernel_syntax.specs.Tree.{Code, Done, Set, Store, Update, If, Loop, Parallel, For, Barrier, Critical}
 use Rattle.kernel_syntax.specs.Bounds.{IsBoundedCode}
 use Rattle.kernel_syntax.proofs.Following.{followed_by, stmt_code-first}
 
@@ -21,6 +21,7 @@ bounded_both : (code later : Code) â†’ IsBoundedCode (followed_by code later) â†
 bounded_both Done later b = (tt, b)
 bounded_both (Set slot value rest) later b = let r = bounded_both rest later b.1 in ((b.0, r.0), r.1)
 bounded_both (Store array index value line site rest) later b = let r = bounded_both rest later b.3 in ((b.0, b.1, b.2, r.0), r.1)
+bounded_both (Update array index value minus line site rest) later b = let r = bounded_both rest later b.3 in ((b.0, b.1, b.2, r.0), r.1)
 bounded_both (If test if_true if_false rest) later b = let r = bounded_both rest later b.3 in ((b.0, b.1, b.2, r.0), r.1)
 bounded_both (Loop slot from to body rest) later b = let r = bounded_both rest later b.3 in ((b.0, b.1, b.2, r.0), r.1)
 bounded_both (Parallel span line end body rest) later b = let r = bounded_both rest later b.4 in ((b.0, b.1, b.2, b.3, r.0), r.1)

@@ -7,7 +7,7 @@ use Rattle.kernel_syntax.specs.declared.syntax.Op.TheVariants.{Add, Sub, Mul}
 use Rattle.kernel_syntax.specs.Arithmetic.{negated}
 use Rattle.kernel_syntax.specs.Bounds.{IsBounded}
 use Rattle.kernel_syntax.specs.Program.{Program}
-use Rattle.kernel_syntax.specs.Tree.{Term, Number, Slot, Tid, Span, Load, Neg, Binary, Code, Done, Set, Store, If, Loop, Parallel, For, Barrier, Critical}
+use Rattle.kernel_syntax.specs.Tree.{Term, Number, Slot, Tid, Span, Load, Neg, Binary, Code, Done, Set, Store, Update, If, Loop, Parallel, For, Barrier, Critical}
 use Rattle.kernel_model.specs.Iterations.{total_of}
 
 -- ---- numbers
@@ -25,6 +25,7 @@ abbrev pub CodeFits : Code → Type 0
 CodeFits Done = Unit {0}
 CodeFits (Set slot value rest) = TermFits value × CodeFits rest
 CodeFits (Store array index value line site rest) = TermFits index × TermFits value × CodeFits rest
+CodeFits (Update array index value minus line site rest) = TermFits index × TermFits value × CodeFits rest
 CodeFits (If test if_true if_false rest) = TermFits test × CodeFits if_true × CodeFits if_false × CodeFits rest
 CodeFits (Loop slot from to body rest) = TermFits from × TermFits to × CodeFits body × CodeFits rest
 CodeFits (Parallel span line end body rest) = CodeFits body × CodeFits rest
@@ -105,6 +106,7 @@ IsScoped n Done = Unit {0}
 IsScoped n (Set slot value rest) =
     IsKnown n value × IsAssigned n slot (variable_at n slot) × IsScoped (after_assigning n slot (variable_at n slot)) rest
 IsScoped n (Store array index value line site rest) = (array < n.arrays) × IsKnown n index × IsKnown n value × IsScoped n rest
+IsScoped n (Update array index value minus line site rest) = (array < n.arrays) × IsKnown n index × IsKnown n value × IsScoped n rest
 IsScoped n (If test if_true if_false rest) = IsKnown n test × IsScoped n if_true × IsScoped n if_false × IsScoped n rest
 IsScoped n (Loop slot from to body rest) =
     IsKnown n from × IsKnown n to × IsNew n slot × IsScoped (with_variable n slot false) body × IsScoped n rest
@@ -131,6 +133,7 @@ abbrev pub code_holds_work : Code → Bool
 code_holds_work Done = false
 code_holds_work (Set slot value rest) = code_holds_work rest
 code_holds_work (Store array index value line site rest) = code_holds_work rest
+code_holds_work (Update array index value minus line site rest) = code_holds_work rest
 code_holds_work (If test if_true if_false rest) = code_holds_work if_true || (code_holds_work if_false || code_holds_work rest)
 code_holds_work (Loop slot from to body rest) = code_holds_work body || code_holds_work rest
 code_holds_work (Parallel span line end body rest) = code_holds_work rest
@@ -144,6 +147,7 @@ abbrev pub IsEven : Code → Type 0
 IsEven Done = Unit {0}
 IsEven (Set slot value rest) = IsEven rest
 IsEven (Store array index value line site rest) = IsEven rest
+IsEven (Update array index value minus line site rest) = IsEven rest
 IsEven (If test if_true if_false rest) =
     (code_holds_work if_true ≡ false) × (code_holds_work if_false ≡ false) × IsEven if_true × IsEven if_false × IsEven rest
 IsEven (Loop slot from to body rest) = (code_holds_work body ≡ true → has_fixed_bounds from to ≡ true) × IsEven body × IsEven rest
@@ -161,6 +165,7 @@ abbrev pub IsNested : ℕ → ℕ → ℕ → List ℕ → Code → Type 0
 IsNested mutexes regions lanes held Done = Unit {0}
 IsNested mutexes regions lanes held (Set slot value rest) = IsNested mutexes regions lanes held rest
 IsNested mutexes regions lanes held (Store array index value line site rest) = IsNested mutexes regions lanes held rest
+IsNested mutexes regions lanes held (Update array index value minus line site rest) = IsNested mutexes regions lanes held rest
 IsNested mutexes regions lanes held (If test if_true if_false rest) =
     IsNested mutexes regions lanes held if_true × IsNested mutexes regions lanes held if_false × IsNested mutexes regions lanes held rest
 IsNested mutexes regions lanes held (Loop slot from to body rest) =
@@ -194,6 +199,7 @@ abbrev pub code_weight : Code → ℕ
 code_weight Done = 0
 code_weight (Set slot value rest) = 1 + code_weight rest
 code_weight (Store array index value line site rest) = 1 + code_weight rest
+code_weight (Update array index value minus line site rest) = 1 + code_weight rest
 code_weight (If test if_true if_false rest) = 1 + code_weight rest
 code_weight (Loop slot from to body rest) = unrolled_weight (bounds_of from to body) (code_weight body) + code_weight rest
 code_weight (Parallel span line end body rest) = 1 + code_weight rest
@@ -210,6 +216,7 @@ abbrev pub IsLight : Code → Type 0
 IsLight Done = Unit {0}
 IsLight (Set slot value rest) = IsLight rest
 IsLight (Store array index value line site rest) = IsLight rest
+IsLight (Update array index value minus line site rest) = IsLight rest
 IsLight (If test if_true if_false rest) = IsLight if_true × IsLight if_false × IsLight rest
 IsLight (Loop slot from to body rest) = IsLight body × IsLight rest
 IsLight (Parallel span line end body rest) = (code_weight body ≤ max_weight) × IsLight body × IsLight rest

@@ -1,3 +1,4 @@
+pub mod Changing
 pub mod Chunking
 pub mod Drawing
 pub mod Effect

@@ -37,6 +37,7 @@ abbrev pub parts_of : Code → List Part
 parts_of Done = []
 parts_of (tree.Set slot value rest) = Run (tree.Set slot value Done) ∷ parts_of rest
 parts_of (tree.Store array index value line site rest) = Run (tree.Store array index value line site Done) ∷ parts_of rest
+parts_of (tree.Update array index value minus line site rest) = Run (tree.Update array index value minus line site Done) ∷ parts_of rest
 parts_of (tree.If test if_true if_false rest) = Run (tree.If test if_true if_false Done) ∷ parts_of rest
 parts_of (tree.Loop slot from to body rest) =
     loop_parts (bounds_of from to body) slot (parts_of body) (tree.Loop slot from to body Done) ++ parts_of rest

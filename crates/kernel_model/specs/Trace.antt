@@ -2,20 +2,35 @@
 use Rattle.std.specs.Prelude.{ℕ, zero, suc, min, nat_lt, if◌then◌else◌, Bool, true, false, List, [], ◌∷◌, ◌++◌, ℤ, pos, ◌+ℤ◌, Option, Some, None}
 use Rattle.kernel_syntax.specs.declared.syntax.Schedule.{Schedule}
 use Rattle.kernel_syntax.specs.declared.syntax.Schedule.TheVariants.{Even, Static, Dynamic}
-use Rattle.kernel_syntax.specs.Tree.{Code, Done, Set, Store, If, Loop, Parallel, For, Barrier, Critical, TeamTree}
+use Rattle.kernel_syntax.specs.Tree.{Code, Done, Set, Store, Update, If, Loop, Parallel, For, Barrier, Critical, TeamTree}
 use Rattle.log_format.specs.Fitting.{fitted}
+use Rattle.kernel_syntax.specs.Arithmetic.{negated}
 use Rattle.kernel_syntax.specs.Program.{Program}
 use Rattle.log_format.specs.Limit.{record_limit}
 use Rattle.log_format.specs.declared.record.Record.{Record}
+use Rattle.log_format.specs.declared.record.Kind.{Kind}
 use Rattle.log_format.specs.declared.record.Kind.TheVariants as kind
 use Rattle.kernel_model.specs.State.{State, Fork, Stop, Outcome, Gives, Stops, Wants, Index, LogFull, and_then, after, put, event, assign, state_of}
 use Rattle.kernel_model.specs.Value.{Site, Element, element_at, access, value}
 use Rattle.kernel_model.specs.Iterations.{total_of, even_iterations, static_iterations, chunk_count, chunk_iterations}
 
--- a store to an element, or the stop of an index outside the array
+-- an access that changes an element, with a value cut to it, or the stop of an index outside the array
+abbrev pub changed : Kind → Option Element → ℤ → ℕ → ℕ → State → Outcome (Unit {0})
+changed k None v line site s = Stops Index line s
+changed k (Some e) v line site s = put (access k e site line (fitted v e.width)) s
+
+-- a store to an element
 abbrev pub stored : Option Element → ℤ → ℕ → ℕ → State → Outcome (Unit {0})
-stored None v line site s = Stops Index line s
-stored (Some e) v line site s = put (access kind.Write e site line (fitted v e.width)) s
+stored e v line site s = changed kind.Write e v line site s
+
+-- an addition to an element in one step (OpenMP 5.2, an atomic update)
+abbrev pub updated : Option Element → ℤ → ℕ → ℕ → State → Outcome (Unit {0})
+updated e v line site s = changed kind.Update e v line site s
+
+-- what an update adds: the value, or with a minus its negative
+abbrev pub amount_of : Bool → ℤ → ℤ
+amount_of false v = v
+amount_of true v = negated v
 
 -- the second where the value is 0, else the first
 abbrev pub branch : ℤ → (State → Outcome (Unit {0})) → (State → Outcome (Unit {0})) → State → Outcome (Unit {0})
@@ -74,6 +89,9 @@ run at (Set slot e rest) s = and_then (value at e s) (λ v s. run at rest (assig
 run at (Store array index e line site rest) s =
     and_then (value at index s) (λ i s. and_then (value at e s) (λ v s.
     after (stored (element_at at.arrays array i) v line site s) (run at rest)))
+run at (Update array index e minus line site rest) s =
+    and_then (value at index s) (λ i s. and_then (value at e s) (λ v s.
+    after (updated (element_at at.arrays array i) (amount_of minus v) line site s) (run at rest)))
 run at (If test if_true if_false rest) s =
     and_then (value at test s) (λ v s. after (branch v (run at if_true) (run at if_false) s) (run at rest))
 run at (Loop slot from to body rest) s =

@@ -7,11 +7,13 @@
 //!
 //! The laws of lawful kernels stand in `kernel_rules`, and `team_phases` divides a team's body into its `Phase`s.
 //!
-//! Meaning of `parallel`, worksharing loops, `barrier` and `critical`: OpenMP 5.2.
+//! Meaning of `parallel`, worksharing loops, `barrier`, `critical` and atomic updates: OpenMP 5.2.
 #![tactic(auto)]
 
+mod change;
 mod growth;
 mod phase;
 
+pub use change::{Change, negate};
 pub use growth::tasks_only_add_records;
 pub use phase::{Item, Phase};

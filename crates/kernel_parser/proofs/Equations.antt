@@ -1,5 +1,5 @@
 -- What each kind of statement is before the rest: one equation a variant, for those who build or match one.
-use Rattle.std.proofs.Common.{◌≡◌, ap, sym, refl, ◌∙◌, ℕ, List, [], ◌∷◌, ◌++◌, Option}
+use Rattle.std.proofs.Common.{◌≡◌, ap, sym, refl, ◌∙◌, ℕ, Bool, List, [], ◌∷◌, ◌++◌, Option}
 use Rattle.std.specs.Prelude.{ℤ}
 use Rattle.kernel_text.specs.Grammar as grammar
 use Rattle.kernel_text.specs.Grammar.{Stmts}
@@ -11,7 +11,7 @@ use Rattle.kernel_parser.specs.declared.tree.Statement.{Statement}
 use Rattle.kernel_parser.specs.declared.tree.Statement.TheOpen as layer
 use Rattle.kernel_parser.specs.declared.tree.Statement.TheOpen.{Statement-F}
 use Rattle.kernel_parser.specs.declared.tree.Statement.TheVariants as variant
-use Rattle.kernel_parser.specs.declared.tree.Statement.TheVariants.{rolls-Let, rolls-Assign, rolls-Store, rolls-If, rolls-IfElse, rolls-Loop, rolls-Parallel, rolls-For, rolls-Barrier, rolls-Critical, rolls-CriticalOf}
+use Rattle.kernel_parser.specs.declared.tree.Statement.TheVariants.{rolls-Let, rolls-Assign, rolls-Store, rolls-Update, rolls-If, rolls-IfElse, rolls-Loop, rolls-Parallel, rolls-For, rolls-Barrier, rolls-Critical, rolls-CriticalOf}
 use Rattle.kernel_parser.specs.declared.tree.Statement.TheViews.{roll-Statement, out-Statement, roll-out-Statement}
 use Rattle.kernel_parser.specs.declared.tree.Statement.TheFolds.{fold-Block, fold-roll-Statement, fold_out-Block, map-Statement}
 use Rattle.kernel_parser.specs.Trees.{tree_of, schedule_tree, BlockTree, layer_stmt, layer_block, stmt_before, stmts_before, stmts_of}
@@ -51,6 +51,12 @@ pub before_store : (line : ℕ) (name : List ℕ) (opened : ℕ) (index : Tree) 
     → stmt_before (variant.Store line name opened index closed sign_line value) rest ≡ grammar.Store line name opened (tree_of index) closed sign_line (tree_of value) rest
 before_store line name opened index closed sign_line value rest =
     from_layer (layer.Store line name opened index closed sign_line value) _ rest (rolls-Store line name opened index closed sign_line value)
+
+pub before_update : (line name_line : ℕ) (name : List ℕ) (opened : ℕ) (index : Tree) (closed : ℕ) (minus : Bool) (sign_line : ℕ) (value : Tree) (rest : Stmts)
+    → stmt_before (variant.Update line name_line name opened index closed minus sign_line value) rest
+    ≡ grammar.Update line name_line name opened (tree_of index) closed minus sign_line (tree_of value) rest
+before_update line name_line name opened index closed minus sign_line value rest =
+    from_layer (layer.Update line name_line name opened index closed minus sign_line value) _ rest (rolls-Update line name_line name opened index closed minus sign_line value)
 
 pub before_if : (line : ℕ) (test : Tree) (body : Block) (rest : Stmts)
     → stmt_before (variant.If line test body) rest ≡ grammar.If line (tree_of test) body.opened (stmts_of body.stmts.items) body.closed rest

@@ -1,11 +1,11 @@
 -- The first of some statements, by what it begins with.
-use Rattle.std.proofs.Common.{◌≡◌, ℕ, ◌-◌, List, [], ◌∷◌, ◌++◌, Option, Some, Ok, Err, Result, Bor, refl, ap, ◌∙◌, append_assoc}
+use Rattle.std.proofs.Common.{◌≡◌, ℕ, ◌-◌, Bool, List, [], ◌∷◌, ◌++◌, Option, Some, Ok, Err, Result, Bor, refl, ap, ◌∙◌, append_assoc}
 use Rattle.std.specs.Prelude.{ℤ}
 use Rattle.kernel_text.specs.declared.token.Word.TheVariants as word
 use Rattle.kernel_text.specs.declared.token.Sign.TheVariants as sign
 use Rattle.kernel_text.specs.declared.token.Lexeme.TheVariants.{Named, Reserved}
 use Rattle.kernel_text.specs.declared.token.Token.{Token}
-use Rattle.kernel_text.specs.Grammar.{Tree, tree_tokens, expr, named, mark, reserved, number, block, ScheduleTree, schedule_tokens, nowait_tokens, Stmts, Let, Assign, Store, If, IfElse, Loop, Parallel, For, Barrier, Critical, CriticalOf, stmts_tokens, StmtsDerive, AreShallow}
+use Rattle.kernel_text.specs.Grammar.{Tree, tree_tokens, expr, named, mark, reserved, number, block, ScheduleTree, schedule_tokens, nowait_tokens, update_sign, Stmts, Let, Assign, Store, Update, If, IfElse, Loop, Parallel, For, Barrier, Critical, CriticalOf, stmts_tokens, StmtsDerive, AreShallow}
 use Rattle.kernel_parser.specs.declared.fault.ParseFault.{ParseFault}
 use Rattle.kernel_parser.specs.declared.fault.ParseFault.TheVariants as fault
 use Rattle.kernel_parser.specs.declared.lookahead.Lead.{Lead}
@@ -13,7 +13,7 @@ use Rattle.kernel_parser.specs.declared.lookahead.Lead.TheVariants as lead
 use Rattle.kernel_parser.specs.declared.tree.Statement.{Statement}
 use Rattle.kernel_parser.specs.Parsing.{IsExpression, IsBlock, IsRead, IsFirst, Reads, StartsWith, inside, lead_of_stmts}
 use Rattle.kernel_parser.proofs.Signs.{heads-is, stops-at}
-use Rattle.kernel_parser.proofs.Heading.{View, IsLet, IsAssign, IsStore, IsIf, IsIfElse, IsLoop, IsParallel, IsFor, IsBarrier, IsCritical, IsCriticalOf, seen, before-stmts, body-opens, follows-schedule, no-else}
+use Rattle.kernel_parser.proofs.Heading.{View, IsLet, IsAssign, IsStore, IsUpdate, IsIf, IsIfElse, IsLoop, IsParallel, IsFor, IsBarrier, IsCritical, IsCriticalOf, seen, before-stmts, body-opens, follows-schedule, no-else}
 
 abbrev Parsed : Type 0
 Parsed = Result (Statement × Bor (List Token)) ParseFault
@@ -68,6 +68,20 @@ store-parsed t ts x r name_is f is b end tail n e d s = same b (seen (Some lead.
         first-is (Store t.line x opened index closed sign_line value) (Store line name opened index closed sign_line value rest) end tail r n rest
         (ap (λ (l : ℕ). Store l x opened index closed sign_line value rest) a.0 ∙ ap (λ (y : List ℕ). Store line y opened index closed sign_line value rest) m) d.2 s.2
         (f opened index closed sign_line value _ _ _ a.2 (record { parts = append_assoc (tree_tokens index) behind _; derives = d.0; flat = s.0; ends = stops-at expr _ (refl, refl) }) (before-stmts value rest end tail d.1 s.1))
+
+pub update-parsed : (t : Token) (ts : List Token) (r : Parsed)
+    → ((name_line : ℕ) (name : List ℕ) (opened : ℕ) (index : Tree) (closed : ℕ) (minus : Bool) (sign_line : ℕ) (value : Tree) (us vs after : List Token) → ts ≡ named name_line name ∷ mark opened sign.OpenBracket ∷ us
+    → IsExpression us index (mark closed sign.CloseBracket ∷ mark sign_line (update_sign minus) ∷ vs) → IsExpression vs value after → Reads r (λ x. IsRead (Update t.line name_line name opened index closed minus sign_line value) after x.0 x.1.now))
+    → IsParsed lead.Update t ts r
+update-parsed t ts r f is b end tail n e d s = same b (seen (Some lead.Update) b (is b end tail e)) e d s
+  where
+    same : (b : Stmts) → View (Some lead.Update) b → t ∷ ts ≡ inside b end tail → StmtsDerive b → AreShallow n b → Reads r (λ x. IsFirst n b end tail x.0 x.1.now)
+    same _ (IsUpdate line name_line name opened index closed minus sign_line value rest) e d s =
+        let a = heads-is _ _ _ _ e in
+        let behind : List Token = mark closed sign.CloseBracket ∷ mark sign_line (update_sign minus) ∷ tree_tokens value ++ stmts_tokens rest in
+        first-is (Update t.line name_line name opened index closed minus sign_line value) (Update line name_line name opened index closed minus sign_line value rest) end tail r n rest
+        (ap (λ (l : ℕ). Update l name_line name opened index closed minus sign_line value rest) a.0) d.2 s.2
+        (f name_line name opened index closed minus sign_line value _ _ _ a.2 (record { parts = append_assoc (tree_tokens index) behind _; derives = d.0; flat = s.0; ends = stops-at expr _ (refl, refl) }) (before-stmts value rest end tail d.1 s.1))
 
 -- a block before statements
 block-before : (n opened : ℕ) (body : Stmts) (closed : ℕ) (b : Stmts) (end : ℕ) (tail : List Token) → StmtsDerive body → AreShallow n body

@@ -1,11 +1,11 @@
 -- What statements begin with, and what follows their parts.
-use Rattle.std.proofs.Common.{◌≡◌, ℕ, List, [], ◌∷◌, ◌++◌, Option, Some, None, refl, sym, ap, subst, ◌∙◌, append_assoc}
+use Rattle.std.proofs.Common.{◌≡◌, ℕ, Bool, List, [], ◌∷◌, ◌++◌, Option, Some, None, refl, sym, ap, subst, ◌∙◌, append_assoc}
 use Rattle.std.specs.Prelude.{ℤ}
 use Rattle.kernel_text.specs.declared.token.Word.TheVariants as word
 use Rattle.kernel_text.specs.declared.token.Sign.TheVariants as sign
 use Rattle.kernel_text.specs.declared.token.Lexeme.TheVariants.{Reserved}
 use Rattle.kernel_text.specs.declared.token.Token.{Token}
-use Rattle.kernel_text.specs.Grammar.{Tree, tree_tokens, Derives, expr, IsFlat, mark, block, ScheduleTree, Unsaid, Static, StaticBy, Dynamic, DynamicBy, schedule_tokens, nowait_tokens, Stmts, NoMore, Let, Assign, Store, If, IfElse, Loop, Parallel, For, Barrier, Critical, CriticalOf, stmts_tokens}
+use Rattle.kernel_text.specs.Grammar.{Tree, tree_tokens, Derives, expr, IsFlat, mark, block, ScheduleTree, Unsaid, Static, StaticBy, Dynamic, DynamicBy, schedule_tokens, nowait_tokens, Stmts, NoMore, Let, Assign, Store, Update, If, IfElse, Loop, Parallel, For, Barrier, Critical, CriticalOf, stmts_tokens}
 use Rattle.kernel_parser.specs.declared.lookahead.Lead.{Lead}
 use Rattle.kernel_parser.specs.declared.lookahead.Lead.TheVariants as lead
 use Rattle.kernel_parser.proofs.Signs.{stops-at}
@@ -17,6 +17,7 @@ follows-inside NoMore end tail = stops-at expr _ (refl, refl)
 follows-inside (Let line name_line name sign_line value rest) end tail = stops-at expr _ (refl, refl)
 follows-inside (Assign line name sign_line value rest) end tail = stops-at expr _ (refl, refl)
 follows-inside (Store line name opened index closed sign_line value rest) end tail = stops-at expr _ (refl, refl)
+follows-inside (Update line name_line name opened index closed minus sign_line value rest) end tail = stops-at expr _ (refl, refl)
 follows-inside (If line test opened if_true closed rest) end tail = stops-at expr _ (refl, refl)
 follows-inside (IfElse line test opened if_true closed else_line else_opened if_false else_closed rest) end tail = stops-at expr _ (refl, refl)
 follows-inside (Loop line name_line name in_line from dots to opened body closed rest) end tail = stops-at expr _ (refl, refl)
@@ -54,6 +55,7 @@ no-else NoMore end tail e = absurd cc
 no-else (Let line name_line name sign_line value rest) end tail e = absurd cc
 no-else (Assign line name sign_line value rest) end tail e = absurd cc
 no-else (Store line name opened index closed sign_line value rest) end tail e = absurd cc
+no-else (Update line name_line name opened index closed minus sign_line value rest) end tail e = absurd cc
 no-else (If line test opened if_true closed rest) end tail e = absurd cc
 no-else (IfElse line test opened if_true closed else_line else_opened if_false else_closed rest) end tail e = absurd cc
 no-else (Loop line name_line name in_line from dots to opened body closed rest) end tail e = absurd cc
@@ -69,6 +71,8 @@ pub data View : Option Lead → Stmts → Type 0 where
   IsLet : (line name_line : ℕ) → (name : List ℕ) → (sign_line : ℕ) → (value : Tree) → (rest : Stmts) → View (Some lead.Let) (Let line name_line name sign_line value rest)
   IsAssign : (line : ℕ) → (name : List ℕ) → (sign_line : ℕ) → (value : Tree) → (rest : Stmts) → View (Some lead.Assign) (Assign line name sign_line value rest)
   IsStore : (line : ℕ) → (name : List ℕ) → (opened : ℕ) → (index : Tree) → (closed sign_line : ℕ) → (value : Tree) → (rest : Stmts) → View (Some lead.Store) (Store line name opened index closed sign_line value rest)
+  IsUpdate : (line name_line : ℕ) → (name : List ℕ) → (opened : ℕ) → (index : Tree) → (closed : ℕ) → (minus : Bool) → (sign_line : ℕ) → (value : Tree) → (rest : Stmts)
+      → View (Some lead.Update) (Update line name_line name opened index closed minus sign_line value rest)
   IsIf : (line : ℕ) → (test : Tree) → (opened : ℕ) → (if_true : Stmts) → (closed : ℕ) → (rest : Stmts) → View (Some lead.If) (If line test opened if_true closed rest)
   IsIfElse : (line : ℕ) → (test : Tree) → (opened : ℕ) → (if_true : Stmts) → (closed else_line else_opened : ℕ) → (if_false : Stmts) → (else_closed : ℕ) → (rest : Stmts)
       → View (Some lead.If) (IfElse line test opened if_true closed else_line else_opened if_false else_closed rest)
@@ -86,6 +90,7 @@ view NoMore = IsEnd
 view (Let line name_line name sign_line value rest) = IsLet line name_line name sign_line value rest
 view (Assign line name sign_line value rest) = IsAssign line name sign_line value rest
 view (Store line name opened index closed sign_line value rest) = IsStore line name opened index closed sign_line value rest
+view (Update line name_line name opened index closed minus sign_line value rest) = IsUpdate line name_line name opened index closed minus sign_line value rest
 view (If line test opened if_true closed rest) = IsIf line test opened if_true closed rest
 view (IfElse line test opened if_true closed else_line else_opened if_false else_closed rest) = IsIfElse line test opened if_true closed else_line else_opened if_false else_closed rest
 view (Loop line name_line name in_line from dots to opened body closed rest) = IsLoop line name_line name in_line from dots to opened body closed rest

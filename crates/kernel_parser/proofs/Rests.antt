@@ -1,7 +1,7 @@
 -- Statements and declarations one after the other, as a loop reads them.
 use Rattle.std.proofs.Common.{◌≡◌, ℕ, List, [], ◌∷◌, ◌++◌, None, Ok, Err, Result, Bor, sym, ap, ◌∙◌}
 use Rattle.kernel_text.specs.declared.token.Token.{Token}
-use Rattle.kernel_text.specs.Grammar.{Stmts, NoMore, Let, Assign, Store, If, IfElse, Loop, Parallel, For, Barrier, Critical, CriticalOf, StmtsDerive, AreShallow}
+use Rattle.kernel_text.specs.Grammar.{Stmts, NoMore, Let, Assign, Store, Update, If, IfElse, Loop, Parallel, For, Barrier, Critical, CriticalOf, StmtsDerive, AreShallow}
 use Rattle.kernel_parser.specs.declared.fault.ParseFault.{ParseFault}
 use Rattle.kernel_parser.specs.declared.fault.ParseFault.TheVariants as fault
 use Rattle.kernel_parser.specs.declared.tree.Statement.{Statement}
@@ -83,6 +83,7 @@ never-none all line made ts leaves none opened body closed after is =
     some-tokens (Let line name_line name sign_line value rest) end tail e = absurd cc
     some-tokens (Assign line name sign_line value rest) end tail e = absurd cc
     some-tokens (Store line name opened index closed sign_line value rest) end tail e = absurd cc
+    some-tokens (Update line name_line name opened index closed minus sign_line value rest) end tail e = absurd cc
     some-tokens (If line test opened if_true closed rest) end tail e = absurd cc
     some-tokens (IfElse line test opened if_true closed else_line else_opened if_false else_closed rest) end tail e = absurd cc
     some-tokens (Loop line name_line name in_line from dots to opened body closed rest) end tail e = absurd cc

@@ -1,13 +1,13 @@
 -- The signs of operations, and what stops an expression.
 use Rattle.std.proofs.Common.{◌≡◌, ℕ, ◌<◌, ◌≤◌, Bool, true, false, List, [], ◌∷◌, Some, None, refl, sym, ap, subst, ◌∙◌, arith}
-use Rattle.std.specs.Prelude.{IsTrue}
+use Rattle.std.specs.Prelude.{IsTrue, ◌↔◌}
 use Rattle.kernel_syntax.specs.declared.syntax.Op.{Op}
 use Rattle.kernel_syntax.specs.declared.syntax.Op.TheVariants as op
 use Rattle.kernel_text.specs.declared.token.Sign.TheVariants as sign
 use Rattle.kernel_text.specs.declared.token.Lexeme.{Lexeme}
 use Rattle.kernel_text.specs.declared.token.Lexeme.TheVariants.{Mark}
 use Rattle.kernel_text.specs.declared.token.Token.{Token}
-use Rattle.kernel_text.specs.Grammar.{op_of, sign_of, rank_of, mark}
+use Rattle.kernel_text.specs.Grammar.{op_of, sign_of, rank_of, update_sign, mark}
 use Rattle.kernel_text.proofs.Operators.{op_of-sign}
 use Rattle.kernel_parser.specs.Parsing.{Stops, StartsWith}
 
@@ -26,6 +26,13 @@ begins-with t ts us e = subst (λ (vs : List Token). StartsWith t.lexeme vs) (sy
 
 pub not-true : IsTrue false → ⊥
 not-true same = absurd cc
+
+-- which of its signs an update has
+pub minus_is : (r minus : Bool) (line : ℕ) (ts us : List Token) → IsTrue r ↔ StartsWith (Mark sign.MinusAssign) us → us ≡ mark line (update_sign minus) ∷ ts → r ≡ minus
+minus_is true true line ts us is e = refl
+minus_is false false line ts us is e = refl
+minus_is false true line ts us is e = absurd (not-true (is.1 (begins-with (mark line sign.MinusAssign) ts us e)))
+minus_is true false line ts us is e = let plus : Mark sign.PlusAssign ≡ Mark sign.MinusAssign = subst (λ (vs : List Token). StartsWith (Mark sign.MinusAssign) vs) e (is.0 refl) in absurd cc
 
 -- each sign has one operation
 pub same-operation : (o p : Op) → Mark (sign_of o) ≡ Mark (sign_of p) → o ≡ p

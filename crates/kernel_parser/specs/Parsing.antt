@@ -6,7 +6,7 @@ use Rattle.kernel_text.specs.declared.token.Sign.TheVariants as sign
 use Rattle.kernel_text.specs.declared.token.Lexeme.{Lexeme}
 use Rattle.kernel_text.specs.declared.token.Lexeme.TheVariants.{Mark}
 use Rattle.kernel_text.specs.declared.token.Token.{Token}
-use Rattle.kernel_text.specs.Grammar.{Tree, tree_tokens, Derives, depth, expr, sign_of, rank_of, mark, Stmts, NoMore, Let, Assign, Store, If, IfElse, Loop, Parallel, For, Barrier, Critical, CriticalOf, stmts_tokens, StmtsDerive, AreShallow, Declaration}
+use Rattle.kernel_text.specs.Grammar.{Tree, tree_tokens, Derives, depth, expr, sign_of, rank_of, mark, Stmts, NoMore, Let, Assign, Store, Update, If, IfElse, Loop, Parallel, For, Barrier, Critical, CriticalOf, stmts_tokens, StmtsDerive, AreShallow, Declaration}
 use Rattle.kernel_parser.specs.declared.fault.ParseFault.{ParseFault}
 use Rattle.kernel_parser.specs.declared.fault.ParseFault.TheVariants as fault
 use Rattle.kernel_parser.specs.declared.lookahead.Lead.{Lead}
@@ -49,6 +49,7 @@ lead_of_stmts NoMore = None
 lead_of_stmts (Let line name_line name sign_line value rest) = Some lead.Let
 lead_of_stmts (Assign line name sign_line value rest) = Some lead.Assign
 lead_of_stmts (Store line name opened index closed sign_line value rest) = Some lead.Store
+lead_of_stmts (Update line name_line name opened index closed minus sign_line value rest) = Some lead.Update
 lead_of_stmts (If line test opened if_true closed rest) = Some lead.If
 lead_of_stmts (IfElse line test opened if_true closed else_line else_opened if_false else_closed rest) = Some lead.If
 lead_of_stmts (Loop line name_line name in_line from dots to opened body closed rest) = Some lead.Loop

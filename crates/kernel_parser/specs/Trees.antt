@@ -1,6 +1,6 @@
 -- The trees of the code, as those of the grammar.
 use Rattle.std.specs.Prelude.{ℕ, List, [], ◌∷◌, map}
-use Rattle.kernel_text.specs.Grammar.{Tree, NumberAt, NameAt, TidAt, SpanAt, Element, Group, Minus, Binary, ScheduleTree, Unsaid, Static, StaticBy, Dynamic, DynamicBy, Stmts, NoMore, Let, Assign, Store, If, IfElse, Loop, Parallel, For, Barrier, Critical, CriticalOf, Declaration, ArrayOf, MutexOf, KernelTree}
+use Rattle.kernel_text.specs.Grammar.{Tree, NumberAt, NameAt, TidAt, SpanAt, Element, Group, Minus, Binary, ScheduleTree, Unsaid, Static, StaticBy, Dynamic, DynamicBy, Stmts, NoMore, Let, Assign, Store, Update, If, IfElse, Loop, Parallel, For, Barrier, Critical, CriticalOf, Declaration, ArrayOf, MutexOf, KernelTree}
 use Rattle.kernel_parser.specs.declared.tree.Tree as code
 use Rattle.kernel_parser.specs.declared.tree.Tree.TheVariants as written
 use Rattle.kernel_parser.specs.declared.tree.ScheduleTree as schedules
@@ -47,6 +47,8 @@ abbrev pub layer_stmt : Statement-F (Stmts → Stmts) BlockTree → Stmts → St
 layer_stmt (layer.Let line name_line name sign_line value) rest = Let line name_line name sign_line (tree_of value) rest
 layer_stmt (layer.Assign line name sign_line value) rest = Assign line name sign_line (tree_of value) rest
 layer_stmt (layer.Store line name opened index closed sign_line value) rest = Store line name opened (tree_of index) closed sign_line (tree_of value) rest
+layer_stmt (layer.Update line name_line name opened index closed minus sign_line value) rest =
+    Update line name_line name opened (tree_of index) closed minus sign_line (tree_of value) rest
 layer_stmt (layer.If line test if_true) rest = If line (tree_of test) if_true.opened if_true.body if_true.closed rest
 layer_stmt (layer.IfElse line test if_true else_line if_false) rest =
     IfElse line (tree_of test) if_true.opened if_true.body if_true.closed else_line if_false.opened if_false.body if_false.closed rest

@@ -19,6 +19,7 @@ pub enum Lead {
     Let,
     Assign,
     Store,
+    Update,
     If,
     Loop,
     Parallel,
@@ -104,6 +105,16 @@ pub fn is_open_bracket(tokens: &[Token]) -> bool
     }
 }
 
+/// Whether `-=` is next.
+pub fn is_minus(tokens: &[Token]) -> bool
+    ensures { IsTrue result ↔ StartsWith (Mark sign.MinusAssign) tokens.now }
+{
+    match tokens.first() {
+        Some(token) => matches!(&token.lexeme, Lexeme::Mark(Sign::MinusAssign)),
+        None => false,
+    }
+}
+
 pub fn is_nowait(tokens: &[Token]) -> bool
     ensures { IsTrue result ↔ StartsWith (Reserved word.Nowait) tokens.now }
 {
@@ -129,6 +140,7 @@ pub fn lead_of(token: &Token, rest: &[Token]) -> Option<Lead>
 {
     match &token.lexeme {
         Lexeme::Reserved(Word::Let) => Some(Lead::Let),
+        Lexeme::Reserved(Word::Atomic) => Some(Lead::Update),
         Lexeme::Reserved(Word::If) => Some(Lead::If),
         Lexeme::Reserved(Word::Loop) => Some(Lead::Loop),
         Lexeme::Reserved(Word::Parallel) => Some(Lead::Parallel),

@@ -1,21 +1,21 @@
 //! From tokens to statements.
 //!
 //! A call inside a call follows a block; statements in a row are a loop.
-ghost use Rattle.std.specs.Prelude.{◌≡◌, ◌≤◌, ℕ, ℤ, List, ◌∷◌, ◌++◌, length, IfOk, Option, Some};
+ghost use Rattle.std.specs.Prelude.{◌≡◌, ◌≤◌, ℕ, ℤ, Bool, List, ◌∷◌, ◌++◌, length, IfOk, Option, Some};
 ghost use Rattle.kernel_text.specs.declared.token.Token.{Token as AToken};
 ghost use Rattle.kernel_text.specs.declared.token.Lexeme.TheVariants.{Reserved};
 ghost use Rattle.kernel_text.specs.declared.token.Sign.TheVariants as sign;
 ghost use Rattle.kernel_text.specs.declared.token.Word.TheVariants as word;
 ghost use Rattle.kernel_text.specs.Grammar as grammar;
-ghost use Rattle.kernel_text.specs.Grammar.{Stmts, StmtsDerive, AreShallow, named, mark, reserved, number, schedule_tokens, nowait_tokens};
+ghost use Rattle.kernel_text.specs.Grammar.{Stmts, StmtsDerive, AreShallow, named, mark, reserved, number, schedule_tokens, nowait_tokens, update_sign};
 ghost use Rattle.kernel_parser.specs.Trees.{tree_of, schedule_tree, stmts_of};
 ghost use Rattle.kernel_parser.specs.Parsing.{IsExpression, IsBlock, IsRead, IsFirst, StartsWith, Reads, inside, lead_of_stmts};
 
 use crate::expression::expression;
 use crate::fault::ParseFault;
 use crate::lookahead::{
-    Lead, is_dynamic, is_else, is_name, is_nowait, is_number, is_static, lead_of, name_at, name_of,
-    number_of, skip,
+    Lead, is_dynamic, is_else, is_minus, is_name, is_nowait, is_number, is_static, lead_of,
+    name_at, name_of, number_of, skip,
 };
 use crate::tree::{Block, Range, ScheduleTree, Statement};
 use kernel_syntax::Name;
@@ -86,6 +86,38 @@ fn store_stmt(
         opened,
         index,
         closed,
+        sign_line,
+        value,
+    };
+    Ok((stmt, rest))
+}
+
+/// NAME `[` expr `]` (`+=` | `-=`) expr, behind `atomic`
+#[tactic(auto, using(crate::proofs::Equations::before_update, crate::proofs::Signs::minus_is))]
+fn update_stmt(
+    alloc: Global,
+    line: u32,
+    tokens: &[Token],
+) -> Result<(Statement, &[Token]), ParseFault>
+    ensures parsed { (name_line : ℕ) (name : List ℕ) (opened : ℕ) (index : grammar.Tree) (closed : ℕ) (minus : Bool) (sign_line : ℕ) (value : grammar.Tree) (ts us after : List AToken) → tokens.now ≡ named name_line name ∷ mark opened sign.OpenBracket ∷ ts → IsExpression ts index (mark closed sign.CloseBracket ∷ mark sign_line (update_sign minus) ∷ us) → IsExpression us value after → Reads result (λ x. IsRead (grammar.Update line name_line name opened index closed minus sign_line value) after x.0 x.1.now) }
+    ensures shorter { IfOk result (λ x. length x.1.now ≤ length tokens.now) }
+{
+    let name = name_of(tokens);
+    let (name_line, rest) = skip(tokens);
+    let (opened, rest) = skip(rest);
+    let (index, rest) = expression(alloc, rest)?;
+    let (closed, rest) = skip(rest);
+    let minus = is_minus(rest);
+    let (sign_line, rest) = skip(rest);
+    let (value, rest) = expression(alloc, rest)?;
+    let stmt = Statement::Update {
+        line,
+        name_line,
+        name,
+        opened,
+        index,
+        closed,
+        minus,
         sign_line,
         value,
     };
@@ -293,6 +325,7 @@ fn stmt<'a>(
         Lead::Let => let_stmt(alloc, line, rest),
         Lead::Assign => assign_stmt(alloc, line, name_at(token), rest),
         Lead::Store => store_stmt(alloc, line, name_at(token), rest),
+        Lead::Update => update_stmt(alloc, line, rest),
         Lead::If => if_stmt(alloc, line, rest),
         Lead::Loop => loop_stmt(alloc, line, rest),
         Lead::Parallel => parallel_stmt(alloc, line, rest),

@@ -143,6 +143,17 @@ pub enum Statement {
         sign_line: u32,
         value: Tree,
     },
+    Update {
+        line: u32,
+        name_line: u32,
+        name: Name,
+        opened: u32,
+        index: Tree,
+        closed: u32,
+        minus: bool,
+        sign_line: u32,
+        value: Tree,
+    },
     If {
         line: u32,
         test: Tree,

@@ -11,7 +11,7 @@ use Rattle.kernel_syntax.specs.Tree.{Code, Term}
 use Rattle.kernel_syntax.specs.Program.{stmt_code, code_of}
 use Rattle.kernel_text.specs.declared.fault.KernelWhy.TheVariants as why
 use Rattle.kernel_text.specs.Tokens.{Refusal}
-use Rattle.kernel_text.specs.Grammar.{Tree, ScheduleTree, Stmts, Let, Assign, Store, If, IfElse, Loop, Parallel, For, Barrier, Critical, CriticalOf}
+use Rattle.kernel_text.specs.Grammar.{Tree, ScheduleTree, Stmts, Let, Assign, Store, Update, If, IfElse, Loop, Parallel, For, Barrier, Critical, CriticalOf}
 use Rattle.kernel_reader.specs.Scope.{Place, slots, with_local, past, count_literal, is_between, is_among}
 use Rattle.kernel_reader.specs.Rules.{fault_if, tree_faults, array_faults, declared_faults, assigned_faults, schedule_faults, stmts_faults, critical_faults, mutex_of, is_fixed, fixed_value, loop_weight, holds_work, in_branch, in_region, in_work, in_critical, is_misplaced, weight}
 use Rattle.kernel_reader.specs.Resolve.{sites, stmts_sites, slot_of, array_at, term, schedule_of, code}
@@ -107,6 +107,26 @@ store-read arrays mutexes old new section line x opened i closed sl v made rest 
     let m = made_is (code (place_of arrays mutexes new section) new.site rest) in
     record {
       faults = gone-3 (array_faults p.names false line x) (tree_faults p.names false i) (tree_faults p.names false v) _ fine ∙ ap (λ (q : Place). stmts_faults q rest) (sym at);
+      code_is = cc;
+      slots_are = omega arith;
+      sites_are = omega arith;
+      weighs = λ w. omega arith;
+      works_is = refl;
+    }
+
+pub update-read : (arrays : List Array) (mutexes : List (List ℕ)) (old new : State) (section : Section) (line nl : ℕ) (x : List ℕ) (opened : ℕ) (i : Tree) (closed : ℕ) (minus : Bool) (sl : ℕ) (v : Tree) (made : Stmt) (rest : Stmts)
+    → ((more : Code) → stmt_code made more ≡ kernel.Update (array_at (names_of arrays old.variables.items) x) (term (names_of arrays old.variables.items) (old.site + 1) i) (term (names_of arrays old.variables.items) (old.site + 1 + sites i) v) minus nl old.site more)
+    → array_faults (names_of arrays old.variables.items) false nl x ++ (tree_faults (names_of arrays old.variables.items) false i ++ tree_faults (names_of arrays old.variables.items) false v) ≡ []
+    → new.site ≡ old.site + 1 + sites i + sites v
+    → new.slot ≡ old.slot
+    → new.variables.items ≡ old.variables.items
+    → IsAdvance arrays mutexes old new section (Update line nl x opened i closed minus sl v rest) rest (record { stmt = made; weight = 1; works = false })
+update-read arrays mutexes old new section line nl x opened i closed minus sl v made rest made_is fine site_is slot_is variables_are =
+    let p : Place = place_of arrays mutexes old section in
+    let at = place-stays arrays mutexes old new section slot_is variables_are in
+    let m = made_is (code (place_of arrays mutexes new section) new.site rest) in
+    record {
+      faults = gone-3 (array_faults p.names false nl x) (tree_faults p.names false i) (tree_faults p.names false v) _ fine ∙ ap (λ (q : Place). stmts_faults q rest) (sym at);
       code_is = cc;
       slots_are = omega arith;
       sites_are = omega arith;

@@ -18,7 +18,7 @@ use Rattle.kernel_text.specs.declared.token.Word.TheVariants as word
 use Rattle.kernel_text.specs.declared.token.Sign.TheVariants as sign
 use Rattle.kernel_text.specs.declared.token.Token.{Token}
 use Rattle.kernel_text.specs.Tokens.{Refusal}
-use Rattle.kernel_text.specs.Grammar.{Tree, NumberAt, NameAt, TidAt, SpanAt, Element, Group, Minus, Binary, tree_tokens, sign_of, reserved, mark, block, range, ScheduleTree, Unsaid, Static, StaticBy, Dynamic, DynamicBy, schedule_tokens, nowait_tokens, Stmts, NoMore, Let, Assign, Store, If, IfElse, Loop, Parallel, For, Barrier, Critical, CriticalOf, stmts_tokens, Declaration, ArrayOf, MutexOf, declarations_tokens, KernelTree, kernel_tokens}
+use Rattle.kernel_text.specs.Grammar.{Tree, NumberAt, NameAt, TidAt, SpanAt, Element, Group, Minus, Binary, tree_tokens, sign_of, update_sign, reserved, mark, block, range, ScheduleTree, Unsaid, Static, StaticBy, Dynamic, DynamicBy, schedule_tokens, nowait_tokens, Stmts, NoMore, Let, Assign, Store, Update, If, IfElse, Loop, Parallel, For, Barrier, Critical, CriticalOf, stmts_tokens, Declaration, ArrayOf, MutexOf, declarations_tokens, KernelTree, kernel_tokens}
 use Rattle.kernel_reader.specs.Scope.{number_of, is_among, is_array, Names, Place, with_local, slots, past, count_literal, is_between}
 use Rattle.kernel_reader.specs.Rules.{fault_if, width_of, array_of, declarations_faults, array_faults, tree_faults, declared_faults, assigned_faults, schedule_faults, critical_faults, stmts_faults, weight, is_misplaced, mutex_of, is_fixed, in_branch, in_region, in_work, in_critical, arrays_of, mutex_names, at_main, kernel_faults}
 use Rattle.kernel_reader.specs.Resolve.{sites, stmts_sites, term, schedule_of, code, program}
@@ -133,6 +133,18 @@ code-bounded p q site (Store line name opened index closed sign_line value rest)
     let indexed = nil_right (tree_faults q.names false index) _ known in
     let kept = nil_right (tree_faults q.names false value) _ indexed in (
       record { line_is = lined.0; site_fits = omega arith },
+      term-bounded p.names (site + 1) index first.0 (omega arith),
+      term-bounded p.names (site + 1 + sites index) value second.0 (omega arith),
+      code-bounded p q (site + 1 + sites index + sites value) rest few second.1 (omega arith) kept,
+    )
+code-bounded p q site (Update line name_line name opened index closed minus sign_line value rest) few lined room lawful =
+    let behind = mark closed sign.CloseBracket ∷ mark sign_line (update_sign minus) ∷ tree_tokens value ++ stmts_tokens rest in
+    let first = lined-split (tree_tokens index) behind lined.1.1.1 in
+    let second = lined-split (tree_tokens value) (stmts_tokens rest) first.1.1.1 in
+    let known = nil_right (array_faults q.names false name_line name) _ lawful in
+    let indexed = nil_right (tree_faults q.names false index) _ known in
+    let kept = nil_right (tree_faults q.names false value) _ indexed in (
+      record { line_is = lined.1.0; site_fits = omega arith },
       term-bounded p.names (site + 1) index first.0 (omega arith),
       term-bounded p.names (site + 1 + sites index) value second.0 (omega arith),
       code-bounded p q (site + 1 + sites index + sites value) rest few second.1 (omega arith) kept,

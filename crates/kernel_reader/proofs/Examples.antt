@@ -1,10 +1,10 @@
 -- The definitions computed: tokens of texts, the rule that each of some kernels breaks first, with its line, and kernels that break none.
-use Rattle.std.proofs.Common.{◌≡◌, ℕ, List, [], ◌∷◌, ◌++◌, None, Ok, Err, refl}
+use Rattle.std.proofs.Common.{◌≡◌, ℕ, true, false, List, [], ◌∷◌, ◌++◌, None, Ok, Err, refl}
 use Rattle.std.specs.Prelude.{pos, codes}
 use Rattle.kernel_text.specs.declared.fault.KernelWhy.TheVariants as why
 use Rattle.kernel_text.specs.declared.token.Sign.TheVariants as sign
 use Rattle.kernel_text.specs.Tokens.{lexeme_at, tokens_from}
-use Rattle.kernel_text.specs.Grammar.{Tree, NumberAt, NameAt, TidAt, number, mark, ScheduleTree, Unsaid, StaticBy, Stmts, NoMore, Let, Assign, Store, If, Loop, Parallel, For, Barrier, Critical, CriticalOf, Declaration, ArrayOf, MutexOf, KernelTree}
+use Rattle.kernel_text.specs.Grammar.{Tree, NumberAt, NameAt, TidAt, number, mark, ScheduleTree, Unsaid, StaticBy, Stmts, NoMore, Let, Assign, Store, Update, If, Loop, Parallel, For, Barrier, Critical, CriticalOf, Declaration, ArrayOf, MutexOf, KernelTree}
 use Rattle.kernel_reader.specs.Rules.{fault_at, kernel_faults}
 use Rattle.kernel_reader.specs.Resolve.{program}
 use Rattle.kernel_syntax.specs.Tree as kernel
@@ -13,6 +13,11 @@ use Rattle.kernel_syntax.specs.Tree as kernel
 pub digits_end_before_dots : tokens_from 1 0 (codes "0..8") ≡ Ok (number 1 (pos 0) ∷ mark 1 sign.Dots ∷ number 1 (pos 8) ∷ [])
 unfolding tokens_from lexeme_at
 digits_end_before_dots = refl
+
+-- a sign of two bytes is one token, and two signs with a space between them are two
+pub longest_sign : tokens_from 1 0 (codes "+=-=+ =") ≡ Ok (mark 1 sign.PlusAssign ∷ mark 1 sign.MinusAssign ∷ mark 1 sign.Plus ∷ mark 1 sign.Assign ∷ [])
+unfolding tokens_from lexeme_at
+longest_sign = refl
 
 -- a sign that is none, on the second line
 pub no_such_sign : tokens_from 1 0 (codes "a#x" ++ 10 ∷ codes "b $") ≡ Err 2
@@ -62,6 +67,13 @@ unknown_array = refl
 
 pub unknown_variable : kernel_faults (with_array (store (codes "a") (NameAt 3 (codes "j")))) ≡ fault_at 3 why.Unknown
 unknown_variable = refl
+
+-- an update breaks the rule at its name, in line 4, behind `atomic` in line 3
+pub unknown_array_updated : kernel_faults (with_array (Update 3 4 (codes "b") 4 (NameAt 5 (codes "j")) 5 false 5 (NumberAt 5 (pos 1)) NoMore)) ≡ fault_at 4 why.Unknown ++ fault_at 5 why.Unknown
+unknown_array_updated = refl
+
+pub unknown_variable_in_amount : kernel_faults (with_array (Update 3 3 (codes "a") 3 (NumberAt 3 (pos 0)) 3 true 3 (NameAt 4 (codes "j")) NoMore)) ≡ fault_at 4 why.Unknown
+unknown_variable_in_amount = refl
 
 pub variable_twice : kernel_faults (with_array (Let 3 3 (codes "a") 3 (NumberAt 3 (pos 1)) NoMore)) ≡ fault_at 3 why.Twice
 variable_twice = refl

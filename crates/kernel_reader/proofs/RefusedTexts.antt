@@ -14,7 +14,7 @@ use Rattle.kernel_text.specs.declared.token.Lexeme.{Lexeme}
 use Rattle.kernel_text.specs.declared.token.Lexeme.TheVariants.{Reserved, Number}
 use Rattle.kernel_text.specs.declared.token.Token.{Token}
 use Rattle.kernel_text.specs.Tokens.{lexeme_at, tokens_from, tokens_of}
-use Rattle.kernel_text.specs.Grammar.{Tree, NumberAt, NameAt, TidAt, SpanAt, Element, Group, Minus, Binary, named, number, reserved, mark, sign_of, tree_tokens, Stmts, NoMore, Let, Assign, Store, If, IfElse, Loop, Parallel, For, Barrier, Critical, CriticalOf, stmts_tokens, Declaration, ArrayOf, MutexOf, declarations_tokens, KernelTree, kernel_tokens, IsKernel, IsShallow}
+use Rattle.kernel_text.specs.Grammar.{Tree, NumberAt, NameAt, TidAt, SpanAt, Element, Group, Minus, Binary, named, number, reserved, mark, sign_of, tree_tokens, Stmts, NoMore, Let, Assign, Store, Update, If, IfElse, Loop, Parallel, For, Barrier, Critical, CriticalOf, stmts_tokens, Declaration, ArrayOf, MutexOf, declarations_tokens, KernelTree, kernel_tokens, IsKernel, IsShallow}
 use Rattle.kernel_text.specs.Faults.{tree_levels, stmts_levels, flat, block_levels, kernel_levels, BeginsShallow}
 use Rattle.kernel_reader.specs.KernelOf.{IsRefused, AtTokens, AtSyntax, AtDepth, AtEnd}
 use Rattle.kernel_reader.proofs.Texts.{ascii_tokens, ascii_fault, lines}
@@ -74,6 +74,7 @@ let_number NoMore closed value rest e = absurd cc
 let_number (Let _ _ _ _ _ _) closed value rest e = absurd cc
 let_number (Assign _ _ _ _ _) closed value rest e = absurd cc
 let_number (Store _ _ _ _ _ _ _ _) closed value rest e = absurd cc
+let_number (Update _ _ _ _ _ _ _ _ _ _) closed value rest e = absurd cc
 let_number (If _ _ _ _ _ _) closed value rest e = absurd cc
 let_number (IfElse _ _ _ _ _ _ _ _ _ _) closed value rest e = absurd cc
 let_number (Loop _ _ _ _ _ _ _ _ _ _ _) closed value rest e = absurd cc
@@ -93,6 +94,27 @@ number_refused = AtSyntax _ (number 2 (pos 1)) (ascii_tokens _ _ refl refl refl)
       parts = refl;
       begins = begins (in_main (reserved 2 word.Let ∷ [])) (main_of (Let 2 2 (codes "k") 2 (NumberAt 2 (pos 0)) NoMore) 3) _ (tt, tt) refl refl;
       stops = λ b. let_number b.0.body b.0.closed (pos 1) (lexemes b.1) (ap lexemes (no_declarations b.0.declarations b.0.line b.0.opened 1 1 (body_tokens b.0) _ b.3).1);
+    })
+    refl
+
+-- no other reserved name stands behind `let`
+let_atomic : (body : Stmts) (closed : ℕ) (rest : List Lexeme) → lexemes (stmts_tokens body ++ mark closed sign.CloseBrace ∷ []) ≡ Reserved word.Let ∷ Reserved word.Atomic ∷ rest → ⊥
+let_atomic NoMore closed rest e = absurd cc
+let_atomic (Let _ _ _ _ _ _) closed rest e = absurd cc
+let_atomic (Assign _ _ _ _ _) closed rest e = absurd cc
+let_atomic (Store _ _ _ _ _ _ _ _) closed rest e = absurd cc
+let_atomic (_) closed rest e = absurd cc
+
+-- the reserved name in the second line is no name of a variable
+pub atomic_refused : IsRefused (lines (codes "main {" ∷ codes "let atomic = 2" ∷ codes "}" ∷ [])) (record { line = 2; why = why.Syntax })
+unfolding tokens_from lexeme_at
+atomic_refused = AtSyntax _ (reserved 2 word.Atomic) (ascii_tokens _ _ refl refl refl)
+    (record {
+      good = in_main (reserved 2 word.Let ∷ []);
+      rest = mark 2 sign.Assign ∷ number 2 (pos 2) ∷ mark 3 sign.CloseBrace ∷ [];
+      parts = refl;
+      begins = begins (in_main (reserved 2 word.Let ∷ [])) (main_of (Let 2 2 (codes "k") 2 (NumberAt 2 (pos 0)) NoMore) 3) _ (tt, tt) refl refl;
+      stops = λ b. let_atomic b.0.body b.0.closed (lexemes b.1) (ap lexemes (no_declarations b.0.declarations b.0.line b.0.opened 1 1 (body_tokens b.0) _ b.3).1);
     })
     refl
 
@@ -164,6 +186,7 @@ assigned_levels n (Assign line name sign_line value more) closed rest e =
     let r = brackets_rise n 0 value behind rest (stmts_levels 1 more ++ 0 ∷ []) (rw (← append_assoc (tree_tokens value) (stmts_tokens more) (mark closed sign.CloseBrace ∷ [])) cc) in
     (r.0, ap (λ (ls : List ℕ). 0 ∷ 0 ∷ ls) (append_assoc (tree_levels 0 value) (stmts_levels 1 more) (0 ∷ []) ∙ r.1))
 assigned_levels n (Store _ _ _ _ _ _ _ _) closed rest e = let l = ap lexemes e in absurd cc
+assigned_levels n (Update _ _ _ _ _ _ _ _ _ _) closed rest e = let l = ap lexemes e in absurd cc
 assigned_levels n (If _ _ _ _ _ _) closed rest e = let l = ap lexemes e in absurd cc
 assigned_levels n (IfElse _ _ _ _ _ _ _ _ _ _) closed rest e = let l = ap lexemes e in absurd cc
 assigned_levels n (Loop _ _ _ _ _ _ _ _ _ _ _) closed rest e = let l = ap lexemes e in absurd cc
@@ -223,6 +246,7 @@ sections_rise (suc n) line m closed NoMore more rest tail e = let l = ap lexemes
 sections_rise (suc n) line m closed (Let _ _ _ _ _ _) more rest tail e = let l = ap lexemes e in absurd cc
 sections_rise (suc n) line m closed (Assign _ _ _ _ _) more rest tail e = let l = ap lexemes e in absurd cc
 sections_rise (suc n) line m closed (Store _ _ _ _ _ _ _ _) more rest tail e = let l = ap lexemes e in absurd cc
+sections_rise (suc n) line m closed (Update _ _ _ _ _ _ _ _ _ _) more rest tail e = let l = ap lexemes e in absurd cc
 sections_rise (suc n) line m closed (If _ _ _ _ _ _) more rest tail e = let l = ap lexemes e in absurd cc
 sections_rise (suc n) line m closed (IfElse _ _ _ _ _ _ _ _ _ _) more rest tail e = let l = ap lexemes e in absurd cc
 sections_rise (suc n) line m closed (Loop _ _ _ _ _ _ _ _ _ _ _) more rest tail e = let l = ap lexemes e in absurd cc

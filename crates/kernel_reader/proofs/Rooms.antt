@@ -3,7 +3,7 @@ use Rattle.std.proofs.Common.{◌≡◌, ℕ, ◌+◌, ◌*◌, ◌<◌, ◌≤�
 use Rattle.kernel_text.specs.declared.token.Word.TheVariants as word
 use Rattle.kernel_text.specs.declared.token.Sign.TheVariants as sign
 use Rattle.kernel_text.specs.declared.token.Token.{Token}
-use Rattle.kernel_text.specs.Grammar.{Tree, NumberAt, NameAt, TidAt, SpanAt, Element, Group, Minus, Binary, tree_tokens, reserved, mark, sign_of, block, range, schedule_tokens, nowait_tokens, Stmts, NoMore, Let, Assign, Store, If, IfElse, Loop, Parallel, For, Barrier, Critical, CriticalOf, stmts_tokens, declarations_tokens, KernelTree, kernel_tokens}
+use Rattle.kernel_text.specs.Grammar.{Tree, NumberAt, NameAt, TidAt, SpanAt, Element, Group, Minus, Binary, tree_tokens, reserved, mark, sign_of, update_sign, block, range, schedule_tokens, nowait_tokens, Stmts, NoMore, Let, Assign, Store, Update, If, IfElse, Loop, Parallel, For, Barrier, Critical, CriticalOf, stmts_tokens, declarations_tokens, KernelTree, kernel_tokens}
 use Rattle.kernel_reader.specs.Scope.{slots}
 use Rattle.kernel_reader.specs.Resolve.{sites, stmts_sites}
 
@@ -45,6 +45,9 @@ stmts-bound (Assign line name sign_line value rest) =
     omega (arith, stmts-bound rest, tree_sites-bound value, length-append (tree_tokens value) (stmts_tokens rest))
 stmts-bound (Store line name opened index closed sign_line value rest) =
     let behind = mark closed sign.CloseBracket ∷ mark sign_line sign.Assign ∷ tree_tokens value ++ stmts_tokens rest in
+    omega (arith, stmts-bound rest, tree_sites-bound index, tree_sites-bound value, length-append (tree_tokens index) behind, length-append (tree_tokens value) (stmts_tokens rest))
+stmts-bound (Update line name_line name opened index closed minus sign_line value rest) =
+    let behind = mark closed sign.CloseBracket ∷ mark sign_line (update_sign minus) ∷ tree_tokens value ++ stmts_tokens rest in
     omega (arith, stmts-bound rest, tree_sites-bound index, tree_sites-bound value, length-append (tree_tokens index) behind, length-append (tree_tokens value) (stmts_tokens rest))
 stmts-bound (If line test opened if_true closed rest) =
     let behind = block opened (stmts_tokens if_true) closed ++ stmts_tokens rest in

@@ -1,6 +1,6 @@
 -- How many sites, slots and statements there are: those of the first statement, and those of the rest.
 use Rattle.std.proofs.Common.{◌≡◌, ℕ, ◌+◌, arith}
-use Rattle.kernel_text.specs.Grammar.{Stmts, NoMore, Let, Assign, Store, If, IfElse, Loop, Parallel, For, Barrier, Critical, CriticalOf}
+use Rattle.kernel_text.specs.Grammar.{Stmts, NoMore, Let, Assign, Store, Update, If, IfElse, Loop, Parallel, For, Barrier, Critical, CriticalOf}
 use Rattle.kernel_parser.specs.declared.tree.Statement.{Statement}
 use Rattle.kernel_parser.specs.declared.tree.Statement.TheOpen as layer
 use Rattle.kernel_parser.specs.declared.tree.Statement.TheOpen.{Statement-F}
@@ -15,6 +15,7 @@ size NoMore = 0
 size (Let line name_line name sign_line value rest) = 1 + size rest
 size (Assign line name sign_line value rest) = 1 + size rest
 size (Store line name opened index closed sign_line value rest) = 1 + size rest
+size (Update line name_line name opened index closed minus sign_line value rest) = 1 + size rest
 size (If line test opened if_true closed rest) = 1 + (size if_true + size rest)
 size (IfElse line test opened if_true closed else_line else_opened if_false else_closed rest) = 1 + (size if_true + (size if_false + size rest))
 size (Loop line name_line name in_line from dots to opened body closed rest) = 1 + (size body + size rest)
@@ -34,6 +35,7 @@ layer-apart : (y : Statement-F (Stmts → Stmts) BlockTree) (rest : Stmts) → A
 layer-apart (layer.Let line name_line name sign_line value) rest = record { sites_are = omega arith; slots_are = omega arith; size_is = omega arith }
 layer-apart (layer.Assign line name sign_line value) rest = record { sites_are = omega arith; slots_are = omega arith; size_is = omega arith }
 layer-apart (layer.Store line name opened index closed sign_line value) rest = record { sites_are = omega arith; slots_are = omega arith; size_is = omega arith }
+layer-apart (layer.Update line name_line name opened index closed minus sign_line value) rest = record { sites_are = omega arith; slots_are = omega arith; size_is = omega arith }
 layer-apart (layer.If line test body) rest = record { sites_are = omega arith; slots_are = omega arith; size_is = omega arith }
 layer-apart (layer.IfElse line test body else_line other) rest = record { sites_are = omega arith; slots_are = omega arith; size_is = omega arith }
 layer-apart (layer.Loop line range body) rest = record { sites_are = omega arith; slots_are = omega arith; size_is = omega arith }

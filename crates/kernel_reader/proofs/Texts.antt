@@ -13,7 +13,7 @@ use Rattle.kernel_syntax.specs.Tree as kernel
 use Rattle.kernel_syntax.specs.Program.{Program}
 use Rattle.kernel_text.specs.declared.fault.KernelWhy.TheVariants as why
 use Rattle.kernel_text.specs.Tokens.{lexeme_at, tokens_from, tokens_of}
-use Rattle.kernel_text.specs.Grammar.{Tree, NumberAt, NameAt, TidAt, Element, Binary, Dynamic, DynamicBy, Stmts, NoMore, Let, Store, If, Loop, Parallel, For, Barrier, CriticalOf, Declaration, ArrayOf, MutexOf, KernelTree}
+use Rattle.kernel_text.specs.Grammar.{Tree, NumberAt, NameAt, TidAt, Element, Binary, Dynamic, DynamicBy, Stmts, NoMore, Let, Store, Update, If, Loop, Parallel, For, Barrier, CriticalOf, Declaration, ArrayOf, MutexOf, KernelTree}
 use Rattle.kernel_text.specs.Faults.{kernel_levels}
 use Rattle.kernel_reader.specs.KernelOf.{IsKernelOf, IsRefused, AtRule}
 
@@ -184,6 +184,43 @@ drawn_kernel = record {
     closed = 5;
   };
   tokens = ascii_tokens drawn_text _ refl refl refl;
+  derives = search rules;
+  shallow = search rules;
+  lawful = refl;
+  resolved = refl;
+}
+
+-- ---- updates of both signs, each with its name's line and site, before those of its index and its amount
+
+abbrev updated_text : List ℕ
+updated_text = lines (codes "array a i64 4" ∷ codes "main {" ∷ codes "atomic" ∷ codes "a[a[0]] += a[1]" ∷ codes "atomic a[2] -= 5" ∷ codes "}" ∷ [])
+
+pub updated_kernel : IsKernelOf updated_text
+    (record {
+      arrays = first_array (codes "a") 4;
+      mutexes = [];
+      main = record {
+        span = 1;
+        line = 2;
+        end = 6;
+        body =
+            kernel.Update 0 (kernel.Load 0 (kernel.Number (pos 0)) 4 1) (kernel.Load 0 (kernel.Number (pos 1)) 4 2) false 4 0
+            (kernel.Update 0 (kernel.Number (pos 2)) (kernel.Number (pos 5)) true 5 3 kernel.Done);
+      };
+      slots = 0;
+    })
+unfolding tokens_of tokens_from lexeme_at
+updated_kernel = record {
+  tree = record {
+    declarations = array_a 4 ∷ [];
+    line = 2;
+    opened = 2;
+    body =
+        Update 3 4 (codes "a") 4 (Element 4 (codes "a") 4 (number 4 0) 4) 4 false 4 (Element 4 (codes "a") 4 (number 4 1) 4)
+        (Update 5 5 (codes "a") 5 (number 5 2) 5 true 5 (number 5 5) NoMore);
+    closed = 6;
+  };
+  tokens = ascii_tokens updated_text _ refl refl refl;
   derives = search rules;
   shallow = search rules;
   lawful = refl;

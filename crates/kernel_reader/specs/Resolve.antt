@@ -6,7 +6,7 @@ use Rattle.kernel_syntax.specs.Layout.{laid}
 use Rattle.kernel_syntax.specs.Tree as kernel
 use Rattle.kernel_syntax.specs.Tree.{Term, Code}
 use Rattle.kernel_syntax.specs.Program.{Program}
-use Rattle.kernel_text.specs.Grammar.{Tree, NumberAt, NameAt, TidAt, SpanAt, Element, Group, Minus, Binary, ScheduleTree, Unsaid, Static, StaticBy, Dynamic, DynamicBy, Stmts, NoMore, Let, Assign, Store, If, IfElse, Loop, Parallel, For, Barrier, Critical, CriticalOf, KernelTree}
+use Rattle.kernel_text.specs.Grammar.{Tree, NumberAt, NameAt, TidAt, SpanAt, Element, Group, Minus, Binary, ScheduleTree, Unsaid, Static, StaticBy, Dynamic, DynamicBy, Stmts, NoMore, Let, Assign, Store, Update, If, IfElse, Loop, Parallel, For, Barrier, Critical, CriticalOf, KernelTree}
 use Rattle.kernel_reader.specs.Scope.{array_number, variable_of, Names, Place, with_local, slots, past, count_literal}
 use Rattle.kernel_reader.specs.declared.binding.Variable.{Variable}
 use Rattle.kernel_reader.specs.Rules.{mutex_of, arrays_of, mutex_names, at_main}
@@ -27,6 +27,7 @@ stmts_sites NoMore = 0
 stmts_sites (Let line name_line name sign_line value rest) = sites value + stmts_sites rest
 stmts_sites (Assign line name sign_line value rest) = sites value + stmts_sites rest
 stmts_sites (Store line name opened index closed sign_line value rest) = 1 + (sites index + (sites value + stmts_sites rest))
+stmts_sites (Update line name_line name opened index closed minus sign_line value rest) = 1 + (sites index + (sites value + stmts_sites rest))
 stmts_sites (If line test opened if_true closed rest) = sites test + (stmts_sites if_true + stmts_sites rest)
 stmts_sites (IfElse line test opened if_true closed else_line else_opened if_false else_closed rest) =
     sites test + (stmts_sites if_true + (stmts_sites if_false + stmts_sites rest))
@@ -70,6 +71,9 @@ code p site (Let line name_line name sign_line value rest) =
 code p site (Assign line name sign_line value rest) = kernel.Set (slot_of p.names name) (term p.names site value) (code p (site + sites value) rest)
 code p site (Store line name opened index closed sign_line value rest) =
     kernel.Store (array_at p.names name) (term p.names (site + 1) index) (term p.names (site + 1 + sites index) value) line site
+    (code p (site + 1 + sites index + sites value) rest)
+code p site (Update line name_line name opened index closed minus sign_line value rest) =
+    kernel.Update (array_at p.names name) (term p.names (site + 1) index) (term p.names (site + 1 + sites index) value) minus name_line site
     (code p (site + 1 + sites index + sites value) rest)
 code p site (If line test opened if_true closed rest) =
     let inside = site + sites test in

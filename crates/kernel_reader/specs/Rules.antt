@@ -5,7 +5,7 @@ use Rattle.kernel_syntax.specs.declared.syntax.Op.TheVariants.{Add, Sub, Mul, Di
 use Rattle.kernel_text.specs.declared.fault.KernelWhy.{KernelWhy}
 use Rattle.kernel_text.specs.declared.fault.KernelWhy.TheVariants as why
 use Rattle.kernel_text.specs.Tokens.{Refusal}
-use Rattle.kernel_text.specs.Grammar.{Tree, NumberAt, NameAt, TidAt, SpanAt, Element, Group, Minus, Binary, ScheduleTree, Unsaid, Static, StaticBy, Dynamic, DynamicBy, Stmts, NoMore, Let, Assign, Store, If, IfElse, Loop, Parallel, For, Barrier, Critical, CriticalOf, Declaration, ArrayOf, MutexOf, KernelTree}
+use Rattle.kernel_text.specs.Grammar.{Tree, NumberAt, NameAt, TidAt, SpanAt, Element, Group, Minus, Binary, ScheduleTree, Unsaid, Static, StaticBy, Dynamic, DynamicBy, Stmts, NoMore, Let, Assign, Store, Update, If, IfElse, Loop, Parallel, For, Barrier, Critical, CriticalOf, Declaration, ArrayOf, MutexOf, KernelTree}
 use Rattle.kernel_syntax.specs.declared.syntax.Array.{Array}
 use Rattle.kernel_syntax.specs.Layout.{elements}
 use Rattle.kernel_reader.specs.Scope.{number_of, is_among, is_array, variable_of, Names, Place, with_local, slots, past, count_literal, is_between}
@@ -107,6 +107,7 @@ holds_work NoMore = false
 holds_work (Let line name_line name sign_line value rest) = holds_work rest
 holds_work (Assign line name sign_line value rest) = holds_work rest
 holds_work (Store line name opened index closed sign_line value rest) = holds_work rest
+holds_work (Update line name_line name opened index closed minus sign_line value rest) = holds_work rest
 holds_work (If line test opened if_true closed rest) = holds_work if_true || holds_work rest
 holds_work (IfElse line test opened if_true closed else_line else_opened if_false else_closed rest) = holds_work if_true || (holds_work if_false || holds_work rest)
 holds_work (Loop line name_line name in_line from dots to opened body closed rest) = holds_work body || holds_work rest
@@ -126,6 +127,7 @@ weight NoMore = 0
 weight (Let line name_line name sign_line value rest) = 1 + weight rest
 weight (Assign line name sign_line value rest) = 1 + weight rest
 weight (Store line name opened index closed sign_line value rest) = 1 + weight rest
+weight (Update line name_line name opened index closed minus sign_line value rest) = 1 + weight rest
 weight (If line test opened if_true closed rest) = 1 + weight rest
 weight (IfElse line test opened if_true closed else_line else_opened if_false else_closed rest) = 1 + weight rest
 weight (Loop line name_line name in_line from dots to opened body closed rest) =
@@ -195,6 +197,8 @@ stmts_faults p (Let line name_line name sign_line value rest) =
 stmts_faults p (Assign line name sign_line value rest) = assigned_faults p line name ++ (tree_faults p.names false value ++ stmts_faults p rest)
 stmts_faults p (Store line name opened index closed sign_line value rest) =
     array_faults p.names false line name ++ (tree_faults p.names false index ++ (tree_faults p.names false value ++ stmts_faults p rest))
+stmts_faults p (Update line name_line name opened index closed minus sign_line value rest) =
+    array_faults p.names false name_line name ++ (tree_faults p.names false index ++ (tree_faults p.names false value ++ stmts_faults p rest))
 stmts_faults p (If line test opened if_true closed rest) =
     tree_faults p.names false test ++ (stmts_faults (in_branch p true) if_true ++ stmts_faults (past p (slots if_true)) rest)
 stmts_faults p (IfElse line test opened if_true closed else_line else_opened if_false else_closed rest) =

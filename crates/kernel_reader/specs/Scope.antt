@@ -2,7 +2,7 @@
 use Rattle.std.specs.Prelude.{ℕ, ◌+◌, Bool, ◌&&◌, List, ◌∷◌, Option, is_some, bytes_eq, position, find, ℤ, pos, negsuc, int_le}
 use Rattle.kernel_syntax.specs.declared.syntax.Array.{Array}
 use Rattle.kernel_reader.specs.declared.binding.Variable.{Variable}
-use Rattle.kernel_text.specs.Grammar.{Stmts, NoMore, Let, Assign, Store, If, IfElse, Loop, Parallel, For, Barrier, Critical, CriticalOf}
+use Rattle.kernel_text.specs.Grammar.{Stmts, NoMore, Let, Assign, Store, Update, If, IfElse, Loop, Parallel, For, Barrier, Critical, CriticalOf}
 
 -- the place of a name among names, from 0
 abbrev pub number_of : List ℕ → List (List ℕ) → Option ℕ
@@ -57,6 +57,7 @@ slots NoMore = 0
 slots (Let line name_line name sign_line value rest) = 1 + slots rest
 slots (Assign line name sign_line value rest) = slots rest
 slots (Store line name opened index closed sign_line value rest) = slots rest
+slots (Update line name_line name opened index closed minus sign_line value rest) = slots rest
 slots (If line test opened if_true closed rest) = slots if_true + slots rest
 slots (IfElse line test opened if_true closed else_line else_opened if_false else_closed rest) = slots if_true + (slots if_false + slots rest)
 slots (Loop line name_line name in_line from dots to opened body closed rest) = 1 + (slots body + slots rest)

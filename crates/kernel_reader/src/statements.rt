@@ -64,6 +64,19 @@ fn made_store(array: u32, index: Expr, value: Expr, line: u32, site: u16) -> Stm
     }
 }
 
+fn made_update(array: u32, index: Expr, value: Expr, minus: bool, line: u32, site: u16) -> Stmt
+    ensures { (rest : Code) → stmt_code result rest ≡ kernel.Update array (term_of index) (term_of value) minus line site rest }
+{
+    Stmt::Update {
+        array,
+        index,
+        value,
+        minus,
+        line,
+        site,
+    }
+}
+
 fn made_if(test: Expr, yes: Body, no: Body) -> Stmt
     ensures { (rest : Code) → stmt_code result rest ≡ kernel.If (term_of test) (code_of yes.stmts.items) (code_of no.stmts.items) rest }
 {
@@ -194,6 +207,29 @@ impl Known<'_> {
         Ok(made_set(slot, value))
     }
 
+    /// An element's array with its index, and the value behind it.
+    fn element(
+        &self,
+        state: &mut State,
+        line: u32,
+        name: &Name,
+        index: &Tree,
+        value: &Tree,
+    ) -> Result<(u32, Expr, Expr), ReadKernelFault>
+        requires few { length self.now.arrays.now ≤ 64 }
+        requires room { state.old.site + 1 + sites (tree_of index.now) + sites (tree_of value.now) < 65536 }
+        ensures settled { Settles result (array_faults (names_of self.now.arrays.now state.old.variables.items) false line name.now ++ (tree_faults (names_of self.now.arrays.now state.old.variables.items) false (tree_of index.now) ++ tree_faults (names_of self.now.arrays.now state.old.variables.items) false (tree_of value.now))) (λ x. (x.0 ≡ array_at (names_of self.now.arrays.now state.old.variables.items) name.now) × (term_of x.1 ≡ term (names_of self.now.arrays.now state.old.variables.items) (state.old.site + 1) (tree_of index.now)) × (term_of x.2 ≡ term (names_of self.now.arrays.now state.old.variables.items) (state.old.site + 1 + sites (tree_of index.now)) (tree_of value.now))) }
+        ensures site { OnOk result (state.new.site ≡ state.old.site + 1 + sites (tree_of index.now) + sites (tree_of value.now)) }
+        ensures slot { state.new.slot ≡ state.old.slot }
+        ensures variables { state.new.variables.items ≡ state.old.variables.items }
+    {
+        let array = self.array(state, line, name)?;
+        state.site += 1;
+        let index = self.expr(state, false, index)?;
+        let value = self.expr(state, false, value)?;
+        Ok((array, index, value))
+    }
+
     /// NAME `[` expr `]` `=` expr
     fn store_stmt(
         &self,
@@ -211,11 +247,30 @@ impl Known<'_> {
         ensures variables { state.new.variables.items ≡ state.old.variables.items }
     {
         let site = state.site;
-        let array = self.array(state, line, name)?;
-        state.site += 1;
-        let index = self.expr(state, false, index)?;
-        let value = self.expr(state, false, value)?;
+        let (array, index, value) = self.element(state, line, name, index, value)?;
         Ok(made_store(array, index, value, line, site))
+    }
+
+    /// NAME `[` expr `]` (`+=` | `-=`) expr, behind `atomic`
+    fn update_stmt(
+        &self,
+        state: &mut State,
+        line: u32,
+        name: &Name,
+        index: &Tree,
+        minus: bool,
+        value: &Tree,
+    ) -> Result<Stmt, ReadKernelFault>
+        requires few { length self.now.arrays.now ≤ 64 }
+        requires room { state.old.site + 1 + sites (tree_of index.now) + sites (tree_of value.now) < 65536 }
+        ensures settled { Settles result (array_faults (names_of self.now.arrays.now state.old.variables.items) false line name.now ++ (tree_faults (names_of self.now.arrays.now state.old.variables.items) false (tree_of index.now) ++ tree_faults (names_of self.now.arrays.now state.old.variables.items) false (tree_of value.now))) (λ s. (rest : Code) → stmt_code s rest ≡ kernel.Update (array_at (names_of self.now.arrays.now state.old.variables.items) name.now) (term (names_of self.now.arrays.now state.old.variables.items) (state.old.site + 1) (tree_of index.now)) (term (names_of self.now.arrays.now state.old.variables.items) (state.old.site + 1 + sites (tree_of index.now)) (tree_of value.now)) minus line state.old.site rest) }
+        ensures site { OnOk result (state.new.site ≡ state.old.site + 1 + sites (tree_of index.now) + sites (tree_of value.now)) }
+        ensures slot { state.new.slot ≡ state.old.slot }
+        ensures variables { state.new.variables.items ≡ state.old.variables.items }
+    {
+        let site = state.site;
+        let (array, index, value) = self.element(state, line, name, index, value)?;
+        Ok(made_update(array, index, value, minus, line, site))
     }
 
     /// A new variable with the bounds of its loop.
@@ -488,6 +543,17 @@ impl Known<'_> {
                 value,
                 ..
             } => Ok(plain(self.store_stmt(state, *line, name, index, value)?, false)),
+            Statement::Update {
+                name_line,
+                name,
+                index,
+                minus,
+                value,
+                ..
+            } => Ok(plain(
+                self.update_stmt(state, *name_line, name, index, *minus, value)?,
+                false,
+            )),
             Statement::If { test, yes, .. } => self.if_stmt(state, section, yes, test),
             Statement::IfElse { test, yes, no, .. } => {
                 self.if_else_stmt(state, section, yes, no, test)

@@ -55,6 +55,7 @@ same_barriers-plain = record {
 same_barriers-steps : KeepsSteps SameBarriers
 same_barriers-steps = record {
   plain = same_barriers-plain;
+  updates = record { updates = λ r room s is update. uncounted s.records r (ap is_barrier_kind update) };
   marks = λ r room s is mark. uncounted s.records r (unbarred r.kind mark);
   forks = λ team room s is. uncounted s.records (event kind.Region team.line 0 team.span) refl;
 }
@@ -102,6 +103,9 @@ parts_meet (tree.Set slot e rest) even =
 parts_meet (tree.Store array index e line site rest) even =
     All-cons MeetsOnlyAtBars (Run (tree.Store array index e line site Done)) _
     (λ at s. no_barrier at (tree.Store array index e line site Done) s refl) (parts_meet rest even)
+parts_meet (tree.Update array index e minus line site rest) even =
+    All-cons MeetsOnlyAtBars (Run (tree.Update array index e minus line site Done)) _
+    (λ at s. no_barrier at (tree.Update array index e minus line site Done) s refl) (parts_meet rest even)
 parts_meet (tree.If test if_true if_false rest) even =
     All-cons MeetsOnlyAtBars (Run (tree.If test if_true if_false Done)) _
     (λ at s. no_barrier at (tree.If test if_true if_false Done) s

@@ -97,6 +97,7 @@ adds_steps = record {
     reads = λ e site line room v reads s is prefix. adds_plain (access kind.Read e site line (fitted v e.width)) s _ tt refl refl;
     draws = λ line n room q chunks s is prefix. adds_plain (event kind.Chunk line (min q n) n) s _ tt refl refl;
   };
+  updates = record { updates = λ r room s is update. adds_plain r s _ (subst IsPlain (sym update) tt) refl refl };
   marks = λ r room s is mark. adds_plain r s _ (mark_plain r.kind mark) refl refl;
   forks = λ team room s is. record {
     added = event kind.Region team.line 0 team.span ∷ [];

@@ -12,14 +12,14 @@ use Rattle.race_model.specs.Race.{held_after_kind}
 use Rattle.kernel_syntax.specs.declared.syntax.Schedule.{Schedule}
 use Rattle.kernel_syntax.specs.declared.syntax.Schedule.TheVariants.{Even, Static, Dynamic}
 use Rattle.kernel_syntax.specs.Bounds.{IsSpan, IsBoundedCode}
-use Rattle.kernel_syntax.specs.Tree.{Term, Code, TeamTree, Done, Set, Store, If, Loop, Parallel, For, Barrier, Critical}
+use Rattle.kernel_syntax.specs.Tree.{Term, Code, TeamTree, Done, Set, Store, Update, If, Loop, Parallel, For, Barrier, Critical}
 use Rattle.kernel_model.specs.State.{State, Fork, Outcome, Gives, Stops, Wants, and_then, after, put, put_in, event, assign, state_of}
 use Rattle.kernel_model.specs.Value.{Site, element_at, value}
 use Rattle.kernel_model.specs.Iterations.{total_of, even_iterations, static_iterations, chunk_count, chunk_iterations}
-use Rattle.kernel_model.specs.Trace.{stored, branch, turns, each, draw, draws, shared, loop_end, forked, run}
+use Rattle.kernel_model.specs.Trace.{stored, updated, amount_of, branch, turns, each, draw, draws, shared, loop_end, forked, run}
 use Rattle.kernel_model.specs.Lawful.{code_holds_work, IsEven, IsNested}
-use Rattle.kernel_model.proofs.SingleSteps.{KeepsPlainSteps}
-use Rattle.kernel_model.proofs.Steps.{kept-value, kept-stored, kept-draw}
+use Rattle.kernel_model.proofs.SingleSteps.{KeepsPlainSteps, KeepsUpdates}
+use Rattle.kernel_model.proofs.Steps.{kept-value, kept-stored, kept-updated, kept-draw}
 
 -- ---- teams
 
@@ -76,6 +76,7 @@ spans_forked forks = map (λ (f : Fork). f.team.span) forks
 abbrev pub IsFree : Kind → Type 0
 IsFree kind.Read = Unit {0}
 IsFree kind.Write = Unit {0}
+IsFree kind.Update = Unit {0}
 IsFree kind.Chunk = Unit {0}
 IsFree _ = ⊥
 
@@ -109,9 +110,13 @@ free-plain = record {
   draws = λ line n room q chunks s is prefix. free_one _ s _ tt refl refl;
 }
 
+free-updates : KeepsUpdates AddsFree
+free-updates = record { updates = λ r room s is update. free_one r s _ (subst IsFree (sym update) tt) refl refl }
+
 free_fits : (k : Kind) (m : ℕ) (held : List ℕ) → IsFree k → FitsHeld k m held × (held_after_kind k m held ≡ held)
 free_fits kind.Read m held is = (tt, refl)
 free_fits kind.Write m held is = (tt, refl)
+free_fits kind.Update m held is = (tt, refl)
 free_fits kind.Chunk m held is = (tt, refl)
 free_fits _ m held is = absurd is
 
@@ -124,6 +129,7 @@ keep_free held (r ∷ added) free =
 no_span : (k : Kind) (v : ℕ) → IsFree k → span_told k v ≡ None
 no_span kind.Read v is = refl
 no_span kind.Write v is = refl
+no_span kind.Update v is = refl
 no_span kind.Chunk v is = refl
 no_span _ v is = absurd is
 
@@ -360,6 +366,12 @@ module _ (mutexes regions lanes : ℕ) where
       does_and_then F held held held t (value at e t) _ (does_value F held at e t) (λ v u.
       does_after F held held held u (stored (element_at at.arrays array i) v line site u) (run at rest)
       (does_free F held u (stored (element_at at.arrays array i) v line site u) (kept-stored AddsFree free-plain (element_at at.arrays array i) v line site u))
+      (λ w. does_run at rest held w none even nested bounded.3)))
+  does_run at (Update array index e minus line site rest) held s none even nested bounded =
+      does_and_then F held held held s (value at index s) _ (does_value F held at index s) (λ i t.
+      does_and_then F held held held t (value at e t) _ (does_value F held at e t) (λ v u.
+      does_after F held held held u (updated (element_at at.arrays array i) (amount_of minus v) line site u) (run at rest)
+      (does_free F held u (updated (element_at at.arrays array i) (amount_of minus v) line site u) (kept-updated AddsFree free-plain free-updates (element_at at.arrays array i) (amount_of minus v) line site u))
       (λ w. does_run at rest held w none even nested bounded.3)))
   does_run at (If test if_true if_false rest) held s none even nested bounded =
       let others = right_none held (code_holds_work if_true) (code_holds_work if_false || code_holds_work rest) none in

@@ -23,17 +23,17 @@ use Rattle.kernel_syntax.specs.Layout.{ArePlaced, elements}
 use Rattle.kernel_syntax.specs.Program.{Program}
 use Rattle.kernel_syntax.proofs.Placing.{bounded_arrays_are_placed}
 use Rattle.kernel_syntax.specs.Share.{even_share_of}
-use Rattle.kernel_syntax.specs.Tree.{Term, Code, TeamTree, Number, Slot, Tid, Span, Load, Neg, Binary, Done, Set, Store, If, Loop, Parallel, For, Barrier, Critical}
+use Rattle.kernel_syntax.specs.Tree.{Term, Code, TeamTree, Number, Slot, Tid, Span, Load, Neg, Binary, Done, Set, Store, Update, If, Loop, Parallel, For, Barrier, Critical}
 use Rattle.kernel_syntax.proofs.Fitting.{fitted_fits, wrapped_fits_word}
 use Rattle.kernel_model.specs.State.{State, Fork, Outcome, Gives, Stops, Wants, and_then, after, put, put_in, event, assign, state_of, reads_of, chunks_of}
 use Rattle.kernel_model.specs.Value.{Site, Element, element_at, read, read_in, loaded, operated, value}
 use Rattle.kernel_model.specs.Iterations.{count_of, total_of, even_iterations, static_iterations, chunk_count, chunk_iterations, below}
-use Rattle.kernel_model.specs.Trace.{stored, branch, turns, each, draw, draw_in, draws, shared, loop_end, forked, run, task, Start, site_of, state_at, Ended, ending_of}
+use Rattle.kernel_model.specs.Trace.{stored, updated, amount_of, branch, turns, each, draw, draw_in, draws, shared, loop_end, forked, run, task, Start, site_of, state_at, Ended, ending_of}
 use Rattle.kernel_model.specs.Folder.{IsTraced, own_trace}
 use Rattle.kernel_model.specs.Lawful.{TermFits, CodeFits}
 use Rattle.kernel_rules.proofs.LawfulRecords.{IfGives}
 use Rattle.kernel_model.proofs.Turns.{share_within}
-use Rattle.kernel_rules.proofs.Tabled.{IsPlacedElement, placed_element, tabled_read, tabled_write, tabled_barrier, tabled_end, tabled_region, tabled_lock, tabled_unlock, tabled_chunk}
+use Rattle.kernel_rules.proofs.Tabled.{IsPlacedElement, placed_element, tabled_read, tabled_write, tabled_update, tabled_barrier, tabled_end, tabled_region, tabled_lock, tabled_unlock, tabled_chunk}
 
 -- ---- values
 
@@ -321,6 +321,11 @@ module _ (at : Site) (words : ℕ) (placed : ArePlaced at.arrays words) (within 
   does_stored None v line site s there place slots = tt
   does_stored (Some e) v line site s there place slots = does_put _ s (tabled_write e site line v there place) slots
 
+  does_updated : (e : Option Element) (v : ℤ) (line site : ℕ) (s : State) → IfSome e IsPlacedElement → IsPlace line site → AreValues s.slots →
+      Does Any s (updated e v line site s)
+  does_updated None v line site s there place slots = tt
+  does_updated (Some e) v line site s there place slots = does_put _ s (tabled_update e site line v there place) slots
+
   does_shared : (schedule : Schedule) (line total : ℕ) (turn : ℕ → State → Outcome (Unit {0})) (s : State) → IsBoundedSchedule schedule → IsLine line →
       total < 2 ^ 64 → AreValues s.slots → ((k : ℕ) (t : State) → k < total → AreValues t.slots → Does Any t (turn k t)) →
       Does Any s (shared schedule at line total turn s)
@@ -362,6 +367,12 @@ module _ (at : Site) (words : ℕ) (placed : ArePlaced at.arrays words) (within 
       does_and_then IsValue Any t (value at e t) _ (does_value e t fits.1 bounded.2 there) (λ v u also then.
       does_after u (stored (element_at at.arrays array i) v line site u) (run at rest)
       (does_stored (element_at at.arrays array i) v line site u (placed_element at.arrays words array i placed) bounded.0 then)
+      (λ w now. does_run rest w fits.2 bounded.3 now)))
+  does_run (Update array index e minus line site rest) s fits bounded slots =
+      does_and_then IsValue Any s (value at index s) _ (does_value index s fits.0 bounded.1 slots) (λ i t is there.
+      does_and_then IsValue Any t (value at e t) _ (does_value e t fits.1 bounded.2 there) (λ v u also then.
+      does_after u (updated (element_at at.arrays array i) (amount_of minus v) line site u) (run at rest)
+      (does_updated (element_at at.arrays array i) (amount_of minus v) line site u (placed_element at.arrays words array i placed) bounded.0 then)
       (λ w now. does_run rest w fits.2 bounded.3 now)))
   does_run (If test if_true if_false rest) s fits bounded slots =
       does_and_then IsValue Any s (value at test s) _ (does_value test s fits.0 bounded.0 slots) (λ v t is there.

@@ -3,7 +3,7 @@ use Rattle.std.proofs.Common.{◌≡◌, refl, ℕ, ◌<◌, arith, true, false,
 use Rattle.std.proofs.lemmas.List.Elements.{All-nil, All-cons, All-head}
 use Rattle.kernel_syntax.specs.declared.syntax.Op.TheVariants.{Add, Div}
 use Rattle.kernel_syntax.specs.declared.syntax.Schedule.TheVariants.{Even}
-use Rattle.kernel_syntax.specs.Tree.{Term, Number, Slot, Tid, Span, Load, Neg, Binary, Code, Done, Set, Store, If, Loop, Parallel, For, Barrier, Critical}
+use Rattle.kernel_syntax.specs.Tree.{Term, Number, Slot, Tid, Span, Load, Neg, Binary, Code, Done, Set, Store, Update, If, Loop, Parallel, For, Barrier, Critical}
 use Rattle.log_format.specs.declared.record.Kind.TheVariants as kind
 use Rattle.kernel_model.specs.State.{event}
 use Rattle.kernel_model.specs.Chunking as told
@@ -131,6 +131,22 @@ unknown_variable known = true≢false (sym known)
 
 unknown_array : IsScoped scope (Store 1 one one 1 2 Done) → ⊥
 unknown_array scoped = let within = scoped.0 in omega arith
+
+-- an update's array, index and amount
+abbrev updated : Term → Term → ℕ → Code
+updated index value array = Update array index value true 1 2 Done
+
+known_update : IsScoped scope (updated one one 0)
+known_update = (omega arith, tt, tt, tt)
+
+unknown_array_updated : IsScoped scope (updated one one 1) → ⊥
+unknown_array_updated scoped = let within = scoped.0 in omega arith
+
+unknown_in_index : IsScoped scope (updated (Slot 0) one 0) → ⊥
+unknown_in_index scoped = true≢false (sym scoped.1)
+
+unknown_in_amount : IsScoped scope (updated one (Slot 0) 0) → ⊥
+unknown_in_amount scoped = true≢false (sym scoped.2)
 
 -- a loop's variable isn't known after it, nor assigned in it
 after_loop : IsScoped scope (Loop 0 one one Done (Store 0 (Slot 0) one 1 2 Done)) → ⊥

@@ -24,6 +24,8 @@ parts_of-follows Done later = refl
 parts_of-follows (tree.Set slot e rest) later = ap (λ ps. Run (tree.Set slot e Done) ∷ ps) (parts_of-follows rest later)
 parts_of-follows (tree.Store array index e line site rest) later =
     ap (λ ps. Run (tree.Store array index e line site Done) ∷ ps) (parts_of-follows rest later)
+parts_of-follows (tree.Update array index e minus line site rest) later =
+    ap (λ ps. Run (tree.Update array index e minus line site Done) ∷ ps) (parts_of-follows rest later)
 parts_of-follows (tree.If test if_true if_false rest) later =
     ap (λ ps. Run (tree.If test if_true if_false Done) ∷ ps) (parts_of-follows rest later)
 parts_of-follows (tree.Loop slot from to body rest) later =
@@ -52,6 +54,7 @@ code_holds_work-follows : (code later : Code) → code_holds_work (followed_by c
 code_holds_work-follows Done later = refl
 code_holds_work-follows (tree.Set slot e rest) later = code_holds_work-follows rest later
 code_holds_work-follows (tree.Store array index e line site rest) later = code_holds_work-follows rest later
+code_holds_work-follows (tree.Update array index e minus line site rest) later = code_holds_work-follows rest later
 code_holds_work-follows (tree.If test if_true if_false rest) later =
     ap (λ b. code_holds_work if_true || (code_holds_work if_false || b)) (code_holds_work-follows rest later)
     ∙ ap (λ b. code_holds_work if_true || b) (sym (or_assoc (code_holds_work if_false) (code_holds_work rest) (code_holds_work later)))
@@ -161,6 +164,7 @@ unfolding run
 parts_run at Done s = refl
 parts_run at (tree.Set slot e rest) s = single at (tree.Set slot e Done) rest s (parts_run at rest)
 parts_run at (tree.Store array index e line site rest) s = single at (tree.Store array index e line site Done) rest s (parts_run at rest)
+parts_run at (tree.Update array index e minus line site rest) s = single at (tree.Update array index e minus line site Done) rest s (parts_run at rest)
 parts_run at (tree.If test if_true if_false rest) s = single at (tree.If test if_true if_false Done) rest s (parts_run at rest)
 parts_run at (tree.Loop slot from to body rest) s =
     run_loop at slot from to body rest s (bounds_of from to body) refl (parts_run at body) (parts_run at rest)

@@ -12,11 +12,11 @@ use Rattle.kernel_syntax.specs.declared.syntax.Schedule.TheVariants.{Even, Stati
 use Rattle.log_format.specs.Fitting.{fitted}
 use Rattle.kernel_syntax.specs.Arithmetic.{applied, negated}
 use Rattle.kernel_syntax.specs.Program.{Program}
-use Rattle.kernel_syntax.specs.Tree.{Term, Code, TeamTree, Number, Slot, Tid, Span, Load, Neg, Binary, Done, Set, Store, If, Loop, Parallel, For, Barrier, Critical}
+use Rattle.kernel_syntax.specs.Tree.{Term, Code, TeamTree, Number, Slot, Tid, Span, Load, Neg, Binary, Done, Set, Store, Update, If, Loop, Parallel, For, Barrier, Critical}
 use Rattle.kernel_model.specs.State.{State, Outcome, Gives, Stops, Wants, and_then, after, put, put_in, event, assign, state_of, number_drawn}
 use Rattle.kernel_model.specs.Value.{Site, Element, element_at, access, read, read_in, loaded, operated, value}
 use Rattle.kernel_model.specs.Iterations.{total_of, even_iterations, static_iterations, chunk_count, chunk_iterations}
-use Rattle.kernel_model.specs.Trace.{stored, branch, turns, each, drawn, draw as draw_step, draw_in, draws, shared, loop_end, forked, run, task, Start, site_of, state_at}
+use Rattle.kernel_model.specs.Trace.{stored, updated, amount_of, branch, turns, each, drawn, draw as draw_step, draw_in, draws, shared, loop_end, forked, run, task, Start, site_of, state_at}
 use Rattle.kernel_model.specs.Chunking.{TellCounts, no_record, other, draw, closing, TellFirst, HasCounts}
 use Rattle.kernel_model.specs.Lawful.{Scope, Variable, variable_at, with_variable, IsAssigned, after_assigning, IsLoopVariable, IsEvenOp, IsEvenTerm, IsScoped, fixed_bound, has_fixed_bounds, code_holds_work, IsEven}
 
@@ -45,6 +45,7 @@ abbrev chunk_counts : ℕ → List ℤ → Code → List ℕ
 chunk_counts span slots Done = []
 chunk_counts span slots (Set slot e rest) = chunk_counts span slots rest
 chunk_counts span slots (Store array index e line site rest) = chunk_counts span slots rest
+chunk_counts span slots (Update array index e minus line site rest) = chunk_counts span slots rest
 chunk_counts span slots (If test if_true if_false rest) = chunk_counts span slots rest
 chunk_counts span slots (Loop slot from to body rest) =
     cond (code_holds_work body)
@@ -73,6 +74,7 @@ idle_counts : (span : ℕ) (slots : List ℤ) (code : Code) → code_holds_work 
 idle_counts span slots Done idle = refl
 idle_counts span slots (Set slot e rest) idle = idle_counts span slots rest idle
 idle_counts span slots (Store array index e line site rest) idle = idle_counts span slots rest idle
+idle_counts span slots (Update array index e minus line site rest) idle = idle_counts span slots rest idle
 idle_counts span slots (If test if_true if_false rest) idle =
     idle_counts span slots rest
     (right_false (code_holds_work if_false) (code_holds_work rest) (right_false (code_holds_work if_true) (code_holds_work if_false || code_holds_work rest) idle))
@@ -448,6 +450,10 @@ closes_stored : (n : Scope) (e : Option Element) (v : ℤ) (line site : ℕ) (s 
 closes_stored n None v line site s = begins_nothing [] s
 closes_stored n (Some e) v line site s = closes_put n (access kind.Write e site line (fitted v e.width)) s refl
 
+closes_updated : (n : Scope) (e : Option Element) (v : ℤ) (line site : ℕ) (s : State) → Closes n [] s (updated e v line site s)
+closes_updated n None v line site s = begins_nothing [] s
+closes_updated n (Some e) v line site s = closes_put n (access kind.Update e site line (fitted v e.width)) s refl
+
 -- from a state with one local set, as seen from the one before
 closes_set : (n wider : Scope) (counts : List ℕ) (slot : ℕ) (v : ℤ) (s : State) (m : Outcome (Unit {0})) → Widens n wider slot →
     Closes wider counts (assign slot v s) m → Closes n counts s m
@@ -547,6 +553,13 @@ closes_run at (Store array index e line site rest) n slots s scoped even agrees 
     closes_and_then n [] counts s (value at index s) _ (closes_value n at index s) (λ i t kept.
     closes_and_then n [] counts t (value at e t) _ (closes_value n at e t) (λ v u more.
     closes_after n [] counts u (stored (element_at at.arrays array i) v line site u) (run at rest) (closes_stored n (element_at at.arrays array i) v line site u) (λ w still.
+    closes_run at rest n slots w scoped.3 even
+    (agrees_kept n slots u w (agrees_kept n slots t u (agrees_kept n slots s t agrees kept) more) still))))
+closes_run at (Update array index e minus line site rest) n slots s scoped even agrees =
+    let counts = chunk_counts at.span slots rest in
+    closes_and_then n [] counts s (value at index s) _ (closes_value n at index s) (λ i t kept.
+    closes_and_then n [] counts t (value at e t) _ (closes_value n at e t) (λ v u more.
+    closes_after n [] counts u (updated (element_at at.arrays array i) (amount_of minus v) line site u) (run at rest) (closes_updated n (element_at at.arrays array i) (amount_of minus v) line site u) (λ w still.
     closes_run at rest n slots w scoped.3 even
     (agrees_kept n slots u w (agrees_kept n slots t u (agrees_kept n slots s t agrees kept) more) still))))
 closes_run at (If test if_true if_false rest) n slots s scoped even agrees =

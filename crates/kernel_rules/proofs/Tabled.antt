@@ -74,11 +74,22 @@ module _ (e : Element) (site line : ℕ) (v : ℤ) (placed : IsPlacedElement e) 
   write_passes why.Span = tt
   write_passes why.Reserved = tt
 
+  update_passes : (w : Why) → PassesTable FORMAT (access kind.Update e site line (fitted v e.width)) w
+  update_passes why.Kind = omega arith
+  update_passes why.Size = placed.width
+  update_passes why.LineZero = place.line_is.some
+  update_passes why.Address = placed.ends
+  update_passes why.Span = tt
+  update_passes why.Reserved = tt
+
   pub tabled_read : IsTabled FORMAT (access kind.Read e site line (fitted v e.width))
   tabled_read = record { fits = access_fits kind.Read; passes = read_passes }
 
   pub tabled_write : IsTabled FORMAT (access kind.Write e site line (fitted v e.width))
   tabled_write = record { fits = access_fits kind.Write; passes = write_passes }
+
+  pub tabled_update : IsTabled FORMAT (access kind.Update e site line (fitted v e.width))
+  tabled_update = record { fits = access_fits kind.Update; passes = update_passes }
 
 -- ---- records that are no accesses
 

@@ -9,7 +9,7 @@ use Rattle.kernel_syntax.specs.Program.{Program}
 use Rattle.kernel_syntax.specs.Tree as tree
 use Rattle.kernel_syntax.specs.Tree.{Code, Done, TeamTree}
 use Rattle.log_format.specs.declared.record.Record.{Record}
-use Rattle.log_format.specs.declared.record.Kind.TheVariants.{Read, Write, Lock, Unlock, Barrier, Region, Chunk, End}
+use Rattle.log_format.specs.declared.record.Kind.TheVariants.{Read, Write, Update, Lock, Unlock, Barrier, Region, Chunk, End}
 use Rattle.sw_base.specs.declared.path.Step.{Step}
 use Rattle.race_model.specs.Trace.{logs_of}
 use Rattle.kernel_model.specs.State.{DivZero, Index, LogFull, Gives, Stops, put, event}
@@ -177,6 +177,56 @@ pub narrow-is : trace
     ≡ whole (record { kind = Write; size = 1; site = 0; line = 1; addr = 4096; value = 2 ^ 64 - 56 } ∷ event End 1 0 0 ∷ [])
 unfolding run value put read draw task wrapped
 narrow-is = refl
+
+-- ---- updates, by their order: the index, then the amount, then the test of the index, then the record
+
+abbrev update_of : ℕ → ℕ → ℕ → ℕ → Record
+update_of site line addr value = record { kind = Update; size = 8; site = site; line = line; addr = addr; value = value }
+
+-- atomic a[a[0]] += a[1] over lines 4 and 5, where a[0] is 2 and a[1] is 7
+pub adding-is : own_trace (program 4 2 6 Done)
+    (lane_of (record { span = 2; line = 3; end = 6; body = tree.Update 0 (tree.Load 0 (tree.Number (pos 0)) 4 1) (tree.Load 0 (tree.Number (pos 1)) 5 2) false 4 0 Done }) 0)
+    (read_of 1 4 4096 2 ∷ read_of 2 5 4104 7 ∷ update_of 0 4 4112 7 ∷ event End 6 0 0 ∷ [])
+    ≡ whole (read_of 1 4 4096 2 ∷ read_of 2 5 4104 7 ∷ update_of 0 4 4112 7 ∷ event End 6 0 0 ∷ [])
+unfolding run value put read draw task wrapped
+adding-is = refl
+
+-- atomic a[4] += a[0] reads the amount before the index is tested
+pub updated_outside-is : own_trace (program 4 2 6 Done)
+    (lane_of (record { span = 2; line = 3; end = 6; body = tree.Update 0 (tree.Number (pos 4)) (tree.Load 0 (tree.Number (pos 0)) 5 1) false 4 0 Done }) 0)
+    (read_of 1 5 4096 2 ∷ [])
+    ≡ record { records = read_of 1 5 4096 2 ∷ []; forks = []; end = Stopped Index 4 }
+unfolding run value put read draw task wrapped
+updated_outside-is = refl
+
+-- atomic a[4] += 1 / 0 stops at the quotient in the amount
+pub update_divided-is : own_trace (program 4 2 6 Done)
+    (lane_of (record { span = 2; line = 3; end = 6; body = tree.Update 0 (tree.Number (pos 4)) (tree.Binary Div 5 (tree.Number (pos 1)) (tree.Number (pos 0))) false 4 0 Done }) 0) []
+    ≡ record { records = []; forks = []; end = Stopped DivZero 5 }
+unfolding run value put read draw task wrapped
+update_divided-is = refl
+
+-- in bytes b: atomic b[1] -= 5, atomic b[1] += 200 and atomic b[1] -= 128 add -5, -56 and -128
+abbrev bytes_body : Code
+bytes_body =
+    tree.Update 0 (tree.Number (pos 1)) (tree.Number (pos 5)) true 1 0
+    (tree.Update 0 (tree.Number (pos 1)) (tree.Number (pos 200)) false 2 1 (tree.Update 0 (tree.Number (pos 1)) (tree.Number (pos 128)) true 3 2 Done))
+
+abbrev byte_update : ℕ → ℕ → ℕ → Record
+byte_update site line value = record { kind = Update; size = 1; site = site; line = line; addr = 4097; value = 2 ^ 64 - value }
+
+pub bytes-are : trace
+    (record {
+      arrays = laid (record { name = 98 ∷ []; width = 1; count = 2; base = 0; first = 0 } ∷ []);
+      mutexes = [];
+      main = record { span = 1; line = 1; end = 4; body = bytes_body };
+      slots = 0;
+    })
+    (record { team = record { span = 1; line = 1; end = 4; body = bytes_body }; lane = 0; slots = [] })
+    [] []
+    ≡ whole (byte_update 0 1 5 ∷ byte_update 1 2 56 ∷ byte_update 2 3 128 ∷ event End 4 0 0 ∷ [])
+unfolding run value put read draw task wrapped
+bytes-are = refl
 
 -- for i in 0 .. 10 dynamic 4 { a[i] = i }: a lane that draws chunk 2 of 3 and then finds none left
 abbrev drawing : TeamTree

@@ -6,7 +6,7 @@ use Rattle.kernel_syntax.specs.declared.syntax.Stmt.{Stmt}
 use Rattle.kernel_syntax.specs.declared.syntax.Stmt.TheOpen as layer
 use Rattle.kernel_syntax.specs.declared.syntax.Stmt.TheOpen.{Stmt-F}
 use Rattle.kernel_syntax.specs.declared.syntax.Stmt.TheVariants as variant
-use Rattle.kernel_syntax.specs.declared.syntax.Stmt.TheVariants.{rolls-Set, rolls-Store, rolls-If, rolls-Loop, rolls-Parallel, rolls-For, rolls-Barrier, rolls-Critical}
+use Rattle.kernel_syntax.specs.declared.syntax.Stmt.TheVariants.{rolls-Set, rolls-Store, rolls-Update, rolls-If, rolls-Loop, rolls-Parallel, rolls-For, rolls-Barrier, rolls-Critical}
 use Rattle.kernel_syntax.specs.declared.syntax.Stmt.TheViews.{roll-Stmt}
 use Rattle.kernel_syntax.specs.declared.syntax.Stmt.TheFolds.{fold-Body, fold-Team, fold-roll-Stmt, fold_out-Body, fold_out-Team, map-Stmt}
 use Rattle.kernel_syntax.specs.declared.syntax.Body.{Body}
@@ -48,6 +48,12 @@ pub stmt_code-Store : (array : ℕ) (index value : Expr) (line site : ℕ) (rest
     stmt_code (variant.Store array index value line site) rest ≡ tree.Store array (term_of index) (term_of value) line site rest
 stmt_code-Store array index value line site rest =
     from_layer (layer.Store array index value line site) _ rest (rolls-Store array index value line site)
+
+pub stmt_code-Update : (array : ℕ) (index value : Expr) (minus : Bool) (line site : ℕ) (rest : Code) →
+    stmt_code (variant.Update array index value minus line site) rest
+    ≡ tree.Update array (term_of index) (term_of value) minus line site rest
+stmt_code-Update array index value minus line site rest =
+    from_layer (layer.Update array index value minus line site) _ rest (rolls-Update array index value minus line site)
 
 pub stmt_code-If : (test : Expr) (if_true if_false : Body) (rest : Code) →
     stmt_code (variant.If test if_true if_false) rest

@@ -7,7 +7,7 @@ use Rattle.kernel_syntax.specs.declared.syntax.Stmt.TheViews.{out-Stmt}
 use Rattle.kernel_syntax.specs.declared.syntax.Stmt.TheFolds.{fold_out-Stmt, fold-Body, fold-Team, map-Stmt}
 use Rattle.kernel_syntax.specs.declared.syntax.Body.{Body}
 use Rattle.kernel_syntax.specs.declared.syntax.Team.{Team}
-use Rattle.kernel_syntax.specs.Tree.{Code, TeamTree, Done, Set, Store, If, Loop, Parallel, For, Barrier, Critical}
+use Rattle.kernel_syntax.specs.Tree.{Code, TeamTree, Done, Set, Store, Update, If, Loop, Parallel, For, Barrier, Critical}
 use Rattle.kernel_syntax.specs.Program.{stmt_code, stmts_code, code_of, layer_code, layer_body, layer_team}
 
 -- the statements of the first, and then those of the second
@@ -15,6 +15,7 @@ abbrev pub followed_by : Code → Code → Code
 followed_by Done after = after
 followed_by (Set slot e rest) after = Set slot e (followed_by rest after)
 followed_by (Store array index e line site rest) after = Store array index e line site (followed_by rest after)
+followed_by (Update array index e minus line site rest) after = Update array index e minus line site (followed_by rest after)
 followed_by (If test if_true if_false rest) after = If test if_true if_false (followed_by rest after)
 followed_by (Loop slot from to body rest) after = Loop slot from to body (followed_by rest after)
 followed_by (Parallel span line end body rest) after = Parallel span line end body (followed_by rest after)
@@ -26,6 +27,7 @@ layer_code-follows : (x : Stmt-F (Code → Code) Code TeamTree) (rest after : Co
     layer_code x (followed_by rest after) ≡ followed_by (layer_code x rest) after
 layer_code-follows (layer.Set slot value) rest after = refl
 layer_code-follows (layer.Store array index value line site) rest after = refl
+layer_code-follows (layer.Update array index value minus line site) rest after = refl
 layer_code-follows (layer.If test if_true if_false) rest after = refl
 layer_code-follows (layer.Loop slot from to body) rest after = refl
 layer_code-follows (layer.Parallel team) rest after = refl

@@ -44,6 +44,7 @@ abbrev pub IsBoundedCode : Code → Type 0
 IsBoundedCode tree.Done = Unit {0}
 IsBoundedCode (tree.Set slot value rest) = IsBoundedTerm value × IsBoundedCode rest
 IsBoundedCode (tree.Store array index value line site rest) = IsPlace line site × IsBoundedTerm index × IsBoundedTerm value × IsBoundedCode rest
+IsBoundedCode (tree.Update array index value minus line site rest) = IsPlace line site × IsBoundedTerm index × IsBoundedTerm value × IsBoundedCode rest
 IsBoundedCode (tree.If test if_true if_false rest) = IsBoundedTerm test × IsBoundedCode if_true × IsBoundedCode if_false × IsBoundedCode rest
 IsBoundedCode (tree.Loop slot from to body rest) = IsBoundedTerm from × IsBoundedTerm to × IsBoundedCode body × IsBoundedCode rest
 IsBoundedCode (tree.Parallel span line end body rest) = IsSpan span × IsLine line × IsLine end × IsBoundedCode body × IsBoundedCode rest

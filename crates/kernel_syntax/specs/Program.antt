@@ -35,6 +35,8 @@ team_tree span line end body = record { span = span; line = line; end = end; bod
 abbrev pub layer_code : Stmt-F (Code → Code) Code TeamTree → Code → Code
 layer_code (layer.Set slot value) rest = tree.Set slot (term_of value) rest
 layer_code (layer.Store array index value line site) rest = tree.Store array (term_of index) (term_of value) line site rest
+layer_code (layer.Update array index value minus line site) rest =
+    tree.Update array (term_of index) (term_of value) minus line site rest
 layer_code (layer.If test if_true if_false) rest = tree.If (term_of test) if_true if_false rest
 layer_code (layer.Loop slot from to body) rest = tree.Loop slot (term_of from) (term_of to) body rest
 layer_code (layer.Parallel team) rest = tree.Parallel team.span team.line team.end team.body rest

@@ -18,6 +18,7 @@ pub data Code : Type 0 where
   Done : Code
   Set : (slot : ℕ) → (value : Term) → (rest : Code) → Code
   Store : (array : ℕ) → (index value : Term) → (line site : ℕ) → (rest : Code) → Code
+  Update : (array : ℕ) → (index value : Term) → (minus : Bool) → (line site : ℕ) → (rest : Code) → Code
   If : (test : Term) → (yes no rest : Code) → Code
   Loop : (slot : ℕ) → (from to : Term) → (body rest : Code) → Code
   Parallel : (span line end : ℕ) → (body rest : Code) → Code

@@ -142,6 +142,16 @@ pub enum Stmt {
         line: u32,
         site: u16,
     },
+    /// Adds the value to the element, or takes it away with `minus`, in one step (OpenMP 5.2: an
+    /// atomic update).
+    Update {
+        array: u32,
+        index: Expr,
+        value: Expr,
+        minus: bool,
+        line: u32,
+        site: u16,
+    },
     /// A missing `else` is an empty `no`.
     If {
         test: Expr,

@@ -1,5 +1,5 @@
 -- What the judge answers is what the grammar says of the tokens.
-use Rattle.std.proofs.Common.{◌≡◌, ℕ, pos, ◌<◌, ◌≤◌, List, [], ◌∷◌, ◌++◌, inl, length, take, None, refl, sym, ap, subst, ◌∙◌, append_assoc, append-nil, length-append, arith}
+use Rattle.std.proofs.Common.{◌≡◌, ℕ, pos, ◌<◌, ◌≤◌, false, List, [], ◌∷◌, ◌++◌, inl, length, take, None, refl, sym, ap, subst, ◌∙◌, append_assoc, append-nil, length-append, arith}
 use Rattle.std.specs.Prelude.{fold}
 use Rattle.std.proofs.lemmas.List.Elements.{All-from_recursion, recursion_from_All}
 use Rattle.kernel_text.specs.declared.token.Word.TheVariants as word
@@ -25,6 +25,8 @@ least want.Name = (0, [])
 least want.Number = (0, pos 0)
 least want.In = 0
 least want.Assign = 0
+least want.UpdateSign = (false, 0)
+least want.OpenBracket = 0
 least want.CloseBracket = 0
 least want.CloseParen = 0
 least want.CloseBrace = 0

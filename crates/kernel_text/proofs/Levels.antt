@@ -4,7 +4,7 @@ use Rattle.std.specs.Prelude.{◌↔◌, All}
 use Rattle.std.specs.List.{AllByRecursion}
 use Rattle.std.proofs.lemmas.List.Elements.{All-from_recursion, recursion_from_All}
 use Rattle.kernel_text.specs.declared.token.Token.{Token}
-use Rattle.kernel_text.specs.Grammar.{Tree, NumberAt, NameAt, TidAt, SpanAt, Element, Group, Minus, Binary, depth, schedule_tokens, nowait_tokens, Stmts, NoMore, Let, Assign, Store, If, IfElse, Loop, Parallel, For, Barrier, Critical, CriticalOf, AreShallow, declarations_tokens, KernelTree, IsShallow}
+use Rattle.kernel_text.specs.Grammar.{Tree, NumberAt, NameAt, TidAt, SpanAt, Element, Group, Minus, Binary, depth, schedule_tokens, nowait_tokens, Stmts, NoMore, Let, Assign, Store, Update, If, IfElse, Loop, Parallel, For, Barrier, Critical, CriticalOf, AreShallow, declarations_tokens, KernelTree, IsShallow}
 use Rattle.kernel_text.specs.Faults.{tree_levels, flat, block_levels, range_levels, stmts_levels, kernel_levels}
 
 abbrev pub AreLow : List ℕ → Type 0
@@ -72,6 +72,8 @@ stmts_low (Let _ _ _ _ value rest) m n e all = (no_level, (no_level, (no_level, 
 stmts_low (Assign _ _ _ value rest) m n e all = (no_level, (no_level, join (tree_levels 0 value) _ (tree_low value 0 (omega (arith, all.0))) (stmts_low rest m n e all.1)))
 stmts_low (Store _ _ _ index _ _ value rest) m n e all =
     (no_level, (no_level, join (tree_levels 0 index) _ (tree_low index 0 (omega (arith, all.0))) (no_level, (no_level, join (tree_levels 0 value) _ (tree_low value 0 (omega (arith, all.1))) (stmts_low rest m n e all.2)))))
+stmts_low (Update _ _ _ _ index _ _ _ value rest) m n e all =
+    (no_level, (no_level, (no_level, join (tree_levels 0 index) _ (tree_low index 0 (omega (arith, all.0))) (no_level, (no_level, join (tree_levels 0 value) _ (tree_low value 0 (omega (arith, all.1))) (stmts_low rest m n e all.2))))))
 stmts_low (If _ test _ if_true _ rest) m n e all =
     (no_level, join (tree_levels 0 test) _ (tree_low test 0 (omega (arith, all.0))) (block_low m n _ _ all.1 e (stmts_low if_true (m - 1) (n + 1) (omega (arith, all.1)) all.2) (stmts_low rest m n e all.3)))
 stmts_low (IfElse _ test _ if_true _ _ _ if_false _ rest) m n e all = (
@@ -106,6 +108,9 @@ low_stmts (Let _ _ _ _ value rest) m n e all = let s = split (tree_levels 0 valu
 low_stmts (Assign _ _ _ value rest) m n e all = let s = split (tree_levels 0 value) (stmts_levels n rest) all.1.1 in (flat_tree value s.0, low_stmts rest m n e s.1)
 low_stmts (Store _ _ _ index _ _ value rest) m n e all =
     let s = split (tree_levels 0 index) (0 ∷ 0 ∷ tree_levels 0 value ++ stmts_levels n rest) all.1.1 in
+    let v = split (tree_levels 0 value) (stmts_levels n rest) s.1.1.1 in (flat_tree index s.0, flat_tree value v.0, low_stmts rest m n e v.1)
+low_stmts (Update _ _ _ _ index _ _ _ value rest) m n e all =
+    let s = split (tree_levels 0 index) (0 ∷ 0 ∷ tree_levels 0 value ++ stmts_levels n rest) all.1.1.1 in
     let v = split (tree_levels 0 value) (stmts_levels n rest) s.1.1.1 in (flat_tree index s.0, flat_tree value v.0, low_stmts rest m n e v.1)
 low_stmts (If _ test _ if_true _ rest) m n e all =
     let s = split (tree_levels 0 test) (block_levels n (stmts_levels (n + 1) if_true) ++ stmts_levels n rest) all.1 in

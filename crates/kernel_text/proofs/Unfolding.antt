@@ -7,8 +7,8 @@ use Rattle.kernel_text.specs.declared.token.Lexeme.TheVariants.{Named, Number, R
 use Rattle.kernel_text.specs.declared.token.Token.{Token}
 use Rattle.kernel_text.specs.declared.judging.Want.{Want}
 use Rattle.kernel_text.specs.declared.judging.Want.TheVariants as want
-use Rattle.kernel_text.specs.Grammar.{op_of, named, number, reserved, mark, ScheduleTree, Unsaid, Static, StaticBy, Dynamic, DynamicBy}
-use Rattle.kernel_text.specs.Wanting.{Value, value_tokens, value_levels, Fill, fill_tokens, fill_levels, Fulfils, IsOpSign, GoesOnWith, EndsAt, AreDelimited, token, LeadsTo, Skips}
+use Rattle.kernel_text.specs.Grammar.{op_of, update_sign, named, number, reserved, mark, ScheduleTree, Unsaid, Static, StaticBy, Dynamic, DynamicBy}
+use Rattle.kernel_text.specs.Wanting.{Value, value_tokens, value_levels, Fill, fill_tokens, fill_levels, Fulfils, IsOpSign, GoesOnWith, EndsAt, AreDelimited, token, LeadsTo, Skips, Refuses}
 use Rattle.kernel_text.proofs.Operators.{op_of-sign}
 
 pub lexeme-of : (t u : Token) (ts us : List Token) → t ∷ ts ≡ u ∷ us → t.lexeme ≡ u.lexeme
@@ -97,6 +97,34 @@ in-takes s a = one-takes want.In (Reserved word.In) (λ line. line) (λ _. refl)
 
 pub assign-takes : (s : List Want) → AreDelimited (want.Assign ∷ s) → LeadsTo (want.Assign ∷ s) (Mark sign.Assign) 0 s
 assign-takes s a = one-takes want.Assign (Mark sign.Assign) (λ line. line) (λ _. refl) (λ _. refl) (λ line. inr (mark line sign.Assign, refl, refl)) s a
+
+pub open_bracket-takes : (s : List Want) → AreDelimited (want.OpenBracket ∷ s) → LeadsTo (want.OpenBracket ∷ s) (Mark sign.OpenBracket) 0 s
+open_bracket-takes s a = one-takes want.OpenBracket (Mark sign.OpenBracket) (λ line. line) (λ _. refl) (λ _. refl) (λ line. inr (mark line sign.OpenBracket, refl, refl)) s a
+
+signed : (minus : Bool) (s : List Want) → AreDelimited (want.UpdateSign ∷ s) → LeadsTo (want.UpdateSign ∷ s) (Mark (update_sign minus)) 0 s
+signed minus s a =
+    one-takes want.UpdateSign (Mark (update_sign minus)) (λ line. (minus, line)) (λ _. refl) (λ _. refl) (λ v. inr (mark v.1 (update_sign v.0), refl, refl)) s a
+
+abbrev pub is_update : Lexeme → Bool
+is_update (Mark sign.PlusAssign) = true
+is_update (Mark sign.MinusAssign) = true
+is_update _ = false
+
+pub update_sign-takes : (x : Lexeme) (s : List Want) → is_update x ≡ true → AreDelimited (want.UpdateSign ∷ s) → LeadsTo (want.UpdateSign ∷ s) x 0 s
+update_sign-takes (Mark sign.PlusAssign) s is a = signed false s a
+update_sign-takes (Mark sign.MinusAssign) s is a = signed true s a
+update_sign-takes _ s is a = absurd cc
+
+update_sign-is : (minus : Bool) → is_update (Mark (update_sign minus)) ≡ true
+update_sign-is false = refl
+update_sign-is true = refl
+
+-- nothing else stands there
+pub update_sign-refuses : (x : Lexeme) → is_update x ≡ false → (s : List Want) → Refuses (want.UpdateSign ∷ s) x
+update_sign-refuses x not s line ts ls r =
+    let v = r.fill.0 in
+    let same = lexeme-of _ _ _ _ r.tokens in
+    let both : true ≡ false = sym (update_sign-is v.0) ∙ ap is_update same ∙ not in absurd cc
 
 pub close_bracket-takes : (s : List Want) → AreDelimited (want.CloseBracket ∷ s) → LeadsTo (want.CloseBracket ∷ s) (Mark sign.CloseBracket) 0 s
 close_bracket-takes s a = one-takes want.CloseBracket (Mark sign.CloseBracket) (λ line. line) (λ _. refl) (λ _. refl) (λ line. inr (mark line sign.CloseBracket, refl, refl)) s a

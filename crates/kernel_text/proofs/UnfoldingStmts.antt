@@ -8,7 +8,7 @@ use Rattle.kernel_text.specs.declared.token.Lexeme.TheVariants.{Named, Number, R
 use Rattle.kernel_text.specs.declared.token.Token.{Token}
 use Rattle.kernel_text.specs.declared.judging.Want.{Want}
 use Rattle.kernel_text.specs.declared.judging.Want.TheVariants as want
-use Rattle.kernel_text.specs.Grammar.{op_of, tree_tokens, named, number, reserved, mark, Unsaid, Static, StaticBy, Dynamic, DynamicBy, schedule_tokens, nowait_tokens, Stmts, NoMore, Let, Assign, Store, If, IfElse, Loop, Parallel, For, Barrier, Critical, CriticalOf, stmts_tokens, StmtsDerive, Declaration, ArrayOf, MutexOf, KernelTree, IsKernel}
+use Rattle.kernel_text.specs.Grammar.{op_of, tree_tokens, update_sign, named, number, reserved, mark, Unsaid, Static, StaticBy, Dynamic, DynamicBy, schedule_tokens, nowait_tokens, Stmts, NoMore, Let, Assign, Store, Update, If, IfElse, Loop, Parallel, For, Barrier, Critical, CriticalOf, stmts_tokens, StmtsDerive, Declaration, ArrayOf, MutexOf, KernelTree, IsKernel}
 use Rattle.kernel_text.specs.Faults.{tree_levels, flat, stmts_levels}
 use Rattle.kernel_text.specs.Wanting.{Braced, Plain, At, Value, braced_tokens, braced_levels, Fill, fill_tokens, fill_levels, Fulfils, GoesOnWith, EndsAt, AreDelimited, token, LeadsTo, Skips, Refuses}
 use Rattle.kernel_text.proofs.Unfolding.{lexeme-of, Leaves, puts-by, leaves-by, takes, closed, never-on, not-op, skips}
@@ -32,6 +32,10 @@ shared x d y v w z u t = append_assoc (x ++ d ∷ y) (v ++ (w ++ (z ++ u))) t �
 -- an index and a value
 stored : {A : Type 0} (x : List A) (c d : A) (y z t : List A) → (x ++ (c ∷ d ∷ (y ++ z))) ++ t ≡ (x ++ (c ∷ d ∷ [])) ++ (y ++ (z ++ t))
 stored x c d y z t = append_assoc x (c ∷ d ∷ (y ++ z)) t ∙ ap (λ r. x ++ (c ∷ d ∷ r)) (append_assoc y z t) ∙ sym (append_assoc x (c ∷ d ∷ []) (y ++ (z ++ t)))
+
+-- an index and an amount
+updated : {A : Type 0} (x : List A) (c d : A) (y z t : List A) → (x ++ (c ∷ d ∷ (y ++ z))) ++ t ≡ x ++ (c ∷ d ∷ (y ++ (z ++ t)))
+updated x c d y z t = append_assoc x (c ∷ d ∷ (y ++ z)) t ∙ ap (λ r. x ++ (c ∷ d ∷ r)) (append_assoc y z t)
 
 -- ---- kernels
 
@@ -177,6 +181,48 @@ assign-takes name n s a =
         leaves-by (want.Stmts n ∷ s) ((Store at m o i c sl v r, d), g) (named at m) (assign_then n s) (At (record { opened = o; index = i; closed = c; derives = d.0 }) sl, ((v, d.1), ((r, d.2), g)))
         (ap (λ (x : List Token). named at m ∷ mark o sign.OpenBracket ∷ x) (stored (tree_tokens i) (mark c sign.CloseBracket) (mark sl sign.Assign) (tree_tokens v) (stmts_tokens r) (fill_tokens s g)))
         (ap (λ (x : List ℕ). 0 ∷ 0 ∷ x) (stored (tree_levels 0 i) 0 0 (tree_levels 0 v) (stmts_levels n r) (fill_levels s g))) e
+    left ((_, d), g) line ts e = let same = lexeme-of _ _ _ _ e in absurd cc
+
+abbrev update_then : ℕ → List Want → List Want
+update_then n s = want.Name ∷ want.OpenBracket ∷ want.Expr 0 ∷ want.CloseBracket ∷ want.UpdateSign ∷ value_then n s
+
+closing : (s : List Want) (f : Fill (want.CloseBracket ∷ s)) → EndsAt (want.Expr 0) (fill_tokens (want.CloseBracket ∷ s) f)
+closing s f (inl e) = absurd cc
+closing s f (inr is) = not-op (Mark sign.CloseBracket) refl is
+
+update-apart : (n : ℕ) (s : List Want) → AreDelimited (want.Stmts n ∷ s) → AreDelimited (update_then n s)
+update-apart n s a =
+    let signed = want.UpdateSign ∷ value_then n s in (
+      (λ f never. never),
+      (
+        (λ f. closed want.OpenBracket (λ x g. g) (fill_tokens (want.Expr 0 ∷ want.CloseBracket ∷ signed) f)),
+        (
+          closing signed,
+          (
+            (λ f. closed want.CloseBracket (λ x g. g) (fill_tokens signed f)),
+            ((λ f. closed want.UpdateSign (λ x g. g) (fill_tokens (value_then n s) f)), value-apart n s a),
+          ),
+        ),
+      ),
+    )
+
+pub update-takes : (n : ℕ) (s : List Want) → AreDelimited (want.Stmts n ∷ s) → LeadsTo (want.Stmts n ∷ s) (Reserved word.Atomic) 0 (update_then n s)
+update-takes n s a = takes (want.Stmts n ∷ s) (Reserved word.Atomic) 0 (update_then n s) (update-apart n s a) put left
+  where
+    put : (line : ℕ) (g : Fill (update_then n s)) → Fulfils (want.Stmts n ∷ s) (token (Reserved word.Atomic) line ∷ fill_tokens (update_then n s) g) (0 ∷ fill_levels (update_then n s) g)
+    put line (m, (o, (i, (c, (sg, (v, (r, g))))))) =
+        puts-by (want.Stmts n ∷ s) ((Update line m.0 m.1 o i.0 c sg.0 sg.1 v.0 r.0, (i.1, v.1, r.1)), g)
+        (ap (λ (x : List Token). reserved line word.Atomic ∷ named m.0 m.1 ∷ mark o sign.OpenBracket ∷ x)
+        (updated (tree_tokens i.0) (mark c sign.CloseBracket) (mark sg.1 (update_sign sg.0)) (tree_tokens v.0) (stmts_tokens r.0) (fill_tokens s g)))
+        (ap (λ (x : List ℕ). 0 ∷ 0 ∷ 0 ∷ x) (updated (tree_levels 0 i.0) 0 0 (tree_levels 0 v.0) (stmts_levels n r.0) (fill_levels s g)))
+
+    left : LeavesStmts (Reserved word.Atomic) n (update_then n s) s
+    left ((NoMore, d), g) line ts e = absurd (never-on (want.Stmts n) s (reserved line word.Atomic) ts a g e (λ same. absurd cc))
+    left ((Update at nl name o i c minus sl v r, d), g) line ts e =
+        leaves-by (want.Stmts n ∷ s) ((Update at nl name o i c minus sl v r, d), g) (reserved at word.Atomic) (update_then n s) ((nl, name), (o, ((i, d.0), (c, ((minus, sl), ((v, d.1), ((r, d.2), g)))))))
+        (ap (λ (x : List Token). reserved at word.Atomic ∷ named nl name ∷ mark o sign.OpenBracket ∷ x)
+        (updated (tree_tokens i) (mark c sign.CloseBracket) (mark sl (update_sign minus)) (tree_tokens v) (stmts_tokens r) (fill_tokens s g)))
+        (ap (λ (x : List ℕ). 0 ∷ 0 ∷ 0 ∷ x) (updated (tree_levels 0 i) 0 0 (tree_levels 0 v) (stmts_levels n r) (fill_levels s g))) e
     left ((_, d), g) line ts e = let same = lexeme-of _ _ _ _ e in absurd cc
 
 abbrev braced : ℕ → (b : Stmts) → ℕ → StmtsDerive b → Braced
@@ -380,6 +426,7 @@ is_stmt (Reserved word.Parallel) = true
 is_stmt (Reserved word.For) = true
 is_stmt (Reserved word.Barrier) = true
 is_stmt (Reserved word.Critical) = true
+is_stmt (Reserved word.Atomic) = true
 is_stmt _ = false
 
 pub stmts-skip : (x : Lexeme) (n : ℕ) (s : List Want) → is_stmt x ≡ false → Skips (want.Stmts n) s x

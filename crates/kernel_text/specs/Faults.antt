@@ -3,7 +3,7 @@ use Rattle.std.specs.Prelude.{◌≡◌, ℕ, ◌+◌, ◌≤◌, List, [], ◌�
 use Rattle.kernel_text.specs.declared.token.Token.{Token}
 use Rattle.kernel_text.specs.declared.judging.Verdict.{Verdict}
 use Rattle.kernel_text.specs.declared.judging.Verdict.TheVariants as verdict
-use Rattle.kernel_text.specs.Grammar.{Tree, NumberAt, NameAt, TidAt, SpanAt, Element, Group, Minus, Binary, schedule_tokens, nowait_tokens, Stmts, NoMore, Let, Assign, Store, If, IfElse, Loop, Parallel, For, Barrier, Critical, CriticalOf, declarations_tokens, KernelTree, kernel_tokens, IsKernel, IsShallow}
+use Rattle.kernel_text.specs.Grammar.{Tree, NumberAt, NameAt, TidAt, SpanAt, Element, Group, Minus, Binary, schedule_tokens, nowait_tokens, Stmts, NoMore, Let, Assign, Store, Update, If, IfElse, Loop, Parallel, For, Barrier, Critical, CriticalOf, declarations_tokens, KernelTree, kernel_tokens, IsKernel, IsShallow}
 
 -- for each token of an expression the level that it opens, or 0; so many levels are open around
 abbrev pub tree_levels : ℕ → Tree → List ℕ
@@ -33,6 +33,8 @@ stmts_levels n (Let line name_line name sign_line value rest) = 0 ∷ 0 ∷ 0 �
 stmts_levels n (Assign line name sign_line value rest) = 0 ∷ 0 ∷ tree_levels 0 value ++ stmts_levels n rest
 stmts_levels n (Store line name opened index closed sign_line value rest) =
     0 ∷ 0 ∷ tree_levels 0 index ++ (0 ∷ 0 ∷ tree_levels 0 value ++ stmts_levels n rest)
+stmts_levels n (Update line name_line name opened index closed minus sign_line value rest) =
+    0 ∷ 0 ∷ 0 ∷ tree_levels 0 index ++ (0 ∷ 0 ∷ tree_levels 0 value ++ stmts_levels n rest)
 stmts_levels n (If line test opened if_true closed rest) = 0 ∷ tree_levels 0 test ++ (block_levels n (stmts_levels (n + 1) if_true) ++ stmts_levels n rest)
 stmts_levels n (IfElse line test opened if_true closed else_line else_opened if_false else_closed rest) =
     0 ∷ tree_levels 0 test ++ (block_levels n (stmts_levels (n + 1) if_true) ++ (0 ∷ block_levels n (stmts_levels (n + 1) if_false) ++ stmts_levels n rest))

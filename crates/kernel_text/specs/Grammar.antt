@@ -193,6 +193,11 @@ abbrev pub nowait_tokens : Option ℕ → List Token
 nowait_tokens None = []
 nowait_tokens (Some line) = reserved line word.Nowait ∷ []
 
+-- the sign of an atomic update, that adds or takes away
+abbrev pub update_sign : Bool → Sign
+update_sign false = sign.PlusAssign
+update_sign true = sign.MinusAssign
+
 -- { stmt }: a statement with the statements after it. A block is the lines of its braces and its statements
 pub data Stmts : Type 0 where
   NoMore : Stmts
@@ -202,6 +207,8 @@ pub data Stmts : Type 0 where
   Assign : (line : ℕ) → (name : List ℕ) → (sign_line : ℕ) → (value : Tree) → (rest : Stmts) → Stmts
   -- NAME "[" expr "]" "=" expr
   Store : (line : ℕ) → (name : List ℕ) → (opened : ℕ) → (index : Tree) → (closed sign_line : ℕ) → (value : Tree) → (rest : Stmts) → Stmts
+  -- "atomic" NAME "[" expr "]" ("+=" | "-=") expr
+  Update : (line name_line : ℕ) → (name : List ℕ) → (opened : ℕ) → (index : Tree) → (closed : ℕ) → (minus : Bool) → (sign_line : ℕ) → (value : Tree) → (rest : Stmts) → Stmts
   -- "if" expr block
   If : (line : ℕ) → (test : Tree) → (opened : ℕ) → (if_true : Stmts) → (closed : ℕ) → (rest : Stmts) → Stmts
   -- "if" expr block "else" block
@@ -236,6 +243,9 @@ stmts_tokens (Assign line name sign_line value rest) = named line name ∷ mark 
 stmts_tokens (Store line name opened index closed sign_line value rest) =
     named line name ∷ mark opened sign.OpenBracket ∷ tree_tokens index ++
     (mark closed sign.CloseBracket ∷ mark sign_line sign.Assign ∷ tree_tokens value ++ stmts_tokens rest)
+stmts_tokens (Update line name_line name opened index closed minus sign_line value rest) =
+    reserved line word.Atomic ∷ named name_line name ∷ mark opened sign.OpenBracket ∷ tree_tokens index ++
+    (mark closed sign.CloseBracket ∷ mark sign_line (update_sign minus) ∷ tree_tokens value ++ stmts_tokens rest)
 stmts_tokens (If line test opened if_true closed rest) = reserved line word.If ∷ tree_tokens test ++ (block opened (stmts_tokens if_true) closed ++ stmts_tokens rest)
 stmts_tokens (IfElse line test opened if_true closed else_line else_opened if_false else_closed rest) =
     reserved line word.If ∷ tree_tokens test ++
@@ -258,6 +268,7 @@ StmtsDerive NoMore = Unit {0}
 StmtsDerive (Let line name_line name sign_line value rest) = Derives expr value × StmtsDerive rest
 StmtsDerive (Assign line name sign_line value rest) = Derives expr value × StmtsDerive rest
 StmtsDerive (Store line name opened index closed sign_line value rest) = Derives expr index × Derives expr value × StmtsDerive rest
+StmtsDerive (Update line name_line name opened index closed minus sign_line value rest) = Derives expr index × Derives expr value × StmtsDerive rest
 StmtsDerive (If line test opened if_true closed rest) = Derives expr test × StmtsDerive if_true × StmtsDerive rest
 StmtsDerive (IfElse line test opened if_true closed else_line else_opened if_false else_closed rest) =
     Derives expr test × StmtsDerive if_true × StmtsDerive if_false × StmtsDerive rest
@@ -280,6 +291,7 @@ AreShallow n NoMore = Unit {0}
 AreShallow n (Let line name_line name sign_line value rest) = IsFlat value × AreShallow n rest
 AreShallow n (Assign line name sign_line value rest) = IsFlat value × AreShallow n rest
 AreShallow n (Store line name opened index closed sign_line value rest) = IsFlat index × IsFlat value × AreShallow n rest
+AreShallow n (Update line name_line name opened index closed minus sign_line value rest) = IsFlat index × IsFlat value × AreShallow n rest
 AreShallow n (If line test opened if_true closed rest) = IsFlat test × (1 ≤ n) × AreShallow (n - 1) if_true × AreShallow n rest
 AreShallow n (IfElse line test opened if_true closed else_line else_opened if_false else_closed rest) =
     IsFlat test × (1 ≤ n) × AreShallow (n - 1) if_true × AreShallow (n - 1) if_false × AreShallow n rest

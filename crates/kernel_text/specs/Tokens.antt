@@ -53,8 +53,9 @@ word_of t =
     (if bytes_eq t (codes "nowait") then Some word.Nowait else
     (if bytes_eq t (codes "barrier") then Some word.Barrier else
     (if bytes_eq t (codes "critical") then Some word.Critical else
+    (if bytes_eq t (codes "atomic") then Some word.Atomic else
     (if bytes_eq t (codes "tid") then Some word.Tid else
-    (if bytes_eq t (codes "span") then Some word.Span else None))))))))))))))))
+    (if bytes_eq t (codes "span") then Some word.Span else None)))))))))))))))))
 
 -- the signs of two bytes
 abbrev pub two_byte_sign : ℕ → ℕ → Option Sign
@@ -63,7 +64,9 @@ two_byte_sign b c =
     (if (b == 33) && (c == 61) then Some sign.NotEqual else
     (if (b == 60) && (c == 61) then Some sign.LessEqual else
     (if (b == 62) && (c == 61) then Some sign.GreaterEqual else
-    (if (b == 46) && (c == 46) then Some sign.Dots else None))))
+    (if (b == 43) && (c == 61) then Some sign.PlusAssign else
+    (if (b == 45) && (c == 61) then Some sign.MinusAssign else
+    (if (b == 46) && (c == 46) then Some sign.Dots else None))))))
 
 -- the signs of one byte
 abbrev pub one_byte_sign : ℕ → Option Sign

@@ -11,7 +11,7 @@ use Rattle.kernel_text.specs.declared.judging.Want.{Want}
 use Rattle.kernel_text.specs.declared.judging.Want.TheVariants as want
 use Rattle.kernel_text.specs.declared.judging.Moved.{Moved}
 use Rattle.kernel_text.specs.declared.judging.Moved.TheVariants as moved
-use Rattle.kernel_text.specs.Grammar.{Tree, Derives, tree_tokens, unary, expr, sign_of, named, number, reserved, mark, is_comparison, ScheduleTree, schedule_tokens, nowait_tokens, Stmts, StmtsDerive, block, stmts_tokens, KernelTree, kernel_tokens, IsKernel}
+use Rattle.kernel_text.specs.Grammar.{Tree, Derives, tree_tokens, unary, expr, sign_of, update_sign, named, number, reserved, mark, is_comparison, ScheduleTree, schedule_tokens, nowait_tokens, Stmts, StmtsDerive, block, stmts_tokens, KernelTree, kernel_tokens, IsKernel}
 use Rattle.kernel_text.specs.Faults.{tree_levels, flat, block_levels, stmts_levels, kernel_levels}
 
 -- operators with their right operands
@@ -61,7 +61,9 @@ Value want.Name = ℕ × List ℕ
 Value want.Number = ℕ × ℤ
 Value want.In = ℕ
 Value want.Assign = ℕ
+Value want.OpenBracket = ℕ
 Value want.CloseBracket = ℕ
+Value want.UpdateSign = Bool × ℕ
 Value want.CloseParen = ℕ
 Value want.CloseBrace = ℕ
 Value want.Dots = ℕ
@@ -125,6 +127,8 @@ value_tokens want.Name v = named v.0 v.1 ∷ []
 value_tokens want.Number v = number v.0 v.1 ∷ []
 value_tokens want.In line = reserved line word.In ∷ []
 value_tokens want.Assign line = mark line sign.Assign ∷ []
+value_tokens want.OpenBracket line = mark line sign.OpenBracket ∷ []
+value_tokens want.UpdateSign v = mark v.1 (update_sign v.0) ∷ []
 value_tokens want.CloseBracket line = mark line sign.CloseBracket ∷ []
 value_tokens want.CloseParen line = mark line sign.CloseParen ∷ []
 value_tokens want.CloseBrace line = mark line sign.CloseBrace ∷ []
@@ -148,6 +152,8 @@ value_levels want.Name v = 0 ∷ []
 value_levels want.Number v = 0 ∷ []
 value_levels want.In line = 0 ∷ []
 value_levels want.Assign line = 0 ∷ []
+value_levels want.OpenBracket line = 0 ∷ []
+value_levels want.UpdateSign v = 0 ∷ []
 value_levels want.CloseBracket line = 0 ∷ []
 value_levels want.CloseParen line = 0 ∷ []
 value_levels want.CloseBrace line = 0 ∷ []

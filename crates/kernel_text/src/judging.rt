@@ -21,6 +21,10 @@ pub enum Want {
     Number,
     In,
     Assign,
+    /// The sign of an atomic update.
+    UpdateSign,
+    /// The bracket behind the array's name of an atomic update, which opens no level.
+    OpenBracket,
     CloseBracket,
     CloseParen,
     CloseBrace,
@@ -132,6 +136,24 @@ fn assign_move(lexeme: &Lexeme) -> Moved
     }
 }
 
+fn update_sign_move(lexeme: &Lexeme) -> Moved
+    ensures { Alone result want.UpdateSign lexeme.now }
+{
+    match lexeme {
+        Lexeme::Mark(Sign::PlusAssign | Sign::MinusAssign) => Moved::Takes,
+        _ => Moved::Fails,
+    }
+}
+
+fn open_bracket_move(lexeme: &Lexeme) -> Moved
+    ensures { Alone result want.OpenBracket lexeme.now }
+{
+    match lexeme {
+        Lexeme::Mark(Sign::OpenBracket) => Moved::Takes,
+        _ => Moved::Fails,
+    }
+}
+
 fn close_bracket_move(lexeme: &Lexeme) -> Moved
     ensures { Alone result want.CloseBracket lexeme.now }
 {
@@ -219,6 +241,25 @@ fn block_move(stack: &mut Vec<Want>, level: u8, lexeme: &Lexeme) -> Result<Moved
     }
 }
 
+/// What an atomic update wants behind its word.
+fn update_move(stack: &mut Vec<Want>, level: u8) -> Result<Moved, AllocError>
+    requires { AreDelimited (want.Stmts level ∷ stack_of stack.old.items) }
+    ensures { Moves result (want.Stmts level) (Lexeme.Reserved Word.Atomic) (stack_of stack.old.items) (stack_of stack.new.items) }
+{
+    want_all(
+        stack,
+        &[
+            Want::Name,
+            Want::OpenBracket,
+            Want::Expr(0),
+            Want::CloseBracket,
+            Want::UpdateSign,
+            Want::Expr(0),
+            Want::Stmts(level),
+        ],
+    )
+}
+
 /// What an `if` wants behind its word.
 fn if_move(stack: &mut Vec<Want>, level: u8) -> Result<Moved, AllocError>
     requires { AreDelimited (want.Stmts level ∷ stack_of stack.old.items) }
@@ -285,6 +326,7 @@ fn stmts_move(stack: &mut Vec<Want>, level: u8, lexeme: &Lexeme) -> Result<Moved
             &[Want::Name, Want::Assign, Want::Expr(0), Want::Stmts(level)],
         ),
         Lexeme::Named(_) => want_all(stack, &[Want::Target, Want::Expr(0), Want::Stmts(level)]),
+        Lexeme::Reserved(Word::Atomic) => update_move(stack, level),
         Lexeme::Reserved(Word::If) => if_move(stack, level),
         Lexeme::Reserved(Word::Loop) => loop_move(stack, level),
         Lexeme::Reserved(Word::Parallel) => want_all(
@@ -423,6 +465,8 @@ fn move_one(stack: &mut Vec<Want>, want: Want, lexeme: &Lexeme) -> Result<Moved,
         Want::Number => Ok(number_move(lexeme)),
         Want::In => Ok(in_move(lexeme)),
         Want::Assign => Ok(assign_move(lexeme)),
+        Want::UpdateSign => Ok(update_sign_move(lexeme)),
+        Want::OpenBracket => Ok(open_bracket_move(lexeme)),
         Want::CloseBracket => Ok(close_bracket_move(lexeme)),
         Want::CloseParen => Ok(close_paren_move(lexeme)),
         Want::CloseBrace => Ok(close_brace_move(lexeme)),

@@ -52,6 +52,7 @@ fn word_of(text: &str) -> Option<Word>
         "nowait" => Some(Word::Nowait),
         "barrier" => Some(Word::Barrier),
         "critical" => Some(Word::Critical),
+        "atomic" => Some(Word::Atomic),
         "tid" => Some(Word::Tid),
         "span" => Some(Word::Span),
         _ => None,
@@ -66,6 +67,8 @@ fn two_byte_sign(first: u8, second: u8) -> Option<Sign>
         (b'!', b'=') => Some(Sign::NotEqual),
         (b'<', b'=') => Some(Sign::LessEqual),
         (b'>', b'=') => Some(Sign::GreaterEqual),
+        (b'+', b'=') => Some(Sign::PlusAssign),
+        (b'-', b'=') => Some(Sign::MinusAssign),
         (b'.', b'.') => Some(Sign::Dots),
         _ => None,
     }

@@ -21,6 +21,7 @@ pub enum Word {
     Nowait,
     Barrier,
     Critical,
+    Atomic,
     Tid,
     Span,
 }
@@ -46,6 +47,10 @@ pub enum Sign {
     Star,
     Slash,
     Percent,
+    /// `+=`, of an atomic update.
+    PlusAssign,
+    /// `-=`, of an atomic update.
+    MinusAssign,
     /// `..`, between the bounds of a loop.
     Dots,
 }

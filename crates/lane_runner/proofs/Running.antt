@@ -3,20 +3,22 @@ use Rattle.std.proofs.Common.{◌≡◌, ◌∙◌, refl, ap, sym, subst, ℕ, �
 use Rattle.std.specs.Prelude.{slice_set}
 use Rattle.log_format.specs.Fitting.{fitted}
 use Rattle.kernel_syntax.specs.Tree as tree
-use Rattle.kernel_syntax.specs.Tree.{Term}
-use Rattle.log_format.specs.declared.record.Kind.TheVariants as kind
+use Rattle.kernel_syntax.specs.Tree.{Term, Code}
+use Rattle.log_format.specs.declared.record.Kind.{Kind}
+use Rattle.kernel_model.specs.declared.change.Change.{Change}
+use Rattle.kernel_model.specs.Changing.{amount, changing, kind_of}
+use Rattle.kernel_model.proofs.Changing.{after_index, changed_grows, put_value, run-changing, valued_grows}
 use Rattle.kernel_model.specs.State as model
 use Rattle.kernel_model.specs.State.{State, Outcome, and_then, after, assign, put, state_of}
 use Rattle.kernel_model.specs.Growth.{Grows}
-use Rattle.kernel_model.specs.Trace.{log_limit, run, stored}
+use Rattle.kernel_model.specs.Trace.{log_limit, run, changed}
 use Rattle.kernel_model.specs.Value.{Site, Element, element_at, access, value}
 use Rattle.kernel_model.specs.Effect.{Finish, Returned, Halted}
 use Rattle.kernel_model.proofs.Effects.{makes-stays}
 use Rattle.kernel_model.proofs.Joining.{after-done}
 use Rattle.kernel_model.proofs.RunEffects.{makes-Done, makes-assign}
-use Rattle.kernel_model.proofs.Equations.{run-Set, run-Store}
+use Rattle.kernel_model.proofs.Equations.{run-Set}
 use Rattle.kernel_model.proofs.Growing.{grows-plain, run-grows, value-grows}
-use Rattle.kernel_model.proofs.Steps.{kept-and_then, kept-after, kept-stored}
 use Rattle.lane_runner.specs.declared.stop.Halt.{Halt}
 use Rattle.lane_runner.specs.declared.stop.Halt.TheVariants as halt
 use Rattle.history_model.specs.Work.{then_work}
@@ -113,51 +115,49 @@ module _ (w : WorldValue) (at : Site) (slots : List ℤ) (slot : ℕ) (e : Term)
       (goes_assigned w (run at tree.Done) slot v slots (slice_set slots slot v) new new (Ok tt)
       (made_done w at (slice_set slots slot v) new (can_follow w (value at e) slots slots old new (Returned v) can made))))
 
--- ---- a store
+-- ---- a store or an update
 
 -- an element that isn't there, and one that is
-pub stores_none : (w : WorldValue) (found : Option Element) (v : ℤ) (line site : ℕ) (slots : List ℤ) (p : Progress) → CanGo w p → found ≡ None → Made w (stored found v line site) slots slots p p (Halted model.Index line)
-stores_none w found v line site slots p can is =
-    made_still w (stored found v line site) slots p (Halted model.Index line) can
-    (makes-stays (stored found v line site) slots (log_limit - p.buffer.count) (Halted model.Index line) (λ s same full. ap (λ o. stored o v line site s) is))
+pub changes_none : (w : WorldValue) (k : Kind) (found : Option Element) (v : ℤ) (line site : ℕ) (slots : List ℤ) (p : Progress) → CanGo w p → found ≡ None
+    → Made w (changed k found v line site) slots slots p p (Halted model.Index line)
+changes_none w k found v line site slots p can is =
+    made_still w (changed k found v line site) slots p (Halted model.Index line) can
+    (makes-stays (changed k found v line site) slots (log_limit - p.buffer.count) (Halted model.Index line) (λ s same full. ap (λ o. changed k o v line site s) is))
 
-pub stores_some : (w : WorldValue) (found : Option Element) (e : Element) (v number : ℤ) (line site : ℕ) (slots : List ℤ) (old new : Progress) (r : Result (Unit {0}) Halt) → found ≡ Some e → number ≡ fitted v e.width
-    → Goes w (put (access kind.Write e site line number)) slots slots old new r → Goes w (stored found v line site) slots slots old new r
-stores_some w found e v number line site slots old new r is number_is goes =
-    subst (λ (o : Option Element). Goes w (stored o v line site) slots slots old new r) (sym is)
-    (goes_same w (put (access kind.Write e site line (fitted v e.width))) (stored (Some e) v line site) slots slots old new (λ s. refl) r
-    (subst (λ (x : ℤ). Goes w (put (access kind.Write e site line x)) slots slots old new r) number_is goes))
+pub changes_some : (w : WorldValue) (k : Kind) (found : Option Element) (e : Element) (v number : ℤ) (line site : ℕ) (slots : List ℤ) (old new : Progress) (r : Result (Unit {0}) Halt) → found ≡ Some e
+    → number ≡ fitted v e.width → Goes w (put (access k e site line number)) slots slots old new r → Goes w (changed k found v line site) slots slots old new r
+changes_some w k found e v number line site slots old new r is number_is goes =
+    subst (λ (o : Option Element). Goes w (changed k o v line site) slots slots old new r) (sym is)
+    (goes_same w (put (access k e site line (fitted v e.width))) (changed k (Some e) v line site) slots slots old new (λ s. refl) r
+    (subst (λ (x : ℤ). Goes w (put (access k e site line x)) slots slots old new r) number_is goes))
 
-module _ (w : WorldValue) (at : Site) (slots : List ℤ) (array : ℕ) (index e : Term) (line site : ℕ) where
-  abbrev put_value : ℤ → ℤ → State → Outcome (Unit {0})
-  put_value i v s = after (stored (element_at at.arrays array i) v line site s) (run at tree.Done)
+module _ (w : WorldValue) (c : Change) (at : Site) (slots : List ℤ) (array : ℕ) (index e : Term) (line site : ℕ) where
+  abbrev statement : Code
+  statement = changing c array index e line site tree.Done
 
-  put_grows : (i v : ℤ) (s : State) → Grows s (state_of (put_value i v s))
-  put_grows i v s = kept-after Grows grows-plain s (stored (element_at at.arrays array i) v line site s) (run at tree.Done) (kept-stored Grows grows-plain (element_at at.arrays array i) v line site s) (run-grows at tree.Done)
+  abbrev of_index : ℤ → State → Outcome (Unit {0})
+  of_index = after_index c at array index e line site tree.Done
 
-  abbrev after_index : ℤ → State → Outcome (Unit {0})
-  after_index i s = and_then (value at e s) (put_value i)
+  abbrev of_value : ℤ → ℤ → State → Outcome (Unit {0})
+  of_value = put_value c at array index e line site tree.Done
 
-  index_grows : (i : ℤ) (s : State) → Grows s (state_of (after_index i s))
-  index_grows i s = kept-and_then Grows grows-plain s (value at e s) (put_value i) (value-grows at e s) (put_grows i)
-
-  pub index_stops : (old new : Progress) (why : Halt) → Goes w (value at index) slots slots old new (Err why) → Goes w (run at (tree.Store array index e line site tree.Done)) slots slots old new (Err why)
+  pub index_stops : (old new : Progress) (why : Halt) → Goes w (value at index) slots slots old new (Err why) → Goes w (run at statement) slots slots old new (Err why)
   index_stops old new why goes =
-      goes_same w _ (run at (tree.Store array index e line site tree.Done)) slots slots old new (run-Store at array index e line site tree.Done) (Err why)
-      (goes_stop w (value at index) after_index slots slots old new why index_grows goes)
+      goes_same w _ (run at statement) slots slots old new (run-changing c at array index e line site tree.Done) (Err why)
+      (goes_stop w (value at index) of_index slots slots old new why (valued_grows c at array index e line site tree.Done) goes)
 
   module _ (i : ℤ) (old mid new : Progress) (made : Made w (value at index) slots slots old mid (Returned i)) where
-    store_after : (r : Result (Unit {0}) Halt) → Goes w (after_index i) slots slots mid new r → Goes w (run at (tree.Store array index e line site tree.Done)) slots slots old new r
-    store_after r goes =
-        goes_same w _ (run at (tree.Store array index e line site tree.Done)) slots slots old new (run-Store at array index e line site tree.Done) r
-        (goes_then w (value at index) after_index slots slots slots old mid new i made r goes)
+    change_after : (r : Result (Unit {0}) Halt) → Goes w (of_index i) slots slots mid new r → Goes w (run at statement) slots slots old new r
+    change_after r goes =
+        goes_same w _ (run at statement) slots slots old new (run-changing c at array index e line site tree.Done) r
+        (goes_then w (value at index) of_index slots slots slots old mid new i made r goes)
 
-    pub stored_stops : (why : Halt) → Goes w (value at e) slots slots mid new (Err why) → Goes w (run at (tree.Store array index e line site tree.Done)) slots slots old new (Err why)
-    stored_stops why goes = store_after (Err why) (goes_stop w (value at e) (put_value i) slots slots mid new why (put_grows i) goes)
+    pub value_stops : (why : Halt) → Goes w (value at e) slots slots mid new (Err why) → Goes w (run at statement) slots slots old new (Err why)
+    value_stops why goes = change_after (Err why) (goes_stop w (value at e) (of_value i) slots slots mid new why (changed_grows c at array index e line site tree.Done i) goes)
 
-    pub store_goes : (last : Progress) (v : ℤ) (r : Result (Unit {0}) Halt) → Made w (value at e) slots slots mid last (Returned v)
-        → Goes w (stored (element_at at.arrays array i) v line site) slots slots last new r → Goes w (run at (tree.Store array index e line site tree.Done)) slots slots old new r
-    store_goes last v r made_value goes =
-        store_after r
-        (goes_then w (value at e) (put_value i) slots slots slots mid last new v made_value r
-        (goes_same w (stored (element_at at.arrays array i) v line site) (put_value i v) slots slots last new (λ s. after-done at (stored (element_at at.arrays array i) v line site s)) r goes))
+    pub change_goes : (last : Progress) (v : ℤ) (r : Result (Unit {0}) Halt) → Made w (value at e) slots slots mid last (Returned v)
+        → Goes w (changed (kind_of c) (element_at at.arrays array i) (amount c v) line site) slots slots last new r → Goes w (run at statement) slots slots old new r
+    change_goes last v r made_value goes =
+        change_after r
+        (goes_then w (value at e) (of_value i) slots slots slots mid last new v made_value r
+        (goes_same w (changed (kind_of c) (element_at at.arrays array i) (amount c v) line site) (of_value i v) slots slots last new (λ s. after-done at (changed (kind_of c) (element_at at.arrays array i) (amount c v) line site s)) r goes))

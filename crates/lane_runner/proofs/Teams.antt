@@ -9,7 +9,7 @@ use Rattle.event_buffer.specs.Buffered.{Buffered}
 use Rattle.kernel_syntax.specs.declared.syntax.Stmt.{Stmt}
 use Rattle.kernel_syntax.specs.declared.syntax.Team.{Team}
 use Rattle.kernel_syntax.specs.Program.{stmt_code, code_of}
-use Rattle.kernel_syntax.specs.Tree.{TeamTree, Code, Done, Set, Store, If, Loop, Parallel, For, Barrier, Critical}
+use Rattle.kernel_syntax.specs.Tree.{TeamTree, Code, Done, Set, Store, Update, If, Loop, Parallel, For, Barrier, Critical}
 use Rattle.kernel_model.specs.declared.phase.Item.{Item}
 use Rattle.kernel_model.specs.declared.phase.Item.TheVariants as item
 use Rattle.shared_words.specs.declared.view.View.{View}
@@ -29,6 +29,7 @@ pub teams_all : (P Q : TeamTree → Type 0) → ((team : TeamTree) → P team �
 teams_all P Q each Done all = tt
 teams_all P Q each (Set slot value rest) all = teams_all P Q each rest all
 teams_all P Q each (Store array index value line site rest) all = teams_all P Q each rest all
+teams_all P Q each (Update array index value minus line site rest) all = teams_all P Q each rest all
 teams_all P Q each (If test if_true if_false rest) all = (teams_all P Q each if_true all.0, teams_all P Q each if_false all.1, teams_all P Q each rest all.2)
 teams_all P Q each (Loop slot from to body rest) all = (teams_all P Q each body all.0, teams_all P Q each rest all.1)
 teams_all P Q each (Parallel span line end body rest) all = (each (record { span = span; line = line; end = end; body = body }) all.0, teams_all P Q each rest all.1)

@@ -6,7 +6,7 @@ use Rattle.sw_base.specs.declared.closed_log.ClosedLog.{ClosedLog}
 use Rattle.event_buffer.specs.Buffered.{Buffered}
 use Rattle.kernel_syntax.specs.declared.syntax.Team.{Team}
 use Rattle.kernel_syntax.specs.Program.{stmt_code}
-use Rattle.kernel_syntax.specs.Tree.{TeamTree, Code, Done, Set, Store, If, Loop, Parallel, For, Barrier, Critical}
+use Rattle.kernel_syntax.specs.Tree.{TeamTree, Code, Done, Set, Store, Update, If, Loop, Parallel, For, Barrier, Critical}
 use Rattle.kernel_model.specs.declared.phase.Item.{Item}
 use Rattle.kernel_model.specs.declared.phase.Item.TheVariants as item
 use Rattle.shared_words.specs.declared.view.View.{View}
@@ -21,6 +21,7 @@ abbrev pub EachTeam : (TeamTree → Type 0) → Code → Type 0
 EachTeam P Done = Unit {0}
 EachTeam P (Set slot value rest) = EachTeam P rest
 EachTeam P (Store array index value line site rest) = EachTeam P rest
+EachTeam P (Update array index value minus line site rest) = EachTeam P rest
 EachTeam P (If test if_true if_false rest) = EachTeam P if_true × EachTeam P if_false × EachTeam P rest
 EachTeam P (Loop slot from to body rest) = EachTeam P body × EachTeam P rest
 EachTeam P (Parallel span line end body rest) = P (record { span = span; line = line; end = end; body = body }) × EachTeam P rest

@@ -3,7 +3,8 @@ ghost use Rattle.std.specs.Prelude.{◌≡◌, List, ℤ};
 ghost use Rattle.kernel_syntax.specs.Bounds.{IsBoundedTerm, IsPlace};
 ghost use Rattle.kernel_syntax.specs.Program.{term_of};
 ghost use Rattle.kernel_syntax.specs.Tree as tree;
-ghost use Rattle.kernel_model.specs.Trace.{run, stored};
+ghost use Rattle.kernel_model.specs.Changing.{changing, kind_of};
+ghost use Rattle.kernel_model.specs.Trace.{changed, run};
 ghost use Rattle.kernel_model.specs.Value.{element_at};
 ghost use Rattle.lane_runner.specs.Going.{CanGo, Goes, IsSameLog, site};
 
@@ -12,32 +13,34 @@ use crate::stop::Halt;
 use crate::track::Track;
 use crate::value::value;
 use crate::world::World;
+use kernel_model::Change;
 use kernel_syntax::{Expr, fit};
 use std::alloc::Global;
 use sw_base::Log;
 
-// Stores a value, after the index and the value.
+// Stores or adds an amount, after the index and the value.
 fn put_value<L: Log>(
     alloc: Global,
     world: &World,
     track: &mut Track<L>,
+    change: Change,
     array: u32,
     index: i64,
-    number: i64,
+    amount: i64,
     line: u32,
     place: u16,
 ) -> Result<(), Halt>
     requires can { CanGo world.now track.old }
     requires bounded { IsPlace line place }
-    ensures goes { (slots : List ℤ) → Goes world.now (stored (element_at world.now.arrays array index) number line place) slots slots track.old track.new result }
+    ensures goes { (slots : List ℤ) → Goes world.now (changed (kind_of change) (element_at world.now.arrays array index) amount line place) slots slots track.old track.new result }
     ensures log { IsSameLog track.old.buffer track.new.buffer }
     ensures tally { track.new.tally ≡ track.old.tally }
 {
     let Some(element) = world.element(array, index) else {
         return Err(Halt::Index { line });
     };
-    let stored = fit(number, element.width);
-    track.write(alloc, world, &element, stored, line, place)
+    let fitted = fit(amount, element.width);
+    track.change(alloc, world, change, &element, fitted, line, place)
 }
 
 impl<L: Log> Frame<L> {
@@ -54,11 +57,12 @@ impl<L: Log> Frame<L> {
         Ok(())
     }
 
-    /// Executes a store.
-    pub fn store(
+    /// Executes a store or an update.
+    pub fn change(
         &mut self,
         alloc: Global,
         world: &World,
+        change: Change,
         array: u32,
         index: &Expr,
         expr: &Expr,
@@ -69,7 +73,7 @@ impl<L: Log> Frame<L> {
         requires index { IsBoundedTerm (term_of index.now) }
         requires bounded { IsBoundedTerm (term_of expr.now) }
         requires place { IsPlace line place }
-        ensures goes { Goes world.now (run (site world.now) (tree.Store array (term_of index.now) (term_of expr.now) line place tree.Done)) self.old.locals.slots.items self.old.locals.slots.items self.old.track self.new.track result }
+        ensures goes { Goes world.now (run (site world.now) (changing change array (term_of index.now) (term_of expr.now) line place tree.Done)) self.old.locals.slots.items self.old.locals.slots.items self.old.track self.new.track result }
         ensures log { IsSameLog self.old.track.buffer self.new.track.buffer }
         ensures tally { self.new.track.tally ≡ self.old.track.tally }
         ensures locals { self.new.locals ≡ self.old.locals }
@@ -80,9 +84,10 @@ impl<L: Log> Frame<L> {
             alloc,
             world,
             &mut self.track,
+            change,
             array,
             at,
-            number,
+            change.amount(number),
             line,
             place,
         )

@@ -16,6 +16,7 @@ use crate::locals::Locals;
 use crate::stop::{Halt, Stop};
 use crate::value::value;
 use crate::world::World;
+use kernel_model::Change;
 use kernel_syntax::{Body, Stmt, Team};
 use shared_words::Hand;
 use std::alloc::Global;
@@ -177,7 +178,33 @@ impl<L: Log> Frame<L> {
                 value: expr,
                 line,
                 site,
-            } => self.store(alloc, world, *array, index, expr, *line, *site),
+            } => self.change(
+                alloc,
+                world,
+                Change::Store,
+                *array,
+                index,
+                expr,
+                *line,
+                *site,
+            ),
+            Stmt::Update {
+                array,
+                index,
+                value: expr,
+                minus,
+                line,
+                site,
+            } => self.change(
+                alloc,
+                world,
+                Change::Update { minus: *minus },
+                *array,
+                index,
+                expr,
+                *line,
+                *site,
+            ),
             Stmt::If { test, yes, no } => {
                 let chosen = value(alloc, world, &self.locals, &mut self.track, test)?;
                 if chosen == 0 {

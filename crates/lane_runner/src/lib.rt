@@ -1,6 +1,6 @@
 //! What a lane of a team executes, over shared words and a bounded buffer before its log.
 //!
-//! It evaluates expressions with their loads; it executes assignments, stores, tests, loops, critical sections, worksharing loops of every
+//! It evaluates expressions with their loads; it executes assignments, stores, updates, tests, loops, critical sections, worksharing loops of every
 //! schedule, and regions, which a function of the caller's runs, with new logs for their lanes; and it puts the records of a team's
 //! barriers. A `Lane` has the path of its task, executes the items of one phase at a call, and notes which task stopped, its own or one
 //! below it, and why; its task's End is put by a call of its own, for which the team asks. A `Frame` is what it executes with.

@@ -3,6 +3,7 @@
 ghost use Rattle.std.specs.Prelude.{◌≡◌, ◌+◌, ◌<◌, ◌≤◌, true, None, List, [], ◌∷◌, length, IfOk, OnOk, ℤ, Contains};
 ghost use Rattle.kernel_model.specs.Value as model;
 ghost use Rattle.kernel_model.specs.Value.{read};
+ghost use Rattle.kernel_model.specs.Changing.{kind_of};
 ghost use Rattle.kernel_model.specs.State.{put, event};
 ghost use Rattle.log_format.specs.declared.record.Kind.TheVariants as kind;
 ghost use Rattle.lane_runner.specs.World.{WorldValue};
@@ -14,9 +15,9 @@ ghost use Rattle.kernel_model.specs.Trace.{run, draw, log_limit};
 ghost use Rattle.lane_runner.specs.Children.{AreNewLogs};
 ghost use Rattle.lane_runner.specs.Forking.{RunsTeam};
 ghost use Rattle.lane_runner.specs.Handed.{entries_of};
-ghost use Rattle.shared_words.specs.Views.{locked, unlocked, rest};
+ghost use Rattle.shared_words.specs.Views.{did, locked, unlocked, rest};
 ghost use Rattle.log_format.specs.Fitting.{fitted};
-ghost use Rattle.lane_runner.specs.Placing.{StandsIn, meant};
+ghost use Rattle.lane_runner.specs.Placing.{StandsIn, change_deed, meant};
 
 use crate::children::children;
 use crate::element::Element;
@@ -24,9 +25,10 @@ use crate::locals::Locals;
 use crate::stop::{Halt, Stop, TASK_LIMIT};
 use crate::world::World;
 use event_buffer::{Buffer, BufferFault};
+use kernel_model::Change;
 use kernel_syntax::{Team, fit};
 use log_format::{Kind, Record};
-use shared_words::{ChunkHand, Hand};
+use shared_words::{ChunkHand, Hand, Words};
 use std::alloc::Global;
 use std::marker::Model;
 use std::mem;
@@ -93,6 +95,18 @@ fn access(kind: Kind, element: &Element, line: u32, site: u16, value: u64) -> Re
         line,
         addr: element.addr,
         value,
+    }
+}
+
+// Stores or adds a number, in one step.
+fn take_step(words: &Words, hand: &mut Hand, change: Change, word: usize, bits: u64)
+    requires hand { Belongs hand.old words.now.table }
+    requires word { word < words.now.elements }
+    ensures { hand.new ≡ with_view hand.old (did hand.old.view (change_deed change word bits)) }
+{
+    match change {
+        Change::Store => words.store(hand, word, bits),
+        Change::Update { minus: _ } => words.update(hand, word, bits),
     }
 }
 
@@ -180,11 +194,12 @@ impl<L: Log> Track<L> {
         Ok(found)
     }
 
-    /// Puts the record of a store, and stores the value, which the element can have.
-    pub fn write(
+    /// Stores or adds a value that the element can have, and puts the record.
+    pub fn change(
         &mut self,
         alloc: Global,
         world: &World,
+        change: Change,
         element: &Element,
         value: i64,
         line: u32,
@@ -194,14 +209,14 @@ impl<L: Log> Track<L> {
         requires stands { StandsIn world.now element.now }
         requires fits { fitted value element.now.width ≡ value }
         requires line { 1 ≤ line }
-        ensures goes { (slots : List ℤ) → Goes world.now (put (model.access kind.Write (meant element.now) site line value)) slots slots self.old self.new result }
+        ensures goes { (slots : List ℤ) → Goes world.now (put (model.access (kind_of change) (meant element.now) site line value)) slots slots self.old self.new result }
         ensures log { IsSameLog self.old.buffer self.new.buffer }
         ensures tally { self.new.tally ≡ self.old.tally }
     {
         let bits = value.cast_unsigned();
         self.ready(alloc, line)?;
-        world.words().store(&mut self.hand, element.word, bits);
-        let event = access(Kind::Write, element, line, site, bits);
+        take_step(world.words(), &mut self.hand, change, element.word, bits);
+        let event = access(change.kind(), element, line, site, bits);
         self.buffer.put(&event);
         Ok(())
     }

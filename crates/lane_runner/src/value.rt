@@ -1,6 +1,6 @@
 //! The value of an expression.
 ghost use Rattle.std.specs.Prelude.{◌≡◌, List, ℤ, ok_or};
-ghost use Rattle.kernel_syntax.specs.Arithmetic.{applied, negated};
+ghost use Rattle.kernel_syntax.specs.Arithmetic.{applied};
 ghost use Rattle.kernel_syntax.specs.Bounds.{IsBoundedTerm, IsPlace};
 ghost use Rattle.kernel_syntax.specs.Program.{term_of};
 ghost use Rattle.kernel_model.specs.Value.{element_at, loaded, value};
@@ -10,6 +10,7 @@ use crate::locals::Locals;
 use crate::stop::Halt;
 use crate::track::Track;
 use crate::world::World;
+use kernel_model::negate;
 use kernel_syntax::{Expr, Op, apply};
 use std::alloc::Global;
 use sw_base::Log;
@@ -41,13 +42,6 @@ fn operate(op: Op, line: u32, left: i64, right: i64) -> Result<i64, Halt>
     ensures { result ≡ ok_or (applied op left right) (Halt.DivZero line) }
 {
     apply(op, left, right).ok_or(Halt::DivZero { line })
-}
-
-/// The negative of a value.
-fn negate(value: i64) -> i64
-    ensures { result ≡ negated value }
-{
-    0i64.wrapping_sub(value)
 }
 
 /// The value of an expression. Its reads are recorded.

@@ -5,3 +5,4 @@ mod phases;
 mod regions;
 mod statements;
 mod support;
+mod updates;

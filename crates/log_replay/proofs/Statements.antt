@@ -3,7 +3,12 @@ use Rattle.std.proofs.Common.{◌≡◌, ◌≢◌, refl, ap, sym, ◌∙◌, su
 use Rattle.std.specs.Prelude.{slice_set}
 use Rattle.sw_base.specs.Environment.{FolderState}
 use Rattle.log_format.specs.declared.record.Record.{Record}
+use Rattle.log_format.specs.declared.record.Kind.{Kind}
 use Rattle.log_format.specs.declared.record.Kind.TheVariants as kind
+use Rattle.kernel_model.specs.declared.change.Change.{Change}
+use Rattle.kernel_model.specs.declared.change.Change.TheVariants.{Store, Update}
+use Rattle.kernel_model.specs.Changing.{amount, changing, kind_of}
+use Rattle.kernel_model.proofs.Changing.{after_index, changed_grows, put_value, run-changing, valued_grows}
 use Rattle.kernel_syntax.specs.declared.syntax.Schedule.{Schedule}
 use Rattle.kernel_syntax.specs.declared.syntax.Stmt.{Stmt}
 use Rattle.log_format.specs.Fitting.{fitted}
@@ -15,14 +20,14 @@ use Rattle.kernel_model.specs.Drawing.{turn_from}
 use Rattle.kernel_model.specs.State.{State, Outcome, Gives, Index, and_then, after, assign, put, event, state_of}
 use Rattle.kernel_model.specs.Growth.{Grows}
 use Rattle.kernel_model.specs.Iterations.{total_of}
-use Rattle.kernel_model.specs.Trace.{run, branch, turns, stored, shared, loop_end, forked}
+use Rattle.kernel_model.specs.Trace.{run, branch, turns, changed, shared, loop_end, forked}
 use Rattle.kernel_model.specs.Value.{Site, Element, element_at, access, value}
-use Rattle.kernel_model.proofs.Equations.{run-Done, run-Set, run-Store, run-If, run-Loop, run-Parallel, run-For, run-Barrier, run-Critical}
+use Rattle.kernel_model.proofs.Equations.{run-Done, run-Set, run-If, run-Loop, run-Parallel, run-For, run-Barrier, run-Critical}
 use Rattle.kernel_model.proofs.Growing.{grows-plain, grows-steps, run-grows, value-grows}
 use Rattle.kernel_model.proofs.Joining.{run-stmts, run-first, turns-add, after-nothing, after-done, branch-zero, branch-other}
 use Rattle.kernel_model.proofs.Turns.{turn_grows}
-use Rattle.kernel_model.proofs.Steps.{kept-and_then, kept-after, kept-branch, kept-turns, kept-stored, kept-shared, kept-put}
-use Rattle.log_replay.specs.Following.{Standing, IsAt, IsOff, Ends, Follows, here}
+use Rattle.kernel_model.proofs.Steps.{kept-and_then, kept-after, kept-branch, kept-turns, kept-shared, kept-put}
+use Rattle.log_replay.specs.Following.{Standing, IsAt, IsMark, IsOff, Ends, Follows, here}
 use Rattle.log_replay.specs.Sharing.{sharing}
 use Rattle.log_replay.specs.declared.stray.Stray.{Stray}
 use Rattle.log_replay.specs.declared.stray.Stray.TheVariants as stray
@@ -72,54 +77,55 @@ module _ (told : FolderState) (at : Site) (slot : ℕ) (e : Term) (old mid : Sta
       (follows_then told (value at e) after_value old told refl v mid (assigned slot v mid) (Ok tt) first
       (follows_assigned told (run at tree.Done) slot v mid (assigned slot v mid) (Ok tt) (follows_done told at (assigned slot v mid))))
 
--- ---- a store
+-- ---- a store or an update
 
-pub stores_none : (told : FolderState) (found : Option Element) (v : ℤ) (line site : ℕ) (old new : Standing) (e : Stray) → found ≡ None → e ≡ stray.Differs (next_number old)
-    → Follows told (stored found v line site) old new (Err e)
-stores_none told found v line site old new e none is = λ log done rest at.
-    subst (λ (x : Stray). Ends told log (stored found v line site (here old done rest)) new (Err x)) (sym is)
-    (subst (λ (o : Option Element). Ends told log (stored o v line site (here old done rest)) new (Err (stray.Differs (next_number old)))) (sym none)
+pub change_mark : (c : Change) → IsMark (kind_of c)
+change_mark Store = tt
+change_mark (Update minus) = tt
+
+pub changes_none : (told : FolderState) (k : Kind) (found : Option Element) (v : ℤ) (line site : ℕ) (old new : Standing) (e : Stray) → found ≡ None → e ≡ stray.Differs (next_number old)
+    → Follows told (changed k found v line site) old new (Err e)
+changes_none told k found v line site old new e none is = λ log done rest at.
+    subst (λ (x : Stray). Ends told log (changed k found v line site (here old done rest)) new (Err x)) (sym is)
+    (subst (λ (o : Option Element). Ends told log (changed k o v line site (here old done rest)) new (Err (stray.Differs (next_number old)))) (sym none)
     (stops_off (Unit {0}) told log done rest old at (next_number old) refl Index line))
 
-pub stores_some : (told : FolderState) (found : Option Element) (e : Element) (v number : ℤ) (line site : ℕ) (old new : Standing) (r : Result (Unit {0}) Stray) → found ≡ Some e → number ≡ fitted v e.width
-    → Follows told (put (access kind.Write e site line number)) old new r → Follows told (stored found v line site) old new r
-stores_some told found e v number line site old new r is number_is follows =
-    subst (λ (o : Option Element). Follows told (stored o v line site) old new r) (sym is)
-    (subst (λ (x : ℤ). Follows told (put (access kind.Write e site line x)) old new r) number_is follows)
+pub changes_some : (told : FolderState) (k : Kind) (found : Option Element) (e : Element) (v number : ℤ) (line site : ℕ) (old new : Standing) (r : Result (Unit {0}) Stray) → found ≡ Some e → number ≡ fitted v e.width
+    → Follows told (put (access k e site line number)) old new r → Follows told (changed k found v line site) old new r
+changes_some told k found e v number line site old new r is number_is follows =
+    subst (λ (o : Option Element). Follows told (changed k o v line site) old new r) (sym is)
+    (subst (λ (x : ℤ). Follows told (put (access k e site line x)) old new r) number_is follows)
 
-module _ (told : FolderState) (at : Site) (array : ℕ) (index e : Term) (line site : ℕ) (old : Standing) where
-  abbrev put_value : ℤ → ℤ → Part
-  put_value i v s = after (stored (element_at at.arrays array i) v line site s) (run at tree.Done)
+module _ (told : FolderState) (c : Change) (at : Site) (array : ℕ) (index e : Term) (line site : ℕ) (old : Standing) where
+  abbrev of_index : ℤ → Part
+  of_index = after_index c at array index e line site tree.Done
 
-  put_grows : (i v : ℤ) (s : State) → Grows s (state_of (put_value i v s))
-  put_grows i v s = kept-after Grows grows-plain s (stored (element_at at.arrays array i) v line site s) (run at tree.Done) (kept-stored Grows grows-plain (element_at at.arrays array i) v line site s) (run-grows at tree.Done)
+  abbrev of_value : ℤ → ℤ → Part
+  of_value = put_value c at array index e line site tree.Done
 
-  abbrev after_index : ℤ → Part
-  after_index i s = and_then (value at e s) (put_value i)
+  abbrev change : Part
+  change = run at (changing c array index e line site tree.Done)
 
-  abbrev store : Part
-  store = run at (tree.Store array index e line site tree.Done)
-
-  pub index_stops : (mid : Standing) (why : Stray) → Follows told (value at index) old mid (Err why) → Follows told store old mid (Err why)
+  pub index_stops : (mid : Standing) (why : Stray) → Follows told (value at index) old mid (Err why) → Follows told change old mid (Err why)
   index_stops mid why first =
-      follows_same told _ store old mid (Err why) (run-Store at array index e line site tree.Done)
-      (follows_stop told (value at index) after_index old mid mid why (λ i s. kept-and_then Grows grows-plain s (value at e s) (put_value i) (value-grows at e s) (put_grows i)) first)
+      follows_same told _ change old mid (Err why) (run-changing c at array index e line site tree.Done)
+      (follows_stop told (value at index) of_index old mid mid why (valued_grows c at array index e line site tree.Done) first)
 
   module _ (i : ℤ) (mid : Standing) (first : Follows told (value at index) old mid (Ok i)) where
-    store_after : (new : Standing) (r : Result (Unit {0}) Stray) → Follows told (after_index i) mid new r → Follows told store old new r
-    store_after new r second =
-        follows_same told _ store old new r (run-Store at array index e line site tree.Done)
-        (follows_then told (value at index) after_index old told refl i mid new r first second)
+    change_after : (new : Standing) (r : Result (Unit {0}) Stray) → Follows told (of_index i) mid new r → Follows told change old new r
+    change_after new r second =
+        follows_same told _ change old new r (run-changing c at array index e line site tree.Done)
+        (follows_then told (value at index) of_index old told refl i mid new r first second)
 
-    pub stored_stops : (new : Standing) (why : Stray) → Follows told (value at e) mid new (Err why) → Follows told store old new (Err why)
-    stored_stops new why second = store_after new (Err why) (follows_stop told (value at e) (put_value i) mid new new why (put_grows i) second)
+    pub value_stops : (new : Standing) (why : Stray) → Follows told (value at e) mid new (Err why) → Follows told change old new (Err why)
+    value_stops new why second = change_after new (Err why) (follows_stop told (value at e) (of_value i) mid new new why (changed_grows c at array index e line site tree.Done i) second)
 
-    pub store_goes : (last new : Standing) (v : ℤ) (r : Result (Unit {0}) Stray) → Follows told (value at e) mid last (Ok v)
-        → Follows told (stored (element_at at.arrays array i) v line site) last new r → Follows told store old new r
-    store_goes last new v r second third =
-        store_after new r
-        (follows_then told (value at e) (put_value i) mid told refl v last new r second
-        (follows_same told (stored (element_at at.arrays array i) v line site) (put_value i v) last new r (λ s. after-done at (stored (element_at at.arrays array i) v line site s)) third))
+    pub change_goes : (last new : Standing) (v : ℤ) (r : Result (Unit {0}) Stray) → Follows told (value at e) mid last (Ok v)
+        → Follows told (changed (kind_of c) (element_at at.arrays array i) (amount c v) line site) last new r → Follows told change old new r
+    change_goes last new v r second third =
+        change_after new r
+        (follows_then told (value at e) (of_value i) mid told refl v last new r second
+        (follows_same told (changed (kind_of c) (element_at at.arrays array i) (amount c v) line site) (of_value i v) last new r (λ s. after-done at (changed (kind_of c) (element_at at.arrays array i) (amount c v) line site s)) third))
 
 -- ---- lists of statements
 

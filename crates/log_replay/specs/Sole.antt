@@ -38,6 +38,8 @@ code_prop tree.Done = Unit-prop
 code_prop (tree.Set slot value rest) = λ a b i. (term_prop value a.0 b.0 i, code_prop rest a.1 b.1 i)
 code_prop (tree.Store array index value line site rest) =
     λ a b i. (place_prop line site a.0 b.0 i, term_prop index a.1 b.1 i, term_prop value a.2 b.2 i, code_prop rest a.3 b.3 i)
+code_prop (tree.Update array index value minus line site rest) =
+    λ a b i. (place_prop line site a.0 b.0 i, term_prop index a.1 b.1 i, term_prop value a.2 b.2 i, code_prop rest a.3 b.3 i)
 code_prop (tree.If test if_true if_false rest) =
     λ a b i. (term_prop test a.0 b.0 i, code_prop if_true a.1 b.1 i, code_prop if_false a.2 b.2 i, code_prop rest a.3 b.3 i)
 code_prop (tree.Loop slot from to body rest) =

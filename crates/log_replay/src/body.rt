@@ -5,9 +5,10 @@ ghost use Rattle.kernel_syntax.specs.Program.{code_of, stmt_code, team_of, term_
 ghost use Rattle.kernel_syntax.specs.Tree as tree;
 ghost use Rattle.kernel_syntax.specs.Tree.{Done};
 ghost use Rattle.log_format.specs.declared.record.Kind.TheVariants as kind;
+ghost use Rattle.kernel_model.specs.Changing.{changing, kind_of};
 ghost use Rattle.kernel_model.specs.Drawing.{turn_from, draw_all, draw_once};
 ghost use Rattle.kernel_model.specs.Iterations.{chunk_count, chunk_iterations, static_iterations, total_of};
-ghost use Rattle.kernel_model.specs.Trace.{each, loop_end, run, shared, stored, turns};
+ghost use Rattle.kernel_model.specs.Trace.{changed, each, loop_end, run, shared, turns};
 ghost use Rattle.kernel_model.specs.Value.{element_at};
 ghost use Rattle.log_replay.specs.Following.{Follows};
 ghost use Rattle.log_replay.specs.Forks.{standing};
@@ -18,6 +19,7 @@ use crate::forked::Forked;
 use crate::lane::{Lane, access, event};
 use crate::place::Place;
 use crate::stray::Stray;
+use kernel_model::Change;
 use kernel_syntax::{Body, Expr, Schedule, Stmt, Team, even_share, fit};
 use log_format::Kind;
 use std::alloc::Global;
@@ -40,19 +42,20 @@ fn number_at(from: i64, first: u64, i: u64) -> i64
 }
 
 impl<'k> Lane<'k> {
-    /// Stores a value, after the index and the value.
+    /// Stores or adds an amount, after the index and the value.
     fn put_value<F: Folder>(
         &mut self,
         alloc: Global,
         folder: &mut F,
         place: &Place,
+        change: Change,
         array: u32,
         index: i64,
-        number: i64,
+        amount: i64,
         line: u32,
         site: u16,
     ) -> Result<(), Stray>
-        ensures follows { Follows (F.state folder.old) (stored (element_at place.now.arrays array index) number line site) (standing self.old) (standing self.new) result }
+        ensures follows { Follows (F.state folder.old) (changed (kind_of change) (element_at place.now.arrays array index) amount line site) (standing self.old) (standing self.new) result }
         ensures fewer { IfOk result (λ _. self.new.reader.left ≤ self.old.reader.left) }
         ensures same { F.state folder.new ≡ F.state folder.old }
         ensures later { F.read_faults folder.old ≤ F.read_faults folder.new }
@@ -61,8 +64,8 @@ impl<'k> Lane<'k> {
         let Some(element) = place.element(array, index) else {
             return Err(self.stray());
         };
-        let stored = fit(number, element.width);
-        let due = access(Kind::Write, &element, line, site, stored);
+        let fitted = fit(amount, element.width);
+        let due = access(change.kind(), &element, line, site, fitted);
         self.put(alloc, folder, due)
     }
 
@@ -86,19 +89,20 @@ impl<'k> Lane<'k> {
         Ok(())
     }
 
-    /// Stores a value to an element.
-    fn store<F: Folder>(
+    /// Stores a value to an element, or adds it in one step.
+    fn change<F: Folder>(
         &mut self,
         index: &Expr,
         expr: &Expr,
         alloc: Global,
         folder: &mut F,
         place: &Place,
+        change: Change,
         array: u32,
         line: u32,
         site: u16,
     ) -> Result<(), Stray>
-        ensures follows { Follows (F.state folder.old) (run place.now (tree.Store array (term_of index.now) (term_of expr.now) line site Done)) (standing self.old) (standing self.new) result }
+        ensures follows { Follows (F.state folder.old) (run place.now (changing change array (term_of index.now) (term_of expr.now) line site Done)) (standing self.old) (standing self.new) result }
         ensures fewer { IfOk result (λ _. self.new.reader.left ≤ self.old.reader.left) }
         ensures same { F.state folder.new ≡ F.state folder.old }
         ensures later { F.read_faults folder.old ≤ F.read_faults folder.new }
@@ -106,7 +110,8 @@ impl<'k> Lane<'k> {
     {
         let at = self.value(index, alloc, folder, place)?;
         let number = self.value(expr, alloc, folder, place)?;
-        self.put_value(alloc, folder, place, array, at, number, line, site)
+        let amount = change.amount(number);
+        self.put_value(alloc, folder, place, change, array, at, amount, line, site)
     }
 
     /// Forks a region: its lanes start from the locals that the task has now.
@@ -440,7 +445,35 @@ impl<'k> Lane<'k> {
                 value,
                 line,
                 site,
-            } => self.store(index, value, alloc, folder, place, *array, *line, *site),
+            } => self.change(
+                index,
+                value,
+                alloc,
+                folder,
+                place,
+                Change::Store,
+                *array,
+                *line,
+                *site,
+            ),
+            Stmt::Update {
+                array,
+                index,
+                value,
+                minus,
+                line,
+                site,
+            } => self.change(
+                index,
+                value,
+                alloc,
+                folder,
+                place,
+                Change::Update { minus: *minus },
+                *array,
+                *line,
+                *site,
+            ),
             Stmt::If { test, yes, no } => {
                 let chosen = self.value(test, alloc, folder, place)?;
                 if chosen == 0 {

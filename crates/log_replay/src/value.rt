@@ -1,7 +1,7 @@
 //! The value of an expression.
 ghost use Rattle.std.specs.Prelude.{◌≡◌, ◌≤◌, ◌+◌, min, ok_or, IfOk, IsErrOf};
 ghost use Rattle.log_replay.specs.declared.stray.Stray.TheVariants as stray;
-ghost use Rattle.kernel_syntax.specs.Arithmetic.{applied, negated};
+ghost use Rattle.kernel_syntax.specs.Arithmetic.{applied};
 ghost use Rattle.kernel_syntax.specs.Program.{term_of};
 ghost use Rattle.kernel_model.specs.Value.{element_at, loaded, value};
 ghost use Rattle.log_replay.specs.Following.{Follows};
@@ -11,16 +11,10 @@ ghost use Rattle.sw_base.specs.Environment.{Rose};
 use crate::lane::Lane;
 use crate::place::Place;
 use crate::stray::Stray;
+use kernel_model::negate;
 use kernel_syntax::{Expr, Op, apply};
 use std::alloc::Global;
 use sw_base::Folder;
-
-/// The negative of a value.
-fn negate(value: i64) -> i64
-    ensures { result ≡ negated value }
-{
-    0i64.wrapping_sub(value)
-}
 
 impl<'k> Lane<'k> {
     /// Reads an element, after its index.

@@ -34,6 +34,7 @@ idle_parts : (code : Code) → code_holds_work code ≡ false → All IsIdlePart
 idle_parts Done idle = All-nil IsIdlePart
 idle_parts (tree.Set slot value rest) idle = one_more (tree.Set slot value Done) (parts_of rest) (refl, refl) (idle_parts rest idle)
 idle_parts (tree.Store array index value line site rest) idle = one_more (tree.Store array index value line site Done) (parts_of rest) (refl, refl) (idle_parts rest idle)
+idle_parts (tree.Update array index value minus line site rest) idle = one_more (tree.Update array index value minus line site Done) (parts_of rest) (refl, refl) (idle_parts rest idle)
 idle_parts (tree.If test x y rest) idle =
     one_more (tree.If test x y Done) (parts_of rest) (refl, refl)
     (idle_parts rest (or_last (code_holds_work y) (code_holds_work rest) (or_last (code_holds_work x) (code_holds_work y || code_holds_work rest) idle)))

@@ -49,6 +49,7 @@ alone_of : (mutexes regions lanes : ℕ) (held own : List ℕ) (code : Code) →
 alone_of mutexes regions lanes held own Done same idle nested = tt
 alone_of mutexes regions lanes held own (tree.Set slot value rest) same idle nested = alone_of mutexes regions lanes held own rest same idle nested
 alone_of mutexes regions lanes held own (tree.Store array index value line site rest) same idle nested = alone_of mutexes regions lanes held own rest same idle nested
+alone_of mutexes regions lanes held own (tree.Update array index value minus line site rest) same idle nested = alone_of mutexes regions lanes held own rest same idle nested
 alone_of mutexes regions lanes held own (tree.If test a b rest) same idle nested =
     let more = or_last (code_holds_work a) (code_holds_work b || code_holds_work rest) idle in (
       alone_of mutexes regions lanes held own a same (or_first (code_holds_work a) (code_holds_work b || code_holds_work rest) idle) nested.0,
@@ -79,6 +80,7 @@ pub teams_of : (mutexes regions lanes : ℕ) (n : Scope) (held : List ℕ) (code
 teams_of mutexes regions lanes n held Done b s e k = tt
 teams_of mutexes regions lanes n held (tree.Set slot value rest) b s e k = teams_of mutexes regions lanes (after_assigning n slot (variable_at n slot)) held rest b.1 s.2 e k
 teams_of mutexes regions lanes n held (tree.Store array index value line site rest) b s e k = teams_of mutexes regions lanes n held rest b.3 s.3 e k
+teams_of mutexes regions lanes n held (tree.Update array index value minus line site rest) b s e k = teams_of mutexes regions lanes n held rest b.3 s.3 e k
 teams_of mutexes regions lanes n held (tree.If test x y rest) b s e k =
     (teams_of mutexes regions lanes n held x b.1 s.1 e.2 k.0, teams_of mutexes regions lanes n held y b.2 s.2 e.3 k.1, teams_of mutexes regions lanes n held rest b.3 s.3 e.4 k.2)
 teams_of mutexes regions lanes n held (tree.Loop slot from to body rest) b s e k =
@@ -130,6 +132,8 @@ module _ (mutexes regions lanes : ℕ) where
       one_and (tree.Set slot value Done) (parts_of rest) ((b.0, tt), tt, tt) (parts_lawful (after_assigning n slot (variable_at n slot)) rest b.1 s.2 e k)
   parts_lawful n (tree.Store array index value line site rest) b s e k =
       one_and (tree.Store array index value line site Done) (parts_of rest) ((b.0, b.1, b.2, tt), tt, tt) (parts_lawful n rest b.3 s.3 e k)
+  parts_lawful n (tree.Update array index value minus line site rest) b s e k =
+      one_and (tree.Update array index value minus line site Done) (parts_of rest) ((b.0, b.1, b.2, tt), tt, tt) (parts_lawful n rest b.3 s.3 e k)
   parts_lawful n (tree.If test x y rest) b s e k =
       one_and (tree.If test x y Done) (parts_of rest) (
         (b.0, b.1, b.2, tt),

@@ -21,6 +21,7 @@ module _ (mutexes regions : ℕ) where
   with_barrier Done h = h
   with_barrier (tree.Set slot value rest) h = h
   with_barrier (tree.Store array index value line site rest) h = h
+  with_barrier (tree.Update array index value minus line site rest) h = h
   with_barrier (tree.If test x y rest) h = h
   with_barrier (tree.Loop slot from to body rest) h = h
   with_barrier (tree.Parallel span line end body rest) h = h

@@ -6,16 +6,16 @@ use Rattle.std.proofs.lemmas.List.Elements.{All-nil, All-cons, All-append}
 use Rattle.log_format.specs.declared.record.Record.{Record}
 use Rattle.log_format.specs.declared.record.Kind.TheVariants as kind
 use Rattle.race_model.proofs.TraceLogs.{all_at}
-use Rattle.kernel_syntax.specs.Tree.{TeamTree, Code, Done, Set, Store, If, Loop, Parallel, For, Barrier, Critical}
+use Rattle.kernel_syntax.specs.Tree.{TeamTree, Code, Done, Set, Store, Update, If, Loop, Parallel, For, Barrier, Critical}
 use Rattle.kernel_syntax.specs.Program.{Program}
 use Rattle.kernel_model.specs.State.{State, Fork, Outcome, after, put, put_in, event, assign, state_of, reads_of, chunks_of}
 use Rattle.kernel_model.specs.Value.{Site, element_at, value}
 use Rattle.kernel_model.specs.Iterations.{total_of}
-use Rattle.kernel_model.specs.Trace.{Start, stored, branch, turns, shared, loop_end, forked, run, task, site_of, state_at}
+use Rattle.kernel_model.specs.Trace.{Start, stored, updated, amount_of, branch, turns, shared, loop_end, forked, run, task, site_of, state_at}
 use Rattle.kernel_model.specs.Folder.{own_trace, root_start}
 use Rattle.kernel_model.specs.Lawful.{IsLawful, main_scope}
-use Rattle.kernel_model.proofs.SingleSteps.{with_record, KeepsPlainSteps, KeepsBarriers}
-use Rattle.kernel_model.proofs.Steps.{kept-and_then, kept-after, kept-put, kept-bar, kept-value, kept-stored, kept-branch, kept-turns, kept-shared, kept-loop_end}
+use Rattle.kernel_model.proofs.SingleSteps.{with_record, KeepsPlainSteps, KeepsUpdates, KeepsBarriers}
+use Rattle.kernel_model.proofs.Steps.{kept-and_then, kept-after, kept-put, kept-bar, kept-value, kept-stored, kept-updated, kept-branch, kept-turns, kept-shared, kept-loop_end}
 use Rattle.history_model.specs.Did.{lane_count_of}
 use Rattle.history_model.specs.Sound.{WordLayout, IsSound, ArePhasesSound}
 use Rattle.history_model.specs.Work.{Work, Rest, Put, Fork as Forked, Phases, NoPhase, Phase, TeamWork, NoWork, Beside, RegionWork, work_regions, work_at, lane_works}
@@ -58,6 +58,9 @@ module _ (P : TeamTree → Type 0) where
     draws = λ line n room q chunks s is prefix. forks_none s _ refl;
   }
 
+  also : KeepsUpdates ForksTeams
+  also = record { updates = λ r room s is update. forks_none s _ refl }
+
   bars : KeepsBarriers ForksTeams
   bars = record { bars = λ line room s is. forks_none s _ refl }
 
@@ -95,6 +98,12 @@ module _ (P : TeamTree → Type 0) where
       kept-and_then ForksTeams keeps t (value at e t) _ (kept-value ForksTeams keeps at e t) (λ v u.
       kept-after ForksTeams keeps u (stored (element_at at.arrays array i) v line site u) (run at rest)
       (kept-stored ForksTeams keeps (element_at at.arrays array i) v line site u)
+      (λ w. run_forks at rest w all)))
+  run_forks at (Update array index e minus line site rest) s all =
+      kept-and_then ForksTeams keeps s (value at index s) _ (kept-value ForksTeams keeps at index s) (λ i t.
+      kept-and_then ForksTeams keeps t (value at e t) _ (kept-value ForksTeams keeps at e t) (λ v u.
+      kept-after ForksTeams keeps u (updated (element_at at.arrays array i) (amount_of minus v) line site u) (run at rest)
+      (kept-updated ForksTeams keeps also (element_at at.arrays array i) (amount_of minus v) line site u)
       (λ w. run_forks at rest w all)))
   run_forks at (If test if_true if_false rest) s all =
       kept-and_then ForksTeams keeps s (value at test s) _ (kept-value ForksTeams keeps at test s) (λ v t.

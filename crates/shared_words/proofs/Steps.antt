@@ -1,5 +1,5 @@
 -- Each step on the words keeps the rule, and tells what it did.
-use Rattle.std.proofs.Common.{◌≡◌, ◌⊎◌, refl, sym, ap, ◌∙◌, subst, ℕ, ◌+◌, ◌-◌, ◌<◌, Bool, true, false, cond, List, [], ◌∷◌, ◌++◌, length-set, get_or, set, eq-eqb, ne_eqb, eqb-true, Option, Some, None, arith, inl, inr}
+use Rattle.std.proofs.Common.{◌≡◌, ◌⊎◌, refl, sym, ap, ◌∙◌, subst, ℕ, ◌+◌, ◌-◌, ◌%◌, ◌^◌, ◌<◌, Bool, true, false, cond, List, [], ◌∷◌, ◌++◌, length-set, get_or, set, eq-eqb, ne_eqb, eqb-true, Option, Some, None, arith, inl, inr}
 use Rattle.std.specs.Prelude.{◌==◌, Contains}
 use Rattle.std.proofs.lemmas.Bool.{eqb-false}
 use Rattle.std.proofs.lemmas.List.{set-get_or}
@@ -11,12 +11,12 @@ use Rattle.atomic_table.specs.Table.{State, Me, step, keeps, Allows}
 use Rattle.atomic_table.proofs.Lists.{at_set, set_again}
 use Rattle.step_history.specs.declared.item.Item.{Item}
 use Rattle.step_history.specs.declared.item.Deed.{Deed}
-use Rattle.step_history.specs.declared.item.Deed.TheVariants.{Read, Write, Lock, Unlock}
+use Rattle.step_history.specs.declared.item.Deed.TheVariants.{Read, Write, Lock, Unlock, Update}
 use Rattle.step_history.specs.History.{Name, item, value_at, value_after, holder, holder_after}
 use Rattle.shared_words.specs.declared.view.View.{View}
 use Rattle.shared_words.specs.Views.{did, locked, unlocked, announced, rest}
 use Rattle.shared_words.specs.Rule.{ELEMENTS, MUTEXES, FREE, mutex_word, Once, Lives, Sits, Explains, Kept}
-use Rattle.shared_words.specs.Steps.{loads, stores, Locking, unlocks, announces}
+use Rattle.shared_words.specs.Steps.{loads, stores, updates, Locking, unlocks, announces}
 use Rattle.shared_words.proofs.Seats.{At, live_stays}
 use Rattle.shared_words.proofs.Advance.{Takes, advance}
 use Rattle.shared_words.proofs.WordList.{word_else, word_here, here_or_later, contains_here, contains_later}
@@ -72,31 +72,56 @@ loads_allowed elements slots id me word live within s kept same_slots at small =
       ap (λ (k : ℕ). (did v (Read k found), me.1)) (sym (element_of word)),
     )
 
+-- a deed that changes one element, by a function of its value
+changes_element : (elements id : ℕ) (v : View) (word : ℕ) (f : ℕ → ℕ) (deed : Deed) (s : St) → v.live ≡ true → word < elements → Kept elements s → At s.views id v
+    → ((log : List Item) → Rattle.step_history.specs.History.FitsDeed log v.name deed)
+    → ((k : ℕ) → (Rattle.step_history.specs.History.is_split k deed ≡ false) × (Rattle.step_history.specs.History.is_home k deed ≡ false))
+    → ((mutex : ℕ) (owner : Option Name) → holder_after mutex v.name deed owner ≡ owner)
+    → ((w x : ℕ) → value_after w deed x ≡ cond (word == w) (f x) x)
+    → Kept elements (record { words = set s.words (ELEMENTS + word) (f (get_or s.words (ELEMENTS + word) 0)); homes = s.homes; views = set s.views id (did v deed) })
+changes_element elements id v word f deed s live within kept at fits plain same changes =
+    let log : List Item = kept.log in
+    let new : ℕ = f (get_or s.words (ELEMENTS + word) 0) in
+    let lives = (kept.keeps.each id v at).lives live in
+    let takes : Takes kept.log v deed (did v deed) =
+    plain_takes kept.log kept.seat s.views id v deed lives live (fits kept.log) plain (λ mutex. same mutex (holder mutex kept.log)) in
+    let long = kept.keeps.wide in
+    record {
+      log = kept.log ++ item v.name deed ∷ [];
+      seat = kept.seat;
+      keeps = advance elements kept.log kept.seat s.words s.views id v deed (did v deed) (set s.words (ELEMENTS + word) new)
+          kept.keeps at live takes (length-set s.words (ELEMENTS + word) new)
+          (λ w inside. dite (ℕ_discrete word w)
+          (λ here. word_here s.words (ELEMENTS + word) (ELEMENTS + w) new (omega arith) (omega arith)
+          ∙ (ap f (kept.keeps.values word within ∙ ap (λ (k : ℕ). value_at k log) here)
+          ∙ (ap (λ (b : Bool). cond b (f (value_at w log)) (value_at w log)) (sym (eq-eqb word w here)) ∙ sym (changes w (value_at w log)))))
+          (λ apart. word_else s.words (ELEMENTS + word) (ELEMENTS + w) new (omega arith)
+          ∙ (kept.keeps.values w inside
+          ∙ (ap (λ (b : Bool). cond b (f (value_at w log)) (value_at w log)) (sym (ne_eqb word w apart)) ∙ sym (changes w (value_at w log))))))
+          (λ mutex inside. word_else s.words (ELEMENTS + word) mutex new (omega arith)
+          ∙ (kept.keeps.mutexes mutex inside ∙ ap mutex_word (sym (same mutex (holder mutex log)))));
+    }
+
 pub stores_allowed : (elements slots id : ℕ) (me : Seen) (word value : ℕ) → me.0.live ≡ true → word < elements
     → Allows (Kept elements) slots id me (ELEMENTS + word) (λ _. value) (λ _. stores (step slots (ELEMENTS + word) value 0 none) me value)
-stores_allowed elements slots id me word value live within s kept same_slots at small =
-    let v : View = me.0 in
-    let log = kept.log in
-    let lives = (kept.keeps.each id v at).lives live in
-    let takes : Takes kept.log v (Write word value) (did v (Write word value)) =
-    plain_takes kept.log kept.seat s.views id v (Write word value) lives live tt (λ k. (refl, refl)) (λ mutex. refl) in
-    let long = kept.keeps.wide in (
-      did v (Write word value),
-      keeps,
-      tt,
-      record {
-        log = kept.log ++ item v.name (Write word value) ∷ [];
-        seat = kept.seat;
-        keeps = advance elements kept.log kept.seat s.words s.views id v (Write word value) (did v (Write word value)) (set s.words (ELEMENTS + word) value)
-            kept.keeps at live takes (length-set s.words (ELEMENTS + word) value)
-            (λ w inside. dite (ℕ_discrete word w)
-            (λ here. word_here s.words (ELEMENTS + word) (ELEMENTS + w) value (omega arith) (omega arith) ∙ ap (λ (b : Bool). cond b value (value_at w kept.log)) (sym (eq-eqb word w here)))
-            (λ apart. word_else s.words (ELEMENTS + word) (ELEMENTS + w) value (omega arith)
-            ∙ (kept.keeps.values w inside ∙ ap (λ (b : Bool). cond b value (value_at w kept.log)) (sym (ne_eqb word w apart)))))
-            (λ mutex inside. word_else s.words (ELEMENTS + word) mutex value (omega arith) ∙ kept.keeps.mutexes mutex inside);
-      },
-      ap (λ (k : ℕ). (did v (Write k value), me.1)) (sym (element_of word)),
-    )
+stores_allowed elements slots id me word value live within s kept same_slots at small = (
+  did me.0 (Write word value),
+  keeps,
+  tt,
+  changes_element elements id me.0 word (λ _. value) (Write word value) s live within kept at (λ log. tt) (λ k. (refl, refl)) (λ mutex owner. refl) (λ w x. refl),
+  ap (λ (k : ℕ). (did me.0 (Write k value), me.1)) (sym (element_of word)),
+)
+
+pub updates_allowed : (elements slots id : ℕ) (me : Seen) (word amount : ℕ) → me.0.live ≡ true → word < elements
+    → Allows (Kept elements) slots id me (ELEMENTS + word) (λ n. (n + amount) % 2 ^ 64) (updates (step slots (ELEMENTS + word) amount 0 none) me)
+updates_allowed elements slots id me word amount live within s kept same_slots at small = (
+  did me.0 (Update word amount),
+  keeps,
+  tt,
+  changes_element elements id me.0 word (λ n. (n + amount) % 2 ^ 64) (Update word amount) s live within kept at (λ log. tt) (λ k. (refl, refl)) (λ mutex owner. refl)
+      (λ w x. refl),
+  ap (λ (k : ℕ). (did me.0 (Update k amount), me.1)) (sym (element_of word)),
+)
 
 free_mutex : (owner : Option Name) → mutex_word owner ≡ 0 → owner ≡ None
 free_mutex None is = refl

@@ -1,7 +1,7 @@
 -- What one step on the words tells of the view: before it, the number found or stored, and after it.
 use Rattle.std.specs.Prelude.{◌≡◌, ◌≢◌, ℕ, ◌-◌}
 use Rattle.atomic_table.specs.Table.{Me, Step}
-use Rattle.step_history.specs.declared.item.Deed.TheVariants.{Read, Write}
+use Rattle.step_history.specs.declared.item.Deed.TheVariants.{Read, Write, Update}
 use Rattle.shared_words.specs.declared.view.View.{View}
 use Rattle.shared_words.specs.Rule.{ELEMENTS}
 use Rattle.shared_words.specs.Views.{did, locked, unlocked, announced, parted}
@@ -14,6 +14,10 @@ loads step me found after = after ≡ (did me.0 (Read (step.word - ELEMENTS) fou
 
 abbrev pub stores : Step (Unit {0}) → Seen → ℕ → Seen → Type 0
 stores step me stored after = after ≡ (did me.0 (Write (step.word - ELEMENTS) stored), me.1)
+
+-- the amount that the step adds, whatever it found
+abbrev pub updates : Step (Unit {0}) → Seen → ℕ → Seen → Type 0
+updates step me found after = after ≡ (did me.0 (Update (step.word - ELEMENTS) step.first), me.1)
 
 -- a mutex that was held is not won
 pub record Locking (step : Step (Unit {0})) (me : Seen) (found : ℕ) (after : Seen) : Type 0 where

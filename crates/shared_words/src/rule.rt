@@ -30,6 +30,14 @@ impl Play<(), View> for Stores {
     ghost then = { stores };
 }
 
+pub(crate) struct Updates;
+
+impl Play<(), View> for Updates {
+    ghost use Rattle.shared_words.specs.Steps.{updates};
+
+    ghost then = { updates };
+}
+
 pub(crate) struct Locks;
 
 impl Play<(), View> for Locks {

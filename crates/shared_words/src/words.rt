@@ -2,13 +2,13 @@
 ghost use Rattle.std.specs.Prelude.{◌≡◌, ◌+◌, ◌<◌, ◌≤◌, ◌∷◌, [], length, slice_index, Contains, EachIndex, IfOk, vec_len};
 ghost use Rattle.core.specs.Mem.Slots.{slots_items, slots_len, IsFull};
 ghost use Rattle.step_history.specs.History.{HasHistory};
-ghost use Rattle.step_history.specs.declared.item.Deed.TheVariants.{Read, Write};
+ghost use Rattle.step_history.specs.declared.item.Deed.TheVariants.{Read, Write, Update};
 ghost use Rattle.shared_words.specs.Handles.{WordsValue, Belongs, IsHome, hand_with, with_view};
 ghost use Rattle.shared_words.specs.Rule.{ELEMENTS};
 ghost use Rattle.shared_words.specs.Views.{IsAtRest, newcomer, did, locked, unlocked, rest, parted, child, after_meeting};
 
 use crate::hand::Hand;
-use crate::rule::{Announces, Law, Loads, Locks, Meets, Parts, Stores, Unlocks};
+use crate::rule::{Announces, Law, Loads, Locks, Meets, Parts, Stores, Unlocks, Updates};
 use crate::view::View;
 use atomic_table::{Seat, Table};
 use std::alloc::{AllocError, Global};
@@ -111,6 +111,18 @@ impl Words {
         let shared = &self.table.shared;
         let mut seat = hand.take();
         shared.store::<Stores>(&mut seat, FIRST_ELEMENT + word, value);
+        *hand = Hand::of(seat);
+    }
+
+    /// Adds to an element in one step, modulo 2^64.
+    pub fn update(&self, hand: &mut Hand, word: usize, amount: u64)
+        requires hand { Belongs hand.old self.now.table }
+        requires word { word < self.now.elements }
+        ensures { hand.new ≡ with_view hand.old (did hand.old.view (Update word amount)) }
+    {
+        let shared = &self.table.shared;
+        let mut seat = hand.take();
+        shared.fetch_add::<Updates>(&mut seat, FIRST_ELEMENT + word, amount);
         *hand = Hand::of(seat);
     }
 

@@ -8,14 +8,14 @@ use Rattle.kernel_syntax.specs.declared.syntax.Stmt.{Stmt}
 use Rattle.kernel_syntax.specs.declared.syntax.Stmt.TheOpen as layer
 use Rattle.kernel_syntax.specs.declared.syntax.Stmt.TheOpen.{Stmt-F}
 use Rattle.kernel_syntax.specs.declared.syntax.Stmt.TheVariants as variant
-use Rattle.kernel_syntax.specs.declared.syntax.Stmt.TheVariants.{rolls-Set, rolls-Store, rolls-If, rolls-Loop, rolls-Parallel, rolls-For, rolls-Barrier, rolls-Critical}
+use Rattle.kernel_syntax.specs.declared.syntax.Stmt.TheVariants.{rolls-Set, rolls-Store, rolls-Update, rolls-If, rolls-Loop, rolls-Parallel, rolls-For, rolls-Barrier, rolls-Critical}
 use Rattle.kernel_syntax.specs.declared.syntax.Stmt.TheViews.{roll-Stmt, out-Stmt, roll-out-Stmt}
 use Rattle.kernel_syntax.specs.declared.syntax.Body.{Body}
 use Rattle.kernel_syntax.specs.declared.syntax.Team.{Team}
 use Rattle.kernel_syntax.specs.Program.{term_of, code_of, stmt_code}
 use Rattle.kernel_syntax.specs.Tree as tree
 use Rattle.kernel_syntax.specs.Tree.{Code, Done}
-use Rattle.kernel_syntax.proofs.Equations.{stmt_code-Set, stmt_code-Store, stmt_code-If, stmt_code-Loop, stmt_code-Parallel, stmt_code-For, stmt_code-Barrier, stmt_code-Critical}
+use Rattle.kernel_syntax.proofs.Equations.{stmt_code-Set, stmt_code-Store, stmt_code-Update, stmt_code-If, stmt_code-Loop, stmt_code-Parallel, stmt_code-For, stmt_code-Barrier, stmt_code-Critical}
 use Rattle.kernel_model.specs.Lawful.{code_holds_work, bounds_of}
 use Rattle.kernel_model.specs.Parts.{Part, Run, Bar, end_parts, loop_parts, parts_of, is_drawn, is_drawn_schedule}
 use Rattle.kernel_model.specs.Phases.{part_of_stmt, without_barrier}
@@ -62,6 +62,8 @@ module _ (s : Stmt) where
       from s (λ c. parts_of c ≡ Run (without_barrier c) ∷ []) _ _ (sym is ∙ rolls-Set slot value) (stmt_code-Set slot value Done) refl
   other_parts l f b (layer.Store array index value line site) is =
       from s (λ c. parts_of c ≡ Run (without_barrier c) ∷ []) _ _ (sym is ∙ rolls-Store array index value line site) (stmt_code-Store array index value line site Done) refl
+  other_parts l f b (layer.Update array index value minus line site) is =
+      from s (λ c. parts_of c ≡ Run (without_barrier c) ∷ []) _ _ (sym is ∙ rolls-Update array index value minus line site) (stmt_code-Update array index value minus line site Done) refl
   other_parts l f b (layer.If test if_true if_false) is =
       from s (λ c. parts_of c ≡ Run (without_barrier c) ∷ []) _ _ (sym is ∙ rolls-If test if_true if_false) (stmt_code-If test if_true if_false Done) refl
   other_parts l f b (layer.Loop slot from to body) is = absurd (l slot from to body (sym is ∙ rolls-Loop slot from to body))
@@ -82,6 +84,8 @@ module _ (s : Stmt) where
       from s (λ c. code_holds_work c ≡ false) _ _ (sym is ∙ rolls-Set slot value) (stmt_code-Set slot value Done) refl
   other_work i l f b k (layer.Store array index value line site) is =
       from s (λ c. code_holds_work c ≡ false) _ _ (sym is ∙ rolls-Store array index value line site) (stmt_code-Store array index value line site Done) refl
+  other_work i l f b k (layer.Update array index value minus line site) is =
+      from s (λ c. code_holds_work c ≡ false) _ _ (sym is ∙ rolls-Update array index value minus line site) (stmt_code-Update array index value minus line site Done) refl
   other_work i l f b k (layer.If test if_true if_false) is = absurd (i test if_true if_false (sym is ∙ rolls-If test if_true if_false))
   other_work i l f b k (layer.Loop slot from to body) is = absurd (l slot from to body (sym is ∙ rolls-Loop slot from to body))
   other_work i l f b k (layer.Parallel team) is =
@@ -101,6 +105,8 @@ module _ (s : Stmt) where
       from s (λ c. is_drawn (Run (without_barrier c)) ≡ false) _ _ (sym is ∙ rolls-Set slot value) (stmt_code-Set slot value Done) refl
   other_drawn f (layer.Store array index value line site) is =
       from s (λ c. is_drawn (Run (without_barrier c)) ≡ false) _ _ (sym is ∙ rolls-Store array index value line site) (stmt_code-Store array index value line site Done) refl
+  other_drawn f (layer.Update array index value minus line site) is =
+      from s (λ c. is_drawn (Run (without_barrier c)) ≡ false) _ _ (sym is ∙ rolls-Update array index value minus line site) (stmt_code-Update array index value minus line site Done) refl
   other_drawn f (layer.If test if_true if_false) is =
       from s (λ c. is_drawn (Run (without_barrier c)) ≡ false) _ _ (sym is ∙ rolls-If test if_true if_false) (stmt_code-If test if_true if_false Done) refl
   other_drawn f (layer.Loop slot begin to body) is =

@@ -3,3 +3,4 @@ mod kernels;
 mod repeating;
 mod tokens;
 mod trees;
+mod updates;

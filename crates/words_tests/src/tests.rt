@@ -1,5 +1,5 @@
 //! Hands on words and on counters, alone and on threads.
-ghost use Rattle.std.specs.Prelude.{◌≡◌, ◌<◌, [], IfOk};
+ghost use Rattle.std.specs.Prelude.{◌≡◌, ◌<◌, ◌≤◌, [], IfOk};
 ghost use denote.Param.Send.{IsSync};
 ghost use Rattle.shared_words.specs.Handles.{Belongs, IsFree};
 ghost use Rattle.shared_words.specs.Draws.{whole_share};
@@ -14,82 +14,95 @@ const ROUNDS: u64 = 1000;
 
 const CHUNKS: u64 = 10_000;
 
-// Adds 1 to word 0.
-fn add(words: &Words, hand: &mut Hand)
+// How a thread adds 1.
+#[derive(Clone, Copy, Drop)]
+enum Adding {
+    Unguarded,
+    UnderMutex,
+    Updating,
+}
+
+// Adds 1 to a word, in two steps.
+fn add(words: &Words, hand: &mut Hand, word: usize)
     requires hand { Belongs hand.old words.now.table }
-    requires word { 0 < words.now.elements }
+    requires word { word < words.now.elements }
     ensures hand { Belongs hand.new words.now.table }
     ensures held { hand.new.view.held ≡ hand.old.view.held }
     ensures name { hand.new.view.name ≡ hand.old.view.name }
     ensures out { hand.new.view.out ≡ hand.old.view.out }
 {
-    let value = words.load(hand, 0);
-    words.store(hand, 0, value.wrapping_add(1));
+    let value = words.load(hand, word);
+    words.store(hand, word, value.wrapping_add(1));
 }
 
-// The same, under the mutex 1 or without it.
-fn add_one<R: Wait>(rt: &R, words: &Words, hand: &mut Hand, guarded: bool)
+// Adds 1 to a word; the mutex, where one is taken, is 1.
+fn add_one<R: Wait>(rt: &R, words: &Words, hand: &mut Hand, word: usize, adding: Adding)
     requires free { IsFree hand.old words.now.table }
     requires mutex { 1 < words.now.locks }
-    requires word { 0 < words.now.elements }
+    requires word { word < words.now.elements }
     ensures free { IsFree hand.new words.now.table }
     ensures name { hand.new.view.name ≡ hand.old.view.name }
     ensures out { hand.new.view.out ≡ hand.old.view.out }
 {
-    if !guarded {
-        add(words, hand);
-        return;
+    match adding {
+        Adding::Unguarded => add(words, hand, word),
+        Adding::UnderMutex => {
+            words.lock(rt, hand, 1);
+            add(words, hand, word);
+            words.unlock(hand, 1);
+        }
+        Adding::Updating => words.update(hand, word, 1),
     }
-    words.lock(rt, hand, 1);
-    add(words, hand);
-    words.unlock(hand, 1);
 }
 
-fn add_many<R: Wait>(rt: &R, words: &Words, mut hand: Hand, guarded: bool) -> Hand
+fn add_many<R: Wait>(rt: &R, words: &Words, mut hand: Hand, word: usize, adding: Adding) -> Hand
     requires free { IsFree hand words.now.table }
     requires mutex { 1 < words.now.locks }
-    requires word { 0 < words.now.elements }
+    requires word { word < words.now.elements }
     ensures free { IsFree result words.now.table }
     ensures name { result.view.name ≡ hand.view.name }
     ensures out { result.view.out ≡ hand.view.out }
 {
     for _ in 0..ROUNDS {
-        add_one(rt, words, &mut hand, guarded);
+        add_one(rt, words, &mut hand, word, adding);
     }
     hand
 }
 
-// As many threads as this, each with a hand of its own, split from the one before.
+// As many threads as this, each with a hand of its own, split from the one before. They take the first words in turn.
 #[cycle(team)]
 fn add_in_threads<R: Threads + Wait + Sync>(
     rt: &R,
     words: &Words,
     mut hand: Hand,
-    threads: u32,
-    guarded: bool,
+    threads: usize,
+    width: usize,
+    adding: Adding,
 ) -> Hand
     requires free { IsFree hand words.now.table }
     requires none_out { hand.view.out ≡ [] }
     requires mutex { 1 < words.now.locks }
-    requires word { 0 < words.now.elements }
+    requires some_word { 0 < width }
+    requires width { width ≤ words.now.elements }
     ensures free { IsFree result words.now.table }
     ensures none_out { result.view.out ≡ [] }
     ensures name { result.view.name ≡ hand.view.name }
 {
+    let word = threads % width;
     if threads < 2 {
-        return add_many(rt, words, hand, guarded);
+        return add_many(rt, words, hand, word, adding);
     }
     let other = words.split(&mut hand, 0, 1);
     let (mut hand, other) = join(
         rt,
         || -> Hand
-            requires { IsSync R.row × IsFree hand words.now.table × (1 < words.now.locks) × (0 < words.now.elements) }
+            requires { IsSync R.row × IsFree hand words.now.table × (1 < words.now.locks) × (word < words.now.elements) }
             ensures { IsFree result words.entry.now.table × (result.view.name ≡ hand.view.name) × (result.view.out ≡ hand.view.out) }
-        { add_many(rt, words, hand, guarded) },
+        { add_many(rt, words, hand, word, adding) },
         || -> Hand
-            requires { IsSync R.row × IsFree other words.now.table × (other.view.out ≡ []) × (1 < words.now.locks) × (0 < words.now.elements) × (1 < threads) }
+            requires { IsSync R.row × IsFree other words.now.table × (other.view.out ≡ []) × (1 < words.now.locks) × (0 < width) × (width ≤ words.now.elements) × (1 < threads) }
             ensures { IsFree result words.entry.now.table × (result.view.name ≡ other.view.name) × (result.view.out ≡ []) }
-        { add_in_threads(rt, words, other, threads - 1, guarded) },
+        { add_in_threads(rt, words, other, threads - 1, width, adding) },
     );
     words.join(&mut hand, other);
     hand
@@ -164,7 +177,7 @@ fn hands_split_inside_a_split(rt: HostRuntime) -> Result<(), Fail> {
 #[test]
 fn eight_threads_add_under_a_mutex(rt: HostRuntime) -> Result<(), Fail> {
     let (words, hand) = Words::new(rt.alloc(), 1, 2)?;
-    let hand = add_in_threads(&rt, &words, hand, 8, true);
+    let hand = add_in_threads(&rt, &words, hand, 8, 1, Adding::UnderMutex);
     let closed = words.close(hand);
     assert_eq!(rt; closed.words.as_slice(), [8 * ROUNDS].as_slice());
     Ok(())
@@ -175,7 +188,7 @@ fn eight_threads_add_under_a_mutex(rt: HostRuntime) -> Result<(), Fail> {
 fn no_thread_sleeps_at_a_free_mutex(rt: HostRuntime) -> Result<(), Fail> {
     for _ in 0..200 {
         let (words, hand) = Words::new(rt.alloc(), 1, 2)?;
-        let hand = add_in_threads(&rt, &words, hand, 2, true);
+        let hand = add_in_threads(&rt, &words, hand, 2, 1, Adding::UnderMutex);
         let closed = words.close(hand);
         assert_eq!(rt; closed.words.as_slice(), [2 * ROUNDS].as_slice());
     }
@@ -185,12 +198,39 @@ fn no_thread_sleeps_at_a_free_mutex(rt: HostRuntime) -> Result<(), Fail> {
 #[test]
 fn without_a_mutex_a_sum_may_be_lost(rt: HostRuntime) -> Result<(), Fail> {
     let (words, hand) = Words::new(rt.alloc(), 1, 2)?;
-    let hand = add_in_threads(&rt, &words, hand, 8, false);
+    let hand = add_in_threads(&rt, &words, hand, 8, 1, Adding::Unguarded);
     let closed = words.close(hand);
     let [sum] = closed.words.as_slice() else {
         panic!(rt; "there is one word")
     };
     assert!(rt; 1 < *sum && *sum <= 8 * ROUNDS);
+    Ok(())
+}
+
+#[test]
+fn updates_of_many_threads_lose_nothing(rt: HostRuntime) -> Result<(), Fail> {
+    for width in [1, 8] {
+        let (words, hand) = Words::new(rt.alloc(), width, 2)?;
+        let hand = add_in_threads(&rt, &words, hand, 64, width, Adding::Updating);
+        let closed = words.close(hand);
+        let each = 64 * ROUNDS / width as u64;
+        assert!(rt; closed.words.len() == width && closed.words.iter().all(|word| *word == each));
+    }
+    Ok(())
+}
+
+#[test]
+fn an_update_wraps_past_the_end(rt: HostRuntime) -> Result<(), Fail> {
+    let (words, mut hand) = Words::new(rt.alloc(), 2, 0)?;
+    words.store(&mut hand, 0, u64::MAX - 1);
+    words.update(&mut hand, 0, 5);
+    let wrapped = words.load(&mut hand, 0);
+    words.update(&mut hand, 1, u64::MAX);
+    let below = words.load(&mut hand, 1);
+    words.update(&mut hand, 1, u64::MAX - 1);
+    let closed = words.close(hand);
+    assert!(rt; wrapped == 3 && below == u64::MAX);
+    assert_eq!(rt; closed.words.as_slice(), [3, u64::MAX - 2].as_slice());
     Ok(())
 }
 

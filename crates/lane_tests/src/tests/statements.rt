@@ -15,8 +15,8 @@ use std::alloc::Global;
 use std::sync::Wait;
 use sw_base::Trouble;
 
-// The operation on two expressions, at line 5.
-fn binary(alloc: Global, op: Op, left: Expr, right: Expr) -> Result<Expr, Trouble>
+/// The operation on two expressions, at line 5.
+pub(crate) fn binary(alloc: Global, op: Op, left: Expr, right: Expr) -> Result<Expr, Trouble>
     requires left { IsBoundedTerm (term_of left) }
     requires right { IsBoundedTerm (term_of right) }
     ensures { IfOk result (λ e. IsBoundedTerm (term_of e)) }
@@ -29,8 +29,8 @@ fn binary(alloc: Global, op: Op, left: Expr, right: Expr) -> Result<Expr, Troubl
     })
 }
 
-// The first element.
-fn first(alloc: Global) -> Result<Expr, Trouble>
+/// The first element.
+pub(crate) fn first(alloc: Global) -> Result<Expr, Trouble>
     ensures { IfOk result (λ e. IsBoundedTerm (term_of e)) }
 {
     Ok(Expr::Load {
@@ -69,8 +69,8 @@ fn sum(alloc: Global, number: i64) -> Result<Stmt, Trouble>
     Ok(store(Expr::Slot(0), value, 3))
 }
 
-// A statement in a critical section.
-fn critical(alloc: Global, stmt: Stmt) -> Result<Stmt, Trouble>
+/// A statement in a critical section.
+pub(crate) fn critical(alloc: Global, stmt: Stmt) -> Result<Stmt, Trouble>
     requires bounded { IsBoundedCode (stmt_code stmt Done) }
     requires alone { IsAlone 1 (0 ∷ []) (stmt_code stmt Done) }
     ensures bounded { IfOk result (λ s. IsBoundedCode (stmt_code s Done)) }

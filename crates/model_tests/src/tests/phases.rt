@@ -65,6 +65,17 @@ fn store(line: u32) -> Made {
     })
 }
 
+fn update(line: u32) -> Made {
+    Ok(Stmt::Update {
+        array: 0,
+        index: Expr::Slot(0),
+        value: Expr::Number(1),
+        minus: true,
+        line,
+        site: 0,
+    })
+}
+
 fn share(schedule: Schedule, nowait: bool, line: u32, stmts: Many) -> Made {
     let stmts = stmts?;
     Ok(Stmt::For {
@@ -128,7 +139,7 @@ fn is_cut(alloc: Global, stmts: Many, due: &str) -> Option<bool> {
 fn phases_end_in_barriers(rt: HostRuntime) {
     let alloc = rt.alloc();
     assert!(rt; is_cut(alloc, none(alloc), "|") == Some(true));
-    let apart = and(two(alloc, store(2), barrier(3)), store(4));
+    let apart = and(two(alloc, store(2), barrier(3)), update(4));
     assert!(rt; is_cut(alloc, apart, "r0 b3 |r0 |") == Some(true));
 }
 

@@ -34,7 +34,7 @@ fn is_refused(alloc: Global, text: &[u8], line: u32, why: KernelWhy) -> bool {
 }
 
 // The first of these texts that isn't read, by its number from 0.
-fn first_unread(alloc: Global, texts: &[&[u8]]) -> Option<usize> {
+pub fn first_unread(alloc: Global, texts: &[&[u8]]) -> Option<usize> {
     for (number, text) in texts.iter().enumerate() {
         if !is_read(alloc, text) {
             return Some(number);
@@ -44,10 +44,10 @@ fn first_unread(alloc: Global, texts: &[&[u8]]) -> Option<usize> {
 }
 
 // A text, and the line and the reason for which it is refused.
-type Refused<'a> = (&'a [u8], u32, KernelWhy);
+pub type Refused<'a> = (&'a [u8], u32, KernelWhy);
 
 // The first of these texts that isn't refused so, by its number from 0.
-fn first_other(alloc: Global, rows: &[Refused<'_>]) -> Option<usize> {
+pub fn first_other(alloc: Global, rows: &[Refused<'_>]) -> Option<usize> {
     for (number, (text, line, why)) in rows.iter().enumerate() {
         if !is_refused(alloc, text, *line, *why) {
             return Some(number);
@@ -404,7 +404,7 @@ fn a_region_weighs_at_most_65536(rt: HostRuntime) {
 }
 
 // A text, so many times another one behind it, and a third; and the refusal of all, if it is one.
-type Long<'a> = (
+pub type Long<'a> = (
     &'a [u8],
     &'a [u8],
     usize,
@@ -413,7 +413,7 @@ type Long<'a> = (
 );
 
 // The first of these texts that is told otherwise, by its number from 0.
-fn first_other_long(alloc: Global, rows: &[Long<'_>]) -> Result<Option<usize>, AllocError> {
+pub fn first_other_long(alloc: Global, rows: &[Long<'_>]) -> Result<Option<usize>, AllocError> {
     for (number, (before, text, count, behind, refusal)) in rows.iter().enumerate() {
         let bytes = repeated(alloc, before, text, *count, behind)?;
         if !tells(alloc, &bytes, *refusal) {

@@ -86,7 +86,12 @@ fn each_operation_has_its_sign(rt: HostRuntime) -> Result<(), Fail> {
 
 #[test]
 fn other_lexemes_have_no_operation(rt: HostRuntime) {
-    for lexeme in &[Lexeme::Mark(Sign::Assign), Lexeme::Number(1)] {
+    for lexeme in &[
+        Lexeme::Mark(Sign::Assign),
+        Lexeme::Mark(Sign::PlusAssign),
+        Lexeme::Mark(Sign::MinusAssign),
+        Lexeme::Number(1),
+    ] {
         assert!(rt; operation(lexeme).is_none());
     }
 }

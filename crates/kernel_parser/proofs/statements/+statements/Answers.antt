@@ -10,7 +10,7 @@ use Rattle.kernel_text.specs.declared.token.Lexeme.TheVariants.{Reserved}
 use Rattle.kernel_parser.specs.Parsing.{StartsWith, IsRead}
 use Rattle.kernel_parser.proofs.Equations.{before_if, before_if_else, before_loop, before_for, before_barrier, before_critical, made_parallel, made_critical_of}
 use Rattle.kernel_parser.proofs.Signs.{begins-with, not-true}
-use Rattle.kernel_parser.proofs.Firsts.{let-parsed, assign-parsed, store-parsed, if-parsed, loop-parsed, parallel-parsed, for-parsed, barrier-parsed, critical-parsed}
+use Rattle.kernel_parser.proofs.Firsts.{let-parsed, assign-parsed, store-parsed, update-parsed, if-parsed, loop-parsed, parallel-parsed, for-parsed, barrier-parsed, critical-parsed}
 use Rattle.kernel_parser.proofs.Rests.{only-fault, block-at, left-steps, left-fails, left-ends, never-none}
 use Rattle.kernel_parser.proofs.statements.+statements.Goals as goal
 
@@ -166,6 +166,10 @@ stmt-returns-in-Assign-clause-parsed t c =
 pub stmt-returns-in-Store-clause-parsed : goal.stmt-returns-in-Store-clause-parsed
 stmt-returns-in-Store-clause-parsed t c =
     λ b end tail n e d s. store-parsed c.args.token.now c.args.rest.now c.name_at-in-Store.result c.store_stmt.result c.name_at-in-Store.ensures c.store_stmt.ensures.parsed (λ b end tail e. ap Some (sym c.in-Store.is) ∙ c.requires b end tail e) b end tail n e d s
+
+pub stmt-returns-in-Update-clause-parsed : goal.stmt-returns-in-Update-clause-parsed
+stmt-returns-in-Update-clause-parsed t c =
+    λ b end tail n e d s. update-parsed c.args.token.now c.args.rest.now c.update_stmt.result c.update_stmt.ensures.parsed (λ b end tail e. ap Some (sym c.in-Update.is) ∙ c.requires b end tail e) b end tail n e d s
 
 pub stmt-returns-in-If-clause-parsed : goal.stmt-returns-in-If-clause-parsed
 stmt-returns-in-If-clause-parsed t c =

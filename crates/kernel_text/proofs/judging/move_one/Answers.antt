@@ -18,6 +18,14 @@ pub returns-in-Assign : goal.returns-in-Assign
 returns-in-Assign c =
     alone c.assign_move.result _ _ c.args.lexeme.now (stack_of c.args.stack.now.items) c.in-Assign.is c.requires c.assign_move.ensures
 
+pub returns-in-UpdateSign : goal.returns-in-UpdateSign
+returns-in-UpdateSign c =
+    alone c.update_sign_move.result _ _ c.args.lexeme.now (stack_of c.args.stack.now.items) c.in-UpdateSign.is c.requires c.update_sign_move.ensures
+
+pub returns-in-OpenBracket : goal.returns-in-OpenBracket
+returns-in-OpenBracket c =
+    alone c.open_bracket_move.result _ _ c.args.lexeme.now (stack_of c.args.stack.now.items) c.in-OpenBracket.is c.requires c.open_bracket_move.ensures
+
 pub returns-in-CloseBracket : goal.returns-in-CloseBracket
 returns-in-CloseBracket c =
     alone c.close_bracket_move.result _ _ c.args.lexeme.now (stack_of c.args.stack.now.items) c.in-CloseBracket.is c.requires c.close_bracket_move.ensures

@@ -9,7 +9,7 @@ use Rattle.kernel_syntax.specs.Program.{code_of}
 use Rattle.kernel_text.specs.Grammar.{Stmts, NoMore}
 use Rattle.kernel_parser.specs.Trees.{tree_of, schedule_tree, stmt_before, stmts_of}
 use Rattle.kernel_parser.specs.declared.tree.Statement.{Statement}
-use Rattle.kernel_parser.proofs.Equations.{before_let, before_assign, before_store, before_if, before_if_else, before_loop, before_parallel, before_for, before_barrier, before_critical, before_critical_of}
+use Rattle.kernel_parser.proofs.Equations.{before_let, before_assign, before_store, before_update, before_if, before_if_else, before_loop, before_parallel, before_for, before_barrier, before_critical, before_critical_of}
 use Rattle.kernel_reader.specs.Scope.{count_literal, slots}
 use Rattle.kernel_text.specs.declared.fault.KernelWhy.TheVariants as why
 use Rattle.kernel_reader.specs.Rules.{fault_if, is_misplaced, declared_faults, assigned_faults, array_faults, tree_faults, critical_faults, in_critical, is_fixed}
@@ -22,7 +22,7 @@ use Rattle.kernel_reader.specs.declared.place.Section.{Section}
 use Rattle.kernel_reader.specs.declared.statements.Added.{Added}
 use Rattle.kernel_reader.proofs.Sizes.{apart, size}
 use Rattle.kernel_reader.proofs.Firsts.{part-2, part-3, loop-range-first, loop-body-first, for-range-first, for-schedule-first, for-body-first}
-use Rattle.kernel_reader.proofs.Advances.{let-read, assign-read, store-read, barrier-read, if-read, if-else-read, loop-read, for-read, region-read, critical-read, critical-of-read, place-branch, place-loop, place-work, take-back}
+use Rattle.kernel_reader.proofs.Advances.{let-read, assign-read, store-read, update-read, barrier-read, if-read, if-else-read, loop-read, for-read, region-read, critical-read, critical-of-read, place-branch, place-loop, place-work, take-back}
 use Rattle.kernel_reader.proofs.Lefts.{left-ends, left-fails, left-steps, take-through}
 use Rattle.kernel_reader.proofs.place.Known.+statements.Goals as goal
 
@@ -265,6 +265,11 @@ stmt-store_stmt-requires-clause-room t c =
     let e : stmts_sites (stmt_before c.args.stmt.now NoMore) ≡ 1 + (sites (tree_of c.in-Store.index) + (sites (tree_of c.in-Store.value) + 0)) = ap stmts_sites (ap (λ (s : Statement). stmt_before s NoMore) c.in-Store.is ∙ before_store c.in-Store.line c.in-Store.name c.in-Store.opened c.in-Store.index c.in-Store.closed c.in-Store.sign_line c.in-Store.value NoMore) in
     let room = c.requires.room in omega (arith, e, room)
 
+pub stmt-update_stmt-requires-clause-room : goal.stmt-update_stmt-requires-clause-room
+stmt-update_stmt-requires-clause-room t c =
+    let e : stmts_sites (stmt_before c.args.stmt.now NoMore) ≡ 1 + (sites (tree_of c.in-Update.index) + (sites (tree_of c.in-Update.value) + 0)) = ap stmts_sites (ap (λ (s : Statement). stmt_before s NoMore) c.in-Update.is ∙ before_update c.in-Update.line c.in-Update.name_line c.in-Update.name c.in-Update.opened c.in-Update.index c.in-Update.closed c.in-Update.minus c.in-Update.sign_line c.in-Update.value NoMore) in
+    let room = c.requires.room in omega (arith, e, room)
+
 pub stmts-stmt-requires : goal.stmts-stmt-requires
 stmts-stmt-requires t c =
     let split : c.stmts.rest.now ≡ c.in-Some.first.now ∷ c.in-Some.others.now = c.in-Some.ensures.cases.0 in
@@ -312,11 +317,24 @@ stmt-returns-in_err-store_stmt-in-Store-clause-reads t c =
     let at = ap (λ (s : Statement). stmt_before s rest) c.in-Store.is ∙ before_store c.in-Store.line c.in-Store.name c.in-Store.opened c.in-Store.index c.in-Store.closed c.in-Store.sign_line c.in-Store.value rest in
     rw (p.1, p.2, at) (part-3 (array_faults (place_of c.args.self.now.arrays.now c.args.self.now.mutexes.now c.args.state.now c.args.section).names false c.in-Store.line c.in-Store.name) (tree_faults (place_of c.args.self.now.arrays.now c.args.self.now.mutexes.now c.args.state.now c.args.section).names false (tree_of c.in-Store.index)) (tree_faults (place_of c.args.self.now.arrays.now c.args.self.now.mutexes.now c.args.state.now c.args.section).names false (tree_of c.in-Store.value)) _ _ c.in_err-store_stmt-in-Store.ensures.settled)
 
+pub stmt-returns-in_err-update_stmt-in-Update-clause-reads : goal.stmt-returns-in_err-update_stmt-in-Update-clause-reads
+stmt-returns-in_err-update_stmt-in-Update-clause-reads t c =
+    let p = err_from_is_err_and c.from_residual-in_err-update_stmt-in-Update.result c.from_residual-in_err-update_stmt-in-Update.ensures.1 in
+    λ rest.
+    let at = ap (λ (s : Statement). stmt_before s rest) c.in-Update.is ∙ before_update c.in-Update.line c.in-Update.name_line c.in-Update.name c.in-Update.opened c.in-Update.index c.in-Update.closed c.in-Update.minus c.in-Update.sign_line c.in-Update.value rest in
+    rw (p.1, p.2, at) (part-3 (array_faults (place_of c.args.self.now.arrays.now c.args.self.now.mutexes.now c.args.state.now c.args.section).names false c.in-Update.name_line c.in-Update.name) (tree_faults (place_of c.args.self.now.arrays.now c.args.self.now.mutexes.now c.args.state.now c.args.section).names false (tree_of c.in-Update.index)) (tree_faults (place_of c.args.self.now.arrays.now c.args.self.now.mutexes.now c.args.state.now c.args.section).names false (tree_of c.in-Update.value)) _ _ c.in_err-update_stmt-in-Update.ensures.settled)
+
 pub stmt-returns-in_ok-store_stmt-in-Store-clause-reads : goal.stmt-returns-in_ok-store_stmt-in-Store-clause-reads
 stmt-returns-in_ok-store_stmt-in-Store-clause-reads t c =
     λ rest.
     let at = ap (λ (s : Statement). stmt_before s rest) c.in-Store.is ∙ before_store c.in-Store.line c.in-Store.name c.in-Store.opened c.in-Store.index c.in-Store.closed c.in-Store.sign_line c.in-Store.value rest in
     rw (c.plain-in-Store.ensures, at) (store-read c.args.self.now.arrays.now c.args.self.now.mutexes.now c.args.state.now c.store_stmt.new.state c.args.section c.in-Store.line c.in-Store.name c.in-Store.opened (tree_of c.in-Store.index) c.in-Store.closed c.in-Store.sign_line (tree_of c.in-Store.value) c.in_ok-store_stmt-in-Store.field-0 rest c.in_ok-store_stmt-in-Store.ensures.settled.1 c.in_ok-store_stmt-in-Store.ensures.settled.0 c.in_ok-store_stmt-in-Store.ensures.site c.in_ok-store_stmt-in-Store.ensures.slot c.in_ok-store_stmt-in-Store.ensures.variables)
+
+pub stmt-returns-in_ok-update_stmt-in-Update-clause-reads : goal.stmt-returns-in_ok-update_stmt-in-Update-clause-reads
+stmt-returns-in_ok-update_stmt-in-Update-clause-reads t c =
+    λ rest.
+    let at = ap (λ (s : Statement). stmt_before s rest) c.in-Update.is ∙ before_update c.in-Update.line c.in-Update.name_line c.in-Update.name c.in-Update.opened c.in-Update.index c.in-Update.closed c.in-Update.minus c.in-Update.sign_line c.in-Update.value rest in
+    rw (c.plain-in-Update.ensures, at) (update-read c.args.self.now.arrays.now c.args.self.now.mutexes.now c.args.state.now c.update_stmt.new.state c.args.section c.in-Update.line c.in-Update.name_line c.in-Update.name c.in-Update.opened (tree_of c.in-Update.index) c.in-Update.closed c.in-Update.minus c.in-Update.sign_line (tree_of c.in-Update.value) c.in_ok-update_stmt-in-Update.field-0 rest c.in_ok-update_stmt-in-Update.ensures.settled.1 c.in_ok-update_stmt-in-Update.ensures.settled.0 c.in_ok-update_stmt-in-Update.ensures.site c.in_ok-update_stmt-in-Update.ensures.slot c.in_ok-update_stmt-in-Update.ensures.variables)
 
 pub stmt-returns-in_err-check_shared-in-Barrier-clause-reads : goal.stmt-returns-in_err-check_shared-in-Barrier-clause-reads
 stmt-returns-in_err-check_shared-in-Barrier-clause-reads t c =

@@ -9,7 +9,7 @@ use Rattle.kernel_syntax.specs.Bounds.{IsBoundedCode}
 use Rattle.kernel_syntax.specs.Program.{code_of, stmt_code, term_of}
 use Rattle.kernel_syntax.specs.Tree as tree
 use Rattle.kernel_syntax.specs.Tree.{Code, Done}
-use Rattle.kernel_syntax.proofs.Equations.{stmt_code-Set, stmt_code-Store, stmt_code-If, stmt_code-Loop, stmt_code-Parallel, stmt_code-Critical}
+use Rattle.kernel_syntax.proofs.Equations.{stmt_code-Set, stmt_code-Store, stmt_code-Update, stmt_code-If, stmt_code-Loop, stmt_code-Parallel, stmt_code-Critical}
 use Rattle.kernel_model.specs.Iterations.{total_of}
 use Rattle.kernel_model.specs.Trace.{run, turns}
 use Rattle.kernel_model.specs.Effect.{Returned}
@@ -40,14 +40,23 @@ use Rattle.lane_runner.proofs.frame.Frame.+executing.Goals as goal
 pub statement-set-requires-clause-bounded : goal.statement-set-requires-clause-bounded
 statement-set-requires-clause-bounded g t c κs within = (subst IsBoundedCode (ap (λ (s : Stmt). stmt_code s Done) c.in-Set.is ∙ stmt_code-Set c.in-Set.slot c.in-Set.expr Done) c.requires.bounded).0
 
-pub statement-store-requires-clause-index : goal.statement-store-requires-clause-index
-statement-store-requires-clause-index g t c κs within = (subst IsBoundedCode (ap (λ (s : Stmt). stmt_code s Done) c.in-Store.is ∙ stmt_code-Store c.in-Store.array c.in-Store.index c.in-Store.expr c.in-Store.line c.in-Store.site Done) c.requires.bounded).1
+pub statement-change-requires-clause-index : goal.statement-change-requires-clause-index
+statement-change-requires-clause-index g t c κs within = (subst IsBoundedCode (ap (λ (s : Stmt). stmt_code s Done) c.in-Store.is ∙ stmt_code-Store c.in-Store.array c.in-Store.index c.in-Store.expr c.in-Store.line c.in-Store.site Done) c.requires.bounded).1
 
-pub statement-store-requires-clause-bounded : goal.statement-store-requires-clause-bounded
-statement-store-requires-clause-bounded g t c κs within = (subst IsBoundedCode (ap (λ (s : Stmt). stmt_code s Done) c.in-Store.is ∙ stmt_code-Store c.in-Store.array c.in-Store.index c.in-Store.expr c.in-Store.line c.in-Store.site Done) c.requires.bounded).2
+pub statement-change-requires-clause-bounded : goal.statement-change-requires-clause-bounded
+statement-change-requires-clause-bounded g t c κs within = (subst IsBoundedCode (ap (λ (s : Stmt). stmt_code s Done) c.in-Store.is ∙ stmt_code-Store c.in-Store.array c.in-Store.index c.in-Store.expr c.in-Store.line c.in-Store.site Done) c.requires.bounded).2
 
-pub statement-store-requires-clause-place : goal.statement-store-requires-clause-place
-statement-store-requires-clause-place g t c κs within = (subst IsBoundedCode (ap (λ (s : Stmt). stmt_code s Done) c.in-Store.is ∙ stmt_code-Store c.in-Store.array c.in-Store.index c.in-Store.expr c.in-Store.line c.in-Store.site Done) c.requires.bounded).0
+pub statement-change-requires-clause-place : goal.statement-change-requires-clause-place
+statement-change-requires-clause-place g t c κs within = (subst IsBoundedCode (ap (λ (s : Stmt). stmt_code s Done) c.in-Store.is ∙ stmt_code-Store c.in-Store.array c.in-Store.index c.in-Store.expr c.in-Store.line c.in-Store.site Done) c.requires.bounded).0
+
+pub statement-change-requires-in-Update-clause-index : goal.statement-change-requires-in-Update-clause-index
+statement-change-requires-in-Update-clause-index g t c κs within = (subst IsBoundedCode (ap (λ (s : Stmt). stmt_code s Done) c.in-Update.is ∙ stmt_code-Update c.in-Update.array c.in-Update.index c.in-Update.expr c.in-Update.minus c.in-Update.line c.in-Update.site Done) c.requires.bounded).1
+
+pub statement-change-requires-in-Update-clause-bounded : goal.statement-change-requires-in-Update-clause-bounded
+statement-change-requires-in-Update-clause-bounded g t c κs within = (subst IsBoundedCode (ap (λ (s : Stmt). stmt_code s Done) c.in-Update.is ∙ stmt_code-Update c.in-Update.array c.in-Update.index c.in-Update.expr c.in-Update.minus c.in-Update.line c.in-Update.site Done) c.requires.bounded).2
+
+pub statement-change-requires-in-Update-clause-place : goal.statement-change-requires-in-Update-clause-place
+statement-change-requires-in-Update-clause-place g t c κs within = (subst IsBoundedCode (ap (λ (s : Stmt). stmt_code s Done) c.in-Update.is ∙ stmt_code-Update c.in-Update.array c.in-Update.index c.in-Update.expr c.in-Update.minus c.in-Update.line c.in-Update.site Done) c.requires.bounded).0
 
 pub statement-value-requires-clause-bounded : goal.statement-value-requires-clause-bounded
 statement-value-requires-clause-bounded g t c κs within = (subst IsBoundedCode (ap (λ (s : Stmt). stmt_code s Done) c.in-If.is ∙ stmt_code-If c.in-If.test c.in-If.yes c.in-If.no Done) c.requires.bounded).0
@@ -94,8 +103,13 @@ statement-returns-in-Set-clause-goes g t c =
 
 pub statement-returns-in-Store-clause-goes : goal.statement-returns-in-Store-clause-goes
 statement-returns-in-Store-clause-goes g t c =
-    subst (λ (x : Code). Goes c.args.world.now (run (site c.args.world.now) x) c.args.self.now.locals.slots.items c.store.new.self.locals.slots.items c.args.self.now.track c.store.new.self.track c.store.result) (sym (ap (λ (s : Stmt). stmt_code s Done) c.in-Store.is ∙ stmt_code-Store c.in-Store.array c.in-Store.index c.in-Store.expr c.in-Store.line c.in-Store.site Done))
-    (subst (λ (l : Locals). Goes c.args.world.now (run (site c.args.world.now) (tree.Store c.in-Store.array (term_of c.in-Store.index) (term_of c.in-Store.expr) c.in-Store.line c.in-Store.site Done)) c.args.self.now.locals.slots.items l.slots.items c.args.self.now.track c.store.new.self.track c.store.result) (sym c.store.ensures.locals) c.store.ensures.goes)
+    subst (λ (x : Code). Goes c.args.world.now (run (site c.args.world.now) x) c.args.self.now.locals.slots.items c.change.new.self.locals.slots.items c.args.self.now.track c.change.new.self.track c.change.result) (sym (ap (λ (s : Stmt). stmt_code s Done) c.in-Store.is ∙ stmt_code-Store c.in-Store.array c.in-Store.index c.in-Store.expr c.in-Store.line c.in-Store.site Done))
+    (subst (λ (l : Locals). Goes c.args.world.now (run (site c.args.world.now) (tree.Store c.in-Store.array (term_of c.in-Store.index) (term_of c.in-Store.expr) c.in-Store.line c.in-Store.site Done)) c.args.self.now.locals.slots.items l.slots.items c.args.self.now.track c.change.new.self.track c.change.result) (sym c.change.ensures.locals) c.change.ensures.goes)
+
+pub statement-returns-in-Update-clause-goes : goal.statement-returns-in-Update-clause-goes
+statement-returns-in-Update-clause-goes g t c =
+    subst (λ (x : Code). Goes c.args.world.now (run (site c.args.world.now) x) c.args.self.now.locals.slots.items c.change-in-Update.new.self.locals.slots.items c.args.self.now.track c.change-in-Update.new.self.track c.change-in-Update.result) (sym (ap (λ (s : Stmt). stmt_code s Done) c.in-Update.is ∙ stmt_code-Update c.in-Update.array c.in-Update.index c.in-Update.expr c.in-Update.minus c.in-Update.line c.in-Update.site Done))
+    (subst (λ (l : Locals). Goes c.args.world.now (run (site c.args.world.now) (tree.Update c.in-Update.array (term_of c.in-Update.index) (term_of c.in-Update.expr) c.in-Update.minus c.in-Update.line c.in-Update.site Done)) c.args.self.now.locals.slots.items l.slots.items c.args.self.now.track c.change-in-Update.new.self.track c.change-in-Update.result) (sym c.change-in-Update.ensures.locals) c.change-in-Update.ensures.goes)
 
 pub statement-returns-in_ok-last-in-Loop-clause-goes : goal.statement-returns-in_ok-last-in-Loop-clause-goes
 statement-returns-in_ok-last-in-Loop-clause-goes g t c =
@@ -110,7 +124,7 @@ statement-returns-in_ok-last-in-Loop-clause-goes g t c =
     c.repeat.ensures.goes)))
 
 pub statement-unreachable-requires : goal.statement-unreachable-requires
-statement-unreachable-requires g t c = alone_only c.args.world.now.words.locks c.args.self.now.track.hand.view.held c.args.stmt.now c.requires.alone c.in_default.not-Set c.in_default.not-Store c.in_default.not-If c.in_default.not-Loop c.in_default.not-Parallel c.in_default.not-Critical
+statement-unreachable-requires g t c = alone_only c.args.world.now.words.locks c.args.self.now.track.hand.view.held c.args.stmt.now c.requires.alone c.in_default.not-Set c.in_default.not-Store c.in_default.not-Update c.in_default.not-If c.in_default.not-Loop c.in_default.not-Parallel c.in_default.not-Critical
 
 pub statement-statements-requires-clause-bounded : goal.statement-statements-requires-clause-bounded
 statement-statements-requires-clause-bounded g t c κs within = (subst IsBoundedCode (ap (λ (s : Stmt). stmt_code s Done) c.in-If.is ∙ stmt_code-If c.in-If.test c.in-If.yes c.in-If.no Done) c.requires.bounded).2

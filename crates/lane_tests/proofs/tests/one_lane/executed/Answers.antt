@@ -10,7 +10,7 @@ use Rattle.sw_base.specs.declared.trouble.Trouble.TheVariants as trouble
 use Rattle.event_buffer.specs.Buffered.{Buffered}
 use Rattle.kernel_syntax.specs.declared.syntax.Team.{Team}
 use Rattle.kernel_syntax.specs.Program.{stmt_code}
-use Rattle.kernel_syntax.specs.Tree.{TeamTree, Code, Done, Set, Store, If, Loop, Parallel, For, Barrier, Critical}
+use Rattle.kernel_syntax.specs.Tree.{TeamTree, Code, Done, Set, Store, Update, If, Loop, Parallel, For, Barrier, Critical}
 use Rattle.shared_words.specs.declared.view.View.{View}
 use Rattle.shared_words.specs.Handles.{HandValue, WordsValue, ChunksValue}
 use Rattle.lane_runner.specs.declared.locals.Locals.{Locals}
@@ -60,6 +60,7 @@ module _ {T : Type 0} (w : WorldValue) (accepts : MutBor (HandValue View) → Bo
   any_team Done = tt
   any_team (Set slot value rest) = any_team rest
   any_team (Store array index value line site rest) = any_team rest
+  any_team (Update array index value minus line site rest) = any_team rest
   any_team (If test if_true if_false rest) = (any_team if_true, any_team if_false, any_team rest)
   any_team (Loop slot from to body rest) = (any_team body, any_team rest)
   any_team (Parallel span line end body rest) = (may_fork (record { span = span; line = line; end = end; body = body }), any_team rest)

@@ -13,7 +13,7 @@ use Rattle.kernel_syntax.specs.Program.{code_of, stmt_code, term_of}
 use Rattle.kernel_syntax.specs.Share.{even_share_of}
 use Rattle.kernel_syntax.specs.Tree as tree
 use Rattle.kernel_syntax.specs.Tree.{Code, Done}
-use Rattle.kernel_syntax.proofs.Equations.{stmt_code-Set, stmt_code-Store, stmt_code-If, stmt_code-Loop, stmt_code-Parallel, stmt_code-For, stmt_code-Barrier, stmt_code-Critical}
+use Rattle.kernel_syntax.proofs.Equations.{stmt_code-Set, stmt_code-Store, stmt_code-Update, stmt_code-If, stmt_code-Loop, stmt_code-Parallel, stmt_code-For, stmt_code-Barrier, stmt_code-Critical}
 use Rattle.kernel_model.specs.Drawing.{turn_from, draw_once, draw_all}
 use Rattle.kernel_model.specs.Iterations.{total_of, static_iterations, chunk_count, chunk_iterations}
 use Rattle.kernel_model.specs.State.{put, event}
@@ -358,8 +358,13 @@ statement-returns-in-Set-clause-follows g t c =
 
 pub statement-returns-in-Store-clause-follows : goal.statement-returns-in-Store-clause-follows
 statement-returns-in-Store-clause-follows g t c =
-    subst (λ (x : Code). Follows (g.F.Folder.state c.args.folder.now) (run c.args.place.now x) (standing c.args.self.now) (standing c.store.new.self) c.store.result) (sym (ap (λ (s : Stmt). stmt_code s Done) c.in-Store.is ∙ stmt_code-Store c.in-Store.array c.in-Store.index c.in-Store.value c.in-Store.line c.in-Store.site Done))
-    (c.store.ensures.follows)
+    subst (λ (x : Code). Follows (g.F.Folder.state c.args.folder.now) (run c.args.place.now x) (standing c.args.self.now) (standing c.change.new.self) c.change.result) (sym (ap (λ (s : Stmt). stmt_code s Done) c.in-Store.is ∙ stmt_code-Store c.in-Store.array c.in-Store.index c.in-Store.value c.in-Store.line c.in-Store.site Done))
+    (c.change.ensures.follows)
+
+pub statement-returns-in-Update-clause-follows : goal.statement-returns-in-Update-clause-follows
+statement-returns-in-Update-clause-follows g t c =
+    subst (λ (x : Code). Follows (g.F.Folder.state c.args.folder.now) (run c.args.place.now x) (standing c.args.self.now) (standing c.change-in-Update.new.self) c.change-in-Update.result) (sym (ap (λ (s : Stmt). stmt_code s Done) c.in-Update.is ∙ stmt_code-Update c.in-Update.array c.in-Update.index c.in-Update.value c.in-Update.minus c.in-Update.line c.in-Update.site Done))
+    (c.change-in-Update.ensures.follows)
 
 pub statement-returns-in-Loop-clause-follows : goal.statement-returns-in-Loop-clause-follows
 statement-returns-in-Loop-clause-follows g t c =

@@ -2,38 +2,40 @@ use Rattle.std.proofs.Common.{refl, ap, sym, ◌∙◌, subst, ℕ, [], ◌∷�
 use Rattle.std.proofs.lemmas.Result.{err_from_is_err_and}
 use Rattle.std.proofs.lemmas.Int.{to_z-of_z}
 use Rattle.log_format.specs.declared.record.Record.{Record}
-use Rattle.log_format.specs.declared.record.Kind.TheVariants as kind
+use Rattle.log_format.specs.declared.record.Kind.{Kind}
 use Rattle.event_buffer.specs.Buffered.{Buffered}
 use Rattle.event_buffer.specs.Logged.{HoldsRecords}
 use Rattle.kernel_model.specs.State.{State, put, to_bits}
 use Rattle.kernel_model.specs.Value as model
+use Rattle.kernel_model.specs.Changing.{kind_of}
+use Rattle.kernel_model.proofs.Changing.{put_grows}
 use Rattle.kernel_model.proofs.Effects.{makes-put_full}
 use Rattle.lane_runner.specs.Placing.{meant}
 use Rattle.lane_runner.specs.Going.{Progress, HasRoomFor}
 use Rattle.lane_runner.proofs.Stepping.{goes_unready}
-use Rattle.lane_runner.proofs.Accesses.{put_grows, write_made}
+use Rattle.lane_runner.proofs.Accesses.{change_made}
 use Rattle.lane_runner.specs.Handed.{entries_of, place_of}
-use Rattle.lane_runner.proofs.track.Track.write.Goals as goal
+use Rattle.lane_runner.proofs.track.Track.change.Goals as goal
 
 pub returns-in_err-ready-clause-goes : goal.returns-in_err-ready-clause-goes
 returns-in_err-ready-clause-goes g c =
     let p = err_from_is_err_and c.from_residual.result c.from_residual.ensures.1 in
-    let event = model.access kind.Write (meant c.args.element.now) c.args.site c.args.line c.args.value in
+    let event = model.access (kind_of c.args.change) (meant c.args.element.now) c.args.site c.args.line c.args.value in
     λ slots. rw (p.1, p.2)
-    (goes_unready c.args.world.now (put event) slots c.args.line (λ (s : State). put_grows event s refl)
+    (goes_unready c.args.world.now (put event) slots c.args.line (λ (s : State). put_grows c.args.change event s refl)
     (makes-put_full event slots) c.args.self.now c.ready.new.self c.in_err-ready.field-0.0 c.requires.can c.in_err-ready.ensures.room)
 
 pub returns-clause-goes : goal.returns-clause-goes
 returns-clause-goes g c =
     let mid : Progress = record { hand = c.self.inside.hand; buffer = c.self.inside.buffer; tally = record { draws = c.self.inside.draws; next_loop = c.self.inside.next_loop; forked = c.self.inside.forked }; done = entries_of (record { dir = g.L.Log.dir; path = g.L.Log.path; text = g.L.Log.text; faults = g.L.Log.faults }) c.self.inside.done.items } in
-    let new : Progress = record { hand = c.store.new.hand; buffer = c.put.new.self; tally = record { draws = c.self.inside.draws; next_loop = c.self.inside.next_loop; forked = c.self.inside.forked }; done = entries_of (record { dir = g.L.Log.dir; path = g.L.Log.path; text = g.L.Log.text; faults = g.L.Log.faults }) c.self.inside.done.items } in
+    let new : Progress = record { hand = c.take_step.new.hand; buffer = c.put.new.self; tally = record { draws = c.self.inside.draws; next_loop = c.self.inside.next_loop; forked = c.self.inside.forked }; done = entries_of (record { dir = g.L.Log.dir; path = g.L.Log.path; text = g.L.Log.text; faults = g.L.Log.faults }) c.self.inside.done.items } in
     let bits : ℕ = c.cast_unsigned-bits.result in
     let room = subst (λ (p : Progress). HasRoomFor c.args.self.now p) (sym c.self.view_is) c.in_ok-ready.ensures.room in
     λ slots.
-    write_made c.args.world.now c.args.element.now c.requires.stands c.args.line c.args.site bits c.requires.line (search rules) c.args.self.now mid new room
-    (ap (λ (b : Buffered). b.refused) c.put.ensures.put ∙ room.may_put.unrefused) refl refl slots c.args.value (ap (λ (z : ℤ). to_bits z) (sym (to_z-of_z w64 c.args.value c.ranges.value)) ∙ sym c.cast_unsigned-bits.ensures) c.ranges.value c.requires.fits c.store.ensures
+    change_made c.args.world.now c.args.element.now c.requires.stands c.args.line c.args.site bits c.requires.line (search rules) c.args.self.now mid new room
+    (ap (λ (b : Buffered). b.refused) c.put.ensures.put ∙ room.may_put.unrefused) refl refl slots c.args.value (ap (λ (z : ℤ). to_bits z) (sym (to_z-of_z w64 c.args.value c.ranges.value)) ∙ sym c.cast_unsigned-bits.ensures) c.ranges.value c.requires.fits c.args.change c.take_step.ensures
     (record {
-      records = λ header records holds. subst (λ (r : Record). HoldsRecords header c.put.new.self (records ++ r ∷ [])) c.access-event.ensures (c.put.ensures.records header records holds);
+      records = λ header records holds. subst (λ (r : Record). HoldsRecords header c.put.new.self (records ++ r ∷ [])) (c.access-event.ensures ∙ ap (λ (k : Kind). record { kind = k; size = c.args.element.now.width; site = c.args.site; line = c.args.line; addr = c.args.element.now.addr; value = bits }) c.kind.ensures) (c.put.ensures.records header records holds);
       count = ap (λ (b : Buffered). b.count) c.put.ensures.put;
       path = ap (λ (b : Buffered). b.path) c.put.ensures.put;
       place = ap place_of c.put.ensures.put;

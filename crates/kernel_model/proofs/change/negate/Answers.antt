@@ -2,7 +2,7 @@ use Rattle.std.proofs.Common.{◌≡◌, ap, ◌∙◌, ℤ, pos, neg_ℤ, ◌-�
 use Rattle.std.proofs.lemmas.Int.{ints}
 use Rattle.log_format.specs.Fitting.{wrapped}
 use Rattle.kernel_syntax.proofs.Wrapping.{wrapping_sub-wrapped}
-use Rattle.lane_runner.proofs.value.negate.Goals as goal
+use Rattle.kernel_model.proofs.change.negate.Goals as goal
 
 from_zero : (x : ℤ) → pos 0 -ℤ x ≡ neg_ℤ x
 from_zero x = omega (arith, ints)
