@@ -1,8 +1,8 @@
--- Which kernels are fixed: none with a critical section or a loop whose chunks are drawn, wherever it stands.
-use Rattle.std.proofs.Common.{true, pos}
+-- Which kernels are fixed: none with a critical section, a loop whose chunks are drawn or an atomic update, wherever it stands.
+use Rattle.std.proofs.Common.{true, false, pos}
 use Rattle.kernel_syntax.specs.declared.syntax.Schedule.{Schedule}
 use Rattle.kernel_syntax.specs.declared.syntax.Schedule.TheVariants.{Even, Static, Dynamic}
-use Rattle.kernel_syntax.specs.Tree.{Term, Number, Code, Done, Set, Store, If, Loop, Parallel, For, Barrier, Critical}
+use Rattle.kernel_syntax.specs.Tree.{Term, Number, Code, Done, Set, Store, Update, If, Loop, Parallel, For, Barrier, Critical}
 use Rattle.certainty_model.specs.Certain.{IsFixed}
 
 abbrev one : Term
@@ -22,6 +22,9 @@ critical_is_none f = f
 
 drawn_is_none : IsFixed (shared (Dynamic 4) Done Done) → ⊥
 drawn_is_none f = f.0
+
+update_is_none : IsFixed (Update 0 one one false 1 0 Done) → ⊥
+update_is_none f = f
 
 in_rest : IsFixed (Set 0 one (Store 0 one one 1 0 (Barrier 1 critical))) → ⊥
 in_rest f = f

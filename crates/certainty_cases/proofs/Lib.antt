@@ -1,4 +1,6 @@
 pub mod FixedVectors
-pub mod WorkRuns
 pub mod TwoLanes
+pub mod CopyingLanes
+pub mod Accesses
 pub mod CertainLanes
+pub mod LockedLanes

@@ -1,8 +1,8 @@
 -- A certain run is every run: the law, and its consequences.
-use Rattle.std.proofs.Common.{◌≡◌, refl, ap, sym, ◌∙◌, subst, ◌⊎◌, inl, inr, ℕ, ◌+◌, ◌<◌, ◌≤◌, List, [], ◌∷◌, ◌++◌, length, take, drop, min, max, Option, Some, None, arith, length-append}
+use Rattle.std.proofs.Common.{◌≡◌, refl, ap, sym, ◌∙◌, subst, ◌⊎◌, inl, inr, ℕ, ◌<◌, ◌≤◌, List, [], ◌∷◌, ◌++◌, length, take, drop, min, max, Option, Some, None, arith, length-append}
 use Rattle.std.specs.Prelude.{slice_get, Contains, slice_index, get_or}
 use Rattle.std.proofs.lemmas.Bool.{cases_lt}
-use Rattle.std.proofs.lemmas.List.{append-nil, take-append-drop, length_push, take_all, same_lists}
+use Rattle.std.proofs.lemmas.List.{append-nil, take-append-drop, length_push, take_all, same_lists, nil_from_length}
 use Rattle.std.proofs.lemmas.Option.{same_Some, none-some, slice_get-get_or}
 use Rattle.sw_base.specs.declared.path.Step.{Step}
 use Rattle.log_format.specs.declared.record.Record.{Record}
@@ -81,10 +81,6 @@ module _ (program : Program) (lawful : IsLawful program) (run : Trace) (certain 
       some_bytes x r found (inl read) = width_some r.size (whole.read_width program lawful certain.fixed run certain.run.traced x r found read)
       some_bytes x r found (inr write) = width_some r.size (whole.write_width program lawful certain.fixed run certain.run.traced x r found write)
 
-      access : (r : Record) → (r.kind ≡ kind.Read) ⊎ (r.kind ≡ kind.Write) → (r.kind ≡ kind.Read) ⊎ ((r.kind ≡ kind.Write) ⊎ (r.kind ≡ kind.Update))
-      access r (inl read) = inl read
-      access r (inr write) = inr (inl write)
-
       ordered : (x y : Node) (r s : Record) → record_at S x ≡ Some r → record_at S y ≡ Some s → r.kind ≡ kind.Write → (s.kind ≡ kind.Read) ⊎ (s.kind ≡ kind.Write) → r.addr ≡ s.addr
           → (HappensBefore S x y → ⊥) → (HappensBefore S y x → ⊥) → ⊥
       ordered x y r s x_is y_is write also same not_before not_after = certain.no_race (min r.line s.line, max r.line s.line) (record {
@@ -96,15 +92,12 @@ module _ (program : Program) (lawful : IsLawful program) (run : Trace) (certain 
           left = x_is;
           right = y_is;
           left_access = inr (inl write);
-          right_access = access s also;
+          right_access = elim also [ inl read ↦ inl read | inr write ↦ inr (inl write) ];
           unordered = record { not_before = not_before; not_after = not_after };
           shares = (r.addr, first_byte r r.addr refl (some_bytes x r x_is (inr write)), first_byte s r.addr (sym same) (some_bytes y s y_is also));
           changes = inl (inl write);
-          not_both_updates = λ update other. let no_kind : kind.Write ≡ kind.Update = sym write ∙ update in cc;
-          no_mutex = λ m held also_held.
-              let none = subst (λ (ms : List ℕ). Contains ms m) (whole.none_held program lawful certain.fixed run certain.run.traced x) held in
-              let within = none.1 in
-              omega arith;
+          not_both_updates = λ update other. cc;
+          no_mutex = λ m held also_held. let none = subst (λ (ms : List ℕ). Contains ms m) (whole.none_held program lawful certain.fixed run certain.run.traced x) held in omega (arith, none.1);
         };
         lines = refl;
       })
@@ -145,12 +138,9 @@ module _ (program : Program) (lawful : IsLawful program) (run : Trace) (certain 
 
     -- all of the log is what both have
     within : (path : List Step) (lists : ListsTask tasks path) → length (T path) ≤ (two program S T (λ p. ListsTask tasks p) runs path (same_at path lists)).common
-    within path lists = by (cases_lt (two program S T (λ p. ListsTask tasks p) runs path (same_at path lists)).common (length (T path)))
-      where
-        by : ((two program S T (λ p. ListsTask tasks p) runs path (same_at path lists)).common < length (T path)) ⊎ (length (T path) ≤ (two program S T (λ p. ListsTask tasks p) runs path (same_at path lists)).common)
-            → length (T path) ≤ (two program S T (λ p. ListsTask tasks p) runs path (same_at path lists)).common
-        by (inr le) = le
-        by (inl less) = absurd (nothing (node path (two program S T (λ p. ListsTask tasks p) runs path (same_at path lists)).common) ((two program S T (λ p. ListsTask tasks p) runs path (same_at path lists)).parts less))
+    within path lists =
+        let both = two program S T (λ p. ListsTask tasks p) runs path (same_at path lists) in
+        elim (cases_lt both.common (length (T path))) [ inr le ↦ le | inl less ↦ absurd (nothing (node path both.common) (both.parts less)) ]
 
     -- the law: what any execution logs, the run logs first
     pub begins_run : (path : List Step) → ListsTask tasks path → BeginsRun program run tasks path
@@ -192,11 +182,7 @@ module _ (program : Program) (lawful : IsLawful program) (run : Trace) (certain 
     R = logs_of other
 
     nothing_there : (logs : Logs) (path : List Step) → (IsTask logs path → ⊥) → logs path ≡ []
-    nothing_there logs path none = by (logs path) none
-      where
-        by : (rs : List Record) → (0 < length rs → ⊥) → rs ≡ []
-        by [] empty = refl
-        by (r ∷ rs) empty = absurd (empty (omega arith))
+    nothing_there logs path none = nil_from_length (logs path) (grind (arith, none))
 
     -- a log that ends is all of the run's
     ended_same : (path : List Step) → ListsTask other path → R path ≡ S path
@@ -226,14 +212,7 @@ module _ (program : Program) (lawful : IsLawful program) (run : Trace) (certain 
         none : begun.rest ≡ []
         none =
             let index = whole.one_end program lawful certain.fixed run certain.run.traced (node path (length mine.prefix)) (node path (length yours.prefix)) refl is_end its_end in
-            let all : length (S path) ≡ length (R path) + length begun.rest = ap length begun.begins ∙ length-append (R path) begun.rest in
-            let my_size : length (R path) ≡ length mine.prefix + 1 = ap length mine.parts ∙ length_push mine.prefix mine.last in
-            let your_size : length (S path) ≡ length yours.prefix + 1 = ap length yours.parts ∙ length_push yours.prefix yours.last in
-            empty begun.rest (omega (arith, index, all, my_size, your_size))
-          where
-            empty : (rs : List Record) → length rs ≡ 0 → rs ≡ []
-            empty [] size = refl
-            empty (r ∷ rs) size = absurd (omega arith)
+            nil_from_length begun.rest (omega (arith, index, ap length begun.begins ∙ length-append (R path) begun.rest, ap length mine.parts ∙ length_push mine.prefix mine.last, ap length yours.parts ∙ length_push yours.prefix yours.last))
 
     -- each task of the run is there
     all_there : (path : List Step) (start : Start) → start_at program S path ≡ Some start → ListsTask other path

@@ -57,9 +57,6 @@ enter logs fork x lane span l here =
     })
     (program_order logs (node x.path 0) x refl (omega arith) here)
 
-same_step : (above path : List Step) → above ≡ path → (s t : Step) → above ++ s ∷ [] ≡ path ++ t ∷ [] → s ≡ t
-same_step above path is s t e = (same_from_push above path s t e).1
-
 module _ (program : Program) (S T : Logs) (Lists : List Step → Type 0) (runs : AreRuns program S T Lists) where
   -- the task starts alike in both
   pub record Same (path : List Step) : Type 0 where
@@ -130,24 +127,21 @@ module _ (program : Program) (S T : Logs) (Lists : List Step → Type 0) (runs :
     pub within : x.index ≤ (two x.path same).common
 
   not_later : (x : Node) (same : Same x.path) → IsThere T x → CalmBefore x → x.index ≤ (two x.path same).common
-  not_later x same here calm = by (cases_lt (two x.path same).common x.index)
-    where
-      by : ((two x.path same).common < x.index) ⊎ (x.index ≤ (two x.path same).common) → x.index ≤ (two x.path same).common
-      by (inr le) = le
-      by (inl less) = absurd (calm (node x.path (two x.path same).common) (program_order T (node x.path (two x.path same).common) x refl (omega arith) here)
-          (λ is. let index : (two x.path same).common ≡ x.index = ap (λ (w : Node). w.index) is in omega arith)
-          ((two x.path same).parts (omega arith)))
+  not_later x same here calm = elim (cases_lt (two x.path same).common x.index) [
+    | inr le ↦ le
+    | inl less ↦
+        absurd (calm (node x.path (two x.path same).common) (program_order T (node x.path (two x.path same).common) x refl (omega arith) here)
+        (λ is. omega (arith, ap (λ (w : Node). w.index) is)) ((two x.path same).parts (omega arith)))
+  ]
 
   -- a record that isn't one of two reads that part
   pub before_common : (x : Node) (k : Known x) → IsThere T x → (Parts x → ⊥) → x.index < (two x.path k.same).common
-  before_common x k here quiet = by (cases_lt x.index (two x.path k.same).common)
-    where
-      by : (x.index < (two x.path k.same).common) ⊎ ((two x.path k.same).common ≤ x.index) → x.index < (two x.path k.same).common
-      by (inl less) = less
-      by (inr le) =
-          let within = k.within in
-          let index : (two x.path k.same).common ≡ x.index = omega arith in
-          absurd (quiet (subst (λ (i : ℕ). PartAt (slice_get (S x.path) i) (slice_get (T x.path) i)) index ((two x.path k.same).parts (omega arith))))
+  before_common x k here quiet = elim (cases_lt x.index (two x.path k.same).common) [
+    | inl less ↦ less
+    | inr le ↦
+        let index : (two x.path k.same).common ≡ x.index = omega (arith, k.within) in
+        absurd (quiet (subst (λ (i : ℕ). PartAt (slice_get (S x.path) i) (slice_get (T x.path) i)) index ((two x.path k.same).parts (omega arith))))
+  ]
 
   -- a lane starts alike in both, where the log of its task agrees up to its region
   pub same_forked : (path : List Step) (step : Step) (w : WasForked T path step) → Lists (path ++ step ∷ []) → Known w.fork → (Parts w.fork → ⊥) → Same (path ++ step ∷ [])
@@ -164,12 +158,10 @@ module _ (program : Program) (S T : Logs) (Lists : List Step → Type 0) (runs :
       below = before_common w.fork k here quiet
 
       number : regions_before T w.fork ≡ step.region
-      number = ap (λ (s : Step). s.region) (same_step w.fork.path path w.above (record { region = regions_before T w.fork; lane = step.lane; span = step.span }) step (sym w.lane.child))
+      number = ap (λ (s : Step). s.region) (same_from_push w.fork.path path (record { region = regions_before T w.fork; lane = step.lane; span = step.span }) step (sym w.lane.child)).1
 
       counted : step.region < region_count (take (w.fork.index + 1) (T w.fork.path))
-      counted =
-          let next = regions_after T w.fork (node w.fork.path (w.fork.index + 1)) region refl (omega arith) in
-          omega (arith, number)
+      counted = omega (arith, number, regions_after T w.fork (node w.fork.path (w.fork.index + 1)) region refl (omega arith))
 
       path_is : w.fork.path ++ step ∷ [] ≡ path ++ step ∷ []
       path_is = ap (λ (p : List Step). p ++ step ∷ []) w.above
@@ -194,10 +186,7 @@ module _ (program : Program) (S T : Logs) (Lists : List Step → Type 0) (runs :
               lane = subst (λ (p : List Step). IsLane T w.fork l.last.lane l.last.span p) (sym l.parts) w.lane
 
               not_here : w.fork ≡ x → ⊥
-              not_here is =
-                  let longer = lane_longer T w.fork l.last.lane l.last.span x.path lane in
-                  let length_is : length w.fork.path ≡ length x.path = ap (λ (n : Node). length n.path) is in
-                  omega arith
+              not_here is = omega (arith, lane_longer T w.fork l.last.lane l.last.span x.path lane, ap (λ (n : Node). length n.path) is)
 
               calm_fork : Calm w.fork
               calm_fork = calm_earlier w.fork x here (enter T w.fork x l.last.lane l.last.span lane here) not_here calm

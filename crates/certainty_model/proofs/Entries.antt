@@ -6,7 +6,7 @@ use Rattle.std.proofs.lemmas.Option.{same_Some}
 use Rattle.sw_base.specs.declared.path.Step.{Step}
 use Rattle.log_format.specs.declared.record.Record.{Record}
 use Rattle.log_format.specs.declared.record.Kind.TheVariants as kind
-use Rattle.race_model.specs.History.{Entry, entry_of, entries_from, task_entries, release, released, IsHistory, RespectsOrder, FitsKind, IsLegalAfter}
+use Rattle.race_model.specs.History.{Entry, entry_of, entries_from, task_entries, release, IsHistory, RespectsOrder, FitsKind, IsLegalAfter}
 use Rattle.race_model.specs.Order.{HappensBefore}
 use Rattle.race_model.specs.Race.{held_after}
 use Rattle.race_model.specs.Trace.{Logs, Node, record_at, path_eq}
@@ -166,17 +166,15 @@ module _ (logs : Logs) (history : List Entry) (is : IsHistory logs history) wher
       let own : Has e (entries_from e.node.path 0 (is.full e.node.path)) = subst (λ (es : List Entry). Has e es) (is.each e.node.path) (own_of e history has) in
       let at = place e (entries_from e.node.path 0 (is.full e.node.path)) own in
       let o = of_log e.node.path 0 (is.full e.node.path) e at.0 at.1 in
-      let index : e.node.index ≡ o.place = (let i = o.index in omega arith) in
-      ap (λ (n : ℕ). slice_get (is.full e.node.path) n) index ∙ o.found
+      ap (λ (n : ℕ). slice_get (is.full e.node.path) n) (omega (arith, o.index)) ∙ o.found
 
   -- an entry that isn't released is of a record of the logs
   pub entry_record : (e : Entry) → Has e history → (e.event.kind ≡ kind.Unlock → ⊥) → record_at logs e.node ≡ Some e.event
-  entry_record e has other = by (is.is_released e.node.path)
-    where
-      by : (is.full e.node.path ≡ logs e.node.path) ⊎ (is.full e.node.path ≡ released (logs e.node.path)) → record_at logs e.node ≡ Some e.event
-      by (inl same) = ap (λ (rs : List Record). slice_get rs e.node.index) (sym same) ∙ in_full e has
-      by (inr same) =
-          put_here (logs e.node.path) (reverse (held_after [] (logs e.node.path))) e.node.index e.event (ap (λ (rs : List Record). slice_get rs e.node.index) (sym same) ∙ in_full e has) other
+  entry_record e has other = elim (is.is_released e.node.path) [
+    | inl same ↦ ap (λ (rs : List Record). slice_get rs e.node.index) (sym same) ∙ in_full e has
+    | inr same ↦
+        put_here (logs e.node.path) (reverse (held_after [] (logs e.node.path))) e.node.index e.event (ap (λ (rs : List Record). slice_get rs e.node.index) (sym same) ∙ in_full e has) other
+  ]
 
   -- at most one record is at the node
   pub entry_is : (e : Entry) (r : Record) → Has e history → record_at logs e.node ≡ Some r → e.event ≡ r

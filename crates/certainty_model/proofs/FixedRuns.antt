@@ -5,7 +5,7 @@ use Rattle.std.specs.Prelude.{◌==◌}
 use Rattle.kernel_syntax.specs.declared.syntax.Schedule.{Schedule}
 use Rattle.kernel_syntax.specs.declared.syntax.Schedule.TheVariants.{Even, Static, Dynamic}
 use Rattle.kernel_syntax.specs.Arithmetic.{applied, negated}
-use Rattle.kernel_syntax.specs.Tree.{Term, Code, TeamTree, Number, Slot, Tid, Span, Load, Neg, Binary, Done, Set, Store, If, Loop, Parallel, For, Barrier, Critical}
+use Rattle.kernel_syntax.specs.Tree.{Term, Code, TeamTree, Number, Slot, Tid, Span, Load, Neg, Binary, Done, Set, Store, Update, If, Loop, Parallel, For, Barrier, Critical}
 use Rattle.log_format.specs.declared.record.Record.{Record}
 use Rattle.log_format.specs.declared.record.Kind.TheVariants as kind
 use Rattle.log_format.specs.Fitting.{fitted}
@@ -15,9 +15,9 @@ use Rattle.kernel_model.specs.Value.{Site, Element, element_at, access, read, re
 use Rattle.kernel_model.specs.Iterations.{total_of, even_iterations, static_iterations}
 use Rattle.kernel_model.specs.Trace.{stored, branch, turns, each, shared, loop_end, forked, run}
 use Rattle.kernel_model.proofs.SingleSteps.{with_record}
-use Rattle.kernel_model.proofs.Steps.{kept-value, kept-loaded, kept-operated, kept-stored, kept-turns, kept-each, kept-put}
+use Rattle.kernel_model.proofs.Steps.{kept-loaded, kept-put}
 use Rattle.certainty_model.specs.Certain.{IsFixed, IsFixedSchedule}
-use Rattle.certainty_model.proofs.Pairs.{Adds, adds_nothing, adds_record, adds_chain, adds_region, adds_plain, adds_barriers, Own, with, IsEven, Pair, Pairs, pair-and_then, pair-after, then-value, then-run}
+use Rattle.certainty_model.proofs.Pairs.{IsQuiet, Adds, adds_nothing, adds_record, adds_chain, adds_region, adds_plain, Own, with, IsEven, Pair, Pairs, then-value, then-run, gives-pairs, stops-pairs}
 
 -- ---- records one by one
 
@@ -38,9 +38,9 @@ pair-put_in : (room : ℕ) (r : Record) (c : State) (p q : Own) → is_region_ki
 pair-put_in zero r c p q plain even = Pair.stops LogFull r.line c p q even
 pair-put_in (suc room) r c p q plain even = Pair.gives tt (with_record r room c) p q (even_more c r room plain even)
 
-pair-put : (r : Record) (c : State) (p q : Own) → is_region_kind r.kind ≡ false → IsEven c → Pair (put r (with c p)) (put r (with c q))
+put-pairs : (r : Record) → IsQuiet r.kind → is_region_kind r.kind ≡ false → Pairs (put r)
 unfolding put
-pair-put r c p q plain even = pair-put_in c.room r c p q plain even
+put-pairs r quiet plain = record { adds = λ s. kept-put Adds adds_plain r s (λ room is. adds_record r s _ quiet refl refl); pairs = λ c p q even. pair-put_in c.room r c p q plain even }
 
 -- ---- terms
 
@@ -73,17 +73,7 @@ pair-values room v w reads other e site line c p q even (inl same) =
     (Pair.gives (fitted v e.width) (with_record (access kind.Read e site line (fitted v e.width)) room c) (own reads p) (own other q)
     (even_more c (access kind.Read e site line (fitted v e.width)) room refl even))
 pair-values room v w reads other e site line c p q even (inr apart) = Pair.parts _ _ (record {
-  core = c;
-  even = even;
-  element = e;
-  site = site;
-  line = line;
-  room = room;
-  left = v;
-  right = w;
-  apart = apart;
-  left_own = own reads p;
-  right_own = own other q;
+  cut = record { core = c; even = even; element = e; site = site; line = line; room = room; left = v; right = w; apart = apart; left_own = own reads p; right_own = own other q };
   left_adds = adds_plain.same _;
   right_adds = adds_plain.same _;
 })
@@ -99,57 +89,41 @@ pair-read_in (suc room) (v ∷ reads) [] e site line c p q even =
 pair-read_in (suc room) (v ∷ reads) (w ∷ other) e site line c p q even =
     pair-values room v w reads other e site line c p q even (value_or_not (fitted v e.width) (fitted w e.width))
 
-pair-loaded : (e : Option Element) (line site : ℕ) (c : State) (p q : Own) → IsEven c → Pair (loaded e line site (with c p)) (loaded e line site (with c q))
+loaded-pairs : (e : Option Element) (line site : ℕ) → Pairs (loaded e line site)
 unfolding read
-pair-loaded None line site c p q even = Pair.stops Index line c p q even
-pair-loaded (Some e) line site c p q even = pair-read_in c.room p.reads q.reads e site line c p q even
+loaded-pairs None line site = stops-pairs Index line
+loaded-pairs (Some e) line site = record {
+  adds = λ s. kept-loaded Adds adds_plain (Some e) line site s;
+  pairs = λ c p q even. pair-read_in c.room p.reads q.reads e site line c p q even;
+}
 
-pair-operated : (v : Option ℤ) (line : ℕ) (c : State) (p q : Own) → IsEven c → Pair (operated v line (with c p)) (operated v line (with c q))
-pair-operated None line c p q even = Pair.stops DivZero line c p q even
-pair-operated (Some v) line c p q even = Pair.gives v c p q even
+operated-pairs : (v : Option ℤ) (line : ℕ) → Pairs (operated v line)
+operated-pairs None line = stops-pairs DivZero line
+operated-pairs (Some v) line = gives-pairs v
 
-pub pair-value : (at : Site) (e : Term) (c : State) (p q : Own) → IsEven c → Pair (value at e (with c p)) (value at e (with c q))
+value-pairs : (at : Site) (e : Term) → Pairs (value at e)
 unfolding value
-pair-value at (Number n) c p q even = Pair.gives n c p q even
-pair-value at (Slot k) c p q even = Pair.gives _ c p q even
-pair-value at Tid c p q even = Pair.gives (pos at.lane) c p q even
-pair-value at Span c p q even = Pair.gives (pos at.span) c p q even
-pair-value at (Load array index line site) c p q even =
-    pair-and_then (λ i s. loaded (element_at at.arrays array i) line site s) (λ i. record {
-      adds = λ s. kept-loaded Adds adds_plain (element_at at.arrays array i) line site s;
-      pairs = λ d r t also. pair-loaded (element_at at.arrays array i) line site d r t also;
-    })
-    (value at index (with c p)) (value at index (with c q)) (pair-value at index c p q even)
-pair-value at (Neg operand) c p q even =
-    pair-and_then (λ v s. Gives (negated v) s) (λ v. record { adds = λ s. adds_plain.same s; pairs = λ d r t also. Pair.gives (negated v) d r t also })
-    (value at operand (with c p)) (value at operand (with c q)) (pair-value at operand c p q even)
-pair-value at (Binary op line left right) c p q even =
-    pair-and_then (λ x s. and_then (value at right s) (λ y s. operated (applied op x y) line s)) (λ x.
-    then-value (value at right) (λ y s. operated (applied op x y) line s)
-    (record { adds = λ s. kept-value Adds adds_plain at right s; pairs = λ d r t also. pair-value at right d r t also })
-    (λ y. record { adds = λ s. kept-operated Adds adds_plain (applied op x y) line s; pairs = λ d r t also. pair-operated (applied op x y) line d r t also }))
-    (value at left (with c p)) (value at left (with c q)) (pair-value at left c p q even)
+value-pairs at (Number n) = gives-pairs n
+value-pairs at (Slot k) = record { adds = λ s. adds_plain.same s; pairs = λ c p q even. Pair.gives _ c p q even }
+value-pairs at Tid = gives-pairs (pos at.lane)
+value-pairs at Span = gives-pairs (pos at.span)
+value-pairs at (Load array index line site) = then-value (value at index) (λ i s. loaded (element_at at.arrays array i) line site s) (value-pairs at index) (λ i. loaded-pairs (element_at at.arrays array i) line site)
+value-pairs at (Neg operand) = then-value (value at operand) (λ v s. Gives (negated v) s) (value-pairs at operand) (λ v. gives-pairs (negated v))
+value-pairs at (Binary op line left right) =
+    then-value (value at left) (λ x s. and_then (value at right s) (λ y s. operated (applied op x y) line s)) (value-pairs at left) (λ x.
+    then-value (value at right) (λ y s. operated (applied op x y) line s) (value-pairs at right) (λ y. operated-pairs (applied op x y) line))
 
 -- ---- parts of statements
 
-pair-stored : (e : Option Element) (v : ℤ) (line site : ℕ) (c : State) (p q : Own) → IsEven c → Pair (stored e v line site (with c p)) (stored e v line site (with c q))
-pair-stored None v line site c p q even = Pair.stops Index line c p q even
-pair-stored (Some e) v line site c p q even = pair-put (access kind.Write e site line (fitted v e.width)) c p q refl even
-
 stored-pairs : (e : Option Element) (v : ℤ) (line site : ℕ) → Pairs (stored e v line site)
-stored-pairs e v line site = record { adds = λ s. kept-stored Adds adds_plain e v line site s; pairs = λ c p q even. pair-stored e v line site c p q even }
-
-value-pairs : (at : Site) (e : Term) → Pairs (value at e)
-value-pairs at e = record { adds = λ s. kept-value Adds adds_plain at e s; pairs = λ c p q even. pair-value at e c p q even }
+stored-pairs None v line site = stops-pairs Index line
+stored-pairs (Some e) v line site = put-pairs (access kind.Write e site line (fitted v e.width)) tt refl
 
 bar-pairs : (line : ℕ) → Pairs (put (event kind.Barrier line 0 0))
-bar-pairs line = record {
-  adds = λ s. kept-put Adds adds_plain (event kind.Barrier line 0 0) s (λ room is. adds_barriers.bars line room s is);
-  pairs = λ c p q even. pair-put (event kind.Barrier line 0 0) c p q refl even;
-}
+bar-pairs line = put-pairs (event kind.Barrier line 0 0) tt refl
 
 loop_end-pairs : (nowait : Bool) (end : ℕ) → Pairs (loop_end nowait end)
-loop_end-pairs true end = record { adds = λ s. adds_plain.same s; pairs = λ c p q even. Pair.gives tt c p q even }
+loop_end-pairs true end = gives-pairs tt
 loop_end-pairs false end = bar-pairs end
 
 branch-pairs : (v : ℤ) (if_true if_false : State → Outcome (Unit {0})) → Pairs if_true → Pairs if_false → Pairs (branch v if_true if_false)
@@ -157,26 +131,13 @@ branch-pairs (pos zero) if_true if_false one other = other
 branch-pairs (pos (suc n)) if_true if_false one other = one
 branch-pairs (negsuc n) if_true if_false one other = one
 
-pair-turns : (n i : ℕ) (turn : ℕ → State → Outcome (Unit {0})) (c : State) (p q : Own) → ((k : ℕ) → Pairs (turn k)) → IsEven c → Pair (turns n i turn (with c p)) (turns n i turn (with c q))
-pair-turns zero i turn c p q each even = Pair.gives tt c p q even
-pair-turns (suc n) i turn c p q each even =
-    pair-after (turns n (suc i) turn) (record {
-      adds = λ s. kept-turns Adds adds_plain n (suc i) turn s (λ k t. (each k).adds t);
-      pairs = λ d r t also. pair-turns n (suc i) turn d r t each also;
-    })
-    (turn i (with c p)) (turn i (with c q)) ((each i).pairs c p q even)
-
 turns-pairs : (n i : ℕ) (turn : ℕ → State → Outcome (Unit {0})) → ((k : ℕ) → Pairs (turn k)) → Pairs (turns n i turn)
-turns-pairs n i turn all = record { adds = λ s. kept-turns Adds adds_plain n i turn s (λ k t. (all k).adds t); pairs = λ c p q even. pair-turns n i turn c p q all even }
-
-pair-each : (is : List ℕ) (turn : ℕ → State → Outcome (Unit {0})) (c : State) (p q : Own) → ((k : ℕ) → Pairs (turn k)) → IsEven c → Pair (each is turn (with c p)) (each is turn (with c q))
-pair-each [] turn c p q all even = Pair.gives tt c p q even
-pair-each (i ∷ is) turn c p q all even =
-    pair-after (each is turn) (record { adds = λ s. kept-each Adds adds_plain is turn s (λ k t. (all k).adds t); pairs = λ d r t also. pair-each is turn d r t all also })
-    (turn i (with c p)) (turn i (with c q)) ((all i).pairs c p q even)
+turns-pairs zero i turn all = gives-pairs tt
+turns-pairs (suc n) i turn all = then-run (turn i) (turns n (suc i) turn) (all i) (turns-pairs n (suc i) turn all)
 
 each-pairs : (is : List ℕ) (turn : ℕ → State → Outcome (Unit {0})) → ((k : ℕ) → Pairs (turn k)) → Pairs (each is turn)
-each-pairs is turn all = record { adds = λ s. kept-each Adds adds_plain is turn s (λ k t. (all k).adds t); pairs = λ c p q even. pair-each is turn c p q all even }
+each-pairs [] turn all = gives-pairs tt
+each-pairs (i ∷ is) turn all = then-run (turn i) (each is turn) (all i) (each-pairs is turn all)
 
 shared-pairs : (schedule : Schedule) (at : Site) (line total : ℕ) (turn : ℕ → State → Outcome (Unit {0})) → IsFixedSchedule schedule → ((k : ℕ) → Pairs (turn k)) → Pairs (shared schedule at line total turn)
 shared-pairs Even at line total turn fixed all = each-pairs (even_iterations total at.lane at.span) turn all
@@ -217,6 +178,7 @@ run-pairs at (Store array index e line site rest) fixed =
     then-value (value at index) (λ i s. and_then (value at e s) (λ v s. after (stored (element_at at.arrays array i) v line site s) (run at rest))) (value-pairs at index) (λ i.
     then-value (value at e) (λ v s. after (stored (element_at at.arrays array i) v line site s) (run at rest)) (value-pairs at e) (λ v.
     then-run (stored (element_at at.arrays array i) v line site) (run at rest) (stored-pairs (element_at at.arrays array i) v line site) (run-pairs at rest fixed)))
+run-pairs at (Update array index e minus line site rest) fixed = absurd fixed
 run-pairs at (If test if_true if_false rest) fixed =
     then-value (value at test) (λ v s. after (branch v (run at if_true) (run at if_false) s) (run at rest)) (value-pairs at test) (λ v.
     then-run (branch v (run at if_true) (run at if_false)) (run at rest)

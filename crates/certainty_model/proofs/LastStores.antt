@@ -4,7 +4,7 @@ use Rattle.std.specs.Prelude.{◌==◌}
 use Rattle.log_format.specs.declared.record.Kind.{Kind}
 use Rattle.log_format.specs.declared.record.Kind.TheVariants as kind
 use Rattle.race_model.specs.History.{Entry, stored_after, stored_from, stored_value}
-use Rattle.certainty_model.proofs.Entries.{Has, has_either, InOrder}
+use Rattle.certainty_model.proofs.Entries.{Has, has_either, has_right, InOrder}
 
 -- a write at the address
 pub record IsStore (addr : ℕ) (e : Entry) : Type 0 where
@@ -45,37 +45,18 @@ one_step kind.Write addr old e is plain = by (e.event.addr == addr) refl
     by true same = inr (record { writes = is; address = same_number e.event.addr addr same }, rw same refl)
     by false other = inl (λ s. other_number e.event.addr addr other s.address, rw other refl)
 one_step kind.Update addr old e is plain = absurd (plain refl)
-one_step kind.Read addr old e is plain = inl (λ s. let no : kind.Read ≡ kind.Write = sym is ∙ s.writes in cc, refl)
-one_step kind.Lock addr old e is plain = inl (λ s. let no : kind.Lock ≡ kind.Write = sym is ∙ s.writes in cc, refl)
-one_step kind.Unlock addr old e is plain = inl (λ s. let no : kind.Unlock ≡ kind.Write = sym is ∙ s.writes in cc, refl)
-one_step kind.Barrier addr old e is plain = inl (λ s. let no : kind.Barrier ≡ kind.Write = sym is ∙ s.writes in cc, refl)
-one_step kind.Region addr old e is plain = inl (λ s. let no : kind.Region ≡ kind.Write = sym is ∙ s.writes in cc, refl)
-one_step kind.Chunk addr old e is plain = inl (λ s. let no : kind.Chunk ≡ kind.Write = sym is ∙ s.writes in cc, refl)
-one_step kind.End addr old e is plain = inl (λ s. let no : kind.End ≡ kind.Write = sym is ∙ s.writes in cc, refl)
+one_step k addr old e is plain = inl (λ s. let no : k ≡ kind.Write = sym is ∙ s.writes in cc, refl)
 
 last_store : (addr : ℕ) (es : List Entry) (old : ℕ) → NoUpdate es → Unstored addr es old (stored_from addr es old) ⊎ Stored addr es (stored_from addr es old)
 last_store addr [] old plain = inl (record { none = λ e has s. has; kept = refl })
 last_store addr (f ∷ es) old plain = by (one_step f.event.kind addr old f refl (plain f (inl refl))) (last_store addr es (stored_after f.event.kind f.event addr old) (λ e has. plain e (inr has)))
   where
-    mid : ℕ
-    mid = stored_after f.event.kind f.event addr old
-
     by : ((IsStore addr f → ⊥) × (stored_after f.event.kind f.event addr old ≡ old)) ⊎ (IsStore addr f × (stored_after f.event.kind f.event addr old ≡ f.event.value))
         → Unstored addr es (stored_after f.event.kind f.event addr old) (stored_from addr es (stored_after f.event.kind f.event addr old)) ⊎ Stored addr es (stored_from addr es (stored_after f.event.kind f.event addr old))
         → Unstored addr (f ∷ es) old (stored_from addr (f ∷ es) old) ⊎ Stored addr (f ∷ es) (stored_from addr (f ∷ es) old)
-    by first (inr s) = inr (record {
-      last = s.last;
-      earlier = f ∷ s.earlier;
-      later = s.later;
-      parts = ap (λ (xs : List Entry). f ∷ xs) s.parts;
-      is = s.is;
-      none_later = s.none_later;
-      value = s.value;
-    })
-    by (inl (other, same)) (inl u) = inl (record {
-      none = none;
-      kept = u.kept ∙ same;
-    })
+    by first (inr s) =
+        inr (record { last = s.last; earlier = f ∷ s.earlier; later = s.later; parts = ap (λ (xs : List Entry). f ∷ xs) s.parts; is = s.is; none_later = s.none_later; value = s.value })
+    by (inl (other, same)) (inl u) = inl (record { none = none; kept = u.kept ∙ same })
       where
         none : (e : Entry) → Has e (f ∷ es) → IsStore addr e → ⊥
         none e (inl here) s = other (subst (IsStore addr) (sym here) s)
@@ -90,19 +71,11 @@ module _ (addr : ℕ) (mine other : List Entry) (mine_plain : NoUpdate mine) (ot
     (order : (x y : Entry) → IsStore addr x → IsStore addr y → InOrder mine x y → InOrder other y x → ⊥) where
   -- the last store of one stands in the other at the end, or before its last one
   at_last : (es : List Entry) (new : ℕ) (s : Stored addr es new) (e : Entry) → Has e es → IsStore addr e → (s.last ≡ e) ⊎ InOrder es e s.last
-  at_last es new s e has store = by (has_either e s.earlier (s.last ∷ s.later) (subst (λ (xs : List Entry). Has e xs) s.parts has))
-    where
-      by : Has e s.earlier ⊎ Has e (s.last ∷ s.later) → (s.last ≡ e) ⊎ InOrder es e s.last
-      by (inl earlier) = inr (record { earlier = s.earlier; later = s.later; parts = s.parts; first = earlier })
-      by (inr (inl here)) = inl here
-      by (inr (inr later)) = absurd (s.none_later e later store)
+  at_last es new s e has store = elim (has_either e s.earlier (s.last ∷ s.later) (subst (λ (xs : List Entry). Has e xs) s.parts has))
+      [ inl earlier ↦ inr (record { earlier = s.earlier; later = s.later; parts = s.parts; first = earlier }) | inr (inl here) ↦ inl here | inr (inr later) ↦ absurd (s.none_later e later store) ]
 
   in_it : (es : List Entry) (new : ℕ) (s : Stored addr es new) → Has s.last es
-  in_it es new s = subst (λ (xs : List Entry). Has s.last xs) (sym s.parts) (last_in s.earlier)
-    where
-      last_in : (xs : List Entry) → Has s.last (xs ++ s.last ∷ s.later)
-      last_in [] = inl refl
-      last_in (x ∷ xs) = inr (last_in xs)
+  in_it es new s = subst (λ (xs : List Entry). Has s.last xs) (sym s.parts) (has_right s.last s.earlier (s.last ∷ s.later) (inl refl))
 
   differ : (a b : ℕ) (s : Stored addr mine a) (t : Stored addr other b) → (a ≡ b → ⊥) → ⊥
   differ a b s t apart =

@@ -12,8 +12,8 @@ use Rattle.race_model.specs.Trace.{region_count}
 use Rattle.kernel_model.specs.State.{State, Fork, Stop, Outcome, Gives, Stops, Wants, and_then, after, event, assign, state_of}
 use Rattle.kernel_model.specs.Value.{Element, access}
 use Rattle.kernel_model.specs.Trace.{forked}
-use Rattle.kernel_model.proofs.SingleSteps.{with_record, KeepsPlainSteps, KeepsBarriers}
-use Rattle.kernel_model.proofs.Steps.{kept-and_then, kept-after}
+use Rattle.kernel_model.proofs.SingleSteps.{with_record, KeepsPlainSteps}
+use Rattle.kernel_model.proofs.Steps.{kept-and_then}
 use Rattle.certainty_model.specs.Certain.{IsFixed}
 
 -- ---- what statements add
@@ -91,9 +91,6 @@ adds_plain = record {
   draws = λ line n room q chunks s is prefix. adds_record _ s _ tt refl refl;
 }
 
-pub adds_barriers : KeepsBarriers Adds
-adds_barriers = record { bars = λ line room s is. adds_record (event kind.Barrier line 0 0) s _ tt refl refl }
-
 -- ---- pairs of runs
 
 -- what a task will read and draw
@@ -109,8 +106,8 @@ with c own = record c { reads = own.reads; chunks = own.chunks }
 abbrev pub IsEven : State → Type 0
 IsEven c = length c.forks ≡ region_count c.records
 
--- from one state the two read different values of one element
-pub record Parting (s t : State) : Type 0 where
+-- from one state two read different values of one element
+pub record Cut : Type 0 where
   pub core : State
   pub even : IsEven core
   pub element : Element
@@ -122,8 +119,16 @@ pub record Parting (s t : State) : Type 0 where
   pub apart : fitted left element.width ≡ fitted right element.width → ⊥
   pub left_own : Own
   pub right_own : Own
-  pub left_adds : Adds (with (with_record (access kind.Read element site line (fitted left element.width)) room core) left_own) s
-  pub right_adds : Adds (with (with_record (access kind.Read element site line (fitted right element.width)) room core) right_own) t
+
+-- the state after a value is read there
+abbrev pub after_read : Cut → ℤ → Own → State
+after_read d v own = with (with_record (access kind.Read d.element d.site d.line (fitted v d.element.width)) d.room d.core) own
+
+-- the two have parted so, and have gone on
+pub record Parting (s t : State) : Type 0 where
+  pub cut : Cut
+  pub left_adds : Adds (after_read cut cut.left cut.left_own) s
+  pub right_adds : Adds (after_read cut cut.right cut.right_own) t
 
 -- The two end alike, or one of them wants a value in a state from which the other goes on, or they part.
 pub data Pair {A : Type 0} : Outcome A → Outcome A → Type 0 where
@@ -139,43 +144,18 @@ pub record Pairs {A : Type 0} (part : State → Outcome A) : Type 0 where
   pub pairs : (c : State) (p q : Own) → IsEven c → Pair (part (with c p)) (part (with c q))
 
 parts_later : (s t u v : State) → Parting s t → Adds s u → Adds t v → Parting u v
-parts_later s t u v d more other = record {
-  core = d.core;
-  even = d.even;
-  element = d.element;
-  site = d.site;
-  line = d.line;
-  room = d.room;
-  left = d.left;
-  right = d.right;
-  apart = d.apart;
-  left_own = d.left_own;
-  right_own = d.right_own;
-  left_adds = adds_chain _ s u d.left_adds more;
-  right_adds = adds_chain _ t v d.right_adds other;
-}
+parts_later s t u v d more other = record { cut = d.cut; left_adds = adds_chain _ s u d.left_adds more; right_adds = adds_chain _ t v d.right_adds other }
 
 module _ {A B : Type 0} (next : A → State → Outcome B) (later : (a : A) → Pairs (next a)) where
   goes_on : (m : Outcome A) → Adds (state_of m) (state_of (and_then m next))
   goes_on m = kept-and_then Adds adds_plain (state_of m) m next (adds_plain.same (state_of m)) (λ a t. (later a).adds t)
 
-  pub pair-and_then : (m o : Outcome A) → Pair m o → Pair (and_then m next) (and_then o next)
+  pair-and_then : (m o : Outcome A) → Pair m o → Pair (and_then m next) (and_then o next)
   pair-and_then _ _ (Pair.gives a c p q even) = (later a).pairs c p q even
   pair-and_then _ _ (Pair.stops why line c p q even) = Pair.stops why line c p q even
   pair-and_then _ _ (Pair.left_wants c p o even adds) = Pair.left_wants c p (and_then o next) even (adds_chain c (state_of o) _ adds (goes_on o))
   pair-and_then _ _ (Pair.right_wants c q o even adds) = Pair.right_wants c q (and_then o next) even (adds_chain c (state_of o) _ adds (goes_on o))
   pair-and_then _ _ (Pair.parts m o d) = Pair.parts (and_then m next) (and_then o next) (parts_later (state_of m) (state_of o) _ _ d (goes_on m) (goes_on o))
-
-module _ (next : State → Outcome (Unit {0})) (later : Pairs next) where
-  runs_on : (m : Outcome (Unit {0})) → Adds (state_of m) (state_of (after m next))
-  runs_on m = kept-after Adds adds_plain (state_of m) m next (adds_plain.same (state_of m)) later.adds
-
-  pub pair-after : (m o : Outcome (Unit {0})) → Pair m o → Pair (after m next) (after o next)
-  pair-after _ _ (Pair.gives a c p q even) = later.pairs c p q even
-  pair-after _ _ (Pair.stops why line c p q even) = Pair.stops why line c p q even
-  pair-after _ _ (Pair.left_wants c p o even adds) = Pair.left_wants c p (after o next) even (adds_chain c (state_of o) _ adds (runs_on o))
-  pair-after _ _ (Pair.right_wants c q o even adds) = Pair.right_wants c q (after o next) even (adds_chain c (state_of o) _ adds (runs_on o))
-  pair-after _ _ (Pair.parts m o d) = Pair.parts (after m next) (after o next) (parts_later (state_of m) (state_of o) _ _ d (runs_on m) (runs_on o))
 
 -- one part after another
 pub then-value : {A B : Type 0} (part : State → Outcome A) (next : A → State → Outcome B) → Pairs part → ((a : A) → Pairs (next a)) → Pairs (λ s. and_then (part s) next)
@@ -184,8 +164,17 @@ then-value part next first later = record {
   pairs = λ c p q even. pair-and_then next later (part (with c p)) (part (with c q)) (first.pairs c p q even);
 }
 
+after_is : (m : Outcome (Unit {0})) (next : State → Outcome (Unit {0})) → and_then m (λ u s. next s) ≡ after m next
+after_is (Gives tt s) next = refl
+after_is (Stops why line s) next = refl
+after_is (Wants s) next = refl
+
 pub then-run : (part next : State → Outcome (Unit {0})) → Pairs part → Pairs next → Pairs (λ s. after (part s) next)
-then-run part next first later = record {
-  adds = λ s. kept-after Adds adds_plain s (part s) next (first.adds s) later.adds;
-  pairs = λ c p q even. pair-after next later (part (with c p)) (part (with c q)) (first.pairs c p q even);
-}
+then-run part next first later = subst Pairs (λ i s. after_is (part s) next i) (then-value part (λ u s. next s) first (λ u. later))
+
+-- a value or a stop alone
+pub gives-pairs : {A : Type 0} (a : A) → Pairs (λ s. Gives a s)
+gives-pairs a = record { adds = λ s. adds_plain.same s; pairs = λ c p q even. Pair.gives a c p q even }
+
+pub stops-pairs : {A : Type 0} (why : Stop) (line : ℕ) → Pairs {A = A} (λ s. Stops why line s)
+stops-pairs why line = record { adds = λ s. adds_plain.same s; pairs = λ c p q even. Pair.stops why line c p q even }

@@ -1,5 +1,5 @@
 -- What happens before a record in the run that ended does so in the other, where no reads part before the record.
-use Rattle.std.proofs.Common.{◌≡◌, refl, ap, sym, ◌∙◌, subst, ℕ, ◌+◌, ◌<◌, List, [], ◌∷◌, ◌++◌, length, take, arith}
+use Rattle.std.proofs.Common.{◌≡◌, refl, ap, sym, ◌∙◌, subst, ℕ, ◌+◌, ◌<◌, List, [], length, take, arith}
 use Rattle.std.specs.Prelude.{slice_get}
 use Rattle.std.proofs.lemmas.List.{same_from_push}
 use Rattle.sw_base.specs.declared.path.Step.{Step}
@@ -32,20 +32,14 @@ same_barrier logs x y x_is y_is same number =
 abbrev step_of : Logs → Node → ℕ → ℕ → Step
 step_of logs fork lane span = record { region = regions_before logs fork; lane = lane; span = span }
 
-same_lane_step : (above path : List Step) (s t : Step) → above ++ s ∷ [] ≡ path ++ t ∷ [] → s ≡ t
-same_lane_step above path s t e = (same_from_push above path s t e).1
-
 next_there : (logs : Logs) (x y : Node) → IsNext x y → IsThere logs y → IsThere logs x
-next_there logs x y e here =
-    let size : length (logs y.path) ≡ length (logs x.path) = ap (λ (p : List Step). length (logs p)) e.same_log in
-    let after = e.after in
-    omega arith
+next_there logs x y e here = omega (arith, ap (λ (p : List Step). length (logs p)) e.same_log, e.after)
 
 next_edge : (logs : Logs) (x y : Node) → IsNext x y → IsThere logs y → HasEdge logs x y
 next_edge logs x y e here = record { from_there = next_there logs x y e here; to_there = here; edge = Edge.next e }
 
 next_apart : (x y : Node) → IsNext x y → x ≡ y → ⊥
-next_apart x y e same = let index : x.index ≡ y.index = ap (λ (w : Node). w.index) same in let after = e.after in omega arith
+next_apart x y e same = omega (arith, ap (λ (w : Node). w.index) same, e.after)
 
 module _ (program : Program) (S T : Logs) (Lists : List Step → Type 0) (runs : AreRuns program S T Lists) (met : HaveMet T) (joined : HaveJoined T)
     (one_end : (x y : Node) → x.path ≡ y.path → HasKind S x kind.End → HasKind S y kind.End → x.index ≡ y.index) where
@@ -86,10 +80,7 @@ module _ (program : Program) (S T : Logs) (Lists : List Step → Type 0) (runs :
           in_other = subst (λ (p : List Step). IsLane T w.fork lane span p) (sym l.child) w.lane
 
           apart : w.fork ≡ x → ⊥
-          apart is =
-              let longer = lane_longer T w.fork lane span x.path in_other in
-              let size : length w.fork.path ≡ length x.path = ap (λ (n : Node). length n.path) is in
-              omega arith
+          apart is = omega (arith, lane_longer T w.fork lane span x.path in_other, ap (λ (n : Node). length n.path) is)
 
           agrees : Is w.fork
           agrees = agreed program S T Lists runs w.fork (there T w.fork kind.Region (is_region T w.fork lane span x.path in_other))
@@ -97,15 +88,12 @@ module _ (program : Program) (S T : Logs) (Lists : List Step → Type 0) (runs :
 
           -- the lane's path tells the region's number
           number : regions_before T w.fork ≡ regions_before S fork
-          number = ap (λ (s : Step). s.region) (same_lane_step w.fork.path fork.path (record { region = regions_before T w.fork; lane = lane; span = span }) (step_of S fork lane span) (sym in_other.child ∙ l.child))
+          number = ap (λ (s : Step). s.region) (same_from_push w.fork.path fork.path (record { region = regions_before T w.fork; lane = lane; span = span }) (step_of S fork lane span) (sym in_other.child ∙ l.child)).1
 
           fork_is : w.fork ≡ fork
           fork_is =
               same_region S w.fork fork (same_kind program S T Lists runs w.fork kind.Region agrees (is_region T w.fork lane span x.path in_other)) (is_region S fork lane span x.path l)
               w.above (sym (same_regions program S T Lists runs w.fork agrees) ∙ number)
-
-  back_next : (x y : Node) → IsNext x y → IsThere T y → HasEdge T x y
-  back_next x y e here = next_edge T x y e here
 
   back_fork : (x y : Node) → IsForkEdge S x y → IsThere T y → Quiet y → HasEdge T x y
   back_fork x y e here calm =
@@ -122,10 +110,7 @@ module _ (program : Program) (S T : Logs) (Lists : List Step → Type 0) (runs :
       lane = lane_here e.fork e.lane e.span x.path fork_is e.forked
 
       after_there : IsThere T (node e.fork.path (e.fork.index + 1))
-      after_there =
-          let size : length (T y.path) ≡ length (T e.fork.path) = ap (λ (p : List Step). length (T p)) e.after.same_log in
-          let after = e.after.after in
-          omega arith
+      after_there = omega (arith, ap (λ (p : List Step). length (T p)) e.after.same_log, e.after.after)
 
       by : LastIsEnd (T x.path) → HasEdge T x y
       by end = subst (λ (w : Node). HasEdge T w y) last_is edge
@@ -144,11 +129,7 @@ module _ (program : Program) (S T : Logs) (Lists : List Step → Type 0) (runs :
           }
 
           apart : node x.path (length end.prefix) ≡ y → ⊥
-          apart is =
-              let longer = lane_longer T e.fork e.lane e.span x.path lane in
-              let size : length x.path ≡ length y.path = ap (λ (n : Node). length n.path) is in
-              let same : length y.path ≡ length e.fork.path = ap length e.after.same_log in
-              omega arith
+          apart is = omega (arith, lane_longer T e.fork e.lane e.span x.path lane, ap (λ (n : Node). length n.path) is, ap length e.after.same_log)
 
           in_one : HasKind S (node x.path (length end.prefix)) kind.End
           in_one = same_kind program S T Lists runs (node x.path (length end.prefix)) kind.End (agreed_by (node x.path (length end.prefix)) y edge apart calm) last_ends
@@ -212,10 +193,7 @@ module _ (program : Program) (S T : Logs) (Lists : List Step → Type 0) (runs :
           }
 
           apart : b.barrier ≡ y → ⊥
-          apart is =
-              let same : barriers_before T b.barrier ≡ barriers_before T y = ap (λ (w : Node). barriers_before T w) is in
-              let passed = b.passed in
-              omega (arith, after, number)
+          apart is = omega (arith, after, number, ap (λ (w : Node). barriers_before T w) is, b.passed)
 
           agrees : Is b.barrier
           agrees = agreed_by b.barrier y edge apart calm
@@ -226,7 +204,7 @@ module _ (program : Program) (S T : Logs) (Lists : List Step → Type 0) (runs :
               (sym (same_barriers program S T Lists runs b.barrier agrees) ∙ b.passed)
 
   back_edge : (x y : Node) → Edge S x y → IsThere T y → Quiet y → HasEdge T x y
-  back_edge x y (Edge.next e) here calm = back_next x y e here
+  back_edge x y (Edge.next e) here calm = next_edge T x y e here
   back_edge x y (Edge.fork e) here calm = back_fork x y e here calm
   back_edge x y (Edge.join e) here calm = back_join x y e here calm
   back_edge x y (Edge.barrier e) here calm = back_barrier x y e here calm

@@ -83,19 +83,12 @@ module _ (program : Program) (S T : Logs) (Lists : List Step → Type 0) (runs :
     here = there_of T e.node bad.right bad.right_is
 
     calm : Quiet e.node
-    calm q q_before apart d = by (split (entry q d.right) (in_history q d))
-      where
-        by : Has (entry q d.right) before ⊎ Has (entry q d.right) (e ∷ after) → ⊥
-        by (inl earlier) = quiet_before (entry q d.right) earlier d
-        by (inr (inl is)) = apart (sym (ap (λ (f : Entry). f.node) is))
-        by (inr (inr later)) = behind (entry q d.right) later q_before
+    calm q q_before apart d = elim (split (entry q d.right) (in_history q d))
+        [ inl earlier ↦ quiet_before (entry q d.right) earlier d | inr (inl is) ↦ apart (sym (ap (λ (f : Entry). f.node) is)) | inr (inr later) ↦ behind (entry q d.right) later q_before ]
 
     earlier_calm : (f : Entry) → Has f before → Still f.node
-    earlier_calm f has q q_before d = by (split (entry q d.right) (in_history q d))
-      where
-        by : Has (entry q d.right) before ⊎ Has (entry q d.right) (e ∷ after) → ⊥
-        by (inl earlier) = quiet_before (entry q d.right) earlier d
-        by (inr behind) = in_order f (entry q d.right) has behind q_before
+    earlier_calm f has q q_before d =
+        elim (split (entry q d.right) (in_history q d)) [ inl earlier ↦ quiet_before (entry q d.right) earlier d | inr behind ↦ in_order f (entry q d.right) has behind q_before ]
 
     in_other : (f : Entry) → Has f before → Has f other
     in_other f has = subst (λ (es : List Entry). Has f es) (sym parts) (has_left f before (e ∷ after) has)
@@ -153,10 +146,7 @@ module _ (program : Program) (S T : Logs) (Lists : List Step → Type 0) (runs :
         found = write_record S mine mine_is.is u (in_mine u has) bad.left.addr store
 
         apart : u.node ≡ e.node → ⊥
-        apart is =
-            let same : u.event ≡ bad.left = same_Some u.event bad.left (sym found ∙ (ap (λ (x : Node). record_at S x) is ∙ bad.left_is)) in
-            let no : kind.Write ≡ kind.Read = sym store.writes ∙ (ap (λ (r : Record). r.kind) same ∙ bad.left_read) in
-            cc
+        apart is = let same : u.event ≡ bad.left = same_Some u.event bad.left (sym found ∙ (ap (λ (x : Node). record_at S x) is ∙ bad.left_is)) in cc
 
         first : HappensBefore S u.node e.node → ⊥
         first in_one = by (split u (record_entry T other other_is.is u.node u.event in_log (write_kept u.event store.writes)))
@@ -220,12 +210,8 @@ module _ (program : Program) (S T : Logs) (Lists : List Step → Type 0) (runs :
   none_behind (e ∷ after) before parts quiet f has = none_behind after (before ++ e ∷ []) (parts ∙ sym (append_assoc before (e ∷ []) after)) longer f has
     where
       longer : (g : Entry) → Has g (before ++ e ∷ []) → Differ g.node → ⊥
-      longer g in_longer d = by (has_either g before (e ∷ []) in_longer)
-        where
-          by : Has g before ⊎ Has g (e ∷ []) → ⊥
-          by (inl earlier) = quiet g earlier d
-          by (inr (inl is)) = contradiction before after e parts quiet (subst (λ (x : Node). Differ x) (sym (ap (λ (f : Entry). f.node) is)) d)
-          by (inr (inr nowhere)) = nowhere
+      longer g in_longer d = elim (has_either g before (e ∷ []) in_longer)
+          [ inl earlier ↦ quiet g earlier d | inr (inl is) ↦ contradiction before after e parts quiet (subst (λ (x : Node). Differ x) (sym (ap (λ (f : Entry). f.node) is)) d) | inr (inr nowhere) ↦ nowhere ]
 
   -- the law
   pub nothing_parts : (q : Node) → Parts program S T Lists runs q → ⊥

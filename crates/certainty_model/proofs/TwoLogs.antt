@@ -1,5 +1,5 @@
 -- The logs of one start in a run that ended and in one that may have stopped: they agree until they read different values of one element.
-use Rattle.std.proofs.Common.{◌≡◌, refl, ap, sym, ◌∙◌, subst, ◌⊎◌, inl, inr, ℕ, suc, ◌+◌, ◌<◌, ◌≤◌, List, ◌++◌, length, take, ℤ, w64, Option, Some, arith, length-append}
+use Rattle.std.proofs.Common.{◌≡◌, refl, ap, sym, ◌∙◌, subst, ◌⊎◌, inl, inr, ℕ, ◌<◌, ◌≤◌, List, ◌++◌, length, take, ℤ, w64, Option, Some, arith, length-append}
 use Rattle.std.specs.Prelude.{slice_get}
 use Rattle.std.proofs.lemmas.List.{take-append-le}
 use Rattle.std.proofs.lemmas.List.Sums.{sum_by-take-le}
@@ -65,10 +65,7 @@ module _ (mine other rest : List Record) (s t : TaskTrace) (sized : AreSized min
     where
       by : Differ s t two.s_rest two.t_rest → PartAt (slice_get mine (length two.common)) (slice_get other (length two.common))
       by (Differ.stays none end) =
-          let all : length other + length rest ≡ length two.common + length two.t_rest =
-          sym (length-append other rest) ∙ (ap length (sym begins ∙ two.t_records) ∙ length-append two.common two.t_rest) in
-          let empty : length two.t_rest ≡ 0 = ap length none in
-          absurd (omega arith)
+          absurd (omega (arith, ap length none, sym (length-append other rest) ∙ (ap length (sym begins ∙ two.t_records) ∙ length-append two.common two.t_rest)))
       by (Differ.parts e site line v w s_later t_later apart s_is t_is) = record {
         left = access kind.Read e site line (fitted v e.width);
         right = access kind.Read e site line (fitted w e.width);
@@ -104,9 +101,7 @@ module _ (mine other rest : List Record) (s t : TaskTrace) (sized : AreSized min
       by (Differ.stays none (inl same)) = inl (same ∙ ended)
       by (Differ.stays none (inr wants)) = inr wants
       by (Differ.parts e site line v w s_later t_later apart s_is t_is) =
-          let size : length other ≡ length two.common + length two.t_rest = ap length (sym whole ∙ two.t_records) ∙ length-append two.common two.t_rest in
-          let more : length two.t_rest ≡ suc (length t_later) = ap length t_is in
-          absurd (omega arith)
+          absurd (omega (arith, ap length t_is, ap length (sym whole ∙ two.t_records) ∙ length-append two.common two.t_rest))
 
   logs_of_two : TwoLogs mine other s.forks t
   logs_of_two = record { common = length two.common; alike = alike; parts = parts; forks_alike = forks_alike; ending = ending }

@@ -72,8 +72,8 @@ module _ (last : Record) (plain : last.kind ≡ kind.End) where
   more_of : (m : Outcome (Unit {0})) → More (state_of m) (state_of (finish m))
   unfolding put
   more_of (Gives a t) = put_more t.room t
-  more_of (Stops why line t) = record { more = []; records_are = sym (append-nil t.records); forks_are = refl }
-  more_of (Wants t) = record { more = []; records_are = sym (append-nil t.records); forks_are = refl }
+  more_of (Stops why line t) = put_more 0 t
+  more_of (Wants t) = put_more 0 t
 
   both_end : (room : ℕ) (c : State) (p q : Own) → IsEven c → TwoTraces (whole (put_in room last (with c p))) (whole (put_in room last (with c q)))
   both_end zero c p q even = alike (put_in 0 last (with c p)) (put_in 0 last (with c q)) refl refl refl even
@@ -83,21 +83,21 @@ module _ (last : Record) (plain : last.kind ≡ kind.End) where
   two_parts m o d =
       let mine = more_of m in
       let other = more_of o in
-      let r = access kind.Read d.element d.site d.line (fitted d.left d.element.width) in
-      let q = access kind.Read d.element d.site d.line (fitted d.right d.element.width) in
+      let r = access kind.Read d.cut.element d.cut.site d.cut.line (fitted d.cut.left d.cut.element.width) in
+      let q = access kind.Read d.cut.element d.cut.site d.cut.line (fitted d.cut.right d.cut.element.width) in
       record {
-        common = d.core.records;
-        forks = d.core.forks;
-        counts = d.even;
+        common = d.cut.core.records;
+        forks = d.cut.core.forks;
+        counts = d.cut.even;
         s_rest = r ∷ (d.left_adds.added ++ mine.more);
         t_rest = q ∷ (d.right_adds.added ++ other.more);
-        s_records = records_from d.core.records r (state_of m).records d.left_adds.added (state_of (finish m)).records mine.more d.left_adds.records_are mine.records_are;
-        t_records = records_from d.core.records q (state_of o).records d.right_adds.added (state_of (finish o)).records other.more d.right_adds.records_are other.records_are;
+        s_records = records_from d.cut.core.records r (state_of m).records d.left_adds.added (state_of (finish m)).records mine.more d.left_adds.records_are mine.records_are;
+        t_records = records_from d.cut.core.records q (state_of o).records d.right_adds.added (state_of (finish o)).records other.more d.right_adds.records_are other.records_are;
         s_more = d.left_adds.regions;
         t_more = d.right_adds.regions;
         s_forks = mine.forks_are ∙ d.left_adds.forks_are;
         t_forks = other.forks_are ∙ d.right_adds.forks_are;
-        how = Differ.parts d.element d.site d.line d.left d.right _ _ d.apart refl refl;
+        how = Differ.parts d.cut.element d.cut.site d.cut.line d.cut.left d.cut.right _ _ d.cut.apart refl refl;
       }
     where
       records_from : (core : List Record) (r : Record) (mid added end more : List Record) → mid ≡ (core ++ r ∷ []) ++ added → end ≡ mid ++ more → end ≡ core ++ (r ∷ (added ++ more))

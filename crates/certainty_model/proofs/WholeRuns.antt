@@ -66,6 +66,12 @@ listed_there tasks path there =
     slice_get-map (λ (t : TaskLog). t.path) tasks f.index ∙ (ap (λ (o : Option TaskLog). option_map (λ (t : TaskLog). t.path) o) f.found ∙ ap Some f.path_is) in
     (f.index, slice_get_within (paths_of tasks) f.index path found, get_or_from_slice_get (paths_of tasks) f.index path path found)
 
+-- the fork of a span
+fork_of : (forks : List Fork) (k span : ℕ) → slice_get (spans_forked forks) k ≡ Some span → (f : Fork) × (slice_get forks k ≡ Some f) × (span ≡ f.team.span)
+fork_of [] k span is = cc
+fork_of (f ∷ forks) zero span is = (f, refl, sym (same_Some f.team.span span is))
+fork_of (f ∷ forks) (suc k) span is = fork_of forks k span is
+
 region_from_true : (k : Kind) → is_region_kind k ≡ true → k ≡ kind.Region
 region_from_true kind.Region e = refl
 region_from_true _ e = cc
@@ -80,19 +86,9 @@ last_or prefix last r i quiet found = by prefix i found (λ (k : ℕ) (q : Recor
     by (x ∷ xs) zero at all = inl (all 0 r at)
     by (x ∷ xs) (suc k) at all = elim (by xs k at (λ j q there. all (suc j) q there)) [ inl q ↦ inl q | inr (index, same) ↦ inr (ap suc index, same) ]
 
-quiet_not : (k l : Kind) → (IsQuiet l → ⊥) → k ≡ l → IsQuiet k → ⊥
-quiet_not k l loud is quiet = loud (subst IsQuiet is quiet)
-
 held_none : (k : Kind) (m : ℕ) → (k ≡ kind.Lock → ⊥) → held_after_kind k m [] ≡ []
 held_none kind.Lock m other = absurd (other refl)
-held_none kind.Unlock m other = refl
-held_none kind.Read m other = refl
-held_none kind.Write m other = refl
-held_none kind.Barrier m other = refl
-held_none kind.Region m other = refl
-held_none kind.Chunk m other = refl
-held_none kind.Update m other = refl
-held_none kind.End m other = refl
+held_none _ m other = refl
 
 -- no mutex is held where none is locked
 unheld : (i : ℕ) (records : List Record) → ((k : ℕ) (r : Record) → slice_get records k ≡ Some r → r.kind ≡ kind.Lock → ⊥) → held_after [] (take i records) ≡ []
@@ -212,11 +208,8 @@ module _ (program : Program) (lawful : IsLawful program) (fixed : IsFixed progra
 
   -- no record is of a kind that is neither quiet nor an End
   none_loud : (x : Node) (r : Record) → record_at logs x ≡ Some r → (k : Kind) → (IsQuiet k → ⊥) → (k ≡ kind.End → ⊥) → r.kind ≡ k → ⊥
-  none_loud x r found k loud other is = by (quiet_or_last x r found)
-    where
-      by : IsQuiet r.kind ⊎ ((x.index ≡ length (ends x r found).quiet.prefix) × ((ends x r found).quiet.last ≡ r)) → ⊥
-      by (inl quiet) = quiet_not r.kind k loud is quiet
-      by (inr (index, last)) = other (sym is ∙ (ap (λ (q : Record). q.kind) (sym last) ∙ (ends x r found).quiet.ends))
+  none_loud x r found k loud other is = elim (quiet_or_last x r found)
+      [ inl quiet ↦ loud (subst IsQuiet is quiet) | inr (index, last) ↦ other (sym is ∙ (ap (λ (q : Record). q.kind) (sym last) ∙ (ends x r found).quiet.ends)) ]
 
   pub no_update : (x : Node) (r : Record) → record_at logs x ≡ Some r → r.kind ≡ kind.Update → ⊥
   no_update x r found = none_loud x r found kind.Update (λ q. q) (λ same. cc)
@@ -228,21 +221,13 @@ module _ (program : Program) (lawful : IsLawful program) (fixed : IsFixed progra
   none_held x = unheld x.index (logs x.path) (λ k r found. no_lock (node x.path k) r found)
 
   end_last : (x : Node) → (h : HasKind logs x kind.End) → x.index + 1 ≡ length (logs x.path)
-  end_last x h = by (quiet_or_last x h.event h.found)
-    where
-      by : IsQuiet h.event.kind ⊎ ((x.index ≡ length (ends x h.event h.found).quiet.prefix) × ((ends x h.event h.found).quiet.last ≡ h.event)) → x.index + 1 ≡ length (logs x.path)
-      by (inl quiet) = absurd (quiet_not h.event.kind kind.End (λ q. q) h.kind_is quiet)
-      by (inr (index, last)) =
-          let q = (ends x h.event h.found).quiet in
-          let size : length (logs x.path) ≡ length q.prefix + 1 = ap length q.parts ∙ length-append q.prefix (q.last ∷ []) in
-          omega arith
+  end_last x h =
+      let q = (ends x h.event h.found).quiet in
+      elim (quiet_or_last x h.event h.found)
+      [ inl quiet ↦ absurd (subst IsQuiet h.kind_is quiet) | inr (index, last) ↦ omega (arith, index, ap length q.parts ∙ length-append q.prefix (q.last ∷ [])) ]
 
   pub one_end : (x y : Node) → x.path ≡ y.path → HasKind logs x kind.End → HasKind logs y kind.End → x.index ≡ y.index
-  one_end x y same x_is y_is =
-      let mine = end_last x x_is in
-      let yours = end_last y y_is in
-      let size : length (logs x.path) ≡ length (logs y.path) = ap (λ (p : List Step). length (logs p)) same in
-      omega arith
+  one_end x y same x_is y_is = omega (arith, end_last x x_is, end_last y y_is, ap (λ (p : List Step). length (logs p)) same)
 
   -- an access has bytes
   tabled : (x : Node) (r : Record) → record_at logs x ≡ Some r → IsTabled FORMAT r
@@ -269,8 +254,7 @@ module _ (program : Program) (lawful : IsLawful program) (fixed : IsFixed progra
   spans_are : (path : List Step) (start : Start) → start_at program logs path ≡ Some start → spans_of (logs path) ≡ spans_forked (own_trace program start (logs path)).forks
   spans_are path start starts =
       let e = ends_last path start starts in
-      (whole_trace program start (logs path) [] ((traced_at path start starts).records_are ∙ sym (append-nil (logs path)))
-      (record { prefix = e.prefix; last = e.last; parts = e.parts; ends = e.ends })).spans
+      (whole_trace program start (logs path) [] ((traced_at path start starts).records_are ∙ sym (append-nil (logs path))) (record { prefix = e.prefix; last = e.last; parts = e.parts; ends = e.ends })).spans
 
   fork_span : (forks : List Fork) (k : ℕ) (f : Fork) → slice_get forks k ≡ Some f → slice_get (spans_forked forks) k ≡ Some f.team.span
   fork_span forks k f found = slice_get-map (λ (g : Fork). g.team.span) forks k ∙ ap (λ (o : Option Fork). option_map (λ (g : Fork). g.team.span) o) found
@@ -330,46 +314,24 @@ module _ (program : Program) (lawful : IsLawful program) (fixed : IsFixed progra
     found : slice_get (own_trace program above (logs fork.path)).forks (region_count (take fork.index (logs fork.path))) ≡ Some forked
 
   lane_starts : (fork : Node) (lane span : ℕ) (path : List Step) → IsLane logs fork lane span path → LaneStart fork lane span path
-  lane_starts fork lane span path l = by (slice_get forks k) refl
+  lane_starts fork lane span path l =
+      let step : Step = record { region = region_count (take fork.index (logs fork.path)); lane = lane; span = span } in
+      record {
+        forked = f.0;
+        starts =
+            ap (λ (p : List Step). start_at program logs p) l.child
+            ∙ (at_lane program logs fork.path e.start step e.starts ∙ (ap (λ (o : Option Fork). lane_start o step) f.1 ∙ starts_lane f.0 step f.2 l.in_span));
+        above = e.start;
+        above_starts = e.starts;
+        found = f.1;
+      }
     where
-      above : Start
-      above = (ends fork l.event l.found).start
+      e : Ends fork.path
+      e = ends fork l.event l.found
 
-      above_starts : start_at program logs fork.path ≡ Some (ends fork l.event l.found).start
-      above_starts = (ends fork l.event l.found).starts
-
-      k : ℕ
-      k = region_count (take fork.index (logs fork.path))
-
-      forks : List Fork
-      forks = (own_trace program (ends fork l.event l.found).start (logs fork.path)).forks
-
-      spanned : slice_get (spans_forked (own_trace program (ends fork l.event l.found).start (logs fork.path)).forks) (region_count (take fork.index (logs fork.path))) ≡ Some span
-      spanned =
-          ap (λ (ss : List ℕ). slice_get ss (region_count (take fork.index (logs fork.path)))) (sym (spans_are fork.path (ends fork l.event l.found).start above_starts))
-          ∙ (span_at (logs fork.path) fork.index l.event l.found l.region ∙ ap Some l.spans)
-
-      told : (o : Option Fork) → slice_get (own_trace program (ends fork l.event l.found).start (logs fork.path)).forks (region_count (take fork.index (logs fork.path))) ≡ o
-          → option_map (λ (g : Fork). g.team.span) o ≡ Some span
-      told o is =
-          ap (λ (p : Option Fork). option_map (λ (g : Fork). g.team.span) p) (sym is)
-          ∙ (sym (slice_get-map (λ (g : Fork). g.team.span) (own_trace program (ends fork l.event l.found).start (logs fork.path)).forks (region_count (take fork.index (logs fork.path)))) ∙ spanned)
-
-      by : (o : Option Fork) → slice_get (own_trace program (ends fork l.event l.found).start (logs fork.path)).forks (region_count (take fork.index (logs fork.path))) ≡ o → LaneStart fork lane span path
-      by None is = absurd (none-some span (told None is))
-      by (Some f) is =
-          let step : Step = record { region = region_count (take fork.index (logs fork.path)); lane = lane; span = span } in
-          let span_is : span ≡ f.team.span = sym (same_Some f.team.span span (told (Some f) is)) in
-          record {
-            forked = f;
-            starts =
-                ap (λ (p : List Step). start_at program logs p) l.child
-                ∙ (at_lane program logs fork.path (ends fork l.event l.found).start step above_starts
-                ∙ (ap (λ (o : Option Fork). lane_start o step) is ∙ starts_lane f step span_is l.in_span));
-            above = (ends fork l.event l.found).start;
-            above_starts = above_starts;
-            found = is;
-          }
+      f : (f : Fork) × (slice_get (own_trace program e.start (logs fork.path)).forks (region_count (take fork.index (logs fork.path))) ≡ Some f) × (span ≡ f.team.span)
+      f = fork_of (own_trace program e.start (logs fork.path)).forks (region_count (take fork.index (logs fork.path))) span
+          (ap (λ (ss : List ℕ). slice_get ss (region_count (take fork.index (logs fork.path)))) (sym (spans_are fork.path e.start e.starts)) ∙ (span_at (logs fork.path) fork.index l.event l.found l.region ∙ ap Some l.spans))
 
   pub joined : HaveJoined logs
   joined fork lane span path l there = let s = lane_starts fork lane span path l in ends_last path _ s.starts

@@ -5,7 +5,7 @@ use Rattle.log_format.specs.declared.record.Record.{Record}
 use Rattle.kernel_syntax.specs.declared.syntax.Schedule.{Schedule}
 use Rattle.kernel_syntax.specs.declared.syntax.Schedule.TheVariants.{Even, Static, Dynamic}
 use Rattle.kernel_syntax.specs.Program.{Program}
-use Rattle.kernel_syntax.specs.Tree.{Code, Done, Set, Store, If, Loop, Parallel, For, Barrier, Critical}
+use Rattle.kernel_syntax.specs.Tree.{Code, Done, Set, Store, Update, If, Loop, Parallel, For, Barrier, Critical}
 use Rattle.race_model.specs.Trace.{Trace, logs_of}
 use Rattle.race_model.specs.History.{HasLegalHistory}
 use Rattle.race_model.specs.Race.{IsRacePair}
@@ -18,12 +18,13 @@ IsFixedSchedule Even = Unit {0}
 IsFixedSchedule (Static chunk) = Unit {0}
 IsFixedSchedule (Dynamic chunk) = ⊥
 
--- No critical section stands in the statements and no loop whose chunks are drawn, in inner regions neither: in which order the lanes
--- come to it changes nothing but the values that they read.
+-- No critical section stands in the statements, no loop whose chunks are drawn and no atomic update, in inner regions neither: in
+-- which order the lanes come to it changes nothing but the values that they read.
 abbrev pub IsFixed : Code → Type 0
 IsFixed Done = Unit {0}
 IsFixed (Set slot value rest) = IsFixed rest
 IsFixed (Store array index value line site rest) = IsFixed rest
+IsFixed (Update array index value minus line site rest) = ⊥
 IsFixed (If test if_true if_false rest) = IsFixed if_true × IsFixed if_false × IsFixed rest
 IsFixed (Loop slot from to body rest) = IsFixed body × IsFixed rest
 IsFixed (Parallel span line end body rest) = IsFixed body × IsFixed rest

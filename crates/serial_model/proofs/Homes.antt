@@ -1,5 +1,5 @@
 -- Which hands come home in what a hand did.
-use Rattle.std.proofs.Common.{◌≡◌, refl, ap, ap₂, sym, ◌∙◌, ◌⊎◌, inl, inr, ℕ, suc, ◌+◌, ◌<◌, ◌≤◌, Bool, true, false, List, [], ◌∷◌, ◌++◌, length, map, append_assoc, arith, length-append}
+use Rattle.std.proofs.Common.{◌≡◌, refl, ap, ap₂, sym, ◌∙◌, ◌⊎◌, ℕ, suc, ◌+◌, ◌<◌, ◌≤◌, Bool, true, false, List, [], ◌∷◌, ◌++◌, map, append_assoc, arith}
 use Rattle.std.specs.Prelude.{◌&&◌, ◌||◌, ◌==◌}
 use Rattle.std.proofs.lemmas.List.Folds.{list_any-append}
 use Rattle.log_format.specs.declared.record.Record.{Record}
@@ -42,22 +42,15 @@ home_first p i name k xs apart rest = ap₂ (λ (a b : Bool). a || b) (by (k == 
 
 -- the records of a task join no hand
 pub puts_home : (p : Name) (i : ℕ) (name : Name) (word : ℕ → ℕ) (k : Kind) (r : Record) → came_home p i (map (item name) (deeds_of word k r)) ≡ false
-puts_home p i name word kind.Read r = plain_first p i (item name (deed.Read (word r.addr) r.value)) [] refl refl
-puts_home p i name word kind.Write r = plain_first p i (item name (deed.Write (word r.addr) r.value)) [] refl refl
-puts_home p i name word kind.Lock r = plain_first p i (item name (deed.Lock r.addr)) [] refl refl
-puts_home p i name word kind.Unlock r = plain_first p i (item name (deed.Unlock r.addr)) [] refl refl
-puts_home p i name word kind.Update r = plain_first p i (item name (deed.Update (word r.addr) r.value)) [] refl refl
 puts_home p i name word kind.Barrier r = refl
 puts_home p i name word kind.Region r = refl
 puts_home p i name word kind.Chunk r = refl
 puts_home p i name word kind.End r = refl
+puts_home p i name word _ r = ap (λ (b : Bool). b || false) (never (name_eq name p))
 
 pub splits_home : (p : Name) (i : ℕ) (name : Name) (k lane span : ℕ) (team : TeamWork) → came_home p i (splits_of name k lane span team) ≡ false
 splits_home p i name k lane span NoWork = refl
 splits_home p i name k lane span (Beside work others) = plain_first p i (item name (deed.Split k lane span)) (splits_of name (suc k) (suc lane) span others) refl (splits_home p i name (suc k) (suc lane) span others)
-
-pub longer : (name pre : Name) (j : ℕ) → name ≡ pre ++ j ∷ name → ⊥
-longer name pre j same = let size : length name ≡ length (pre ++ j ∷ name) = ap length same in omega (arith, length-append pre (j ∷ name))
 
 -- below one of these numbers nothing is left to say
 untouched_child : (p : Name) (i : ℕ) (name : Name) (k count c n : ℕ) → Untouched p i name k count → k ≤ c → c < k + count → Untouched p i (c ∷ name) 0 n
@@ -67,12 +60,10 @@ untouched_child p i name k count c n u least most = record {
 }
   where
     inside : Outside c k count → ⊥
-    inside (inl less) = omega arith
-    inside (inr more) = omega arith
+    inside out = grind arith
 
 narrow : (i k count j n : ℕ) → k ≤ j → j + n ≤ k + count → Outside i k count → Outside i j n
-narrow i k count j n least most (inl less) = inl (omega arith)
-narrow i k count j n least most (inr more) = inr (omega arith)
+narrow i k count j n least most out = grind arith
 
 untouched_part : (p : Name) (i : ℕ) (name : Name) (k count j n : ℕ) → Untouched p i name k count → k ≤ j → j + n ≤ k + count → Untouched p i name j n
 untouched_part p i name k count j n u least most =
@@ -102,9 +93,5 @@ module _ (word : ℕ → ℕ) (p : Name) (i : ℕ) where
         came_both p i (did word (k ∷ name) 0 work) (item name (deed.Home k) ∷ did_team word name (suc k) others)
         (did_home (k ∷ name) 0 work (untouched_child p i name k (suc (lane_count_of others)) k (split_count work) u (omega arith) (omega arith)))
         (home_first p i name k (did_team word name (suc k) others)
-        (λ same number. by same number (u.here same))
+        (λ same number. let out = u.here same in grind arith)
         (team_home name (suc k) others (untouched_part p i name k (suc (lane_count_of others)) (suc k) (lane_count_of others) u (omega arith) (omega arith))))
-      where
-        by : name ≡ p → k ≡ i → Outside i k (suc (lane_count_of others)) → ⊥
-        by same number (inl less) = omega arith
-        by same number (inr more) = omega arith

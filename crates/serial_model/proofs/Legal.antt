@@ -13,9 +13,9 @@ use Rattle.step_history.specs.History.{Name, name_eq, item, is_home, is_split, c
 use Rattle.step_history.proofs.Names.{is_same_name}
 use Rattle.history_model.specs.Work.{Work, Rest, Put, Fork, Phases, NoPhase, Phase, TeamWork, NoWork, Beside}
 use Rattle.history_model.specs.Did.{deeds_of, lane_count_of, phase_splits, split_count, splits_of, did, did_phases, did_team}
-use Rattle.history_laws.proofs.WorkNames.{apart_below}
+use Rattle.history_laws.proofs.WorkNames.{apart_below, longer}
 use Rattle.serial_model.specs.Serial.{FindSo, IsSerial, Leaves}
-use Rattle.serial_model.proofs.Homes.{Outside, Untouched, came_both, home_first, longer, puts_home, splits_home, did_home, phases_home, team_home}
+use Rattle.serial_model.proofs.Homes.{Untouched, came_both, home_first, puts_home, splits_home, did_home, phases_home, team_home}
 
 -- ---- parts of lists
 
@@ -71,34 +71,22 @@ ready_more name k j before xs r le stays none = record {
     earlier p i (Later.own same more) = Later.own same (omega arith)
     earlier p i (Later.under pre l same more) = Later.under pre l same (omega arith)
 
+shorter : (name : Name) (c : ℕ) (q : Name) → name ≡ c ∷ q → name ≡ q → ⊥
+shorter name c q same is = omega (arith, ap length same, ap length is)
+
 -- what a hand does below its splits from k on joins neither itself nor a hand of a later split
 not_itself : (name : Name) (c : ℕ) (q : Name) (k count : ℕ) → name ≡ c ∷ q → Untouched q c name k count
-not_itself name c q k count same = record { here = λ is. absurd (shorter is); below = λ pre j is. absurd (deeper pre j is) }
+not_itself name c q k count same = record { here = λ is. absurd (shorter name c q same is); below = λ pre j is. absurd (deeper pre j is) }
   where
-    size : length name ≡ suc (length q)
-    size = ap length same
-
-    shorter : name ≡ q → ⊥
-    shorter is = let e : length name ≡ length q = ap length is in omega (arith, size)
-
     deeper : (pre : Name) (j : ℕ) → q ≡ pre ++ j ∷ name → ⊥
-    deeper pre j is = let e : length q ≡ length (pre ++ j ∷ name) = ap length is in omega (arith, size, length-append pre (j ∷ name))
+    deeper pre j is = omega (arith, ap length same, ap length is, length-append pre (j ∷ name))
 
 not_later : (name : Name) (k count : ℕ) (p : Name) (i : ℕ) → Later name (k + count) p i → Untouched p i name k count
 not_later name k count p i (Later.own same more) = record { here = λ is. inr more; below = λ pre j is. absurd (longer name pre j (sym same ∙ is)) }
 not_later name k count p i (Later.under pre j same more) = record {
   here = λ is. absurd (longer name pre j (is ∙ same));
-  below = λ other l is. by other l is;
+  below = λ other l is. let number = λ (apart : j ≡ l → ⊥). apart_below name pre other j l apart (sym same ∙ is) in inr (grind (arith, number));
 }
-  where
-    by : (other : Name) (l : ℕ) → p ≡ other ++ l ∷ name → Outside l k count
-    by other l is = inr (grind (arith, number))
-      where
-        number : (j ≡ l → ⊥) → ⊥
-        number apart = apart_below name pre other j l apart (sym same ∙ is)
-
-shorter : (name : Name) (c : ℕ) (q : Name) → name ≡ c ∷ q → name ≡ q → ⊥
-shorter name c q same is = let size : length name ≡ suc (length q) = ap length same in let e : length name ≡ length q = ap length is in omega arith
 
 home_apart : (name : Name) (k : ℕ) (p : Name) (i : ℕ) → Later name (suc k) p i → name ≡ p → k ≡ i → ⊥
 home_apart name k p i (Later.own same more) is number = omega arith
@@ -107,15 +95,11 @@ home_apart name k p i (Later.under pre j same more) is number = longer name pre 
 module _ (word : ℕ → ℕ) where
   -- each of these steps finds the hand out
   legal_records : (name : Name) (kd : Kind) (r : Record) (before : List Item) → is_out name before ≡ true → FindSo before (map (item name) (deeds_of word kd r)) → LegalAfter before (map (item name) (deeds_of word kd r))
-  legal_records name kind.Read r before out find = (record { out = out; fits = find.0 }, tt)
-  legal_records name kind.Write r before out find = (record { out = out; fits = tt }, tt)
-  legal_records name kind.Lock r before out find = (record { out = out; fits = find.0 }, tt)
-  legal_records name kind.Unlock r before out find = (record { out = out; fits = find.0 }, tt)
-  legal_records name kind.Update r before out find = (record { out = out; fits = tt }, tt)
   legal_records name kind.Barrier r before out find = tt
   legal_records name kind.Region r before out find = tt
   legal_records name kind.Chunk r before out find = tt
   legal_records name kind.End r before out find = tt
+  legal_records name _ r before out find = (record { out = out; fits = find.0 }, tt)
 
   legal_splits : (name : Name) (k lane span : ℕ) (team : TeamWork) (before : List Item) → is_out name before ≡ true → LegalAfter before (splits_of name k lane span team)
   legal_splits name k lane span NoWork before out = tt
@@ -167,14 +151,11 @@ module _ (word : ℕ → ℕ) where
   parent_stays : (name : Name) (k n : ℕ) (c : ℕ) (q : Name) → name ≡ c ∷ q → Untouched q c (k ∷ name) 0 n
   parent_stays name k n c q same = record { here = λ is. absurd (first is); below = λ pre j is. absurd (deeper pre j is) }
     where
-      size : length name ≡ suc (length q)
-      size = ap length same
-
       first : k ∷ name ≡ q → ⊥
-      first is = let e : suc (length name) ≡ length q = ap length is in omega (arith, size)
+      first is = omega (arith, ap length same, ap length is)
 
       deeper : (pre : Name) (j : ℕ) → q ≡ pre ++ j ∷ k ∷ name → ⊥
-      deeper pre j is = let e : length q ≡ length (pre ++ j ∷ k ∷ name) = ap length is in omega (arith, size, length-append pre (j ∷ k ∷ name))
+      deeper pre j is = omega (arith, ap length same, ap length is, length-append pre (j ∷ k ∷ name))
 
   after_did : (name : Name) (k : ℕ) (work : Work) (before : List Item) → Ready name k before → Ready name (k + split_count work) (before ++ did word name k work)
   after_did name k work before r =

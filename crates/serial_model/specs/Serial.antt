@@ -35,15 +35,19 @@ IsSerial word root = FindSo [] (did word [] 0 root)
 abbrev pub Leaves : (ℕ → ℕ) → Work → List ℕ → Type 0
 Leaves word root memory = (w : ℕ) → w < length memory → slice_index memory w ≡ value_at w (did word [] 0 root)
 
--- The tree of work is that of a serial run of the kernel: its tasks have the traces of the kernel's, from the root down; its steps find the
--- words as they were left, and leave this memory, of which these are the values of the elements; and its root ended.
-pub record RunsSerially (program : Program) (layout : WordLayout) (depth : ℕ) (root : Work) (memory words : List ℕ) : Type 0 where
+-- The tree of work is that of a whole run of the kernel: its tasks have the traces of the kernel's, from the root down, and its root ended;
+-- and these are the values of the elements in this memory.
+pub record IsWorkOf (program : Program) (layout : WordLayout) (depth : ℕ) (root : Work) (memory words : List ℕ) : Type 0 where
   pub sound : IsSound layout root
   pub joined : IsJoined root
   pub runs : RunsTask program (root_start program) (root ∷ [])
   pub nests : NestsWithin depth root
   pub addresses : HasAddresses layout memory
   pub fitted : AreFitted layout memory words
+  pub ended : LastIsEnd (logs_of (logged_tasks depth root) [])
+
+-- Its steps find the words as they were left, and leave this memory.
+pub record RunsSerially (program : Program) (layout : WordLayout) (depth : ℕ) (root : Work) (memory words : List ℕ) : Type 0 where
+  pub work : IsWorkOf program layout depth root memory words
   pub serial : IsSerial layout.word root
   pub leaves : Leaves layout.word root memory
-  pub ended : LastIsEnd (logs_of (logged_tasks depth root) [])
