@@ -1,7 +1,7 @@
 //! Tables of cases: a folder, what is asked over it, and what is left.
 
 use crate::commands::{REPLAY, RUN, printed};
-use crate::folders::{Task, hold_tasks};
+use crate::folders::{Task, hold_old_tasks, hold_tasks};
 use command_answer::DONE;
 use std::alloc::Global;
 use std::sync::Wait;
@@ -19,6 +19,8 @@ pub struct Case<'a> {
     pub held: &'a [(&'a str, &'a str)],
     /// The tasks whose logs and index stand in `d`. Where there are none there is no index.
     pub tasks: &'a [Task<'a>],
+    /// The same of tasks of the first format.
+    pub old_tasks: &'a [Task<'a>],
     /// Which writes of the output fail, in each answer.
     pub failing: &'a [u64],
     pub asked: &'a [Question<'a>],
@@ -32,6 +34,7 @@ pub struct Case<'a> {
 pub const EMPTY: Case<'static> = Case {
     held: &[],
     tasks: &[],
+    old_tasks: &[],
     failing: &[],
     asked: &[],
     left: &[],
@@ -43,6 +46,9 @@ pub fn folder_of(alloc: Global, case: &Case<'_>) -> Result<MemFolder, Memory> {
     let mut folder = MemFolder::new(alloc)?;
     if !case.tasks.is_empty() {
         hold_tasks(alloc, &mut folder, case.tasks)?;
+    }
+    if !case.old_tasks.is_empty() {
+        hold_old_tasks(alloc, &mut folder, case.old_tasks)?;
     }
     for (name, text) in case.held {
         folder.hold(name, text.as_bytes())?;

@@ -3,7 +3,7 @@
 use std::alloc::{AllocError, Global};
 use std::sync::Wait;
 use std::thread::Threads;
-use sw_base::{Gate, MemFolder, MemOut, Memory, NoGate};
+use sw_base::{Folder, Gate, MemOut, Memory, NoGate};
 use top_call::sword;
 
 /// What makes a kernel run.
@@ -17,7 +17,7 @@ pub const SHOW: &[&str] = &["show", "d"];
 
 /// What other words are answered with.
 pub const USAGE_LINE: &str =
-    "usage: sword check DIR W | run KERNEL DIR SIZE | replay KERNEL DIR | show DIR | gen N W\n";
+    "usage: sword check DIR W | run KERNEL DIR SIZE | replay KERNEL DIR | show DIR | gen N W | upgrade DIR NEW\n";
 
 fn arguments(alloc: Global, given: &[&str]) -> Result<Vec<String>, AllocError> {
     let mut all = Vec::new(alloc);
@@ -28,10 +28,10 @@ fn arguments(alloc: Global, given: &[&str]) -> Result<Vec<String>, AllocError> {
 }
 
 /// The status of what these arguments ask for.
-pub fn asked<R: Threads + Wait + Sync, G: Gate>(
+pub fn asked<R: Threads + Wait + Sync, F: Folder, G: Gate>(
     rt: &R,
     alloc: Global,
-    folder: &mut MemFolder,
+    folder: &mut F,
     given: &[&str],
     out: &mut MemOut,
     gate: &G,
@@ -41,10 +41,10 @@ pub fn asked<R: Threads + Wait + Sync, G: Gate>(
 }
 
 /// The status where these writes of the output fail, and what is printed.
-pub fn printed<R: Threads + Wait + Sync>(
+pub fn printed<R: Threads + Wait + Sync, F: Folder>(
     rt: &R,
     alloc: Global,
-    folder: &mut MemFolder,
+    folder: &mut F,
     given: &[&str],
     failing: &[u64],
 ) -> Result<(u8, MemOut), Memory> {

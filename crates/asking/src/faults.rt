@@ -18,6 +18,8 @@ pub struct Calls<'a> {
     pub reads: u64,
     /// How many other calls on the folder there are.
     pub writes: u64,
+    /// Where files are read between those that are put: the numbers of the calls that put them.
+    pub puts: &'a [u64],
     /// How many writes of the output.
     pub prints: u64,
     /// Tasks, with the calls on the log of each.
@@ -93,10 +95,18 @@ fn whole_files(left: &MemFolder, due: &MemFolder, names: &[&str]) -> Option<usiz
     Some(whole)
 }
 
+// Whether this call on the folder reads.
+fn is_read(calls: &Calls<'_>, call: u64) -> bool {
+    if calls.puts.is_empty() {
+        return call <= calls.reads;
+    }
+    !calls.puts.contains(&call)
+}
+
 // Whether the answer's status is due where this call fails.
 fn has_due_status(left: &Left, calls: &Calls<'_>, place: Place<'_>, call: u64) -> bool {
     match place {
-        Place::Folder if call <= calls.reads => left.status == READ_FAULT,
+        Place::Folder if is_read(calls, call) => left.status == READ_FAULT,
         _ => left.status == WRITE_FAULT,
     }
 }
@@ -112,6 +122,9 @@ fn has_due_files(left: &Left, due: &Left, calls: &Calls<'_>, place: Place<'_>, c
     let all = calls.made.len();
     match (whole_files(&left.folder, &due.folder, calls.made), place) {
         (Some(whole), Place::Out) => whole == all,
+        (Some(whole), Place::Folder) if !calls.puts.is_empty() => {
+            whole == calls.puts.iter().filter(|put| **put < call).count()
+        }
         (Some(whole), Place::Folder) if calls.reads < call => whole < all,
         (Some(_), _) => calls
             .made
@@ -152,7 +165,7 @@ fn each_fails<R: Threads + Wait + Sync>(
 }
 
 /// Fails where some call that fails alone leaves something else than it should: the status of a fault, a shorter beginning of the text, and
-/// of the files those before it, the beginning of one at most, and none where a read or a log fails.
+/// of the files those before it, the beginning of one at most, and none where a read or a log fails before the first is put.
 pub fn each_call_may_fail<R: Threads + Wait + Sync>(
     rt: &R,
     alloc: Global,

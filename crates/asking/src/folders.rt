@@ -84,11 +84,17 @@ fn log_name(alloc: Global, steps: &[Step]) -> Result<String, AllocError> {
     Ok(name)
 }
 
-/// Puts the logs of these tasks into the folder `d`, and an index with their rows.
-pub fn hold_tasks(alloc: Global, folder: &mut MemFolder, tasks: &[Task<'_>]) -> Result<(), Memory> {
-    let mut index = b"SWIDX002".to_vec(alloc)?;
+// Puts the logs of these tasks into the folder `d`, and an index with their rows, each file with the header of its kind.
+fn hold_under(
+    alloc: Global,
+    folder: &mut MemFolder,
+    of_index: &[u8],
+    of_log: &[u8],
+    tasks: &[Task<'_>],
+) -> Result<(), Memory> {
+    let mut index = of_index.to_vec(alloc)?;
     for (steps, records) in tasks {
-        let mut log = b"SWLOG002".to_vec(alloc)?;
+        let mut log = of_log.to_vec(alloc)?;
         for record in records.iter() {
             spell(&mut log, record)?;
         }
@@ -96,4 +102,18 @@ pub fn hold_tasks(alloc: Global, folder: &mut MemFolder, tasks: &[Task<'_>]) -> 
         spell_row(&mut index, steps, records.len())?;
     }
     folder.hold("d/index.swi", &index)
+}
+
+/// Puts the logs of these tasks into the folder `d`, and an index with their rows.
+pub fn hold_tasks(alloc: Global, folder: &mut MemFolder, tasks: &[Task<'_>]) -> Result<(), Memory> {
+    hold_under(alloc, folder, b"SWIDX002", b"SWLOG002", tasks)
+}
+
+/// The same by the first format.
+pub fn hold_old_tasks(
+    alloc: Global,
+    folder: &mut MemFolder,
+    tasks: &[Task<'_>],
+) -> Result<(), Memory> {
+    hold_under(alloc, folder, b"SWIDX001", b"SWLOG001", tasks)
 }

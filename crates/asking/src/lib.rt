@@ -17,4 +17,4 @@ pub use cases::{
 };
 pub use commands::{REPLAY, RUN, SHOW, USAGE_LINE, asked, printed};
 pub use faults::{Calls, each_call_may_fail};
-pub use folders::{BARRIER, END, ROOT, Rec, Step, Task, hold_tasks};
+pub use folders::{BARRIER, END, ROOT, Rec, Step, Task, hold_old_tasks, hold_tasks};

@@ -1,4 +1,4 @@
-//! Tests of what the top call prints of folders of logs: `check`, `show` and `gen`, and the usage line.
+//! Tests of what the top call prints of folders of logs: `check`, `show`, `gen` and `upgrade`, and the usage line.
 //!
 //! They stand beside `top_call`, and not in it, since a crate with tests is proved twice.
 #![tactic(auto)]

@@ -4,4 +4,5 @@ mod graph;
 mod reasons;
 mod sweeping;
 mod texts;
+mod upgrades;
 mod workers;

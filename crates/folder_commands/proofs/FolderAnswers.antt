@@ -15,6 +15,6 @@ pub answered_of : (answer : Trace → ℕ → List ℕ → Type 0) (files : File
 answered_of answer files dir trace good holds old new result = Tries-weaker (answer trace) (FolderDue answer files dir) old new result (λ status text is. answered trace good holds is)
 
 -- the answer for its first bad place is the folder's
-pub refused_of : (answer : Trace → ℕ → List ℕ → Type 0) (files : Files) (dir : List ℕ) (old new : Option (List ℕ)) (result : ℕ) → Tries (IsRefusedFolder files dir) old new result
+pub refused_of : (answer : Trace → ℕ → List ℕ → Type 0) (files : Files) (dir : List ℕ) (old new : Option (List ℕ)) (result : ℕ) → Tries (IsRefusedFolder FORMAT files dir) old new result
     → Tries (FolderDue answer files dir) old new result
-refused_of answer files dir old new result = Tries-weaker (IsRefusedFolder files dir) (FolderDue answer files dir) old new result (λ status text is. refused is)
+refused_of answer files dir old new result = Tries-weaker (IsRefusedFolder FORMAT files dir) (FolderDue answer files dir) old new result (λ status text is. refused is)

@@ -4,3 +4,4 @@ pub mod OneAnswer
 pub mod Sweeping
 pub mod Listed
 pub mod Refusals
+pub mod Upgrades

@@ -7,6 +7,8 @@ use Rattle.std.specs.List.Sorted.{IsStrictlySortedBy}
 use Rattle.std.proofs.lemmas.List.Elements.{Contains-append_cases, Contains-push_cases}
 use Rattle.sw_base.specs.declared.path.Step.{Step}
 use Rattle.sw_base.specs.Environment.{Files}
+use Rattle.log_format.specs.declared.format.Format.{Format}
+use Rattle.log_format.specs.declared.format.TheConstants.{FORMAT}
 use Rattle.race_model.specs.BadPlace.{BadPlace, no_index, bad_row, missing_log, bad_record, too_many_segments}
 use Rattle.race_model.specs.Trace.{Trace, logs_of}
 use Rattle.race_model.specs.Race.{IsRacePair, Lists, pair_cmp}
@@ -73,24 +75,24 @@ same_lists (p ∷ ps) (q ∷ qs) up uq there back = let rest : ps ≡ qs = same_
 pub one_list : (P : ℕ × ℕ → Type 0) (ps qs : List (ℕ × ℕ)) → Lists P ps → Lists P qs → ps ≡ qs
 one_list P ps qs one other = same_lists ps qs one.ascending other.ascending (λ p h. (other.each p).1 ((one.each p).0 h)) (λ p h. (one.each p).1 ((other.each p).0 h))
 
-names_once : (files : Files) (dir : List ℕ) (row : ℕ) (text_of : List Step → List ℕ) (t u : List ℕ) → NamesLog files dir row text_of t → NamesLog files dir row text_of u → t ≡ u
-names_once files dir row text_of t u (p, is_p, t_is) (q, is_q, u_is) = t_is ∙ ap text_of (row_task_once files dir p q row is_p is_q) ∙ sym u_is
+names_once : (format : Format) (files : Files) (dir : List ℕ) (row : ℕ) (text_of : List Step → List ℕ) (t u : List ℕ) → NamesLog format files dir row text_of t → NamesLog format files dir row text_of u → t ≡ u
+names_once format files dir row text_of t u (p, is_p, t_is) (q, is_q, u_is) = t_is ∙ ap text_of (row_task_once files dir p q row is_p is_q) ∙ sym u_is
 
-place_text_once : (files : Files) (dir : List ℕ) (place : BadPlace) (t u : List ℕ) → IsPlaceText files dir place t → IsPlaceText files dir place u → t ≡ u
-place_text_once files dir no_index t u a b = a ∙ sym b
-place_text_once files dir (bad_row n why) t u a b = a ∙ sym b
-place_text_once files dir (missing_log row) t u a b = names_once files dir row _ t u a b
-place_text_once files dir (bad_record row n why) t u a b = names_once files dir row _ t u a b
-place_text_once files dir (too_many_segments row n) t u a b = names_once files dir row _ t u a b
+place_text_once : (format : Format) (files : Files) (dir : List ℕ) (place : BadPlace) (t u : List ℕ) → IsPlaceText format files dir place t → IsPlaceText format files dir place u → t ≡ u
+place_text_once format files dir no_index t u a b = a ∙ sym b
+place_text_once format files dir (bad_row n why) t u a b = a ∙ sym b
+place_text_once format files dir (missing_log row) t u a b = names_once format files dir row _ t u a b
+place_text_once format files dir (bad_record row n why) t u a b = names_once format files dir row _ t u a b
+place_text_once format files dir (too_many_segments row n) t u a b = names_once format files dir row _ t u a b
 
-refused_once : (files : Files) (dir : List ℕ) (s r : ℕ) (t u : List ℕ) → IsRefusedFolder files dir s t → IsRefusedFolder files dir r u → t ≡ u
-refused_once files dir s r t u a b =
-    place_text_once files dir b.place t u (subst (λ (p : BadPlace). IsPlaceText files dir p t) (first_bad_once files dir a.place b.place a.first b.first) a.names) b.names
+pub refused_once : (format : Format) (files : Files) (dir : List ℕ) (s r : ℕ) (t u : List ℕ) → IsRefusedFolder format files dir s t → IsRefusedFolder format files dir r u → t ≡ u
+refused_once format files dir s r t u a b =
+    place_text_once format files dir b.place t u (subst (λ (p : BadPlace). IsPlaceText format files dir p t) (first_bad_once files dir a.place b.place a.first b.first) a.names) b.names
 
 -- where the answer for a run is one, the answer for a folder is
 due_once : (answer : Trace → ℕ → List ℕ → Type 0) → ((trace : Trace) (s r : ℕ) (t u : List ℕ) → answer trace s t → answer trace r u → t ≡ u)
     → (files : Files) (dir : List ℕ) (s r : ℕ) (t u : List ℕ) → FolderDue answer files dir s t → FolderDue answer files dir r u → t ≡ u
-due_once answer once files dir s r t u (refused a) (refused b) = refused_once files dir s r t u a b
+due_once answer once files dir s r t u (refused a) (refused b) = refused_once FORMAT files dir s r t u a b
 due_once answer once files dir s r t u (refused a) (answered trace good holds is) = absurd (good a.place a.first.bad)
 due_once answer once files dir s r t u (answered trace good holds is) (refused b) = absurd (good b.place b.first.bad)
 due_once answer once files dir s r t u (answered one _ one_holds a) (answered other _ other_holds b) =

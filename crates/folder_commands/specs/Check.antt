@@ -1,5 +1,6 @@
 -- What `check` answers: the first bad place of the folder, or the race pairs of the run that it holds.
 use Rattle.std.specs.Prelude.{◌≡◌, ℕ, List, [], ◌∷◌, Option}
+use Rattle.log_format.specs.declared.format.Format.{Format}
 use Rattle.log_format.specs.declared.format.TheConstants.{FORMAT}
 use Rattle.sw_base.specs.declared.path.Step.{Step}
 use Rattle.sw_base.specs.Environment.{Files, Content, WhereTold}
@@ -19,27 +20,27 @@ report_status [] = DONE
 report_status (pair ∷ pairs) = RACES
 
 -- a text that names the log of a row of the folder's index
-abbrev pub NamesLog : Files → List ℕ → ℕ → (List Step → List ℕ) → List ℕ → Type 0
-NamesLog files dir row text_of text = (path : List Step) × IsLogRow FORMAT files dir path row × (text ≡ text_of path)
+abbrev pub NamesLog : Format → Files → List ℕ → ℕ → (List Step → List ℕ) → List ℕ → Type 0
+NamesLog format files dir row text_of text = (path : List Step) × IsLogRow format files dir path row × (text ≡ text_of path)
 
 -- the text for a bad place
-abbrev pub IsPlaceText : Files → List ℕ → BadPlace → List ℕ → Type 0
-IsPlaceText files dir no_index text = text ≡ no_index_text
-IsPlaceText files dir (bad_row n why) text = text ≡ bad_row_text n why
-IsPlaceText files dir (missing_log row) text = NamesLog files dir row missing_log_text text
-IsPlaceText files dir (bad_record row n why) text = NamesLog files dir row (λ path. bad_record_text path n why) text
-IsPlaceText files dir (too_many_segments row n) text = NamesLog files dir row (λ path. too_many_segments_text path n) text
+abbrev pub IsPlaceText : Format → Files → List ℕ → BadPlace → List ℕ → Type 0
+IsPlaceText format files dir no_index text = text ≡ no_index_text
+IsPlaceText format files dir (bad_row n why) text = text ≡ bad_row_text n why
+IsPlaceText format files dir (missing_log row) text = NamesLog format files dir row missing_log_text text
+IsPlaceText format files dir (bad_record row n why) text = NamesLog format files dir row (λ path. bad_record_text path n why) text
+IsPlaceText format files dir (too_many_segments row n) text = NamesLog format files dir row (λ path. too_many_segments_text path n) text
 
--- the folder is refused at its first bad place
-pub record IsRefusedFolder (files : Files) (dir : List ℕ) (status : ℕ) (text : List ℕ) : Type 0 where
+-- a folder of this format is refused at its first bad place
+pub record IsRefusedFolder (format : Format) (files : Files) (dir : List ℕ) (status : ℕ) (text : List ℕ) : Type 0 where
   pub place : BadPlace
-  pub first : IsFirstBad FORMAT files dir place
-  pub names : IsPlaceText files dir place text
+  pub first : IsFirstBad format files dir place
+  pub names : IsPlaceText format files dir place text
   pub status_is : status ≡ FOLDER_REFUSED
 
 -- what is due of a command that reads the run of a folder: the first bad place, or the command's answer for the run
 pub data FolderDue (answer : Trace → ℕ → List ℕ → Type 0) (files : Files) (dir : List ℕ) (status : ℕ) (text : List ℕ) : Type 0 where
-  refused : IsRefusedFolder files dir status text → FolderDue answer files dir status text
+  refused : IsRefusedFolder FORMAT files dir status text → FolderDue answer files dir status text
   answered : (trace : Trace) → IsWellFormed FORMAT files dir → HoldsTrace FORMAT files dir trace → answer trace status text → FolderDue answer files dir status text
 
 -- the report of the race pairs of a run

@@ -3,3 +3,4 @@ pub mod Gen
 pub mod Replay
 pub mod Show
 pub mod Texts
+pub mod Upgrade

@@ -58,6 +58,10 @@ bad_record_text path n why = codes "bad log " ++ bare_log_name path ++ codes " r
 abbrev pub too_many_segments_text : List Step → ℕ → List ℕ
 too_many_segments_text path n = codes "too many segments at " ++ bare_log_name path ++ codes " record " ++ decimal n ++ codes "\n"
 
+-- so many logs were brought over
+abbrev pub upgraded_text : ℕ → List ℕ
+upgraded_text count = codes "upgraded " ++ decimal count ++ codes "\n"
+
 abbrev pub same_text : List ℕ
 same_text = codes "same\n"
 

@@ -11,8 +11,10 @@ mod refusing;
 mod replaying;
 mod showing;
 mod texts;
+mod upgrading;
 
 pub use checking::check;
 pub use generating::check_generated;
 pub use replaying::replay_file;
 pub use showing::show;
+pub use upgrading::upgrade_folder;

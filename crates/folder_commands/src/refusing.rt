@@ -1,11 +1,11 @@
 //! What is printed for a folder that is refused.
 ghost use Rattle.std.specs.Prelude.{◌≡◌, ◌⊎◌, ◌≤◌, ◌↔◌, List, None, ℕ, string_bytes, IfOk, IfSome, IsTrue};
-ghost use Rattle.log_format.specs.declared.format.TheConstants.{FORMAT};
+ghost use Rattle.log_format.specs.declared.format.Format.{Format};
 ghost use Rattle.sw_base.specs.Environment.{Files, Rose};
 ghost use Rattle.log_walk.specs.Walk.{TellsFirstBad};
 ghost use Rattle.log_walk.specs.declared.fault.WalkFault.TheVariants as fault;
 ghost use Rattle.command_answer.specs.Answer.{Tries};
-ghost use Rattle.command_answer.specs.declared.status.TheConstants.{USAGE, FOLDER_REFUSED, READ_FAULT, WRITE_FAULT};
+ghost use Rattle.command_answer.specs.declared.status.TheConstants.{DONE, USAGE, FOLDER_REFUSED, READ_FAULT, WRITE_FAULT};
 ghost use Rattle.folder_commands.specs.Check.{IsRefusedFolder};
 
 use crate::texts;
@@ -16,8 +16,8 @@ use sw_base::{Memory, Out};
 
 /// The text of the first bad place, where the fault tells one.
 fn place_text(alloc: Global, refused: &WalkFault) -> Result<Option<String>, Memory>
-    ensures place { IfOk result (λ found. IfSome found (λ text. (files : Files) (dir : List ℕ) → TellsFirstBad FORMAT files dir refused.now
-        → IsRefusedFolder files dir FOLDER_REFUSED (string_bytes text))) }
+    ensures place { IfOk result (λ found. IfSome found (λ text. (format : Format) (files : Files) (dir : List ℕ) → TellsFirstBad format files dir refused.now
+        → IsRefusedFolder format files dir FOLDER_REFUSED (string_bytes text))) }
     ensures none { IfOk result (λ found. (found ≡ None) ↔ ((refused.now ≡ fault.ReadFault) ⊎ (refused.now ≡ fault.Memory))) }
 {
     Ok(Some(match refused {
@@ -42,11 +42,12 @@ fn is_read_fault(refused: &WalkFault) -> bool
 
 /// Prints why a folder is refused.
 pub fn refuse<O: Out>(alloc: Global, out: &mut O, refused: WalkFault) -> u8
-    ensures answers { (files : Files) (dir : List ℕ) → TellsFirstBad FORMAT files dir refused → Tries (IsRefusedFolder files dir) (O.written out.old) (O.written out.new) result }
+    ensures answers { (format : Format) (files : Files) (dir : List ℕ) → TellsFirstBad format files dir refused → Tries (IsRefusedFolder format files dir) (O.written out.old) (O.written out.new) result }
     ensures later { O.faults out.old ≤ O.faults out.new }
     ensures write_fault { result ≡ WRITE_FAULT → Rose (O.faults out.old) (O.faults out.new) }
     ensures read_fault { (result ≡ READ_FAULT) ↔ (refused ≡ fault.ReadFault) }
     ensures no_usage { result ≡ USAGE → ⊥ }
+    ensures no_done { result ≡ DONE → ⊥ }
 {
     match place_text(alloc, &refused) {
         Ok(Some(text)) => print(alloc, out, text.as_bytes(), FOLDER_REFUSED),

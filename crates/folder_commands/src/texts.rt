@@ -1,6 +1,6 @@
 //! The texts of the program.
 ghost use Rattle.std.specs.Prelude.{◌≡◌, IfOk, string_bytes};
-ghost use Rattle.folder_commands.specs.Texts.{index_why_name, record_why_name, no_index_text, bad_row_text, missing_log_text, bad_record_text, differs_text, too_many_segments_text};
+ghost use Rattle.folder_commands.specs.Texts.{index_why_name, record_why_name, no_index_text, bad_row_text, missing_log_text, bad_record_text, differs_text, too_many_segments_text, upgraded_text};
 
 use race_model::{IndexWhy, RecordWhy};
 use std::alloc::Global;
@@ -89,4 +89,10 @@ pub fn differs(alloc: Global, path: &Path, number: u32) -> Result<String, Memory
 {
     let name = path.bare_name(alloc)?;
     Ok(format!(in alloc; "differs {name} record {number}\n")?)
+}
+
+pub fn upgraded(alloc: Global, count: u32) -> Result<String, Memory>
+    ensures { IfOk result (λ text. string_bytes text ≡ upgraded_text count) }
+{
+    Ok(format!(in alloc; "upgraded {count}\n")?)
 }

@@ -2,4 +2,5 @@ mod generated;
 mod labels;
 mod replays;
 mod segments;
+mod upgrades;
 mod walks;

@@ -1,16 +1,14 @@
 -- The folder into which the run was put holds it.
-use Rattle.std.proofs.Common.{◌≡◌, ◌≢◌, inl, inr, refl, sym, ap, subst, ◌∙◌, ℕ, zero, suc, ◌+◌, ◌*◌, ◌/◌, ◌%◌, ◌^◌, ◌<◌, ◌≤◌, List, [], ◌∷◌, ◌++◌, map, length, get_or, Some, true, false, Bool, arith}
+use Rattle.std.proofs.Common.{◌≡◌, ◌≢◌, inl, inr, refl, sym, ap, subst, ◌∙◌, ℕ, zero, suc, ◌+◌, ◌*◌, ◌/◌, ◌%◌, ◌^◌, ◌<◌, ◌≤◌, List, [], ◌∷◌, ◌++◌, map, length, get_or, true, false, Bool, arith}
 use Rattle.std.specs.Prelude.{All, ◌==◌, if◌then◌else◌}
 use Rattle.std.specs.List.{range_with_len}
-use Rattle.std.proofs.lemmas.List.Elements.{All-append, All-cons, All-head, All-map, All-nil, All-tail}
+use Rattle.std.proofs.lemmas.List.Elements.{All-append, All-cons, All-map, All-nil}
 use Rattle.std.proofs.lemmas.List.FromFn.{get_or-range_with_len, length-range_with_len}
 use Rattle.log_format.specs.declared.format.TheConstants.{FORMAT}
-use Rattle.log_format.specs.Format.{log_header}
-use Rattle.sw_base.specs.Environment.{Content, Files}
+use Rattle.sw_base.specs.Environment.{Content}
 use Rattle.sw_base.specs.Names.{index_name, log_name}
-use Rattle.sw_base.proofs.AfterPut.{with_file-elsewhere, with_file-here}
-use Rattle.sw_base.proofs.NameLaws.{HasPlace, log_name-not_index, log_name-places, place}
-use Rattle.log_format.specs.Spelling.{log_bytes}
+use Rattle.sw_base.proofs.AfterPut.{with_file-elsewhere}
+use Rattle.sw_base.proofs.NameLaws.{HasPlace, log_name-not_index, place}
 use Rattle.log_format.specs.Table.{IsTabled, PassesTable, RecordFits}
 use Rattle.log_format.specs.declared.record.Record.{Record}
 use Rattle.log_format.specs.declared.record.Why.{Why}
@@ -18,10 +16,11 @@ use Rattle.log_format.specs.declared.record.Why.TheVariants as why
 use Rattle.log_format.specs.declared.record.Kind.TheVariants.{Barrier, End}
 use Rattle.race_model.specs.FirstBad.{HoldsTrace, rows_of}
 use Rattle.race_model.specs.Row.{index_bytes}
-use Rattle.race_model.specs.Trace.{TaskLog, Trace}
+use Rattle.race_model.specs.Trace.{TaskLog}
 use Rattle.race_laws.proofs.IndexRows.{put_is_index}
 use Rattle.generated_run.specs.Generated.{element, generated, path_of_lane, lane_records, log_of_lane, logs_of_lanes, late_write, late_writes, bare_record, read_of, root_records, root_task, rounds_of, write_of}
-use Rattle.generated_run.specs.Puts.{with_run, with_task, with_tasks}
+use Rattle.log_index.specs.Puts.{with_run, with_tasks}
+use Rattle.log_index.proofs.Putting.{AreApart, HasPlaces, IsApart, all_there}
 use Rattle.generated_run.proofs.Counting.{lane_parts}
 use Rattle.generated_run.proofs.Holding.{generated_rows}
 
@@ -133,39 +132,6 @@ lane_tabled rounds lane few within =
     (ending_tabled (lane == 3)))))
 
 -- ---- the logs are there
-
--- the task isn't at the place of another
-abbrev IsApart : TaskLog → TaskLog → Type 0
-IsApart task other = map place task.path ≢ map place other.path
-
-abbrev AreApart : Trace → Type 0
-AreApart [] = Unit {0}
-AreApart (task ∷ tasks) = All (IsApart task) tasks × AreApart tasks
-
-abbrev HasPlaces : TaskLog → Type 0
-HasPlaces task = All HasPlace task.path
-
--- a file that is none of the logs is as before
-elsewhere : (dir : List ℕ) (tasks : Trace) (task : TaskLog) (content : Content) → HasPlaces task → All HasPlaces tasks → All (IsApart task) tasks
-    → (with_tasks dir tasks content).held (log_name dir task.path) ≡ content.held (log_name dir task.path)
-elsewhere dir [] task content own places apart = refl
-elsewhere dir (t ∷ tasks) task content own places apart =
-    elsewhere dir tasks task (with_task dir t content) own (All-tail HasPlaces t tasks places) (All-tail (IsApart task) t tasks apart)
-    ∙ with_file-elsewhere (log_name dir t.path) (log_bytes (log_header FORMAT) t.records) content.held (log_name dir task.path)
-    (λ same. All-head (IsApart task) t tasks apart (log_name-places dir task.path t.path own (All-head HasPlaces t tasks places) same))
-
--- each log is there
-abbrev HasLog : Files → List ℕ → TaskLog → Type 0
-HasLog files dir task = files (log_name dir task.path) ≡ Some (log_bytes (log_header FORMAT) task.records)
-
-all_there : (dir : List ℕ) (tasks : Trace) (content : Content) → All HasPlaces tasks → AreApart tasks → All (HasLog (with_tasks dir tasks content).held dir) tasks
-all_there dir [] content places apart = All-nil (HasLog content.held dir)
-all_there dir (task ∷ tasks) content places apart =
-    let own = All-head HasPlaces task tasks places in
-    let rest = All-tail HasPlaces task tasks places in
-    All-cons (HasLog (with_tasks dir (task ∷ tasks) content).held dir) task tasks
-    (elsewhere dir tasks task (with_task dir task content) own rest apart.0 ∙ with_file-here (log_name dir task.path) (log_bytes (log_header FORMAT) task.records) content.held)
-    (all_there dir tasks (with_task dir task content) rest apart.1)
 
 -- the lane of a path's first step
 first_lane : List (ℕ × ℕ) → ℕ

@@ -13,12 +13,8 @@ use Rattle.sw_base.specs.Names.{index_name}
 use Rattle.log_format.specs.declared.format.TheConstants.{FORMAT}
 use Rattle.race_model.specs.Row.{index_bytes}
 use Rattle.generated_run.specs.Generated.{log_of_lane, logs_of_lanes}
-use Rattle.generated_run.specs.Puts.{LeavesTask, PutsLogs, PutsPart, index, logs, with_run, with_task, with_tasks}
-
--- one more task
-pub with_tasks-push : (dir : List ℕ) (tasks : Trace) (task : TaskLog) (content : Content) → with_tasks dir (tasks ++ task ∷ []) content ≡ with_task dir task (with_tasks dir tasks content)
-with_tasks-push dir [] task content = refl
-with_tasks-push dir (t ∷ tasks) task content = with_tasks-push dir tasks task (with_task dir t content)
+use Rattle.log_index.proofs.Putting.{with_tasks-push}
+use Rattle.log_index.specs.Puts.{LeavesTask, PutsLogs, PutsPart, index, logs, with_run, with_task, with_tasks}
 
 told_more : (dir : List ℕ) (tasks : Trace) (task : TaskLog) (told : Option Content)
     → option_map (with_task dir task) (option_map (with_tasks dir tasks) told) ≡ option_map (with_tasks dir (tasks ++ task ∷ [])) told

@@ -9,7 +9,7 @@ ghost use Rattle.sw_base.specs.Names.{log_name};
 ghost use Rattle.log_format.specs.Spelling.{log_bytes, spelling};
 ghost use Rattle.race_model.specs.FirstBad.{HoldsTrace, row_of, rows_of};
 ghost use Rattle.generated_run.specs.Generated.{generated, log_of_lane, logs_of_lanes, root_task, task_of};
-ghost use Rattle.generated_run.specs.Puts.{LeavesTask, PutsLogs, PutsPart, with_run, with_task, with_tasks};
+ghost use Rattle.log_index.specs.Puts.{LeavesTask, PutsLogs, PutsPart, with_run, with_task, with_tasks};
 
 use crate::records::{SPAN, records_of_lane, records_of_root};
 use log_format::{FORMAT, Record, encode};

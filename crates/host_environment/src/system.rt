@@ -3,8 +3,9 @@ ghost use Rattle.std.specs.Prelude.{◌≡◌, ◌≤◌, ◌↔◌, IsOk, IsErr
 ghost use Rattle.sw_base.specs.Environment.{Rose, HasCause};
 ghost use Rattle.sw_base.specs.declared.trouble.Trouble.TheVariants as trouble;
 
-use std::fs::{File, OpenOptions};
+use std::fs::{self, File, OpenOptions};
 use std::io::{self, Error, ErrorKind, Write};
+use std::path::Path;
 use std::rt::Files;
 use sw_base::Trouble;
 
@@ -56,8 +57,11 @@ pub(crate) fn write_whole<W: Write>(to: &mut W, piece: &[u8]) -> io::Result<()> 
     }
 }
 
-/// Makes the file hold these bytes.
+/// Makes the file hold these bytes, and the folder of its name if there is none.
 pub(crate) fn put_whole<R: Files>(rt: &R, name: &str, bytes: &[u8]) -> io::Result<()> {
+    if let Some(dir) = Path::new(name).parent() {
+        fs::create_dir_all(rt, dir)?;
+    }
     let mut file = File::create(rt, name)?;
     write_whole(&mut file, bytes)
 }

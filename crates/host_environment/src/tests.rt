@@ -130,6 +130,22 @@ fn a_file_is_read_from_each_place(rt: HostRuntime) -> Result<(), Fail> {
     Ok(())
 }
 
+#[test]
+fn a_put_makes_the_folder_of_its_name(rt: HostRuntime) -> Result<(), Fail> {
+    let alloc = rt.alloc();
+    let top = fresh(&rt, "folders")?;
+    let name = format!(in alloc; "{top}/made/below/t.swl")?;
+    let beside = format!(in alloc; "{top}/made/below/index.swi")?;
+    let mut folder = HostFolder::new(rt);
+    folder.put(alloc, &name, b"log")?;
+    folder.put(alloc, &beside, b"index")?;
+    assert!(rt; has_bytes(&mut folder, alloc, &name, b"log")?);
+    assert!(rt; has_bytes(&mut folder, alloc, &beside, b"index")?);
+    assert!(rt; folder.write_faults == 0);
+    fs::remove_dir_all(&rt, &top)?;
+    Ok(())
+}
+
 // Whether a file isn't there, and so has no byte.
 fn is_missing_here(folder: &mut Host, alloc: Global, name: &str) -> Result<bool, Trouble> {
     Ok(folder.size(alloc, name)?.is_none() && part(folder, alloc, name, 0, 8)?.is_empty())

@@ -6,3 +6,4 @@ pub mod RowTests
 pub mod Spelled
 pub mod Written
 pub mod Windowed
+pub mod Putting

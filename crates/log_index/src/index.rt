@@ -2,6 +2,7 @@ ghost use Rattle.std.specs.Prelude.{◌≡◌, ◌≤◌, ℕ, IfOk, OnOk, OnErr
 ghost use Rattle.std.specs.Option.{option_map};
 ghost use Rattle.sw_base.specs.Environment.{WhereTold, Rose, HasCause, LeavesPrefix, with_put};
 ghost use Rattle.sw_base.specs.Names.{index_name};
+ghost use Rattle.log_format.specs.declared.format.Format.TheVariants.{First};
 ghost use Rattle.log_format.specs.declared.format.TheConstants.{FORMAT};
 ghost use Rattle.race_model.specs.declared.why.IndexWhy.{IndexWhy};
 ghost use Rattle.race_model.specs.BadPlace.{no_index, bad_row};
@@ -32,6 +33,25 @@ pub fn read_index<F: Folder>(
     ensures cause { IsErrOf result IndexAnswer.ReadFault → Rose (F.read_faults folder.old) (F.read_faults folder.new) }
 {
     read_index_as(alloc, FORMAT, folder, dir)
+}
+
+/// The same of an index of the first format.
+pub fn read_index_old<F: Folder>(
+    alloc: Global,
+    folder: &mut F,
+    dir: &str,
+) -> Result<Vec<Row>, IndexAnswer>
+    ensures rows { IfOk result (λ rows. AreRows rows.items) }
+    ensures found { IfOk result (λ rows. WhereTold (F.state folder.old).content (λ c. IsIndex First c.held dir.now rows.items)) }
+    ensures missing { IsErrOf result IndexAnswer.NoIndex → WhereTold (F.state folder.old).content (λ c. IsFirstBadIndexPlace First c.held dir.now no_index) }
+    ensures bad { (n : ℕ) (why : IndexWhy) → IsErrOf result (IndexAnswer.Bad n why) →
+        WhereTold (F.state folder.old).content (λ c. IsFirstBadIndexPlace First c.held dir.now (bad_row n why)) }
+
+    ensures same { F.state folder.new ≡ F.state folder.old }
+    ensures later { F.read_faults folder.old ≤ F.read_faults folder.new }
+    ensures cause { IsErrOf result IndexAnswer.ReadFault → Rose (F.read_faults folder.old) (F.read_faults folder.new) }
+{
+    read_index_as(alloc, Format::First, folder, dir)
 }
 
 /// The same of an index of this format.

@@ -14,7 +14,7 @@ mod rows;
 mod rules;
 mod spelling;
 
-pub use index::{read_index, read_index_as, write_index};
+pub use index::{read_index, read_index_as, read_index_old, write_index};
 pub use laws::index_without_a_bad_place_is_well_formed;
 pub use race_model::IndexWhy;
 pub use row::{IndexAnswer, Row};

@@ -145,6 +145,7 @@ short n m e = grind arith
 -- no row is left
 pub swept_all : {format : Format} (told : Option Content) (dir : List ℕ) (sweep : Sweep) (trace : Trace) → HasSwept format told dir sweep trace → sweep.refused ≡ None → length sweep.rows.items ≤ sweep.stack.place → HasSweptAll format told dir sweep trace
 swept_all told dir sweep trace swept fresh past = record {
+  good = swept.good;
   keeps = keeps_rules sweep.rows.items trace swept.rows swept.good all;
   holds = λ c is. holds_trace c.held dir sweep.rows.items trace (swept.holds c is) all;
   well_formed = λ c is. is_well_formed c.held dir sweep.rows.items trace (swept.holds c is) all;

@@ -109,6 +109,7 @@ pub record GivesRegion (format : Format) (told : Option Content) (dir : List ℕ
 
 -- all were gone over before
 pub record HasSweptAll (format : Format) (told : Option Content) (dir : List ℕ) (sweep : Sweep) (trace : Trace) : Type 0 where
+  pub good : IsGoodTrace format sweep.rows.items trace
   pub keeps : KeepsRules format trace
   pub holds : WhereTold told (λ c. HoldsTrace format c.held dir trace)
   pub well_formed : WhereTold told (λ c. IsWellFormed format c.held dir)

@@ -27,5 +27,5 @@ pub use laws::{first_bad_place_is_unique, row_tells_its_task, well_formed_folder
 pub use log_segment::Segment;
 pub use race_model::RecordWhy;
 pub use sweep::Sweep;
-pub use swept::sweep_all;
-pub use walking::{walk, walk_as};
+pub use swept::{sweep_all, sweep_all_as};
+pub use walking::{walk, walk_as, walk_old};

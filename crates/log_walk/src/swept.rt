@@ -8,6 +8,7 @@ ghost use Rattle.log_walk.specs.Walk.{TellsFirstBad};
 
 use crate::fault::WalkFault;
 use crate::sweep::Sweep;
+use log_format::{FORMAT, Format};
 use std::alloc::Global;
 use sw_base::Folder;
 
@@ -20,7 +21,24 @@ pub fn sweep_all<F: Folder>(alloc: Global, folder: &mut F, dir: &str) -> Result<
     ensures later { F.read_faults folder.old ≤ F.read_faults folder.new }
     ensures cause { IsErrOf result WalkFault.ReadFault → Rose (F.read_faults folder.old) (F.read_faults folder.new) }
 {
-    let (mut sweep, _root) = Sweep::open(alloc, folder, dir)?;
+    sweep_all_as(alloc, FORMAT, folder, dir)
+}
+
+/// The same of a folder of this format.
+pub fn sweep_all_as<F: Folder>(
+    alloc: Global,
+    format: Format,
+    folder: &mut F,
+    dir: &str,
+) -> Result<Sweep, WalkFault>
+    ensures all { IfOk result (λ sweep. (trace : Trace) × HasSweptAll format (F.state folder.old).content dir.now sweep trace) }
+    ensures refused { IfErr result (λ e. WhereTold (F.state folder.old).content (λ c. TellsFirstBad format c.held dir.now e)) }
+
+    ensures same { F.state folder.new ≡ F.state folder.old }
+    ensures later { F.read_faults folder.old ≤ F.read_faults folder.new }
+    ensures cause { IsErrOf result WalkFault.ReadFault → Rose (F.read_faults folder.old) (F.read_faults folder.new) }
+{
+    let (mut sweep, _root) = Sweep::open_as(alloc, format, folder, dir)?;
     'regions: while let Some(_segments) = sweep.next(alloc, folder)? {}
     Ok(sweep)
 }

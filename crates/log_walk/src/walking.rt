@@ -1,6 +1,7 @@
 //! The segments of a folder.
 ghost use Rattle.std.specs.Prelude.{◌≡◌, ◌≤◌, IfOk, IfErr, OnOk, IsErrOf};
 ghost use Rattle.sw_base.specs.Environment.{WhereTold, Rose};
+ghost use Rattle.log_format.specs.declared.format.Format.TheVariants.{First};
 ghost use Rattle.log_format.specs.declared.format.TheConstants.{FORMAT};
 ghost use Rattle.race_model.specs.WellFormed.{IsWellFormed};
 ghost use Rattle.log_walk.specs.Walk.{TellsFirstBad};
@@ -25,6 +26,23 @@ pub fn walk<F: Folder>(alloc: Global, folder: &mut F, dir: &str) -> Result<Vec<S
     ensures cause { IsErrOf result WalkFault.ReadFault → Rose (F.read_faults folder.old) (F.read_faults folder.new) }
 {
     walk_as(alloc, FORMAT, folder, dir)
+}
+
+/// The same of a folder of the first format.
+pub fn walk_old<F: Folder>(
+    alloc: Global,
+    folder: &mut F,
+    dir: &str,
+) -> Result<Vec<Segment>, WalkFault>
+    ensures segments { IfOk result (λ found. AreOfFolder First (F.state folder.old).content dir.now found.items) }
+    ensures well_formed { OnOk result (WhereTold (F.state folder.old).content (λ c. IsWellFormed First c.held dir.now)) }
+    ensures refused { IfErr result (λ e. WhereTold (F.state folder.old).content (λ c. TellsFirstBad First c.held dir.now e)) }
+
+    ensures same { F.state folder.new ≡ F.state folder.old }
+    ensures later { F.read_faults folder.old ≤ F.read_faults folder.new }
+    ensures cause { IsErrOf result WalkFault.ReadFault → Rose (F.read_faults folder.old) (F.read_faults folder.new) }
+{
+    walk_as(alloc, Format::First, folder, dir)
 }
 
 /// The same of a folder of this format.

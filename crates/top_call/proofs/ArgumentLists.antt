@@ -2,7 +2,7 @@
 use Rattle.std.proofs.Common.{◌≡◌, ℕ, ◌≤◌, ◌<◌, List, [], ◌∷◌, length, String, string_bytes, get_or, sym, subst, ◌∙◌, arith}
 use Rattle.std.specs.declared.alloc.Global.{Global}
 use Rattle.std.proofs.lemmas.Fmt.{decimal_injective}
-use Rattle.top_call.specs.Arguments.{texts, SaysCheck, SaysGen, SaysReplay, SaysRun, SaysShow, UsageDue}
+use Rattle.top_call.specs.Arguments.{texts, SaysCheck, SaysGen, SaysReplay, SaysRun, SaysShow, SaysUpgrade, UsageDue}
 
 pub texts-three : (arguments : List (String Global)) (a b c : String Global) → 3 ≤ length arguments → length arguments < 4 → a ≡ get_or arguments 0 a → b ≡ get_or arguments 1 b → c ≡ get_or arguments 2 c
     → texts arguments ≡ string_bytes a ∷ string_bytes b ∷ string_bytes c ∷ []
@@ -67,6 +67,15 @@ same_replay P arguments kernel dir other_kernel other_dir a b holds =
     let kernel_is : kernel ≡ other_kernel = cc both in
     let dir_is : dir ≡ other_dir = cc both in
     subst (λ (k : List ℕ). P k other_dir) kernel_is (subst (P kernel) dir_is holds)
+
+-- arguments that ask to bring a folder over name the two folders
+pub same_upgrade : (P : List ℕ → List ℕ → Type 0) (arguments : List (List ℕ)) (dir new other_dir other_new : List ℕ)
+    → SaysUpgrade arguments dir new → SaysUpgrade arguments other_dir other_new → P dir new → P other_dir other_new
+same_upgrade P arguments dir new other_dir other_new a b holds =
+    let both = sym a.are ∙ b.are in
+    let dir_is : dir ≡ other_dir = cc both in
+    let new_is : new ≡ other_new = cc both in
+    subst (λ (d : List ℕ). P d other_new) dir_is (subst (P dir) new_is holds)
 
 -- they have one answer, where they ask for nothing
 pub usage_once : (s r : ℕ) (t u : List ℕ) → UsageDue s t → UsageDue r u → t ≡ u

@@ -1,9 +1,11 @@
 -- The arguments of a command line, what they ask for, and what is answered where they ask for nothing.
-use Rattle.std.specs.Prelude.{◌≡◌, ℕ, ◌≤◌, List, [], ◌∷◌, length, map, String, string_bytes, codes, decimal}
+use Rattle.std.specs.Prelude.{◌≡◌, ◌⊎◌, ℕ, ◌≤◌, List, [], ◌∷◌, length, map, String, string_bytes, codes, decimal}
 use Rattle.std.specs.declared.alloc.Global.{Global}
 use Rattle.sw_base.specs.Environment.{Files}
 use Rattle.command_answer.specs.declared.status.TheConstants.{USAGE}
 use Rattle.kernel_syntax.specs.Program.{Program}
+use Rattle.race_model.specs.Trace.{Trace}
+use Rattle.log_upgrade.specs.Upgrade.{CanUpgrade}
 use Rattle.run_command.specs.Run.{CanRun}
 
 -- what the arguments after the program's name may ask for
@@ -13,6 +15,7 @@ pub data Request : Type 0 where
   replay : (kernel dir : List ℕ) → Request
   show : (dir : List ℕ) → Request
   gen : (rounds workers : ℕ) → Request
+  upgrade : (dir new : List ℕ) → Request
 
 -- a word that names a folder or a file has 1 to 1,024 bytes
 pub record IsName (word : List ℕ) : Type 0 where
@@ -70,6 +73,33 @@ pub record SaysGen (arguments : List (List ℕ)) (rounds workers : ℕ) : Type 0
   pub rounds_are : IsNumber rounds_number 1 100000 rounds
   pub workers_are : IsNumber workers_number 1 64 workers
 
+pub record SaysUpgrade (arguments : List (List ℕ)) (dir new : List ℕ) : Type 0 where
+  pub are : arguments ≡ codes "upgrade" ∷ dir ∷ new ∷ []
+  pub dir_is : IsName dir
+  pub new_is : IsName new
+
+-- the arguments ask to bring a folder over
+pub record AsksUpgrade (arguments : List (List ℕ)) : Type 0 where
+  pub dir : List ℕ
+  pub new : List ℕ
+  pub says : SaysUpgrade arguments dir new
+
+-- the arguments ask to bring a folder over, and it can be
+pub record BeginsUpgrade (arguments : List (List ℕ)) (files : Files) : Type 0 where
+  pub dir : List ℕ
+  pub new : List ℕ
+  pub says : SaysUpgrade arguments dir new
+  pub trace : Trace
+  pub can : CanUpgrade files dir new trace
+
+-- the arguments ask for a command that writes
+abbrev pub AsksToWrite : List (List ℕ) → Type 0
+AsksToWrite arguments = AsksRun arguments ⊎ AsksUpgrade arguments
+
+-- and it can begin
+abbrev pub BeginsToWrite : List (List ℕ) → Files → Type 0
+BeginsToWrite arguments files = BeginsRun arguments files ⊎ BeginsUpgrade arguments files
+
 -- the arguments ask for it
 abbrev pub Says : List (List ℕ) → Request → Type 0
 Says arguments (check dir workers) = SaysCheck arguments dir workers
@@ -77,6 +107,7 @@ Says arguments (run kernel dir size) = SaysRun arguments kernel dir size
 Says arguments (replay kernel dir) = SaysReplay arguments kernel dir
 Says arguments (show dir) = SaysShow arguments dir
 Says arguments (gen rounds workers) = SaysGen arguments rounds workers
+Says arguments (upgrade dir new) = SaysUpgrade arguments dir new
 
 -- the request reads a folder, or a kernel's file
 abbrev pub IsToRead : Request → Type 0
@@ -98,7 +129,7 @@ abbrev pub texts : List (String Global) → List (List ℕ)
 texts arguments = map string_bytes arguments
 
 abbrev pub usage_text : List ℕ
-usage_text = codes "usage: sword check DIR W | run KERNEL DIR SIZE | replay KERNEL DIR | show DIR | gen N W\n"
+usage_text = codes "usage: sword check DIR W | run KERNEL DIR SIZE | replay KERNEL DIR | show DIR | gen N W | upgrade DIR NEW\n"
 
 -- the one answer to arguments that ask for nothing
 abbrev pub UsageDue : ℕ → List ℕ → Type 0

@@ -33,6 +33,11 @@ pub enum Command<'a> {
         rounds: u64,
         workers: u64,
     },
+    /// Bring a folder of the first format over to another folder.
+    Upgrade {
+        dir: &'a str,
+        new: &'a str,
+    },
 }
 
 /// What the arguments ask for. `None` where they ask for nothing.
@@ -114,6 +119,9 @@ fn two_arguments<'a>(
     if name == "replay" {
         return Ok(replay_arguments(first, second));
     }
+    if name == "upgrade" {
+        return Ok(upgrade_arguments(first, second));
+    }
     Ok(None)
 }
 
@@ -125,6 +133,16 @@ fn replay_arguments<'a>(kernel: &'a str, dir: &'a str) -> Option<Command<'a>>
         return None;
     }
     Some(Command::Replay { kernel, dir })
+}
+
+fn upgrade_arguments<'a>(dir: &'a str, new: &'a str) -> Option<Command<'a>>
+    ensures said { IfSome result (λ c. Says (codes "upgrade" ∷ dir.now ∷ new.now ∷ []) (request_of c)) }
+    ensures usage { IfNone result (IsUsage (codes "upgrade" ∷ dir.now ∷ new.now ∷ [])) }
+{
+    if !is_name(dir) || !is_name(new) {
+        return None;
+    }
+    Some(Command::Upgrade { dir, new })
 }
 
 fn gen_arguments<'a>(

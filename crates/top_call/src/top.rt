@@ -7,13 +7,15 @@ ghost use Rattle.run_command.specs.Run.{LeavesPart, RunDue};
 ghost use Rattle.folder_commands.specs.Gen.{GenDue};
 ghost use Rattle.folder_commands.specs.Replay.{ReplayDue};
 ghost use Rattle.folder_commands.specs.Show.{ShowsRecords};
-ghost use Rattle.top_call.specs.Arguments.{AsksRun, AsksToRead, BeginsRun, IsUsage, SaysCheck, SaysGen, SaysReplay, SaysRun, SaysShow, UsageDue, texts};
+ghost use Rattle.folder_commands.specs.Upgrade.{IsUpgraded, UpgradeDue};
+ghost use Rattle.log_upgrade.specs.Upgrade.{LeavesUpgrade};
+ghost use Rattle.top_call.specs.Arguments.{AsksToRead, AsksToWrite, AsksUpgrade, BeginsToWrite, IsUsage, SaysCheck, SaysGen, SaysReplay, SaysRun, SaysShow, SaysUpgrade, UsageDue, texts};
 ghost use Rattle.command_answer.specs.declared.status.TheConstants.{DONE, USAGE, READ_FAULT, WRITE_FAULT};
 
 use crate::arguments::{Command, read_arguments};
 use crate::running::run_file;
 use command_answer::{NO_MEMORY, USAGE, print};
-use folder_commands::{check, check_generated, replay_file, show};
+use folder_commands::{check, check_generated, replay_file, show, upgrade_folder};
 use std::alloc::Global;
 use std::sync::Wait;
 use std::thread::Threads;
@@ -24,7 +26,7 @@ use sw_base::{Folder, Gate, Out};
 pub const STACK: usize = 1 << 28;
 
 const USAGE_LINE: &[u8] =
-    b"usage: sword check DIR W | run KERNEL DIR SIZE | replay KERNEL DIR | show DIR | gen N W\n";
+    b"usage: sword check DIR W | run KERNEL DIR SIZE | replay KERNEL DIR | show DIR | gen N W | upgrade DIR NEW\n";
 
 /// Does what the arguments after the program's name ask for, and answers the status that the program ends with.
 ///
@@ -68,19 +70,30 @@ pub fn sword<R: Threads + Wait + Sync, F: Folder, O: Out, G: Gate>(
         WhereTold (F.state folder.new).content (λ d. Tries (RunDue (Rose (F.state folder.old).write_faults (F.state folder.new).write_faults) kernel dir size c d) (O.written out.old) (O.written out.new) result)) }
     ensures run_leaves { (kernel dir : List ℕ) (size : ℕ) → SaysRun (texts arguments.now) kernel dir size → WhereTold (F.state folder.old).content (λ c.
         WhereTold (F.state folder.new).content (λ d. IsFailure result → LeavesPart (Rose (F.state folder.old).write_faults (F.state folder.new).write_faults) kernel dir size c d)) }
-    ensures run_reads { result ≡ READ_FAULT → F.state folder.new ≡ F.state folder.old }
 
-    // A fault has its cause, and only a run that can begin writes anything. With status 0 no call failed that writes: none was made again.
+    // `upgrade` answers that the new folder has an index; the first bad place of the old one by the first format; or how many logs it has,
+    // which are then in the new folder with their index. That one is bad nowhere and holds the run that the old one holds by the first
+    // format, and nothing else changed.
+    ensures upgrade { (dir new : List ℕ) → SaysUpgrade (texts arguments.now) dir new → WhereTold (F.state folder.old).content (λ c.
+        Answers (UpgradeDue c.held dir new) (O.written out.old) (O.written out.new) result) }
+    ensures upgrades { (dir new : List ℕ) → SaysUpgrade (texts arguments.now) dir new → result ≡ DONE → WhereTold (F.state folder.old).content (λ c.
+        WhereTold (F.state folder.new).content (λ d. IsUpgraded dir new c d)) }
+    ensures upgrade_leaves { (dir new : List ℕ) → SaysUpgrade (texts arguments.now) dir new → IsFailure result → WhereTold (F.state folder.old).content (λ c.
+        WhereTold (F.state folder.new).content (λ d. LeavesUpgrade dir new c d)) }
+
+    // A fault has its cause, and only a run or an upgrade that can begin writes anything. With status 0 no call failed that writes: none was
+    // made again. After a read that failed only an upgrade has written.
+    ensures run_reads { (AsksUpgrade (texts arguments.now) → ⊥) → result ≡ READ_FAULT → F.state folder.new ≡ F.state folder.old }
     ensures read_fault { result ≡ READ_FAULT → Rose (F.read_faults folder.old) (F.read_faults folder.new) }
     ensures only_reads { result ≡ READ_FAULT → AsksToRead (texts arguments.now) }
     ensures write_fault { result ≡ WRITE_FAULT → Rose (O.faults out.old) (O.faults out.new)
-        ⊎ (AsksRun (texts arguments.now) × Rose (F.state folder.old).write_faults (F.state folder.new).write_faults) }
+        ⊎ (AsksToWrite (texts arguments.now) × Rose (F.state folder.old).write_faults (F.state folder.new).write_faults) }
     ensures no_fault { result ≡ DONE → (F.state folder.new).write_faults ≡ (F.state folder.old).write_faults }
-    ensures only_printed { WhereTold (F.state folder.old).content (λ c. (BeginsRun (texts arguments.now) c.held → ⊥) →
+    ensures only_printed { WhereTold (F.state folder.old).content (λ c. (BeginsToWrite (texts arguments.now) c.held → ⊥) →
         result ≡ WRITE_FAULT → Rose (O.faults out.old) (O.faults out.new)) }
-    ensures untouched { WhereTold (F.state folder.old).content (λ c. (BeginsRun (texts arguments.now) c.held → ⊥) →
+    ensures untouched { WhereTold (F.state folder.old).content (λ c. (BeginsToWrite (texts arguments.now) c.held → ⊥) →
         F.state folder.new ≡ F.state folder.old) }
-    ensures same { (AsksRun (texts arguments.now) → ⊥) → F.state folder.new ≡ F.state folder.old }
+    ensures same { (AsksToWrite (texts arguments.now) → ⊥) → F.state folder.new ≡ F.state folder.old }
     // No run is made twice: the root's log is asked for once at most.
     ensures asks_once { ((F.state folder.new).roots ≡ (F.state folder.old).roots) ⊎ ((F.state folder.new).roots ≡ next_count (F.state folder.old).roots) }
     ensures tells { is_some (F.state folder.new).content ≡ is_some (F.state folder.old).content }
@@ -98,6 +111,7 @@ pub fn sword<R: Threads + Wait + Sync, F: Folder, O: Out, G: Gate>(
         Ok(Some(Command::Gen { rounds, workers })) => {
             check_generated(rt, alloc, out, gate, rounds as u32, workers as usize)
         }
+        Ok(Some(Command::Upgrade { dir, new })) => upgrade_folder(alloc, folder, out, dir, new),
         Err(_) => NO_MEMORY,
     }
 }

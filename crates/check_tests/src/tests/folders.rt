@@ -364,6 +364,10 @@ const OTHER_WORDS: Case<'static> = Case {
         (&["gen", "4", "65"], USAGE, USAGE_LINE),
         (&["gen", "4"], USAGE, USAGE_LINE),
         (&["gen", "4", "2", "1"], USAGE, USAGE_LINE),
+        (&["upgrade", "d"], USAGE, USAGE_LINE),
+        (&["upgrade", "d", ""], USAGE, USAGE_LINE),
+        (&["upgrade", "", "e"], USAGE, USAGE_LINE),
+        (&["upgrade", "d", "e", "f"], USAGE, USAGE_LINE),
     ],
     ..EMPTY
 };
@@ -373,7 +377,7 @@ fn other_arguments_are_a_usage_fault(rt: HostRuntime) -> Result<(), Fail> {
     all_pass(&rt, rt.alloc(), &[OTHER_WORDS])
 }
 
-// What `check` answers for an empty folder whose name has so many bytes.
+// What `check` answers for an empty folder whose name has so many bytes, and `upgrade` for one that such a folder is to come from.
 fn answers_named<R: Threads + Wait + Sync>(
     rt: &R,
     alloc: Global,
@@ -383,7 +387,15 @@ fn answers_named<R: Threads + Wait + Sync>(
 ) -> Result<(), Fail> {
     let name = "d".repeat(alloc, count)?;
     let mut folder = MemFolder::new(alloc)?;
-    answers(rt, alloc, &mut folder, &["check", &name, "1"], status, text)
+    answers(rt, alloc, &mut folder, &["check", &name, "1"], status, text)?;
+    answers(
+        rt,
+        alloc,
+        &mut folder,
+        &["upgrade", "d", &name],
+        status,
+        text,
+    )
 }
 
 #[test]

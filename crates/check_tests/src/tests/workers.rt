@@ -205,6 +205,47 @@ fn many_barrier_intervals_are_compared_each_with_its_own(rt: HostRuntime) -> Res
     Ok(())
 }
 
+// A lane that accesses one element in sixteen lines, by records of this kind.
+fn sixteen(alloc: Global, kind: u8) -> Result<Vec<Rec>, AllocError> {
+    let mut records = Vec::new(alloc);
+    for line in 1..17u32 {
+        records.push((kind, 8, line, 4096, 1))?;
+    }
+    records.push(END)?;
+    Ok(records)
+}
+
+// Sixty-four such lanes, so a thousand accesses of it.
+fn crowd(alloc: Global, kind: u8) -> Result<Vec<Lane>, AllocError> {
+    let mut lanes = Vec::new(alloc);
+    for lane in 0..64u16 {
+        lanes.push(Lane {
+            steps: [(0, lane, 64)],
+            records: sixteen(alloc, kind)?,
+        })?;
+    }
+    Ok(lanes)
+}
+
+// Reads, and then updates: none is compared with another one.
+#[test]
+fn many_reads_or_updates_of_one_element_are_not_compared(rt: HostRuntime) -> Result<(), Fail> {
+    let alloc = rt.alloc();
+    for kind in [1, 9] {
+        let lanes = crowd(alloc, kind)?;
+        let mut folder = with_lanes(alloc, &lanes)?;
+        answers(
+            &rt,
+            alloc,
+            &mut folder,
+            &["check", "d", "4"],
+            DONE,
+            "races 0\n",
+        )?;
+    }
+    Ok(())
+}
+
 // Whether so many met, and this status and text came out.
 fn at_once<R: Abort + Threads + Wait + Sync>(
     rt: &R,

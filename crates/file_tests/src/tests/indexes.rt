@@ -5,7 +5,9 @@ ghost use Rattle.race_model.specs.IndexFault.{AreRows};
 
 use crate::tests::support::folder_of;
 use log_format::{FORMAT, Format};
-use log_index::{IndexAnswer, IndexWhy, Row, read_index, read_index_as, write_index};
+use log_index::{
+    IndexAnswer, IndexWhy, Row, read_index, read_index_as, read_index_old, write_index,
+};
 use std::alloc::{AllocError, Global};
 use sw_base::{INDEX_HEADER, MemFolder, Memory, OLD_INDEX_HEADER, ShortReads};
 
@@ -313,7 +315,7 @@ fn index_with(alloc: Global, header: &[u8; 8]) -> Result<Vec<u8>, AllocError> {
 // What is answered of these bytes as an index of the first format: how many rows it has.
 fn read_first(alloc: Global, bytes: &[u8]) -> Result<usize, IndexAnswer> {
     let mut folder = folder_of(alloc, INDEX, bytes)?;
-    let rows = read_index_as(alloc, Format::First, &mut folder, "d")?;
+    let rows = read_index_old(alloc, &mut folder, "d")?;
     Ok(rows.len())
 }
 
@@ -326,6 +328,34 @@ fn an_index_of_the_first_format_is_old(rt: HostRuntime) {
     assert!(rt; read_first(alloc, &old) == Ok(1));
     let new = index_with(alloc, &INDEX_HEADER).expect(&rt, "memory");
     assert!(rt; read_first(alloc, &new).err() == bad(0, IndexWhy::Header));
+}
+
+// The bytes of an old index whose header has another byte at this place.
+fn changed_at(alloc: Global, place: usize) -> Result<Vec<u8>, AllocError> {
+    let mut bytes = index_with(alloc, &OLD_INDEX_HEADER)?;
+    if let Some(byte) = bytes.get_mut(place) {
+        *byte ^= 1;
+    }
+    Ok(bytes)
+}
+
+// Each of the eight bytes counts. Another one at the last place makes `SWIDX000`, and none makes the header of the second format.
+#[test]
+fn an_old_index_with_another_byte_has_another_header(rt: HostRuntime) {
+    let alloc = rt.alloc();
+    for place in 0..8 {
+        let bytes = changed_at(alloc, place).expect(&rt, "memory");
+        assert!(rt;
+            refusal(alloc, &bytes) == bad(0, IndexWhy::Header),
+            "byte {place}"
+        );
+        assert!(rt;
+            read_first(alloc, &bytes).err() == bad(0, IndexWhy::Header),
+            "byte {place}"
+        );
+    }
+    let behind = changed_at(alloc, 8).expect(&rt, "memory");
+    assert!(rt; refusal(alloc, &behind) == bad(0, IndexWhy::Old));
 }
 
 // The bytes of an index with 65,536 rows.

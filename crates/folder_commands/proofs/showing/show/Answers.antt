@@ -1,5 +1,6 @@
 use Rattle.std.proofs.Common.{ap, sym, ◌∙◌}
 use Rattle.command_answer.proofs.Answering.{Answers-of}
+use Rattle.log_format.specs.declared.format.TheConstants.{FORMAT}
 use Rattle.folder_commands.specs.Show.{ShowsRecords}
 use Rattle.folder_commands.proofs.Listed.{listed_tries}
 use Rattle.folder_commands.proofs.OneAnswer.{one_listing}
@@ -18,4 +19,4 @@ returns-in-Ok-clause-answers g c = λ content told.
     (listed_tries c.list.result _ trace _ _ (c.list.ensures.done content now trace rows holds.logs) (c.list.ensures.refused content now trace rows holds.logs) c.status_of.ensures.done c.status_of.ensures.failed))
 
 pub returns-in-Err-clause-answers : goal.returns-in-Err-clause-answers
-returns-in-Err-clause-answers g c = λ content told. Answers-of _ (one_listing content.held c.args.dir.now) _ _ _ (refused_of ShowsRecords content.held c.args.dir.now _ _ _ (c.refuse.ensures.answers content.held c.args.dir.now (c.in-Err.ensures.refused content told)))
+returns-in-Err-clause-answers g c = λ content told. Answers-of _ (one_listing content.held c.args.dir.now) _ _ _ (refused_of ShowsRecords content.held c.args.dir.now _ _ _ (c.refuse.ensures.answers FORMAT content.held c.args.dir.now (c.in-Err.ensures.refused content told)))

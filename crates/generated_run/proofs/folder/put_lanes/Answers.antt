@@ -2,7 +2,7 @@ use Rattle.std.proofs.Common.{◌≡◌, ℕ, subst, ◌∙◌, arith}
 use Rattle.std.specs.Option.{option_map}
 use Rattle.std.proofs.lemmas.Result.{err_from_is_err_and}
 use Rattle.generated_run.specs.Generated.{logs_of_lanes}
-use Rattle.generated_run.specs.Puts.{with_tasks}
+use Rattle.log_index.specs.Puts.{with_tasks}
 use Rattle.generated_run.proofs.Putting.{lane_broken, put_more, rows_more}
 use Rattle.generated_run.proofs.folder.put_lanes.Goals as goal
 

@@ -2,7 +2,7 @@ use Rattle.std.proofs.Common.{◌≡◌, ◌≤◌, ◌++◌}
 use Rattle.std.specs.Option.{option_map}
 use Rattle.race_model.specs.FirstBad.{rows_of}
 use Rattle.generated_run.specs.Generated.{logs_of_lanes}
-use Rattle.generated_run.specs.Puts.{with_tasks}
+use Rattle.log_index.specs.Puts.{with_tasks}
 use Rattle.generated_run.proofs.folder.put_lanes.Given as goal
 
 abbrev pub invariant-loop-lane : goal.invariant-loop-lane

@@ -5,11 +5,13 @@ use Rattle.command_answer.proofs.Answering.{Answers-of, Tries-from_prints}
 use Rattle.folder_commands.specs.Check.{FolderDue, HasReport}
 use Rattle.run_command.specs.Run.{LeavesPart, RunDue}
 use Rattle.folder_commands.specs.Show.{ShowsRecords}
-use Rattle.top_call.specs.Arguments.{UsageDue, check, gen, replay, run, show, texts}
-use Rattle.top_call.proofs.ArgumentLists.{same_check, same_gen, same_replay, same_run, same_show, usage_once}
+use Rattle.top_call.specs.Arguments.{UsageDue, check, gen, replay, run, show, texts, upgrade}
+use Rattle.top_call.proofs.ArgumentLists.{same_check, same_gen, same_replay, same_run, same_show, same_upgrade, usage_once}
 use Rattle.folder_commands.specs.Gen.{GenDue}
 use Rattle.folder_commands.specs.Replay.{ReplayDue}
+use Rattle.folder_commands.specs.Upgrade.{IsUpgraded, UpgradeDue}
 use Rattle.folder_commands.proofs.OneSummary.{one_summary}
+use Rattle.log_upgrade.specs.Upgrade.{LeavesUpgrade}
 use Rattle.top_call.proofs.top.sword.Goals as goal
 
 pub returns-in-Ok-None-clause-usage : goal.returns-in-Ok-None-clause-usage
@@ -55,12 +57,12 @@ returns-in-Ok-Some-Run-clause-run_leaves g c = λ kernel dir size says old is ne
 pub returns-in-Ok-Some-Run-clause-only_printed : goal.returns-in-Ok-Some-Run-clause-only_printed
 returns-in-Ok-Some-Run-clause-only_printed g c = λ old is none.
     let said = rw (c.in-Ok-Some-Run.field-0-is, c.in-Ok-Some-Run.field-0-0-is) at c.in-Ok-Some-Run.ensures.said in
-    c.run_file.ensures.only_printed old is (λ p can. none (record { kernel = _; dir = _; size = _; says = said; program = p; can = can }))
+    c.run_file.ensures.only_printed old is (λ p can. none (inl (record { kernel = _; dir = _; size = _; says = said; program = p; can = can })))
 
 pub returns-in-Ok-Some-Run-clause-untouched : goal.returns-in-Ok-Some-Run-clause-untouched
 returns-in-Ok-Some-Run-clause-untouched g c = λ old is none.
     let said = rw (c.in-Ok-Some-Run.field-0-is, c.in-Ok-Some-Run.field-0-0-is) at c.in-Ok-Some-Run.ensures.said in
-    c.run_file.ensures.untouched old is (λ p can. none (record { kernel = _; dir = _; size = _; says = said; program = p; can = can }))
+    c.run_file.ensures.untouched old is (λ p can. none (inl (record { kernel = _; dir = _; size = _; says = said; program = p; can = can })))
 
 pub returns-in-Ok-None-clause-gen_ : goal.returns-in-Ok-None-clause-gen_
 returns-in-Ok-None-clause-gen_ g c = λ rounds workers says. let usage = rw c.in-Ok-None.field-0-is at c.in-Ok-None.ensures.usage in absurd (usage (gen rounds workers) says)
@@ -121,3 +123,40 @@ returns-in-Ok-Some-Show-clause-asks_once g c = inl (ap (λ s. s.roots) c.show.en
 
 pub returns-in-Ok-Some-Replay-clause-asks_once : goal.returns-in-Ok-Some-Replay-clause-asks_once
 returns-in-Ok-Some-Replay-clause-asks_once g c = inl (ap (λ s. s.roots) c.replay_file.ensures.same)
+
+pub returns-in-Ok-None-clause-upgrade : goal.returns-in-Ok-None-clause-upgrade
+returns-in-Ok-None-clause-upgrade g c = λ dir new says. let usage = rw c.in-Ok-None.field-0-is at c.in-Ok-None.ensures.usage in absurd (usage (upgrade dir new) says)
+
+pub returns-in-Ok-Some-Upgrade-clause-upgrade : goal.returns-in-Ok-Some-Upgrade-clause-upgrade
+returns-in-Ok-Some-Upgrade-clause-upgrade g c = λ dir new says content told.
+    let said = rw (c.in-Ok-Some-Upgrade.field-0-is, c.in-Ok-Some-Upgrade.field-0-0-is) at c.in-Ok-Some-Upgrade.ensures.said in
+    same_upgrade (λ (d n : List ℕ). Answers (UpgradeDue content.held d n) (g.O.Out.written c.args.out.now) (g.O.Out.written c.upgrade_folder.new.out) c.upgrade_folder.result) (texts c.args.arguments.now) _ _ dir new
+    said says (c.upgrade_folder.ensures.answers content told)
+
+pub returns-in-Ok-Some-Upgrade-clause-upgrades : goal.returns-in-Ok-Some-Upgrade-clause-upgrades
+returns-in-Ok-Some-Upgrade-clause-upgrades g c = λ dir new says done old is now now_is.
+    let said = rw (c.in-Ok-Some-Upgrade.field-0-is, c.in-Ok-Some-Upgrade.field-0-0-is) at c.in-Ok-Some-Upgrade.ensures.said in
+    same_upgrade (λ (d n : List ℕ). IsUpgraded d n old now) (texts c.args.arguments.now) _ _ dir new said says (c.upgrade_folder.ensures.upgrades done old is now now_is)
+
+pub returns-in-Ok-Some-Upgrade-clause-upgrade_leaves : goal.returns-in-Ok-Some-Upgrade-clause-upgrade_leaves
+returns-in-Ok-Some-Upgrade-clause-upgrade_leaves g c = λ dir new says failure old is now now_is.
+    let said = rw (c.in-Ok-Some-Upgrade.field-0-is, c.in-Ok-Some-Upgrade.field-0-0-is) at c.in-Ok-Some-Upgrade.ensures.said in
+    same_upgrade (λ (d n : List ℕ). LeavesUpgrade d n old now) (texts c.args.arguments.now) _ _ dir new said says (c.upgrade_folder.ensures.leaves failure old is now now_is)
+
+pub returns-in-Ok-Some-Upgrade-clause-only_printed : goal.returns-in-Ok-Some-Upgrade-clause-only_printed
+returns-in-Ok-Some-Upgrade-clause-only_printed g c = λ old is none.
+    let said = rw (c.in-Ok-Some-Upgrade.field-0-is, c.in-Ok-Some-Upgrade.field-0-0-is) at c.in-Ok-Some-Upgrade.ensures.said in
+    c.upgrade_folder.ensures.only_printed old is (λ trace can. none (inr (record { dir = _; new = _; says = said; trace = trace; can = can })))
+
+pub returns-in-Ok-Some-Upgrade-clause-untouched : goal.returns-in-Ok-Some-Upgrade-clause-untouched
+returns-in-Ok-Some-Upgrade-clause-untouched g c = λ old is none.
+    let said = rw (c.in-Ok-Some-Upgrade.field-0-is, c.in-Ok-Some-Upgrade.field-0-0-is) at c.in-Ok-Some-Upgrade.ensures.said in
+    c.upgrade_folder.ensures.untouched old is (λ trace can. none (inr (record { dir = _; new = _; says = said; trace = trace; can = can })))
+
+pub returns-in-Ok-Some-Upgrade-clause-only_reads : goal.returns-in-Ok-Some-Upgrade-clause-only_reads
+returns-in-Ok-Some-Upgrade-clause-only_reads g c = λ _.
+    let said = rw (c.in-Ok-Some-Upgrade.field-0-is, c.in-Ok-Some-Upgrade.field-0-0-is) at c.in-Ok-Some-Upgrade.ensures.said in
+    record { request = upgrade _ _; says = said; reads = tt }
+
+pub returns-in-Ok-Some-Upgrade-clause-asks_once : goal.returns-in-Ok-Some-Upgrade-clause-asks_once
+returns-in-Ok-Some-Upgrade-clause-asks_once g c = inl c.upgrade_folder.ensures.same_roots

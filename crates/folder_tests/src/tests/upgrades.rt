@@ -1,0 +1,95 @@
+//! Folders of the first format that are walked by it and brought over.
+
+use generated_run::generate;
+use log_upgrade::{UpgradeFault, upgrade};
+use log_walk::{WalkFault, walk, walk_old};
+use race_model::IndexWhy;
+use std::alloc::Global;
+use std::test::Fail;
+use sw_base::{MemFolder, OLD_INDEX_HEADER, OLD_LOG_HEADER};
+
+// The files of a generated run.
+const FILES: &[&str] = &[
+    "index.swi",
+    "t.swl",
+    "t-0.0.swl",
+    "t-0.1.swl",
+    "t-0.2.swl",
+    "t-0.3.swl",
+    "t-0.4.swl",
+    "t-0.5.swl",
+    "t-0.6.swl",
+    "t-0.7.swl",
+];
+
+// The same bytes under the header of the first format.
+fn old_bytes(alloc: Global, name: &str, bytes: &[u8]) -> Result<Vec<u8>, Fail> {
+    let header = if name == "index.swi" {
+        OLD_INDEX_HEADER
+    } else {
+        OLD_LOG_HEADER
+    };
+    let rest = bytes.get(8..).ok_or("a header")?;
+    Ok([header.as_slice(), rest].concat(alloc)?)
+}
+
+// A generated run in the folder `n`, and the same by the first format in `d`.
+fn both(alloc: Global) -> Result<MemFolder, Fail> {
+    let mut folder = MemFolder::new(alloc)?;
+    if generate(alloc, &mut folder, "n", 3).is_err() {
+        return Err(Fail::new("no run"));
+    }
+    for name in FILES {
+        let from = format!(in alloc; "n/{name}")?;
+        let bytes = old_bytes(alloc, name, folder.file(&from).ok_or("a file")?)?;
+        folder.hold(&format!(in alloc; "d/{name}")?, &bytes)?;
+    }
+    Ok(folder)
+}
+
+// The first file that isn't the same in the folders `n` and `e`.
+fn first_other(alloc: Global, folder: &MemFolder) -> Result<Option<&'static str>, Fail> {
+    for name in FILES {
+        let due = format!(in alloc; "n/{name}")?;
+        let made = format!(in alloc; "e/{name}")?;
+        if folder.file(&due).is_none() || folder.file(&due) != folder.file(&made) {
+            return Ok(Some(*name));
+        }
+    }
+    Ok(None)
+}
+
+#[test]
+fn a_folder_that_was_brought_over_is_the_one_that_is_written_now(
+    rt: HostRuntime,
+) -> Result<(), Fail> {
+    let alloc = rt.alloc();
+    let mut folder = both(alloc)?;
+    let old = walk_old(alloc, &mut folder, "d").ok();
+    assert!(rt; old.is_some_and(|found| found.len() == 16));
+    let count = upgrade(alloc, &mut folder, "d", "e").ok();
+    assert!(rt; count == Some(9));
+    assert_eq!(rt; first_other(alloc, &folder)?, None);
+    let new = walk(alloc, &mut folder, "e").ok();
+    assert!(rt; new.is_some_and(|found| found.len() == 16));
+    Ok(())
+}
+
+fn is_header(fault: &WalkFault) -> bool {
+    matches!(fault, WalkFault::BadIndex { row: 0, why } if *why == IndexWhy::Header)
+}
+
+// A folder of the second format isn't one of the first.
+#[test]
+fn what_is_of_the_second_format_is_not_brought_over(rt: HostRuntime) -> Result<(), Fail> {
+    let alloc = rt.alloc();
+    let mut folder = both(alloc)?;
+    let walked = walk_old(alloc, &mut folder, "n").err();
+    assert!(rt; walked.is_some_and(|fault| is_header(&fault)));
+    let refused = upgrade(alloc, &mut folder, "n", "e").err();
+    assert!(rt;
+        refused.is_some_and(|fault| matches!(fault, UpgradeFault::Walk(why) if is_header(&why)))
+    );
+    assert!(rt; folder.file("e/t.swl").is_none() && folder.file("e/index.swi").is_none());
+    Ok(())
+}

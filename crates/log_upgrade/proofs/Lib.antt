@@ -1,0 +1,5 @@
+pub mod Names
+pub mod Spelled
+pub mod Bringing
+pub mod Held
+pub mod BroughtOver
