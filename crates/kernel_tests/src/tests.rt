@@ -4,4 +4,5 @@ mod pairs;
 mod replays;
 mod runs;
 mod stops;
+mod updates;
 mod whole_language;

@@ -8,9 +8,6 @@ use Rattle.kernel_syntax.specs.declared.syntax.Array.{Array}
 use Rattle.lane_runner.specs.declared.stop.Stop.{Stop}
 use Rattle.lane_runner.specs.declared.stop.Stop.TheVariants.{DivZero, Index, LogFull, Tasks, Trouble}
 
-abbrev pub index_exists_text : List ℕ
-index_exists_text = codes "index exists\n"
-
 -- the line and the name by which a stop is told; trouble has none
 abbrev pub told_stop : Stop → Option (ℕ × List ℕ)
 told_stop (DivZero line) = Some (line, codes "DivZero")

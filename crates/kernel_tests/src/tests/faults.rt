@@ -1,7 +1,8 @@
 //! Each call on the folder, on the output and on a log fails in turn, in each command.
 
 use asking::{
-    BARRIER, Calls, Case, EMPTY, END, REPLAY, ROOT, Rec, SHOW, each_call_may_fail, region, store,
+    BARRIER, Calls, Case, EMPTY, END, REPLAY, ROOT, Rec, SHOW, Task, each_call_may_fail, region,
+    store,
 };
 use command_answer::{DIFFERS, DONE, FOLDER_REFUSED, KERNEL_STOPPED, RACES};
 use std::test::Fail;
@@ -11,6 +12,7 @@ const NONE: Calls<'static> = Calls {
     case: EMPTY,
     reads: 0,
     writes: 0,
+    puts: &[],
     prints: 1,
     logs: &[],
     made: &[],
@@ -66,12 +68,14 @@ fn each_call_of_a_run_may_fail(rt: HostRuntime) -> Result<(), Fail> {
 const CHECK: &[&str] = &["check", "d", "2"];
 
 // Lane 1 reads the element that lane 0 writes.
+const TWO_LANES: &[Task<'static>] = &[
+    (&[], ROOT),
+    (&[(0, 0, 2)], &[store!(3, 4128), BARRIER, END]),
+    (&[(0, 1, 2)], &[(1, 8, 3, 4128, 0), BARRIER, END]),
+];
+
 const RACING: Case<'static> = Case {
-    tasks: &[
-        (&[], ROOT),
-        (&[(0, 0, 2)], &[store!(3, 4128), BARRIER, END]),
-        (&[(0, 1, 2)], &[(1, 8, 3, 4128, 0), BARRIER, END]),
-    ],
+    tasks: TWO_LANES,
     asked: &[(CHECK, RACES, "race 3 3\nraces 1\n")],
     ..EMPTY
 };
@@ -189,4 +193,23 @@ const GENERATED: Calls<'static> = Calls {
 #[test]
 fn each_write_of_a_generated_report_may_fail(rt: HostRuntime) -> Result<(), Fail> {
     each_call_may_fail(&rt, rt.alloc(), &GENERATED)
+}
+
+// Between the logs that it puts it reads the next one.
+const BROUGHT: Calls<'static> = Calls {
+    case: Case {
+        old_tasks: TWO_LANES,
+        asked: &[(&["upgrade", "d", "e"], DONE, "upgraded 3\n")],
+        ..EMPTY
+    },
+    reads: 19,
+    writes: 4,
+    puts: &[18, 20, 22, 23],
+    made: &["e/t.swl", "e/t-0.0.swl", "e/t-0.1.swl", "e/index.swi"],
+    ..NONE
+};
+
+#[test]
+fn each_call_of_an_upgrade_may_fail(rt: HostRuntime) -> Result<(), Fail> {
+    each_call_may_fail(&rt, rt.alloc(), &BROUGHT)
 }

@@ -221,6 +221,31 @@ main {
 }
 ";
 
+const HISTOGRAM_ATOMIC: &str = "# A histogram whose counts are updated in one step each.
+array a i64 16
+array h i32 4
+main {
+    loop k in 0 .. 16 { a[k] = k * k }
+    parallel 4 {
+        for i in 0 .. 16 {
+            atomic h[a[i] % 4] += 1
+        }
+    }
+}
+";
+
+const COUNTER_ATOMIC: &str =
+    "# Whichever lane draws an iteration adds its number to one counter, in one step.
+array c i64 1
+main {
+    parallel 4 {
+        for i in 0 .. 10 dynamic 2 {
+            atomic c[0] += i
+        }
+    }
+}
+";
+
 const SHIFT_MENDED: &str =
     "# As shift.kernel, but into another array, so that no lane reads what another writes.
 array a i64 9
@@ -271,6 +296,18 @@ const MENDED: &[Whole<'static>] = &[
     (
         HISTOGRAM,
         "tasks 5\nrecords 122\nsum a 1240\nsum h 16\n",
+        DONE,
+        NO_RACE,
+    ),
+    (
+        HISTOGRAM_ATOMIC,
+        "tasks 5\nrecords 58\nsum a 1240\nsum h 16\n",
+        DONE,
+        NO_RACE,
+    ),
+    (
+        COUNTER_ATOMIC,
+        "tasks 5\nrecords 29\nsum c 45\n",
         DONE,
         NO_RACE,
     ),

@@ -246,18 +246,29 @@ fn a_log_has_no_4194305_records(rt: HostRuntime) -> Result<(), Fail> {
     all_pass(&rt, rt.alloc(), FULL)
 }
 
-const WHOLE_LOG: Case<'static> = Case {
-    held: &[(
-        "k",
-        "array a i64 1 main { loop i in 0 .. 4194303 { a[0] = i } }",
-    )],
-    asked: &[(RUN, DONE, "tasks 1\nrecords 4194304\nsum a 4194302\n")],
-    ..EMPTY
-};
+// The root puts as many records as a log may have, and one more.
+const WHOLE_LOGS: &[Case<'static>] = &[
+    Case {
+        held: &[(
+            "k",
+            "array a i64 1 main { loop i in 0 .. 4194303 { a[0] = i } }",
+        )],
+        asked: &[(RUN, DONE, "tasks 1\nrecords 4194304\nsum a 4194302\n")],
+        ..EMPTY
+    },
+    Case {
+        held: &[(
+            "k",
+            "array a i64 1 main { loop i in 0 .. 4194304 { a[0] = i } }",
+        )],
+        asked: &[(RUN, KERNEL_STOPPED, "stopped t.swl line 1: LogFull\n")],
+        ..EMPTY
+    },
+];
 
 #[test]
 fn a_log_has_4194304_records(rt: HostRuntime) -> Result<(), Fail> {
-    all_pass(&rt, rt.alloc(), &[WHOLE_LOG])
+    all_pass(&rt, rt.alloc(), WHOLE_LOGS)
 }
 
 const FAILING: Case<'static> = Case {
