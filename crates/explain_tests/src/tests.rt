@@ -1,0 +1,347 @@
+//! Two records that race, and those that don't: confirmed without labels.
+
+use explain::confirm;
+use log_walk::{RecordWhy, WalkFault};
+use std::alloc::{AllocError, Global};
+use std::test::Fail;
+use sw_base::{Folder, INDEX_HEADER, LOG_HEADER, MemFolder, Memory, ShortReads};
+
+// A record: kind, size, line, address and value.
+type Rec = (u8, u8, u8, u64, u8);
+
+// A task: the name of its log, the steps of its path with region, lane and span, and its records.
+type Task<'a> = (&'a str, &'a [[u8; 3]], &'a [Rec]);
+
+// A row and a record's number there.
+type Name = (u32, u32);
+
+// Two records, and the first byte at which they race.
+type Case = (Name, Name, Option<u64>);
+
+const BARRIER: Rec = (5, 0, 5, 0, 0);
+
+const END: Rec = (8, 0, 8, 0, 0);
+
+const FORK: Rec = (6, 0, 2, 0, 2);
+
+macro_rules! load {
+    ($byte:expr) => {
+        (1, 8, 3, $byte, 0)
+    };
+}
+
+macro_rules! store {
+    ($byte:expr) => {
+        (2, 8, 3, $byte, 0)
+    };
+}
+
+macro_rules! update {
+    ($byte:expr) => {
+        (9, 8, 3, $byte, 1)
+    };
+}
+
+macro_rules! lock {
+    ($mutex:expr) => {
+        (3, 0, 2, $mutex, 0)
+    };
+}
+
+macro_rules! unlock {
+    ($mutex:expr) => {
+        (4, 0, 4, $mutex, 0)
+    };
+}
+
+// A root with a region of two lanes.
+macro_rules! two {
+    ($first:expr, $second:expr) => {
+        &[
+            ("d/t.swl", &[], &[FORK, END]),
+            ("d/t-0.0.swl", &[[0, 0, 2]], $first),
+            ("d/t-0.1.swl", &[[0, 1, 2]], $second),
+        ]
+    };
+}
+
+// Each lane copies four elements to the next ones: the first lane writes what the second one reads first.
+const SHIFTED: &[Task<'static>] = two!(
+    &[
+        load!(4096),
+        store!(4104),
+        load!(4104),
+        store!(4112),
+        load!(4112),
+        store!(4120),
+        load!(4120),
+        store!(4128),
+        BARRIER,
+        END
+    ],
+    &[
+        load!(4128),
+        store!(4136),
+        load!(4136),
+        store!(4144),
+        load!(4144),
+        store!(4152),
+        load!(4152),
+        store!(4160),
+        BARRIER,
+        END
+    ]
+);
+
+const SHIFTED_CASES: &[Case] = &[
+    ((2, 8), (3, 1), Some(4128)),
+    ((3, 1), (2, 8), Some(4128)),
+    ((2, 6), (3, 1), None),
+    ((2, 99), (3, 1), None),
+    ((2, 11), (3, 1), None),
+    ((2, 0), (3, 1), None),
+    ((0, 8), (3, 1), None),
+    ((4, 1), (2, 8), None),
+    ((2, 8), (4, 1), None),
+    ((2, 8), (2, 8), None),
+    ((2, 9), (3, 1), None),
+    ((1, 1), (3, 1), None),
+    ((2, 7), (2, 8), None),
+];
+
+// Accesses that have their last or their first byte in common, or none.
+const EDGES: &[Task<'static>] = two!(
+    &[(2, 8, 5, 100, 0), (2, 4, 5, 104, 0), (1, 1, 5, 107, 0), END],
+    &[(1, 1, 6, 107, 0), (2, 8, 6, 96, 0), (2, 1, 6, 108, 0), END]
+);
+
+const EDGE_CASES: &[Case] = &[
+    ((2, 1), (3, 1), Some(107)),
+    ((2, 1), (3, 2), Some(100)),
+    ((2, 1), (3, 3), None),
+    ((2, 2), (3, 2), None),
+    ((2, 2), (3, 1), Some(107)),
+    ((2, 3), (3, 1), None),
+];
+
+// The lanes under the first lane of a team, and the second one. Both lanes of the team pass a barrier, and so do those under the
+// first.
+const NESTED: &[Task<'static>] = &[
+    ("d/t.swl", &[], &[FORK, END]),
+    (
+        "d/t-0.0.swl",
+        &[[0, 0, 2]],
+        &[FORK, BARRIER, store!(4104), END],
+    ),
+    (
+        "d/t-0.0-0.0.swl",
+        &[[0, 0, 2], [0, 0, 2]],
+        &[BARRIER, store!(4096), END],
+    ),
+    (
+        "d/t-0.0-0.1.swl",
+        &[[0, 0, 2], [0, 1, 2]],
+        &[store!(4096), BARRIER, store!(4104), END],
+    ),
+    (
+        "d/t-0.1.swl",
+        &[[0, 1, 2]],
+        &[store!(4104), BARRIER, store!(4104), END],
+    ),
+];
+
+const NESTED_CASES: &[Case] = &[
+    ((4, 3), (5, 1), Some(4104)),
+    ((4, 3), (5, 3), None),
+    ((4, 1), (3, 2), None),
+    ((4, 3), (2, 3), None),
+    ((2, 3), (5, 3), Some(4104)),
+    ((2, 3), (5, 1), None),
+];
+
+// Two regions of the root, one after the other.
+const JOINED: &[Task<'static>] = &[
+    ("d/t.swl", &[], &[FORK, FORK, END]),
+    ("d/t-0.0.swl", &[[0, 0, 2]], &[store!(4096), END]),
+    ("d/t-0.1.swl", &[[0, 1, 2]], &[store!(4096), END]),
+    ("d/t-1.0.swl", &[[1, 0, 2]], &[store!(4096), END]),
+    ("d/t-1.1.swl", &[[1, 1, 2]], &[store!(4104), END]),
+];
+
+const JOINED_CASES: &[Case] = &[
+    ((2, 1), (3, 1), Some(4096)),
+    ((3, 1), (4, 1), None),
+    ((2, 1), (4, 1), None),
+    ((4, 1), (5, 1), None),
+];
+
+// Accesses under no mutex, one or another; updates.
+const HELD: &[Task<'static>] = two!(
+    &[
+        lock!(1),
+        store!(4096),
+        unlock!(1),
+        store!(4096),
+        lock!(2),
+        update!(4096),
+        unlock!(2),
+        END
+    ],
+    &[
+        lock!(1),
+        lock!(2),
+        store!(4096),
+        unlock!(2),
+        update!(4096),
+        load!(4096),
+        unlock!(1),
+        END
+    ]
+);
+
+const HELD_CASES: &[Case] = &[
+    ((2, 2), (3, 3), None),
+    ((2, 2), (3, 5), None),
+    ((2, 4), (3, 3), Some(4096)),
+    ((2, 4), (3, 6), Some(4096)),
+    ((2, 6), (3, 3), None),
+    ((2, 6), (3, 5), None),
+    ((2, 6), (3, 6), Some(4096)),
+];
+
+const TABLE: &[(&[Task<'static>], &[Case])] = &[
+    (SHIFTED, SHIFTED_CASES),
+    (EDGES, EDGE_CASES),
+    (NESTED, NESTED_CASES),
+    (JOINED, JOINED_CASES),
+    (HELD, HELD_CASES),
+];
+
+fn push_record(log: &mut Vec<u8>, record: &Rec) -> Result<(), AllocError> {
+    let (kind, size, line, address, value) = *record;
+    log.extend_from_slice(&[kind, size, 0, 0, 0, 0, 0, line])?;
+    log.extend_from_slice(&address.to_be_bytes())?;
+    log.extend_from_slice(&[0, 0, 0, 0, 0, 0, 0, value])
+}
+
+fn log_bytes(alloc: Global, records: &[Rec]) -> Result<Vec<u8>, AllocError> {
+    let mut log = Vec::from_slice(alloc, &LOG_HEADER)?;
+    for record in records {
+        push_record(&mut log, record)?;
+    }
+    Ok(log)
+}
+
+// The four steps of a row, of which those past its depth are zeros.
+fn push_row(index: &mut Vec<u8>, steps: &[[u8; 3]], records: usize) -> Result<(), AllocError> {
+    index.extend_from_slice(&[0, 0, 0, steps.len().min(4) as u8, 0, 0, 0, 0])?;
+    for place in 0..4 {
+        let [region, lane, span] = *steps.get(place).unwrap_or(&[0, 0, 0]);
+        index.extend_from_slice(&[0, 0, 0, region, 0, lane, 0, span])?;
+    }
+    index.extend_from_slice(&[0, 0, 0, 0, 0, 0, 0, records.min(255) as u8])
+}
+
+fn folder_of(alloc: Global, tasks: &[Task<'_>]) -> Result<MemFolder, Memory> {
+    let mut folder = MemFolder::new(alloc)?;
+    let mut index = Vec::from_slice(alloc, &INDEX_HEADER)?;
+    for (name, steps, records) in tasks {
+        push_row(&mut index, steps, records.len())?;
+        folder.hold(name, &log_bytes(alloc, records)?)?;
+    }
+    folder.hold("d/index.swi", &index)?;
+    Ok(folder)
+}
+
+fn is_so<F: Folder>(alloc: Global, folder: &mut F, case: &Case) -> bool {
+    let (one, other, due) = *case;
+    match confirm(alloc, folder, "d", one.0, one.1, other.0, other.1) {
+        Ok(byte) => byte == due,
+        Err(_) => false,
+    }
+}
+
+// How many of the cases of a folder are otherwise, read at once or by five bytes at a time.
+fn others(alloc: Global, folder: MemFolder, cases: &[Case]) -> usize {
+    let mut folder = folder;
+    let mut others = 0_usize;
+    for case in cases {
+        others = others.saturating_add(usize::from(!is_so(alloc, &mut folder, case)));
+    }
+    let mut short = ShortReads { folder };
+    for case in cases {
+        others = others.saturating_add(usize::from(!is_so(alloc, &mut short, case)));
+    }
+    others
+}
+
+// The first folder in which a case is otherwise, by its number from 0.
+fn first_other(alloc: Global) -> Result<Option<usize>, Memory> {
+    for (number, (tasks, cases)) in TABLE.iter().enumerate() {
+        if others(alloc, folder_of(alloc, tasks)?, cases) > 0 {
+            return Ok(Some(number));
+        }
+    }
+    Ok(None)
+}
+
+#[test]
+fn records_that_race_are_confirmed(rt: HostRuntime) -> Result<(), Fail> {
+    assert_eq!(rt; first_other(rt.alloc())?, None);
+    Ok(())
+}
+
+// What the call answers that names two records that race.
+#[derive(Clone, Copy, PartialEq, Eq)]
+enum Told {
+    Race,
+    NoIndex,
+    Uneven(u32),
+    ReadFault,
+    Other,
+}
+
+fn answer_of<F: Folder>(alloc: Global, folder: &mut F) -> Told {
+    match confirm(alloc, folder, "d", 2, 8, 3, 1) {
+        Ok(Some(_)) => Told::Race,
+        Ok(None) => Told::Other,
+        Err(WalkFault::NoIndex) => Told::NoIndex,
+        Err(
+            WalkFault::BadRecord {
+                number,
+                why: RecordWhy::BarrierCount,
+                ..
+            },
+        ) => Told::Uneven(number),
+        Err(WalkFault::ReadFault) => Told::ReadFault,
+        Err(_) => Told::Other,
+    }
+}
+
+// The lanes of this team pass different numbers of barriers.
+const UNEVEN: &[Task<'static>] = two!(&[BARRIER, END], &[END]);
+
+#[test]
+fn a_bad_folder_is_refused(rt: HostRuntime) -> Result<(), Fail> {
+    let mut uneven = folder_of(rt.alloc(), UNEVEN)?;
+    assert!(rt; answer_of(rt.alloc(), &mut uneven) == Told::Uneven(1));
+    let mut empty = MemFolder::new(rt.alloc())?;
+    assert!(rt; answer_of(rt.alloc(), &mut empty) == Told::NoIndex);
+    Ok(())
+}
+
+#[test]
+fn each_failing_read_is_told(rt: HostRuntime) -> Result<(), Fail> {
+    // Fifteen calls of the sweep, and one for each of the two logs that are read again.
+    for call in 1..19 {
+        let due = if call < 18 {
+            Told::ReadFault
+        } else {
+            Told::Race
+        };
+        let mut folder = folder_of(rt.alloc(), SHIFTED)?;
+        folder.fail(&[call])?;
+        assert!(rt; answer_of(rt.alloc(), &mut folder) == due, "at call {call}");
+    }
+    Ok(())
+}
