@@ -1,13 +1,15 @@
 //! Parcels on one thread, and on one thread for each lane.
-ghost use Rattle.std.specs.Prelude.{◌≡◌, ℕ, ◌+◌, ◌^◌, ◌<◌, ◌≤◌, All, None, Some, IfSome};
+ghost use Rattle.std.specs.Prelude.{◌≡◌, ℕ, ◌+◌, ◌^◌, ◌<◌, ◌≤◌, All, None, Some};
 ghost use denote.Param.Send.{IsSync};
 ghost use Rattle.hand_over.specs.Views.{turn_at};
 ghost use Rattle.hand_over.specs.declared.view.Turn.TheVariants.{Idle, Out};
 ghost use Rattle.hand_over_tests.specs.Turns.{AreAll, IsIdle, IsOut};
 
+mod scoped;
+mod turns;
+
 use hand_over::{Desk, Parcel, Parcels, Place};
 use std::alloc::Global;
-use std::marker::PhantomData;
 use std::sync::{Arc, Wait};
 use std::test::Fail;
 use std::thread;
@@ -275,59 +277,5 @@ fn a_parcel_on_the_way_is_dropped_once(rt: HostRuntime) -> Result<(), Fail> {
     assert!(rt; Arc::strong_count(&shared) == 2);
     drop(parcels);
     assert!(rt; Arc::strong_count(&shared) == 1);
-    Ok(())
-}
-
-/// What parcels are about, told by a type.
-trait Least: Send {
-    ghost least: { ℕ };
-}
-
-struct Ten;
-
-impl Least for Ten {
-    ghost least = { 10 };
-}
-
-/// A number that is large enough.
-#[derive(Drop)]
-struct Large<K> {
-    value: u64,
-    of: PhantomData<K>,
-}
-
-impl<K: Least> Parcel for Large<K> {
-    type About = ();
-
-    ghost fits = { λ _ large. K.least ≤ large.value };
-
-    ghost follows = { λ _ sent back. sent.value ≤ back.value };
-}
-
-fn taken<K: Least, R: Wait>(
-    rt: &R,
-    parcels: &Parcels<Large<K>>,
-    place: &mut Place<Large<K>>,
-) -> Option<u64>
-    requires table { place.old.table ≡ parcels.now }
-    requires none { place.old.took ≡ None }
-    ensures { IfSome result (λ value. K.least ≤ value) }
-{
-    let large = parcels.take(rt, place)?;
-    Some(large.value)
-}
-
-#[test]
-fn what_parcels_are_about_is_told_by_a_type(rt: HostRuntime) -> Result<(), Fail> {
-    let (parcels, mut desk, mut places) = Parcels::<Large<Ten>>::new(rt.alloc(), 1, &())?;
-    let large = Large {
-        value: 12,
-        of: PhantomData,
-    };
-    parcels.send(&mut desk, 0, large);
-    let Some(mut place) = places.pop() else {
-        return Err(Fail::from("no place"));
-    };
-    assert!(rt; taken(&rt, &parcels, &mut place) == Some(12));
     Ok(())
 }
