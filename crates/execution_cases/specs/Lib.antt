@@ -1,0 +1,3 @@
+pub mod Nested
+pub mod Pieces
+pub mod TwoLanes
