@@ -1,5 +1,5 @@
 #!/usr/bin/env python3
-"""Measures `run` on lanes: four at once against one that does as much, many phases, and a mutex that all lanes want.
+"""Measures `run` on lanes: four at once against one that does as much, many phases, a mutex that all lanes want, and updates of one element.
 
 usage: lanes.py, at the top of the repository, after `./sword` was built. Each figure is the least of several runs.
 """
@@ -23,6 +23,8 @@ KERNELS = [
     ("four lanes, 10,000 phases", "array a i64 1 main { parallel 4 { loop k in 0 .. 10000 { barrier } } }\n"),
     ("64 lanes, 1,000 critical sections each",
      "array s i64 1 main { parallel 64 { loop k in 0 .. 1000 { critical { s[0] = s[0] + 1 } } } }\n"),
+    ("64 lanes, 10,000 critical sections each", "array s i64 1 main { parallel 64 { loop k in 0 .. 10000 { critical { s[0] = s[0] + 1 } } } }\n"),
+    ("64 lanes, 10,000 atomic updates each", "array s i64 1 main { parallel 64 { loop k in 0 .. 10000 { atomic s[0] += 1 } } }\n"),
     ("64 lanes in four nested regions of 2, 4, 2 and 4, 1,000 stores each",
      "array a i64 64 main { parallel 2 { parallel 4 { parallel 2 { parallel 4 { loop k in 0 .. 1000 { a[tid] = k } } } } } }\n"),
 ]
