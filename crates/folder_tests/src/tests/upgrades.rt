@@ -6,7 +6,7 @@ use log_walk::{WalkFault, walk, walk_old};
 use race_model::IndexWhy;
 use std::alloc::Global;
 use std::test::Fail;
-use sw_base::{MemFolder, OLD_INDEX_HEADER, OLD_LOG_HEADER};
+use sw_base::{Folder, MemFolder, OLD_INDEX_HEADER, OLD_LOG_HEADER, index_name};
 
 // The files of a generated run.
 const FILES: &[&str] = &[
@@ -59,6 +59,23 @@ fn first_other(alloc: Global, folder: &MemFolder) -> Result<Option<&'static str>
     Ok(None)
 }
 
+// Brings a folder over to another one, and how that failed, unless the other one has an index.
+fn brought<F: Folder>(
+    alloc: Global,
+    folder: &mut F,
+    dir: &str,
+    new: &str,
+) -> Result<u32, Option<UpgradeFault>> {
+    let name = match index_name(alloc, new) {
+        Ok(name) => name,
+        Err(_) => return Err(None),
+    };
+    match folder.size(alloc, &name) {
+        Ok(None) => upgrade(alloc, folder, dir, new).map_err(Some),
+        _ => Err(None),
+    }
+}
+
 #[test]
 fn a_folder_that_was_brought_over_is_the_one_that_is_written_now(
     rt: HostRuntime,
@@ -67,8 +84,7 @@ fn a_folder_that_was_brought_over_is_the_one_that_is_written_now(
     let mut folder = both(alloc)?;
     let old = walk_old(alloc, &mut folder, "d").ok();
     assert!(rt; old.is_some_and(|found| found.len() == 16));
-    let count = upgrade(alloc, &mut folder, "d", "e").ok();
-    assert!(rt; count == Some(9));
+    assert!(rt; brought(alloc, &mut folder, "d", "e").ok() == Some(9));
     assert_eq!(rt; first_other(alloc, &folder)?, None);
     let new = walk(alloc, &mut folder, "e").ok();
     assert!(rt; new.is_some_and(|found| found.len() == 16));
@@ -86,9 +102,11 @@ fn what_is_of_the_second_format_is_not_brought_over(rt: HostRuntime) -> Result<(
     let mut folder = both(alloc)?;
     let walked = walk_old(alloc, &mut folder, "n").err();
     assert!(rt; walked.is_some_and(|fault| is_header(&fault)));
-    let refused = upgrade(alloc, &mut folder, "n", "e").err();
+    let refused = brought(alloc, &mut folder, "n", "e").err();
     assert!(rt;
-        refused.is_some_and(|fault| matches!(fault, UpgradeFault::Walk(why) if is_header(&why)))
+        refused.is_some_and(
+            |fault| matches!(fault, Some(UpgradeFault::Walk(why)) if is_header(&why))
+        )
     );
     assert!(rt; folder.file("e/t.swl").is_none() && folder.file("e/index.swi").is_none());
     Ok(())
