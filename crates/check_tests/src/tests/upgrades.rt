@@ -226,6 +226,23 @@ const ASKED: &[(&str, &str, &str, u8, &str)] = &[
     ),
 ];
 
+// Fails where these words come to another status or text.
+fn is_answered<'a, R: Threads + Wait + Sync>(
+    rt: &R,
+    alloc: Global,
+    folder: &mut Host,
+    words: (&'a str, &'a str, &'a str),
+    status: u8,
+    text: &str,
+) -> Result<(), Fail> {
+    let (command, dir, last) = words;
+    let (answered, out) = printed(rt, alloc, folder, &[command, dir, last], &[])?;
+    holds(
+        answered == status && out.written() == text.as_bytes(),
+        "what real files answer",
+    )
+}
+
 // Fails where real files below this folder are answered otherwise.
 fn real_files_answer<R: Threads + Wait + Sync>(
     rt: &R,
@@ -236,16 +253,25 @@ fn real_files_answer<R: Threads + Wait + Sync>(
     for (command, dir, last, status, text) in ASKED {
         let dir = format!(in alloc; "{top}/{dir}")?;
         let new = format!(in alloc; "{top}/{last}")?;
-        let last = if *command == "check" {
-            *last
+        if *command == "check" {
+            is_answered(
+                rt,
+                alloc,
+                folder,
+                (*command, dir.as_str(), *last),
+                *status,
+                *text,
+            )?;
         } else {
-            new.as_str()
-        };
-        let (answered, out) = printed(rt, alloc, folder, &[*command, dir.as_str(), last], &[])?;
-        holds(
-            answered == *status && out.written() == text.as_bytes(),
-            *command,
-        )?;
+            is_answered(
+                rt,
+                alloc,
+                folder,
+                (*command, dir.as_str(), new.as_str()),
+                *status,
+                *text,
+            )?;
+        }
     }
     Ok(())
 }
