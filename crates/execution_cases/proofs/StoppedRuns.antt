@@ -70,6 +70,7 @@ are_stopped program tasks words path why end line name told is few execution lis
   stops = record {
     traced = λ other same. subst (λ (e : Ending). EndsTask program tasks path e) (same_Some end other (sym is ∙ same)) ends;
     crowded = λ at same. absurd (few at same);
+    joined = λ at same. absurd (few at same);
     least = λ ok. least;
   };
   crowded = λ at same. absurd (few at same);

@@ -1,6 +1,6 @@
 //! Computed cases of runs that stopped: two kernels, each with one run by hand, and what is no such run.
 //!
-//! They guard definitions of which few other computed cases are there: executions (`IsExecution` of `execution_model`), where a run
+//! They guard definitions that have few other computed cases: executions (`IsExecution` of `execution_model`), where a run
 //! stopped (`StopsIn` of `region_runner`, `RestsBelow` of `lane_runner`), and what its logs are (`AreStopped`, `IsTornLog` of
 //! `run_command`). Each wrong run is one that differs from a run in one place, so that a weaker clause would let it pass; that it keeps
 //! the other clauses is not proved.

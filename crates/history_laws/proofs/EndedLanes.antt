@@ -212,7 +212,7 @@ team_ends lane NoWork less ends = absurd (omega arith)
 team_ends zero (Beside work others) less ends = subst (λ (rs : List Record). LastIsEnd rs) (sym (append-nil (work_records work))) ends.0
 team_ends (suc lane) (Beside work others) less ends = team_ends lane others (omega arith) ends.1
 
-lane_ends : (layout : WordLayout) (span lane : ℕ) (phases : Phases) → ArePhasesSound layout span phases → lane < span → PhasesEnd phases → LastIsEnd (flat_map work_records (lane_works lane phases))
+pub lane_ends : (layout : WordLayout) (span lane : ℕ) (phases : Phases) → ArePhasesSound layout span phases → lane < span → PhasesEnd phases → LastIsEnd (flat_map work_records (lane_works lane phases))
 lane_ends layout span lane NoPhase sound less ends = absurd ends
 lane_ends layout span lane (Phase team NoPhase) sound less ends =
     subst (λ (ws : List Work). LastIsEnd (flat_map work_records ws)) (sym (append-nil (work_at lane team))) (team_ends lane team (omega (arith, sound.0)) ends)

@@ -100,20 +100,6 @@ pub run-Set : (at : Site) (slot : ℕ) (e : Term) (rest : Code) (s : State) →
 unfolding run
 run-Set at slot e rest s = refl
 
-pub run-Store : (at : Site) (array : ℕ) (index e : Term) (line site : ℕ) (rest : Code) (s : State) →
-    run at (tree.Store array index e line site rest) s
-    ≡ and_then (value at index s) (λ i s. and_then (value at e s) (λ v s.
-    after (stored (element_at at.arrays array i) v line site s) (run at rest)))
-unfolding run
-run-Store at array index e line site rest s = refl
-
-pub run-Update : (at : Site) (array : ℕ) (index e : Term) (minus : Bool) (line site : ℕ) (rest : Code) (s : State) →
-    run at (tree.Update array index e minus line site rest) s
-    ≡ and_then (value at index s) (λ i s. and_then (value at e s) (λ v s.
-    after (updated (element_at at.arrays array i) (amount_of minus v) line site s) (run at rest)))
-unfolding run
-run-Update at array index e minus line site rest s = refl
-
 pub run-If : (at : Site) (test : Term) (if_true if_false rest : Code) (s : State) →
     run at (tree.If test if_true if_false rest) s
     ≡ and_then (value at test s) (λ v s. after (branch v (run at if_true) (run at if_false) s) (run at rest))

@@ -5,6 +5,7 @@ pub mod Races
 pub mod FirstRegion
 pub mod Tasks
 pub mod Findings
+pub mod Shares
 pub mod Members
 pub mod FieldOrder
 pub mod Dividing

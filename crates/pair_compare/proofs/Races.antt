@@ -26,7 +26,7 @@ HasByte-from logs x r key address byte is h =
     let to = h.to_end in
     record { from_start = omega arith; to_end = omega arith }
 
-Touches-from : (logs : Logs) (x : Node) (r : Record) (key : Key) (address byte : ℕ) → IsAccessAt logs x r key address → HasByte r byte → Touches key address byte
+pub Touches-from : (logs : Logs) (x : Node) (r : Record) (key : Key) (address byte : ℕ) → IsAccessAt logs x r key address → HasByte r byte → Touches key address byte
 Touches-from logs x r key address byte is h =
     let size : key.size ≡ r.size = ap (λ (k : Key). k.size) is.keyed in
     let same : address ≡ r.addr = is.addressed in
@@ -57,25 +57,25 @@ update_kind Kind.Chunk h = cc
 update_kind Kind.End h = cc
 update_kind Kind.Update h = refl
 
-changes_from : (logs : Logs) (x : Node) (r : Record) (key : Key) (address : ℕ) → IsAccessAt logs x r key address → IsTrue key.write ↔ IsChange r
+pub changes_from : (logs : Logs) (x : Node) (r : Record) (key : Key) (address : ℕ) → IsAccessAt logs x r key address → IsTrue key.write ↔ IsChange r
 changes_from logs x r key address is = (
   λ w. (changes_kind r.kind).0 (subst (λ (k : Key). IsTrue k.write) is.keyed w),
   λ change. subst (λ (k : Key). IsTrue k.write) (sym is.keyed) ((changes_kind r.kind).1 change),
 )
 
-update_from : (logs : Logs) (x : Node) (r : Record) (key : Key) (address : ℕ) → IsAccessAt logs x r key address → IsTrue key.atomic ↔ (r.kind ≡ Update)
+pub update_from : (logs : Logs) (x : Node) (r : Record) (key : Key) (address : ℕ) → IsAccessAt logs x r key address → IsTrue key.atomic ↔ (r.kind ≡ Update)
 update_from logs x r key address is = (
   λ a. update_kind r.kind (subst (λ (k : Key). IsTrue k.atomic) is.keyed a),
   λ update. subst (λ (k : Key). IsTrue k.atomic) (sym is.keyed) (subst (λ (k : Kind). IsTrue (is_atomic k)) (sym update) refl),
 )
 
-held_is : (logs : Logs) (x : Node) (r : Record) (key : Key) (address : ℕ) → IsAccessAt logs x r key address → key.held ≡ held_at logs x
+pub held_is : (logs : Logs) (x : Node) (r : Record) (key : Key) (address : ℕ) → IsAccessAt logs x r key address → key.held ≡ held_at logs x
 held_is logs x r key address is = ap (λ (k : Key). k.held) is.keyed
 
-line_is : (logs : Logs) (x : Node) (r : Record) (key : Key) (address : ℕ) → IsAccessAt logs x r key address → key.line ≡ r.line
+pub line_is : (logs : Logs) (x : Node) (r : Record) (key : Key) (address : ℕ) → IsAccessAt logs x r key address → key.line ≡ r.line
 line_is logs x r key address is = ap (λ (k : Key). k.line) is.keyed
 
-there : (logs : Logs) (x : Node) (r : Record) → record_at logs x ≡ Some r → IsThere logs x
+pub there : (logs : Logs) (x : Node) (r : Record) → record_at logs x ≡ Some r → IsThere logs x
 there logs x r found = slice_get_within (logs x.path) x.index r found
 
 module _ (logs : Logs) (IsOne : List Step → Type 0) (segments : List Segment) (tree : IsForkJoin logs) (are : AreSegments logs IsOne segments) where

@@ -1,5 +1,6 @@
 -- The work of comparing groups: runs of some members that meet a range of bytes.
-use Rattle.std.specs.Prelude.{◌≡◌, ℕ, ◌≤◌, List, [], false, Contains}
+use Rattle.std.specs.Prelude.{◌≡◌, ℕ, ◌≤◌, ◌-◌, List, [], length, false, Contains, take}
+use Rattle.std.specs.List.{sum_by}
 use Rattle.stride_summary.specs.declared.run.Run.{Run}
 use Rattle.pair_compare.specs.Conflict.{AddsPairs, OneHas}
 use Rattle.pair_compare.specs.Sweeps.{IsMetPair, IsReachOf, Reach}
@@ -45,3 +46,11 @@ HasNothing worker = worker.pairs.keys ≡ []
 
 abbrev pub HasFound : Worker → ℕ × ℕ → Type 0
 HasFound worker pair = Contains worker.pairs.keys pair
+
+-- about how many runs the tasks have
+abbrev pub runs_of : List Task → ℕ
+runs_of tasks = sum_by (λ task. task.runs) tasks
+
+-- without its last task the worker has at most so many runs
+abbrev pub HasShare : ℕ → Worker → Type 0
+HasShare most worker = runs_of (take (length worker.tasks.now - 1) worker.tasks.now) ≤ most

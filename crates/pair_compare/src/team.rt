@@ -1,8 +1,8 @@
-ghost use Rattle.std.specs.Prelude.{◌≡◌, ◌↔◌, ◌<◌, ◌≤◌, ℕ, slice_index_or, All, Contains, length, false, IfOk, OnOk, OnErr};
+ghost use Rattle.std.specs.Prelude.{◌≡◌, ◌↔◌, ◌<◌, ◌≤◌, ◌⊎◌, ◌*◌, ◌-◌, ◌^◌, ℕ, slice_index_or, All, Contains, length, take, false, IfOk, OnOk, OnErr};
 ghost use Rattle.std.specs.List.Sorted.{IsStrictlySortedBy};
 ghost use Rattle.race_model.specs.Race.{pair_cmp};
 ghost use Rattle.pair_compare.specs.Conflict.{GrowsBy, AddsPairs, AddsSome, OneHas};
-ghost use Rattle.pair_compare.specs.Work.{HasFound, HasSearched, HasNothing, IsTaskPair, IsWorkerPair};
+ghost use Rattle.pair_compare.specs.Work.{HasFound, HasSearched, HasNothing, HasShare, IsTaskPair, IsWorkerPair, runs_of};
 
 use crate::task::Task;
 use crate::worker::Worker;
@@ -23,7 +23,10 @@ pub fn unite(pairs: &mut BTreeSet<(u32, u32)>, more: &BTreeSet<(u32, u32)>) -> R
     Ok(())
 }
 
-fn runs_in(tasks: &[Task]) -> usize {
+// About how many runs the tasks have.
+fn runs_in(tasks: &[Task]) -> usize
+    ensures { runs_of tasks.now < 2 ^ 64 → result ≡ runs_of tasks.now }
+{
     let mut runs = 0usize;
     for task in tasks {
         runs = runs.saturating_add(task.runs);
@@ -31,9 +34,11 @@ fn runs_in(tasks: &[Task]) -> usize {
     runs
 }
 
-// How many of the tasks have about so many runs together.
+// How many of the tasks have so many runs together: the last of them brings them there, if the tasks have so many.
 fn share(tasks: &[Task], most: usize) -> usize
-    ensures { result ≤ length tasks.now }
+    ensures within { result ≤ length tasks.now }
+    ensures before { runs_of tasks.now < 2 ^ 64 → runs_of (take (result - 1) tasks.now) ≤ most }
+    ensures enough { runs_of tasks.now < 2 ^ 64 → (result ≡ length tasks.now) ⊎ (most ≤ runs_of (take result tasks.now)) }
 {
     let mut runs = 0usize;
     for (place, task) in tasks.iter().enumerate() {
@@ -54,6 +59,9 @@ fn deal<'t, 'g, 's>(
 ) -> Result<(), Memory>
     ensures dealt { OnOk result (GrowsBy (OneHas IsWorkerPair team.old.items) (OneHas IsWorkerPair team.new.items) (OneHas IsTaskPair tasks.now)) }
     ensures fresh { All HasNothing team.old.items → OnOk result (All HasNothing team.new.items) }
+    // No worker has more than an equal share, but for its last task.
+    ensures even { (most : ℕ) → runs_of tasks.now < 2 ^ 64 → runs_of tasks.now ≤ workers * most → All (HasShare most) team.old.items
+        → OnOk result (All (HasShare most) team.new.items) }
 {
     if workers <= 1 {
         team.push(Worker::new(alloc, tasks))?;

@@ -2,9 +2,10 @@
 use Rattle.std.proofs.Common.{◌≡◌, refl, ap, sym, ◌∙◌, subst, ℕ, zero, suc, ◌<◌, ◌≤◌, List, [], ◌∷◌, ◌++◌, length, slice_get, Option, Some, None, arith}
 use Rattle.std.specs.List.{flat_map}
 use Rattle.std.proofs.lemmas.List.{append-nil, append_assoc}
-use Rattle.std.proofs.lemmas.Option.{same_Some, none-some}
+use Rattle.std.proofs.lemmas.Option.{get_or_from_slice_get, none-some, same_Some, slice_get_within}
 use Rattle.sw_base.specs.declared.path.Step.{Step}
 use Rattle.log_format.specs.declared.record.Record.{Record}
+use Rattle.race_model.specs.ForkJoin.{ListsTask}
 use Rattle.race_model.specs.Listing.{lane_of}
 use Rattle.race_model.specs.Trace.{Logs, logs_of}
 use Rattle.kernel_syntax.specs.Program.{Program}
@@ -12,16 +13,20 @@ use Rattle.kernel_model.specs.State.{Fork}
 use Rattle.kernel_model.specs.Trace.{Start, Ending}
 use Rattle.kernel_model.specs.Folder.{IsTracedTo, own_trace, root_start, lane_start, start_at, start_below}
 use Rattle.kernel_model.proofs.Starts.{lane_started}
+use Rattle.history_model.specs.Joined.{LastIsEnd, PhasesEnd}
 use Rattle.history_model.specs.Sound.{IsSound}
 use Rattle.history_model.specs.Tasks.{tree_tasks}
-use Rattle.history_model.specs.Work.{Work, RegionWork, work_regions, lane_works, works_at_region, works_at_step, works_of, works_under}
-use Rattle.history_laws.proofs.TaskTree.{AreForked, lane_is, listed_of}
+use Rattle.history_model.specs.Work.{Work, RegionWork, work_records, work_regions, lane_works, works_at_region, works_at_step, works_of, works_under}
+use Rattle.history_laws.proofs.EndedLanes.{lane_ends}
+use Rattle.history_laws.proofs.MetBarriers.{works_lane}
+use Rattle.history_laws.proofs.TaskTree.{AreForked, forked_last, lane_is, listed_of, sound_regions, sound_works_under}
 use Rattle.execution_model.specs.Runs.{IsWithin, RunsTask, lane_begin, logged_tasks, works_log}
-use Rattle.execution_laws.proofs.Descent.{RunsAt, down}
-use Rattle.execution_laws.proofs.LoggedTasks.{lists_logged, log_is}
-use Rattle.lane_runner.specs.Stopping.{GoesFurther, IsLeastBelow, EndsBelow, LastIsRegionAt, RestsBelow}
+use Rattle.execution_laws.proofs.Descent.{RunsAt, down, released_of}
+use Rattle.execution_laws.proofs.LoggedTasks.{listed_forked, lists_logged, log_is, logged_lists}
+use Rattle.execution_laws.proofs.Prefixes.{ends_same}
+use Rattle.lane_runner.specs.Stopping.{GoesFurther, HaveEnded, IsLeastBelow, EndsBelow, LastIsRegionAt, RestsBelow}
 use Rattle.lane_runner.specs.World.{layout_of}
-use Rattle.region_runner.specs.Answer.{EndsTask, IsLeast}
+use Rattle.region_runner.specs.Answer.{EndsTask, IsLeast, LanesEnd}
 use Rattle.execution_laws.specs.Nesting.{NestsWithin}
 use Rattle.execution_laws.proofs.TaskListing.{RegionNests, WorksNest, all_regions_nest, found_nests, lane_of_region_nests}
 
@@ -84,6 +89,15 @@ rests_last line works path (RestsBelow.itself ws last ended) = last
 rests_last line works path (RestsBelow.below ws number region lane rest found less rests) =
     subst (λ (ws : List Work). LastIsRegionAt line (works_log (works_under ws rest))) (sym (lane_is works region number lane found)) (rests_last line (lane_works lane region.phases) rest rests)
 
+rests_ended : (line : ℕ) (works : List Work) (path : List Step) → RestsBelow line works path → HaveEnded (flat_map work_regions (works_under works path))
+rests_ended line works path (RestsBelow.itself ws last ended) = ended
+rests_ended line works path (RestsBelow.below ws number region lane rest found less rests) =
+    subst (λ (ws : List Work). HaveEnded (flat_map work_regions (works_under ws rest))) (sym (lane_is works region number lane found)) (rests_ended line (lane_works lane region.phases) rest rests)
+
+region_ended : (regions : List RegionWork) (k : ℕ) (region : RegionWork) → HaveEnded regions → slice_get regions k ≡ Some region → PhasesEnd region.phases
+region_ended regions k region ended found =
+    subst (λ (r : RegionWork). PhasesEnd r.phases) (get_or_from_slice_get regions k region region found) (ended k region (slice_get_within regions k region found)).0
+
 -- down to a step of the path: the works of that lane, and of a smaller one
 least_at : (works : List Work) (path : List Step) → IsLeastBelow works path → (above : List Step) (step : Step) (below : List Step) → path ≡ above ++ step ∷ below → (lane : ℕ) → lane < step.lane
     → GoesFurther (works_log (works_under works (lane_of above step.region lane step.span))) (works_log (works_under works (above ++ step ∷ [])))
@@ -138,3 +152,29 @@ module _ (program : Program) (depth : ℕ) (root : Work) (sound : IsSound (layou
 
   pub rests_task : (line : ℕ) (path : List Step) → RestsBelow line (root ∷ []) path → LastIsRegionAt line (logs_of (logged_tasks depth root) path)
   rests_task line path rests = subst (λ (rs : List Record). LastIsRegionAt line rs) (sym (log_here path)) (rests_last line (root ∷ []) path rests)
+
+  -- the lanes of its regions put their End
+  pub joined_task : (line : ℕ) (path : List Step) → RestsBelow line (root ∷ []) path → LanesEnd (logged_tasks depth root) path
+  joined_task line path rests step listed = subst (λ (rs : List Record). LastIsEnd rs) (sym (log_here lane_path)) logged_end
+    where
+      lane_path : List Step
+      lane_path = path ++ step ∷ []
+
+      forked : AreForked (root ∷ []) lane_path
+      forked = listed_forked depth root lane_path (logged_lists (tree_tasks depth root) lane_path listed)
+
+      put_end : LastIsEnd (flat_map work_records (works_of root lane_path))
+      put_end =
+          let own = (forked_last (root ∷ []) path step forked).1 in
+          let step_is : record { region = step.region; lane = step.lane; span = own.region.span } ≡ step = λ i. record { region = step.region; lane = step.lane; span = own.span_is i } in
+          let works_are : works_of root lane_path ≡ lane_works step.lane own.region.phases =
+          works_lane root path step ∙ ap (λ (s : Step). works_at_step s (works_of root path)) (sym step_is) ∙ lane_is (works_of root path) own.region step.region step.lane own.found in
+          let phases_sound = sound_regions (layout_of program.arrays) (works_of root path) step.region own.region (sound_works_under (layout_of program.arrays) (root ∷ []) path (sound, tt)) own.found in
+          let ended = region_ended (flat_map work_regions (works_of root path)) step.region own.region (rests_ended line (root ∷ []) path rests) own.found in
+          subst (λ (ws : List Work). LastIsEnd (flat_map work_records ws)) (sym works_are)
+          (lane_ends (layout_of program.arrays) own.region.span step.lane own.region.phases phases_sound (subst (λ (n : ℕ). step.lane < n) (sym own.span_is) own.within) ended)
+
+      logged_end : LastIsEnd (works_log (works_of root lane_path))
+      logged_end =
+          let at = down program (logs_of (logged_tasks depth root)) [] (root_start program) (root ∷ []) lane_path runs forked log_here in
+          ends_same (λ p. works_log (works_of root lane_path)) (λ p. flat_map work_records (works_of root lane_path)) (λ p. released_of program at.begin (works_of root lane_path) at.task) [] put_end

@@ -50,7 +50,7 @@ use Rattle.lane_runner.specs.Stopping.{LastIsRegionAt}
 use Rattle.lane_runner.specs.World.{HaveOwnWords, element_address, element_word, layout_of}
 use Rattle.lane_runner.proofs.HandedTasks.{tree_listed}
 use Rattle.lane_runner.proofs.OwnWords.{bounded_widths, bounded_world}
-use Rattle.region_runner.specs.Answer.{AreFaultless, EndsTask, HasRun, HasStoppedRun, IsLeast, IsRun, StopsIn, whole_log, whole_outline}
+use Rattle.region_runner.specs.Answer.{AreFaultless, EndsTask, HasRun, HasStoppedRun, IsLeast, IsRun, LanesEnd, StopsIn, whole_log, whole_outline}
 use Rattle.execution_laws.specs.Nesting.{NestsWithin}
 use Rattle.region_runner.specs.Gathering.{ClosedValue}
 use Rattle.region_runner.specs.Root.{IsSettled, RanRoot, RootRests, StopsRoot}
@@ -58,7 +58,7 @@ use Rattle.execution_laws.proofs.FinishedRun.{whole_folder}
 use Rattle.region_runner.proofs.Nested.{root_nests}
 use Rattle.region_runner.proofs.NestedHands.{root_within}
 use Rattle.region_runner.proofs.RootHands.{root_rests}
-use Rattle.region_runner.proofs.RootStops.{ends_task, least_task, rests_task}
+use Rattle.region_runner.proofs.RootStops.{ends_task, joined_task, least_task, rests_task}
 use Rattle.execution_laws.proofs.TaskListing.{are_listed, are_within}
 
 -- ---- the words of elements
@@ -212,6 +212,9 @@ module _ (program : Program) (lawful : IsLawful program) (dir : List ℕ) (size 
       crowded = λ line told.
           let rests_at = stopped.crowded line told in
           subst (λ (p : List Step). LastIsRegionAt line (logs_of tasks p)) (sym rests_at.at.path_is) (rests_task program 4 work rests.did.sound within runs nests line rests_at.at.rest rests_at.rests);
+      joined = λ line told.
+          let rests_at = stopped.crowded line told in
+          subst (λ (p : List Step). LanesEnd tasks p) (sym rests_at.at.path_is) (joined_task program 4 work rests.did.sound within runs nests line rests_at.at.rest rests_at.rests);
       least = λ other.
           let least = stopped.least other in
           subst (λ (p : List Step). IsLeast tasks p) (sym least.at.path_is) (least_task program 4 work rests.did.sound within runs nests least.at.rest least.least);

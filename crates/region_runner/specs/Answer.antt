@@ -20,6 +20,7 @@ use Rattle.kernel_syntax.specs.Layout.{elements}
 use Rattle.kernel_syntax.specs.Program.{Program}
 use Rattle.kernel_model.specs.Folder.{IsTracedFolder, IsTracedTo, paths_of, start_at}
 use Rattle.kernel_model.specs.Trace.{Start, Ending}
+use Rattle.history_model.specs.Joined.{LastIsEnd}
 use Rattle.execution_model.specs.Execution.{IsExecution}
 use Rattle.lane_runner.specs.declared.stop.Stop.{Stop}
 use Rattle.lane_runner.specs.declared.stop.Stop.TheVariants as stop
@@ -78,11 +79,16 @@ abbrev pub IsLeast : Trace → List Step → Type 0
 IsLeast tasks path = (above : List Step) (step : Step) (below : List Step) → path ≡ above ++ step ∷ below → (lane : ℕ) → lane < step.lane
     → GoesFurther (logs_of tasks (lane_of above step.region lane step.span)) (logs_of tasks (above ++ step ∷ []))
 
+-- each lane of the regions of the task of this path put its End
+abbrev pub LanesEnd : Trace → List Step → Type 0
+LanesEnd tasks path = (step : Step) → ListsTask tasks (path ++ step ∷ []) → LastIsEnd (logs_of tasks (path ++ step ∷ []))
+
 -- The run stopped so in the task of this path: a stop that traces tell is how its trace ends; where too many tasks were below it,
--- its last record is that of a region at this line; and but for trouble it is in the least lane that stopped.
+-- its last record is that of a region at this line, and its regions are joined; and but for trouble it is in the least lane that stopped.
 pub record StopsIn (program : Program) (tasks : Trace) (path : List Step) (why : Stop) : Type 0 where
   pub traced : (end : Ending) → ending_for why ≡ Some end → EndsTask program tasks path end
   pub crowded : (line : ℕ) → why ≡ stop.Tasks line → LastIsRegionAt line (logs_of tasks path)
+  pub joined : (line : ℕ) → why ≡ stop.Tasks line → LanesEnd tasks path
   pub least : IsNoTrouble why → IsLeast tasks path
 
 -- The logs of a run that stopped so in the task of this path. They are those of an execution of the kernel, in the order of their paths:

@@ -6,10 +6,10 @@
 //! lane forks run in turn; after the last phase each lane that goes on puts its End (`ending`); and then the logs are closed
 //! (`closing`) and handed on (`gathering`).
 //!
-//! What is told of a run that ended: its logs are those of the kernel's tasks, each with its whole trace under the values that it read,
+//! What is promised of a run that ended: its logs are those of the kernel's tasks, each with its whole trace under the values that it read,
 //! cut into pieces that fill the buffer; they keep the rules of a folder; and all accesses and mutex steps have one legal history,
 //! which respects happens-before and ends in the words. Of a run that stopped: its logs are those of the beginning of such a run,
-//! each whole or a prefix, and the task that is named stopped as is told. What is told of a region is what a lane asks of the
+//! each whole or a prefix, and the task that is named stopped as stated. What is told of a region is what a lane asks of the
 //! function that runs its regions.
 //!
 //! Two laws, on which this rests. `hands_tell_each_chunk_once`: what the hands of a team drew from its counters, the logs of its
