@@ -1,6 +1,6 @@
 #!/usr/bin/env python3
-"""Measures the program: a check of a large folder, runs of a kernel of a million stores with a small and a large buffer, and the replay
-of such a run.
+"""Measures the program: a check and a listing of a large folder, runs of a kernel of a million stores with a small and a large buffer, and
+the replay of such a run.
 
 usage: measure.py, at the top of the repository, after `./sword` was built
 """
@@ -36,6 +36,7 @@ def main():
         folder = os.path.join(place, "generated")
         subprocess.run([sys.executable, os.path.join("bench", "generate.py"), folder, "12500"], check=True)
         tell("check of 9 logs, 200,001 accesses", [PROGRAM, "check", folder, "4"], 200_001, "accesses")
+        tell("show of the same", [PROGRAM, "show", folder], 200_001, "accesses")
         kernel = os.path.join(place, "stores.kernel")
         with open(kernel, "w") as out:
             out.write(KERNEL)

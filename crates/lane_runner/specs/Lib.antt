@@ -10,3 +10,4 @@ pub mod Placing
 pub mod Stopping
 pub mod Teams
 pub mod World
+pub mod Compound

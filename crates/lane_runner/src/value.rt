@@ -4,6 +4,7 @@ ghost use Rattle.kernel_syntax.specs.Arithmetic.{applied};
 ghost use Rattle.kernel_syntax.specs.Bounds.{IsBoundedTerm, IsPlace};
 ghost use Rattle.kernel_syntax.specs.Program.{term_of};
 ghost use Rattle.kernel_model.specs.Value.{element_at, loaded, value};
+ghost use Rattle.lane_runner.specs.Compound.{IsCompound};
 ghost use Rattle.lane_runner.specs.Going.{CanGo, Goes, IsSameLog, site};
 
 use crate::locals::Locals;
@@ -44,8 +45,10 @@ fn operate(op: Op, line: u32, left: i64, right: i64) -> Result<i64, Halt>
     apply(op, left, right).ok_or(Halt::DivZero { line })
 }
 
-/// The value of an expression. Its reads are recorded.
-pub fn value<L: Log>(
+// The value of an expression that loads or computes. It stands apart, so that `value` needs no room for what it keeps.
+#[cycle(valuing)]
+#[inline(never)]
+fn compound<L: Log>(
     alloc: Global,
     world: &World,
     locals: &Locals,
@@ -54,15 +57,12 @@ pub fn value<L: Log>(
 ) -> Result<i64, Halt>
     requires can { CanGo world.now track.old }
     requires bounded { IsBoundedTerm (term_of expr.now) }
+    requires compound { IsCompound (term_of expr.now) }
     ensures goes { Goes world.now (value (site world.now) (term_of expr.now)) locals.now.slots.items locals.now.slots.items track.old track.new result }
     ensures log { IsSameLog track.old.buffer track.new.buffer }
     ensures tally { track.new.tally ≡ track.old.tally }
 {
     match expr {
-        Expr::Number(number) => Ok(*number),
-        Expr::Slot(slot) => Ok(locals.get(*slot)),
-        Expr::Tid => Ok(i64::from(world.lane())),
-        Expr::Span => Ok(i64::from(world.span())),
         Expr::Load {
             array,
             index,
@@ -86,5 +86,35 @@ pub fn value<L: Log>(
             let second = value(alloc, world, locals, track, right)?;
             operate(*op, *line, first, second)
         }
+        Expr::Number(_) => unreachable!(),
+        Expr::Slot(_) => unreachable!(),
+        Expr::Tid => unreachable!(),
+        Expr::Span => unreachable!(),
+    }
+}
+
+/// The value of an expression. Its reads are recorded.
+#[cycle(valuing)]
+pub fn value<L: Log>(
+    alloc: Global,
+    world: &World,
+    locals: &Locals,
+    track: &mut Track<L>,
+    expr: &Expr,
+) -> Result<i64, Halt>
+    requires can { CanGo world.now track.old }
+    requires bounded { IsBoundedTerm (term_of expr.now) }
+    ensures goes { Goes world.now (value (site world.now) (term_of expr.now)) locals.now.slots.items locals.now.slots.items track.old track.new result }
+    ensures log { IsSameLog track.old.buffer track.new.buffer }
+    ensures tally { track.new.tally ≡ track.old.tally }
+{
+    match expr {
+        Expr::Number(number) => Ok(*number),
+        Expr::Slot(slot) => Ok(locals.get(*slot)),
+        Expr::Tid => Ok(i64::from(world.lane())),
+        Expr::Span => Ok(i64::from(world.span())),
+        Expr::Load { .. } => compound(alloc, world, locals, track, expr),
+        Expr::Neg(_) => compound(alloc, world, locals, track, expr),
+        Expr::Binary { .. } => compound(alloc, world, locals, track, expr),
     }
 }

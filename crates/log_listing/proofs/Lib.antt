@@ -1,2 +1,4 @@
 mod ListedLogs
 mod ListedRecords
+pub mod Texts
+mod PrintedParts

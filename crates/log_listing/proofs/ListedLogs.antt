@@ -3,24 +3,24 @@ use Rattle.std.proofs.Common.{◌≡◌, ℕ, ◌+◌, ◌<◌, List, [], ◌∷
 use Rattle.std.specs.List.{All, flat_map}
 use Rattle.std.proofs.lemmas.Grind.{flat_map-append}
 use Rattle.sw_base.specs.declared.path.Step.{Step}
-use Rattle.sw_base.specs.Environment.{gained, GainsPrefix}
-use Rattle.sw_base.proofs.Gains.{gained-none, gained-gained, GainsPrefix-append, GainsPrefix-after, GainsPrefix-all}
 use Rattle.log_format.specs.declared.record.Record.{Record}
 use Rattle.race_model.specs.FirstBad.{row_of, rows_of}
 use Rattle.race_model.specs.Row.{Row}
 use Rattle.race_model.specs.Trace.{TaskLog, Trace}
 use Rattle.log_listing.specs.Listing.{log_line, log_text, records_text}
+use Rattle.log_listing.specs.Printing.{Prints, PrintsPrefix}
+use Rattle.log_listing.proofs.PrintedParts.{prints_none, prints_both, prints_then_prefix, prefix_of, prefix_append}
 
 -- the logs of the first tasks are listed, each as its text
-pub record LogsTo (text : TaskLog → List ℕ) (trace : Trace) (old new : Option (List ℕ)) (index : ℕ) : Type 0 where
+pub record LogsTo (text : TaskLog → List ℕ) (trace : Trace) (old : Option (List ℕ)) (waited : List ℕ) (new : Option (List ℕ)) (waits : List ℕ) (index : ℕ) : Type 0 where
   pub given : Trace
   pub left : Trace
   pub parts : trace ≡ given ++ left
   pub index_is : index ≡ length given
-  pub written : new ≡ gained old (flat_map text given)
+  pub written : Prints old waited new waits (flat_map text given)
 
-pub LogsTo-start : (text : TaskLog → List ℕ) (trace : Trace) (old : Option (List ℕ)) → LogsTo text trace old old 0
-LogsTo-start text trace old = record { given = []; left = trace; parts = refl; index_is = refl; written = sym (gained-none old) }
+pub LogsTo-start : (text : TaskLog → List ℕ) (trace : Trace) (old : Option (List ℕ)) (waited : List ℕ) → LogsTo text trace old waited old waited 0
+LogsTo-start text trace old waited = record { given = []; left = trace; parts = refl; index_is = refl; written = prints_none old waited }
 
 length-rows : (trace : Trace) → length (rows_of trace) ≡ length trace
 length-rows [] = refl
@@ -34,10 +34,11 @@ row_at : (given : Trace) (task : TaskLog) (rest : Trace) (d : Row) → get_or (r
 row_at [] task rest d = refl
 row_at (first ∷ given) task rest d = row_at given task rest d
 
-module _ (text : TaskLog → List ℕ) (trace : Trace) (rows : List Row) (same : rows_of trace ≡ rows) (old between : Option (List ℕ)) (index : ℕ) (listed : LogsTo text trace old between index) where
+module _ (text : TaskLog → List ℕ) (trace : Trace) (rows : List Row) (same : rows_of trace ≡ rows) (old : Option (List ℕ)) (waited : List ℕ) (between : Option (List ℕ)) (waits : List ℕ) (index : ℕ)
+    (listed : LogsTo text trace old waited between waits index) where
   -- all were listed
-  pub logs_all : index ≡ length rows → between ≡ gained old (flat_map text trace)
-  logs_all all = listed.written ∙ ap (λ (tasks : Trace). gained old (flat_map text tasks)) (ended listed.left listed.parts) where
+  pub logs_all : index ≡ length rows → Prints old waited between waits (flat_map text trace)
+  logs_all all = subst (λ (tasks : Trace). Prints old waited between waits (flat_map text tasks)) (ended listed.left listed.parts) listed.written where
     ended : (left : Trace) → trace ≡ listed.given ++ left → listed.given ≡ trace
     ended [] parts = sym (parts ∙ append-nil listed.given)
     ended (task ∷ rest) parts =
@@ -71,45 +72,51 @@ module _ (text : TaskLog → List ℕ) (trace : Trace) (rows : List Row) (same :
       (all (length listed.given) next.task (omega (arith, ap length next.listed_in, length-append listed.given (next.task ∷ next.rest))))
 
   -- one more was listed
-  pub logs_next : (row : Row) (next : IsTask row) (new : Option (List ℕ)) → new ≡ gained between (text next.task) → LogsTo text trace old new (index + 1)
-  logs_next row next new text_is = record {
+  pub logs_next : (row : Row) (next : IsTask row) (new : Option (List ℕ)) (left : List ℕ) → Prints between waits new left (text next.task) → LogsTo text trace old waited new left (index + 1)
+  logs_next row next new left text_is = record {
     given = listed.given ++ next.task ∷ [];
     left = next.rest;
     parts = next.listed_in ∙ sym (append_assoc listed.given (next.task ∷ []) next.rest);
     index_is = omega (arith, listed.index_is, length-append listed.given (next.task ∷ []));
     written =
-        text_is ∙ ap (λ w. gained w (text next.task)) listed.written ∙ gained-gained old (flat_map text listed.given) (text next.task)
-        ∙ ap (gained old) (
-        ap (λ t. flat_map text listed.given ++ t) (sym (append-nil (text next.task)))
-        ∙ sym (flat_map-append text listed.given (next.task ∷ []))
-        );
+        subst (λ (t : List ℕ). Prints old waited new left t)
+        (ap (λ t. flat_map text listed.given ++ t) (sym (append-nil (text next.task))) ∙ sym (flat_map-append text listed.given (next.task ∷ [])))
+        (prints_both old waited between waits new left (flat_map text listed.given) (text next.task) listed.written text_is);
   }
 
+  -- what was listed is a prefix of the whole
+  pub logs_part : PrintsPrefix old waited between waits (flat_map text trace)
+  logs_part =
+      subst (λ (t : List ℕ). PrintsPrefix old waited between waits t) (sym (ap (flat_map text) listed.parts ∙ flat_map-append text listed.given listed.left))
+      (prefix_of old waited between waits (flat_map text listed.given) (flat_map text listed.left) listed.written)
+
   -- the text of the next one was refused
-  pub logs_refused : (row : Row) (next : IsTask row) (new : Option (List ℕ)) → GainsPrefix between new (text next.task) → GainsPrefix old new (flat_map text trace)
-  logs_refused row next new prefix =
-      subst (λ (t : List ℕ). GainsPrefix old new t) (sym (ap (flat_map text) next.listed_in ∙ flat_map-append text listed.given (next.task ∷ next.rest)))
-      (GainsPrefix-after old between new (flat_map text listed.given) (text next.task ++ flat_map text next.rest) listed.written
-      (GainsPrefix-append between new (text next.task) (flat_map text next.rest) prefix))
+  pub logs_refused : (row : Row) (next : IsTask row) (new : Option (List ℕ)) (left : List ℕ) → PrintsPrefix between waits new left (text next.task) → PrintsPrefix old waited new left (flat_map text trace)
+  logs_refused row next new left prefix =
+      subst (λ (t : List ℕ). PrintsPrefix old waited new left t) (sym (ap (flat_map text) next.listed_in ∙ flat_map-append text listed.given (next.task ∷ next.rest)))
+      (prints_then_prefix old waited between waits new left (flat_map text listed.given) (text next.task ++ flat_map text next.rest) listed.written
+      (prefix_append between waits new left (text next.task) (flat_map text next.rest) prefix))
 
 -- a log's line, and then its records
-module _ (old new : Option (List ℕ)) (path : List Step) (count : ℕ) (events : List Record) (counted : count ≡ length events) where
+module _ (old : Option (List ℕ)) (waited : List ℕ) (new : Option (List ℕ)) (waits : List ℕ) (path : List Step) (count : ℕ) (events : List Record) (counted : count ≡ length events) where
   -- the line was refused
-  pub refused_at_line : GainsPrefix old new (log_line path count) → GainsPrefix old new (log_text path events)
-  refused_at_line prefix = GainsPrefix-append old new (log_line path (length events)) (records_text events) (subst (λ (n : ℕ). GainsPrefix old new (log_line path n)) counted prefix)
+  pub refused_at_line : PrintsPrefix old waited new waits (log_line path count) → PrintsPrefix old waited new waits (log_text path events)
+  refused_at_line prefix =
+      prefix_append old waited new waits (log_line path (length events)) (records_text events) (subst (λ (n : ℕ). PrintsPrefix old waited new waits (log_line path n)) counted prefix)
 
   -- nothing came after the line
-  pub refused_at_open : new ≡ gained old (log_line path count) → GainsPrefix old new (log_text path events)
-  refused_at_open line = refused_at_line (GainsPrefix-all old new (log_line path count) line)
+  pub refused_at_open : Prints old waited new waits (log_line path count) → PrintsPrefix old waited new waits (log_text path events)
+  refused_at_open line = prefix_of old waited new waits (log_line path (length events)) (records_text events) (subst (λ (n : ℕ). Prints old waited new waits (log_line path n)) counted line)
 
-module _ (old between new : Option (List ℕ)) (path : List Step) (count : ℕ) (events : List Record) (counted : count ≡ length events) (line : between ≡ gained old (log_line path count)) where
-  line_is : between ≡ gained old (log_line path (length events))
-  line_is = line ∙ ap (λ (n : ℕ). gained old (log_line path n)) counted
+module _ (old : Option (List ℕ)) (waited : List ℕ) (between : Option (List ℕ)) (waits : List ℕ) (new : Option (List ℕ)) (left : List ℕ) (path : List Step) (count : ℕ) (events : List Record)
+    (counted : count ≡ length events) (line : Prints old waited between waits (log_line path count)) where
+  line_is : Prints old waited between waits (log_line path (length events))
+  line_is = subst (λ (n : ℕ). Prints old waited between waits (log_line path n)) counted line
 
   -- all of it was listed
-  pub log_done : new ≡ gained between (records_text events) → new ≡ gained old (log_text path events)
-  log_done all = all ∙ ap (λ w. gained w (records_text events)) line_is ∙ gained-gained old (log_line path (length events)) (records_text events)
+  pub log_done : Prints between waits new left (records_text events) → Prints old waited new left (log_text path events)
+  log_done all = prints_both old waited between waits new left (log_line path (length events)) (records_text events) line_is all
 
   -- some of its records were
-  pub refused_later : GainsPrefix between new (records_text events) → GainsPrefix old new (log_text path events)
-  refused_later part = GainsPrefix-after old between new (log_line path (length events)) (records_text events) line_is part
+  pub refused_later : PrintsPrefix between waits new left (records_text events) → PrintsPrefix old waited new left (log_text path events)
+  refused_later part = prints_then_prefix old waited between waits new left (log_line path (length events)) (records_text events) line_is part

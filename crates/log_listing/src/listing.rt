@@ -1,5 +1,5 @@
 //! Lists logs.
-ghost use Rattle.std.specs.Prelude.{◌≡◌, ◌^◌, ◌<◌, ◌≤◌, List, length, is_some, IsTrue, IfOk, OnOk, OnErr, IsErrOf};
+ghost use Rattle.std.specs.Prelude.{◌≡◌, ◌^◌, ◌<◌, ◌≤◌, List, length, is_some, IsTrue, IfOk, OnOk, OnErr, IsErrOf, string_bytes};
 ghost use Rattle.log_format.specs.declared.format.TheConstants.{FORMAT};
 ghost use Rattle.sw_base.specs.Environment.{WhereTold, Rose, GainsPrefix, gained};
 ghost use Rattle.log_format.specs.declared.record.Record.{Record};
@@ -7,43 +7,16 @@ ghost use Rattle.log_reader.specs.Reading.{StandsBefore, GivesNext};
 ghost use Rattle.race_model.specs.FirstBad.{HoldsLogs, rows_of};
 ghost use Rattle.race_model.specs.LogFault.{IsWholeLog};
 ghost use Rattle.race_model.specs.Trace.{Trace};
-ghost use Rattle.log_listing.specs.Listing.{record_line, log_line, log_text, records_text, show_text};
+ghost use Rattle.log_listing.specs.Listing.{log_text, records_text, show_text};
+ghost use Rattle.log_listing.specs.Printing.{Prints, PrintsPrefix};
 
-use crate::lines::{line_of_log, line_of_record};
-use crate::unlisted::{Unlisted, unread, unwritten};
+use crate::printing::{PIECE, list_name, list_record, print_lines};
+use crate::unlisted::{Unlisted, unread};
 use log_format::{FORMAT, Record};
 use log_index::Row;
 use log_reader::LogReader;
 use std::alloc::Global;
 use sw_base::{Folder, Out, Path};
-
-fn print_record<O: Out>(alloc: Global, out: &mut O, number: u64, r: &Record) -> Result<(), Unlisted>
-    ensures done { OnOk result (O.written out.new ≡ gained (O.written out.old) (record_line number r.now)) }
-    ensures refused { OnErr result (GainsPrefix (O.written out.old) (O.written out.new) (record_line number r.now)) }
-    ensures later { O.faults out.old ≤ O.faults out.new }
-    ensures write_cause { IsErrOf result Unlisted.WriteFault → Rose (O.faults out.old) (O.faults out.new) }
-    ensures no_read { IsErrOf result Unlisted.ReadFault → ⊥ }
-{
-    let line = line_of_record(alloc, number, r)?;
-    match out.append(alloc, line.as_bytes()) {
-        Ok(()) => Ok(()),
-        Err(trouble) => Err(unwritten(trouble)),
-    }
-}
-
-fn print_log<O: Out>(alloc: Global, out: &mut O, path: &Path, count: u32) -> Result<(), Unlisted>
-    ensures done { OnOk result (O.written out.new ≡ gained (O.written out.old) (log_line path.now count)) }
-    ensures refused { OnErr result (GainsPrefix (O.written out.old) (O.written out.new) (log_line path.now count)) }
-    ensures later { O.faults out.old ≤ O.faults out.new }
-    ensures write_cause { IsErrOf result Unlisted.WriteFault → Rose (O.faults out.old) (O.faults out.new) }
-    ensures no_read { IsErrOf result Unlisted.ReadFault → ⊥ }
-{
-    let line = line_of_log(alloc, path, count)?;
-    match out.append(alloc, line.as_bytes()) {
-        Ok(()) => Ok(()),
-        Err(trouble) => Err(unwritten(trouble)),
-    }
-}
 
 fn next_record<F: Folder>(
     alloc: Global,
@@ -89,11 +62,12 @@ fn list_records<F: Folder, O: Out>(
     alloc: Global,
     folder: &mut F,
     out: &mut O,
+    lines: &mut String,
     reader: &mut LogReader,
 ) -> Result<(), Unlisted>
     requires { reader.old.left < 2 ^ 32 }
-    ensures done { WhereTold (F.state folder.old).content (λ c. (events : List Record) → StandsBefore c reader.old events → OnOk result (O.written out.new ≡ gained (O.written out.old) (records_text events))) }
-    ensures refused { WhereTold (F.state folder.old).content (λ c. (events : List Record) → StandsBefore c reader.old events → OnErr result (GainsPrefix (O.written out.old) (O.written out.new) (records_text events))) }
+    ensures done { WhereTold (F.state folder.old).content (λ c. (events : List Record) → StandsBefore c reader.old events → OnOk result (Prints (O.written out.old) (string_bytes lines.old) (O.written out.new) (string_bytes lines.new) (records_text events))) }
+    ensures refused { WhereTold (F.state folder.old).content (λ c. (events : List Record) → StandsBefore c reader.old events → OnErr result (PrintsPrefix (O.written out.old) (string_bytes lines.old) (O.written out.new) (string_bytes lines.new) (records_text events))) }
     ensures same { F.state folder.new ≡ F.state folder.old }
     ensures later { F.read_faults folder.old ≤ F.read_faults folder.new }
     ensures read_cause { IsErrOf result Unlisted.ReadFault → Rose (F.read_faults folder.old) (F.read_faults folder.new) }
@@ -102,7 +76,7 @@ fn list_records<F: Folder, O: Out>(
 {
     let mut number = 1;
     'records: while let Some(next) = next_record(alloc, folder, reader)? {
-        print_record(alloc, out, number, &next)?;
+        list_record(alloc, out, lines, number, &next)?;
         number += 1;
     }
     Ok(())
@@ -112,27 +86,63 @@ fn list_log<F: Folder, O: Out>(
     alloc: Global,
     folder: &mut F,
     out: &mut O,
+    lines: &mut String,
     dir: &str,
     path: &Path,
     records: u32,
     reader: &mut LogReader,
 ) -> Result<(), Unlisted>
     ensures done { WhereTold (F.state folder.old).content (λ c. (events : List Record) → IsWholeLog FORMAT c.held dir.now path.now events → records ≡ length events
-        → OnOk result (O.written out.new ≡ gained (O.written out.old) (log_text path.now events))) }
+        → OnOk result (Prints (O.written out.old) (string_bytes lines.old) (O.written out.new) (string_bytes lines.new) (log_text path.now events))) }
     ensures refused { WhereTold (F.state folder.old).content (λ c. (events : List Record) → IsWholeLog FORMAT c.held dir.now path.now events → records ≡ length events
-        → OnErr result (GainsPrefix (O.written out.old) (O.written out.new) (log_text path.now events))) }
+        → OnErr result (PrintsPrefix (O.written out.old) (string_bytes lines.old) (O.written out.new) (string_bytes lines.new) (log_text path.now events))) }
     ensures same { F.state folder.new ≡ F.state folder.old }
     ensures later { F.read_faults folder.old ≤ F.read_faults folder.new }
     ensures read_cause { IsErrOf result Unlisted.ReadFault → Rose (F.read_faults folder.old) (F.read_faults folder.new) }
     ensures later_out { O.faults out.old ≤ O.faults out.new }
     ensures write_cause { IsErrOf result Unlisted.WriteFault → Rose (O.faults out.old) (O.faults out.new) }
 {
-    print_log(alloc, out, path, records)?;
+    list_name(alloc, out, lines, path, records)?;
     open_log(alloc, folder, dir, path, records, reader)?;
-    list_records(alloc, folder, out, reader)
+    list_records(alloc, folder, out, lines, reader)
 }
 
-/// Lists the logs of these rows, which are good, and each of their records, as a line.
+// Lists the logs of these rows, each with its records. The last lines wait.
+fn list_rows<F: Folder, O: Out>(
+    alloc: Global,
+    folder: &mut F,
+    out: &mut O,
+    lines: &mut String,
+    dir: &str,
+    rows: &[Row],
+) -> Result<(), Unlisted>
+    ensures done { WhereTold (F.state folder.old).content (λ c. (trace : Trace) → rows_of trace ≡ rows.now → HoldsLogs FORMAT c.held dir.now trace
+        → OnOk result (Prints (O.written out.old) (string_bytes lines.old) (O.written out.new) (string_bytes lines.new) (show_text trace))) }
+    ensures refused { WhereTold (F.state folder.old).content (λ c. (trace : Trace) → rows_of trace ≡ rows.now → HoldsLogs FORMAT c.held dir.now trace
+        → OnErr result (PrintsPrefix (O.written out.old) (string_bytes lines.old) (O.written out.new) (string_bytes lines.new) (show_text trace))) }
+    ensures same { F.state folder.new ≡ F.state folder.old }
+    ensures later { F.read_faults folder.old ≤ F.read_faults folder.new }
+    ensures read_cause { IsErrOf result Unlisted.ReadFault → Rose (F.read_faults folder.old) (F.read_faults folder.new) }
+    ensures later_out { O.faults out.old ≤ O.faults out.new }
+    ensures write_cause { IsErrOf result Unlisted.WriteFault → Rose (O.faults out.old) (O.faults out.new) }
+{
+    let mut reader = LogReader::new(alloc)?;
+    'rows: for row in rows {
+        list_log(
+            alloc,
+            folder,
+            out,
+            lines,
+            dir,
+            &row.path,
+            row.records,
+            &mut reader,
+        )?;
+    }
+    Ok(())
+}
+
+/// Lists the logs of these rows, which are good, and each of their records, as a line. What was listed before a read failed is printed.
 pub fn list<F: Folder, O: Out>(
     alloc: Global,
     folder: &mut F,
@@ -151,9 +161,11 @@ pub fn list<F: Folder, O: Out>(
     ensures later_out { O.faults out.old ≤ O.faults out.new }
     ensures write_cause { IsErrOf result Unlisted.WriteFault → Rose (O.faults out.old) (O.faults out.new) }
 {
-    let mut reader = LogReader::new(alloc)?;
-    'rows: for row in rows {
-        list_log(alloc, folder, out, dir, &row.path, row.records, &mut reader)?;
-    }
-    Ok(())
+    let Ok(mut lines) = String::with_capacity(alloc, PIECE) else {
+        return Err(Unlisted::Memory);
+    };
+    let listed = list_rows(alloc, folder, out, &mut lines, dir, rows);
+    let printed = print_lines(alloc, out, &mut lines);
+    listed?;
+    printed
 }

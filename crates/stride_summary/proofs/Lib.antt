@@ -6,3 +6,4 @@ pub mod Storing
 pub mod Rising
 pub mod Apart
 pub mod Finishing
+mod Placing

@@ -86,6 +86,10 @@ HoldsSame-push xs new none k a = (forth, back) where
   back : Holds xs k a → Holds (xs ++ new ∷ []) k a
   back h = record { stretch = h.stretch; listed = Contains-append_left xs (new ∷ []) h.stretch h.listed; keyed = h.keyed; held = h.held }
 
+pub HoldsSame-pushed : (pushed : Bool) (xs ys : List Stretch) (new : Stretch) → ys ≡ cond pushed (xs ++ new ∷ []) xs → new.addresses.items ≡ [] → HoldsSame xs ys
+HoldsSame-pushed true xs ys new is none = subst (λ (ss : List Stretch). HoldsSame xs ss) (sym is) (HoldsSame-push xs new none)
+HoldsSame-pushed false xs ys new is none = subst (λ (ss : List Stretch). HoldsSame xs ss) (sym is) (λ k a. ((λ h. h), (λ h. h)))
+
 pub KeysDiffer-push : (xs : List Stretch) (new : Stretch) → KeysDiffer xs → All (λ (s : Stretch). s.key ≡ new.key → ⊥) xs → KeysDiffer (xs ++ new ∷ [])
 KeysDiffer-push xs new differ fresh i j d less within = elim (cases_lt j (length xs)) [
   | inl old ↦ λ same. differ i j d less old (sym (ap (λ (s : Stretch). s.key) (get_or_append_left xs (new ∷ []) d i (omega arith))) ∙ same ∙ ap (λ (s : Stretch). s.key) (get_or_append_left xs (new ∷ []) d j old))

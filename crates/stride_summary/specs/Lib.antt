@@ -3,3 +3,4 @@ pub mod Run
 pub mod Spread
 pub mod Stretches
 pub mod Summary
+pub mod Places

@@ -10,6 +10,7 @@
 mod access;
 mod cutting;
 mod key;
+mod places;
 mod run;
 mod stretch;
 mod summary;

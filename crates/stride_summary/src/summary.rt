@@ -1,14 +1,17 @@
-ghost use Rattle.std.specs.Prelude.{◌≡◌, ◌↔◌, ◌⊎◌, ℕ, ◌+◌, ◌^◌, ◌<◌, ◌≤◌, All, AllPairs, IfSome, IfNone, IfOk, OnOk, OnErr, sum_by, slice_index_or, vec_len, vec_capacity};
+ghost use Rattle.std.specs.Prelude.{◌≡◌, ◌↔◌, ◌⊎◌, ℕ, ◌+◌, ◌^◌, ◌<◌, ◌≤◌, AllPairs, IsTrue, IfOk, OnOk, OnErr, sum_by, slice_index_or, vec_len, vec_capacity};
 ghost use Rattle.std.specs.List.Sorted.{IsNonDecreasingBy};
 ghost use Rattle.stride_summary.specs.declared.stretch.Stretch.{Stretch};
 ghost use Rattle.stride_summary.specs.Run.{AreApart, HasPair, access_key};
+ghost use Rattle.stride_summary.specs.Places.{TellsPlaces};
 ghost use Rattle.stride_summary.specs.Stretches.{Holds, HoldsOneMore, HoldsSame, IsPlaceOf, KeysDiffer, needed_of};
 
 use crate::access::Access;
 use crate::key::Key;
+use crate::places::{add_key, numbers_of, place_under};
 use crate::run::Run;
 use crate::stretch::Stretch;
 use std::alloc::Global;
+use std::collections::BTreeMap;
 use sw_base::Memory;
 
 /// The accesses of a barrier interval: the addresses of each key. It grows with the number of different addresses of a key,
@@ -16,6 +19,8 @@ use sw_base::Memory;
 #[derive(Drop)]
 pub struct Summary {
     stretches: Vec<Stretch>,
+    /// The place of each key, by its numbers.
+    places: BTreeMap<Vec<u32>, usize>,
     /// The place of the key of the last access.
     last: usize,
     /// For each place, that of the key which came after it last time.
@@ -26,24 +31,17 @@ pub struct Summary {
     runs: Vec<Run>,
     alloc: Global,
     ghost keys: { KeysDiffer stretches.items },
+    ghost told: { TellsPlaces places stretches.items },
     ghost counted: { room ≡ sum_by needed_of stretches.items },
     ghost enough: { room ≤ vec_capacity runs },
     ghost none: { vec_len runs ≡ 0 },
 }
 
-fn find(stretches: &[Stretch], guess: usize, access: &Access) -> Option<usize>
-    ensures found { IfSome result (λ place. IsPlaceOf stretches.now (access_key access.now) place) }
-    ensures missing { IfNone result (All (λ stretch. stretch.key ≡ access_key access.now → ⊥) stretches.now) }
+// Whether this is the place of the access's key.
+fn is_at(stretches: &[Stretch], place: usize, access: &Access) -> bool
+    ensures { IsTrue result → IsPlaceOf stretches.now (access_key access.now) place }
 {
-    if guess < stretches.len() && stretches[guess].key.is_of(access) {
-        return Some(guess);
-    }
-    for (place, stretch) in stretches.iter().enumerate() {
-        if stretch.key.is_of(access) {
-            return Some(place);
-        }
-    }
-    None
+    place < stretches.len() && stretches[place].key.is_of(access)
 }
 
 impl Summary {
@@ -57,6 +55,7 @@ impl Summary {
     {
         Ok(Summary {
             stretches: Vec::new(alloc),
+            places: BTreeMap::new(alloc),
             last: 0,
             followers: Vec::new(alloc),
             room: 0,
@@ -85,6 +84,7 @@ impl Summary {
     {
         let Summary {
             mut stretches,
+            places: _,
             last: _,
             followers: _,
             room: _,
@@ -106,14 +106,16 @@ impl Summary {
         ensures capacity { vec_capacity self.new.runs ≡ vec_capacity self.old.runs }
     {
         let guess = self.followers.get(self.last).copied().unwrap_or(0);
-        if let Some(place) = find(&self.stretches, guess, access) {
+        if is_at(&self.stretches, guess, access) {
+            return Ok(guess);
+        }
+        let numbers = numbers_of(self.alloc, access)?;
+        if let Some(place) = place_under(&self.places, &numbers) {
             return Ok(place);
         }
-        let place = self.stretches.len();
         self.followers.push(0)?;
-        self.stretches
-            .push(Stretch::new(self.alloc, Key::of(access)))?;
-        Ok(place)
+        let stretch = Stretch::new(self.alloc, Key::of(access));
+        add_key(&mut self.stretches, &mut self.places, numbers, stretch)
     }
 
     fn follow(&mut self, place: usize)

@@ -166,15 +166,47 @@ fn listed(
 const FAULTS: [(&[u64], &[u64], Result<(), Unlisted>, usize); 5] = [
     (&[1], &[], Err(Unlisted::ReadFault), 20),
     (&[2], &[], Err(Unlisted::ReadFault), 75),
-    (&[], &[1], Err(Unlisted::WriteFault), 10),
-    (&[], &[2], Err(Unlisted::WriteFault), 29),
-    (&[], &[12], Ok(()), TEXT.len()),
+    (&[2], &[1], Err(Unlisted::ReadFault), 37),
+    (&[], &[1], Err(Unlisted::WriteFault), 124),
+    (&[], &[2], Ok(()), TEXT.len()),
 ];
 
 #[test]
 fn a_fault_leaves_what_was_listed(rt: HostRuntime) {
     for (reads, writes, answer, length) in FAULTS {
         let found = listed(rt.alloc(), reads, writes);
+        assert!(rt; found == Ok((answer, length)), "of {length} bytes");
+    }
+}
+
+// What is listed of a log of 1,499 writes and an end where the write of this number fails.
+fn long_listed(alloc: Global, write: u64) -> Result<(Result<(), Unlisted>, usize), Memory> {
+    let mut bytes = LOG_HEADER.to_vec(alloc)?;
+    for _ in 1..1500 {
+        bytes.extend_from_slice(&encode(&LANE[1]))?;
+    }
+    bytes.extend_from_slice(&encode(&END))?;
+    let mut folder = MemFolder::new(alloc)?;
+    folder.hold("d/t.swl", &bytes)?;
+    let rows = [Row {
+        path: Path::root(),
+        records: 1500,
+    }];
+    let mut out = MemOut::new(alloc)?;
+    out.fail(&[write])?;
+    let answer = list(alloc, &mut folder, &mut out, "d", &rows);
+    Ok((answer, out.written().len()))
+}
+
+// The first piece, of 65,327 bytes, ends with the line that leaves less than 256 bytes of 65,536.
+#[test]
+fn lines_are_written_in_pieces(rt: HostRuntime) {
+    for (write, answer, length) in [
+        (1, Err(Unlisted::WriteFault), 32_663),
+        (2, Err(Unlisted::WriteFault), 67_356),
+        (3, Ok(()), 69_385),
+    ] {
+        let found = long_listed(rt.alloc(), write);
         assert!(rt; found == Ok((answer, length)), "of {length} bytes");
     }
 }

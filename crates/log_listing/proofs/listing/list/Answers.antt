@@ -1,45 +1,28 @@
-use Rattle.std.proofs.Common.{◌≡◌, List, arith, ap, sym, ◌∙◌, subst}
-use Rattle.std.proofs.lemmas.Result.{err_from_is_err_and}
-use Rattle.log_format.specs.declared.format.TheConstants.{FORMAT}
-use Rattle.sw_base.specs.declared.path.Step.{Step}
-use Rattle.sw_base.specs.Environment.{gained, GainsPrefix}
-use Rattle.race_model.specs.LogFault.{IsWholeLog}
-use Rattle.race_model.specs.Row.{Row}
-use Rattle.race_model.specs.Trace.{TaskLog}
-use Rattle.log_listing.specs.Listing.{log_text}
-use Rattle.log_listing.proofs.ListedLogs.{logs_all, logs_next, logs_refused, next_task, holds_next}
+use Rattle.std.proofs.Common.{ℕ, List, string_bytes, subst}
+use Rattle.std.proofs.lemmas.Result.{err_from_is_err_and, on_ok_weaker, on_err_weaker}
+use Rattle.log_listing.specs.Listing.{show_text}
+use Rattle.log_listing.specs.Printing.{Prints, PrintsPrefix}
+use Rattle.log_listing.proofs.PrintedParts.{prefix_all, printed_all, printed_part, printed_some}
 use Rattle.log_listing.proofs.listing.list.Goals as goal
 
-pub returns-in_err-list_log-clause-refused : goal.returns-in_err-list_log-clause-refused
-returns-in_err-list_log-clause-refused g c =
-    let p = err_from_is_err_and c.from_residual-in_err-list_log.result c.from_residual-in_err-list_log.ensures.1 in
-    rw (p.1) (λ x told trace same holds.
-    let listed = c.rows.invariant.listed x told trace same holds in
-    let next = next_task (λ (task : TaskLog). log_text task.path task.records) trace c.args.rows.now same _ _ c.rows.row-index listed c.row-item.result c.rows-test.true c.row-item.is in
-    let path : c.row.inside.path ≡ next.task.path = ap (λ (r : Row). r.path) (c.row.view_is ∙ next.row_is) in
-    let whole = subst (λ (q : List Step). IsWholeLog FORMAT x.held c.args.dir.now q next.task.records) (sym path)
-    (holds_next (λ (task : TaskLog). log_text task.path task.records) trace c.args.rows.now same _ _ c.rows.row-index listed (λ (task : TaskLog). IsWholeLog FORMAT x.held c.args.dir.now task.path task.records) holds c.row-item.result next) in
-    logs_refused (λ (task : TaskLog). log_text task.path task.records) trace c.args.rows.now same _ _ c.rows.row-index listed c.row-item.result next _
-    (subst (λ (q : List Step). GainsPrefix (g.O.Out.written c.rows.out) (g.O.Out.written c.list_log.new.out) (log_text q next.task.records)) path
-    (c.in_err-list_log.ensures.refused x (ap (λ s. s.content) c.rows.invariant.same ∙ told) next.task.records whole (ap (λ (r : Row). r.records) (c.row.view_is ∙ next.row_is)))))
-
-pub rows-preserved : goal.rows-preserved
-rows-preserved g c = record {
-  listed = λ x told trace same holds.
-      let listed = c.rows.invariant.listed x told trace same holds in
-      let next = next_task (λ (task : TaskLog). log_text task.path task.records) trace c.args.rows.now same _ _ c.rows.row-index listed c.row-item.result c.rows-test.true c.row-item.is in
-      let path : c.row.inside.path ≡ next.task.path = ap (λ (r : Row). r.path) (c.row.view_is ∙ next.row_is) in
-      let whole = subst (λ (q : List Step). IsWholeLog FORMAT x.held c.args.dir.now q next.task.records) (sym path)
-      (holds_next (λ (task : TaskLog). log_text task.path task.records) trace c.args.rows.now same _ _ c.rows.row-index listed (λ (task : TaskLog). IsWholeLog FORMAT x.held c.args.dir.now task.path task.records) holds c.row-item.result next) in
-      logs_next (λ (task : TaskLog). log_text task.path task.records) trace c.args.rows.now same _ _ c.rows.row-index listed c.row-item.result next _
-      (subst (λ (q : List Step). g.O.Out.written c.list_log.new.out ≡ gained (g.O.Out.written c.rows.out) (log_text q next.task.records)) path
-      (c.in_ok-list_log.ensures.done x (ap (λ s. s.content) c.rows.invariant.same ∙ told) next.task.records whole (ap (λ (r : Row). r.records) (c.row.view_is ∙ next.row_is))));
-  same = c.in_ok-list_log.ensures.same ∙ c.rows.invariant.same;
-  later = omega (arith, c.in_ok-list_log.ensures.later, c.rows.invariant.later);
-  later_out = omega (arith, c.in_ok-list_log.ensures.later_out, c.rows.invariant.later_out);
-}
+pub returns-in_err-listed-clause-refused : goal.returns-in_err-listed-clause-refused
+returns-in_err-listed-clause-refused g c =
+    let p = err_from_is_err_and c.from_residual.result c.from_residual.ensures.1 in
+    rw (p.1) (λ x told trace same holds. printed_part _ _ _ _ (show_text trace)
+    (subst (λ (waited : List ℕ). PrintsPrefix (g.O.Out.written c.args.out.now) waited (g.O.Out.written c.list_rows-listed.new.out) (string_bytes c.list_rows-listed.new.lines) (show_text trace))
+    c.in-Ok.ensures.bytes (c.in_err-listed.ensures.refused x told trace same holds))
+    (printed_some c.print_lines-printed.result _ _ _ c.print_lines-printed.ensures.done c.print_lines-printed.ensures.refused))
 
 pub returns-clause-done : goal.returns-clause-done
 returns-clause-done g c = λ x told trace same holds.
-    let listed = c.rows.invariant.listed x told trace same holds in
-    logs_all (λ (task : TaskLog). log_text task.path task.records) trace c.args.rows.now same _ _ c.rows.row-index listed (omega (arith, c.rows-test.false, c.rows.auto.row-index-end))
+    on_ok_weaker c.print_lines-printed.result (λ last. printed_all _ _ _ _ (show_text trace)
+    (subst (λ (waited : List ℕ). Prints (g.O.Out.written c.args.out.now) waited (g.O.Out.written c.list_rows-listed.new.out) (string_bytes c.list_rows-listed.new.lines) (show_text trace))
+    c.in-Ok.ensures.bytes (c.in_ok-listed.ensures.done x told trace same holds)) last)
+    c.print_lines-printed.ensures.done
+
+pub returns-clause-refused : goal.returns-clause-refused
+returns-clause-refused g c = λ x told trace same holds.
+    on_err_weaker c.print_lines-printed.result (λ last. printed_part _ _ _ _ (show_text trace)
+    (subst (λ (waited : List ℕ). PrintsPrefix (g.O.Out.written c.args.out.now) waited (g.O.Out.written c.list_rows-listed.new.out) (string_bytes c.list_rows-listed.new.lines) (show_text trace))
+    c.in-Ok.ensures.bytes (prefix_all _ _ _ _ _ (c.in_ok-listed.ensures.done x told trace same holds))) last)
+    c.print_lines-printed.ensures.refused

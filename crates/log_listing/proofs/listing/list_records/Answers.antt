@@ -10,16 +10,16 @@ use Rattle.log_listing.proofs.listing.list_records.Goals as goal
 pub returns-in_err-next-clause-refused : goal.returns-in_err-next-clause-refused
 returns-in_err-next-clause-refused g c =
     let p = err_from_is_err_and c.from_residual.result c.from_residual.ensures.1 in
-    rw (p.1) (λ x told events stands. listed_part record_line x c.records.reader events _ _ c.records.number (c.records.invariant.listed x told events stands))
+    rw (p.1) (λ x told events stands. listed_part record_line x c.records.reader events _ _ _ _ c.records.number (c.records.invariant.listed x told events stands))
 
-pub returns-in_err-print_record-clause-refused : goal.returns-in_err-print_record-clause-refused
-returns-in_err-print_record-clause-refused g c =
-    let p = err_from_is_err_and c.from_residual-in_err-print_record.result c.from_residual-in_err-print_record.ensures.1 in
+pub returns-in_err-list_record-clause-refused : goal.returns-in_err-list_record-clause-refused
+returns-in_err-list_record-clause-refused g c =
+    let p = err_from_is_err_and c.from_residual-in_err-list_record.result c.from_residual-in_err-list_record.ensures.1 in
     rw (p.1) (λ x told events stands.
     let listed = c.records.invariant.listed x told events stands in
     let gives = c.in_ok-next.ensures.gives x (ap (λ s. s.content) c.records.invariant.same ∙ told) listed.left listed.stands in
-    listed_refused record_line x c.records.reader events _ _ c.records.number listed c.in-Some.next c.next_record.new.reader
-    (subst (λ (o : Option Record). GivesNext x listed.left o c.next_record.new.reader) c.in-Some.is gives) _ c.in_err-print_record.ensures.refused)
+    listed_refused record_line x c.records.reader events _ _ _ _ c.records.number listed c.in-Some.next c.next_record.new.reader
+    (subst (λ (o : Option Record). GivesNext x listed.left o c.next_record.new.reader) c.in-Some.is gives) _ _ c.in_err-list_record.ensures.refused)
 
 pub overflow_add-number : goal.overflow_add-number
 overflow_add-number g c =
@@ -30,17 +30,17 @@ records-preserved g c = record {
   listed = λ x told events stands.
       let listed = c.records.invariant.listed x told events stands in
       let gives = c.in_ok-next.ensures.gives x (ap (λ s. s.content) c.records.invariant.same ∙ told) listed.left listed.stands in
-      listed_next record_line x c.records.reader events _ _ c.records.number listed c.in-Some.next c.next_record.new.reader
-      (subst (λ (o : Option Record). GivesNext x listed.left o c.next_record.new.reader) c.in-Some.is gives) _ c.in_ok-print_record.ensures.done;
+      listed_next record_line x c.records.reader events _ _ _ _ c.records.number listed c.in-Some.next c.next_record.new.reader
+      (subst (λ (o : Option Record). GivesNext x listed.left o c.next_record.new.reader) c.in-Some.is gives) _ _ c.in_ok-list_record.ensures.done;
   room = omega (arith, c.records.invariant.room, c.in_ok-next.ensures.fewer (ap is_some c.in-Some.is));
   same = c.in_ok-next.ensures.same ∙ c.records.invariant.same;
   later = omega (arith, c.in_ok-next.ensures.later, c.records.invariant.later);
-  later_out = omega (arith, c.in_ok-print_record.ensures.later, c.records.invariant.later_out);
+  later_out = omega (arith, c.in_ok-list_record.ensures.later, c.records.invariant.later_out);
 }
 
 pub returns-clause-done : goal.returns-clause-done
 returns-clause-done g c = λ x told events stands.
     let listed = c.records.invariant.listed x told events stands in
     let gives = c.in_ok-next.ensures.gives x (ap (λ s. s.content) c.records.invariant.same ∙ told) listed.left listed.stands in
-    listed_all record_line x c.records.reader events _ _ c.records.number listed c.next_record.new.reader
+    listed_all record_line x c.records.reader events _ _ _ _ c.records.number listed c.next_record.new.reader
     (subst (λ (o : Option Record). GivesNext x listed.left o c.next_record.new.reader) c.in_default.is gives)
