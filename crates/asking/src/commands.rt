@@ -17,7 +17,7 @@ pub const SHOW: &[&str] = &["show", "d"];
 
 /// What other words are answered with.
 pub const USAGE_LINE: &str =
-    "usage: sword check DIR W | run KERNEL DIR SIZE | replay KERNEL DIR | show DIR | gen N W | upgrade DIR NEW\n";
+    "usage: sword check DIR W | run KERNEL DIR SIZE | replay KERNEL DIR | show DIR | gen N W | upgrade DIR NEW | explain DIR L M | confirm DIR A I B J\n";
 
 fn arguments(alloc: Global, given: &[&str]) -> Result<Vec<String>, AllocError> {
     let mut all = Vec::new(alloc);

@@ -1,8 +1,8 @@
-//! What the tests of the top call share: it is asked over a folder and an output in memory, and such folders are made record by record.
+//! What the tests of the top call share: they call it over a folder and an output in memory, and make such folders record by record.
 //!
 //! A test is a constant table of cases and one call: what is proved of a test grows with its statements, and hardly with a table.
 //!
-//! Nothing here stands in a clause, since tests compare what comes out. The contract of `sword` is met here alone: each proof that calls it
+//! No clause rests on anything here, since tests compare what comes out. The contract of `sword` is met here alone: each proof that calls it
 //! carries all of it.
 #![tactic(auto)]
 

@@ -5,4 +5,5 @@ mod reasons;
 mod sweeping;
 mod texts;
 mod upgrades;
+mod witnesses;
 mod workers;

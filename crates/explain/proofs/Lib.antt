@@ -1,6 +1,12 @@
 pub mod Answering
 pub mod AtLevel
+pub mod Hits
 pub mod Logs
 pub mod Looking
 pub mod OnePassed
+pub mod OnLines
+pub mod Own
+pub mod Pairs
+pub mod Probing
+pub mod Scanning
 pub mod Witnesses

@@ -29,13 +29,41 @@ named_found trace place row number x r row_is none named found =
     none x (subst (λ (p : ℕ). IsInLog trace p x) (let own = named.row_is in let same : named.place ≡ place = omega arith in same) named.stands) named.number_is (there (logs_of trace) x r found)
 
 -- a row and a number name one record
-named_once : (trace : Trace) (place row number : ℕ) (x y : Node) → row ≡ place + 1 → IsInLog trace place x → number ≡ x.index + 1 → NamesRecord trace row number y → x ≡ y
+pub named_once : (trace : Trace) (place row number : ℕ) (x y : Node) → row ≡ place + 1 → IsInLog trace place x → number ≡ x.index + 1 → NamesRecord trace row number y → x ≡ y
 named_once trace place row number x y row_is stands number_is named =
     let own = named.row_is in
     let places : place ≡ named.place = omega arith in
     let tasks : stands.task ≡ named.stands.task = same_Some stands.task named.stands.task (sym stands.listed ∙ (ap (slice_get trace) places ∙ named.stands.listed)) in
     let also = named.number_is in
     same_node x y (stands.path_is ∙ (ap (λ (t : TaskLog). t.path) tasks ∙ sym named.stands.path_is)) (omega arith)
+
+-- two records that were found
+module _ (logs : Logs) (one other : Found) (x y : Node) (x_tells : TellsRecord logs x one) (y_tells : TellsRecord logs y other) where
+  pub race_from : (byte : ℕ) → ConflictAt one other byte → IsUnordered logs x y → IsRace logs x y one.event other.event
+  race_from byte c unordered = record {
+    left = x_tells.event;
+    right = y_tells.event;
+    left_access = c.one_access;
+    right_access = c.other_access;
+    unordered = unordered;
+    shares = (byte, c.least.left, c.least.right);
+    changes = c.changes;
+    not_both_updates = c.not_both_updates;
+    no_mutex = λ m mine yours. c.no_mutex m (subst (λ (l : List ℕ). Contains l m) (sym x_tells.held) mine) (subst (λ (l : List ℕ). Contains l m) (sym y_tells.held) yours);
+  }
+
+  conflict_same : (byte : ℕ) (r s : Record) → IsRace logs x y r s → IsLeastByte r s byte → r ≡ one.event → s ≡ other.event → ConflictAt one other byte
+  conflict_same byte r s race least e f = record {
+    one_access = subst (λ (q : Record). IsAccess q) e race.left_access;
+    other_access = subst (λ (q : Record). IsAccess q) f race.right_access;
+    changes = subst (λ (q : Record). IsChange q ⊎ IsChange other.event) e (subst (λ (q : Record). IsChange r ⊎ IsChange q) f race.changes);
+    not_both_updates = λ mine yours. race.not_both_updates (ap (λ (q : Record). q.kind) e ∙ mine) (ap (λ (q : Record). q.kind) f ∙ yours);
+    no_mutex = λ m mine yours. race.no_mutex m (subst (λ (l : List ℕ). Contains l m) x_tells.held mine) (subst (λ (l : List ℕ). Contains l m) y_tells.held yours);
+    least = subst (λ (q : Record). IsLeastByte q other.event byte) e (subst (λ (q : Record). IsLeastByte r q byte) f least);
+  }
+
+  pub conflict_of : (byte : ℕ) (r s : Record) → IsRace logs x y r s → IsLeastByte r s byte → ConflictAt one other byte
+  conflict_of byte r s race least = conflict_same byte r s race least (same_Some r one.event (sym race.left ∙ x_tells.event)) (same_Some s other.event (sym race.right ∙ y_tells.event))
 
 module _ (trace : Trace) (first_place second_place first_row first second_row second : ℕ) (first_is : first_row ≡ first_place + 1) (second_is : second_row ≡ second_place + 1)
     (one other : Found) (x y : Node) (x_stands : IsInLog trace first_place x) (y_stands : IsInLog trace second_place y) (x_number : first ≡ x.index + 1) (y_number : second ≡ y.index + 1)
@@ -48,28 +76,8 @@ module _ (trace : Trace) (first_place second_place first_row first second_row se
     s = other.event;
     left = record { place = first_place; row_is = first_is; stands = x_stands; number_is = x_number };
     right = record { place = second_place; row_is = second_is; stands = y_stands; number_is = y_number };
-    race = record {
-      left = x_tells.event;
-      right = y_tells.event;
-      left_access = c.one_access;
-      right_access = c.other_access;
-      unordered = unordered;
-      shares = (byte, c.least.left, c.least.right);
-      changes = c.changes;
-      not_both_updates = c.not_both_updates;
-      no_mutex = λ m mine yours. c.no_mutex m (subst (λ (l : List ℕ). Contains l m) (sym x_tells.held) mine) (subst (λ (l : List ℕ). Contains l m) (sym y_tells.held) yours);
-    };
+    race = race_from (logs_of trace) one other x y x_tells y_tells byte c unordered;
     least = c.least;
-  }
-
-  conflict_of : (byte : ℕ) (r s : Record) → IsRace (logs_of trace) x y r s → IsLeastByte r s byte → r ≡ one.event → s ≡ other.event → ConflictAt one other byte
-  conflict_of byte r s race least e f = record {
-    one_access = subst (λ (q : Record). IsAccess q) e race.left_access;
-    other_access = subst (λ (q : Record). IsAccess q) f race.right_access;
-    changes = subst (λ (q : Record). IsChange q ⊎ IsChange other.event) e (subst (λ (q : Record). IsChange r ⊎ IsChange q) f race.changes);
-    not_both_updates = λ mine yours. race.not_both_updates (ap (λ (q : Record). q.kind) e ∙ mine) (ap (λ (q : Record). q.kind) f ∙ yours);
-    no_mutex = λ m mine yours. race.no_mutex m (subst (λ (l : List ℕ). Contains l m) x_tells.held mine) (subst (λ (l : List ℕ). Contains l m) y_tells.held yours);
-    least = subst (λ (q : Record). IsLeastByte q other.event byte) e (subst (λ (q : Record). IsLeastByte r q byte) f least);
   }
 
   found_again : (byte : ℕ) → IsConfirmed trace first_row first second_row second byte → ConflictAt one other byte × IsUnordered (logs_of trace) x y
@@ -78,7 +86,7 @@ module _ (trace : Trace) (first_place second_place first_row first second_row se
       let yours : y ≡ k.y = named_once trace second_place second_row second y k.y second_is y_stands y_number k.right in
       let race : IsRace (logs_of trace) x y k.r k.s =
       subst (λ (w : Node). IsRace (logs_of trace) w y k.r k.s) (sym mine) (subst (λ (w : Node). IsRace (logs_of trace) k.x w k.r k.s) (sym yours) k.race) in (
-        conflict_of byte k.r k.s race k.least (same_Some k.r one.event (sym race.left ∙ x_tells.event)) (same_Some k.s other.event (sym race.right ∙ y_tells.event)),
+        conflict_of (logs_of trace) one other x y x_tells y_tells byte k.r k.s race k.least,
         race.unordered,
       )
 

@@ -1,2 +1,4 @@
 pub mod Finding
 pub mod Witness
+pub mod Least
+pub mod Suspects

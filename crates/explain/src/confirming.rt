@@ -141,7 +141,7 @@ fn only_if(yes: bool, byte: u64) -> Option<u64>
 }
 
 /// The first common byte of two records that were found, where they race.
-fn race_of<F: Folder>(
+pub fn race_of<F: Folder>(
     alloc: Global,
     folder: &mut F,
     dir: &str,

@@ -35,6 +35,17 @@ pub struct Found {
     pub barriers: u32,
 }
 
+/// A record after those that were passed.
+pub fn found_at(place: &Place, event: Record) -> Found
+    ensures { result ≡ record { event = event; held = place.now.held; barriers = place.now.barriers } }
+{
+    Found {
+        event,
+        held: place.held.copy(),
+        barriers: place.barriers,
+    }
+}
+
 /// Whether the next record is the one that is looked for.
 fn is_marked(which: Mark, place: &Place, next: &Record) -> bool
     ensures { (before : List LogRecord) → IsPlaceAfter place.now before → IsTrue result ↔ IsMarked which before next.now }
@@ -46,7 +57,7 @@ fn is_marked(which: Mark, place: &Place, next: &Record) -> bool
 }
 
 /// The next record of a log.
-fn next_record<F: Folder>(
+pub fn next_record<F: Folder>(
     alloc: Global,
     folder: &mut F,
     reader: &mut LogReader,
@@ -92,6 +103,26 @@ fn find_ahead<F: Folder>(
     Ok(None)
 }
 
+/// Goes to the first record in the log of a row.
+pub fn open_log<F: Folder>(
+    alloc: Global,
+    folder: &mut F,
+    dir: &str,
+    row: &Row,
+) -> Result<LogReader, WalkFault>
+    ensures stands { WhereTold (F.state folder.old).content (λ c. (events : List LogRecord) → IsWholeLog FORMAT c.held dir.now row.now.path events
+        → row.now.records ≡ length events → IfOk result (λ reader. StandsBefore c reader events)) }
+    ensures few { IfOk result (λ reader. reader.left < 2 ^ 32) }
+    ensures same { F.state folder.new ≡ F.state folder.old }
+    ensures later { F.read_faults folder.old ≤ F.read_faults folder.new }
+    ensures only_faults { IfErr result (λ e. IsNoPlace e) }
+    ensures cause { IsErrOf result WalkFault.ReadFault → Rose (F.read_faults folder.old) (F.read_faults folder.new) }
+{
+    let mut reader = LogReader::new(alloc)?;
+    reader.open(alloc, FORMAT, folder, dir, &row.path, row.records)?;
+    Ok(reader)
+}
+
 /// Finds a record in the log of a row.
 pub fn find_in_log<F: Folder>(
     alloc: Global,
@@ -107,7 +138,6 @@ pub fn find_in_log<F: Folder>(
     ensures only_faults { IfErr result (λ e. IsNoPlace e) }
     ensures cause { IsErrOf result WalkFault.ReadFault → Rose (F.read_faults folder.old) (F.read_faults folder.new) }
 {
-    let mut reader = LogReader::new(alloc)?;
-    reader.open(alloc, FORMAT, folder, dir, &row.path, row.records)?;
+    let mut reader = open_log(alloc, folder, dir, row)?;
     find_ahead(alloc, folder, &mut reader, which)
 }

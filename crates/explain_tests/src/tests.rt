@@ -1,6 +1,6 @@
 //! Two records that race, and those that don't: confirmed without labels.
 
-use explain::confirm;
+use explain::{RacePair, confirm, explain};
 use log_walk::{RecordWhy, WalkFault};
 use std::alloc::{AllocError, Global};
 use std::test::Fail;
@@ -343,5 +343,100 @@ fn each_failing_read_is_told(rt: HostRuntime) -> Result<(), Fail> {
         folder.fail(&[call])?;
         assert!(rt; answer_of(rt.alloc(), &mut folder) == due, "at call {call}");
     }
+    Ok(())
+}
+
+// Two lines, and their least race.
+type Least = (u32, u32, Option<RacePair>);
+
+macro_rules! pair {
+    ($first_row:expr, $first:expr, $second_row:expr, $second:expr, $byte:expr) => {
+        Some(RacePair {
+            first_row: $first_row,
+            first: $first,
+            second_row: $second_row,
+            second: $second,
+            byte: $byte,
+        })
+    };
+}
+
+// The lanes write two elements in two orders.
+const CROSSED: &[Task<'static>] = two!(
+    &[store!(4104), store!(4096), END],
+    &[store!(4096), store!(4104), END]
+);
+
+const LEAST: &[(&[Task<'static>], &[Least])] = &[
+    (
+        SHIFTED,
+        &[(3, 3, pair!(2, 8, 3, 1, 4128)), (3, 5, None), (5, 8, None)],
+    ),
+    (
+        EDGES,
+        &[
+            (5, 6, pair!(2, 1, 3, 1, 107)),
+            (5, 5, None),
+            (6, 6, None),
+            (5, 7, None),
+        ],
+    ),
+    (NESTED, &[(3, 3, pair!(2, 3, 5, 3, 4104)), (2, 3, None)]),
+    (JOINED, &[(3, 3, pair!(2, 1, 3, 1, 4096)), (2, 3, None)]),
+    (HELD, &[(3, 3, pair!(2, 4, 3, 3, 4096)), (2, 2, None)]),
+    (CROSSED, &[(3, 3, pair!(2, 1, 3, 2, 4104)), (3, 8, None)]),
+];
+
+fn is_confirmed<F: Folder>(alloc: Global, folder: &mut F, pair: &RacePair) -> bool {
+    match confirm(
+        alloc,
+        folder,
+        "d",
+        pair.first_row,
+        pair.first,
+        pair.second_row,
+        pair.second,
+    ) {
+        Ok(byte) => byte == Some(pair.byte),
+        Err(_) => false,
+    }
+}
+
+fn is_least<F: Folder>(alloc: Global, folder: &mut F, case: &Least) -> bool {
+    let (low, high, due) = *case;
+    match explain(alloc, folder, "d", low, high) {
+        Ok(Some(pair)) => due == Some(pair) && is_confirmed(alloc, folder, &pair),
+        Ok(None) => due.is_none(),
+        Err(_) => false,
+    }
+}
+
+// How many of the cases of a folder are otherwise, read at once or by five bytes at a time.
+fn other_races(alloc: Global, folder: MemFolder, cases: &[Least]) -> usize {
+    let mut folder = folder;
+    let mut others = 0_usize;
+    for case in cases {
+        others = others.saturating_add(usize::from(!is_least(alloc, &mut folder, case)));
+    }
+    let mut short = ShortReads { folder };
+    for case in cases {
+        others = others.saturating_add(usize::from(!is_least(alloc, &mut short, case)));
+    }
+    others
+}
+
+// The first folder in which a race is otherwise, by its number from 0.
+fn first_other_race(alloc: Global) -> Result<Option<usize>, Memory> {
+    for (number, (tasks, cases)) in LEAST.iter().enumerate() {
+        if other_races(alloc, folder_of(alloc, tasks)?, cases) > 0 {
+            return Ok(Some(number));
+        }
+    }
+    Ok(None)
+}
+
+#[test]
+fn the_least_race_is_found_and_confirmed(rt: HostRuntime) -> Result<(), Fail> {
+    assert_eq!(rt; first_other_race(rt.alloc())?, None);
     Ok(())
 }

@@ -5,3 +5,5 @@ pub mod Sweeping
 pub mod Listed
 pub mod Refusals
 pub mod Upgrades
+pub mod Confirmed
+pub mod Explained

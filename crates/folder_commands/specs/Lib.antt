@@ -1,4 +1,6 @@
 pub mod Check
+pub mod Confirm
+pub mod Explain
 pub mod Gen
 pub mod Replay
 pub mod Show

@@ -2,6 +2,7 @@
 use Rattle.std.specs.Prelude.{ℕ, List, ◌++◌, codes, decimal}
 use Rattle.sw_base.specs.declared.path.Step.{Step}
 use Rattle.sw_base.specs.Names.{bare_log_name}
+use Rattle.explain.specs.declared.explaining.RacePair.{RacePair}
 use Rattle.race_model.specs.declared.why.IndexWhy.{IndexWhy}
 use Rattle.race_model.specs.declared.why.IndexWhy.TheVariants as index
 use Rattle.race_model.specs.declared.why.RecordWhy.{RecordWhy}
@@ -68,3 +69,23 @@ same_text = codes "same\n"
 -- record n of the log is the first that isn't the kernel's
 abbrev pub differs_text : List Step → ℕ → List ℕ
 differs_text path n = codes "differs " ++ bare_log_name path ++ codes " record " ++ decimal n ++ codes "\n"
+
+-- two records race, first at this byte
+abbrev pub race_byte_text : ℕ → List ℕ
+race_byte_text byte = codes "race byte " ++ decimal byte ++ codes "\n"
+
+-- two records don't race
+abbrev pub no_race_text : List ℕ
+no_race_text = codes "no race\n"
+
+-- a record by its row, the name of its log and its number
+abbrev pub place_text : ℕ → List Step → ℕ → List ℕ
+place_text row path number = codes "row " ++ decimal row ++ codes " " ++ bare_log_name path ++ codes " record " ++ decimal number
+
+-- two records race, first at this byte
+abbrev pub race_text : RacePair → List Step → List Step → List ℕ
+race_text found one other = codes "race " ++ place_text found.first_row one found.first ++ codes " " ++ place_text found.second_row other found.second ++ codes " byte " ++ decimal found.byte ++ codes "\n"
+
+-- these lines are no race pair
+abbrev pub no_race_pair_text : ℕ → ℕ → List ℕ
+no_race_pair_text low high = codes "no race " ++ decimal low ++ codes " " ++ decimal high ++ codes "\n"

@@ -1,10 +1,12 @@
-//! The commands that read a folder, and `gen`, whose folder is made from a number: what each prints and which status it answers.
+//! The commands that read a folder, and `gen`, whose folder is made from a number: what each prints and which status it returns.
 //!
 //! `check` prints exactly the line pairs of accesses that race, `show` every record, and `replay` whether the folder holds a run of a
 //! kernel; or each the folder's first bad place.
 #![tactic(auto)]
 
 mod checking;
+mod confirming;
+mod explaining;
 mod generating;
 mod printing;
 mod refusing;
@@ -14,6 +16,8 @@ mod texts;
 mod upgrading;
 
 pub use checking::check;
+pub use confirming::confirm_records;
+pub use explaining::explain_lines;
 pub use generating::check_generated;
 pub use replaying::replay_file;
 pub use showing::show;

@@ -1,7 +1,8 @@
 //! The texts of the program.
 ghost use Rattle.std.specs.Prelude.{◌≡◌, IfOk, string_bytes};
-ghost use Rattle.folder_commands.specs.Texts.{index_why_name, record_why_name, no_index_text, bad_row_text, missing_log_text, bad_record_text, differs_text, too_many_segments_text, upgraded_text};
+ghost use Rattle.folder_commands.specs.Texts.{index_why_name, record_why_name, no_index_text, bad_row_text, missing_log_text, bad_record_text, differs_text, no_race_pair_text, place_text, race_byte_text, race_text, too_many_segments_text, upgraded_text};
 
+use explain::RacePair;
 use race_model::{IndexWhy, RecordWhy};
 use std::alloc::Global;
 use sw_base::{Memory, Path};
@@ -95,4 +96,37 @@ pub fn upgraded(alloc: Global, count: u32) -> Result<String, Memory>
     ensures { IfOk result (λ text. string_bytes text ≡ upgraded_text count) }
 {
     Ok(format!(in alloc; "upgraded {count}\n")?)
+}
+
+pub fn race_byte(alloc: Global, byte: u64) -> Result<String, Memory>
+    ensures { IfOk result (λ text. string_bytes text ≡ race_byte_text byte) }
+{
+    Ok(format!(in alloc; "race byte {byte}\n")?)
+}
+
+fn place(alloc: Global, row: u32, path: &Path, number: u32) -> Result<String, Memory>
+    ensures { IfOk result (λ text. string_bytes text ≡ place_text row path.now number) }
+{
+    let name = path.bare_name(alloc)?;
+    Ok(format!(in alloc; "row {row} {name} record {number}")?)
+}
+
+pub fn race_pair(
+    alloc: Global,
+    found: &RacePair,
+    one: &Path,
+    other: &Path,
+) -> Result<String, Memory>
+    ensures { IfOk result (λ text. string_bytes text ≡ race_text found.now one.now other.now) }
+{
+    let first = place(alloc, found.first_row, one, found.first)?;
+    let second = place(alloc, found.second_row, other, found.second)?;
+    let byte = found.byte;
+    Ok(format!(in alloc; "race {first} {second} byte {byte}\n")?)
+}
+
+pub fn no_race_pair(alloc: Global, low: u32, high: u32) -> Result<String, Memory>
+    ensures { IfOk result (λ text. string_bytes text ≡ no_race_pair_text low high) }
+{
+    Ok(format!(in alloc; "no race {low} {high}\n")?)
 }

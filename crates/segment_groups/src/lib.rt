@@ -1,4 +1,4 @@
-//! The segments that are concurrent with one, found without looking at all of them.
+//! The segments concurrent with a given one, found without looking at all of them.
 //!
 //! Two segments of a run are concurrent exactly where their tasks first part at the lanes of one team, and have passed
 //! equally many of its barriers there. So segments fall into groups: at each depth below the root those of one team with one

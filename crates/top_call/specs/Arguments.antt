@@ -16,6 +16,8 @@ pub data Request : Type 0 where
   show : (dir : List ℕ) → Request
   gen : (rounds workers : ℕ) → Request
   upgrade : (dir new : List ℕ) → Request
+  explain : (dir : List ℕ) → (low high : ℕ) → Request
+  confirm : (dir : List ℕ) → (first_row first second_row second : ℕ) → Request
 
 -- a word that names a folder or a file has 1 to 1,024 bytes
 pub record IsName (word : List ℕ) : Type 0 where
@@ -78,6 +80,29 @@ pub record SaysUpgrade (arguments : List (List ℕ)) (dir new : List ℕ) : Type
   pub dir_is : IsName dir
   pub new_is : IsName new
 
+-- two lines, the smaller first
+pub record SaysExplain (arguments : List (List ℕ)) (dir : List ℕ) (low high : ℕ) : Type 0 where
+  pub low_number : List ℕ
+  pub high_number : List ℕ
+  pub are : arguments ≡ codes "explain" ∷ dir ∷ low_number ∷ high_number ∷ []
+  pub dir_is : IsName dir
+  pub low_is : IsNumber low_number 1 4294967295 low
+  pub high_is : IsNumber high_number 1 4294967295 high
+  pub in_order : low ≤ high
+
+-- two records, each by its row and its number
+pub record SaysConfirm (arguments : List (List ℕ)) (dir : List ℕ) (first_row first second_row second : ℕ) : Type 0 where
+  pub row : List ℕ
+  pub number : List ℕ
+  pub other_row : List ℕ
+  pub other_number : List ℕ
+  pub are : arguments ≡ codes "confirm" ∷ dir ∷ row ∷ number ∷ other_row ∷ other_number ∷ []
+  pub dir_is : IsName dir
+  pub row_is : IsNumber row 1 65536 first_row
+  pub number_is : IsNumber number 1 4194304 first
+  pub other_row_is : IsNumber other_row 1 65536 second_row
+  pub other_number_is : IsNumber other_number 1 4194304 second
+
 -- the arguments ask to bring a folder over
 pub record AsksUpgrade (arguments : List (List ℕ)) : Type 0 where
   pub dir : List ℕ
@@ -108,6 +133,8 @@ Says arguments (replay kernel dir) = SaysReplay arguments kernel dir
 Says arguments (show dir) = SaysShow arguments dir
 Says arguments (gen rounds workers) = SaysGen arguments rounds workers
 Says arguments (upgrade dir new) = SaysUpgrade arguments dir new
+Says arguments (explain dir low high) = SaysExplain arguments dir low high
+Says arguments (confirm dir first_row first second_row second) = SaysConfirm arguments dir first_row first second_row second
 
 -- the request reads a folder, or a kernel's file
 abbrev pub IsToRead : Request → Type 0
@@ -129,7 +156,7 @@ abbrev pub texts : List (String Global) → List (List ℕ)
 texts arguments = map string_bytes arguments
 
 abbrev pub usage_text : List ℕ
-usage_text = codes "usage: sword check DIR W | run KERNEL DIR SIZE | replay KERNEL DIR | show DIR | gen N W | upgrade DIR NEW\n"
+usage_text = codes "usage: sword check DIR W | run KERNEL DIR SIZE | replay KERNEL DIR | show DIR | gen N W | upgrade DIR NEW | explain DIR L M | confirm DIR A I B J\n"
 
 -- the one answer to arguments that ask for nothing
 abbrev pub UsageDue : ℕ → List ℕ → Type 0

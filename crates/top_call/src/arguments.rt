@@ -5,6 +5,13 @@ ghost use Rattle.top_call.specs.Commands.{request_of};
 
 use std::alloc::{AllocError, Global};
 
+/// A record of a folder, by its row and its number, both from 1.
+#[derive(Clone, Copy, Debug, PartialEq, Eq)]
+pub struct RecordName {
+    pub row: u64,
+    pub number: u64,
+}
+
 /// What a command line asks for.
 #[derive(Drop)]
 pub enum Command<'a> {
@@ -38,6 +45,18 @@ pub enum Command<'a> {
         dir: &'a str,
         new: &'a str,
     },
+    /// Find the least race of two lines of a folder.
+    Explain {
+        dir: &'a str,
+        low: u64,
+        high: u64,
+    },
+    /// Tell whether two records of a folder race.
+    Confirm {
+        dir: &'a str,
+        one: RecordName,
+        other: RecordName,
+    },
 }
 
 /// What the arguments ask for. `None` where they ask for nothing.
@@ -52,10 +71,25 @@ pub fn read_arguments<'a>(
         [name, first, second] => {
             two_arguments(alloc, name.as_str(), first.as_str(), second.as_str())
         }
-        [name, kernel, dir, size] if name.as_str() == "run" => {
-            run_arguments(alloc, kernel.as_str(), dir.as_str(), size.as_str())
+        [name, first, second, third] => {
+            three_arguments(
+                alloc,
+                name.as_str(),
+                first.as_str(),
+                second.as_str(),
+                third.as_str(),
+            )
         }
         [name, dir] if name.as_str() == "show" => Ok(show_arguments(dir.as_str())),
+        [name, first, second, third, fourth, fifth] => five_arguments(
+            alloc,
+            name.as_str(),
+            first.as_str(),
+            second.as_str(),
+            third.as_str(),
+            fourth.as_str(),
+            fifth.as_str(),
+        ),
         _ => Ok(None),
     }
 }
@@ -125,6 +159,43 @@ fn two_arguments<'a>(
     Ok(None)
 }
 
+fn three_arguments<'a>(
+    alloc: Global,
+    name: &str,
+    first: &'a str,
+    second: &'a str,
+    third: &'a str,
+) -> Result<Option<Command<'a>>, AllocError>
+    ensures said { IfOk result (λ asked. IfSome asked (λ c. Says (name.now ∷ first.now ∷ second.now ∷ third.now ∷ []) (request_of c))) }
+    ensures usage { IfOk result (λ asked. IfNone asked (IsUsage (name.now ∷ first.now ∷ second.now ∷ third.now ∷ []))) }
+{
+    if name == "run" {
+        return run_arguments(alloc, first, second, third);
+    }
+    if name == "explain" {
+        return explain_arguments(alloc, first, second, third);
+    }
+    Ok(None)
+}
+
+fn five_arguments<'a>(
+    alloc: Global,
+    name: &str,
+    first: &'a str,
+    second: &str,
+    third: &str,
+    fourth: &str,
+    fifth: &str,
+) -> Result<Option<Command<'a>>, AllocError>
+    ensures said { IfOk result (λ asked. IfSome asked (λ c. Says (name.now ∷ first.now ∷ second.now ∷ third.now ∷ fourth.now ∷ fifth.now ∷ []) (request_of c))) }
+    ensures usage { IfOk result (λ asked. IfNone asked (IsUsage (name.now ∷ first.now ∷ second.now ∷ third.now ∷ fourth.now ∷ fifth.now ∷ []))) }
+{
+    if name == "confirm" {
+        return confirm_arguments(alloc, first, second, third, fourth, fifth);
+    }
+    Ok(None)
+}
+
 fn replay_arguments<'a>(kernel: &'a str, dir: &'a str) -> Option<Command<'a>>
     ensures said { IfSome result (λ c. Says (codes "replay" ∷ kernel.now ∷ dir.now ∷ []) (request_of c)) }
     ensures usage { IfNone result (IsUsage (codes "replay" ∷ kernel.now ∷ dir.now ∷ [])) }
@@ -158,6 +229,76 @@ fn gen_arguments<'a>(
     };
     let workers = number(alloc, workers, 1, 64)?;
     Ok(workers.map(|workers| Command::Gen { rounds, workers }))
+}
+
+/// Two lines, the smaller first.
+fn lines(alloc: Global, low: &str, high: &str) -> Result<Option<(u64, u64)>, AllocError>
+    ensures said { IfOk result (λ found. IfSome found (λ lines. IsNumber low.now 1 4294967295 lines.0 × IsNumber high.now 1 4294967295 lines.1 × (lines.0 ≤ lines.1))) }
+    ensures usage { IfOk result (λ found. IfNone found ((n m : ℕ) → IsNumber low.now 1 4294967295 n → IsNumber high.now 1 4294967295 m → n ≤ m → ⊥)) }
+{
+    let Some(low) = number(alloc, low, 1, 4_294_967_295)? else {
+        return Ok(None);
+    };
+    let Some(high) = number(alloc, high, 1, 4_294_967_295)? else {
+        return Ok(None);
+    };
+    if high < low {
+        return Ok(None);
+    }
+    Ok(Some((low, high)))
+}
+
+fn explain_arguments<'a>(
+    alloc: Global,
+    dir: &'a str,
+    low: &str,
+    high: &str,
+) -> Result<Option<Command<'a>>, AllocError>
+    ensures said { IfOk result (λ asked. IfSome asked (λ c. Says (codes "explain" ∷ dir.now ∷ low.now ∷ high.now ∷ []) (request_of c))) }
+    ensures usage { IfOk result (λ asked. IfNone asked (IsUsage (codes "explain" ∷ dir.now ∷ low.now ∷ high.now ∷ []))) }
+{
+    if !is_name(dir) {
+        return Ok(None);
+    }
+    let lines = lines(alloc, low, high)?;
+    Ok(lines.map(|lines| Command::Explain {
+        dir,
+        low: lines.0,
+        high: lines.1,
+    }))
+}
+
+/// The record of this row and number.
+fn record_name(alloc: Global, row: &str, number_of: &str) -> Result<Option<RecordName>, AllocError>
+    ensures said { IfOk result (λ found. IfSome found (λ one. IsNumber row.now 1 65536 one.row × IsNumber number_of.now 1 4194304 one.number)) }
+    ensures usage { IfOk result (λ found. IfNone found ((n m : ℕ) → IsNumber row.now 1 65536 n → IsNumber number_of.now 1 4194304 m → ⊥)) }
+{
+    let Some(row) = number(alloc, row, 1, 65_536)? else {
+        return Ok(None);
+    };
+    let number = number(alloc, number_of, 1, 4_194_304)?;
+    Ok(number.map(|number| RecordName { row, number }))
+}
+
+fn confirm_arguments<'a>(
+    alloc: Global,
+    dir: &'a str,
+    row: &str,
+    number: &str,
+    other_row: &str,
+    other_number: &str,
+) -> Result<Option<Command<'a>>, AllocError>
+    ensures said { IfOk result (λ asked. IfSome asked (λ c. Says (codes "confirm" ∷ dir.now ∷ row.now ∷ number.now ∷ other_row.now ∷ other_number.now ∷ []) (request_of c))) }
+    ensures usage { IfOk result (λ asked. IfNone asked (IsUsage (codes "confirm" ∷ dir.now ∷ row.now ∷ number.now ∷ other_row.now ∷ other_number.now ∷ []))) }
+{
+    if !is_name(dir) {
+        return Ok(None);
+    }
+    let Some(one) = record_name(alloc, row, number)? else {
+        return Ok(None);
+    };
+    let other = record_name(alloc, other_row, other_number)?;
+    Ok(other.map(|other| Command::Confirm { dir, one, other }))
 }
 
 fn is_name(word: &str) -> bool

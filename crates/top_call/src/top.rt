@@ -3,19 +3,23 @@ ghost use Rattle.std.specs.Prelude.{◌≡◌, ◌⊎◌, ℕ, List, is_some};
 ghost use Rattle.sw_base.specs.Environment.{Rose, WhereTold, next_count};
 ghost use Rattle.command_answer.specs.Answer.{Answers, IsFailure, Tries};
 ghost use Rattle.folder_commands.specs.Check.{FolderDue, HasReport};
+ghost use Rattle.folder_commands.specs.Confirm.{HasConfirmation};
+ghost use Rattle.folder_commands.specs.Explain.{HasExplanation};
 ghost use Rattle.run_command.specs.Run.{LeavesPart, RunDue};
 ghost use Rattle.folder_commands.specs.Gen.{GenDue};
 ghost use Rattle.folder_commands.specs.Replay.{ReplayDue};
 ghost use Rattle.folder_commands.specs.Show.{ShowsRecords};
 ghost use Rattle.folder_commands.specs.Upgrade.{IsUpgraded, UpgradeDue};
 ghost use Rattle.log_upgrade.specs.Upgrade.{LeavesUpgrade};
-ghost use Rattle.top_call.specs.Arguments.{AsksToRead, AsksToWrite, AsksUpgrade, BeginsToWrite, IsUsage, SaysCheck, SaysGen, SaysReplay, SaysRun, SaysShow, SaysUpgrade, UsageDue, texts};
+ghost use Rattle.top_call.specs.Arguments.{AsksToRead, AsksToWrite, AsksUpgrade, BeginsToWrite, IsUsage, SaysCheck, SaysConfirm, SaysExplain, SaysGen, SaysReplay, SaysRun, SaysShow, SaysUpgrade, UsageDue, texts};
 ghost use Rattle.command_answer.specs.declared.status.TheConstants.{DONE, USAGE, READ_FAULT, WRITE_FAULT};
 
 use crate::arguments::{Command, read_arguments};
 use crate::running::run_file;
 use command_answer::{NO_MEMORY, USAGE, print};
-use folder_commands::{check, check_generated, replay_file, show, upgrade_folder};
+use folder_commands::{
+    check, check_generated, confirm_records, explain_lines, replay_file, show, upgrade_folder,
+};
 use std::alloc::Global;
 use std::sync::Wait;
 use std::thread::Threads;
@@ -26,7 +30,7 @@ use sw_base::{Folder, Gate, Out};
 pub const STACK: usize = 1 << 28;
 
 const USAGE_LINE: &[u8] =
-    b"usage: sword check DIR W | run KERNEL DIR SIZE | replay KERNEL DIR | show DIR | gen N W | upgrade DIR NEW\n";
+    b"usage: sword check DIR W | run KERNEL DIR SIZE | replay KERNEL DIR | show DIR | gen N W | upgrade DIR NEW | explain DIR L M | confirm DIR A I B J\n";
 
 /// Does what the arguments after the program's name ask for, and answers the status that the program ends with.
 ///
@@ -81,6 +85,16 @@ pub fn sword<R: Threads + Wait + Sync, F: Folder, O: Out, G: Gate>(
     ensures upgrade_leaves { (dir new : List ℕ) → SaysUpgrade (texts arguments.now) dir new → IsFailure result → WhereTold (F.state folder.old).content (λ c.
         WhereTold (F.state folder.new).content (λ d. LeavesUpgrade dir new c d)) }
 
+    // `explain` answers the first bad place of the folder; or, of the run that it holds, the least race of the two lines, whose records `confirm`
+    // confirms, or that the lines are no race pair.
+    ensures explain { (dir : List ℕ) (low high : ℕ) → SaysExplain (texts arguments.now) dir low high → WhereTold (F.state folder.old).content (λ c.
+        Tries (FolderDue (HasExplanation low high) c.held dir) (O.written out.old) (O.written out.new) result) }
+
+    // `confirm` answers the first bad place of the folder; or, of the run that it holds, the first byte that the two records have in common
+    // if they race, or that they don't.
+    ensures confirm { (dir : List ℕ) (first_row first second_row second : ℕ) → SaysConfirm (texts arguments.now) dir first_row first second_row second → WhereTold (F.state folder.old).content (λ c.
+        Tries (FolderDue (HasConfirmation first_row first second_row second) c.held dir) (O.written out.old) (O.written out.new) result) }
+
     // A fault has its cause, and only a run or an upgrade that can begin writes anything. With status 0 no call failed that writes: none was
     // made again. After a read that failed only an upgrade has written.
     ensures run_reads { (AsksUpgrade (texts arguments.now) → ⊥) → result ≡ READ_FAULT → F.state folder.new ≡ F.state folder.old }
@@ -112,6 +126,19 @@ pub fn sword<R: Threads + Wait + Sync, F: Folder, O: Out, G: Gate>(
             check_generated(rt, alloc, out, gate, rounds as u32, workers as usize)
         }
         Ok(Some(Command::Upgrade { dir, new })) => upgrade_folder(alloc, folder, out, dir, new),
+        Ok(Some(Command::Explain { dir, low, high })) => {
+            explain_lines(alloc, folder, out, dir, low as u32, high as u32)
+        }
+        Ok(Some(Command::Confirm { dir, one, other })) => confirm_records(
+            alloc,
+            folder,
+            out,
+            dir,
+            one.row as u32,
+            one.number as u32,
+            other.row as u32,
+            other.number as u32,
+        ),
         Err(_) => NO_MEMORY,
     }
 }

@@ -368,6 +368,20 @@ const OTHER_WORDS: Case<'static> = Case {
         (&["upgrade", "d", ""], USAGE, USAGE_LINE),
         (&["upgrade", "", "e"], USAGE, USAGE_LINE),
         (&["upgrade", "d", "e", "f"], USAGE, USAGE_LINE),
+        (&["explain", "d", "0", "1"], USAGE, USAGE_LINE),
+        (&["explain", "d", "2", "1"], USAGE, USAGE_LINE),
+        (&["explain", "d", "1", "4294967296"], USAGE, USAGE_LINE),
+        (&["explain", "", "1", "1"], USAGE, USAGE_LINE),
+        (&["explain", "d", "1"], USAGE, USAGE_LINE),
+        (&["confirm", "d", "0", "1", "1", "1"], USAGE, USAGE_LINE),
+        (&["confirm", "d", "1", "1", "65537", "1"], USAGE, USAGE_LINE),
+        (
+            &["confirm", "d", "1", "4194305", "1", "1"],
+            USAGE,
+            USAGE_LINE,
+        ),
+        (&["confirm", "", "1", "1", "1", "1"], USAGE, USAGE_LINE),
+        (&["confirm", "d", "1", "1", "1"], USAGE, USAGE_LINE),
     ],
     ..EMPTY
 };

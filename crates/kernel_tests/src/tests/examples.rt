@@ -4,7 +4,8 @@ use asking::{Case, EMPTY, all_pass};
 use command_answer::{DIFFERS, DONE, KERNEL_STOPPED, RACES};
 use std::test::Fail;
 
-const COUNT: &str = "# Each lane adds 1 to every second element. No two lanes meet at an element.
+const COUNT: &str =
+    "# Each lane adds 1 to every second element. No two lanes touch the same element.
 array a i64 8
 main {
     parallel 2 {
@@ -16,7 +17,7 @@ main {
 ";
 
 const SHIFT: &str =
-    "# Each element is moved one place on. Lane 1 reads the element that lane 0 writes last.
+    "# Each element is shifted by one. Lane 1 reads the element that lane 0 writes last.
 array a i64 9
 main {
     parallel 2 {
@@ -27,7 +28,7 @@ main {
 }
 ";
 
-const BEYOND: &str = "# The loop goes past the array, where lane 1 stops.
+const BEYOND: &str = "# The loop runs past the end of the array, where lane 1 stops.
 array a i64 4
 main {
     parallel 2 {

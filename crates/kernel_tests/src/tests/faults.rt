@@ -167,7 +167,6 @@ fn each_call_of_a_replay_may_fail(rt: HostRuntime) -> Result<(), Fail> {
 const SHOWN: Calls<'static> = Calls {
     case: nested!(6, &[(SHOW, DONE, "log t.swl records 2\n...")]),
     reads: 38,
-    prints: 21,
     ..NONE
 };
 
@@ -212,4 +211,36 @@ const BROUGHT: Calls<'static> = Calls {
 #[test]
 fn each_call_of_an_upgrade_may_fail(rt: HostRuntime) -> Result<(), Fail> {
     each_call_may_fail(&rt, rt.alloc(), &BROUGHT)
+}
+
+const EXPLAINED: Calls<'static> = Calls {
+    case: Case {
+        asked: &[(
+            &["explain", "d", "3", "3"],
+            RACES,
+            "race row 2 t-0.0.swl record 1 row 3 t-0.1.swl record 1 byte 4128\n",
+        )],
+        ..RACING
+    },
+    reads: 24,
+    ..NONE
+};
+
+const CONFIRMED: Calls<'static> = Calls {
+    case: Case {
+        asked: &[(
+            &["confirm", "d", "2", "1", "3", "1"],
+            RACES,
+            "race byte 4128\n",
+        )],
+        ..RACING
+    },
+    reads: 17,
+    ..NONE
+};
+
+#[test]
+fn each_call_of_a_witness_may_fail(rt: HostRuntime) -> Result<(), Fail> {
+    each_call_may_fail(&rt, rt.alloc(), &EXPLAINED)?;
+    each_call_may_fail(&rt, rt.alloc(), &CONFIRMED)
 }

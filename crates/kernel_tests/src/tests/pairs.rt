@@ -150,7 +150,7 @@ main {
 ";
 
 const NESTED_RACE: &str =
-    "# As nested.kernel, but no barrier orders the lanes of the inner region before the other lane's store.
+    "# Like nested.kernel, but no barrier orders the lanes of the inner region before the other lane's store.
 array a i64 4
 main {
     parallel 2 {
@@ -181,7 +181,7 @@ main {
 ";
 
 const GATHER_RACE: &str =
-    "# As gather.kernel, but no lane waits for the chunks that others have drawn.
+    "# Like gather.kernel, but no lane waits for the chunks that others have drawn.
 array a i64 12
 array s i64 3
 main {
@@ -247,7 +247,7 @@ main {
 ";
 
 const SHIFT_MENDED: &str =
-    "# As shift.kernel, but into another array, so that no lane reads what another writes.
+    "# Like shift.kernel, but into another array, so that no lane reads what another writes.
 array a i64 9
 array b i64 9
 main {

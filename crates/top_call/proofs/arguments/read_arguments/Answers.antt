@@ -1,5 +1,5 @@
 use Rattle.std.proofs.Common.{rules, arith, ◌≡◌, string_bytes, codes}
-use Rattle.top_call.proofs.ArgumentLists.{texts-four, texts-three, texts-two}
+use Rattle.top_call.proofs.ArgumentLists.{texts-four, texts-six, texts-three, texts-two}
 use Rattle.top_call.proofs.arguments.read_arguments.Goals as goal
 
 pub returns-in-len3-clause-said : goal.returns-in-len3-clause-said
@@ -17,11 +17,17 @@ returns-in-len2-clause-said c = let two = texts-two c.args.arguments.now _ _ (om
     rw (two, name, dir) c.show_arguments.ensures.said
 
 pub returns-in-len4-clause-said : goal.returns-in-len4-clause-said
-returns-in-len4-clause-said c = let four = texts-four c.args.arguments.now _ _ _ _ (omega arith) (omega arith) c.name-item-then-arguments-lt5.is c.kernel-item.is c.dir-item-then-arguments-lt5.is c.size-item.is in
-    let name : string_bytes c.name-item-then-arguments-lt5.result ≡ codes "run" = search rules in
-    rw (four, name, ← c.as_str-in-len4.ensures.value, ← c.as_str-in-len4-2.ensures.value, ← c.as_str-in-len4-3.ensures.value) c.run_arguments.ensures.said
+returns-in-len4-clause-said c = let four = texts-four c.args.arguments.now _ _ _ _ (omega arith) (omega arith) c.name-item-then-arguments-lt5.is c.first-item-then-arguments-lt5.is c.second-item-then-arguments-lt5.is c.third-item.is in
+    rw (four, ← c.as_str-in-len4.ensures.value, ← c.as_str-in-len4-2.ensures.value, ← c.as_str-in-len4-3.ensures.value, ← c.as_str-in-len4-4.ensures.value) c.three_arguments.ensures.said
 
 pub returns-in-len4-clause-usage : goal.returns-in-len4-clause-usage
-returns-in-len4-clause-usage c = let four = texts-four c.args.arguments.now _ _ _ _ (omega arith) (omega arith) c.name-item-then-arguments-lt5.is c.kernel-item.is c.dir-item-then-arguments-lt5.is c.size-item.is in
-    let name : string_bytes c.name-item-then-arguments-lt5.result ≡ codes "run" = search rules in
-    rw (four, name, ← c.as_str-in-len4.ensures.value, ← c.as_str-in-len4-2.ensures.value, ← c.as_str-in-len4-3.ensures.value) c.run_arguments.ensures.usage
+returns-in-len4-clause-usage c = let four = texts-four c.args.arguments.now _ _ _ _ (omega arith) (omega arith) c.name-item-then-arguments-lt5.is c.first-item-then-arguments-lt5.is c.second-item-then-arguments-lt5.is c.third-item.is in
+    rw (four, ← c.as_str-in-len4.ensures.value, ← c.as_str-in-len4-2.ensures.value, ← c.as_str-in-len4-3.ensures.value, ← c.as_str-in-len4-4.ensures.value) c.three_arguments.ensures.usage
+
+pub returns-in-len6-clause-said : goal.returns-in-len6-clause-said
+returns-in-len6-clause-said c = let six = texts-six c.args.arguments.now _ _ _ _ _ _ (omega arith) (omega arith) c.name-item-then-arguments-lt7.is c.first-item-then-arguments-lt7.is c.second-item-then-arguments-lt7.is c.third-item-then-arguments-lt7.is c.fourth-item.is c.fifth-item.is in
+    rw (six, ← c.as_str-in-len6.ensures.value, ← c.as_str-in-len6-2.ensures.value, ← c.as_str-in-len6-3.ensures.value, ← c.as_str-in-len6-4.ensures.value, ← c.as_str-in-len6-5.ensures.value, ← c.as_str-in-len6-6.ensures.value) c.five_arguments.ensures.said
+
+pub returns-in-len6-clause-usage : goal.returns-in-len6-clause-usage
+returns-in-len6-clause-usage c = let six = texts-six c.args.arguments.now _ _ _ _ _ _ (omega arith) (omega arith) c.name-item-then-arguments-lt7.is c.first-item-then-arguments-lt7.is c.second-item-then-arguments-lt7.is c.third-item-then-arguments-lt7.is c.fourth-item.is c.fifth-item.is in
+    rw (six, ← c.as_str-in-len6.ensures.value, ← c.as_str-in-len6-2.ensures.value, ← c.as_str-in-len6-3.ensures.value, ← c.as_str-in-len6-4.ensures.value, ← c.as_str-in-len6-5.ensures.value, ← c.as_str-in-len6-6.ensures.value) c.five_arguments.ensures.usage

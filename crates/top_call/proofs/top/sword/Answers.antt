@@ -3,10 +3,12 @@ use Rattle.sw_base.specs.Environment.{Rose}
 use Rattle.command_answer.specs.Answer.{Answers, Tries, silent}
 use Rattle.command_answer.proofs.Answering.{Answers-of, Tries-from_prints}
 use Rattle.folder_commands.specs.Check.{FolderDue, HasReport}
+use Rattle.folder_commands.specs.Confirm.{HasConfirmation}
+use Rattle.folder_commands.specs.Explain.{HasExplanation}
 use Rattle.run_command.specs.Run.{LeavesPart, RunDue}
 use Rattle.folder_commands.specs.Show.{ShowsRecords}
-use Rattle.top_call.specs.Arguments.{UsageDue, check, gen, replay, run, show, texts, upgrade}
-use Rattle.top_call.proofs.ArgumentLists.{same_check, same_gen, same_replay, same_run, same_show, same_upgrade, usage_once}
+use Rattle.top_call.specs.Arguments.{UsageDue, check, confirm, explain, gen, replay, run, show, texts, upgrade}
+use Rattle.top_call.proofs.ArgumentLists.{same_check, same_confirm, same_explain, same_gen, same_replay, same_run, same_show, same_upgrade, usage_once}
 use Rattle.folder_commands.specs.Gen.{GenDue}
 use Rattle.folder_commands.specs.Replay.{ReplayDue}
 use Rattle.folder_commands.specs.Upgrade.{IsUpgraded, UpgradeDue}
@@ -160,3 +162,39 @@ returns-in-Ok-Some-Upgrade-clause-only_reads g c = λ _.
 
 pub returns-in-Ok-Some-Upgrade-clause-asks_once : goal.returns-in-Ok-Some-Upgrade-clause-asks_once
 returns-in-Ok-Some-Upgrade-clause-asks_once g c = inl c.upgrade_folder.ensures.same_roots
+
+pub returns-in-Ok-None-clause-confirm : goal.returns-in-Ok-None-clause-confirm
+returns-in-Ok-None-clause-confirm g c = λ dir first_row first second_row second says.
+    let usage = rw c.in-Ok-None.field-0-is at c.in-Ok-None.ensures.usage in absurd (usage (confirm dir first_row first second_row second) says)
+
+pub returns-in-Ok-Some-Confirm-clause-confirm : goal.returns-in-Ok-Some-Confirm-clause-confirm
+returns-in-Ok-Some-Confirm-clause-confirm g c = λ dir first_row first second_row second says content told.
+    let said = rw (c.in-Ok-Some-Confirm.field-0-is, c.in-Ok-Some-Confirm.field-0-0-is) at c.in-Ok-Some-Confirm.ensures.said in
+    same_confirm (λ (d : List ℕ) (a i b j : ℕ). Tries (FolderDue (HasConfirmation a i b j) content.held d) (g.O.Out.written c.args.out.now) (g.O.Out.written c.confirm_records.new.out) c.confirm_records.result)
+    (texts c.args.arguments.now) _ dir _ _ _ _ first_row first second_row second said says (c.confirm_records.ensures.answers content told)
+
+pub returns-in-Ok-Some-Confirm-clause-only_reads : goal.returns-in-Ok-Some-Confirm-clause-only_reads
+returns-in-Ok-Some-Confirm-clause-only_reads g c = λ _.
+    let said = rw (c.in-Ok-Some-Confirm.field-0-is, c.in-Ok-Some-Confirm.field-0-0-is) at c.in-Ok-Some-Confirm.ensures.said in
+    record { request = confirm _ _ _ _ _; says = said; reads = tt }
+
+pub returns-in-Ok-Some-Confirm-clause-asks_once : goal.returns-in-Ok-Some-Confirm-clause-asks_once
+returns-in-Ok-Some-Confirm-clause-asks_once g c = inl (ap (λ s. s.roots) c.confirm_records.ensures.same)
+
+pub returns-in-Ok-None-clause-explain : goal.returns-in-Ok-None-clause-explain
+returns-in-Ok-None-clause-explain g c = λ dir low high says.
+    let usage = rw c.in-Ok-None.field-0-is at c.in-Ok-None.ensures.usage in absurd (usage (explain dir low high) says)
+
+pub returns-in-Ok-Some-Explain-clause-explain : goal.returns-in-Ok-Some-Explain-clause-explain
+returns-in-Ok-Some-Explain-clause-explain g c = λ dir low high says content told.
+    let said = rw (c.in-Ok-Some-Explain.field-0-is, c.in-Ok-Some-Explain.field-0-0-is) at c.in-Ok-Some-Explain.ensures.said in
+    same_explain (λ (d : List ℕ) (n m : ℕ). Tries (FolderDue (HasExplanation n m) content.held d) (g.O.Out.written c.args.out.now) (g.O.Out.written c.explain_lines.new.out) c.explain_lines.result)
+    (texts c.args.arguments.now) _ dir _ _ low high said says (c.explain_lines.ensures.answers content told)
+
+pub returns-in-Ok-Some-Explain-clause-only_reads : goal.returns-in-Ok-Some-Explain-clause-only_reads
+returns-in-Ok-Some-Explain-clause-only_reads g c = λ _.
+    let said = rw (c.in-Ok-Some-Explain.field-0-is, c.in-Ok-Some-Explain.field-0-0-is) at c.in-Ok-Some-Explain.ensures.said in
+    record { request = explain _ _ _; says = said; reads = tt }
+
+pub returns-in-Ok-Some-Explain-clause-asks_once : goal.returns-in-Ok-Some-Explain-clause-asks_once
+returns-in-Ok-Some-Explain-clause-asks_once g c = inl (ap (λ s. s.roots) c.explain_lines.ensures.same)

@@ -1,0 +1,45 @@
+use Rattle.std.proofs.Common.{◌≡◌, List, Option, ap, sym, subst, ◌∙◌, arith}
+use Rattle.std.proofs.lemmas.Result.{err_from_is_err_and}
+use Rattle.log_format.specs.declared.format.TheConstants.{FORMAT}
+use Rattle.log_segment.specs.declared.segment.Segment.{Segment}
+use Rattle.log_walk.specs.Sweep.{GivesRegion, HasSwept, HasSweptAll}
+use Rattle.log_walk.specs.declared.sweep.Sweep.{Sweep}
+use Rattle.log_walk.proofs.WalkMoves.{WalkedTo, walked_more}
+use Rattle.sw_base.specs.Environment.{Content, FolderState}
+use Rattle.explain.proofs.explaining.swept.Goals as goal
+
+same_content : {one other : FolderState} → one ≡ other → one.content ≡ other.content
+same_content same = ap (λ s. s.content) same
+
+pub returns-in_err-region-clause-refused : goal.returns-in_err-region-clause-refused
+returns-in_err-region-clause-refused g c =
+    let p = err_from_is_err_and c.from_residual-in_err-region.result c.from_residual-in_err-region.ensures.1 in
+    let so = c.regions.invariant.so in
+    let now = subst (λ (t : Option Content). HasSwept FORMAT t c.args.dir.now c.regions.sweep so.trace) (sym (same_content c.regions.invariant.same)) so.swept in
+    rw (p.1, p.2) (λ x told. (c.in_err-region.ensures.refused FORMAT c.args.dir.now so.trace now).2 x (same_content c.regions.invariant.same ∙ told))
+
+pub regions-preserved : goal.regions-preserved
+regions-preserved g c =
+    let so = c.regions.invariant.so in
+    let now = subst (λ (t : Option Content). HasSwept FORMAT t c.args.dir.now c.regions.sweep so.trace) (sym (same_content c.regions.invariant.same)) so.swept in
+    let gives = rw c.in-Some.is at (c.in_ok-region.ensures.region FORMAT c.args.dir.now so.trace now) in
+    record {
+      so = subst (λ (xs : List Segment). WalkedTo FORMAT (g.F.Folder.state c.args.folder.now).content c.args.dir.now c.next.new.self xs) (sym c.in_ok-append.ensures.items)
+          (walked_more (g.F.Folder.state c.args.folder.now).content c.args.dir.now c.regions.sweep c.next.new.self c.regions.found.items c.in-Some.region.items so
+          (subst (λ (t : Option Content). GivesRegion FORMAT t c.args.dir.now c.regions.sweep c.next.new.self so.trace c.in-Some.region.items) (same_content c.regions.invariant.same) gives));
+      fresh = c.in_ok-region.ensures.unrefused;
+      same = c.in_ok-region.ensures.same ∙ c.regions.invariant.same;
+      later = omega (arith, c.in_ok-region.ensures.later, c.regions.invariant.later);
+    }
+
+pub returns-clause-all : goal.returns-clause-all
+returns-clause-all g c =
+    let so = c.regions.invariant.so in
+    let now = subst (λ (t : Option Content). HasSwept FORMAT t c.args.dir.now c.regions.sweep so.trace) (sym (same_content c.regions.invariant.same)) so.swept in
+    let both = c.in_ok-region.ensures.all FORMAT c.args.dir.now so.trace now c.in_default.is in
+    let all = both.1 in (
+      so.trace,
+      subst (λ (s : Sweep). HasSweptAll FORMAT (g.F.Folder.state c.args.folder.now).content c.args.dir.now s so.trace) (sym both.0)
+          (subst (λ (t : Option Content). HasSweptAll FORMAT t c.args.dir.now c.regions.sweep so.trace) (same_content c.regions.invariant.same) all),
+      so.in_order so.trace all.completes,
+    )

@@ -1,0 +1,17 @@
+use Rattle.std.proofs.Common.{◌≡◌, ◌≤◌}
+use Rattle.log_format.specs.declared.format.TheConstants.{FORMAT}
+use Rattle.log_walk.specs.Sweep.{HasRefused, logs_left}
+use Rattle.log_walk.specs.declared.fault.WalkFault.{WalkFault}
+use Rattle.log_walk.proofs.WalkMoves.{WalkedTo}
+use Rattle.explain.proofs.explaining.swept.Given as goal
+
+abbrev pub invariant-regions : goal.invariant-regions
+invariant-regions g l = record {
+  so : WalkedTo FORMAT (g.F.Folder.state l.fn.folder).content l.dir l.sweep l.found.items;
+  fresh : (e : WalkFault) → HasRefused l.sweep e → ⊥;
+  same : g.F.Folder.state l.folder ≡ g.F.Folder.state l.fn.folder;
+  later : g.F.Folder.read_faults l.fn.folder ≤ g.F.Folder.read_faults l.folder;
+}
+
+abbrev pub decreases-regions : goal.decreases-regions
+decreases-regions g l = logs_left l.sweep

@@ -1,0 +1,73 @@
+//! The least race of two lines of a folder.
+ghost use Rattle.std.specs.Prelude.{◌≡◌, ◌↔◌, ◌≤◌, None, IfOk, IfErr, IsErrOf, OnOk};
+ghost use Rattle.sw_base.specs.Environment.{WhereTold, Rose};
+ghost use Rattle.log_format.specs.declared.format.TheConstants.{FORMAT};
+ghost use Rattle.log_walk.specs.Sweep.{HasSweptAll};
+ghost use Rattle.log_walk.specs.Walk.{TellsFirstBad};
+ghost use Rattle.race_model.specs.FirstBad.{HoldsTrace};
+ghost use Rattle.race_model.specs.Race.{IsRacePair};
+ghost use Rattle.race_model.specs.Trace.{Trace, logs_of};
+ghost use Rattle.race_model.specs.WellFormed.{IsWellFormed};
+ghost use Rattle.explain.specs.Least.{FindsLeast};
+ghost use Rattle.explain.specs.Suspects.{AreOfRun};
+
+use crate::searching::least_race;
+use crate::suspecting::suspects_of;
+use log_segment::Segment;
+use log_walk::{Sweep, WalkFault};
+use std::alloc::Global;
+use sw_base::Folder;
+
+/// Two records that race, each by its row and its number, from 1, and the first byte that they have in common.
+#[derive(Clone, Copy, Debug, PartialEq, Eq)]
+pub struct RacePair {
+    pub first_row: u32,
+    pub first: u32,
+    pub second_row: u32,
+    pub second: u32,
+    pub byte: u64,
+}
+
+/// Sweeps through a folder, and keeps the barrier intervals of all regions.
+fn swept<F: Folder>(
+    alloc: Global,
+    folder: &mut F,
+    dir: &str,
+) -> Result<(Sweep, Vec<Segment>), WalkFault>
+    ensures all { IfOk result (λ pair. (trace : Trace) × HasSweptAll FORMAT (F.state folder.old).content dir.now pair.0 trace × AreOfRun trace pair.1.items) }
+    ensures refused { IfErr result (λ e. WhereTold (F.state folder.old).content (λ c. TellsFirstBad FORMAT c.held dir.now e)) }
+
+    ensures same { F.state folder.new ≡ F.state folder.old }
+    ensures later { F.read_faults folder.old ≤ F.read_faults folder.new }
+    ensures cause { IsErrOf result WalkFault.ReadFault → Rose (F.read_faults folder.old) (F.read_faults folder.new) }
+{
+    let (mut sweep, mut found) = Sweep::open(alloc, folder, dir)?;
+    'regions: while let Some(mut region) = sweep.next(alloc, folder)? {
+        found.append(&mut region)?;
+    }
+    Ok((sweep, found))
+}
+
+/// Of all races of these two lines, in either order, the one whose first record is the least by row and number, and with that the
+/// one whose second record is; none where there is no race. The first record is of an earlier row. It refuses as `walk` does.
+pub fn explain<F: Folder>(
+    alloc: Global,
+    place: &mut F,
+    dir: &str,
+    low: u32,
+    high: u32,
+) -> Result<Option<RacePair>, WalkFault>
+    ensures explained { WhereTold (F.state place.old).content (λ c. (trace : Trace) → HoldsTrace FORMAT c.held dir.now trace → IfOk result (FindsLeast trace (low, high))) }
+    ensures pair { WhereTold (F.state place.old).content (λ c. (trace : Trace) → HoldsTrace FORMAT c.held dir.now trace → IfOk result (λ answer. (answer ≡ None) ↔ (IsRacePair (logs_of trace) (low, high) → ⊥))) }
+    ensures holds { OnOk result (WhereTold (F.state place.old).content (λ c. (trace : Trace) × HoldsTrace FORMAT c.held dir.now trace)) }
+    ensures well_formed { OnOk result (WhereTold (F.state place.old).content (λ c. IsWellFormed FORMAT c.held dir.now)) }
+    ensures refused { IfErr result (λ e. WhereTold (F.state place.old).content (λ c. TellsFirstBad FORMAT c.held dir.now e)) }
+
+    ensures same { F.state place.new ≡ F.state place.old }
+    ensures later { F.read_faults place.old ≤ F.read_faults place.new }
+    ensures cause { IsErrOf result WalkFault.ReadFault → Rose (F.read_faults place.old) (F.read_faults place.new) }
+{
+    let (sweep, segments) = swept(alloc, place, dir)?;
+    let suspects = suspects_of(alloc, &segments)?;
+    least_race(alloc, place, dir, sweep.rows(), &suspects, (low, high))
+}
