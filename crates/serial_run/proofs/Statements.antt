@@ -1,0 +1,266 @@
+-- Statements, from what their expressions made.
+use Rattle.std.proofs.Common.{◌≡◌, refl, ap, sym, ◌∙◌, subst, arith, append_assoc, ℕ, zero, suc, ◌+◌, ◌-◌, List, [], ◌∷◌, ◌++◌, ℤ, pos, negsuc, Option, Some, None, Result, Ok, Err}
+use Rattle.std.specs.Prelude.{slice_set}
+use Rattle.std.proofs.lemmas.List.{append-nil}
+use Rattle.log_format.specs.declared.record.Kind.TheVariants as kind
+use Rattle.log_format.specs.declared.record.Record.{Record}
+use Rattle.log_format.specs.Fitting.{fitted}
+use Rattle.kernel_syntax.specs.declared.syntax.Body.{Body}
+use Rattle.kernel_syntax.specs.Program.{code_of, team_of}
+use Rattle.kernel_syntax.specs.Tree as tree
+use Rattle.kernel_syntax.specs.Tree.{Term, Code, TeamTree, Done}
+use Rattle.kernel_model.specs.declared.change.Change.TheVariants.{Store}
+use Rattle.kernel_model.specs.Drawing.{turn_from}
+use Rattle.kernel_model.specs.Iterations.{total_of}
+use Rattle.kernel_model.specs.State as model
+use Rattle.kernel_model.specs.State.{State, Fork, Outcome, Gives, and_then, after, assign, put, event, reads_of, chunks_of}
+use Rattle.kernel_model.specs.Effect.{Returned, Halted, state_with, adds}
+use Rattle.kernel_model.specs.Trace.{log_limit, run, branch, turns, changed, forked}
+use Rattle.kernel_model.specs.Value.{Site, element_at, access, value}
+use Rattle.kernel_model.proofs.Changing.{run-changing}
+use Rattle.kernel_model.proofs.Effects.{makes-stays}
+use Rattle.kernel_model.proofs.Equations.{run-Done, run-Set, run-If, run-Loop, run-Parallel}
+use Rattle.kernel_model.proofs.RunEffects.{makes-after_halt}
+use Rattle.kernel_model.proofs.Joining.{after-after, after-same, after-done, branch-zero, branch-other}
+use Rattle.serial_run.specs.declared.frame.Frame.{Frame}
+use Rattle.serial_run.specs.declared.frame.Frame.TheVariants as frame
+use Rattle.serial_run.specs.declared.frame.Pause.{Pause}
+use Rattle.serial_run.specs.declared.frame.Pause.TheVariants as pause
+use Rattle.serial_run.specs.declared.halt.Halt.{Halt}
+use Rattle.serial_run.specs.declared.halt.Halt.TheVariants as halt
+use Rattle.serial_run.specs.declared.place.Element.{Element}
+use Rattle.serial_run.specs.Going.{Progress, Made, Goes, Logs, HasRoom, Marks}
+use Rattle.serial_run.specs.Placing.{meant}
+use Rattle.serial_run.specs.Resting.{part_of, rest_of}
+use Rattle.serial_run.specs.Stepping.{Stand, Steps, Stepped, Takes, HaltsSo}
+use Rattle.serial_run.proofs.Following.{made_still, made_same, goes_same, goes_stop, goes_then}
+use Rattle.serial_run.proofs.Leading.{Part, leads_none, leads_then, adds_mark, leads_put, steps_same, steps_push, steps_then, steps_assign}
+
+module _ (word : ℕ → ℕ) (at : Site) (slots : List ℤ) where
+  -- ---- a variable is set
+  module _ (slot : ℕ) (e : Term) (old new : Progress) where
+    pub set_stops : (why : Halt) → Goes word (value at e) slots slots old new (Err why) → Goes word (run at (tree.Set slot e Done)) slots slots old new (Err why)
+    set_stops why goes =
+        goes_same word _ (run at (tree.Set slot e Done)) slots slots old new (Err why) (run-Set at slot e Done)
+        (goes_stop word (value at e) (λ (v : ℤ) (s : State). run at Done (assign slot v s)) slots slots old new why goes)
+
+    pub set_steps : (v : ℤ) (slots' : List ℤ) → slots' ≡ slice_set slots slot v → Made word (value at e) slots slots old new (Returned v) → Steps word at (run at (tree.Set slot e Done)) slots slots' old new [] [] []
+    set_steps v slots' is made =
+        subst (λ (l : List ℤ). Steps word at (run at (tree.Set slot e Done)) slots l old new [] [] []) (sym is)
+        (steps_same word at _ (run at (tree.Set slot e Done)) slots (slice_set slots slot v) old new [] [] [] (run-Set at slot e Done)
+        (steps_then word at (value at e) (λ (x : ℤ) (s : State). run at Done (assign slot x s)) slots slots (slice_set slots slot v) old new new [] [] [] v made
+        (steps_assign word at slot v slots new)))
+
+  -- ---- a store
+  module _ (array : ℕ) (index e : Term) (line site : ℕ) (old : Progress) where
+    abbrev pub store : Part
+    store = run at (tree.Store array index e line site Done)
+
+    abbrev of_value : ℤ → ℤ → Part
+    of_value i v s = after (changed kind.Write (element_at at.arrays array i) v line site s) (run at Done)
+
+    abbrev of_index : ℤ → Part
+    of_index i s = and_then (value at e s) (of_value i)
+
+    store_is : (s : State) → store s ≡ and_then (value at index s) of_index
+    store_is = run-changing Store at array index e line site Done
+
+    pub index_stops : (mid : Progress) (why : Halt) → Goes word (value at index) slots slots old mid (Err why) → Goes word store slots slots old mid (Err why)
+    index_stops mid why goes = goes_same word _ store slots slots old mid (Err why) store_is (goes_stop word (value at index) of_index slots slots old mid why goes)
+
+    module _ (mid new : Progress) (i : ℤ) (first : Made word (value at index) slots slots old mid (Returned i)) where
+      from_index : (last : Progress) (r : Result (Unit {0}) Halt) → Goes word (of_index i) slots slots mid last r → Goes word store slots slots old last r
+      from_index last r goes =
+          goes_same word _ store slots slots old last r store_is (goes_then word (value at index) of_index slots slots slots old mid last i first r goes)
+
+      pub value_stops : (why : Halt) → Goes word (value at e) slots slots mid new (Err why) → Goes word store slots slots old new (Err why)
+      value_stops why goes = from_index new (Err why) (goes_stop word (value at e) (of_value i) slots slots mid new why goes)
+
+      module _ (v : ℤ) (second : Made word (value at e) slots slots mid new (Returned v)) where
+        from_value : (last : Progress) (r : Result (Unit {0}) Halt) → Goes word (changed kind.Write (element_at at.arrays array i) v line site) slots slots new last r → Goes word store slots slots old last r
+        from_value last r goes =
+            from_index last r
+            (goes_then word (value at e) (of_value i) slots slots slots mid new last v second r
+            (goes_same word (changed kind.Write (element_at at.arrays array i) v line site) (of_value i v) slots slots new last r
+            (λ s. after-done at (changed kind.Write (element_at at.arrays array i) v line site s)) goes))
+
+        pub stores_none : element_at at.arrays array i ≡ None → Goes word store slots slots old new (Err (halt.Index line))
+        stores_none is =
+            from_value new (Err (halt.Index line))
+            (made_still word (changed kind.Write (element_at at.arrays array i) v line site) slots new (Halted model.Index line)
+            (makes-stays (changed kind.Write (element_at at.arrays array i) v line site) slots (log_limit - new.count) (Halted model.Index line)
+            (λ s same full. ap (λ o. changed kind.Write o v line site s) is)))
+
+        pub stores_some : (found : Element) (last : Progress) (r : Result (Unit {0}) Halt) → element_at at.arrays array i ≡ Some (meant found)
+            → Goes word (put (access kind.Write (meant found) site line (fitted v found.width))) slots slots new last r → Goes word store slots slots old last r
+        stores_some found last r is goes =
+            from_value last r
+            (goes_same word (put (access kind.Write (meant found) site line (fitted v found.width))) (changed kind.Write (element_at at.arrays array i) v line site) slots slots new last r
+            (λ s. ap (λ o. changed kind.Write o v line site s) is) goes)
+
+  -- ---- a test
+  module _ (test : Term) (if_true if_false : Code) (old new : Progress) where
+    abbrev test_part : Part
+    test_part = run at (tree.If test if_true if_false Done)
+
+    abbrev of_test : ℤ → Part
+    of_test v s = after (branch v (run at if_true) (run at if_false) s) (run at Done)
+
+    pub test_stops : (why : Halt) → Goes word (value at test) slots slots old new (Err why) → Goes word test_part slots slots old new (Err why)
+    test_stops why goes = goes_same word _ test_part slots slots old new (Err why) (run-If at test if_true if_false Done) (goes_stop word (value at test) of_test slots slots old new why goes)
+
+    branch_is : (v : ℤ) (code : Code) → (v ≡ pos 0 → code ≡ if_false) → ((v ≡ pos 0 → ⊥) → code ≡ if_true) → (s : State) → branch v (run at if_true) (run at if_false) s ≡ run at code s
+    branch_is (pos zero) code zero_is other s = ap (λ (c : Code). run at c s) (sym (zero_is refl))
+    branch_is (pos (suc n)) code zero_is other s = ap (λ (c : Code). run at c s) (sym (other (λ is. cc)))
+    branch_is (negsuc n) code zero_is other s = ap (λ (c : Code). run at c s) (sym (other (λ is. cc)))
+
+    pub test_steps : (v : ℤ) (f : Frame) (code : Code) → ((s : State) → part_of at f s ≡ run at code s) → (v ≡ pos 0 → code ≡ if_false) → ((v ≡ pos 0 → ⊥) → code ≡ if_true)
+        → Made word (value at test) slots slots old new (Returned v) → Steps word at test_part slots slots old new (f ∷ []) [] []
+    test_steps v f code frame_is zero_is other made =
+        steps_same word at _ test_part slots slots old new (f ∷ []) [] [] (run-If at test if_true if_false Done)
+        (steps_then word at (value at test) of_test slots slots slots old new new (f ∷ []) [] [] v made
+        (steps_push word at (of_test v) slots new (f ∷ [])
+        (λ then' s. ap (λ o. after o then') (after-done at (branch v (run at if_true) (run at if_false) s) ∙ branch_is v code zero_is other s ∙ sym (frame_is s)))))
+
+  -- ---- a loop
+  module _ (slot : ℕ) (from to : Term) (body : Code) (old mid : Progress) where
+    abbrev loop_part : Part
+    loop_part = run at (tree.Loop slot from to body Done)
+
+    abbrev of_bounds : ℤ → ℤ → Part
+    of_bounds a b s = after (turns (total_of a b) 0 (turn_from at body slot a) s) (run at Done)
+
+    abbrev of_from : ℤ → Part
+    of_from a s = and_then (value at to s) (of_bounds a)
+
+    pub from_stops : (why : Halt) → Goes word (value at from) slots slots old mid (Err why) → Goes word loop_part slots slots old mid (Err why)
+    from_stops why goes = goes_same word _ loop_part slots slots old mid (Err why) (run-Loop at slot from to body Done) (goes_stop word (value at from) of_from slots slots old mid why goes)
+
+    module _ (new : Progress) (a : ℤ) (first : Made word (value at from) slots slots old mid (Returned a)) where
+      pub to_stops : (why : Halt) → Goes word (value at to) slots slots mid new (Err why) → Goes word loop_part slots slots old new (Err why)
+      to_stops why goes =
+          goes_same word _ loop_part slots slots old new (Err why) (run-Loop at slot from to body Done)
+          (goes_then word (value at from) of_from slots slots slots old mid new a first (Err why) (goes_stop word (value at to) (of_bounds a) slots slots mid new why goes))
+
+      pub loop_steps : (b : ℤ) (f : Frame) → ((s : State) → part_of at f s ≡ turns (total_of a b) 0 (turn_from at body slot a) s) → Made word (value at to) slots slots mid new (Returned b)
+          → Steps word at loop_part slots slots old new (f ∷ []) [] []
+      loop_steps b f frame_is second =
+          steps_same word at _ loop_part slots slots old new (f ∷ []) [] [] (run-Loop at slot from to body Done)
+          (steps_then word at (value at from) of_from slots slots slots old mid new (f ∷ []) [] [] a first
+          (steps_then word at (value at to) (of_bounds a) slots slots slots mid new new (f ∷ []) [] [] b second
+          (steps_push word at (of_bounds a b) slots new (f ∷ [])
+          (λ then' s. ap (λ o. after o then') (after-done at (turns (total_of a b) 0 (turn_from at body slot a) s) ∙ sym (frame_is s))))))
+
+  -- ---- a region
+  module _ (team : TeamTree) (old new : Progress) (room : HasRoom old) (logs : Logs (event kind.Region team.line 0 team.span) old new) where
+    abbrev fork_part : Part
+    fork_part = run at (tree.Parallel team.span team.line team.end team.body Done)
+
+    abbrev after_fork : Part → Part
+    after_fork then' s = after (run at Done (forked team s)) then'
+
+    pub fork_steps : Steps word at fork_part slots slots old new [] (event kind.Region team.line 0 team.span ∷ []) (record { team = team; slots = slots } ∷ [])
+    fork_steps = record {
+      makes = adds_mark word at (event kind.Region team.line 0 team.span) slots old new room logs tt refl refl refl;
+      leads = λ then' records before reads chunks.
+          ap (λ o. after o then') (run-Parallel at team.span team.line team.end team.body Done (state_with slots records before (log_limit - old.count) reads chunks))
+          ∙ after-after (put (event kind.Region team.line 0 team.span) (state_with slots records before (log_limit - old.count) reads chunks)) (λ s. run at Done (forked team s)) then'
+          ∙ leads_put word at (event kind.Region team.line 0 team.span) slots old new room logs tt refl refl refl (after_fork then') records before reads chunks
+          ∙ ap (λ o. after o then') (run-Done at (state_with slots (records ++ event kind.Region team.line 0 team.span ∷ []) ((before ++ []) ++ record { team = team; slots = slots } ∷ []) (log_limit - new.count) reads chunks))
+          ∙ ap (λ (l : List Fork). then' (state_with slots (records ++ event kind.Region team.line 0 team.span ∷ []) (l ++ record { team = team; slots = slots } ∷ []) (log_limit - new.count) reads chunks)) (append-nil before);
+    }
+
+-- a mark that isn't put
+pub halts_marks : (word : ℕ → ℕ) (due : Record) (part : Part) (old new : Stand) (why : Halt) → new.slots ≡ old.slots
+    → ((s : State) (room : s.room ≡ 0) → part s ≡ model.Stops model.LogFull due.line s)
+    → Marks due old.progress new.progress (Err why) → HaltsSo word part old new why
+halts_marks word due part old new (halt.DivZero line) slots full m = absurd m
+halts_marks word due part old new (halt.Index line) slots full m = absurd m
+halts_marks word due part old new (halt.LogFull line) slots full m =
+    let none : log_limit - old.progress.count ≡ 0 = (let h = m.1 in omega arith) in
+    subst (λ (n : ℕ). Made word part old.slots new.slots old.progress new.progress (Halted model.LogFull n)) (sym m.0)
+    (subst (λ (l : List ℤ). Made word part old.slots l old.progress new.progress (Halted model.LogFull due.line)) (sym slots)
+    (subst (λ (p : Progress). Made word part old.slots old.slots old.progress p (Halted model.LogFull due.line)) (sym m.2)
+    (made_still word part old.slots old.progress (Halted model.LogFull due.line)
+    (makes-stays part old.slots (log_limit - old.progress.count) (Halted model.LogFull due.line) (λ s same room. full s (room ∙ none))))))
+halts_marks word due part old new halt.Long slots full m = m
+halts_marks word due part old new halt.Refused slots full m = tt
+halts_marks word due part old new halt.Memory slots full m = tt
+
+-- ---- statements of a list
+
+module _ (word : ℕ → ℕ) (at : Site) (part later : Part) where
+  abbrev both : Part
+  both s = after (part s) later
+
+  after_halts : (why : model.Stop) (line : ℕ) (slots slots' : List ℤ) (old new : Progress) → Made word part slots slots' old new (Halted why line) → Made word both slots slots' old new (Halted why line)
+  after_halts why line slots slots' old new m = record {
+    added = m.added;
+    plain = m.plain;
+    gains = m.gains;
+    makes = makes-after_halt part later slots (log_limit - old.count) (adds slots' m.added) why line m.makes;
+  }
+
+  pub halts_first : (old old' new : Stand) (why : Halt) → old'.slots ≡ old.slots → old'.progress ≡ old.progress → HaltsSo word part old' new why → HaltsSo word both old new why
+  halts_first old old' new (halt.DivZero line) slots progress m = subst (λ (p : Progress). Made word both old.slots new.slots p new.progress (Halted model.DivZero line)) progress (subst (λ (l : List ℤ). Made word both l new.slots old'.progress new.progress (Halted model.DivZero line)) slots (after_halts model.DivZero line old'.slots new.slots old'.progress new.progress m))
+  halts_first old old' new (halt.Index line) slots progress m = subst (λ (p : Progress). Made word both old.slots new.slots p new.progress (Halted model.Index line)) progress (subst (λ (l : List ℤ). Made word both l new.slots old'.progress new.progress (Halted model.Index line)) slots (after_halts model.Index line old'.slots new.slots old'.progress new.progress m))
+  halts_first old old' new (halt.LogFull line) slots progress m = subst (λ (p : Progress). Made word both old.slots new.slots p new.progress (Halted model.LogFull line)) progress (subst (λ (l : List ℤ). Made word both l new.slots old'.progress new.progress (Halted model.LogFull line)) slots (after_halts model.LogFull line old'.slots new.slots old'.progress new.progress m))
+  halts_first old old' new halt.Long slots progress m = m
+  halts_first old old' new halt.Refused slots progress m = tt
+  halts_first old old' new halt.Memory slots progress m = tt
+
+  -- the part is executed with the frame of what comes later below it
+  pub stepped_first : (f : Frame) (old old' new : Stand) (mark : List Record) (forks : List Fork) → ((s : State) → part_of at f s ≡ later s) → old.at ≡ at → old' ≡ record old { rest = old.rest ++ f ∷ [] }
+      → Stepped word part old' new mark forks → Stepped word both old new mark forks
+  stepped_first f old old' new mark forks is at_is with_f x =
+      let y = subst (λ (z : Stand). Stepped word part z new mark forks) with_f x in
+      record {
+        at = y.at;
+        end = y.end;
+        pushed = f ∷ y.pushed;
+        rest = y.rest ∙ append_assoc old.rest (f ∷ []) y.pushed;
+        steps = record {
+          makes = y.steps.makes;
+          leads = λ then' records before reads chunks.
+              let st = state_with old.slots records before (log_limit - old.progress.count) (reads_of y.steps.makes.added ++ reads) (chunks_of y.steps.makes.added ++ chunks) in
+              after-after (part st) later then'
+              ∙ after-same (part st) (λ t. after (later t) then') (λ t. after (part_of old.at f t) then')
+              (λ t. ap (λ o. after o then') (sym (is t) ∙ ap (λ (w : Site). part_of w f t) (sym at_is)))
+              ∙ y.steps.leads (λ t. after (part_of old.at f t) then') records before reads chunks;
+        };
+      }
+
+  pub takes_first : (f : Frame) (old old' new : Stand) (r : Result (Option Pause) Halt) → ((s : State) → part_of at f s ≡ later s) → old.at ≡ at → old' ≡ record old { rest = old.rest ++ f ∷ [] }
+      → Takes word part old' new r → Takes word both old new r
+  takes_first f old old' new (Ok None) is at_is with_f x = stepped_first f old old' new [] [] is at_is with_f x
+  takes_first f old old' new (Ok (Some pause.Barrier)) is at_is with_f x = (x.0, stepped_first f old old' new (event kind.Barrier x.0 0 0 ∷ []) [] is at_is with_f x.1)
+  takes_first f old old' new (Ok (Some (pause.Fork team))) is at_is with_f x =
+      stepped_first f old old' new (event kind.Region team.now.line 0 team.now.span ∷ []) (record { team = team_of team.now; slots = new.slots } ∷ []) is at_is with_f x
+  takes_first f old old' new (Ok (Some pause.Ended)) is at_is with_f x = x
+  takes_first f old old' new (Err why) is at_is with_f x = halts_first old old' new why (ap (λ (z : Stand). z.slots) with_f) (ap (λ (z : Stand). z.progress) with_f) x
+
+-- the same part, told otherwise
+module _ (word : ℕ → ℕ) (part other : Part) (same : (s : State) → other s ≡ part s) where
+  stepped_same : (old new : Stand) (mark : List Record) (forks : List Fork) → Stepped word part old new mark forks → Stepped word other old new mark forks
+  stepped_same old new mark forks x = record {
+    at = x.at;
+    end = x.end;
+    pushed = x.pushed;
+    rest = x.rest;
+    steps = steps_same word old.at part other old.slots new.slots old.progress new.progress x.pushed mark forks same x.steps;
+  }
+
+  pub halts_same : (old new : Stand) (why : Halt) → HaltsSo word part old new why → HaltsSo word other old new why
+  halts_same old new (halt.DivZero line) m = made_same word part other old.slots new.slots old.progress new.progress (Halted model.DivZero line) same m
+  halts_same old new (halt.Index line) m = made_same word part other old.slots new.slots old.progress new.progress (Halted model.Index line) same m
+  halts_same old new (halt.LogFull line) m = made_same word part other old.slots new.slots old.progress new.progress (Halted model.LogFull line) same m
+  halts_same old new halt.Long m = m
+  halts_same old new halt.Refused m = tt
+  halts_same old new halt.Memory m = tt
+
+  pub takes_same : (old new : Stand) (r : Result (Option Pause) Halt) → Takes word part old new r → Takes word other old new r
+  takes_same old new (Ok None) x = stepped_same old new [] [] x
+  takes_same old new (Ok (Some pause.Barrier)) x = (x.0, stepped_same old new (event kind.Barrier x.0 0 0 ∷ []) [] x.1)
+  takes_same old new (Ok (Some (pause.Fork team))) x = stepped_same old new (event kind.Region team.now.line 0 team.now.span ∷ []) (record { team = team_of team.now; slots = new.slots } ∷ []) x
+  takes_same old new (Ok (Some pause.Ended)) x = x
+  takes_same old new (Err why) x = halts_same old new why x

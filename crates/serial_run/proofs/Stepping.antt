@@ -1,0 +1,86 @@
+-- One record of a task, and where there is no room for it.
+use Rattle.std.proofs.Common.{◌≡◌, inl, inr, refl, ap, sym, ◌∙◌, subst, ℕ, zero, ◌+◌, ◌-◌, ◌<◌, ◌≤◌, List, [], ◌∷◌, ◌++◌, length, ℤ, Result, Ok, Err, None, w64, FitsSigned, arith}
+use Rattle.std.specs.Prelude.{slice_index, slice_set, IfOk, IfErr}
+use Rattle.std.specs.List.{flat_map}
+use Rattle.std.proofs.lemmas.List.{append-nil}
+use Rattle.log_format.specs.declared.record.Record.{Record}
+use Rattle.log_format.specs.declared.record.Kind.{Kind}
+use Rattle.log_format.specs.declared.record.Kind.TheVariants as kind
+use Rattle.log_format.specs.Fitting.{IsWidth, fitted}
+use Rattle.log_format.specs.Spelling.{spelling}
+use Rattle.kernel_syntax.proofs.Fitting.{fitted-fitted, fitted_fits}
+use Rattle.kernel_model.specs.State as model
+use Rattle.kernel_model.specs.State.{State, Outcome, put, to_bits, from_bits, value_read, number_drawn}
+use Rattle.kernel_model.specs.Trace.{log_limit}
+use Rattle.kernel_model.specs.Value.{access, read}
+use Rattle.kernel_model.specs.Effect.{Returned, Halted, Makes, adds}
+use Rattle.kernel_model.proofs.Effects.{makes-put, makes-put_full, makes-read, makes-read_full}
+use Rattle.serial_run.specs.declared.halt.Halt.{Halt}
+use Rattle.serial_run.specs.declared.halt.Halt.TheVariants as halt
+use Rattle.serial_run.specs.declared.place.Element.{Element}
+use Rattle.serial_run.specs.Going.{Progress, FindsValue, words_after, Gains, Made, Goes, Logs, HasRoom, MakesRoom, Marks}
+use Rattle.serial_run.specs.Placing.{meant}
+use Rattle.serial_run.proofs.Following.{made_still}
+
+-- no room
+module _ {A : Type 0} (word : ℕ → ℕ) (part : State → Outcome A) (slots : List ℤ) (p : Progress) (line : ℕ) (full : Makes part slots 0 (adds slots []) (Halted model.LogFull line)) where
+  pub goes_full : (why : Halt) → MakesRoom p line (Err why) → Goes word part slots slots p p (Err why)
+  goes_full (halt.DivZero at) m = absurd m
+  goes_full (halt.Index at) m = absurd m
+  goes_full (halt.LogFull at) m =
+      subst (λ (n : ℕ). Made word part slots slots p p (Halted model.LogFull n)) (sym m.0)
+      (made_still word part slots p (Halted model.LogFull line)
+      (subst (λ (room : ℕ). Makes part slots room (adds slots []) (Halted model.LogFull line)) (let h = m.1 in let e : 0 ≡ log_limit - p.count = omega arith in e) full))
+  goes_full halt.Long m = m
+  goes_full halt.Refused m = absurd m
+  goes_full halt.Memory m = absurd m
+
+-- one record
+pub gains_one : (word : ℕ → ℕ) (due : Record) (old new : Progress) (after : List ℕ) → FindsValue word due.kind due old.words → after ≡ words_after word due.kind due old.words
+    → Logs due old new → Gains word old (record new { words = after }) (due ∷ [])
+gains_one word due old new after finds is logs = record {
+  log = logs.log ∙ ap (λ (l : List ℕ). old.log ++ l) (sym (append-nil (spelling due)));
+  count = logs.count ∙ omega arith;
+  finds = (finds, is);
+  left = (let e : new.left + length (due ∷ []) ≡ new.left + 1 = omega arith in e) ∙ logs.left;
+}
+
+module _ (word : ℕ → ℕ) (slots : List ℤ) (old new : Progress) (room : HasRoom old) where
+  some : 0 < log_limit - old.count
+  some = let h = room.below in omega arith
+
+  module _ (e : Element) (wide : IsWidth e.width) (stands : word e.addr ≡ e.word) (line site : ℕ) where
+    pub read_made : (bits : ℕ) → bits ≡ slice_index old.words e.word
+        → Logs (access kind.Read (meant e) site line (fitted (from_bits bits) e.width)) old new → Made word (read (meant e) site line) slots slots old new (Returned (fitted (from_bits bits) e.width))
+    read_made bits is logs = record {
+      added = access kind.Read (meant e) site line (fitted (from_bits bits) e.width) ∷ [];
+      plain = (inl refl, tt);
+      gains =
+          gains_one word (access kind.Read (meant e) site line (fitted (from_bits bits) e.width)) old new new.words
+          (ap (λ (b : ℕ). to_bits (fitted (from_bits b) e.width)) (is ∙ ap (λ (w : ℕ). slice_index old.words w) (sym stands))) logs.words logs;
+      makes = makes-read (meant e) site line slots (log_limit - old.count) (fitted (from_bits bits) e.width) some (fitted-fitted (from_bits bits) e.width wide) (fitted_fits (from_bits bits) e.width wide);
+    }
+
+    pub store_made : (v : ℤ) (after : List ℕ) → after ≡ slice_set old.words e.word (to_bits v) → Logs (access kind.Write (meant e) site line v) old new
+        → Made word (put (access kind.Write (meant e) site line v)) slots slots old (record new { words = after }) (Returned tt)
+    store_made v after is logs = record {
+      added = access kind.Write (meant e) site line v ∷ [];
+      plain = (inr refl, tt);
+      gains =
+          gains_one word (access kind.Write (meant e) site line v) old new after tt
+          (is ∙ ap (λ (w : ℕ). slice_set old.words w (to_bits v)) (sym stands)) logs;
+      makes = makes-put (access kind.Write (meant e) site line v) slots (log_limit - old.count) some refl refl;
+    }
+
+-- a record that is no access
+pub marks_unready : (due : Record) (p : Progress) (why : Halt) → MakesRoom p due.line (Err why) → Marks due p p (Err why)
+marks_unready due p (halt.DivZero at) m = absurd m
+marks_unready due p (halt.Index at) m = absurd m
+marks_unready due p (halt.LogFull at) m = (m.0, m.1, refl)
+marks_unready due p halt.Long m = m
+marks_unready due p halt.Refused m = absurd m
+marks_unready due p halt.Memory m = tt
+
+pub marks_spelled : (due : Record) (old new : Progress) (r : Result (Unit {0}) Halt) → HasRoom old → IfOk r (λ _. Logs due old new) → IfErr r (λ e. e ≡ halt.Memory) → Marks due old new r
+marks_spelled due old new (Ok _) room ok err = (room, ok)
+marks_spelled due old new (Err e) room ok err = subst (λ (x : Halt). Marks due old new (Err x)) (sym err) tt

@@ -1,0 +1,38 @@
+use Rattle.std.proofs.Common.{Err, refl, sym, subst, []}
+use Rattle.std.proofs.lemmas.Result.{err_from_is_err_and}
+use Rattle.std.proofs.lemmas.List.{append-nil}
+use Rattle.log_format.specs.declared.record.Kind.TheVariants as kind
+use Rattle.log_format.specs.declared.record.Record.{Record}
+use Rattle.kernel_model.specs.State.{put, event}
+use Rattle.kernel_model.proofs.Equations.{put-full}
+use Rattle.serial_run.specs.Going.{Logs, Marks, progress}
+use Rattle.serial_run.specs.Stepping.{stand}
+use Rattle.serial_run.proofs.Leading.{steps_put}
+use Rattle.serial_run.proofs.Statements.{halts_marks}
+use Rattle.serial_run.proofs.lane.Lane.meet.Goals as goal
+
+pub returns-in_err-put : goal.returns-in_err-put
+returns-in_err-put c =
+    let p = err_from_is_err_and c.from_residual.result c.from_residual.ensures.1 in
+    let x = stand c.args.self.now c.args.memory.now in
+    let due = event kind.Barrier c.args.line 0 0 in
+    λ word. rw (p.1, p.2)
+    (halts_marks word due (put due) x (record x { progress = progress c.put.new.self c.put.new.memory }) c.in_err-put.field-0.0 refl (put-full due)
+    (subst (λ (r : Record). Marks r x.progress (progress c.put.new.self c.put.new.memory) (Err c.in_err-put.field-0.0)) c.event.ensures c.in_err-put.ensures))
+
+pub returns : goal.returns
+returns c =
+    let x = stand c.args.self.now c.args.memory.now in
+    let due = event kind.Barrier c.args.line 0 0 in
+    λ word. (
+      c.args.line,
+      record {
+        at = refl;
+        end = refl;
+        pushed = [];
+        rest = sym (append-nil x.rest);
+        steps =
+            steps_put word x.at due x.slots x.progress (progress c.put.new.self c.put.new.memory) c.in_ok-put.ensures.0
+            (subst (λ (r : Record). Logs r x.progress (progress c.put.new.self c.put.new.memory)) c.event.ensures c.in_ok-put.ensures.1) tt refl refl refl;
+      },
+    )

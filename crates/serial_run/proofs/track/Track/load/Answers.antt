@@ -1,0 +1,18 @@
+use Rattle.std.proofs.Common.{ap, sym, ◌∙◌, ℤ, w64}
+use Rattle.std.proofs.lemmas.Int.{to_z-of_z}
+use Rattle.kernel_model.specs.Value.{element_at}
+use Rattle.serial_run.specs.Going.{progress}
+use Rattle.serial_run.specs.Placing.{meant}
+use Rattle.serial_run.proofs.Values.{loads_none, loads_some}
+use Rattle.serial_run.proofs.track.Track.load.Goals as goal
+
+pub returns-in_default : goal.returns-in_default
+returns-in_default c = λ word slots tells.
+    loads_none word c.args.place.now slots (element_at c.args.place.now.arrays c.args.array c.args.index) c.args.line c.args.site (progress c.args.self.now c.args.memory.now)
+    (ap (λ (z : ℤ). element_at c.args.place.now.arrays c.args.array z) (sym (to_z-of_z w64 c.args.index c.ranges.index)) ∙ c.in_default.ensures)
+
+pub returns : goal.returns
+returns c = λ word slots tells.
+    loads_some word c.args.place.now slots (element_at c.args.place.now.arrays c.args.array c.args.index) (meant c.in-Some.element) c.args.line c.args.site (progress c.args.self.now c.args.memory.now) (progress c.read.new.self c.read.new.memory) c.read.result
+    (ap (λ (z : ℤ). element_at c.args.place.now.arrays c.args.array z) (sym (to_z-of_z w64 c.args.index c.ranges.index)) ∙ c.in-Some.ensures.is)
+    (c.read.ensures word slots (c.in-Some.ensures.word word tells))

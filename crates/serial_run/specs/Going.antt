@@ -1,0 +1,96 @@
+-- How a task goes on over a vector of words: what its records and its locals have to do with the meaning of what it executes.
+use Rattle.std.specs.Prelude.{◌≡◌, ◌⊎◌, ℕ, ◌+◌, ◌-◌, ◌<◌, ◌≤◌, List, [], ◌∷◌, ◌++◌, length, slice_index, slice_set, ℤ, Result, Ok, Err}
+use Rattle.std.specs.List.{flat_map}
+use Rattle.log_format.specs.declared.record.Record.{Record}
+use Rattle.log_format.specs.declared.record.Kind.{Kind}
+use Rattle.log_format.specs.declared.record.Kind.TheVariants as kind
+use Rattle.log_format.specs.Fitting.{fitted}
+use Rattle.log_format.specs.Spelling.{spelling}
+use Rattle.kernel_model.specs.State as model
+use Rattle.kernel_model.specs.State.{State, Outcome, to_bits, from_bits}
+use Rattle.kernel_model.specs.Trace.{log_limit}
+use Rattle.kernel_model.specs.Effect.{Finish, Returned, Halted, Makes, adds}
+use Rattle.serial_run.specs.declared.halt.Halt.{Halt}
+use Rattle.serial_run.specs.declared.halt.Halt.TheVariants as halt
+use Rattle.serial_run.specs.declared.memory.Memory.{Memory}
+use Rattle.serial_run.specs.declared.track.Track.{Track}
+
+-- what changes with each record: the task's log, the words of all elements, and how many records may still be made
+pub record Progress : Type 0 where
+  pub log : List ℕ
+  pub count : ℕ
+  pub words : List ℕ
+  pub left : ℕ
+
+abbrev pub progress : Track → Memory → Progress
+progress track memory = record { log = track.log.items; count = track.count; words = memory.words.items; left = memory.left }
+
+-- a read has the value of the element in its word
+abbrev pub FindsValue : (ℕ → ℕ) → Kind → Record → List ℕ → Type 0
+FindsValue word kind.Read r words = r.value ≡ to_bits (fitted (from_bits (slice_index words (word r.addr))) r.size)
+FindsValue word _ r words = Unit {0}
+
+-- a write leaves its value there
+abbrev pub words_after : (ℕ → ℕ) → Kind → Record → List ℕ → List ℕ
+words_after word kind.Write r words = slice_set words (word r.addr) r.value
+words_after word _ r words = words
+
+-- the records find the words so, one after another, and leave them so; `word` tells the word of an address
+abbrev pub Finds : (ℕ → ℕ) → List Record → List ℕ → List ℕ → Type 0
+Finds word [] old new = new ≡ old
+Finds word (r ∷ rs) old new = FindsValue word r.kind r old × Finds word rs (words_after word r.kind r old) new
+
+-- all are records of accesses that read or write
+abbrev pub ArePlain : List Record → Type 0
+ArePlain [] = Unit {0}
+ArePlain (r ∷ rs) = ((r.kind ≡ kind.Read) ⊎ (r.kind ≡ kind.Write)) × ArePlain rs
+
+-- these records were made: they are in the log, and found the words as they stood
+pub record Gains (word : ℕ → ℕ) (old new : Progress) (added : List Record) : Type 0 where
+  pub log : new.log ≡ old.log ++ flat_map spelling added
+  pub count : new.count ≡ old.count + length added
+  pub finds : Finds word added old.words new.words
+  pub left : new.left + length added ≡ old.left
+
+-- the task executed the part; it ends so and leaves these locals
+pub record Made {A : Type 0} (word : ℕ → ℕ) (part : State → Outcome A) (slots slots' : List ℤ) (old new : Progress) (finish : Finish A) : Type 0 where
+  pub added : List Record
+  pub plain : ArePlain added
+  pub gains : Gains word old new added
+  pub makes : Makes part slots (log_limit - old.count) (adds slots' added) finish
+
+-- how the execution of a part ends, by what is answered
+abbrev pub Goes : {A : Type 0} → (ℕ → ℕ) → (State → Outcome A) → List ℤ → List ℤ → Progress → Progress → Result A Halt → Type 0
+Goes word part slots slots' old new (Ok v) = Made word part slots slots' old new (Returned v)
+Goes word part slots slots' old new (Err (halt.DivZero line)) = Made word part slots slots' old new (Halted model.DivZero line)
+Goes word part slots slots' old new (Err (halt.Index line)) = Made word part slots slots' old new (Halted model.Index line)
+Goes word part slots slots' old new (Err (halt.LogFull line)) = Made word part slots slots' old new (Halted model.LogFull line)
+Goes word part slots slots' old new (Err halt.Long) = new.left ≡ 0
+Goes word part slots slots' old new (Err _) = Unit {0}
+
+-- one record was spelled, and the words are as they were
+pub record Logs (due : Record) (old new : Progress) : Type 0 where
+  pub log : new.log ≡ old.log ++ spelling due
+  pub count : new.count ≡ old.count + 1
+  pub words : new.words ≡ old.words
+  pub left : new.left + 1 ≡ old.left
+
+-- one record more may be made
+pub record HasRoom (p : Progress) : Type 0 where
+  pub below : p.count < log_limit
+  pub some : 0 < p.left
+
+-- or why it may not be, where its line is this one
+abbrev pub MakesRoom : Progress → ℕ → Result (Unit {0}) Halt → Type 0
+MakesRoom p line (Ok _) = HasRoom p
+MakesRoom p line (Err (halt.LogFull at_line)) = (at_line ≡ line) × (log_limit ≤ p.count)
+MakesRoom p line (Err halt.Long) = p.left ≡ 0
+MakesRoom p line (Err _) = ⊥
+
+-- the record was put, or why not
+abbrev pub Marks : Record → Progress → Progress → Result (Unit {0}) Halt → Type 0
+Marks due old new (Ok _) = HasRoom old × Logs due old new
+Marks due old new (Err (halt.LogFull line)) = (line ≡ due.line) × (log_limit ≤ old.count) × (new ≡ old)
+Marks due old new (Err halt.Long) = new.left ≡ 0
+Marks due old new (Err halt.Memory) = Unit {0}
+Marks due old new (Err _) = ⊥

@@ -1,0 +1,5 @@
+pub mod Placing
+pub mod Going
+pub mod Resting
+pub mod Stepping
+pub mod Coming
