@@ -1,10 +1,11 @@
 //! A second checker of folders, plain and slow, that follows docs/FORMATS.md and docs/MODEL.md and shares no code with the program: rules are
 //! tried one by one, and happens-before is reachability in the graph of its edges. It makes random small folders, damages some of them, and
-//! compares what `check` and `show` of the program print, and their status, with what it finds itself.
+//! compares what `check`, `show`, `explain` and `confirm` of the program print, and their status, with what it finds itself.
 //!
 //!     rustc -O -o /tmp/folders bench/plain/folders.rs
 //!     /tmp/folders SWORD SEED COUNT          compares so many folders, made in a memory file system
-//!     /tmp/folders check DIR                 prints what it finds in one folder
+//!     /tmp/folders WORD DIR ..               answers check, show, explain or confirm itself
+//!     /tmp/folders make DIR SEED             makes one such folder
 use std::collections::{BTreeSet, HashMap};
 use std::fmt::Write as _;
 use std::path::Path;
@@ -348,7 +349,17 @@ fn is_conflict(one: &Record, other: &Record) -> bool {
     meet && changes && !(one.kind == UPDATE && other.kind == UPDATE)
 }
 
-fn race_pairs(logs: &Logs) -> BTreeSet<(u32, u32)> {
+/// An access of some log, the mutexes held at it, and what it reaches.
+struct Access<'a> {
+    row: usize,
+    number: usize,
+    node: usize,
+    record: &'a Record,
+    held: Vec<u64>,
+    reached: Vec<bool>,
+}
+
+fn accesses(logs: &Logs) -> Vec<Access<'_>> {
     let mut starts = vec![0];
     for (_, records) in logs {
         starts.push(starts.last().unwrap() + records.len());
@@ -357,17 +368,27 @@ fn race_pairs(logs: &Logs) -> BTreeSet<(u32, u32)> {
     let mut accesses = Vec::new();
     for (log, (_, records)) in logs.iter().enumerate() {
         for (at, record) in records.iter().enumerate().filter(|(_, record)| record.is_access()) {
-            accesses.push((*record, held(&records[..at]), reached(&edges, starts[log] + at), starts[log] + at));
+            let node = starts[log] + at;
+            accesses.push(Access { row: log + 1, number: at + 1, node, record, held: held(&records[..at]), reached: reached(&edges, node) });
         }
     }
+    accesses
+}
+
+fn is_race(one: &Access, other: &Access) -> bool {
+    let are_ordered = one.reached[other.node] || other.reached[one.node];
+    !are_ordered && is_conflict(one.record, other.record) && !one.held.iter().any(|mutex| other.held.contains(mutex))
+}
+
+fn lines(one: &Access, other: &Access) -> (u32, u32) {
+    (one.record.line.min(other.record.line), one.record.line.max(other.record.line))
+}
+
+fn race_pairs(logs: &Logs) -> BTreeSet<(u32, u32)> {
+    let accesses = accesses(logs);
     let mut pairs = BTreeSet::new();
-    for (one, held, reach, at) in &accesses {
-        for (other, other_held, other_reach, other_at) in &accesses {
-            let are_ordered = reach[*other_at] || other_reach[*at];
-            if !are_ordered && is_conflict(one, other) && !held.iter().any(|mutex| other_held.contains(mutex)) {
-                pairs.insert((one.line.min(other.line), one.line.max(other.line)));
-            }
-        }
+    for one in &accesses {
+        pairs.extend(accesses.iter().filter(|other| is_race(one, other)).map(|other| lines(one, other)));
     }
     pairs
 }
@@ -386,6 +407,37 @@ fn check(files: &Files) -> (i32, String) {
     }
     writeln!(text, "races {}", pairs.len()).unwrap();
     (i32::from(!pairs.is_empty()), text)
+}
+
+fn explain(files: &Files, low: u32, high: u32) -> (i32, String) {
+    let logs = match read_folder(files) {
+        Ok(logs) => logs,
+        Err(text) => return (4, text),
+    };
+    let accesses = accesses(&logs);
+    for (at, one) in accesses.iter().enumerate() {
+        for other in &accesses[at..] {
+            if lines(one, other) == (low, high) && is_race(one, other) {
+                let place = |access: &Access| format!("row {} {} record {}", access.row, name_of(&logs[access.row - 1].0), access.number);
+                let byte = one.record.addr.max(other.record.addr);
+                return (1, format!("race {} {} byte {byte}\n", place(one), place(other)));
+            }
+        }
+    }
+    (0, format!("no race {low} {high}\n"))
+}
+
+fn confirm(files: &Files, first: (usize, usize), second: (usize, usize)) -> (i32, String) {
+    let logs = match read_folder(files) {
+        Ok(logs) => logs,
+        Err(text) => return (4, text),
+    };
+    let accesses = accesses(&logs);
+    let named = |place| accesses.iter().find(|access| (access.row, access.number) == place);
+    match (named(first), named(second)) {
+        (Some(one), Some(other)) if is_race(one, other) => (1, format!("race byte {}\n", one.record.addr.max(other.record.addr))),
+        _ => (0, "no race\n".to_string()),
+    }
 }
 
 fn line_of(record: &Record) -> String {
@@ -424,6 +476,10 @@ fn show(files: &Files) -> (i32, String) {
 struct Random(u64);
 
 impl Random {
+    fn new(seed: u64) -> Self {
+        Random(seed.wrapping_mul(0x9e37_79b9_7f4a_7c15) | 1)
+    }
+
     fn below(&mut self, bound: u64) -> u64 {
         self.0 ^= self.0 << 13;
         self.0 ^= self.0 >> 7;
@@ -572,7 +628,7 @@ fn ask(sword: &str, words: &[&str]) -> (i32, String) {
 fn compare(sword: &str, seed: u64, count: u64) -> bool {
     let place = Path::new("/dev/shm").join(format!("folders-{}", process::id()));
     let folder = place.to_str().unwrap();
-    let mut random = Random(seed.wrapping_mul(0x9e37_79b9_7f4a_7c15) | 1);
+    let mut random = Random::new(seed);
     let mut seen: HashMap<i32, u64> = HashMap::new();
     for number in 0..count {
         let mut files = random_folder(&mut random);
@@ -581,8 +637,19 @@ fn compare(sword: &str, seed: u64, count: u64) -> bool {
         }
         write_folder(&place, &files);
         let workers = (1 + random.below(4)).to_string();
-        let due = [check(&files), show(&files)];
-        let found = [ask(sword, &["check", folder, &workers]), ask(sword, &["show", folder])];
+        let one = 1 + random.below(6) as u32;
+        let other = one + random.below(3) as u32;
+        let mut record = || (1 + random.below(8) as usize, 1 + random.below(12) as usize);
+        let (first, second) = (record(), record());
+        let words = [one.to_string(), other.to_string()];
+        let places = [first.0, first.1, second.0, second.1].map(|number| number.to_string());
+        let due = [check(&files), show(&files), explain(&files, one, other), confirm(&files, first, second)];
+        let found = [
+            ask(sword, &["check", folder, &workers]),
+            ask(sword, &["show", folder]),
+            ask(sword, &["explain", folder, &words[0], &words[1]]),
+            ask(sword, &["confirm", folder, &places[0], &places[1], &places[2], &places[3]]),
+        ];
         if due != found || read_files(&place) != files {
             println!("folder {number} of seed {seed} differs, kept in {folder}\ndue {due:?}\nfound {found:?}");
             return false;
@@ -594,17 +661,28 @@ fn compare(sword: &str, seed: u64, count: u64) -> bool {
     true
 }
 
+/// What this program itself answers to words of `sword`.
+fn answer(words: &[&str]) -> Option<(i32, String)> {
+    let number = |word: &str| word.parse().unwrap();
+    Some(match words {
+        ["check", folder, ..] => check(&read_files(Path::new(folder))),
+        ["show", folder] => show(&read_files(Path::new(folder))),
+        ["explain", folder, low, high] => explain(&read_files(Path::new(folder)), number(low) as u32, number(high) as u32),
+        ["confirm", folder, a, i, b, j] => confirm(&read_files(Path::new(folder)), (number(a), number(i)), (number(b), number(j))),
+        _ => return None,
+    })
+}
+
 fn main() {
     let words: Vec<String> = env::args().skip(1).collect();
-    match words.iter().map(String::as_str).collect::<Vec<_>>()[..] {
-        ["check", folder] => {
-            let (status, text) = check(&read_files(Path::new(folder)));
-            print!("{text}");
-            process::exit(status);
-        }
-        [sword, seed, count] => {
-            process::exit(i32::from(!compare(sword, seed.parse().unwrap(), count.parse().unwrap())));
-        }
+    let words: Vec<&str> = words.iter().map(String::as_str).collect();
+    if let Some((status, text)) = answer(&words) {
+        print!("{text}");
+        process::exit(status);
+    }
+    match words[..] {
+        ["make", folder, seed] => write_folder(Path::new(folder), &random_folder(&mut Random::new(seed.parse().unwrap()))),
+        [sword, seed, count] => process::exit(i32::from(!compare(sword, seed.parse().unwrap(), count.parse().unwrap()))),
         _ => process::exit(2),
     }
 }
