@@ -1,6 +1,6 @@
-//! Tests of bounded logging: a block of bytes, how a buffer cuts a log into pieces, and what stands in a log after each of its calls failed.
+//! Tests of bounded logging: a block of bytes, how a buffer cuts a log into pieces, and what is in a log after each of its calls failed.
 //!
-//! They stand beside the crates that they test, and not in them, since a crate with tests is proved twice.
+//! They are beside the crates that they test, and not in them, since a crate with tests is proved twice.
 #![tactic(auto)]
 
 #[cfg(test)]

@@ -1,7 +1,7 @@
 //! Certain kernels: one run without races is every run.
 //!
-//! A kernel is *fixed* (`IsFixed`) where it has no critical section, no loop whose chunks are drawn and no atomic update: in which order
-//! its lanes come to something changes nothing but the values that they read. A *run* (`IsRun`) is the tasks of a whole run with a legal history that
+//! A kernel is *fixed* (`IsFixed`) if it has no critical section, no loop whose chunks are drawn and no atomic update: the order of its
+//! lanes changes nothing but the values that they read. A *run* (`IsRun`) is the tasks of a whole run with a legal history that
 //! respects happens-before. A run of a fixed kernel that has no race is *certain* (`IsCertain`).
 //!
 //! The laws, of lawful kernels: whatever an execution of the kernel logs, whole or stopped, the certain run logs first

@@ -1,7 +1,7 @@
-//! What each command is answered with, and what it means that a due text was printed, a prefix of it, or nothing.
+//! What each command returns, and what it means that a due text was printed, in part, or not at all.
 //!
-//! A text comes with its status. Where it couldn't be printed a prefix of it was, and the status is that of a failure:
-//! `WRITE_FAULT`, only where the output's count of faults rose, or `NO_MEMORY`.
+//! A text comes with its status. If it couldn't be printed, a prefix of it was, and the status is that of a failure:
+//! `WRITE_FAULT`, only if the output's count of faults rose, or `NO_MEMORY`.
 #![tactic(auto)]
 
 mod printing;

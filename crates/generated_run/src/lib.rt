@@ -1,7 +1,7 @@
 //! A run made from a number of rounds, for measuring and for trying what checks a folder.
 //!
-//! Eight lanes write elements apart, pass a barrier, and read their neighbours' elements; one more write races with one of
-//! the reads. `generate` puts the logs of this run and their index into a folder. `accesses` and `segments` tell how many of them
+//! Eight lanes write separate elements, pass a barrier, and read their neighbours' elements; one more write races with one of
+//! the reads. `generate` puts the logs of this run and their index into a folder. `accesses` and `segments` say how many of each
 //! it has.
 #![tactic(auto)]
 

@@ -1,6 +1,6 @@
 //! The environment on the host: real files, the standard output, and a program's arguments and status.
 //!
-//! The objects tell nothing of what they hold; their counts of faults rise at each error of the system but want of memory before
+//! The objects tell nothing of what they hold; their counts of faults rise at each system error, except out of memory before
 //! anything was written. What they do to real files is tested.
 #![tactic(auto)]
 

@@ -3,8 +3,8 @@
 //! A tree keeps its runs in order of their first bytes, those with the same one in the order in which they were given. It
 //! is built over one slice of runs or over several. `meet` hands a visitor exactly the runs whose bytes from first to last
 //! meet those from `lo` to `hi`, each once and in order, until it refuses one. Its steps are at most those runs' number plus
-//! one, times the binary digits of the number of all runs, and `levels` tells that no search goes deeper than these digits.
-//! A step is a node in whose subtree a run reaches `lo`. Who doesn't count them loses nothing: a counter takes no bytes.
+//! one, times the binary digits of the number of all runs, and `levels` says that no search goes deeper than these digits.
+//! A step is a node in whose subtree a run reaches `lo`. Not counting them costs nothing: a counter takes no bytes.
 #![tactic(auto)]
 
 mod search;

@@ -1,4 +1,4 @@
-//! A kernel's file: the kernel that it holds, and what is printed where it holds none.
+//! A kernel's file: the kernel that it holds, and what is printed if it holds none.
 #![tactic(auto)]
 
 mod reading;

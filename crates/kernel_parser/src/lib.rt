@@ -1,8 +1,8 @@
 //! The parse tree of a kernel.
 //!
-//! Promised here, exactly. Where tokens are those of a tree by the grammar whose levels are at most
-//! 32, `parse` answers that tree, with the line of each token; only memory can be wanting. The
-//! trees that contracts name are those of the grammar in `kernel_text`; `specs/Trees.antt` tells
+//! Promised here, exactly. If tokens are those of a tree by the grammar whose levels are at most
+//! 32, `parse` returns that tree, with the line of each token; it fails only if it runs out of memory. The
+//! trees that contracts name are those of the grammar in `kernel_text`; `specs/Trees.antt` says
 //! which of them a tree of the code is.
 //!
 //! Calls inside a call follow blocks, brackets, prefix signs and right operands, whose levels are

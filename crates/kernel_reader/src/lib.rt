@@ -1,7 +1,7 @@
 //! The kernel of a text: the rules that it has to keep, and what its names and accesses are
 //! resolved to.
 //!
-//! Promised here, exactly. `read_kernel` answers the kernel of a text, which is the only one that
+//! Promised here, exactly. `read_kernel` returns the kernel of a text, which is the only one that
 //! it has, or the line and the reason of its first fault: of the tokens and the grammar, which
 //! `kernel_text` tells, and then of the rules, in the order of the text, by the parse tree. Of a kernel that is read
 //! the sizes, lines, sites, spans, chunks and mutexes are within the bounds that the rules set.

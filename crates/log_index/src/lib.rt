@@ -1,6 +1,6 @@
 //! The index of a folder of logs: a row for each task, with its path and how many records its log has.
 //!
-//! `read_index` answers the rows exactly where the index is well formed, and else the first bad place of the index:
+//! `read_index` returns the rows exactly when the index is well formed, and otherwise its first bad place:
 //! that there is none, or the number of the first bad row and the first rule that it breaks. `write_index` writes the
 //! one spelling of well-formed rows.
 #![tactic(auto)]

@@ -1,4 +1,4 @@
-//! A gate for tests of what runs at once: it opens when all who are due have come, and notes who comes otherwise.
+//! A gate for tests of what runs at once: it opens when all that are expected have come, and notes any others.
 #![tactic(auto)]
 
 use std::sync::atomic::{AtomicBool, AtomicU64, Ordering};

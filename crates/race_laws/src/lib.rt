@@ -1,6 +1,6 @@
 //! Laws of the definitions of `race_model`, and cases of them that are computed.
 //!
-//! Happens-before is a partial order, and labels tell it; a folder that is bad nowhere holds at most one run, and
+//! Happens-before is a partial order, and labels decide it; a folder that has no bad place holds at most one run, and
 //! that is a fork-join run; rows are a listing where each path is the next after the one before; the first bad place is one;
 //! what keeps the rules of the first format keeps those of the second.
 #![tactic(auto)]

@@ -1,8 +1,8 @@
 //! `run`: a kernel is run, and its logs and their index are written.
 //!
-//! `run` answers that there is no kernel; that the folder has an index; where the kernel stopped, with the logs of its tasks in the folder;
-//! or the counts and last values of a run that ended, with its logs and their index. Where it can't answer, the first of the logs are there,
-//! and an index at most after all logs of a whole run. `print_outcome` prints the answer. `statuses_tell_what_files_hold` is a law on the
+//! `run` returns one of these: there is no kernel; the folder has an index; where the kernel stopped, with the logs of its tasks in the folder;
+//! or the counts and last values of a run that ended, with its logs and their index. If it can't, the first of the logs are there,
+//! and an index at most after all logs of a whole run. `print_outcome` prints it. `statuses_tell_what_files_hold` is a law on the
 //! answers: each status that is due comes exactly where the files that were there say so.
 #![tactic(auto)]
 

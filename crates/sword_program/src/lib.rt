@@ -1,6 +1,6 @@
 //! The program `sword` on its host: its arguments, its stack, its files and its standard output.
 //!
-//! What it promises stands on `top_call::sword`, which is given the host here, and whose status the program ends with.
+//! What it promises is stated on `top_call::sword`, which is given the host here, and whose status the program ends with.
 #![tactic(auto)]
 
 mod program;
