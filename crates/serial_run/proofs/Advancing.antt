@@ -1,12 +1,12 @@
 -- A task goes on with what is left of it, until it stands still or stops.
-use Rattle.std.proofs.Common.{◌≡◌, refl, ap, sym, ◌∙◌, subst, ℕ, ◌+◌, ◌-◌, List, [], ◌∷◌, ◌++◌, length, ℤ, Option, Some, None, Result, Ok, Err, arith, append_assoc}
+use Rattle.std.proofs.Common.{◌≡◌, refl, ap, sym, ◌∙◌, subst, ℕ, ◌-◌, List, [], ◌∷◌, ◌++◌, length, ℤ, Option, Some, None, Result, Ok, Err, arith, append_assoc}
 use Rattle.std.proofs.lemmas.List.{append-nil, length-append}
 use Rattle.log_format.specs.declared.record.Record.{Record}
 use Rattle.log_format.specs.declared.record.Kind.TheVariants as kind
 use Rattle.kernel_syntax.specs.Program.{team_of}
 use Rattle.kernel_model.specs.State as model
 use Rattle.kernel_model.specs.State.{State, Fork, Outcome, Gives, after, put, event, reads_of, chunks_of}
-use Rattle.kernel_model.specs.Effect.{Halted, state_with, adds, finished}
+use Rattle.kernel_model.specs.Effect.{Halted, state_with, finished}
 use Rattle.kernel_model.specs.Trace.{log_limit}
 use Rattle.kernel_model.specs.Value.{Site}
 use Rattle.kernel_model.proofs.Effects.{reads_of-append, chunks_of-append}
@@ -16,9 +16,9 @@ use Rattle.serial_run.specs.declared.frame.Pause.{Pause}
 use Rattle.serial_run.specs.declared.frame.Pause.TheVariants as pause
 use Rattle.serial_run.specs.declared.halt.Halt.{Halt}
 use Rattle.serial_run.specs.declared.halt.Halt.TheVariants as halt
-use Rattle.serial_run.specs.Going.{Progress, ArePlain, Made, Logs, HasRoom}
+use Rattle.serial_run.specs.Going.{ArePlain, Made, Logs, HasRoom}
 use Rattle.serial_run.specs.Resting.{part_of, rest_of}
-use Rattle.serial_run.specs.Stepping.{Stand, Leads, Adds, Stepped, Takes, HaltsSo, Advances, Finishes, Pauses, Resumes, left_of}
+use Rattle.serial_run.specs.Stepping.{Stand, Leads, Stepped, Takes, HaltsSo, Advances, Finishes, Pauses, left_of}
 use Rattle.serial_run.proofs.Following.{gains_then, plain_then}
 use Rattle.serial_run.proofs.Leading.{Part, leads_none, leads_then, adds_none, adds_then, adds_mark, leads_put}
 use Rattle.serial_run.proofs.Statements.{halts_first, halts_same}

@@ -1,17 +1,16 @@
 -- A task that was resumed until it ended or stopped has its trace so far.
-use Rattle.std.proofs.Common.{◌≡◌, refl, ap, sym, ◌∙◌, subst, ℕ, ◌+◌, ◌-◌, ◌≤◌, List, [], ◌++◌, length, ℤ, arith, append_assoc}
+use Rattle.std.proofs.Common.{◌≡◌, ap, sym, ◌∙◌, ℕ, ◌+◌, ◌-◌, ◌≤◌, List, [], ◌++◌, length, ℤ, arith}
 use Rattle.std.proofs.lemmas.List.{append-nil, length-append}
 use Rattle.log_format.specs.declared.record.Record.{Record}
 use Rattle.kernel_syntax.specs.Program.{Program}
-use Rattle.kernel_model.specs.Effect as effect
 use Rattle.kernel_model.specs.Effect.{Finish, Returned, Halted, state_with, finished}
-use Rattle.kernel_model.specs.Folder.{own_trace, IsTraced, IsTracedTo}
-use Rattle.kernel_model.specs.State.{State, Fork, Gives, reads_of, chunks_of}
-use Rattle.kernel_model.specs.Trace.{Start, TaskTrace, Stopped, Ended, log_limit}
+use Rattle.kernel_model.specs.Folder.{own_trace, IsTracedTo}
+use Rattle.kernel_model.specs.State.{Fork, Gives, reads_of, chunks_of}
+use Rattle.kernel_model.specs.Trace.{Start, TaskTrace, log_limit}
 use Rattle.kernel_model.proofs.RunEffects.{parts, end_of, own_trace-is}
 use Rattle.serial_run.specs.Coming.{IsAtStart, Comes, begins, waits, goes, HaveTheirTrace, StopAsTold}
 use Rattle.serial_run.specs.Stepping.{Stand, Leads, left_of}
-use Rattle.serial_run.proofs.Leading.{Part, leads_none, leads_then}
+use Rattle.serial_run.proofs.Leading.{leads_none, leads_then}
 
 module _ (word : ℕ → ℕ) (first : Stand) where
   comes_leads : (x : Stand) (records : List Record) (forks : List Fork) → Comes word first x records forks

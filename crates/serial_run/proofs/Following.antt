@@ -1,5 +1,5 @@
 -- How a task goes on: parts one after another.
-use Rattle.std.proofs.Common.{◌≡◌, refl, ap, sym, ◌∙◌, subst, ℕ, ◌+◌, ◌-◌, List, [], ◌∷◌, ◌++◌, length, ℤ, Result, Ok, Err, arith, append_assoc}
+use Rattle.std.proofs.Common.{◌≡◌, refl, ap, sym, ◌∙◌, subst, ℕ, ◌-◌, List, [], ◌∷◌, ◌++◌, length, ℤ, Result, Ok, Err, arith, append_assoc}
 use Rattle.std.specs.List.{flat_map}
 use Rattle.std.proofs.lemmas.List.{append-nil, length-append}
 use Rattle.std.proofs.lemmas.Grind.{flat_map-append}
@@ -8,7 +8,7 @@ use Rattle.log_format.specs.Spelling.{spelling}
 use Rattle.kernel_model.specs.State as model
 use Rattle.kernel_model.specs.State.{State, Outcome, and_then, after}
 use Rattle.kernel_model.specs.Trace.{log_limit}
-use Rattle.kernel_model.specs.Effect.{Effect, Finish, Returned, Halted, Makes, adds}
+use Rattle.kernel_model.specs.Effect.{Finish, Returned, Halted, Makes, adds}
 use Rattle.kernel_model.proofs.Effects.{makes-same, makes-halt, makes-then}
 use Rattle.serial_run.specs.declared.halt.Halt.{Halt}
 use Rattle.serial_run.specs.declared.halt.Halt.TheVariants as halt

@@ -1,10 +1,10 @@
 -- A task goes on with a part of what is left: from the effects of the parts.
-use Rattle.std.proofs.Common.{◌≡◌, refl, ap, sym, ◌∙◌, subst, ℕ, ◌+◌, ◌-◌, ◌<◌, List, [], ◌∷◌, ◌++◌, length, ℤ, Result, Ok, Err, None, arith, append_assoc}
+use Rattle.std.proofs.Common.{◌≡◌, refl, ap, sym, ◌∙◌, ℕ, ◌+◌, ◌-◌, ◌<◌, List, [], ◌∷◌, ◌++◌, length, ℤ, Err, None, arith, append_assoc}
 use Rattle.std.specs.Prelude.{slice_set}
 use Rattle.std.proofs.lemmas.List.{append-nil, length-append}
 use Rattle.log_format.specs.declared.record.Record.{Record}
 use Rattle.kernel_syntax.specs.Tree.{Done}
-use Rattle.kernel_model.specs.State.{State, Fork, Outcome, Gives, and_then, after, put, assign, reads_of, chunks_of, value_read, number_drawn}
+use Rattle.kernel_model.specs.State.{State, Fork, Outcome, and_then, after, put, assign, reads_of, chunks_of, value_read, number_drawn}
 use Rattle.kernel_model.specs.Effect.{Returned, Halted, state_with, adds}
 use Rattle.kernel_model.specs.Effect as effect
 use Rattle.kernel_model.specs.Trace.{log_limit, run}
@@ -14,7 +14,7 @@ use Rattle.kernel_model.proofs.Equations.{run-Done}
 use Rattle.serial_run.specs.declared.frame.Frame.{Frame}
 use Rattle.serial_run.specs.declared.halt.Halt.{Halt}
 use Rattle.serial_run.specs.declared.halt.Halt.TheVariants as halt
-use Rattle.serial_run.specs.Going.{Progress, FindsValue, words_after, Gains, Made, Goes, Logs, HasRoom, Marks}
+use Rattle.serial_run.specs.Going.{Progress, FindsValue, words_after, Gains, Made, Goes, Logs, HasRoom}
 use Rattle.serial_run.specs.Resting.{rest_of}
 use Rattle.serial_run.specs.Stepping.{Stand, Leads, Adds, Steps, HaltsSo}
 use Rattle.serial_run.proofs.Following.{gains_none, gains_then, plain_then}

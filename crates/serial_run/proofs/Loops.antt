@@ -1,5 +1,5 @@
 -- Loops: their turns, and a lane's share of them.
-use Rattle.std.proofs.Common.{◌≡◌, refl, ap, sym, ◌∙◌, subst, arith, ℕ, zero, suc, ◌+◌, ◌-◌, ◌<◌, ◌≤◌, Bool, true, false, cond, List, [], ◌∷◌, ◌++◌, ℤ, pos, negsuc, ◌+ℤ◌, ◌-ℤ◌, ◌≤ℤ◌, ◌<ℤ◌, Ok, Err}
+use Rattle.std.proofs.Common.{◌≡◌, refl, ap, sym, ◌∙◌, subst, arith, ℕ, zero, suc, ◌+◌, ◌-◌, ◌<◌, ◌≤◌, Bool, true, false, cond, List, [], ◌∷◌, ◌++◌, ℤ, pos, negsuc, ◌+ℤ◌, ◌-ℤ◌, ◌≤ℤ◌, Err}
 use Rattle.std.specs.Prelude.{slice_set, ◌==◌, ◌/◌, ◌%◌, not, filter}
 use Rattle.std.specs.List.{range_with_len}
 use Rattle.std.proofs.lemmas.Int.{ints}
@@ -10,7 +10,7 @@ use Rattle.kernel_syntax.specs.Tree.{Term, Code, Done}
 use Rattle.log_format.specs.declared.record.Kind.TheVariants as kind
 use Rattle.kernel_model.specs.Drawing.{turn_from}
 use Rattle.kernel_model.specs.Iterations.{total_of, count_of, even_iterations}
-use Rattle.kernel_model.specs.State.{State, Outcome, Gives, and_then, after, assign, put, event, reads_of, chunks_of}
+use Rattle.kernel_model.specs.State.{State, and_then, after, assign, put, event}
 use Rattle.kernel_model.specs.Effect.{Returned, state_with}
 use Rattle.kernel_model.specs.Trace.{log_limit, run, turns, each, shared, loop_end}
 use Rattle.kernel_model.specs.Value.{Site, value}
@@ -26,15 +26,6 @@ use Rattle.serial_run.proofs.Following.{goes_same, goes_stop, goes_then}
 use Rattle.serial_run.proofs.Leading.{Part, leads_none, adds_none, steps_same, steps_push, steps_then}
 
 -- ---- how many turns there are
-
-count_pred : (d : ℤ) → pos 1 ≤ℤ d → count_of d ≡ suc (count_of (d -ℤ pos 1))
-count_pred (pos zero) some = absurd (omega (arith, ints, some))
-count_pred (pos (suc n)) some = ap (λ (m : ℕ). suc m) (ap count_of (let e : pos n ≡ pos (suc n) -ℤ pos 1 = omega (arith, ints) in e))
-count_pred (negsuc n) some = absurd (omega (arith, ints, some))
-
-pub total_more : (a b : ℤ) → a <ℤ b → total_of a b ≡ suc (total_of (a +ℤ pos 1) b)
-total_more a b less =
-    count_pred (b -ℤ a) (omega (arith, ints, less)) ∙ ap (λ (d : ℤ). suc (count_of d)) (let e : (b -ℤ a) -ℤ pos 1 ≡ b -ℤ (a +ℤ pos 1) = omega (arith, ints) in e)
 
 count_none : (d : ℤ) → d ≤ℤ pos 0 → count_of d ≡ 0
 count_none (pos zero) none = refl

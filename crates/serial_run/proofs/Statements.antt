@@ -1,12 +1,11 @@
 -- Statements, from what their expressions made.
-use Rattle.std.proofs.Common.{◌≡◌, refl, ap, sym, ◌∙◌, subst, arith, append_assoc, ℕ, zero, suc, ◌+◌, ◌-◌, List, [], ◌∷◌, ◌++◌, ℤ, pos, negsuc, Option, Some, None, Result, Ok, Err}
+use Rattle.std.proofs.Common.{◌≡◌, refl, ap, sym, ◌∙◌, subst, arith, append_assoc, ℕ, zero, suc, ◌-◌, List, [], ◌∷◌, ◌++◌, ℤ, pos, negsuc, Option, Some, None, Result, Ok, Err}
 use Rattle.std.specs.Prelude.{slice_set}
 use Rattle.std.proofs.lemmas.List.{append-nil}
 use Rattle.log_format.specs.declared.record.Kind.TheVariants as kind
 use Rattle.log_format.specs.declared.record.Record.{Record}
 use Rattle.log_format.specs.Fitting.{fitted}
-use Rattle.kernel_syntax.specs.declared.syntax.Body.{Body}
-use Rattle.kernel_syntax.specs.Program.{code_of, team_of}
+use Rattle.kernel_syntax.specs.Program.{team_of}
 use Rattle.kernel_syntax.specs.Tree as tree
 use Rattle.kernel_syntax.specs.Tree.{Term, Code, TeamTree, Done}
 use Rattle.kernel_model.specs.declared.change.Change.TheVariants.{Store}
@@ -21,9 +20,8 @@ use Rattle.kernel_model.proofs.Changing.{run-changing}
 use Rattle.kernel_model.proofs.Effects.{makes-stays}
 use Rattle.kernel_model.proofs.Equations.{run-Done, run-Set, run-If, run-Loop, run-Parallel}
 use Rattle.kernel_model.proofs.RunEffects.{makes-after_halt}
-use Rattle.kernel_model.proofs.Joining.{after-after, after-same, after-done, branch-zero, branch-other}
+use Rattle.kernel_model.proofs.Joining.{after-after, after-same, after-done}
 use Rattle.serial_run.specs.declared.frame.Frame.{Frame}
-use Rattle.serial_run.specs.declared.frame.Frame.TheVariants as frame
 use Rattle.serial_run.specs.declared.frame.Pause.{Pause}
 use Rattle.serial_run.specs.declared.frame.Pause.TheVariants as pause
 use Rattle.serial_run.specs.declared.halt.Halt.{Halt}
@@ -31,10 +29,10 @@ use Rattle.serial_run.specs.declared.halt.Halt.TheVariants as halt
 use Rattle.serial_run.specs.declared.place.Element.{Element}
 use Rattle.serial_run.specs.Going.{Progress, Made, Goes, Logs, HasRoom, Marks}
 use Rattle.serial_run.specs.Placing.{meant}
-use Rattle.serial_run.specs.Resting.{part_of, rest_of}
+use Rattle.serial_run.specs.Resting.{part_of}
 use Rattle.serial_run.specs.Stepping.{Stand, Steps, Stepped, Takes, HaltsSo}
 use Rattle.serial_run.proofs.Following.{made_still, made_same, goes_same, goes_stop, goes_then}
-use Rattle.serial_run.proofs.Leading.{Part, leads_none, leads_then, adds_mark, leads_put, steps_same, steps_push, steps_then, steps_assign}
+use Rattle.serial_run.proofs.Leading.{Part, adds_mark, leads_put, steps_same, steps_push, steps_then, steps_assign}
 
 module _ (word : ℕ → ℕ) (at : Site) (slots : List ℤ) where
   -- ---- a variable is set

@@ -1,10 +1,8 @@
 -- One record of a task, and where there is no room for it.
-use Rattle.std.proofs.Common.{◌≡◌, inl, inr, refl, ap, sym, ◌∙◌, subst, ℕ, zero, ◌+◌, ◌-◌, ◌<◌, ◌≤◌, List, [], ◌∷◌, ◌++◌, length, ℤ, Result, Ok, Err, None, w64, FitsSigned, arith}
+use Rattle.std.proofs.Common.{◌≡◌, inl, inr, refl, ap, sym, ◌∙◌, subst, ℕ, ◌+◌, ◌-◌, ◌<◌, List, [], ◌∷◌, ◌++◌, length, ℤ, Result, Ok, Err, arith}
 use Rattle.std.specs.Prelude.{slice_index, slice_set, IfOk, IfErr}
-use Rattle.std.specs.List.{flat_map}
 use Rattle.std.proofs.lemmas.List.{append-nil}
 use Rattle.log_format.specs.declared.record.Record.{Record}
-use Rattle.log_format.specs.declared.record.Kind.{Kind}
 use Rattle.log_format.specs.declared.record.Kind.TheVariants as kind
 use Rattle.log_format.specs.Fitting.{IsWidth, fitted}
 use Rattle.log_format.specs.Spelling.{spelling}
@@ -14,7 +12,7 @@ use Rattle.kernel_model.specs.State.{State, Outcome, put, to_bits, from_bits, va
 use Rattle.kernel_model.specs.Trace.{log_limit}
 use Rattle.kernel_model.specs.Value.{access, read}
 use Rattle.kernel_model.specs.Effect.{Returned, Halted, Makes, adds}
-use Rattle.kernel_model.proofs.Effects.{makes-put, makes-put_full, makes-read, makes-read_full}
+use Rattle.kernel_model.proofs.Effects.{makes-put, makes-read}
 use Rattle.serial_run.specs.declared.halt.Halt.{Halt}
 use Rattle.serial_run.specs.declared.halt.Halt.TheVariants as halt
 use Rattle.serial_run.specs.declared.place.Element.{Element}

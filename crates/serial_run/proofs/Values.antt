@@ -1,5 +1,5 @@
 -- The value of an expression, from those of its parts.
-use Rattle.std.proofs.Common.{◌≡◌, refl, ap, sym, ◌∙◌, subst, ℕ, ◌-◌, List, [], ℤ, Option, Some, None, Result, Ok, Err}
+use Rattle.std.proofs.Common.{◌≡◌, refl, ap, sym, subst, ℕ, ◌-◌, List, ℤ, Option, Some, None, Result, Ok, Err}
 use Rattle.std.specs.Prelude.{ok_or}
 use Rattle.kernel_syntax.specs.declared.syntax.Op.{Op}
 use Rattle.kernel_syntax.specs.Arithmetic.{applied, negated}

@@ -5,7 +5,7 @@ use Rattle.log_format.specs.declared.record.Kind.TheVariants as kind
 use Rattle.kernel_syntax.specs.Program.{team_of}
 use Rattle.kernel_model.specs.State as model
 use Rattle.kernel_model.specs.State.{State, Fork, Outcome, Gives, after, put, event, reads_of, chunks_of}
-use Rattle.kernel_model.specs.Effect.{Finish, Halted, Returned, state_with}
+use Rattle.kernel_model.specs.Effect.{Halted, state_with}
 use Rattle.kernel_model.specs.Trace.{log_limit}
 use Rattle.kernel_model.specs.Value.{Site}
 use Rattle.serial_run.specs.declared.frame.Frame.{Frame}
