@@ -17,7 +17,6 @@ pub mod TeamBarriers
 pub mod TimedWork
 pub mod Times
 pub mod TreeHistory
-pub mod UpdateVectors
+pub mod Vectors
 pub mod Windows
 pub mod WorkNames
-pub mod WorkVectors

@@ -8,7 +8,7 @@ use Rattle.race_model.specs.FirstBad.{row_of, rows_of}
 use Rattle.race_model.specs.Row.{Row}
 use Rattle.race_model.specs.Trace.{TaskLog, Trace}
 use Rattle.log_listing.specs.Listing.{log_line, log_text, records_text}
-use Rattle.log_listing.specs.Printing.{Prints, PrintsPrefix}
+use Rattle.log_listing.specs.Printing.{PrintsInPieces, PrintsPrefix}
 use Rattle.log_listing.proofs.PrintedParts.{prints_none, prints_both, prints_then_prefix, prefix_of, prefix_append}
 
 -- the logs of the first tasks are listed, each as its text
@@ -17,7 +17,7 @@ pub record LogsTo (text : TaskLog → List ℕ) (trace : Trace) (old : Option (L
   pub left : Trace
   pub parts : trace ≡ given ++ left
   pub index_is : index ≡ length given
-  pub written : Prints old waited new waits (flat_map text given)
+  pub written : PrintsInPieces old waited new waits (flat_map text given)
 
 pub LogsTo-start : (text : TaskLog → List ℕ) (trace : Trace) (old : Option (List ℕ)) (waited : List ℕ) → LogsTo text trace old waited old waited 0
 LogsTo-start text trace old waited = record { given = []; left = trace; parts = refl; index_is = refl; written = prints_none old waited }
@@ -37,8 +37,8 @@ row_at (first ∷ given) task rest d = row_at given task rest d
 module _ (text : TaskLog → List ℕ) (trace : Trace) (rows : List Row) (same : rows_of trace ≡ rows) (old : Option (List ℕ)) (waited : List ℕ) (between : Option (List ℕ)) (waits : List ℕ) (index : ℕ)
     (listed : LogsTo text trace old waited between waits index) where
   -- all were listed
-  pub logs_all : index ≡ length rows → Prints old waited between waits (flat_map text trace)
-  logs_all all = subst (λ (tasks : Trace). Prints old waited between waits (flat_map text tasks)) (ended listed.left listed.parts) listed.written where
+  pub logs_all : index ≡ length rows → PrintsInPieces old waited between waits (flat_map text trace)
+  logs_all all = subst (λ (tasks : Trace). PrintsInPieces old waited between waits (flat_map text tasks)) (ended listed.left listed.parts) listed.written where
     ended : (left : Trace) → trace ≡ listed.given ++ left → listed.given ≡ trace
     ended [] parts = sym (parts ∙ append-nil listed.given)
     ended (task ∷ rest) parts =
@@ -72,23 +72,17 @@ module _ (text : TaskLog → List ℕ) (trace : Trace) (rows : List Row) (same :
       (all (length listed.given) next.task (omega (arith, ap length next.listed_in, length-append listed.given (next.task ∷ next.rest))))
 
   -- one more was listed
-  pub logs_next : (row : Row) (next : IsTask row) (new : Option (List ℕ)) (left : List ℕ) → Prints between waits new left (text next.task) → LogsTo text trace old waited new left (index + 1)
+  pub logs_next : (row : Row) (next : IsTask row) (new : Option (List ℕ)) (left : List ℕ) → PrintsInPieces between waits new left (text next.task) → LogsTo text trace old waited new left (index + 1)
   logs_next row next new left text_is = record {
     given = listed.given ++ next.task ∷ [];
     left = next.rest;
     parts = next.listed_in ∙ sym (append_assoc listed.given (next.task ∷ []) next.rest);
     index_is = omega (arith, listed.index_is, length-append listed.given (next.task ∷ []));
     written =
-        subst (λ (t : List ℕ). Prints old waited new left t)
+        subst (λ (t : List ℕ). PrintsInPieces old waited new left t)
         (ap (λ t. flat_map text listed.given ++ t) (sym (append-nil (text next.task))) ∙ sym (flat_map-append text listed.given (next.task ∷ [])))
         (prints_both old waited between waits new left (flat_map text listed.given) (text next.task) listed.written text_is);
   }
-
-  -- what was listed is a prefix of the whole
-  pub logs_part : PrintsPrefix old waited between waits (flat_map text trace)
-  logs_part =
-      subst (λ (t : List ℕ). PrintsPrefix old waited between waits t) (sym (ap (flat_map text) listed.parts ∙ flat_map-append text listed.given listed.left))
-      (prefix_of old waited between waits (flat_map text listed.given) (flat_map text listed.left) listed.written)
 
   -- the text of the next one was refused
   pub logs_refused : (row : Row) (next : IsTask row) (new : Option (List ℕ)) (left : List ℕ) → PrintsPrefix between waits new left (text next.task) → PrintsPrefix old waited new left (flat_map text trace)
@@ -105,16 +99,16 @@ module _ (old : Option (List ℕ)) (waited : List ℕ) (new : Option (List ℕ))
       prefix_append old waited new waits (log_line path (length events)) (records_text events) (subst (λ (n : ℕ). PrintsPrefix old waited new waits (log_line path n)) counted prefix)
 
   -- nothing came after the line
-  pub refused_at_open : Prints old waited new waits (log_line path count) → PrintsPrefix old waited new waits (log_text path events)
-  refused_at_open line = prefix_of old waited new waits (log_line path (length events)) (records_text events) (subst (λ (n : ℕ). Prints old waited new waits (log_line path n)) counted line)
+  pub refused_at_open : PrintsInPieces old waited new waits (log_line path count) → PrintsPrefix old waited new waits (log_text path events)
+  refused_at_open line = prefix_of old waited new waits (log_line path (length events)) (records_text events) (subst (λ (n : ℕ). PrintsInPieces old waited new waits (log_line path n)) counted line)
 
 module _ (old : Option (List ℕ)) (waited : List ℕ) (between : Option (List ℕ)) (waits : List ℕ) (new : Option (List ℕ)) (left : List ℕ) (path : List Step) (count : ℕ) (events : List Record)
-    (counted : count ≡ length events) (line : Prints old waited between waits (log_line path count)) where
-  line_is : Prints old waited between waits (log_line path (length events))
-  line_is = subst (λ (n : ℕ). Prints old waited between waits (log_line path n)) counted line
+    (counted : count ≡ length events) (line : PrintsInPieces old waited between waits (log_line path count)) where
+  line_is : PrintsInPieces old waited between waits (log_line path (length events))
+  line_is = subst (λ (n : ℕ). PrintsInPieces old waited between waits (log_line path n)) counted line
 
   -- all of it was listed
-  pub log_done : Prints between waits new left (records_text events) → Prints old waited new left (log_text path events)
+  pub log_done : PrintsInPieces between waits new left (records_text events) → PrintsInPieces old waited new left (log_text path events)
   log_done all = prints_both old waited between waits new left (log_line path (length events)) (records_text events) line_is all
 
   -- some of its records were

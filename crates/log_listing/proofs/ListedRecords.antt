@@ -4,7 +4,7 @@ use Rattle.sw_base.specs.Environment.{Content}
 use Rattle.log_format.specs.declared.record.Record.{Record}
 use Rattle.log_reader.specs.Reading.{Reading, StandsBefore, GivesNext}
 use Rattle.log_listing.specs.Listing.{numbered}
-use Rattle.log_listing.specs.Printing.{Prints, PrintsPrefix}
+use Rattle.log_listing.specs.Printing.{PrintsInPieces, PrintsPrefix}
 use Rattle.log_listing.proofs.PrintedParts.{prints_none, prints_both, prints_then_prefix, prefix_of, prefix_append}
 
 numbered-append : {X : Type 0} (line : ℕ → X → List ℕ) (n : ℕ) (xs ys : List X) → numbered line n (xs ++ ys) ≡ numbered line n xs ++ numbered line (n + length xs) ys
@@ -20,7 +20,7 @@ pub record ListedTo (line : ℕ → Record → List ℕ) (c : Content) (reading 
   pub parts : events ≡ given ++ left
   pub stands : StandsBefore c reading left
   pub number_is : number ≡ length given + 1
-  pub written : Prints old waited new waits (numbered line 1 given)
+  pub written : PrintsInPieces old waited new waits (numbered line 1 given)
 
 pub ListedTo-start : (line : ℕ → Record → List ℕ) (c : Content) (reading : Reading) (events : List Record) (old : Option (List ℕ)) (waited : List ℕ) → StandsBefore c reading events
     → ListedTo line c reading events old waited old waited 1
@@ -29,8 +29,8 @@ ListedTo-start line c reading events old waited stands = record { given = []; le
 module _ (line : ℕ → Record → List ℕ) (c : Content) (reading : Reading) (events : List Record) (old : Option (List ℕ)) (waited : List ℕ) (between : Option (List ℕ)) (waits : List ℕ) (number : ℕ)
     (listed : ListedTo line c reading events old waited between waits number) where
   -- all were listed
-  pub listed_all : (after : Reading) → GivesNext c listed.left None after → Prints old waited between waits (numbered line 1 events)
-  listed_all after gives = subst (λ (rs : List Record). Prints old waited between waits (numbered line 1 rs)) (ended listed.left gives listed.parts) listed.written where
+  pub listed_all : (after : Reading) → GivesNext c listed.left None after → PrintsInPieces old waited between waits (numbered line 1 events)
+  listed_all after gives = subst (λ (rs : List Record). PrintsInPieces old waited between waits (numbered line 1 rs)) (ended listed.left gives listed.parts) listed.written where
     ended : (left : List Record) → GivesNext c left None after → events ≡ listed.given ++ left → listed.given ≡ events
     ended [] gives parts = sym (parts ∙ append-nil listed.given)
     ended (r ∷ rs) gives parts = let differ = gives.0 in absurd (cc differ)
@@ -60,7 +60,7 @@ module _ (line : ℕ → Record → List ℕ) (c : Content) (reading : Reading) 
       ∙ ap (λ m. numbered line 1 listed.given ++ numbered line m (r ∷ next.rest)) (let e : 1 + length listed.given ≡ number = omega (arith, listed.number_is) in e)
 
   -- one more was listed
-  pub listed_next : (r : Record) (after : Reading) → GivesNext c listed.left (Some r) after → (new : Option (List ℕ)) (left : List ℕ) → Prints between waits new left (line number r)
+  pub listed_next : (r : Record) (after : Reading) → GivesNext c listed.left (Some r) after → (new : Option (List ℕ)) (left : List ℕ) → PrintsInPieces between waits new left (line number r)
       → ListedTo line c after events old waited new left (number + 1)
   listed_next r after gives new left line_is = let next = is_next r after gives in record {
     given = listed.given ++ r ∷ [];
@@ -69,7 +69,7 @@ module _ (line : ℕ → Record → List ℕ) (c : Content) (reading : Reading) 
     stands = next.stands;
     number_is = omega (arith, listed.number_is, length-append listed.given (r ∷ []));
     written =
-        subst (λ (text : List ℕ). Prints old waited new left text)
+        subst (λ (text : List ℕ). PrintsInPieces old waited new left text)
         (
         ap (λ t. numbered line 1 listed.given ++ t) (sym (append-nil (line number r)) ∙ ap (λ m. line m r ++ []) (let e : number ≡ 1 + length listed.given = omega (arith, listed.number_is) in e))
         ∙ sym (numbered-append line 1 listed.given (r ∷ []))

@@ -3,14 +3,10 @@ use Rattle.std.proofs.Common.{◌≡◌, refl, ℕ, List, [], ◌++◌, Option, 
 use Rattle.std.specs.Prelude.{Result, Ok, Err, OnOk, OnErr}
 use Rattle.sw_base.specs.Environment.{gained, GainsPrefix}
 use Rattle.sw_base.proofs.Gains.{gained-none, gained-gained, GainsPrefix-all}
-use Rattle.log_listing.specs.Printing.{Prints, PrintsPrefix}
+use Rattle.log_listing.specs.Printing.{PrintsInPieces, PrintsPrefix}
 
-pub prints_none : (old : Option (List ℕ)) (waited : List ℕ) → Prints old waited old waited []
+pub prints_none : (old : Option (List ℕ)) (waited : List ℕ) → PrintsInPieces old waited old waited []
 prints_none old waited = record { sent = []; parts = append-nil waited; gains = sym (gained-none old) }
-
--- nothing was printed, and the text waits with the rest
-pub prints_later : (old : Option (List ℕ)) (waited waits text : List ℕ) → waits ≡ waited ++ text → Prints old waited old waits text
-prints_later old waited waits text is = record { sent = []; parts = sym is; gains = sym (gained-none old) }
 
 module _ (old : Option (List ℕ)) (waited : List ℕ) (between : Option (List ℕ)) (waits : List ℕ) (new : Option (List ℕ)) (left first second : List ℕ) where
   both : (a b c : List ℕ) → waited ++ first ≡ a ++ waits → waits ++ second ≡ b ++ c → waited ++ (first ++ second) ≡ (a ++ b) ++ c
@@ -21,7 +17,7 @@ module _ (old : Option (List ℕ)) (waited : List ℕ) (between : Option (List �
   gains_both a b one other = other ∙ ap (λ w. gained w b) one ∙ gained-gained old a b
 
   -- one part after another
-  pub prints_both : Prints old waited between waits first → Prints between waits new left second → Prints old waited new left (first ++ second)
+  pub prints_both : PrintsInPieces old waited between waits first → PrintsInPieces between waits new left second → PrintsInPieces old waited new left (first ++ second)
   prints_both one other = record {
     sent = one.sent ++ other.sent;
     parts = both one.sent other.sent left one.parts other.parts;
@@ -29,7 +25,7 @@ module _ (old : Option (List ℕ)) (waited : List ℕ) (between : Option (List �
   }
 
   -- a part, and a prefix of another
-  pub prints_then_prefix : Prints old waited between waits first → PrintsPrefix between waits new left second → PrintsPrefix old waited new left (first ++ second)
+  pub prints_then_prefix : PrintsInPieces old waited between waits first → PrintsPrefix between waits new left second → PrintsPrefix old waited new left (first ++ second)
   prints_then_prefix one other = record {
     sent = one.sent ++ other.sent;
     rest = other.rest;
@@ -49,11 +45,11 @@ module _ (old : Option (List ℕ)) (waited : List ℕ) (new : Option (List ℕ))
     gains = part.gains;
   }
 
-  pub prefix_all : Prints old waited new waits first → PrintsPrefix old waited new waits first
+  pub prefix_all : PrintsInPieces old waited new waits first → PrintsPrefix old waited new waits first
   prefix_all all = record { sent = all.sent; rest = []; parts = all.parts ∙ ap (λ t. all.sent ++ t) (sym (append-nil waits)); gains = all.gains }
 
   -- a first part is a prefix of the whole
-  pub prefix_of : (second : List ℕ) → Prints old waited new waits first → PrintsPrefix old waited new waits (first ++ second)
+  pub prefix_of : (second : List ℕ) → PrintsInPieces old waited new waits first → PrintsPrefix old waited new waits (first ++ second)
   prefix_of second all = record {
     sent = all.sent;
     rest = second;
@@ -84,7 +80,7 @@ printed_some (Err e) old new lines all part = part
 
 module _ (old between new : Option (List ℕ)) (waits text : List ℕ) where
   -- the lines that waited at last were printed
-  pub printed_all : Prints old [] between waits text → new ≡ gained between waits → new ≡ gained old text
+  pub printed_all : PrintsInPieces old [] between waits text → new ≡ gained between waits → new ≡ gained old text
   printed_all all last = last ∙ ap (λ w. gained w waits) all.gains ∙ gained-gained old all.sent waits ∙ ap (gained old) (sym all.parts)
 
   -- a prefix of them was

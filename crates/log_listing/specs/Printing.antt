@@ -3,7 +3,7 @@ use Rattle.std.specs.Prelude.{◌≡◌, ℕ, List, ◌++◌, Option}
 use Rattle.sw_base.specs.Environment.{gained}
 
 -- the text came after what waited; so much of both was written, and the rest waits
-pub record Prints (old : Option (List ℕ)) (waited : List ℕ) (new : Option (List ℕ)) (waits text : List ℕ) : Type 0 where
+pub record PrintsInPieces (old : Option (List ℕ)) (waited : List ℕ) (new : Option (List ℕ)) (waits text : List ℕ) : Type 0 where
   pub sent : List ℕ
   pub parts : waited ++ text ≡ sent ++ waits
   pub gains : new ≡ gained old sent

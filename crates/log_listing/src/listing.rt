@@ -8,7 +8,7 @@ ghost use Rattle.race_model.specs.FirstBad.{HoldsLogs, rows_of};
 ghost use Rattle.race_model.specs.LogFault.{IsWholeLog};
 ghost use Rattle.race_model.specs.Trace.{Trace};
 ghost use Rattle.log_listing.specs.Listing.{log_text, records_text, show_text};
-ghost use Rattle.log_listing.specs.Printing.{Prints, PrintsPrefix};
+ghost use Rattle.log_listing.specs.Printing.{PrintsInPieces, PrintsPrefix};
 
 use crate::printing::{PIECE, list_name, list_record, print_lines};
 use crate::unlisted::{Unlisted, unread};
@@ -66,7 +66,7 @@ fn list_records<F: Folder, O: Out>(
     reader: &mut LogReader,
 ) -> Result<(), Unlisted>
     requires { reader.old.left < 2 ^ 32 }
-    ensures done { WhereTold (F.state folder.old).content (λ c. (events : List Record) → StandsBefore c reader.old events → OnOk result (Prints (O.written out.old) (string_bytes lines.old) (O.written out.new) (string_bytes lines.new) (records_text events))) }
+    ensures done { WhereTold (F.state folder.old).content (λ c. (events : List Record) → StandsBefore c reader.old events → OnOk result (PrintsInPieces (O.written out.old) (string_bytes lines.old) (O.written out.new) (string_bytes lines.new) (records_text events))) }
     ensures refused { WhereTold (F.state folder.old).content (λ c. (events : List Record) → StandsBefore c reader.old events → OnErr result (PrintsPrefix (O.written out.old) (string_bytes lines.old) (O.written out.new) (string_bytes lines.new) (records_text events))) }
     ensures same { F.state folder.new ≡ F.state folder.old }
     ensures later { F.read_faults folder.old ≤ F.read_faults folder.new }
@@ -93,7 +93,7 @@ fn list_log<F: Folder, O: Out>(
     reader: &mut LogReader,
 ) -> Result<(), Unlisted>
     ensures done { WhereTold (F.state folder.old).content (λ c. (events : List Record) → IsWholeLog FORMAT c.held dir.now path.now events → records ≡ length events
-        → OnOk result (Prints (O.written out.old) (string_bytes lines.old) (O.written out.new) (string_bytes lines.new) (log_text path.now events))) }
+        → OnOk result (PrintsInPieces (O.written out.old) (string_bytes lines.old) (O.written out.new) (string_bytes lines.new) (log_text path.now events))) }
     ensures refused { WhereTold (F.state folder.old).content (λ c. (events : List Record) → IsWholeLog FORMAT c.held dir.now path.now events → records ≡ length events
         → OnErr result (PrintsPrefix (O.written out.old) (string_bytes lines.old) (O.written out.new) (string_bytes lines.new) (log_text path.now events))) }
     ensures same { F.state folder.new ≡ F.state folder.old }
@@ -117,7 +117,7 @@ fn list_rows<F: Folder, O: Out>(
     rows: &[Row],
 ) -> Result<(), Unlisted>
     ensures done { WhereTold (F.state folder.old).content (λ c. (trace : Trace) → rows_of trace ≡ rows.now → HoldsLogs FORMAT c.held dir.now trace
-        → OnOk result (Prints (O.written out.old) (string_bytes lines.old) (O.written out.new) (string_bytes lines.new) (show_text trace))) }
+        → OnOk result (PrintsInPieces (O.written out.old) (string_bytes lines.old) (O.written out.new) (string_bytes lines.new) (show_text trace))) }
     ensures refused { WhereTold (F.state folder.old).content (λ c. (trace : Trace) → rows_of trace ≡ rows.now → HoldsLogs FORMAT c.held dir.now trace
         → OnErr result (PrintsPrefix (O.written out.old) (string_bytes lines.old) (O.written out.new) (string_bytes lines.new) (show_text trace))) }
     ensures same { F.state folder.new ≡ F.state folder.old }

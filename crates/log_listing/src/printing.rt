@@ -3,7 +3,7 @@ ghost use Rattle.std.specs.Prelude.{◌≡◌, ◌++◌, ◌≤◌, [], ℕ, Lis
 ghost use Rattle.sw_base.specs.Environment.{Rose, GainsPrefix, gained};
 ghost use Rattle.log_format.specs.declared.record.Record.{Record};
 ghost use Rattle.log_listing.specs.Listing.{record_line, log_line};
-ghost use Rattle.log_listing.specs.Printing.{Prints, PrintsPrefix};
+ghost use Rattle.log_listing.specs.Printing.{PrintsInPieces, PrintsPrefix};
 
 use crate::lines::{line_of_log, put_record};
 use crate::unlisted::{Unlisted, unwritten};
@@ -17,7 +17,7 @@ pub const PIECE: usize = 65_536;
 /// A line has fewer bytes.
 const LINE: usize = 256;
 
-/// Prints the lines that wait.
+/// PrintsInPieces the lines that wait.
 pub fn print_lines<O: Out>(alloc: Global, out: &mut O, lines: &mut String) -> Result<(), Unlisted>
     ensures none { string_bytes lines.new ≡ [] }
     ensures done { OnOk result (O.written out.new ≡ gained (O.written out.old) (string_bytes lines.old)) }
@@ -37,9 +37,9 @@ pub fn print_lines<O: Out>(alloc: Global, out: &mut O, lines: &mut String) -> Re
     }
 }
 
-// Prints the lines that wait, where there may be no room for another.
+// PrintsInPieces the lines that wait, where there may be no room for another.
 fn make_room<O: Out>(alloc: Global, out: &mut O, lines: &mut String) -> Result<(), Unlisted>
-    ensures done { OnOk result (Prints (O.written out.old) (string_bytes lines.old) (O.written out.new) (string_bytes lines.new) []) }
+    ensures done { OnOk result (PrintsInPieces (O.written out.old) (string_bytes lines.old) (O.written out.new) (string_bytes lines.new) []) }
     ensures refused { (text : List ℕ) → OnErr result (PrintsPrefix (O.written out.old) (string_bytes lines.old) (O.written out.new) (string_bytes lines.new) text) }
     ensures later { O.faults out.old ≤ O.faults out.new }
     ensures write_cause { IsErrOf result Unlisted.WriteFault → Rose (O.faults out.old) (O.faults out.new) }
@@ -75,7 +75,7 @@ pub fn list_record<O: Out>(
     number: u64,
     r: &Record,
 ) -> Result<(), Unlisted>
-    ensures done { OnOk result (Prints (O.written out.old) (string_bytes lines.old) (O.written out.new) (string_bytes lines.new) (record_line number r.now)) }
+    ensures done { OnOk result (PrintsInPieces (O.written out.old) (string_bytes lines.old) (O.written out.new) (string_bytes lines.new) (record_line number r.now)) }
     ensures refused { OnErr result (PrintsPrefix (O.written out.old) (string_bytes lines.old) (O.written out.new) (string_bytes lines.new) (record_line number r.now)) }
     ensures later { O.faults out.old ≤ O.faults out.new }
     ensures write_cause { IsErrOf result Unlisted.WriteFault → Rose (O.faults out.old) (O.faults out.new) }
@@ -93,7 +93,7 @@ pub fn list_name<O: Out>(
     path: &Path,
     count: u32,
 ) -> Result<(), Unlisted>
-    ensures done { OnOk result (Prints (O.written out.old) (string_bytes lines.old) (O.written out.new) (string_bytes lines.new) (log_line path.now count)) }
+    ensures done { OnOk result (PrintsInPieces (O.written out.old) (string_bytes lines.old) (O.written out.new) (string_bytes lines.new) (log_line path.now count)) }
     ensures refused { OnErr result (PrintsPrefix (O.written out.old) (string_bytes lines.old) (O.written out.new) (string_bytes lines.new) (log_line path.now count)) }
     ensures later { O.faults out.old ≤ O.faults out.new }
     ensures write_cause { IsErrOf result Unlisted.WriteFault → Rose (O.faults out.old) (O.faults out.new) }

@@ -1,6 +1,5 @@
 pub mod Chains
 pub mod Counts
-pub mod DrawVectors
 pub mod EdgeOrder
 pub mod FolderForkJoin
 pub mod FolderKeepsRules
@@ -10,15 +9,12 @@ pub mod ForkJoinExample
 pub mod Formats
 pub mod HeldLogs
 pub mod HeldMutexes
-pub mod HistoryVectors
 pub mod IndexPlaces
 pub mod IndexRows
-pub mod IndexVectors
 pub mod KeptFolder
 pub mod LabelLaw
 pub mod LabelOrder
 pub mod LabelPlace
-pub mod LabelVectors
 pub mod Listed
 pub mod ListedOnce
 pub mod ListedTree
@@ -27,9 +23,7 @@ pub mod LogFaults
 pub mod LogOnce
 pub mod LogReading
 pub mod Parting
-pub mod PlaceVectors
 pub mod ProgramOrder
-pub mod RaceVectors
 pub mod RowSpelling
-pub mod SegmentVectors
 pub mod StoppedTree
+pub mod Vectors

@@ -6,7 +6,7 @@ use Rattle.race_model.specs.LogFault.{IsWholeLog}
 use Rattle.race_model.specs.Row.{Row}
 use Rattle.race_model.specs.Trace.{TaskLog}
 use Rattle.log_listing.specs.Listing.{log_text}
-use Rattle.log_listing.specs.Printing.{Prints, PrintsPrefix}
+use Rattle.log_listing.specs.Printing.{PrintsInPieces, PrintsPrefix}
 use Rattle.log_listing.proofs.PrintedParts.{prefix_none}
 use Rattle.log_listing.proofs.ListedLogs.{LogsTo-start, logs_all, logs_next, logs_refused, next_task, holds_next}
 use Rattle.log_listing.proofs.listing.list_rows.Goals as goal
@@ -41,7 +41,7 @@ rows-preserved g c = record {
       let whole = subst (λ (q : List Step). IsWholeLog FORMAT x.held c.args.dir.now q next.task.records) (sym path)
       (holds_next (λ (task : TaskLog). log_text task.path task.records) trace c.args.rows.now same _ _ _ _ c.rows.row-index listed (λ (task : TaskLog). IsWholeLog FORMAT x.held c.args.dir.now task.path task.records) holds c.row-item.result next) in
       logs_next (λ (task : TaskLog). log_text task.path task.records) trace c.args.rows.now same _ _ _ _ c.rows.row-index listed c.row-item.result next _ _
-      (subst (λ (q : List Step). Prints (g.O.Out.written c.rows.out) (string_bytes c.rows.lines) (g.O.Out.written c.list_log.new.out) (string_bytes c.list_log.new.lines) (log_text q next.task.records)) path
+      (subst (λ (q : List Step). PrintsInPieces (g.O.Out.written c.rows.out) (string_bytes c.rows.lines) (g.O.Out.written c.list_log.new.out) (string_bytes c.list_log.new.lines) (log_text q next.task.records)) path
       (c.in_ok-list_log.ensures.done x (ap (λ s. s.content) c.rows.invariant.same ∙ told) next.task.records whole (ap (λ (r : Row). r.records) (c.row.view_is ∙ next.row_is))));
   same = c.in_ok-list_log.ensures.same ∙ c.rows.invariant.same;
   later = omega (arith, c.in_ok-list_log.ensures.later, c.rows.invariant.later);
