@@ -25,8 +25,8 @@ gains_one old mid one new key address same is more = record {
     back other place (inr h) = inr h
 
 -- an empty summary has what none has
-pub none_same : (old : Option Summary) (new : Summary) → old ≡ None → ((key : Key) (address : ℕ) → IsSummed new key address → ⊥) → (key : Key) (address : ℕ) → HasSum (Some new) key address ↔ HasSum old key address
-none_same old new none nothing key address = subst (λ (o : Option Summary). HasSum (Some new) key address ↔ HasSum o key address) (sym none) ((λ h. absurd (nothing key address h)), (λ h. absurd h))
+pub none_same : (old new : Option Summary) → old ≡ None → ((key : Key) (address : ℕ) → HasSum new key address → ⊥) → (key : Key) (address : ℕ) → HasSum new key address ↔ HasSum old key address
+none_same old new none nothing key address = subst (λ (o : Option Summary). HasSum new key address ↔ HasSum o key address) (sym none) ((λ h. absurd (nothing key address h)), (λ h. absurd h))
 
 pub is_none : (old : Option Summary) → IsNone old → old ≡ None
 is_none None none = refl

@@ -1,4 +1,5 @@
 pub mod Accesses
+pub mod Going
 pub mod Intervals
 pub mod OneTree
 pub mod Regions

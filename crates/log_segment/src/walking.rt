@@ -126,6 +126,7 @@ impl Walk {
     }
 
     /// Ends what began after the last Region or Barrier: a segment, where it has an access.
+    #[inline(never)]
     pub fn close(&mut self, path: &Path, last: u32, found: &mut Vec<Segment>) -> Result<(), Memory>
         requires { last < 2 ^ 32 - 2 }
         ensures empty { OnOk result (self.old.summary ≡ None → found.new.items ≡ found.old.items) }
@@ -163,8 +164,19 @@ impl Walk {
         ensures same { self.new ≡ record self.old { summary = self.new.summary } }
     {
         if self.summary.is_none() {
-            self.summary = Some(Summary::new(alloc)?);
+            self.start(alloc)?;
         }
+        Ok(())
+    }
+
+    // Takes an empty summary. It stands apart, so that an access needs no room for it.
+    #[inline(never)]
+    fn start(&mut self, alloc: Global) -> Result<(), Memory>
+        ensures begun { OnOk result (is_open self.new.summary ≡ true) }
+        ensures none { OnOk result ((key : Key) (address : ℕ) → HasSum self.new.summary key address → ⊥) }
+        ensures same { self.new ≡ record self.old { summary = self.new.summary } }
+    {
+        self.summary = Some(Summary::new(alloc)?);
         Ok(())
     }
 
@@ -181,7 +193,7 @@ impl Walk {
             site: event.site,
             line: event.line,
             addr: event.addr,
-            held: held.copy(),
+            held,
         };
         self.begin(alloc)?;
         if let Some(summary) = &mut self.summary {
@@ -191,6 +203,7 @@ impl Walk {
     }
 
     /// Forks a region, and joins it.
+    #[inline(never)]
     fn fork(&mut self) -> Result<(), Memory>
         requires { ForSome (own_level self.old.label) (λ own. own.offset < 2 ^ 40) }
         ensures forks { OnOk result (self.new.forks.items ≡ self.old.forks.items ++ self.old.label ∷ []) }
@@ -205,6 +218,7 @@ impl Walk {
     }
 
     /// Passes a barrier.
+    #[inline(never)]
     fn pass(&mut self)
         requires { ForSome (own_level self.old.label) (λ own. own.barrier < 2 ^ 32 - 1) }
         ensures levels { length self.new.label ≡ length self.old.label }

@@ -19,7 +19,7 @@ use Rattle.log_index.specs.Puts.{PutsLogs, index, logs, with_run, with_tasks}
 use Rattle.log_upgrade.specs.Upgrade.{BringsPart, CanBring, CanUpgrade, LeavesUpgrade, Upgraded, nothing, part}
 use Rattle.log_upgrade.proofs.Held.{brought_held, brought_well_formed}
 
-module _ (told : Option Content) (content : Content) (is : told ≡ Some content) (dir new : List ℕ) (sweep : Sweep) (rows : List Row) (rows_is : rows ≡ sweep.rows.items) (trace : Trace) (all : HasSweptAll First told dir sweep trace) (fresh : content.held (index_name new) ≡ None) where
+module _ (told : Option Content) (content : Content) (is : told ≡ Some content) (dir new : List ℕ) (sweep : Sweep) (rows : List Row) (rows_is : rows ≡ sweep.rows) (trace : Trace) (all : HasSweptAll First told dir sweep trace) (fresh : content.held (index_name new) ≡ None) where
   holds : HoldsTrace First content.held dir trace
   holds = all.holds content is
 

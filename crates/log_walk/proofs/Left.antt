@@ -1,5 +1,5 @@
 -- What the window shows of the bytes that are left of a log.
-use Rattle.std.proofs.Common.{◌≡◌, inr, ℕ, ◌+◌, ◌<◌, ◌≤◌, List, [], ◌∷◌, ◌++◌, length, take, drop, refl, sym, ap, subst, ◌∙◌, arith}
+use Rattle.std.proofs.Common.{◌≡◌, ℕ, ◌+◌, ◌<◌, ◌≤◌, List, [], ◌∷◌, ◌++◌, length, take, drop, refl, sym, ap, subst, ◌∙◌, arith}
 use Rattle.std.proofs.lemmas.List.{append-nil, length-take, drop-drop}
 use Rattle.sw_base.specs.Window.{Window, Shows, skipped}
 use Rattle.sw_base.proofs.Windows.{shows_skipped}
@@ -10,10 +10,9 @@ use Rattle.log_format.specs.Spelling.{spelling, log_bytes}
 use Rattle.log_walk.specs.declared.state.State.{State}
 use Rattle.log_format.specs.Table.{Spells}
 use Rattle.race_model.specs.LogFault.{LogTask}
-use Rattle.log_walk.specs.declared.check.LogFault.{LogFault}
-use Rattle.log_walk.specs.declared.check.LogFault.TheVariants as fault
-use Rattle.log_walk.specs.Check.{IsGoodLog, IsNextRefused, IsLeftRefused, PassesRecord}
-use Rattle.log_walk.proofs.SoFar.{begins, Checks, IsReadTo}
+use Rattle.log_walk.specs.Check.{IsGoodLog}
+use Rattle.log_walk.specs.LogSoFar.{Checks, IsReadTo}
+use Rattle.log_walk.proofs.SoFar.{PassesRecord, begins}
 
 -- fewer bytes are ahead, so fewer are left
 pub short_left : (ahead rest : List ℕ) → take 24 ahead ≡ take 24 rest → length ahead < 24 → length rest < 24
@@ -47,14 +46,6 @@ good_log task opened state records index checks all = record {
 -- its bytes
 pub whole_log : {format : Format} (file : List ℕ) (records : List Record) (window : Window) → IsReadTo format file records window → drop window.place file ≡ [] → file ≡ log_bytes (log_header format) records
 whole_log {format} file records window read none = read.parts ∙ ap (λ (bs : List ℕ). log_bytes (log_header format) records ++ bs) none ∙ append-nil (log_bytes (log_header format) records)
-
--- its refusal is that of the bytes that are left
-pub refused_left : (format : Format) (next rest : List ℕ) (task : LogTask) (opened : ℕ) (before : List Record) (number : ℕ) (refusal : LogFault) → next ≡ take 24 rest → 24 ≤ length rest
-    → IsNextRefused format next task opened before number refusal → IsLeftRefused format rest task opened before number refusal
-refused_left format next rest task opened before number (fault.Bad n rule) is whole refused = inr (whole, subst (λ (bs : List ℕ). IsNextRefused format bs task opened before number (fault.Bad n rule)) is refused)
-refused_left format next rest task opened before number (fault.TooMany n) is whole refused = (whole, subst (λ (bs : List ℕ). IsNextRefused format bs task opened before number (fault.TooMany n)) is refused)
-refused_left format next rest task opened before number fault.ReadFault is whole refused = tt
-refused_left format next rest task opened before number fault.Memory is whole refused = tt
 
 -- the window goes past a record
 pub passes : {format : Format} (file next : List ℕ) (r : Record) (old filled new : Window) → Shows filled file → filled.place ≡ old.place → 24 ≤ length filled.ahead → new ≡ skipped 24 filled

@@ -20,12 +20,18 @@ use Rattle.race_model.specs.LogFault.{LogTask, Breaks, IsRead, IsRecord, IsLogFa
 use Rattle.log_walk.specs.declared.check.LogFault.{LogFault}
 use Rattle.log_walk.specs.declared.check.LogFault.TheVariants as fault
 use Rattle.log_walk.specs.declared.state.State.{State}
-use Rattle.log_walk.specs.Check.{KeepsLogRules, NothingBefore, of_why, IsLogRefused, IsNextRefused, IsLeftRefused, PassesRecord}
+use Rattle.log_walk.specs.Check.{KeepsLogRules, NothingBefore, of_why, IsLogRefused, IsNextRefused}
+use Rattle.log_walk.specs.LogSoFar.{Checks, IsReadTo}
 use Rattle.log_walk.specs.Rules.{BreaksNone}
 use Rattle.log_walk.specs.State.{IsStateAfter}
 use Rattle.log_walk.proofs.Next.{next_cut, next_untabled, before_next, before_cut, before_untabled, before_broken}
 use Rattle.race_laws.proofs.LogFaults.{past_end}
 use Rattle.log_walk.proofs.Opening.{segment_count-push}
+
+-- the window went past this record of the file
+pub record PassesRecord (file : List ℕ) (r : Record) (old new : Window) : Type 0 where
+  pub shows : Shows new file
+  pub parts : drop old.place file ≡ spelling r ++ drop new.place file
 
 -- these records were read of a log, and the rest is left
 pub record SoFar (format : Format) (bytes : List ℕ) (task : LogTask) (opened : ℕ) (state : State) (records : List Record) (rest : List ℕ) (index : ℕ) : Type 0 where
@@ -84,15 +90,6 @@ keeps_push task records r keeps holds = record {
       ];
 }
 
--- what the check of a log keeps of these records, whatever bytes they were read from
-pub record Checks (format : Format) (task : LogTask) (opened : ℕ) (state : State) (records : List Record) (index : ℕ) : Type 0 where
-  pub tabled : All (IsTabled format) records
-  pub keeps : KeepsLogRules task records
-  pub follows : IsStateAfter state opened records
-  pub count : length records ≡ index
-  pub barriers : state.barriers ≤ index
-  pub limit : state.segments ≤ max_segments
-
 -- no record yet
 pub checks_none : {format : Format} (task : LogTask) (opened : ℕ) (state : State) (records : List Record) → records ≡ [] → IsStateAfter state opened [] → opened ≤ max_segments → Checks format task opened state records 0
 checks_none {format} task opened state records none follows limit =
@@ -120,11 +117,6 @@ checks_next {format} task opened state now records pushed index r checks tabled 
 
 log_bytes_none : (format : Format) (records : List Record) → records ≡ [] → log_bytes (log_header format) records ≡ log_header format
 log_bytes_none format records none = ap (λ (rs : List Record). log_bytes (log_header format) rs) none ∙ append-nil (log_header format)
-
--- these records were read of the file, up to the window
-pub record IsReadTo (format : Format) (file : List ℕ) (records : List Record) (window : Window) : Type 0 where
-  pub shows : Shows window file
-  pub parts : file ≡ log_bytes (log_header format) records ++ drop window.place file
 
 pub read_none : {format : Format} (file : List ℕ) (records : List Record) (window : Window) → records ≡ [] → window.place ≡ 8 → Shows window file → file ≡ log_header format ++ drop 8 file → IsReadTo format file records window
 read_none {format} file records window none place shows parts = record {
@@ -226,19 +218,6 @@ next_refused {format} bytes task opened state records rest index next (fault.Too
     )
 next_refused bytes task opened state records rest index next fault.ReadFault so whole next_is within refused = absurd refused
 next_refused bytes task opened state records rest index next fault.Memory so whole next_is within refused = absurd refused
-
--- the bytes that are left begin with no good record
-pub left_refused : {format : Format} (bytes : List ℕ) (task : LogTask) (opened : ℕ) (state : State) (records : List Record) (rest : List ℕ) (index : ℕ) (refusal : LogFault) → SoFar format bytes task opened state records rest index
-    → index < task.records → IsLeftRefused format rest task opened records (index + 1) refusal → IsLogRefused format bytes task opened refusal
-left_refused {format} bytes task opened state records rest index (fault.Bad n rule) so within (inl (number, rule_is, short)) =
-    subst (λ (m : ℕ). IsLogRefused format bytes task opened (fault.Bad m rule)) (sym number)
-    (subst (λ (w : RecordWhy). IsLogRefused format bytes task opened (fault.Bad (index + 1) w)) (sym rule_is) (cut_refused bytes task opened state records rest index so short within))
-left_refused bytes task opened state records rest index (fault.Bad n rule) so within (inr (whole, refused)) =
-    next_refused bytes task opened state records rest index (take 24 rest) (fault.Bad n rule) so whole refl within refused
-left_refused bytes task opened state records rest index (fault.TooMany n) so within (whole, refused) =
-    next_refused bytes task opened state records rest index (take 24 rest) (fault.TooMany n) so whole refl within refused
-left_refused bytes task opened state records rest index fault.ReadFault so within refused = tt
-left_refused bytes task opened state records rest index fault.Memory so within refused = tt
 
 -- a byte follows the last record
 pub extra_refused : {format : Format} (bytes : List ℕ) (task : LogTask) (opened : ℕ) (state : State) (records : List Record) (rest : List ℕ) (index : ℕ) → SoFar format bytes task opened state records rest index

@@ -1,6 +1,6 @@
 -- How a sweep goes on.
 use Rattle.std.proofs.Common.{◌≡◌, ◌⊎◌, inl, inr, ℕ, zero, suc, ◌+◌, ◌^◌, ◌<◌, ◌≤◌, List, [], ◌∷◌, ◌++◌, length, min, Option, Some, None, refl, sym, ap, subst, ◌∙◌, arith, append-nil}
-use Rattle.std.specs.Prelude.{slice_get, string_bytes, All}
+use Rattle.std.specs.Prelude.{slice_get, All}
 use Rattle.std.specs.List.{AllZip}
 use Rattle.std.proofs.lemmas.Bool.{cases_order}
 use Rattle.std.proofs.lemmas.List.{length-map, length-take, take_all}
@@ -95,30 +95,30 @@ only_these rows region trace more good was now k row found is_under = (low (cut 
     high (inr le) = absurd (behind le)
 
 -- the segments of the tasks that were gone over last
-gives : {format : Format} (sweep : Sweep) (trace more : Trace) (IsOne : List Step → Type 0) (found : List Segment) → AreRows sweep.rows.items → IsGoodTrace format sweep.rows.items (trace ++ more) → 0 < length (trace ++ more)
-    → ((k : ℕ) (row : Row) → slice_get sweep.rows.items k ≡ Some row → length trace ≤ k → k < length (trace ++ more) → IsOne row.path)
-    → ((k : ℕ) (row : Row) → slice_get sweep.rows.items k ≡ Some row → IsOne row.path → (length trace ≤ k) × (k < length (trace ++ more)))
+gives : {format : Format} (sweep : Sweep) (trace more : Trace) (IsOne : List Step → Type 0) (found : List Segment) → AreRows sweep.rows → IsGoodTrace format sweep.rows (trace ++ more) → 0 < length (trace ++ more)
+    → ((k : ℕ) (row : Row) → slice_get sweep.rows k ≡ Some row → length trace ≤ k → k < length (trace ++ more) → IsOne row.path)
+    → ((k : ℕ) (row : Row) → slice_get sweep.rows k ≡ Some row → IsOne row.path → (length trace ≤ k) × (k < length (trace ++ more)))
     → ((logs : Logs) → HasLogs logs (trace ++ more) → AddsSegments logs (segments_of more) [] found) → GivesSegments sweep trace more IsOne found
 gives sweep trace more IsOne found good is some ones only adds = record {
-  tree = one_tree sweep.rows.items trace more good is found some (root_path (paths_of sweep.rows.items) good.lists)
-      (added_none (logs_of (trace ++ more)) more found (adds (logs_of (trace ++ more)) (own_logs sweep.rows.items (trace ++ more) good is)));
-  are = λ whole c. segments_are sweep.rows.items trace more c.rest whole IsOne found good is c.rows_are c.parts ones only (zip whole c);
+  tree = one_tree sweep.rows trace more good is found some (root_path (paths_of sweep.rows) good.lists)
+      (added_none (logs_of (trace ++ more)) more found (adds (logs_of (trace ++ more)) (own_logs sweep.rows (trace ++ more) good is)));
+  are = λ whole c. segments_are sweep.rows trace more c.rest whole IsOne found good is c.rows_are c.parts ones only (zip whole c);
   in_order = λ whole c. zip whole c;
 } where
   zip : (whole : Trace) → Completes sweep (trace ++ more) whole → AllZip (IsSegmentOf (logs_of whole)) (segments_of more) found
-  zip whole c = added_none (logs_of whole) more found (adds (logs_of whole) (whole_logs sweep.rows.items (trace ++ more) c.rest whole good c.rows_are c.parts))
+  zip whole c = added_none (logs_of whole) more found (adds (logs_of whole) (whole_logs sweep.rows (trace ++ more) c.rest whole good c.rows_are c.parts))
 
 -- a region was gone over
 pub gives_region : {format : Format} (told : Option Content) (dir : List ℕ) (old new : Sweep) (trace : Trace) (found : List Segment) → HasSwept format told dir old trace → old.refused ≡ None
-    → new ≡ record old { stack = new.stack; region = old.region + 1 } → WalksRegion format told dir old.rows.items old.region new.stack trace found → GivesRegion format told dir old new trace found
+    → new ≡ record old { stack = new.stack; region = old.region + 1 } → WalksRegion format told dir old.rows old.region new.stack trace found → GivesRegion format told dir old new trace found
 gives_region {format} told dir old new trace found swept fresh is walks = record {
   more = walks.more;
   swept = record {
     format_is = ap (λ (s : Sweep). s.format) is ∙ swept.format_is;
-    dir_is = ap (λ (s : Sweep). string_bytes s.dir) is ∙ swept.dir_is;
+    dir_is = ap (λ (s : Sweep). s.dir) is ∙ swept.dir_is;
     rows = subst (λ (rs : List Row). AreRows rs) (sym rows) swept.rows;
     good = subst (λ (rs : List Row). IsGoodTrace format rs (trace ++ walks.more)) (sym rows) walks.stands.good;
-    regions = subst (λ (n : ℕ). AreRegions n new.rows.items (trace ++ walks.more)) (sym region) (subst (λ (rs : List Row). AreRegions (old.region + 1) rs (trace ++ walks.more)) (sym rows) regions);
+    regions = subst (λ (n : ℕ). AreRegions n new.rows (trace ++ walks.more)) (sym region) (subst (λ (rs : List Row). AreRegions (old.region + 1) rs (trace ++ walks.more)) (sym rows) regions);
     stands = λ none. subst (λ (rs : List Row). IsStackAfter format rs new.stack (trace ++ walks.more)) (sym rows) walks.stands;
     holds = λ c at. subst (λ (rs : List Row). Walked format c.held dir rs (trace ++ walks.more)) (sym rows) (walks.holds swept.holds c at);
     refusal = λ e refused. (let clash : None ≡ Some e = sym (ap (λ (s : Sweep). s.refused) is ∙ fresh) ∙ refused in cc clash);
@@ -128,38 +128,38 @@ gives_region {format} told dir old new trace found swept fresh is walks = record
   fresh = ap (λ (s : Sweep). s.refused) is ∙ fresh;
   gives = gives new trace walks.more (IsUnderRegion old.region) found (subst (λ (rs : List Row). AreRows rs) (sym rows) swept.rows) (subst (λ (rs : List Row). IsGoodTrace format rs (trace ++ walks.more)) (sym rows) walks.stands.good)
       (omega (arith, regions.begun)) (λ k row at. walks.under k row (ap (λ (rs : List Row). slice_get rs k) (sym rows) ∙ at))
-      (λ k row at. only_these old.rows.items old.region trace walks.more swept.rows swept.regions regions k row (ap (λ (rs : List Row). slice_get rs k) (sym rows) ∙ at)) walks.adds;
+      (λ k row at. only_these old.rows old.region trace walks.more swept.rows swept.regions regions k row (ap (λ (rs : List Row). slice_get rs k) (sym rows) ∙ at)) walks.adds;
 } where
-  rows : new.rows.items ≡ old.rows.items
-  rows = ap (λ (s : Sweep). s.rows.items) is
+  rows : new.rows ≡ old.rows
+  rows = ap (λ (s : Sweep). s.rows) is
 
   region : new.region ≡ old.region + 1
   region = ap (λ (s : Sweep). s.region) is
 
-  regions : AreRegions (old.region + 1) old.rows.items (trace ++ walks.more)
-  regions = regions_next old.rows.items old.region trace walks.more swept.rows swept.regions walks.some walks.under walks.past
+  regions : AreRegions (old.region + 1) old.rows (trace ++ walks.more)
+  regions = regions_next old.rows old.region trace walks.more swept.rows swept.regions walks.some walks.under walks.past
 
 short : (n m : ℕ) → n ≡ min n m → n ≤ m
 short n m e = grind arith
 
 -- no row is left
-pub swept_all : {format : Format} (told : Option Content) (dir : List ℕ) (sweep : Sweep) (trace : Trace) → HasSwept format told dir sweep trace → sweep.refused ≡ None → length sweep.rows.items ≤ sweep.stack.place → HasSweptAll format told dir sweep trace
+pub swept_all : {format : Format} (told : Option Content) (dir : List ℕ) (sweep : Sweep) (trace : Trace) → HasSwept format told dir sweep trace → sweep.refused ≡ None → length sweep.rows ≤ sweep.stack.place → HasSweptAll format told dir sweep trace
 swept_all told dir sweep trace swept fresh past = record {
   good = swept.good;
-  keeps = keeps_rules sweep.rows.items trace swept.rows swept.good all;
-  holds = λ c is. holds_trace c.held dir sweep.rows.items trace (swept.holds c is) all;
-  well_formed = λ c is. is_well_formed c.held dir sweep.rows.items trace (swept.holds c is) all;
-  completes = record { rows_are = swept.good.rows_are ∙ take_all (length trace) sweep.rows.items (omega (arith, all)); rest = []; parts = sym (append-nil trace) };
+  keeps = keeps_rules sweep.rows trace swept.rows swept.good all;
+  holds = λ c is. holds_trace c.held dir sweep.rows trace (swept.holds c is) all;
+  well_formed = λ c is. is_well_formed c.held dir sweep.rows trace (swept.holds c is) all;
+  completes = record { rows_are = swept.good.rows_are ∙ take_all (length trace) sweep.rows (omega (arith, all)); rest = []; parts = sym (append-nil trace) };
   under = λ task m listed is_under. (let at = got_contains trace task listed in
-      swept.regions.given at.0 (row_of task) m (path_there sweep.rows.items trace at.0 task swept.good at.1) is_under (slice_get_within trace at.0 task at.1));
+      swept.regions.given at.0 (row_of task) m (path_there sweep.rows trace at.0 task swept.good at.1) is_under (slice_get_within trace at.0 task at.1));
 } where
   rows_of_length : (ts : Trace) → length (rows_of ts) ≡ length ts
   rows_of_length ts = length-map ts row_of
 
-  few : length trace ≤ length sweep.rows.items
-  few = short (length trace) (length sweep.rows.items) (sym (rows_of_length trace) ∙ (ap (λ (rs : List Row). length rs) swept.good.rows_are ∙ length-take (length trace) sweep.rows.items))
+  few : length trace ≤ length sweep.rows
+  few = short (length trace) (length sweep.rows) (sym (rows_of_length trace) ∙ (ap (λ (rs : List Row). length rs) swept.good.rows_are ∙ length-take (length trace) sweep.rows))
 
-  all : length trace ≡ length sweep.rows.items
+  all : length trace ≡ length sweep.rows
   all = let stands = swept.stands fresh in omega (arith, stands.place, few, past)
 
 -- a refusal is kept
@@ -167,10 +167,10 @@ pub refused_kept : {format : Format} (told : Option Content) (dir : List ℕ) (o
     → RefusesLogOf (IsUnderRegion old.region) e → WhereTold told (λ c. TellsFirstBad format c.held dir e) → HasSwept format told dir new trace
 refused_kept {format} told dir old new trace e swept is of tells = record {
   format_is = ap (λ (s : Sweep). s.format) is ∙ swept.format_is;
-  dir_is = ap (λ (s : Sweep). string_bytes s.dir) is ∙ swept.dir_is;
+  dir_is = ap (λ (s : Sweep). s.dir) is ∙ swept.dir_is;
   rows = subst (λ (rs : List Row). AreRows rs) (sym rows) swept.rows;
   good = subst (λ (rs : List Row). IsGoodTrace format rs trace) (sym rows) swept.good;
-  regions = subst (λ (n : ℕ). AreRegions n new.rows.items trace) (sym region) (subst (λ (rs : List Row). AreRegions old.region rs trace) (sym rows) swept.regions);
+  regions = subst (λ (n : ℕ). AreRegions n new.rows trace) (sym region) (subst (λ (rs : List Row). AreRegions old.region rs trace) (sym rows) swept.regions);
   stands = λ none. (let clash : None ≡ Some e = sym none ∙ ap (λ (s : Sweep). s.refused) is in cc clash);
   holds = λ c at. subst (λ (rs : List Row). Walked format c.held dir rs trace) (sym rows) (swept.holds c at);
   refusal = λ other refused.
@@ -178,8 +178,8 @@ refused_kept {format} told dir old new trace e swept is of tells = record {
       subst (λ (x : WalkFault). RefusesLogOf (IsUnderRegion new.region) x × WhereTold told (λ c. TellsFirstBad format c.held dir x)) same
       (subst (λ (n : ℕ). RefusesLogOf (IsUnderRegion n) e) (sym region) of, tells));
 } where
-  rows : new.rows.items ≡ old.rows.items
-  rows = ap (λ (s : Sweep). s.rows.items) is
+  rows : new.rows ≡ old.rows
+  rows = ap (λ (s : Sweep). s.rows) is
 
   region : new.region ≡ old.region
   region = ap (λ (s : Sweep). s.region) is
@@ -201,8 +201,8 @@ begins_stack rows stack good place segments = record {
   no_step (s ∷ above) step rest e = cc
 
 -- the root's log was gone over
-pub begins : {format : Format} (told : Option Content) (dir : List ℕ) (sweep : Sweep) (row : Row) (found : List Segment) → sweep.format ≡ format → AreRows sweep.rows.items → string_bytes sweep.dir ≡ dir → sweep.region ≡ 0 → sweep.refused ≡ None
-    → slice_get sweep.rows.items 0 ≡ Some row → WhereTold told (λ c. IsIndex format c.held dir sweep.rows.items) → WalksTask format told dir sweep.rows.items sweep.stack [] row [] found → BeginsSweep format told dir sweep found
+pub begins : {format : Format} (told : Option Content) (dir : List ℕ) (sweep : Sweep) (row : Row) (found : List Segment) → sweep.format ≡ format → AreRows sweep.rows → sweep.dir ≡ dir → sweep.region ≡ 0 → sweep.refused ≡ None
+    → slice_get sweep.rows 0 ≡ Some row → WhereTold told (λ c. IsIndex format c.held dir sweep.rows) → WalksTask format told dir sweep.rows sweep.stack [] row [] found → BeginsSweep format told dir sweep found
 begins told dir sweep row found format_is good dir_is region fresh at index walks = record {
   root = root;
   is_root = is_root;
@@ -214,16 +214,16 @@ begins told dir sweep row found format_is good dir_is region fresh at index walk
     regions = record {
       begun = omega arith;
       given = λ k other m there is_under within. absurd (not_root k other m there is_under (omega arith));
-      next = λ other there. subst (λ (n : ℕ). IsUnderRegion n other.path) (sym region) (first_region other.path (next_path (paths_of sweep.rows.items) good.lists 0 [] other.path (root_path (paths_of sweep.rows.items) good.lists) (path_found sweep.rows.items 1 other there)));
+      next = λ other there. subst (λ (n : ℕ). IsUnderRegion n other.path) (sym region) (first_region other.path (next_path (paths_of sweep.rows) good.lists 0 [] other.path (root_path (paths_of sweep.rows) good.lists) (path_found sweep.rows 1 other there)));
     };
     stands = λ none. walks.stands;
-    holds = walked_push told dir sweep.rows.items [] root sweep.stack (λ c is. record { index = index c is; logs = λ k d within. absurd (omega arith); good = record { rows_are = refl; each = λ k task there. cc; limit = omega arith } }) walks.stands walks.whole;
+    holds = walked_push told dir sweep.rows [] root sweep.stack (λ c is. record { index = index c is; logs = λ k d within. absurd (omega arith); good = record { rows_are = refl; each = λ k task there. cc; limit = omega arith } }) walks.stands walks.whole;
     refusal = λ e refused. (let clash : None ≡ Some e = sym fresh ∙ refused in cc clash);
   };
   none_given = region;
   gives = gives sweep [] (root ∷ []) IsRoot found good walks.stands.good (omega arith)
       (λ k other there low high. root_of k other there (let zero_is : k ≡ 0 = omega (arith, high) in zero_is))
-      (λ k other there is. (omega arith, (let zero_is : k ≡ 0 = listed_once (paths_of sweep.rows.items) k 0 [] good.lists (path_found sweep.rows.items k other there ∙ ap (λ (p : List Step). Some p) is) (root_path (paths_of sweep.rows.items) good.lists) in omega (arith, zero_is))))
+      (λ k other there is. (omega arith, (let zero_is : k ≡ 0 = listed_once (paths_of sweep.rows) k 0 [] good.lists (path_found sweep.rows k other there ∙ ap (λ (p : List Step). Some p) is) (root_path (paths_of sweep.rows) good.lists) in omega (arith, zero_is))))
       (λ logs has. subst (λ (is : List Interval). AddsSegments logs is [] found) (sym (append-nil (task_segments root))) (walks.adds logs has));
   fresh = fresh;
 } where
@@ -231,12 +231,12 @@ begins told dir sweep row found format_is good dir_is region fresh at index walk
   root = record { path = row.path; records = walks.records }
 
   is_root : row.path ≡ []
-  is_root = same_Some row.path [] (sym (path_found sweep.rows.items 0 row at) ∙ root_path (paths_of sweep.rows.items) good.lists)
+  is_root = same_Some row.path [] (sym (path_found sweep.rows 0 row at) ∙ root_path (paths_of sweep.rows) good.lists)
 
-  root_of : (k : ℕ) (other : Row) → slice_get sweep.rows.items k ≡ Some other → k ≡ 0 → other.path ≡ []
-  root_of k other there is = same_Some other.path [] (sym (path_found sweep.rows.items k other there) ∙ (ap (λ (n : ℕ). slice_get (paths_of sweep.rows.items) n) is ∙ root_path (paths_of sweep.rows.items) good.lists))
+  root_of : (k : ℕ) (other : Row) → slice_get sweep.rows k ≡ Some other → k ≡ 0 → other.path ≡ []
+  root_of k other there is = same_Some other.path [] (sym (path_found sweep.rows k other there) ∙ (ap (λ (n : ℕ). slice_get (paths_of sweep.rows) n) is ∙ root_path (paths_of sweep.rows) good.lists))
 
-  not_root : (k : ℕ) (other : Row) (m : ℕ) → slice_get sweep.rows.items k ≡ Some other → IsUnderRegion m other.path → k ≡ 0 → ⊥
+  not_root : (k : ℕ) (other : Row) (m : ℕ) → slice_get sweep.rows k ≡ Some other → IsUnderRegion m other.path → k ≡ 0 → ⊥
   not_root k other m there is_under is = let clash : [] ≡ is_under.first ∷ is_under.rest = sym (root_of k other there is) ∙ is_under.parts in cc clash
 
   first_region : (next : List Step) → IsNextPath [] next → IsUnderRegion 0 next

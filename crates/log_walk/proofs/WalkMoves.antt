@@ -40,9 +40,9 @@ of_folder told dir sweep found w all = record {
   keeps = all.keeps;
   holds = all.holds;
   in_order = zip;
-  all = segments_are sweep.rows.items [] w.trace all.completes.rest w.trace IsAnyTask found w.swept.rows w.swept.good all.completes.rows_are all.completes.parts
-      (λ k row at low high. tt) (λ k row at one. (omega arith, omega (arith, slice_get_within sweep.rows.items k row at, ap (λ (rs : List Row). length rs) all.completes.rows_are, length-map w.trace row_of))) zip;
-  tree = one_tree sweep.rows.items [] w.trace w.swept.rows w.swept.good found w.swept.regions.begun (root_listed_first sweep.rows.items w.swept.rows) zip;
+  all = segments_are sweep.rows [] w.trace all.completes.rest w.trace IsAnyTask found w.swept.rows w.swept.good all.completes.rows_are all.completes.parts
+      (λ k row at low high. tt) (λ k row at one. (omega arith, omega (arith, slice_get_within sweep.rows k row at, ap (λ (rs : List Row). length rs) all.completes.rows_are, length-map w.trace row_of))) zip;
+  tree = one_tree sweep.rows [] w.trace w.swept.rows w.swept.good found w.swept.regions.begun (root_listed_first sweep.rows w.swept.rows) zip;
 } where
   zip : AllZip (IsSegmentOf (logs_of w.trace)) (segments_of w.trace) found
   zip = w.in_order w.trace all.completes

@@ -1,5 +1,5 @@
 -- What the check of one log says of its records.
-use Rattle.std.specs.Prelude.{◌≡◌, ◌⊎◌, ℕ, ◌+◌, ◌<◌, ◌≤◌, Bool, false, cond, List, [], ◌∷◌, ◌++◌, length, take, drop, slice_get, All, Option, Some}
+use Rattle.std.specs.Prelude.{◌≡◌, ◌⊎◌, ℕ, ◌+◌, ◌<◌, ◌≤◌, Bool, false, cond, List, [], ◌∷◌, length, take, slice_get, All, Option, Some}
 use Rattle.log_format.specs.declared.format.Format.{Format}
 use Rattle.log_format.specs.Format.{log_header}
 use Rattle.log_format.specs.declared.record.Kind.{Kind}
@@ -9,12 +9,12 @@ use Rattle.log_format.specs.declared.record.Why.{Why}
 use Rattle.log_format.specs.declared.record.Why.TheVariants as why
 use Rattle.race_model.specs.declared.why.RecordWhy.{RecordWhy}
 use Rattle.race_model.specs.declared.why.RecordWhy.TheVariants as log
-use Rattle.log_format.specs.Spelling.{spelling, log_bytes}
+use Rattle.log_format.specs.Spelling.{log_bytes}
 use Rattle.log_format.specs.Table.{IsTabled, Spells, IsFirstFault}
 use Rattle.sw_base.specs.declared.trouble.Trouble.{Trouble}
 use Rattle.sw_base.specs.declared.trouble.Trouble.TheVariants as trouble
 use Rattle.sw_base.specs.Environment.{Content, WhereTold}
-use Rattle.sw_base.specs.Window.{Window, Shows, file_of}
+use Rattle.sw_base.specs.Window.{file_of}
 use Rattle.race_model.specs.Label.{Triple}
 use Rattle.race_model.specs.Trace.{barrier_count}
 use Rattle.log_segment.specs.Walking.{open_after, WalksLog}
@@ -119,19 +119,6 @@ IsNextRefused format bytes task opened before number (fault.Bad n rule) = (n ≡
 IsNextRefused format bytes task opened before number (fault.TooMany n) = (n ≡ number) × IsOverNext format bytes task opened before
 IsNextRefused format bytes task opened before number fault.ReadFault = ⊥
 IsNextRefused format bytes task opened before number fault.Memory = ⊥
-
--- why the bytes that are left begin with no good record
-abbrev pub IsLeftRefused : Format → List ℕ → LogTask → ℕ → List Record → ℕ → LogFault → Type 0
-IsLeftRefused format rest task opened before number (fault.Bad n rule) =
-    ((n ≡ number) × (rule ≡ log.Cut) × (length rest < 24)) ⊎ ((24 ≤ length rest) × IsNextRefused format (take 24 rest) task opened before number (fault.Bad n rule))
-IsLeftRefused format rest task opened before number (fault.TooMany n) = (24 ≤ length rest) × IsNextRefused format (take 24 rest) task opened before number (fault.TooMany n)
-IsLeftRefused format rest task opened before number fault.ReadFault = Unit {0}
-IsLeftRefused format rest task opened before number fault.Memory = Unit {0}
-
--- the window went past this record of the file
-pub record PassesRecord (file : List ℕ) (r : Record) (old new : Window) : Type 0 where
-  pub shows : Shows new file
-  pub parts : drop old.place file ≡ spelling r ++ drop new.place file
 
 -- what the next record is where it isn't refused
 pub record IsGoodNext (format : Format) (bytes : List ℕ) (task : LogTask) (before : List Record) (r : Record) : Type 0 where

@@ -1,8 +1,10 @@
 pub mod Check
 pub mod GoodTrace
+pub mod LogSoFar
 pub mod Rules
 pub mod Segments
 pub mod Stack
 pub mod State
 pub mod Sweep
+pub mod SweepValue
 pub mod Walk

@@ -1,5 +1,5 @@
 -- A sweep through a folder: the root's log first, and then one region of the root at a time.
-use Rattle.std.specs.Prelude.{◌≡◌, ℕ, ◌+◌, ◌-◌, ◌<◌, ◌≤◌, List, [], ◌∷◌, ◌++◌, length, Contains, Option, Some, None, slice_get, string_bytes}
+use Rattle.std.specs.Prelude.{◌≡◌, ℕ, ◌+◌, ◌-◌, ◌<◌, ◌≤◌, List, [], ◌∷◌, ◌++◌, length, Contains, Option, Some, None, slice_get}
 use Rattle.std.specs.List.{AllZip}
 use Rattle.sw_base.specs.declared.path.Step.{Step}
 use Rattle.sw_base.specs.Environment.{Content, WhereTold}
@@ -33,7 +33,7 @@ regions_given sweep = sweep.region
 
 -- how many logs are ahead
 abbrev pub logs_left : Sweep → ℕ
-logs_left sweep = length sweep.rows.items - sweep.stack.place
+logs_left sweep = length sweep.rows - sweep.stack.place
 
 -- a refusal was answered
 abbrev pub HasRefused : Sweep → WalkFault → Type 0
@@ -59,12 +59,12 @@ pub record AreRegions (region : ℕ) (rows : List Row) (trace : Trace) : Type 0 
 -- is bad before the next one
 pub record HasSwept (format : Format) (told : Option Content) (dir : List ℕ) (sweep : Sweep) (trace : Trace) : Type 0 where
   pub format_is : sweep.format ≡ format
-  pub dir_is : string_bytes sweep.dir ≡ dir
-  pub rows : AreRows sweep.rows.items
-  pub good : IsGoodTrace format sweep.rows.items trace
-  pub regions : AreRegions sweep.region sweep.rows.items trace
-  pub stands : sweep.refused ≡ None → IsStackAfter format sweep.rows.items sweep.stack trace
-  pub holds : WhereTold told (λ c. Walked format c.held dir sweep.rows.items trace)
+  pub dir_is : sweep.dir ≡ dir
+  pub rows : AreRows sweep.rows
+  pub good : IsGoodTrace format sweep.rows trace
+  pub regions : AreRegions sweep.region sweep.rows trace
+  pub stands : sweep.refused ≡ None → IsStackAfter format sweep.rows sweep.stack trace
+  pub holds : WhereTold told (λ c. Walked format c.held dir sweep.rows trace)
   pub refusal : (e : WalkFault) → HasRefused sweep e → RefusesLogOf (IsUnderRegion sweep.region) e × WhereTold told (λ c. TellsFirstBad format c.held dir e)
 
 -- the logs of a region were gone over, and these are their segments
@@ -79,7 +79,7 @@ pub record WalksRegion (format : Format) (told : Option Content) (dir : List ℕ
 
 -- the trace has these tasks first, and then those of the other rows
 pub record Completes (sweep : Sweep) (trace whole : Trace) : Type 0 where
-  pub rows_are : rows_of whole ≡ sweep.rows.items
+  pub rows_are : rows_of whole ≡ sweep.rows
   pub rest : Trace
   pub parts : whole ≡ trace ++ rest
 
@@ -102,14 +102,14 @@ pub record BeginsSweep (format : Format) (told : Option Content) (dir : List ℕ
 pub record GivesRegion (format : Format) (told : Option Content) (dir : List ℕ) (old new : Sweep) (trace : Trace) (found : List Segment) : Type 0 where
   pub more : Trace
   pub swept : HasSwept format told dir new (trace ++ more)
-  pub rows : new.rows.items ≡ old.rows.items
+  pub rows : new.rows ≡ old.rows
   pub next : regions_given new ≡ regions_given old + 1
   pub fresh : new.refused ≡ None
   pub gives : GivesSegments new trace more (IsUnderRegion (regions_given old)) found
 
 -- all were gone over before
 pub record HasSweptAll (format : Format) (told : Option Content) (dir : List ℕ) (sweep : Sweep) (trace : Trace) : Type 0 where
-  pub good : IsGoodTrace format sweep.rows.items trace
+  pub good : IsGoodTrace format sweep.rows trace
   pub keeps : KeepsRules format trace
   pub holds : WhereTold told (λ c. HoldsTrace format c.held dir trace)
   pub well_formed : WhereTold told (λ c. IsWellFormed format c.held dir)

@@ -1,16 +1,18 @@
 //! The check of one log.
-ghost use Rattle.std.specs.Prelude.{◌≡◌, ◌+◌, ◌*◌, ◌<◌, ◌≤◌, ℕ, List, [], ◌∷◌, ◌++◌, length, drop, IfOk, IfErr, IsErrOf, OnOk};
-ghost use Rattle.sw_base.specs.Environment.{WhereTold, Rose};
-ghost use Rattle.sw_base.specs.Window.{Shows, file_of};
-ghost use Rattle.log_format.specs.Spelling.{log_bytes};
-ghost use Rattle.log_format.specs.Table.{IsTabled, Spells};
+ghost use Rattle.std.specs.Prelude.{◌≡◌, ◌+◌, ◌-◌, ◌*◌, ◌<◌, ◌≤◌, ℕ, List, Option, [], ◌∷◌, ◌++◌, length, drop, IfOk, IfErr, IsErrOf, OnOk};
+ghost use Rattle.sw_base.specs.Environment.{Content, WhereTold, Rose};
+ghost use Rattle.sw_base.specs.Window.{file_of};
+ghost use Rattle.log_format.specs.Table.{Spells};
 ghost use Rattle.log_format.specs.declared.record.Record.{Record};
+ghost use Rattle.log_segment.specs.declared.segment.Segment.{Segment};
 ghost use Rattle.log_segment.specs.Walking.{IsOwnAfter};
-ghost use Rattle.log_walk.specs.Check.{of_why, IsGoodNext, IsNextRefused, IsLeftRefused, PassesRecord, ChecksLog, IsLogRefused};
-ghost use Rattle.log_walk.specs.Rules.{log_task_of, BreaksNone};
+ghost use Rattle.log_walk.specs.Check.{of_why, IsGoodNext, IsNextRefused, ChecksLog, IsLogRefused};
+ghost use Rattle.log_walk.specs.LogSoFar.{LogSoFar};
+ghost use Rattle.log_walk.specs.Rules.{log_task_of};
 ghost use Rattle.log_walk.specs.State.{IsStateAfter, IsWalkAfter};
 ghost use Rattle.race_model.specs.LogFault.{max_segments};
 ghost use Rattle.race_model.specs.IndexFault.{max_records};
+ghost use Rattle.race_model.specs.Label.{Triple};
 
 use crate::state::State;
 use crate::task::Task;
@@ -138,49 +140,96 @@ fn accept(
     Ok(record)
 }
 
-/// The next record of a log, where it keeps the rules. So many records were read before.
-fn next_record<F: Folder>(
+/// Goes over the whole records that are ahead, where they keep the rules, and tells how many records of the log were gone
+/// over by then. So many were before.
+fn walk_ahead(
+    alloc: Global,
+    format: Format,
+    state: &mut State,
+    walk: &mut Walk,
+    task: &Task,
+    before: u32,
+    ahead: &[u8],
+    found: &mut Vec<Segment>,
+) -> Result<u32, LogFault>
+    requires records { task.now.records ≤ max_records }
+    requires before { before ≤ task.now.records }
+    requires so { (told : Option Content) × (name : List ℕ) × (opened : ℕ) × (label : List Triple) × (old : List Segment)
+        × LogSoFar format told name (log_task_of task.now) opened label state.old walk.old ahead.now old found.old.items before }
+    ensures goes { (told : Option Content) (name : List ℕ) (opened : ℕ) (label : List Triple) (old : List Segment)
+        → LogSoFar format told name (log_task_of task.now) opened label state.old walk.old ahead.now old found.old.items before
+        → IfOk result (λ after. LogSoFar format told name (log_task_of task.now) opened label state.new walk.new (drop (24 * (after - before)) ahead.now) old found.new.items after) }
+    ensures within { IfOk result (λ after. (before ≤ after) × (after ≤ task.now.records) × (24 * (after - before) ≤ length ahead.now)) }
+    ensures all { IfOk result (λ after. after < task.now.records → length ahead.now < 24 * (after - before) + 24) }
+    ensures refused { (told : Option Content) (name : List ℕ) (opened : ℕ) (label : List Triple) (old : List Segment)
+        → LogSoFar format told name (log_task_of task.now) opened label state.old walk.old ahead.now old found.old.items before
+        → IfErr result (λ e. WhereTold told (λ c. IsLogRefused format (file_of c name) (log_task_of task.now) opened e)) }
+    ensures read { IsErrOf result LogFault.ReadFault → ⊥ }
+{
+    let mut after = before;
+    let mut rest = ahead;
+    'records: while after < task.records {
+        let Some((bytes, later)) = rest.split_first_chunk::<RECORD>() else {
+            return Ok(after);
+        };
+        let next = accept(format, state, walk, task, after + 1, bytes)?;
+        walk.step(alloc, &task.path, after + 1, &next, &state.held, found)?;
+        after += 1;
+        rest = later;
+    }
+    Ok(after)
+}
+
+/// Goes over the next records of a log, at least one, where they keep the rules, and tells how many were gone over by then.
+fn next_records<F: Folder>(
     alloc: Global,
     format: Format,
     folder: &mut F,
     name: &str,
     window: &mut Window,
     state: &mut State,
-    walk: &Walk,
+    walk: &mut Walk,
     task: &Task,
-    index: u32,
-) -> Result<Record, LogFault>
-    requires index { index < max_records }
-    requires place { window.old.place ≡ 8 + 24 * index }
-    requires segments { state.old.segments ≤ max_segments }
-    requires barriers { state.old.barriers ≤ index }
-    ensures good { (opened : ℕ) (before : List Record) → IsStateAfter state.old opened before → IsWalkAfter walk.now before → index ≡ length before
-        → IfOk result (λ r. IsTabled format r × BreaksNone (log_task_of task.now) before r) }
-    ensures follows { (opened : ℕ) (before : List Record) → IsStateAfter state.old opened before → IsWalkAfter walk.now before → index ≡ length before
-        → IfOk result (λ r. IsStateAfter state.new opened (before ++ r ∷ [])) }
-    ensures read { IfOk result (λ r. WhereTold (F.state folder.old).content (λ c. Shows window.old (file_of c name.now) → PassesRecord (file_of c name.now) r window.old window.new)) }
-    ensures refused { (opened : ℕ) (before : List Record) → IsStateAfter state.old opened before → IsWalkAfter walk.now before → index ≡ length before
-        → IfErr result (λ e. WhereTold (F.state folder.old).content (λ c. Shows window.old (file_of c name.now)
-        → IsLeftRefused format (drop window.old.place (file_of c name.now)) (log_task_of task.now) opened before (index + 1) e)) }
-    ensures place { OnOk result (window.new.place ≡ window.old.place + 24) }
-    ensures limit { OnOk result (state.new.segments ≤ max_segments) }
-    ensures barriers { OnOk result (state.new.barriers ≤ index + 1) }
+    before: u32,
+    found: &mut Vec<Segment>,
+) -> Result<u32, LogFault>
+    requires records { task.now.records ≤ max_records }
+    requires before { before < task.now.records }
+    requires place { window.old.place ≡ 8 + 24 * before }
+    requires so { (opened : ℕ) × (label : List Triple) × (old : List Segment)
+        × LogSoFar format (F.state folder.old).content name.now (log_task_of task.now) opened label state.old walk.old window.old.ahead old found.old.items before }
+    ensures goes { (opened : ℕ) (label : List Triple) (old : List Segment)
+        → LogSoFar format (F.state folder.old).content name.now (log_task_of task.now) opened label state.old walk.old window.old.ahead old found.old.items before
+        → IfOk result (λ after. LogSoFar format (F.state folder.old).content name.now (log_task_of task.now) opened label state.new walk.new window.new.ahead old found.new.items after) }
+    ensures place { IfOk result (λ after. window.new.place ≡ 8 + 24 * after) }
+    ensures within { IfOk result (λ after. (before < after) × (after ≤ task.now.records)) }
+    ensures refused { (opened : ℕ) (label : List Triple) (old : List Segment)
+        → LogSoFar format (F.state folder.old).content name.now (log_task_of task.now) opened label state.old walk.old window.old.ahead old found.old.items before
+        → IfErr result (λ e. WhereTold (F.state folder.old).content (λ c. IsLogRefused format (file_of c name.now) (log_task_of task.now) opened e)) }
 
     ensures same { F.state folder.new ≡ F.state folder.old }
     ensures later { F.read_faults folder.old ≤ F.read_faults folder.new }
     ensures cause { IsErrOf result LogFault.ReadFault → Rose (F.read_faults folder.old) (F.read_faults folder.new) }
 {
-    let number = index + 1;
     window.fill(alloc, folder, name, RECORD)?;
-    let Some((next, _)) = window.ahead().split_first_chunk::<RECORD>() else {
+    let after = walk_ahead(
+        alloc,
+        format,
+        state,
+        walk,
+        task,
+        before,
+        window.ahead(),
+        found,
+    )?;
+    if after == before {
         return Err(LogFault::Bad {
-            number,
+            number: before + 1,
             why: RecordWhy::Cut,
         });
-    };
-    let record = accept(format, state, walk, task, number, next)?;
-    window.skip(RECORD);
-    Ok(record)
+    }
+    window.skip(RECORD * (after - before) as usize);
+    Ok(after)
 }
 
 /// Goes over the log under this name, where it is good, and adds its segments. Else the first place at which it isn't.
@@ -214,11 +263,12 @@ pub fn check_log<F: Folder>(
     }
     let mut state = State::new(opened);
     let mut walk = Walk::new(alloc, label);
-    'records: for index in 0..task.records {
-        let next = next_record(
-            alloc, format, folder, name, window, &mut state, &walk, task, index,
+    let mut index = 0;
+    'windows: while index < task.records {
+        let after = next_records(
+            alloc, format, folder, name, window, &mut state, &mut walk, task, index, found,
         )?;
-        walk.step(alloc, &task.path, index + 1, &next, &state.held, found)?;
+        index = after;
     }
     window.fill(alloc, folder, name, 1)?;
     if !window.ahead().is_empty() {

@@ -17,6 +17,7 @@ use log_format::{FORMAT, Format};
 use log_index::{Row as IndexRow, read_index_as};
 use log_segment::Segment;
 use std::alloc::Global;
+use std::marker::Model;
 use sw_base::{Folder, Path};
 
 /// The logs of a folder, gone over once: the root's first, and then those of one region of the root at a time. It keeps no
@@ -31,6 +32,22 @@ pub struct Sweep {
     region: u64,
     /// What `next` refused.
     refused: Option<WalkFault>,
+}
+
+impl Model for Sweep {
+    ghost use Rattle.std.specs.Prelude.{string_bytes};
+    ghost use Rattle.log_walk.specs.SweepValue.{SweepValue};
+
+    ghost Value = { SweepValue };
+
+    ghost view = { λ s. record {
+      format = s.format;
+      dir = string_bytes s.dir;
+      rows = s.rows.items;
+      region = s.region;
+      stack = s.stack;
+      refused = s.refused;
+    } };
 }
 
 fn is_under(path: &Path, region: u64) -> bool
@@ -122,7 +139,7 @@ impl Sweep {
 
     /// The rows of the index.
     pub fn rows(&self) -> &[IndexRow]
-        ensures { result.now ≡ self.now.rows.items }
+        ensures { result.now ≡ self.now.rows }
     {
         &self.rows
     }

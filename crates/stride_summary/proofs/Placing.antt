@@ -13,28 +13,7 @@ use Rattle.std.proofs.lemmas.List.{get_or_append_left, get_or_at, length_push}
 use Rattle.std.proofs.lemmas.Map.Lookups.{exact_bytes}
 use Rattle.stride_summary.specs.declared.key.Key.{Key}
 use Rattle.stride_summary.specs.declared.stretch.Stretch.{Stretch}
-use Rattle.stride_summary.specs.Places.{TellsPlaces, number_of, numbers_of, place_under}
-use Rattle.stride_summary.specs.Stretches.{IsPlaceOf}
-
-same_bit : (a b : Bool) → number_of a ≡ number_of b → a ≡ b
-same_bit true true e = refl
-same_bit true false e = cc
-same_bit false true e = cc
-same_bit false false e = refl
-
-key_of : Bool → Bool → ℕ → ℕ → ℕ → List ℕ → Key
-key_of write atomic size site line held = record { write = write; atomic = atomic; size = size; site = site; line = line; held = held }
-
-same_key : (w w' x x' : Bool) (s s' t t' l l' : ℕ) (h h' : List ℕ) → w ≡ w' → x ≡ x' → s ≡ s' → t ≡ t' → l ≡ l' → h ≡ h' → key_of w x s t l h ≡ key_of w' x' s' t' l' h'
-same_key w w' x x' s s' t t' l l' h h' write atomic size site line held = cc
-
--- keys with the same numbers are one
-pub numbers_apart : (a b : Key) → numbers_of a ≡ numbers_of b → a ≡ b
-unfolding key_of
-numbers_apart a b same =
-    let write : number_of a.write ≡ number_of b.write = cc same in
-    let atomic : number_of a.atomic ≡ number_of b.atomic = cc same in
-    same_key a.write b.write a.atomic b.atomic a.size b.size a.site b.site a.line b.line a.held b.held (same_bit a.write b.write write) (same_bit a.atomic b.atomic atomic) (cc same) (cc same) (cc same) (cc same)
+use Rattle.stride_summary.specs.Places.{TellsPlaces, numbers_of, place_under}
 
 equal_is : (o : Ordering) → is_eq o ≡ true → o ≡ Equal
 equal_is Less e = cc
@@ -42,10 +21,6 @@ equal_is Equal e = refl
 equal_is Greater e = cc
 
 module _ (places : BTreeMap (Vec ℕ) ℕ) (stretches : List Stretch) (told : TellsPlaces places stretches) (numbers : Vec ℕ) (key : Key) (is : numbers.items ≡ numbers_of key) where
-  -- the place that is told is the key's
-  pub told_place : (place : ℕ) → place_under places numbers ≡ Some place → IsPlaceOf stretches key place
-  told_place place found = let at = (told numbers).1 place found in (at.0, λ d. numbers_apart (get_or stretches place d).key key (at.1 d ∙ is))
-
   -- no place is told of a key that there isn't
   pub told_none : place_under places numbers ≡ None → All (λ (s : Stretch). s.key ≡ key → ⊥) stretches
   told_none none i d within same = (told numbers).0 none i d within (ap numbers_of same ∙ sym is)

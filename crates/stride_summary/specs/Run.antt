@@ -33,7 +33,7 @@ pub record SharesRunByte (a b : Run) : Type 0 where
 
 -- what tells an access apart but its address
 abbrev pub access_key : Access → Key
-access_key a = record { write = a.write; atomic = a.atomic; size = a.size; site = a.site; line = a.line; held = a.held }
+access_key a = record { write = a.write; atomic = a.atomic; size = a.size; site = a.site; line = a.line; held = a.held.now }
 
 abbrev pub run_key : Run → Key
 run_key run = record { write = run.write; atomic = run.atomic; size = run.size; site = run.site; line = run.line; held = run.held }

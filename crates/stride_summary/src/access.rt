@@ -6,8 +6,8 @@ use mutex_set::Held;
 
 /// One read, write or update of memory: what kind, where in the kernel, which bytes, and the mutexes that were held. Its last
 /// byte is below 2^48.
-#[derive(Drop)]
-pub struct Access {
+#[derive(Clone, Copy)]
+pub struct Access<'h> {
     pub write: bool,
     /// Whether it reads and writes in one step, which no other such access can part.
     pub atomic: bool,
@@ -20,24 +20,16 @@ pub struct Access {
     /// The address of the first byte.
     pub addr: u64,
     /// The mutexes that the task held.
-    pub held: Held,
+    pub held: &'h Held,
     ghost sized: { IsAccessSize size } by { access_size_prop size },
     ghost bounded: { addr + size ≤ 2 ^ 48 },
 }
 
-impl Access {
+impl<'h> Access<'h> {
     /// The same access.
-    pub fn copy(&self) -> Access
+    pub fn copy(&self) -> Access<'h>
         ensures { result ≡ self.now }
     {
-        Access {
-            write: self.write,
-            atomic: self.atomic,
-            size: self.size,
-            site: self.site,
-            line: self.line,
-            addr: self.addr,
-            held: self.held.copy(),
-        }
+        *self
     }
 }

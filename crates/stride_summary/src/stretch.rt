@@ -47,6 +47,7 @@ impl Stretch {
     }
 
     /// Puts the addresses in order, each once.
+    #[inline(never)]
     pub fn settle(&mut self)
         ensures key { self.new.key ≡ self.old.key }
         ensures ascending { IsStrictlyIncreasing self.new.addresses.items }

@@ -109,6 +109,17 @@ impl Summary {
         if is_at(&self.stretches, guess, access) {
             return Ok(guess);
         }
+        self.look_up(access)
+    }
+
+    // The same by the map. It stands apart, so that an access whose place was guessed needs no room for what it keeps.
+    #[inline(never)]
+    fn look_up(&mut self, access: &Access) -> Result<usize, Memory>
+        ensures found { IfOk result (λ place. IsPlaceOf self.new.stretches.items (access_key access.now) place) }
+        ensures same { HoldsSame self.old.stretches.items self.new.stretches.items }
+        ensures room { self.new.room ≡ self.old.room }
+        ensures capacity { vec_capacity self.new.runs ≡ vec_capacity self.old.runs }
+    {
         let numbers = numbers_of(self.alloc, access)?;
         if let Some(place) = place_under(&self.places, &numbers) {
             return Ok(place);

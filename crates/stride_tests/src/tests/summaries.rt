@@ -25,7 +25,7 @@ fn copies_an_access(rt: HostRuntime) -> Result<(), Fail> {
         site: 1,
         line: 5,
         addr: 4096,
-        held,
+        held: &held,
     };
     let same = access.copy();
     assert!(rt; same.write && same.atomic && same.held.ids() == [3].as_slice());
@@ -65,7 +65,7 @@ fn the_widest_run_goes_to_the_last_byte_there_is(rt: HostRuntime) {
     assert!(rt; (widest.low(), widest.high()) == (0, (1 << 48) - 1));
 }
 
-fn write_at(line: u32, addr: u64) -> Access
+fn write_at<'h>(line: u32, addr: u64, held: &'h Held) -> Access<'h>
     requires { addr + 8 ≤ 2 ^ 48 }
 {
     Access {
@@ -75,7 +75,7 @@ fn write_at(line: u32, addr: u64) -> Access
         site: 0,
         line,
         addr,
-        held: Held::none(),
+        held,
     }
 }
 
@@ -83,7 +83,7 @@ fn runs_of(alloc: Global, writes: &[(u32, u64)]) -> Result<Vec<Run>, Memory> {
     let mut summary = Summary::new(alloc)?;
     for (line, addr) in writes {
         if *addr <= (1 << 48) - 8 {
-            summary.add(&write_at(*line, *addr))?;
+            summary.add(&write_at(*line, *addr, &Held::none()))?;
         }
     }
     Ok(summary.finish())
@@ -218,10 +218,9 @@ const KEYS: [Key<'static>; 9] = [
     (true, false, 8, 0, 1, &[4, 3]),
 ];
 
-// An access at one address, with this key.
-fn keyed(key: &Key<'_>) -> Result<Access, Fail> {
-    let (write, atomic, size, site, line, mutexes) = *key;
-    let held = holding(mutexes)?;
+// An access at one address, with this key but these mutexes.
+fn keyed<'h>(key: &Key<'_>, held: &'h Held) -> Result<Access<'h>, Fail> {
+    let (write, atomic, size, site, line, _) = *key;
     if !matches!(size, 1 | 2 | 4 | 8) {
         return Err(Fail::from("no size of an access"));
     }
@@ -239,7 +238,8 @@ fn keyed(key: &Key<'_>) -> Result<Access, Fail> {
 // Adds an access of each key.
 fn add_keys(summary: &mut Summary) -> Result<(), Fail> {
     for key in &KEYS {
-        summary.add(&keyed(key)?)?;
+        let held = holding(key.5)?;
+        summary.add(&keyed(key, &held)?)?;
     }
     Ok(())
 }
@@ -264,7 +264,7 @@ fn the_last_byte_may_be_the_last_there_is(rt: HostRuntime) -> Result<(), Fail> {
         site: 0,
         line: 1,
         addr: (1 << 48) - 1,
-        held: Held::none(),
+        held: &Held::none(),
     })?;
     let runs = summary.finish();
     assert!(rt; matches!(runs.as_slice(), [run] if (run.low(), run.high()) == (last, last)));

@@ -7,5 +7,5 @@ use Rattle.log_segment.proofs.walking.Walk.access.Goals as goal
 pub returns-in_ok-add-clause-added : goal.returns-in_ok-add-clause-added
 returns-in_ok-add-clause-added c =
     subst (λ (key : Key). GainsAccess c.args.self.now.summary (Some c.add.new.self) key c.args.event.now.addr)
-    (λ i. record { write = c.is_write.ensures i; atomic = c.is_atomic.ensures i; size = c.args.event.now.size; site = c.args.event.now.site; line = c.args.event.now.line; held = c.copy.ensures i })
+    (λ i. record { write = c.is_write.ensures i; atomic = c.is_atomic.ensures i; size = c.args.event.now.size; site = c.args.event.now.site; line = c.args.event.now.line; held = c.args.held.now })
     (gains_one c.args.self.now.summary c.begin.new.self.summary _ c.add.new.self _ c.args.event.now.addr c.in_ok-begin.ensures.sums c.in-Some.is c.in_ok-add.ensures.added)

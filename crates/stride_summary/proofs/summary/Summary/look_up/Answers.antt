@@ -3,7 +3,7 @@ use Rattle.stride_summary.specs.declared.key.Key.{Key}
 use Rattle.stride_summary.specs.Places.{numbers_of}
 use Rattle.stride_summary.proofs.Placing.{told_none}
 use Rattle.stride_summary.proofs.Storing.{HoldsSame-pushed, KeysDiffer-pushed, needed-pushed}
-use Rattle.stride_summary.proofs.summary.Summary.place_of.Goals as goal
+use Rattle.stride_summary.proofs.summary.Summary.look_up.Goals as goal
 
 pub invariant_of-self-2-clause-keys : goal.invariant_of-self-2-clause-keys
 invariant_of-self-2-clause-keys c =

@@ -1,0 +1,84 @@
+use Rattle.std.proofs.Common.{◌≡◌, ◌∙◌, ◌+◌, ◌-◌, ◌*◌, List, ℕ, drop, length, ap, subst, arith}
+use Rattle.std.proofs.lemmas.List.{drop-drop}
+use Rattle.std.proofs.lemmas.Result.{err_from_is_err_and}
+use Rattle.log_format.specs.declared.record.Why.TheVariants as why
+use Rattle.log_walk.specs.LogSoFar.{LogSoFar}
+use Rattle.log_walk.specs.Rules.{log_task_of}
+use Rattle.log_walk.proofs.LogSoFar.{in_lane, log_next, log_refused}
+use Rattle.log_walk.proofs.Steps.{walk_push}
+use Rattle.log_walk.proofs.check.walk_ahead.Goals as goal
+
+pub records-init : goal.records-init
+records-init c = record {
+  so = λ told name opened label old so. so;
+  rest = ap (λ (n : ℕ). drop n c.args.ahead.now) (let none : 0 ≡ 24 * (c.args.before - c.args.before) = omega arith in none);
+  low = omega arith;
+  high = c.requires.before;
+  there = omega arith;
+}
+
+pub accept-requires-clause-segments : goal.accept-requires-clause-segments
+accept-requires-clause-segments c =
+    let known = c.records.invariant.so c.requires.so.0 c.requires.so.1 c.requires.so.2 c.requires.so.3 c.requires.so.4 c.requires.so.5 in
+    known.checks.limit
+
+pub accept-requires-clause-barriers : goal.accept-requires-clause-barriers
+accept-requires-clause-barriers c =
+    let known = c.records.invariant.so c.requires.so.0 c.requires.so.1 c.requires.so.2 c.requires.so.3 c.requires.so.4 c.requires.so.5 in
+    omega (arith, known.checks.barriers)
+
+pub returns-in_err-next-clause-refused : goal.returns-in_err-next-clause-refused
+returns-in_err-next-clause-refused c =
+    let p = err_from_is_err_and c.from_residual.result c.from_residual.ensures.1 in
+    rw (p.1, p.2) (λ told name opened label old given.
+    let known = c.records.invariant.so told name opened label old given in
+    log_refused told name (log_task_of c.args.task.now) opened label c.records.state c.records.walk old c.records.found.items c.records.after c.in-Some.bytes.now c.records.rest.now c.in_err-next.field-0.0 known c.records-test.true
+    c.in-Some.ensures.cases.0 (omega (arith, c.in-Some.ensures.cases.2)) (c.in_err-next.ensures.refused opened known.records known.checks.follows known.after (omega (arith, known.checks.count))))
+
+pub step-requires-clause-own : goal.step-requires-clause-own
+step-requires-clause-own c =
+    let known = c.records.invariant.so c.requires.so.0 c.requires.so.1 c.requires.so.2 c.requires.so.3 c.requires.so.4 c.requires.so.5 in
+    known.own
+
+pub step-requires-clause-size : goal.step-requires-clause-size
+step-requires-clause-size c = c.in_ok-next.ensures.spells.tabled.passes why.Size
+
+pub step-requires-clause-address : goal.step-requires-clause-address
+step-requires-clause-address c = c.in_ok-next.ensures.spells.tabled.passes why.Address
+
+pub step-requires-clause-lane : goal.step-requires-clause-lane
+step-requires-clause-lane c =
+    let known = c.records.invariant.so c.requires.so.0 c.requires.so.1 c.requires.so.2 c.requires.so.3 c.requires.so.4 c.requires.so.5 in
+    let good = c.in_ok-next.ensures.good c.requires.so.2 known.records known.checks.follows known.after (omega (arith, known.checks.count)) in
+    in_lane (log_task_of c.args.task.now) known.records c.in_ok-next.next good.breaks
+
+pub records-preserved : goal.records-preserved
+records-preserved c =
+    let cases = c.in-Some.ensures.cases in
+    record {
+      so = λ told name opened label old given.
+          (let known = c.records.invariant.so told name opened label old given in
+          let checks = known.checks in
+          let number : c.records.after + 1 ≡ length known.records + 1 = omega (arith, checks.count) in
+          let follows = c.in_ok-next.ensures.follows opened known.records checks.follows known.after number in
+          log_next told name (log_task_of c.args.task.now) opened label c.records.state c.records.walk old c.records.found.items c.records.after c.accept.new.state c.step.new.self c.in-Some.bytes.now c.records.rest.now c.in-Some.later.now c.step.new.found.items c.in_ok-next.next known
+          cases.0 cases.1 (omega (arith, cases.2)) (c.in_ok-next.ensures.good opened known.records checks.follows known.after number) follows c.in_ok-next.ensures.barriers c.in_ok-next.ensures.limit c.in_ok-step.ensures.own
+          (walk_push c.records.walk c.step.new.self known.records c.in_ok-next.next known.after c.in_ok-step.ensures.forks c.in_ok-step.ensures.begun)
+          (λ logs begun next. c.in_ok-step.ensures.follows logs known.records begun next number follows.held)
+          (λ logs begun next. c.in_ok-step.ensures.adds logs known.records begun next number));
+      rest = cases.1 ∙ ap (λ (bs : List ℕ). drop 24 bs) c.records.invariant.rest ∙ drop-drop 24 (24 * (c.records.after - c.args.before)) c.args.ahead.now
+          ∙ ap (λ (n : ℕ). drop n c.args.ahead.now) (let next : 24 * (c.records.after - c.args.before) + 24 ≡ 24 * (c.records.after + 1 - c.args.before) = omega (arith, c.records.invariant.low) in next);
+      low = omega (arith, c.records.invariant.low);
+      high = omega (arith, c.records-test.true);
+      there = omega (arith, c.records.invariant.there, c.records.invariant.low, cases.2);
+    }
+
+pub returns-in_default-clause-goes : goal.returns-in_default-clause-goes
+returns-in_default-clause-goes c = λ told name opened label old given.
+    subst (λ (bs : List ℕ). LogSoFar c.args.format told name (log_task_of c.args.task.now) opened label c.records.state c.records.walk bs old c.records.found.items c.records.after) c.records.invariant.rest
+    (c.records.invariant.so told name opened label old given)
+
+pub returns-clause-goes : goal.returns-clause-goes
+returns-clause-goes c = λ told name opened label old given.
+    subst (λ (bs : List ℕ). LogSoFar c.args.format told name (log_task_of c.args.task.now) opened label c.records.state c.records.walk bs old c.records.found.items c.records.after) c.records.invariant.rest
+    (c.records.invariant.so told name opened label old given)

@@ -1,0 +1,45 @@
+-- What is known of a log of which the first records were gone over.
+use Rattle.std.specs.Prelude.{◌≡◌, ℕ, ◌+◌, ◌*◌, ◌≤◌, List, ◌++◌, length, drop, All, Option}
+use Rattle.sw_base.specs.Environment.{Content, WhereTold}
+use Rattle.sw_base.specs.Window.{Window, Shows, file_of}
+use Rattle.log_format.specs.declared.format.Format.{Format}
+use Rattle.log_format.specs.Format.{log_header}
+use Rattle.log_format.specs.declared.record.Record.{Record}
+use Rattle.log_format.specs.Spelling.{log_bytes}
+use Rattle.log_format.specs.Table.{IsTabled}
+use Rattle.race_model.specs.Label.{Triple}
+use Rattle.race_model.specs.LogFault.{LogTask, max_segments}
+use Rattle.log_segment.specs.declared.segment.Segment.{Segment}
+use Rattle.log_segment.specs.declared.walking.Walk.{Walk}
+use Rattle.log_segment.specs.Going.{HasWalked}
+use Rattle.log_segment.specs.Walking.{IsOwnAfter}
+use Rattle.log_walk.specs.declared.state.State.{State}
+use Rattle.log_walk.specs.Check.{KeepsLogRules}
+use Rattle.log_walk.specs.State.{IsStateAfter, IsWalkAfter}
+
+-- what the check of a log keeps of these records, whatever bytes they were read from
+pub record Checks (format : Format) (task : LogTask) (opened : ℕ) (state : State) (records : List Record) (index : ℕ) : Type 0 where
+  pub tabled : All (IsTabled format) records
+  pub keeps : KeepsLogRules task records
+  pub follows : IsStateAfter state opened records
+  pub count : length records ≡ index
+  pub barriers : state.barriers ≤ index
+  pub limit : state.segments ≤ max_segments
+
+-- these records were read of the file, up to the window
+pub record IsReadTo (format : Format) (file : List ℕ) (records : List Record) (window : Window) : Type 0 where
+  pub shows : Shows window file
+  pub parts : file ≡ log_bytes (log_header format) records ++ drop window.place file
+
+-- a window with these bytes ahead, past so many records
+abbrev pub window_at : ℕ → List ℕ → Window
+window_at index ahead = record { place = 8 + 24 * index; ahead = ahead }
+
+-- so many records of the log were gone over, and these bytes are ahead
+pub record LogSoFar (format : Format) (told : Option Content) (name : List ℕ) (task : LogTask) (opened : ℕ) (label : List Triple) (state : State) (walk : Walk) (ahead : List ℕ) (old new : List Segment) (index : ℕ) : Type 0 where
+  pub records : List Record
+  pub checks : Checks format task opened state records index
+  pub walked : HasWalked task.path label records walk old new
+  pub own : IsOwnAfter walk.label (index + 1)
+  pub after : IsWalkAfter walk records
+  pub read : WhereTold told (λ c. IsReadTo format (file_of c name) records (window_at index ahead))
