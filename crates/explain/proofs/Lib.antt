@@ -1,6 +1,7 @@
 pub mod Answering
 pub mod AtLevel
 pub mod Hits
+pub mod Kept
 pub mod Logs
 pub mod Looking
 pub mod OnePassed

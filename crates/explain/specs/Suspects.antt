@@ -1,38 +1,74 @@
--- Barrier intervals in which a record may race with another.
-use Rattle.std.specs.Prelude.{◌≡◌, ℕ, ◌≤◌, List, [], ◌∷◌, Contains}
-use Rattle.std.specs.List.{AllZip}
+-- The accesses of two lines, and barrier intervals in which a record may race with another.
+use Rattle.std.specs.Prelude.{◌≡◌, ◌⊎◌, ℕ, ◌+◌, ◌≤◌, List, [], ◌∷◌, Contains, Some}
+use Rattle.log_format.specs.declared.record.Record.{Record}
 use Rattle.log_segment.specs.Accesses.{key_at}
-use Rattle.log_segment.specs.Intervals.{IsSegmentOf}
+use Rattle.log_segment.specs.Intervals.{HasAccess}
 use Rattle.log_segment.specs.declared.segment.Segment.{Segment}
 use Rattle.pair_compare.specs.Conflict.{IsConflictPair}
 use Rattle.race_model.specs.Label.{IsConcurrent}
-use Rattle.race_model.specs.Segment.{segments_of}
-use Rattle.race_model.specs.Trace.{Trace, logs_of}
+use Rattle.race_model.specs.Race.{IsAccess, held_at}
+use Rattle.race_model.specs.Trace.{Trace, Logs, Node, logs_of, record_at}
 use Rattle.stride_summary.specs.Run.{HasRunAddress, run_key}
 use Rattle.stride_summary.specs.declared.run.Run.{Run}
 use Rattle.sw_base.specs.declared.path.Step.{Step}
+use Rattle.explain.specs.Least.{RacesOn}
+use Rattle.explain.specs.Witness.{IsInLog}
 use Rattle.explain.specs.declared.finding.Found.{Found}
+use Rattle.explain.specs.declared.stretch.Stretch.{Stretch}
 
--- the barrier intervals of a run, in order
-abbrev pub AreOfRun : Trace → List Segment → Type 0
-AreOfRun trace segments = AllZip (IsSegmentOf (logs_of trace)) (segments_of trace) segments
+-- one of the two lines
+abbrev pub IsOnLines : ℕ × ℕ → ℕ → Type 0
+IsOnLines lines line = (lines.0 ≡ line) ⊎ (lines.1 ≡ line)
+
+-- the record of this number is one of a stretch of the task's log
+pub record IsWithin (own : List Step) (first last : ℕ) (path : List Step) (number : ℕ) : Type 0 where
+  pub path_is : own ≡ path
+  pub low : first ≤ number
+  pub high : number ≤ last
+
+-- the interval has the record at the node, and in its runs the access
+pub record HasOwn (logs : Logs) (x : Node) (r : Record) (own : Segment) : Type 0 where
+  pub within : IsWithin own.path own.first own.last x.path (x.index + 1)
+  pub has : HasAccess logs own x r (key_at r (held_at logs x)) r.addr
+
+-- each access of these lines is in one of the intervals
+abbrev pub HoldAccesses : Trace → ℕ × ℕ → List Segment → Type 0
+HoldAccesses trace lines segments = (place : ℕ) (x : Node) (r : Record) → IsInLog trace place x → record_at (logs_of trace) x ≡ Some r → IsAccess r → IsOnLines lines r.line
+    → (own : Segment) × Contains segments own × HasOwn (logs_of trace) x r own
+
+-- one of those that are kept is the same interval, and has this run of it
+pub record HasPart (own : Segment) (run : Run) (kept : List Segment) : Type 0 where
+  pub part : Segment
+  pub listed : Contains kept part
+  pub path_is : part.path ≡ own.path
+  pub first_is : part.first ≡ own.first
+  pub last_is : part.last ≡ own.last
+  pub label_is : part.label ≡ own.label
+  pub holds : Contains part.runs.items run
+
+-- of the intervals the runs of these lines are kept
+abbrev pub Keeps : (ℕ → Type 0) → List Segment → List Segment → Type 0
+Keeps IsOne segments kept = (own : Segment) (run : Run) → Contains segments own → Contains own.runs.items run → IsOne run.line → HasPart own run kept
 
 -- an access with the label of one interval conflicts with one of another in these lines
 pub record MayMeet (own their : Segment) (one : Found) (lines : ℕ × ℕ) : Type 0 where
   pub concurrent : IsConcurrent own.label their.label
   pub conflict : (run : Run) → run_key run ≡ key_at one.event one.held → HasRunAddress run one.event.addr → IsConflictPair (run ∷ []) their.runs.items lines
 
--- the record of this number is in the interval of the task's log
-pub record HoldsRecord (own : Segment) (path : List Step) (number : ℕ) : Type 0 where
-  pub path_is : own.path ≡ path
-  pub low : own.first ≤ number
-  pub high : number ≤ own.last
+-- one of the stretches has the records of this interval
+pub record IsAmong (their : Segment) (stretches : List Stretch) : Type 0 where
+  pub stretch : Stretch
+  pub listed : Contains stretches stretch
+  pub path_is : stretch.path ≡ their.path
+  pub first_is : stretch.first ≡ their.first
+  pub last_is : stretch.last ≡ their.last
 
--- one of the intervals has the record, and another an access that it may race with
-pub record IsSuspected (segments : List Segment) (path : List Step) (number : ℕ) (one : Found) (lines : ℕ × ℕ) : Type 0 where
-  pub own : Segment
-  pub their : Segment
-  pub own_in : Contains segments own
-  pub their_in : Contains segments their
-  pub within : HoldsRecord own path number
-  pub meet : MayMeet own their one lines
+-- each interval with an access that the record may race with is among the stretches, where one of the intervals has the record
+abbrev pub FindsMet : List Segment → List Step → ℕ → Found → ℕ × ℕ → List Stretch → Type 0
+FindsMet segments path number one lines stretches = (own their : Segment) → Contains segments own → Contains segments their → IsWithin own.path own.first own.last path number
+    → MayMeet own their one lines → IsAmong their stretches
+
+-- each record that races with x in these lines is in one of the stretches
+abbrev pub HoldPartners : Trace → ℕ × ℕ → Node → List Stretch → Type 0
+HoldPartners trace lines x stretches = (place : ℕ) (y : Node) (byte : ℕ) → IsInLog trace place y → RacesOn (logs_of trace) lines x y byte
+    → (s : Stretch) × Contains stretches s × IsWithin s.path s.first s.last y.path (y.index + 1)

@@ -1,5 +1,5 @@
 //! The least race of two lines of a folder.
-ghost use Rattle.std.specs.Prelude.{◌≡◌, ◌↔◌, ◌≤◌, None, IfOk, IfErr, IsErrOf, OnOk};
+ghost use Rattle.std.specs.Prelude.{◌≡◌, ◌↔◌, ◌^◌, ◌<◌, ◌≤◌, None, length, IfOk, IfErr, IsErrOf, OnOk};
 ghost use Rattle.sw_base.specs.Environment.{WhereTold, Rose};
 ghost use Rattle.log_format.specs.declared.format.TheConstants.{FORMAT};
 ghost use Rattle.log_walk.specs.Sweep.{HasSweptAll};
@@ -8,11 +8,15 @@ ghost use Rattle.race_model.specs.FirstBad.{HoldsTrace};
 ghost use Rattle.race_model.specs.Race.{IsRacePair};
 ghost use Rattle.race_model.specs.Trace.{Trace, logs_of};
 ghost use Rattle.race_model.specs.WellFormed.{IsWellFormed};
+ghost use Rattle.explain.specs.Finding.{IsNoPlace};
 ghost use Rattle.explain.specs.Least.{FindsLeast};
-ghost use Rattle.explain.specs.Suspects.{AreOfRun};
+ghost use Rattle.explain.specs.Suspects.{HoldAccesses};
+ghost use Rattle.explain.specs.Witness.{HoldsGoodRun};
 
+use crate::keeping::keep_lines;
 use crate::searching::least_race;
-use crate::suspecting::suspects_of;
+use crate::suspecting::{has_pair, suspects_of};
+use log_index::Row;
 use log_segment::Segment;
 use log_walk::{Sweep, WalkFault};
 use std::alloc::Global;
@@ -28,24 +32,52 @@ pub struct RacePair {
     pub byte: u64,
 }
 
-/// Sweeps through a folder, and keeps the barrier intervals of all regions.
+/// Sweeps through a folder, and keeps of its barrier intervals the accesses of two lines.
 fn swept<F: Folder>(
     alloc: Global,
     folder: &mut F,
     dir: &str,
+    lines: (u32, u32),
 ) -> Result<(Sweep, Vec<Segment>), WalkFault>
-    ensures all { IfOk result (λ pair. (trace : Trace) × HasSweptAll FORMAT (F.state folder.old).content dir.now pair.0 trace × AreOfRun trace pair.1.items) }
+    ensures all { IfOk result (λ pair. (trace : Trace) × HasSweptAll FORMAT (F.state folder.old).content dir.now pair.0 trace × HoldAccesses trace lines pair.1.items) }
     ensures refused { IfErr result (λ e. WhereTold (F.state folder.old).content (λ c. TellsFirstBad FORMAT c.held dir.now e)) }
 
     ensures same { F.state folder.new ≡ F.state folder.old }
     ensures later { F.read_faults folder.old ≤ F.read_faults folder.new }
     ensures cause { IsErrOf result WalkFault.ReadFault → Rose (F.read_faults folder.old) (F.read_faults folder.new) }
 {
-    let (mut sweep, mut found) = Sweep::open(alloc, folder, dir)?;
-    'regions: while let Some(mut region) = sweep.next(alloc, folder)? {
-        found.append(&mut region)?;
+    let (mut sweep, root) = Sweep::open(alloc, folder, dir)?;
+    let mut kept = Vec::new(alloc);
+    keep_lines(alloc, &root, lines, &mut kept)?;
+    'regions: while let Some(region) = sweep.next(alloc, folder)? {
+        keep_lines(alloc, &region, lines, &mut kept)?;
     }
-    Ok((sweep, found))
+    Ok((sweep, kept))
+}
+
+/// The least race of these lines, by row and number, first record first. The intervals have all accesses of these lines.
+fn least_among<F: Folder>(
+    alloc: Global,
+    folder: &mut F,
+    dir: &str,
+    rows: &[Row],
+    segments: &[Segment],
+    lines: (u32, u32),
+) -> Result<Option<RacePair>, WalkFault>
+    requires few { length rows.now < 2 ^ 32 }
+    ensures explains { WhereTold (F.state folder.old).content (λ c. (trace : Trace) → HoldsGoodRun c dir.now rows.now trace → HoldAccesses trace lines segments.now
+        → IfOk result (FindsLeast trace lines)) }
+    ensures same { F.state folder.new ≡ F.state folder.old }
+    ensures later { F.read_faults folder.old ≤ F.read_faults folder.new }
+    ensures only_faults { IfErr result (λ e. IsNoPlace e) }
+    ensures cause { IsErrOf result WalkFault.ReadFault → Rose (F.read_faults folder.old) (F.read_faults folder.new) }
+{
+    let racing = has_pair(alloc, segments, lines)?;
+    if !racing {
+        return Ok(None);
+    }
+    let suspects = suspects_of(alloc, segments)?;
+    least_race(alloc, folder, dir, rows, &suspects, lines)
 }
 
 /// Of all races of these two lines, in either order, the one whose first record is the least by row and number, and with that the
@@ -67,7 +99,7 @@ pub fn explain<F: Folder>(
     ensures later { F.read_faults place.old ≤ F.read_faults place.new }
     ensures cause { IsErrOf result WalkFault.ReadFault → Rose (F.read_faults place.old) (F.read_faults place.new) }
 {
-    let (sweep, segments) = swept(alloc, place, dir)?;
-    let suspects = suspects_of(alloc, &segments)?;
-    least_race(alloc, place, dir, sweep.rows(), &suspects, (low, high))
+    let lines = (low, high);
+    let (sweep, segments) = swept(alloc, place, dir, lines)?;
+    least_among(alloc, place, dir, sweep.rows(), &segments, lines)
 }

@@ -3,17 +3,20 @@
 //! `confirm` tells whether two records of a folder race, and where: it reads their logs, and the logs of the tasks above them in which their paths
 //! part, and counts the Regions and Barriers that come before. It knows no label, no strided run and no tree.
 //!
-//! `explain` gives the least race of two lines, by rows and numbers. It goes over the records of these lines in order, asks the strided runs of
-//! concurrent barrier intervals whether one may race, and counts only for those.
+//! `explain` gives the least race of two lines, by rows and numbers. It keeps the strided runs of these lines of each barrier interval. Where two
+//! intervals race there, it goes over the records of these lines in order, but only in logs of intervals that race; it asks the runs of concurrent
+//! intervals whether a record may race, and counts only for those.
 #![tactic(auto)]
 
 mod confirming;
 mod conflict;
 mod explaining;
 mod finding;
+mod keeping;
 mod parting;
 mod passing;
 mod searching;
+mod stretch;
 mod suspect;
 mod suspecting;
 

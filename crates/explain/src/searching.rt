@@ -4,15 +4,16 @@ ghost use Rattle.sw_base.specs.Environment.{WhereTold, Rose};
 ghost use Rattle.race_model.specs.Trace.{Trace, Node, logs_of};
 ghost use Rattle.explain.specs.Finding.{IsNoPlace};
 ghost use Rattle.explain.specs.Least.{FindsLeast, FindsHit, FindsPartner, FindsRace, RacesOn};
-ghost use Rattle.explain.specs.Suspects.{AreOfRun};
+ghost use Rattle.explain.specs.Suspects.{HoldAccesses, HoldPartners};
 ghost use Rattle.explain.specs.Witness.{HoldsGoodRun, IsInLog, TellsRecord};
 
 use crate::confirming::race_of;
 use crate::explaining::RacePair;
 use crate::finding::{Found, found_at, next_record, open_log};
 use crate::passing::Place;
+use crate::stretch::{Stretch, has_path, has_record};
 use crate::suspect::Suspect;
-use crate::suspecting::is_suspected;
+use crate::suspecting::{is_row_suspected, met_by};
 use log_format::Record;
 use log_index::Row;
 use log_walk::WalkFault;
@@ -48,7 +49,8 @@ fn is_on(event: &Record, lines: (u32, u32)) -> bool
     low == event.line || high == event.line
 }
 
-/// The first common byte of two records that were found, where they race in these lines.
+/// The first common byte of two records that were found, where they race in these lines. The second one is of this number; where it is in none
+/// of the stretches it races with no such record.
 fn raced<F: Folder>(
     alloc: Global,
     folder: &mut F,
@@ -58,12 +60,14 @@ fn raced<F: Folder>(
     second: usize,
     one: &Found,
     other: &Found,
+    number: u32,
+    met: &[Stretch],
     lines: (u32, u32),
 ) -> Result<Option<u64>, WalkFault>
     requires first { first < length rows.now }
     requires second { second < length rows.now }
     ensures races { WhereTold (F.state folder.old).content (λ c. (trace : Trace) → HoldsGoodRun c dir.now rows.now trace → (x y : Node) → IsInLog trace first x → IsInLog trace second y
-        → TellsRecord (logs_of trace) x one.now → TellsRecord (logs_of trace) y other.now
+        → number ≡ y.index + 1 → HoldPartners trace lines x met.now → TellsRecord (logs_of trace) x one.now → TellsRecord (logs_of trace) y other.now
         → IfOk result (λ answer. (byte : ℕ) → (answer ≡ Some byte) ↔ RacesOn (logs_of trace) lines x y byte)) }
     ensures same { F.state folder.new ≡ F.state folder.old }
     ensures later { F.read_faults folder.old ≤ F.read_faults folder.new }
@@ -73,10 +77,14 @@ fn raced<F: Folder>(
     if !are_lines(&one.event, &other.event, lines) {
         return Ok(None);
     }
+    let row = &rows[second];
+    if !has_record(met, &row.path, number) {
+        return Ok(None);
+    }
     race_of(alloc, folder, dir, rows, first, second, one, other)
 }
 
-/// The first record of the second log that races with a record of the first one in these lines.
+/// The first record of the second log that races with a record of the first one in these lines. It is in one of the stretches.
 fn hit_in_log<F: Folder>(
     alloc: Global,
     folder: &mut F,
@@ -85,12 +93,13 @@ fn hit_in_log<F: Folder>(
     first: usize,
     second: usize,
     one: &Found,
+    met: &[Stretch],
     lines: (u32, u32),
 ) -> Result<Option<Hit>, WalkFault>
     requires first { first < length rows.now }
     requires second { second < length rows.now }
     ensures finds { WhereTold (F.state folder.old).content (λ c. (trace : Trace) → HoldsGoodRun c dir.now rows.now trace → (x : Node) → IsInLog trace first x
-        → TellsRecord (logs_of trace) x one.now → IfOk result (FindsHit trace lines x second)) }
+        → HoldPartners trace lines x met.now → TellsRecord (logs_of trace) x one.now → IfOk result (FindsHit trace lines x second)) }
     ensures same { F.state folder.new ≡ F.state folder.old }
     ensures later { F.read_faults folder.old ≤ F.read_faults folder.new }
     ensures only_faults { IfErr result (λ e. IsNoPlace e) }
@@ -100,9 +109,11 @@ fn hit_in_log<F: Folder>(
     let mut place = Place::start();
     'records: while let Some(next) = next_record(alloc, folder, &mut reader)? {
         let other = found_at(&place, next);
-        let raced = raced(alloc, folder, dir, rows, first, second, one, &other, lines)?;
+        let number = place.records + 1;
+        let raced = raced(
+            alloc, folder, dir, rows, first, second, one, &other, number, met, lines,
+        )?;
         if let Some(byte) = raced {
-            let number = place.records + 1;
             return Ok(Some(Hit { number, byte }));
         }
         place.pass(&other.event);
@@ -110,7 +121,35 @@ fn hit_in_log<F: Folder>(
     Ok(None)
 }
 
-/// The first record of the later rows that races with a record of this row in these lines.
+/// The same; the log is read only where one of the stretches is of it.
+fn hit_in_row<F: Folder>(
+    alloc: Global,
+    folder: &mut F,
+    dir: &str,
+    rows: &[Row],
+    first: usize,
+    second: usize,
+    one: &Found,
+    met: &[Stretch],
+    lines: (u32, u32),
+) -> Result<Option<Hit>, WalkFault>
+    requires first { first < length rows.now }
+    requires second { second < length rows.now }
+    ensures finds { WhereTold (F.state folder.old).content (λ c. (trace : Trace) → HoldsGoodRun c dir.now rows.now trace → (x : Node) → IsInLog trace first x
+        → HoldPartners trace lines x met.now → TellsRecord (logs_of trace) x one.now → IfOk result (FindsHit trace lines x second)) }
+    ensures same { F.state folder.new ≡ F.state folder.old }
+    ensures later { F.read_faults folder.old ≤ F.read_faults folder.new }
+    ensures only_faults { IfErr result (λ e. IsNoPlace e) }
+    ensures cause { IsErrOf result WalkFault.ReadFault → Rose (F.read_faults folder.old) (F.read_faults folder.new) }
+{
+    let row = &rows[second];
+    if !has_path(met, &row.path) {
+        return Ok(None);
+    }
+    hit_in_log(alloc, folder, dir, rows, first, second, one, met, lines)
+}
+
+/// The first record of the later rows that races with a record of this row in these lines. It is in one of the stretches.
 fn partner_of<F: Folder>(
     alloc: Global,
     folder: &mut F,
@@ -118,19 +157,20 @@ fn partner_of<F: Folder>(
     rows: &[Row],
     first: usize,
     one: &Found,
+    met: &[Stretch],
     lines: (u32, u32),
 ) -> Result<Option<Partner>, WalkFault>
     requires first { first < length rows.now }
     requires few { length rows.now < 2 ^ 32 }
     ensures finds { WhereTold (F.state folder.old).content (λ c. (trace : Trace) → HoldsGoodRun c dir.now rows.now trace → (x : Node) → IsInLog trace first x
-        → TellsRecord (logs_of trace) x one.now → IfOk result (FindsPartner trace lines first x)) }
+        → HoldPartners trace lines x met.now → TellsRecord (logs_of trace) x one.now → IfOk result (FindsPartner trace lines first x)) }
     ensures same { F.state folder.new ≡ F.state folder.old }
     ensures later { F.read_faults folder.old ≤ F.read_faults folder.new }
     ensures only_faults { IfErr result (λ e. IsNoPlace e) }
     ensures cause { IsErrOf result WalkFault.ReadFault → Rose (F.read_faults folder.old) (F.read_faults folder.new) }
 {
     'rows: for second in first + 1..rows.len() {
-        let hit = hit_in_log(alloc, folder, dir, rows, first, second, one, lines)?;
+        let hit = hit_in_row(alloc, folder, dir, rows, first, second, one, met, lines)?;
         if let Some(hit) = hit {
             let row = second as u32 + 1;
             return Ok(Some(Partner { row, hit }));
@@ -153,7 +193,7 @@ fn partner_at<F: Folder>(
 ) -> Result<Option<Partner>, WalkFault>
     requires first { first < length rows.now }
     requires few { length rows.now < 2 ^ 32 }
-    ensures finds { WhereTold (F.state folder.old).content (λ c. (trace : Trace) → HoldsGoodRun c dir.now rows.now trace → AreOfRun trace suspects.now
+    ensures finds { WhereTold (F.state folder.old).content (λ c. (trace : Trace) → HoldsGoodRun c dir.now rows.now trace → HoldAccesses trace lines suspects.now
         → (x : Node) → IsInLog trace first x → number ≡ x.index + 1 → TellsRecord (logs_of trace) x one.now → IfOk result (FindsPartner trace lines first x)) }
     ensures same { F.state folder.new ≡ F.state folder.old }
     ensures later { F.read_faults folder.old ≤ F.read_faults folder.new }
@@ -164,11 +204,11 @@ fn partner_at<F: Folder>(
         return Ok(None);
     }
     let row = &rows[first];
-    let suspected = is_suspected(alloc, suspects, &row.path, number, one, lines)?;
-    if !suspected {
+    let met = met_by(alloc, suspects, &row.path, number, one, lines)?;
+    if met.is_empty() {
         return Ok(None);
     }
-    partner_of(alloc, folder, dir, rows, first, one, lines)
+    partner_of(alloc, folder, dir, rows, first, one, &met, lines)
 }
 
 fn race_pair(first: usize, number: u32, partner: Partner) -> RacePair
@@ -198,7 +238,7 @@ fn race_in_log<F: Folder>(
 ) -> Result<Option<RacePair>, WalkFault>
     requires first { first < length rows.now }
     requires few { length rows.now < 2 ^ 32 }
-    ensures finds { WhereTold (F.state folder.old).content (λ c. (trace : Trace) → HoldsGoodRun c dir.now rows.now trace → AreOfRun trace suspects.now
+    ensures finds { WhereTold (F.state folder.old).content (λ c. (trace : Trace) → HoldsGoodRun c dir.now rows.now trace → HoldAccesses trace lines suspects.now
         → IfOk result (FindsRace trace lines first)) }
     ensures same { F.state folder.new ≡ F.state folder.old }
     ensures later { F.read_faults folder.old ≤ F.read_faults folder.new }
@@ -221,6 +261,33 @@ fn race_in_log<F: Folder>(
     Ok(None)
 }
 
+/// The same; the log is read only where the intervals say that there may be one.
+fn race_in_row<F: Folder>(
+    alloc: Global,
+    folder: &mut F,
+    dir: &str,
+    rows: &[Row],
+    suspects: &[Suspect<'_>],
+    first: usize,
+    lines: (u32, u32),
+) -> Result<Option<RacePair>, WalkFault>
+    requires first { first < length rows.now }
+    requires few { length rows.now < 2 ^ 32 }
+    ensures finds { WhereTold (F.state folder.old).content (λ c. (trace : Trace) → HoldsGoodRun c dir.now rows.now trace → HoldAccesses trace lines suspects.now
+        → IfOk result (FindsRace trace lines first)) }
+    ensures same { F.state folder.new ≡ F.state folder.old }
+    ensures later { F.read_faults folder.old ≤ F.read_faults folder.new }
+    ensures only_faults { IfErr result (λ e. IsNoPlace e) }
+    ensures cause { IsErrOf result WalkFault.ReadFault → Rose (F.read_faults folder.old) (F.read_faults folder.new) }
+{
+    let row = &rows[first];
+    let suspected = is_row_suspected(alloc, suspects, &row.path, lines)?;
+    if !suspected {
+        return Ok(None);
+    }
+    race_in_log(alloc, folder, dir, rows, suspects, first, lines)
+}
+
 /// The least race of these lines, by row and number, first record first.
 pub fn least_race<F: Folder>(
     alloc: Global,
@@ -231,7 +298,7 @@ pub fn least_race<F: Folder>(
     lines: (u32, u32),
 ) -> Result<Option<RacePair>, WalkFault>
     requires few { length rows.now < 2 ^ 32 }
-    ensures explains { WhereTold (F.state folder.old).content (λ c. (trace : Trace) → HoldsGoodRun c dir.now rows.now trace → AreOfRun trace suspects.now
+    ensures explains { WhereTold (F.state folder.old).content (λ c. (trace : Trace) → HoldsGoodRun c dir.now rows.now trace → HoldAccesses trace lines suspects.now
         → IfOk result (FindsLeast trace lines)) }
     ensures same { F.state folder.new ≡ F.state folder.old }
     ensures later { F.read_faults folder.old ≤ F.read_faults folder.new }
@@ -239,7 +306,7 @@ pub fn least_race<F: Folder>(
     ensures cause { IsErrOf result WalkFault.ReadFault → Rose (F.read_faults folder.old) (F.read_faults folder.new) }
 {
     'rows: for first in 0..rows.len() {
-        let found = race_in_log(alloc, folder, dir, rows, suspects, first, lines)?;
+        let found = race_in_row(alloc, folder, dir, rows, suspects, first, lines)?;
         if found.is_some() {
             return Ok(found);
         }

@@ -1,21 +1,32 @@
-//! Whether a record may race with another, by the strided runs of concurrent barrier intervals.
-ghost use Rattle.std.specs.Prelude.{◌≡◌, ◌↔◌, ◌<◌, Contains, IsTrue, IfOk, IfSome};
+//! Which barrier intervals a record may race with, by their strided runs.
+ghost use Rattle.std.specs.Prelude.{◌≡◌, ◌<◌, All, Contains, IsTrue, IfOk, IfSome, OnOk};
 ghost use Rattle.log_segment.specs.Accesses.{is_atomic, is_write, key_at};
 ghost use Rattle.log_segment.specs.declared.segment.Segment.{Segment as Interval};
-ghost use Rattle.pair_compare.specs.Compare.{IsRacingPair};
+ghost use Rattle.pair_compare.specs.Compare.{IsRacingPair, IsSegmentPair};
 ghost use Rattle.stride_summary.specs.Run.{HasRunAddress, run_key};
-ghost use Rattle.explain.specs.Suspects.{IsSuspected, HoldsRecord, MayMeet};
+ghost use Rattle.explain.specs.Suspects.{FindsMet, IsAmong, IsWithin, MayMeet};
+ghost use Rattle.explain.specs.declared.stretch.Stretch.{Stretch as Records};
 
 use crate::finding::Found;
-use crate::suspect::Suspect;
+use crate::stretch::{Stretch, is_path, is_within};
+use crate::suspect::{Suspect, line_of};
 use log_format::Kind;
 use log_segment::Segment;
+use pair_compare::compare_alone;
 use std::alloc::Global;
 use stride_summary::Run;
-use sw_base::{Memory, Path, Step};
+use sw_base::{Memory, Path};
 
 /// The last address at which an access of eight bytes may stand.
 const LAST_ADDRESS: u64 = (1 << 48) - 8;
+
+/// Whether accesses of two of the intervals race in these lines.
+pub fn has_pair(alloc: Global, segments: &[Segment], lines: (u32, u32)) -> Result<bool, Memory>
+    ensures { IfOk result (λ yes. IsSegmentPair segments.now lines → IsTrue yes) }
+{
+    let pairs = compare_alone(alloc, segments)?;
+    Ok(pairs.contains(&lines))
+}
 
 /// The intervals, each with a tree.
 pub fn suspects_of<'s>(alloc: Global, segments: &'s [Segment]) -> Result<Vec<Suspect<'s>>, Memory>
@@ -28,18 +39,38 @@ pub fn suspects_of<'s>(alloc: Global, segments: &'s [Segment]) -> Result<Vec<Sus
     Ok(suspects)
 }
 
-/// Whether an access of the interval races in these lines with one of a suspect.
+/// Whether an access of the interval races in these lines with one of a suspect. All its accesses are of the line that is told.
 fn meets(
     alloc: Global,
-    probe: &Segment,
+    own: &Segment,
+    line: Option<u32>,
     suspects: &[Suspect<'_>],
     lines: (u32, u32),
 ) -> Result<bool, Memory>
-    ensures { IfOk result (λ yes. (their : Interval) → Contains suspects.now their → IsRacingPair probe.now their lines → IsTrue yes) }
+    requires { IfSome line (λ n. All (λ run. run.line ≡ n) own.now.runs.items) }
+    ensures { IfOk result (λ yes. (their : Interval) → Contains suspects.now their → IsRacingPair own.now their lines → IsTrue yes) }
 {
     for suspect in suspects {
-        let racing = suspect.has_race(alloc, probe, lines)?;
+        let racing = suspect.has_race(alloc, own, line, lines)?;
         if racing {
+            return Ok(true);
+        }
+    }
+    Ok(false)
+}
+
+/// Whether an access of the task races in these lines with one of a suspect.
+pub fn is_row_suspected(
+    alloc: Global,
+    suspects: &[Suspect<'_>],
+    path: &Path,
+    lines: (u32, u32),
+) -> Result<bool, Memory>
+    ensures { IfOk result (λ yes. (own their : Interval) → Contains suspects.now own → Contains suspects.now their → own.path ≡ path.now → IsRacingPair own their lines → IsTrue yes) }
+{
+    for suspect in suspects {
+        let own = suspect.segment();
+        if is_path(&own.path, path) && meets(alloc, own, suspect.line(), suspects, lines)? {
             return Ok(true);
         }
     }
@@ -98,61 +129,111 @@ fn run_of(one: &Found) -> Option<Run>
     })
 }
 
-/// Whether a record with the label of this interval may race in these lines with an access of a suspect.
-fn may_meet(
-    alloc: Global,
-    own: &Segment,
-    suspects: &[Suspect<'_>],
-    one: &Found,
-    lines: (u32, u32),
-) -> Result<bool, Memory>
-    ensures { IfOk result (λ yes. (their : Interval) → Contains suspects.now their → MayMeet own.now their one.now lines → IsTrue yes) }
+/// An interval like this one that has the record alone, where it has the form of an access.
+fn alone_of(alloc: Global, own: &Segment, one: &Found) -> Result<Option<Segment>, Memory>
+    ensures { IfOk result (λ alone. (their : Interval) (lines : _) → MayMeet own.now their one.now lines → IfSome alone (λ probe. IsRacingPair probe their lines)) }
 {
     let Some(run) = run_of(one) else {
-        return Ok(true);
+        return Ok(None);
     };
     let mut runs = Vec::new(alloc);
     runs.push(run)?;
-    let probe = Segment {
+    Ok(Some(Segment {
         path: own.path.copy(),
         first: own.first,
         last: own.last,
         label: own.label.copy(),
         runs,
-    };
-    meets(alloc, &probe, suspects, lines)
+    }))
 }
 
-fn are_same(steps: &[Step], others: &[Step]) -> bool
-    ensures { IsTrue result ↔ (steps.now ≡ others.now) }
+/// Whether the record of such an interval may race in these lines with an access of a suspect.
+fn may_meet(
+    alloc: Global,
+    alone: &Option<Segment>,
+    their: &Suspect<'_>,
+    lines: (u32, u32),
+) -> Result<bool, Memory>
+    ensures { IfOk result (λ yes. IfSome alone.now (λ probe. IsRacingPair probe their.now lines) → IsTrue yes) }
 {
-    steps == others
+    match alone {
+        Some(probe) => their.has_race(alloc, probe, line_of(&probe.runs), lines),
+        None => Ok(true),
+    }
 }
 
-/// Whether the interval has the record of this number in the task's log.
-fn is_within(own: &Segment, path: &Path, number: u32) -> bool
-    ensures { IsTrue result ↔ HoldsRecord own.now path.now number }
+/// Adds the suspect where it has an access that may race in these lines with the record of such an interval.
+fn add_if_met(
+    alloc: Global,
+    alone: &Option<Segment>,
+    their: &Suspect<'_>,
+    lines: (u32, u32),
+    met: &mut Vec<Stretch>,
+) -> Result<(), Memory>
+    ensures met { OnOk result (IfSome alone.now (λ probe. IsRacingPair probe their.now lines) → IsAmong their.now met.new.items) }
+    ensures old { OnOk result ((s : Records) → Contains met.old.items s → Contains met.new.items s) }
 {
-    own.first <= number && number <= own.last && are_same(own.path.steps(), path.steps())
+    let racing = may_meet(alloc, alone, their, lines)?;
+    if racing {
+        met.push(their.stretch())?;
+    }
+    Ok(())
 }
 
-/// Whether the record of this number may race in these lines with an access of a suspect: true wherever it does.
-pub fn is_suspected(
+/// Adds the suspects with an access that may race in these lines with the record, which has the label of the interval.
+fn add_met(
+    alloc: Global,
+    own: &Segment,
+    suspects: &[Suspect<'_>],
+    one: &Found,
+    lines: (u32, u32),
+    met: &mut Vec<Stretch>,
+) -> Result<(), Memory>
+    ensures met { OnOk result ((their : Interval) → Contains suspects.now their → MayMeet own.now their one.now lines → IsAmong their met.new.items) }
+    ensures old { OnOk result ((s : Records) → Contains met.old.items s → Contains met.new.items s) }
+{
+    let alone = alone_of(alloc, own, one)?;
+    for their in suspects {
+        add_if_met(alloc, &alone, their, lines, met)?;
+    }
+    Ok(())
+}
+
+/// The same where the interval has the record of this number.
+fn add_met_within(
+    alloc: Global,
+    own: &Segment,
+    suspects: &[Suspect<'_>],
+    path: &Path,
+    number: u32,
+    one: &Found,
+    lines: (u32, u32),
+    met: &mut Vec<Stretch>,
+) -> Result<(), Memory>
+    ensures met { OnOk result (IsWithin own.now.path own.now.first own.now.last path.now number → (their : Interval) → Contains suspects.now their → MayMeet own.now their one.now lines → IsAmong their met.new.items) }
+    ensures old { OnOk result ((s : Records) → Contains met.old.items s → Contains met.new.items s) }
+{
+    if !is_within(&own.path, own.first, own.last, path, number) {
+        return Ok(());
+    }
+    add_met(alloc, own, suspects, one, lines, met)
+}
+
+/// The suspects with an access that may race in these lines with the record of this number: each with one that does.
+pub fn met_by(
     alloc: Global,
     suspects: &[Suspect<'_>],
     path: &Path,
     number: u32,
     one: &Found,
     lines: (u32, u32),
-) -> Result<bool, Memory>
-    ensures { IfOk result (λ yes. IsSuspected suspects.now path.now number one.now lines → IsTrue yes) }
+) -> Result<Vec<Stretch>, Memory>
+    ensures { IfOk result (λ met. FindsMet suspects.now path.now number one.now lines met.items) }
 {
+    let mut met = Vec::new(alloc);
     for suspect in suspects {
-        if is_within(suspect.segment(), path, number)
-            && may_meet(alloc, suspect.segment(), suspects, one, lines)?
-        {
-            return Ok(true);
-        }
+        let own = suspect.segment();
+        add_met_within(alloc, own, suspects, path, number, one, lines, &mut met)?;
     }
-    Ok(false)
+    Ok(met)
 }

@@ -2,9 +2,10 @@
 
 use explain::{RacePair, confirm, explain};
 use log_walk::{RecordWhy, WalkFault};
+use memory_environment::{MemFolder, ShortReads};
 use std::alloc::{AllocError, Global};
 use std::test::Fail;
-use sw_base::{Folder, INDEX_HEADER, LOG_HEADER, MemFolder, Memory, ShortReads};
+use sw_base::{Folder, INDEX_HEADER, LOG_HEADER, Memory};
 
 // A record: kind, size, line, address and value.
 type Rec = (u8, u8, u8, u64, u8);

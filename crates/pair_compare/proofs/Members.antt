@@ -203,13 +203,14 @@ OneHas-each P xs ys k same each h =
     let (i, within, is) = h.listed in
     record { one = get_or ys i h.one; listed = Contains-get_or ys i h.one (omega arith); has = each i h.one within (subst (λ x. P x k) (sym is) h.has) }
 
+one_member : (m other : Member) (n : ℕ × Run) → other.part ≡ m.part → other.runs.now ≡ m.runs.now → IsRunOf m n → IsRunOf other n
+one_member m other n part runs h = subst (λ (p : ℕ). OneHas (IsNumbered p) other.runs.now n) (sym part) (subst (λ (rs : List Run). OneHas (IsNumbered m.part) rs n) (sym runs) h)
+
 pub same_members : (olds news : List Member) → length news ≡ length olds → ((i : ℕ) (d : Member) → i < length olds → IsSameMember (get_or olds i d) (get_or news i d)) → (n : ℕ × Run) → OneHas IsRunOf news n ↔ OneHas IsRunOf olds n
 same_members olds news same each n = (
   OneHas-each IsRunOf news olds n (sym same) (λ i d inside h. one_member (get_or news i d) (get_or olds i d) n (sym (each i d (omega arith)).part) (sym (each i d (omega arith)).runs) h),
   OneHas-each IsRunOf olds news n same (λ i d inside h. one_member (get_or olds i d) (get_or news i d) n (each i d inside).part (each i d inside).runs h),
-) where
-  one_member : (m other : Member) (n : ℕ × Run) → other.part ≡ m.part → other.runs.now ≡ m.runs.now → IsRunOf m n → IsRunOf other n
-  one_member m other n part runs h = subst (λ (p : ℕ). OneHas (IsNumbered p) other.runs.now n) (sym part) (subst (λ (rs : List Run). OneHas (IsNumbered m.part) rs n) (sym runs) h)
+)
 
 -- a list in which one was put for another that has the same
 set_within : {X K : Type 0} (P : X → K → Type 0) (xs : List X) (i : ℕ) (x : X) (k : K) → i < length xs → ((d : X) → P (get_or xs i d) k ↔ P x k) → OneHas P (set xs i x) k ↔ OneHas P xs k
@@ -236,6 +237,18 @@ same_more groups i d new pair inside same = set_within IsGroupPair groups i new 
       λ h. parted_within (OneHas IsRunOf old.members.items) (OneHas IsRunOf new.members.items) pair (λ n. (same n).1) (subst (λ (g : Group). IsGroupPair g pair) there h),
       λ h. subst (λ (g : Group). IsGroupPair g pair) (sym there) (parted_within (OneHas IsRunOf new.members.items) (OneHas IsRunOf old.members.items) pair (λ n. (same n).0) h),
     ))
+
+-- a member or a group with the same runs adds the same
+pub Adds-member : (members more : List Member) (old new : Member) → new.part ≡ old.part → new.runs.now ≡ old.runs.now → more ≡ members ++ new ∷ [] → GrowsBy (OneHas IsRunOf members) (OneHas IsRunOf more) (IsRunOf old)
+Adds-member members more old new part runs is = subst (λ (ms : List Member). GrowsBy (OneHas IsRunOf members) (OneHas IsRunOf ms) (IsRunOf old)) (sym is)
+    (Adds-same (OneHas IsRunOf members) (OneHas IsRunOf (members ++ new ∷ [])) (IsRunOf new) (IsRunOf old)
+    (λ n. one_member new old n (sym part) (sym runs)) (λ n. one_member old new n part runs) (Adds-pushed IsRunOf members new))
+
+pub Adds-measured : (groups more : List Group) (old new : Group) → IsSameGroup old new → more ≡ groups ++ new ∷ [] → GrowsBy (OneHas IsGroupPair groups) (OneHas IsGroupPair more) (IsGroupPair old)
+Adds-measured groups more old new same is = subst (λ (gs : List Group). GrowsBy (OneHas IsGroupPair groups) (OneHas IsGroupPair gs) (IsGroupPair old)) (sym is)
+    (Adds-same (OneHas IsGroupPair groups) (OneHas IsGroupPair (groups ++ new ∷ [])) (IsGroupPair new) (IsGroupPair old)
+    (λ pair. parted_within (OneHas IsRunOf new.members.items) (OneHas IsRunOf old.members.items) pair (λ n. (same n).0))
+    (λ pair. parted_within (OneHas IsRunOf old.members.items) (OneHas IsRunOf new.members.items) pair (λ n. (same n).1)) (Adds-pushed IsGroupPair groups new))
 
 -- a vector whose elements were lent out
 pub restored : {X : Type 0} (xs news : List X) (count : ℕ) → length news ≡ length xs → count ≡ length xs → take count (news ++ drop (length news) xs) ≡ news

@@ -48,9 +48,9 @@ abbrev pub HasFound : Worker → ℕ × ℕ → Type 0
 HasFound worker pair = Contains worker.pairs.keys pair
 
 -- about how many runs the tasks have
-abbrev pub runs_of : List Task → ℕ
-runs_of tasks = sum_by (λ task. task.runs) tasks
+abbrev pub total_runs : List Task → ℕ
+total_runs tasks = sum_by (λ task. task.runs) tasks
 
 -- without its last task the worker has at most so many runs
 abbrev pub HasShare : ℕ → Worker → Type 0
-HasShare most worker = runs_of (take (length worker.tasks.now - 1) worker.tasks.now) ≤ most
+HasShare most worker = total_runs (take (length worker.tasks.now - 1) worker.tasks.now) ≤ most

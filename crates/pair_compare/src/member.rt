@@ -15,7 +15,8 @@ pub struct Member<'s> {
     ghost quiet: { writes ≡ false → All (λ run. run.write ≡ false) runs.now },
 }
 
-fn measured<'s>(part: u64, runs: &'s [Run]) -> Member<'s>
+/// These runs of the part, measured.
+pub fn measured<'s>(part: u64, runs: &'s [Run]) -> Member<'s>
     ensures part { result.part ≡ part }
     ensures runs { result.runs.now ≡ runs.now }
 {

@@ -2,7 +2,7 @@ ghost use Rattle.std.specs.Prelude.{◌≡◌, ◌↔◌, ◌<◌, ◌≤◌, �
 ghost use Rattle.std.specs.List.Sorted.{IsStrictlySortedBy};
 ghost use Rattle.race_model.specs.Race.{pair_cmp};
 ghost use Rattle.pair_compare.specs.Conflict.{GrowsBy, AddsPairs, AddsSome, OneHas};
-ghost use Rattle.pair_compare.specs.Work.{HasFound, HasSearched, HasNothing, HasShare, IsTaskPair, IsWorkerPair, runs_of};
+ghost use Rattle.pair_compare.specs.Work.{HasFound, HasSearched, HasNothing, HasShare, IsTaskPair, IsWorkerPair, total_runs};
 
 use crate::task::Task;
 use crate::worker::Worker;
@@ -25,7 +25,7 @@ pub fn unite(pairs: &mut BTreeSet<(u32, u32)>, more: &BTreeSet<(u32, u32)>) -> R
 
 // About how many runs the tasks have.
 fn runs_in(tasks: &[Task]) -> usize
-    ensures { runs_of tasks.now < 2 ^ 64 → result ≡ runs_of tasks.now }
+    ensures { total_runs tasks.now < 2 ^ 64 → result ≡ total_runs tasks.now }
 {
     let mut runs = 0usize;
     for task in tasks {
@@ -37,8 +37,8 @@ fn runs_in(tasks: &[Task]) -> usize
 // How many of the tasks have so many runs together: the last of them brings them there, if the tasks have so many.
 fn share(tasks: &[Task], most: usize) -> usize
     ensures within { result ≤ length tasks.now }
-    ensures before { runs_of tasks.now < 2 ^ 64 → runs_of (take (result - 1) tasks.now) ≤ most }
-    ensures enough { runs_of tasks.now < 2 ^ 64 → (result ≡ length tasks.now) ⊎ (most ≤ runs_of (take result tasks.now)) }
+    ensures before { total_runs tasks.now < 2 ^ 64 → total_runs (take (result - 1) tasks.now) ≤ most }
+    ensures enough { total_runs tasks.now < 2 ^ 64 → (result ≡ length tasks.now) ⊎ (most ≤ total_runs (take result tasks.now)) }
 {
     let mut runs = 0usize;
     for (place, task) in tasks.iter().enumerate() {
@@ -60,7 +60,7 @@ fn deal<'t, 'g, 's>(
     ensures dealt { OnOk result (GrowsBy (OneHas IsWorkerPair team.old.items) (OneHas IsWorkerPair team.new.items) (OneHas IsTaskPair tasks.now)) }
     ensures fresh { All HasNothing team.old.items → OnOk result (All HasNothing team.new.items) }
     // No worker has more than an equal share, but for its last task.
-    ensures even { (most : ℕ) → runs_of tasks.now < 2 ^ 64 → runs_of tasks.now ≤ workers * most → All (HasShare most) team.old.items
+    ensures even { (most : ℕ) → total_runs tasks.now < 2 ^ 64 → total_runs tasks.now ≤ workers * most → All (HasShare most) team.old.items
         → OnOk result (All (HasShare most) team.new.items) }
 {
     if workers <= 1 {

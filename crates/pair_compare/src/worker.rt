@@ -16,7 +16,7 @@ pub struct Worker<'t, 'g, 's> {
     pub refused: bool,
 }
 
-fn search_tasks(
+pub fn search_tasks(
     alloc: Global,
     tasks: &[Task],
     pairs: &mut BTreeSet<(u32, u32)>,

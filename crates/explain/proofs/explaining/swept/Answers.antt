@@ -1,4 +1,4 @@
-use Rattle.std.proofs.Common.{◌≡◌, List, Option, ap, sym, subst, ◌∙◌, arith}
+use Rattle.std.proofs.Common.{◌≡◌, List, [], ◌∷◌, ◌++◌, Option, ap, sym, subst, ◌∙◌, arith}
 use Rattle.std.proofs.lemmas.Result.{err_from_is_err_and}
 use Rattle.log_format.specs.declared.format.TheConstants.{FORMAT}
 use Rattle.log_segment.specs.declared.segment.Segment.{Segment}
@@ -6,6 +6,9 @@ use Rattle.log_walk.specs.Sweep.{GivesRegion, HasSwept, HasSweptAll}
 use Rattle.log_walk.specs.declared.sweep.Sweep.{Sweep}
 use Rattle.log_walk.proofs.WalkMoves.{WalkedTo, walked_more}
 use Rattle.sw_base.specs.Environment.{Content, FolderState}
+use Rattle.explain.specs.Suspects.{IsOnLines, Keeps}
+use Rattle.explain.proofs.Answering.{none_is_some}
+use Rattle.explain.proofs.Kept.{holds_accesses, keeps_more}
 use Rattle.explain.proofs.explaining.swept.Goals as goal
 
 same_content : {one other : FolderState} → one ≡ other → one.content ≡ other.content
@@ -18,15 +21,29 @@ returns-in_err-region-clause-refused g c =
     let now = subst (λ (t : Option Content). HasSwept FORMAT t c.args.dir.now c.regions.sweep so.trace) (sym (same_content c.regions.invariant.same)) so.swept in
     rw (p.1, p.2) (λ x told. (c.in_err-region.ensures.refused FORMAT c.args.dir.now so.trace now).2 x (same_content c.regions.invariant.same ∙ told))
 
+pub regions-init : goal.regions-init
+regions-init g c =
+    let b = c.in_ok-sweep.ensures.begins in
+    record {
+      all = c.in_ok-sweep.root.items;
+      so = record { trace = b.root ∷ []; swept = b.swept; in_order = b.gives.in_order };
+      keeps = subst (λ (xs : List Segment). Keeps (IsOnLines c.args.lines) xs c.keep_lines.new.kept.items) c.deref.ensures.value c.in_ok-keep_lines.ensures.keeps;
+      fresh = λ e refused. none_is_some e (sym b.fresh ∙ refused);
+      same = c.in_ok-sweep.ensures.same;
+      later = c.in_ok-sweep.ensures.later;
+    }
+
 pub regions-preserved : goal.regions-preserved
 regions-preserved g c =
     let so = c.regions.invariant.so in
     let now = subst (λ (t : Option Content). HasSwept FORMAT t c.args.dir.now c.regions.sweep so.trace) (sym (same_content c.regions.invariant.same)) so.swept in
     let gives = rw c.in-Some.is at (c.in_ok-region.ensures.region FORMAT c.args.dir.now so.trace now) in
     record {
-      so = subst (λ (xs : List Segment). WalkedTo FORMAT (g.F.Folder.state c.args.folder.now).content c.args.dir.now c.next.new.self xs) (sym c.in_ok-append.ensures.items)
-          (walked_more (g.F.Folder.state c.args.folder.now).content c.args.dir.now c.regions.sweep c.next.new.self c.regions.found.items c.in-Some.region.items so
-          (subst (λ (t : Option Content). GivesRegion FORMAT t c.args.dir.now c.regions.sweep c.next.new.self so.trace c.in-Some.region.items) (same_content c.regions.invariant.same) gives));
+      all = c.regions.invariant.all ++ c.in-Some.region.items;
+      so = walked_more (g.F.Folder.state c.args.folder.now).content c.args.dir.now c.regions.sweep c.next.new.self c.regions.invariant.all c.in-Some.region.items so
+          (subst (λ (t : Option Content). GivesRegion FORMAT t c.args.dir.now c.regions.sweep c.next.new.self so.trace c.in-Some.region.items) (same_content c.regions.invariant.same) gives);
+      keeps = keeps_more c.args.lines c.regions.invariant.all c.in-Some.region.items c.regions.kept.items c.keep_lines-in-Some.new.kept.items c.in_ok-keep_lines-2.ensures.old c.regions.invariant.keeps
+          (subst (λ (xs : List Segment). Keeps (IsOnLines c.args.lines) xs c.keep_lines-in-Some.new.kept.items) c.deref-in-Some.ensures.value c.in_ok-keep_lines-2.ensures.keeps);
       fresh = c.in_ok-region.ensures.unrefused;
       same = c.in_ok-region.ensures.same ∙ c.regions.invariant.same;
       later = omega (arith, c.in_ok-region.ensures.later, c.regions.invariant.later);
@@ -41,5 +58,5 @@ returns-clause-all g c =
       so.trace,
       subst (λ (s : Sweep). HasSweptAll FORMAT (g.F.Folder.state c.args.folder.now).content c.args.dir.now s so.trace) (sym both.0)
           (subst (λ (t : Option Content). HasSweptAll FORMAT t c.args.dir.now c.regions.sweep so.trace) (same_content c.regions.invariant.same) all),
-      so.in_order so.trace all.completes,
+      holds_accesses so.trace c.args.lines c.regions.invariant.all c.regions.kept.items all.keeps (so.in_order so.trace all.completes) c.regions.invariant.keeps,
     )

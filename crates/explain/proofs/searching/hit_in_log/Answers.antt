@@ -7,12 +7,12 @@ use Rattle.explain.specs.declared.finding.Found.{Found}
 use Rattle.explain.proofs.Answering.{none_is_some}
 use Rattle.explain.proofs.Hits.{IsNoHit, hit_here, no_hit}
 use Rattle.explain.proofs.Logs.{log_of, row_of_place}
-use Rattle.explain.proofs.Scanning.{next_in_log, next_node, next_tells, scans_next, scans_none}
+use Rattle.explain.proofs.Scanning.{next_in_log, next_node, next_tells, number_of, scans_next, scans_none}
 use Rattle.explain.proofs.searching.hit_in_log.Goals as goal
 
 pub records-init : goal.records-init
 records-init g c = record {
-  scans = λ x told trace run y in_y tells.
+  scans = λ x told trace run y in_y partners tells.
       let row = row_of_place c.args.rows.now c.args.second c.index-rows-second.result c.requires.second c.index-rows-second.is in
       let log = log_of x c.args.dir.now c.args.rows.now trace run c.args.second c.index-rows-second.result row in
       scans_none x c.args.dir.now trace c.args.second c.index-rows-second.result log c.in_ok-reader.reader c.start-place.result (IsNoHit trace c.args.lines y)
@@ -24,13 +24,14 @@ records-init g c = record {
 
 pub records-preserved : goal.records-preserved
 records-preserved g c = record {
-  scans = λ x told trace run y in_y tells.
-      let s = c.records.invariant.scans x told trace run y in_y tells in
+  scans = λ x told trace run y in_y partners tells.
+      let s = c.records.invariant.scans x told trace run y in_y partners tells in
       let now = ap (λ s. s.content) c.records.invariant.same ∙ told in
       let gives = subst (λ (o : Option Record). GivesNext x s.left o c.next_record.new.reader) c.in-Some.is (c.in_ok-next.ensures.gives x now s.left s.stands) in
       let other = next_tells x trace c.args.second c.records.reader c.records.place (IsNoHit trace c.args.lines y) s c.in-Some.next c.next_record.new.reader c.found_at-other.result gives c.found_at-other.ensures in
       let races = c.in_ok-raced.ensures.races x (ap (λ s. s.content) c.in_ok-next.ensures.same ∙ now) trace run y (next_node x trace c.args.second c.records.reader c.records.place (IsNoHit trace c.args.lines y) s) in_y
-      (next_in_log x trace c.args.second c.records.reader c.records.place (IsNoHit trace c.args.lines y) s) tells other in
+      (next_in_log x trace c.args.second c.records.reader c.records.place (IsNoHit trace c.args.lines y) s)
+      (number_of x trace c.args.second c.records.reader c.records.place (IsNoHit trace c.args.lines y) s) partners tells other in
       scans_next x trace c.args.second c.records.reader c.records.place (IsNoHit trace c.args.lines y) s c.in-Some.next c.next_record.new.reader c.pass.new.self gives
       (λ byte on. none_is_some byte (sym c.in_default-raced.is ∙ (races byte).1 on))
       (λ may. subst (λ (f : Found). IsPlaceAfter c.pass.new.self (s.given ++ f.event ∷ [])) c.found_at-other.ensures (c.pass.ensures.after s.given s.after (subst (λ (f : Found). MayFollow c.records.place.held f.event) (sym c.found_at-other.ensures) may)));
@@ -43,18 +44,19 @@ records-preserved g c = record {
 }
 
 pub returns-in-Some-raced-clause-finds : goal.returns-in-Some-raced-clause-finds
-returns-in-Some-raced-clause-finds g c = λ x told trace run y in_y tells.
-    let s = c.records.invariant.scans x told trace run y in_y tells in
+returns-in-Some-raced-clause-finds g c = λ x told trace run y in_y partners tells.
+    let s = c.records.invariant.scans x told trace run y in_y partners tells in
     let now = ap (λ s. s.content) c.records.invariant.same ∙ told in
     let gives = subst (λ (o : Option Record). GivesNext x s.left o c.next_record.new.reader) c.in-Some.is (c.in_ok-next.ensures.gives x now s.left s.stands) in
     let other = next_tells x trace c.args.second c.records.reader c.records.place (IsNoHit trace c.args.lines y) s c.in-Some.next c.next_record.new.reader c.found_at-other.result gives c.found_at-other.ensures in
     let races = c.in_ok-raced.ensures.races x (ap (λ s. s.content) c.in_ok-next.ensures.same ∙ now) trace run y (next_node x trace c.args.second c.records.reader c.records.place (IsNoHit trace c.args.lines y) s) in_y
-    (next_in_log x trace c.args.second c.records.reader c.records.place (IsNoHit trace c.args.lines y) s) tells other in
+    (next_in_log x trace c.args.second c.records.reader c.records.place (IsNoHit trace c.args.lines y) s)
+    (number_of x trace c.args.second c.records.reader c.records.place (IsNoHit trace c.args.lines y) s) partners tells other in
     hit_here x trace c.args.lines y c.args.second c.records.reader c.records.place s (record { number = _; byte = c.in-Some-raced.byte }) refl ((races c.in-Some-raced.byte).0 c.in-Some-raced.is)
 
 pub returns-clause-finds : goal.returns-clause-finds
-returns-clause-finds g c = λ x told trace run y in_y tells.
-    let s = c.records.invariant.scans x told trace run y in_y tells in
+returns-clause-finds g c = λ x told trace run y in_y partners tells.
+    let s = c.records.invariant.scans x told trace run y in_y partners tells in
     let now = ap (λ s. s.content) c.records.invariant.same ∙ told in
     no_hit x trace c.args.lines y c.args.second c.records.reader c.records.place s c.next_record.new.reader
     (subst (λ (o : Option Record). GivesNext x s.left o c.next_record.new.reader) c.in_default.is (c.in_ok-next.ensures.gives x now s.left s.stands))

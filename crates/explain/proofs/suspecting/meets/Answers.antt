@@ -12,7 +12,7 @@ loop-suspect-preserved c = λ k their below found racing.
     let item = place_is c.args.suspects.now c.loop-suspect.suspect-index c.suspect-item.result c.loop-suspect-test.true c.suspect-item.is in
     elim (cases_order k c.loop-suspect.suspect-index) [
       | inl same ↦ (let e : c.suspect-item.result ≡ their = same_Some c.suspect-item.result their (sym item ∙ (ap (slice_get c.args.suspects.now) (sym same) ∙ found)) in
-          absurd (not_so (c.in_ok-racing.ensures (subst (λ (t : Segment). IsRacingPair c.args.probe.now t c.args.lines) (sym e) racing)) c.if-racing.false))
+          absurd (not_so (c.in_ok-racing.ensures (subst (λ (t : Segment). IsRacingPair c.args.own.now t c.args.lines) (sym e) racing)) c.if-racing.false))
       | inr (inl less) ↦ c.loop-suspect.invariant k their less found racing
       | inr (inr above) ↦ absurd (omega (arith, above, below))
     ]

@@ -5,4 +5,4 @@ use Rattle.pair_compare.specs.Compare.{IsRacingPair}
 use Rattle.explain.proofs.suspecting.meets.Given as goal
 
 abbrev pub invariant-loop-suspect : goal.invariant-loop-suspect
-invariant-loop-suspect l = (k : ℕ) (their : Segment) → k < l.suspect-index → slice_get l.suspects k ≡ Some their → IsRacingPair l.probe their l.lines → ⊥
+invariant-loop-suspect l = (k : ℕ) (their : Segment) → k < l.suspect-index → slice_get l.suspects k ≡ Some their → IsRacingPair l.own their l.lines → ⊥

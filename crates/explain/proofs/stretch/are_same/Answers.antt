@@ -4,7 +4,7 @@ use Rattle.std.proofs.lemmas.Slice.Eq.{slice_eq-Decides}
 use Rattle.std.specs.Bool.{Decides}
 use Rattle.sw_base.specs.contracts.path.StepPartialEq.TheImpl.{eq-value}
 use Rattle.sw_base.specs.declared.path.Step.{Step}
-use Rattle.explain.proofs.suspecting.are_same.Goals as goal
+use Rattle.explain.proofs.stretch.are_same.Goals as goal
 
 -- `==` on steps decides whether they are the same
 decides : (a b : Step) → Decides (eq-value.it a b) (a ≡ b)
