@@ -22,6 +22,7 @@ use Rattle.serial_run.specs.Stepping.{Stand, Leads, Stepped, Takes, HaltsSo, Adv
 use Rattle.serial_run.proofs.Following.{gains_then, plain_then}
 use Rattle.serial_run.proofs.Leading.{Part, leads_none, leads_then, adds_none, adds_then, adds_mark, leads_put}
 use Rattle.serial_run.proofs.Statements.{halts_first, halts_same}
+use Rattle.serial_run.specs.Placing.{ElementLayout}
 
 pub rest_append : (at : Site) (xs ys : List Frame) (then' : Part) (s : State) → rest_of at (xs ++ ys) then' s ≡ rest_of at ys (rest_of at xs then') s
 rest_append at [] ys then' s = refl
@@ -32,11 +33,11 @@ end_of x = put (event kind.End x.end 0 0)
 
 -- ---- one frame
 
-module _ (word : ℕ → ℕ) (old : Stand) (others : List Frame) (f : Frame) (rest_is : old.rest ≡ others ++ f ∷ []) where
+module _ (layout : ElementLayout) (old : Stand) (others : List Frame) (f : Frame) (rest_is : old.rest ≡ others ++ f ∷ []) where
   left_is : (s : State) → left_of old s ≡ after (part_of old.at f s) (rest_of old.at others (end_of old))
   left_is s = ap (λ (l : List Frame). rest_of old.at l (end_of old) s) rest_is ∙ rest_append old.at others (f ∷ []) (end_of old) s
 
-  advances_popped : (new : Stand) (mark : List Record) (forks : List Fork) → Stepped word (part_of old.at f) (record old { rest = others }) new mark forks → Advances word old new mark forks
+  advances_popped : (new : Stand) (mark : List Record) (forks : List Fork) → Stepped layout (part_of old.at f) (record old { rest = others }) new mark forks → Advances layout old new mark forks
   advances_popped new mark forks x = record {
     at = x.at;
     end = x.end;
@@ -51,51 +52,51 @@ module _ (word : ℕ → ℕ) (old : Stand) (others : List Frame) (f : Frame) (r
         ∙ ap (λ (n : ℕ). rest_of new.at new.rest (put (event kind.End n 0 0)) st) (sym x.end);
   }
 
-  pub pauses_popped : (new : Stand) (r : Result (Option Pause) Halt) → Takes word (part_of old.at f) (record old { rest = others }) new r → Pauses word old new r
+  pub pauses_popped : (new : Stand) (r : Result (Option Pause) Halt) → Takes layout (part_of old.at f) (record old { rest = others }) new r → Pauses layout old new r
   pauses_popped new (Ok None) x = advances_popped new [] [] x
   pauses_popped new (Ok (Some pause.Barrier)) x = (x.0, advances_popped new (event kind.Barrier x.0 0 0 ∷ []) [] x.1)
   pauses_popped new (Ok (Some (pause.Fork team))) x =
       advances_popped new (event kind.Region team.now.line 0 team.now.span ∷ []) (record { team = team_of team.now; slots = new.slots } ∷ []) x
   pauses_popped new (Ok (Some pause.Ended)) x = absurd x
   pauses_popped new (Err why) x =
-      halts_same word (λ s. after (part_of old.at f s) (rest_of old.at others (end_of old))) (left_of old) left_is old new why
-      (halts_first word old.at (part_of old.at f) (rest_of old.at others (end_of old)) old (record old { rest = others }) new why refl refl x)
+      halts_same layout (λ s. after (part_of old.at f s) (rest_of old.at others (end_of old))) (left_of old) left_is old new why
+      (halts_first layout old.at (part_of old.at f) (rest_of old.at others (end_of old)) old (record old { rest = others }) new why refl refl x)
 
 -- ---- its End
 
-pub finishes : (word : ℕ → ℕ) (old new : Stand) → old.rest ≡ [] → new.at ≡ old.at → new.end ≡ old.end → new.slots ≡ old.slots → HasRoom old.progress → Logs (event kind.End old.end 0 0) old.progress new.progress → Finishes word old new
-finishes word old new none at end slots room logs =
+pub finishes : (layout : ElementLayout) (old new : Stand) → old.rest ≡ [] → new.at ≡ old.at → new.end ≡ old.end → new.slots ≡ old.slots → HasRoom old.progress → Logs (event kind.End old.end 0 0) old.progress new.progress → Finishes layout old new
+finishes layout old new none at end slots room logs =
     let due = event kind.End old.end 0 0 in
     record {
       at = at;
       end = end;
-      makes = adds_mark word old.at due old.slots old.progress new.progress room logs tt refl refl refl;
+      makes = adds_mark layout old.at due old.slots old.progress new.progress room logs tt refl refl refl;
       leads =
           subst (λ (l : List ℤ). Leads (left_of old) old.slots old.progress.count (λ s. Gives tt s) l new.progress.count (due ∷ []) []) (sym slots)
           (λ records before reads chunks.
           let st = state_with old.slots records before (log_limit - old.progress.count) (reads_of (due ∷ []) ++ reads) (chunks_of (due ∷ []) ++ chunks) in
           ap (λ (l : List Frame). rest_of old.at l (end_of old) st) none
           ∙ sym (after-nothing (put due st))
-          ∙ leads_put word old.at due old.slots old.progress new.progress room logs tt refl refl refl (λ s. Gives tt s) records before reads chunks);
+          ∙ leads_put layout old.at due old.slots old.progress new.progress room logs tt refl refl refl (λ s. Gives tt s) records before reads chunks);
     }
 
 -- ---- one after another
 
-advances_then : (word : ℕ → ℕ) (old mid new : Stand) (mark : List Record) (forks : List Fork) → Advances word old mid [] [] → Advances word mid new mark forks → Advances word old new mark forks
-advances_then word old mid new mark forks one two = record {
+advances_then : (layout : ElementLayout) (old mid new : Stand) (mark : List Record) (forks : List Fork) → Advances layout old mid [] [] → Advances layout mid new mark forks → Advances layout old new mark forks
+advances_then layout old mid new mark forks one two = record {
   at = two.at ∙ one.at;
   end = two.end ∙ one.end;
-  makes = adds_then word old.progress mid.progress new.progress mark one.makes two.makes;
+  makes = adds_then layout old.progress mid.progress new.progress mark one.makes two.makes;
   leads =
       leads_then (left_of old) (left_of mid) (left_of new) old.slots mid.slots new.slots old.progress.count mid.progress.count new.progress.count one.makes.added two.makes.added [] forks one.leads two.leads;
 }
 
-finishes_then : (word : ℕ → ℕ) (old mid new : Stand) → Advances word old mid [] [] → Finishes word mid new → Finishes word old new
-finishes_then word old mid new one two = record {
+finishes_then : (layout : ElementLayout) (old mid new : Stand) → Advances layout old mid [] [] → Finishes layout mid new → Finishes layout old new
+finishes_then layout old mid new one two = record {
   at = two.at ∙ one.at;
   end = two.end ∙ one.end;
   makes =
-      let both = adds_then word old.progress mid.progress new.progress (event kind.End mid.end 0 0 ∷ []) one.makes two.makes in
+      let both = adds_then layout old.progress mid.progress new.progress (event kind.End mid.end 0 0 ∷ []) one.makes two.makes in
       record {
         plain = both.plain;
         plain_is = both.plain_is;
@@ -108,15 +109,15 @@ finishes_then word old mid new one two = record {
       leads_then (left_of old) (left_of mid) (λ s. Gives tt s) old.slots mid.slots new.slots old.progress.count mid.progress.count new.progress.count one.makes.added two.makes.added [] [] one.leads two.leads;
 }
 
-module _ (word : ℕ → ℕ) (old mid new : Stand) (one : Advances word old mid [] []) (why : model.Stop) (line : ℕ) (m : Made word (left_of mid) mid.slots new.slots mid.progress new.progress (Halted why line)) where
-  made_then : Made word (left_of old) old.slots new.slots old.progress new.progress (Halted why line)
+module _ (layout : ElementLayout) (old mid new : Stand) (one : Advances layout old mid [] []) (why : model.Stop) (line : ℕ) (m : Made layout (left_of mid) mid.slots new.slots mid.progress new.progress (Halted why line)) where
+  made_then : Made layout (left_of old) old.slots new.slots old.progress new.progress (Halted why line)
   made_then =
       let xs = one.makes.added in
       let ys = m.added in
       record {
         added = xs ++ ys;
         plain = plain_then xs ys (subst ArePlain (sym (one.makes.added_is ∙ append-nil one.makes.plain)) one.makes.plain_is) m.plain;
-        gains = gains_then word old.progress mid.progress new.progress xs ys one.makes.gains m.gains;
+        gains = gains_then layout old.progress mid.progress new.progress xs ys one.makes.gains m.gains;
         makes = record {
           within = omega (arith, length-append xs ys, one.makes.within, m.makes.within, one.makes.gains.count);
           makes = λ records forks reads chunks.
@@ -134,21 +135,21 @@ module _ (word : ℕ → ℕ) (old mid new : Stand) (one : Advances word old mid
         };
       }
 
-halts_then : (word : ℕ → ℕ) (old mid new : Stand) (why : Halt) → Advances word old mid [] [] → HaltsSo word (left_of mid) mid new why → HaltsSo word (left_of old) old new why
-halts_then word old mid new (halt.DivZero line) one m = made_then word old mid new one model.DivZero line m
-halts_then word old mid new (halt.Index line) one m = made_then word old mid new one model.Index line m
-halts_then word old mid new (halt.LogFull line) one m = made_then word old mid new one model.LogFull line m
-halts_then word old mid new halt.Long one m = m
-halts_then word old mid new halt.Refused one m = tt
-halts_then word old mid new halt.Memory one m = tt
+halts_then : (layout : ElementLayout) (old mid new : Stand) (why : Halt) → Advances layout old mid [] [] → HaltsSo layout (left_of mid) mid new why → HaltsSo layout (left_of old) old new why
+halts_then layout old mid new (halt.DivZero line) one m = made_then layout old mid new one model.DivZero line m
+halts_then layout old mid new (halt.Index line) one m = made_then layout old mid new one model.Index line m
+halts_then layout old mid new (halt.LogFull line) one m = made_then layout old mid new one model.LogFull line m
+halts_then layout old mid new halt.Long one m = m
+halts_then layout old mid new halt.Refused one m = tt
+halts_then layout old mid new halt.Memory one m = tt
 
-pub advances_none : (word : ℕ → ℕ) (x : Stand) → Advances word x x [] []
-advances_none word x = record { at = refl; end = refl; makes = adds_none word x.progress; leads = leads_none (left_of x) x.slots x.progress.count }
+pub advances_none : (layout : ElementLayout) (x : Stand) → Advances layout x x [] []
+advances_none layout x = record { at = refl; end = refl; makes = adds_none layout x.progress; leads = leads_none (left_of x) x.slots x.progress.count }
 
-pub pauses_then : (word : ℕ → ℕ) (old mid new : Stand) (r : Result (Option Pause) Halt) → Advances word old mid [] [] → Pauses word mid new r → Pauses word old new r
-pauses_then word old mid new (Ok None) one x = advances_then word old mid new [] [] one x
-pauses_then word old mid new (Ok (Some pause.Barrier)) one x = (x.0, advances_then word old mid new (event kind.Barrier x.0 0 0 ∷ []) [] one x.1)
-pauses_then word old mid new (Ok (Some (pause.Fork team))) one x =
-    advances_then word old mid new (event kind.Region team.now.line 0 team.now.span ∷ []) (record { team = team_of team.now; slots = new.slots } ∷ []) one x
-pauses_then word old mid new (Ok (Some pause.Ended)) one x = finishes_then word old mid new one x
-pauses_then word old mid new (Err why) one x = halts_then word old mid new why one x
+pub pauses_then : (layout : ElementLayout) (old mid new : Stand) (r : Result (Option Pause) Halt) → Advances layout old mid [] [] → Pauses layout mid new r → Pauses layout old new r
+pauses_then layout old mid new (Ok None) one x = advances_then layout old mid new [] [] one x
+pauses_then layout old mid new (Ok (Some pause.Barrier)) one x = (x.0, advances_then layout old mid new (event kind.Barrier x.0 0 0 ∷ []) [] one x.1)
+pauses_then layout old mid new (Ok (Some (pause.Fork team))) one x =
+    advances_then layout old mid new (event kind.Region team.now.line 0 team.now.span ∷ []) (record { team = team_of team.now; slots = new.slots } ∷ []) one x
+pauses_then layout old mid new (Ok (Some pause.Ended)) one x = finishes_then layout old mid new one x
+pauses_then layout old mid new (Err why) one x = halts_then layout old mid new why one x

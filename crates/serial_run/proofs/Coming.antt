@@ -11,9 +11,10 @@ use Rattle.kernel_model.proofs.RunEffects.{parts, end_of, own_trace-is}
 use Rattle.serial_run.specs.Coming.{IsAtStart, Comes, begins, waits, goes, HaveTheirTrace, StopAsTold}
 use Rattle.serial_run.specs.Stepping.{Stand, Leads, left_of}
 use Rattle.serial_run.proofs.Leading.{leads_none, leads_then}
+use Rattle.serial_run.specs.Placing.{ElementLayout}
 
-module _ (word : ℕ → ℕ) (first : Stand) where
-  comes_leads : (x : Stand) (records : List Record) (forks : List Fork) → Comes word first x records forks
+module _ (layout : ElementLayout) (first : Stand) where
+  comes_leads : (x : Stand) (records : List Record) (forks : List Fork) → Comes layout first x records forks
       → Leads (left_of first) first.slots first.progress.count (left_of x) x.slots x.progress.count records forks
   comes_leads _ _ _ begins = leads_none (left_of first) first.slots first.progress.count
   comes_leads _ _ _ (waits x records forks words left come) = comes_leads x records forks come
@@ -21,7 +22,7 @@ module _ (word : ℕ → ℕ) (first : Stand) where
       leads_then (left_of first) (left_of x) (left_of y) first.slots x.slots y.slots first.progress.count x.progress.count y.progress.count records a.makes.added forks more
       (comes_leads x records forks come) a.leads
 
-  comes_counts : (x : Stand) (records : List Record) (forks : List Fork) → Comes word first x records forks
+  comes_counts : (x : Stand) (records : List Record) (forks : List Fork) → Comes layout first x records forks
       → (x.progress.count ≡ first.progress.count + length records) × (length records ≤ log_limit - first.progress.count)
   comes_counts _ _ _ begins = (omega arith, omega arith)
   comes_counts _ _ _ (waits x records forks words left come) = comes_counts x records forks come
@@ -61,8 +62,8 @@ traced_so program start records forks finish is = (
 )
 
 pub have_their_trace : HaveTheirTrace
-have_their_trace word program start first x y records forks begun come f =
-    let counts = comes_counts word first x records forks come in
+have_their_trace layout program start first x y records forks begun come f =
+    let counts = comes_counts layout first x records forks come in
     let count = counts.0 in
     let within = counts.1 in
     let none = begun.none in
@@ -71,14 +72,14 @@ have_their_trace word program start first x y records forks begun come f =
     (task_made program start first begun all forks y.slots (Returned tt) (omega (arith, length-append records f.makes.added, f.makes.within, count, within))
     (λ before above reads chunks.
     leads_then (left_of first) (left_of x) (λ s. Gives tt s) first.slots x.slots y.slots first.progress.count x.progress.count y.progress.count records f.makes.added forks []
-    (comes_leads word first x records forks come) f.leads before above reads chunks
+    (comes_leads layout first x records forks come) f.leads before above reads chunks
     ∙ ap (λ (l : List Fork). Gives tt (state_with y.slots (before ++ all) (above ++ l) (log_limit - y.progress.count) reads chunks)) (append-nil forks)
     ∙ ap (λ (n : ℕ). Gives tt (state_with y.slots (before ++ all) (above ++ forks) n reads chunks))
     (let e : log_limit - y.progress.count ≡ log_limit - length all = omega (arith, length-append records f.makes.added, f.makes.gains.count, count, none) in e)))
 
 pub stop_as_told : StopAsTold
-stop_as_told word program start first x records forks slots last why line begun come m =
-    let counts = comes_counts word first x records forks come in
+stop_as_told layout program start first x records forks slots last why line begun come m =
+    let counts = comes_counts layout first x records forks come in
     let count = counts.0 in
     let within = counts.1 in
     let none = begun.none in
@@ -87,7 +88,7 @@ stop_as_told word program start first x records forks slots last why line begun 
     (task_made program start first begun all forks slots (Halted why line) (omega (arith, length-append records m.added, m.makes.within, count, within))
     (λ before above reads chunks.
     leads_then (left_of first) (left_of x) (finished (Halted why line)) first.slots x.slots slots first.progress.count x.progress.count (x.progress.count + length m.added) records m.added forks []
-    (comes_leads word first x records forks come) stops before above reads chunks
+    (comes_leads layout first x records forks come) stops before above reads chunks
     ∙ ap (λ (l : List Fork). finished (Halted why line) (state_with slots (before ++ all) (above ++ l) (log_limit - (x.progress.count + length m.added)) reads chunks)) (append-nil forks)
     ∙ ap (λ (n : ℕ). finished (Halted why line) (state_with slots (before ++ all) (above ++ forks) n reads chunks))
     (let e : log_limit - (x.progress.count + length m.added) ≡ log_limit - length all = omega (arith, length-append records m.added, count, none) in e)))

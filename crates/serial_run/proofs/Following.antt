@@ -13,56 +13,57 @@ use Rattle.kernel_model.proofs.Effects.{makes-same, makes-halt, makes-then}
 use Rattle.serial_run.specs.declared.halt.Halt.{Halt}
 use Rattle.serial_run.specs.declared.halt.Halt.TheVariants as halt
 use Rattle.serial_run.specs.Going.{Progress, Finds, words_after, ArePlain, Gains, Made, Goes}
+use Rattle.serial_run.specs.Placing.{ElementLayout}
 
-pub finds_then : (word : ℕ → ℕ) (xs ys : List Record) (a b c : List ℕ) → Finds word xs a b → Finds word ys b c → Finds word (xs ++ ys) a c
-finds_then word [] ys a b c one two = subst (λ (l : List ℕ). Finds word ys l c) one two
-finds_then word (x ∷ xs) ys a b c one two = (one.0, finds_then word xs ys (words_after word x.kind x a) b c one.1 two)
+pub finds_then : (layout : ElementLayout) (xs ys : List Record) (a b c : List ℕ) → Finds layout xs a b → Finds layout ys b c → Finds layout (xs ++ ys) a c
+finds_then layout [] ys a b c one two = subst (λ (l : List ℕ). Finds layout ys l c) one two
+finds_then layout (x ∷ xs) ys a b c one two = (one.0, finds_then layout xs ys (words_after layout x.kind x a) b c one.1 two)
 
 pub plain_then : (xs ys : List Record) → ArePlain xs → ArePlain ys → ArePlain (xs ++ ys)
 plain_then [] ys one two = two
 plain_then (x ∷ xs) ys one two = (one.0, plain_then xs ys one.1 two)
 
-pub gains_none : (word : ℕ → ℕ) (p : Progress) → Gains word p p []
-gains_none word p = record { log = sym (append-nil p.log); count = omega arith; finds = refl; left = omega arith }
+pub gains_none : (layout : ElementLayout) (p : Progress) → Gains layout p p []
+gains_none layout p = record { log = sym (append-nil p.log); count = omega arith; finds = refl; left = omega arith }
 
-pub gains_then : (word : ℕ → ℕ) (old mid new : Progress) (xs ys : List Record) → Gains word old mid xs → Gains word mid new ys → Gains word old new (xs ++ ys)
-gains_then word old mid new xs ys m n = record {
+pub gains_then : (layout : ElementLayout) (old mid new : Progress) (xs ys : List Record) → Gains layout old mid xs → Gains layout mid new ys → Gains layout old new (xs ++ ys)
+gains_then layout old mid new xs ys m n = record {
   log =
       n.log ∙ ap (λ (l : List ℕ). l ++ flat_map spelling ys) m.log ∙ append_assoc old.log (flat_map spelling xs) (flat_map spelling ys)
       ∙ ap (λ (l : List ℕ). old.log ++ l) (sym (flat_map-append spelling xs ys));
   count = omega (arith, length-append xs ys, m.count, n.count);
-  finds = finds_then word xs ys old.words mid.words new.words m.finds n.finds;
+  finds = finds_then layout xs ys old.words mid.words new.words m.finds n.finds;
   left = omega (arith, length-append xs ys, m.left, n.left);
 }
 
 -- a part that does nothing
-pub made_still : {A : Type 0} (word : ℕ → ℕ) (part : State → Outcome A) (slots : List ℤ) (p : Progress) (finish : Finish A) →
-    Makes part slots (log_limit - p.count) (adds slots []) finish → Made word part slots slots p p finish
-made_still word part slots p finish m = record { added = []; plain = tt; gains = gains_none word p; makes = m }
+pub made_still : {A : Type 0} (layout : ElementLayout) (part : State → Outcome A) (slots : List ℤ) (p : Progress) (finish : Finish A) →
+    Makes part slots (log_limit - p.count) (adds slots []) finish → Made layout part slots slots p p finish
+made_still layout part slots p finish m = record { added = []; plain = tt; gains = gains_none layout p; makes = m }
 
 -- the same part, told otherwise
-pub made_same : {A : Type 0} (word : ℕ → ℕ) (part other : State → Outcome A) (slots slots' : List ℤ) (old new : Progress) (finish : Finish A) →
-    ((s : State) → other s ≡ part s) → Made word part slots slots' old new finish → Made word other slots slots' old new finish
-made_same word part other slots slots' old new finish same m = record {
+pub made_same : {A : Type 0} (layout : ElementLayout) (part other : State → Outcome A) (slots slots' : List ℤ) (old new : Progress) (finish : Finish A) →
+    ((s : State) → other s ≡ part s) → Made layout part slots slots' old new finish → Made layout other slots slots' old new finish
+made_same layout part other slots slots' old new finish same m = record {
   added = m.added;
   plain = m.plain;
   gains = m.gains;
   makes = makes-same part other slots (log_limit - old.count) (adds slots' m.added) finish same m.makes;
 }
 
-pub goes_same : {A : Type 0} (word : ℕ → ℕ) (part other : State → Outcome A) (slots slots' : List ℤ) (old new : Progress) (r : Result A Halt) →
-    ((s : State) → other s ≡ part s) → Goes word part slots slots' old new r → Goes word other slots slots' old new r
-goes_same word part other slots slots' old new (Ok v) same m = made_same word part other slots slots' old new (Returned v) same m
-goes_same word part other slots slots' old new (Err (halt.DivZero line)) same m = made_same word part other slots slots' old new (Halted model.DivZero line) same m
-goes_same word part other slots slots' old new (Err (halt.Index line)) same m = made_same word part other slots slots' old new (Halted model.Index line) same m
-goes_same word part other slots slots' old new (Err (halt.LogFull line)) same m = made_same word part other slots slots' old new (Halted model.LogFull line) same m
-goes_same word part other slots slots' old new (Err halt.Long) same m = m
-goes_same word part other slots slots' old new (Err halt.Refused) same m = tt
-goes_same word part other slots slots' old new (Err halt.Memory) same m = tt
+pub goes_same : {A : Type 0} (layout : ElementLayout) (part other : State → Outcome A) (slots slots' : List ℤ) (old new : Progress) (r : Result A Halt) →
+    ((s : State) → other s ≡ part s) → Goes layout part slots slots' old new r → Goes layout other slots slots' old new r
+goes_same layout part other slots slots' old new (Ok v) same m = made_same layout part other slots slots' old new (Returned v) same m
+goes_same layout part other slots slots' old new (Err (halt.DivZero line)) same m = made_same layout part other slots slots' old new (Halted model.DivZero line) same m
+goes_same layout part other slots slots' old new (Err (halt.Index line)) same m = made_same layout part other slots slots' old new (Halted model.Index line) same m
+goes_same layout part other slots slots' old new (Err (halt.LogFull line)) same m = made_same layout part other slots slots' old new (Halted model.LogFull line) same m
+goes_same layout part other slots slots' old new (Err halt.Long) same m = m
+goes_same layout part other slots slots' old new (Err halt.Refused) same m = tt
+goes_same layout part other slots slots' old new (Err halt.Memory) same m = tt
 
 -- a part that stops, whatever follows it
-module _ {A B : Type 0} (word : ℕ → ℕ) (part : State → Outcome A) (next : A → State → Outcome B) (slots slots' : List ℤ) (old new : Progress) where
-  halts : (why : model.Stop) (line : ℕ) → Made word part slots slots' old new (Halted why line) → Made word (λ s. and_then (part s) next) slots slots' old new (Halted why line)
+module _ {A B : Type 0} (layout : ElementLayout) (part : State → Outcome A) (next : A → State → Outcome B) (slots slots' : List ℤ) (old new : Progress) where
+  halts : (why : model.Stop) (line : ℕ) → Made layout part slots slots' old new (Halted why line) → Made layout (λ s. and_then (part s) next) slots slots' old new (Halted why line)
   halts why line m = record {
     added = m.added;
     plain = m.plain;
@@ -70,7 +71,7 @@ module _ {A B : Type 0} (word : ℕ → ℕ) (part : State → Outcome A) (next 
     makes = makes-halt part next slots (log_limit - old.count) (adds slots' m.added) why line m.makes;
   }
 
-  pub goes_stop : (why : Halt) → Goes word part slots slots' old new (Err why) → Goes word (λ s. and_then (part s) next) slots slots' old new (Err why)
+  pub goes_stop : (why : Halt) → Goes layout part slots slots' old new (Err why) → Goes layout (λ s. and_then (part s) next) slots slots' old new (Err why)
   goes_stop (halt.DivZero line) m = halts model.DivZero line m
   goes_stop (halt.Index line) m = halts model.Index line m
   goes_stop (halt.LogFull line) m = halts model.LogFull line m
@@ -79,13 +80,13 @@ module _ {A B : Type 0} (word : ℕ → ℕ) (part : State → Outcome A) (next 
   goes_stop halt.Memory m = tt
 
 -- a part, and what follows it
-module _ {A B : Type 0} (word : ℕ → ℕ) (part : State → Outcome A) (next : A → State → Outcome B) (slots mid_slots slots' : List ℤ) (old mid new : Progress) (a : A)
-    (one : Made word part slots mid_slots old mid (Returned a)) where
-  pub then_made : (finish : Finish B) → Made word (next a) mid_slots slots' mid new finish → Made word (λ s. and_then (part s) next) slots slots' old new finish
+module _ {A B : Type 0} (layout : ElementLayout) (part : State → Outcome A) (next : A → State → Outcome B) (slots mid_slots slots' : List ℤ) (old mid new : Progress) (a : A)
+    (one : Made layout part slots mid_slots old mid (Returned a)) where
+  pub then_made : (finish : Finish B) → Made layout (next a) mid_slots slots' mid new finish → Made layout (λ s. and_then (part s) next) slots slots' old new finish
   then_made finish m = record {
     added = one.added ++ m.added;
     plain = plain_then one.added m.added one.plain m.plain;
-    gains = gains_then word old mid new one.added m.added one.gains m.gains;
+    gains = gains_then layout old mid new one.added m.added one.gains m.gains;
     makes =
         let count = one.gains.count in
         let left : log_limit - mid.count ≡ log_limit - old.count - length one.added = omega arith in
@@ -93,7 +94,7 @@ module _ {A B : Type 0} (word : ℕ → ℕ) (part : State → Outcome A) (next 
         (subst (λ (room : ℕ). Makes (next a) mid_slots room (adds slots' m.added) finish) left m.makes);
   }
 
-  pub goes_then : (r : Result B Halt) → Goes word (next a) mid_slots slots' mid new r → Goes word (λ s. and_then (part s) next) slots slots' old new r
+  pub goes_then : (r : Result B Halt) → Goes layout (next a) mid_slots slots' mid new r → Goes layout (λ s. and_then (part s) next) slots slots' old new r
   goes_then (Ok v) m = then_made (Returned v) m
   goes_then (Err (halt.DivZero line)) m = then_made (Halted model.DivZero line) m
   goes_then (Err (halt.Index line)) m = then_made (Halted model.Index line) m

@@ -19,6 +19,7 @@ use Rattle.serial_run.specs.Resting.{rest_of}
 use Rattle.serial_run.specs.Stepping.{Stand, Leads, Adds, Steps, HaltsSo}
 use Rattle.serial_run.proofs.Following.{gains_none, gains_then, plain_then}
 use Rattle.serial_run.proofs.Stepping.{gains_one}
+use Rattle.serial_run.specs.Placing.{ElementLayout}
 
 abbrev pub Part : Type 0
 Part = State → Outcome (Unit {0})
@@ -57,11 +58,11 @@ module _ (slots slots' : List ℤ) (count count' : ℕ) (added : List Record) (c
 
 -- ---- records
 
-abbrev pub adds_none : (word : ℕ → ℕ) (p : Progress) → Adds word p p []
-adds_none word p = record { plain = []; plain_is = tt; added = []; added_is = refl; within = omega arith; gains = gains_none word p }
+abbrev pub adds_none : (layout : ElementLayout) (p : Progress) → Adds layout p p []
+adds_none layout p = record { plain = []; plain_is = tt; added = []; added_is = refl; within = omega arith; gains = gains_none layout p }
 
-abbrev pub adds_then : (word : ℕ → ℕ) (old mid new : Progress) (mark : List Record) → Adds word old mid [] → Adds word mid new mark → Adds word old new mark
-adds_then word old mid new mark one two = record {
+abbrev pub adds_then : (layout : ElementLayout) (old mid new : Progress) (mark : List Record) → Adds layout old mid [] → Adds layout mid new mark → Adds layout old new mark
+adds_then layout old mid new mark one two = record {
   plain = one.plain ++ two.plain;
   plain_is = plain_then one.plain two.plain one.plain_is two.plain_is;
   added = one.added ++ two.added;
@@ -69,17 +70,17 @@ adds_then word old mid new mark one two = record {
       ap (λ (l : List Record). l ++ two.added) (one.added_is ∙ append-nil one.plain) ∙ ap (λ (l : List Record). one.plain ++ l) two.added_is
       ∙ sym (append_assoc one.plain two.plain mark);
   within = omega (arith, length-append one.added two.added, one.within, two.within, one.gains.count);
-  gains = gains_then word old mid new one.added two.added one.gains two.gains;
+  gains = gains_then layout old mid new one.added two.added one.gains two.gains;
 }
 
-abbrev pub adds_made : {A : Type 0} (word : ℕ → ℕ) (part : State → Outcome A) (slots slots' : List ℤ) (old new : Progress) (a : A) → Made word part slots slots' old new (Returned a) → Adds word old new []
-adds_made word part slots slots' old new a m = record { plain = m.added; plain_is = m.plain; added = m.added; added_is = sym (append-nil m.added); within = m.makes.within; gains = m.gains }
+abbrev pub adds_made : {A : Type 0} (layout : ElementLayout) (part : State → Outcome A) (slots slots' : List ℤ) (old new : Progress) (a : A) → Made layout part slots slots' old new (Returned a) → Adds layout old new []
+adds_made layout part slots slots' old new a m = record { plain = m.added; plain_is = m.plain; added = m.added; added_is = sym (append-nil m.added); within = m.makes.within; gains = m.gains }
 
 -- ---- parts
 
-module _ (word : ℕ → ℕ) (at : Site) where
+module _ (layout : ElementLayout) (at : Site) where
   pub steps_same : (part other : Part) (slots slots' : List ℤ) (old new : Progress) (pushed : List Frame) (mark : List Record) (forks : List Fork) → ((s : State) → other s ≡ part s)
-      → Steps word at part slots slots' old new pushed mark forks → Steps word at other slots slots' old new pushed mark forks
+      → Steps layout at part slots slots' old new pushed mark forks → Steps layout at other slots slots' old new pushed mark forks
   steps_same part other slots slots' old new pushed mark forks same x = record {
     makes = x.makes;
     leads = λ then' records before reads chunks.
@@ -89,63 +90,63 @@ module _ (word : ℕ → ℕ) (at : Site) where
 
   -- frames are pushed
   pub steps_push : (part : Part) (slots : List ℤ) (p : Progress) (pushed : List Frame) → ((then' : Part) (s : State) → after (part s) then' ≡ rest_of at pushed then' s)
-      → Steps word at part slots slots p p pushed [] []
+      → Steps layout at part slots slots p p pushed [] []
   steps_push part slots p pushed same = record {
-    makes = adds_none word p;
+    makes = adds_none layout p;
     leads = λ then' records before reads chunks.
         same then' (state_with slots records before (log_limit - p.count) reads chunks) ∙ leads_none (rest_of at pushed then') slots p.count records before reads chunks;
   }
 
   -- a part that was executed
-  pub steps_made : (part : Part) (slots slots' : List ℤ) (old new : Progress) → Made word part slots slots' old new (Returned tt) → Steps word at part slots slots' old new [] [] []
+  pub steps_made : (part : Part) (slots slots' : List ℤ) (old new : Progress) → Made layout part slots slots' old new (Returned tt) → Steps layout at part slots slots' old new [] [] []
   steps_made part slots slots' old new m = record {
-    makes = adds_made word part slots slots' old new tt m;
+    makes = adds_made layout part slots slots' old new tt m;
     leads = λ then'. leads_made slots slots' old.count new.count m.added m.gains.count part then' m.makes;
   }
 
   -- a value, and what is done with it
   pub steps_then : {A : Type 0} (first : State → Outcome A) (next : A → Part) (slots mid_slots slots' : List ℤ) (old mid new : Progress) (pushed : List Frame) (mark : List Record) (forks : List Fork) (a : A)
-      → Made word first slots mid_slots old mid (Returned a) → Steps word at (next a) mid_slots slots' mid new pushed mark forks
-      → Steps word at (λ s. and_then (first s) next) slots slots' old new pushed mark forks
+      → Made layout first slots mid_slots old mid (Returned a) → Steps layout at (next a) mid_slots slots' mid new pushed mark forks
+      → Steps layout at (λ s. and_then (first s) next) slots slots' old new pushed mark forks
   steps_then first next slots mid_slots slots' old mid new pushed mark forks a one two = record {
-    makes = adds_then word old mid new mark (adds_made word first slots mid_slots old mid a one) two.makes;
+    makes = adds_then layout old mid new mark (adds_made layout first slots mid_slots old mid a one) two.makes;
     leads = λ then'.
         leads_then (λ s. after (and_then (first s) next) then') (λ s. after (next a s) then') (rest_of at pushed then') slots mid_slots slots' old.count mid.count new.count one.added two.makes.added [] forks
         (leads_value slots mid_slots old.count mid.count one.added one.gains.count first next then' a one.makes) (two.leads then');
   }
 
   -- a variable is set
-  pub steps_assign : (slot : ℕ) (v : ℤ) (slots : List ℤ) (p : Progress) → Steps word at (λ s. run at Done (assign slot v s)) slots (slice_set slots slot v) p p [] [] []
+  pub steps_assign : (slot : ℕ) (v : ℤ) (slots : List ℤ) (p : Progress) → Steps layout at (λ s. run at Done (assign slot v s)) slots (slice_set slots slot v) p p [] [] []
   steps_assign slot v slots p = record {
-    makes = adds_none word p;
+    makes = adds_none layout p;
     leads = λ then' records before reads chunks.
         ap (λ o. after o then') (run-Done at (state_with (slice_set slots slot v) records before (log_limit - p.count) reads chunks))
         ∙ leads_none then' (slice_set slots slot v) p.count records before reads chunks;
   }
 
   -- a record that is no access
-  module _ (due : Record) (slots : List ℤ) (old new : Progress) (room : HasRoom old) (logs : Logs due old new) (finds : FindsValue word due.kind due old.words) (same : words_after word due.kind due old.words ≡ old.words)
+  module _ (due : Record) (slots : List ℤ) (old new : Progress) (room : HasRoom old) (logs : Logs due old new) (finds : FindsValue layout due.kind due old.words) (same : words_after layout due.kind due old.words ≡ old.words)
       (none : value_read due.kind due.value ≡ None) (none' : number_drawn due.kind due.addr ≡ None) where
-    pub gains : Gains word old new (due ∷ [])
-    gains = gains_one word due old new new.words finds (logs.words ∙ sym same) logs
+    pub gains : Gains layout old new (due ∷ [])
+    gains = gains_one layout due old new new.words finds (logs.words ∙ sym same) logs
 
     pub some : 0 < log_limit - old.count
     some = let h = room.below in omega arith
 
-    abbrev pub adds_mark : Adds word old new (due ∷ [])
+    abbrev pub adds_mark : Adds layout old new (due ∷ [])
     adds_mark = record { plain = []; plain_is = tt; added = due ∷ []; added_is = refl; within = omega (arith, some); gains = gains }
 
     pub leads_put : (then' : Part) → Leads (λ s. after (put due s) then') slots old.count then' slots new.count (due ∷ []) []
     leads_put then' = leads_made slots slots old.count new.count (due ∷ []) gains.count (put due) then' (makes-put due slots (log_limit - old.count) some none none')
 
-    pub steps_put : Steps word at (put due) slots slots old new [] (due ∷ []) []
+    pub steps_put : Steps layout at (put due) slots slots old new [] (due ∷ []) []
     steps_put = record { makes = adds_mark; leads = leads_put }
 
 -- how a part that stops is told of a task
-pub halts_goes : (word : ℕ → ℕ) (part : Part) (old new : Stand) (why : Halt) → Goes word part old.slots new.slots old.progress new.progress (Err why) → HaltsSo word part old new why
-halts_goes word part old new (halt.DivZero line) m = m
-halts_goes word part old new (halt.Index line) m = m
-halts_goes word part old new (halt.LogFull line) m = m
-halts_goes word part old new halt.Long m = m
-halts_goes word part old new halt.Refused m = tt
-halts_goes word part old new halt.Memory m = tt
+pub halts_goes : (layout : ElementLayout) (part : Part) (old new : Stand) (why : Halt) → Goes layout part old.slots new.slots old.progress new.progress (Err why) → HaltsSo layout part old new why
+halts_goes layout part old new (halt.DivZero line) m = m
+halts_goes layout part old new (halt.Index line) m = m
+halts_goes layout part old new (halt.LogFull line) m = m
+halts_goes layout part old new halt.Long m = m
+halts_goes layout part old new halt.Refused m = tt
+halts_goes layout part old new halt.Memory m = tt

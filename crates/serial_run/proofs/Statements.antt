@@ -28,26 +28,26 @@ use Rattle.serial_run.specs.declared.halt.Halt.{Halt}
 use Rattle.serial_run.specs.declared.halt.Halt.TheVariants as halt
 use Rattle.serial_run.specs.declared.place.Element.{Element}
 use Rattle.serial_run.specs.Going.{Progress, Made, Goes, Logs, HasRoom, Marks}
-use Rattle.serial_run.specs.Placing.{meant}
+use Rattle.serial_run.specs.Placing.{ElementLayout, meant}
 use Rattle.serial_run.specs.Resting.{part_of}
 use Rattle.serial_run.specs.Stepping.{Stand, Steps, Stepped, Takes, HaltsSo}
 use Rattle.serial_run.proofs.Following.{made_still, made_same, goes_same, goes_stop, goes_then}
 use Rattle.serial_run.proofs.Leading.{Part, adds_mark, leads_put, steps_same, steps_push, steps_then, steps_assign}
 
-module _ (word : ℕ → ℕ) (at : Site) (slots : List ℤ) where
+module _ (layout : ElementLayout) (at : Site) (slots : List ℤ) where
   -- ---- a variable is set
   module _ (slot : ℕ) (e : Term) (old new : Progress) where
-    pub set_stops : (why : Halt) → Goes word (value at e) slots slots old new (Err why) → Goes word (run at (tree.Set slot e Done)) slots slots old new (Err why)
+    pub set_stops : (why : Halt) → Goes layout (value at e) slots slots old new (Err why) → Goes layout (run at (tree.Set slot e Done)) slots slots old new (Err why)
     set_stops why goes =
-        goes_same word _ (run at (tree.Set slot e Done)) slots slots old new (Err why) (run-Set at slot e Done)
-        (goes_stop word (value at e) (λ (v : ℤ) (s : State). run at Done (assign slot v s)) slots slots old new why goes)
+        goes_same layout _ (run at (tree.Set slot e Done)) slots slots old new (Err why) (run-Set at slot e Done)
+        (goes_stop layout (value at e) (λ (v : ℤ) (s : State). run at Done (assign slot v s)) slots slots old new why goes)
 
-    pub set_steps : (v : ℤ) (slots' : List ℤ) → slots' ≡ slice_set slots slot v → Made word (value at e) slots slots old new (Returned v) → Steps word at (run at (tree.Set slot e Done)) slots slots' old new [] [] []
+    pub set_steps : (v : ℤ) (slots' : List ℤ) → slots' ≡ slice_set slots slot v → Made layout (value at e) slots slots old new (Returned v) → Steps layout at (run at (tree.Set slot e Done)) slots slots' old new [] [] []
     set_steps v slots' is made =
-        subst (λ (l : List ℤ). Steps word at (run at (tree.Set slot e Done)) slots l old new [] [] []) (sym is)
-        (steps_same word at _ (run at (tree.Set slot e Done)) slots (slice_set slots slot v) old new [] [] [] (run-Set at slot e Done)
-        (steps_then word at (value at e) (λ (x : ℤ) (s : State). run at Done (assign slot x s)) slots slots (slice_set slots slot v) old new new [] [] [] v made
-        (steps_assign word at slot v slots new)))
+        subst (λ (l : List ℤ). Steps layout at (run at (tree.Set slot e Done)) slots l old new [] [] []) (sym is)
+        (steps_same layout at _ (run at (tree.Set slot e Done)) slots (slice_set slots slot v) old new [] [] [] (run-Set at slot e Done)
+        (steps_then layout at (value at e) (λ (x : ℤ) (s : State). run at Done (assign slot x s)) slots slots (slice_set slots slot v) old new new [] [] [] v made
+        (steps_assign layout at slot v slots new)))
 
   -- ---- a store
   module _ (array : ℕ) (index e : Term) (line site : ℕ) (old : Progress) where
@@ -63,37 +63,37 @@ module _ (word : ℕ → ℕ) (at : Site) (slots : List ℤ) where
     store_is : (s : State) → store s ≡ and_then (value at index s) of_index
     store_is = run-changing Store at array index e line site Done
 
-    pub index_stops : (mid : Progress) (why : Halt) → Goes word (value at index) slots slots old mid (Err why) → Goes word store slots slots old mid (Err why)
-    index_stops mid why goes = goes_same word _ store slots slots old mid (Err why) store_is (goes_stop word (value at index) of_index slots slots old mid why goes)
+    pub index_stops : (mid : Progress) (why : Halt) → Goes layout (value at index) slots slots old mid (Err why) → Goes layout store slots slots old mid (Err why)
+    index_stops mid why goes = goes_same layout _ store slots slots old mid (Err why) store_is (goes_stop layout (value at index) of_index slots slots old mid why goes)
 
-    module _ (mid new : Progress) (i : ℤ) (first : Made word (value at index) slots slots old mid (Returned i)) where
-      from_index : (last : Progress) (r : Result (Unit {0}) Halt) → Goes word (of_index i) slots slots mid last r → Goes word store slots slots old last r
+    module _ (mid new : Progress) (i : ℤ) (first : Made layout (value at index) slots slots old mid (Returned i)) where
+      from_index : (last : Progress) (r : Result (Unit {0}) Halt) → Goes layout (of_index i) slots slots mid last r → Goes layout store slots slots old last r
       from_index last r goes =
-          goes_same word _ store slots slots old last r store_is (goes_then word (value at index) of_index slots slots slots old mid last i first r goes)
+          goes_same layout _ store slots slots old last r store_is (goes_then layout (value at index) of_index slots slots slots old mid last i first r goes)
 
-      pub value_stops : (why : Halt) → Goes word (value at e) slots slots mid new (Err why) → Goes word store slots slots old new (Err why)
-      value_stops why goes = from_index new (Err why) (goes_stop word (value at e) (of_value i) slots slots mid new why goes)
+      pub value_stops : (why : Halt) → Goes layout (value at e) slots slots mid new (Err why) → Goes layout store slots slots old new (Err why)
+      value_stops why goes = from_index new (Err why) (goes_stop layout (value at e) (of_value i) slots slots mid new why goes)
 
-      module _ (v : ℤ) (second : Made word (value at e) slots slots mid new (Returned v)) where
-        from_value : (last : Progress) (r : Result (Unit {0}) Halt) → Goes word (changed kind.Write (element_at at.arrays array i) v line site) slots slots new last r → Goes word store slots slots old last r
+      module _ (v : ℤ) (second : Made layout (value at e) slots slots mid new (Returned v)) where
+        from_value : (last : Progress) (r : Result (Unit {0}) Halt) → Goes layout (changed kind.Write (element_at at.arrays array i) v line site) slots slots new last r → Goes layout store slots slots old last r
         from_value last r goes =
             from_index last r
-            (goes_then word (value at e) (of_value i) slots slots slots mid new last v second r
-            (goes_same word (changed kind.Write (element_at at.arrays array i) v line site) (of_value i v) slots slots new last r
+            (goes_then layout (value at e) (of_value i) slots slots slots mid new last v second r
+            (goes_same layout (changed kind.Write (element_at at.arrays array i) v line site) (of_value i v) slots slots new last r
             (λ s. after-done at (changed kind.Write (element_at at.arrays array i) v line site s)) goes))
 
-        pub stores_none : element_at at.arrays array i ≡ None → Goes word store slots slots old new (Err (halt.Index line))
+        pub stores_none : element_at at.arrays array i ≡ None → Goes layout store slots slots old new (Err (halt.Index line))
         stores_none is =
             from_value new (Err (halt.Index line))
-            (made_still word (changed kind.Write (element_at at.arrays array i) v line site) slots new (Halted model.Index line)
+            (made_still layout (changed kind.Write (element_at at.arrays array i) v line site) slots new (Halted model.Index line)
             (makes-stays (changed kind.Write (element_at at.arrays array i) v line site) slots (log_limit - new.count) (Halted model.Index line)
             (λ s same full. ap (λ o. changed kind.Write o v line site s) is)))
 
         pub stores_some : (found : Element) (last : Progress) (r : Result (Unit {0}) Halt) → element_at at.arrays array i ≡ Some (meant found)
-            → Goes word (put (access kind.Write (meant found) site line (fitted v found.width))) slots slots new last r → Goes word store slots slots old last r
+            → Goes layout (put (access kind.Write (meant found) site line (fitted v found.width))) slots slots new last r → Goes layout store slots slots old last r
         stores_some found last r is goes =
             from_value last r
-            (goes_same word (put (access kind.Write (meant found) site line (fitted v found.width))) (changed kind.Write (element_at at.arrays array i) v line site) slots slots new last r
+            (goes_same layout (put (access kind.Write (meant found) site line (fitted v found.width))) (changed kind.Write (element_at at.arrays array i) v line site) slots slots new last r
             (λ s. ap (λ o. changed kind.Write o v line site s) is) goes)
 
   -- ---- a test
@@ -104,8 +104,8 @@ module _ (word : ℕ → ℕ) (at : Site) (slots : List ℤ) where
     abbrev of_test : ℤ → Part
     of_test v s = after (branch v (run at if_true) (run at if_false) s) (run at Done)
 
-    pub test_stops : (why : Halt) → Goes word (value at test) slots slots old new (Err why) → Goes word test_part slots slots old new (Err why)
-    test_stops why goes = goes_same word _ test_part slots slots old new (Err why) (run-If at test if_true if_false Done) (goes_stop word (value at test) of_test slots slots old new why goes)
+    pub test_stops : (why : Halt) → Goes layout (value at test) slots slots old new (Err why) → Goes layout test_part slots slots old new (Err why)
+    test_stops why goes = goes_same layout _ test_part slots slots old new (Err why) (run-If at test if_true if_false Done) (goes_stop layout (value at test) of_test slots slots old new why goes)
 
     branch_is : (v : ℤ) (code : Code) → (v ≡ pos 0 → code ≡ if_false) → ((v ≡ pos 0 → ⊥) → code ≡ if_true) → (s : State) → branch v (run at if_true) (run at if_false) s ≡ run at code s
     branch_is (pos zero) code zero_is other s = ap (λ (c : Code). run at c s) (sym (zero_is refl))
@@ -113,11 +113,11 @@ module _ (word : ℕ → ℕ) (at : Site) (slots : List ℤ) where
     branch_is (negsuc n) code zero_is other s = ap (λ (c : Code). run at c s) (sym (other (λ is. cc)))
 
     pub test_steps : (v : ℤ) (f : Frame) (code : Code) → ((s : State) → part_of at f s ≡ run at code s) → (v ≡ pos 0 → code ≡ if_false) → ((v ≡ pos 0 → ⊥) → code ≡ if_true)
-        → Made word (value at test) slots slots old new (Returned v) → Steps word at test_part slots slots old new (f ∷ []) [] []
+        → Made layout (value at test) slots slots old new (Returned v) → Steps layout at test_part slots slots old new (f ∷ []) [] []
     test_steps v f code frame_is zero_is other made =
-        steps_same word at _ test_part slots slots old new (f ∷ []) [] [] (run-If at test if_true if_false Done)
-        (steps_then word at (value at test) of_test slots slots slots old new new (f ∷ []) [] [] v made
-        (steps_push word at (of_test v) slots new (f ∷ [])
+        steps_same layout at _ test_part slots slots old new (f ∷ []) [] [] (run-If at test if_true if_false Done)
+        (steps_then layout at (value at test) of_test slots slots slots old new new (f ∷ []) [] [] v made
+        (steps_push layout at (of_test v) slots new (f ∷ [])
         (λ then' s. ap (λ o. after o then') (after-done at (branch v (run at if_true) (run at if_false) s) ∙ branch_is v code zero_is other s ∙ sym (frame_is s)))))
 
   -- ---- a loop
@@ -131,22 +131,22 @@ module _ (word : ℕ → ℕ) (at : Site) (slots : List ℤ) where
     abbrev of_from : ℤ → Part
     of_from a s = and_then (value at to s) (of_bounds a)
 
-    pub from_stops : (why : Halt) → Goes word (value at from) slots slots old mid (Err why) → Goes word loop_part slots slots old mid (Err why)
-    from_stops why goes = goes_same word _ loop_part slots slots old mid (Err why) (run-Loop at slot from to body Done) (goes_stop word (value at from) of_from slots slots old mid why goes)
+    pub from_stops : (why : Halt) → Goes layout (value at from) slots slots old mid (Err why) → Goes layout loop_part slots slots old mid (Err why)
+    from_stops why goes = goes_same layout _ loop_part slots slots old mid (Err why) (run-Loop at slot from to body Done) (goes_stop layout (value at from) of_from slots slots old mid why goes)
 
-    module _ (new : Progress) (a : ℤ) (first : Made word (value at from) slots slots old mid (Returned a)) where
-      pub to_stops : (why : Halt) → Goes word (value at to) slots slots mid new (Err why) → Goes word loop_part slots slots old new (Err why)
+    module _ (new : Progress) (a : ℤ) (first : Made layout (value at from) slots slots old mid (Returned a)) where
+      pub to_stops : (why : Halt) → Goes layout (value at to) slots slots mid new (Err why) → Goes layout loop_part slots slots old new (Err why)
       to_stops why goes =
-          goes_same word _ loop_part slots slots old new (Err why) (run-Loop at slot from to body Done)
-          (goes_then word (value at from) of_from slots slots slots old mid new a first (Err why) (goes_stop word (value at to) (of_bounds a) slots slots mid new why goes))
+          goes_same layout _ loop_part slots slots old new (Err why) (run-Loop at slot from to body Done)
+          (goes_then layout (value at from) of_from slots slots slots old mid new a first (Err why) (goes_stop layout (value at to) (of_bounds a) slots slots mid new why goes))
 
-      pub loop_steps : (b : ℤ) (f : Frame) → ((s : State) → part_of at f s ≡ turns (total_of a b) 0 (turn_from at body slot a) s) → Made word (value at to) slots slots mid new (Returned b)
-          → Steps word at loop_part slots slots old new (f ∷ []) [] []
+      pub loop_steps : (b : ℤ) (f : Frame) → ((s : State) → part_of at f s ≡ turns (total_of a b) 0 (turn_from at body slot a) s) → Made layout (value at to) slots slots mid new (Returned b)
+          → Steps layout at loop_part slots slots old new (f ∷ []) [] []
       loop_steps b f frame_is second =
-          steps_same word at _ loop_part slots slots old new (f ∷ []) [] [] (run-Loop at slot from to body Done)
-          (steps_then word at (value at from) of_from slots slots slots old mid new (f ∷ []) [] [] a first
-          (steps_then word at (value at to) (of_bounds a) slots slots slots mid new new (f ∷ []) [] [] b second
-          (steps_push word at (of_bounds a b) slots new (f ∷ [])
+          steps_same layout at _ loop_part slots slots old new (f ∷ []) [] [] (run-Loop at slot from to body Done)
+          (steps_then layout at (value at from) of_from slots slots slots old mid new (f ∷ []) [] [] a first
+          (steps_then layout at (value at to) (of_bounds a) slots slots slots mid new new (f ∷ []) [] [] b second
+          (steps_push layout at (of_bounds a b) slots new (f ∷ [])
           (λ then' s. ap (λ o. after o then') (after-done at (turns (total_of a b) 0 (turn_from at body slot a) s) ∙ sym (frame_is s))))))
 
   -- ---- a region
@@ -157,41 +157,41 @@ module _ (word : ℕ → ℕ) (at : Site) (slots : List ℤ) where
     abbrev after_fork : Part → Part
     after_fork then' s = after (run at Done (forked team s)) then'
 
-    pub fork_steps : Steps word at fork_part slots slots old new [] (event kind.Region team.line 0 team.span ∷ []) (record { team = team; slots = slots } ∷ [])
+    pub fork_steps : Steps layout at fork_part slots slots old new [] (event kind.Region team.line 0 team.span ∷ []) (record { team = team; slots = slots } ∷ [])
     fork_steps = record {
-      makes = adds_mark word at (event kind.Region team.line 0 team.span) slots old new room logs tt refl refl refl;
+      makes = adds_mark layout at (event kind.Region team.line 0 team.span) slots old new room logs tt refl refl refl;
       leads = λ then' records before reads chunks.
           ap (λ o. after o then') (run-Parallel at team.span team.line team.end team.body Done (state_with slots records before (log_limit - old.count) reads chunks))
           ∙ after-after (put (event kind.Region team.line 0 team.span) (state_with slots records before (log_limit - old.count) reads chunks)) (λ s. run at Done (forked team s)) then'
-          ∙ leads_put word at (event kind.Region team.line 0 team.span) slots old new room logs tt refl refl refl (after_fork then') records before reads chunks
+          ∙ leads_put layout at (event kind.Region team.line 0 team.span) slots old new room logs tt refl refl refl (after_fork then') records before reads chunks
           ∙ ap (λ o. after o then') (run-Done at (state_with slots (records ++ event kind.Region team.line 0 team.span ∷ []) ((before ++ []) ++ record { team = team; slots = slots } ∷ []) (log_limit - new.count) reads chunks))
           ∙ ap (λ (l : List Fork). then' (state_with slots (records ++ event kind.Region team.line 0 team.span ∷ []) (l ++ record { team = team; slots = slots } ∷ []) (log_limit - new.count) reads chunks)) (append-nil before);
     }
 
 -- a mark that isn't put
-pub halts_marks : (word : ℕ → ℕ) (due : Record) (part : Part) (old new : Stand) (why : Halt) → new.slots ≡ old.slots
+pub halts_marks : (layout : ElementLayout) (due : Record) (part : Part) (old new : Stand) (why : Halt) → new.slots ≡ old.slots
     → ((s : State) (room : s.room ≡ 0) → part s ≡ model.Stops model.LogFull due.line s)
-    → Marks due old.progress new.progress (Err why) → HaltsSo word part old new why
-halts_marks word due part old new (halt.DivZero line) slots full m = absurd m
-halts_marks word due part old new (halt.Index line) slots full m = absurd m
-halts_marks word due part old new (halt.LogFull line) slots full m =
+    → Marks due old.progress new.progress (Err why) → HaltsSo layout part old new why
+halts_marks layout due part old new (halt.DivZero line) slots full m = absurd m
+halts_marks layout due part old new (halt.Index line) slots full m = absurd m
+halts_marks layout due part old new (halt.LogFull line) slots full m =
     let none : log_limit - old.progress.count ≡ 0 = (let h = m.1 in omega arith) in
-    subst (λ (n : ℕ). Made word part old.slots new.slots old.progress new.progress (Halted model.LogFull n)) (sym m.0)
-    (subst (λ (l : List ℤ). Made word part old.slots l old.progress new.progress (Halted model.LogFull due.line)) (sym slots)
-    (subst (λ (p : Progress). Made word part old.slots old.slots old.progress p (Halted model.LogFull due.line)) (sym m.2)
-    (made_still word part old.slots old.progress (Halted model.LogFull due.line)
+    subst (λ (n : ℕ). Made layout part old.slots new.slots old.progress new.progress (Halted model.LogFull n)) (sym m.0)
+    (subst (λ (l : List ℤ). Made layout part old.slots l old.progress new.progress (Halted model.LogFull due.line)) (sym slots)
+    (subst (λ (p : Progress). Made layout part old.slots old.slots old.progress p (Halted model.LogFull due.line)) (sym m.2)
+    (made_still layout part old.slots old.progress (Halted model.LogFull due.line)
     (makes-stays part old.slots (log_limit - old.progress.count) (Halted model.LogFull due.line) (λ s same room. full s (room ∙ none))))))
-halts_marks word due part old new halt.Long slots full m = m
-halts_marks word due part old new halt.Refused slots full m = tt
-halts_marks word due part old new halt.Memory slots full m = tt
+halts_marks layout due part old new halt.Long slots full m = m
+halts_marks layout due part old new halt.Refused slots full m = tt
+halts_marks layout due part old new halt.Memory slots full m = tt
 
 -- ---- statements of a list
 
-module _ (word : ℕ → ℕ) (at : Site) (part later : Part) where
+module _ (layout : ElementLayout) (at : Site) (part later : Part) where
   abbrev both : Part
   both s = after (part s) later
 
-  after_halts : (why : model.Stop) (line : ℕ) (slots slots' : List ℤ) (old new : Progress) → Made word part slots slots' old new (Halted why line) → Made word both slots slots' old new (Halted why line)
+  after_halts : (why : model.Stop) (line : ℕ) (slots slots' : List ℤ) (old new : Progress) → Made layout part slots slots' old new (Halted why line) → Made layout both slots slots' old new (Halted why line)
   after_halts why line slots slots' old new m = record {
     added = m.added;
     plain = m.plain;
@@ -199,19 +199,19 @@ module _ (word : ℕ → ℕ) (at : Site) (part later : Part) where
     makes = makes-after_halt part later slots (log_limit - old.count) (adds slots' m.added) why line m.makes;
   }
 
-  pub halts_first : (old old' new : Stand) (why : Halt) → old'.slots ≡ old.slots → old'.progress ≡ old.progress → HaltsSo word part old' new why → HaltsSo word both old new why
-  halts_first old old' new (halt.DivZero line) slots progress m = subst (λ (p : Progress). Made word both old.slots new.slots p new.progress (Halted model.DivZero line)) progress (subst (λ (l : List ℤ). Made word both l new.slots old'.progress new.progress (Halted model.DivZero line)) slots (after_halts model.DivZero line old'.slots new.slots old'.progress new.progress m))
-  halts_first old old' new (halt.Index line) slots progress m = subst (λ (p : Progress). Made word both old.slots new.slots p new.progress (Halted model.Index line)) progress (subst (λ (l : List ℤ). Made word both l new.slots old'.progress new.progress (Halted model.Index line)) slots (after_halts model.Index line old'.slots new.slots old'.progress new.progress m))
-  halts_first old old' new (halt.LogFull line) slots progress m = subst (λ (p : Progress). Made word both old.slots new.slots p new.progress (Halted model.LogFull line)) progress (subst (λ (l : List ℤ). Made word both l new.slots old'.progress new.progress (Halted model.LogFull line)) slots (after_halts model.LogFull line old'.slots new.slots old'.progress new.progress m))
+  pub halts_first : (old old' new : Stand) (why : Halt) → old'.slots ≡ old.slots → old'.progress ≡ old.progress → HaltsSo layout part old' new why → HaltsSo layout both old new why
+  halts_first old old' new (halt.DivZero line) slots progress m = subst (λ (p : Progress). Made layout both old.slots new.slots p new.progress (Halted model.DivZero line)) progress (subst (λ (l : List ℤ). Made layout both l new.slots old'.progress new.progress (Halted model.DivZero line)) slots (after_halts model.DivZero line old'.slots new.slots old'.progress new.progress m))
+  halts_first old old' new (halt.Index line) slots progress m = subst (λ (p : Progress). Made layout both old.slots new.slots p new.progress (Halted model.Index line)) progress (subst (λ (l : List ℤ). Made layout both l new.slots old'.progress new.progress (Halted model.Index line)) slots (after_halts model.Index line old'.slots new.slots old'.progress new.progress m))
+  halts_first old old' new (halt.LogFull line) slots progress m = subst (λ (p : Progress). Made layout both old.slots new.slots p new.progress (Halted model.LogFull line)) progress (subst (λ (l : List ℤ). Made layout both l new.slots old'.progress new.progress (Halted model.LogFull line)) slots (after_halts model.LogFull line old'.slots new.slots old'.progress new.progress m))
   halts_first old old' new halt.Long slots progress m = m
   halts_first old old' new halt.Refused slots progress m = tt
   halts_first old old' new halt.Memory slots progress m = tt
 
   -- the part is executed with the frame of what comes later below it
   pub stepped_first : (f : Frame) (old old' new : Stand) (mark : List Record) (forks : List Fork) → ((s : State) → part_of at f s ≡ later s) → old.at ≡ at → old' ≡ record old { rest = old.rest ++ f ∷ [] }
-      → Stepped word part old' new mark forks → Stepped word both old new mark forks
+      → Stepped layout part old' new mark forks → Stepped layout both old new mark forks
   stepped_first f old old' new mark forks is at_is with_f x =
-      let y = subst (λ (z : Stand). Stepped word part z new mark forks) with_f x in
+      let y = subst (λ (z : Stand). Stepped layout part z new mark forks) with_f x in
       record {
         at = y.at;
         end = y.end;
@@ -229,7 +229,7 @@ module _ (word : ℕ → ℕ) (at : Site) (part later : Part) where
       }
 
   pub takes_first : (f : Frame) (old old' new : Stand) (r : Result (Option Pause) Halt) → ((s : State) → part_of at f s ≡ later s) → old.at ≡ at → old' ≡ record old { rest = old.rest ++ f ∷ [] }
-      → Takes word part old' new r → Takes word both old new r
+      → Takes layout part old' new r → Takes layout both old new r
   takes_first f old old' new (Ok None) is at_is with_f x = stepped_first f old old' new [] [] is at_is with_f x
   takes_first f old old' new (Ok (Some pause.Barrier)) is at_is with_f x = (x.0, stepped_first f old old' new (event kind.Barrier x.0 0 0 ∷ []) [] is at_is with_f x.1)
   takes_first f old old' new (Ok (Some (pause.Fork team))) is at_is with_f x =
@@ -238,25 +238,25 @@ module _ (word : ℕ → ℕ) (at : Site) (part later : Part) where
   takes_first f old old' new (Err why) is at_is with_f x = halts_first old old' new why (ap (λ (z : Stand). z.slots) with_f) (ap (λ (z : Stand). z.progress) with_f) x
 
 -- the same part, told otherwise
-module _ (word : ℕ → ℕ) (part other : Part) (same : (s : State) → other s ≡ part s) where
-  stepped_same : (old new : Stand) (mark : List Record) (forks : List Fork) → Stepped word part old new mark forks → Stepped word other old new mark forks
+module _ (layout : ElementLayout) (part other : Part) (same : (s : State) → other s ≡ part s) where
+  stepped_same : (old new : Stand) (mark : List Record) (forks : List Fork) → Stepped layout part old new mark forks → Stepped layout other old new mark forks
   stepped_same old new mark forks x = record {
     at = x.at;
     end = x.end;
     pushed = x.pushed;
     rest = x.rest;
-    steps = steps_same word old.at part other old.slots new.slots old.progress new.progress x.pushed mark forks same x.steps;
+    steps = steps_same layout old.at part other old.slots new.slots old.progress new.progress x.pushed mark forks same x.steps;
   }
 
-  pub halts_same : (old new : Stand) (why : Halt) → HaltsSo word part old new why → HaltsSo word other old new why
-  halts_same old new (halt.DivZero line) m = made_same word part other old.slots new.slots old.progress new.progress (Halted model.DivZero line) same m
-  halts_same old new (halt.Index line) m = made_same word part other old.slots new.slots old.progress new.progress (Halted model.Index line) same m
-  halts_same old new (halt.LogFull line) m = made_same word part other old.slots new.slots old.progress new.progress (Halted model.LogFull line) same m
+  pub halts_same : (old new : Stand) (why : Halt) → HaltsSo layout part old new why → HaltsSo layout other old new why
+  halts_same old new (halt.DivZero line) m = made_same layout part other old.slots new.slots old.progress new.progress (Halted model.DivZero line) same m
+  halts_same old new (halt.Index line) m = made_same layout part other old.slots new.slots old.progress new.progress (Halted model.Index line) same m
+  halts_same old new (halt.LogFull line) m = made_same layout part other old.slots new.slots old.progress new.progress (Halted model.LogFull line) same m
   halts_same old new halt.Long m = m
   halts_same old new halt.Refused m = tt
   halts_same old new halt.Memory m = tt
 
-  pub takes_same : (old new : Stand) (r : Result (Option Pause) Halt) → Takes word part old new r → Takes word other old new r
+  pub takes_same : (old new : Stand) (r : Result (Option Pause) Halt) → Takes layout part old new r → Takes layout other old new r
   takes_same old new (Ok None) x = stepped_same old new [] [] x
   takes_same old new (Ok (Some pause.Barrier)) x = (x.0, stepped_same old new (event kind.Barrier x.0 0 0 ∷ []) [] x.1)
   takes_same old new (Ok (Some (pause.Fork team))) x = stepped_same old new (event kind.Region team.now.line 0 team.now.span ∷ []) (record { team = team_of team.now; slots = new.slots } ∷ []) x

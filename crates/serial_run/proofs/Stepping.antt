@@ -1,10 +1,14 @@
 -- One record of a task, and where there is no room for it.
-use Rattle.std.proofs.Common.{◌≡◌, inl, inr, refl, ap, sym, ◌∙◌, subst, ℕ, ◌+◌, ◌-◌, ◌<◌, List, [], ◌∷◌, ◌++◌, length, ℤ, Result, Ok, Err, arith}
+use Rattle.std.proofs.Common.{◌≡◌, inl, inr, refl, ap, sym, ◌∙◌, subst, ℕ, ◌+◌, ◌-◌, ◌^◌, ◌<◌, List, [], ◌∷◌, ◌++◌, length, ℤ, Result, Ok, Err, w64, arith}
 use Rattle.std.specs.Prelude.{slice_index, slice_set, IfOk, IfErr}
+use Rattle.std.proofs.Math.Facts.{Fits-of_z}
+use Rattle.std.proofs.lemmas.Int.{to_z-of_z}
 use Rattle.std.proofs.lemmas.List.{append-nil}
 use Rattle.log_format.specs.declared.record.Record.{Record}
+use Rattle.log_format.specs.declared.record.Kind.{Kind}
 use Rattle.log_format.specs.declared.record.Kind.TheVariants as kind
-use Rattle.log_format.specs.Fitting.{IsWidth, fitted}
+use Rattle.log_format.specs.Fitting.{IsWidth, fit, fitted, CanHave}
+use Rattle.log_format.proofs.FittedBits.{fitted_bits}
 use Rattle.log_format.specs.Spelling.{spelling}
 use Rattle.kernel_syntax.proofs.Fitting.{fitted-fitted, fitted_fits}
 use Rattle.kernel_model.specs.State as model
@@ -17,58 +21,77 @@ use Rattle.serial_run.specs.declared.halt.Halt.{Halt}
 use Rattle.serial_run.specs.declared.halt.Halt.TheVariants as halt
 use Rattle.serial_run.specs.declared.place.Element.{Element}
 use Rattle.serial_run.specs.Going.{Progress, FindsValue, words_after, Gains, Made, Goes, Logs, HasRoom, MakesRoom, Marks}
-use Rattle.serial_run.specs.Placing.{meant}
+use Rattle.serial_run.specs.Placing.{ElementLayout, IsInPlace, StandsAt, meant}
 use Rattle.serial_run.proofs.Following.{made_still}
 
 -- no room
-module _ {A : Type 0} (word : ℕ → ℕ) (part : State → Outcome A) (slots : List ℤ) (p : Progress) (line : ℕ) (full : Makes part slots 0 (adds slots []) (Halted model.LogFull line)) where
-  pub goes_full : (why : Halt) → MakesRoom p line (Err why) → Goes word part slots slots p p (Err why)
+module _ {A : Type 0} (layout : ElementLayout) (part : State → Outcome A) (slots : List ℤ) (p : Progress) (line : ℕ) (full : Makes part slots 0 (adds slots []) (Halted model.LogFull line)) where
+  pub goes_full : (why : Halt) → MakesRoom p line (Err why) → Goes layout part slots slots p p (Err why)
   goes_full (halt.DivZero at) m = absurd m
   goes_full (halt.Index at) m = absurd m
   goes_full (halt.LogFull at) m =
-      subst (λ (n : ℕ). Made word part slots slots p p (Halted model.LogFull n)) (sym m.0)
-      (made_still word part slots p (Halted model.LogFull line)
+      subst (λ (n : ℕ). Made layout part slots slots p p (Halted model.LogFull n)) (sym m.0)
+      (made_still layout part slots p (Halted model.LogFull line)
       (subst (λ (room : ℕ). Makes part slots room (adds slots []) (Halted model.LogFull line)) (let h = m.1 in let e : 0 ≡ log_limit - p.count = omega arith in e) full))
   goes_full halt.Long m = m
   goes_full halt.Refused m = absurd m
   goes_full halt.Memory m = absurd m
 
 -- one record
-pub gains_one : (word : ℕ → ℕ) (due : Record) (old new : Progress) (after : List ℕ) → FindsValue word due.kind due old.words → after ≡ words_after word due.kind due old.words
-    → Logs due old new → Gains word old (record new { words = after }) (due ∷ [])
-gains_one word due old new after finds is logs = record {
+pub gains_one : (layout : ElementLayout) (due : Record) (old new : Progress) (after : List ℕ) → FindsValue layout due.kind due old.words → after ≡ words_after layout due.kind due old.words
+    → Logs due old new → Gains layout old (record new { words = after }) (due ∷ [])
+gains_one layout due old new after finds is logs = record {
   log = logs.log ∙ ap (λ (l : List ℕ). old.log ++ l) (sym (append-nil (spelling due)));
   count = logs.count ∙ omega arith;
   finds = (finds, is);
   left = (let e : new.left + length (due ∷ []) ≡ new.left + 1 = omega arith in e) ∙ logs.left;
 }
 
-module _ (word : ℕ → ℕ) (slots : List ℤ) (old new : Progress) (room : HasRoom old) where
+module _ (layout : ElementLayout) (slots : List ℤ) (old new : Progress) (room : HasRoom old) where
   some : 0 < log_limit - old.count
   some = let h = room.below in omega arith
 
-  module _ (e : Element) (wide : IsWidth e.width) (stands : word e.addr ≡ e.word) (line site : ℕ) where
-    pub read_made : (bits : ℕ) → bits ≡ slice_index old.words e.word
-        → Logs (access kind.Read (meant e) site line (fitted (from_bits bits) e.width)) old new → Made word (read (meant e) site line) slots slots old new (Returned (fitted (from_bits bits) e.width))
-    read_made bits is logs = record {
+  module _ (e : Element) (wide : IsWidth e.width) (stands : StandsAt layout e) (line site : ℕ) where
+    in_place : (k : Kind) (v : ℤ) → IsInPlace layout (access k (meant e) site line v)
+    in_place k v = record {
+      element = record {
+        address = ap (λ (n : ℕ). layout.words.address n) stands.word ∙ stands.address;
+        size = sym stands.width ∙ ap (λ (n : ℕ). layout.words.width n) (sym stands.word);
+        width = wide;
+      };
+      within = let here = stands.word in let below = stands.within in omega arith;
+    }
+
+    pub read_made : (bits : ℕ) → bits < 2 ^ 64 → bits ≡ slice_index old.words e.word
+        → Logs (access kind.Read (meant e) site line (fitted (from_bits bits) e.width)) old new → Made layout (read (meant e) site line) slots slots old new (Returned (fitted (from_bits bits) e.width))
+    read_made bits small is logs = record {
       added = access kind.Read (meant e) site line (fitted (from_bits bits) e.width) ∷ [];
       plain = (inl refl, tt);
       gains =
-          gains_one word (access kind.Read (meant e) site line (fitted (from_bits bits) e.width)) old new new.words
-          (ap (λ (b : ℕ). to_bits (fitted (from_bits b) e.width)) (is ∙ ap (λ (w : ℕ). slice_index old.words w) (sym stands))) logs.words logs;
+          gains_one layout (access kind.Read (meant e) site line (fitted (from_bits bits) e.width)) old new new.words
+          (in_place kind.Read (fitted (from_bits bits) e.width), fitted_bits e.width bits small wide ∙ ap (λ (b : ℕ). fit b e.width) (is ∙ ap (λ (w : ℕ). slice_index old.words w) (sym stands.word))) logs.words logs;
       makes = makes-read (meant e) site line slots (log_limit - old.count) (fitted (from_bits bits) e.width) some (fitted-fitted (from_bits bits) e.width wide) (fitted_fits (from_bits bits) e.width wide);
     }
 
-    pub store_made : (v : ℤ) (after : List ℕ) → after ≡ slice_set old.words e.word (to_bits v) → Logs (access kind.Write (meant e) site line v) old new
-        → Made word (put (access kind.Write (meant e) site line v)) slots slots old (record new { words = after }) (Returned tt)
-    store_made v after is logs = record {
-      added = access kind.Write (meant e) site line v ∷ [];
-      plain = (inr refl, tt);
-      gains =
-          gains_one word (access kind.Write (meant e) site line v) old new after tt
-          (is ∙ ap (λ (w : ℕ). slice_set old.words w (to_bits v)) (sym stands)) logs;
-      makes = makes-put (access kind.Write (meant e) site line v) slots (log_limit - old.count) some refl refl;
-    }
+    -- the bits of a value that the element can have
+    can_have : (v : ℤ) → CanHave e.width (to_bits (fitted v e.width))
+    can_have v =
+        sym (fitted_bits e.width (to_bits (fitted v e.width)) (Fits-of_z (fitted_fits v e.width wide)).fits wide)
+        ∙ ap (λ (z : ℤ). to_bits (fitted z e.width)) (to_z-of_z w64 (fitted v e.width) (fitted_fits v e.width wide))
+        ∙ ap (λ (z : ℤ). to_bits z) (fitted-fitted v e.width wide)
+
+    pub store_made : (value : ℤ) (after : List ℕ) → after ≡ slice_set old.words e.word (to_bits (fitted value e.width)) → Logs (access kind.Write (meant e) site line (fitted value e.width)) old new
+        → Made layout (put (access kind.Write (meant e) site line (fitted value e.width))) slots slots old (record new { words = after }) (Returned tt)
+    store_made value after is logs =
+        let v = fitted value e.width in
+        record {
+          added = access kind.Write (meant e) site line v ∷ [];
+          plain = (inr refl, tt);
+          gains =
+              gains_one layout (access kind.Write (meant e) site line v) old new after (in_place kind.Write v, can_have value)
+              (is ∙ ap (λ (w : ℕ). slice_set old.words w (to_bits v)) (sym stands.word)) logs;
+          makes = makes-put (access kind.Write (meant e) site line v) slots (log_limit - old.count) some refl refl;
+        }
 
 -- a record that is no access
 pub marks_unready : (due : Record) (p : Progress) (why : Halt) → MakesRoom p due.line (Err why) → Marks due p p (Err why)

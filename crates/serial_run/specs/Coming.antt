@@ -9,6 +9,7 @@ use Rattle.kernel_model.specs.State.{State, Fork, Stop, after, put, event}
 use Rattle.kernel_model.specs.Trace.{Start, Stopped, run, site_of}
 use Rattle.serial_run.specs.Going.{Progress, Made}
 use Rattle.serial_run.specs.Stepping.{Stand, Advances, Finishes, left_of}
+use Rattle.serial_run.specs.Placing.{ElementLayout}
 
 -- the task has made nothing yet, and all that it executes is left
 pub record IsAtStart (program : Program) (start : Start) (x : Stand) : Type 0 where
@@ -18,23 +19,23 @@ pub record IsAtStart (program : Program) (start : Start) (x : Stand) : Type 0 wh
 
 -- From where the task stood first it came here: it made these records and forked these regions, and while it stood still others may
 -- have changed the words.
-pub data Comes (word : ℕ → ℕ) (first : Stand) : Stand → List Record → List Fork → Type 0 where
-  begins : Comes word first first [] []
-  waits : (x : Stand) (records : List Record) (forks : List Fork) (words : List ℕ) (left : ℕ) → Comes word first x records forks
-      → Comes word first (record x { progress = record x.progress { words = words; left = left } }) records forks
-  goes : (x y : Stand) (records : List Record) (forks : List Fork) (mark : List Record) (more : List Fork) → Comes word first x records forks → (a : Advances word x y mark more)
-      → Comes word first y (records ++ a.makes.added) (forks ++ more)
+pub data Comes (layout : ElementLayout) (first : Stand) : Stand → List Record → List Fork → Type 0 where
+  begins : Comes layout first first [] []
+  waits : (x : Stand) (records : List Record) (forks : List Fork) (words : List ℕ) (left : ℕ) → Comes layout first x records forks
+      → Comes layout first (record x { progress = record x.progress { words = words; left = left } }) records forks
+  goes : (x y : Stand) (records : List Record) (forks : List Fork) (mark : List Record) (more : List Fork) → Comes layout first x records forks → (a : Advances layout x y mark more)
+      → Comes layout first y (records ++ a.makes.added) (forks ++ more)
 
 -- a task that ended has made its trace, and forked its regions
 abbrev pub HaveTheirTrace : Type 0
 HaveTheirTrace =
-    (word : ℕ → ℕ) (program : Program) (start : Start) (first x y : Stand) (records : List Record) (forks : List Fork) → IsAtStart program start first → Comes word first x records forks
-    → (f : Finishes word x y) → IsTraced program start (records ++ f.makes.added) × ((own_trace program start (records ++ f.makes.added)).forks ≡ forks)
+    (layout : ElementLayout) (program : Program) (start : Start) (first x y : Stand) (records : List Record) (forks : List Fork) → IsAtStart program start first → Comes layout first x records forks
+    → (f : Finishes layout x y) → IsTraced program start (records ++ f.makes.added) × ((own_trace program start (records ++ f.makes.added)).forks ≡ forks)
 
 -- so a task that stopped, whose trace ends in that stop
 abbrev pub StopAsTold : Type 0
 StopAsTold =
-    (word : ℕ → ℕ) (program : Program) (start : Start) (first x : Stand) (records : List Record) (forks : List Fork) (slots : List ℤ) (last : Progress) (why : Stop) (line : ℕ)
-    → IsAtStart program start first → Comes word first x records forks
-    → (m : Made word (left_of x) x.slots slots x.progress last (Halted why line))
+    (layout : ElementLayout) (program : Program) (start : Start) (first x : Stand) (records : List Record) (forks : List Fork) (slots : List ℤ) (last : Progress) (why : Stop) (line : ℕ)
+    → IsAtStart program start first → Comes layout first x records forks
+    → (m : Made layout (left_of x) x.slots slots x.progress last (Halted why line))
     → IsTracedTo program start (records ++ m.added) (Stopped why line) × ((own_trace program start (records ++ m.added)).forks ≡ forks)

@@ -4,16 +4,17 @@ use Rattle.std.specs.List.{flat_map}
 use Rattle.log_format.specs.declared.record.Record.{Record}
 use Rattle.log_format.specs.declared.record.Kind.{Kind}
 use Rattle.log_format.specs.declared.record.Kind.TheVariants as kind
-use Rattle.log_format.specs.Fitting.{fitted}
+use Rattle.log_format.specs.Fitting.{fit, CanHave}
 use Rattle.log_format.specs.Spelling.{spelling}
 use Rattle.kernel_model.specs.State as model
-use Rattle.kernel_model.specs.State.{State, Outcome, to_bits, from_bits}
+use Rattle.kernel_model.specs.State.{State, Outcome}
 use Rattle.kernel_model.specs.Trace.{log_limit}
 use Rattle.kernel_model.specs.Effect.{Finish, Returned, Halted, Makes, adds}
 use Rattle.serial_run.specs.declared.halt.Halt.{Halt}
 use Rattle.serial_run.specs.declared.halt.Halt.TheVariants as halt
 use Rattle.serial_run.specs.declared.memory.Memory.{Memory}
 use Rattle.serial_run.specs.declared.track.Track.{Track}
+use Rattle.serial_run.specs.Placing.{ElementLayout, IsInPlace}
 
 -- what changes with each record: the task's log, the words of all elements, and how many records may still be made
 pub record Progress : Type 0 where
@@ -25,20 +26,21 @@ pub record Progress : Type 0 where
 abbrev pub progress : Track → Memory → Progress
 progress track memory = record { log = track.log.items; count = track.count; words = memory.words.items; left = memory.left }
 
--- a read has the value of the element in its word
-abbrev pub FindsValue : (ℕ → ℕ) → Kind → Record → List ℕ → Type 0
-FindsValue word kind.Read r words = r.value ≡ to_bits (fitted (from_bits (slice_index words (word r.addr))) r.size)
-FindsValue word _ r words = Unit {0}
+-- a read has the value of its element in its word, and a write one that its element can have
+abbrev pub FindsValue : ElementLayout → Kind → Record → List ℕ → Type 0
+FindsValue layout kind.Read r words = IsInPlace layout r × (r.value ≡ fit (slice_index words (layout.words.word r.addr)) r.size)
+FindsValue layout kind.Write r words = IsInPlace layout r × CanHave r.size r.value
+FindsValue layout _ r words = Unit {0}
 
 -- a write leaves its value there
-abbrev pub words_after : (ℕ → ℕ) → Kind → Record → List ℕ → List ℕ
-words_after word kind.Write r words = slice_set words (word r.addr) r.value
-words_after word _ r words = words
+abbrev pub words_after : ElementLayout → Kind → Record → List ℕ → List ℕ
+words_after layout kind.Write r words = slice_set words (layout.words.word r.addr) r.value
+words_after layout _ r words = words
 
--- the records find the words so, one after another, and leave them so; `word` tells the word of an address
-abbrev pub Finds : (ℕ → ℕ) → List Record → List ℕ → List ℕ → Type 0
-Finds word [] old new = new ≡ old
-Finds word (r ∷ rs) old new = FindsValue word r.kind r old × Finds word rs (words_after word r.kind r old) new
+-- the records find the words so, one after another, and leave them so
+abbrev pub Finds : ElementLayout → List Record → List ℕ → List ℕ → Type 0
+Finds layout [] old new = new ≡ old
+Finds layout (r ∷ rs) old new = FindsValue layout r.kind r old × Finds layout rs (words_after layout r.kind r old) new
 
 -- all are records of accesses that read or write
 abbrev pub ArePlain : List Record → Type 0
@@ -46,27 +48,27 @@ ArePlain [] = Unit {0}
 ArePlain (r ∷ rs) = ((r.kind ≡ kind.Read) ⊎ (r.kind ≡ kind.Write)) × ArePlain rs
 
 -- these records were made: they are in the log, and found the words as they stood
-pub record Gains (word : ℕ → ℕ) (old new : Progress) (added : List Record) : Type 0 where
+pub record Gains (layout : ElementLayout) (old new : Progress) (added : List Record) : Type 0 where
   pub log : new.log ≡ old.log ++ flat_map spelling added
   pub count : new.count ≡ old.count + length added
-  pub finds : Finds word added old.words new.words
+  pub finds : Finds layout added old.words new.words
   pub left : new.left + length added ≡ old.left
 
 -- the task executed the part; it ends so and leaves these locals
-pub record Made {A : Type 0} (word : ℕ → ℕ) (part : State → Outcome A) (slots slots' : List ℤ) (old new : Progress) (finish : Finish A) : Type 0 where
+pub record Made {A : Type 0} (layout : ElementLayout) (part : State → Outcome A) (slots slots' : List ℤ) (old new : Progress) (finish : Finish A) : Type 0 where
   pub added : List Record
   pub plain : ArePlain added
-  pub gains : Gains word old new added
+  pub gains : Gains layout old new added
   pub makes : Makes part slots (log_limit - old.count) (adds slots' added) finish
 
 -- how the execution of a part ends, by what is answered
-abbrev pub Goes : {A : Type 0} → (ℕ → ℕ) → (State → Outcome A) → List ℤ → List ℤ → Progress → Progress → Result A Halt → Type 0
-Goes word part slots slots' old new (Ok v) = Made word part slots slots' old new (Returned v)
-Goes word part slots slots' old new (Err (halt.DivZero line)) = Made word part slots slots' old new (Halted model.DivZero line)
-Goes word part slots slots' old new (Err (halt.Index line)) = Made word part slots slots' old new (Halted model.Index line)
-Goes word part slots slots' old new (Err (halt.LogFull line)) = Made word part slots slots' old new (Halted model.LogFull line)
-Goes word part slots slots' old new (Err halt.Long) = new.left ≡ 0
-Goes word part slots slots' old new (Err _) = Unit {0}
+abbrev pub Goes : {A : Type 0} → ElementLayout → (State → Outcome A) → List ℤ → List ℤ → Progress → Progress → Result A Halt → Type 0
+Goes layout part slots slots' old new (Ok v) = Made layout part slots slots' old new (Returned v)
+Goes layout part slots slots' old new (Err (halt.DivZero line)) = Made layout part slots slots' old new (Halted model.DivZero line)
+Goes layout part slots slots' old new (Err (halt.Index line)) = Made layout part slots slots' old new (Halted model.Index line)
+Goes layout part slots slots' old new (Err (halt.LogFull line)) = Made layout part slots slots' old new (Halted model.LogFull line)
+Goes layout part slots slots' old new (Err halt.Long) = new.left ≡ 0
+Goes layout part slots slots' old new (Err _) = Unit {0}
 
 -- one record was spelled, and the words are as they were
 pub record Logs (due : Record) (old new : Progress) : Type 0 where

@@ -2,7 +2,9 @@
 use Rattle.std.specs.Prelude.{◌≡◌, ℕ, ◌+◌, ◌*◌, ◌<◌, List, Option, Some, slice_get}
 use Rattle.kernel_syntax.specs.declared.syntax.Array.{Array}
 use Rattle.kernel_syntax.specs.Layout.{ArePlaced, elements}
+use Rattle.log_format.specs.declared.record.Record.{Record}
 use Rattle.log_format.specs.Fitting.{IsWidth}
+use Rattle.history_model.specs.Sound.{WordLayout, IsOfElement}
 use Rattle.kernel_model.specs.Value as model
 use Rattle.kernel_model.specs.Value.{Site}
 use Rattle.serial_run.specs.declared.place.Element.{Element}
@@ -16,12 +18,32 @@ pub record IsPlace (at : Site) : Type 0 where
 abbrev pub meant : Element → model.Element
 meant e = record { addr = e.addr; width = e.width }
 
--- each element's address has the word of its number
-abbrev pub TellsWords : List Array → (ℕ → ℕ) → Type 0
-TellsWords arrays word = (k i : ℕ) (a : Array) → slice_get arrays k ≡ Some a → i < a.count → word (a.base + i * a.width) ≡ a.first + i
+-- where the elements stand, and how many words there are
+pub record ElementLayout : Type 0 where
+  pub words : WordLayout
+  pub count : ℕ
+
+-- so do those of these arrays: each has a word of its own number, with its address and its bytes
+pub record TellsWords (arrays : List Array) (layout : ElementLayout) : Type 0 where
+  pub count : layout.count ≡ elements arrays
+  pub word : (k i : ℕ) (a : Array) → slice_get arrays k ≡ Some a → i < a.count → layout.words.word (a.base + i * a.width) ≡ a.first + i
+  pub address : (k i : ℕ) (a : Array) → slice_get arrays k ≡ Some a → i < a.count → layout.words.address (a.first + i) ≡ a.base + i * a.width
+  pub width : (k i : ℕ) (a : Array) → slice_get arrays k ≡ Some a → i < a.count → layout.words.width (a.first + i) ≡ a.width
+
+-- an access is one of an element
+pub record IsInPlace (layout : ElementLayout) (r : Record) : Type 0 where
+  pub element : IsOfElement layout.words r
+  pub within : layout.words.word r.addr < layout.count
+
+-- this element stands there
+pub record StandsAt (layout : ElementLayout) (e : Element) : Type 0 where
+  pub word : layout.words.word e.addr ≡ e.word
+  pub address : layout.words.address e.word ≡ e.addr
+  pub width : layout.words.width e.word ≡ e.width
+  pub within : e.word < layout.count
 
 -- this element was found
 pub record IsElement (arrays : List Array) (found : Option model.Element) (e : Element) : Type 0 where
   pub is : found ≡ Some (meant e)
   pub width : IsWidth e.width
-  pub word : (word : ℕ → ℕ) → TellsWords arrays word → word e.addr ≡ e.word
+  pub stands : (layout : ElementLayout) → TellsWords arrays layout → StandsAt layout e

@@ -8,7 +8,7 @@ ghost use Rattle.kernel_model.specs.Drawing.{turn_from};
 ghost use Rattle.kernel_model.specs.State.{State, after, event, put};
 ghost use Rattle.log_format.specs.declared.record.Kind.TheVariants as kind;
 ghost use Rattle.kernel_model.specs.Trace.{run, shared};
-ghost use Rattle.serial_run.specs.Placing.{TellsWords};
+ghost use Rattle.serial_run.specs.Placing.{ElementLayout, TellsWords};
 ghost use Rattle.serial_run.specs.Resting.{end_frames, part_of};
 ghost use Rattle.serial_run.specs.declared.halt.Halt.TheVariants as halt;
 ghost use Rattle.serial_run.specs.declared.memory.Memory.{Memory as Words};
@@ -150,7 +150,7 @@ impl<'k> Lane<'k> {
         slot: u32,
         value: &Expr,
     ) -> Result<Option<Pause<'k>>, Halt>
-        ensures { (word : ℕ → ℕ) → TellsWords self.old.place.arrays word → Takes word (run self.old.place (tree.Set slot (term_of value.now) Done)) (stand self.old memory.old) (stand self.new memory.new) result }
+        ensures { (layout : ElementLayout) → TellsWords self.old.place.arrays layout → Takes layout (run self.old.place (tree.Set slot (term_of value.now) Done)) (stand self.old memory.old) (stand self.new memory.new) result }
     {
         let number = self.track.value(value, memory, &self.place, &self.locals)?;
         self.locals.set(slot, number);
@@ -167,7 +167,7 @@ impl<'k> Lane<'k> {
         line: u32,
         site: u16,
     ) -> Result<Option<Pause<'k>>, Halt>
-        ensures { (word : ℕ → ℕ) → TellsWords self.old.place.arrays word → Takes word (run self.old.place (tree.Store array (term_of index.now) (term_of value.now) line site Done)) (stand self.old memory.old) (stand self.new memory.new) result }
+        ensures { (layout : ElementLayout) → TellsWords self.old.place.arrays layout → Takes layout (run self.old.place (tree.Store array (term_of index.now) (term_of value.now) line site Done)) (stand self.old memory.old) (stand self.new memory.new) result }
     {
         let at = self.track.value(index, memory, &self.place, &self.locals)?;
         let number = self.track.value(value, memory, &self.place, &self.locals)?;
@@ -186,7 +186,7 @@ impl<'k> Lane<'k> {
         if_true: &'k Body,
         if_false: &'k Body,
     ) -> Result<Option<Pause<'k>>, Halt>
-        ensures { (word : ℕ → ℕ) → TellsWords self.old.place.arrays word → Takes word (run self.old.place (tree.If (term_of test.now) (code_of if_true.now.stmts.items) (code_of if_false.now.stmts.items) Done)) (stand self.old memory.old) (stand self.new memory.new) result }
+        ensures { (layout : ElementLayout) → TellsWords self.old.place.arrays layout → Takes layout (run self.old.place (tree.If (term_of test.now) (code_of if_true.now.stmts.items) (code_of if_false.now.stmts.items) Done)) (stand self.old memory.old) (stand self.new memory.new) result }
     {
         let number = self.track.value(test, memory, &self.place, &self.locals)?;
         let body = chosen(number, if_true, if_false);
@@ -203,7 +203,7 @@ impl<'k> Lane<'k> {
         to: &Expr,
         body: &'k Body,
     ) -> Result<Option<Pause<'k>>, Halt>
-        ensures { (word : ℕ → ℕ) → TellsWords self.old.place.arrays word → Takes word (run self.old.place (tree.Loop slot (term_of from.now) (term_of to.now) (code_of body.now.stmts.items) Done)) (stand self.old memory.old) (stand self.new memory.new) result }
+        ensures { (layout : ElementLayout) → TellsWords self.old.place.arrays layout → Takes layout (run self.old.place (tree.Loop slot (term_of from.now) (term_of to.now) (code_of body.now.stmts.items) Done)) (stand self.old memory.old) (stand self.new memory.new) result }
     {
         let next = self.track.value(from, memory, &self.place, &self.locals)?;
         let end = self.track.value(to, memory, &self.place, &self.locals)?;
@@ -218,7 +218,7 @@ impl<'k> Lane<'k> {
 
     // Forks a region.
     fn fork(&mut self, memory: &mut Memory, team: &'k Team) -> Result<Option<Pause<'k>>, Halt>
-        ensures { (word : ℕ → ℕ) → Takes word (run self.old.place (tree.Parallel team.now.span team.now.line team.now.end (code_of team.now.body.stmts.items) Done)) (stand self.old memory.old) (stand self.new memory.new) result }
+        ensures { (layout : ElementLayout) → Takes layout (run self.old.place (tree.Parallel team.now.span team.now.line team.now.end (code_of team.now.body.stmts.items) Done)) (stand self.old memory.old) (stand self.new memory.new) result }
     {
         self.track.put(memory, event(Kind::Region, team.line, u64::from(team.span)))?;
         Ok(Some(Pause::Fork(team)))
@@ -226,7 +226,7 @@ impl<'k> Lane<'k> {
 
     // Meets a barrier.
     fn meet(&mut self, memory: &mut Memory, line: u32) -> Result<Option<Pause<'k>>, Halt>
-        ensures { (word : ℕ → ℕ) → Takes word (part_of self.old.place (frame.Barrier line)) (stand self.old memory.old) (stand self.new memory.new) result }
+        ensures { (layout : ElementLayout) → Takes layout (part_of self.old.place (frame.Barrier line)) (stand self.old memory.old) (stand self.new memory.new) result }
     {
         self.track.put(memory, event(Kind::Barrier, line, 0))?;
         Ok(Some(Pause::Barrier))
@@ -244,7 +244,7 @@ impl<'k> Lane<'k> {
         end: u32,
         body: &'k Body,
     ) -> Result<Option<Pause<'k>>, Halt>
-        ensures { (word : ℕ → ℕ) (line : ℕ) → TellsWords self.old.place.arrays word → Takes word (run self.old.place (tree.For slot (term_of from.now) (term_of to.now) schedule nowait line end (code_of body.now.stmts.items) Done)) (stand self.old memory.old) (stand self.new memory.new) result }
+        ensures { (layout : ElementLayout) (line : ℕ) → TellsWords self.old.place.arrays layout → Takes layout (run self.old.place (tree.For slot (term_of from.now) (term_of to.now) schedule nowait line end (code_of body.now.stmts.items) Done)) (stand self.old memory.old) (stand self.new memory.new) result }
     {
         let first = self.track.value(from, memory, &self.place, &self.locals)?;
         let last = self.track.value(to, memory, &self.place, &self.locals)?;
@@ -280,7 +280,7 @@ impl<'k> Lane<'k> {
         next: i64,
         end: i64,
     ) -> Result<Option<Pause<'k>>, Halt>
-        ensures { (word : ℕ → ℕ) (memory : Words) → Takes word (part_of self.old.place (frame.Turns body.entry slot next end)) (stand self.old memory) (stand self.new memory) result }
+        ensures { (layout : ElementLayout) (memory : Words) → Takes layout (part_of self.old.place (frame.Turns body.entry slot next end)) (stand self.old memory) (stand self.new memory) result }
     {
         if is_past(next, end) {
             return Ok(None);
@@ -299,7 +299,7 @@ impl<'k> Lane<'k> {
 
     // Goes on with statements.
     fn next(&mut self, memory: &mut Memory, stmts: &'k [Stmt]) -> Result<Option<Pause<'k>>, Halt>
-        ensures { (word : ℕ → ℕ) → TellsWords self.old.place.arrays word → Takes word (part_of self.old.place (frame.Statements stmts.entry)) (stand self.old memory.old) (stand self.new memory.new) result }
+        ensures { (layout : ElementLayout) → TellsWords self.old.place.arrays layout → Takes layout (part_of self.old.place (frame.Statements stmts.entry)) (stand self.old memory.old) (stand self.new memory.new) result }
     {
         let Some((first, others)) = stmts.split_first() else {
             return Ok(None);
@@ -310,7 +310,7 @@ impl<'k> Lane<'k> {
 
     // Executes a statement as far as can be: what is left of it is pushed.
     fn statement(&mut self, memory: &mut Memory, stmt: &'k Stmt) -> Result<Option<Pause<'k>>, Halt>
-        ensures { (word : ℕ → ℕ) → TellsWords self.old.place.arrays word → Takes word (run self.old.place (stmt_code stmt.now Done)) (stand self.old memory.old) (stand self.new memory.new) result }
+        ensures { (layout : ElementLayout) → TellsWords self.old.place.arrays layout → Takes layout (run self.old.place (stmt_code stmt.now Done)) (stand self.old memory.old) (stand self.new memory.new) result }
     {
         match stmt {
             Stmt::Set { slot, value } => self.assign(memory, *slot, value),
@@ -367,7 +367,7 @@ impl<'k> Lane<'k> {
         chunk: u32,
         next: u64,
     ) -> Result<Option<Pause<'k>>, Halt>
-        ensures { (word : ℕ → ℕ) (memory : Words) → Takes word (part_of self.old.place (frame.Chunks body.entry slot from to chunk next)) (stand self.old memory) (stand self.new memory) result }
+        ensures { (layout : ElementLayout) (memory : Words) → Takes layout (part_of self.old.place (frame.Chunks body.entry slot from to chunk next)) (stand self.old memory) (stand self.new memory) result }
     {
         if chunk == 0 {
             return Err(Halt::Refused);
@@ -393,7 +393,7 @@ impl<'k> Lane<'k> {
 
     // Goes on with a frame.
     fn go_on(&mut self, memory: &mut Memory, next: Frame<'k>) -> Result<Option<Pause<'k>>, Halt>
-        ensures { (word : ℕ → ℕ) → TellsWords self.old.place.arrays word → Takes word (part_of self.old.place next.entry) (stand self.old memory.old) (stand self.new memory.new) result }
+        ensures { (layout : ElementLayout) → TellsWords self.old.place.arrays layout → Takes layout (part_of self.old.place next.entry) (stand self.old memory.old) (stand self.new memory.new) result }
     {
         match next {
             Frame::Statements(stmts) => self.next(memory, stmts),
@@ -418,7 +418,7 @@ impl<'k> Lane<'k> {
     // Ends the task, of which nothing is left but its End.
     fn finish(&mut self, memory: &mut Memory) -> Result<Option<Pause<'k>>, Halt>
         requires { self.old.rest.items ≡ [] }
-        ensures { (word : ℕ → ℕ) → Pauses word (stand self.old memory.old) (stand self.new memory.new) result }
+        ensures { (layout : ElementLayout) → Pauses layout (stand self.old memory.old) (stand self.new memory.new) result }
     {
         self.track.put(memory, event(Kind::End, self.end, 0))?;
         Ok(Some(Pause::Ended))
@@ -426,7 +426,7 @@ impl<'k> Lane<'k> {
 
     // Goes on with the frame that is next.
     fn step(&mut self, memory: &mut Memory) -> Result<Option<Pause<'k>>, Halt>
-        ensures { (word : ℕ → ℕ) → TellsWords self.old.place.arrays word → Pauses word (stand self.old memory.old) (stand self.new memory.new) result }
+        ensures { (layout : ElementLayout) → TellsWords self.old.place.arrays layout → Pauses layout (stand self.old memory.old) (stand self.new memory.new) result }
     {
         let Some(next) = self.rest.pop() else {
             return self.finish(memory);
@@ -436,7 +436,7 @@ impl<'k> Lane<'k> {
 
     /// Goes on with the task until it stands still, or stops.
     pub fn resume(&mut self, memory: &mut Memory) -> Result<Pause<'k>, Halt>
-        ensures { (word : ℕ → ℕ) → TellsWords self.old.place.arrays word → Resumes word (stand self.old memory.old) (stand self.new memory.new) result }
+        ensures { (layout : ElementLayout) → TellsWords self.old.place.arrays layout → Resumes layout (stand self.old memory.old) (stand self.new memory.new) result }
     {
         'steps: for _ in 0..u64::MAX {
             if let Some(pause) = self.step(memory)? {

@@ -8,7 +8,7 @@ ghost use Rattle.kernel_model.specs.Value.{access, read, Element as Meant};
 ghost use Rattle.log_format.specs.declared.record.Kind.TheVariants as kind;
 ghost use Rattle.serial_run.specs.declared.halt.Halt.TheVariants as halt;
 ghost use Rattle.serial_run.specs.Going.{Goes, Logs, MakesRoom, Marks, progress};
-ghost use Rattle.serial_run.specs.Placing.{meant};
+ghost use Rattle.serial_run.specs.Placing.{ElementLayout, StandsAt, meant};
 
 use crate::halt::Halt;
 use crate::memory::Memory;
@@ -95,7 +95,7 @@ impl Track {
         site: u16,
     ) -> Result<i64, Halt>
         requires { IsWidth element.now.width }
-        ensures { (word : ℕ → ℕ) (slots : List ℤ) → word element.now.addr ≡ element.now.word → Goes word (read (meant element.now) site line) slots slots (progress self.old memory.old) (progress self.new memory.new) result }
+        ensures { (layout : ElementLayout) (slots : List ℤ) → StandsAt layout element.now → Goes layout (read (meant element.now) site line) slots slots (progress self.old memory.old) (progress self.new memory.new) result }
     {
         self.make_room(memory, line)?;
         let bits = memory.load(element.word);
@@ -115,7 +115,7 @@ impl Track {
         value: i64,
     ) -> Result<(), Halt>
         requires { IsWidth element.now.width }
-        ensures { (word : ℕ → ℕ) (slots : List ℤ) → word element.now.addr ≡ element.now.word → Goes word (put (access kind.Write (meant element.now) site line (fitted value element.now.width))) slots slots (progress self.old memory.old) (progress self.new memory.new) result }
+        ensures { (layout : ElementLayout) (slots : List ℤ) → StandsAt layout element.now → Goes layout (put (access kind.Write (meant element.now) site line (fitted value element.now.width))) slots slots (progress self.old memory.old) (progress self.new memory.new) result }
     {
         self.make_room(memory, line)?;
         let fitted = fit(value, element.width);

@@ -4,7 +4,7 @@ ghost use Rattle.kernel_syntax.specs.Arithmetic.{applied};
 ghost use Rattle.kernel_syntax.specs.Program.{term_of};
 ghost use Rattle.kernel_model.specs.Value.{element_at, loaded, value};
 ghost use Rattle.serial_run.specs.Going.{Goes, progress};
-ghost use Rattle.serial_run.specs.Placing.{TellsWords};
+ghost use Rattle.serial_run.specs.Placing.{ElementLayout, TellsWords};
 
 use crate::halt::Halt;
 use crate::locals::Locals;
@@ -32,7 +32,7 @@ impl Track {
         line: u32,
         site: u16,
     ) -> Result<i64, Halt>
-        ensures { (word : ℕ → ℕ) (slots : List ℤ) → TellsWords place.now.arrays word → Goes word (loaded (element_at place.now.arrays array index) line site) slots slots (progress self.old memory.old) (progress self.new memory.new) result }
+        ensures { (layout : ElementLayout) (slots : List ℤ) → TellsWords place.now.arrays layout → Goes layout (loaded (element_at place.now.arrays array index) line site) slots slots (progress self.old memory.old) (progress self.new memory.new) result }
     {
         let Some(element) = place.element(array, index) else {
             return Err(Halt::Index { line });
@@ -48,7 +48,7 @@ impl Track {
         place: &Place,
         locals: &Locals,
     ) -> Result<i64, Halt>
-        ensures { (word : ℕ → ℕ) → TellsWords place.now.arrays word → Goes word (value place.now (term_of expr.now)) locals.now.slots.items locals.now.slots.items (progress self.old memory.old) (progress self.new memory.new) result }
+        ensures { (layout : ElementLayout) → TellsWords place.now.arrays layout → Goes layout (value place.now (term_of expr.now)) locals.now.slots.items locals.now.slots.items (progress self.old memory.old) (progress self.new memory.new) result }
     {
         match expr {
             Expr::Number(number) => Ok(*number),

@@ -17,20 +17,20 @@ pub returns-in_err-number : goal.returns-in_err-number
 returns-in_err-number c =
     let p = err_from_is_err_and c.from_residual.result c.from_residual.ensures.1 in
     let x = stand c.args.self.now c.args.memory.now in
-    λ word tells. rw (p.1, p.2)
-    (halts_goes word (run x.at (tree.Set c.args.slot (term_of c.args.value.now) Done)) x (record x { progress = progress c.value.new.self c.value.new.memory }) c.in_err-number.field-0.0
-    (set_stops word x.at x.slots c.args.slot (term_of c.args.value.now) x.progress (progress c.value.new.self c.value.new.memory) c.in_err-number.field-0.0 (c.in_err-number.ensures word tells)))
+    λ layout tells. rw (p.1, p.2)
+    (halts_goes layout (run x.at (tree.Set c.args.slot (term_of c.args.value.now) Done)) x (record x { progress = progress c.value.new.self c.value.new.memory }) c.in_err-number.field-0.0
+    (set_stops layout x.at x.slots c.args.slot (term_of c.args.value.now) x.progress (progress c.value.new.self c.value.new.memory) c.in_err-number.field-0.0 (c.in_err-number.ensures layout tells)))
 
 pub returns : goal.returns
 returns c =
     let x = stand c.args.self.now c.args.memory.now in
-    λ word tells. record {
+    λ layout tells. record {
       at = refl;
       end = refl;
       pushed = [];
       rest = sym (append-nil x.rest);
       steps =
-          set_steps word x.at x.slots c.args.slot (term_of c.args.value.now) x.progress (progress c.value.new.self c.value.new.memory) c.in_ok-number.number c.set.new.self.slots.items
+          set_steps layout x.at x.slots c.args.slot (term_of c.args.value.now) x.progress (progress c.value.new.self c.value.new.memory) c.in_ok-number.number c.set.new.self.slots.items
           (c.set.ensures ∙ ap (λ (z : ℤ). slice_set x.slots c.args.slot z) (to_z-of_z w64 c.in_ok-number.number (search rules)))
-          (c.in_ok-number.ensures word tells);
+          (c.in_ok-number.ensures layout tells);
     }

@@ -17,9 +17,9 @@ returns-in_err-next c =
     let p = err_from_is_err_and c.from_residual.result c.from_residual.ensures.1 in
     let x = stand c.args.self.now c.args.memory.now in
     let mid = progress c.value.new.self c.value.new.memory in
-    λ word tells. rw (p.1, p.2)
-    (halts_goes word (run x.at (tree.Loop c.args.slot (term_of c.args.from.now) (term_of c.args.to.now) (code_of c.args.body.now.stmts.items) Done)) x (record x { progress = mid }) c.in_err-next.field-0.0
-    (from_stops word x.at x.slots c.args.slot (term_of c.args.from.now) (term_of c.args.to.now) (code_of c.args.body.now.stmts.items) x.progress mid c.in_err-next.field-0.0 (c.in_err-next.ensures word tells)))
+    λ layout tells. rw (p.1, p.2)
+    (halts_goes layout (run x.at (tree.Loop c.args.slot (term_of c.args.from.now) (term_of c.args.to.now) (code_of c.args.body.now.stmts.items) Done)) x (record x { progress = mid }) c.in_err-next.field-0.0
+    (from_stops layout x.at x.slots c.args.slot (term_of c.args.from.now) (term_of c.args.to.now) (code_of c.args.body.now.stmts.items) x.progress mid c.in_err-next.field-0.0 (c.in_err-next.ensures layout tells)))
 
 pub returns-in_err-end : goal.returns-in_err-end
 returns-in_err-end c =
@@ -27,16 +27,16 @@ returns-in_err-end c =
     let x = stand c.args.self.now c.args.memory.now in
     let mid = progress c.value.new.self c.value.new.memory in
     let new = progress c.value-2.new.self c.value-2.new.memory in
-    λ word tells. rw (p.1, p.2)
-    (halts_goes word (run x.at (tree.Loop c.args.slot (term_of c.args.from.now) (term_of c.args.to.now) (code_of c.args.body.now.stmts.items) Done)) x (record x { progress = new }) c.in_err-end.field-0.0
-    (to_stops word x.at x.slots c.args.slot (term_of c.args.from.now) (term_of c.args.to.now) (code_of c.args.body.now.stmts.items) x.progress mid new c.in_ok-next.next (c.in_ok-next.ensures word tells) c.in_err-end.field-0.0 (c.in_err-end.ensures word tells)))
+    λ layout tells. rw (p.1, p.2)
+    (halts_goes layout (run x.at (tree.Loop c.args.slot (term_of c.args.from.now) (term_of c.args.to.now) (code_of c.args.body.now.stmts.items) Done)) x (record x { progress = new }) c.in_err-end.field-0.0
+    (to_stops layout x.at x.slots c.args.slot (term_of c.args.from.now) (term_of c.args.to.now) (code_of c.args.body.now.stmts.items) x.progress mid new c.in_ok-next.next (c.in_ok-next.ensures layout tells) c.in_err-end.field-0.0 (c.in_err-end.ensures layout tells)))
 
 pub returns : goal.returns
 returns c =
     let x = stand c.args.self.now c.args.memory.now in
     let mid = progress c.value.new.self c.value.new.memory in
     let new = progress c.value-2.new.self c.value-2.new.memory in
-    λ word tells. record {
+    λ layout tells. record {
       at = refl;
       end = refl;
       pushed = frame.Turns c.args.body c.args.slot c.in_ok-next.next c.in_ok-end.end ∷ [];
@@ -45,6 +45,6 @@ returns c =
           ∙ ap (λ (z : ℤ). x.rest ++ frame.Turns c.args.body c.args.slot z (to_z w64 (of_z w64 c.in_ok-end.end)) ∷ []) (to_z-of_z w64 c.in_ok-next.next (search rules))
           ∙ ap (λ (z : ℤ). x.rest ++ frame.Turns c.args.body c.args.slot c.in_ok-next.next z ∷ []) (to_z-of_z w64 c.in_ok-end.end (search rules));
       steps =
-          loop_steps word x.at x.slots c.args.slot (term_of c.args.from.now) (term_of c.args.to.now) (code_of c.args.body.now.stmts.items) x.progress mid new c.in_ok-next.next (c.in_ok-next.ensures word tells)
-          c.in_ok-end.end (frame.Turns c.args.body c.args.slot c.in_ok-next.next c.in_ok-end.end) (λ s. refl) (c.in_ok-end.ensures word tells);
+          loop_steps layout x.at x.slots c.args.slot (term_of c.args.from.now) (term_of c.args.to.now) (code_of c.args.body.now.stmts.items) x.progress mid new c.in_ok-next.next (c.in_ok-next.ensures layout tells)
+          c.in_ok-end.end (frame.Turns c.args.body c.args.slot c.in_ok-next.next c.in_ok-end.end) (λ s. refl) (c.in_ok-end.ensures layout tells);
     }

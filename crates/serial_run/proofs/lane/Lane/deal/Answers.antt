@@ -17,7 +17,7 @@ returns-then-next-total_of c =
     let from_is = to_z-of_z w64 c.args.from c.ranges.from in
     let total : c.total_of.result ≡ total_of c.args.from c.args.to =
     c.total_of.ensures.count ∙ ap (λ (z : ℤ). total_of z (to_z w64 (of_z w64 c.args.to))) from_is ∙ ap (λ (z : ℤ). total_of c.args.from z) (to_z-of_z w64 c.args.to c.ranges.to) in
-    λ word memory.
+    λ layout memory.
     let x = stand c.args.self.now memory in
     record {
       at = refl;
@@ -25,7 +25,7 @@ returns-then-next-total_of c =
       pushed = [];
       rest = sym (append-nil x.rest);
       steps =
-          past_steps x.at (code_of c.args.body.now.stmts.items) c.args.slot c.args.from c.args.chunk (total_of c.args.from c.args.to) c.args.next word x.slots x.progress
+          past_steps x.at (code_of c.args.body.now.stmts.items) c.args.slot c.args.from c.args.chunk (total_of c.args.from c.args.to) c.args.next layout x.slots x.progress
           (subst (λ (n : ℕ). n ≤ c.args.next) total c.if-next-total_of.true);
     }
 
@@ -38,7 +38,7 @@ returns-then-is_skipped c =
     let pushed : (l : List Frame) → l ++ frame.Chunks c.args.body c.args.slot (to_z w64 (of_z w64 c.args.from)) (to_z w64 (of_z w64 c.args.to)) c.args.chunk (c.args.next + 1) ∷ [] ≡ l ++ f ∷ [] =
     λ l. ap (λ (z : ℤ). l ++ frame.Chunks c.args.body c.args.slot z (to_z w64 (of_z w64 c.args.to)) c.args.chunk (c.args.next + 1) ∷ []) from_is
     ∙ ap (λ (z : ℤ). l ++ frame.Chunks c.args.body c.args.slot c.args.from z c.args.chunk (c.args.next + 1) ∷ []) (to_z-of_z w64 c.args.to c.ranges.to) in
-    λ word memory.
+    λ layout memory.
     let x = stand c.args.self.now memory in
     record {
       at = refl;
@@ -46,7 +46,7 @@ returns-then-is_skipped c =
       pushed = f ∷ [];
       rest = c.in_ok-push.ensures.items ∙ pushed x.rest;
       steps =
-          skip_steps x.at (code_of c.args.body.now.stmts.items) c.args.slot c.args.from c.args.chunk (total_of c.args.from c.args.to) c.args.next word x.slots x.progress f
+          skip_steps x.at (code_of c.args.body.now.stmts.items) c.args.slot c.args.from c.args.chunk (total_of c.args.from c.args.to) c.args.next layout x.slots x.progress f
           (subst (λ (n : ℕ). c.args.next < n) total c.if-next-total_of.false) (λ s. refl) (sym c.is_skipped.ensures ∙ c.if-is_skipped.true);
     }
 
@@ -60,7 +60,7 @@ returns c =
     λ l. ap (λ (z : ℤ). l ++ frame.Chunks c.args.body c.args.slot z (to_z w64 (of_z w64 c.args.to)) c.args.chunk (c.args.next + 1) ∷ []) from_is
     ∙ ap (λ (z : ℤ). l ++ frame.Chunks c.args.body c.args.slot c.args.from z c.args.chunk (c.args.next + 1) ∷ []) (to_z-of_z w64 c.args.to c.ranges.to) in
     let g = frame.Statements c.as_slice.result in
-    λ word memory.
+    λ layout memory.
     let x = stand c.args.self.now memory in
     record {
       at = refl;
@@ -68,7 +68,7 @@ returns c =
       pushed = f ∷ g ∷ [];
       rest = c.in_ok-push-2.ensures.items ∙ ap (λ (l : List Frame). l ++ g ∷ []) (c.in_ok-push.ensures.items ∙ pushed x.rest) ∙ append_assoc x.rest (f ∷ []) (g ∷ []);
       steps =
-          own_steps x.at (code_of c.args.body.now.stmts.items) c.args.slot c.args.from c.args.chunk (total_of c.args.from c.args.to) c.args.next word x.slots x.progress f
+          own_steps x.at (code_of c.args.body.now.stmts.items) c.args.slot c.args.from c.args.chunk (total_of c.args.from c.args.to) c.args.next layout x.slots x.progress f
           (subst (λ (n : ℕ). c.args.next < n) total c.if-next-total_of.false) (λ s. refl) c.set.new.self.slots.items g (sym c.is_skipped.ensures ∙ c.if-is_skipped.false)
           (c.set.ensures ∙ ap (λ (z : ℤ). slice_set x.slots c.args.slot z) (to_z-of_z w64 c.number_at.result (search rules) ∙ c.number_at.ensures ∙ ap (λ (z : ℤ). z +ℤ pos c.args.next) from_is))
           (λ s. ap (λ (l : List Stmt). run x.at (code_of l) s) c.as_slice.ensures.value);

@@ -17,14 +17,14 @@ returns-in_err-put c =
     let p = err_from_is_err_and c.from_residual.result c.from_residual.ensures.1 in
     let x = stand c.args.self.now c.args.memory.now in
     let due = event kind.End x.end 0 0 in
-    λ word. rw (p.1, p.2)
-    (halts_marks word due (left_of x) x (record x { progress = progress c.put.new.self c.put.new.memory }) c.in_err-put.field-0.0 refl
+    λ layout. rw (p.1, p.2)
+    (halts_marks layout due (left_of x) x (record x { progress = progress c.put.new.self c.put.new.memory }) c.in_err-put.field-0.0 refl
     (λ s room. ap (λ (l : List Frame). rest_of x.at l (put due) s) c.requires ∙ put-full due s room)
     (subst (λ (r : Record). Marks r x.progress (progress c.put.new.self c.put.new.memory) (Err c.in_err-put.field-0.0)) c.event.ensures c.in_err-put.ensures))
 
 pub returns : goal.returns
 returns c =
     let x = stand c.args.self.now c.args.memory.now in
-    λ word.
-    finishes word x (record x { progress = progress c.put.new.self c.put.new.memory }) c.requires refl refl refl c.in_ok-put.ensures.0
+    λ layout.
+    finishes layout x (record x { progress = progress c.put.new.self c.put.new.memory }) c.requires refl refl refl c.in_ok-put.ensures.0
     (subst (λ (r : Record). Logs r x.progress (progress c.put.new.self c.put.new.memory)) c.event.ensures c.in_ok-put.ensures.1)

@@ -21,8 +21,8 @@ returns-in_err-put c =
     let team = team_of c.args.team.now in
     let due = event kind.Region team.line 0 team.span in
     let is : c.event.result ≡ due = c.event.ensures ∙ ap (λ (n : ℕ). event kind.Region team.line 0 n) c.from.ensures in
-    λ word. rw (p.1, p.2)
-    (halts_marks word due (run x.at (tree.Parallel team.span team.line team.end team.body Done)) x (record x { progress = progress c.put.new.self c.put.new.memory }) c.in_err-put.field-0.0 refl
+    λ layout. rw (p.1, p.2)
+    (halts_marks layout due (run x.at (tree.Parallel team.span team.line team.end team.body Done)) x (record x { progress = progress c.put.new.self c.put.new.memory }) c.in_err-put.field-0.0 refl
     (λ s room. run-Parallel x.at team.span team.line team.end team.body Done s ∙ ap (λ o. after o (λ (t : State). run x.at Done (forked team t))) (put-full due s room))
     (subst (λ (r : Record). Marks r x.progress (progress c.put.new.self c.put.new.memory) (Err c.in_err-put.field-0.0)) is c.in_err-put.ensures))
 
@@ -31,12 +31,12 @@ returns c =
     let x = stand c.args.self.now c.args.memory.now in
     let team = team_of c.args.team.now in
     let is : c.event.result ≡ event kind.Region team.line 0 team.span = c.event.ensures ∙ ap (λ (n : ℕ). event kind.Region team.line 0 n) c.from.ensures in
-    λ word. record {
+    λ layout. record {
       at = refl;
       end = refl;
       pushed = [];
       rest = sym (append-nil x.rest);
       steps =
-          fork_steps word x.at x.slots team x.progress (progress c.put.new.self c.put.new.memory) (c.in_ok-put.ensures.0)
+          fork_steps layout x.at x.slots team x.progress (progress c.put.new.self c.put.new.memory) (c.in_ok-put.ensures.0)
           (subst (λ (r : Record). Logs r x.progress (progress c.put.new.self c.put.new.memory)) is c.in_ok-put.ensures.1);
     }

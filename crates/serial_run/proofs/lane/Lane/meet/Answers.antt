@@ -16,15 +16,15 @@ returns-in_err-put c =
     let p = err_from_is_err_and c.from_residual.result c.from_residual.ensures.1 in
     let x = stand c.args.self.now c.args.memory.now in
     let due = event kind.Barrier c.args.line 0 0 in
-    λ word. rw (p.1, p.2)
-    (halts_marks word due (put due) x (record x { progress = progress c.put.new.self c.put.new.memory }) c.in_err-put.field-0.0 refl (put-full due)
+    λ layout. rw (p.1, p.2)
+    (halts_marks layout due (put due) x (record x { progress = progress c.put.new.self c.put.new.memory }) c.in_err-put.field-0.0 refl (put-full due)
     (subst (λ (r : Record). Marks r x.progress (progress c.put.new.self c.put.new.memory) (Err c.in_err-put.field-0.0)) c.event.ensures c.in_err-put.ensures))
 
 pub returns : goal.returns
 returns c =
     let x = stand c.args.self.now c.args.memory.now in
     let due = event kind.Barrier c.args.line 0 0 in
-    λ word. (
+    λ layout. (
       c.args.line,
       record {
         at = refl;
@@ -32,7 +32,7 @@ returns c =
         pushed = [];
         rest = sym (append-nil x.rest);
         steps =
-            steps_put word x.at due x.slots x.progress (progress c.put.new.self c.put.new.memory) c.in_ok-put.ensures.0
+            steps_put layout x.at due x.slots x.progress (progress c.put.new.self c.put.new.memory) c.in_ok-put.ensures.0
             (subst (λ (r : Record). Logs r x.progress (progress c.put.new.self c.put.new.memory)) c.event.ensures c.in_ok-put.ensures.1) tt refl refl refl;
       },
     )

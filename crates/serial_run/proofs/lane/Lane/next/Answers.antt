@@ -22,13 +22,13 @@ pub returns-in_default : goal.returns-in_default
 returns-in_default c =
     let none = no_items c.args.stmts.now c.in_default.ensures.cases in
     let x = stand c.args.self.now c.args.memory.now in
-    λ word tells. record {
+    λ layout tells. record {
       at = refl;
       end = refl;
       pushed = [];
       rest = sym (append-nil x.rest);
       steps =
-          steps_push word x.at (run x.at (code_of c.args.stmts.now)) x.slots x.progress []
+          steps_push layout x.at (run x.at (code_of c.args.stmts.now)) x.slots x.progress []
           (λ then' s. ap (λ (l : List Stmt). after (run x.at (code_of l) s) then') none ∙ ap (λ o. after o then') (run-Done x.at s));
     }
 
@@ -41,7 +41,7 @@ returns c =
     let f = frame.Statements c.in-Some.others in
     let mid = record x { rest = c.push.new.self.items } in
     let new = stand c.statement.new.self c.statement.new.memory in
-    λ word tells.
-    takes_same word (λ s. after (first s) others) (run x.at (code_of c.args.stmts.now))
+    λ layout tells.
+    takes_same layout (λ s. after (first s) others) (run x.at (code_of c.args.stmts.now))
     (λ s. ap (λ (l : List Stmt). run x.at (code_of l) s) is ∙ run-first x.at c.in-Some.first.now (code_of c.in-Some.others.now) s) x new c.statement.result
-    (takes_first word x.at first others f x mid new c.statement.result (λ s. refl) refl (ap (λ (l : List Frame). record x { rest = l }) c.in_ok-push.ensures.items) (c.statement.ensures word tells))
+    (takes_first layout x.at first others f x mid new c.statement.result (λ s. refl) refl (ap (λ (l : List Frame). record x { rest = l }) c.in_ok-push.ensures.items) (c.statement.ensures layout tells))

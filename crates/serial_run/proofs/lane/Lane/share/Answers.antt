@@ -21,9 +21,9 @@ returns-in_err-first c =
     let x = stand c.args.self.now c.args.memory.now in
     let mid = progress c.value.new.self c.value.new.memory in
     let from = term_of c.args.from.now in let to = term_of c.args.to.now in let body = code_of c.args.body.now.stmts.items in
-    λ word line tells. rw (p.1, p.2)
-    (halts_goes word (for_part word x.at x.slots c.args.slot from to c.args.schedule c.args.nowait line c.args.end body x.progress mid) x (record x { progress = mid }) c.in_err-first.field-0.0
-    (for_from_stops word x.at x.slots c.args.slot from to c.args.schedule c.args.nowait line c.args.end body x.progress mid c.in_err-first.field-0.0 (c.in_err-first.ensures word tells)))
+    λ layout line tells. rw (p.1, p.2)
+    (halts_goes layout (for_part layout x.at x.slots c.args.slot from to c.args.schedule c.args.nowait line c.args.end body x.progress mid) x (record x { progress = mid }) c.in_err-first.field-0.0
+    (for_from_stops layout x.at x.slots c.args.slot from to c.args.schedule c.args.nowait line c.args.end body x.progress mid c.in_err-first.field-0.0 (c.in_err-first.ensures layout tells)))
 
 pub returns-in_err-last : goal.returns-in_err-last
 returns-in_err-last c =
@@ -32,9 +32,9 @@ returns-in_err-last c =
     let mid = progress c.value.new.self c.value.new.memory in
     let new = progress c.value-2.new.self c.value-2.new.memory in
     let from = term_of c.args.from.now in let to = term_of c.args.to.now in let body = code_of c.args.body.now.stmts.items in
-    λ word line tells. rw (p.1, p.2)
-    (halts_goes word (for_part word x.at x.slots c.args.slot from to c.args.schedule c.args.nowait line c.args.end body x.progress mid) x (record x { progress = new }) c.in_err-last.field-0.0
-    (for_to_stops word x.at x.slots c.args.slot from to c.args.schedule c.args.nowait line c.args.end body x.progress mid new c.in_ok-first.first (c.in_ok-first.ensures word tells) c.in_err-last.field-0.0 (c.in_err-last.ensures word tells)))
+    λ layout line tells. rw (p.1, p.2)
+    (halts_goes layout (for_part layout x.at x.slots c.args.slot from to c.args.schedule c.args.nowait line c.args.end body x.progress mid) x (record x { progress = new }) c.in_err-last.field-0.0
+    (for_to_stops layout x.at x.slots c.args.slot from to c.args.schedule c.args.nowait line c.args.end body x.progress mid new c.in_ok-first.first (c.in_ok-first.ensures layout tells) c.in_err-last.field-0.0 (c.in_err-last.ensures layout tells)))
 
 pub returns : goal.returns
 returns c =
@@ -44,17 +44,17 @@ returns c =
     let from = term_of c.args.from.now in let to = term_of c.args.to.now in let body = code_of c.args.body.now.stmts.items in
     let a = c.in_ok-first.first in let b = c.in_ok-last.last in
     let pushed = end_frames c.args.nowait c.args.end ++ c.in-Some.frame ∷ [] in
-    λ word line tells. record {
+    λ layout line tells. record {
       at = c.close.ensures.place;
       end = c.close.ensures.end;
       pushed = pushed;
       rest = c.in_ok-push.ensures.items ∙ ap (λ (l : List Frame). l ++ c.in-Some.frame ∷ []) c.in_ok-close.ensures.rest ∙ append_assoc x.rest (end_frames c.args.nowait c.args.end) (c.in-Some.frame ∷ []);
       steps =
-          subst (λ (t : Track). Steps word x.at (for_part word x.at x.slots c.args.slot from to c.args.schedule c.args.nowait line c.args.end body x.progress mid) x.slots c.close.new.self.locals.slots.items x.progress (progress t c.value-2.new.memory) pushed [] []) (sym c.close.ensures.track)
-          (subst (λ (l : Locals). Steps word x.at (for_part word x.at x.slots c.args.slot from to c.args.schedule c.args.nowait line c.args.end body x.progress mid) x.slots l.slots.items x.progress new pushed [] []) (sym c.close.ensures.locals)
-          (for_steps word x.at x.slots c.args.slot from to c.args.schedule c.args.nowait line c.args.end body x.progress mid new a (c.in_ok-first.ensures word tells) b c.in-Some.frame
+          subst (λ (t : Track). Steps layout x.at (for_part layout x.at x.slots c.args.slot from to c.args.schedule c.args.nowait line c.args.end body x.progress mid) x.slots c.close.new.self.locals.slots.items x.progress (progress t c.value-2.new.memory) pushed [] []) (sym c.close.ensures.track)
+          (subst (λ (l : Locals). Steps layout x.at (for_part layout x.at x.slots c.args.slot from to c.args.schedule c.args.nowait line c.args.end body x.progress mid) x.slots l.slots.items x.progress new pushed [] []) (sym c.close.ensures.locals)
+          (for_steps layout x.at x.slots c.args.slot from to c.args.schedule c.args.nowait line c.args.end body x.progress mid new a (c.in_ok-first.ensures layout tells) b c.in-Some.frame
           (λ s. c.in-Some.ensures line s
           ∙ ap (λ (z : ℤ). shared c.args.schedule x.at line (total_of z (to_z w64 (of_z w64 b))) (turn_from x.at body c.args.slot z) s) (to_z-of_z w64 a (search rules))
           ∙ ap (λ (z : ℤ). shared c.args.schedule x.at line (total_of a z) (turn_from x.at body c.args.slot a) s) (to_z-of_z w64 b (search rules)))
-          (c.in_ok-last.ensures word tells)));
+          (c.in_ok-last.ensures layout tells)));
     }

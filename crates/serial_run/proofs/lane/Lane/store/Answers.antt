@@ -20,9 +20,9 @@ returns-in_err-at c =
     let p = err_from_is_err_and c.from_residual.result c.from_residual.ensures.1 in
     let x = stand c.args.self.now c.args.memory.now in
     let mid = progress c.value.new.self c.value.new.memory in
-    λ word tells. rw (p.1, p.2)
-    (halts_goes word (store word x.at x.slots c.args.array (term_of c.args.index.now) (term_of c.args.value.now) c.args.line c.args.site x.progress) x (record x { progress = mid }) c.in_err-at.field-0.0
-    (index_stops word x.at x.slots c.args.array (term_of c.args.index.now) (term_of c.args.value.now) c.args.line c.args.site x.progress mid c.in_err-at.field-0.0 (c.in_err-at.ensures word tells)))
+    λ layout tells. rw (p.1, p.2)
+    (halts_goes layout (store layout x.at x.slots c.args.array (term_of c.args.index.now) (term_of c.args.value.now) c.args.line c.args.site x.progress) x (record x { progress = mid }) c.in_err-at.field-0.0
+    (index_stops layout x.at x.slots c.args.array (term_of c.args.index.now) (term_of c.args.value.now) c.args.line c.args.site x.progress mid c.in_err-at.field-0.0 (c.in_err-at.ensures layout tells)))
 
 pub returns-in_err-number : goal.returns-in_err-number
 returns-in_err-number c =
@@ -30,18 +30,18 @@ returns-in_err-number c =
     let x = stand c.args.self.now c.args.memory.now in
     let mid = progress c.value.new.self c.value.new.memory in
     let new = progress c.value-2.new.self c.value-2.new.memory in
-    λ word tells. rw (p.1, p.2)
-    (halts_goes word (store word x.at x.slots c.args.array (term_of c.args.index.now) (term_of c.args.value.now) c.args.line c.args.site x.progress) x (record x { progress = new }) c.in_err-number.field-0.0
-    (value_stops word x.at x.slots c.args.array (term_of c.args.index.now) (term_of c.args.value.now) c.args.line c.args.site x.progress mid new c.in_ok-at.at (c.in_ok-at.ensures word tells) c.in_err-number.field-0.0 (c.in_err-number.ensures word tells)))
+    λ layout tells. rw (p.1, p.2)
+    (halts_goes layout (store layout x.at x.slots c.args.array (term_of c.args.index.now) (term_of c.args.value.now) c.args.line c.args.site x.progress) x (record x { progress = new }) c.in_err-number.field-0.0
+    (value_stops layout x.at x.slots c.args.array (term_of c.args.index.now) (term_of c.args.value.now) c.args.line c.args.site x.progress mid new c.in_ok-at.at (c.in_ok-at.ensures layout tells) c.in_err-number.field-0.0 (c.in_err-number.ensures layout tells)))
 
 pub returns-in_default : goal.returns-in_default
 returns-in_default c =
     let x = stand c.args.self.now c.args.memory.now in
     let mid = progress c.value.new.self c.value.new.memory in
     let new = progress c.value-2.new.self c.value-2.new.memory in
-    λ word tells.
-    halts_goes word (store word x.at x.slots c.args.array (term_of c.args.index.now) (term_of c.args.value.now) c.args.line c.args.site x.progress) x (record x { progress = new }) (halt.Index c.args.line)
-    (stores_none word x.at x.slots c.args.array (term_of c.args.index.now) (term_of c.args.value.now) c.args.line c.args.site x.progress mid new c.in_ok-at.at (c.in_ok-at.ensures word tells) c.in_ok-number.number (c.in_ok-number.ensures word tells)
+    λ layout tells.
+    halts_goes layout (store layout x.at x.slots c.args.array (term_of c.args.index.now) (term_of c.args.value.now) c.args.line c.args.site x.progress) x (record x { progress = new }) (halt.Index c.args.line)
+    (stores_none layout x.at x.slots c.args.array (term_of c.args.index.now) (term_of c.args.value.now) c.args.line c.args.site x.progress mid new c.in_ok-at.at (c.in_ok-at.ensures layout tells) c.in_ok-number.number (c.in_ok-number.ensures layout tells)
     (ap (λ (z : ℤ). element_at x.at.arrays c.args.array z) (sym (to_z-of_z w64 c.in_ok-at.at (search rules))) ∙ c.in_default.ensures))
 
 pub returns-in_err-store : goal.returns-in_err-store
@@ -52,12 +52,12 @@ returns-in_err-store c =
     let new = progress c.value-2.new.self c.value-2.new.memory in
     let last = progress c.store.new.self c.store.new.memory in
     let e = c.in-Some.element in
-    λ word tells. rw (p.1, p.2)
-    (halts_goes word (store word x.at x.slots c.args.array (term_of c.args.index.now) (term_of c.args.value.now) c.args.line c.args.site x.progress) x (record x { progress = last }) c.in_err-store.field-0.0
-    (stores_some word x.at x.slots c.args.array (term_of c.args.index.now) (term_of c.args.value.now) c.args.line c.args.site x.progress mid new c.in_ok-at.at (c.in_ok-at.ensures word tells) c.in_ok-number.number (c.in_ok-number.ensures word tells)
+    λ layout tells. rw (p.1, p.2)
+    (halts_goes layout (store layout x.at x.slots c.args.array (term_of c.args.index.now) (term_of c.args.value.now) c.args.line c.args.site x.progress) x (record x { progress = last }) c.in_err-store.field-0.0
+    (stores_some layout x.at x.slots c.args.array (term_of c.args.index.now) (term_of c.args.value.now) c.args.line c.args.site x.progress mid new c.in_ok-at.at (c.in_ok-at.ensures layout tells) c.in_ok-number.number (c.in_ok-number.ensures layout tells)
     e last (Err c.in_err-store.field-0.0) (ap (λ (z : ℤ). element_at x.at.arrays c.args.array z) (sym (to_z-of_z w64 c.in_ok-at.at (search rules))) ∙ c.in-Some.ensures.is)
-    (subst (λ (z : ℤ). Goes word (put (access kind.Write (meant e) c.args.site c.args.line (fitted z e.width))) x.slots x.slots new last (Err c.in_err-store.field-0.0)) (to_z-of_z w64 c.in_ok-number.number (search rules))
-    (c.in_err-store.ensures word x.slots (c.in-Some.ensures.word word tells)))))
+    (subst (λ (z : ℤ). Goes layout (put (access kind.Write (meant e) c.args.site c.args.line (fitted z e.width))) x.slots x.slots new last (Err c.in_err-store.field-0.0)) (to_z-of_z w64 c.in_ok-number.number (search rules))
+    (c.in_err-store.ensures layout x.slots (c.in-Some.ensures.stands layout tells)))))
 
 pub returns : goal.returns
 returns c =
@@ -66,15 +66,15 @@ returns c =
     let new = progress c.value-2.new.self c.value-2.new.memory in
     let last = progress c.store.new.self c.store.new.memory in
     let e = c.in-Some.element in
-    λ word tells. record {
+    λ layout tells. record {
       at = refl;
       end = refl;
       pushed = [];
       rest = sym (append-nil x.rest);
       steps =
-          steps_made word x.at (store word x.at x.slots c.args.array (term_of c.args.index.now) (term_of c.args.value.now) c.args.line c.args.site x.progress) x.slots x.slots x.progress last
-          (stores_some word x.at x.slots c.args.array (term_of c.args.index.now) (term_of c.args.value.now) c.args.line c.args.site x.progress mid new c.in_ok-at.at (c.in_ok-at.ensures word tells) c.in_ok-number.number (c.in_ok-number.ensures word tells)
+          steps_made layout x.at (store layout x.at x.slots c.args.array (term_of c.args.index.now) (term_of c.args.value.now) c.args.line c.args.site x.progress) x.slots x.slots x.progress last
+          (stores_some layout x.at x.slots c.args.array (term_of c.args.index.now) (term_of c.args.value.now) c.args.line c.args.site x.progress mid new c.in_ok-at.at (c.in_ok-at.ensures layout tells) c.in_ok-number.number (c.in_ok-number.ensures layout tells)
           e last (Ok tt) (ap (λ (z : ℤ). element_at x.at.arrays c.args.array z) (sym (to_z-of_z w64 c.in_ok-at.at (search rules))) ∙ c.in-Some.ensures.is)
-          (subst (λ (z : ℤ). Goes word (put (access kind.Write (meant e) c.args.site c.args.line (fitted z e.width))) x.slots x.slots new last (Ok tt)) (to_z-of_z w64 c.in_ok-number.number (search rules))
-          (c.in_ok-store.ensures word x.slots (c.in-Some.ensures.word word tells))));
+          (subst (λ (z : ℤ). Goes layout (put (access kind.Write (meant e) c.args.site c.args.line (fitted z e.width))) x.slots x.slots new last (Ok tt)) (to_z-of_z w64 c.in_ok-number.number (search rules))
+          (c.in_ok-store.ensures layout x.slots (c.in-Some.ensures.stands layout tells))));
     }

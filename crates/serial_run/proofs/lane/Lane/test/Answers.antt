@@ -19,9 +19,9 @@ returns-in_err-number c =
     let p = err_from_is_err_and c.from_residual.result c.from_residual.ensures.1 in
     let x = stand c.args.self.now c.args.memory.now in
     let new = progress c.value.new.self c.value.new.memory in
-    λ word tells. rw (p.1, p.2)
-    (halts_goes word (run x.at (tree.If (term_of c.args.test.now) (code_of c.args.if_true.now.stmts.items) (code_of c.args.if_false.now.stmts.items) Done)) x (record x { progress = new }) c.in_err-number.field-0.0
-    (test_stops word x.at x.slots (term_of c.args.test.now) (code_of c.args.if_true.now.stmts.items) (code_of c.args.if_false.now.stmts.items) x.progress new c.in_err-number.field-0.0 (c.in_err-number.ensures word tells)))
+    λ layout tells. rw (p.1, p.2)
+    (halts_goes layout (run x.at (tree.If (term_of c.args.test.now) (code_of c.args.if_true.now.stmts.items) (code_of c.args.if_false.now.stmts.items) Done)) x (record x { progress = new }) c.in_err-number.field-0.0
+    (test_stops layout x.at x.slots (term_of c.args.test.now) (code_of c.args.if_true.now.stmts.items) (code_of c.args.if_false.now.stmts.items) x.progress new c.in_err-number.field-0.0 (c.in_err-number.ensures layout tells)))
 
 pub returns : goal.returns
 returns c =
@@ -31,15 +31,15 @@ returns c =
     let is = to_z-of_z w64 v (search rules) in
     let f = frame.Statements c.as_slice.result in
     let code = code_of c.chosen-body.result.now.stmts.items in
-    λ word tells. record {
+    λ layout tells. record {
       at = refl;
       end = refl;
       pushed = f ∷ [];
       rest = c.in_ok-push.ensures.items;
       steps =
-          test_steps word x.at x.slots (term_of c.args.test.now) (code_of c.args.if_true.now.stmts.items) (code_of c.args.if_false.now.stmts.items) x.progress new v f code
+          test_steps layout x.at x.slots (term_of c.args.test.now) (code_of c.args.if_true.now.stmts.items) (code_of c.args.if_false.now.stmts.items) x.progress new v f code
           (λ s. ap (λ (l : List Stmt). run x.at (code_of l) s) c.as_slice.ensures.value)
           (λ zero. ap (λ (b : Body). code_of b.stmts.items) (c.chosen-body.ensures.zero (is ∙ zero)))
           (λ other. ap (λ (b : Body). code_of b.stmts.items) (c.chosen-body.ensures.other (λ zero. other (sym is ∙ zero))))
-          (c.in_ok-number.ensures word tells);
+          (c.in_ok-number.ensures layout tells);
     }

@@ -21,7 +21,7 @@ returns-then-is_past c =
     let end_is = to_z-of_z w64 c.args.end c.ranges.end in
     let none : total_of c.args.next c.args.end ≡ 0 =
     ap (λ (z : ℤ). total_of z c.args.end) (sym next_is) ∙ ap (λ (z : ℤ). total_of (to_z w64 (of_z w64 c.args.next)) z) (sym end_is) ∙ c.is_past.ensures.past (search (rules, c.if-is_past.true)) in
-    λ word memory.
+    λ layout memory.
     let x = stand c.args.self.now memory in
     record {
       at = refl;
@@ -29,7 +29,7 @@ returns-then-is_past c =
       pushed = [];
       rest = sym (append-nil x.rest);
       steps =
-          steps_push word x.at (λ s. turns (total_of c.args.next c.args.end) 0 (turn_from x.at (code_of c.args.body.now.stmts.items) c.args.slot c.args.next) s) x.slots x.progress []
+          steps_push layout x.at (λ s. turns (total_of c.args.next c.args.end) 0 (turn_from x.at (code_of c.args.body.now.stmts.items) c.args.slot c.args.next) s) x.slots x.progress []
           (λ then' s. ap (λ (n : ℕ). after (turns n 0 (turn_from x.at (code_of c.args.body.now.stmts.items) c.args.slot c.args.next) s) then') none);
     }
 
@@ -48,7 +48,7 @@ returns c =
     let pushed : (l : List Frame) → l ++ frame.Turns c.args.body c.args.slot (to_z w64 (of_z w64 c.value_after-later.result)) (to_z w64 (of_z w64 c.args.end)) ∷ [] ≡ l ++ f ∷ [] =
     λ l. ap (λ (z : ℤ). l ++ frame.Turns c.args.body c.args.slot z (to_z w64 (of_z w64 c.args.end)) ∷ []) later ∙ ap (λ (z : ℤ). l ++ frame.Turns c.args.body c.args.slot c.value_after-later.result z ∷ []) end_is in
     let next_after : c.value_after-later.result ≡ c.args.next +ℤ pos 1 = c.value_after-later.ensures ∙ ap (λ (z : ℤ). z +ℤ pos 1) next_is in
-    λ word memory.
+    λ layout memory.
     let x = stand c.args.self.now memory in
     record {
       at = refl;
@@ -56,6 +56,6 @@ returns c =
       pushed = f ∷ g ∷ [];
       rest = c.in_ok-push-2.ensures.items ∙ ap (λ (l : List Frame). l ++ g ∷ []) (c.in_ok-push.ensures.items ∙ pushed x.rest) ∙ append_assoc x.rest (f ∷ []) (g ∷ []);
       steps =
-          turn_steps x.at body c.args.slot word x.slots c.set.new.self.slots.items x.progress c.args.next c.args.end f g
+          turn_steps x.at body c.args.slot layout x.slots c.set.new.self.slots.items x.progress c.args.next c.args.end f g
           (c.set.ensures ∙ ap (λ (z : ℤ). slice_set x.slots c.args.slot z) next_is) more_is (λ s. ap (λ (z : ℤ). turns (total_of z c.args.end) 0 (turn_from x.at body c.args.slot z) s) next_after) (λ s. ap (λ (l : List Stmt). run x.at (code_of l) s) c.as_slice.ensures.value);
     }

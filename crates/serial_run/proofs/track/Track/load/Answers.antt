@@ -7,12 +7,12 @@ use Rattle.serial_run.proofs.Values.{loads_none, loads_some}
 use Rattle.serial_run.proofs.track.Track.load.Goals as goal
 
 pub returns-in_default : goal.returns-in_default
-returns-in_default c = λ word slots tells.
-    loads_none word c.args.place.now slots (element_at c.args.place.now.arrays c.args.array c.args.index) c.args.line c.args.site (progress c.args.self.now c.args.memory.now)
+returns-in_default c = λ layout slots tells.
+    loads_none layout c.args.place.now slots (element_at c.args.place.now.arrays c.args.array c.args.index) c.args.line c.args.site (progress c.args.self.now c.args.memory.now)
     (ap (λ (z : ℤ). element_at c.args.place.now.arrays c.args.array z) (sym (to_z-of_z w64 c.args.index c.ranges.index)) ∙ c.in_default.ensures)
 
 pub returns : goal.returns
-returns c = λ word slots tells.
-    loads_some word c.args.place.now slots (element_at c.args.place.now.arrays c.args.array c.args.index) (meant c.in-Some.element) c.args.line c.args.site (progress c.args.self.now c.args.memory.now) (progress c.read.new.self c.read.new.memory) c.read.result
+returns c = λ layout slots tells.
+    loads_some layout c.args.place.now slots (element_at c.args.place.now.arrays c.args.array c.args.index) (meant c.in-Some.element) c.args.line c.args.site (progress c.args.self.now c.args.memory.now) (progress c.read.new.self c.read.new.memory) c.read.result
     (ap (λ (z : ℤ). element_at c.args.place.now.arrays c.args.array z) (sym (to_z-of_z w64 c.args.index c.ranges.index)) ∙ c.in-Some.ensures.is)
-    (c.read.ensures word slots (c.in-Some.ensures.word word tells))
+    (c.read.ensures layout slots (c.in-Some.ensures.stands layout tells))

@@ -18,8 +18,8 @@ pub returns-in_err-make_room : goal.returns-in_err-make_room
 returns-in_err-make_room c =
     let p = err_from_is_err_and c.from_residual.result c.from_residual.ensures.1 in
     let due = access kind.Write (meant c.args.element.now) c.args.site c.args.line (fitted c.args.value c.args.element.now.width) in
-    λ word slots stands. rw (p.1, p.2)
-    (goes_full word (put due) slots (progress c.args.self.now c.args.memory.now) c.args.line (makes-put_full due slots) c.in_err-make_room.field-0.0 c.in_err-make_room.ensures)
+    λ layout slots stands. rw (p.1, p.2)
+    (goes_full layout (put due) slots (progress c.args.self.now c.args.memory.now) c.args.line (makes-put_full due slots) c.in_err-make_room.field-0.0 c.in_err-make_room.ensures)
 
 pub returns : goal.returns
 returns c =
@@ -35,7 +35,7 @@ returns c =
     let after : c.store.new.self.words.items ≡ slice_set old.words e.word (to_bits (fitted c.args.value e.width)) =
     c.store.ensures.words ∙ ap (λ (b : ℕ). slice_set mid.words e.word b) (c.cast_unsigned.ensures ∙ ap (λ (z : ℤ). to_bits z) value_is)
     ∙ ap (λ (l : List ℕ). slice_set l e.word (to_bits (fitted c.args.value e.width))) logs.words in
-    λ word slots stands.
-    subst (λ (n : ℕ). Made word (put (access kind.Write (meant e) c.args.site c.args.line (fitted c.args.value e.width))) slots slots old
+    λ layout slots stands.
+    subst (λ (n : ℕ). Made layout (put (access kind.Write (meant e) c.args.site c.args.line (fitted c.args.value e.width))) slots slots old
     (record { log = mid.log; count = mid.count; words = c.store.new.self.words.items; left = n }) (Returned tt)) (sym c.store.ensures.left)
-    (store_made word slots old mid c.in_ok-make_room.ensures e c.requires stands c.args.line c.args.site (fitted c.args.value e.width) c.store.new.self.words.items after logs)
+    (store_made layout slots old mid c.in_ok-make_room.ensures e c.requires stands c.args.line c.args.site c.args.value c.store.new.self.words.items after logs)

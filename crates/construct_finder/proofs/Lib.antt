@@ -1,0 +1,3 @@
+pub mod Fixed
+pub mod FirstLines
+pub mod StmtLines

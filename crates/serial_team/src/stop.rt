@@ -1,0 +1,90 @@
+//! Why a serial run doesn't go on.
+ghost use Rattle.std.specs.Prelude.{◌≡◌};
+ghost use Rattle.serial_team.specs.declared.stop.Stop.TheVariants as stop;
+
+use serial_run::Halt;
+use std::alloc::{AllocError, AllocFailed};
+use sw_base::Path;
+
+/// Why a task stops.
+#[derive(Clone, Copy, Debug, PartialEq, Eq)]
+pub enum StopWhy {
+    /// A divisor is 0.
+    DivZero,
+    /// An index lies outside its array.
+    Index,
+    /// The log has room for no more records.
+    LogFull,
+    /// More than 65,535 tasks are below the task.
+    Tasks,
+}
+
+/// Why a serial run doesn't go on.
+#[derive(Debug, Drop)]
+pub enum Stop {
+    /// The task at this path stops at this line.
+    Stopped { path: Path, line: u32, why: StopWhy },
+    /// All records that the run may make are made, and the task at this path would put its record of this number, from 1.
+    Long { path: Path, number: u32 },
+    /// A statement that isn't executed here, a region deeper than four or without a lane, or lanes that don't meet.
+    Refused,
+    /// No memory was found.
+    Memory,
+}
+
+impl Stop {
+    /// Why the run doesn't go on where this task, which has put so many records, stands still.
+    pub fn of(halt: Halt, path: &Path, count: u32) -> Stop {
+        let path = path.copy();
+        match halt {
+            Halt::DivZero { line } => Stop::Stopped {
+                path,
+                line,
+                why: StopWhy::DivZero,
+            },
+            Halt::Index { line } => Stop::Stopped {
+                path,
+                line,
+                why: StopWhy::Index,
+            },
+            Halt::LogFull { line } => Stop::Stopped {
+                path,
+                line,
+                why: StopWhy::LogFull,
+            },
+            Halt::Long => Stop::Long {
+                path,
+                number: count.saturating_add(1),
+            },
+            Halt::Refused => Stop::Refused,
+            Halt::Memory => Stop::Memory,
+        }
+    }
+
+    /// Whether it is a task's own: the lanes beside it still go on to the end of their phase.
+    pub(crate) fn is_of_task(&self) -> bool {
+        matches!(self, Stop::Stopped { .. })
+    }
+}
+
+impl From<AllocError> for Stop {
+    ghost use Rattle.std.specs.Prelude.{◌≡◌};
+    ghost use Rattle.serial_team.specs.declared.stop.Stop.TheVariants as stop;
+
+    ghost from_gives = { λ _ e. e ≡ stop.Memory };
+
+    fn from(_: AllocError) -> Self {
+        Stop::Memory
+    }
+}
+
+impl<T: Drop> From<AllocFailed<T>> for Stop {
+    ghost use Rattle.std.specs.Prelude.{◌≡◌};
+    ghost use Rattle.serial_team.specs.declared.stop.Stop.TheVariants as stop;
+
+    ghost from_gives = { λ _ e. e ≡ stop.Memory };
+
+    fn from(_: AllocFailed<T>) -> Self {
+        Stop::Memory
+    }
+}

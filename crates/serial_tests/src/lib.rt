@@ -1,0 +1,8 @@
+//! Tests of one task of a serial run: its statements, loops and shares, where it stands still, and where it stops, each with the records
+//! in its log.
+//!
+//! They stand beside the crate that they test, and not in it, since a crate with tests is proved twice.
+#![tactic(auto)]
+
+#[cfg(test)]
+mod tests;

@@ -1,0 +1,5 @@
+mod constructs;
+mod statements;
+mod stops;
+mod support;
+mod teams;
