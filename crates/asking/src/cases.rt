@@ -2,12 +2,14 @@
 
 use crate::commands::{REPLAY, RUN, printed};
 use crate::folders::{Task, hold_old_tasks, hold_tasks};
-use command_answer::DONE;
+use crate::witnesses::are_witnessed;
+use command_answer::{DONE, RACES};
+use memory_environment::MemFolder;
 use std::alloc::Global;
 use std::sync::Wait;
 use std::test::Fail;
 use std::thread::Threads;
-use sw_base::{MemFolder, Memory, Path};
+use sw_base::{Memory, Path};
 
 /// The words, and the status and the text that answer them. A text with dots at its end stands for all that begin so.
 pub type Question<'a> = (&'a [&'a str], u8, &'a str);
@@ -140,6 +142,37 @@ fn difference<R: Threads + Wait + Sync>(
     Ok(None)
 }
 
+// Whether the records behind each whole report that `check` printed are found.
+fn are_all_witnessed(alloc: Global, folder: &mut MemFolder, asked: &[Question<'_>]) -> bool {
+    for (given, status, text) in asked {
+        if let ["check", dir, _] = given
+            && *status <= RACES
+            && !text.ends_with("...")
+            && !are_witnessed(alloc, folder, dir, text)
+        {
+            return false;
+        }
+    }
+    true
+}
+
+// The same of a case in a folder of its own, whose output doesn't fail.
+fn other_case<R: Threads + Wait + Sync>(
+    rt: &R,
+    alloc: Global,
+    case: &Case<'_>,
+) -> Result<Option<String>, Memory> {
+    let mut folder = folder_of(alloc, case)?;
+    let other = difference(rt, alloc, &mut folder, case)?;
+    if other.is_some() || !case.failing.is_empty() {
+        return Ok(other);
+    }
+    if are_all_witnessed(alloc, &mut folder, case.asked) {
+        return Ok(None);
+    }
+    Ok(Some(String::from_str(alloc, "the records behind a report")?))
+}
+
 // The first case, by its number from 0, and what comes out otherwise of it.
 fn first_difference<R: Threads + Wait + Sync>(
     rt: &R,
@@ -147,8 +180,7 @@ fn first_difference<R: Threads + Wait + Sync>(
     cases: &[Case<'_>],
 ) -> Result<Option<String>, Memory> {
     for (number, case) in cases.iter().enumerate() {
-        let mut folder = folder_of(alloc, case)?;
-        if let Some(other) = difference(rt, alloc, &mut folder, case)? {
+        if let Some(other) = other_case(rt, alloc, case)? {
             return Ok(Some(format!(in alloc; "case {number}: {other}")?));
         }
     }
@@ -237,6 +269,9 @@ fn other_run<R: Threads + Wait + Sync>(
     let checked = other_answer(rt, alloc, &mut folder, &[], &check, *status, races)?;
     if checked.is_some() {
         return Ok(checked);
+    }
+    if !are_witnessed(alloc, &mut folder, "d", races) {
+        return Ok(Some(String::from_str(alloc, "the records behind a report")?));
     }
     other_answer(rt, alloc, &mut folder, &[], REPLAY, DONE, "same\n")
 }

@@ -1,9 +1,10 @@
 //! The top call, asked in words.
 
+use memory_environment::MemOut;
 use std::alloc::{AllocError, Global};
 use std::sync::Wait;
 use std::thread::Threads;
-use sw_base::{Folder, Gate, MemOut, Memory, NoGate};
+use sw_base::{Folder, Gate, Memory, NoGate};
 use top_call::sword;
 
 /// What makes a kernel run.

@@ -4,11 +4,12 @@ use crate::cases::{Case, folder_of, holds, passes};
 use crate::commands::asked;
 use crate::folders::Step;
 use command_answer::{READ_FAULT, WRITE_FAULT};
+use memory_environment::{MemFolder, MemOut};
 use std::alloc::Global;
 use std::sync::Wait;
 use std::test::Fail;
 use std::thread::Threads;
-use sw_base::{MemFolder, MemOut, NoGate, Path};
+use sw_base::{NoGate, Path};
 
 /// A case with one question, and the outside calls that its answer makes. It needs little memory, so that want of it is no answer.
 #[derive(Clone, Copy, Drop)]

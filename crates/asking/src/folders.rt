@@ -1,7 +1,8 @@
 //! Folders in memory, made of tasks and their records.
 
+use memory_environment::MemFolder;
 use std::alloc::{AllocError, Global};
-use sw_base::{MemFolder, Memory};
+use sw_base::Memory;
 
 /// A record: kind, size, line, address and value. Its site is 1 where it reads, else 0.
 pub type Rec = (u8, u8, u32, u64, u64);

@@ -10,6 +10,7 @@ mod cases;
 mod commands;
 mod faults;
 mod folders;
+mod witnesses;
 
 pub use cases::{
     Case, EMPTY, Question, Whole, all_pass, all_run, answers, folder_of, holds, no_difference,

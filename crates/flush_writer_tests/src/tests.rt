@@ -1,10 +1,11 @@
 //! What a log has of the blocks that it was given, with a writer and without one.
 ghost use Rattle.std.specs.Prelude.{◌≡◌, ◌<◌, ◌≤◌, [], length, None, Some, IfOk};
 ghost use Rattle.sw_base.specs.Environment.{WhereTold, empty_text};
-ghost use Rattle.sw_base.specs.MemLog.{path_of, text_of, faults_of};
+ghost use Rattle.memory_environment.specs.MemLog.{path_of, text_of, faults_of};
 
 use event_block::Block;
 use flush_writer::Flusher;
+use memory_environment::MemLog;
 use std::alloc::Global;
 use std::marker::Send;
 use std::sync::atomic::{AtomicU64, Ordering};
@@ -12,7 +13,7 @@ use std::sync::{Arc, Wait};
 use std::test::Fail;
 use std::thread;
 use std::thread::Threads;
-use sw_base::{LOG_HEADER, Log, MemLog, Trouble};
+use sw_base::{LOG_HEADER, Log, Trouble};
 
 /// The stack of a writer, and one that no thread can have.
 const STACK: usize = 256 * 1024;

@@ -1,7 +1,7 @@
 //! `gen`: the race pairs of a run that is made from a number.
 ghost use Rattle.std.specs.Prelude.{◌≡◌, ◌≤◌, codes, IfOk, OnErr, OnOk};
 ghost use Rattle.sw_base.specs.Environment.{GainsPrefix, HasCause, Rose, gained};
-ghost use Rattle.sw_base.specs.MemFolder.{content_of};
+ghost use Rattle.memory_environment.specs.MemFolder.{content_of};
 ghost use Rattle.command_answer.specs.Answer.{Answers, Prints};
 ghost use Rattle.command_answer.specs.declared.status.TheConstants.{USAGE, READ_FAULT, WRITE_FAULT};
 ghost use Rattle.folder_commands.specs.Check.{report_status};
@@ -11,10 +11,11 @@ use crate::checking::folder_pairs;
 use crate::printing::print_report;
 use command_answer::{NO_MEMORY, failure};
 use generated_run::{accesses, generate, segments};
+use memory_environment::MemFolder;
 use std::alloc::Global;
 use std::collections::BTreeSet;
 use std::thread::Threads;
-use sw_base::{Gate, MemFolder, Memory, Out, Trouble};
+use sw_base::{Gate, Memory, Out, Trouble};
 
 /// The folder's name.
 const DIR: &str = "g";

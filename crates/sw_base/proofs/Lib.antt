@@ -1,9 +1,6 @@
-pub mod Prefixes
 pub mod Gains
 pub mod ReadPrefixes
 pub mod Windows
-pub mod HeldFiles
 pub mod Paths
 pub mod NameLaws
 pub mod AfterPut
-pub mod Planned

@@ -1,11 +1,6 @@
 pub mod Environment
 pub mod HandedLog
-pub mod InMemory
-pub mod MemFolder
-pub mod MemLog
-pub mod MemOut
 pub mod Names
 pub mod PathOrder
 pub mod Pieces
-pub mod Plans
 pub mod Window

@@ -3,13 +3,11 @@
 //! The environment is four traits. A `Folder` holds files, a `Log` takes the pieces of one task's records,
 //! an `Out` takes what is printed, and a `Gate` sees each lane and worker start. Their contracts say what each
 //! call does to the content, what stands after an error, and that a call fails only where a count of faults rose.
-//! The versions in memory meet them, and can be told which of their calls are to fail.
 #![tactic(auto)]
 
 mod closed_log;
 mod environment;
 mod files;
-mod in_memory;
 mod path;
 mod reading;
 mod trouble;
@@ -18,7 +16,6 @@ mod window;
 pub use closed_log::ClosedLog;
 pub use environment::{Folder, Gate, Log, NoGate, Out};
 pub use files::{INDEX_HEADER, LOG_HEADER, OLD_INDEX_HEADER, OLD_LOG_HEADER, index_name};
-pub use in_memory::{MemFolder, MemLog, MemOut, ShortReads};
 pub use path::{Path, Step};
 pub use reading::read_file;
 pub use trouble::{Memory, Trouble};

@@ -1,13 +1,14 @@
 //! How logs are cut into pieces, and what stands in a log after each of its calls failed.
 ghost use Rattle.std.specs.Prelude.{◌≡◌, ◌≤◌, [], None, Some, IfOk};
 ghost use Rattle.sw_base.specs.Environment.{empty_text};
-ghost use Rattle.sw_base.specs.MemLog.{path_of, text_of, faults_of};
+ghost use Rattle.memory_environment.specs.MemLog.{path_of, text_of, faults_of};
 
 use event_buffer::{Buffer, BufferFault};
 use log_format::{Kind, Record, encode};
+use memory_environment::{MemFolder, MemLog};
 use std::alloc::Global;
 use std::test::Fail;
-use sw_base::{Folder, LOG_HEADER, Log, MemFolder, MemLog, Path, Trouble};
+use sw_base::{Folder, LOG_HEADER, Log, Path, Trouble};
 
 // A log that counts what it takes, and finds memory for so many pieces.
 #[derive(Drop)]

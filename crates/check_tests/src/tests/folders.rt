@@ -5,11 +5,11 @@ use asking::{
     store, unlock,
 };
 use command_answer::{DONE, FOLDER_REFUSED, RACES, USAGE};
+use memory_environment::MemFolder;
 use std::alloc::Global;
 use std::sync::Wait;
 use std::test::Fail;
 use std::thread::Threads;
-use sw_base::MemFolder;
 
 const NO_RACE: &str = "races 0\n";
 

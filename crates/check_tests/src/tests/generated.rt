@@ -3,8 +3,8 @@
 use asking::{Case, EMPTY, all_pass, answers};
 use command_answer::RACES;
 use generated_run::generate;
+use memory_environment::MemFolder;
 use std::test::Fail;
-use sw_base::MemFolder;
 
 const GENERATED: Case<'static> = Case {
     asked: &[

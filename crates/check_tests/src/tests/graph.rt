@@ -4,9 +4,11 @@ ghost use Rattle.std.specs.Prelude.{◌<◌};
 use super::workers::each_answers;
 use asking::{Rec, Step, hold_tasks};
 use command_answer::RACES;
+use explain::{RacePair, confirm, explain};
+use memory_environment::MemFolder;
 use std::alloc::{AllocError, Global};
 use std::test::Fail;
-use sw_base::{MemFolder, Memory};
+use sw_base::Memory;
 
 const READ: u8 = 1;
 
@@ -31,11 +33,12 @@ struct Task {
     records: Vec<Rec>,
 }
 
-/// A linear congruential sequence, and the line of the access that was made last.
+/// A linear congruential sequence, how many accesses were made, and at how many lines.
 #[derive(Drop)]
 struct Numbers {
     state: u64,
-    line: u32,
+    accesses: u32,
+    lines: u32,
 }
 
 impl Numbers {
@@ -50,12 +53,17 @@ impl Numbers {
         (self.state >> 33) % limit
     }
 
-    /// A read or a write on a line of its own, of some of 71 bytes.
+    /// A read or a write at the next line, of some of 71 bytes.
     fn access(&mut self) -> Rec {
-        self.line = self.line.wrapping_add(1);
+        self.accesses = self.accesses.wrapping_add(1);
+        let line = self
+            .accesses
+            .checked_rem(self.lines)
+            .unwrap_or(0)
+            .wrapping_add(100);
         let size = [1, 2, 4, 8][self.below(4) as usize];
         let kind = if self.below(3) == 0 { WRITE } else { READ };
-        (kind, size, self.line, 4096 + self.below(64), 0)
+        (kind, size, line, 4096 + self.below(64), 0)
     }
 }
 
@@ -101,19 +109,18 @@ fn fork(
     Ok(())
 }
 
+/// How many regions a task forks, by its depth.
+type Regions = [u32; 4];
+
 /// Gives the task its records, and adds the lanes that it forks.
 fn fill(
     alloc: Global,
     numbers: &mut Numbers,
+    regions: &Regions,
     task: &mut Task,
     lanes: &mut Vec<Task>,
 ) -> Result<(), AllocError> {
-    let regions = match task.steps.len() {
-        0 | 1 => 3,
-        2 => 1,
-        3 => numbers.below(2) as u32,
-        _ => 0,
-    };
+    let regions = regions.get(task.steps.len()).copied().unwrap_or(0);
     for turn in 0..3 {
         let barrier_first = numbers.below(2) == 0;
         let has_barrier = u64::from(turn) < task.barriers;
@@ -138,6 +145,7 @@ fn fill(
 fn finish_next(
     alloc: Global,
     numbers: &mut Numbers,
+    regions: &Regions,
     waiting: &mut Vec<Task>,
     tasks: &mut Vec<Task>,
 ) -> Result<(), AllocError> {
@@ -145,16 +153,20 @@ fn finish_next(
         return Ok(());
     };
     let mut lanes = Vec::new(alloc);
-    fill(alloc, numbers, &mut task, &mut lanes)?;
+    fill(alloc, numbers, regions, &mut task, &mut lanes)?;
     lanes.reverse();
     waiting.append(&mut lanes)?;
     tasks.push(task)?;
     Ok(())
 }
 
-/// The tasks of a run, in the order of their rows.
-fn run(alloc: Global, state: u64) -> Result<Vec<Task>, AllocError> {
-    let mut numbers = Numbers { state, line: 100 };
+/// The tasks of a run with accesses at so many lines, in the order of their rows.
+fn run(alloc: Global, state: u64, lines: u32, regions: &Regions) -> Result<Vec<Task>, AllocError> {
+    let mut numbers = Numbers {
+        state,
+        accesses: 0,
+        lines,
+    };
     let root = Task {
         steps: Vec::new(alloc),
         barriers: 0,
@@ -163,7 +175,7 @@ fn run(alloc: Global, state: u64) -> Result<Vec<Task>, AllocError> {
     let mut waiting = vec![in alloc; root]?;
     let mut tasks = Vec::new(alloc);
     for _ in 0..1000 {
-        finish_next(alloc, &mut numbers, &mut waiting, &mut tasks)?;
+        finish_next(alloc, &mut numbers, regions, &mut waiting, &mut tasks)?;
     }
     Ok(tasks)
 }
@@ -182,6 +194,8 @@ fn folder_of(alloc: Global, tasks: &[Task]) -> Result<MemFolder, Memory> {
 /// A record of the run, by its log and its place there.
 #[derive(Drop)]
 struct Node<'a> {
+    /// The number of its task's row.
+    row: u32,
     steps: &'a [Step],
     index: usize,
     record: Rec,
@@ -193,12 +207,13 @@ struct Node<'a> {
 }
 
 /// The records of one task.
-fn add_nodes<'a>(nodes: &mut Vec<Node<'a>>, task: &'a Task) -> Result<(), AllocError> {
+fn add_nodes<'a>(nodes: &mut Vec<Node<'a>>, row: u32, task: &'a Task) -> Result<(), AllocError> {
     let mut regions: u32 = 0;
     let mut barriers: u32 = 0;
     let mut held = 0;
     for (index, record) in task.records.iter().enumerate() {
         nodes.push(Node {
+            row,
             steps: &task.steps,
             index,
             record: *record,
@@ -307,25 +322,61 @@ fn conflict(x: &Node<'_>, y: &Node<'_>) -> bool {
     one_writes && shares && x.held & y.held == 0
 }
 
-/// The lines of the accesses that race, the smaller first.
-fn race_pairs(alloc: Global, nodes: &[Node<'_>]) -> Result<Vec<(u32, u32)>, AllocError> {
+/// For each record which records are reached along edges from it.
+fn all_reached(alloc: Global, nodes: &[Node<'_>]) -> Result<Vec<Vec<bool>>, AllocError> {
     let edges = edges(alloc, nodes)?;
     let mut after = Vec::new(alloc);
     for number in 0..nodes.len() {
         after.push(reached(alloc, &edges, number)?)?;
     }
-    let mut pairs = Vec::new(alloc);
+    Ok(after)
+}
+
+/// The smaller line of two records, and the greater one.
+fn lines_of(x: &Node<'_>, y: &Node<'_>) -> (u32, u32) {
+    (x.record.2.min(y.record.2), x.record.2.max(y.record.2))
+}
+
+/// The record's number in its log.
+fn number_of(x: &Node<'_>) -> u32 {
+    x.index.wrapping_add(1) as u32
+}
+
+/// Two accesses that race, by row and number, and the first byte that they have in common.
+fn race_of(x: &Node<'_>, y: &Node<'_>) -> RacePair {
+    RacePair {
+        first_row: x.row,
+        first: number_of(x),
+        second_row: y.row,
+        second: number_of(y),
+        byte: x.record.3.max(y.record.3),
+    }
+}
+
+/// Two accesses that race, with their lines, the smaller first.
+type Race = ((u32, u32), RacePair);
+
+/// The accesses that race: in order of the first one, and then of the second.
+fn races(alloc: Global, nodes: &[Node<'_>]) -> Result<Vec<Race>, AllocError> {
+    let after = all_reached(alloc, nodes)?;
+    let mut found = Vec::new(alloc);
     for (x, (one, after_one)) in nodes.iter().zip(after.iter()).enumerate() {
         for (y, (other, after_other)) in nodes.iter().zip(after.iter()).enumerate() {
             let is_before = after_one.get(y).copied().unwrap_or(true);
             let is_after = after_other.get(x).copied().unwrap_or(true);
             if x < y && conflict(one, other) && !is_before && !is_after {
-                pairs.push((
-                    one.record.2.min(other.record.2),
-                    one.record.2.max(other.record.2),
-                ))?;
+                found.push((lines_of(one, other), race_of(one, other)))?;
             }
         }
+    }
+    Ok(found)
+}
+
+/// The lines of the accesses that race, the smaller first.
+fn race_pairs(alloc: Global, nodes: &[Node<'_>]) -> Result<Vec<(u32, u32)>, AllocError> {
+    let mut pairs = Vec::new(alloc);
+    for (lines, _) in races(alloc, nodes)?.iter() {
+        pairs.push(*lines)?;
     }
     pairs.sort()?;
     Ok(pairs)
@@ -360,8 +411,10 @@ fn segments(tasks: &[Task]) -> usize {
 /// The records of the run.
 fn nodes_of(alloc: Global, tasks: &[Task]) -> Result<Vec<Node<'_>>, AllocError> {
     let mut nodes = Vec::new(alloc);
+    let mut row: u32 = 0;
     for task in tasks {
-        add_nodes(&mut nodes, task)?;
+        row = row.wrapping_add(1);
+        add_nodes(&mut nodes, row, task)?;
     }
     Ok(nodes)
 }
@@ -377,7 +430,7 @@ fn due_report(alloc: Global, tasks: &[Task]) -> Result<String, AllocError> {
 fn races_are_those_of_a_search_of_the_graph(rt: HostRuntime) -> Result<(), Fail> {
     let alloc = rt.alloc();
     for state in [3, 6] {
-        let tasks = run(alloc, state)?;
+        let tasks = run(alloc, state, u32::MAX, &[3, 3, 1, 1])?;
         assert!(rt; segments(&tasks) >= 300);
         assert!(rt;
             tasks
@@ -387,6 +440,83 @@ fn races_are_those_of_a_search_of_the_graph(rt: HostRuntime) -> Result<(), Fail>
         let text = due_report(alloc, &tasks)?;
         let mut folder = folder_of(alloc, &tasks)?;
         each_answers(&rt, alloc, &mut folder, RACES, &text)?;
+    }
+    Ok(())
+}
+
+/// The byte at which two records are confirmed to race.
+fn confirmed(
+    alloc: Global,
+    folder: &mut MemFolder,
+    x: &Node<'_>,
+    y: &Node<'_>,
+) -> Option<Option<u64>> {
+    confirm(alloc, folder, "d", x.row, number_of(x), y.row, number_of(y)).ok()
+}
+
+/// The byte at which these two are to race: the races are in order of their first records, and then of the second ones.
+fn due_byte(found: &[Race], x: &Node<'_>, y: &Node<'_>) -> Option<u64> {
+    for (_, pair) in found {
+        let is_it = pair.first_row == x.row
+            && pair.first == number_of(x)
+            && pair.second_row == y.row
+            && pair.second == number_of(y);
+        if is_it {
+            return Some(pair.byte);
+        }
+    }
+    None
+}
+
+/// How many of each two records of the run are confirmed otherwise than the search says, in either order.
+fn others(alloc: Global, folder: &mut MemFolder, nodes: &[Node<'_>], found: &[Race]) -> usize {
+    let mut others: usize = 0;
+    for x in nodes {
+        for y in nodes {
+            let due = due_byte(found, x, y).or(due_byte(found, y, x));
+            if confirmed(alloc, folder, x, y) != Some(due) {
+                others = others.wrapping_add(1);
+            }
+        }
+    }
+    others
+}
+
+/// The first of the races in these lines.
+fn least(found: &[Race], lines: (u32, u32)) -> Option<RacePair> {
+    for (beside, pair) in found {
+        if *beside == lines {
+            return Some(*pair);
+        }
+    }
+    None
+}
+
+/// How many pairs of lines have another least race than the search says.
+fn other_least(alloc: Global, folder: &mut MemFolder, found: &[Race]) -> usize {
+    let mut others: usize = 0;
+    for low in 99..104 {
+        for high in low..104 {
+            let is_due = match explain(alloc, folder, "d", low, high) {
+                Ok(pair) => pair == least(found, (low, high)),
+                Err(_) => false,
+            };
+            others = others.wrapping_add(usize::from(!is_due));
+        }
+    }
+    others
+}
+
+#[test]
+fn witnesses_are_those_of_a_search_of_the_graph(rt: HostRuntime) -> Result<(), Fail> {
+    let alloc = rt.alloc();
+    for state in 1..11 {
+        let tasks = run(alloc, state, 3, &[2, 1, 0, 0])?;
+        let nodes = nodes_of(alloc, &tasks)?;
+        let found = races(alloc, &nodes)?;
+        let mut folder = folder_of(alloc, &tasks)?;
+        assert_eq!(rt; others(alloc, &mut folder, &nodes, &found), 0);
+        assert_eq!(rt; other_least(alloc, &mut folder, &found), 0);
     }
     Ok(())
 }

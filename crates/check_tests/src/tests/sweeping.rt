@@ -2,12 +2,13 @@
 
 use asking::{Case, EMPTY, END, asked, folder_of, region, store};
 use command_answer::{RACES, READ_FAULT};
+use memory_environment::MemOut;
 use std::alloc::Global;
 use std::sync::Wait;
 use std::sync::atomic::{AtomicU64, Ordering};
 use std::test::Fail;
 use std::thread::Threads;
-use sw_base::{Gate, MemOut, Memory};
+use sw_base::{Gate, Memory};
 
 // How many workers came.
 #[derive(Drop)]

@@ -2,9 +2,9 @@
 
 use asking::{BARRIER, Case, EMPTY, END, ROOT, Rec, answers, folder_of, region, store};
 use command_answer::FOLDER_REFUSED;
+use memory_environment::MemFolder;
 use std::alloc::{AllocError, Global};
 use std::test::Fail;
-use sw_base::MemFolder;
 
 const CHECK: &[&str] = &["check", "d", "2"];
 

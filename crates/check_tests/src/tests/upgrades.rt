@@ -3,12 +3,13 @@
 use asking::{BARRIER, Case, EMPTY, END, ROOT, all_pass, folder_of, holds, printed, store};
 use command_answer::{DONE, FOLDER_REFUSED, INDEX_THERE, RACES};
 use host_environment::HostFolder;
+use memory_environment::MemFolder;
 use std::alloc::Global;
 use std::sync::Wait;
 use std::test::Fail;
 use std::thread::Threads;
 use std::{env, fs, process};
-use sw_base::{Folder, MemFolder};
+use sw_base::Folder;
 
 // A lane that adds 1 to each of four elements, from this one on, of every second.
 macro_rules! adding {

@@ -2,8 +2,8 @@
 
 use asking::{BARRIER, Case, EMPTY, END, ROOT, all_pass, answers, store};
 use command_answer::{DONE, FOLDER_REFUSED, RACES};
+use memory_environment::MemFolder;
 use std::test::Fail;
-use sw_base::MemFolder;
 
 // A read of eight bytes by line 3.
 macro_rules! read {

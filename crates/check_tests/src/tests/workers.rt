@@ -7,12 +7,13 @@ use asking::{
 };
 use command_answer::{DONE, RACES};
 use meeting_gate::MeetingGate;
+use memory_environment::{MemFolder, MemOut};
 use std::alloc::{AllocError, Global};
 use std::process::Abort;
 use std::sync::Wait;
 use std::test::Fail;
 use std::thread::Threads;
-use sw_base::{MemFolder, MemOut, Memory};
+use sw_base::Memory;
 
 /// Fails where some number of workers is answered otherwise.
 pub fn each_answers<R: Threads + Wait + Sync>(

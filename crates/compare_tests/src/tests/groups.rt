@@ -4,12 +4,13 @@ ghost use Rattle.std.specs.Prelude.{◌≡◌, ◌<◌, length};
 use interval_tree::Steps;
 use log_segment::Segment;
 use log_walk::walk;
+use memory_environment::MemFolder;
 use segment_groups::{Groups, Partner};
 use std::alloc::{AllocError, Global};
 use std::marker::Brand;
 use std::sync::ledger::{Blank, Ledger};
 use std::test::Fail;
-use sw_base::{INDEX_HEADER, LOG_HEADER, MemFolder, Memory};
+use sw_base::{INDEX_HEADER, LOG_HEADER, Memory};
 
 // A region, a lane and a span; a kind of a record and its value.
 type Step = (u8, u8, u8);

@@ -3,8 +3,9 @@
 use command_answer::{
     DONE, KERNEL_REFUSED, NO_MEMORY, RACES, WRITE_FAULT, failure, print, print_made,
 };
+use memory_environment::MemOut;
 use std::alloc::Global;
-use sw_base::{MemOut, Memory, Trouble};
+use sw_base::{Memory, Trouble};
 
 #[test]
 fn each_trouble_has_its_status(rt: HostRuntime) {

@@ -8,8 +8,9 @@ use log_format::{FORMAT, Format};
 use log_index::{
     IndexAnswer, IndexWhy, Row, read_index, read_index_as, read_index_old, write_index,
 };
+use memory_environment::{MemFolder, ShortReads};
 use std::alloc::{AllocError, Global};
-use sw_base::{INDEX_HEADER, MemFolder, Memory, OLD_INDEX_HEADER, ShortReads};
+use sw_base::{INDEX_HEADER, Memory, OLD_INDEX_HEADER};
 
 // A row by hand: its depth, a field that should be 0, its first two steps as region, lane and span, and its records.
 #[derive(Clone, Copy)]

@@ -3,8 +3,9 @@
 use log_format::{Kind, Record, encode};
 use log_index::Row;
 use log_listing::{Unlisted, list};
+use memory_environment::{MemFolder, MemOut, ShortReads};
 use std::alloc::{AllocError, Global};
-use sw_base::{Folder, LOG_HEADER, MemFolder, MemOut, Memory, Path, ShortReads};
+use sw_base::{Folder, LOG_HEADER, Memory, Path};
 
 // A region of two lanes, then the end.
 const ROOT: [Record; 2] = [

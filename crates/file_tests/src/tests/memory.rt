@@ -1,13 +1,14 @@
 //! Worked names, and each call of the versions in memory: with ample memory, and failing.
 ghost use Rattle.std.specs.Prelude.{◌≡◌, [], IfOk};
-ghost use Rattle.sw_base.specs.MemLog.{path_of};
+ghost use Rattle.memory_environment.specs.MemLog.{path_of};
 
 use crate::tests::support::folder_of;
+use memory_environment::{MemFolder, MemLog, MemOut};
 use std::alloc::Global;
 use std::cmp::Ordering;
 use sw_base::{
-    Folder, Gate, INDEX_HEADER, LOG_HEADER, Log, MemFolder, MemLog, MemOut, Memory, NoGate,
-    OLD_INDEX_HEADER, OLD_LOG_HEADER, Out, Path, Step, Trouble, index_name, read_file,
+    Folder, Gate, INDEX_HEADER, LOG_HEADER, Log, Memory, NoGate, OLD_INDEX_HEADER, OLD_LOG_HEADER,
+    Out, Path, Step, Trouble, index_name, read_file,
 };
 
 // Whether the name was made, and is this one.

@@ -3,8 +3,9 @@
 use crate::tests::support::folder_of;
 use log_format::{FORMAT, Kind, Record, encode};
 use log_reader::LogReader;
+use memory_environment::{MemFolder, ShortReads};
 use std::alloc::{AllocError, Global};
-use sw_base::{Folder, LOG_HEADER, MemFolder, Memory, Path, ShortReads, Trouble};
+use sw_base::{Folder, LOG_HEADER, Memory, Path, Trouble};
 
 fn record(kind: Kind, line: u32) -> Record {
     Record {

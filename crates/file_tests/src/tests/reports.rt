@@ -1,9 +1,10 @@
 //! The report of the pairs that race: its lines, each of which is one write.
 
+use memory_environment::MemOut;
 use race_report::report;
 use std::alloc::{AllocError, Global};
 use std::collections::BTreeSet;
-use sw_base::{MemOut, Memory, Trouble};
+use sw_base::{Memory, Trouble};
 
 fn three_pairs(alloc: Global) -> Result<BTreeSet<(u32, u32)>, AllocError> {
     let mut pairs = BTreeSet::new(alloc);

@@ -1,7 +1,8 @@
 //! Folders in memory.
 
+use memory_environment::MemFolder;
 use std::alloc::Global;
-use sw_base::{MemFolder, Memory};
+use sw_base::Memory;
 
 /// A folder in which the name holds these bytes.
 pub(crate) fn folder_of(alloc: Global, name: &str, bytes: &[u8]) -> Result<MemFolder, Memory> {

@@ -2,8 +2,9 @@
 ghost use Rattle.std.specs.Prelude.{◌≡◌, ◌+◌, ◌<◌, ◌≤◌};
 
 use crate::tests::support::folder_of;
+use memory_environment::ShortReads;
 use std::alloc::Global;
-use sw_base::{Folder, ShortReads, Trouble, Window};
+use sw_base::{Folder, Trouble, Window};
 
 // Whether these bytes are ahead.
 fn has(window: &Window, ahead: &[u8]) -> bool {

@@ -1,9 +1,10 @@
 //! A generated run: how its records are spelled, and which logs are there after a call that failed.
 
 use generated_run::{accesses, generate, segments};
+use memory_environment::MemFolder;
 use std::alloc::Global;
 use std::test::Fail;
-use sw_base::{MemFolder, Memory, Trouble};
+use sw_base::{Memory, Trouble};
 
 const READ: &[u8] = &[
     1, 8, 0, 1, 0, 0, 0, 30, 0, 0, 0, 0, 0, 0, 16, 24, 0, 0, 0, 0, 0, 0, 0, 0,

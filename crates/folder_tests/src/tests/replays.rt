@@ -6,9 +6,10 @@ use kernel_reader::read_kernel;
 use kernel_syntax::{Kernel, Stmt, Team};
 use log_format::{Kind, Record, encode};
 use log_replay::{Stray, follow};
+use memory_environment::MemFolder;
 use std::alloc::Global;
 use std::test::Fail;
-use sw_base::{LOG_HEADER, MemFolder, Memory, Path};
+use sw_base::{LOG_HEADER, Memory, Path};
 
 // The team of the region that `main` begins with, or else that of `main`.
 fn first_team(kernel: &Kernel) -> &Team

@@ -3,10 +3,11 @@
 use generated_run::generate;
 use log_upgrade::{UpgradeFault, upgrade};
 use log_walk::{WalkFault, walk, walk_old};
+use memory_environment::MemFolder;
 use race_model::IndexWhy;
 use std::alloc::Global;
 use std::test::Fail;
-use sw_base::{Folder, MemFolder, OLD_INDEX_HEADER, OLD_LOG_HEADER, index_name};
+use sw_base::{Folder, OLD_INDEX_HEADER, OLD_LOG_HEADER, index_name};
 
 // The files of a generated run.
 const FILES: &[&str] = &[

@@ -1,11 +1,12 @@
 //! Folders by hand with their first bad places, and each public call with ample memory.
 
 use log_walk::{RecordWhy, Segment, Sweep, WalkFault, walk};
+use memory_environment::{MemFolder, ShortReads};
 use race_model::IndexWhy;
 use span_label::Triple;
 use std::alloc::{AllocError, Global};
 use std::test::Fail;
-use sw_base::{Folder, INDEX_HEADER, LOG_HEADER, MemFolder, Memory, Path, ShortReads};
+use sw_base::{Folder, INDEX_HEADER, LOG_HEADER, Memory, Path};
 
 // A record: kind, size, line, address and value.
 type Rec = (u8, u8, u8, u64, u8);

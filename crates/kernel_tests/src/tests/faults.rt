@@ -222,7 +222,7 @@ const EXPLAINED: Calls<'static> = Calls {
         )],
         ..RACING
     },
-    reads: 24,
+    reads: 23,
     ..NONE
 };
 

@@ -5,11 +5,11 @@ use asking::{
     region, store,
 };
 use command_answer::{DIFFERS, DONE, FOLDER_REFUSED, KERNEL_REFUSED, USAGE};
+use memory_environment::MemFolder;
 use std::alloc::Global;
 use std::sync::Wait;
 use std::test::Fail;
 use std::thread::Threads;
-use sw_base::MemFolder;
 
 // Each lane adds 1 to every other element.
 const COUNT: &str =

@@ -4,11 +4,12 @@ use asking::{Case, EMPTY, RUN, SHOW, USAGE_LINE, all_pass, folder_of, holds, pas
 use command_answer::{
     DONE, INDEX_THERE, KERNEL_REFUSED, KERNEL_STOPPED, RACES, USAGE, WRITE_FAULT,
 };
+use memory_environment::MemFolder;
 use std::alloc::{AllocError, Global};
 use std::sync::Wait;
 use std::test::Fail;
 use std::thread::{Builder, Threads};
-use sw_base::{MemFolder, Memory};
+use sw_base::Memory;
 use top_call::STACK;
 
 // Each lane adds 1 to every other element.

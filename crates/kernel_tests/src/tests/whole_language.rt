@@ -4,11 +4,11 @@
 use super::runs::left_by;
 use asking::{Case, EMPTY, RUN, SHOW, Whole, all_pass, all_run, holds, printed};
 use command_answer::{DIFFERS, DONE, RACES};
+use memory_environment::MemFolder;
 use std::alloc::Global;
 use std::sync::Wait;
 use std::test::Fail;
 use std::thread::Threads;
-use sw_base::MemFolder;
 
 const NO_RACE: &str = "races 0\n";
 

@@ -7,10 +7,10 @@ use crate::tests::support::{buffer, is_log_of, log_of, step};
 use kernel_syntax::Array;
 use lane_runner::{Track, World};
 use log_format::{Kind, Record};
+use memory_environment::MemLog;
 use shared_words::{ChunkHand, Chunks, Hand, Words};
 use std::alloc::Global;
 use std::sync::Wait;
-use sw_base::MemLog;
 
 // What a lane with this hand leaves that takes mutex 1, and stops with it.
 fn stopped<R: Wait>(

@@ -14,10 +14,11 @@ use crate::tests::support::{buffer_failing, is_log_of, log_of, without_memory};
 use kernel_syntax::{Array, Name, Stmt};
 use lane_runner::{Frame, Halt, Locals, Track, World};
 use log_format::{Kind, Record};
+use memory_environment::MemLog;
 use shared_words::{ChunkHand, Chunks, Words};
 use std::alloc::Global;
 use std::sync::Wait;
-use sw_base::{MemLog, Trouble};
+use sw_base::Trouble;
 
 /// How many bytes the elements have, which lane it is, whether another hand has drawn a number, which call on its log fails, and what the
 /// first word holds.

@@ -7,9 +7,10 @@ use kernel_model::Item;
 use kernel_syntax::{Array, Team};
 use lane_runner::{Frame, Halt, Locals, Stop, Track, World};
 use log_format::{Kind, Record};
+use memory_environment::MemLog;
 use shared_words::{Chunks, Hand, Words};
 use std::alloc::Global;
-use sw_base::{ClosedLog, MemLog, Path, Trouble};
+use sw_base::{ClosedLog, Path, Trouble};
 
 const FULL: u32 = 4_194_304;
 

@@ -8,15 +8,16 @@ ghost use Rattle.kernel_model.specs.Phases.{part_of_stmt};
 ghost use Rattle.lane_runner.specs.Alone.{IsAlone};
 ghost use Rattle.lane_runner.specs.Phase.{IsOfTeam};
 ghost use Rattle.sw_base.specs.Environment.{empty_text};
-ghost use Rattle.sw_base.specs.MemLog.{path_of, text_of, faults_of};
+ghost use Rattle.memory_environment.specs.MemLog.{path_of, text_of, faults_of};
 
 use event_buffer::Buffer;
 use kernel_syntax::{Body, Expr, Stmt, Team};
 use lane_runner::{Locals, Stop, Track};
 use log_format::{Kind, Record, encode};
+use memory_environment::{MemFolder, MemLog};
 use shared_words::Hand;
 use std::alloc::Global;
-use sw_base::{ClosedLog, Folder, LOG_HEADER, MemFolder, MemLog, Path, Trouble};
+use sw_base::{ClosedLog, Folder, LOG_HEADER, Path, Trouble};
 
 /// The record of a step on a mutex.
 pub(crate) fn step(kind: Kind, mutex: u64, line: u32) -> Record {

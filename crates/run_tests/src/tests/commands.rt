@@ -1,12 +1,13 @@
 //! What the command `run` answers and prints, and what it leaves in the folder.
 
 use command_answer::{DONE, INDEX_THERE, KERNEL_STOPPED};
+use memory_environment::{MemFolder, MemOut};
 use run_command::{print_outcome, run};
 use std::alloc::Global;
 use std::sync::Wait;
 use std::test::Fail;
 use std::thread::Threads;
-use sw_base::{MemFolder, MemOut, Memory, NoGate};
+use sw_base::{Memory, NoGate};
 
 // One lane stores once.
 const STORE: &str = "array a i64 1\nmain { parallel 1 {\nfor i in 0 .. 1 { a[0] = 7 }\n} }\n";

@@ -4,11 +4,12 @@ ghost use Rattle.region_runner.specs.Answer.{IsBufferSize};
 
 use crate::tests::support::{are_listed, finished, has_failed, is_stopped_so, run_with, stopped};
 use lane_runner::Stop;
+use memory_environment::MemLog;
 use std::alloc::Global;
 use std::sync::Wait;
 use std::test::Fail;
 use std::thread::Threads;
-use sw_base::{ClosedLog, MemLog, NoGate, Path};
+use sw_base::{ClosedLog, NoGate, Path};
 
 // Lane 1 divides by 0, lane 2 leaves the array, and lanes 0 and 3 wait for them. No lane stores in the second phase.
 const TWO_STOP: &str = "array a i64 4

@@ -9,12 +9,13 @@ use kernel_syntax::Kernel;
 use lane_runner::Stop;
 use log_index::Row;
 use log_listing::list;
+use memory_environment::{MemFolder, MemLog, MemOut};
 use region_runner::{Finished, Stopped, run_kernel};
 use std::alloc::Global;
 use std::sync::Wait;
 use std::test::Fail;
 use std::thread::Threads;
-use sw_base::{ClosedLog, Folder, Gate, MemFolder, MemLog, MemOut, Memory, NoGate, Path, Trouble};
+use sw_base::{ClosedLog, Folder, Gate, Memory, NoGate, Path, Trouble};
 
 /// What the run of a kernel answers.
 pub(crate) type Ran = Result<Finished<MemLog>, Stopped<MemLog>>;

@@ -4,12 +4,13 @@ ghost use Rattle.region_runner.specs.Answer.{IsBufferSize};
 
 use crate::tests::support::{finished, has_failed, is_stopped_so, run_with, stopped};
 use lane_runner::Stop;
+use memory_environment::MemLog;
 use std::alloc::Global;
 use std::sync::Wait;
 use std::sync::atomic::{AtomicU64, Ordering};
 use std::test::Fail;
 use std::thread::Threads;
-use sw_base::{ClosedLog, Gate, MemLog, Memory, NoGate, Path, Trouble};
+use sw_base::{ClosedLog, Gate, Memory, NoGate, Path, Trouble};
 
 // Each of two lanes adds 1 to every other element.
 const COUNTING: &str = "array a i64 8

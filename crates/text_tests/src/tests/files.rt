@@ -2,9 +2,10 @@
 
 use command_answer::{KERNEL_REFUSED, READ_FAULT};
 use kernel_file::{read_kernel_file, refuse_kernel};
+use memory_environment::{MemFolder, MemOut};
 use std::alloc::Global;
 use std::test::Fail;
-use sw_base::{MemFolder, MemOut, Memory};
+use sw_base::Memory;
 
 /// The text of the file, if there is one, and which calls on the folder fail; and how many arrays the kernel has, or the status and what
 /// is printed.

@@ -1,0 +1,4 @@
+pub mod Prefixes
+pub mod HeldFiles
+pub mod Planned
+pub mod SamePath

@@ -1,0 +1,5 @@
+pub mod InMemory
+pub mod MemFolder
+pub mod MemLog
+pub mod MemOut
+pub mod Plans

@@ -1,6 +1,0 @@
-use Rattle.sw_base.proofs.Prefixes.{leaves_prefix_half}
-use Rattle.sw_base.proofs.in_memory.folder.MemFolder.tear_file.Goals as goal
-
-pub returns-clause-torn : goal.returns-clause-torn
-returns-clause-torn c =
-    leaves_prefix_half c.hold.result _ _ _ _ _ _ _ c.hold.ensures.ok c.hold.ensures.err c.hold.ensures.same_sealed
