@@ -12,42 +12,42 @@ use std::path::Path;
 use std::process::Command;
 use std::{env, fs, process};
 
-const INDEX: &[u8; 8] = b"SWIDX002";
+pub const INDEX: &[u8; 8] = b"SWIDX002";
 const OLD_INDEX: &[u8; 8] = b"SWIDX001";
-const LOG: &[u8; 8] = b"SWLOG002";
+pub const LOG: &[u8; 8] = b"SWLOG002";
 const ROWS: usize = 65_536;
 const RECORDS: u64 = 4_194_304;
 const SEGMENTS: usize = 65_536;
 
-type Step = (u32, u16, u16);
-type Files = HashMap<String, Vec<u8>>;
+pub type Step = (u32, u16, u16);
+pub type Files = HashMap<String, Vec<u8>>;
 
 #[derive(Clone, Copy, PartialEq, Eq, Debug)]
-struct Record {
-    kind: u8,
-    size: u8,
-    site: u16,
-    line: u32,
-    addr: u64,
-    value: u64,
+pub struct Record {
+    pub kind: u8,
+    pub size: u8,
+    pub site: u16,
+    pub line: u32,
+    pub addr: u64,
+    pub value: u64,
 }
 
-const READ: u8 = 1;
-const WRITE: u8 = 2;
-const LOCK: u8 = 3;
-const UNLOCK: u8 = 4;
-const BARRIER: u8 = 5;
-const REGION: u8 = 6;
-const CHUNK: u8 = 7;
-const END: u8 = 8;
-const UPDATE: u8 = 9;
+pub const READ: u8 = 1;
+pub const WRITE: u8 = 2;
+pub const LOCK: u8 = 3;
+pub const UNLOCK: u8 = 4;
+pub const BARRIER: u8 = 5;
+pub const REGION: u8 = 6;
+pub const CHUNK: u8 = 7;
+pub const END: u8 = 8;
+pub const UPDATE: u8 = 9;
 
 impl Record {
-    fn is_access(&self) -> bool {
+    pub fn is_access(&self) -> bool {
         matches!(self.kind, READ | WRITE | UPDATE)
     }
 
-    fn bytes(&self) -> Vec<u8> {
+    pub fn bytes(&self) -> Vec<u8> {
         let mut bytes = vec![self.kind, self.size];
         bytes.extend(self.site.to_be_bytes());
         bytes.extend(self.line.to_be_bytes());
@@ -61,7 +61,7 @@ fn number(bytes: &[u8]) -> u64 {
     bytes.iter().fold(0, |number, byte| number << 8 | u64::from(*byte))
 }
 
-fn name_of(path: &[Step]) -> String {
+pub fn name_of(path: &[Step]) -> String {
     let steps: String = path.iter().map(|(region, lane, _)| format!("-{region}.{lane}")).collect();
     format!("t{steps}.swl")
 }
@@ -146,7 +146,7 @@ fn read_index(bytes: &[u8]) -> Result<Vec<Row>, (usize, &'static str)> {
 
 // The logs.
 
-fn decode(bytes: &[u8]) -> Result<Record, &'static str> {
+pub fn decode(bytes: &[u8]) -> Result<Record, &'static str> {
     let record = Record {
         kind: bytes[0],
         size: bytes[1],
@@ -231,7 +231,7 @@ fn record_fault(record: &Record, before: &[Record], row: &Row, spans: &[u64], fi
     tests.iter().find(|(_, broken)| *broken).map(|(why, _)| *why)
 }
 
-type Logs = Vec<(Vec<Step>, Vec<Record>)>;
+pub type Logs = Vec<(Vec<Step>, Vec<Record>)>;
 
 fn read_logs(files: &Files, rows: &[Row]) -> Result<Logs, String> {
     let (mut logs, mut segments) = (Logs::new(), 0);
@@ -280,7 +280,7 @@ fn read_logs(files: &Files, rows: &[Row]) -> Result<Logs, String> {
     Ok(logs)
 }
 
-fn read_folder(files: &Files) -> Result<Logs, String> {
+pub fn read_folder(files: &Files) -> Result<Logs, String> {
     let Some(index) = files.get("index.swi") else {
         return Err("no index\n".to_string());
     };
@@ -395,7 +395,7 @@ fn race_pairs(logs: &Logs) -> BTreeSet<(u32, u32)> {
 
 // What is printed.
 
-fn check(files: &Files) -> (i32, String) {
+pub fn check(files: &Files) -> (i32, String) {
     let logs = match read_folder(files) {
         Ok(logs) => logs,
         Err(text) => return (4, text),
@@ -409,7 +409,7 @@ fn check(files: &Files) -> (i32, String) {
     (i32::from(!pairs.is_empty()), text)
 }
 
-fn explain(files: &Files, low: u32, high: u32) -> (i32, String) {
+pub fn explain(files: &Files, low: u32, high: u32) -> (i32, String) {
     let logs = match read_folder(files) {
         Ok(logs) => logs,
         Err(text) => return (4, text),
@@ -427,7 +427,7 @@ fn explain(files: &Files, low: u32, high: u32) -> (i32, String) {
     (0, format!("no race {low} {high}\n"))
 }
 
-fn confirm(files: &Files, first: (usize, usize), second: (usize, usize)) -> (i32, String) {
+pub fn confirm(files: &Files, first: (usize, usize), second: (usize, usize)) -> (i32, String) {
     let logs = match read_folder(files) {
         Ok(logs) => logs,
         Err(text) => return (4, text),
@@ -456,7 +456,7 @@ fn line_of(record: &Record) -> String {
     }
 }
 
-fn show(files: &Files) -> (i32, String) {
+pub fn show(files: &Files) -> (i32, String) {
     let logs = match read_folder(files) {
         Ok(logs) => logs,
         Err(text) => return (4, text),
@@ -473,21 +473,22 @@ fn show(files: &Files) -> (i32, String) {
 
 // Random folders.
 
-struct Random(u64);
+pub struct Random(u64);
 
 impl Random {
-    fn new(seed: u64) -> Self {
+    pub fn new(seed: u64) -> Self {
         Random(seed.wrapping_mul(0x9e37_79b9_7f4a_7c15) | 1)
     }
 
-    fn below(&mut self, bound: u64) -> u64 {
+    /// A number below the bound; 0 where there is none.
+    pub fn below(&mut self, bound: u64) -> u64 {
         self.0 ^= self.0 << 13;
         self.0 ^= self.0 >> 7;
         self.0 ^= self.0 << 17;
-        self.0 % bound
+        self.0 % bound.max(1)
     }
 
-    fn is_one_in(&mut self, bound: u64) -> bool {
+    pub fn is_one_in(&mut self, bound: u64) -> bool {
         self.below(bound) == 0
     }
 }
@@ -538,7 +539,7 @@ fn task(random: &mut Random, path: &[Step], barriers: u64, logs: &mut Logs) {
     logs[place].1 = records;
 }
 
-fn row_bytes(path: &[Step], records: u64) -> Vec<u8> {
+pub fn row_bytes(path: &[Step], records: u64) -> Vec<u8> {
     let mut bytes = (path.len() as u32).to_be_bytes().to_vec();
     bytes.extend([0; 4]);
     for (region, lane, span) in path {
@@ -566,7 +567,7 @@ fn random_folder(random: &mut Random) -> Files {
     files
 }
 
-fn damage(random: &mut Random, files: &mut Files) {
+pub fn damage(random: &mut Random, files: &mut Files) {
     let mut names: Vec<String> = files.keys().cloned().collect();
     names.sort();
     let name = &names[random.below(names.len() as u64) as usize];
@@ -604,7 +605,7 @@ fn damage(random: &mut Random, files: &mut Files) {
 
 // The comparison.
 
-fn write_folder(place: &Path, files: &Files) {
+pub fn write_folder(place: &Path, files: &Files) {
     let _ = fs::remove_dir_all(place);
     fs::create_dir(place).unwrap();
     for (name, bytes) in files {
@@ -612,7 +613,7 @@ fn write_folder(place: &Path, files: &Files) {
     }
 }
 
-fn read_files(place: &Path) -> Files {
+pub fn read_files(place: &Path) -> Files {
     let mut files = Files::new();
     for entry in fs::read_dir(place).into_iter().flatten().flatten() {
         files.insert(entry.file_name().into_string().unwrap(), fs::read(entry.path()).unwrap());
@@ -620,7 +621,7 @@ fn read_files(place: &Path) -> Files {
     files
 }
 
-fn ask(sword: &str, words: &[&str]) -> (i32, String) {
+pub fn ask(sword: &str, words: &[&str]) -> (i32, String) {
     let output = Command::new(sword).args(words).output().unwrap();
     (output.status.code().unwrap_or(-1), String::from_utf8_lossy(&output.stdout).into_owned())
 }
