@@ -339,7 +339,10 @@ fn lines_of(x: &Node<'_>, y: &Node<'_>) -> (u32, u32) {
 
 /// The record's number in its log.
 fn number_of(x: &Node<'_>) -> u32 {
-    x.index.wrapping_add(1) as u32
+    match u32::try_from(x.index) {
+        Ok(index) => index.wrapping_add(1),
+        Err(_) => 0,
+    }
 }
 
 /// Two accesses that race, by row and number, and the first byte that they have in common.
