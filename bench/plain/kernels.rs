@@ -51,7 +51,7 @@ fn sums(kernel: &Kernel, logs: &Logs, memory: &BTreeMap<u64, i64>) -> String {
     let mut text = format!("tasks {}\nrecords {records}\n", logs.len());
     for (array, address) in kernel.arrays.iter().zip(kernel_traces::addresses(kernel)) {
         let end = address + array.count as u64 * u64::from(array.size);
-        let sum = memory.range(address..end).fold(0_i64, |sum, (_, value)| sum.wrapping_add(*value));
+        let sum: i128 = memory.range(address..end).map(|(_, value)| i128::from(*value)).sum();
         text.push_str(&format!("sum {} {sum}\n", array.name));
     }
     text
