@@ -1,0 +1,39 @@
+//! Lanes that count their phases.
+ghost use Rattle.std.specs.Prelude.{◌≡◌, ◌+◌, ◌-◌, ◌^◌, ◌<◌, ◌≤◌, All, length, IfSome};
+
+use std::alloc::Global;
+use std::marker::{Brand, Send};
+use std::sync::Wait;
+use std::thread::{Builder, Threads};
+use team_live::with_staying;
+
+/// Each lane of a team adds one in each phase. `None` where no memory is found, else each lane's number is that of the phases.
+pub fn counted<R: Threads + Wait + Copy + Send + 'static>(
+    rt: &R,
+    alloc: Global,
+    phases: usize,
+    lanes: Vec<u64>,
+) -> Option<Vec<u64>>
+    requires span { (1 ≤ length lanes.items) × (length lanes.items ≤ 64) }
+    requires zeros { All (λ lane. lane ≡ 0) lanes.items }
+    ensures count { IfSome result (λ after. length after.items ≡ length lanes.items) }
+    ensures counts { IfSome result (λ after. All (λ lane. lane ≡ phases) after.items) }
+{
+    let (_, counts, _) = with_staying::<Brand, R, (), u64, _, _, _, _, _>(
+        rt,
+        alloc,
+        phases,
+        (),
+        lanes,
+        &|number: usize, _index: usize, lane: &mut u64|
+            requires { (number < 2 ^ 64 - 1) × (lane.old ≡ number) }
+            ensures { lane.new ≡ number + 1 }
+        { *lane += 1 },
+        &|_index: usize| {},
+        &|_index: usize| Builder::new(),
+        &|_hand: &mut (), _lanes: &mut Vec<u64>| {},
+        &|_hand: &mut (), _lanes: &mut Vec<u64>| -> bool { true },
+    )
+    .ok()?;
+    Some(counts)
+}
