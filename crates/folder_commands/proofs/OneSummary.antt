@@ -12,7 +12,7 @@ use Rattle.race_model.specs.FirstBad.{segments_in}
 use Rattle.generated_run.specs.Generated.{accesses_in, generated}
 use Rattle.log_index.specs.Puts.{with_run}
 use Rattle.generated_run.proofs.Held.{generated_held}
-use Rattle.folder_commands.specs.Check.{AreFolderPairs}
+use Rattle.folder_races.specs.Pairs.{AreFolderPairs}
 use Rattle.folder_commands.specs.Gen.{AreGeneratedPairs, GenDue, HoldsRun, counts_text, summary_text}
 use Rattle.folder_commands.proofs.OneAnswer.{one_list}
 

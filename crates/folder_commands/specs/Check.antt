@@ -1,9 +1,9 @@
 -- What `check` answers: the first bad place of the folder, or the race pairs of the run that it holds.
-use Rattle.std.specs.Prelude.{◌≡◌, ℕ, List, [], ◌∷◌, Option}
+use Rattle.std.specs.Prelude.{◌≡◌, ℕ, List, [], ◌∷◌}
 use Rattle.log_format.specs.declared.format.Format.{Format}
 use Rattle.log_format.specs.declared.format.TheConstants.{FORMAT}
 use Rattle.sw_base.specs.declared.path.Step.{Step}
-use Rattle.sw_base.specs.Environment.{Files, Content, WhereTold}
+use Rattle.sw_base.specs.Environment.{Files}
 use Rattle.race_model.specs.BadPlace.{BadPlace, no_index, bad_row, missing_log, bad_record, too_many_segments}
 use Rattle.race_model.specs.FirstBad.{IsFirstBad, HoldsTrace}
 use Rattle.race_model.specs.WellFormed.{IsWellFormed}
@@ -49,10 +49,3 @@ pub record HasReport (trace : Trace) (status : ℕ) (text : List ℕ) : Type 0 w
   pub races : Lists (IsRacePair (logs_of trace)) pairs
   pub text_is : text ≡ report_text pairs
   pub status_is : status ≡ report_status pairs
-
--- the pairs are the race pairs of the run that the folder holds, where it tells what it holds
-pub record AreFolderPairs (told : Option Content) (dir : List ℕ) (pairs : List (ℕ × ℕ)) : Type 0 where
-  pub trace : Trace
-  pub holds : WhereTold told (λ c. HoldsTrace FORMAT c.held dir trace)
-  pub well_formed : WhereTold told (λ c. IsWellFormed FORMAT c.held dir)
-  pub races : Lists (IsRacePair (logs_of trace)) pairs

@@ -2,48 +2,16 @@
 ghost use Rattle.std.specs.Prelude.{◌≡◌, ◌≤◌, List, IfOk, IfErr, IsErrOf};
 ghost use Rattle.log_format.specs.declared.format.TheConstants.{FORMAT};
 ghost use Rattle.sw_base.specs.Environment.{Rose, WhereTold};
-ghost use Rattle.log_walk.specs.Walk.{TellsFirstBad};
 ghost use Rattle.command_answer.specs.Answer.{Answers};
 ghost use Rattle.command_answer.specs.declared.status.TheConstants.{USAGE, READ_FAULT, WRITE_FAULT};
-ghost use Rattle.folder_commands.specs.Check.{AreFolderPairs, FolderDue, HasReport};
+ghost use Rattle.folder_commands.specs.Check.{FolderDue, HasReport};
 
 use crate::printing::print_report;
 use crate::refusing::refuse;
-use log_walk::{Sweep, WalkFault};
-use pair_compare::{compare_all, unite};
+use folder_races::folder_pairs;
 use std::alloc::Global;
-use std::collections::BTreeSet;
 use std::thread::Threads;
 use sw_base::{Folder, Gate, Out};
-
-/// The race pairs of the folder's run, found one region of the root after another. Of a region's segments nothing is kept but
-/// its pairs.
-pub fn folder_pairs<R: Threads + Sync, F: Folder, G: Gate>(
-    rt: &R,
-    alloc: Global,
-    folder: &mut F,
-    gate: &G,
-    dir: &str,
-    workers: usize,
-) -> Result<BTreeSet<(u32, u32)>, WalkFault>
-    requires workers { (1 ≤ workers) × (workers ≤ 64) }
-    ensures pairs { IfOk result (λ pairs. AreFolderPairs (F.state folder.old).content dir.now pairs.keys) }
-    ensures refused { IfErr result (λ e. WhereTold (F.state folder.old).content (λ c. TellsFirstBad FORMAT c.held dir.now e)) }
-
-    ensures same { F.state folder.new ≡ F.state folder.old }
-    ensures later { F.read_faults folder.old ≤ F.read_faults folder.new }
-    ensures cause { IsErrOf result WalkFault.ReadFault → Rose (F.read_faults folder.old) (F.read_faults folder.new) }
-{
-    let mut pairs = BTreeSet::new(alloc);
-    let (mut sweep, _root) = Sweep::open(alloc, folder, dir)?;
-    'regions: while let Some(segments) = sweep.next(alloc, folder)? {
-        let found = compare_all(rt, alloc, &segments, workers, gate)?;
-        unite(&mut pairs, &found)?;
-    }
-    // That the keys of a set ascend is told by its length's contract.
-    let _length = pairs.len();
-    Ok(pairs)
-}
 
 /// Compares the accesses of a folder's logs, region by region, and reports the race pairs of its run.
 pub fn check<R: Threads + Sync, F: Folder, O: Out, G: Gate>(

@@ -7,9 +7,9 @@ ghost use Rattle.command_answer.specs.declared.status.TheConstants.{USAGE, READ_
 ghost use Rattle.folder_commands.specs.Check.{report_status};
 ghost use Rattle.folder_commands.specs.Gen.{AreGeneratedPairs, GenDue, HoldsRun, counts_text, summary_text};
 
-use crate::checking::folder_pairs;
 use crate::printing::print_report;
 use command_answer::{NO_MEMORY, failure};
+use folder_races::folder_pairs;
 use generated_run::{accesses, generate, segments};
 use memory_environment::MemFolder;
 use std::alloc::Global;

@@ -4,6 +4,7 @@ use Rattle.std.proofs.Common.{◌≡◌, refl, ap, ap₂, sym, ◌∙◌, subst,
 use Rattle.std.specs.Prelude.{◌&&◌, ◌||◌, ◌==◌, not}
 use Rattle.std.proofs.lemmas.List.{append-nil}
 use Rattle.std.proofs.lemmas.List.Folds.{list_any-append}
+use Rattle.step_history.proofs.Folds.{still_out}
 use Rattle.log_format.specs.declared.record.Record.{Record}
 use Rattle.log_format.specs.declared.record.Kind.{Kind}
 use Rattle.log_format.specs.declared.record.Kind.TheVariants as kind
@@ -53,12 +54,7 @@ out_more (c ∷ q) before xs out stays =
     ap₂ (λ (a b : Bool). a && not b)
     (list_any-append (λ (x : Item). name_eq x.name q && is_split c x.deed) before xs)
     (list_any-append (λ (x : Item). name_eq x.name q && is_home c x.deed) before xs ∙ ap (λ (b : Bool). came_home q c before || b) (stays c q refl))
-    ∙ at (was_split q c before) (came_home q c before) (was_split q c xs) out
-  where
-    at : (a b d : Bool) → (a && not b) ≡ true → ((a || d) && not (b || false)) ≡ true
-    at true false d is = refl
-    at true true d is = cc
-    at false b d is = cc
+    ∙ still_out (was_split q c before) (came_home q c before) (was_split q c xs) out
 
 ready_more : (name : Name) (k j : ℕ) (before xs : List Item) → Ready name k before → k ≤ j → Stays name xs → ((p : Name) (i : ℕ) → Later name j p i → came_home p i xs ≡ false)
     → Ready name j (before ++ xs)

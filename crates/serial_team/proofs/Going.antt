@@ -1,7 +1,6 @@
 -- How a task and the lanes of a team go on, piece by piece.
-use Rattle.std.proofs.Common.{◌≡◌, refl, ap, sym, ◌∙◌, subst, ℕ, zero, suc, ◌+◌, ◌<◌, List, [], ◌∷◌, ◌++◌, length, get_or, Result, Ok, Err, arith}
+use Rattle.std.proofs.Common.{◌≡◌, refl, ap, sym, ◌∙◌, subst, ℕ, zero, suc, ◌+◌, ◌<◌, ◌≤◌, List, [], ◌∷◌, length, get_or, Result, Ok, Err, arith}
 use Rattle.std.specs.Prelude.{IfOk, IsErr}
-use Rattle.std.specs.List.{flat_map}
 use Rattle.std.proofs.lemmas.List.Elements.{All-cons, All-head, All-tail}
 use Rattle.sw_base.specs.declared.path.Step.{Step}
 use Rattle.log_format.specs.declared.record.Kind.TheVariants as kind
@@ -11,25 +10,21 @@ use Rattle.kernel_model.specs.State.{event}
 use Rattle.kernel_model.specs.Value.{Site}
 use Rattle.history_model.specs.Work.{Work}
 use Rattle.serial_run.specs.Stepping.{Stand, Advances, Finishes}
-use Rattle.serial_team.specs.declared.member.Stage.{Stage}
 use Rattle.serial_run.specs.Placing.{ElementLayout}
 use Rattle.serial_team.specs.declared.member.Stage.TheVariants as stage
 use Rattle.serial_team.specs.declared.member.Member.{Member}
-use Rattle.serial_team.specs.Members.{all_idle, idle_member, Pool, pool_at, WholeLog, MemberValue, later, idle, path_in, logs_of_member, BeginTeam}
-use Rattle.serial_team.specs.Running.{LaneRuns, waits, ends, forks, TeamRuns, no_lane, lane, RanTo, GoesFrom, HaveArrays, RanBelow, past_region}
+use Rattle.serial_team.specs.Members.{all_idle, idle_member, Pool, pool_at, WholeLog, MemberValue, later, idle, path_in, BeginTeam}
+use Rattle.serial_team.specs.Running.{LaneRuns, waits, ends, forks, TeamRuns, no_lane, lane, RanTo, GoesFrom, HaveArrays, RanBelow, most_below, past_region}
 
 module _ (layout : ElementLayout) where
   -- a task stays where it runs
   pub lane_at : (path : List Step) (x : MemberValue) (work : Work) (y : MemberValue) → LaneRuns layout path x work y → y.stand.at ≡ x.stand.at
   lane_at _ _ _ _ (waits path x y line a) = a.at
   lane_at _ _ _ _ (ends path x y f) = f.at
-  lane_at _ _ _ _ (forks path x z y team xs ys p phases more a deep begin runs rest) =
+  lane_at _ _ _ _ (forks path x z y team xs ys p phases more a deep begin runs few rest) =
       lane_at path (past_region path x y ys p) more z rest ∙ a.at
 
   module _ (path : List Step) (x : MemberValue) where
-    pub goes_none : GoesFrom layout path x x
-    goes_none = record { at = refl; then' = λ z r. r }
-
     pub goes_more : (y z : MemberValue) → GoesFrom layout path x y → GoesFrom layout path y z → GoesFrom layout path x z
     goes_more y z one more = record { at = more.at ∙ one.at; then' = λ w r. one.then' w (more.then' w r) }
 
@@ -48,6 +43,7 @@ module _ (layout : ElementLayout) where
           runs =
               forks path x w s team below.region.before below.region.after (pool_at z.stand) below.region.ran.phases r.work a below.deep
               (subst (λ (l : List Array). BeginTeam l team s.slots below.region.before) (sym own) below.region.begin) below.region.ran.runs
+              (subst (λ (l : List WholeLog). length l ≤ most_below) below.region.logs below.few)
               (subst (λ (l : List WholeLog). LaneRuns layout path (later (record x { stand = s; forked = x.forked + 1; below = l }) (pool_at z.stand)) r.work w) below.region.logs
               (subst (λ (v : MemberValue). LaneRuns layout path v r.work w) below.is r.runs));
         };

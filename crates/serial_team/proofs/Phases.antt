@@ -1,6 +1,6 @@
 -- How the lanes of a team go on, phase by phase.
-use Rattle.std.proofs.Common.{◌≡◌, refl, ap, sym, ◌∙◌, subst, ℕ, ◌+◌, ◌<◌, ◌≤◌, List, [], ◌∷◌, ◌++◌, length, take, drop, set, get_or, append_assoc, arith}
-use Rattle.std.specs.Prelude.{All, map}
+use Rattle.std.proofs.Common.{◌≡◌, ap, sym, ◌∙◌, subst, ℕ, ◌+◌, ◌<◌, ◌≤◌, List, [], ◌∷◌, ◌++◌, length, take, drop, set, get_or, append_assoc, arith}
+use Rattle.std.specs.Prelude.{All}
 use Rattle.std.proofs.lemmas.List.{take_more_set, take_all, drop_more, drop_all, map-append, append-nil}
 use Rattle.sw_base.specs.declared.path.Step.{Step}
 use Rattle.kernel_syntax.specs.declared.syntax.Array.{Array}
@@ -8,7 +8,7 @@ use Rattle.serial_team.specs.declared.member.Member.{Member}
 use Rattle.serial_run.specs.Placing.{ElementLayout}
 use Rattle.serial_team.specs.declared.member.Stage.TheVariants as stage
 use Rattle.serial_team.specs.Members.{Pool, pool_at, MemberValue, later, idle, idle_member, all_idle, path_in}
-use Rattle.serial_team.specs.Running.{TeamRuns, no_lane, lane, PhasesRun, last, next, RanTo, RanPhase, RanPhases, HaveArrays}
+use Rattle.serial_team.specs.Running.{no_lane, lane, last, next, RanTo, RanPhase, RanPhases, HaveArrays}
 use Rattle.serial_team.proofs.Going.{team_at}
 
 -- the lanes came to there, and do from the first on what they do from there
@@ -17,9 +17,6 @@ pub record PhasesFrom (layout : ElementLayout) (arrays : List Array) (at : List 
   pub then' : (zs : List MemberValue) (r : Pool) → RanPhases layout at number ys q zs r → RanPhases layout at number xs p zs r
 
 module _ (layout : ElementLayout) (arrays : List Array) (at : List Step) (number : ℕ) (xs : List MemberValue) (p : Pool) where
-  pub phases_none : HaveArrays arrays xs → PhasesFrom layout arrays at number xs p xs p
-  phases_none have = record { have = have; then' = λ zs r ran. ran }
-
   module _ (ys zs : List MemberValue) (q r : Pool) (from : PhasesFrom layout arrays at number xs p ys q) (one : RanPhase layout at number ys q zs r) where
     pub phases_more : All (λ (z : MemberValue). z.stage ≡ stage.Waits) zs → PhasesFrom layout arrays at number xs p zs r
     phases_more wait = record {

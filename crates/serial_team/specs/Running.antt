@@ -1,6 +1,6 @@
 -- A serial run. A task goes on to its next barrier or its end, and a region that it forks runs before it goes on. In a phase the lanes of
 -- a team go on one after another, and the next phase begins once all have.
-use Rattle.std.specs.Prelude.{◌≡◌, ℕ, ◌+◌, List, [], ◌∷◌, ◌++◌, ◌<◌, All, length, slice_index, replicate, ℤ, pos, Option, Some, None}
+use Rattle.std.specs.Prelude.{◌≡◌, ℕ, ◌+◌, List, [], ◌∷◌, ◌++◌, ◌<◌, ◌≤◌, All, length, slice_index, replicate, ℤ, pos, Option, Some, None}
 use Rattle.std.specs.List.{flat_map}
 use Rattle.sw_base.specs.declared.path.Step.{Step}
 use Rattle.log_format.specs.declared.record.Record.{Record}
@@ -33,6 +33,10 @@ abbrev pub beside : List Work → TeamWork
 beside [] = NoWork
 beside (work ∷ works) = Beside work (beside works)
 
+-- the most tasks below one
+abbrev pub most_below : ℕ
+most_below = 65535
+
 -- a lane that stands there after the record of a region, once the region has run and its lanes stand so
 abbrev pub past_region : List Step → MemberValue → Stand → List MemberValue → Pool → MemberValue
 past_region path x y ys p = later (record x { stand = y; forked = x.forked + 1; below = x.below ++ flat_map (logs_of_member path x.forked) ys }) p
@@ -47,7 +51,7 @@ mutual
     forks : (path : List Step) (x z : MemberValue) (y : Stand) (team : TeamTree) (xs ys : List MemberValue) (p : Pool) (phases : Phases) (more : Work)
         → (a : Advances layout x.stand y (event kind.Region team.line 0 team.span ∷ []) (record { team = team; slots = y.slots } ∷ []))
         → length path < 4 → BeginTeam y.at.arrays team y.slots xs → PhasesRun layout path x.forked xs (pool_at y) phases ys p
-        → LaneRuns layout path (past_region path x y ys p) more z
+        → length (past_region path x y ys p).below ≤ most_below → LaneRuns layout path (past_region path x y ys p) more z
         → LaneRuns layout path x (put_all layout x.stand.progress.words a.makes.plain (Fork team.line team.span phases more)) z
 
   -- the lanes of the region of this number did these works, one after another
@@ -103,10 +107,11 @@ pub record RanRegion (layout : ElementLayout) (arrays : List Array) (team : Team
   pub ran : RanPhases layout at number before p after q
   pub logs : new ≡ old ++ flat_map (logs_of_member at number) after
 
--- a task that has put the record of a region let it run
+-- a task that has put the record of a region let it run, and no more tasks are below it than may be
 pub record RanBelow (layout : ElementLayout) (path : List Step) (team : TeamTree) (arrays : List Array) (x y : MemberValue) : Type 0 where
   pub logs : List WholeLog
   pub deep : length path < 4
+  pub few : length logs ≤ most_below
   pub region : RanRegion layout arrays team x.stand.slots path x.forked (pool_at x.stand) (pool_at y.stand) x.below logs
   pub is : y ≡ later (record x { forked = x.forked + 1; below = logs }) (pool_at y.stand)
 

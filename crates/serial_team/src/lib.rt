@@ -2,6 +2,8 @@
 //! another, each until its next barrier or its end.
 //!
 //! So of two records that happen in no order that of the smaller lane comes first, at the step at which the paths of their tasks part.
+//!
+//! Where a task stops, the lanes that come later in its phase still go on, and the first stop in the order of lanes is answered.
 #![tactic(auto)]
 
 mod member;

@@ -1,11 +1,12 @@
 //! A region, whose lanes go on one after another.
-ghost use Rattle.std.specs.Prelude.{◌≡◌, ◌+◌, ◌*◌, ◌<◌, ◌≤◌, ◌++◌, ℕ, [], map, length, IfOk, IsErr, OnOk, Some, None};
+ghost use Rattle.std.specs.Prelude.{◌≡◌, ◌+◌, ◌*◌, ◌<◌, ◌≤◌, ◌++◌, ℕ, [], map, length, IfErr, IfOk, OnOk, Some, None};
 ghost use Rattle.std.specs.List.{flat_map};
 ghost use Rattle.kernel_syntax.specs.Layout.{ArePlaced, elements};
 ghost use Rattle.kernel_syntax.specs.Program.{team_of};
 ghost use Rattle.serial_run.specs.Placing.{ElementLayout, TellsWords};
 ghost use Rattle.serial_team.specs.Members.{all_idle, pool, seen, whole_log};
 ghost use Rattle.serial_team.specs.Running.{Goes, HaveArrays, RanBelow, RanPhase, RanPhases, RanRegion, RanTo};
+ghost use Rattle.serial_team.specs.Stopping.{StopsPast, IfStopped, LaneStopped, PhasesStopped, RegionStopped, StopsBelow, TeamWent, told_first};
 
 use crate::member::{Member, Stage, TaskLog, all_at, begin_team, hand_on_all};
 use crate::stop::{Stop, StopWhy};
@@ -31,13 +32,15 @@ fn fork<'k>(
     requires placed { ArePlaced arrays.now (elements arrays.now) }
     requires deep { length path.now + depth ≤ 4 }
     ensures ran { (layout : ElementLayout) → TellsWords arrays.now layout → IfOk result (λ _. RanBelow layout path.now (team_of team.now) arrays.now (seen memory.old member.old) (seen memory.new member.new)) }
+    ensures stops { (layout : ElementLayout) → TellsWords arrays.now layout → member.old.lane.place.arrays ≡ arrays.now
+        → IfErr result (λ e. IfStopped (StopsBelow layout path.now (team_of team.now) (seen memory.old member.old) (pool memory.new)) e) }
 {
     let number = member.forked;
     let Some(next) = number.checked_add(1) else {
         return Err(Stop::Memory);
     };
     if depth == 0 {
-        return Err(Stop::Refused);
+        return Err(Stop::Memory);
     }
     region(
         alloc,
@@ -75,6 +78,10 @@ fn advance<'k>(
     requires deep { length path.now + depth ≤ 4 }
     ensures goes { (layout : ElementLayout) → TellsWords arrays.now layout → member.old.lane.place.arrays ≡ arrays.now
         → IfOk result (λ to. Goes layout path.now (seen memory.old member.old) (seen memory.new member.new) to) }
+    ensures onward { (layout : ElementLayout) → TellsWords arrays.now layout → member.old.lane.place.arrays ≡ arrays.now
+        → IfOk result (λ to. StopsPast layout path.now (seen memory.old member.old) (seen memory.new member.new) to) }
+    ensures stops { (layout : ElementLayout) → TellsWords arrays.now layout → member.old.lane.place.arrays ≡ arrays.now
+        → IfErr result (λ e. IfStopped (LaneStopped layout path.now (seen memory.old member.old) (pool memory.new)) e) }
 {
     match member.resume(path, memory)? {
         Pause::Barrier => Ok(Some(Stage::Waits)),
@@ -100,6 +107,8 @@ pub(crate) fn go<'k>(
     requires deep { length path.now + depth ≤ 4 }
     ensures ran { (layout : ElementLayout) → TellsWords arrays.now layout → member.old.lane.place.arrays ≡ arrays.now
         → IfOk result (λ _. RanTo layout path.now (seen memory.old member.old) (seen memory.new member.new)) }
+    ensures stops { (layout : ElementLayout) → TellsWords arrays.now layout → member.old.lane.place.arrays ≡ arrays.now
+        → IfErr result (λ e. IfStopped (LaneStopped layout path.now (seen memory.old member.old) (pool memory.new)) e) }
 {
     'steps: for _ in 0..u64::MAX {
         if let Some(stage) = advance(alloc, depth, arrays, path, member, memory)? {
@@ -112,7 +121,7 @@ pub(crate) fn go<'k>(
 
 // The stop that was told, or else this one.
 fn first_stop(told: Result<(), Stop>, stop: Stop) -> Result<(), Stop>
-    ensures { IsErr result }
+    ensures { result ≡ told_first told stop }
 {
     match told {
         Ok(()) => Err(stop),
@@ -135,6 +144,8 @@ fn run_phase<'k>(
     requires deep { length at.now + depth < 4 }
     ensures ran { (layout : ElementLayout) → TellsWords arrays.now layout → HaveArrays arrays.now (all_idle members.old)
         → IfOk result (λ _. RanPhase layout at.now number (all_idle members.old) (pool memory.old) (all_idle members.new) (pool memory.new)) }
+    ensures stops { (layout : ElementLayout) → TellsWords arrays.now layout → HaveArrays arrays.now (all_idle members.old)
+        → IfErr result (λ e. IfStopped (λ first. TeamWent layout at.now number (all_idle members.old) (pool memory.old) (pool memory.new) (Some first)) e) }
 {
     let mut first = Ok(());
     for member in members.iter_mut() {
@@ -164,6 +175,8 @@ fn run_phases<'k>(
     requires deep { length at.now + depth < 4 }
     ensures ran { (layout : ElementLayout) → TellsWords arrays.now layout → HaveArrays arrays.now (all_idle members.old)
         → IfOk result (λ _. RanPhases layout at.now number (all_idle members.old) (pool memory.old) (all_idle members.new) (pool memory.new)) }
+    ensures stops { (layout : ElementLayout) → TellsWords arrays.now layout → HaveArrays arrays.now (all_idle members.old)
+        → IfErr result (λ e. IfStopped (PhasesStopped layout at.now number (all_idle members.old) (pool memory.old) (pool memory.new)) e) }
 {
     'phases: for _ in 0..u64::MAX {
         run_phase(alloc, depth, arrays, at, number, members, memory)?;
@@ -171,7 +184,7 @@ fn run_phases<'k>(
             return Ok(());
         }
         if !all_at(members, Stage::Waits) {
-            return Err(Stop::Refused);
+            return Err(Stop::Memory);
         }
     }
     Err(Stop::Memory)
@@ -195,6 +208,8 @@ fn region<'k>(
     ensures ran { (layout : ElementLayout) → TellsWords arrays.now layout
         → IfOk result (λ _. RanRegion layout arrays.now (team_of team.now) locals.now.slots.items at.now number (pool memory.old) (pool memory.new)
         (map whole_log done.old.items) (map whole_log done.new.items)) }
+    ensures stops { (layout : ElementLayout) → TellsWords arrays.now layout
+        → IfErr result (λ e. IfStopped (RegionStopped layout arrays.now (team_of team.now) locals.now.slots.items at.now number (pool memory.old) (pool memory.new)) e) }
 {
     let mut members = begin_team(alloc, arrays, team, locals)?;
     run_phases(alloc, depth, arrays, at, number, &mut members, memory)?;

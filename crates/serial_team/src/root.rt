@@ -1,11 +1,12 @@
 //! The root: the task that executes `main`.
-ghost use Rattle.std.specs.Prelude.{◌≡◌, ◌≤◌, ℕ, map, pos, replicate, IfOk};
+ghost use Rattle.std.specs.Prelude.{◌≡◌, ◌≤◌, ℕ, map, pos, replicate, IfErr, IfOk};
 ghost use Rattle.kernel_syntax.specs.Bounds.{IsBounded};
 ghost use Rattle.kernel_syntax.specs.Layout.{IsWithinLimits, elements};
 ghost use Rattle.kernel_syntax.specs.Program.{program_of};
 ghost use Rattle.serial_run.specs.Placing.{ElementLayout, TellsWords};
 ghost use Rattle.serial_team.specs.Members.{whole_log};
 ghost use Rattle.serial_team.specs.Running.{RanRoot};
+ghost use Rattle.serial_team.specs.Stopping.{IfStopped, RootStopped};
 
 use crate::member::{Member, Stage, TaskLog, is_at};
 use crate::region::go;
@@ -55,6 +56,7 @@ pub fn run_serially(alloc: Global, kernel: &Kernel, left: u32) -> Result<SerialR
     requires alone { (program_of kernel.now).main.span ≡ 1 }
     ensures ran { (layout : ElementLayout) → TellsWords kernel.now.arrays layout
         → IfOk result (λ r. RanRoot layout (program_of kernel.now) left (map whole_log r.logs.items) r.words.items) }
+    ensures stopped { (layout : ElementLayout) → TellsWords kernel.now.arrays layout → IfErr result (λ e. IfStopped (RootStopped layout (program_of kernel.now) left) e) }
 {
     let arrays = kernel.arrays.as_slice();
     let locals = locals(alloc, kernel.slots)?;
@@ -62,7 +64,7 @@ pub fn run_serially(alloc: Global, kernel: &Kernel, left: u32) -> Result<SerialR
     let mut root = Member::begin(alloc, arrays, &kernel.main, &locals, 0)?;
     go(alloc, 4, arrays, &Path::root(), &mut root, &mut memory)?;
     if !is_at(&root, Stage::Ended) {
-        return Err(Stop::Refused);
+        return Err(Stop::Memory);
     }
     let mut logs = Vec::new(alloc);
     root.hand_on(Path::root(), &mut logs)?;

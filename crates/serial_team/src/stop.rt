@@ -1,6 +1,7 @@
 //! Why a serial run doesn't go on.
 ghost use Rattle.std.specs.Prelude.{◌≡◌};
 ghost use Rattle.serial_team.specs.declared.stop.Stop.TheVariants as stop;
+ghost use Rattle.serial_team.specs.Stopping.{TellsHalt, is_stopped};
 
 use serial_run::Halt;
 use std::alloc::{AllocError, AllocFailed};
@@ -26,15 +27,16 @@ pub enum Stop {
     Stopped { path: Path, line: u32, why: StopWhy },
     /// All records that the run may make are made, and the task at this path would put its record of this number, from 1.
     Long { path: Path, number: u32 },
-    /// A statement that isn't executed here, a region deeper than four or without a lane, or lanes that don't meet.
-    Refused,
-    /// No memory was found.
+    /// No memory was found. So it is also told of what no kernel has that is lawful and fixed: a statement that isn't executed here, a region
+    /// deeper than four or without a lane, and lanes that don't meet.
     Memory,
 }
 
 impl Stop {
     /// Why the run doesn't go on where this task, which has put so many records, stands still.
-    pub fn of(halt: Halt, path: &Path, count: u32) -> Stop {
+    pub fn of(halt: Halt, path: &Path, count: u32) -> Stop
+        ensures tells { TellsHalt path.now halt result }
+    {
         let path = path.copy();
         match halt {
             Halt::DivZero { line } => Stop::Stopped {
@@ -56,13 +58,14 @@ impl Stop {
                 path,
                 number: count.saturating_add(1),
             },
-            Halt::Refused => Stop::Refused,
-            Halt::Memory => Stop::Memory,
+            Halt::Refused | Halt::Memory => Stop::Memory,
         }
     }
 
     /// Whether it is a task's own: the lanes beside it still go on to the end of their phase.
-    pub(crate) fn is_of_task(&self) -> bool {
+    pub(crate) fn is_of_task(&self) -> bool
+        ensures { result ≡ is_stopped self.now }
+    {
         matches!(self, Stop::Stopped { .. })
     }
 }

@@ -1,4 +1,5 @@
 mod constructs;
+mod runs;
 mod statements;
 mod stops;
 mod support;

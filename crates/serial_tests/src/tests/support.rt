@@ -54,8 +54,8 @@ fn put_log(alloc: Global, text: &mut String, log: &[u8], records: u32) -> Result
     Ok(())
 }
 
-// Adds a line of all words, as signed numbers.
-fn put_words(text: &mut String, words: &[u64]) -> Result<(), AllocError> {
+/// Adds a line of all words, as signed numbers.
+pub(crate) fn put_words(text: &mut String, words: &[u64]) -> Result<(), AllocError> {
     text.push_str("words")?;
     for word in words {
         let value = word.cast_signed();

@@ -1,4 +1,4 @@
-use Rattle.std.proofs.Common.{◌≡◌, ◌<◌, ◌+◌, ◌++◌, ◌∷◌, ◌∙◌, [], ℕ, List, ap, sym, subst, arith, length, slice_index_or, below_more, get_or, rules}
+use Rattle.std.proofs.Common.{◌≡◌, ◌<◌, ◌+◌, ◌++◌, ◌∷◌, ◌∙◌, [], ℕ, List, ap, sym, subst, arith, length, slice_index_or, below_more, rules}
 use Rattle.std.proofs.lemmas.List.{map-append, length_push, get_or_append_left, get_or_push}
 use Rattle.kernel_syntax.specs.Program.{team_of}
 use Rattle.serial_team.specs.declared.member.Member.{Member}

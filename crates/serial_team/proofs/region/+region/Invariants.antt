@@ -4,6 +4,8 @@ use Rattle.serial_run.specs.Placing.{ElementLayout, TellsWords}
 use Rattle.serial_team.specs.Members.{all_idle, pool, seen}
 use Rattle.serial_team.specs.Running.{GoesFrom, HaveArrays}
 use Rattle.serial_team.proofs.Phases.{PhaseFrom, PhasesFrom}
+use Rattle.serial_team.specs.Stopping.{StopsFrom}
+use Rattle.serial_team.proofs.Stopped.{TeamFromSo, PhasesStopFrom}
 use Rattle.serial_team.proofs.region.+region.Given as goal
 
 abbrev pub decreases-fork : goal.decreases-fork
@@ -27,6 +29,7 @@ decreases-region l = 8 * l.depth + 5
 abbrev pub invariant-go-steps : goal.invariant-go-steps
 invariant-go-steps l = record {
   goes : (layout : ElementLayout) → TellsWords l.fn.arrays layout → l.fn.member.lane.place.arrays ≡ l.fn.arrays → GoesFrom layout l.fn.path (seen l.fn.memory l.fn.member) (seen l.memory l.member);
+  stops : (layout : ElementLayout) → TellsWords l.fn.arrays layout → l.fn.member.lane.place.arrays ≡ l.fn.arrays → StopsFrom layout l.fn.path (seen l.fn.memory l.fn.member) (seen l.memory l.member);
 }
 
 abbrev pub invariant-run_phase-loop-member : goal.invariant-run_phase-loop-member
@@ -35,10 +38,14 @@ invariant-run_phase-loop-member l = record {
   rest : (k : ℕ) (d : _) → l.member-index ≤ k → slice_index_or l.members k d ≡ slice_index_or l.fn.members k d;
   ran : (layout : ElementLayout) → TellsWords l.fn.arrays layout → HaveArrays l.fn.arrays (all_idle l.fn.members)
       → IfOk l.first (λ _. PhaseFrom layout l.fn.at l.fn.number (all_idle l.fn.members) (all_idle (drop l.member-index l.fn.members)) (pool l.fn.memory) (all_idle (take l.member-index l.members)) (pool l.memory));
+  went : (layout : ElementLayout) → TellsWords l.fn.arrays layout → HaveArrays l.fn.arrays (all_idle l.fn.members)
+      → TeamFromSo layout l.fn.at l.fn.number (all_idle l.fn.members) (all_idle (drop l.member-index l.fn.members)) (pool l.fn.memory) (pool l.memory) l.first;
 }
 
 abbrev pub invariant-run_phases-phases : goal.invariant-run_phases-phases
 invariant-run_phases-phases l = record {
   ran : (layout : ElementLayout) → TellsWords l.fn.arrays layout → HaveArrays l.fn.arrays (all_idle l.fn.members)
       → PhasesFrom layout l.fn.arrays l.fn.at l.fn.number (all_idle l.fn.members) (pool l.fn.memory) (all_idle l.members) (pool l.memory);
+  stops : (layout : ElementLayout) → TellsWords l.fn.arrays layout → HaveArrays l.fn.arrays (all_idle l.fn.members)
+      → PhasesStopFrom layout l.fn.at l.fn.number (all_idle l.fn.members) (pool l.fn.memory) (all_idle l.members) (pool l.memory);
 }

@@ -1,0 +1,4 @@
+mod Putting
+mod HeldRuns
+mod Layouts
+mod Judged

@@ -1,0 +1,24 @@
+use Rattle.std.proofs.Common.{◌≡◌, refl}
+use Rattle.kernel_syntax.specs.Layout.{elements}
+use Rattle.kernel_syntax.specs.Program.{Program, program_of}
+use Rattle.serial_run.specs.Placing.{ElementLayout, TellsWords}
+use Rattle.serial_team.specs.Members.{whole_log}
+use Rattle.serial_laws.proofs.Root.{logs_run}
+use Rattle.certify.specs.declared.certifying.TheConstants.{MOST_RECORDS}
+use Rattle.certify.proofs.Layouts.{element_layout, tells_words}
+use Rattle.certify.proofs.certifying.certify.Goals as goal
+
+pub judge-requires-after_bounds : goal.judge-requires-after_bounds
+judge-requires-after_bounds g c κs within =
+    let program = program_of c.args.kernel.now in
+    let layout = element_layout program in
+    let tells = tells_words program c.requires.bounded in
+    record {
+      fixed = c.first_construct.ensures.fixed c.in_default.is;
+      lawful = c.requires;
+      layout = layout.words;
+      run = logs_run layout program c.requires tells MOST_RECORDS _ _ (c.in-Ok.ensures.ran layout tells);
+    }
+
+pub returns-in-Err-Stopped : goal.returns-in-Err-Stopped
+returns-in-Err-Stopped g c = record { tells = (c.first_construct.ensures.fixed c.in_default.is, λ layout tells. rw c.in-Err-Stopped.field-0-is (rw c.in-Err-Stopped.field-0-is at c.in-Err-Stopped.ensures.stopped layout tells)) }

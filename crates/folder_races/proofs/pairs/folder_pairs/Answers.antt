@@ -1,0 +1,51 @@
+use Rattle.std.proofs.Common.{◌≡◌, ℕ, List, [], Option, ap, sym, subst, ◌∙◌, arith, rules}
+use Rattle.std.proofs.lemmas.Result.{err_from_is_err_and}
+use Rattle.log_format.specs.declared.format.TheConstants.{FORMAT}
+use Rattle.sw_base.specs.Environment.{Content, FolderState}
+use Rattle.log_walk.specs.Sweep.{GivesRegion, HasSwept, HasSweptAll}
+use Rattle.folder_races.proofs.Sweeping.{SweptPairs, SweptPairs-start, SweptPairs-next, SweptPairs-all}
+use Rattle.folder_races.proofs.pairs.folder_pairs.Goals as goal
+
+same_content : {one other : FolderState} → one ≡ other → one.content ≡ other.content
+same_content same = ap (λ s. s.content) same
+
+pub regions-init : goal.regions-init
+regions-init g c = record {
+  swept =
+      let keys : c.new-pairs.result.keys ≡ [] = search rules in
+      subst (λ (pairs : List (ℕ × ℕ)). SweptPairs (g.F.Folder.state c.args.folder.now).content c.args.dir.now c.in_ok-sweep.sweep pairs) (sym keys)
+      (SweptPairs-start _ _ _ _ c.in_ok-sweep.ensures.begins);
+  fresh = λ e is. let none_yet = c.in_ok-sweep.ensures.begins.fresh in absurd (cc (none_yet, is));
+  same = c.in_ok-sweep.ensures.same;
+  later = c.in_ok-sweep.ensures.later;
+}
+
+pub returns-in_err-segments-clause-refused : goal.returns-in_err-segments-clause-refused
+returns-in_err-segments-clause-refused g c =
+    let p = err_from_is_err_and c.from_residual-in_err-segments.result c.from_residual-in_err-segments.ensures.1 in
+    let swept = c.regions.invariant.swept in
+    let now = subst (λ (t : Option Content). HasSwept FORMAT t c.args.dir.now c.regions.sweep swept.trace) (sym (same_content c.regions.invariant.same)) swept.swept in
+    rw (p.1, p.2) (λ x told. (c.in_err-segments.ensures.refused FORMAT c.args.dir.now swept.trace now).2 x (same_content c.regions.invariant.same ∙ told))
+
+pub regions-preserved : goal.regions-preserved
+regions-preserved g c = record {
+  swept =
+      let swept = c.regions.invariant.swept in
+      let now = subst (λ (t : Option Content). HasSwept FORMAT t c.args.dir.now c.regions.sweep swept.trace) (sym (same_content c.regions.invariant.same)) swept.swept in
+      let gives = rw c.in-Some.is at (c.in_ok-segments.ensures.region FORMAT c.args.dir.now swept.trace now) in
+      let lists = rw c.deref.ensures.value at c.in_ok-found.ensures in
+      SweptPairs-next (g.F.Folder.state c.args.folder.now).content c.args.dir.now c.regions.sweep c.next.new.self c.regions.pairs.keys c.in_ok-found.found.keys c.unite.new.pairs.keys c.in-Some.segments.items swept
+      (subst (λ (t : Option Content). GivesRegion FORMAT t c.args.dir.now c.regions.sweep c.next.new.self swept.trace c.in-Some.segments.items) (same_content c.regions.invariant.same) gives)
+      lists c.in_ok-unite.ensures.added;
+  fresh = c.in_ok-segments.ensures.unrefused;
+  same = c.in_ok-segments.ensures.same ∙ c.regions.invariant.same;
+  later = omega (arith, c.in_ok-segments.ensures.later, c.regions.invariant.later);
+}
+
+pub returns-clause-pairs : goal.returns-clause-pairs
+returns-clause-pairs g c =
+    let swept = c.regions.invariant.swept in
+    let now = subst (λ (t : Option Content). HasSwept FORMAT t c.args.dir.now c.regions.sweep swept.trace) (sym (same_content c.regions.invariant.same)) swept.swept in
+    let all = (c.in_ok-segments.ensures.all FORMAT c.args.dir.now swept.trace now c.in_default.is).1 in
+    SweptPairs-all (g.F.Folder.state c.args.folder.now).content c.args.dir.now c.regions.sweep c.regions.pairs.keys swept
+    (subst (λ (t : Option Content). HasSweptAll FORMAT t c.args.dir.now c.regions.sweep swept.trace) (same_content c.regions.invariant.same) all) (search rules)

@@ -1,0 +1,142 @@
+-- A serial run that stops: the lanes that come later in the phase still go on to their barrier, their end or their stop, and the first stop
+-- in the order of lanes is told.
+use Rattle.std.specs.Prelude.{◌≡◌, ◌<◌, ◌≤◌, ℕ, List, [], ◌∷◌, All, length, replicate, ℤ, pos, Bool, true, false, Option, Some, None, Result, Ok, Err}
+use Rattle.sw_base.specs.declared.path.Step.{Step}
+use Rattle.log_format.specs.declared.record.Kind.TheVariants as kind
+use Rattle.kernel_syntax.specs.declared.syntax.Array.{Array}
+use Rattle.kernel_syntax.specs.Layout.{elements}
+use Rattle.kernel_syntax.specs.Program.{Program}
+use Rattle.kernel_syntax.specs.Tree.{TeamTree}
+use Rattle.kernel_model.specs.Effect.{Halted}
+use Rattle.kernel_model.specs.State as model
+use Rattle.kernel_model.specs.State.{event}
+use Rattle.history_model.specs.Work.{Work, Rest, Fork, Phases, NoPhase, Phase}
+use Rattle.serial_run.specs.declared.halt.Halt.{Halt}
+use Rattle.serial_run.specs.declared.halt.Halt.TheVariants as halt
+use Rattle.serial_run.specs.Going.{Progress, Made}
+use Rattle.serial_run.specs.Placing.{ElementLayout}
+use Rattle.serial_run.specs.Stepping.{Stand, Advances, left_of}
+use Rattle.serial_team.specs.declared.member.Stage.{Stage}
+use Rattle.serial_team.specs.declared.member.Stage.TheVariants as stage
+use Rattle.serial_team.specs.declared.stop.Stop.{Stop}
+use Rattle.serial_team.specs.declared.stop.Stop.TheVariants as stop
+use Rattle.serial_team.specs.declared.stop.StopWhy.{StopWhy}
+use Rattle.serial_team.specs.declared.stop.StopWhy.TheVariants as why
+use Rattle.serial_team.specs.Members.{Pool, pool_at, MemberValue, later, path_in, BeginsLane, BeginTeam}
+use Rattle.serial_team.specs.Running.{put_all, beside, most_below, past_region, LaneRuns, TeamRuns, PhasesRun}
+
+-- which task stops, at which line, and why
+pub record StopAt : Type 0 where
+  pub path : List Step
+  pub line : ℕ
+  pub why : StopWhy
+
+-- why, of a stop in the meaning of kernels
+abbrev pub why_of : model.Stop → StopWhy
+why_of model.DivZero = why.DivZero
+why_of model.Index = why.Index
+why_of model.LogFull = why.LogFull
+
+mutual
+  -- The task at this path did this work and stopped, or a lane of a region that it forked did, and others go on from these words. It also stops
+  -- where too many tasks are below it.
+  pub data LaneStops (layout : ElementLayout) : List Step → MemberValue → Work → Pool → StopAt → Type 0 where
+    halts : (path : List Step) (x : MemberValue) (slots : List ℤ) (last : Progress) (w : model.Stop) (line : ℕ)
+        → (m : Made layout (left_of x.stand) x.stand.slots slots x.stand.progress last (Halted w line))
+        → LaneStops layout path x (put_all layout x.stand.progress.words m.added Rest) (record { words = last.words; left = last.left }) (record { path = path; line = line; why = why_of w })
+    in_region : (path : List Step) (x : MemberValue) (y : Stand) (team : TeamTree) (xs : List MemberValue) (p : Pool) (phases : Phases) (at : StopAt)
+        → (a : Advances layout x.stand y (event kind.Region team.line 0 team.span ∷ []) (record { team = team; slots = y.slots } ∷ []))
+        → length path < 4 → BeginTeam y.at.arrays team y.slots xs → PhasesStop layout path x.forked xs (pool_at y) phases p at
+        → LaneStops layout path x (put_all layout x.stand.progress.words a.makes.plain (Fork team.line team.span phases Rest)) p at
+    too_many : (path : List Step) (x : MemberValue) (y : Stand) (team : TeamTree) (xs ys : List MemberValue) (p : Pool) (phases : Phases)
+        → (a : Advances layout x.stand y (event kind.Region team.line 0 team.span ∷ []) (record { team = team; slots = y.slots } ∷ []))
+        → length path < 4 → BeginTeam y.at.arrays team y.slots xs → PhasesRun layout path x.forked xs (pool_at y) phases ys p
+        → most_below < length (past_region path x y ys p).below
+        → LaneStops layout path x (put_all layout x.stand.progress.words a.makes.plain (Fork team.line team.span phases Rest)) p (record { path = path; line = team.line; why = why.Tasks })
+    onward : (path : List Step) (x : MemberValue) (y : Stand) (team : TeamTree) (xs ys : List MemberValue) (p q : Pool) (phases : Phases) (more : Work) (at : StopAt)
+        → (a : Advances layout x.stand y (event kind.Region team.line 0 team.span ∷ []) (record { team = team; slots = y.slots } ∷ []))
+        → length path < 4 → BeginTeam y.at.arrays team y.slots xs → PhasesRun layout path x.forked xs (pool_at y) phases ys p
+        → length (past_region path x y ys p).below ≤ most_below → LaneStops layout path (past_region path x y ys p) more q at
+        → LaneStops layout path x (put_all layout x.stand.progress.words a.makes.plain (Fork team.line team.span phases more)) q at
+
+  -- the lanes of the region of this number went on, one after another; this is the first stop, if any
+  pub data TeamGoes (layout : ElementLayout) : List Step → ℕ → List MemberValue → Pool → List Work → Pool → Option StopAt → Type 0 where
+    no_lane : (at : List Step) (number : ℕ) (p : Pool) → TeamGoes layout at number [] p [] p None
+    runs : (at : List Step) (number : ℕ) (x y : MemberValue) (xs : List MemberValue) (p q : Pool) (work : Work) (works : List Work) (first : Option StopAt)
+        → LaneRuns layout (path_in at number x) (later x p) work y → TeamGoes layout at number xs (pool_at y.stand) works q first
+        → TeamGoes layout at number (x ∷ xs) p (work ∷ works) q first
+    stops : (at : List Step) (number : ℕ) (x : MemberValue) (xs : List MemberValue) (p q r : Pool) (work : Work) (works : List Work) (first : StopAt) (others : Option StopAt)
+        → LaneStops layout (path_in at number x) (later x p) work q first → TeamGoes layout at number xs q works r others
+        → TeamGoes layout at number (x ∷ xs) p (work ∷ works) r (Some first)
+
+  -- a lane stopped in the last of these phases, and all waited at a barrier after each phase before it
+  pub data PhasesStop (layout : ElementLayout) : List Step → ℕ → List MemberValue → Pool → Phases → Pool → StopAt → Type 0 where
+    here : (at : List Step) (number : ℕ) (xs : List MemberValue) (p q : Pool) (works : List Work) (first : StopAt)
+        → TeamGoes layout at number xs p works q (Some first) → PhasesStop layout at number xs p (Phase (beside works) NoPhase) q first
+    next : (at : List Step) (number : ℕ) (xs ys : List MemberValue) (p q r : Pool) (works : List Work) (phases : Phases) (first : StopAt)
+        → TeamRuns layout at number xs p works ys q → All (λ (y : MemberValue). y.stage ≡ stage.Waits) ys → PhasesStop layout at number ys q phases r first
+        → PhasesStop layout at number xs p (Phase (beside works) phases) r first
+
+-- ---- by what is answered
+
+-- some work of it stopped so
+pub record LaneStopped (layout : ElementLayout) (path : List Step) (x : MemberValue) (p : Pool) (at : StopAt) : Type 0 where
+  pub work : Work
+  pub stops : LaneStops layout path x work p at
+
+pub record TeamWent (layout : ElementLayout) (at : List Step) (number : ℕ) (xs : List MemberValue) (p q : Pool) (first : Option StopAt) : Type 0 where
+  pub works : List Work
+  pub goes : TeamGoes layout at number xs p works q first
+
+pub record PhasesStopped (layout : ElementLayout) (at : List Step) (number : ℕ) (xs : List MemberValue) (p q : Pool) (first : StopAt) : Type 0 where
+  pub phases : Phases
+  pub stops : PhasesStop layout at number xs p phases q first
+
+-- what holds of a stop of a task; nothing is said of any other answer
+abbrev pub IfStopped : (StopAt → Type 0) → Stop → Type 0
+IfStopped P (stop.Stopped path line w) = P (record { path = path; line = line; why = w })
+IfStopped P _ = Unit {0}
+
+abbrev pub is_stopped : Stop → Bool
+is_stopped (stop.Stopped path line w) = true
+is_stopped _ = false
+
+-- what a task's own halt is told as
+abbrev pub TellsHalt : List Step → Halt → Stop → Type 0
+TellsHalt path (halt.DivZero line) e = e ≡ stop.Stopped path line why.DivZero
+TellsHalt path (halt.Index line) e = e ≡ stop.Stopped path line why.Index
+TellsHalt path (halt.LogFull line) e = e ≡ stop.Stopped path line why.LogFull
+TellsHalt path _ e = is_stopped e ≡ false
+
+-- the region of a task stopped, from these locals
+pub record RegionStopped (layout : ElementLayout) (arrays : List Array) (team : TeamTree) (slots : List ℤ) (at : List Step) (number : ℕ) (p q : Pool) (first : StopAt) : Type 0 where
+  pub before : List MemberValue
+  pub begin : BeginTeam arrays team slots before
+  pub stopped : PhasesStopped layout at number before p q first
+
+-- a task that has put the record of a region stopped there, wherever it stood before the record
+abbrev pub StopsBelow : ElementLayout → List Step → TeamTree → MemberValue → Pool → StopAt → Type 0
+StopsBelow layout path team x p first =
+    (w : Stand) → Advances layout w x.stand (event kind.Region team.line 0 team.span ∷ []) (record { team = team; slots = x.stand.slots } ∷ [])
+    → LaneStopped layout path (record x { stand = w }) p first
+
+-- The root of a kernel stopped, or a task below it, over words that were 0, with room for so many records in all.
+pub record RootStopped (layout : ElementLayout) (program : Program) (left : ℕ) (first : StopAt) : Type 0 where
+  pub before : MemberValue
+  pub begins : BeginsLane program.arrays program.main (replicate program.slots (pos 0)) 0 before
+  pub after : Pool
+  pub stopped : LaneStopped layout [] (later before (record { words = replicate (elements program.arrays) 0; left = left })) after first
+
+-- a task that goes on from there stops as it does from the first on
+pub record StopsFrom (layout : ElementLayout) (path : List Step) (x y : MemberValue) : Type 0 where
+  pub stops : (p : Pool) (first : StopAt) → LaneStopped layout path y p first → LaneStopped layout path x p first
+
+-- by where it stands still, if it does
+abbrev pub StopsPast : ElementLayout → List Step → MemberValue → MemberValue → Option Stage → Type 0
+StopsPast layout path x y None = StopsFrom layout path x y
+StopsPast layout path x y (Some at) = Unit {0}
+
+-- the stop that was told earlier, or else this one
+abbrev pub told_first : Result (Unit {0}) Stop → Stop → Result (Unit {0}) Stop
+told_first (Ok _) e = Err e
+told_first (Err earlier) e = Err earlier
