@@ -189,4 +189,5 @@ def main():
         goal(f"memory on flat of {size:.1f} MB, W {count}", most, "at most", round(3 * size, 1), "MB")
 
 
-main()
+if __name__ == "__main__":
+    main()

@@ -50,4 +50,5 @@ def main():
         out.write(b"SWIDX002" + b"".join(row(steps, len(records)) for steps, records in logs.values()))
 
 
-main()
+if __name__ == "__main__":
+    main()

@@ -47,4 +47,5 @@ def main():
         tell(f"replay of {STORES:,} stores", words, STORES, "records")
 
 
-main()
+if __name__ == "__main__":
+    main()

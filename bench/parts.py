@@ -40,6 +40,7 @@ fn run_of(base: u64, stride: u64, count: u32) -> Option<Run> {
         count,
         size: 8,
         write: true,
+        atomic: false,
         line: 1,
         site: 0,
         held: Held::none(),
@@ -106,15 +107,17 @@ fn searches(tree: &Tree) -> u64 {
 // So many writes at so many addresses in turn, with a multiplier that mixes their order.
 fn summed(alloc: Global, writes: u64, places: u64, mix: u64) -> Result<usize, Memory> {
     let mut summary = Summary::new(alloc)?;
+    let held = Held::none();
     for number in 0..writes {
         let place = number.wrapping_mul(mix) % places.clamp(1, 1 << 40);
         let access = Access {
             write: true,
+            atomic: false,
             size: 8,
             site: 0,
             line: 1,
             addr: place * 8,
-            held: Held::none(),
+            held: &held,
         };
         summary.add(&access)?;
     }

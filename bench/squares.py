@@ -142,4 +142,5 @@ def main():
                 before = seconds
 
 
-main()
+if __name__ == "__main__":
+    main()

@@ -128,4 +128,5 @@ def main():
         print(f"least address space: {claimed} KB, and {least_space(folder)} KB where the row tells 3")
 
 
-main()
+if __name__ == "__main__":
+    main()

@@ -4,6 +4,7 @@ use Rattle.std.proofs.lemmas.Bool.{cases_order}
 use Rattle.std.proofs.lemmas.Option.{slice_get_within}
 use Rattle.std.specs.Option.{is_some}
 use Rattle.sw_base.specs.Environment.{Content}
+use Rattle.race_model.proofs.TraceLogs.{record_there}
 use Rattle.log_reader.specs.Reading.{Reading, GivesNext}
 use Rattle.race_model.specs.FirstBad.{rows_of}
 use Rattle.race_model.specs.Row.{Row}
@@ -16,7 +17,7 @@ use Rattle.explain.specs.declared.searching.Hit.{Hit}
 use Rattle.explain.specs.declared.searching.Partner.{Partner}
 use Rattle.explain.proofs.Logs.{row_at}
 use Rattle.explain.proofs.Scanning.{Scans, next_node, next_in_log, number_of, scans_all}
-use Rattle.explain.proofs.Witnesses.{named_once, there}
+use Rattle.explain.proofs.Witnesses.{named_once}
 
 -- a record doesn't race with x in these lines
 abbrev pub IsNoHit : Trace → ℕ × ℕ → Node → Node → Type 0
@@ -38,7 +39,7 @@ hit_here c trace lines x at reading place s hit number races = record {
 pub no_hit : (c : Content) (trace : Trace) (lines : ℕ × ℕ) (x : Node) (at : ℕ) (reading : Reading) (place : Place) (s : Scans c trace at reading place (IsNoHit trace lines x)) (after : Reading)
     → GivesNext c s.left None after → FindsHit trace lines x at None
 no_hit c trace lines x at reading place s after gives y byte in_y races =
-    scans_all c trace at reading place (IsNoHit trace lines x) s after gives y in_y (there (logs_of trace) y races.s races.race.right) byte races
+    scans_all c trace at reading place (IsNoHit trace lines x) s after gives y in_y (record_there (logs_of trace) y races.s races.race.right) byte races
 
 pub race_here : (c : Content) (trace : Trace) (lines : ℕ × ℕ) (at : ℕ) (reading : Reading) (place : Place) (s : Scans c trace at reading place (HasNoPartner trace lines at)) (found : RacePair) (partner : Partner)
     → found.first_row ≡ at + 1 → found.first ≡ place.records + 1 → partner ≡ record { row = found.second_row; hit = record { number = found.second; byte = found.byte } }
@@ -55,7 +56,7 @@ race_here c trace lines at reading place s found partner row number same first =
 pub no_race_here : (c : Content) (trace : Trace) (lines : ℕ × ℕ) (at : ℕ) (reading : Reading) (place : Place) (s : Scans c trace at reading place (HasNoPartner trace lines at)) (after : Reading)
     → GivesNext c s.left None after → FindsRace trace lines at None
 no_race_here c trace lines at reading place s after gives x in_x other y byte later in_y races =
-    scans_all c trace at reading place (HasNoPartner trace lines at) s after gives x in_x (there (logs_of trace) x races.r races.race.left) other y byte later in_y races
+    scans_all c trace at reading place (HasNoPartner trace lines at) s after gives x in_x (record_there (logs_of trace) x races.r races.race.left) other y byte later in_y races
 
 -- no record before the row of this place races with one of a later row
 abbrev pub NoneBefore : Trace → ℕ × ℕ → ℕ → Type 0

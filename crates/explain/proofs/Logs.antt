@@ -5,6 +5,7 @@ use Rattle.std.proofs.Math.Seq.{take-append_seam}
 use Rattle.std.proofs.lemmas.Option.{same_Some, slice_get-get_or}
 use Rattle.sw_base.specs.declared.path.Step.{Step}
 use Rattle.sw_base.specs.Environment.{Content}
+use Rattle.sw_base.proofs.Lists.{get_seam}
 use Rattle.log_format.specs.declared.format.TheConstants.{FORMAT}
 use Rattle.log_format.specs.declared.record.Record.{Record}
 use Rattle.log_format.specs.declared.record.Why.TheVariants as why
@@ -23,7 +24,7 @@ use Rattle.race_model.proofs.TraceLogs.{all_at, task_in}
 use Rattle.race_laws.proofs.FolderForkJoin.{paths_same}
 use Rattle.race_laws.proofs.FolderRules.{parted}
 use Rattle.race_laws.proofs.ListedOnce.{logs_at}
-use Rattle.counted_order.proofs.Paths.{get_seam, length_front}
+use Rattle.counted_order.proofs.Paths.{length_front}
 use Rattle.explain.specs.Finding.{AreNested, IsFound, HasNone, Finds}
 use Rattle.explain.specs.Witness.{IsInLog, TellsRecord, FindsNamed, HoldsGoodRun}
 use Rattle.explain.specs.declared.finding.Found.{Found}

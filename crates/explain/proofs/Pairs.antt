@@ -5,13 +5,12 @@ use Rattle.std.proofs.lemmas.Bool.{cases_order}
 use Rattle.std.proofs.lemmas.Option.{same_Some}
 use Rattle.log_format.specs.declared.record.Record.{Record}
 use Rattle.race_laws.proofs.ProgramOrder.{program_order}
-use Rattle.race_model.proofs.TraceLogs.{find_task}
+use Rattle.race_model.proofs.TraceLogs.{find_task, record_there}
 use Rattle.race_model.specs.Race.{IsRace, IsRacePair, IsUnordered, SharesByte}
 use Rattle.race_model.specs.Trace.{TaskLog, Trace, Logs, Node, IsThere, logs_of}
 use Rattle.explain.specs.Least.{FindsLeast, IsWitness}
 use Rattle.explain.specs.Witness.{IsInLog, IsLeastByte}
 use Rattle.explain.specs.declared.explaining.RacePair.{RacePair}
-use Rattle.explain.proofs.Witnesses.{there}
 
 same_log : (logs : Logs) (x y : Node) → x.path ≡ y.path → IsThere logs x → IsThere logs y → IsUnordered logs x y → ⊥
 same_log logs x y same x_there y_there unordered = elim (cases_order x.index y.index) [
@@ -58,8 +57,8 @@ witness_of trace lines place other x y r s in_x in_y later race lines_are = reco
 
 raced_pair : (trace : Trace) (lines : ℕ × ℕ) → IsRacePair (logs_of trace) lines → ((a i b j byte : ℕ) → IsWitness trace lines a i b j byte → ⊥) → ⊥
 raced_pair trace lines p none =
-    let x_there = there (logs_of trace) p.x p.r p.race.left in
-    let y_there = there (logs_of trace) p.y p.s p.race.right in
+    let x_there = record_there (logs_of trace) p.x p.r p.race.left in
+    let y_there = record_there (logs_of trace) p.y p.s p.race.right in
     let mine = find_task trace p.x.path (omega (arith, x_there)) in
     let yours = find_task trace p.y.path (omega (arith, y_there)) in
     let in_x : IsInLog trace mine.index p.x = record { task = mine.task; listed = mine.found; path_is = sym mine.path_is } in
@@ -77,7 +76,7 @@ raced_pair trace lines p none =
 pair_of : (trace : Trace) (lines : ℕ × ℕ) (a i b j byte : ℕ) → IsWitness trace lines a i b j byte → IsRacePair (logs_of trace) lines
 pair_of trace lines a i b j byte w = record { x = w.x; y = w.y; r = w.races.r; s = w.races.s; race = w.races.race; lines = w.races.lines_are }
 
--- there is no answer exactly where the lines aren't a race pair
+-- record_there is no answer exactly where the lines aren't a race pair
 pub exact_pair : (trace : Trace) (lines : ℕ × ℕ) (answer : Option RacePair) → FindsLeast trace lines answer → (answer ≡ None) ↔ (IsRacePair (logs_of trace) lines → ⊥)
 exact_pair trace lines None none = ((λ is pair. raced_pair trace lines pair none), (λ never. refl))
 exact_pair trace lines (Some found) least = (

@@ -7,7 +7,7 @@ use Rattle.log_format.specs.declared.format.TheConstants.{FORMAT}
 use Rattle.log_format.specs.declared.record.Record.{Record}
 use Rattle.log_segment.specs.Accesses.{key_at}
 use Rattle.log_segment.specs.declared.segment.Segment.{Segment}
-use Rattle.pair_compare.proofs.Races.{Touches-from, changes_from, there, update_from}
+use Rattle.pair_compare.proofs.Races.{Touches-from, changes_from, update_from}
 use Rattle.pair_compare.specs.Compare.{IsRacingPair, IsSegmentPair}
 use Rattle.pair_compare.specs.Conflict.{IsConflict}
 use Rattle.race_laws.proofs.FolderForkJoin.{fork_join}
@@ -20,6 +20,7 @@ use Rattle.stride_summary.specs.declared.key.Key.{Key}
 use Rattle.stride_summary.specs.declared.run.Run.{Run}
 use Rattle.stride_summary.specs.Run.{HasPair, HasRunAddress, run_key}
 use Rattle.sw_base.specs.declared.path.Step.{Step}
+use Rattle.race_model.proofs.TraceLogs.{record_there}
 use Rattle.explain.specs.Least.{FindsLeast, FindsRace, RacesOn}
 use Rattle.explain.specs.Suspects.{FindsMet, HasOwn, HoldAccesses, HoldPartners, IsOnLines, MayMeet}
 use Rattle.explain.specs.Witness.{IsInLog, TellsRecord}
@@ -59,7 +60,7 @@ module _ (trace : Trace) (lines : ℕ × ℕ) (x y : Node) (byte : ℕ) (keeps :
   other_key = key_at races.s (held_at logs y)
 
   concurrent : IsConcurrent own.label their.label
-  concurrent = unordered_concurrent logs x y own.label their.label (fork_join trace keeps) (there logs x races.r race.left) (there logs y races.s race.right) mine.has.label yours.has.label race.unordered
+  concurrent = unordered_concurrent logs x y own.label their.label (fork_join trace keeps) (record_there logs x races.r race.left) (record_there logs y races.s race.right) mine.has.label yours.has.label race.unordered
 
   conflict : IsConflict own_key races.r.addr other_key races.s.addr
   conflict = record {
@@ -134,9 +135,9 @@ module _ (trace : Trace) (lines : ℕ × ℕ) (segments : List Segment) (keeps :
       let high = within.high in
       let among = finds o.own o.their o.own_in o.their_in (record { path_is = within.path_is ∙ path_is; low = omega (arith, low, number_is); high = omega (arith, high, number_is) })
       (may_meet trace lines x y byte keeps races o.own o.their o.mine o.yours one tells) in
-      let there = o.yours.within in
+      let record_there = o.yours.within in
       let first = among.first_is in
       let last = among.last_is in
-      let from = there.low in
-      let to = there.high in
-      (among.stretch, among.listed, record { path_is = among.path_is ∙ there.path_is; low = omega (arith, first, from); high = omega (arith, last, to) })
+      let from = record_there.low in
+      let to = record_there.high in
+      (among.stretch, among.listed, record { path_is = among.path_is ∙ record_there.path_is; low = omega (arith, first, from); high = omega (arith, last, to) })

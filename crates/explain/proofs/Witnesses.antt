@@ -2,11 +2,12 @@
 use Rattle.std.proofs.Common.{◌≡◌, ◌⊎◌, ℕ, ◌+◌, ◌<◌, Bool, List, length, Option, Some, None, IsTrue, sym, ap, subst, ◌∙◌, arith}
 use Rattle.std.specs.Prelude.{◌↔◌, slice_get, Contains}
 use Rattle.std.proofs.lemmas.Option.{same_Some, slice_get_within}
+use Rattle.race_model.proofs.TraceLogs.{record_there}
 use Rattle.log_format.specs.declared.record.Record.{Record}
 use Rattle.race_model.specs.FirstBad.{rows_of}
 use Rattle.race_model.specs.Race.{IsRace, IsUnordered, IsAccess, IsChange}
 use Rattle.race_model.specs.Row.{Row}
-use Rattle.race_model.specs.Trace.{TaskLog, Trace, Logs, Node, IsThere, record_at, logs_of}
+use Rattle.race_model.specs.Trace.{TaskLog, Trace, Logs, Node, record_at, logs_of}
 use Rattle.race_laws.proofs.LabelPlace.{same_node}
 use Rattle.explain.specs.Witness.{IsInLog, NamesRecord, IsLeastByte, IsConfirmed, TellsRecord, FindsNamed, ConflictAt}
 use Rattle.explain.specs.declared.finding.Found.{Found}
@@ -19,14 +20,11 @@ named_within trace rows same row number x named none =
     none named.place named.row_is (subst (λ (l : List Row). named.place < length l) same
     (slice_get_within (rows_of trace) named.place _ (row_at trace named.place named.stands.task named.stands.listed)))
 
-pub there : (logs : Logs) (x : Node) (r : Record) → record_at logs x ≡ Some r → IsThere logs x
-there logs x r found = slice_get_within (logs x.path) x.index r found
-
--- and is found there
+-- and is found record_there
 pub named_found : (trace : Trace) (place row number : ℕ) (x : Node) (r : Record) → row ≡ place + 1 → FindsNamed trace place number None → NamesRecord trace row number x
     → record_at (logs_of trace) x ≡ Some r → ⊥
 named_found trace place row number x r row_is none named found =
-    none x (subst (λ (p : ℕ). IsInLog trace p x) (let own = named.row_is in let same : named.place ≡ place = omega arith in same) named.stands) named.number_is (there (logs_of trace) x r found)
+    none x (subst (λ (p : ℕ). IsInLog trace p x) (let own = named.row_is in let same : named.place ≡ place = omega arith in same) named.stands) named.number_is (record_there (logs_of trace) x r found)
 
 -- a row and a number name one record
 pub named_once : (trace : Trace) (place row number : ℕ) (x y : Node) → row ≡ place + 1 → IsInLog trace place x → number ≡ x.index + 1 → NamesRecord trace row number y → x ≡ y

@@ -137,9 +137,6 @@ IsOrdered-from_sorted hi xs left run right cut sorted =
       right_past = λ past k d within. omega (arith, rising (length left) (length left + suc k) d (omega arith) (omega arith), ap first_byte (get_or-append-add left (run ∷ right) (suc k) d), ap first_byte (get_or_at left run right d (length left) refl));
     }
 
-pub StepsWithin-none : (steps lo hi : ℕ) (xs : List Run) → StepsWithin steps steps lo hi xs
-StepsWithin-none steps lo hi xs = record { most = λ digits fits. omega arith; inside = λ all digits fits. omega arith }
-
 -- a search that isn't cut off at once comes to a node
 pub record IsEntered (lo hi : ℕ) (xs left : List Run) (run : Run) (right : List Run) : Type 0 where
   pub cut : IsCut xs left run right

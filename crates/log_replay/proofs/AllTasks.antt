@@ -6,7 +6,6 @@ use Rattle.std.proofs.lemmas.Option.{same_Some, slice_get-map, slice_get_within}
 use Rattle.sw_base.specs.declared.path.Step.{Step}
 use Rattle.log_format.specs.declared.format.TheConstants.{FORMAT}
 use Rattle.log_format.specs.declared.record.Record.{Record}
-use Rattle.log_format.specs.declared.record.Kind.{Kind}
 use Rattle.log_format.specs.declared.record.Kind.TheVariants as kind
 use Rattle.race_model.specs.ForkJoin.{EndsOnce, IsForkJoin, IsTask}
 use Rattle.race_model.specs.FirstBad.{HoldsLogs, row_of, rows_of}
@@ -14,9 +13,10 @@ use Rattle.race_model.specs.KeepsRules.{KeepsRules}
 use Rattle.race_model.specs.LogFault.{IsWholeLog}
 use Rattle.race_model.specs.Row.{Row}
 use Rattle.sw_base.specs.Environment.{Files}
+use Rattle.sw_base.proofs.Lists.{get_kept, get_pushed}
 use Rattle.race_model.specs.Listing.{IsListing}
 use Rattle.race_model.specs.Trace.{TaskLog, Trace, Logs, logs_of, region_count, is_region_kind}
-use Rattle.race_laws.proofs.Counts.{count_finds}
+use Rattle.race_laws.proofs.Counts.{count_finds, region_from_true}
 use Rattle.race_laws.proofs.FolderForkJoin.{fork_join, has_begun, path_at, paths_same, row_all}
 use Rattle.race_laws.proofs.LabelPlace.{has_last, HasLast}
 use Rattle.race_laws.proofs.Listed.{root_listed}
@@ -47,18 +47,6 @@ pub record Compared (program : Program) (tasks : Trace) (kept : List (List Fork)
 less_or_same : (k n : ℕ) → k ≤ n → (k < n) ⊎ (k ≡ n)
 less_or_same k n le = grind arith
 
--- a list cut and one more
-push_before : {X : Type 0} (xs : List X) (x y : X) (n k : ℕ) → k < n → slice_get xs k ≡ Some y → slice_get (take n xs ++ x ∷ []) k ≡ Some y
-push_before [] x y n k less found = cc
-push_before (z ∷ xs) x y zero k less found = absurd (omega arith)
-push_before (z ∷ xs) x y (suc n) zero less found = found
-push_before (z ∷ xs) x y (suc n) (suc k) less found = push_before xs x y n k (omega arith) found
-
-push_here : {X : Type 0} (xs : List X) (x : X) (n : ℕ) → n ≤ length xs → slice_get (take n xs ++ x ∷ []) n ≡ Some x
-push_here xs x zero le = refl
-push_here [] x (suc n) le = absurd (omega arith)
-push_here (z ∷ xs) x (suc n) le = push_here xs x n (omega arith)
-
 -- the fork that tells a span
 record ForkAt (forks : List Fork) (k span : ℕ) : Type 0 where
   fork : Fork
@@ -79,10 +67,6 @@ end_among (r ∷ prefix) last is = inr (end_among prefix last is)
 
 has_end : {records : List Record} → EndsOnce records → HasEnd records
 has_end ends = subst HasEnd (sym ends.parts) (end_among ends.prefix ends.last ends.ends)
-
-region_counts : (k : Kind) → is_region_kind k ≡ true → k ≡ kind.Region
-region_counts kind.Region is = refl
-region_counts _ is = cc
 
 module _ (program : Program) (tasks : Trace) (rules : KeepsRules FORMAT tasks) where
   abbrev logs : Logs
@@ -150,7 +134,7 @@ module _ (program : Program) (tasks : Trace) (rules : KeepsRules FORMAT tasks) w
         ∙ ap (λ (n : ℕ). Some n) (sym lane.span) in
         let within = slice_get_within (spans_of (logs above)) step.region step.span told in
         let c = count_finds (λ (r : Record). is_region_kind r.kind) (logs above) step.region (omega (arith, within, spans_count (logs above))) in
-        let region = region_counts c.item.kind c.counts in
+        let region = region_from_true c.item.kind c.counts in
         let value : c.item.value ≡ step.span =
         same_Some c.item.value step.span
         (sym (span_at (logs above) c.index c.item c.found region)
@@ -250,7 +234,7 @@ module _ (program : Program) (tasks : Trace) (rules : KeepsRules FORMAT tasks) w
                     traced = k.traced;
                     forks =
                         ap (λ (l : List (List Fork)). slice_get l depth) goes.kept
-                        ∙ push_before kept (own_trace program goes.start (logs task.path)).forks (own_trace program k.start (logs (take depth task.path))).forks (length task.path) depth less k.forks;
+                        ∙ get_kept kept (own_trace program goes.start (logs task.path)).forks (own_trace program k.start (logs (take depth task.path))).forks (length task.path) depth less k.forks;
                   }
               | inr same ↦
                   let whole : take depth task.path ≡ task.path = ap (λ (n : ℕ). take n task.path) same ∙ take_all (length task.path) task.path (omega arith) in
@@ -262,7 +246,7 @@ module _ (program : Program) (tasks : Trace) (rules : KeepsRules FORMAT tasks) w
                     forks =
                         ap (λ (l : List (List Fork)). slice_get l depth) goes.kept
                         ∙ ap (λ (n : ℕ). slice_get (take (length task.path) kept ++ (own_trace program goes.start (logs task.path)).forks ∷ []) n) same
-                        ∙ push_here kept (own_trace program goes.start (logs task.path)).forks (length task.path) (long task.path (compared.keeps task found));
+                        ∙ get_pushed kept (own_trace program goes.start (logs task.path)).forks (length task.path) (long task.path (compared.keeps task found));
                   })
             ])
 
@@ -286,14 +270,12 @@ module _ (program : Program) (tasks : Trace) (rules : KeepsRules FORMAT tasks) w
   -- ---- all of them
 
   module _ (kept : List (List Fork)) (index : ℕ) (compared : Compared program tasks kept index) (all : length tasks ≤ index) where
-    traced_at : (k : ℕ) (task : TaskLog) → slice_get tasks k ≡ Some task → IsTracedTask program logs task
-    traced_at k task found = let w = slice_get_within tasks k task found in compared.traced k task (omega (arith, w)) found
-
     -- a task that starts is there, with its trace
     own_traced : (path : List Step) (start : Start) → IsTask logs path → start_at program logs path ≡ Some start → IsTraced program start (logs path)
     own_traced path start is starts =
         let f = find_task tasks path is in
-        let it = traced_at f.index f.task f.found in
+        let w = slice_get_within tasks f.index f.task f.found in
+        let it = compared.traced f.index f.task (omega (arith, w)) f.found in
         let same = same_Some it.start start (sym it.starts ∙ ap (λ (p : List Step). start_at program logs p) f.path_is ∙ starts) in
         subst (λ (rs : List Record). IsTraced program start rs) f.records_are (subst (λ (s : Start). IsTraced program s f.task.records) same it.traced)
 
@@ -314,7 +296,7 @@ module _ (program : Program) (tasks : Trace) (rules : KeepsRules FORMAT tasks) w
 
     pub compared_all : IsTracedFolder program tasks
     compared_all = record {
-      each = each_task (IsTracedTask program logs) tasks traced_at;
+      each = each_task (IsTracedTask program logs) tasks (λ k task found. let w = slice_get_within tasks k task found in compared.traced k task (omega (arith, w)) found);
       all = λ path is. by_start path (start_at program logs path) refl is;
       once = listed_once (paths_of tasks) listing;
     }

@@ -1,5 +1,5 @@
 -- Statements, as far as they follow the log.
-use Rattle.std.proofs.Common.{◌≡◌, ◌≢◌, refl, ap, sym, ◌∙◌, subst, ℕ, zero, suc, ◌+◌, ◌-◌, ◌<◌, Bool, true, false, List, [], ◌∷◌, ◌++◌, ℤ, pos, negsuc, ◌+ℤ◌, Option, Some, None, Result, Ok, Err, arith}
+use Rattle.std.proofs.Common.{◌≡◌, ◌≢◌, refl, ap, sym, ◌∙◌, subst, ℕ, suc, ◌+◌, ◌-◌, ◌<◌, Bool, true, false, List, [], ◌∷◌, ◌++◌, ℤ, pos, ◌+ℤ◌, Option, Some, None, Result, Ok, Err, arith}
 use Rattle.std.specs.Prelude.{slice_set}
 use Rattle.sw_base.specs.Environment.{FolderState}
 use Rattle.log_format.specs.declared.record.Record.{Record}
@@ -23,10 +23,10 @@ use Rattle.kernel_model.specs.Iterations.{total_of}
 use Rattle.kernel_model.specs.Trace.{run, branch, turns, changed, shared, loop_end, forked}
 use Rattle.kernel_model.specs.Value.{Site, Element, element_at, access, value}
 use Rattle.kernel_model.proofs.Equations.{run-Done, run-Set, run-If, run-Loop, run-Parallel, run-For, run-Barrier, run-Critical}
-use Rattle.kernel_model.proofs.Growing.{grows-plain, grows-steps, run-grows, value-grows}
+use Rattle.kernel_model.proofs.Growing.{grows-plain, grows-steps, run-grows, value-grows, test-grows}
 use Rattle.kernel_model.proofs.Joining.{run-stmts, run-first, turns-add, after-nothing, after-done, branch-zero, branch-other}
 use Rattle.kernel_model.proofs.Turns.{turn_grows}
-use Rattle.kernel_model.proofs.Steps.{kept-and_then, kept-after, kept-branch, kept-turns, kept-shared, kept-put}
+use Rattle.kernel_model.proofs.Steps.{kept-and_then, kept-after, kept-turns, kept-shared, kept-put}
 use Rattle.log_replay.specs.Following.{Standing, IsAt, IsMark, IsOff, Ends, Follows, here}
 use Rattle.log_replay.specs.Sharing.{sharing}
 use Rattle.log_replay.specs.declared.stray.Stray.{Stray}
@@ -155,13 +155,9 @@ module _ (told : FolderState) (at : Site) (test : Term) (if_true if_false : Code
   abbrev choice : Part
   choice = run at (tree.If test if_true if_false tree.Done)
 
-  test_grows : (v : ℤ) (s : State) → Grows s (state_of (after_test v s))
-  test_grows v s = kept-after Grows grows-plain s (branch v (run at if_true) (run at if_false) s) (run at tree.Done)
-      (kept-branch Grows grows-plain v (run at if_true) (run at if_false) s (run-grows at if_true s) (run-grows at if_false s)) (run-grows at tree.Done)
-
   pub test_stops : (why : Stray) → Follows told (value at test) old mid (Err why) → Follows told choice old mid (Err why)
   test_stops why first =
-      follows_same told _ choice old mid (Err why) (run-If at test if_true if_false tree.Done) (follows_stop told (value at test) after_test old mid mid why test_grows first)
+      follows_same told _ choice old mid (Err why) (run-If at test if_true if_false tree.Done) (follows_stop told (value at test) after_test old mid mid why (test-grows at if_true if_false) first)
 
   module _ (v : ℤ) (new : Standing) (r : Result (Unit {0}) Stray) (first : Follows told (value at test) old mid (Ok v)) where
     chosen_goes : (code : Code) → ((s : State) → branch v (run at if_true) (run at if_false) s ≡ run at code s) → Follows told (run at code) mid new r → Follows told choice old new r

@@ -6,11 +6,12 @@ use Rattle.std.proofs.lemmas.List.{length_push, append-nil}
 use Rattle.std.proofs.lemmas.List.Elements.{filter-append}
 use Rattle.std.proofs.lemmas.Option.{same_Some}
 use Rattle.sw_base.specs.declared.path.Step.{Step}
+use Rattle.race_model.proofs.Held.{held_after-append}
 use Rattle.log_format.specs.declared.record.Record.{Record}
 use Rattle.log_format.specs.declared.record.Kind.{Kind}
 use Rattle.log_format.specs.declared.record.Kind.TheVariants.{Read, Write, Lock, Unlock, Barrier, Region, Chunk, End, Update}
 use Rattle.log_format.specs.declared.record.Why.TheVariants as why
-use Rattle.log_format.specs.Table.{HasAddress, HasSize, IsAccessSize, IsTabled}
+use Rattle.log_format.specs.Table.{HasAddress, HasSize, IsAccessSize}
 use Rattle.race_model.specs.Trace.{Logs, Node, HasKind, regions_before, barriers_before, is_region_kind, is_barrier_kind}
 use Rattle.race_model.specs.Race.{held_after, held_after_kind}
 use Rattle.race_model.specs.Label.{Triple, IsLabel}
@@ -25,11 +26,6 @@ use Rattle.log_segment.specs.Intervals.{HasEvent, IsSegmentOf}
 use Rattle.log_segment.specs.Walking.{AddsSegments, begun_after, event_after, ended, ended_by, AreNumbered, KeepsFork, AreForks, Follows, IsNextOf, SumsUp, GainsAccess, HasSum, IsClosed, OrdersInLane, is_open}
 use Rattle.log_segment.proofs.Members.{In, from_contains, to_contains, in_left, in_right, in_either}
 use Rattle.log_segment.proofs.LabelMoves.{found_next, regions_next, barriers_next, moved}
-
--- mutexes
-pub held_push : (held : List ℕ) (before : List Record) (r : Record) → held_after held (before ++ r ∷ []) ≡ held_after_kind r.kind r.addr (held_after held before)
-held_push held [] r = refl
-held_push held (b ∷ before) r = held_push (held_after_kind b.kind b.addr held) before r
 
 -- numbers
 pub numbered_push : (n : ℕ) (es : List Event) (e : Event) → AreNumbered n es → e.number ≡ n + length es → AreNumbered n (es ++ e ∷ [])
@@ -239,7 +235,7 @@ module _ (logs : Logs) (path : List Step) (before : List Record) (r : Record) (n
       (sums_access walk.summary new.summary begun (event_after before r) is (subst (λ (mutexes : List ℕ). GainsAccess walk.summary new.summary (key_at r mutexes) r.addr) here_held gains)) f
     where
       here_held : held ≡ held_after [] before
-      here_held = held_is ∙ (held_push [] before r ∙ sym (key_held r.kind (held_after [] before) is))
+      here_held = held_is ∙ (held_after-append [] before (r ∷ []) ∙ sym (key_held r.kind (held_after [] before) is))
 
   -- where no access is kept
   pub follows_quiet : (walk : Walk) (begun : List Event) → is_region_kind r.kind ≡ false → is_barrier_kind r.kind ≡ false → is_access r.kind ≡ false

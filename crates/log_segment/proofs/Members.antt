@@ -3,6 +3,7 @@ use Rattle.std.proofs.Common.{◌≡◌, ◌⊎◌, inl, inr, ℕ, zero, suc, Bo
 use Rattle.std.specs.Prelude.{slice_get, map, filter, flat_map, Contains}
 use Rattle.std.specs.List.{AllZip}
 use Rattle.std.proofs.lemmas.Option.{same_Some}
+use Rattle.sw_base.proofs.Lists.{contains_later}
 
 abbrev pub In : {X : Type 0} → X → List X → Type 0
 In x [] = ⊥
@@ -12,9 +13,6 @@ pub from_contains : {X : Type 0} (x : X) (xs : List X) → Contains xs x → In 
 from_contains x [] (k, within, is) = absurd (omega arith)
 from_contains x (y ∷ ys) (zero, within, is) = inl is
 from_contains x (y ∷ ys) (suc k, within, is) = inr (from_contains x ys (k, omega arith, is))
-
-contains_later : {X : Type 0} (y : X) (xs : List X) (x : X) → Contains xs x → Contains (y ∷ xs) x
-contains_later y xs x (k, within, is) = (suc k, omega arith, is)
 
 pub to_contains : {X : Type 0} (x : X) (xs : List X) → In x xs → Contains xs x
 to_contains x [] h = absurd h

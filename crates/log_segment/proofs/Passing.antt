@@ -4,6 +4,7 @@ use Rattle.std.specs.Prelude.{filter, map}
 use Rattle.std.specs.List.{AllZip}
 use Rattle.std.proofs.lemmas.List.{length_push, append-nil}
 use Rattle.sw_base.specs.declared.path.Step.{Step}
+use Rattle.race_model.proofs.Held.{held_after-append}
 use Rattle.log_format.specs.declared.record.Record.{Record}
 use Rattle.log_format.specs.declared.record.Kind.{Kind}
 use Rattle.log_format.specs.declared.record.Kind.TheVariants.{Read, Write, Lock, Unlock, Barrier, Region, Chunk, End, Update}
@@ -17,7 +18,7 @@ use Rattle.log_segment.specs.declared.walking.Walk.{Walk}
 use Rattle.log_segment.specs.Going.{Going, HasWalked, ends_from}
 use Rattle.log_segment.specs.Intervals.{IsSegmentOf}
 use Rattle.log_segment.specs.Walking.{AddsSegments, BeginsLog, IsClosed, begun_after, event_after, ended, ended_by, Follows, IsNextOf, WalksLog}
-use Rattle.log_segment.proofs.Following.{held_push, sums_none, adds_ended}
+use Rattle.log_segment.proofs.Following.{sums_none, adds_ended}
 use Rattle.stride_summary.specs.declared.summary.Summary.{Summary}
 
 -- the intervals of runs
@@ -150,7 +151,7 @@ going_on logs path before r walk now old mid new g follows adds = record {
 }
   where
     later : (rest : List Record) → events_from (length (before ++ r ∷ []) + 1) (held_after [] (before ++ r ∷ [])) rest ≡ events_from (length before + 1 + 1) (held_after_kind r.kind r.addr (held_after [] before)) rest
-    later rest = ap (λ (n : ℕ). events_from (n + 1) (held_after [] (before ++ r ∷ [])) rest) (length_push before r) ∙ ap (λ (h : List ℕ). events_from (length before + 1 + 1) h rest) (held_push [] before r)
+    later rest = ap (λ (n : ℕ). events_from (n + 1) (held_after [] (before ++ r ∷ [])) rest) (length_push before r) ∙ ap (λ (h : List ℕ). events_from (length before + 1 + 1) h rest) (held_after-append [] before (r ∷ []))
 
 pub begins_before : (logs : Logs) (path : List Step) (before : List Record) (r : Record) → BeginsLog logs path (before ++ r ∷ []) → IsNextOf logs path before r
 begins_before logs path before r b = record { rest = b.rest; parts = b.parts ∙ append_assoc before (r ∷ []) b.rest }

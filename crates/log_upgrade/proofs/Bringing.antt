@@ -1,19 +1,19 @@
 -- Logs that were brought over, and those that come.
 use Rattle.std.proofs.Common.{◌≡◌, ◌≢◌, inr, ℕ, zero, suc, ◌+◌, ◌<◌, List, [], ◌∷◌, ◌++◌, length, get_or, take, drop, Option, Some, sym, ap, subst, ◌∙◌, arith}
 use Rattle.std.specs.Prelude.{All, slice_get}
-use Rattle.std.proofs.lemmas.List.{get_or-map, length-map, take_all}
+use Rattle.std.proofs.lemmas.List.{length-map, take_all}
 use Rattle.std.proofs.lemmas.List.Elements.{All-take, All-weaker}
 use Rattle.std.proofs.lemmas.Option.{same_Some, slice_get-get_or}
-use Rattle.sw_base.specs.declared.path.Step.{Step}
 use Rattle.sw_base.specs.Environment.{Content, LeavesPrefix, with_put}
 use Rattle.sw_base.specs.Names.{log_name}
 use Rattle.sw_base.proofs.NameLaws.{HasPlace}
+use Rattle.log_walk.proofs.RowsApart.{all_places}
 use Rattle.log_format.specs.declared.format.Format.TheVariants.{First}
 use Rattle.log_format.specs.declared.format.TheConstants.{FORMAT}
 use Rattle.log_format.specs.Format.{log_header}
 use Rattle.log_format.specs.Spelling.{log_bytes}
-use Rattle.race_model.specs.FirstBad.{row_of, rows_of}
-use Rattle.race_model.specs.IndexFault.{IsRow, IsStep}
+use Rattle.race_model.specs.FirstBad.{row_of}
+use Rattle.race_model.specs.IndexFault.{IsRow}
 use Rattle.race_model.specs.LogFault.{IsWholeLog}
 use Rattle.race_model.specs.Row.{Row}
 use Rattle.race_model.specs.Trace.{TaskLog, Trace}
@@ -22,16 +22,6 @@ use Rattle.log_index.specs.Puts.{with_tasks}
 use Rattle.log_index.proofs.Putting.{HasPlaces, other_file, with_tasks-push}
 use Rattle.log_upgrade.specs.Upgrade.{BringsPart, CanBring}
 use Rattle.log_upgrade.proofs.Names.{log_name-dir}
-
--- a step of a path fits its place
-has_place : (step : Step) → IsStep step → HasPlace step
-has_place step is = let region = is.region in let lane = is.lane in let span = is.span.limit in (omega arith, omega arith)
-
--- the paths of rows have places
-pub all_places : (trace : Trace) → All IsRow (rows_of trace) → All HasPlaces trace
-all_places trace rows k d within =
-    All-weaker IsStep HasPlace has_place (get_or trace k d).path
-    (subst IsRow (get_or-map row_of trace k d (row_of d) within) (rows k (row_of d) (omega (arith, within, length-map trace row_of)))).steps
 
 -- the first tasks and the next one
 take_next : (trace : Trace) (k : ℕ) (task : TaskLog) → slice_get trace k ≡ Some task → take (suc k) trace ≡ take k trace ++ task ∷ []

@@ -1,14 +1,12 @@
 -- The folder into which a run was brought over holds it, and is bad nowhere.
-use Rattle.std.proofs.Common.{◌≡◌, ◌≢◌, inl, inr, ℕ, zero, suc, ◌<◌, List, [], ◌∷◌, length, get_or, map, take, Option, Some, None, refl, sym, ap, ◌∙◌, arith}
-use Rattle.std.specs.Prelude.{slice_get}
+use Rattle.std.proofs.Common.{◌≡◌, ◌≢◌, ℕ, ◌<◌, List, [], ◌∷◌, length, get_or, take, sym, ◌∙◌}
 use Rattle.std.proofs.lemmas.List.{length-map}
 use Rattle.std.proofs.lemmas.List.Elements.{All-weaker}
 use Rattle.std.proofs.lemmas.Option.{slice_get-get_or}
-use Rattle.sw_base.specs.declared.path.Step.{Step}
 use Rattle.sw_base.specs.Environment.{Content}
 use Rattle.sw_base.specs.Names.{index_name, log_name}
 use Rattle.sw_base.proofs.AfterPut.{with_file-elsewhere}
-use Rattle.sw_base.proofs.NameLaws.{log_name-not_index, place}
+use Rattle.sw_base.proofs.NameLaws.{log_name-not_index}
 use Rattle.log_format.specs.declared.format.Format.TheVariants.{First}
 use Rattle.log_format.specs.declared.format.TheConstants.{FORMAT}
 use Rattle.log_format.specs.Table.{IsTabled}
@@ -22,43 +20,9 @@ use Rattle.race_laws.proofs.IndexRows.{put_is_index}
 use Rattle.log_walk.specs.GoodTrace.{IsGoodTask, IsGoodTrace}
 use Rattle.log_walk.specs.Walk.{Walked}
 use Rattle.log_walk.proofs.Places.{holds_trace, is_well_formed}
-use Rattle.log_walk.proofs.RowOrder.{PathBefore, listing_sorted}
 use Rattle.log_index.specs.Puts.{with_run, with_tasks}
-use Rattle.log_index.proofs.Putting.{AreApart, all_there}
-use Rattle.log_upgrade.proofs.Bringing.{all_places}
-
-first_place : (s t : Step) (p q : List Step) → map place (s ∷ p) ≡ map place (t ∷ q) → place s ≡ place t
-first_place s t p q same = ap (λ (at : List (ℕ × ℕ)). get_or at 0 (0, 0)) same
-
--- paths at one place aren't before one another
-at_one_place : (p q : List Step) → PathBefore p q → map place p ≢ map place q
-at_one_place [] [] before same = before
-at_one_place [] (t ∷ q) before same = let none : ◌≡◌ {A = ℕ} 0 (suc (length (map place q))) = ap length same in absurd (omega (arith, none))
-at_one_place (s ∷ p) [] before same = before
-at_one_place (s ∷ p) (t ∷ q) (inl (inl less)) same = absurd (omega (arith, less, ap (λ (at : ℕ × ℕ). at.0) (first_place s t p q same)))
-at_one_place (s ∷ p) (t ∷ q) (inl (inr less)) same = absurd (omega (arith, less.1, ap (λ (at : ℕ × ℕ). at.1) (first_place s t p q same)))
-at_one_place (s ∷ p) (t ∷ q) (inr later) same = at_one_place p q later.1 (let rest : map place p ≡ map place q = cc in rest)
-
--- those of a listing are at places of their own
-listed_apart : (trace : Trace) → ((i j : ℕ) (a b : TaskLog) → i < j → slice_get trace i ≡ Some a → slice_get trace j ≡ Some b → PathBefore a.path b.path) → AreApart trace
-listed_apart [] sorted = tt
-listed_apart (task ∷ trace) sorted = (
-  (λ k d within. at_one_place task.path (get_or trace k d).path (sorted 0 (suc k) task (get_or trace k d) (omega arith) refl (slice_get-get_or trace k d within))),
-  listed_apart trace (λ i j a b less one other. sorted (suc i) (suc j) a b (omega (arith, less)) one other),
-)
-
-path_at : (trace : Trace) (k : ℕ) (task : TaskLog) → slice_get trace k ≡ Some task → slice_get (map (λ (row : Row). row.path) (rows_of trace)) k ≡ Some task.path
-path_at [] k task found = cc
-path_at (t ∷ trace) zero task found = ap (option_path) found
-  where
-    option_path : Option TaskLog → Option (List Step)
-    option_path (Some x) = Some x.path
-    option_path None = None
-path_at (t ∷ trace) (suc k) task found = path_at trace k task found
-
-rows_apart : (trace : Trace) → AreRows (rows_of trace) → AreApart trace
-rows_apart trace rows =
-    listed_apart trace (λ i j a b less one other. listing_sorted (map (λ (row : Row). row.path) (rows_of trace)) i j a.path b.path rows.lists less (path_at trace i a one) (path_at trace j b other))
+use Rattle.log_index.proofs.Putting.{all_there}
+use Rattle.log_walk.proofs.RowsApart.{all_places, rows_apart}
 
 -- what is good by the first format is so by the second
 task_second : (rows : List Row) (earlier : Trace) (task : TaskLog) → IsGoodTask First rows earlier task → IsGoodTask FORMAT rows earlier task

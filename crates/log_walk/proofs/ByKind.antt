@@ -1,6 +1,7 @@
 -- A record of each kind: which rule it breaks first, and that it breaks none.
 use Rattle.std.proofs.Common.{◌≡◌, ◌≢◌, ◌⊎◌, inl, inr, ℕ, ◌+◌, ◌^◌, ◌<◌, ◌≤◌, List, [], ◌∷◌, ◌++◌, length, Some, refl, sym, ap, subst, ◌∙◌, arith, Contains}
 use Rattle.std.specs.Prelude.{slice_get, Option, None, MatchOption}
+use Rattle.race_model.proofs.Held.{held_after-append}
 use Rattle.log_format.specs.declared.record.Record.{Record}
 use Rattle.log_format.specs.declared.record.Kind.{Kind}
 use Rattle.log_format.specs.declared.record.Kind.TheVariants.{Read, Write, Lock, Unlock, Barrier, Region, Chunk, End, Update}
@@ -13,11 +14,6 @@ use Rattle.race_model.specs.BadPlace.{record_rank, last_rank}
 use Rattle.race_model.specs.Race.{held_after, held_after_kind}
 use Rattle.race_model.specs.Trace.{region_count, barrier_count}
 use Rattle.log_walk.specs.Rules.{BreaksNone, BreaksFirst, InPlace, Locks, CantLock, Unlocks, CantUnlock, MayPass, CantPass, MayFork, CantFork, MayEnd, CantEnd}
-
--- the mutexes after one record more
-pub held_after-push : (held : List ℕ) (records : List Record) (r : Record) → held_after held (records ++ r ∷ []) ≡ held_after_kind r.kind r.addr (held_after held records)
-held_after-push held [] r = refl
-held_after-push held (s ∷ records) r = held_after-push (held_after_kind s.kind s.addr held) records r
 
 -- where the record stands among so many
 abbrev pub Placed : LogTask → List Record → Record → Type 0
@@ -223,7 +219,7 @@ Keeps before r now = now ≡ held_after [] (before ++ r ∷ [])
 
 kept : (before : List Record) (r : Record) (held now : List ℕ) (kind : Kind) → r.kind ≡ kind → held ≡ held_after [] before → now ≡ held_after_kind kind r.addr held → Keeps before r now
 kept before r held now kind is_kind is now_is =
-    now_is ∙ ap (λ (hs : List ℕ). held_after_kind kind r.addr hs) is ∙ ap (λ (k : Kind). held_after_kind k r.addr (held_after [] before)) (sym is_kind) ∙ sym (held_after-push [] before r)
+    now_is ∙ ap (λ (hs : List ℕ). held_after_kind kind r.addr hs) is ∙ ap (λ (k : Kind). held_after_kind k r.addr (held_after [] before)) (sym is_kind) ∙ sym (held_after-append [] before (r ∷ []))
 
 pub lock_none : (task : LogTask) (before : List Record) (r : Record) (held now : List ℕ) → held ≡ held_after [] before → r.kind ≡ Lock → Placed task before r
     → Locks held r.addr now → BreaksNone task before r × Keeps before r now

@@ -1,5 +1,5 @@
 -- The fork of a task whose parent's log was gone over, and the task's first label.
-use Rattle.std.proofs.Common.{◌≡◌, ◌≢◌, ◌⊎◌, inl, inr, ℕ, ◌+◌, ◌<◌, ◌≤◌, true, cond, List, [], ◌∷◌, ◌++◌, length, take, Option, Some, None, refl, sym, ap, subst, ◌∙◌, arith, All}
+use Rattle.std.proofs.Common.{◌≡◌, ◌≢◌, ◌⊎◌, inl, inr, ℕ, ◌+◌, ◌<◌, ◌≤◌, cond, List, [], ◌∷◌, ◌++◌, length, take, Option, Some, None, refl, sym, ap, subst, ◌∙◌, arith, All}
 use Rattle.std.specs.Prelude.{slice_get, option_map, Contains}
 use Rattle.std.specs.Global.{Vec}
 use Rattle.std.proofs.lemmas.Bool.{cases_order}
@@ -8,10 +8,10 @@ use Rattle.std.proofs.lemmas.List.Sums.{sum_by-take-le}
 use Rattle.std.proofs.lemmas.List.Elements.{All-contains, Contains-push}
 use Rattle.std.proofs.lemmas.Option.{same_Some, slice_get_within, slice_get-map, get_or_from_slice_get}
 use Rattle.sw_base.specs.declared.path.Step.{Step}
+use Rattle.sw_base.proofs.Lists.{get_seam}
 use Rattle.log_format.specs.declared.format.Format.{Format}
 use Rattle.log_format.specs.declared.record.Record.{Record}
-use Rattle.log_format.specs.declared.record.Kind.{Kind}
-use Rattle.log_format.specs.declared.record.Kind.TheVariants.{Read, Write, Lock, Unlock, Barrier, Region, Chunk, End, Update}
+use Rattle.log_format.specs.declared.record.Kind.TheVariants.{Region, End}
 use Rattle.race_model.specs.declared.why.RecordWhy.TheVariants as log
 use Rattle.race_model.specs.Row.{Row}
 use Rattle.race_model.specs.IndexFault.{AreRows, IsRow, IsStep}
@@ -20,7 +20,7 @@ use Rattle.race_model.specs.LogFault.{LogTask}
 use Rattle.race_model.specs.FirstBad.{row_of}
 use Rattle.race_model.specs.Trace.{TaskLog, Trace, Logs, logs_of, region_count, is_region_kind}
 use Rattle.race_model.specs.ForkJoin.{WasForked}
-use Rattle.race_laws.proofs.Counts.{count_finds, Counted}
+use Rattle.race_laws.proofs.Counts.{count_finds, Counted, below_later, is_end, region_from_true}
 use Rattle.race_laws.proofs.LabelPlace.{has_last, HasLast}
 use Rattle.race_laws.proofs.Listed.{above_listed}
 use Rattle.race_model.proofs.TraceLogs.{task_in}
@@ -34,32 +34,9 @@ use Rattle.log_walk.specs.Stack.{KnowsForks}
 use Rattle.log_walk.specs.declared.stack.Stack.{Stack}
 use Rattle.log_walk.proofs.Places.{slice_get_take}
 use Rattle.log_walk.proofs.RowOrder.{listing_sorted, listed_once}
-use Rattle.log_walk.proofs.SoFar.{slice_get_last}
 use Rattle.log_walk.proofs.SpanOrder.{paths_of, row_path, path_found, contains_at, place_of, not_before_above}
 use Rattle.log_walk.proofs.TaskAt.{IsOnce, logs_at}
 use Rattle.log_walk.proofs.TaskReads.{got_contains}
-
-is_end : (k : Kind) → (k ≡ End) ⊎ (k ≢ End)
-is_end End = inl refl
-is_end Read = inr (λ e. cc)
-is_end Write = inr (λ e. cc)
-is_end Lock = inr (λ e. cc)
-is_end Unlock = inr (λ e. cc)
-is_end Barrier = inr (λ e. cc)
-is_end Region = inr (λ e. cc)
-is_end Chunk = inr (λ e. cc)
-is_end Update = inr (λ e. cc)
-
-region_from : (k : Kind) → is_region_kind k ≡ true → k ≡ Region
-region_from Region e = refl
-region_from Read e = cc
-region_from Write e = cc
-region_from Lock e = cc
-region_from Unlock e = cc
-region_from Barrier e = cc
-region_from Chunk e = cc
-region_from End e = cc
-region_from Update e = cc
 
 not_not_same : (m n : ℕ) → ((m ≢ n) → ⊥) → m ≡ n
 not_not_same m n h = at (same_or_not m n) where
@@ -72,13 +49,13 @@ not_not_same m n h = at (same_or_not m n) where
 
 -- a log that keeps the rules forks all listed regions
 forks_all : (records : List Record) (task : LogTask) (region : ℕ) → KeepsLogRules task records → task.records ≡ length records → region < length task.spans → HasLast records → region < region_count records
-forks_all records task region keeps counted within l = beyond region (length task.spans) (region_count l.prefix) (region_count records) within fewer up
+forks_all records task region keeps counted within l = below_later region (length task.spans) (region_count l.prefix) (region_count records) within fewer up
   where
     before : take (length l.prefix) records ≡ l.prefix
     before = ap (λ (rs : List Record). take (length l.prefix) rs) l.parts ∙ take_at l.prefix (l.last ∷ []) (length l.prefix) refl
 
     found : slice_get records (length l.prefix) ≡ Some l.last
-    found = subst (λ (rs : List Record). slice_get rs (length l.prefix) ≡ Some l.last) (sym l.parts) (slice_get_last l.prefix l.last)
+    found = subst (λ (rs : List Record). slice_get rs (length l.prefix) ≡ Some l.last) (sym l.parts) (get_seam l.prefix l.last [])
 
     number : length l.prefix + 1 ≡ task.records
     number = sym (counted ∙ (ap length l.parts ∙ length_push l.prefix l.last))
@@ -92,9 +69,6 @@ forks_all records task region keeps counted within l = beyond region (length tas
     up : region_count l.prefix ≤ region_count records
     up = subst (λ (rs : List Record). region_count rs ≤ region_count records) before (sum_by-take-le (λ (r : Record). cond (is_region_kind r.kind) 1 0) records (length l.prefix))
 
-    beyond : (n a b c : ℕ) → n < a → (b < a → ⊥) → b ≤ c → n < c
-    beyond n a b c h g le = grind arith
-
 -- one with its span
 forked_by : (logs : Logs) (path : List Step) (step : Step) (records : List Record) (task : LogTask) → logs path ≡ records → KeepsLogRules task records → task.records ≡ length records
     → slice_get task.spans step.region ≡ Some step.span → HasLast records → step.lane < step.span → WasForked logs path step
@@ -103,7 +77,7 @@ forked_by logs path step records task is_log keeps counted listed l in_span = bu
   where
     build : Counted (λ (r : Record). is_region_kind r.kind) records step.region → WasForked logs path step
     build c =
-        let is_region : c.item.kind ≡ Region = region_from c.item.kind c.counts in
+        let is_region : c.item.kind ≡ Region = region_from_true c.item.kind c.counts in
         let value : c.item.value ≡ step.span = not_not_same c.item.value step.span
         (λ ne. keeps.each c.index c.item c.found log.RegionRows (inl (is_region, (λ also. ne (same_Some c.item.value step.span (sym also ∙ (ap (λ (n : ℕ). slice_get task.spans n) c.before ∙ listed))))))) in
         record {

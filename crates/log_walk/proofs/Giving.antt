@@ -5,6 +5,7 @@ use Rattle.std.specs.List.{AllZip}
 use Rattle.std.proofs.lemmas.List.{length-append}
 use Rattle.std.proofs.lemmas.Option.{slice_get_within, slice_get-get_or, slice_get-map}
 use Rattle.sw_base.specs.declared.path.Step.{Step}
+use Rattle.sw_base.proofs.Lists.{get_left, get_right}
 use Rattle.log_format.specs.declared.format.Format.{Format}
 use Rattle.log_format.specs.declared.record.Record.{Record}
 use Rattle.race_model.specs.Row.{Row}
@@ -24,7 +25,6 @@ use Rattle.log_segment.proofs.WholeRun.{IsTaskOf, are_segments, in_its_log}
 use Rattle.log_walk.specs.GoodTrace.{IsGoodTrace}
 use Rattle.log_walk.proofs.Forked.{TaskThere, forked, own_logs, path_there, task_there}
 use Rattle.log_walk.proofs.RowOrder.{PathBefore, StepBefore, listing_sorted}
-use Rattle.log_walk.proofs.SoFar.{slice_get_left}
 use Rattle.log_walk.proofs.SpanOrder.{paths_of, path_found}
 use Rattle.log_walk.proofs.TaskAt.{indexed_once, logs_at}
 use Rattle.log_walk.proofs.TaskReads.{contains_got, got_contains}
@@ -40,11 +40,6 @@ path_before [] (t ∷ q) before = IsPathBefore.under t q
 path_before (s ∷ p) [] before = absurd before
 path_before (s ∷ p) (t ∷ q) (inl less) = IsPathBefore.differ s t p q (step_before s t less)
 path_before (s ∷ p) (t ∷ q) (inr (same, before)) = subst (λ (u : Step). IsPathBefore (s ∷ p) (u ∷ q)) same (IsPathBefore.same s p q (path_before p q before))
-
--- elements behind others
-pub slice_get_right : {X : Type 0} (xs ys : List X) (k : ℕ) → slice_get (xs ++ ys) (length xs + k) ≡ slice_get ys k
-slice_get_right [] ys k = ap (λ n. slice_get ys n) (let none : 0 + k ≡ k = omega arith in none)
-slice_get_right (x ∷ xs) ys k = ap (λ n. slice_get (x ∷ xs ++ ys) n) (let next : suc (length xs) + k ≡ suc (length xs + k) = omega arith in next) ∙ slice_get_right xs ys k
 
 in_place : {X : Type 0} (x : X) (xs : List X) → In x xs → (k : ℕ) × (slice_get xs k ≡ Some x)
 in_place x [] h = absurd h
@@ -62,7 +57,7 @@ tasks_ordered (t ∷ trace) all = (
 -- the segments of the last tasks of a good trace
 module _ {format : Format} (rows : List Row) (trace more : Trace) (good : AreRows rows) (is : IsGoodTrace format rows (trace ++ more)) where
   at_place : (k : ℕ) (task : TaskLog) → slice_get more k ≡ Some task → slice_get (trace ++ more) (length trace + k) ≡ Some task
-  at_place k task found = slice_get_right trace more k ∙ found
+  at_place k task found = get_right trace more k ∙ found
 
   pub own_at : (logs : Logs) → HasLogs logs (trace ++ more) → (k : ℕ) (task : TaskLog) → slice_get more k ≡ Some task → logs task.path ≡ task.records
   own_at logs has k task found = has task (contains_got (trace ++ more) (length trace + k) task (at_place k task found))
@@ -100,7 +95,7 @@ module _ {format : Format} (rows : List Row) (trace more : Trace) (good : AreRow
 pub whole_logs : (rows : List Row) (first rest whole : Trace) → AreRows rows → rows_of whole ≡ rows → whole ≡ first ++ rest → HasLogs (logs_of whole) first
 whole_logs rows first rest whole good rows_are parts task listed =
     let at = got_contains first task listed in
-    let found : slice_get whole at.0 ≡ Some task = ap (λ (t : Trace). slice_get t at.0) parts ∙ (slice_get_left first rest at.0 (slice_get_within first at.0 task at.1) ∙ at.1) in
+    let found : slice_get whole at.0 ≡ Some task = ap (λ (t : Trace). slice_get t at.0) parts ∙ (get_left first rest at.0 (slice_get_within first at.0 task at.1) ∙ at.1) in
     logs_at whole at.0 task (indexed_once rows whole (record { rows_are = rows_are; good = good })) found
 
 -- segments that were added to none
@@ -118,7 +113,7 @@ segments_are rows trace more rest whole IsOne found good is rows_are parts ones 
     mine : (k : ℕ) (task : TaskLog) → slice_get more k ≡ Some task → IsOne task.path
     mine k task there =
         let within = slice_get_within more k task there in
-        ones (length trace + k) (row_of task) (path_there rows (trace ++ more) (length trace + k) task is (slice_get_right trace more k ∙ there)) (omega arith) (omega (arith, within, length-append trace more))
+        ones (length trace + k) (row_of task) (path_there rows (trace ++ more) (length trace + k) task is (get_right trace more k ∙ there)) (omega arith) (omega (arith, within, length-append trace more))
 
     row_whole : (i : ℕ) (task : TaskLog) → slice_get whole i ≡ Some task → slice_get rows i ≡ Some (row_of task)
     row_whole i task there = ap (λ (rs : List Row). slice_get rs i) (sym rows_are) ∙ (slice_get-map row_of whole i ∙ ap (λ (o : Option TaskLog). option_map row_of o) there)
@@ -134,7 +129,7 @@ segments_are rows trace more rest whole IsOne found good is rows_are parts ones 
             record {
               index = f.index - length trace;
               task = f.task;
-              found = sym (slice_get_right trace more (f.index - length trace)) ∙ (ap (λ (n : ℕ). slice_get (trace ++ more) n) place
-                  ∙ (sym (slice_get_left (trace ++ more) rest f.index bounds.1) ∙ (ap (λ (t : Trace). slice_get t f.index) (sym parts) ∙ f.found)));
+              found = sym (get_right trace more (f.index - length trace)) ∙ (ap (λ (n : ℕ). slice_get (trace ++ more) n) place
+                  ∙ (sym (get_left (trace ++ more) rest f.index bounds.1) ∙ (ap (λ (t : Trace). slice_get t f.index) (sym parts) ∙ f.found)));
               path_is = f.path_is;
             }

@@ -22,3 +22,4 @@ pub mod Sweeping
 pub mod TaskAt
 pub mod TaskReads
 pub mod WalkMoves
+pub mod RowsApart

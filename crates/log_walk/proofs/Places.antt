@@ -14,6 +14,7 @@ use Rattle.std.proofs.lemmas.Option.{same_Some, slice_get_within, get_or_from_sl
 use Rattle.sw_base.specs.declared.path.Step.{Step}
 use Rattle.sw_base.specs.Environment.{Files}
 use Rattle.sw_base.specs.Names.{log_name}
+use Rattle.sw_base.proofs.Lists.{get_left, get_seam}
 use Rattle.log_format.specs.declared.format.Format.{Format}
 use Rattle.log_format.specs.Format.{log_header}
 use Rattle.log_format.specs.declared.record.Record.{Record}
@@ -33,7 +34,7 @@ use Rattle.race_laws.proofs.IndexPlaces.{index_good}
 use Rattle.log_walk.specs.Check.{NothingBefore}
 use Rattle.log_walk.specs.GoodTrace.{IsGoodTask, IsGoodTrace, AreTeamBarriers, FollowsTeam, log_task}
 use Rattle.log_walk.specs.Walk.{Walked}
-use Rattle.log_walk.proofs.SoFar.{below_or_at, slice_get_left, slice_get_last}
+use Rattle.log_walk.proofs.SoFar.{below_or_at}
 use Rattle.log_walk.proofs.Next.{no_overflow_in}
 use Rattle.race_laws.proofs.IndexRows.{index_once}
 use Rattle.race_laws.proofs.FolderTrace.{same_tasks}
@@ -427,9 +428,9 @@ good_next {format} rows trace task good found good_task few = record {
       elim (below_or_at k (length trace) within) [
         | inl less ↦
             subst (λ (earlier : Trace). IsGoodTask format rows earlier t) (sym (prefix k (omega arith)))
-            (good.each k t (sym (slice_get_left trace (task ∷ []) k less) ∙ at))
+            (good.each k t (sym (get_left trace (task ∷ []) k less) ∙ at))
         | inr same ↦
-            let task_is : task ≡ t = same_Some task t (sym (slice_get_last trace task) ∙ ap (λ (j : ℕ). slice_get (trace ++ task ∷ []) j) (sym same) ∙ at) in
+            let task_is : task ≡ t = same_Some task t (sym (get_seam trace task []) ∙ ap (λ (j : ℕ). slice_get (trace ++ task ∷ []) j) (sym same) ∙ at) in
             subst (λ (earlier : Trace). IsGoodTask format rows earlier t) (sym (prefix k (omega arith) ∙ take_all k trace (omega arith)))
             (subst (λ (u : TaskLog). IsGoodTask format rows trace u) task_is good_task)
       ]

@@ -1,10 +1,11 @@
 -- A log that was read so far: what its next bytes say of it.
-use Rattle.std.proofs.Common.{◌≡◌, ◌⊎◌, inl, inr, ℕ, zero, suc, ◌+◌, ◌<◌, ◌≤◌, List, [], ◌∷◌, ◌++◌, length, take, drop, Some, refl, sym, ap, subst, ◌∙◌, arith, append_assoc, append-nil, All}
+use Rattle.std.proofs.Common.{◌≡◌, ◌⊎◌, inl, inr, ℕ, ◌+◌, ◌<◌, ◌≤◌, List, [], ◌∷◌, ◌++◌, length, take, drop, Some, refl, sym, ap, subst, ◌∙◌, arith, append_assoc, append-nil, All}
 use Rattle.std.specs.Prelude.{slice_get}
 use Rattle.std.proofs.lemmas.List.{length-append, take_at, take-append-drop, take-append-le, get_or_append_left, get_or_push}
 use Rattle.std.proofs.lemmas.Bool.{cases_order}
 use Rattle.std.proofs.lemmas.Option.{slice_get_within}
 use Rattle.sw_base.specs.Window.{Window, Shows}
+use Rattle.sw_base.proofs.Lists.{get_left, get_seam}
 use Rattle.log_format.specs.declared.format.Format.{Format}
 use Rattle.log_format.specs.Format.{log_header}
 use Rattle.log_format.specs.declared.record.Record.{Record}
@@ -63,15 +64,6 @@ all_push P xs x each last k d within = elim (below_or_at k (length xs) (omega (a
   | inr same ↦ subst P (sym (get_or_push xs x d k (sym same))) last
 ]
 
-pub slice_get_left : {X : Type 0} (xs ys : List X) (k : ℕ) → k < length xs → slice_get (xs ++ ys) k ≡ slice_get xs k
-slice_get_left [] ys k within = absurd (omega arith)
-slice_get_left (x ∷ xs) ys zero within = refl
-slice_get_left (x ∷ xs) ys (suc k) within = slice_get_left xs ys k (omega arith)
-
-pub slice_get_last : {X : Type 0} (xs : List X) (x : X) → slice_get (xs ++ x ∷ []) (length xs) ≡ Some x
-slice_get_last [] x = refl
-slice_get_last (y ∷ xs) x = slice_get_last xs x
-
 some_same : {X : Type 0} (x y : X) → Some x ≡ Some y → x ≡ y
 some_same x y same = cc
 
@@ -81,11 +73,11 @@ keeps_push task records r keeps holds = record {
       let within : k < length records + 1 = omega (arith, slice_get_within (records ++ r ∷ []) k s found, length-append records (r ∷ [])) in
       elim (below_or_at k (length records) within) [
         | inl less ↦
-            keeps.each k s (sym (slice_get_left records (r ∷ []) k less) ∙ found) rule
+            keeps.each k s (sym (get_left records (r ∷ []) k less) ∙ found) rule
             (subst (λ (rs : List Record). Breaks task rs s rule) (take-append-le k records (r ∷ []) (omega arith)) breaks)
         | inr same ↦
             holds rule
-            (subst (λ (t : Record). Breaks task records t rule) (some_same s r (sym found ∙ ap (λ (j : ℕ). slice_get (records ++ r ∷ []) j) same ∙ slice_get_last records r))
+            (subst (λ (t : Record). Breaks task records t rule) (some_same s r (sym found ∙ ap (λ (j : ℕ). slice_get (records ++ r ∷ []) j) same ∙ get_seam records r []))
             (subst (λ (rs : List Record). Breaks task rs s rule) (take_at records (r ∷ []) k (sym same)) breaks))
       ];
 }

@@ -6,6 +6,7 @@ use Rattle.std.proofs.lemmas.List.{length_push, length-take-le, take-take, take-
 use Rattle.std.proofs.lemmas.List.Elements.{Contains-push}
 use Rattle.std.proofs.lemmas.Option.{same_Some, slice_get_within}
 use Rattle.sw_base.specs.declared.path.Step.{Step}
+use Rattle.sw_base.proofs.Lists.{get_kept, get_pushed}
 use Rattle.log_format.specs.declared.record.Record.{Record}
 use Rattle.race_model.specs.Label.{Triple}
 use Rattle.race_model.specs.Listing.{IsNextPath, lane_of}
@@ -17,18 +18,6 @@ use Rattle.log_segment.specs.Walking.{AreForks, HasLogs}
 use Rattle.log_walk.specs.GoodTrace.{AreTeamBarriers, LeadsTeam}
 use Rattle.log_walk.specs.Stack.{HasTeam, IsCountOf, KnowsForks, KnowsTeams, counts_with}
 use Rattle.log_walk.specs.declared.stack.Stack.{Stack}
-
--- a list cut and one more
-prefix_at : {X : Type 0} (xs : List X) (x y : X) (n k : ℕ) → k < n → slice_get xs k ≡ Some y → slice_get (take n xs ++ x ∷ []) k ≡ Some y
-prefix_at [] x y n k less found = cc
-prefix_at (z ∷ xs) x y zero k less found = absurd (omega arith)
-prefix_at (z ∷ xs) x y (suc n) zero less found = found
-prefix_at (z ∷ xs) x y (suc n) (suc k) less found = prefix_at xs x y n k (omega arith) found
-
-last_at : {X : Type 0} (xs : List X) (x : X) (n : ℕ) → n ≤ length xs → slice_get (take n xs ++ x ∷ []) n ≡ Some x
-last_at xs x zero le = refl
-last_at [] x (suc n) le = absurd (omega arith)
-last_at (z ∷ xs) x (suc n) le = last_at xs x n (omega arith)
 
 take_whole : {X : Type 0} (xs : List X) → take (length xs) xs ≡ xs
 take_whole [] = refl
@@ -83,7 +72,7 @@ forks_next stack now trace task next labels goes knows forks are logs has depth 
         let h = knows logs before depth less in
         record {
           labels = h.labels;
-          row = subst (λ (fs : List (Vec (List Triple))). slice_get fs depth ≡ Some h.labels) (sym forks) (prefix_at stack.forks.items labels h.labels (length task.path) depth less h.row);
+          row = subst (λ (fs : List (Vec (List Triple))). slice_get fs depth ≡ Some h.labels) (sym forks) (get_kept stack.forks.items labels h.labels (length task.path) depth less h.row);
           are = subst (λ (p : List Step). AreForks logs p (length (logs p)) h.labels.items) prefix h.are;
         }
     go (inr at) =
@@ -91,7 +80,7 @@ forks_next stack now trace task next labels goes knows forks are logs has depth 
         record {
           labels = labels;
           row = subst (λ (fs : List (Vec (List Triple))). slice_get fs depth ≡ Some labels) (sym forks)
-              (subst (λ (n : ℕ). slice_get (take (length task.path) stack.forks.items ++ labels ∷ []) n ≡ Some labels) (sym at) (last_at stack.forks.items labels (length task.path) long));
+              (subst (λ (n : ℕ). slice_get (take (length task.path) stack.forks.items ++ labels ∷ []) n ≡ Some labels) (sym at) (get_pushed stack.forks.items labels (length task.path) long));
           are = subst (λ (p : List Step). AreForks logs p (length (logs p)) labels.items) (sym whole)
               (subst (λ (n : ℕ). AreForks logs task.path n labels.items) (sym (ap length (has task (Contains-push trace task)))) (are logs has));
         }
@@ -163,7 +152,7 @@ teams_here stack trace task count knows own above step rest parts = go rest part
           listed = own.listed;
           first_path = own.first_path above step is;
           counted = subst (λ (ns : List ℕ). slice_get ns (length above) ≡ Some (barrier_count own.first.records)) (sym (counts_are task.path (length above) (ap length is ∙ length_push above step)))
-              (last_at stack.barriers.items count (length above) enough ∙ ap (λ (n : ℕ). Some n) own.counted);
+              (get_pushed stack.barriers.items count (length above) enough ∙ ap (λ (n : ℕ). Some n) own.counted);
         }
     go (m ∷ more) is =
         let t = knows above step (m ∷ more) is (inl (λ none. cc)) in
@@ -172,7 +161,7 @@ teams_here stack trace task count knows own above step rest parts = go rest part
           listed = contains_more trace task t.first t.listed;
           first_path = t.first_path;
           counted = subst (λ (ns : List ℕ). slice_get ns (length above) ≡ Some (barrier_count t.first.records)) (sym (counts_are task.path (length above + 1 + length more) (ap length is ∙ lengths above)))
-              (prefix_at stack.barriers.items count (barrier_count t.first.records) (length above + 1 + length more) (length above) (omega arith) t.counted);
+              (get_kept stack.barriers.items count (barrier_count t.first.records) (length above + 1 + length more) (length above) (omega arith) t.counted);
         }
       where
         lengths : (xs : List Step) → length (xs ++ step ∷ m ∷ more) ≡ length xs + 1 + length more + 1

@@ -2,13 +2,14 @@
 ghost use Rattle.std.specs.Prelude.{◌≡◌, ◌+◌, ◌-◌, ◌*◌, ◌<◌, ◌≤◌, ℕ, List, Option, [], ◌∷◌, ◌++◌, length, drop, IfOk, IfErr, IsErrOf, OnOk};
 ghost use Rattle.sw_base.specs.Environment.{Content, WhereTold, Rose};
 ghost use Rattle.sw_base.specs.Window.{file_of};
-ghost use Rattle.log_format.specs.Table.{Spells};
+ghost use Rattle.log_format.specs.Table.{HasAddress, Spells};
+ghost use Rattle.log_format.specs.declared.format.Format.{Format};
 ghost use Rattle.log_format.specs.declared.record.Record.{Record};
 ghost use Rattle.log_segment.specs.declared.segment.Segment.{Segment};
 ghost use Rattle.log_segment.specs.Walking.{IsOwnAfter};
-ghost use Rattle.log_walk.specs.Check.{of_why, IsGoodNext, IsNextRefused, ChecksLog, IsLogRefused};
+ghost use Rattle.log_walk.specs.Check.{of_why, IsNextRefused, ChecksLog, IsLogRefused};
 ghost use Rattle.log_walk.specs.LogSoFar.{LogSoFar};
-ghost use Rattle.log_walk.specs.Rules.{log_task_of};
+ghost use Rattle.log_walk.specs.Rules.{BreaksNone, log_task_of};
 ghost use Rattle.log_walk.specs.State.{IsStateAfter, IsWalkAfter};
 ghost use Rattle.race_model.specs.LogFault.{max_segments};
 ghost use Rattle.race_model.specs.IndexFault.{max_records};
@@ -100,44 +101,35 @@ fn rule_of(why: Why) -> RecordWhy
     }
 }
 
-/// The record that these bytes spell, where it keeps the rules.
+/// Takes the next record, where it keeps the rules.
 fn accept(
-    format: Format,
     state: &mut State,
     walk: &Walk,
     task: &Task,
     number: u32,
-    bytes: &[u8; 24],
-) -> Result<Record, LogFault>
+    next: &Record,
+) -> Result<(), LogFault>
+    requires address { HasAddress next.now.kind next.now }
     requires segments { state.old.segments ≤ max_segments }
     requires barriers { state.old.barriers < number }
-    ensures good { (opened : ℕ) (before : List Record) → IsStateAfter state.old opened before → IsWalkAfter walk.now before → number ≡ length before + 1
-        → IfOk result (λ r. IsGoodNext format bytes.now (log_task_of task.now) before r) }
-    ensures spells { IfOk result (λ r. Spells format bytes.now r) }
+    ensures keeps { (opened : ℕ) (before : List Record) → IsStateAfter state.old opened before → IsWalkAfter walk.now before → number ≡ length before + 1
+        → OnOk result (BreaksNone (log_task_of task.now) before next.now) }
     ensures follows { (opened : ℕ) (before : List Record) → IsStateAfter state.old opened before → IsWalkAfter walk.now before → number ≡ length before + 1
-        → IfOk result (λ r. IsStateAfter state.new opened (before ++ r ∷ [])) }
-    ensures refused { (opened : ℕ) (before : List Record) → IsStateAfter state.old opened before → IsWalkAfter walk.now before → number ≡ length before + 1
-        → IfErr result (λ e. IsNextRefused format bytes.now (log_task_of task.now) opened before number e) }
+        → OnOk result (IsStateAfter state.new opened (before ++ next.now ∷ [])) }
+    ensures refused { (format : Format) (bytes : List ℕ) (opened : ℕ) (before : List Record) → Spells format bytes next.now
+        → IsStateAfter state.old opened before → IsWalkAfter walk.now before → number ≡ length before + 1
+        → IfErr result (λ e. IsNextRefused format bytes (log_task_of task.now) opened before number e) }
     ensures read { IsErrOf result LogFault.ReadFault → ⊥ }
     ensures limit { OnOk result (state.new.segments ≤ max_segments) }
     ensures barriers { OnOk result (state.new.barriers ≤ number) }
 {
-    let record = match decode_as(format, bytes) {
-        Ok(record) => record,
-        Err(why) => {
-            return Err(LogFault::Bad {
-                number,
-                why: rule_of(why),
-            });
-        }
-    };
-    if let Some(why) = state.broken(task, walk.forks.len(), number, &record) {
+    if let Some(why) = state.broken(task, walk.forks.len(), number, next) {
         return Err(LogFault::Bad { number, why });
     }
-    if !state.count(record.kind, walk.is_open()) {
+    if !state.count(next.kind, walk.is_open()) {
         return Err(LogFault::TooMany { number });
     }
-    Ok(record)
+    Ok(())
 }
 
 /// Goes over the whole records that are ahead, where they keep the rules, and tells how many records of the log were gone
@@ -172,8 +164,19 @@ fn walk_ahead(
         let Some((bytes, later)) = rest.split_first_chunk::<RECORD>() else {
             return Ok(after);
         };
-        let next = accept(format, state, walk, task, after + 1, bytes)?;
-        walk.step(alloc, &task.path, after + 1, &next, &state.held, found)?;
+        // The record stays where it was read: taking it out would cost more than the rest of its way.
+        let read = decode_as(format, bytes);
+        let next = match &read {
+            Ok(next) => next,
+            Err(why) => {
+                return Err(LogFault::Bad {
+                    number: after + 1,
+                    why: rule_of(*why),
+                });
+            }
+        };
+        accept(state, walk, task, after + 1, next)?;
+        walk.step(alloc, &task.path, after + 1, next, &state.held, found)?;
         after += 1;
         rest = later;
     }

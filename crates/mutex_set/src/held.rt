@@ -2,7 +2,6 @@ ghost use Rattle.std.specs.Prelude.{◌≡◌, ◌↔◌, ◌≤◌, ◌==◌, [
 ghost use Rattle.std.specs.List.{IsDistinct};
 ghost use Rattle.mutex_set.specs.Held.{IsInnermost, AreDisjoint};
 
-use arrayvec::ArrayVec;
 use std::marker::Model;
 
 /// How many mutexes a task holds at most.
@@ -24,18 +23,20 @@ pub struct NotInnermost;
 /// The numbers of the mutexes that a task holds, the innermost last. Contracts see the list of them.
 #[derive(Drop)]
 pub struct Held {
-    ids: ArrayVec<u16, MOST>,
+    /// The first so many are held.
+    ids: [u16; MOST],
+    count: u8,
 }
 
 impl Model for Held {
-    ghost use Rattle.std.specs.Prelude.{ℕ, ◌≤◌, List, length, nat_eq};
+    ghost use Rattle.std.specs.Prelude.{ℕ, ◌≤◌, List, take, nat_eq};
     ghost use Rattle.std.specs.List.{IsDistinct};
 
     ghost Value = { List ℕ };
 
-    ghost view = { λ held. held.ids.items };
+    ghost view = { λ held. take held.count held.ids };
 
-    ghost invariant = { λ held. (length held.ids.items ≤ 8) × IsDistinct nat_eq held.ids.items };
+    ghost invariant = { λ held. (held.count ≤ 8) × IsDistinct nat_eq (take held.count held.ids) };
 }
 
 impl Held {
@@ -44,7 +45,8 @@ impl Held {
         ensures { result ≡ [] }
     {
         Held {
-            ids: ArrayVec::new(),
+            ids: [0; MOST],
+            count: 0,
         }
     }
 
@@ -54,16 +56,17 @@ impl Held {
         ensures depth { length self.now ≤ 8 }
         ensures distinct { IsDistinct nat_eq self.now }
     {
-        self.ids.as_slice()
+        &self.ids[..usize::from(self.count)]
     }
 
     /// The same mutexes.
     pub fn copy(&self) -> Held
         ensures { result ≡ self.now }
     {
-        let mut ids = ArrayVec::new();
-        ids.try_extend_from_slice(self.ids.as_slice()).unwrap();
-        Held { ids }
+        Held {
+            ids: self.ids,
+            count: self.count,
+        }
     }
 
     /// Takes a mutex, which is then the innermost.
@@ -73,13 +76,15 @@ impl Held {
         ensures deep { (result ≡ Err HeldFault.Deep) ↔ ((Contains self.old id → ⊥) × (length self.old ≡ 8)) }
         ensures unchanged { OnErr result (self.new ≡ self.old) }
     {
-        if self.ids.contains(&id) {
+        if self.ids().contains(&id) {
             return Err(HeldFault::HeldAlready);
         }
-        if self.ids.is_full() {
+        let count = usize::from(self.count);
+        if count == MOST {
             return Err(HeldFault::Deep);
         }
-        self.ids.push(id);
+        self.ids[count] = id;
+        self.count += 1;
         Ok(())
     }
 
@@ -91,10 +96,10 @@ impl Held {
         ensures others { OnOk result (self.new ≡ filter (λ other. not (other == id)) self.old) }
         ensures unchanged { OnErr result (self.new ≡ self.old) }
     {
-        if self.ids.last() != Some(&id) {
+        if self.ids().last() != Some(&id) {
             return Err(NotInnermost);
         }
-        self.ids.pop();
+        self.count -= 1;
         Ok(())
     }
 

@@ -1,12 +1,13 @@
 -- The hulls of a sweep that are active, and what the next one meets among them.
 use Rattle.std.proofs.Common.{◌≡◌, ◌⊎◌, ℕ, ◌<◌, ◌≤◌, List, [], ◌∷◌, ◌++◌, Bool, IsTrue, true, false, filter, Contains, inl, inr, refl, sym, subst, arith}
 use Rattle.std.proofs.lemmas.List.Elements.{Contains-append_left, Contains-push, Contains-push_cases}
+use Rattle.sw_base.proofs.Lists.{contains_filtered}
 use Rattle.pair_compare.specs.Conflict.{AddsPairs, IsRunConflict, OneHas}
 use Rattle.pair_compare.specs.Sweeps.{Activates, AreOfKind, IsActive, IsActivePair, IsHullPair, IsReachedPair, AddsHull, DropsBefore, DropsEnded, reaches}
 use Rattle.pair_compare.specs.declared.active.Active.{Active}
 use Rattle.pair_compare.specs.declared.hull.Hull.{Hull}
 use Rattle.pair_compare.proofs.Adds.{AddsPairs-both, AddsPairs-same}
-use Rattle.pair_compare.proofs.Dividing.{Contains-filter, filter-Contains}
+use Rattle.pair_compare.proofs.Dividing.{Contains-filter}
 use Rattle.pair_compare.proofs.Reaching.{not_so}
 
 reaches_yes : (low : ℕ) (hull : Hull) → low ≤ hull.high → reaches low hull ≡ true
@@ -27,7 +28,7 @@ drops low every old new is = record {
   ended = λ all other h. reaches_to low other (from other h).1;
 } where
   from : (other : Hull) → Contains new other → Contains old other × (reaches low other ≡ true)
-  from other h = filter-Contains (reaches low) old other (subst (λ (hs : List Hull). Contains hs other) is h)
+  from other h = contains_filtered (reaches low) old other (subst (λ (hs : List Hull). Contains hs other) is h)
 
 -- where a few are not asked to go, they stay
 pub drops_none : (low : ℕ) (every : Bool) (hulls : List Hull) → every ≡ false → DropsBefore low every hulls hulls

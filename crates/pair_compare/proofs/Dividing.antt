@@ -2,7 +2,7 @@
 use Rattle.std.proofs.Common.{◌≡◌, ◌⊎◌, ℕ, zero, suc, ◌%◌, ◌<◌, ◌≤◌, List, [], ◌∷◌, ◌++◌, Bool, true, false, not, nat_le, cond, Bor, Contains, filter, length, inl, inr, refl, sym, ap, ◌∙◌, subst, arith}
 use Rattle.std.specs.Prelude.{Some, slice_get}
 use Rattle.std.proofs.lemmas.List.{append-nil}
-use Rattle.std.proofs.lemmas.List.Elements.{All-contains, All-contains_itself, All-filter, filter_passes}
+use Rattle.sw_base.proofs.Lists.{contains_filtered}
 use Rattle.log_segment.specs.declared.segment.Segment.{Segment}
 use Rattle.race_model.specs.Label.{Triple, IsConcurrent, IsLabelBefore}
 use Rattle.race_laws.proofs.LabelOrder.{label_before_longer}
@@ -108,9 +108,6 @@ Contains-filter p [] x passes h = absurd (not_in_nothing x h)
 Contains-filter p (y ∷ ys) x passes (zero, within, is) = subst (λ (z : _). Contains (cond (p y) (y ∷ filter p ys) (filter p ys)) z) is (first_in y (filter p ys) (p y) (ap p is ∙ passes))
 Contains-filter p (y ∷ ys) x passes (suc k, within, is) = kept_in p x y (filter p ys) (p y) (Contains-filter p ys x passes (k, omega arith, is))
 
-pub filter-Contains : {X : Type 0} (p : X → Bool) (xs : List X) (x : X) → Contains (filter p xs) x → Contains xs x × (p x ≡ true)
-filter-Contains p xs x h = (All-contains (Contains xs) (filter p xs) x (All-filter p (Contains xs) xs (All-contains_itself xs)) h, All-contains (λ y. p y ≡ true) (filter p xs) x (filter_passes p xs) h)
-
 -- what the halves hold together, and how they stand to each other
 module _ (level middle : ℕ) (field : Field) (refs : List (Bor Segment)) (parts : Split) (cut : AreHalves level field middle refs parts) where
   abbrev low : Bor Segment → Bool
@@ -128,13 +125,13 @@ module _ (level middle : ℕ) (field : Field) (refs : List (Bor Segment)) (parts
   pub from_left : (a : Segment) → Contains (pointed parts.left.items) a → Contains (pointed refs) a × (label_value level field a.label ≤ middle)
   from_left a h =
       let to = points_to parts.left.items a h in
-      let both = filter-Contains low refs to.pointer (subst (λ (ss : List (Bor Segment)). Contains ss to.pointer) cut.left to.listed) in
+      let both = contains_filtered low refs to.pointer (subst (λ (ss : List (Bor Segment)). Contains ss to.pointer) cut.left to.listed) in
       let below : label_value level field to.pointer.now.label ≤ middle = grind arith in
       (subst (λ (s : Segment). Contains (pointed refs) s) to.is (pointed_by refs to.pointer both.0), subst (λ (s : Segment). label_value level field s.label ≤ middle) to.is below)
 
   pub from_right : (a : Segment) → Contains (pointed parts.right.items) a → Contains (pointed refs) a × (middle < label_value level field a.label)
   from_right a h =
       let to = points_to parts.right.items a h in
-      let both = filter-Contains (λ s. not (low s)) refs to.pointer (subst (λ (ss : List (Bor Segment)). Contains ss to.pointer) cut.right to.listed) in
+      let both = contains_filtered (λ s. not (low s)) refs to.pointer (subst (λ (ss : List (Bor Segment)). Contains ss to.pointer) cut.right to.listed) in
       let above : middle < label_value level field to.pointer.now.label = grind arith in
       (subst (λ (s : Segment). Contains (pointed refs) s) to.is (pointed_by refs to.pointer both.0), subst (λ (s : Segment). middle < label_value level field s.label) to.is above)

@@ -1,7 +1,8 @@
 -- Labels that are the same before a field and differ there.
 use Rattle.std.proofs.Common.{◌≡◌, ◌⊎◌, ◌%◌, ◌<◌, List, [], ◌∷◌, ◌++◌, inl, inr, refl, sym, ap, arith}
+use Rattle.race_model.proofs.Labels.{label_before_first, label_before_rest}
 use Rattle.race_model.specs.Label.{Triple, IsConcurrent, IsLabelBefore, IsTripleBefore}
-use Rattle.race_laws.proofs.LabelOrder.{label_before_below, label_before_first, label_before_rest}
+use Rattle.race_laws.proofs.LabelOrder.{label_before_below}
 
 -- two labels of which one is before the other
 abbrev pub AreOrdered : List Triple → List Triple → Type 0
@@ -39,7 +40,7 @@ spans_apart prefix xs ys t u differ = concurrent_at prefix xs ys t u (record {
   not_after = λ after. differ (sym after.same_span);
 })
 
-residue_decides : (t u : Triple) → t.barrier ≡ u.barrier → IsTripleBefore t u → t.offset % t.span ≡ u.offset % u.span
+pub residue_decides : (t u : Triple) → t.barrier ≡ u.barrier → IsTripleBefore t u → t.offset % t.span ≡ u.offset % u.span
 residue_decides t u same before = elim before.earlier [ inl less ↦ absurd (omega arith) | inr both ↦ both.2 ]
 
 pub lanes_apart : (prefix xs ys : List Triple) (t u : Triple) → t.barrier ≡ u.barrier → (t.offset % t.span ≡ u.offset % u.span → ⊥) → IsConcurrent (prefix ++ t ∷ xs) (prefix ++ u ∷ ys)

@@ -11,6 +11,7 @@ use Rattle.race_model.specs.Trace.{Logs, Node, IsThere, regions_before}
 use Rattle.race_laws.proofs.LabelLaw.{unordered_concurrent}
 use Rattle.race_laws.proofs.LabelPlace.{label_exists}
 use Rattle.std.proofs.lemmas.Option.{slice_get_within}
+use Rattle.pair_compare.proofs.Members.{concurrent_sym}
 use Rattle.pair_compare.specs.Compare.{IsSegmentPair}
 use Rattle.pair_compare.specs.Conflict.{AddsPairs}
 use Rattle.pair_compare.specs.Regions.{IsRacePairAmong, IsRacePairBelow}
@@ -96,9 +97,6 @@ same_region m n xs ys c = elim (three m n) [
   | inr other ↦ elim other [ inl same ↦ same | inr greater ↦ absurd (c.not_after (ordered_first n m ys xs greater)) ]
 ]
 
-turned : (l m : List Triple) → IsConcurrent l m → IsConcurrent m l
-turned l m c = record { different = λ e. c.different (sym e); not_before = c.not_after; not_after = c.not_before }
-
 moved : (l k m n : List Triple) → l ≡ k → m ≡ n → IsConcurrent l m → IsConcurrent k n
 moved l k m n e f c = subst (λ (j : List Triple). IsConcurrent j n) e (subst (λ (j : List Triple). IsConcurrent l j) f c)
 
@@ -111,7 +109,7 @@ pub record UnderOne (x y : Node) : Type 0 where
 in_both : (logs : Logs) (x y : Node) (l m : List Triple) → InRootAt logs x l ⊎ InRegion x l → InRootAt logs y m ⊎ InRegion y m → IsConcurrent l m → UnderOne x y
 in_both logs x y _ _ (inl a) (inl b) c = absurd (both_root (regions_before logs x) (regions_before logs y) (moved _ _ _ _ a.is b.is c))
 in_both logs x y _ _ (inl a) (inr b) c = absurd (root_ordered (regions_before logs x) b.region b.more b.rest (moved _ _ _ _ a.is b.is c))
-in_both logs x y _ _ (inr a) (inl b) c = absurd (root_ordered (regions_before logs y) a.region a.more a.rest (moved _ _ _ _ b.is a.is (turned _ _ c)))
+in_both logs x y _ _ (inr a) (inl b) c = absurd (root_ordered (regions_before logs y) a.region a.more a.rest (moved _ _ _ _ b.is a.is (concurrent_sym _ _ c)))
 in_both logs x y _ _ (inr a) (inr b) c =
     let same : a.region ≡ b.region = same_region a.region b.region (a.more ∷ a.rest) (b.more ∷ b.rest) (moved _ _ _ _ a.is b.is c) in
     record { region = a.region; left = a.under; right = subst (λ (k : ℕ). IsUnderRegion k y.path) (sym same) b.under }

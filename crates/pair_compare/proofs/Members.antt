@@ -66,7 +66,7 @@ parted_ordered Barrier l m none h = h
 parted_ordered Residue l m none h = absurd (none tt)
 parted_ordered Offset l m none h = h
 
-concurrent_sym : (l m : List Triple) → IsConcurrent l m → IsConcurrent m l
+pub concurrent_sym : (l m : List Triple) → IsConcurrent l m → IsConcurrent m l
 concurrent_sym l m h = record { different = λ e. h.different (sym e); not_before = h.not_after; not_after = h.not_before }
 
 module _ (level : ℕ) (field : Field) (refs : List (Bor Segment)) (alike : AreAlike level field refs) where

@@ -1,5 +1,5 @@
 -- The pairs of segments of a run are its races.
-use Rattle.std.proofs.Common.{◌≡◌, ◌↔◌, ◌⊎◌, ℕ, List, Some, Contains, inl, inr, refl, sym, ap, ◌∙◌, subst, IsTrue, arith}
+use Rattle.std.proofs.Common.{◌≡◌, ◌↔◌, ◌⊎◌, ℕ, List, Contains, inl, inr, refl, sym, ap, ◌∙◌, subst, IsTrue, arith}
 use Rattle.sw_base.specs.declared.path.Step.{Step}
 use Rattle.log_format.specs.declared.record.Record.{Record}
 use Rattle.log_format.specs.declared.record.Kind.{Kind}
@@ -8,11 +8,11 @@ use Rattle.stride_summary.specs.declared.key.Key.{Key}
 use Rattle.log_segment.specs.declared.segment.Segment.{Segment}
 use Rattle.log_segment.specs.Accesses.{is_atomic, is_write}
 use Rattle.log_segment.specs.Intervals.{IsAccessAt, HasAccess, AreSegments}
-use Rattle.race_model.specs.Trace.{Logs, Node, IsThere, record_at}
+use Rattle.race_model.specs.Trace.{Logs, Node}
 use Rattle.race_model.specs.Race.{HasByte, IsChange, IsRacePair, held_at}
 use Rattle.race_model.specs.ForkJoin.{IsForkJoin}
 use Rattle.race_laws.proofs.LabelLaw.{concurrent_unordered, unordered_concurrent}
-use Rattle.std.proofs.lemmas.Option.{slice_get_within}
+use Rattle.race_model.proofs.TraceLogs.{record_there}
 use Rattle.pair_compare.specs.Conflict.{Touches, line_pair}
 use Rattle.pair_compare.specs.Compare.{IsRacingPair, IsSegmentPair}
 use Rattle.pair_compare.specs.Regions.{IsRacePairAmong}
@@ -75,9 +75,6 @@ held_is logs x r key address is = ap (λ (k : Key). k.held) is.keyed
 pub line_is : (logs : Logs) (x : Node) (r : Record) (key : Key) (address : ℕ) → IsAccessAt logs x r key address → key.line ≡ r.line
 line_is logs x r key address is = ap (λ (k : Key). k.line) is.keyed
 
-pub there : (logs : Logs) (x : Node) (r : Record) → record_at logs x ≡ Some r → IsThere logs x
-there logs x r found = slice_get_within (logs x.path) x.index r found
-
 module _ (logs : Logs) (IsOne : List Step → Type 0) (segments : List Segment) (tree : IsForkJoin logs) (are : AreSegments logs IsOne segments) where
   made : (p : ℕ × ℕ) (h : IsSegmentPair segments p) (x : Node) (r : Record) → HasAccess logs h.a x r h.racing.conflict.key h.racing.conflict.address → (y : Node) (s : Record) → HasAccess logs h.b y s h.racing.conflict.other h.racing.conflict.beside
       → IsOne x.path → IsOne y.path → IsRacePairAmong logs IsOne p
@@ -96,7 +93,7 @@ module _ (logs : Logs) (IsOne : List Step → Type 0) (segments : List Segment) 
             right = yours.found;
             left_access = mine.access;
             right_access = yours.access;
-            unordered = concurrent_unordered logs x y h.a.label h.b.label tree (there logs x r mine.found) (there logs y s yours.found) left.label right.label h.racing.concurrent;
+            unordered = concurrent_unordered logs x y h.a.label h.b.label tree (record_there logs x r mine.found) (record_there logs y s yours.found) left.label right.label h.racing.concurrent;
             shares = (pair.conflict.byte, HasByte-from logs x r pair.key pair.address pair.conflict.byte mine pair.conflict.first, HasByte-from logs y s pair.other pair.beside pair.conflict.byte yours pair.conflict.second);
             changes = elim pair.conflict.writes [ inl w ↦ inl ((changes_from logs x r pair.key pair.address mine).0 w) | inr w ↦ inr ((changes_from logs y s pair.other pair.beside yours).0 w) ];
             not_both_updates = λ u v. pair.conflict.not_both_atomic ((update_from logs x r pair.key pair.address mine).1 u) ((update_from logs y s pair.other pair.beside yours).1 v);
@@ -131,7 +128,7 @@ module _ (logs : Logs) (IsOne : List Step → Type 0) (segments : List Segment) 
           let mine = left.at_node in
           let yours = right.at_node in
           record {
-            concurrent = unordered_concurrent logs h.x h.y a.label b.label tree (there logs h.x h.r h.race.left) (there logs h.y h.s h.race.right) left.label right.label h.race.unordered;
+            concurrent = unordered_concurrent logs h.x h.y a.label b.label tree (record_there logs h.x h.r h.race.left) (record_there logs h.y h.s h.race.right) left.label right.label h.race.unordered;
             conflict = record {
               key = key;
               address = address;

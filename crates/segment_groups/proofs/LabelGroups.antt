@@ -1,13 +1,11 @@
 -- Two labels are concurrent exactly where they share a group and their lanes differ there.
 use Rattle.std.proofs.Common.{◌≡◌, ◌≢◌, ◌⊎◌, inl, inr, ℕ, zero, suc, ◌%◌, ◌<◌, List, [], ◌∷◌, ◌++◌, refl, sym, ap, subst, arith}
+use Rattle.race_model.proofs.Labels.{label_before_first, label_before_rest}
+use Rattle.pair_compare.proofs.FieldOrder.{residue_decides}
 use Rattle.race_model.specs.Label.{Triple, IsConcurrent, IsLabelBefore, IsTripleBefore}
-use Rattle.race_laws.proofs.LabelOrder.{label_before_first, label_before_rest, not_earlier}
+use Rattle.race_laws.proofs.LabelOrder.{not_earlier}
 use Rattle.segment_groups.specs.Group.{ShareGroup, group_key, lane_at}
 use Rattle.segment_groups.proofs.Lists.{three}
-
--- a triple before another of the same barrier number is of the same lane
-same_lane : (t u : Triple) → t.barrier ≡ u.barrier → IsTripleBefore t u → t.offset % t.span ≡ u.offset % u.span
-same_lane t u same before = elim before.earlier [ inl less ↦ absurd (omega arith) | inr both ↦ both.2 ]
 
 -- labels that share a group below their first triple share that one
 pub record ShareFirst (depth : ℕ) (t u : Triple) (l m : List Triple) : Type 0 where
@@ -36,8 +34,8 @@ apart_concurrent zero (t ∷ l) (u ∷ m) share differ =
     let apart : t ≢ u = λ e. differ (ap (λ (v : Triple). v.offset % v.span) e) in
     record {
       different = λ e. apart (let heads : t ∷ l ≡ u ∷ m = e in cc);
-      not_before = λ before. differ (same_lane t u barriers (label_before_first t u l m apart before));
-      not_after = λ after. differ (sym (same_lane u t (sym barriers) (label_before_first u t m l (λ e. apart (sym e)) after)));
+      not_before = λ before. differ (residue_decides t u barriers (label_before_first t u l m apart before));
+      not_after = λ after. differ (sym (residue_decides u t (sym barriers) (label_before_first u t m l (λ e. apart (sym e)) after)));
     }
 apart_concurrent (suc depth) (t ∷ l) (u ∷ m) share differ =
     let one = share_first depth t u l m share in

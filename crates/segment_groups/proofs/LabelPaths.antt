@@ -7,8 +7,8 @@ use Rattle.log_segment.specs.OneTree.{IsPathBefore, IsStepBefore}
 use Rattle.race_model.specs.Label.{Triple, IsLabel, lane_triple}
 use Rattle.race_model.specs.Order.{IsLane, lane_path}
 use Rattle.race_model.specs.Trace.{Logs, Node, regions_before}
-use Rattle.race_laws.proofs.LabelPlace.{HasLast, label_last, not_both_empty, offset_residue, same_place, same_region, is_region}
-use Rattle.race_laws.proofs.Parting.{ancestor}
+use Rattle.race_laws.proofs.LabelPlace.{HasLast, label_last, offset_residue, same_place, same_region, is_region}
+use Rattle.race_laws.proofs.Parting.{ancestor, only_root}
 use Rattle.segment_groups.specs.Group.{ShareGroup, lane_at}
 use Rattle.segment_groups.proofs.LabelGroups.{AgreeOnSpans, ShareFirst, share_first}
 
@@ -61,13 +61,6 @@ told logs x _ (IsLabel.root x1 e) = record {
     by_one : (n : ℕ) → n / 1 ≡ n
     by_one n = omega arith
 told logs x _ (IsLabel.lane fork x1 n s above h up) = lane_told logs fork x n s above h up (told logs fork above up)
-
--- one span where two labels part
-only_root : (logs : Logs) (g : Node) (beside prefix : List Triple) (t u v w : Triple) → IsLabel logs g beside → t ∷ [] ≡ prefix ++ u ∷ [] → beside ++ v ∷ [] ≡ prefix ++ w ∷ [] → ⊥
-only_root logs g beside prefix t u v w also l_is m_is =
-    let last = label_last logs g beside also in
-    let empty : beside ≡ [] = (same_from_push beside prefix v w m_is).0 ∙ sym (same_from_push [] prefix t u l_is).0 in
-    not_both_empty beside last.prefix last.last empty last.parts
 
 same_span : (logs : Logs) (a b : Node) (l m prefix : List Triple) (t u : Triple) → IsLabel logs a l → IsLabel logs b m → l ≡ prefix ++ t ∷ [] → m ≡ prefix ++ u ∷ [] → t.span ≡ u.span
 same_span logs a b _ _ prefix t u (IsLabel.root a1 e) (IsLabel.root b1 f) l_is m_is =

@@ -5,13 +5,14 @@ use Rattle.std.specs.List.Sorted.{IsStrictlyIncreasing, IsNonDecreasingBy, IsPer
 use Rattle.std.proofs.lemmas.List.{get_or_append_left, get_or-append-add, get_or_push, get_or_default, length_push}
 use Rattle.std.proofs.lemmas.List.Elements.{All-contains, Contains-append_cases, Contains-append_left, Contains-append_right}
 use Rattle.std.proofs.lemmas.List.Sorted.{Contains-permutation, IsPermutation-sym}
+use Rattle.sw_base.proofs.Lists.{contains_later, contains_either}
 use Rattle.stride_summary.specs.declared.key.Key.{Key}
 use Rattle.stride_summary.specs.declared.run.Run.{Run}
 use Rattle.stride_summary.specs.declared.stretch.Stretch.{Stretch}
 use Rattle.stride_summary.specs.Run.{AreApart, HasPair, run_key}
 use Rattle.stride_summary.specs.Spread.{AddsStretch, addresses_of}
 use Rattle.stride_summary.specs.Stretches.{Holds, KeysDiffer}
-use Rattle.stride_summary.proofs.Rising.{Contains-address, apart_from_rising, contains_either, contains_first, contains_later, has_base, spread_from, spread_has}
+use Rattle.stride_summary.proofs.Rising.{Contains-address, apart_from_rising, contains_first, has_base, spread_from, spread_has}
 use Rattle.stride_summary.proofs.Apart.{Apart, AreApart-from_each, EachApart, EachApart-append, EachApart-from_rising, EachApart-permutation}
 
 -- the keys that are left have no run, and those that are done have all

@@ -4,6 +4,7 @@ use Rattle.std.specs.List.{flat_map}
 use Rattle.std.specs.List.Sorted.{IsStrictlyIncreasing}
 use Rattle.std.proofs.lemmas.List.{get_or_append_left, get_or-append-add, get_or_default}
 use Rattle.std.proofs.lemmas.List.Elements.{Contains-append_cases, Contains-append_left, Contains-append_right}
+use Rattle.sw_base.proofs.Lists.{contains_later, contains_either}
 use Rattle.stride_summary.specs.declared.run.Run.{Run}
 use Rattle.stride_summary.specs.Run.{HasRunAddress, last_address}
 use Rattle.stride_summary.specs.Spread.{addresses_of}
@@ -58,13 +59,6 @@ has_last run = (Contains-address run (last_address run)).1 (record { place = run
 
 pub contains_first : {X : Type 0} (x : X) (xs : List X) → Contains (x ∷ xs) x
 contains_first x xs = (0, omega arith, refl)
-
-pub contains_later : {X : Type 0} (y : X) (xs : List X) (x : X) → Contains xs x → Contains (y ∷ xs) x
-contains_later y xs x there = (suc there.0, omega (arith, there.1), there.2)
-
-pub contains_either : {X : Type 0} (y : X) (xs : List X) (x : X) → Contains (y ∷ xs) x → (y ≡ x) ⊎ Contains xs x
-contains_either y xs x (zero, within, is) = inl is
-contains_either y xs x (suc k, within, is) = inr (k, omega arith, is)
 
 pub spread_has : (runs : List Run) (run : Run) (address : ℕ) → Contains runs run → Contains (addresses_of run) address → Contains (flat_map addresses_of runs) address
 spread_has [] run address listed has = absurd (omega (arith, listed.1))

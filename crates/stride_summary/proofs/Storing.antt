@@ -1,7 +1,7 @@
 -- A list of stretches with one of them changed, and with one more.
-use Rattle.std.proofs.Common.{◌≡◌, ◌⊎◌, ◌↔◌, ℕ, ◌<◌, ◌≤◌, Bool, true, false, cond, vec_len, List, [], ◌∷◌, ◌++◌, length, get_or, set, Contains, inl, inr, sym, ◌∙◌, ap, subst, arith, get_or-set_same, get_or-set_other}
+use Rattle.std.proofs.Common.{◌≡◌, ◌⊎◌, ◌↔◌, ℕ, ◌+◌, ◌-◌, ◌<◌, ◌≤◌, Bool, true, false, cond, List, [], ◌∷◌, ◌++◌, length, get_or, set, Contains, inl, inr, sym, ◌∙◌, ap, subst, arith, get_or-set_same, get_or-set_other}
 use Rattle.std.specs.List.{All, sum_by}
-use Rattle.std.proofs.lemmas.List.Sums.{sum_by-append}
+use Rattle.std.proofs.lemmas.List.Sums.{get_or-le-sum_by, sum_by-append, sum_by-set}
 use Rattle.std.proofs.Math.ListN.{length-set}
 use Rattle.std.proofs.lemmas.Bool.{cases_eq, cases_lt}
 use Rattle.std.proofs.lemmas.List.{get_or_append_left, get_or_at, get_or_default, length_push}
@@ -107,7 +107,7 @@ pub KeysDiffer-pushed : (pushed : Bool) (xs ys : List Stretch) (new : Stretch) �
 KeysDiffer-pushed true xs ys new is differ fresh = subst (λ (ss : List Stretch). KeysDiffer ss) (sym is) (KeysDiffer-push xs new differ fresh)
 KeysDiffer-pushed false xs ys new is differ fresh = subst (λ (ss : List Stretch). KeysDiffer ss) (sym is) differ
 
-pub needed-pushed : (pushed : Bool) (xs ys : List Stretch) (new : Stretch) → ys ≡ cond pushed (xs ++ new ∷ []) xs → vec_len new.addresses ≡ 0 → sum_by needed_of ys ≡ sum_by needed_of xs
+pub needed-pushed : (pushed : Bool) (xs ys : List Stretch) (new : Stretch) → ys ≡ cond pushed (xs ++ new ∷ []) xs → new.limit ≡ 0 → sum_by needed_of ys ≡ sum_by needed_of xs
 needed-pushed true xs ys new is none = ap (sum_by needed_of) is ∙ sum_by-append needed_of xs (new ∷ []) ∙ omega arith
 needed-pushed false xs ys new is none = ap (sum_by needed_of) is
 
@@ -125,3 +125,10 @@ HoldsOneMore-at xs ys zs place key address same at more k a =
 
 pub HoldsSame-twice : (xs ys zs : List Stretch) → HoldsSame xs ys → HoldsSame ys zs → HoldsSame xs zs
 HoldsSame-twice xs ys zs first second k a = ((λ h. (first k a).0 ((second k a).0 h)), (λ h. (second k a).1 ((first k a).1 h)))
+
+-- the sum where one stretch has another limit
+pub needed-raised : (xs : List Stretch) (i : ℕ) (was now : Stretch) (before after : ℕ) → i < length xs → was ≡ get_or xs i was → before ≡ needed_of was → after ≡ needed_of now →
+    sum_by needed_of xs - before + after ≡ sum_by needed_of (set xs i now)
+needed-raised xs i was now before after within is old new =
+    let there : needed_of (get_or xs i was) ≡ needed_of was = ap (λ (s : Stretch). needed_of s) (sym is) in
+    omega (arith, sum_by-set needed_of xs i now was within, get_or-le-sum_by needed_of xs i was within, there, old, new)

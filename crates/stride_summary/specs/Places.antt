@@ -11,7 +11,7 @@ abbrev pub number_of : Bool → ℕ
 number_of b = cond b 1 0
 
 abbrev pub numbers_of : Key → List ℕ
-numbers_of key = number_of key.write ∷ number_of key.atomic ∷ key.size ∷ key.site ∷ key.line ∷ key.held
+numbers_of key = key.line ∷ key.site ∷ key.size ∷ number_of key.write ∷ number_of key.atomic ∷ key.held
 
 -- the place under these numbers
 abbrev pub place_under : BTreeMap (Vec ℕ) ℕ → Vec ℕ → Option ℕ

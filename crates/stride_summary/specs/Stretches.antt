@@ -1,11 +1,19 @@
 -- The addresses of several keys.
-use Rattle.std.specs.Prelude.{◌≡◌, ◌⊎◌, ◌↔◌, ℕ, ◌+◌, ◌/◌, ◌<◌, List, Contains, AllPairs, vec_len, slice_index_or, length}
+use Rattle.std.specs.Prelude.{◌≡◌, ◌⊎◌, ◌↔◌, ℕ, ◌+◌, ◌/◌, ◌<◌, ◌≤◌, List, Contains, AllPairs, vec_len, vec_capacity, slice_index_or, length}
 use Rattle.stride_summary.specs.declared.key.Key.{Key}
 use Rattle.stride_summary.specs.declared.stretch.Stretch.{Stretch}
 
--- the most runs that the addresses of a key make
+-- the most runs that the addresses of a key make before there has to be more room
 abbrev pub needed_of : Stretch → ℕ
-needed_of stretch = (vec_len stretch.addresses + 1) / 2
+needed_of stretch = (stretch.limit + 1) / 2
+
+-- there is room for an address
+abbrev pub HasRoom : Stretch → Type 0
+HasRoom stretch = vec_len stretch.addresses < stretch.limit
+
+-- with this limit there is room for an address
+abbrev pub MayHave : Stretch → ℕ → Type 0
+MayHave stretch limit = (vec_len stretch.addresses < limit) × (limit ≤ vec_capacity stretch.addresses)
 
 abbrev pub KeysDiffer : List Stretch → Type 0
 KeysDiffer stretches = AllPairs (λ one other. one.key ≡ other.key → ⊥) stretches

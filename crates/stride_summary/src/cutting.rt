@@ -19,7 +19,7 @@ pub fn push_runs(key: &Key, addresses: &[u64], runs: &mut Vec<Run>)
     let mut rest = addresses;
     'rest: while !rest.is_empty() {
         let count = even_count(rest).min(u32::MAX as usize);
-        runs.push(first_run(key, rest, count)).unwrap();
+        runs.push_reserved(first_run(key, rest, count));
         let (_, later) = rest.split_at(count);
         rest = later;
     }

@@ -4,7 +4,7 @@
 //! accesses that differ in their addresses alone, which lie at equal distances; it tells its first and its last byte. A
 //! summary takes accesses and gives runs with exactly their pairs of key and address, in order of their first addresses. No
 //! pair stands in two runs, and of two runs of one key one ends before the other begins. After an error the accesses of a
-//! summary are as before, and giving its runs takes no memory.
+//! summary are as before, and giving its runs needs no memory.
 #![tactic(auto)]
 
 mod access;

@@ -9,16 +9,16 @@ use std::alloc::Global;
 use std::collections::BTreeMap;
 use sw_base::Memory;
 
-/// The numbers that tell the key of the access from others.
+/// The numbers that tell the key of the access from others. The line stands first, since keys mostly differ there.
 pub fn numbers_of(alloc: Global, access: &Access) -> Result<Vec<u32>, Memory>
     ensures { IfOk result (λ numbers. numbers.items ≡ numbers_of (access_key access.now)) }
 {
     let mut numbers = vec![in alloc;
+        access.line,
+        u32::from(access.site),
+        u32::from(access.size),
         u32::from(access.write),
         u32::from(access.atomic),
-        u32::from(access.size),
-        u32::from(access.site),
-        access.line,
     ]?;
     'mutexes: for id in access.held.ids() {
         numbers.push(u32::from(*id))?;

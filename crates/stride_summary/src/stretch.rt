@@ -1,5 +1,6 @@
-ghost use Rattle.std.specs.Prelude.{[], ◌≡◌, ◌↔◌, ◌⊎◌, ℕ, ◌+◌, ◌-◌, ◌*◌, ◌/◌, ◌^◌, ◌<◌, ◌≤◌, Contains, OnOk, OnErr, vec_len, vec_capacity};
-ghost use Rattle.std.specs.List.Sorted.{IsStrictlyIncreasing};
+ghost use Rattle.std.specs.Prelude.{[], ◌≡◌, ◌↔◌, ◌⊎◌, ℕ, ◌+◌, ◌-◌, ◌*◌, ◌/◌, ◌^◌, ◌<◌, ◌≤◌, Contains, IfOk, IsTrue, vec_len, vec_capacity};
+ghost use Rattle.std.specs.List.Sorted.{IsPermutation, IsSorted, IsStrictlyIncreasing};
+ghost use Rattle.std.specs.Ordering.{nat_cmp};
 ghost use Rattle.log_format.specs.Table.{IsAccessSize};
 ghost use Rattle.stride_summary.specs.Sizes.{access_size_prop};
 ghost use Rattle.stride_summary.specs.Spread.{AddsStretch, EndsInTime};
@@ -10,7 +11,7 @@ use crate::run::Run;
 use std::alloc::Global;
 use sw_base::Memory;
 
-/// How many addresses there are at least when they are put in order for the first time.
+/// How many addresses there may be at least when they are put in order for the first time.
 const FIRST: usize = 64;
 
 /// The addresses of one key, some of them more than once.
@@ -18,10 +19,24 @@ const FIRST: usize = 64;
 pub struct Stretch {
     pub key: Key,
     pub addresses: Vec<u64>,
-    /// How many addresses there were after they had been put in order.
-    pub settled: usize,
+    /// How many addresses there may be before there has to be more room.
+    pub limit: usize,
     ghost sized: { IsAccessSize key.size } by { access_size_prop key.size },
     ghost ends: { EndsInTime key.size addresses.items },
+    ghost within: { vec_len addresses ≤ limit },
+    ghost room: { limit ≤ vec_capacity addresses },
+}
+
+// Puts the numbers in order. Where there is memory for it, by merging what is in order already.
+fn sort(numbers: &mut Vec<u64>)
+    ensures permutation { IsPermutation numbers.old.items numbers.new.items }
+    ensures len { vec_len numbers.new ≡ vec_len numbers.old }
+    ensures capacity { vec_capacity numbers.new ≡ vec_capacity numbers.old }
+    ensures sorted { IsSorted nat_cmp numbers.new.items }
+{
+    if numbers.sort().is_err() {
+        numbers.sort_unstable();
+    }
 }
 
 impl Stretch {
@@ -30,20 +45,13 @@ impl Stretch {
         requires { IsAccessSize key.size }
         ensures key { result.key ≡ key }
         ensures none { result.addresses.items ≡ [] }
-        ensures empty { vec_len result.addresses ≡ 0 }
+        ensures empty { result.limit ≡ 0 }
     {
         Stretch {
             key,
             addresses: Vec::new(alloc),
-            settled: 0,
+            limit: 0,
         }
-    }
-
-    /// How many runs the addresses have at most.
-    pub fn needed(&self) -> usize
-        ensures { result ≡ (vec_len self.now.addresses + 1) / 2 }
-    {
-        self.addresses.len() - self.addresses.len() / 2
     }
 
     /// Puts the addresses in order, each once.
@@ -53,32 +61,61 @@ impl Stretch {
         ensures ascending { IsStrictlyIncreasing self.new.addresses.items }
         ensures addresses { (address : ℕ) → Contains self.new.addresses.items address ↔ Contains self.old.addresses.items address }
         ensures fewer { vec_len self.new.addresses ≤ vec_len self.old.addresses }
+        ensures limit { self.new.limit ≡ self.old.limit }
     {
-        self.addresses.sort_unstable();
+        sort(&mut self.addresses);
         self.addresses.dedup();
-        self.settled = self.addresses.len();
     }
 
-    /// Adds an address. Where they have doubled since the last time, the addresses are put in order before.
-    pub fn add(&mut self, address: u64) -> Result<(), Memory>
-        requires { address + self.old.key.size ≤ 2 ^ 48 }
-        ensures key { self.new.key ≡ self.old.key }
-        ensures added { OnOk result ((other : ℕ) → Contains self.new.addresses.items other ↔ (Contains self.old.addresses.items other ⊎ (address ≡ other))) }
-        ensures refused { OnErr result ((other : ℕ) → Contains self.new.addresses.items other ↔ Contains self.old.addresses.items other) }
-        ensures one_more { vec_len self.new.addresses ≤ vec_len self.old.addresses + 1 }
+    /// Whether there is room for an address.
+    pub fn has_room(&self) -> bool
+        ensures { IsTrue result ↔ (vec_len self.now.addresses < self.now.limit) }
     {
-        self.settle_if_doubled();
-        self.addresses.push(address)?;
-        Ok(())
+        self.addresses.len() < self.limit
     }
 
-    fn settle_if_doubled(&mut self)
+    /// Adds an address, for which there is room.
+    pub fn put(&mut self, address: u64)
+        requires room { vec_len self.old.addresses < self.old.limit }
+        requires end { address + self.old.key.size ≤ 2 ^ 48 }
+        ensures key { self.new.key ≡ self.old.key }
+        ensures limit { self.new.limit ≡ self.old.limit }
+        ensures added { (other : ℕ) → Contains self.new.addresses.items other ↔ (Contains self.old.addresses.items other ⊎ (address ≡ other)) }
+    {
+        self.addresses.push_reserved(address);
+    }
+
+    /// Puts the addresses in order where there may be many, and gives the limit under which there is room for more. It isn't
+    /// theirs so far.
+    pub fn widen(&mut self) -> Result<usize, Memory>
+        ensures key { self.new.key ≡ self.old.key }
+        ensures limit { self.new.limit ≡ self.old.limit }
+        ensures addresses { (address : ℕ) → Contains self.new.addresses.items address ↔ Contains self.old.addresses.items address }
+        ensures room { IfOk result (λ limit. (vec_len self.new.addresses < limit) × (limit ≤ vec_capacity self.new.addresses)) }
+    {
+        self.settle_if_many();
+        let count = self.addresses.len();
+        let limit = self.limit.max(count + count.max(1));
+        self.addresses.reserve_exact(limit - count)?;
+        Ok(limit)
+    }
+
+    /// Gives it this limit.
+    pub fn raise(&mut self, limit: usize)
+        requires { (vec_len self.old.addresses < limit) × (limit ≤ vec_capacity self.old.addresses) }
+        ensures key { self.new.key ≡ self.old.key }
+        ensures limit { self.new.limit ≡ limit }
+        ensures addresses { self.new.addresses ≡ self.old.addresses }
+    {
+        self.limit = limit;
+    }
+
+    fn settle_if_many(&mut self)
         ensures key { self.new.key ≡ self.old.key }
         ensures addresses { (address : ℕ) → Contains self.new.addresses.items address ↔ Contains self.old.addresses.items address }
-        ensures fewer { vec_len self.new.addresses ≤ vec_len self.old.addresses }
+        ensures limit { self.new.limit ≡ self.old.limit }
     {
-        let count = self.addresses.len();
-        if count >= FIRST && count / 2 >= self.settled {
+        if self.limit >= FIRST {
             self.settle();
         }
     }

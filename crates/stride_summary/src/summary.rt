@@ -1,9 +1,9 @@
-ghost use Rattle.std.specs.Prelude.{◌≡◌, ◌↔◌, ◌⊎◌, ℕ, ◌+◌, ◌^◌, ◌<◌, ◌≤◌, AllPairs, IsTrue, IfOk, OnOk, OnErr, sum_by, slice_index_or, vec_len, vec_capacity};
+ghost use Rattle.std.specs.Prelude.{◌≡◌, ◌↔◌, ◌⊎◌, ℕ, ◌+◌, ◌/◌, ◌^◌, ◌<◌, ◌≤◌, AllPairs, IsTrue, IfOk, OnOk, OnErr, sum_by, slice_index_or, vec_len, vec_capacity};
 ghost use Rattle.std.specs.List.Sorted.{IsNonDecreasingBy};
 ghost use Rattle.stride_summary.specs.declared.stretch.Stretch.{Stretch};
 ghost use Rattle.stride_summary.specs.Run.{AreApart, HasPair, access_key};
 ghost use Rattle.stride_summary.specs.Places.{TellsPlaces};
-ghost use Rattle.stride_summary.specs.Stretches.{Holds, HoldsOneMore, HoldsSame, IsPlaceOf, KeysDiffer, needed_of};
+ghost use Rattle.stride_summary.specs.Stretches.{HasRoom, Holds, HoldsOneMore, HoldsSame, IsPlaceOf, KeysDiffer, MayHave, needed_of};
 
 use crate::access::Access;
 use crate::key::Key;
@@ -35,6 +35,13 @@ pub struct Summary {
     ghost counted: { room ≡ sum_by needed_of stretches.items },
     ghost enough: { room ≤ vec_capacity runs },
     ghost none: { vec_len runs ≡ 0 },
+}
+
+// Half of the number, rounded up.
+fn half(number: usize) -> usize
+    ensures { result ≡ (number + 1) / 2 }
+{
+    number - number / 2
 }
 
 // Whether this is the place of the access's key.
@@ -69,10 +76,11 @@ impl Summary {
         ensures added { OnOk result (SumsOneMore self.old self.new (access_key access.now) access.now.addr) }
         ensures refused { OnErr result (SumsSame self.old self.new) }
     {
-        self.runs.reserve(self.room + 1)?;
         let place = self.place_of(access)?;
         self.follow(place);
-        self.add_at(place, access.addr)
+        self.make_room(place)?;
+        self.add_at(place, access.addr);
+        Ok(())
     }
 
     /// The runs of the accesses, in order of their first addresses: of each key the addresses, each once, cut where their
@@ -102,8 +110,6 @@ impl Summary {
     fn place_of(&mut self, access: &Access) -> Result<usize, Memory>
         ensures found { IfOk result (λ place. IsPlaceOf self.new.stretches.items (access_key access.now) place) }
         ensures same { HoldsSame self.old.stretches.items self.new.stretches.items }
-        ensures room { self.new.room ≡ self.old.room }
-        ensures capacity { vec_capacity self.new.runs ≡ vec_capacity self.old.runs }
     {
         let guess = self.followers.get(self.last).copied().unwrap_or(0);
         if is_at(&self.stretches, guess, access) {
@@ -117,8 +123,6 @@ impl Summary {
     fn look_up(&mut self, access: &Access) -> Result<usize, Memory>
         ensures found { IfOk result (λ place. IsPlaceOf self.new.stretches.items (access_key access.now) place) }
         ensures same { HoldsSame self.old.stretches.items self.new.stretches.items }
-        ensures room { self.new.room ≡ self.old.room }
-        ensures capacity { vec_capacity self.new.runs ≡ vec_capacity self.old.runs }
     {
         let numbers = numbers_of(self.alloc, access)?;
         if let Some(place) = place_under(&self.places, &numbers) {
@@ -138,17 +142,67 @@ impl Summary {
         self.last = place;
     }
 
-    fn add_at(&mut self, place: usize, address: u64) -> Result<(), Memory>
+    // Has the stretch at this place have room for an address.
+    fn make_room(&mut self, place: usize) -> Result<(), Memory>
         requires place { place < vec_len self.old.stretches }
-        requires end { (d : Stretch) → address + (slice_index_or self.old.stretches.items place d).key.size ≤ 2 ^ 48 }
-        requires room { self.old.room < vec_capacity self.old.runs }
-        ensures added { OnOk result ((d : Stretch) → HoldsOneMore self.old.stretches.items self.new.stretches.items (slice_index_or self.old.stretches.items place d).key address) }
-        ensures refused { OnErr result (HoldsSame self.old.stretches.items self.new.stretches.items) }
+        ensures count { vec_len self.new.stretches ≡ vec_len self.old.stretches }
+        ensures same { HoldsSame self.old.stretches.items self.new.stretches.items }
+        ensures key { (d : Stretch) → (slice_index_or self.new.stretches.items place d).key ≡ (slice_index_or self.old.stretches.items place d).key }
+        ensures room { OnOk result ((d : Stretch) → HasRoom (slice_index_or self.new.stretches.items place d)) }
     {
-        let stretch = &mut self.stretches[place];
-        let before = stretch.needed();
-        let added = stretch.add(address);
-        self.room = self.room - before + stretch.needed();
-        added
+        if self.stretches[place].has_room() {
+            return Ok(());
+        }
+        self.widen(place)
+    }
+
+    // The same where it has none. It stands apart, since it is rare.
+    #[inline(never)]
+    fn widen(&mut self, place: usize) -> Result<(), Memory>
+        requires place { place < vec_len self.old.stretches }
+        ensures count { vec_len self.new.stretches ≡ vec_len self.old.stretches }
+        ensures same { HoldsSame self.old.stretches.items self.new.stretches.items }
+        ensures key { (d : Stretch) → (slice_index_or self.new.stretches.items place d).key ≡ (slice_index_or self.old.stretches.items place d).key }
+        ensures room { OnOk result ((d : Stretch) → HasRoom (slice_index_or self.new.stretches.items place d)) }
+    {
+        let limit = self.prepare(place)?;
+        self.raise(place, limit)
+    }
+
+    // Prepares the stretch at this place for more addresses, and gives the limit that it may have.
+    fn prepare(&mut self, place: usize) -> Result<usize, Memory>
+        requires place { place < vec_len self.old.stretches }
+        ensures count { vec_len self.new.stretches ≡ vec_len self.old.stretches }
+        ensures same { HoldsSame self.old.stretches.items self.new.stretches.items }
+        ensures key { (d : Stretch) → (slice_index_or self.new.stretches.items place d).key ≡ (slice_index_or self.old.stretches.items place d).key }
+        ensures room { IfOk result (λ limit. (d : Stretch) → MayHave (slice_index_or self.new.stretches.items place d) limit) }
+    {
+        self.stretches[place].widen()
+    }
+
+    // Gives the stretch at this place the limit, and makes room for the runs.
+    fn raise(&mut self, place: usize, limit: usize) -> Result<(), Memory>
+        requires place { place < vec_len self.old.stretches }
+        requires limit { (d : Stretch) → MayHave (slice_index_or self.old.stretches.items place d) limit }
+        ensures count { vec_len self.new.stretches ≡ vec_len self.old.stretches }
+        ensures same { HoldsSame self.old.stretches.items self.new.stretches.items }
+        ensures key { (d : Stretch) → (slice_index_or self.new.stretches.items place d).key ≡ (slice_index_or self.old.stretches.items place d).key }
+        ensures room { OnOk result ((d : Stretch) → HasRoom (slice_index_or self.new.stretches.items place d)) }
+    {
+        let before = half(self.stretches[place].limit);
+        let room = self.room - before + half(limit);
+        self.runs.reserve(room)?;
+        self.stretches[place].raise(limit);
+        self.room = room;
+        Ok(())
+    }
+
+    fn add_at(&mut self, place: usize, address: u64)
+        requires place { place < vec_len self.old.stretches }
+        requires room { (d : Stretch) → HasRoom (slice_index_or self.old.stretches.items place d) }
+        requires end { (d : Stretch) → address + (slice_index_or self.old.stretches.items place d).key.size ≤ 2 ^ 48 }
+        ensures { (d : Stretch) → HoldsOneMore self.old.stretches.items self.new.stretches.items (slice_index_or self.old.stretches.items place d).key address }
+    {
+        self.stretches[place].put(address);
     }
 }

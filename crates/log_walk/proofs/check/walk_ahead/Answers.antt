@@ -1,7 +1,9 @@
-use Rattle.std.proofs.Common.{◌≡◌, ◌∙◌, ◌+◌, ◌-◌, ◌*◌, List, ℕ, drop, length, ap, subst, arith}
+use Rattle.std.proofs.Common.{◌≡◌, ◌∙◌, refl, inl, ◌+◌, ◌-◌, ◌*◌, List, ℕ, drop, length, ap, subst, arith}
 use Rattle.std.proofs.lemmas.List.{drop-drop}
 use Rattle.std.proofs.lemmas.Result.{err_from_is_err_and}
 use Rattle.log_format.specs.declared.record.Why.TheVariants as why
+use Rattle.log_format.specs.Table.{IsFirstFault, Spells}
+use Rattle.log_walk.specs.declared.check.LogFault.TheVariants as fault
 use Rattle.log_walk.specs.LogSoFar.{LogSoFar}
 use Rattle.log_walk.specs.Rules.{log_task_of}
 use Rattle.log_walk.proofs.LogSoFar.{in_lane, log_next, log_refused}
@@ -27,13 +29,26 @@ accept-requires-clause-barriers c =
     let known = c.records.invariant.so c.requires.so.0 c.requires.so.1 c.requires.so.2 c.requires.so.3 c.requires.so.4 c.requires.so.5 in
     omega (arith, known.checks.barriers)
 
-pub returns-in_err-next-clause-refused : goal.returns-in_err-next-clause-refused
-returns-in_err-next-clause-refused c =
+pub accept-requires-clause-address : goal.accept-requires-clause-address
+accept-requires-clause-address c =
+    let spells : Spells c.args.format c.in-Some.bytes.now c.in-Ok.next = rw c.in-Ok.is at c.decode_as-read.ensures.found in
+    spells.tabled.passes why.Address
+
+pub returns-in-Err-clause-refused : goal.returns-in-Err-clause-refused
+returns-in-Err-clause-refused c =
+    let first : IsFirstFault c.args.format c.in-Some.bytes.now c.in-Err.why = rw c.in-Err.is at c.decode_as-read.ensures.fault in λ told name opened label old given.
+    let known = c.records.invariant.so told name opened label old given in
+    log_refused told name (log_task_of c.args.task.now) opened label c.records.state c.records.walk old c.records.found.items c.records.after c.in-Some.bytes.now c.records.rest.now (fault.Bad (c.records.after + 1) c.rule_of.result) known c.records-test.true
+    c.in-Some.ensures.cases.0 (omega (arith, c.in-Some.ensures.cases.2)) (refl, inl (record { fault = c.in-Err.why; rule_is = c.rule_of.ensures; first = first }))
+
+pub returns-in_err-accept-clause-refused : goal.returns-in_err-accept-clause-refused
+returns-in_err-accept-clause-refused c =
     let p = err_from_is_err_and c.from_residual.result c.from_residual.ensures.1 in
+    let spells : Spells c.args.format c.in-Some.bytes.now c.in-Ok.next = rw c.in-Ok.is at c.decode_as-read.ensures.found in
     rw (p.1, p.2) (λ told name opened label old given.
     let known = c.records.invariant.so told name opened label old given in
-    log_refused told name (log_task_of c.args.task.now) opened label c.records.state c.records.walk old c.records.found.items c.records.after c.in-Some.bytes.now c.records.rest.now c.in_err-next.field-0.0 known c.records-test.true
-    c.in-Some.ensures.cases.0 (omega (arith, c.in-Some.ensures.cases.2)) (c.in_err-next.ensures.refused opened known.records known.checks.follows known.after (omega (arith, known.checks.count))))
+    log_refused told name (log_task_of c.args.task.now) opened label c.records.state c.records.walk old c.records.found.items c.records.after c.in-Some.bytes.now c.records.rest.now c.in_err-accept.field-0.0 known c.records-test.true
+    c.in-Some.ensures.cases.0 (omega (arith, c.in-Some.ensures.cases.2)) (c.in_err-accept.ensures.refused c.args.format c.in-Some.bytes.now opened known.records spells known.checks.follows known.after (omega (arith, known.checks.count))))
 
 pub step-requires-clause-own : goal.step-requires-clause-own
 step-requires-clause-own c =
@@ -41,29 +56,34 @@ step-requires-clause-own c =
     known.own
 
 pub step-requires-clause-size : goal.step-requires-clause-size
-step-requires-clause-size c = c.in_ok-next.ensures.spells.tabled.passes why.Size
+step-requires-clause-size c =
+    let spells : Spells c.args.format c.in-Some.bytes.now c.in-Ok.next = rw c.in-Ok.is at c.decode_as-read.ensures.found in
+    spells.tabled.passes why.Size
 
 pub step-requires-clause-address : goal.step-requires-clause-address
-step-requires-clause-address c = c.in_ok-next.ensures.spells.tabled.passes why.Address
+step-requires-clause-address c =
+    let spells : Spells c.args.format c.in-Some.bytes.now c.in-Ok.next = rw c.in-Ok.is at c.decode_as-read.ensures.found in
+    spells.tabled.passes why.Address
 
 pub step-requires-clause-lane : goal.step-requires-clause-lane
 step-requires-clause-lane c =
     let known = c.records.invariant.so c.requires.so.0 c.requires.so.1 c.requires.so.2 c.requires.so.3 c.requires.so.4 c.requires.so.5 in
-    let good = c.in_ok-next.ensures.good c.requires.so.2 known.records known.checks.follows known.after (omega (arith, known.checks.count)) in
-    in_lane (log_task_of c.args.task.now) known.records c.in_ok-next.next good.breaks
+    let keeps = c.in_ok-accept.ensures.keeps c.requires.so.2 known.records known.checks.follows known.after (omega (arith, known.checks.count)) in
+    in_lane (log_task_of c.args.task.now) known.records c.in-Ok.next keeps
 
 pub records-preserved : goal.records-preserved
 records-preserved c =
+    let spells : Spells c.args.format c.in-Some.bytes.now c.in-Ok.next = rw c.in-Ok.is at c.decode_as-read.ensures.found in
     let cases = c.in-Some.ensures.cases in
     record {
       so = λ told name opened label old given.
           (let known = c.records.invariant.so told name opened label old given in
           let checks = known.checks in
           let number : c.records.after + 1 ≡ length known.records + 1 = omega (arith, checks.count) in
-          let follows = c.in_ok-next.ensures.follows opened known.records checks.follows known.after number in
-          log_next told name (log_task_of c.args.task.now) opened label c.records.state c.records.walk old c.records.found.items c.records.after c.accept.new.state c.step.new.self c.in-Some.bytes.now c.records.rest.now c.in-Some.later.now c.step.new.found.items c.in_ok-next.next known
-          cases.0 cases.1 (omega (arith, cases.2)) (c.in_ok-next.ensures.good opened known.records checks.follows known.after number) follows c.in_ok-next.ensures.barriers c.in_ok-next.ensures.limit c.in_ok-step.ensures.own
-          (walk_push c.records.walk c.step.new.self known.records c.in_ok-next.next known.after c.in_ok-step.ensures.forks c.in_ok-step.ensures.begun)
+          let follows = c.in_ok-accept.ensures.follows opened known.records checks.follows known.after number in
+          log_next told name (log_task_of c.args.task.now) opened label c.records.state c.records.walk old c.records.found.items c.records.after c.accept.new.state c.step.new.self c.in-Some.bytes.now c.records.rest.now c.in-Some.later.now c.step.new.found.items c.in-Ok.next known
+          cases.0 cases.1 (omega (arith, cases.2)) (record { spells = spells; breaks = c.in_ok-accept.ensures.keeps opened known.records checks.follows known.after number }) follows c.in_ok-accept.ensures.barriers c.in_ok-accept.ensures.limit c.in_ok-step.ensures.own
+          (walk_push c.records.walk c.step.new.self known.records c.in-Ok.next known.after c.in_ok-step.ensures.forks c.in_ok-step.ensures.begun)
           (λ logs begun next. c.in_ok-step.ensures.follows logs known.records begun next number follows.held)
           (λ logs begun next. c.in_ok-step.ensures.adds logs known.records begun next number));
       rest = cases.1 ∙ ap (λ (bs : List ℕ). drop 24 bs) c.records.invariant.rest ∙ drop-drop 24 (24 * (c.records.after - c.args.before)) c.args.ahead.now

@@ -5,5 +5,5 @@ use Rattle.stride_summary.proofs.places.numbers_of.Given as goal
 abbrev pub invariant-mutexes : goal.invariant-mutexes
 invariant-mutexes l = record {
   held : l.id-items ≡ l.access.held.now;
-  numbers : l.numbers.items ≡ (number_of l.access.write ∷ number_of l.access.atomic ∷ l.access.size ∷ l.access.site ∷ l.access.line ∷ []) ++ take l.id-index l.access.held.now;
+  numbers : l.numbers.items ≡ (l.access.line ∷ l.access.site ∷ l.access.size ∷ number_of l.access.write ∷ number_of l.access.atomic ∷ []) ++ take l.id-index l.access.held.now;
 }

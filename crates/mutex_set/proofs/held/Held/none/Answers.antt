@@ -3,4 +3,4 @@ use Rattle.mutex_set.proofs.Sets.{distinct_none}
 use Rattle.mutex_set.proofs.held.Held.none.Goals as goal
 
 pub invariant_of-result : goal.invariant_of-result
-invariant_of-result c = rw c.new.ensures (omega arith, distinct_none)
+invariant_of-result c = (omega arith, distinct_none)

@@ -8,14 +8,14 @@ use Rattle.stride_summary.proofs.stretch.Stretch.settle.Goals as goal
 
 pub returns-clause-ascending : goal.returns-clause-ascending
 returns-clause-ascending c =
-    let is = dedup_is eqb c.sort_unstable.new.self.items c.dedup.new.self.items c.dedup.ensures.filtered in
-    subst (λ (xs : List ℕ). IsStrictlyIncreasing xs) (sym is) (IsStrictlyIncreasing-dedup c.sort_unstable.new.self.items c.sort_unstable.ensures.sorted)
+    let is = dedup_is eqb c.sort.new.numbers.items c.dedup.new.self.items c.dedup.ensures.filtered in
+    subst (λ (xs : List ℕ). IsStrictlyIncreasing xs) (sym is) (IsStrictlyIncreasing-dedup c.sort.new.numbers.items c.sort.ensures.sorted)
 
 pub returns-clause-addresses : goal.returns-clause-addresses
 returns-clause-addresses c address =
-    let is = dedup_is eqb c.sort_unstable.new.self.items c.dedup.new.self.items c.dedup.ensures.filtered in (
-      λ there. Contains-permutation c.sort_unstable.new.self.items c.args.self.now.addresses.items address (IsPermutation-sym c.args.self.now.addresses.items c.sort_unstable.new.self.items c.sort_unstable.ensures.permutation)
-          (Contains-from_dedup eqb c.sort_unstable.new.self.items address (subst (λ (xs : List ℕ). Contains xs address) is there)),
+    let is = dedup_is eqb c.sort.new.numbers.items c.dedup.new.self.items c.dedup.ensures.filtered in (
+      λ there. Contains-permutation c.sort.new.numbers.items c.args.self.now.addresses.items address (IsPermutation-sym c.args.self.now.addresses.items c.sort.new.numbers.items c.sort.ensures.permutation)
+          (Contains-from_dedup eqb c.sort.new.numbers.items address (subst (λ (xs : List ℕ). Contains xs address) is there)),
       λ was. subst (λ (xs : List ℕ). Contains xs address) (sym is)
-          (Contains-dedup_nat c.sort_unstable.new.self.items address (Contains-permutation c.args.self.now.addresses.items c.sort_unstable.new.self.items address c.sort_unstable.ensures.permutation was)),
+          (Contains-dedup_nat c.sort.new.numbers.items address (Contains-permutation c.args.self.now.addresses.items c.sort.new.numbers.items address c.sort.ensures.permutation was)),
     )
