@@ -6,6 +6,7 @@ use crate::witnesses::are_witnessed;
 use command_answer::{DONE, RACES};
 use memory_environment::MemFolder;
 use std::alloc::Global;
+use std::marker::Send;
 use std::sync::Wait;
 use std::test::Fail;
 use std::thread::Threads;
@@ -66,7 +67,7 @@ fn is_due(text: &[u8], due: &[u8]) -> bool {
 }
 
 // The status and the text that come out, where they aren't these.
-fn other_answer<R: Threads + Wait + Sync>(
+fn other_answer<R: Threads + Wait + Sync + Copy + Send + 'static>(
     rt: &R,
     alloc: Global,
     folder: &mut MemFolder,
@@ -84,7 +85,7 @@ fn other_answer<R: Threads + Wait + Sync>(
 }
 
 // The first answer that isn't what is due, by the number of its question from 0.
-fn first_other_answer<R: Threads + Wait + Sync>(
+fn first_other_answer<R: Threads + Wait + Sync + Copy + Send + 'static>(
     rt: &R,
     alloc: Global,
     folder: &mut MemFolder,
@@ -124,7 +125,7 @@ fn are_sealed(folder: &MemFolder, names: &[&str]) -> bool {
 }
 
 // What comes out otherwise than the case says, asked over this folder.
-fn difference<R: Threads + Wait + Sync>(
+fn difference<R: Threads + Wait + Sync + Copy + Send + 'static>(
     rt: &R,
     alloc: Global,
     folder: &mut MemFolder,
@@ -157,7 +158,7 @@ fn are_all_witnessed(alloc: Global, folder: &mut MemFolder, asked: &[Question<'_
 }
 
 // The same of a case in a folder of its own, whose output doesn't fail.
-fn other_case<R: Threads + Wait + Sync>(
+fn other_case<R: Threads + Wait + Sync + Copy + Send + 'static>(
     rt: &R,
     alloc: Global,
     case: &Case<'_>,
@@ -174,7 +175,7 @@ fn other_case<R: Threads + Wait + Sync>(
 }
 
 // The first case, by its number from 0, and what comes out otherwise of it.
-fn first_difference<R: Threads + Wait + Sync>(
+fn first_difference<R: Threads + Wait + Sync + Copy + Send + 'static>(
     rt: &R,
     alloc: Global,
     cases: &[Case<'_>],
@@ -205,7 +206,7 @@ pub fn no_difference(found: Result<Option<String>, Memory>) -> Result<(), Fail> 
 }
 
 /// Fails with what comes out otherwise than the case says, asked over this folder.
-pub fn passes<R: Threads + Wait + Sync>(
+pub fn passes<R: Threads + Wait + Sync + Copy + Send + 'static>(
     rt: &R,
     alloc: Global,
     folder: &mut MemFolder,
@@ -215,7 +216,7 @@ pub fn passes<R: Threads + Wait + Sync>(
 }
 
 /// Fails with the first case, each in a folder of its own, and what comes out otherwise of it.
-pub fn all_pass<R: Threads + Wait + Sync>(
+pub fn all_pass<R: Threads + Wait + Sync + Copy + Send + 'static>(
     rt: &R,
     alloc: Global,
     cases: &[Case<'_>],
@@ -224,7 +225,7 @@ pub fn all_pass<R: Threads + Wait + Sync>(
 }
 
 /// The same of one case in a folder of its own, where this call on the log of this task fails.
-pub fn passes_past<R: Threads + Wait + Sync>(
+pub fn passes_past<R: Threads + Wait + Sync + Copy + Send + 'static>(
     rt: &R,
     alloc: Global,
     task: &Path,
@@ -237,7 +238,7 @@ pub fn passes_past<R: Threads + Wait + Sync>(
 }
 
 /// Fails with the status and the text that come out, where they aren't these.
-pub fn answers<R: Threads + Wait + Sync>(
+pub fn answers<R: Threads + Wait + Sync + Copy + Send + 'static>(
     rt: &R,
     alloc: Global,
     folder: &mut MemFolder,
@@ -252,7 +253,7 @@ pub fn answers<R: Threads + Wait + Sync>(
 pub type Whole<'a> = (&'a str, &'a str, u8, &'a str);
 
 // What comes out otherwise of a kernel that runs to its end.
-fn other_run<R: Threads + Wait + Sync>(
+fn other_run<R: Threads + Wait + Sync + Copy + Send + 'static>(
     rt: &R,
     alloc: Global,
     workers: &str,
@@ -277,7 +278,7 @@ fn other_run<R: Threads + Wait + Sync>(
 }
 
 // The first kernel, by its number from 0, and what comes out otherwise of it.
-fn first_other_run<R: Threads + Wait + Sync>(
+fn first_other_run<R: Threads + Wait + Sync + Copy + Send + 'static>(
     rt: &R,
     alloc: Global,
     workers: &str,
@@ -293,7 +294,7 @@ fn first_other_run<R: Threads + Wait + Sync>(
 
 /// Fails with the first kernel that doesn't run to its end and print its text, or whose folder so many workers don't check so or
 /// isn't a run of it.
-pub fn all_run<R: Threads + Wait + Sync>(
+pub fn all_run<R: Threads + Wait + Sync + Copy + Send + 'static>(
     rt: &R,
     alloc: Global,
     workers: &str,

@@ -2,6 +2,7 @@
 
 use memory_environment::MemOut;
 use std::alloc::{AllocError, Global};
+use std::marker::Send;
 use std::sync::Wait;
 use std::thread::Threads;
 use sw_base::{Folder, Gate, Memory, NoGate};
@@ -29,7 +30,7 @@ fn arguments(alloc: Global, given: &[&str]) -> Result<Vec<String>, AllocError> {
 }
 
 /// The status of what these arguments ask for.
-pub fn asked<R: Threads + Wait + Sync, F: Folder, G: Gate>(
+pub fn asked<R: Threads + Wait + Sync + Copy + Send + 'static, F: Folder, G: Gate>(
     rt: &R,
     alloc: Global,
     folder: &mut F,
@@ -42,7 +43,7 @@ pub fn asked<R: Threads + Wait + Sync, F: Folder, G: Gate>(
 }
 
 /// The status where these writes of the output fail, and what is printed.
-pub fn printed<R: Threads + Wait + Sync, F: Folder>(
+pub fn printed<R: Threads + Wait + Sync + Copy + Send + 'static, F: Folder>(
     rt: &R,
     alloc: Global,
     folder: &mut F,

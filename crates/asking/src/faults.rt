@@ -6,6 +6,7 @@ use crate::folders::Step;
 use command_answer::{READ_FAULT, WRITE_FAULT};
 use memory_environment::{MemFolder, MemOut};
 use std::alloc::Global;
+use std::marker::Send;
 use std::sync::Wait;
 use std::test::Fail;
 use std::thread::Threads;
@@ -56,7 +57,7 @@ fn path_of(steps: &[Step]) -> Path {
 }
 
 // What the case leaves where the call of this number fails.
-fn left_by<R: Threads + Wait + Sync>(
+fn left_by<R: Threads + Wait + Sync + Copy + Send + 'static>(
     rt: &R,
     alloc: Global,
     case: &Case<'_>,
@@ -144,7 +145,7 @@ fn is_whole(left: &Left, due: &Left, calls: &Calls<'_>) -> bool {
 }
 
 // Fails with the first of so many calls that leaves something else than is due, or with the one after them if it changes anything.
-fn each_fails<R: Threads + Wait + Sync>(
+fn each_fails<R: Threads + Wait + Sync + Copy + Send + 'static>(
     rt: &R,
     alloc: Global,
     calls: &Calls<'_>,
@@ -167,7 +168,7 @@ fn each_fails<R: Threads + Wait + Sync>(
 
 /// Fails where some call that fails alone leaves something else than it should: the status of a fault, a shorter beginning of the text, and
 /// of the files those before it, the beginning of one at most, and none where a read or a log fails before the first is put.
-pub fn each_call_may_fail<R: Threads + Wait + Sync>(
+pub fn each_call_may_fail<R: Threads + Wait + Sync + Copy + Send + 'static>(
     rt: &R,
     alloc: Global,
     calls: &Calls<'_>,

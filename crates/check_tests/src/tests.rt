@@ -4,6 +4,7 @@ mod graph;
 mod reasons;
 mod sweeping;
 mod texts;
+mod threads;
 mod upgrades;
 mod witnesses;
 mod workers;

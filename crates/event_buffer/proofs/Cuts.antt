@@ -11,6 +11,12 @@ use Rattle.sw_base.specs.Pieces.{records_in, rest_piece, cut, kept}
 pub one_more : (n m : ℕ) → (n + 1) * m ≡ n * m + m
 one_more n m = let more : n + 1 ≡ suc n = omega arith in ap (λ k. k * m) more ∙ suc-mul n m
 
+-- one block more, or none
+pub one_away : (full away m : ℕ) → away ≤ 1 → (full + away) * m ≤ full * m + m
+one_away full zero m one = let none : full + 0 ≡ full = omega arith in omega (arith, ap (λ k. k * m) none)
+one_away full (suc zero) m one = omega (arith, one_more full m)
+one_away full (suc (suc k)) m one = absurd (omega (arith, one))
+
 -- full pieces, and a part of one
 pub cut_is : (n full rest size : ℕ) → n ≡ full * records_in size + rest → rest < records_in size
     → 8 ∷ replicate full (24 * records_in size) ++ rest_piece rest ≡ cut n size

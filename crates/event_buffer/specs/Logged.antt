@@ -11,28 +11,36 @@ use Rattle.event_buffer.specs.Buffered.{Buffered}
 abbrev pub joined : List (List ℕ) → List ℕ
 joined pieces = flat_map (λ (piece : List ℕ). piece) pieces
 
--- a log's bytes are its pieces and a prefix of what waits
-pub record IsTorn (text : Text) (waiting : List ℕ) : Type 0 where
+-- a log's bytes are its pieces and a prefix of these
+pub record IsTorn (text : Text) (bytes_due : List ℕ) : Type 0 where
   pub torn : List ℕ
   pub rest : List ℕ
   pub bytes : text.bytes ≡ joined text.pieces ++ torn
-  pub waits : waiting ≡ torn ++ rest
+  pub parts : bytes_due ≡ torn ++ rest
 
--- each piece behind the header has as many whole records as the block may hold, and the others wait: at most so many
+-- what the log doesn't have yet
+abbrev pub due : Buffered → List ℕ
+due b = b.sent ++ b.waiting
+
+-- each piece behind the header has as many whole records as a block may hold; so many were sent, or none; and the others wait, at
+-- most so many
 pub record IsFilled (b : Buffered) : Type 0 where
   pub full : ℕ
+  pub away : ℕ
   pub rest : ℕ
-  pub count : b.count ≡ full * records_in b.size + rest
+  pub count : b.count ≡ (full + away) * records_in b.size + rest
+  pub one : away ≤ 1
   pub most : rest ≤ records_in b.size
+  pub sent : length b.sent ≡ 24 * (away * records_in b.size)
   pub waiting : length b.waiting ≡ 24 * rest
   pub lengths : WhereTold b.text (λ text. map length text.pieces ≡ 8 ∷ replicate full (24 * records_in b.size))
 
--- just these records were put: the pieces, and what waits behind them, are the header and the records, and unless a call was
--- refused the pieces are all of the log
+-- just these records were put: the pieces, what was sent and what waits behind it are the header and the records, and unless a call
+-- was refused the pieces are all of the log
 pub record HoldsRecords (header : List ℕ) (b : Buffered) (records : List Record) : Type 0 where
   pub count : b.count ≡ length records
-  pub bytes : WhereTold b.text (λ text. joined text.pieces ++ b.waiting ≡ log_bytes header records)
-  pub torn : WhereTold b.text (λ text. IsTorn text b.waiting)
+  pub bytes : WhereTold b.text (λ text. joined text.pieces ++ due b ≡ log_bytes header records)
+  pub torn : WhereTold b.text (λ text. IsTorn text (due b))
   pub whole : b.refused ≡ None → WhereTold b.text (λ text. text.bytes ≡ joined text.pieces)
   pub filled : IsFilled b
 
@@ -42,11 +50,11 @@ pub record HasAll (header : List ℕ) (records : List Record) (size : ℕ) (text
   pub pieces : text.bytes ≡ joined text.pieces
   pub lengths : map length text.pieces ≡ cut (length records) size
 
--- a log has its pieces, and perhaps a prefix of the next one, of a log of these records, and at most a block of records isn't in
--- the pieces
+-- a log has its pieces, and perhaps a prefix of the next one, of a log of these records, and at most two blocks of records
+-- aren't in the pieces
 pub record KeepsPrefix (header : List ℕ) (records : List Record) (size : ℕ) (text : Text) : Type 0 where
   pub torn : List ℕ
   pub missing : List ℕ
   pub bytes : text.bytes ≡ joined text.pieces ++ torn
   pub prefix : log_bytes header records ≡ text.bytes ++ missing
-  pub behind : length records ≤ kept (map length text.pieces) + records_in size
+  pub behind : length records ≤ kept (map length text.pieces) + 2 * records_in size

@@ -1,5 +1,5 @@
 //! A buffer before a task's log.
-ghost use Rattle.std.specs.Prelude.{◌≡◌, ◌+◌, ◌*◌, ◌<◌, ◌≤◌, ◌↔◌, [], ◌∷◌, ◌++◌, length, List, ℕ, Some, None, Err, is_some, IfOk, IfErr, OnOk, OnErr, IsErr, IsErrOf, IsTrue};
+ghost use Rattle.std.specs.Prelude.{◌≡◌, ◌⊎◌, ◌+◌, ◌*◌, ◌<◌, ◌≤◌, ◌↔◌, [], ◌∷◌, ◌++◌, length, List, ℕ, Some, None, Err, is_some, IfOk, IfErr, OnOk, OnErr, IsErr, IsErrOf, IsTrue};
 ghost use Rattle.std.specs.Option.{option_map};
 ghost use Rattle.log_format.specs.declared.format.TheConstants.{FORMAT};
 ghost use Rattle.log_format.specs.Format.{log_header};
@@ -7,14 +7,17 @@ ghost use Rattle.log_format.specs.Limit.{record_limit};
 ghost use Rattle.log_format.specs.declared.record.Record.{Record};
 ghost use Rattle.log_format.specs.Spelling.{spelling};
 ghost use Rattle.sw_base.specs.Environment.{WhereTold, HasCause, Rose, TearsPiece, empty_text, with_piece};
-ghost use Rattle.event_buffer.specs.Buffered.{HasRoom, MayPut, IsFlushed, IsTornBy, IsStill, CountsFault};
+ghost use Rattle.event_buffer.specs.Buffered.{HasRoom, MayPut, IsTornBy, IsRefusedBy, IsStill, CountsFault, flushed, caught_up};
 ghost use Rattle.event_buffer.specs.Logged.{HoldsRecords, HasAll, KeepsPrefix};
 
 use crate::fault::BufferFault;
 use event_block::Block;
-use log_format::{FORMAT, RECORD_LIMIT, Record, encode};
+use flush_writer::Flusher;
+use log_format::{RECORD_LIMIT, Record, encode};
 use std::alloc::Global;
-use std::marker::Model;
+use std::marker::{Model, Send};
+use std::sync::Wait;
+use std::thread::Threads;
 use sw_base::{Log, Trouble};
 
 /// The bytes of a record.
@@ -23,38 +26,33 @@ const RECORD_SIZE: usize = 24;
 /// Takes a task's records for its log.
 #[derive(Drop)]
 pub struct Buffer<L: Log> {
-    log: L,
-    block: Block,
+    flusher: Flusher<L>,
+    // The block that is filled. It is away only while a call hands it on.
+    block: Option<Block>,
     count: u32,
-    refused: Option<Trouble>,
 }
 
 impl<L: Log> Model for Buffer<L> {
-    ghost use Rattle.std.specs.Prelude.{◌≡◌, ◌<◌, ◌≤◌, Some, None, length};
-    ghost use Rattle.event_buffer.specs.Buffered.{Buffered, CountsFault};
+    ghost use Rattle.std.specs.Prelude.{◌≡◌, ◌≤◌, Some, length};
+    ghost use Rattle.event_buffer.specs.Buffered.{Buffered, buffered, bytes_in};
     ghost use Rattle.log_format.specs.Limit.{record_limit};
-    ghost use Rattle.sw_base.specs.declared.trouble.Trouble.{Trouble};
 
     ghost Value = { Buffered };
 
-    ghost view = { λ b. record {
-      dir = L.dir b.log;
-      path = L.path b.log;
-      text = L.text b.log;
-      faults = L.faults b.log;
-      size = b.block.size;
-      waiting = b.block.bytes;
-      count = b.count;
-      refused = b.refused;
-    } };
+    ghost view = { λ b. buffered b.flusher (bytes_in b.block) b.count };
 
-    ghost invariant = { λ b. (24 ≤ b.block.size) × (length b.block.bytes ≤ b.block.size) × (b.count ≤ record_limit)
-        × ((trouble : Trouble) → b.refused ≡ Some trouble → CountsFault trouble (L.faults b.log)) × (b.refused ≡ None → L.faults b.log ≡ 0) };
+    ghost invariant = { λ b. (24 ≤ b.flusher.size) × (b.block ≡ Some (record { size = b.flusher.size; bytes = bytes_in b.block }))
+        × (length (bytes_in b.block) ≤ b.flusher.size) × (b.count ≤ record_limit) };
 }
 
 impl<L: Log> Buffer<L> {
     /// A buffer of this size, whose log begins with the header.
-    pub fn start(alloc: Global, log: L, size: usize) -> Result<Buffer<L>, (Trouble, L)>
+    pub fn start<R: Threads>(
+        rt: &R,
+        alloc: Global,
+        log: L,
+        size: usize,
+    ) -> Result<Buffer<L>, (Trouble, L)>
         requires size { (24 ≤ size) × (size ≤ 4194304) }
         requires empty { WhereTold (L.text log) (λ text. text ≡ empty_text) }
         requires no_faults { L.faults log ≡ 0 }
@@ -65,6 +63,7 @@ impl<L: Log> Buffer<L> {
           text = option_map (with_piece (log_header FORMAT)) (L.text log);
           faults = b.faults;
           size = size;
+          sent = [];
           waiting = [];
           count = 0;
           refused = None;
@@ -76,26 +75,24 @@ impl<L: Log> Buffer<L> {
         ensures memory { IfErr result (λ error. error.0 ≡ Trouble.Memory → (L.text error.1 ≡ L.text log) × (L.faults error.1 ≡ L.faults log)) }
         ensures fault { IfErr result (λ error. CountsFault error.0 (L.faults error.1)) }
     {
-        let mut log = log;
-        let Ok(block) = Block::new(alloc, size) else {
-            return Err((Trouble::Memory, log));
-        };
-        match log.append(alloc, &FORMAT.log_header()) {
-            Ok(()) => Ok(Buffer {
-                log,
-                block,
-                count: 0,
-                refused: None,
-            }),
-            Err(trouble) => Err((trouble, log)),
-        }
+        let (flusher, block) = Flusher::start(rt, alloc, log, size)?;
+        Ok(Buffer {
+            flusher,
+            block: Some(block),
+            count: 0,
+        })
     }
 
-    /// Makes room for one record: hands the block to the log, where the record doesn't fit.
-    pub fn ready(&mut self, alloc: Global) -> Result<(), BufferFault>
+    /// Makes room for one record: gives the block to the log's writer, where the record doesn't fit.
+    #[inline(always)]
+    pub fn ready<R: Threads + Wait + Copy + Send + 'static>(
+        &mut self,
+        rt: &R,
+        alloc: Global,
+    ) -> Result<(), BufferFault>
         ensures ready { OnOk result (MayPut self.new) }
         ensures room { HasRoom self.old → self.new ≡ self.old }
-        ensures flushed { (HasRoom self.old → ⊥) → OnOk result (IsFlushed self.old self.new) }
+        ensures flushed { (HasRoom self.old → ⊥) → OnOk result (self.new ≡ flushed self.old) }
 
         ensures full { IsErrOf result BufferFault.LogFull ↔ ((self.old.refused ≡ None) × (record_limit ≤ self.old.count)) }
         ensures full_same { IsErrOf result BufferFault.LogFull → self.new ≡ self.old }
@@ -110,7 +107,7 @@ impl<L: Log> Buffer<L> {
         ensures records { (header : List ℕ) (records : List Record) → HoldsRecords header self.old records → HoldsRecords header self.new records }
         ensures still { IsStill self.old self.new }
     {
-        if let Some(trouble) = self.refused {
+        if let Some(trouble) = self.flusher.refused() {
             return Err(BufferFault::Trouble(trouble));
         }
         if self.is_full() {
@@ -119,18 +116,22 @@ impl<L: Log> Buffer<L> {
         if self.has_room() {
             return Ok(());
         }
-        self.flush(alloc)?;
+        self.flush(rt, alloc)?;
         Ok(())
     }
 
     /// Adds a record.
+    #[inline(always)]
     pub fn put(&mut self, event: &Record)
         requires { MayPut self.old }
         ensures put { self.new ≡ record self.old { waiting = self.old.waiting ++ spelling event.now; count = self.old.count + 1 } }
         ensures records { (header : List ℕ) (records : List Record) → HoldsRecords header self.old records
             → HoldsRecords header self.new (records ++ event.now ∷ []) }
     {
-        let _fits = self.block.push(&encode(event));
+        let Some(block) = &mut self.block else {
+            unreachable!();
+        };
+        block.push(&encode(event));
         self.count += 1;
     }
 
@@ -142,8 +143,15 @@ impl<L: Log> Buffer<L> {
         self.count
     }
 
-    /// A new empty log of the same folder, for a lane of one of the task's regions.
-    pub fn child(&mut self, alloc: Global, region: u32, lane: u16, span: u16) -> Result<L, Trouble>
+    /// A new empty log of the same folder, for a lane of one of the task's regions, when the log has what was sent.
+    pub fn child<R: Wait>(
+        &mut self,
+        rt: &R,
+        alloc: Global,
+        region: u32,
+        lane: u16,
+        span: u16,
+    ) -> Result<L, Trouble>
         requires path { length self.old.path < 4 }
         requires unrefused { self.old.refused ≡ None }
 
@@ -152,22 +160,21 @@ impl<L: Log> Buffer<L> {
         ensures child_text { IfOk result (λ log. L.text log ≡ option_map (λ _. empty_text) self.old.text) }
         ensures child_faults { IfOk result (λ log. L.faults log ≡ 0) }
 
-        ensures same { self.new ≡ record self.old { faults = self.new.faults; refused = self.new.refused } }
+        ensures done { OnOk result (self.new ≡ caught_up self.old) }
+        ensures stopped { IfErr result (λ trouble. IsTornBy trouble self.old self.new ⊎ IsRefusedBy trouble (caught_up self.old) self.new) }
+        ensures still { IsStill self.old self.new }
+        ensures waiting { self.new.waiting ≡ self.old.waiting }
         ensures unrefused { OnOk result (self.new.refused ≡ None) }
         ensures refused { IfErr result (λ trouble. self.new.refused ≡ Some trouble) }
         ensures cause { HasCause self.old.faults self.new.faults result }
 
         ensures records { (header : List ℕ) (records : List Record) → HoldsRecords header self.old records → HoldsRecords header self.new records }
     {
-        let outcome = self.log.child(alloc, region, lane, span);
-        if let Err(trouble) = outcome {
-            self.refused = Some(trouble);
-        }
-        outcome
+        self.flusher.child(rt, alloc, region, lane, span)
     }
 
-    /// Hands on what waits, and gives the log.
-    pub fn close(self, alloc: Global) -> Result<L, (Trouble, L)>
+    /// Hands on all that is left, and gives the log.
+    pub fn close<R: Wait>(self, rt: &R, alloc: Global) -> Result<L, (Trouble, L)>
         ensures dir { IfOk result (λ log. (L.dir log ≡ self.dir) × (L.path log ≡ self.path)) }
         ensures given_back { IfErr result (λ error. (L.dir error.1 ≡ self.dir) × (L.path error.1 ≡ self.path)) }
 
@@ -185,17 +192,19 @@ impl<L: Log> Buffer<L> {
         ensures no_fault { IfOk result (λ log. L.faults log ≡ 0) }
         ensures error_later { IfErr result (λ error. self.faults ≤ L.faults error.1) }
     {
-        let mut buffer = self;
-        if let Some(trouble) = buffer.refused {
-            return Err((trouble, buffer.into_log()));
-        }
-        match buffer.hand_on(alloc) {
-            Ok(()) => Ok(buffer.into_log()),
-            Err(trouble) => Err((trouble, buffer.into_log())),
-        }
+        let Buffer {
+            flusher,
+            block,
+            count: _,
+        } = self;
+        let Some(rest) = block else {
+            unreachable!();
+        };
+        flusher.finish(rt, alloc, rest)
     }
 
     // Whether the log may have no further record.
+    #[inline(always)]
     fn is_full(&self) -> bool
         ensures { IsTrue result ↔ (record_limit ≤ self.now.count) }
     {
@@ -203,71 +212,41 @@ impl<L: Log> Buffer<L> {
     }
 
     // Whether the bytes of one more record fit.
+    #[inline(always)]
     fn has_room(&self) -> bool
         ensures { IsTrue result ↔ HasRoom self.now }
     {
-        self.block.size() - self.block.len() >= RECORD_SIZE
-    }
-
-    // Whether a record waits.
-    fn is_waiting(&self) -> bool
-        ensures { IsTrue result ↔ (0 < length self.now.waiting) }
-    {
-        self.block.len() > 0
-    }
-
-    // Hands the block to the log, if a record waits.
-    fn hand_on(&mut self, alloc: Global) -> Result<(), Trouble>
-        requires unrefused { self.old.refused ≡ None }
-        requires large { 24 ≤ self.old.size }
-        ensures all { OnOk result ((header : List ℕ) (records : List Record) → HoldsRecords header self.old records
-            → WhereTold self.new.text (HasAll header records self.old.size)) }
-        ensures torn { IfErr result (λ trouble. IsTornBy trouble self.old self.new) }
-        ensures still { IsStill self.old self.new }
-        ensures cause { HasCause self.old.faults self.new.faults result }
-        ensures no_fault { OnOk result (self.new.faults ≡ self.old.faults) }
-    {
-        if !self.is_waiting() {
-            return Ok(());
+        match &self.block {
+            Some(block) => block.size() - block.len() >= RECORD_SIZE,
+            None => false,
         }
-        self.flush(alloc)
     }
 
-    // Hands the block to the log.
-    fn flush(&mut self, alloc: Global) -> Result<(), Trouble>
-        ensures flushed { OnOk result (IsFlushed self.old self.new) }
+    // Gives the block to the writer, and takes the other.
+    #[inline(never)]
+    fn flush<R: Threads + Wait + Copy + Send + 'static>(
+        &mut self,
+        rt: &R,
+        alloc: Global,
+    ) -> Result<(), Trouble>
+        requires unrefused { self.old.refused ≡ None }
+        requires some { 0 < length self.old.waiting }
+        ensures flushed { OnOk result (self.new ≡ flushed self.old) }
         ensures torn { IfErr result (λ trouble. IsTornBy trouble self.old self.new) }
         ensures cause { HasCause self.old.faults self.new.faults result }
-        ensures no_fault { OnOk result (self.new.faults ≡ self.old.faults) }
     {
-        match self.log.append(alloc, self.block.bytes()) {
-            Ok(()) => {
-                self.block.clear();
+        let Some(full) = self.block.take() else {
+            unreachable!();
+        };
+        match self.flusher.give(rt, alloc, full) {
+            Ok(empty) => {
+                self.block = Some(empty);
                 Ok(())
             }
-            Err(trouble) => {
-                self.refused = Some(trouble);
+            Err((trouble, full)) => {
+                self.block = Some(full);
                 Err(trouble)
             }
         }
-    }
-
-    // The log alone.
-    fn into_log(self) -> L
-        ensures dir { L.dir result ≡ self.dir }
-        ensures path { L.path result ≡ self.path }
-        ensures text { L.text result ≡ self.text }
-        ensures faults { L.faults result ≡ self.faults }
-        ensures cause { (trouble : Trouble) → self.refused ≡ Some trouble → CountsFault trouble self.faults }
-        ensures no_fault { self.refused ≡ None → L.faults result ≡ 0 }
-    {
-        let Buffer {
-            log,
-            block,
-            count: _,
-            refused: _,
-        } = self;
-        drop(block);
-        log
     }
 }

@@ -8,7 +8,7 @@ use Rattle.race_model.specs.Order.{HappensBefore, Edge}
 use Rattle.race_model.specs.Trace.{Logs, Node, logs_of, path_eq}
 use Rattle.race_model.proofs.TraceLogs.{path_is}
 use Rattle.kernel_model.specs.State.{event}
-use Rattle.lane_runner.specs.World.{element_address}
+use Rattle.execution_model.specs.Elements.{element_address}
 use Rattle.execution_model.specs.Execution.{IsExecution}
 use Rattle.execution_cases.specs.TwoLanes.{accessed, kernel, team_path, second_log, tasks_of}
 use Rattle.execution_cases.proofs.Impossible.{different}

@@ -24,7 +24,7 @@ use Rattle.step_history.specs.History.{HasHistory}
 use Rattle.serial_model.proofs.Legal.{serial_history}
 use Rattle.lane_runner.specs.declared.stop.Stop.TheVariants as stop
 use Rattle.lane_runner.specs.Stopping.{GoesFurther}
-use Rattle.lane_runner.specs.World.{element_address}
+use Rattle.execution_model.specs.Elements.{element_address}
 use Rattle.region_runner.specs.Answer.{EndsTask, IsLeast, StopsIn}
 use Rattle.run_command.specs.Run.{AreStopped}
 use Rattle.execution_cases.specs.TwoLanes.{dir, team_path, size}

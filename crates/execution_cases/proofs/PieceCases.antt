@@ -1,5 +1,5 @@
--- Logs that lack a block, draws, lanes and regions: which are those of a run, and which aren't.
-use Rattle.std.proofs.Common.{◌≡◌, refl, ap, sym, subst, ℕ, zero, suc, ◌+◌, ◌<◌, ◌≤◌, List, [], ◌∷◌, ◌++◌, Option, Some, None, false, arith}
+-- Logs that lack two blocks, draws, lanes and regions: which are those of a run, and which aren't.
+use Rattle.std.proofs.Common.{◌≡◌, refl, ap, sym, subst, ℕ, zero, suc, ◌+◌, ◌*◌, ◌<◌, ◌≤◌, List, [], ◌∷◌, ◌++◌, Option, Some, None, false, arith}
 use Rattle.std.specs.Prelude.{slice_get, drop, ◌==◌}
 use Rattle.std.specs.List.{flat_map}
 use Rattle.std.proofs.lemmas.List.Elements.{All-nil, All-cons}
@@ -20,9 +20,9 @@ use Rattle.history_model.specs.Joined.{LastIsEnd, PhasesEnd, ArePhasesJoined}
 use Rattle.execution_model.specs.Execution.{DrewSome}
 use Rattle.lane_runner.specs.Stopping.{RestsBelow, HaveEnded}
 use Rattle.run_command.specs.Run.{IsTornLog}
-use Rattle.execution_cases.specs.TwoLanes.{dir, size, main_task, lane_task, team_path, first_log, second_log, accessed}
+use Rattle.execution_cases.specs.TwoLanes.{dir, size, main_task, lane_task, team_path, first_log, second_log}
 use Rattle.execution_cases.proofs.Impossible.{different, not_empty}
-use Rattle.execution_cases.specs.Pieces.{torn_log, loop_logs, at_once, after_region}
+use Rattle.execution_cases.specs.Pieces.{torn_log, long_log, loop_logs, at_once, after_region}
 
 -- ---- logs
 
@@ -30,22 +30,22 @@ abbrev outline_in : Option Outline → Outline
 outline_in None = record { bytes = []; lengths = [] }
 outline_in (Some o) = o
 
-pub a_block : IsTornLog dir size (lane_task 1 (second_log 1)) (torn_log 2 (48 ∷ []))
+pub two_blocks : IsTornLog dir size (lane_task 1 (second_log 1)) (torn_log (second_log 1) 0 [])
 unfolding spelling
-a_block = record {
+two_blocks = record {
   outline = told;
   log_is = refl;
-  missing = flat_map spelling (accessed kind.Write 6 3 4104 1 ∷ event kind.Barrier 7 0 0 ∷ []);
+  missing = flat_map spelling (second_log 1);
   prefix = refl;
   behind = omega arith;
 }
   where
     told : Outline
-    told = outline_in (torn_log 2 (48 ∷ [])).told
+    told = outline_in (torn_log (second_log 1) 0 []).told
 
-pub two_blocks : IsTornLog dir size (lane_task 1 (second_log 1)) (torn_log 0 []) → ⊥
-two_blocks t =
-    let short : 4 ≤ kept (8 ∷ []) + records_in size = subst (λ (lengths : List ℕ). 4 ≤ kept lengths + records_in size) (sym (ap (λ (log : HandedLog). (outline_in log.told).lengths) t.log_is)) t.behind in
+pub one_more : IsTornLog dir size (lane_task 1 long_log) (torn_log long_log 0 []) → ⊥
+one_more t =
+    let short : 5 ≤ kept (8 ∷ []) + 2 * records_in size = subst (λ (lengths : List ℕ). 5 ≤ kept lengths + 2 * records_in size) (sym (ap (λ (log : HandedLog). (outline_in log.told).lengths) t.log_is)) t.behind in
     omega arith
 
 -- ---- draws

@@ -25,7 +25,7 @@ use Rattle.execution_laws.proofs.Whole.{execution}
 use Rattle.step_history.specs.History.{HasHistory}
 use Rattle.serial_model.proofs.Legal.{serial_history}
 use Rattle.lane_runner.specs.declared.stop.Stop.TheVariants as stop
-use Rattle.lane_runner.specs.World.{element_address}
+use Rattle.execution_model.specs.Elements.{element_address}
 use Rattle.region_runner.specs.Answer.{EndsTask, IsLeast}
 use Rattle.run_command.specs.Run.{AreStopped}
 use Rattle.execution_cases.specs.TwoLanes.{accessed, body, dir, first_log, kernel, team_path, logs, second_log, size, tasks, tasks_of}

@@ -15,7 +15,7 @@ use Rattle.execution_model.specs.Execution.{IsExecution}
 use Rattle.lane_runner.specs.declared.stop.Stop.{Stop}
 use Rattle.lane_runner.specs.declared.stop.Stop.TheVariants as stop
 use Rattle.lane_runner.specs.Stopping.{ending_for}
-use Rattle.lane_runner.specs.World.{layout_of, element_address}
+use Rattle.execution_model.specs.Elements.{layout_of, element_address}
 use Rattle.region_runner.specs.Answer.{EndsTask, IsLeast}
 use Rattle.run_command.specs.Run.{AreLeftLogs, AreStopped, IsLeftLog, told_log}
 use Rattle.run_command.specs.RunTexts.{told_stop}

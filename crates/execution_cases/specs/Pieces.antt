@@ -1,5 +1,5 @@
 -- Logs that lack records, draws of a dynamic loop, and regions after which a run has too many tasks.
-use Rattle.std.specs.Prelude.{ℕ, List, [], ◌∷◌, take, Some}
+use Rattle.std.specs.Prelude.{ℕ, List, [], ◌∷◌, length, take, Some}
 use Rattle.sw_base.specs.HandedLog.{HandedLog}
 use Rattle.log_format.specs.declared.format.TheConstants.{FORMAT}
 use Rattle.log_format.specs.Format.{log_header}
@@ -10,15 +10,19 @@ use Rattle.kernel_model.specs.State.{event}
 use Rattle.history_model.specs.Work.{Work, Rest, Put, Fork, Phase, NoPhase, Beside, NoWork}
 use Rattle.execution_cases.specs.TwoLanes.{dir, team_path, second_log}
 
--- the log of lane 1 of which only the first records were taken: so many, in pieces of these lengths behind the header
-abbrev pub torn_log : ℕ → List ℕ → HandedLog
-torn_log count lengths = record {
+-- the log of lane 1 of which only the first of these records were taken: so many, in pieces of these lengths behind the header
+abbrev pub torn_log : List Record → ℕ → List ℕ → HandedLog
+torn_log records count lengths = record {
   task = team_path 1;
   dir = dir;
   path = team_path 1;
-  told = Some (record { bytes = log_bytes (log_header FORMAT) (take count (second_log 1)); lengths = 8 ∷ lengths });
-  count = 4;
+  told = Some (record { bytes = log_bytes (log_header FORMAT) (take count records); lengths = 8 ∷ lengths });
+  count = length records;
 }
+
+-- five records
+abbrev pub long_log : List Record
+long_log = event kind.Barrier 4 0 0 ∷ second_log 1
 
 -- two lanes that drew the chunks 0 and 1 of a loop of two, of which the first found no more: its closing record tells so many chunks
 abbrev pub loop_logs : ℕ → List (List Record)

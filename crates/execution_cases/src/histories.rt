@@ -1,7 +1,7 @@
 //! Histories of the run of two lanes.
 ghost use Rattle.std.specs.Prelude.{ℕ, List, [], ◌∷◌};
 ghost use Rattle.execution_model.specs.Execution.{IsExecution};
-ghost use Rattle.lane_runner.specs.World.{element_address};
+ghost use Rattle.execution_model.specs.Elements.{element_address};
 ghost use Rattle.execution_cases.specs.TwoLanes.{kernel, second_log, tasks, tasks_of};
 
 /// Behind their barrier lane 1 finds what lane 0 wrote before it.

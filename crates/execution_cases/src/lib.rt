@@ -15,6 +15,6 @@ pub use histories::{reads_find_writes_before_them, words_are_those_of_the_histor
 pub use nested::a_nested_lane_stops;
 pub use pieces::{
     draws_close_with_their_count, runs_keep_all_lanes, tasks_stop_behind_ended_lanes,
-    torn_logs_lack_a_block,
+    torn_logs_lack_two_blocks,
 };
 pub use stopped::{a_lane_stops, tasks_wait_for_others};

@@ -7,12 +7,12 @@ ghost use Rattle.execution_model.specs.Execution.{DrewSome};
 ghost use Rattle.lane_runner.specs.Stopping.{RestsBelow};
 ghost use Rattle.run_command.specs.Run.{IsTornLog};
 ghost use Rattle.execution_cases.specs.TwoLanes.{dir, size, main_task, lane_task, first_log, second_log};
-ghost use Rattle.execution_cases.specs.Pieces.{torn_log, loop_logs, at_once, after_region};
+ghost use Rattle.execution_cases.specs.Pieces.{torn_log, long_log, loop_logs, at_once, after_region};
 
-/// Of four records, two a block, a log that was refused may lack two, and not all.
-pub fn torn_logs_lack_a_block()
-    ensures a_block { IsTornLog dir size (lane_task 1 (second_log 1)) (torn_log 2 (48 ∷ [])) }
-    ensures two_blocks { IsTornLog dir size (lane_task 1 (second_log 1)) (torn_log 0 []) → ⊥ }
+/// With two records a block, a log that was refused may lack four, and not five.
+pub fn torn_logs_lack_two_blocks()
+    ensures two_blocks { IsTornLog dir size (lane_task 1 (second_log 1)) (torn_log (second_log 1) 0 []) }
+    ensures one_more { IsTornLog dir size (lane_task 1 long_log) (torn_log long_log 0 []) → ⊥ }
 {}
 
 /// The record that closes a drawn loop tells how many chunks were drawn.

@@ -18,6 +18,9 @@ use std::sync::Wait;
 use std::thread::Threads;
 use sw_base::{Log, Trouble};
 
+/// The least block that is handed over. A smaller one is appended sooner than another thread is woken for it.
+const LEAST_BLOCK: usize = 4096;
+
 /// The stack of a writer, which only appends.
 const STACK: usize = 256 * 1024;
 
@@ -97,7 +100,7 @@ impl<L: Log> Flusher<L> {
         }
     }
 
-    /// The same, where a writer that is started from now on has this much stack.
+    /// The same with a writer for blocks of any size, which has this much stack if it is started from now on.
     pub fn with_stack(self, stack: usize) -> Flusher<L>
         ensures { result ≡ self }
     {
@@ -105,6 +108,19 @@ impl<L: Log> Flusher<L> {
         Flusher {
             home,
             writer: writer.with_stack(stack),
+        }
+    }
+
+    /// Why a call on the log was refused, where that is known.
+    #[inline(always)]
+    pub fn refused(&self) -> Option<Trouble>
+        ensures refused { result ≡ self.now.refused }
+        ensures fault { result ≡ Some Trouble.Failed → 0 < self.now.faults }
+        ensures no_fault { result ≡ None → self.now.faults ≡ 0 }
+    {
+        match &self.home {
+            Some(errand) => errand.refused(),
+            None => None,
         }
     }
 
@@ -198,9 +214,10 @@ impl<L: Log> Flusher<L> {
           refused = None;
         } }
     {
+        let is_wanted = block.size() >= LEAST_BLOCK;
         Flusher {
             home: Some(Errand::new(log, block)),
-            writer: Writer::new(STACK),
+            writer: Writer::new(is_wanted, STACK),
         }
     }
 }

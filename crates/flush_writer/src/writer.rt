@@ -31,34 +31,34 @@ impl<L: Log> Model for Writer<L> {
 }
 
 impl<L: Log> Writer<L> {
-    /// No writer yet, and how much stack it is to have.
-    pub(crate) fn new(stack: usize) -> Writer<L>
+    /// No writer yet, whether there is to be one, and how much stack it is to have.
+    pub(crate) fn new(is_wanted: bool, stack: usize) -> Writer<L>
         ensures { result ≡ None }
     {
         Writer {
             link: None,
-            is_asked: false,
+            is_asked: !is_wanted,
             stack,
         }
     }
 
-    /// The same, with this much stack.
+    /// The same, where there is to be one, with this much stack.
     pub(crate) fn with_stack(self, stack: usize) -> Writer<L>
         ensures { result ≡ self }
     {
         let Writer {
             link,
-            is_asked,
+            is_asked: _,
             stack: _,
         } = self;
         Writer {
             link,
-            is_asked,
+            is_asked: false,
             stack,
         }
     }
 
-    /// Starts the writer, unless that was tried before.
+    /// Starts the writer, unless that was tried before, or there is to be none.
     pub(crate) fn ask<R: Threads + Wait + Copy + Send + 'static>(&mut self, rt: &R, alloc: Global)
         requires idle { IsIdle self.old }
         ensures idle { IsIdle self.new }

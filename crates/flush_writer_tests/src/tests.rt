@@ -8,10 +8,8 @@ use flush_writer::Flusher;
 use memory_environment::MemLog;
 use std::alloc::Global;
 use std::marker::Send;
-use std::sync::atomic::{AtomicU64, Ordering};
-use std::sync::{Arc, Wait};
+use std::sync::Wait;
 use std::test::Fail;
-use std::thread;
 use std::thread::Threads;
 use sw_base::{LOG_HEADER, Log, Trouble};
 
@@ -215,77 +213,6 @@ fn a_refusal_is_answered_at_the_next_call_and_nothing_is_given_again(
             assert!(rt; left.log.lengths().len() == pieces, "call {call}");
             assert!(rt; left.log.bytes().len() == bytes, "call {call}");
         }
-    }
-    Ok(())
-}
-
-// A log whose second append waits until it may go on, and notes how often it had to stop waiting.
-#[derive(Drop)]
-struct Waiting {
-    appends: u32,
-    may_go: Arc<AtomicU64>,
-    gave_up: Arc<AtomicU64>,
-}
-
-/// How often a log looks whether it may go on.
-const TURNS: u32 = 1_000_000;
-
-impl Log for Waiting {
-    ghost dir = { λ _. [] };
-
-    ghost path = { λ _. [] };
-
-    ghost text = { λ _. None };
-
-    ghost faults = { λ _. 0 };
-
-    fn child(&mut self, _: Global, _: u32, _: u16, _: u16) -> Result<Self, Trouble> {
-        Err(Trouble::Memory)
-    }
-
-    fn append(&mut self, _alloc: Global, _piece: &[u8]) -> Result<(), Trouble> {
-        self.appends = self.appends.saturating_add(1);
-        if self.appends == 2 && !is_let_go(&self.may_go) {
-            self.gave_up.fetch_add(1, Ordering::SeqCst);
-        }
-        Ok(())
-    }
-}
-
-fn is_let_go(may_go: &AtomicU64) -> bool {
-    for _ in 0..TURNS {
-        if may_go.load(Ordering::SeqCst) > 0 {
-            return true;
-        }
-        thread::yield_now();
-    }
-    false
-}
-
-#[test]
-fn a_task_goes_on_while_its_block_is_appended(rt: HostRuntime) -> Result<(), Fail> {
-    let alloc = rt.alloc();
-    for stack in [STACK, NO_THREAD] {
-        let may_go = Arc::new(alloc, AtomicU64::new(0))?;
-        let gave_up = Arc::new(alloc, AtomicU64::new(0))?;
-        let log = Waiting {
-            appends: 0,
-            may_go: Arc::try_clone(&may_go)?,
-            gave_up: Arc::try_clone(&gave_up)?,
-        };
-        let Ok((flusher, block)) = Flusher::start(&rt, alloc, log, 48) else {
-            return Err(Fail::from("no buffer"));
-        };
-        let mut flusher = flusher.with_stack(stack);
-        let Ok(mut block) = give(&rt, alloc, &mut flusher, block, 1) else {
-            return Err(Fail::from("not given"));
-        };
-        assert!(rt; block.push(&[2; 24]));
-        may_go.store(1, Ordering::SeqCst);
-        let left = ended(&rt, alloc, flusher, block, 1);
-        assert!(rt; left.refused.is_none());
-        assert!(rt; left.log.appends == 3);
-        assert!(rt; gave_up.load(Ordering::SeqCst) == 0);
     }
     Ok(())
 }

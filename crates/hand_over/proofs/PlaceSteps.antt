@@ -21,9 +21,6 @@ module _ {A P : Type 0} (fits : A → P → Type 0) (follows : A → P → P →
       here : lane < length s.homes
       here = omega arith
 
-      found : (t : Stage P) → r.stage lane ≡ t → get_or s.words lane 0 ≡ word_of t
-      found t e = r.word lane here ∙ ap word_of e
-
       Answer : Type 0
       Answer = (w : View A P) × (a : Act (Option P)) × Valid s.homes me.1 a × Rule fits follows about (stepped s lane (get_or s.words lane 0) id me.1 w a) × takes fits (step slots lane 0 0 none) me (get_or s.words lane 0) (w, carried_after me.1 a)
 
@@ -31,10 +28,10 @@ module _ {A P : Type 0} (fits : A → P → Type 0) (follows : A → P → P →
       waits none_yet = (me.0, keeps, tt, unmoved fits follows about s r id lane me.0 at, record { there = λ one. absurd (omega arith); closed = λ two. absurd (omega arith); nothing = λ a b. refl })
 
       by : (t : Stage P) → r.stage lane ≡ t → Answer
-      by Resting e = waits (found Resting e)
-      by Filling e = waits (found Filling e)
+      by Resting e = waits (r.word lane here ∙ ap word_of e)
+      by Filling e = waits (r.word lane here ∙ ap word_of e)
       by (Sent p) e =
-          let word : get_or s.words lane 0 ≡ 1 = found (Sent p) e in
+          let word : get_or s.words lane 0 ≡ 1 = r.word lane here ∙ ap word_of e in
           let w : View A P = record me.0 { took = Some p } in (
             w,
             takes_slot lane (Some p),
@@ -56,9 +53,9 @@ module _ {A P : Type 0} (fits : A → P → Type 0) (follows : A → P → P →
             },
           )
       by (Taken p) e = absurd (let clash : Some p ≡ None = sym (knows.took ∙ (ap (λ (k : ℕ). took_of (r.stage k)) own ∙ ap took_of e)) ∙ empty in cc)
-      by (Back p q) e = waits (found (Back p q) e)
+      by (Back p q) e = waits (r.word lane here ∙ ap word_of e)
       by Ended e =
-          let word : get_or s.words lane 0 ≡ 2 = found Ended e in
+          let word : get_or s.words lane 0 ≡ 2 = r.word lane here ∙ ap word_of e in
           let w : View A P = record me.0 { closed = true } in (
             w,
             keeps,

@@ -6,3 +6,4 @@ mod runs;
 mod stops;
 mod updates;
 mod whole_language;
+mod writers;

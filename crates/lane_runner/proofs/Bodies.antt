@@ -12,11 +12,11 @@ use Rattle.kernel_model.specs.Trace.{run, branch, turns, log_limit}
 use Rattle.kernel_model.specs.Value.{Site, value}
 use Rattle.kernel_model.specs.Effect.{Returned}
 use Rattle.kernel_model.proofs.Equations.{run-If, run-Loop}
-use Rattle.kernel_model.proofs.Growing.{grows-plain, run-grows, value-grows}
+use Rattle.kernel_model.proofs.Growing.{grows-plain, run-grows, value-grows, test-grows}
 use Rattle.kernel_model.proofs.Joining.{run-stmts, run-first, turns-add, after-nothing, after-done, branch-zero, branch-other}
 use Rattle.kernel_model.proofs.RunEffects.{makes-turns_none}
 use Rattle.kernel_model.proofs.Turns.{turn_grows}
-use Rattle.kernel_model.proofs.Steps.{kept-and_then, kept-after, kept-branch, kept-turns}
+use Rattle.kernel_model.proofs.Steps.{kept-and_then, kept-after, kept-turns}
 use Rattle.lane_runner.specs.declared.stop.Halt.{Halt}
 use Rattle.lane_runner.specs.World.{WorldValue}
 use Rattle.kernel_model.specs.Drawing.{turn_from}
@@ -64,14 +64,10 @@ module _ (w : WorldValue) (at : Site) (slots : List ℤ) (test : Term) (if_true 
   abbrev after_test : ℤ → State → Outcome (Unit {0})
   after_test v s = after (branch v (run at if_true) (run at if_false) s) (run at tree.Done)
 
-  test_grows : (v : ℤ) (s : State) → Grows s (state_of (after_test v s))
-  test_grows v s = kept-after Grows grows-plain s (branch v (run at if_true) (run at if_false) s) (run at tree.Done)
-      (kept-branch Grows grows-plain v (run at if_true) (run at if_false) s (run-grows at if_true s) (run-grows at if_false s)) (run-grows at tree.Done)
-
   pub test_stops : (old new : Progress) (why : Halt) → Goes w (value at test) slots slots old new (Err why) → Goes w (run at (tree.If test if_true if_false tree.Done)) slots slots old new (Err why)
   test_stops old new why goes =
       goes_same w _ (run at (tree.If test if_true if_false tree.Done)) slots slots old new (run-If at test if_true if_false tree.Done) (Err why)
-      (goes_stop w (value at test) after_test slots slots old new why test_grows goes)
+      (goes_stop w (value at test) after_test slots slots old new why (test-grows at if_true if_false) goes)
 
   module _ (v : ℤ) (slots' : List ℤ) (old mid new : Progress) (r : Result (Unit {0}) Halt) (made : Made w (value at test) slots slots old mid (Returned v)) where
     chosen_goes : (code : Code) → ((s : State) → branch v (run at if_true) (run at if_false) s ≡ run at code s) → Goes w (run at code) slots slots' mid new r

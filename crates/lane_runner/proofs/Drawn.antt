@@ -18,7 +18,8 @@ use Rattle.shared_words.specs.Handles.{HandValue, with_view}
 use Rattle.shared_words.specs.Draws.{drew}
 use Rattle.history_model.specs.Work.{Rest, Put}
 use Rattle.execution_model.specs.Runs.{RunsRegions}
-use Rattle.lane_runner.specs.World.{WorldValue, element_word, layout_of}
+use Rattle.execution_model.specs.Elements.{element_word, layout_of}
+use Rattle.lane_runner.specs.World.{WorldValue}
 use Rattle.lane_runner.specs.Drawing.{Tally, TellDraws, HasDrawn}
 use Rattle.lane_runner.specs.Going.{Progress, GainsRecords, HasRoomFor, Made, log_of}
 use Rattle.lane_runner.proofs.Working.{hand_still, no_access, worked_put_nothing}

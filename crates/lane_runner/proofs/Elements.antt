@@ -7,7 +7,8 @@ use Rattle.log_format.specs.Fitting.{IsWidth}
 use Rattle.kernel_model.specs.Value.{element_at}
 use Rattle.kernel_model.proofs.Elements.{element_is}
 use Rattle.lane_runner.specs.declared.element.Element.{Element}
-use Rattle.lane_runner.specs.World.{WorldValue, IsWorld, element_word, element_address, element_width}
+use Rattle.execution_model.specs.Elements.{element_word, element_address, element_width}
+use Rattle.lane_runner.specs.World.{WorldValue, IsWorld}
 use Rattle.lane_runner.specs.Placing.{IsElement}
 
 pub element_stands : (w : WorldValue) (e : Element) (k : ℕ) (a : Array) (i : ℤ) (n : ℕ) → IsWorld w → slice_get w.arrays k ≡ Some a → pos 0 ≤ℤ i → n < a.count → n ≡ unsigned_abs i

@@ -3,6 +3,7 @@ use Rattle.std.proofs.Common.{◌≡◌, ap, sym, ◌∙◌, subst, ℕ, ◌+◌
 use Rattle.std.proofs.lemmas.List.{length-append}
 use Rattle.sw_base.specs.declared.path.Step.{Step}
 use Rattle.std.proofs.lemmas.List.Elements.{All-append, All-nil, All-cons}
+use Rattle.history_model.proofs.Parts.{then_regions}
 use Rattle.kernel_syntax.specs.declared.syntax.Array.{Array}
 use Rattle.kernel_model.specs.State as model
 use Rattle.history_model.specs.Work.{Work, Fork, RegionWork, work_regions, then_work}
@@ -11,7 +12,6 @@ use Rattle.lane_runner.specs.Handed.{AreFew, place_of}
 use Rattle.lane_runner.specs.Stopping.{HaveEnded, StopsRegion, StopsAtLast}
 use Rattle.lane_runner.specs.declared.stop.Stop.{Stop}
 use Rattle.lane_runner.specs.Going.{Progress, Cause, AtLog, AtRegion, AtTasks, AreFewBefore, StopsBy}
-use Rattle.lane_runner.proofs.Working.{regions_then}
 use Rattle.lane_runner.proofs.Handing.{few_before_then}
 
 ended_both : (xs ys : List RegionWork) → HaveEnded xs → HaveEnded ys → HaveEnded (xs ++ ys)
@@ -36,7 +36,7 @@ stops_both arrays at number path why earlier forks xs ys x y = record {
 }
 
 pub ended_then : (work other : Work) → HaveEnded (work_regions work) → HaveEnded (work_regions other) → HaveEnded (work_regions (then_work work other))
-ended_then work other x y = subst (λ (rs : List RegionWork). HaveEnded rs) (sym (regions_then work other)) (ended_both (work_regions work) (work_regions other) x y)
+ended_then work other x y = subst (λ (rs : List RegionWork). HaveEnded rs) (sym (then_regions work other)) (ended_both (work_regions work) (work_regions other) x y)
 
 pub stops_then : (arrays : List Array) (old mid new : Progress) (cause : Cause) (earlier forks : List model.Fork) (work other : Work) → place_of mid.buffer ≡ place_of old.buffer → mid.buffer.path ≡ old.buffer.path → mid.tally.forked ≡ old.tally.forked + length (work_regions work)
     → HaveEnded (work_regions work) → (AreFew old.done → AreFew mid.done) → StopsBy arrays mid new cause forks (work_regions other) → StopsBy arrays old new cause (earlier ++ forks) (work_regions (then_work work other))
@@ -44,15 +44,15 @@ stops_then arrays old mid new AtLog earlier forks work other place path forked x
 stops_then arrays old mid new (AtTasks line) earlier forks work other place path forked x few y = (
   ended_then work other x y.0,
   y.1,
-  subst (λ (rs : List RegionWork). AreFewBefore None old new rs) (sym (regions_then work other))
+  subst (λ (rs : List RegionWork). AreFewBefore None old new rs) (sym (then_regions work other))
       (few_before_then None old mid new (work_regions work) (work_regions other) place path forked few y.2),
 )
 stops_then arrays old mid new (AtRegion path why) earlier forks work other place same forked x few y = (
-  subst (λ (rs : List RegionWork). StopsAtLast arrays old.buffer.path old.tally.forked path why (earlier ++ forks) rs) (sym (regions_then work other))
+  subst (λ (rs : List RegionWork). StopsAtLast arrays old.buffer.path old.tally.forked path why (earlier ++ forks) rs) (sym (then_regions work other))
       (stops_both arrays old.buffer.path old.tally.forked path why earlier forks (work_regions work) (work_regions other) x
       (subst (λ (n : ℕ). StopsAtLast arrays old.buffer.path n path why forks (work_regions other)) forked
       (subst (λ (at : List Step). StopsAtLast arrays at mid.tally.forked path why forks (work_regions other)) same y.0))),
-  subst (λ (rs : List RegionWork). AreFewBefore (Some (path, why)) old new rs) (sym (regions_then work other))
+  subst (λ (rs : List RegionWork). AreFewBefore (Some (path, why)) old new rs) (sym (then_regions work other))
       (few_before_then (Some (path, why)) old mid new (work_regions work) (work_regions other) place same forked few y.1),
 )
 

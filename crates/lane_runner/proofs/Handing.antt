@@ -5,13 +5,13 @@ use Rattle.std.proofs.lemmas.List.Elements.{Contains-append_right}
 use Rattle.std.specs.List.{flat_map}
 use Rattle.sw_base.specs.declared.path.Step.{Step}
 use Rattle.sw_base.specs.Environment.{Text}
+use Rattle.history_model.proofs.Parts.{then_regions}
 use Rattle.log_format.specs.declared.record.Record.{Record}
 use Rattle.race_model.specs.Listing.{lane_of}
 use Rattle.history_model.specs.Work.{Work, Rest, RegionWork, work_regions, then_work}
 use Rattle.event_buffer.specs.Buffered.{Buffered, IsStill}
 use Rattle.lane_runner.specs.Handed.{Entry, LogPlace, MaybeStop, IsForMemory, IsTrouble, MayLack, Keeps, IsEntryOf, TaskHands, RegionsHand, LanesHand, HasFaultyLog, HasCrowdedTask, TellStop, HandsOn, AreFew, place_of}
 use Rattle.lane_runner.specs.Going.{Progress, WorkHandsOn, AreFewBefore}
-use Rattle.lane_runner.proofs.Working.{regions_then}
 
 -- what a region that stopped so hands on, one may that stopped otherwise: where all that may lack or be missing there may here
 module _ (place : LogPlace) (stop other : MaybeStop) (memory : IsForMemory stop → IsForMemory other) where
@@ -146,7 +146,7 @@ work_hands_none old new work same none = work_hands None old old old new Rest wo
 pub work_hands_then : (stop : MaybeStop) (old mid new : Progress) (one two : Work) → place_of mid.buffer ≡ place_of old.buffer → mid.buffer.path ≡ old.buffer.path
     → mid.tally.forked ≡ old.tally.forked + length (work_regions one) → WorkHandsOn None old mid one → WorkHandsOn stop mid new two → WorkHandsOn stop old new (then_work one two)
 work_hands_then stop old mid new one two place path forked first second =
-    subst (λ (rs : List RegionWork). HandsOn (place_of old.buffer) stop old.buffer.path old.tally.forked rs old.done new.done) (sym (regions_then one two))
+    subst (λ (rs : List RegionWork). HandsOn (place_of old.buffer) stop old.buffer.path old.tally.forked rs old.done new.done) (sym (then_regions one two))
     (hand_then (place_of old.buffer) stop old.buffer.path old.tally.forked (work_regions one) (work_regions two) old.done mid.done new.done first
     (subst (λ (n : ℕ). HandsOn (place_of old.buffer) stop old.buffer.path n (work_regions two) mid.done new.done) forked
     (subst (λ (at : List Step). HandsOn (place_of old.buffer) stop at mid.tally.forked (work_regions two) mid.done new.done) path

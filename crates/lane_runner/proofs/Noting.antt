@@ -21,7 +21,8 @@ use Rattle.execution_model.specs.Runs.{RunsRegions}
 use Rattle.lane_runner.specs.declared.stop.Halt.{Halt}
 use Rattle.lane_runner.specs.declared.stop.Halt.TheVariants as halt
 use Rattle.lane_runner.specs.Drawing.{Tally, HasDrawn}
-use Rattle.lane_runner.specs.World.{WorldValue, element_word, layout_of}
+use Rattle.execution_model.specs.Elements.{element_word, layout_of}
+use Rattle.lane_runner.specs.World.{WorldValue}
 use Rattle.lane_runner.specs.Going.{Progress, CanGo, GainsRecords, HasDonePast, MadePast, GoesPast, Takes, TakesOrHalts, log_of}
 use Rattle.lane_runner.proofs.Drawing.{drew_nothing}
 use Rattle.lane_runner.proofs.Working.{no_access, worked_put_nothing}

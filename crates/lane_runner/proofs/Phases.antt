@@ -16,14 +16,15 @@ use Rattle.kernel_model.specs.Phases.{part_of, EndsInBar, IsNoBar}
 use Rattle.kernel_model.specs.Effect.{Returned}
 use Rattle.kernel_model.proofs.Effects.{makes-stays}
 use Rattle.kernel_model.proofs.Growing.{grows-plain, run-grows}
-use Rattle.kernel_model.proofs.Joining.{after-after, after-same, after-nothing}
+use Rattle.kernel_model.proofs.Joining.{after-nothing, run_parts-append}
 use Rattle.kernel_model.proofs.Steps.{kept-after}
 use Rattle.shared_words.specs.declared.view.View.{View}
 use Rattle.shared_words.specs.Handles.{HandValue, with_view}
 use Rattle.history_model.specs.Work.{Work}
 use Rattle.lane_runner.specs.declared.stop.Halt.{Halt}
 use Rattle.lane_runner.specs.declared.stop.Halt.TheVariants as halt
-use Rattle.lane_runner.specs.World.{WorldValue, element_word}
+use Rattle.execution_model.specs.Elements.{element_word}
+use Rattle.lane_runner.specs.World.{WorldValue}
 use Rattle.lane_runner.specs.Going.{Progress, CanGo, worked, Made, MadePast, GoesPast, Goes}
 use Rattle.lane_runner.proofs.Following.{past_same, goes_same}
 use Rattle.lane_runner.proofs.Running.{after_past, after_goes, after_stop}
@@ -32,11 +33,6 @@ use Rattle.lane_runner.proofs.Values.{can_follow, made_still}
 use Rattle.lane_runner.proofs.Noting.{note_grows, past_stop}
 
 -- ---- what parts mean, one after another
-
-pub run_parts_both : (at : Site) (xs ys : List Part) (s : State) → run_parts at (xs ++ ys) s ≡ after (run_parts at xs s) (run_parts at ys)
-run_parts_both at [] ys s = refl
-run_parts_both at (x ∷ xs) ys s =
-    after-same (run_part at x s) _ _ (run_parts_both at xs ys) ∙ sym (after-after (run_part at x s) (run_parts at xs) (run_parts at ys))
 
 part_grows : (at : Site) (part : Part) (s : State) → Grows s (state_of (run_part at part s))
 part_grows at (Set slot value) s = grows-plain.assigns slot value s
@@ -137,7 +133,7 @@ module _ (items : List Item) (i : ℕ) (x : Item) (this : IsItemAt items i x) wh
         subst (λ (n : ℕ). MadePast n w (run_parts at (map part_of (take (i + 1) items))) slots slots' old new (Returned tt)) (sym bars_more)
         (subst (λ (ps : List Part). MadePast (bar_count (part_of x ∷ [])) w (run_parts at ps) slots slots' old new (Returned tt)) (sym parts_more)
         (past_same w _ (run_parts at (map part_of (take i items) ++ part_of x ∷ [])) slots slots' old new
-        (λ s. run_parts_both at (map part_of (take i items)) (part_of x ∷ []) s) (bar_count (part_of x ∷ [])) (Ok tt)
+        (λ s. run_parts-append at (map part_of (take i items)) (part_of x ∷ []) s) (bar_count (part_of x ∷ [])) (Ok tt)
         (after_past w (run_parts at (map part_of (take i items))) (run_parts at (part_of x ∷ [])) slots (bar_count (part_of x ∷ [])) mid_slots slots' old mid new (Ok tt) plain_before
         (past_same w (run_part at (part_of x)) (run_parts at (part_of x ∷ [])) mid_slots slots' mid new (λ s. after-nothing (run_part at (part_of x) s)) (bar_count (part_of x ∷ [])) (Ok tt) made))))
 
@@ -148,7 +144,7 @@ module _ (items : List Item) (i : ℕ) (x : Item) (this : IsItemAt items i x) wh
         past_stop 0 (bar_count (map part_of items)) w (run_parts at (map part_of items)) slots slots' old new why
         (subst (λ (ps : List Part). Goes w (run_parts at ps) slots slots' old new (Err why)) (sym parts_split)
         (goes_same w _ (run_parts at (map part_of (take i items) ++ part_of x ∷ later)) slots slots' old new
-        (λ s. run_parts_both at (map part_of (take i items)) (part_of x ∷ later) s) (Err why)
+        (λ s. run_parts-append at (map part_of (take i items)) (part_of x ∷ later) s) (Err why)
         (after_goes w (run_parts at (map part_of (take i items))) (run_parts at (part_of x ∷ later)) slots mid_slots slots' old mid new (Err why) plain_before
         (after_stop w (run_part at (part_of x)) (run_parts at later) mid_slots slots' mid new why (parts_grow at later)
         (past_stop (bar_count (part_of x ∷ [])) 0 w (run_part at (part_of x)) mid_slots slots' mid new why goes)))))

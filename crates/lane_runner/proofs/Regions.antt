@@ -24,7 +24,8 @@ use Rattle.execution_model.specs.Runs.{RunsRegions}
 use Rattle.event_buffer.specs.Buffered.{Buffered}
 use Rattle.lane_runner.specs.Drawing.{Tally, HasDrawn}
 use Rattle.lane_runner.proofs.Drawing.{drew_forked}
-use Rattle.lane_runner.specs.World.{WorldValue, element_word}
+use Rattle.execution_model.specs.Elements.{element_word}
+use Rattle.lane_runner.specs.World.{WorldValue}
 use Rattle.lane_runner.specs.Going.{Progress, HasDone, HasReleased, GainsRecords, AtRegion, AtTasks, WorkHandsOn, AreFewBefore, log_of, worked, BeginsPart, effect_of, Made, Began, Takes}
 use Rattle.lane_runner.specs.Forking.{Answer, RanRegion, EndsAs, after_phases, stop_in}
 use Rattle.lane_runner.specs.Handed.{Entry, MaybeStop, HandsOn, AreFew, place_of, task_limit}

@@ -2,18 +2,15 @@
 use Rattle.std.proofs.Common.{◌≡◌, ◌⊎◌, inl, inr, refl, ap, ap₂, sym, ◌∙◌, ℕ, List, [], ◌∷◌, ◌++◌, append_assoc}
 use Rattle.std.specs.Prelude.{map, reverse}
 use Rattle.std.proofs.lemmas.List.{append-nil}
+use Rattle.race_model.proofs.Held.{held_after-append}
 use Rattle.log_format.specs.declared.record.Record.{Record}
-use Rattle.race_model.specs.Race.{held_after, held_after_kind}
+use Rattle.race_model.specs.Race.{held_after}
 use Rattle.race_model.specs.History.{release}
 use Rattle.history_model.specs.Work.{Work, Rest, RegionWork, work_records, work_regions, then_work}
-use Rattle.history_model.proofs.Parts.{then_records}
+use Rattle.history_model.proofs.Parts.{then_records, then_regions}
 use Rattle.lane_runner.specs.Going.{log_of, HasReleased, Cause, AtLog, AtRegion, AtTasks, EndsBy}
 use Rattle.lane_runner.specs.Stopping.{LastIsRegion}
-use Rattle.lane_runner.proofs.Working.{log_then, regions_then}
-
-pub held_both : (held : List ℕ) (xs ys : List Record) → held_after held (xs ++ ys) ≡ held_after (held_after held xs) ys
-held_both held [] ys = refl
-held_both held (x ∷ xs) ys = held_both (held_after_kind x.kind x.addr held) xs ys
+use Rattle.lane_runner.proofs.Working.{log_then}
 
 pub released_none : (before : List ℕ) → HasReleased before Rest []
 released_none before = record { records = refl; held = refl; apart = inr refl }
@@ -28,7 +25,7 @@ released_then before one two own x y = record {
       ∙ ap (λ (rs : List Record). rs ++ map release own) (sym (log_then one two));
   held =
       ap (λ (rs : List Record). held_after (reverse before) rs) (log_then one two)
-      ∙ held_both (reverse before) (log_of one) (log_of two)
+      ∙ held_after-append (reverse before) (log_of one) (log_of two)
       ∙ ap (λ (held : List ℕ). held_after held (log_of two)) x.held
       ∙ y.held;
   apart = both x.apart y.apart;
@@ -37,7 +34,7 @@ released_then before one two own x y = record {
     both : (before ≡ []) ⊎ (work_regions one ≡ []) → (before ≡ []) ⊎ (work_regions two ≡ []) → (before ≡ []) ⊎ (work_regions (then_work one two) ≡ [])
     both (inl none) second = inl none
     both (inr first) (inl none) = inl none
-    both (inr first) (inr second) = inr (regions_then one two ∙ ap₂ (λ (rs more : List RegionWork). rs ++ more) first second)
+    both (inr first) (inr second) = inr (then_regions one two ∙ ap₂ (λ (rs more : List RegionWork). rs ++ more) first second)
 
 last_then : (xs ys : List Record) → LastIsRegion ys → LastIsRegion (xs ++ ys)
 last_then xs ys e = record {

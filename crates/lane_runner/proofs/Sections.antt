@@ -30,24 +30,25 @@ use Rattle.shared_words.specs.Views.{locked, unlocked}
 use Rattle.history_model.specs.Work.{Work, Rest, Put, RegionWork, work_records, work_regions, then_work}
 use Rattle.history_model.specs.Did.{split_count, did}
 use Rattle.history_model.specs.Sound.{IsSoundRecord}
-use Rattle.history_model.proofs.Parts.{then_records, then_splits, then_did, then_sound}
+use Rattle.history_model.proofs.Parts.{then_records, then_splits, then_did, then_sound, then_regions}
 use Rattle.execution_model.specs.Runs.{RunsRegions}
 use Rattle.event_buffer.specs.Buffered.{Buffered}
 use Rattle.event_buffer.specs.Logged.{HoldsRecords}
 use Rattle.sw_base.specs.declared.path.Step.{Step}
+use Rattle.race_model.proofs.Held.{held_after-append}
 use Rattle.kernel_syntax.specs.declared.syntax.Array.{Array}
 use Rattle.lane_runner.specs.declared.stop.Halt.{Halt}
 use Rattle.lane_runner.specs.declared.stop.Halt.TheVariants as halt
 use Rattle.lane_runner.specs.Drawing.{Tally, HasDrawn}
 use Rattle.lane_runner.proofs.Drawing.{drew_none, drew_nothing, drew_then}
-use Rattle.lane_runner.specs.World.{WorldValue, element_word, layout_of}
+use Rattle.execution_model.specs.Elements.{element_word, layout_of}
+use Rattle.lane_runner.specs.World.{WorldValue}
 use Rattle.lane_runner.specs.Handed.{Entry, MaybeStop, place_of, task_limit}
 use Rattle.lane_runner.proofs.Handing.{work_hands, few_between, few_before_between}
 use Rattle.lane_runner.specs.Going.{Progress, CanGo, HasDone, HasReleased, GainsRecords, Cause, AtLog, AtRegion, AtTasks, stop_by, WorkHandsOn, EndsBy, StopsBy, log_of, worked, BeginsPart, effect_of, Made, Began, Goes, Takes}
-use Rattle.lane_runner.proofs.Working.{log_then, no_access, view_same, gains_then, barriers_later, regions_then}
+use Rattle.lane_runner.proofs.Working.{log_then, no_access, view_same, gains_then, barriers_later}
 use Rattle.lane_runner.specs.Stopping.{HaveEnded, StopsAtLast}
 use Rattle.lane_runner.proofs.Stepping.{put_first}
-use Rattle.lane_runner.proofs.Releasing.{held_both}
 use Rattle.lane_runner.proofs.Following.{after_is}
 use Rattle.lane_runner.proofs.Beginning.{begins_then, begins_same}
 
@@ -127,7 +128,7 @@ module _ (mutex line end : ℕ) (some : 1 ≤ line) (body : Work) where
       → held_after (reverse h) (log_of (section mutex line end body)) ≡ held_after (reverse (own ++ mutex ∷ h)) tail_log
   held_within h own r =
       ap (λ (rs : List Record). held_after (reverse h) rs) section_log
-      ∙ held_both (reverse h ++ mutex ∷ []) (log_of body) tail_log
+      ∙ held_after-append (reverse h ++ mutex ∷ []) (log_of body) tail_log
       ∙ ap (λ (held : List ℕ). held_after (held_after held (log_of body)) tail_log) (held_more mutex h)
       ∙ ap (λ (held : List ℕ). held_after held tail_log) r.held
 
@@ -137,7 +138,7 @@ apart_within mutex body h own r = ⊎_elim (λ none. cc) (λ none. none) r.apart
 
 section_is_apart : (mutex line end : ℕ) (body : Work) (h own : List ℕ) → HasReleased (mutex ∷ h) body own → work_regions (section mutex line end body) ≡ []
 section_is_apart mutex line end body h own r =
-    regions_then body (Put (event kind.Unlock end mutex 0) Rest) ∙ append-nil (work_regions body) ∙ apart_within mutex body h own r
+    then_regions body (Put (event kind.Unlock end mutex 0) Rest) ∙ append-nil (work_regions body) ∙ apart_within mutex body h own r
 
 -- a section that ends holds no more than before it
 released_at_end : (mutex line end : ℕ) (some : 1 ≤ line) (at_end : 1 ≤ end) (body : Work) (h : List ℕ) → All (λ (o : ℕ). o < mutex) h → HasReleased (mutex ∷ h) body [] → HasReleased h (section mutex line end body) []
@@ -195,11 +196,11 @@ module _ (w : WorldValue) (mutex line end : ℕ) (some : 1 ≤ line) (old a b ne
         (drew_then a.tally b.tally new.tally (log_of body) (log_of (Put (event kind.Unlock end mutex 0) Rest)) done.draws tally_is));
     forked =
         let first = ap (λ (t : Tally). t.forked) taken.tally in
-        let same = ap (λ (rs : List RegionWork). length rs) (regions_then body (Put (event kind.Unlock end mutex 0) Rest) ∙ append-nil (work_regions body)) in
+        let same = ap (λ (rs : List RegionWork). length rs) (then_regions body (Put (event kind.Unlock end mutex 0) Rest) ∙ append-nil (work_regions body)) in
         let within = done.forked in
         omega (arith, first, same, within, unlocked_forks);
     told =
-        let same = ap (λ (rs : List RegionWork). length rs) (regions_then body (Put (event kind.Unlock end mutex 0) Rest) ∙ append-nil (work_regions body)) in
+        let same = ap (λ (rs : List RegionWork). length rs) (then_regions body (Put (event kind.Unlock end mutex 0) Rest) ∙ append-nil (work_regions body)) in
         let records = ap (λ (rs : List Record). length rs) (section_log mutex line end some body) in
         let within = done.told in
         omega (arith, same, records, within, length-append (log_of body) (log_of (Put (event kind.Unlock end mutex 0) Rest)));
@@ -217,7 +218,7 @@ module _ (w : WorldValue) (mutex line end : ℕ) (some : 1 ≤ line) (old a b ne
   held_is = ap (λ (h : HandValue View). h.view.held) taken.hand
 
   section_forks_no_region : work_regions (section mutex line end body) ≡ work_regions body
-  section_forks_no_region = regions_then body (Put (event kind.Unlock end mutex 0) Rest) ∙ append-nil (work_regions body)
+  section_forks_no_region = then_regions body (Put (event kind.Unlock end mutex 0) Rest) ∙ append-nil (work_regions body)
 
   section_regions : (P : List RegionWork → Type 0) → P (work_regions body) → P (work_regions (section mutex line end body))
   section_regions P holds = subst P (sym section_forks_no_region) holds
@@ -233,7 +234,7 @@ section_hands : (stop : MaybeStop) (mutex line end : ℕ) (old a b new : Progres
     → WorkHandsOn stop a b body → WorkHandsOn stop old new (section mutex line end body)
 section_hands stop mutex line end old a b new taken body same hands =
     work_hands stop old a b new body (section mutex line end body) taken.log.place taken.log.path (ap (λ (t : Tally). t.forked) taken.tally) taken.done same
-    (regions_then body (Put (event kind.Unlock end mutex 0) Rest) ∙ append-nil (work_regions body)) hands
+    (then_regions body (Put (event kind.Unlock end mutex 0) Rest) ∙ append-nil (work_regions body)) hands
 
 -- ---- the meaning of a section after its lock
 

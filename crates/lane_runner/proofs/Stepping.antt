@@ -25,7 +25,8 @@ use Rattle.lane_runner.specs.declared.stop.Halt.{Halt}
 use Rattle.lane_runner.specs.declared.stop.Halt.TheVariants as halt
 use Rattle.lane_runner.specs.Drawing.{Tally, HasDrawn}
 use Rattle.lane_runner.proofs.Drawing.{drew_none, drew_nothing}
-use Rattle.lane_runner.specs.World.{WorldValue, element_word, layout_of}
+use Rattle.execution_model.specs.Elements.{element_word, layout_of}
+use Rattle.lane_runner.specs.World.{WorldValue}
 use Rattle.lane_runner.specs.Going.{Progress, CanGo, log_of, worked, GainsRecords, HasDone, Made, Goes, Waits, HasRoomFor, MakesRoom}
 use Rattle.lane_runner.proofs.Working.{done_none, view_same}
 use Rattle.lane_runner.proofs.Beginning.{begins_none}

@@ -18,13 +18,14 @@ use Rattle.shared_words.specs.Handles.{HandValue, with_view}
 use Rattle.history_model.specs.Work.{Work, Rest, Put, RegionWork, work_records, work_regions, then_work}
 use Rattle.history_model.specs.Sound.{WordLayout, IsSoundRecord}
 use Rattle.history_model.specs.Did.{split_count, did, deeds_of}
-use Rattle.history_model.proofs.Parts.{then_records, then_splits, then_did, then_sound}
+use Rattle.history_model.proofs.Parts.{then_records, then_splits, then_did, then_sound, then_regions}
 use Rattle.execution_model.specs.Runs.{is_put, put_records, RunsRegions}
 use Rattle.event_buffer.specs.Buffered.{Buffered}
 use Rattle.event_buffer.specs.Logged.{HoldsRecords}
 use Rattle.lane_runner.specs.Drawing.{HasDrawn}
 use Rattle.lane_runner.proofs.Drawing.{drew_none, drew_then}
-use Rattle.lane_runner.specs.World.{WorldValue, element_word, layout_of}
+use Rattle.execution_model.specs.Elements.{element_word, layout_of}
+use Rattle.lane_runner.specs.World.{WorldValue}
 use Rattle.lane_runner.specs.Going.{Progress, log_of, worked, GainsRecords, HasDonePast, HasDone}
 
 put_append : (xs ys : List Record) → put_records (xs ++ ys) ≡ put_records xs ++ put_records ys
@@ -84,20 +85,15 @@ gains_then a b c one more x y = record {
 pub barriers_later : (bars : ℕ) (xs ys : List Record) → barrier_count xs ≡ 0 → barrier_count ys ≡ bars → barrier_count (xs ++ ys) ≡ bars
 barriers_later bars xs ys one more = let sum = sum_by-append (λ (r : Record). cond (is_barrier_kind r.kind) 1 0) xs ys in omega (arith, sum, one, more)
 
-pub regions_then : (work other : Work) → work_regions (then_work work other) ≡ work_regions work ++ work_regions other
-regions_then Rest other = refl
-regions_then (Work.Put r more) other = regions_then more other
-regions_then (Work.Fork line span phases more) other = ap (λ (rs : List RegionWork). record { span = span; phases = phases } ∷ rs) (regions_then more other)
-
 -- no barrier, and then so many
 pub done_then : {bars : ℕ} (w : WorldValue) (a b c : Progress) (work other : Work) → HasDone w a b work → HasDonePast bars w b c other → HasDonePast bars w a c (then_work work other)
 done_then {bars} w a b c work other x y = record {
   hand = hand_then (element_word w.arrays) a.hand b.hand c.hand work other x.hand y.hand;
   log = subst (λ (rs : List Record). GainsRecords a.buffer c.buffer rs) (sym (log_then work other)) (gains_then a.buffer b.buffer c.buffer (log_of work) (log_of other) x.log y.log);
   draws = subst (λ (rs : List Record). HasDrawn a.tally c.tally rs) (sym (log_then work other)) (drew_then a.tally b.tally c.tally (log_of work) (log_of other) x.draws y.draws);
-  forked = let sum = ap (λ (rs : List RegionWork). length rs) (regions_then work other) ∙ length-append (work_regions work) (work_regions other) in omega (arith, sum, x.forked, y.forked);
+  forked = let sum = ap (λ (rs : List RegionWork). length rs) (then_regions work other) ∙ length-append (work_regions work) (work_regions other) in omega (arith, sum, x.forked, y.forked);
   told =
-      let regions = ap (λ (rs : List RegionWork). length rs) (regions_then work other) ∙ length-append (work_regions work) (work_regions other) in
+      let regions = ap (λ (rs : List RegionWork). length rs) (then_regions work other) ∙ length-append (work_regions work) (work_regions other) in
       let records = ap (λ (rs : List Record). length rs) (log_then work other) ∙ length-append (log_of work) (log_of other) in
       omega (arith, regions, records, x.told, y.told);
   sound = then_sound (layout_of w.arrays) work other x.sound y.sound x.barriers;
@@ -136,4 +132,4 @@ regions_both program (f ∷ one) more (w ∷ works) others (RunsRegions.region f
 pub runs_then : (program : Program) (one more : List Fork) (work other : Work) → RunsRegions program one (work_regions work) → RunsRegions program more (work_regions other)
     → RunsRegions program (one ++ more) (work_regions (then_work work other))
 runs_then program one more work other x y =
-    subst (λ (rs : List RegionWork). RunsRegions program (one ++ more) rs) (sym (regions_then work other)) (regions_both program one more (work_regions work) (work_regions other) x y)
+    subst (λ (rs : List RegionWork). RunsRegions program (one ++ more) rs) (sym (then_regions work other)) (regions_both program one more (work_regions work) (work_regions other) x y)

@@ -23,7 +23,8 @@ use Rattle.lane_runner.specs.declared.stop.Stop.{Stop}
 use Rattle.lane_runner.specs.Children.{LogView, AreNewLogs}
 use Rattle.lane_runner.specs.Handed.{Entry, HandsOn, MaybeStop, entries_of, place_of}
 use Rattle.lane_runner.specs.Stopping.{StopsRegion}
-use Rattle.lane_runner.specs.World.{WorldValue, element_word, layout_of}
+use Rattle.execution_model.specs.Elements.{element_word, layout_of}
+use Rattle.lane_runner.specs.World.{WorldValue}
 
 -- a hand's view once all hands that it split off for the phases are home
 abbrev pub after_phases : (ℕ → ℕ) → ℕ → Phases → View → View

@@ -31,7 +31,8 @@ use Rattle.lane_runner.specs.declared.stop.Halt.TheVariants as halt
 use Rattle.lane_runner.specs.Drawing.{Tally, HasDrawn}
 use Rattle.lane_runner.specs.Handed.{Entry, HandsOn, MaybeStop, AreFew, place_of, task_limit}
 use Rattle.lane_runner.specs.Stopping.{HaveEnded, LastIsRegion, LastIsRegionAt, StopsAtLast}
-use Rattle.lane_runner.specs.World.{WorldValue, element_word, layout_of}
+use Rattle.execution_model.specs.Elements.{element_word, layout_of}
+use Rattle.lane_runner.specs.World.{WorldValue}
 
 -- where a lane runs
 abbrev pub site : WorldValue → Site

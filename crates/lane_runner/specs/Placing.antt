@@ -7,7 +7,8 @@ use Rattle.kernel_model.specs.declared.change.Change.TheVariants.{Store, Update}
 use Rattle.step_history.specs.declared.item.Deed.{Deed}
 use Rattle.step_history.specs.declared.item.Deed.TheVariants as deed
 use Rattle.lane_runner.specs.declared.element.Element.{Element}
-use Rattle.lane_runner.specs.World.{WorldValue, element_word, element_address, element_width}
+use Rattle.execution_model.specs.Elements.{element_word, element_address, element_width}
+use Rattle.lane_runner.specs.World.{WorldValue}
 
 -- the element is a word of the table, with that word's address and bytes
 pub record StandsIn (w : WorldValue) (e : Element) : Type 0 where

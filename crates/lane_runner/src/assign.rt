@@ -16,10 +16,14 @@ use crate::world::World;
 use kernel_model::Change;
 use kernel_syntax::{Expr, fit};
 use std::alloc::Global;
+use std::marker::Send;
+use std::sync::Wait;
+use std::thread::Threads;
 use sw_base::Log;
 
 // Stores or adds an amount, after the index and the value.
-fn put_value<L: Log>(
+fn put_value<L: Log, R: Threads + Wait + Copy + Send + 'static>(
+    rt: &R,
     alloc: Global,
     world: &World,
     track: &mut Track<L>,
@@ -40,26 +44,34 @@ fn put_value<L: Log>(
         return Err(Halt::Index { line });
     };
     let fitted = fit(amount, element.width);
-    track.change(alloc, world, change, &element, fitted, line, place)
+    track.change(rt, alloc, world, change, &element, fitted, line, place)
 }
 
 impl<L: Log> Frame<L> {
     /// Executes `let` or an assignment.
-    pub fn set(&mut self, alloc: Global, world: &World, slot: u32, expr: &Expr) -> Result<(), Halt>
+    pub fn set<R: Threads + Wait + Copy + Send + 'static>(
+        &mut self,
+        rt: &R,
+        alloc: Global,
+        world: &World,
+        slot: u32,
+        expr: &Expr,
+    ) -> Result<(), Halt>
         requires can { CanGo world.now self.old.track }
         requires bounded { IsBoundedTerm (term_of expr.now) }
         ensures goes { Goes world.now (run (site world.now) (tree.Set slot (term_of expr.now) tree.Done)) self.old.locals.slots.items self.new.locals.slots.items self.old.track self.new.track result }
         ensures log { IsSameLog self.old.track.buffer self.new.track.buffer }
         ensures tally { self.new.track.tally ≡ self.old.track.tally }
     {
-        let number = value(alloc, world, &self.locals, &mut self.track, expr)?;
+        let number = value(rt, alloc, world, &self.locals, &mut self.track, expr)?;
         self.locals.set(slot, number);
         Ok(())
     }
 
     /// Executes a store or an update.
-    pub fn change(
+    pub fn change<R: Threads + Wait + Copy + Send + 'static>(
         &mut self,
+        rt: &R,
         alloc: Global,
         world: &World,
         change: Change,
@@ -78,9 +90,10 @@ impl<L: Log> Frame<L> {
         ensures tally { self.new.track.tally ≡ self.old.track.tally }
         ensures locals { self.new.locals ≡ self.old.locals }
     {
-        let at = value(alloc, world, &self.locals, &mut self.track, index)?;
-        let number = value(alloc, world, &self.locals, &mut self.track, expr)?;
+        let at = value(rt, alloc, world, &self.locals, &mut self.track, index)?;
+        let number = value(rt, alloc, world, &self.locals, &mut self.track, expr)?;
         put_value(
+            rt,
             alloc,
             world,
             &mut self.track,

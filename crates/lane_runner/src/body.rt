@@ -20,7 +20,9 @@ use kernel_model::Change;
 use kernel_syntax::{Body, Stmt, Team};
 use shared_words::Hand;
 use std::alloc::Global;
+use std::marker::Send;
 use std::sync::Wait;
+use std::thread::Threads;
 use sw_base::{ClosedLog, Log, Path};
 
 /// How many turns a loop has.
@@ -42,7 +44,7 @@ impl<L: Log> Frame<L> {
     /// Executes the statements of a body.
     #[cycle(executing)]
     pub fn statements<
-        R: Wait,
+        R: Threads + Wait + Copy + Send + 'static,
         F: Fn(
             &mut Hand,
             &Locals,
@@ -69,7 +71,7 @@ impl<L: Log> Frame<L> {
     /// Executes so many turns of a loop that begins at this value of its variable, from this turn on.
     #[cycle(executing)]
     pub(crate) fn repeat<
-        R: Wait,
+        R: Threads + Wait + Copy + Send + 'static,
         F: Fn(
             &mut Hand,
             &Locals,
@@ -109,7 +111,7 @@ impl<L: Log> Frame<L> {
     /// Executes a critical section.
     #[cycle(executing)]
     fn critical<
-        R: Wait,
+        R: Threads + Wait + Copy + Send + 'static,
         F: Fn(
             &mut Hand,
             &Locals,
@@ -142,7 +144,7 @@ impl<L: Log> Frame<L> {
             self.track.release(world, mutex);
             return Err(halt);
         }
-        if let Err(halt) = self.track.unlock(alloc, world, mutex, end) {
+        if let Err(halt) = self.track.unlock(rt, alloc, world, mutex, end) {
             self.track.release(world, mutex);
             return Err(halt);
         }
@@ -152,7 +154,7 @@ impl<L: Log> Frame<L> {
     /// Executes a statement.
     #[cycle(executing)]
     pub(crate) fn statement<
-        R: Wait,
+        R: Threads + Wait + Copy + Send + 'static,
         F: Fn(
             &mut Hand,
             &Locals,
@@ -171,7 +173,7 @@ impl<L: Log> Frame<L> {
         ensures loops { self.new.track.tally.next_loop ≡ self.old.track.tally.next_loop }
     {
         match stmt {
-            Stmt::Set { slot, value: expr } => self.set(alloc, world, *slot, expr),
+            Stmt::Set { slot, value: expr } => self.set(rt, alloc, world, *slot, expr),
             Stmt::Store {
                 array,
                 index,
@@ -179,6 +181,7 @@ impl<L: Log> Frame<L> {
                 line,
                 site,
             } => self.change(
+                rt,
                 alloc,
                 world,
                 Change::Store,
@@ -196,6 +199,7 @@ impl<L: Log> Frame<L> {
                 line,
                 site,
             } => self.change(
+                rt,
                 alloc,
                 world,
                 Change::Update { minus: *minus },
@@ -206,7 +210,7 @@ impl<L: Log> Frame<L> {
                 *site,
             ),
             Stmt::If { test, yes, no } => {
-                let chosen = value(alloc, world, &self.locals, &mut self.track, test)?;
+                let chosen = value(rt, alloc, world, &self.locals, &mut self.track, test)?;
                 if chosen == 0 {
                     self.statements(no, rt, alloc, world, region)
                 } else {
@@ -219,8 +223,8 @@ impl<L: Log> Frame<L> {
                 to,
                 body,
             } => {
-                let first = value(alloc, world, &self.locals, &mut self.track, from)?;
-                let last = value(alloc, world, &self.locals, &mut self.track, to)?;
+                let first = value(rt, alloc, world, &self.locals, &mut self.track, from)?;
+                let last = value(rt, alloc, world, &self.locals, &mut self.track, to)?;
                 let total = total_of(first, last);
                 self.repeat(body, rt, alloc, world, region, *slot, first, 0, total)
             }
@@ -232,7 +236,7 @@ impl<L: Log> Frame<L> {
             } => self.critical(body, rt, alloc, world, region, *mutex, *line, *end),
             Stmt::Parallel { team } => {
                 self.track
-                    .parallel(alloc, world, &self.locals, team, region)
+                    .parallel(rt, alloc, world, &self.locals, team, region)
             }
             _ => unreachable!(),
         }

@@ -17,13 +17,15 @@ use crate::world::World;
 use kernel_syntax::{Body, Team};
 use shared_words::Hand;
 use std::alloc::Global;
+use std::marker::Send;
 use std::sync::Wait;
+use std::thread::Threads;
 use sw_base::{ClosedLog, Log, Path};
 
 impl<L: Log> Frame<L> {
     /// Draws a chunk of the loop that is open, and executes it. False where none is left.
     fn drawn_chunk<
-        R: Wait,
+        R: Threads + Wait + Copy + Send + 'static,
         F: Fn(
             &mut Hand,
             &Locals,
@@ -61,7 +63,7 @@ impl<L: Log> Frame<L> {
         ensures count { IfOk result (λ _. self.old.track.buffer.count < self.new.track.buffer.count) }
     {
         let chunks = total.div_ceil(chunk);
-        let number = self.track.draw(alloc, world, line, chunks)?;
+        let number = self.track.draw(rt, alloc, world, line, chunks)?;
         if number == chunks {
             return Ok(false);
         }
@@ -82,7 +84,7 @@ impl<L: Log> Frame<L> {
 
     /// Draws chunks of the loop that is open, and executes them, until none is left.
     pub(crate) fn drawn_chunks<
-        R: Wait,
+        R: Threads + Wait + Copy + Send + 'static,
         F: Fn(
             &mut Hand,
             &Locals,

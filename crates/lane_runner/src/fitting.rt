@@ -2,7 +2,7 @@
 ghost use Rattle.std.specs.Prelude.{◌≡◌, ℕ};
 ghost use Rattle.log_format.specs.Fitting.{IsWidth};
 ghost use Rattle.history_model.specs.Sound.{AreFitted};
-ghost use Rattle.lane_runner.specs.World.{element_width, layout_of};
+ghost use Rattle.execution_model.specs.Elements.{element_width, layout_of};
 
 use kernel_syntax::{Array, fit};
 

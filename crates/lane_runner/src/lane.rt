@@ -13,8 +13,9 @@ use kernel_model::Phase;
 use kernel_syntax::Team;
 use shared_words::Hand;
 use std::alloc::Global;
-use std::marker::Model;
+use std::marker::{Model, Send};
 use std::sync::Wait;
+use std::thread::Threads;
 use sw_base::{ClosedLog, Log, Path};
 
 /// A lane of a team: the path of its task; its locals, its hands, the buffer before its log, and the logs that its regions handed on; and,
@@ -144,7 +145,7 @@ impl<L: Log> Lane<L> {
 
     /// Executes the items of a phase. An `Err` says why the lane doesn't go on.
     pub fn run_phase<
-        R: Wait,
+        R: Threads + Wait + Copy + Send + 'static,
         F: Fn(
             &mut Hand,
             &Locals,
@@ -173,7 +174,12 @@ impl<L: Log> Lane<L> {
     }
 
     /// Puts the End of its task, of this line. An `Err` says why there is none.
-    pub fn finish(&mut self, alloc: Global, line: u32) -> Result<(), Stop>
+    pub fn finish<R: Threads + Wait + Copy + Send + 'static>(
+        &mut self,
+        rt: &R,
+        alloc: Global,
+        line: u32,
+    ) -> Result<(), Stop>
         requires goes { self.old.stopped ≡ None }
         requires there { self.old.hand.there ≡ true }
         requires unrefused { self.old.buffer.refused ≡ None }
@@ -181,7 +187,7 @@ impl<L: Log> Lane<L> {
         ensures puts { PutsEnd line self.old self.new }
         ensures tells { result ≡ answer_noted self.new.stopped }
     {
-        let answer = self.frame.track.finish(alloc, line);
+        let answer = self.frame.track.finish(rt, alloc, line);
         self.note(answer)
     }
 }

@@ -11,7 +11,8 @@ ghost use Rattle.sw_base.specs.Names.{IsUnder};
 ghost use Rattle.history_model.specs.Work.{Work, RegionWork};
 ghost use Rattle.execution_model.specs.Runs.{logged_tasks};
 ghost use Rattle.lane_runner.specs.Handed.{Entry, LogPlace, MaybeStop, TaskHands, RegionsHand, AreEntriesOf, AreWithin};
-ghost use Rattle.lane_runner.specs.World.{IsWorld, element_width};
+ghost use Rattle.execution_model.specs.Elements.{element_width};
+ghost use Rattle.lane_runner.specs.World.{IsWorld};
 
 /// The arrays of a kernel within the bounds of the language, with a table of as many words as they have elements, are where a lane of a
 /// team can run.

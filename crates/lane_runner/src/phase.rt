@@ -18,13 +18,15 @@ use kernel_model::Item;
 use kernel_syntax::{Stmt, Team};
 use shared_words::Hand;
 use std::alloc::Global;
+use std::marker::Send;
 use std::sync::Wait;
+use std::thread::Threads;
 use sw_base::{ClosedLog, Log, Path};
 
 impl<L: Log> Frame<L> {
     /// Executes a statement of the team: of a worksharing loop all but the barrier at its end.
     pub fn part<
-        R: Wait,
+        R: Threads + Wait + Copy + Send + 'static,
         F: Fn(
             &mut Hand,
             &Locals,
@@ -64,7 +66,7 @@ impl<L: Log> Frame<L> {
 
     /// Executes an item.
     pub fn step<
-        R: Wait,
+        R: Threads + Wait + Copy + Send + 'static,
         F: Fn(
             &mut Hand,
             &Locals,
@@ -90,7 +92,7 @@ impl<L: Log> Frame<L> {
                 Ok(())
             }
             Item::Run { stmt, .. } => self.part(stmt, rt, alloc, world, region),
-            Item::Bar { line } => self.track.meet(alloc, *line),
+            Item::Bar { line } => self.track.meet(rt, alloc, *line),
         }
     }
 }

@@ -15,13 +15,15 @@ use kernel_model::Phase;
 use kernel_syntax::Team;
 use shared_words::Hand;
 use std::alloc::Global;
+use std::marker::Send;
 use std::sync::Wait;
+use std::thread::Threads;
 use sw_base::{ClosedLog, Log, Path};
 
 impl<L: Log> Frame<L> {
     /// Executes the items of a phase.
     pub fn run_phase<
-        R: Wait,
+        R: Threads + Wait + Copy + Send + 'static,
         F: Fn(
             &mut Hand,
             &Locals,

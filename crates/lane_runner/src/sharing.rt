@@ -21,13 +21,15 @@ use crate::world::World;
 use kernel_syntax::{Body, Expr, Schedule, Team, even_share};
 use shared_words::Hand;
 use std::alloc::Global;
+use std::marker::Send;
 use std::sync::Wait;
+use std::thread::Threads;
 use sw_base::{ClosedLog, Log, Path};
 
 impl<L: Log> Frame<L> {
     /// Executes the lane's chunks of a loop whose chunks are dealt in turn.
     fn chunks<
-        R: Wait,
+        R: Threads + Wait + Copy + Send + 'static,
         F: Fn(
             &mut Hand,
             &Locals,
@@ -71,7 +73,7 @@ impl<L: Log> Frame<L> {
 
     /// Executes the lane's share of a loop of so many iterations, of which the first has this value.
     fn share<
-        R: Wait,
+        R: Threads + Wait + Copy + Send + 'static,
         F: Fn(
             &mut Hand,
             &Locals,
@@ -130,7 +132,7 @@ impl<L: Log> Frame<L> {
 
     /// Executes the lane's share of a worksharing loop, without the barrier at its end.
     pub fn shared_loop<
-        R: Wait,
+        R: Threads + Wait + Copy + Send + 'static,
         F: Fn(
             &mut Hand,
             &Locals,
@@ -162,8 +164,8 @@ impl<L: Log> Frame<L> {
         ensures log { IsSameLog self.old.track.buffer self.new.track.buffer }
         ensures loops { IfOk result (λ _. self.new.track.tally.next_loop ≡ self.old.track.tally.next_loop + counters_of schedule) }
     {
-        let first = value(alloc, world, &self.locals, &mut self.track, from)?;
-        let last = value(alloc, world, &self.locals, &mut self.track, to)?;
+        let first = value(rt, alloc, world, &self.locals, &mut self.track, from)?;
+        let last = value(rt, alloc, world, &self.locals, &mut self.track, to)?;
         self.share(
             body,
             rt,

@@ -30,9 +30,10 @@ use kernel_syntax::{Team, fit};
 use log_format::{Kind, Record};
 use shared_words::{ChunkHand, Hand, Words};
 use std::alloc::Global;
-use std::marker::Model;
+use std::marker::{Model, Send};
 use std::mem;
 use std::sync::Wait;
+use std::thread::Threads;
 use sw_base::{ClosedLog, Log, Path};
 
 /// A lane's hand on the shared words, the buffer before its log, its hand on the counters of its team's loops, and the logs that the
@@ -158,21 +159,28 @@ impl<L: Log> Track<L> {
     }
 
     // Makes room for the record of a line.
-    fn ready(&mut self, alloc: Global, line: u32) -> Result<(), Halt>
+    #[inline(always)]
+    fn ready<R: Threads + Wait + Copy + Send + 'static>(
+        &mut self,
+        rt: &R,
+        alloc: Global,
+        line: u32,
+    ) -> Result<(), Halt>
         requires { self.old.buffer.refused ≡ None }
         ensures room { MakesRoom line self.old self.new result }
         ensures log { IsSameLog self.old.buffer self.new.buffer }
         ensures tally { self.new.tally ≡ self.old.tally }
     {
-        if let Err(fault) = self.buffer.ready(alloc) {
+        if let Err(fault) = self.buffer.ready(rt, alloc) {
             return Err(stop_for(fault, line));
         }
         Ok(())
     }
 
     /// Reads an element, whose value is its word fitted to it, and puts the record.
-    pub fn read(
+    pub fn read<R: Threads + Wait + Copy + Send + 'static>(
         &mut self,
+        rt: &R,
         alloc: Global,
         world: &World,
         element: &Element,
@@ -186,7 +194,7 @@ impl<L: Log> Track<L> {
         ensures log { IsSameLog self.old.buffer self.new.buffer }
         ensures tally { self.new.tally ≡ self.old.tally }
     {
-        self.ready(alloc, line)?;
+        self.ready(rt, alloc, line)?;
         let bits = world.words().load(&mut self.hand, element.word);
         let found = fit(bits.cast_signed(), element.width);
         let event = access(Kind::Read, element, line, site, found.cast_unsigned());
@@ -195,8 +203,9 @@ impl<L: Log> Track<L> {
     }
 
     /// Stores or adds a value that the element can have, and puts the record.
-    pub fn change(
+    pub fn change<R: Threads + Wait + Copy + Send + 'static>(
         &mut self,
+        rt: &R,
         alloc: Global,
         world: &World,
         change: Change,
@@ -214,7 +223,7 @@ impl<L: Log> Track<L> {
         ensures tally { self.new.tally ≡ self.old.tally }
     {
         let bits = value.cast_unsigned();
-        self.ready(alloc, line)?;
+        self.ready(rt, alloc, line)?;
         take_step(world.words(), &mut self.hand, change, element.word, bits);
         let event = access(change.kind(), element, line, site, bits);
         self.buffer.put(&event);
@@ -222,7 +231,7 @@ impl<L: Log> Track<L> {
     }
 
     /// Waits for a mutex that it doesn't hold, and puts the record.
-    pub fn lock<R: Wait>(
+    pub fn lock<R: Threads + Wait + Copy + Send + 'static>(
         &mut self,
         rt: &R,
         alloc: Global,
@@ -238,7 +247,7 @@ impl<L: Log> Track<L> {
         ensures log { IsSameLog self.old.buffer self.new.buffer }
         ensures tally { self.new.tally ≡ self.old.tally }
     {
-        self.ready(alloc, line)?;
+        self.ready(rt, alloc, line)?;
         world.words().lock(rt, &mut self.hand, usize::from(mutex));
         let event = event(Kind::Lock, line, u64::from(mutex), 0);
         self.buffer.put(&event);
@@ -246,8 +255,9 @@ impl<L: Log> Track<L> {
     }
 
     /// Gives back the mutex that it won last, and puts the record.
-    pub fn unlock(
+    pub fn unlock<R: Threads + Wait + Copy + Send + 'static>(
         &mut self,
+        rt: &R,
         alloc: Global,
         world: &World,
         mutex: u16,
@@ -260,7 +270,7 @@ impl<L: Log> Track<L> {
         ensures log { IsSameLog self.old.buffer self.new.buffer }
         ensures tally { self.new.tally ≡ self.old.tally }
     {
-        self.ready(alloc, line)?;
+        self.ready(rt, alloc, line)?;
         world.words().unlock(&mut self.hand, usize::from(mutex));
         let event = event(Kind::Unlock, line, u64::from(mutex), 0);
         self.buffer.put(&event);
@@ -281,21 +291,32 @@ impl<L: Log> Track<L> {
     }
 
     // Puts a record that no step on the shared words belongs to.
-    fn note(&mut self, alloc: Global, kind: Kind, line: u32) -> Result<(), Halt>
+    fn note<R: Threads + Wait + Copy + Send + 'static>(
+        &mut self,
+        rt: &R,
+        alloc: Global,
+        kind: Kind,
+        line: u32,
+    ) -> Result<(), Halt>
         requires there { self.old.hand.there ≡ true }
         requires unrefused { self.old.buffer.refused ≡ None }
         ensures takes { TakesOrHalts (event kind line 0 0) self.old.hand.view self.old self.new result }
         ensures log { IsSameLog self.old.buffer self.new.buffer }
         ensures tally { self.new.tally ≡ self.old.tally }
     {
-        self.ready(alloc, line)?;
+        self.ready(rt, alloc, line)?;
         let event = event(kind, line, 0, 0);
         self.buffer.put(&event);
         Ok(())
     }
 
     /// Puts the record of a barrier of the team.
-    pub fn meet(&mut self, alloc: Global, line: u32) -> Result<(), Halt>
+    pub fn meet<R: Threads + Wait + Copy + Send + 'static>(
+        &mut self,
+        rt: &R,
+        alloc: Global,
+        line: u32,
+    ) -> Result<(), Halt>
         requires there { self.old.hand.there ≡ true }
         requires unrefused { self.old.buffer.refused ≡ None }
         requires line { 1 ≤ line }
@@ -304,11 +325,16 @@ impl<L: Log> Track<L> {
         ensures log { IsSameLog self.old.buffer self.new.buffer }
         ensures tally { self.new.tally ≡ self.old.tally }
     {
-        self.note(alloc, Kind::Barrier, line)
+        self.note(rt, alloc, Kind::Barrier, line)
     }
 
     /// Puts the record of the task's end.
-    pub fn finish(&mut self, alloc: Global, line: u32) -> Result<(), Halt>
+    pub fn finish<R: Threads + Wait + Copy + Send + 'static>(
+        &mut self,
+        rt: &R,
+        alloc: Global,
+        line: u32,
+    ) -> Result<(), Halt>
         requires there { self.old.hand.there ≡ true }
         requires unrefused { self.old.buffer.refused ≡ None }
         requires line { 1 ≤ line }
@@ -318,11 +344,17 @@ impl<L: Log> Track<L> {
         ensures log { IsSameLog self.old.buffer self.new.buffer }
         ensures tally { self.new.tally ≡ self.old.tally }
     {
-        self.note(alloc, Kind::End, line)
+        self.note(rt, alloc, Kind::End, line)
     }
 
     // Makes new logs for the lanes of a region, and puts the record of the fork.
-    fn fork(&mut self, alloc: Global, line: u32, span: u16) -> Result<Vec<L>, Halt>
+    fn fork<R: Threads + Wait + Copy + Send + 'static>(
+        &mut self,
+        rt: &R,
+        alloc: Global,
+        line: u32,
+        span: u16,
+    ) -> Result<Vec<L>, Halt>
         requires there { self.old.hand.there ≡ true }
         requires unrefused { self.old.buffer.refused ≡ None }
         requires path { length self.old.buffer.path < 4 }
@@ -331,8 +363,8 @@ impl<L: Log> Track<L> {
         ensures log { IsSameLog self.old.buffer self.new.buffer }
         ensures tally { self.new.tally ≡ self.old.tally }
     {
-        self.ready(alloc, line)?;
-        let logs = match children(alloc, &mut self.buffer, self.forked, span) {
+        self.ready(rt, alloc, line)?;
+        let logs = match children(rt, alloc, &mut self.buffer, self.forked, span) {
             Ok(logs) => logs,
             Err(trouble) => return Err(Halt::Trouble(trouble)),
         };
@@ -344,6 +376,7 @@ impl<L: Log> Track<L> {
     /// Executes a region: makes the logs of its lanes, puts its record, and has the lanes run from these locals. The logs of the
     /// region's tasks are kept with those of the regions before.
     pub fn parallel<
+        R: Threads + Wait + Copy + Send + 'static,
         F: Fn(
             &mut Hand,
             &Locals,
@@ -354,6 +387,7 @@ impl<L: Log> Track<L> {
         ) -> Result<(), (Path, Stop)>,
     >(
         &mut self,
+        rt: &R,
         alloc: Global,
         world: &World,
         locals: &Locals,
@@ -369,7 +403,7 @@ impl<L: Log> Track<L> {
         ensures log { IsSameLog self.old.buffer self.new.buffer }
         ensures loops { self.new.tally.next_loop ≡ self.old.tally.next_loop }
     {
-        let logs = self.fork(alloc, team.line, team.span)?;
+        let logs = self.fork(rt, alloc, team.line, team.span)?;
         let number = self.forked;
         self.forked += 1;
         if let Err((path, stop)) = region(
@@ -389,8 +423,9 @@ impl<L: Log> Track<L> {
     }
 
     /// Draws a chunk of the loop that is open, of so many, and puts the record. The count of chunks where none is left.
-    pub fn draw(
+    pub fn draw<R: Threads + Wait + Copy + Send + 'static>(
         &mut self,
+        rt: &R,
         alloc: Global,
         world: &World,
         line: u32,
@@ -408,7 +443,7 @@ impl<L: Log> Track<L> {
         ensures count { IfOk result (λ _. self.new.buffer.count ≡ self.old.buffer.count + 1) }
         ensures log { IsSameLog self.old.buffer self.new.buffer }
     {
-        self.ready(alloc, line)?;
+        self.ready(rt, alloc, line)?;
         let number = world.chunks().draw(&mut self.draws, self.next_loop);
         let drawn = number.min(chunks);
         self.next_loop = loop_after(self.next_loop, drawn, chunks);

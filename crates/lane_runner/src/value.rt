@@ -14,10 +14,14 @@ use crate::world::World;
 use kernel_model::negate;
 use kernel_syntax::{Expr, Op, apply};
 use std::alloc::Global;
+use std::marker::Send;
+use std::sync::Wait;
+use std::thread::Threads;
 use sw_base::Log;
 
 /// Reads an element, after its index.
-fn load<L: Log>(
+fn load<L: Log, R: Threads + Wait + Copy + Send + 'static>(
+    rt: &R,
     alloc: Global,
     world: &World,
     track: &mut Track<L>,
@@ -35,7 +39,7 @@ fn load<L: Log>(
     let Some(element) = world.element(array, index) else {
         return Err(Halt::Index { line });
     };
-    track.read(alloc, world, &element, line, place)
+    track.read(rt, alloc, world, &element, line, place)
 }
 
 /// The operation on two values, or the stop of a zero divisor.
@@ -48,7 +52,8 @@ fn operate(op: Op, line: u32, left: i64, right: i64) -> Result<i64, Halt>
 // The value of an expression that loads or computes. It stands apart, so that `value` needs no room for what it keeps.
 #[cycle(valuing)]
 #[inline(never)]
-fn compound<L: Log>(
+fn compound<L: Log, R: Threads + Wait + Copy + Send + 'static>(
+    rt: &R,
     alloc: Global,
     world: &World,
     locals: &Locals,
@@ -69,11 +74,11 @@ fn compound<L: Log>(
             line,
             site,
         } => {
-            let at = value(alloc, world, locals, track, index)?;
-            load(alloc, world, track, *array, at, *line, *site)
+            let at = value(rt, alloc, world, locals, track, index)?;
+            load(rt, alloc, world, track, *array, at, *line, *site)
         }
         Expr::Neg(operand) => {
-            let negated = value(alloc, world, locals, track, operand)?;
+            let negated = value(rt, alloc, world, locals, track, operand)?;
             Ok(negate(negated))
         }
         Expr::Binary {
@@ -82,8 +87,8 @@ fn compound<L: Log>(
             left,
             right,
         } => {
-            let first = value(alloc, world, locals, track, left)?;
-            let second = value(alloc, world, locals, track, right)?;
+            let first = value(rt, alloc, world, locals, track, left)?;
+            let second = value(rt, alloc, world, locals, track, right)?;
             operate(*op, *line, first, second)
         }
         Expr::Number(_) => unreachable!(),
@@ -95,7 +100,8 @@ fn compound<L: Log>(
 
 /// The value of an expression. Its reads are recorded.
 #[cycle(valuing)]
-pub fn value<L: Log>(
+pub fn value<L: Log, R: Threads + Wait + Copy + Send + 'static>(
+    rt: &R,
     alloc: Global,
     world: &World,
     locals: &Locals,
@@ -113,8 +119,8 @@ pub fn value<L: Log>(
         Expr::Slot(slot) => Ok(locals.get(*slot)),
         Expr::Tid => Ok(i64::from(world.lane())),
         Expr::Span => Ok(i64::from(world.span())),
-        Expr::Load { .. } => compound(alloc, world, locals, track, expr),
-        Expr::Neg(_) => compound(alloc, world, locals, track, expr),
-        Expr::Binary { .. } => compound(alloc, world, locals, track, expr),
+        Expr::Load { .. } => compound(rt, alloc, world, locals, track, expr),
+        Expr::Neg(_) => compound(rt, alloc, world, locals, track, expr),
+        Expr::Binary { .. } => compound(rt, alloc, world, locals, track, expr),
     }
 }

@@ -1,14 +1,15 @@
 -- A task goes on with one phase more.
-use Rattle.std.proofs.Common.{◌≡◌, refl, ap, sym, ◌∙◌, subst, ℕ, ◌+◌, ◌-◌, List, [], ◌∷◌, ◌++◌, length, ℤ, None, Result, Ok, Err, arith}
+use Rattle.std.proofs.Common.{◌≡◌, ap, sym, ◌∙◌, subst, ℕ, ◌+◌, ◌-◌, List, [], ◌∷◌, ◌++◌, length, ℤ, None, Result, Ok, Err, arith}
 use Rattle.std.proofs.lemmas.List.{length-append}
+use Rattle.history_model.proofs.Parts.{then_regions, then_rest, then_assoc}
 use Rattle.log_format.specs.declared.record.Record.{Record}
 use Rattle.kernel_syntax.specs.Program.{Program}
 use Rattle.kernel_model.specs.State as model
-use Rattle.kernel_model.specs.State.{State, Fork, Outcome, and_then, after, state_of}
+use Rattle.kernel_model.specs.State.{State, Outcome, and_then, after}
 use Rattle.kernel_model.specs.Trace.{log_limit}
 use Rattle.kernel_model.specs.Effect.{Effect, Finish, Returned, Halted, Makes}
 use Rattle.kernel_model.proofs.Effects.{makes-then, makes-same}
-use Rattle.history_model.specs.Work.{Work, Rest, Put, RegionWork, work_records, work_regions, then_work}
+use Rattle.history_model.specs.Work.{Work, RegionWork, work_regions, then_work}
 use Rattle.execution_model.specs.Runs.{RunsRegions}
 use Rattle.lane_runner.specs.declared.stop.Halt.{Halt}
 use Rattle.lane_runner.specs.declared.stop.Halt.TheVariants as halt
@@ -19,7 +20,7 @@ use Rattle.lane_runner.specs.Stopping.{HaveEnded}
 use Rattle.lane_runner.specs.Handed.{Entry, HandsOn, MaybeStop, AreFew, place_of}
 use Rattle.lane_runner.proofs.Handing.{work_hands_then}
 use Rattle.lane_runner.proofs.Drawing.{drew_then}
-use Rattle.lane_runner.proofs.Working.{log_then, gains_then, regions_then, runs_then}
+use Rattle.lane_runner.proofs.Working.{log_then, gains_then, runs_then}
 use Rattle.lane_runner.proofs.Releasing.{released_then, ends_then}
 use Rattle.lane_runner.proofs.Ending.{ended_then, stops_then}
 use Rattle.lane_runner.proofs.Beginning.{begins_then, begins_same}
@@ -28,16 +29,6 @@ use Rattle.region_runner.proofs.JoinedWork.{work_of}
 use Rattle.region_runner.specs.Ran.{in_one, TakesUp, HasLogged, TaskRan, TaskBegan, TaskGoes}
 
 -- ---- works in one
-
-then_rest : (work : Work) → then_work work Rest ≡ work
-then_rest Rest = refl
-then_rest (Put r more) = ap (λ (m : Work). Put r m) (then_rest more)
-then_rest (Work.Fork line span phases more) = ap (λ (m : Work). Work.Fork line span phases m) (then_rest more)
-
-then_assoc : (a b c : Work) → then_work (then_work a b) c ≡ then_work a (then_work b c)
-then_assoc Rest b c = refl
-then_assoc (Put r more) b c = ap (λ (m : Work). Put r m) (then_assoc more b c)
-then_assoc (Work.Fork line span phases more) b c = ap (λ (m : Work). Work.Fork line span phases m) (then_assoc more b c)
 
 pub one_more : (works : List Work) (work : Work) → in_one (works ++ work ∷ []) ≡ then_work (in_one works) work
 one_more [] work = then_rest work
@@ -54,7 +45,7 @@ logged_on bars w old mid start new one work l up d = record {
       subst (λ (rs : List Record). HasDrawn old.tally new.tally rs) (sym (log_then one work))
       (drew_then old.tally mid.tally new.tally (log_of one) (log_of work) l.draws (subst (λ t. HasDrawn t new.tally (log_of work)) up.tally d.draws));
   forked =
-      let sum = ap (λ (rs : List RegionWork). length rs) (regions_then one work) ∙ length-append (work_regions one) (work_regions work) in
+      let sum = ap (λ (rs : List RegionWork). length rs) (then_regions one work) ∙ length-append (work_regions one) (work_regions work) in
       let same : start.tally.forked ≡ mid.tally.forked = ap (λ t. t.forked) up.tally in
       omega (arith, sum, l.forked, d.forked, same);
 }

@@ -28,12 +28,6 @@ abbrev AreFrom : ℕ → List ℕ → Type 0
 AreFrom k [] = Unit {0}
 AreFrom k (x ∷ xs) = (k ≤ x) × AreFrom k xs
 
-without_less : (k : ℕ) (xs : List ℕ) → AreFrom (suc k) xs → without k xs ≡ xs
-without_less k [] from = refl
-without_less k (x ∷ xs) from =
-    let test : not (x == k) ≡ true = grind (arith, nat_tests) in
-    ap (λ (b : Bool). cond b (x ∷ without k xs) (without k xs)) test ∙ ap (λ (l : List ℕ). x ∷ l) (without_less k xs from.1)
-
 -- those from k on, in any order in which the k-th is the last
 without_append : (k : ℕ) (xs : List ℕ) → AreFrom (suc k) xs → without k (xs ++ k ∷ []) ≡ xs
 without_append k [] from =

@@ -1,12 +1,13 @@
 -- What the rules of the language say of the parts of a team's body.
 use Rattle.std.proofs.Common.{◌≡◌, refl, ℕ, zero, suc, ◌+◌, ◌<◌, ◌≤◌, Bool, true, false, List, [], ◌∷◌, ◌++◌, ℤ, pos, ◌+ℤ◌, Option, Some, None, arith}
-use Rattle.std.specs.Prelude.{All, ◌||◌, ◌&&◌, ◌*◌, is_some}
+use Rattle.std.specs.Prelude.{All, ◌||◌, ◌&&◌, ◌*◌}
 use Rattle.std.proofs.lemmas.List.Elements.{All-nil, All-cons, All-head, All-tail, All-append}
+use Rattle.kernel_rules.proofs.BarrierCounts.{idle_loop}
 use Rattle.kernel_syntax.specs.Bounds.{IsBoundedCode}
 use Rattle.kernel_syntax.specs.Tree as tree
-use Rattle.kernel_syntax.specs.Tree.{Term, Code, Done, TeamTree}
+use Rattle.kernel_syntax.specs.Tree.{Code, Done, TeamTree}
 use Rattle.kernel_model.specs.Iterations.{total_of}
-use Rattle.kernel_model.specs.Lawful.{Scope, IsScoped, IsEven, IsNested, code_holds_work, fixed_bound, bounds_of, unrolled_bounds, with_variable, variable_at, after_assigning}
+use Rattle.kernel_model.specs.Lawful.{Scope, IsScoped, IsEven, IsNested, code_holds_work, fixed_bound, bounds_of, with_variable, variable_at, after_assigning}
 use Rattle.kernel_model.specs.Parts.{Part, Set, Run, Bar, unrolled, loop_parts, end_parts, parts_of}
 use Rattle.lane_runner.specs.Alone.{IsAlone}
 use Rattle.lane_runner.specs.Teams.{EachTeam}
@@ -106,13 +107,6 @@ unrolled_lawful mutexes regions (suc n) slot from body all =
     All-cons (IsLawfulPart mutexes regions) (Set slot from) (body ++ unrolled n slot (from +ℤ pos 1) body) tt
     (All-append (IsLawfulPart mutexes regions) body (unrolled n slot (from +ℤ pos 1) body) all (unrolled_lawful mutexes regions n slot (from +ℤ pos 1) body all))
 
--- a loop that holds work has fixed bounds
-unless_fixed : (from to : Option ℤ) (work : Bool) → (work ≡ true → is_some from && is_some to ≡ true) → unrolled_bounds from to work ≡ None → work ≡ false
-unless_fixed from to false fixed none = refl
-unless_fixed None to true fixed none = absurd (let f = fixed refl in cc)
-unless_fixed (Some a) None true fixed none = absurd (let f = fixed refl in cc)
-unless_fixed (Some a) (Some b) true fixed none = absurd cc
-
 loop_lawful : (mutexes regions slot : ℕ) (bounds : Option (ℤ × ℤ)) (body : List Part) (loop : Code) → All (IsLawfulPart mutexes regions) body → (bounds ≡ None → IsLawfulPart mutexes regions (Run loop))
     → All (IsLawfulPart mutexes regions) (loop_parts bounds slot body loop)
 loop_lawful mutexes regions slot (Some b) body loop all single = unrolled_lawful mutexes regions (total_of b.0 b.1) slot b.0 body all
@@ -146,7 +140,7 @@ module _ (mutexes regions lanes : ℕ) where
       (loop_lawful mutexes regions slot (bounds_of from to body) (parts_of body) (tree.Loop slot from to body Done) (parts_lawful (with_variable n slot false) body b.2 s.3 e.1 k.0)
       (λ none. (
         (b.0, b.1, b.2, tt),
-        (alone_of mutexes regions lanes [] [] body no_mutex (unless_fixed (fixed_bound from) (fixed_bound to) (code_holds_work body) e.0 none) k.0, tt),
+        (alone_of mutexes regions lanes [] [] body no_mutex (idle_loop (fixed_bound from) (fixed_bound to) (code_holds_work body) e.0 none) k.0, tt),
         (teams_of mutexes regions lanes (with_variable n slot false) [] body b.2 s.3 e.1 k.0, tt),
       )))
       (parts_lawful n rest b.3 s.4 e.2 k.1)

@@ -3,6 +3,7 @@ use Rattle.std.proofs.Common.{◌≡◌, ◌⊎◌, inl, inr, sym, subst, ℕ, �
 use Rattle.std.specs.Prelude.{All}
 use Rattle.std.proofs.lemmas.List.{map-append}
 use Rattle.std.proofs.lemmas.List.Elements.{All-nil, All-cons, All-head, All-tail, All-append}
+use Rattle.sw_base.proofs.Lists.{all_parts}
 use Rattle.kernel_syntax.specs.Program.{stmt_code}
 use Rattle.kernel_syntax.specs.Tree as tree
 use Rattle.kernel_syntax.specs.Tree.{Code, Done, TeamTree}
@@ -41,10 +42,6 @@ module _ (mutexes regions : ℕ) where
       let rest = items_lawful items (All-tail (IsLawfulPart mutexes regions) (part_of x) (map part_of items) all) in
       (All-cons (IsItem (mutexes + 1)) x items one.0 rest.0, All-cons (EachTeamIn (IsInnerTeam mutexes regions)) x items one.1 rest.1)
 
-all_first : {A : Type 0} (P : A → Type 0) (xs ys : List A) → All P (xs ++ ys) → All P xs × All P ys
-all_first P [] ys all = (All-nil P, all)
-all_first P (x ∷ xs) ys all = let rest = all_first P xs ys (All-tail P x (xs ++ ys) all) in (All-cons P x xs (All-head P x (xs ++ ys) all) rest.0, rest.1)
-
 pub all_map : {A : Type 0} (P Q : A → Type 0) → ((x : A) → P x → Q x) → (xs : List A) → All P xs → All Q xs
 all_map P Q each [] all = All-nil Q
 all_map P Q each (x ∷ xs) all = All-cons Q x xs (each x (All-head P x xs all)) (all_map P Q each xs (All-tail P x xs all))
@@ -57,7 +54,7 @@ both_all P Q R each (x ∷ xs) one two = All-cons R x xs (each x (All-head P x x
 pub each_phase : (P : Part → Type 0) (phases : List (List Item)) → All P (parts_in phases) → All (λ (phase : List Item). All P (map part_of phase)) phases
 each_phase P [] all = All-nil (λ (phase : List Item). All P (map part_of phase))
 each_phase P (phase ∷ phases) all =
-    let split = all_first P (map part_of phase) (parts_in phases) (subst (λ (ps : List Part). All P ps) (map-append part_of phase (items_in phases)) all) in
+    let split = all_parts P (map part_of phase) (parts_in phases) (subst (λ (ps : List Part). All P ps) (map-append part_of phase (items_in phases)) all) in
     All-cons (λ (p : List Item). All P (map part_of p)) phase phases split.0 (each_phase P phases split.1)
 
 divided_each : (phases : List (List Item)) → AreDivided phases → All (λ (phase : List Item). EndsInBar phase ⊎ All IsNoBar phase) phases

@@ -4,6 +4,7 @@ pub mod Verdicts
 pub mod GatheredLanes
 pub mod JoinedDraws
 pub mod Continuing
+pub mod Crossing
 pub mod Traced
 pub mod Stops
 pub mod TeamPhases

@@ -23,7 +23,7 @@ use Rattle.history_laws.proofs.TaskTree.{AreSound, lane_is, sound_at_step, sound
 use Rattle.execution_model.specs.Runs.{RunsTask, lane_begin, works_log}
 use Rattle.execution_laws.proofs.Descent.{RegionAt, task_region}
 use Rattle.lane_runner.specs.Teams.{EachTeam}
-use Rattle.lane_runner.specs.World.{layout_of}
+use Rattle.execution_model.specs.Elements.{layout_of}
 use Rattle.region_runner.specs.Lawful.{IsTeam, IsInnerTeam}
 use Rattle.execution_laws.specs.Nesting.{NestsWithin, PhasesNest, TeamNests}
 use Rattle.region_runner.proofs.LawfulParts.{teams_of}

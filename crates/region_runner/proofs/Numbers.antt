@@ -5,6 +5,7 @@ use Rattle.std.specs.List.{flat_map}
 use Rattle.std.proofs.lemmas.List.Elements.{All-nil, All-cons}
 use Rattle.std.proofs.lemmas.Bool.Decides.{nat_tests}
 use Rattle.std.proofs.lemmas.Option.{same_Some}
+use Rattle.shared_words.proofs.Dealing.{numbers-append}
 use Rattle.log_format.specs.declared.record.Record.{Record}
 use Rattle.log_format.specs.declared.record.Kind.{Kind}
 use Rattle.log_format.specs.declared.record.Kind.TheVariants as kind
@@ -12,7 +13,7 @@ use Rattle.race_model.specs.Draws.{in_first_loop, with_draw, draws_by_loop, with
 use Rattle.history_model.specs.Drawn.{LaneDraws, TellsDraws, GaveEachOnce, times_given}
 use Rattle.kernel_model.specs.State.{number_drawn}
 use Rattle.kernel_model.specs.Chunking as count
-use Rattle.kernel_model.specs.Chunking.{TellCounts, TellFirst}
+use Rattle.kernel_model.specs.Chunking.{TellCounts}
 use Rattle.execution_model.specs.Execution.{DrewSome}
 use Rattle.shared_words.specs.Draws.{numbers, times, once_below, AreEachOnce}
 use Rattle.history_model.proofs.DrawnNumbers.{each_once}
@@ -21,15 +22,6 @@ use Rattle.lane_runner.specs.Drawing.{TellDraws}
 use Rattle.region_runner.specs.Drawing.{DrewByLogs, no_lane, lane}
 
 -- ---- the numbers of one loop
-
-numbers_append : (loop : ℕ) (xs ys : List (ℕ × ℕ)) → numbers loop (xs ++ ys) ≡ numbers loop xs ++ numbers loop ys
-numbers_append loop [] ys = refl
-numbers_append loop (d ∷ xs) ys = by (d.0 == loop) (numbers_append loop xs ys)
-  where
-    by : (b : Bool) → numbers loop (xs ++ ys) ≡ numbers loop xs ++ numbers loop ys →
-        cond b (d.1 ∷ numbers loop (xs ++ ys)) (numbers loop (xs ++ ys)) ≡ cond b (d.1 ∷ numbers loop xs) (numbers loop xs) ++ numbers loop ys
-    by true same = ap (λ (l : List ℕ). d.1 ∷ l) same
-    by false same = same
 
 -- a draw for the loop, and one for another
 numbers_mine : (loop : ℕ) (d : ℕ × ℕ) (rest : List (ℕ × ℕ)) → d.0 ≡ loop → numbers loop (d ∷ rest) ≡ d.1 ∷ numbers loop rest
@@ -281,7 +273,7 @@ module _ (counts : List ℕ) (loop : ℕ) where
       record {
         lanes = mine_of loop records mine ∷ rest.lanes;
         logs_are = ap (λ (l : List (List Record)). records ∷ l) rest.logs_are;
-        drawn_is = ap (λ (l : List ℕ). numbers loop mine ++ l) rest.drawn_is ∙ sym (numbers_append loop mine drawn);
+        drawn_is = ap (λ (l : List ℕ). numbers loop mine ++ l) rest.drawn_is ∙ sym (numbers-append loop mine drawn);
         each = All-cons (TellsDraws loop limit) (mine_of loop records mine) rest.lanes one rest.each;
       }
 

@@ -56,7 +56,7 @@ tells_still f (Some t) = refl
 
 pub lane_begins : (place : LogPlace) (path : List Step) (slots own_slots : List ℤ) (draws : HandValue Share) (hand : HandValue View) (dir : List ℕ) (log_path : List Step) (text : Option Text) (faults size : ℕ) (b : Buffered) (at : Progress) (m : LaneValue)
     → m ≡ record { path = path; locals = own_slots; hand = at.hand; buffer = at.buffer; tally = at.tally; done = at.done; stopped = None } → at ≡ record { hand = hand; buffer = b; tally = record { draws = draws; next_loop = 0; forked = 0 }; done = [] }
-    → b ≡ record { dir = dir; path = log_path; text = option_map (with_piece (log_header FORMAT)) text; faults = faults; size = size; waiting = []; count = 0; refused = None } → own_slots ≡ slots → log_path ≡ path
+    → b ≡ record { dir = dir; path = log_path; text = option_map (with_piece (log_header FORMAT)) text; faults = faults; size = size; sent = []; waiting = []; count = 0; refused = None } → own_slots ≡ slots → log_path ≡ path
     → place ≡ record { dir = dir; size = size; tells = is_some text } → HoldsRecords (log_header FORMAT) b [] → LaneBegins place path slots draws m
 lane_begins place path slots own_slots draws hand dir log_path text faults size b at m is at_is b_is same own place_is holds =
     subst (λ (x : LaneValue). LaneBegins place path slots draws x) (sym is)

@@ -13,7 +13,7 @@ use Rattle.kernel_model.specs.declared.phase.Item.{Item}
 use Rattle.kernel_model.specs.Parts.{Part, run_parts}
 use Rattle.kernel_model.specs.Phases.{part_of, items_in, parts_in}
 use Rattle.kernel_model.proofs.Growing.{grows-plain}
-use Rattle.kernel_model.proofs.Joining.{after-after}
+use Rattle.kernel_model.proofs.Joining.{after-after, run_parts-append}
 use Rattle.kernel_model.proofs.RunEffects.{parts}
 use Rattle.kernel_model.proofs.Steps.{kept-after}
 use Rattle.history_model.specs.Work.{Phases, lane_works}
@@ -22,7 +22,7 @@ use Rattle.lane_runner.specs.declared.stop.Halt.{Halt}
 use Rattle.lane_runner.specs.Going.{Progress, site}
 use Rattle.lane_runner.specs.World.{WorldValue}
 use Rattle.lane_runner.proofs.Noting.{note_grows}
-use Rattle.lane_runner.proofs.Phases.{run_parts_both, parts_grow}
+use Rattle.lane_runner.proofs.Phases.{parts_grow}
 use Rattle.region_runner.specs.Ran.{task_part, TaskGoes}
 use Rattle.region_runner.proofs.Traced.{runs_goes}
 
@@ -47,7 +47,7 @@ module _ (program : Program) (start : Start) (phases : List (List Item)) (runs :
       ap (λ (o : Outcome (Unit {0})). after o (put (event kind.End start.team.end 0 0)))
       (sym (runs (site_of program start) s)
       ∙ ap (λ (ps : List Part). run_parts (site_of program start) ps s) (ap (λ (p : List (List Item)). parts_in p) is ∙ parts_both done left)
-      ∙ run_parts_both (site_of program start) (parts_in done) (parts_in left) s)
+      ∙ run_parts-append (site_of program start) (parts_in done) (parts_in left) s)
       ∙ after-after (run_parts (site_of program start) (parts_in done) s) (run_parts (site_of program start) (parts_in left)) (put (event kind.End start.team.end 0 0))
 
 -- A part with which the lane's task begins, in each kernel of these arrays, and what follows it.

@@ -25,7 +25,7 @@ use Rattle.execution_laws.proofs.Descent.{RunsAt, down, released_of}
 use Rattle.execution_laws.proofs.LoggedTasks.{listed_forked, lists_logged, log_is, logged_lists}
 use Rattle.execution_laws.proofs.Prefixes.{ends_same}
 use Rattle.lane_runner.specs.Stopping.{GoesFurther, HaveEnded, IsLeastBelow, EndsBelow, LastIsRegionAt, RestsBelow}
-use Rattle.lane_runner.specs.World.{layout_of}
+use Rattle.execution_model.specs.Elements.{layout_of}
 use Rattle.region_runner.specs.Answer.{EndsTask, IsLeast, LanesEnd}
 use Rattle.execution_laws.specs.Nesting.{NestsWithin}
 use Rattle.execution_laws.proofs.TaskListing.{RegionNests, WorksNest, all_regions_nest, found_nests, lane_of_region_nests}

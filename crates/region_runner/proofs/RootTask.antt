@@ -20,7 +20,7 @@ use Rattle.lane_runner.specs.declared.stop.Halt.{Halt}
 use Rattle.lane_runner.specs.Drawing.{Tally}
 use Rattle.lane_runner.specs.Going.{site}
 use Rattle.lane_runner.specs.Handed.{AreFew, Entry, LogPlace}
-use Rattle.lane_runner.specs.World.{element_word}
+use Rattle.execution_model.specs.Elements.{element_word}
 use Rattle.lane_runner.proofs.Working.{hand_still, worked_none}
 use Rattle.region_runner.specs.LastPhase.{IsLast}
 use Rattle.region_runner.specs.Begins.{LaneBegins}

@@ -13,7 +13,7 @@ use Rattle.kernel_model.specs.Trace.{log_limit}
 use Rattle.kernel_model.specs.Value.{Site}
 use Rattle.kernel_model.specs.Effect.{Returned}
 use Rattle.kernel_model.proofs.Effects.{makes-stays}
-use Rattle.kernel_model.proofs.Joining.{after-after}
+use Rattle.kernel_model.proofs.Joining.{after-after, run_parts-append}
 use Rattle.event_buffer.specs.Buffered.{Buffered}
 use Rattle.event_buffer.specs.Logged.{HoldsRecords}
 use Rattle.shared_words.specs.declared.view.View.{View}
@@ -29,7 +29,6 @@ use Rattle.lane_runner.proofs.Drawing.{drew_none}
 use Rattle.lane_runner.proofs.Ending.{ended_none}
 use Rattle.lane_runner.proofs.Handing.{work_hands_none}
 use Rattle.lane_runner.proofs.Releasing.{released_none}
-use Rattle.lane_runner.proofs.Phases.{run_parts_both}
 use Rattle.lane_runner.proofs.Halting.{halt_none, stopped_none}
 use Rattle.region_runner.specs.LastPhase.{IsLast, WentOn, phase_part}
 use Rattle.region_runner.specs.Crew.{CrewValue, world_of}
@@ -75,7 +74,7 @@ phase_after : (at : Site) (done : List (List Item)) (items : List Item) (s : Sta
     → run_parts at (parts_in (done ++ items ∷ [])) s ≡ after (run_parts at (parts_in done) s) (run_parts at (map part_of items))
 phase_after at done items s =
     ap (λ (ps : List Part). run_parts at ps s) (parts_both done (items ∷ []) ∙ ap (λ (ps : List Part). parts_in done ++ ps) (one_phase items))
-    ∙ run_parts_both at (parts_in done) (map part_of items) s
+    ∙ run_parts-append at (parts_in done) (map part_of items) s
 
 part_after : (at : Site) (done : List (List Item)) (items : List Item) (end : Option ℕ) (s : State)
     → task_part at (done ++ items ∷ []) end s ≡ after (task_part at done None s) (phase_part items end at)

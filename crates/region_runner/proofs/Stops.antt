@@ -3,6 +3,7 @@ use Rattle.std.proofs.Common.{◌≡◌, refl, ap, sym, ◌∙◌, subst, ℕ, �
 use Rattle.std.specs.Prelude.{slice_get}
 use Rattle.std.specs.List.{flat_map}
 use Rattle.sw_base.specs.declared.path.Step.{Step}
+use Rattle.sw_base.proofs.Lists.{get_seam}
 use Rattle.log_format.specs.declared.record.Record.{Record}
 use Rattle.kernel_syntax.specs.declared.syntax.Array.{Array}
 use Rattle.kernel_syntax.specs.Program.{Program}
@@ -17,10 +18,6 @@ use Rattle.lane_runner.specs.Going.{log_of}
 use Rattle.region_runner.specs.Ran.{in_one}
 use Rattle.region_runner.specs.Stopping.{EndsUnder}
 use Rattle.region_runner.proofs.Traced.{TracesFirst, one_log, one_regions}
-
-pub get_at : {A : Type 0} (before : List A) (x : A) (after : List A) → slice_get (before ++ x ∷ after) (length before) ≡ Some x
-get_at [] x after = refl
-get_at (b ∷ before) x after = get_at before x after
 
 -- as many forks as regions, and the last region has the span of the last fork
 lasts_meet : (program : Program) (earlier : List Fork) (fork : Fork) (before : List RegionWork) (region : RegionWork) → RunsRegions program (earlier ++ fork ∷ []) (before ++ region ∷ [])
@@ -62,7 +59,7 @@ module _ (program : Program) (end : Ending) (start : Start) where
           ap (λ (rs : List Record). slice_get (own_trace program start rs).forks (length s.before)) (sym (one_log works))
           ∙ ap (λ (fs : List Fork). slice_get fs (length s.before)) (first.forks_are ∙ ap (λ (fs : List Fork). fs ++ first.later) s.forks_are ∙ append_assoc s.earlier (s.fork ∷ []) first.later)
           ∙ ap (λ (n : ℕ). slice_get (s.earlier ++ s.fork ∷ first.later) n) (sym meet.0)
-          ∙ get_at s.earlier s.fork first.later
+          ∙ get_seam s.earlier s.fork first.later
 
       region_is : slice_get (flat_map work_regions works) (length s.before) ≡ Some s.region
-      region_is = ap (λ (rs : List RegionWork). slice_get rs (length s.before)) (sym (one_regions works) ∙ s.regions_are) ∙ get_at s.before s.region []
+      region_is = ap (λ (rs : List RegionWork). slice_get rs (length s.before)) (sym (one_regions works) ∙ s.regions_are) ∙ get_seam s.before s.region []

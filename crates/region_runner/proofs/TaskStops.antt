@@ -5,6 +5,7 @@ use Rattle.std.specs.List.{flat_map}
 use Rattle.std.proofs.lemmas.List.{append-nil}
 use Rattle.std.proofs.lemmas.Option.{same_Some}
 use Rattle.sw_base.specs.declared.path.Step.{Step}
+use Rattle.sw_base.proofs.Lists.{get_seam}
 use Rattle.log_format.specs.declared.record.Record.{Record}
 use Rattle.kernel_model.specs.State as model
 use Rattle.kernel_model.specs.State.{State, Fork, Outcome}
@@ -26,7 +27,7 @@ use Rattle.lane_runner.specs.Lane.{stop_of}
 use Rattle.region_runner.specs.Ran.{in_one, TaskRan, TaskBegan, TaskGoes}
 use Rattle.region_runner.specs.Stopping.{IsAtOrBelow, IsLeastUnder, RestsUnder, StopsTask}
 use Rattle.region_runner.proofs.RegionLanes.{BeginsLane}
-use Rattle.region_runner.proofs.Stops.{get_at, task_stops}
+use Rattle.region_runner.proofs.Stops.{task_stops}
 use Rattle.region_runner.proofs.Traced.{one_log, one_regions, stopped_trace, traces_begun}
 
 module _ (fork : Fork) (lane : ℕ) (w : WorldValue) (part : State → Outcome (Unit {0})) (first_part : BeginsLane fork lane w part) (slots' : List ℤ) (old new : Progress) (none : old.buffer.count ≡ 0) (works : List Work) (own : List Step) where
@@ -103,7 +104,7 @@ module _ (fork : Fork) (lane : ℕ) (w : WorldValue) (part : State → Outcome (
           (subst (λ (n : ℕ). StopsAtLast w.arrays old.buffer.path n path why t.forks (work_regions (in_one works))) first t.stops.0)
 
       region_is : slice_get (flat_map work_regions works) (length stops.before) ≡ Some stops.region
-      region_is = ap (λ (rs : List RegionWork). slice_get rs (length stops.before)) (sym (one_regions works) ∙ stops.regions_are) ∙ get_at stops.before stops.region []
+      region_is = ap (λ (rs : List RegionWork). slice_get rs (length stops.before)) (sym (one_regions works) ∙ stops.regions_are) ∙ get_seam stops.before stops.region []
 
       -- a task of the last region
       in_last : (other : ℕ) (below : List Step) → path ≡ own ++ record { region = 0 + length stops.before; lane = other; span = stops.fork.team.span } ∷ below

@@ -17,7 +17,7 @@ use Rattle.history_model.specs.Joined.{LastIsEnd, IsJoined, IsTeamJoined, ArePha
 use Rattle.history_model.proofs.Parts.{phases_splits_sum, phases_did, phases_works, phases_sound}
 use Rattle.lane_runner.specs.Forking.{after_phases}
 use Rattle.lane_runner.specs.Going.{worked}
-use Rattle.lane_runner.specs.World.{element_word, layout_of}
+use Rattle.execution_model.specs.Elements.{element_word, layout_of}
 use Rattle.region_runner.specs.Hands.{HaveWorked, joined_with, parted_for}
 use Rattle.region_runner.specs.Team.{team_of_works, DidWork, DidPhases}
 use Rattle.region_runner.proofs.JoinedHands.{did_phase}

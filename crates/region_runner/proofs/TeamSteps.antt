@@ -3,6 +3,7 @@ use Rattle.std.proofs.Common.{◌≡◌, refl, ap, sym, ◌∙◌, subst, ℕ, s
 use Rattle.std.specs.List.{flat_map}
 use Rattle.std.proofs.lemmas.Grind.{flat_map-append}
 use Rattle.std.proofs.lemmas.List.{append-nil, get_or_default}
+use Rattle.history_model.proofs.Parts.{phases_pass}
 use Rattle.log_format.specs.declared.record.Record.{Record}
 use Rattle.race_model.specs.Trace.{barrier_count}
 use Rattle.kernel_model.specs.declared.phase.Item.{Item}
@@ -11,8 +12,8 @@ use Rattle.kernel_model.specs.Phases.{part_of}
 use Rattle.event_buffer.specs.Buffered.{Buffered}
 use Rattle.shared_words.specs.declared.view.View.{View}
 use Rattle.shared_words.specs.Handles.{HandValue, with_view}
-use Rattle.history_model.specs.Work.{Work, Phases, NoPhase, Phase, TeamWork, lane_works, then_phases, work_records}
-use Rattle.history_model.specs.Sound.{PassesBarrier, PassAllBarriers}
+use Rattle.history_model.specs.Work.{Work, Phases, NoPhase, Phase, lane_works, then_phases, work_records}
+use Rattle.history_model.specs.Sound.{PassAllBarriers}
 use Rattle.history_model.specs.Joined.{LastIsEnd, PhasesEnd}
 use Rattle.history_laws.proofs.EndedLanes.{ends_behind}
 use Rattle.history_laws.proofs.MetBarriers.{barriers_both}
@@ -37,10 +38,6 @@ views_more k (x ∷ xs) at is =
 some_lane : (xs : List LaneValue) → 1 ≤ length xs → LaneValue
 some_lane [] some = absurd (omega arith)
 some_lane (x ∷ xs) some = x
-
-passes_more : (phases : Phases) (team : TeamWork) → PassAllBarriers phases → PassesBarrier team → PassAllBarriers (then_phases phases (Phase team NoPhase))
-passes_more NoPhase team pass one = (one, tt)
-passes_more (Phase first later) team pass one = (pass.0, passes_more later team pass.1 one)
 
 -- how the team stands then
 pub record TeamSteps (crew : CrewValue) (items : List Item) (end : Option ℕ) (old new : HandValue View) (before after : List LaneValue) (done : List (List Item)) : Type 0 where
@@ -175,7 +172,7 @@ module _ (crew : CrewValue) (items : List Item) (end : Option ℕ) (old home new
           (subst (λ (m : LaneValue). LaneStands crew (slice_index_or before k d) (done ++ items ∷ []) end (then_phases phases later) k m) (get_or_default after k d e (in_after k less)) (lane_now k less));
     };
     passes = λ all one.
-        passes_more phases (team_of_works 0 crew.span works.work) pass
+        phases_pass phases (team_of_works 0 crew.span works.work) pass
         (team_passes crew.span works.work
         (λ k less. let s = works.each k less in ap (λ (work : Work). barrier_count (work_records work)) (sym s.1) ∙ s.0.passes (sym (stopped_same k less) ∙ all k d (in_after k less)) ∙ one));
     ends = λ line is all.

@@ -16,7 +16,7 @@ use Rattle.kernel_model.specs.Effect.{Finish, Returned, Halted, Makes, state_wit
 use Rattle.kernel_model.proofs.Effects.{makes-halt, makes-same}
 use Rattle.kernel_model.proofs.RunEffects.{parts, own_trace-is}
 use Rattle.history_model.specs.Work.{Work, Rest, Put, RegionWork, Phases, NoPhase, Phase, TeamWork, NoWork, Beside, fork_record, work_records, work_regions, work_at, lane_works, then_work}
-use Rattle.history_model.proofs.Parts.{then_records}
+use Rattle.history_model.proofs.Parts.{then_records, then_regions}
 use Rattle.execution_model.specs.Execution.{BeginsTrace}
 use Rattle.execution_model.specs.Runs.{AreReleased, RunsTask, RunsRegions, put_records, works_log}
 use Rattle.lane_runner.specs.declared.stop.Halt.{Halt}
@@ -25,7 +25,6 @@ use Rattle.lane_runner.specs.World.{WorldValue}
 use Rattle.lane_runner.specs.Going.{Progress, HasReleased, Cause, AtLog, AtRegion, AtTasks, log_of, BeginsPart, effect_of}
 use Rattle.lane_runner.proofs.Beginning.{begins_first, begins_same, begins_made}
 use Rattle.lane_runner.proofs.Following.{after_is}
-use Rattle.lane_runner.proofs.Working.{regions_then}
 use Rattle.region_runner.specs.Ran.{in_one, TaskRan, TaskBegan, TaskGoes}
 
 -- ---- works in one
@@ -39,7 +38,7 @@ one_log works = ap (λ (rs : List Record). put_records rs) (one_records works)
 
 pub one_regions : (works : List Work) → work_regions (in_one works) ≡ flat_map work_regions works
 one_regions [] = refl
-one_regions (work ∷ works) = regions_then work (in_one works) ∙ ap (λ (rs : List RegionWork). work_regions work ++ rs) (one_regions works)
+one_regions (work ∷ works) = then_regions work (in_one works) ∙ ap (λ (rs : List RegionWork). work_regions work ++ rs) (one_regions works)
 
 -- ---- what was released
 

@@ -34,7 +34,7 @@ use Rattle.event_buffer.specs.Logged.{HasAll}
 use Rattle.history_model.specs.Did.{did}
 use Rattle.history_model.specs.Joined.{LastIsEnd}
 use Rattle.history_model.specs.Sound.{AreFitted, HasAddresses}
-use Rattle.history_model.specs.Work.{Work, Rest, work_records}
+use Rattle.history_model.specs.Work.{Work, work_records}
 use Rattle.execution_model.specs.Execution.{IsExecution}
 use Rattle.execution_model.specs.Runs.{IsWithin, RunsTask, logged_tasks, works_log}
 use Rattle.execution_laws.proofs.Descent.{released_of}
@@ -47,9 +47,9 @@ use Rattle.lane_runner.specs.Children.{LogView}
 use Rattle.lane_runner.specs.Forking.{Answer, stop_in}
 use Rattle.lane_runner.specs.Handed.{AreEntriesOf, Entry, IsEntryOf, Keeps, LogPlace, TellStop, entries_of, entry_of}
 use Rattle.lane_runner.specs.Stopping.{LastIsRegionAt}
-use Rattle.lane_runner.specs.World.{HaveOwnWords, element_address, element_word, layout_of}
+use Rattle.execution_model.specs.Elements.{HaveOwnWords, element_address, element_word, layout_of}
 use Rattle.lane_runner.proofs.HandedTasks.{tree_listed}
-use Rattle.lane_runner.proofs.OwnWords.{bounded_widths, bounded_world}
+use Rattle.execution_model.proofs.OwnWords.{bounded_widths, own_words}
 use Rattle.region_runner.specs.Answer.{AreFaultless, EndsTask, HasRun, HasStoppedRun, IsLeast, IsRun, LanesEnd, StopsIn, whole_log, whole_outline}
 use Rattle.execution_laws.specs.Nesting.{NestsWithin}
 use Rattle.region_runner.specs.Gathering.{ClosedValue}
@@ -156,10 +156,6 @@ as_many at _ _ (AreEntriesOf.missing task tasks es none rest) = absurd none
 -- a table that nobody has
 no_table : TableId
 no_table = record { words = 0; slots = 0; views_name = 0; atom = 0; block = 0; offset = 0; slot_names = [] }
-
-own_words : (program : Program) → IsBounded program → HaveOwnWords program.arrays
-own_words program bounded =
-    (bounded_world program (record { table = no_table; elements = elements program.arrays; locks = 0 }) (record { table = no_table; loops = 0 }) 0 1 bounded refl (omega arith)).apart
 
 module _ (program : Program) (lawful : IsLawful program) (dir : List ℕ) (size taken : ℕ) (root : Option Text) (table : TableId) (hand new : HandValue View) (closed : Option ClosedValue) (logs : List Entry) (r : Answer) (memory words : List ℕ)
     (same_size : taken ≡ size) (first : hand ≡ hand_with table (newcomer [])) (ran : RanRoot program (record { dir = dir; size = taken; tells = is_some root }) hand new closed) (settled : IsSettled closed logs r) (few : length memory ≤ elements program.arrays)

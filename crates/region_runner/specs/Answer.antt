@@ -26,7 +26,7 @@ use Rattle.lane_runner.specs.declared.stop.Stop.{Stop}
 use Rattle.lane_runner.specs.declared.stop.Stop.TheVariants as stop
 use Rattle.lane_runner.specs.Handed.{AreEntriesOf, Entry, TellStop}
 use Rattle.lane_runner.specs.Stopping.{GoesFurther, IsNoTrouble, LastIsRegionAt, ending_for}
-use Rattle.lane_runner.specs.World.{element_address}
+use Rattle.execution_model.specs.Elements.{element_address}
 
 -- a buffer holds at least one record, and at most 4,194,304 bytes
 pub record IsBufferSize (size : ℕ) : Type 0 where

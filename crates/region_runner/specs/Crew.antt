@@ -3,7 +3,8 @@ use Rattle.std.specs.Prelude.{ℕ, List}
 use Rattle.kernel_syntax.specs.declared.syntax.Array.{Array}
 use Rattle.kernel_syntax.specs.Layout.{ArePlaced}
 use Rattle.shared_words.specs.Handles.{WordsValue, ChunksValue}
-use Rattle.lane_runner.specs.World.{WorldValue, HaveOwnWords}
+use Rattle.execution_model.specs.Elements.{HaveOwnWords}
+use Rattle.lane_runner.specs.World.{WorldValue}
 
 -- the kernel's arrays, the shared words, the team's counters, and how many lanes it has
 pub record CrewValue : Type 0 where

@@ -8,7 +8,7 @@ use Rattle.kernel_syntax.specs.Tree.{TeamTree}
 use Rattle.kernel_model.specs.declared.phase.Item.{Item}
 use Rattle.shared_words.specs.Handles.{ChunksValue, WordsValue}
 use Rattle.lane_runner.specs.Children.{AreNewLogs, LogView}
-use Rattle.lane_runner.specs.World.{HaveOwnWords}
+use Rattle.execution_model.specs.Elements.{HaveOwnWords}
 use Rattle.region_runner.specs.Answer.{IsBufferSize}
 use Rattle.region_runner.specs.Crew.{CrewValue}
 use Rattle.region_runner.specs.Lawful.{IsTeam, IsLawfulPhase}

@@ -9,7 +9,7 @@ use Rattle.kernel_syntax.specs.declared.syntax.Array.{Array}
 use Rattle.lane_runner.specs.Forking.{after_phases}
 use Rattle.lane_runner.specs.Going.{worked}
 use Rattle.lane_runner.specs.Handed.{Entry}
-use Rattle.lane_runner.specs.World.{element_word, layout_of}
+use Rattle.execution_model.specs.Elements.{element_word, layout_of}
 
 -- the works of so many lanes, from this one on
 abbrev pub team_of_works : ℕ → ℕ → (ℕ → Work) → TeamWork

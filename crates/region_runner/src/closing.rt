@@ -9,6 +9,7 @@ use lane_runner::{Lane, Stop};
 use shared_words::ChunkHand;
 use std::alloc::Global;
 use std::marker::Model;
+use std::sync::Wait;
 use sw_base::{ClosedLog, Log, Path, Trouble};
 
 // A lane whose log is closed: its log; the logs of the tasks below it; its hand on the counters;
@@ -40,7 +41,7 @@ impl<L: Log> Model for Closed<L> {
 }
 
 // Closes the log of a lane.
-pub(crate) fn close<L: Log>(alloc: Global, lane: Lane<L>) -> Closed<L>
+pub(crate) fn close<R: Wait, L: Log>(rt: &R, alloc: Global, lane: Lane<L>) -> Closed<L>
     ensures path { result.path ≡ lane.path }
     ensures closed { IsClosedAs result.own result.refused lane.path lane.buffer }
     ensures below { result.below ≡ lane.done }
@@ -50,7 +51,7 @@ pub(crate) fn close<L: Log>(alloc: Global, lane: Lane<L>) -> Closed<L>
     let (path, track, stopped) = lane.into_parts();
     let (_hand, buffer, draws, below) = track.into_parts();
     let records = buffer.count();
-    match buffer.close(alloc) {
+    match buffer.close(rt, alloc) {
         Ok(log) => Closed {
             own: ClosedLog { path, log, records },
             below,
@@ -69,7 +70,8 @@ pub(crate) fn close<L: Log>(alloc: Global, lane: Lane<L>) -> Closed<L>
 }
 
 // Closes the logs of all lanes, for which there is room.
-pub(crate) fn close_all<L: Log>(
+pub(crate) fn close_all<R: Wait, L: Log>(
+    rt: &R,
     alloc: Global,
     lanes: Vec<Lane<L>>,
     room: Vec<Closed<L>>,
@@ -82,7 +84,7 @@ pub(crate) fn close_all<L: Log>(
 {
     let mut closed = room;
     for lane in lanes {
-        let Ok(()) = closed.push(close(alloc, lane)) else {
+        let Ok(()) = closed.push(close(rt, alloc, lane)) else {
             unreachable!()
         };
     }

@@ -8,10 +8,18 @@ ghost use Rattle.region_runner.specs.LastPhase.{IsLast, WentOn};
 
 use lane_runner::Lane;
 use std::alloc::Global;
+use std::marker::Send;
+use std::sync::Wait;
+use std::thread::Threads;
 use sw_base::Log;
 
 // After the last phase, which has a line for the End, a lane that goes on puts it.
-pub(crate) fn put_end<L: Log>(alloc: Global, end: Option<u32>, lane: &mut Lane<L>)
+pub(crate) fn put_end<R: Threads + Wait + Copy + Send + 'static, L: Log>(
+    rt: &R,
+    alloc: Global,
+    end: Option<u32>,
+    lane: &mut Lane<L>,
+)
     requires line { (line : ℕ) → end ≡ Some line → 1 ≤ line }
     requires there { lane.old.stopped ≡ None → lane.old.hand.there ≡ true }
     requires unrefused { lane.old.stopped ≡ None → lane.old.buffer.refused ≡ None }
@@ -25,5 +33,5 @@ pub(crate) fn put_end<L: Log>(alloc: Global, end: Option<u32>, lane: &mut Lane<L
         return;
     }
     // The lane notes why it has none, if it has none.
-    let _ = lane.finish(alloc, line);
+    let _ = lane.finish(rt, alloc, line);
 }

@@ -18,6 +18,8 @@ use event_buffer::Buffer;
 use lane_runner::{Lane, Locals, Track};
 use shared_words::{ChunkHand, Chunks, Hand};
 use std::alloc::Global;
+use std::sync::Wait;
+use std::thread::Threads;
 use sw_base::{ClosedLog, Gate, Log, Path, Trouble};
 
 // The lanes of a team, which begin; or what they gave, where the log of one refused; or nothing, where no memory was found for them.
@@ -53,7 +55,8 @@ fn torn<L: Log>(alloc: Global, path: Path, log: L, draws: ChunkHand, trouble: Tr
 }
 
 // Opens the log of a lane with these locals.
-pub(crate) fn open_lane<L: Log>(
+pub(crate) fn open_lane<R: Threads, L: Log>(
+    rt: &R,
     alloc: Global,
     size: usize,
     path: Path,
@@ -71,7 +74,7 @@ pub(crate) fn open_lane<L: Log>(
     let Ok(slots) = locals.slots.clone() else {
         return Err(torn(alloc, path, log, draws, Trouble::Memory));
     };
-    match Buffer::start(alloc, log, size) {
+    match Buffer::start(rt, alloc, log, size) {
         Ok(buffer) => {
             let track = Track::new(alloc, Hand::blank(), buffer, draws);
             let locals = Locals { slots };
@@ -82,7 +85,8 @@ pub(crate) fn open_lane<L: Log>(
 }
 
 // Opens the logs of all lanes of the region of this number.
-fn open_all<L: Log, G: Gate>(
+fn open_all<R: Threads, L: Log, G: Gate>(
+    rt: &R,
     alloc: Global,
     ground: &Ground<'_, G>,
     at: &Path,
@@ -110,7 +114,7 @@ fn open_all<L: Log, G: Gate>(
         let own = at.child(number, lane, span);
         let draws = chunks.split(share);
         opened
-            .push(open_lane(alloc, ground.size(), own, locals, draws, log))
+            .push(open_lane(rt, alloc, ground.size(), own, locals, draws, log))
             .ok()?;
         lane += 1;
     }
@@ -144,7 +148,8 @@ fn lanes_of<L: Log>(alloc: Global, opened: Vec<Result<Lane<L>, Closed<L>>>) -> O
 }
 
 // What the lanes gave, none of which executed anything.
-fn closed_of<L: Log>(
+fn closed_of<R: Wait, L: Log>(
+    rt: &R,
     alloc: Global,
     opened: Vec<Result<Lane<L>, Closed<L>>>,
 ) -> Option<Vec<Closed<L>>>
@@ -154,7 +159,7 @@ fn closed_of<L: Log>(
     let mut lanes = Vec::new(alloc);
     for lane in opened {
         let lane = match lane {
-            Ok(begun) => close(alloc, begun),
+            Ok(begun) => close(rt, alloc, begun),
             Err(torn) => torn,
         };
         lanes.push(lane).ok()?;
@@ -163,7 +168,8 @@ fn closed_of<L: Log>(
 }
 
 // Opens the logs of all lanes of the region of this number; where one refuses, closes the others.
-pub(crate) fn open<L: Log, G: Gate>(
+pub(crate) fn open<R: Threads + Wait, L: Log, G: Gate>(
+    rt: &R,
     alloc: Global,
     ground: &Ground<'_, G>,
     at: &Path,
@@ -183,7 +189,9 @@ pub(crate) fn open<L: Log, G: Gate>(
         → AreNewLogs (record { dir = L.dir; path = L.path; text = L.text; faults = L.faults }) task number span logs.items
         → OpensTeam (place_of task) at.now number span locals.now.slots.items share.old share.new result }
 {
-    let Some(opened) = open_all(alloc, ground, at, number, span, locals, chunks, share, logs) else {
+    let Some(opened) = open_all(
+        rt, alloc, ground, at, number, span, locals, chunks, share, logs,
+    ) else {
         return Opened::Nothing;
     };
     if all_open(&opened) {
@@ -192,7 +200,7 @@ pub(crate) fn open<L: Log, G: Gate>(
             None => Opened::Nothing,
         }
     } else {
-        match closed_of(alloc, opened) {
+        match closed_of(rt, alloc, opened) {
             Some(lanes) => Opened::Torn(lanes),
             None => Opened::Nothing,
         }

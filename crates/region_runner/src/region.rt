@@ -32,6 +32,7 @@ use kernel_syntax::Team;
 use lane_runner::{Lane, Locals, Stop};
 use shared_words::{Chunks, Hand};
 use std::alloc::Global;
+use std::marker::Send;
 use std::sync::Wait;
 use std::thread;
 use std::thread::Threads;
@@ -40,7 +41,7 @@ use team_phases::phases;
 
 // A task executes a phase, and puts its End, where a line is given for it; the regions that it forks are run in turn.
 #[cycle(region)]
-pub(crate) fn run_task<R: Threads + Wait + Sync, L: Log, G: Gate>(
+pub(crate) fn run_task<R: Threads + Wait + Sync + Copy + Send + 'static, L: Log, G: Gate>(
     rt: &R,
     alloc: Global,
     depth: u32,
@@ -72,7 +73,8 @@ pub(crate) fn run_task<R: Threads + Wait + Sync, L: Log, G: Gate>(
         &|hand: &mut Hand, locals: &Locals, number: u32, logs: Vec<L>, team: &Team, done: &mut Vec<
             ClosedLog<L>,
         >| -> Result<(), (Path, Stop)>
-            requires sync { IsSync R.row × IsSend L.row }
+            requires sync { IsSync R.row × IsSend R.row × IsSend L.row }
+            requires lives { ([] ⊑ R.row.lives) × ([] ⊑ L.row.lives) }
             requires inner { 0 < depth }
             requires deep { length path + depth ≡ 4 }
             requires team { IsOurTeam ground.now (length path + 1) (team_of team.now) }
@@ -99,12 +101,12 @@ pub(crate) fn run_task<R: Threads + Wait + Sync, L: Log, G: Gate>(
             )
         },
     );
-    put_end(alloc, end, lane);
+    put_end(rt, alloc, end, lane);
 }
 
 // The lanes of a team execute a phase, each on a thread of its own.
 #[cycle(region)]
-fn run_lanes<R: Threads + Wait + Sync, L: Log, G: Gate>(
+fn run_lanes<R: Threads + Wait + Sync + Copy + Send + 'static, L: Log, G: Gate>(
     rt: &R,
     alloc: Global,
     depth: u32,
@@ -132,8 +134,8 @@ fn run_lanes<R: Threads + Wait + Sync, L: Log, G: Gate>(
         lanes,
         count,
         &|index: usize, lane: &mut Lane<L>|
-            requires sync { IsSync R.row × IsSend L.row }
-            requires lives { [] ⊑ L.row.lives }
+            requires sync { IsSync R.row × IsSend R.row × IsSend L.row }
+            requires lives { ([] ⊑ R.row.lives) × ([] ⊑ L.row.lives) }
             requires crew { crew.now ≡ crew_of ground.now crew.now.chunks crew.now.span }
             requires number { crew.now.chunks.loops < 4294967296 }
             requires span { crew.now.span ≤ 64 }
@@ -152,7 +154,7 @@ fn run_lanes<R: Threads + Wait + Sync, L: Log, G: Gate>(
 
 // The lanes of a team execute a phase, each with a hand that is split off for it and joined after it.
 #[cycle(region)]
-fn run_phase<R: Threads + Wait + Sync, L: Log, G: Gate>(
+fn run_phase<R: Threads + Wait + Sync + Copy + Send + 'static, L: Log, G: Gate>(
     rt: &R,
     alloc: Global,
     depth: u32,
@@ -196,7 +198,7 @@ fn all_go<L: Log>(lanes: &[Lane<L>]) -> bool
 
 // The lanes of a team execute its phases, until a lane doesn't go on. After the last phase each that does puts its End.
 #[cycle(region)]
-fn run_phases<R: Threads + Wait + Sync, L: Log, G: Gate>(
+fn run_phases<R: Threads + Wait + Sync + Copy + Send + 'static, L: Log, G: Gate>(
     rt: &R,
     alloc: Global,
     depth: u32,
@@ -236,7 +238,7 @@ fn run_phases<R: Threads + Wait + Sync, L: Log, G: Gate>(
 
 // The lanes of a team execute its phases, and their logs are closed.
 #[cycle(region)]
-fn run_team<R: Threads + Wait + Sync, L: Log, G: Gate>(
+fn run_team<R: Threads + Wait + Sync + Copy + Send + 'static, L: Log, G: Gate>(
     rt: &R,
     alloc: Global,
     depth: u32,
@@ -270,7 +272,7 @@ fn run_team<R: Threads + Wait + Sync, L: Log, G: Gate>(
     run_phases(
         rt, alloc, depth, ground, crew, phases, end, hand, &mut lanes,
     );
-    close_all(alloc, lanes, room)
+    close_all(rt, alloc, lanes, room)
 }
 
 // What a region answers for which no memory was found: the first of its lanes is named.
@@ -283,7 +285,7 @@ fn no_memory(path: &Path, number: u32, span: u16) -> (Path, Stop)
 
 // Runs the region of this number of the task at this path, from these locals.
 #[cycle(region)]
-pub(crate) fn region<R: Threads + Wait + Sync, L: Log, G: Gate>(
+pub(crate) fn region<R: Threads + Wait + Sync + Copy + Send + 'static, L: Log, G: Gate>(
     rt: &R,
     alloc: Global,
     depth: u32,
@@ -319,7 +321,7 @@ pub(crate) fn region<R: Threads + Wait + Sync, L: Log, G: Gate>(
         return Err(no_memory(path, number, team.span));
     };
     let lanes = match open(
-        alloc, ground, path, number, team.span, locals, &chunks, &mut share, logs,
+        rt, alloc, ground, path, number, team.span, locals, &chunks, &mut share, logs,
     ) {
         Opened::Team(lanes) => {
             let crew = (&*ground).crew(&chunks, team.span);

@@ -23,6 +23,7 @@ use kernel_syntax::Kernel;
 use lane_runner::{Lane, Locals, Stop};
 use shared_words::{Chunks, Hand};
 use std::alloc::{AllocError, Global};
+use std::marker::Send;
 use std::mem;
 use std::sync::Wait;
 use std::thread::Threads;
@@ -39,7 +40,7 @@ fn locals(alloc: Global, slots: u32) -> Result<Locals, AllocError>
 }
 
 // The root executes its only phase and puts its End, and its log is closed.
-fn execute<R: Threads + Wait + Sync, L: Log, G: Gate>(
+fn execute<R: Threads + Wait + Sync + Copy + Send + 'static, L: Log, G: Gate>(
     rt: &R,
     alloc: Global,
     ground: &Ground<'_, G>,
@@ -63,11 +64,11 @@ fn execute<R: Threads + Wait + Sync, L: Log, G: Gate>(
     root.trade(mem::replace(hand, Hand::blank()));
     run_task(rt, alloc, 4, ground, &crew, phase, Some(end), 0, &mut root);
     *hand = root.trade(Hand::blank());
-    close(alloc, root)
+    close(rt, alloc, root)
 }
 
 // Runs the root of a kernel with this log. None where no memory was found for its phase, its counters or its locals.
-pub(crate) fn run_root<R: Threads + Wait + Sync, L: Log, G: Gate>(
+pub(crate) fn run_root<R: Threads + Wait + Sync + Copy + Send + 'static, L: Log, G: Gate>(
     rt: &R,
     alloc: Global,
     ground: &Ground<'_, G>,
@@ -94,7 +95,7 @@ pub(crate) fn run_root<R: Threads + Wait + Sync, L: Log, G: Gate>(
     let Some((phase, _)) = phases.split_last() else {
         unreachable!()
     };
-    match open_lane(alloc, ground.size(), Path::root(), &locals, draws, log) {
+    match open_lane(rt, alloc, ground.size(), Path::root(), &locals, draws, log) {
         Ok(root) => Some(execute(
             rt,
             alloc,

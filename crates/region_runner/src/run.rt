@@ -8,7 +8,7 @@ ghost use Rattle.kernel_model.specs.Lawful.{IsLawful};
 ghost use Rattle.log_format.specs.Fitting.{IsWidth};
 ghost use Rattle.history_model.specs.Sound.{AreFitted};
 ghost use Rattle.lane_runner.specs.Handed.{entries_of};
-ghost use Rattle.lane_runner.specs.World.{element_width, layout_of};
+ghost use Rattle.execution_model.specs.Elements.{element_width, layout_of};
 ghost use Rattle.region_runner.specs.Answer.{AreFaultless, HasRun, HasStoppedRun, IsBufferSize};
 
 use crate::ground::Ground;
@@ -17,6 +17,7 @@ use kernel_syntax::{Array, Kernel};
 use lane_runner::{Stop, fit_words};
 use shared_words::Words;
 use std::alloc::Global;
+use std::marker::Send;
 use std::sync::Wait;
 use std::thread::Threads;
 use sw_base::{ClosedLog, Gate, Log, Path, Trouble};
@@ -59,7 +60,7 @@ fn values(arrays: &[Array], words: Vec<u64>) -> Vec<u64>
 /// Runs a kernel: its root, and the lanes of each region on threads of their own, phase by phase.
 ///
 /// The buffer of each log has `size` bytes, from 24 to 4,194,304. The gate sees each lane of a region start each of its phases.
-pub fn run_kernel<R: Threads + Wait + Sync, L: Log, G: Gate>(
+pub fn run_kernel<R: Threads + Wait + Sync + Copy + Send + 'static, L: Log, G: Gate>(
     rt: &R,
     alloc: Global,
     kernel: &Kernel,

@@ -1,22 +1,17 @@
 -- No log has the index's name.
 use Rattle.std.proofs.Common.{◌≡◌, ◌≢◌, refl, sym, ap, subst, ◌∙◌, ℕ, List, [], ◌∷◌, ◌++◌, Option, None, Some}
 use Rattle.std.specs.Prelude.{All}
-use Rattle.std.proofs.lemmas.List.Elements.{All-cons, All-head, All-nil, All-tail}
+use Rattle.std.proofs.lemmas.List.Elements.{All-head, All-tail}
 use Rattle.sw_base.specs.Environment.{Content, Outline}
 use Rattle.sw_base.specs.declared.path.Step.{Step}
 use Rattle.sw_base.specs.Names.{index_name, log_name}
 use Rattle.sw_base.proofs.AfterPut.{with_file-elsewhere}
 use Rattle.sw_base.proofs.NameLaws.{log_name-not_index}
 use Rattle.sw_base.specs.HandedLog.{HandedLog, SealsPrefix, between, sealed_name, torn, with_sealed, with_told}
+use Rattle.sw_base.proofs.Lists.{all_parts}
 
 index_apart : (dir : List ℕ) (path : List Step) → index_name dir ≢ log_name dir path
 index_apart dir path same = log_name-not_index dir path (sym same)
-
--- what holds of each element of two lists
-all_parts : {X : Type 0} (P : X → Type 0) (xs ys : List X) → All P (xs ++ ys) → All P xs × All P ys
-all_parts P [] ys all = (All-nil P, all)
-all_parts P (x ∷ xs) ys all =
-    let rest = all_parts P xs ys (All-tail P x (xs ++ ys) all) in (All-cons P x xs (All-head P x (xs ++ ys) all) rest.0, rest.1)
 
 -- the log is of the folder
 abbrev pub IsOfFolder : List ℕ → HandedLog → Type 0

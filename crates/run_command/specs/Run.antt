@@ -1,5 +1,5 @@
 -- What comes out of a run, and what it leaves in the folder.
-use Rattle.std.specs.Prelude.{◌≡◌, ◌⊎◌, ◌↔◌, ℕ, List, ◌++◌, ◌∷◌, [], length, map, sum_by, All, Option, ◌<◌, ◌≤◌, ◌+◌, None, Some, IsSome}
+use Rattle.std.specs.Prelude.{◌≡◌, ◌⊎◌, ◌↔◌, ℕ, List, ◌++◌, ◌∷◌, [], length, map, sum_by, All, Option, ◌<◌, ◌≤◌, ◌+◌, ◌*◌, None, Some, IsSome}
 use Rattle.log_format.specs.declared.format.TheConstants.{FORMAT}
 use Rattle.log_format.specs.Format.{log_header}
 use Rattle.log_format.specs.Spelling.{log_bytes}
@@ -23,7 +23,7 @@ use Rattle.execution_model.specs.Execution.{IsExecution}
 use Rattle.lane_runner.specs.declared.stop.Stop.{Stop}
 use Rattle.lane_runner.specs.declared.stop.Stop.TheVariants.{Tasks}
 use Rattle.lane_runner.specs.Handed.{task_limit}
-use Rattle.lane_runner.specs.World.{element_address}
+use Rattle.execution_model.specs.Elements.{element_address}
 use Rattle.region_runner.specs.Answer.{IsRun, StopsIn, whole_log}
 use Rattle.run_command.specs.declared.outcome.Outcome.{Outcome}
 use Rattle.run_command.specs.declared.outcome.Outcome.TheVariants as outcome
@@ -57,13 +57,13 @@ pub record EndedRun (kernel dir : List ℕ) (size : ℕ) (old new : Content) (pr
   pub leaves : new ≡ with_put (index_name dir) (index_bytes FORMAT (rows_of tasks)) (with_sealed (map (told_log dir size) tasks) old)
   pub well_formed : (place : BadPlace) → IsBad FORMAT new.held dir place → IsTooMany place
 
--- a task's log that lacks records: its pieces lack at most a buffer of them
+-- a task's log that lacks records: its pieces lack at most two blocks of them
 pub record IsTornLog (dir : List ℕ) (size : ℕ) (task : TaskLog) (log : HandedLog) : Type 0 where
   pub outline : Outline
   pub log_is : log ≡ record { task = task.path; dir = dir; path = task.path; told = Some outline; count = length task.records }
   pub missing : List ℕ
   pub prefix : log_bytes (log_header FORMAT) task.records ≡ outline.bytes ++ missing
-  pub behind : length task.records ≤ kept outline.lengths + records_in size
+  pub behind : length task.records ≤ kept outline.lengths + 2 * records_in size
 
 -- The log of a task as it is there after a stop in the task `stopped`: whole, from a buffer of this size. Where a fault is counted, that
 -- of another task may lack records.

@@ -22,6 +22,7 @@ use kernel_syntax::Kernel;
 use lane_runner::Stop;
 use region_runner::{Finished, Stopped, run_kernel};
 use std::alloc::Global;
+use std::marker::Send;
 use std::sync::Wait;
 use std::thread::Threads;
 use sw_base::{Folder, Gate, Trouble};
@@ -113,7 +114,7 @@ fn stop<F: Folder>(alloc: Global, stopped: Stopped<F::Log>, folder: &mut F) -> O
 }
 
 /// Runs a kernel in a folder that has no index.
-fn execute<R: Threads + Wait + Sync, F: Folder, G: Gate>(
+fn execute<R: Threads + Wait + Sync + Copy + Send + 'static, F: Folder, G: Gate>(
     rt: &R,
     alloc: Global,
     kernel: Kernel,
@@ -144,7 +145,7 @@ fn execute<R: Threads + Wait + Sync, F: Folder, G: Gate>(
 
 /// Runs the kernel that the file `kernel` holds, with buffers of `size` bytes, and writes its logs and their index into the
 /// folder `dir`.
-pub fn run<R: Threads + Wait + Sync, F: Folder, G: Gate>(
+pub fn run<R: Threads + Wait + Sync + Copy + Send + 'static, F: Folder, G: Gate>(
     rt: &R,
     alloc: Global,
     kernel: &str,

@@ -22,7 +22,11 @@ fn exit_code(status: u8) -> ExitCode
 
 /// Does what the arguments ask for on the host's files and output, and ends with the status of that. Threads are started by the first
 /// runtime.
-fn answer<R: Threads + Wait + Sync>(threads: &R, rt: HostRuntime, arguments: &[String]) -> ExitCode
+fn answer<R: Threads + Wait + Sync + Copy + Send + 'static>(
+    threads: &R,
+    rt: HostRuntime,
+    arguments: &[String],
+) -> ExitCode
     ensures usage { IsUsage (texts arguments.now) → (exit_status result ≡ USAGE) ⊎ IsFailure (exit_status result) }
     ensures only_usage { exit_status result ≡ USAGE → IsUsage (texts arguments.now) }
     ensures only_reads { exit_status result ≡ READ_FAULT → AsksToRead (texts arguments.now) }
@@ -39,7 +43,10 @@ fn answer<R: Threads + Wait + Sync>(threads: &R, rt: HostRuntime, arguments: &[S
     ))
 }
 
-fn work<R: Threads + Wait + Sync>(threads: &R, rt: HostRuntime) -> ExitCode {
+fn work<R: Threads + Wait + Sync + Copy + Send + 'static>(
+    threads: &R,
+    rt: HostRuntime,
+) -> ExitCode {
     match given_arguments(&rt) {
         Ok(arguments) => answer(threads, rt, &arguments),
         Err(_) => exit_code(NO_MEMORY),

@@ -9,12 +9,13 @@ ghost use Rattle.command_answer.specs.declared.status.TheConstants.{DONE, USAGE,
 
 use run_command::{print_outcome, run};
 use std::alloc::Global;
+use std::marker::Send;
 use std::sync::Wait;
 use std::thread::Threads;
 use sw_base::{Folder, Gate, Out};
 
 /// Runs the kernel that the file `kernel` holds, with buffers of `size` bytes, into the folder `dir`, and prints what came out.
-pub fn run_file<R: Threads + Wait + Sync, F: Folder, O: Out, G: Gate>(
+pub fn run_file<R: Threads + Wait + Sync + Copy + Send + 'static, F: Folder, O: Out, G: Gate>(
     rt: &R,
     alloc: Global,
     kernel: &str,

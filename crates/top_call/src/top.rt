@@ -21,6 +21,7 @@ use folder_commands::{
     check, check_generated, confirm_records, explain_lines, replay_file, show, upgrade_folder,
 };
 use std::alloc::Global;
+use std::marker::Send;
 use std::sync::Wait;
 use std::thread::Threads;
 use sw_base::{Folder, Gate, Out};
@@ -36,7 +37,7 @@ const USAGE_LINE: &[u8] =
 ///
 /// The gate sees each lane of a region start each of its phases, and each worker of a check or of `gen` start. Lanes and workers are
 /// threads of the runtime.
-pub fn sword<R: Threads + Wait + Sync, F: Folder, O: Out, G: Gate>(
+pub fn sword<R: Threads + Wait + Sync + Copy + Send + 'static, F: Folder, O: Out, G: Gate>(
     rt: &R,
     alloc: Global,
     arguments: &[String],

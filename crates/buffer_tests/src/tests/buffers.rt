@@ -7,7 +7,12 @@ use event_buffer::{Buffer, BufferFault};
 use log_format::{Kind, Record, encode};
 use memory_environment::{MemFolder, MemLog};
 use std::alloc::Global;
+use std::marker::Send;
+use std::sync::atomic::{AtomicU64, Ordering};
+use std::sync::{Arc, Wait};
 use std::test::Fail;
+use std::thread;
+use std::thread::Threads;
 use sw_base::{Folder, LOG_HEADER, Log, Path, Trouble};
 
 // A log that counts what it takes, and finds memory for so many pieces.
@@ -98,11 +103,17 @@ struct Left {
     log: MemLog,
 }
 
-// Puts ten records through a buffer of this size, as far as the log takes them, where its calls of these numbers fail.
-fn ten_records(alloc: Global, failing: &[u64], size: usize) -> Result<Left, Fail>
+// Puts so many records through a buffer of this size, as far as the log takes them, where its calls of these numbers fail.
+fn put_through<R: Threads + Wait + Copy + Send + 'static>(
+    rt: &R,
+    alloc: Global,
+    failing: &[u64],
+    size: usize,
+    records: u32,
+) -> Result<Left, Fail>
     requires { (24 ≤ size) × (size ≤ 4194304) }
 {
-    let mut buffer = match Buffer::start(alloc, root(alloc, failing)?, size) {
+    let mut buffer = match Buffer::start(rt, alloc, root(alloc, failing)?, size) {
         Ok(buffer) => buffer,
         Err((trouble, log)) => {
             return Ok(Left {
@@ -112,19 +123,19 @@ fn ten_records(alloc: Global, failing: &[u64], size: usize) -> Result<Left, Fail
             });
         }
     };
-    for line in 0..10 {
-        if buffer.ready(alloc).is_err() {
+    for line in 0..records {
+        if buffer.ready(rt, alloc).is_err() {
             break;
         }
         buffer.put(&barrier(line + 1));
     }
-    Ok(closed(alloc, buffer))
+    Ok(closed(rt, alloc, buffer))
 }
 
 // What a task leaves whose buffer is closed.
-fn closed(alloc: Global, buffer: Buffer<MemLog>) -> Left {
+fn closed<R: Wait>(rt: &R, alloc: Global, buffer: Buffer<MemLog>) -> Left {
     let put = buffer.count();
-    match buffer.close(alloc) {
+    match buffer.close(rt, alloc) {
         Ok(log) => Left {
             refused: None,
             put,
@@ -145,20 +156,22 @@ fn pieces_fill_the_block(rt: HostRuntime) -> Result<(), Fail> {
     let double: &[usize] = &[8, 48, 48, 48, 48, 48];
     let four: &[usize] = &[8, 96, 96, 48];
     let whole: &[usize] = &[8, 240];
-    for (size, lengths) in [
-        (24, single),
-        (25, single),
-        (47, single),
-        (48, double),
-        (100, four),
-        (4_194_304, whole),
+    let many: &[usize] = &[8, 4080, 4080, 1440];
+    for (size, records, lengths) in [
+        (24, 10, single),
+        (25, 10, single),
+        (47, 10, single),
+        (48, 10, double),
+        (100, 10, four),
+        (4096, 400, many),
+        (4_194_304, 10, whole),
     ] {
-        let left = ten_records(alloc, &[], size)?;
+        let left = put_through(&rt, alloc, &[], size, records)?;
         assert!(rt; left.refused.is_none(), "size {size}");
-        assert!(rt; left.put == 10, "size {size}");
+        assert!(rt; left.put == records, "size {size}");
         assert!(rt; left.log.lengths() == lengths, "size {size}");
         assert!(rt;
-            left.log.bytes() == log_of(alloc, 10)?.as_slice(),
+            left.log.bytes() == log_of(alloc, records)?.as_slice(),
             "size {size}"
         );
     }
@@ -168,17 +181,24 @@ fn pieces_fill_the_block(rt: HostRuntime) -> Result<(), Fail> {
 #[test]
 fn a_prefix_stands_after_each_call_that_fails(rt: HostRuntime) -> Result<(), Fail> {
     let alloc = rt.alloc();
-    let all = log_of(alloc, 10)?;
-    let lengths: &[usize] = &[8, 48, 48, 48, 48];
-    for (call, put, pieces, bytes) in [
-        (1, 0, 0, 4),
-        (2, 2, 1, 32),
-        (3, 4, 2, 80),
-        (4, 6, 3, 128),
-        (5, 8, 4, 176),
-        (6, 10, 5, 224),
+    let all = log_of(alloc, 600)?;
+    let small: &[usize] = &[8, 48, 48, 48, 48];
+    let large: &[usize] = &[8, 4080, 4080, 4080];
+    // A lane appends small blocks by itself, and large ones are appended by its writer.
+    for (size, records, lengths, call, put, pieces, bytes) in [
+        (48, 10, small, 1, 0, 0, 4),
+        (48, 10, small, 2, 4, 1, 32),
+        (48, 10, small, 3, 6, 2, 80),
+        (48, 10, small, 4, 8, 3, 128),
+        (48, 10, small, 5, 10, 4, 176),
+        (48, 10, small, 6, 10, 5, 224),
+        (4096, 600, large, 1, 0, 0, 4),
+        (4096, 600, large, 2, 340, 1, 2048),
+        (4096, 600, large, 3, 510, 2, 6128),
+        (4096, 600, large, 4, 600, 3, 10_208),
+        (4096, 600, large, 5, 600, 4, 13_328),
     ] {
-        let left = ten_records(alloc, &[call], 48)?;
+        let left = put_through(&rt, alloc, &[call], size, records)?;
         assert!(rt; left.refused == Some(Trouble::Failed), "call {call}");
         assert!(rt; left.put == put, "call {call}");
         assert!(rt; left.log.lengths().len() == pieces, "call {call}");
@@ -186,7 +206,8 @@ fn a_prefix_stands_after_each_call_that_fails(rt: HostRuntime) -> Result<(), Fai
         assert!(rt; left.log.bytes().len() == bytes, "call {call}");
         assert!(rt; all.starts_with(left.log.bytes()), "call {call}");
     }
-    assert!(rt; ten_records(alloc, &[7], 48)?.refused.is_none());
+    assert!(rt; put_through(&rt, alloc, &[7], 48, 10)?.refused.is_none());
+    assert!(rt; put_through(&rt, alloc, &[6], 4096, 600)?.refused.is_none());
     Ok(())
 }
 
@@ -194,16 +215,18 @@ fn a_prefix_stands_after_each_call_that_fails(rt: HostRuntime) -> Result<(), Fai
 fn a_refusal_is_repeated(rt: HostRuntime) -> Result<(), Fail> {
     let alloc = rt.alloc();
     let failed = Err(BufferFault::Trouble(Trouble::Failed));
-    let Ok(mut buffer) = Buffer::start(alloc, root(alloc, &[2])?, 24) else {
+    let Ok(mut buffer) = Buffer::start(&rt, alloc, root(alloc, &[2])?, 24) else {
         return Err(Fail::from(Trouble::Memory));
     };
-    buffer.ready(alloc)?;
+    buffer.ready(&rt, alloc)?;
     buffer.put(&barrier(1));
-    assert!(rt; buffer.ready(alloc) == failed);
-    assert!(rt; buffer.ready(alloc) == failed);
-    let left = closed(alloc, buffer);
+    buffer.ready(&rt, alloc)?;
+    buffer.put(&barrier(2));
+    assert!(rt; buffer.ready(&rt, alloc) == failed);
+    assert!(rt; buffer.ready(&rt, alloc) == failed);
+    let left = closed(&rt, alloc, buffer);
     assert!(rt; left.refused == Some(Trouble::Failed));
-    assert!(rt; left.put == 1);
+    assert!(rt; left.put == 2);
     assert!(rt; left.log.lengths() == [8].as_slice());
     assert!(rt; left.log.bytes().len() == 20);
     assert!(rt; log_of(alloc, 1)?.starts_with(left.log.bytes()));
@@ -214,17 +237,17 @@ fn a_refusal_is_repeated(rt: HostRuntime) -> Result<(), Fail> {
 fn a_log_without_memory_is_refused(rt: HostRuntime) -> Result<(), Fail> {
     let alloc = rt.alloc();
     let memory = Err(BufferFault::Trouble(Trouble::Memory));
-    assert!(rt; Buffer::start(alloc, Counter::with_room(0), 24).is_err());
-    let Ok(mut buffer) = Buffer::start(alloc, Counter::with_room(2), 24) else {
+    assert!(rt; Buffer::start(&rt, alloc, Counter::with_room(0), 24).is_err());
+    let Ok(mut buffer) = Buffer::start(&rt, alloc, Counter::with_room(2), 24) else {
         return Err(Fail::from(Trouble::Memory));
     };
-    buffer.ready(alloc)?;
-    buffer.put(&barrier(1));
-    buffer.ready(alloc)?;
-    buffer.put(&barrier(2));
-    assert!(rt; buffer.ready(alloc) == memory);
-    assert!(rt; buffer.ready(alloc) == memory);
-    match buffer.close(alloc) {
+    for line in 0..3 {
+        buffer.ready(&rt, alloc)?;
+        buffer.put(&barrier(line + 1));
+    }
+    assert!(rt; buffer.ready(&rt, alloc) == memory);
+    assert!(rt; buffer.ready(&rt, alloc) == memory);
+    match buffer.close(&rt, alloc) {
         Ok(_) => assert!(rt; false),
         Err((trouble, log)) => {
             assert!(rt; trouble == Trouble::Memory);
@@ -238,19 +261,19 @@ fn a_log_without_memory_is_refused(rt: HostRuntime) -> Result<(), Fail> {
 #[test]
 fn a_child_leaves_its_parents_records(rt: HostRuntime) -> Result<(), Fail> {
     let alloc = rt.alloc();
-    let Ok(mut buffer) = Buffer::start(alloc, root(alloc, &[])?, 24) else {
+    let Ok(mut buffer) = Buffer::start(&rt, alloc, root(alloc, &[])?, 24) else {
         return Err(Fail::from(Trouble::Memory));
     };
-    buffer.ready(alloc)?;
+    buffer.ready(&rt, alloc)?;
     buffer.put(&barrier(1));
-    let before = buffer.child(alloc, 0, 0, 2)?;
+    let before = buffer.child(&rt, alloc, 0, 0, 2)?;
     assert!(rt; before.bytes() == [].as_slice());
-    buffer.ready(alloc)?;
-    let after = buffer.child(alloc, 0, 1, 2)?;
+    buffer.ready(&rt, alloc)?;
+    let after = buffer.child(&rt, alloc, 0, 1, 2)?;
     assert!(rt; after.lengths() == [].as_slice());
     buffer.put(&barrier(2));
     assert!(rt; buffer.count() == 2);
-    let left = closed(alloc, buffer);
+    let left = closed(&rt, alloc, buffer);
     assert!(rt; left.refused.is_none());
     assert!(rt; left.log.lengths() == [8, 24, 24].as_slice());
     assert!(rt; left.log.bytes() == log_of(alloc, 2)?.as_slice());
@@ -260,33 +283,124 @@ fn a_child_leaves_its_parents_records(rt: HostRuntime) -> Result<(), Fail> {
 #[test]
 fn a_child_that_fails_is_a_refusal(rt: HostRuntime) -> Result<(), Fail> {
     let alloc = rt.alloc();
-    let Ok(mut buffer) = Buffer::start(alloc, root(alloc, &[2])?, 24) else {
+    let Ok(mut buffer) = Buffer::start(&rt, alloc, root(alloc, &[2])?, 24) else {
         return Err(Fail::from(Trouble::Memory));
     };
-    buffer.ready(alloc)?;
+    buffer.ready(&rt, alloc)?;
     buffer.put(&barrier(1));
-    assert!(rt; buffer.child(alloc, 0, 0, 2).err() == Some(Trouble::Failed));
-    assert!(rt; buffer.ready(alloc) == Err(BufferFault::Trouble(Trouble::Failed)));
-    let left = closed(alloc, buffer);
+    assert!(rt; buffer.child(&rt, alloc, 0, 0, 2).err() == Some(Trouble::Failed));
+    assert!(rt; buffer.ready(&rt, alloc) == Err(BufferFault::Trouble(Trouble::Failed)));
+    let left = closed(&rt, alloc, buffer);
     assert!(rt; left.refused == Some(Trouble::Failed));
     assert!(rt; left.log.bytes() == LOG_HEADER.as_slice());
     Ok(())
 }
 
 #[test]
+fn a_child_comes_when_what_was_sent_is_appended(rt: HostRuntime) -> Result<(), Fail> {
+    let alloc = rt.alloc();
+    // the call on the log that fails, of header, block and child, and how many pieces the log has in the end
+    for (call, pieces) in [(0, 3), (2, 1), (3, 2)] {
+        let Ok(mut buffer) = Buffer::start(&rt, alloc, root(alloc, &[call])?, 24) else {
+            return Err(Fail::from(Trouble::Memory));
+        };
+        buffer.ready(&rt, alloc)?;
+        buffer.put(&barrier(1));
+        buffer.ready(&rt, alloc)?;
+        buffer.put(&barrier(2));
+        let is_made = buffer.child(&rt, alloc, 0, 1, 2).is_ok();
+        let left = closed(&rt, alloc, buffer);
+        assert!(rt; is_made == (call == 0), "call {call}");
+        assert!(rt; left.refused.is_none() == is_made, "call {call}");
+        assert!(rt; left.log.lengths().len() == pieces, "call {call}");
+    }
+    Ok(())
+}
+
+// A log whose second append waits until it may go on, and notes how often it had to stop waiting.
+#[derive(Drop)]
+struct Waiting {
+    appends: u32,
+    may_go: Arc<AtomicU64>,
+    gave_up: Arc<AtomicU64>,
+}
+
+/// How often a log looks whether it may go on.
+const TURNS: u32 = 1_000_000;
+
+impl Log for Waiting {
+    ghost dir = { λ _. [] };
+
+    ghost path = { λ _. [] };
+
+    ghost text = { λ _. None };
+
+    ghost faults = { λ _. 0 };
+
+    fn child(&mut self, _: Global, _: u32, _: u16, _: u16) -> Result<Self, Trouble> {
+        Err(Trouble::Memory)
+    }
+
+    fn append(&mut self, _alloc: Global, _piece: &[u8]) -> Result<(), Trouble> {
+        self.appends = self.appends.saturating_add(1);
+        if self.appends == 2 && !is_let_go(&self.may_go) {
+            self.gave_up.fetch_add(1, Ordering::SeqCst);
+        }
+        Ok(())
+    }
+}
+
+fn is_let_go(may_go: &AtomicU64) -> bool {
+    for _ in 0..TURNS {
+        if may_go.load(Ordering::SeqCst) > 0 {
+            return true;
+        }
+        thread::yield_now();
+    }
+    false
+}
+
+#[test]
+fn a_record_is_put_while_a_block_is_appended(rt: HostRuntime) -> Result<(), Fail> {
+    let alloc = rt.alloc();
+    let may_go = Arc::new(alloc, AtomicU64::new(0))?;
+    let gave_up = Arc::new(alloc, AtomicU64::new(0))?;
+    let log = Waiting {
+        appends: 0,
+        may_go: Arc::try_clone(&may_go)?,
+        gave_up: Arc::try_clone(&gave_up)?,
+    };
+    let Ok(mut buffer) = Buffer::start(&rt, alloc, log, 4096) else {
+        return Err(Fail::from("no buffer"));
+    };
+    // A block has room for 170 records.
+    for line in 0..171 {
+        buffer.ready(&rt, alloc)?;
+        buffer.put(&barrier(line + 1));
+    }
+    may_go.store(1, Ordering::SeqCst);
+    match buffer.close(&rt, alloc) {
+        Ok(log) => assert!(rt; log.appends == 3),
+        Err(_) => assert!(rt; false),
+    }
+    assert!(rt; gave_up.load(Ordering::SeqCst) == 0);
+    Ok(())
+}
+
+#[test]
 fn a_log_has_room_for_so_many_records(rt: HostRuntime) -> Result<(), Fail> {
     let alloc = rt.alloc();
-    let Ok(mut buffer) = Buffer::start(alloc, Counter::with_room(100), 4_194_304) else {
+    let Ok(mut buffer) = Buffer::start(&rt, alloc, Counter::with_room(100), 4_194_304) else {
         return Err(Fail::from(Trouble::Memory));
     };
     for line in 0..4_194_304 {
-        buffer.ready(alloc)?;
+        buffer.ready(&rt, alloc)?;
         buffer.put(&barrier(line + 1));
     }
-    assert!(rt; buffer.ready(alloc) == Err(BufferFault::LogFull));
-    assert!(rt; buffer.ready(alloc) == Err(BufferFault::LogFull));
+    assert!(rt; buffer.ready(&rt, alloc) == Err(BufferFault::LogFull));
+    assert!(rt; buffer.ready(&rt, alloc) == Err(BufferFault::LogFull));
     assert!(rt; buffer.count() == 4_194_304);
-    match buffer.close(alloc) {
+    match buffer.close(&rt, alloc) {
         Ok(log) => {
             assert!(rt; log.pieces == 26);
             assert!(rt; log.bytes == 100_663_304);

@@ -7,6 +7,7 @@ use asking::{
 use command_answer::{DONE, FOLDER_REFUSED, RACES, USAGE};
 use memory_environment::MemFolder;
 use std::alloc::Global;
+use std::marker::Send;
 use std::sync::Wait;
 use std::test::Fail;
 use std::thread::Threads;
@@ -392,7 +393,7 @@ fn other_arguments_are_a_usage_fault(rt: HostRuntime) -> Result<(), Fail> {
 }
 
 // What `check` answers for an empty folder whose name has so many bytes, and `upgrade` for one that such a folder is to come from.
-fn answers_named<R: Threads + Wait + Sync>(
+fn answers_named<R: Threads + Wait + Sync + Copy + Send + 'static>(
     rt: &R,
     alloc: Global,
     count: usize,

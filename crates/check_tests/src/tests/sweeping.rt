@@ -4,6 +4,7 @@ use asking::{Case, EMPTY, END, asked, folder_of, region, store};
 use command_answer::{RACES, READ_FAULT};
 use memory_environment::MemOut;
 use std::alloc::Global;
+use std::marker::Send;
 use std::sync::Wait;
 use std::sync::atomic::{AtomicU64, Ordering};
 use std::test::Fail;
@@ -39,7 +40,7 @@ const TWO_REGIONS: Case<'static> = Case {
 };
 
 // The status of a check by three workers where this call on the folder fails, and how many workers came.
-fn answered<R: Threads + Wait + Sync>(
+fn answered<R: Threads + Wait + Sync + Copy + Send + 'static>(
     rt: &R,
     alloc: Global,
     call: u64,

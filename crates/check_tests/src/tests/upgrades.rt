@@ -5,6 +5,7 @@ use command_answer::{DONE, FOLDER_REFUSED, INDEX_THERE, RACES};
 use host_environment::HostFolder;
 use memory_environment::MemFolder;
 use std::alloc::Global;
+use std::marker::Send;
 use std::sync::Wait;
 use std::test::Fail;
 use std::thread::Threads;
@@ -228,7 +229,7 @@ const ASKED: &[(&str, &str, &str, u8, &str)] = &[
 ];
 
 // Fails where these words come to another status or text.
-fn is_answered<'a, R: Threads + Wait + Sync>(
+fn is_answered<'a, R: Threads + Wait + Sync + Copy + Send + 'static>(
     rt: &R,
     alloc: Global,
     folder: &mut Host,
@@ -245,7 +246,7 @@ fn is_answered<'a, R: Threads + Wait + Sync>(
 }
 
 // Fails where real files below this folder are answered otherwise.
-fn real_files_answer<R: Threads + Wait + Sync>(
+fn real_files_answer<R: Threads + Wait + Sync + Copy + Send + 'static>(
     rt: &R,
     alloc: Global,
     folder: &mut Host,

@@ -9,6 +9,7 @@ use command_answer::{DONE, RACES};
 use meeting_gate::MeetingGate;
 use memory_environment::{MemFolder, MemOut};
 use std::alloc::{AllocError, Global};
+use std::marker::Send;
 use std::process::Abort;
 use std::sync::Wait;
 use std::test::Fail;
@@ -16,7 +17,7 @@ use std::thread::Threads;
 use sw_base::Memory;
 
 /// Fails where some number of workers is answered otherwise.
-pub fn each_answers<R: Threads + Wait + Sync>(
+pub fn each_answers<R: Threads + Wait + Sync + Copy + Send + 'static>(
     rt: &R,
     alloc: Global,
     folder: &mut MemFolder,
@@ -248,7 +249,7 @@ fn many_reads_or_updates_of_one_element_are_not_compared(rt: HostRuntime) -> Res
 }
 
 // Whether so many met, and this status and text came out.
-fn at_once<R: Abort + Threads + Wait + Sync>(
+fn at_once<R: Abort + Threads + Wait + Sync + Copy + Send + 'static>(
     rt: &R,
     alloc: Global,
     folder: &mut MemFolder,

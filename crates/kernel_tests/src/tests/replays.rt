@@ -7,6 +7,7 @@ use asking::{
 use command_answer::{DIFFERS, DONE, FOLDER_REFUSED, KERNEL_REFUSED, USAGE};
 use memory_environment::MemFolder;
 use std::alloc::Global;
+use std::marker::Send;
 use std::sync::Wait;
 use std::test::Fail;
 use std::thread::Threads;
@@ -67,7 +68,7 @@ const FIELDS: &[Field<'static>] = &[
 ];
 
 // Fails where the run of the folder's kernel isn't the same, or is told otherwise once this field is another.
-fn differs_at<R: Threads + Wait + Sync>(
+fn differs_at<R: Threads + Wait + Sync + Copy + Send + 'static>(
     rt: &R,
     alloc: Global,
     folder: &mut MemFolder,

@@ -6,6 +6,7 @@ use command_answer::{
 };
 use memory_environment::MemFolder;
 use std::alloc::{AllocError, Global};
+use std::marker::Send;
 use std::sync::Wait;
 use std::test::Fail;
 use std::thread::{Builder, Threads};
@@ -94,7 +95,7 @@ fn is_cut(whole: &MemFolder, folder: &MemFolder, lengths: &[usize]) -> bool {
 }
 
 /// The folder that a case leaves, which passes.
-pub fn left_by<R: Threads + Wait + Sync>(
+pub fn left_by<R: Threads + Wait + Sync + Copy + Send + 'static>(
     rt: &R,
     alloc: Global,
     case: &Case<'_>,
@@ -317,7 +318,10 @@ fn long_sum(alloc: Global) -> Result<String, AllocError> {
     Ok(kernel)
 }
 
-fn prints_long_sum<R: Threads + Wait + Sync>(rt: &R, alloc: Global) -> Result<bool, Memory> {
+fn prints_long_sum<R: Threads + Wait + Sync + Copy + Send + 'static>(
+    rt: &R,
+    alloc: Global,
+) -> Result<bool, Memory> {
     let mut folder = MemFolder::new(alloc)?;
     folder.hold("k", long_sum(alloc)?.as_bytes())?;
     let (status, out) = printed(rt, alloc, &mut folder, RUN, &[])?;

@@ -6,6 +6,7 @@ use asking::{Case, EMPTY, RUN, SHOW, Whole, all_pass, all_run, holds, printed};
 use command_answer::{DIFFERS, DONE, RACES};
 use memory_environment::MemFolder;
 use std::alloc::Global;
+use std::marker::Send;
 use std::sync::Wait;
 use std::test::Fail;
 use std::thread::Threads;
@@ -299,7 +300,7 @@ const DRAWING: Case<'static> = Case {
 };
 
 // Fails where the folder's records aren't shown, or a draw is shown otherwise than so often.
-fn shows_draws<R: Threads + Wait + Sync>(
+fn shows_draws<R: Threads + Wait + Sync + Copy + Send + 'static>(
     rt: &R,
     alloc: Global,
     folder: &mut MemFolder,

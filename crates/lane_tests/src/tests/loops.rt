@@ -14,7 +14,9 @@ use crate::tests::statements::summing;
 use kernel_syntax::{Body, Expr, Schedule, Stmt};
 use log_format::{Kind, Record};
 use std::alloc::Global;
+use std::marker::Send;
 use std::sync::Wait;
+use std::thread::Threads;
 use sw_base::Trouble;
 
 // A worksharing loop over variable 0, from 0 to below this number.
@@ -65,7 +67,7 @@ fn second() -> Setting
 
 // Whether the lane goes on that executes a loop of this schedule, from 0 to below this number, and leaves these records. In each turn
 // the sum of the first element and 5 is stored in the element of the turn.
-fn goes_round<R: Wait>(
+fn goes_round<R: Threads + Wait + Copy + Send + 'static>(
     rt: &R,
     alloc: Global,
     setting: &Setting,

@@ -10,10 +10,12 @@ use log_format::{Kind, Record};
 use memory_environment::MemLog;
 use shared_words::{ChunkHand, Chunks, Hand, Words};
 use std::alloc::Global;
+use std::marker::Send;
 use std::sync::Wait;
+use std::thread::Threads;
 
 // What a lane with this hand leaves that takes mutex 1, and stops with it.
-fn stopped<R: Wait>(
+fn stopped<R: Threads + Wait + Copy + Send + 'static>(
     rt: &R,
     alloc: Global,
     world: &World,
@@ -27,16 +29,16 @@ fn stopped<R: Wait>(
     requires draws { Belongs draws world.now.chunks.table }
     requires enough { log_limit ≤ draws.view.left }
 {
-    let mut track = Track::new(alloc, hand, buffer(alloc).ok()?, draws);
+    let mut track = Track::new(alloc, hand, buffer(rt, alloc).ok()?, draws);
     let Ok(()) = track.lock(rt, alloc, world, 1, 5) else {
         return None;
     };
     track.release(world, 1);
-    Some(log_of(alloc, track))
+    Some(log_of(rt, alloc, track))
 }
 
 // The same of one that takes it and gives it back.
-fn passed<R: Wait>(
+fn passed<R: Threads + Wait + Copy + Send + 'static>(
     rt: &R,
     alloc: Global,
     world: &World,
@@ -50,14 +52,14 @@ fn passed<R: Wait>(
     requires draws { Belongs draws world.now.chunks.table }
     requires enough { log_limit ≤ draws.view.left }
 {
-    let mut track = Track::new(alloc, hand, buffer(alloc).ok()?, draws);
+    let mut track = Track::new(alloc, hand, buffer(rt, alloc).ok()?, draws);
     let Ok(()) = track.lock(rt, alloc, world, 1, 6) else {
         return None;
     };
-    let Ok(()) = track.unlock(alloc, world, 1, 7) else {
+    let Ok(()) = track.unlock(rt, alloc, world, 1, 7) else {
         return None;
     };
-    Some(log_of(alloc, track))
+    Some(log_of(rt, alloc, track))
 }
 
 // Whether a log was left, and has these records.
@@ -87,7 +89,7 @@ fn a_mutex_released_at_a_stop_is_won_by_another(rt: HostRuntime) {
 #[test]
 fn a_lane_goes_on_in_its_log_with_another_hand(rt: HostRuntime) {
     let alloc = rt.alloc();
-    let buffer = buffer(alloc).expect(&rt, "memory");
+    let buffer = buffer(&rt, alloc).expect(&rt, "memory");
     let (words, mut first) = Words::new(alloc, 0, 2).expect(&rt, "memory");
     let one = words.split(&mut first, 0, 1);
     let two = words.split(&mut first, 0, 1);
@@ -106,5 +108,5 @@ fn a_lane_goes_on_in_its_log_with_another_hand(rt: HostRuntime) {
     };
 
     let both = [step(Kind::Lock, 1, 5), step(Kind::Lock, 1, 6)];
-    assert!(rt; is_log_of(log_of(alloc, track).bytes(), &both));
+    assert!(rt; is_log_of(log_of(&rt, alloc, track).bytes(), &both));
 }

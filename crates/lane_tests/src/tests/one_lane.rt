@@ -17,7 +17,9 @@ use log_format::{Kind, Record};
 use memory_environment::MemLog;
 use shared_words::{ChunkHand, Chunks, Words};
 use std::alloc::Global;
+use std::marker::Send;
 use std::sync::Wait;
+use std::thread::Threads;
 use sw_base::Trouble;
 
 /// How many bytes the elements have, which lane it is, whether another hand has drawn a number, which call on its log fails, and what the
@@ -100,7 +102,7 @@ fn counter(alloc: Global, taken: bool) -> Result<(Chunks, ChunkHand), Trouble>
 }
 
 /// What the lane leaves that executes a statement of its team.
-pub(crate) fn executed<R: Wait>(
+pub(crate) fn executed<R: Threads + Wait + Copy + Send + 'static>(
     rt: &R,
     alloc: Global,
     setting: &Setting,
@@ -114,7 +116,7 @@ pub(crate) fn executed<R: Wait>(
 {
     let arrays = [array(setting.width)?];
     let slots = vec![in alloc; 0, 0]?;
-    let buffer = buffer_failing(alloc, setting.failing)?;
+    let buffer = buffer_failing(rt, alloc, setting.failing)?;
     let (words, mut hand) = Words::new(alloc, 8, 1)?;
     words.store(&mut hand, 0, setting.word);
     let (chunks, draws) = counter(alloc, setting.taken)?;
@@ -127,12 +129,12 @@ pub(crate) fn executed<R: Wait>(
     Ok(Left {
         halt,
         variable,
-        log: log_of(alloc, frame.track),
+        log: log_of(rt, alloc, frame.track),
     })
 }
 
 /// What the lane leaves that executes a statement without its team.
-pub(crate) fn alone<R: Wait>(
+pub(crate) fn alone<R: Threads + Wait + Copy + Send + 'static>(
     rt: &R,
     alloc: Global,
     setting: &Setting,
@@ -147,7 +149,7 @@ pub(crate) fn alone<R: Wait>(
 }
 
 /// Whether the lane goes on that executes a statement of its team, and leaves these records.
-pub(crate) fn goes_on<R: Wait>(
+pub(crate) fn goes_on<R: Threads + Wait + Copy + Send + 'static>(
     rt: &R,
     alloc: Global,
     setting: &Setting,
@@ -164,7 +166,7 @@ pub(crate) fn goes_on<R: Wait>(
 }
 
 /// The same of a statement without its team.
-pub(crate) fn goes_on_alone<R: Wait>(
+pub(crate) fn goes_on_alone<R: Threads + Wait + Copy + Send + 'static>(
     rt: &R,
     alloc: Global,
     setting: &Setting,

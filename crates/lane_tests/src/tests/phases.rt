@@ -10,6 +10,9 @@ use log_format::{Kind, Record};
 use memory_environment::MemLog;
 use shared_words::{Chunks, Hand, Words};
 use std::alloc::Global;
+use std::marker::Send;
+use std::sync::Wait;
+use std::thread::Threads;
 use sw_base::{ClosedLog, Path, Trouble};
 
 const FULL: u32 = 4_194_304;
@@ -29,29 +32,34 @@ fn event(kind: Kind, line: u32) -> Record {
 #[test]
 fn a_barrier_and_an_end_are_recorded(rt: HostRuntime) {
     let alloc = rt.alloc();
-    let buffer = buffer(alloc).expect(&rt, "memory");
+    let buffer = buffer(&rt, alloc).expect(&rt, "memory");
     let (words, hand) = Words::new(alloc, 0, 1).expect(&rt, "memory");
     let (chunks, draws) = Chunks::new(alloc, 0).expect(&rt, "memory");
     let arrays: [Array; 0] = [];
     let world = World::new(&arrays, &words, &chunks, 0, 1);
     let mut track = Track::new(alloc, hand, buffer, draws);
-    let Ok(()) = track.meet(alloc, 5) else {
+    let Ok(()) = track.meet(&rt, alloc, 5) else {
         panic!(rt; "no room");
     };
-    let Ok(()) = track.finish(alloc, 9) else {
+    let Ok(()) = track.finish(&rt, alloc, 9) else {
         panic!(rt; "no room");
     };
     let expected = [event(Kind::Barrier, 5), event(Kind::End, 9)];
-    assert!(rt; is_log_of(log_of(alloc, track).bytes(), &expected));
+    assert!(rt; is_log_of(log_of(&rt, alloc, track).bytes(), &expected));
 }
 
 // Fills a log with barriers.
-fn fill(alloc: Global, world: &World, track: &mut Track<MemLog>) -> Result<(), Halt>
+fn fill<R: Threads + Wait + Copy + Send + 'static>(
+    rt: &R,
+    alloc: Global,
+    world: &World,
+    track: &mut Track<MemLog>,
+) -> Result<(), Halt>
     requires can { CanGo world.now track.old }
     ensures can { OnOk result (CanGo world.now track.new) }
 {
     for _ in 0..FULL {
-        track.meet(alloc, 5)?;
+        track.meet(rt, alloc, 5)?;
     }
     Ok(())
 }
@@ -59,20 +67,20 @@ fn fill(alloc: Global, world: &World, track: &mut Track<MemLog>) -> Result<(), H
 #[test]
 fn a_full_log_takes_no_barrier_and_no_end(rt: HostRuntime) {
     let alloc = rt.alloc();
-    let buffer = buffer(alloc).expect(&rt, "memory");
+    let buffer = buffer(&rt, alloc).expect(&rt, "memory");
     let (words, hand) = Words::new(alloc, 0, 1).expect(&rt, "memory");
     let (chunks, draws) = Chunks::new(alloc, 0).expect(&rt, "memory");
     let arrays: [Array; 0] = [];
     let world = World::new(&arrays, &words, &chunks, 0, 1);
     let mut track = Track::new(alloc, hand, buffer, draws);
-    let Ok(()) = fill(alloc, &world, &mut track) else {
+    let Ok(()) = fill(&rt, alloc, &world, &mut track) else {
         panic!(rt; "no room");
     };
-    let Err(Halt::LogFull { line }) = track.meet(alloc, 6) else {
+    let Err(Halt::LogFull { line }) = track.meet(&rt, alloc, 6) else {
         panic!(rt; "a barrier too many");
     };
     assert!(rt; line == 6);
-    let Err(Halt::LogFull { line }) = track.finish(alloc, 7) else {
+    let Err(Halt::LogFull { line }) = track.finish(&rt, alloc, 7) else {
         panic!(rt; "an end too many");
     };
     assert!(rt; line == 7);
@@ -94,7 +102,7 @@ fn stuck(
 fn a_value_is_set_before_the_lanes_meet(rt: HostRuntime) {
     let alloc = rt.alloc();
     let slots = vec![in alloc; 7i64, 7].expect(&rt, "memory");
-    let buffer = buffer(alloc).expect(&rt, "memory");
+    let buffer = buffer(&rt, alloc).expect(&rt, "memory");
     let (words, hand) = Words::new(alloc, 0, 1).expect(&rt, "memory");
     let (chunks, draws) = Chunks::new(alloc, 0).expect(&rt, "memory");
     let arrays: [Array; 0] = [];
@@ -113,6 +121,6 @@ fn a_value_is_set_before_the_lanes_meet(rt: HostRuntime) {
         panic!(rt; "no room");
     };
     assert!(rt; frame.locals.get(0) == 7 && frame.locals.get(1) == 3);
-    let log = log_of(alloc, frame.track);
+    let log = log_of(&rt, alloc, frame.track);
     assert!(rt; is_log_of(log.bytes(), &[event(Kind::Barrier, 5)]));
 }

@@ -13,7 +13,9 @@ use crate::tests::support::{in_loop, is_log_of, nothing, only, tested};
 use kernel_syntax::{Body, Expr, Schedule, Stmt, Team};
 use log_format::{Kind, Record};
 use std::alloc::Global;
+use std::marker::Send;
 use std::sync::Wait;
+use std::thread::Threads;
 use sw_base::Trouble;
 
 fn region(body: Body) -> Stmt
@@ -60,7 +62,12 @@ fn in_shares(body: Body) -> Stmt
 }
 
 // Whether a lane of a team of two stops in its first region, and its log has the record of the fork.
-fn stops_in_region<R: Wait>(rt: &R, alloc: Global, lane: u16, stmt: Stmt) -> Result<bool, Trouble>
+fn stops_in_region<R: Threads + Wait + Copy + Send + 'static>(
+    rt: &R,
+    alloc: Global,
+    lane: u16,
+    stmt: Stmt,
+) -> Result<bool, Trouble>
     requires lane { lane < 2 }
     requires bounded { IsBoundedCode (stmt_code stmt Done) }
     requires own { IsOfTeam 1 (stmt_code stmt Done) }
@@ -71,13 +78,21 @@ fn stops_in_region<R: Wait>(rt: &R, alloc: Global, lane: u16, stmt: Stmt) -> Res
 }
 
 // The same of a loop over this variable with a region where variable 0 isn't 0.
-fn stops_in_loop<R: Wait>(rt: &R, alloc: Global, slot: u32) -> Result<bool, Trouble> {
+fn stops_in_loop<R: Threads + Wait + Copy + Send + 'static>(
+    rt: &R,
+    alloc: Global,
+    slot: u32,
+) -> Result<bool, Trouble> {
     let turns = in_loop(slot, region_past_zero(alloc)?);
     stops_in_region(rt, alloc, 0, turns)
 }
 
 // The same of a worksharing loop.
-fn stops_in_share<R: Wait>(rt: &R, alloc: Global, lane: u16) -> Result<bool, Trouble>
+fn stops_in_share<R: Threads + Wait + Copy + Send + 'static>(
+    rt: &R,
+    alloc: Global,
+    lane: u16,
+) -> Result<bool, Trouble>
     requires { lane < 2 }
 {
     let shares = in_shares(region_past_zero(alloc)?);

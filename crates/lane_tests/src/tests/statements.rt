@@ -12,7 +12,9 @@ use kernel_syntax::{Body, Expr, Op, Stmt};
 use lane_runner::Halt;
 use log_format::{Kind, Record};
 use std::alloc::Global;
+use std::marker::Send;
 use std::sync::Wait;
+use std::thread::Threads;
 use sw_base::Trouble;
 
 /// The operation on two expressions, at line 5.
@@ -270,7 +272,7 @@ fn a_divisor_that_is_not_zero_divides(rt: HostRuntime) {
 }
 
 // Whether a number that is stored is read back so, and so is the sum of both.
-fn holds<R: Wait>(
+fn holds<R: Threads + Wait + Copy + Send + 'static>(
     rt: &R,
     alloc: Global,
     width: u8,
@@ -291,7 +293,7 @@ fn holds<R: Wait>(
 }
 
 // The same of each of these numbers.
-fn all_hold<R: Wait>(
+fn all_hold<R: Threads + Wait + Copy + Send + 'static>(
     rt: &R,
     alloc: Global,
     width: u8,
@@ -321,10 +323,14 @@ fn an_element_has_the_low_bytes_of_a_value(rt: HostRuntime) {
     assert!(rt; all_hold(&rt, alloc, 8, &long) == Ok(true));
 }
 
-// What a lane leaves whose log fails at this call, of a loop of two turns.
-fn left_failing<R: Wait>(rt: &R, alloc: Global, call: u64) -> Result<Left, Trouble> {
+// What a lane leaves whose log fails at this call, of two loops of two turns, one in the other: eight records, in four blocks.
+fn left_failing<R: Threads + Wait + Copy + Send + 'static>(
+    rt: &R,
+    alloc: Global,
+    call: u64,
+) -> Result<Left, Trouble> {
     let turns = in_loop(0, summing(alloc, 5)?);
-    alone(rt, alloc, &failing(call), turns)
+    alone(rt, alloc, &failing(call), in_loop(1, only(alloc, turns)?))
 }
 
 // Whether a lane stopped since its log failed, or went on, and left so many of these bytes.
@@ -341,8 +347,15 @@ fn is_left(left: &Left, stops: bool, all: &[u8], length: usize) -> bool {
 fn a_call_that_fails_leaves_the_records_before(rt: HostRuntime) {
     let alloc = rt.alloc();
     let all = left_failing(&rt, alloc, 0).expect(&rt, "memory").log;
-    assert!(rt; all.bytes().len() == 104);
-    for (call, stops, length) in [(2, true, 32), (3, false, 80), (4, false, 104)] {
+    assert!(rt; all.bytes().len() == 200);
+    // A block that was refused is found out when the next one is full, or at the end.
+    for (call, stops, length) in [
+        (2, true, 32),
+        (3, true, 80),
+        (4, false, 128),
+        (5, false, 176),
+        (6, false, 200),
+    ] {
         let left = left_failing(&rt, alloc, call).expect(&rt, "memory");
         assert!(rt;
             is_left(&left, stops, all.bytes(), length),

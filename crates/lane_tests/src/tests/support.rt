@@ -17,6 +17,8 @@ use log_format::{Kind, Record, encode};
 use memory_environment::{MemFolder, MemLog};
 use shared_words::Hand;
 use std::alloc::Global;
+use std::sync::Wait;
+use std::thread::Threads;
 use sw_base::{ClosedLog, Folder, LOG_HEADER, Path, Trouble};
 
 /// The record of a step on a mutex.
@@ -47,32 +49,36 @@ pub(crate) fn is_log_of(bytes: &[u8], records: &[Record]) -> bool {
 }
 
 /// A buffer before the empty log of a new folder.
-pub(crate) fn buffer(alloc: Global) -> Result<Buffer<MemLog>, Trouble>
+pub(crate) fn buffer<R: Threads>(rt: &R, alloc: Global) -> Result<Buffer<MemLog>, Trouble>
     ensures unrefused { IfOk result (λ b. b.refused ≡ None) }
     ensures empty { IfOk result (λ b. b.count ≡ 0) }
     ensures root { IfOk result (λ b. b.path ≡ []) }
 {
-    buffer_failing(alloc, 0)
+    buffer_failing(rt, alloc, 0)
 }
 
 /// A buffer for two records, before the empty log of a new folder, of which this call fails. The first call has the number 1.
-pub(crate) fn buffer_failing(alloc: Global, call: u64) -> Result<Buffer<MemLog>, Trouble>
+pub(crate) fn buffer_failing<R: Threads>(
+    rt: &R,
+    alloc: Global,
+    call: u64,
+) -> Result<Buffer<MemLog>, Trouble>
     ensures unrefused { IfOk result (λ b. b.refused ≡ None) }
     ensures empty { IfOk result (λ b. b.count ≡ 0) }
     ensures root { IfOk result (λ b. b.path ≡ []) }
 {
     let mut folder = MemFolder::new(alloc)?;
     folder.fail_log(&Path::root(), &[call])?;
-    match Buffer::start(alloc, folder.root(alloc, "d")?, 48) {
+    match Buffer::start(rt, alloc, folder.root(alloc, "d")?, 48) {
         Ok(buffer) => Ok(buffer),
         Err((trouble, _)) => Err(trouble),
     }
 }
 
 /// A lane's log at its end, also where its last call failed.
-pub(crate) fn log_of(alloc: Global, track: Track<MemLog>) -> MemLog {
+pub(crate) fn log_of<R: Wait>(rt: &R, alloc: Global, track: Track<MemLog>) -> MemLog {
     let (_, buffer, _, _) = track.into_parts();
-    match buffer.close(alloc) {
+    match buffer.close(rt, alloc) {
         Ok(log) => log,
         Err((_, log)) => log,
     }

@@ -13,7 +13,9 @@ use kernel_syntax::{Expr, Op, Stmt};
 use lane_runner::Halt;
 use log_format::Kind;
 use std::alloc::Global;
+use std::marker::Send;
 use std::sync::Wait;
+use std::thread::Threads;
 use sw_base::Trouble;
 
 // An update of an element.
@@ -47,7 +49,12 @@ struct Row {
 }
 
 // Whether a lane that adds the amount twice to an element of so many bytes, after a read of it each time, leaves the records of the row.
-fn holds<R: Wait>(rt: &R, alloc: Global, width: u8, row: &Row) -> Result<bool, Trouble>
+fn holds<R: Threads + Wait + Copy + Send + 'static>(
+    rt: &R,
+    alloc: Global,
+    width: u8,
+    row: &Row,
+) -> Result<bool, Trouble>
     requires { IsWidth width }
 {
     let read = binary(alloc, Op::Mul, first(alloc)?, Expr::Number(0))?;
@@ -65,7 +72,12 @@ fn holds<R: Wait>(rt: &R, alloc: Global, width: u8, row: &Row) -> Result<bool, T
 }
 
 // The same of each row.
-fn all_hold<R: Wait>(rt: &R, alloc: Global, width: u8, rows: &[Row]) -> Result<bool, Trouble>
+fn all_hold<R: Threads + Wait + Copy + Send + 'static>(
+    rt: &R,
+    alloc: Global,
+    width: u8,
+    rows: &[Row],
+) -> Result<bool, Trouble>
     requires { IsWidth width }
 {
     for row in rows {
@@ -137,7 +149,12 @@ fn divided(alloc: Global) -> Result<Expr, Trouble>
 }
 
 // What lane 1 leaves that executes this update, at line 7.
-fn left_by<R: Wait>(rt: &R, alloc: Global, index: Expr, value: Expr) -> Result<Left, Trouble>
+fn left_by<R: Threads + Wait + Copy + Send + 'static>(
+    rt: &R,
+    alloc: Global,
+    index: Expr,
+    value: Expr,
+) -> Result<Left, Trouble>
     requires index { IsBoundedTerm (term_of index) }
     requires value { IsBoundedTerm (term_of value) }
 {

@@ -3,6 +3,7 @@
 use crate::tests::support::run_with;
 use meeting_gate::MeetingGate;
 use std::alloc::Global;
+use std::marker::Send;
 use std::process::Abort;
 use std::sync::Wait;
 use std::sync::atomic::{AtomicBool, Ordering};
@@ -12,7 +13,7 @@ use std::thread::Threads;
 use sw_base::{Gate, Path};
 
 // Whether the lanes of a team of this size meet, and each does its work.
-fn meet<R: Abort + Threads + Wait + Sync>(
+fn meet<R: Abort + Threads + Wait + Sync + Copy + Send + 'static>(
     rt: &R,
     alloc: Global,
     lanes: usize,

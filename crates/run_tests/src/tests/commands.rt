@@ -4,6 +4,7 @@ use command_answer::{DONE, INDEX_THERE, KERNEL_STOPPED};
 use memory_environment::{MemFolder, MemOut};
 use run_command::{print_outcome, run};
 use std::alloc::Global;
+use std::marker::Send;
 use std::sync::Wait;
 use std::test::Fail;
 use std::thread::Threads;
@@ -18,7 +19,7 @@ const BEYOND: &str = "array a i64 1\nmain { parallel 1 {\nfor i in 0 .. 2 { a[i]
 const INDEX: &str = "d/index.swi";
 
 // Whether a run of the kernel that the folder holds is answered so.
-fn is_answered<R: Threads + Wait + Sync>(
+fn is_answered<R: Threads + Wait + Sync + Copy + Send + 'static>(
     rt: &R,
     alloc: Global,
     folder: &mut MemFolder,

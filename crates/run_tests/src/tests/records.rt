@@ -4,6 +4,7 @@ ghost use Rattle.region_runner.specs.Answer.{IsBufferSize};
 
 use crate::tests::support::{are_listed, finished};
 use std::alloc::Global;
+use std::marker::Send;
 use std::sync::Wait;
 use std::test::Fail;
 use std::thread::Threads;
@@ -285,7 +286,7 @@ const ENDS: &[Ending<'static>] = &[
 ];
 
 // Whether the kernel ends with these words and logs.
-fn ends_so<R: Threads + Wait + Sync>(
+fn ends_so<R: Threads + Wait + Sync + Copy + Send + 'static>(
     rt: &R,
     alloc: Global,
     size: usize,

@@ -6,6 +6,7 @@ use crate::tests::support::{are_listed, finished, has_failed, is_stopped_so, run
 use lane_runner::Stop;
 use memory_environment::MemLog;
 use std::alloc::Global;
+use std::marker::Send;
 use std::sync::Wait;
 use std::test::Fail;
 use std::thread::Threads;
@@ -92,7 +93,7 @@ const STOPS: &[Stopping<'static>] = &[
 ];
 
 // Whether the kernel stops so, and leaves these logs.
-fn stops_so<R: Threads + Wait + Sync>(
+fn stops_so<R: Threads + Wait + Sync + Copy + Send + 'static>(
     rt: &R,
     alloc: Global,
     size: usize,
@@ -139,7 +140,7 @@ fn begin(left: &[ClosedLog<MemLog>], whole: &[ClosedLog<MemLog>]) -> bool {
 }
 
 // Whether this call on the log of this task fails, and leaves the beginnings of logs of a whole run.
-fn call_fails<R: Threads + Wait + Sync>(
+fn call_fails<R: Threads + Wait + Sync + Copy + Send + 'static>(
     rt: &R,
     alloc: Global,
     task: &Path,
@@ -151,7 +152,7 @@ fn call_fails<R: Threads + Wait + Sync>(
 }
 
 // Whether each of so many calls on the log of this task fails in turn, and the next one is no more.
-fn each_call_fails<R: Threads + Wait + Sync>(
+fn each_call_fails<R: Threads + Wait + Sync + Copy + Send + 'static>(
     rt: &R,
     alloc: Global,
     task: &Path,
@@ -170,7 +171,7 @@ fn each_call_fails<R: Threads + Wait + Sync>(
 }
 
 // Each call on each log of nested regions fails in turn.
-fn all_calls_fail<R: Threads + Wait + Sync>(
+fn all_calls_fail<R: Threads + Wait + Sync + Copy + Send + 'static>(
     rt: &R,
     alloc: Global,
     whole: &[ClosedLog<MemLog>],

@@ -12,6 +12,7 @@ use log_listing::list;
 use memory_environment::{MemFolder, MemLog, MemOut};
 use region_runner::{Finished, Stopped, run_kernel};
 use std::alloc::Global;
+use std::marker::Send;
 use std::sync::Wait;
 use std::test::Fail;
 use std::thread::Threads;
@@ -28,7 +29,7 @@ fn kernel_of(alloc: Global, text: &str) -> Result<Kernel, Fail>
 }
 
 /// Runs the kernel of a text, with this gate, where these calls on the log of this task are to fail.
-pub(crate) fn run_with<R: Threads + Wait + Sync, G: Gate>(
+pub(crate) fn run_with<R: Threads + Wait + Sync + Copy + Send + 'static, G: Gate>(
     rt: &R,
     alloc: Global,
     text: &str,
@@ -47,7 +48,7 @@ pub(crate) fn run_with<R: Threads + Wait + Sync, G: Gate>(
 }
 
 /// The end of a run of the kernel.
-pub(crate) fn finished<R: Threads + Wait + Sync>(
+pub(crate) fn finished<R: Threads + Wait + Sync + Copy + Send + 'static>(
     rt: &R,
     alloc: Global,
     text: &str,
@@ -60,7 +61,7 @@ pub(crate) fn finished<R: Threads + Wait + Sync>(
 }
 
 /// The stop of a run of the kernel, where these calls on the log of this task fail.
-pub(crate) fn stopped<R: Threads + Wait + Sync>(
+pub(crate) fn stopped<R: Threads + Wait + Sync + Copy + Send + 'static>(
     rt: &R,
     alloc: Global,
     text: &str,

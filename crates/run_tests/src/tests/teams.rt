@@ -6,6 +6,7 @@ use crate::tests::support::{finished, has_failed, is_stopped_so, run_with, stopp
 use lane_runner::Stop;
 use memory_environment::MemLog;
 use std::alloc::Global;
+use std::marker::Send;
 use std::sync::Wait;
 use std::sync::atomic::{AtomicU64, Ordering};
 use std::test::Fail;
@@ -130,7 +131,7 @@ const PIECES: &[(usize, &[usize])] = &[
 ];
 
 // Whether the counting lanes end with a buffer of this size, with these pieces of lane 0's log, and with the same bytes as a whole run.
-fn is_cut_so<R: Threads + Wait + Sync>(
+fn is_cut_so<R: Threads + Wait + Sync + Copy + Send + 'static>(
     rt: &R,
     alloc: Global,
     size: usize,
@@ -245,7 +246,7 @@ const STOPS: &[Stopping<'static>] = &[
 ];
 
 // Whether the kernel stops so.
-fn stops_so<R: Threads + Wait + Sync>(
+fn stops_so<R: Threads + Wait + Sync + Copy + Send + 'static>(
     rt: &R,
     alloc: Global,
     due: &Stopping<'_>,
@@ -283,60 +284,79 @@ fn lanes_that_wait_have_their_barrier_last(rt: HostRuntime) -> Result<(), Fail> 
     Ok(())
 }
 
-// Whether the run of the counting lanes answers that this call on the log of this task fails, where it does.
-fn call_fails<R: Threads + Wait + Sync>(
-    rt: &R,
-    alloc: Global,
-    task: &Path,
-    call: u64,
-) -> Result<bool, Fail> {
-    let stop = stopped(rt, alloc, COUNTING, 96, (task, &[call]))?;
-    Ok(has_failed(&stop, task) && stop.words.len() == 8 && !stop.logs.is_empty())
-}
+// Two lanes that fill two blocks of 4,096 bytes, and put more.
+const FILLING: &str = "array a i64 8
+main { parallel 2 {
+loop k in 0 .. 400 { a[tid] = k }
+} }
+";
 
-// Whether the counting lanes end with a buffer of this size where this call on the log of this task fails.
-fn ends<R: Threads + Wait + Sync>(
+// Whether the run of the kernel answers that this call on the log of this task fails, where it does.
+fn call_fails<R: Threads + Wait + Sync + Copy + Send + 'static>(
     rt: &R,
     alloc: Global,
-    size: usize,
+    kernel: (&str, usize),
     task: &Path,
     call: u64,
 ) -> Result<bool, Fail>
-    requires { IsBufferSize size }
+    requires { IsBufferSize kernel.1 }
 {
-    Ok(run_with(rt, alloc, COUNTING, size, &NoGate, (task, &[call]))?.is_ok())
+    let (text, size) = kernel;
+    let stop = stopped(rt, alloc, text, size, (task, &[call]))?;
+    Ok(has_failed(&stop, task) && stop.words.len() == 8 && !stop.logs.is_empty())
 }
 
-// Whether four calls on the log of this task fail in turn, and the next one is no more. A buffer for four records makes four calls on each
-// log. On the root's: its header, two lanes, and its two records. On a lane's: its header, and 4, 4 and 2 records.
-fn four_calls_fail<R: Threads + Wait + Sync>(
+// Whether the run of the kernel with blocks of this size ends where this call on the log of this task fails.
+fn ends<R: Threads + Wait + Sync + Copy + Send + 'static>(
     rt: &R,
     alloc: Global,
+    kernel: (&str, usize),
     task: &Path,
-) -> Result<bool, Fail> {
+    call: u64,
+) -> Result<bool, Fail>
+    requires { IsBufferSize kernel.1 }
+{
+    let (text, size) = kernel;
+    Ok(run_with(rt, alloc, text, size, &NoGate, (task, &[call]))?.is_ok())
+}
+
+// Whether four calls on the log of this task fail in turn, and the next one is no more. On the root's log: its header, two lanes, and its
+// two records. On a lane's: its header, two full blocks, and the rest.
+fn four_calls_fail<R: Threads + Wait + Sync + Copy + Send + 'static>(
+    rt: &R,
+    alloc: Global,
+    kernel: (&str, usize),
+    task: &Path,
+) -> Result<bool, Fail>
+    requires { IsBufferSize kernel.1 }
+{
     for call in 1..=4 {
-        if !call_fails(rt, alloc, task, call)? {
+        if !call_fails(rt, alloc, kernel, task, call)? {
             return Ok(false);
         }
     }
-    ends(rt, alloc, 96, task, 5)
+    ends(rt, alloc, kernel, task, 5)
 }
 
 #[test]
 fn each_call_on_each_log_fails_in_turn(rt: HostRuntime) -> Result<(), Fail> {
     let alloc = rt.alloc();
-    assert!(rt; four_calls_fail(&rt, alloc, &Path::root())?);
-    for lane in [0, 1] {
-        assert!(rt; four_calls_fail(&rt, alloc, &Path::root().child(0, lane, 2))?);
+    // Blocks for four records, which the lane appends, and blocks that its writer appends.
+    for kernel in [(COUNTING, 96), (FILLING, 4096)] {
+        assert!(rt; four_calls_fail(&rt, alloc, kernel, &Path::root())?);
+        for lane in [0, 1] {
+            let task = Path::root().child(0, lane, 2);
+            assert!(rt; four_calls_fail(&rt, alloc, kernel, &task)?);
+        }
     }
-    // With a buffer for one record the root's log takes five calls.
-    assert!(rt; !ends(&rt, alloc, 24, &Path::root(), 5)?);
-    assert!(rt; ends(&rt, alloc, 24, &Path::root(), 6)?);
+    // With a block for one record the root's log takes five calls.
+    assert!(rt; !ends(&rt, alloc, (COUNTING, 24), &Path::root(), 5)?);
+    assert!(rt; ends(&rt, alloc, (COUNTING, 24), &Path::root(), 6)?);
     Ok(())
 }
 
 // Whether lane 1's leaving of the array is answered, where this call on the log of this task fails, with the logs of all tasks.
-fn lane_1_leaves<R: Threads + Wait + Sync>(
+fn lane_1_leaves<R: Threads + Wait + Sync + Copy + Send + 'static>(
     rt: &R,
     alloc: Global,
     text: &str,
@@ -402,7 +422,7 @@ impl Gate for CountingGate {
 }
 
 // Whether this kernel's run starts each of two lanes so often, and no other.
-fn starts<R: Threads + Wait + Sync>(
+fn starts<R: Threads + Wait + Sync + Copy + Send + 'static>(
     rt: &R,
     alloc: Global,
     text: &str,

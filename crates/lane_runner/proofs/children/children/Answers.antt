@@ -1,6 +1,4 @@
-use Rattle.std.proofs.Common.{ap, rules}
-use Rattle.std.specs.Prelude.{is_some}
-use Rattle.event_buffer.specs.Buffered.{Buffered}
+use Rattle.std.proofs.Common.{rules}
 use Rattle.lane_runner.proofs.NewLogs.{new_log, new_logs_more}
 use Rattle.lane_runner.proofs.children.children.Goals as goal
 
@@ -9,17 +7,21 @@ returns-in_err-push-clause-records g c = λ header records holds. c.child.ensure
 
 pub loop-lane-preserved : goal.loop-lane-preserved
 loop-lane-preserved g c =
-    let same = c.loop-lane.invariant.same in
+    let still = c.loop-lane.invariant.still in
     record {
       each =
           new_logs_more (record { dir = g.L.Log.dir; path = g.L.Log.path; text = g.L.Log.text; faults = g.L.Log.faults }) c.args.buffer.now c.args.number c.args.span c.loop-lane.logs.items c.in_ok-log.log c.loop-lane.lane c.push.new.self.items
           c.loop-lane.invariant.each c.loop-lane.invariant.count
           (new_log (record { dir = g.L.Log.dir; path = g.L.Log.path; text = g.L.Log.text; faults = g.L.Log.faults }) c.args.buffer.now c.loop-lane.buffer c.args.number c.args.span c.loop-lane.lane c.in_ok-log.log
-          (ap (λ (b : Buffered). b.dir) same) (ap (λ (b : Buffered). b.path) same) (ap (λ (b : Buffered). is_some b.text) same)
+          still.dir still.path still.tells
           c.in_ok-log.ensures.child_dir c.in_ok-log.ensures.child_path c.in_ok-log.ensures.child_text c.in_ok-log.ensures.child_faults)
           (search rules);
       count = search rules;
-      same = search rules;
-      later = search rules;
+      still = search rules;
+      waiting = search rules;
+      unrefused = search rules;
       records = λ header records holds. c.child.ensures.records header records (c.loop-lane.invariant.records header records holds);
     }
+
+pub returns-in_err-log-clause-records : goal.returns-in_err-log-clause-records
+returns-in_err-log-clause-records g c = λ header records holds. c.child.ensures.records header records (c.loop-lane.invariant.records header records holds)

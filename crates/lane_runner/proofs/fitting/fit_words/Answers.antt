@@ -3,7 +3,7 @@ use Rattle.std.specs.Int.{cast_signed, cast_unsigned}
 use Rattle.std.proofs.lemmas.Int.{to_z-of_z}
 use Rattle.log_format.specs.Fitting.{fitted, fit}
 use Rattle.log_format.proofs.FittedBits.{fitted_bits}
-use Rattle.lane_runner.specs.World.{element_width}
+use Rattle.execution_model.specs.Elements.{element_width}
 use Rattle.lane_runner.proofs.fitting.fit_words.Goals as goal
 
 pub loop-word-preserved : goal.loop-word-preserved

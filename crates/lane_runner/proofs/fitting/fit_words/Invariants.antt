@@ -1,6 +1,6 @@
 use Rattle.std.proofs.Common.{◌≡◌, ℕ, ◌<◌, ◌≤◌, length, get_or}
 use Rattle.log_format.specs.Fitting.{fit}
-use Rattle.lane_runner.specs.World.{element_width}
+use Rattle.execution_model.specs.Elements.{element_width}
 use Rattle.lane_runner.proofs.fitting.fit_words.Given as goal
 
 abbrev pub invariant-loop-word : goal.invariant-loop-word

@@ -1,5 +1,5 @@
 use Rattle.std.proofs.Common.{◌≡◌, drop}
-use Rattle.lane_runner.specs.World.{element_width}
+use Rattle.execution_model.specs.Elements.{element_width}
 use Rattle.lane_runner.proofs.fitting.width_of.Given as goal
 
 abbrev pub invariant-loop-array : goal.invariant-loop-array

@@ -1,12 +1,33 @@
-use Rattle.std.proofs.Common.{rules, ◌≡◌, ◌<◌, length, slice_index_or, ◌+◌, ap, sym, ◌∙◌, subst, arith, drop, map}
+use Rattle.std.proofs.Common.{rules, ◌≡◌, ◌<◌, length, slice_index_or, ◌+◌, ap, sym, ◌∙◌, subst, arith, drop, map, ◌∷◌}
 use Rattle.std.proofs.lemmas.List.{get_or_default}
 use Rattle.shared_words.specs.declared.view.View.{View}
-use Rattle.shared_words.specs.Handles.{HandValue, with_view}
-use Rattle.shared_words.specs.Views.{after_meeting}
+use Rattle.step_history.specs.History.{Name}
+use Rattle.shared_words.specs.Handles.{HandValue, Belongs, IsHome, with_view}
+use Rattle.shared_words.specs.Views.{after_meeting, split_number}
 use Rattle.lane_runner.specs.Lane.{LaneValue, IsWithoutHand, hand_view, with_hand}
 use Rattle.region_runner.proofs.Pointwise.{set_below, set_above}
 use Rattle.region_runner.proofs.SplitHands.{HasJoined, join_more, drop_next}
 use Rattle.region_runner.proofs.handing.join_hands.Goals as goal
+
+pub join-requires-clause-other : goal.join-requires-clause-other
+join-requires-clause-other g c =
+    let n = c.loop-lane.lane-index in
+    let inside : n < length c.args.lanes.now = omega (arith, c.loop-lane-test.true, c.loop-lane.invariant.count) in
+    let own = c.trade-own.ensures.given ∙ ap (λ (m : LaneValue). m.hand) (c.loop-lane.invariant.left n c.lane-item.result (omega arith)) in
+    subst (λ (h : HandValue View). Belongs h c.args.words.now.table) (sym own) (c.requires.home n c.lane-item.result inside).belongs
+
+pub join-requires-clause-home : goal.join-requires-clause-home
+join-requires-clause-home g c =
+    let n = c.loop-lane.lane-index in
+    let inside : n < length c.args.lanes.now = omega (arith, c.loop-lane-test.true, c.loop-lane.invariant.count) in
+    let own = c.trade-own.ensures.given ∙ ap (λ (m : LaneValue). m.hand) (c.loop-lane.invariant.left n c.lane-item.result (omega arith)) in
+    let home = c.requires.home n c.lane-item.result inside in
+    subst (λ (h : HandValue View). IsHome c.loop-lane.hand h) (sym own)
+    (record {
+      split = home.split ∙ ap (λ (name : Name). split_number (slice_index_or c.args.lanes.now n c.lane-item.result).hand.view.name ∷ name) (sym c.loop-lane.invariant.hand.name);
+      holds_none = home.holds_none;
+      none_out = home.none_out;
+    })
 
 pub loop-lane-preserved : goal.loop-lane-preserved
 loop-lane-preserved g c =

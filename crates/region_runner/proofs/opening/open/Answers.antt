@@ -1,6 +1,6 @@
 use Rattle.std.proofs.Common.{rules, ◌≡◌, subst}
 use Rattle.lane_runner.specs.Handed.{place_of}
-use Rattle.region_runner.specs.Opening.{OneTorn}
+use Rattle.region_runner.specs.Opening.{AllOpen, OneTorn}
 use Rattle.region_runner.proofs.OpenedLogs.{all_begin, one_torn}
 use Rattle.region_runner.proofs.opening.open.Goals as goal
 
@@ -24,3 +24,8 @@ returns-in-Some-closed_of g c =
         c.in-Some.ensures.share,
       );
     }
+
+pub lanes_of-requires-after_bounds : goal.lanes_of-requires-after_bounds
+lanes_of-requires-after_bounds g c κs within =
+    let seen : c.deref.result.now ≡ c.in-Some.opened.items = search rules in
+    subst (λ opened. AllOpen opened) seen (c.all_open.ensures.all c.if-all_open.true)

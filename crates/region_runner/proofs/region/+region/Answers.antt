@@ -26,6 +26,7 @@ use Rattle.region_runner.proofs.TeamLoop.{HasPassed, few_last, few_next, last_en
 use Rattle.region_runner.proofs.TeamSteps.{TeamSteps, team_steps}
 use Rattle.std.proofs.Math.Seq.{take-append_seam}
 use Rattle.std.specs.Global.{Global}
+use Rattle.std.specs.Vec.{vec_capacity}
 use Rattle.race_model.specs.Listing.{lane_of}
 use Rattle.shared_words.specs.declared.share.Share.{Share}
 use Rattle.kernel_syntax.specs.Program.{team_of}
@@ -43,6 +44,11 @@ use Rattle.region_runner.proofs.OpenedTeam.{lane_fresh, lane_ours}
 use Rattle.region_runner.proofs.ReturnedHands.{head_of, team_returned, torn_returned}
 use Rattle.region_runner.proofs.TeamRegion.{closed_region}
 use Rattle.region_runner.proofs.region.+region.Goals.{region-in-Team, region-in-Torn}
+use denote.Param.Send.{IsSync, sendable}
+use Rattle.std.proofs.Crossing as heap
+use Rattle.region_runner.proofs.crew.Crew.TheSendSync as crew_row
+use Rattle.region_runner.proofs.ground.Ground.TheSendSync as ground_row
+use Rattle.region_runner.proofs.Crossing.{phase_sync}
 use Rattle.region_runner.proofs.region.+region.Goals as goal
 
 pub run_task-run_phase-requires-clause-runs : goal.run_task-run_phase-requires-clause-runs
@@ -67,28 +73,34 @@ run_task-run_phase-requires-clause-runs g n c κs within =
                 (
                   (search rules),
                   (
-                    ((search rules), (search rules)),
+                    (search rules),
                     (
-                      (let i = inner.deeper in omega (arith, i)),
+                      ((search rules), (search rules), (search rules)),
                       (
-                        deep,
+                        ((search rules), (search rules)),
                         (
-                          record {
-                            mutexes = mutexes;
-                            locks = c.requires.phase.locks;
-                            lawful = subst (λ (t : TeamTree). IsTeam mutexes (length c.path-path.result + 1) t) (sym is)
-                                (subst (λ (n : ℕ). IsTeam mutexes n team) (let e : 4 - c.args.depth + 1 ≡ length c.path-path.result + 1 = omega (arith, deep) in e) inner.lawful);
-                          },
+                          (let i = inner.deeper in omega (arith, i)),
                           (
-                            subst (λ (words : WordsValue). IsReady hand.now words) (ap (λ (v : CrewValue). v.words) c.requires.crew) ready,
+                            deep,
                             (
                               record {
-                                task = c.args.lane.now.buffer;
-                                path_is = own.path_is ∙ sym c.path-path.ensures.is;
-                                size_is = own.size_is;
-                                new = subst (λ (t : TeamTree). AreNewLogs {T = g.row.L.Denot} seen c.args.lane.now.buffer number t.span logs.items) (sym is) new;
+                                mutexes = mutexes;
+                                locks = c.requires.phase.locks;
+                                lawful = subst (λ (t : TeamTree). IsTeam mutexes (length c.path-path.result + 1) t) (sym is)
+                                    (subst (λ (n : ℕ). IsTeam mutexes n team) (let e : 4 - c.args.depth + 1 ≡ length c.path-path.result + 1 = omega (arith, deep) in e) inner.lawful);
                               },
-                              ((search rules), (search rules), (search rules)),
+                              (
+                                subst (λ (words : WordsValue). IsReady hand.now words) (ap (λ (v : CrewValue). v.words) c.requires.crew) ready,
+                                (
+                                  record {
+                                    task = c.args.lane.now.buffer;
+                                    path_is = own.path_is ∙ sym c.path-path.ensures.is;
+                                    size_is = own.size_is;
+                                    new = subst (λ (t : TeamTree). AreNewLogs {T = g.row.L.Denot} seen c.args.lane.now.buffer number t.span logs.items) (sym is) new;
+                                  },
+                                  ((search rules), (search rules), (search rules), (search rules)),
+                                ),
+                              ),
                             ),
                           ),
                         ),
@@ -135,26 +147,35 @@ run_lanes-for_each_mut-requires-clause-accepts g n c κs within = λ i p less is
         (
           (search rules),
           (
-            ((search rules), (search rules)),
+            (search rules),
             (
               (search rules),
               (
-                c.requires.crew,
+                (search rules),
                 (
-                  c.requires.number,
+                  ((search rules), (search rules), (search rules)),
                   (
-                    c.requires.span,
+                    ((search rules), (search rules)),
                     (
-                      c.requires.phase,
+                      c.requires.crew,
                       (
-                        c.requires.last,
+                        c.requires.number,
                         (
-                          let count = c.requires.count in omega (arith, less, count),
+                          c.requires.span,
                           (
-                            subst (λ (m : LaneValue). CanGoOn (world_of c.args.crew.now i) c.args.phase.now m) (sym is) (c.requires.can i p.now less),
+                            c.requires.phase,
                             (
-                              subst (λ (m : LaneValue). IsOurLane c.args.ground.now c.args.depth m) (sym is) (c.requires.own i p.now less),
-                              ((search rules), (search rules), (search rules)),
+                              c.requires.last,
+                              (
+                                let count = c.requires.count in omega (arith, less, count),
+                                (
+                                  subst (λ (m : LaneValue). CanGoOn (world_of c.args.crew.now i) c.args.phase.now m) (sym is) (c.requires.can i p.now less),
+                                  (
+                                    subst (λ (m : LaneValue). IsOurLane c.args.ground.now c.args.depth m) (sym is) (c.requires.own i p.now less),
+                                    ((search rules), (search rules), (search rules), (search rules)),
+                                  ),
+                                ),
+                              ),
                             ),
                           ),
                         ),
@@ -342,6 +363,14 @@ pub run_team-run_phases-requires-clause-own : goal.run_team-run_phases-requires-
 run_team-run_phases-requires-clause-own g n c κs within = λ i d less.
     subst (λ (ms : List LaneValue). IsOurLane c.args.ground.now c.args.depth (slice_index_or ms i d)) (sym c.deref_mut.ensures.value) (c.requires.own i d (subst (λ (ms : List LaneValue). i < length ms) c.deref_mut.ensures.value less))
 
+pub run_team-close_all-requires-clause-room : goal.run_team-close_all-requires-clause-room
+run_team-close_all-requires-clause-room g n c κs within =
+    let ran = c.run_phases.ensures.ran in
+    let count : length c.run_phases.new.lanes ≡ c.args.lanes.len = let m = ran.stands.count in let s = c.requires.count in omega (arith, m, s) in
+    let whole : take c.args.lanes.len (c.run_phases.new.lanes ++ drop (length c.run_phases.new.lanes) c.args.lanes.items) ≡ c.run_phases.new.lanes =
+    ap (λ (n : ℕ). take n (c.run_phases.new.lanes ++ drop (length c.run_phases.new.lanes) c.args.lanes.items)) (sym count) ∙ take-append_seam c.run_phases.new.lanes (drop (length c.run_phases.new.lanes) c.args.lanes.items) in
+    subst (λ (ms : List LaneValue). length ms ≤ vec_capacity c.args.room) (sym whole) (let m = ran.stands.count in let r = c.requires.room in let s = c.requires.count in omega (arith, m, r, s))
+
 pub run_team-returns : goal.run_team-returns
 run_team-returns g n c =
     let ran = c.run_phases.ensures.ran in
@@ -503,4 +532,10 @@ region-returns g n c = record {
 }
 
 pub run_lanes-for_each_mut-run_task-requires-static-L : goal.run_lanes-for_each_mut-run_task-requires-static-L
-run_lanes-for_each_mut-run_task-requires-static-L g t c κs within = c.requires.lives
+run_lanes-for_each_mut-run_task-requires-static-L g t c κs within = c.requires.lives.1
+
+pub run_lanes-for_each_mut-requires-sync-F : goal.run_lanes-for_each_mut-requires-sync-F
+run_lanes-for_each_mut-requires-sync-F g n c κs within =
+    let sync : IsSync g.row.R = search rules in
+    let gate : IsSync g.row.G = search rules in
+    search (sendable, heap.crosses, ground_row.the_sync, crew_row.the_sync, phase_sync) depth 40

@@ -8,8 +8,10 @@ use Rattle.lane_runner.specs.Children.{LogView}
 use Rattle.lane_runner.specs.Handed.{entries_of}
 use Rattle.history_model.specs.Sound.{AreFitted}
 use Rattle.log_format.specs.Fitting.{IsWidth}
-use Rattle.lane_runner.specs.World.{IsWorld, element_width, layout_of}
-use Rattle.lane_runner.proofs.OwnWords.{bounded_widths, bounded_world}
+use Rattle.execution_model.specs.Elements.{element_width, layout_of}
+use Rattle.lane_runner.specs.World.{IsWorld}
+use Rattle.execution_model.proofs.OwnWords.{bounded_widths}
+use Rattle.lane_runner.proofs.OwnWords.{bounded_world}
 use Rattle.lane_runner.specs.declared.stop.Stop.TheVariants as stop
 use Rattle.sw_base.specs.declared.trouble.Trouble.TheVariants as trouble
 use Rattle.region_runner.specs.Answer.{HasStoppedRun}

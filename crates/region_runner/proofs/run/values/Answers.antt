@@ -1,7 +1,7 @@
 use Rattle.std.proofs.Common.{◌≡◌, ◌∙◌, ◌++◌, ap, sym, subst, List, ℕ, length, take, drop}
 use Rattle.std.proofs.Math.Seq.{take-append_seam}
 use Rattle.history_model.specs.Sound.{AreFitted}
-use Rattle.lane_runner.specs.World.{layout_of}
+use Rattle.execution_model.specs.Elements.{layout_of}
 use Rattle.region_runner.proofs.run.values.Goals as goal
 
 pub returns : goal.returns

@@ -3,28 +3,31 @@ use Rattle.log_format.specs.declared.record.Record.{Record}
 use Rattle.log_format.specs.declared.record.Kind.TheVariants as kind
 use Rattle.kernel_model.specs.State.{event}
 use Rattle.kernel_model.specs.Trace.{log_limit}
-use Rattle.event_buffer.specs.Buffered.{Buffered, MayPut}
+use Rattle.event_buffer.specs.Buffered.{Buffered, MayPut, IsStill}
 use Rattle.event_buffer.specs.Logged.{HoldsRecords}
 use Rattle.lane_runner.specs.Going.{Progress, HasRoomFor, Waits}
+use Rattle.lane_runner.proofs.Handing.{same_place}
 use Rattle.lane_runner.proofs.Working.{hand_still}
 use Rattle.lane_runner.specs.Handed.{entries_of, place_of}
 use Rattle.lane_runner.proofs.track.Track.fork.Goals as goal
 
-module _ (old mid : Progress) (new : Buffered) (room : HasRoomFor old mid) (same : new ≡ record mid.buffer { faults = new.faults; refused = new.refused }) where
-  may_still : new.refused ≡ None → MayPut new
-  may_still unrefused = record {
+module _ (old mid : Progress) (new : Buffered) (room : HasRoomFor old mid) (still : IsStill mid.buffer new) where
+  may_still : new.waiting ≡ mid.buffer.waiting → new.refused ≡ None → MayPut new
+  may_still waiting unrefused = record {
     unrefused = unrefused;
-    below = subst (λ (n : ℕ). n < log_limit) (sym (ap (λ (b : Buffered). b.count) same)) room.may_put.below;
-    room = subst (λ (b : Buffered). length b.waiting + 24 ≤ b.size) (sym same) room.may_put.room;
+    below = subst (λ (n : ℕ). n < log_limit) (sym still.count) room.may_put.below;
+    room =
+        subst (λ (w : List ℕ). length w + 24 ≤ new.size) (sym waiting)
+        (subst (λ (n : ℕ). length mid.buffer.waiting + 24 ≤ n) (sym still.size) room.may_put.room);
   }
 
   still_waits : ((header : List ℕ) (records : List Record) → HoldsRecords header mid.buffer records → HoldsRecords header new records) → Waits old (record mid { buffer = new })
   still_waits records = record {
     hand = room.waits.hand;
     records = λ header rs holds. records header rs (room.waits.records header rs holds);
-    count = ap (λ (b : Buffered). b.count) same ∙ room.waits.count;
-    path = ap (λ (b : Buffered). b.path) same ∙ room.waits.path;
-    place = ap place_of same ∙ room.waits.place;
+    count = still.count ∙ room.waits.count;
+    path = still.path ∙ room.waits.path;
+    place = same_place mid.buffer new still ∙ room.waits.place;
     tally = room.waits.tally;
     done = room.waits.done;
   }
@@ -32,19 +35,19 @@ module _ (old mid : Progress) (new : Buffered) (room : HasRoomFor old mid) (same
 pub put-requires : goal.put-requires
 put-requires g c =
     let room = subst (λ (p : Progress). HasRoomFor c.args.self.now p) (sym c.self.view_is) c.in_ok-ready.ensures.room in
-    (search rules, (search rules, may_still c.args.self.now (record { hand = c.self.inside.hand; buffer = c.self.inside.buffer; tally = record { draws = c.self.inside.draws; next_loop = c.self.inside.next_loop; forked = c.self.inside.forked }; done = entries_of (record { dir = g.L.Log.dir; path = g.L.Log.path; text = g.L.Log.text; faults = g.L.Log.faults }) c.self.inside.done.items }) c.children.new.buffer room c.children.ensures.same c.in-Ok.ensures.unrefused))
+    (search rules, (search rules, may_still c.args.self.now (record { hand = c.self.inside.hand; buffer = c.self.inside.buffer; tally = record { draws = c.self.inside.draws; next_loop = c.self.inside.next_loop; forked = c.self.inside.forked }; done = entries_of (record { dir = g.L.Log.dir; path = g.L.Log.path; text = g.L.Log.text; faults = g.L.Log.faults }) c.self.inside.done.items }) c.children.new.buffer room c.children.ensures.still c.children.ensures.waiting c.in-Ok.ensures.unrefused))
 
 pub returns-in-Err-clause-takes : goal.returns-in-Err-clause-takes
 returns-in-Err-clause-takes g c =
     let room = subst (λ (p : Progress). HasRoomFor c.args.self.now p) (sym c.self.view_is) c.in_ok-ready.ensures.room in (
-      still_waits c.args.self.now (record { hand = c.self.inside.hand; buffer = c.self.inside.buffer; tally = record { draws = c.self.inside.draws; next_loop = c.self.inside.next_loop; forked = c.self.inside.forked }; done = entries_of (record { dir = g.L.Log.dir; path = g.L.Log.path; text = g.L.Log.text; faults = g.L.Log.faults }) c.self.inside.done.items }) c.children.new.buffer room c.children.ensures.same c.children.ensures.records,
+      still_waits c.args.self.now (record { hand = c.self.inside.hand; buffer = c.self.inside.buffer; tally = record { draws = c.self.inside.draws; next_loop = c.self.inside.next_loop; forked = c.self.inside.forked }; done = entries_of (record { dir = g.L.Log.dir; path = g.L.Log.path; text = g.L.Log.text; faults = g.L.Log.faults }) c.self.inside.done.items }) c.children.new.buffer room c.children.ensures.still c.children.ensures.records,
       record { refused = c.in-Err.ensures.refused },
     )
 
 pub returns-clause-takes : goal.returns-clause-takes
 returns-clause-takes g c =
     let room = subst (λ (p : Progress). HasRoomFor c.args.self.now p) (sym c.self.view_is) c.in_ok-ready.ensures.room in
-    let waits = still_waits c.args.self.now (record { hand = c.self.inside.hand; buffer = c.self.inside.buffer; tally = record { draws = c.self.inside.draws; next_loop = c.self.inside.next_loop; forked = c.self.inside.forked }; done = entries_of (record { dir = g.L.Log.dir; path = g.L.Log.path; text = g.L.Log.text; faults = g.L.Log.faults }) c.self.inside.done.items }) c.children.new.buffer room c.children.ensures.same c.children.ensures.records in
+    let waits = still_waits c.args.self.now (record { hand = c.self.inside.hand; buffer = c.self.inside.buffer; tally = record { draws = c.self.inside.draws; next_loop = c.self.inside.next_loop; forked = c.self.inside.forked }; done = entries_of (record { dir = g.L.Log.dir; path = g.L.Log.path; text = g.L.Log.text; faults = g.L.Log.faults }) c.self.inside.done.items }) c.children.new.buffer room c.children.ensures.still c.children.ensures.records in
     record {
       hand = room.waits.hand ∙ hand_still c.args.self.now.hand c.requires.there;
       log = record {

@@ -1,0 +1,124 @@
+#!/usr/bin/env python3
+"""Compares `run` of two programs side by side: how long each takes, and that both leave the same folder.
+
+usage: blocks.py SWORD OTHER [--runs N] [--kernels N]
+
+Each turn runs both, and each time is the least of N (5). The last case preloads `bench/slow.c`, where gcc is there and the programs are
+linked dynamically: each append takes 100 microseconds longer. Then so many random kernels (1000) that neither race nor draw are run by
+both, with sizes of 24 to 4,096 bytes, and their folders are compared byte for byte.
+"""
+import argparse
+import filecmp
+import os
+import random
+import shutil
+import subprocess
+import sys
+import tempfile
+import time
+
+STORES = "array a i64 1000000 main { parallel 4 { for i in 0 .. 4000000 { a[i / 4] = i } } }\n"
+REGIONS = "array a i64 64 main { loop k in 0 .. 1000 { parallel 64 { loop j in 0 .. 9 { a[tid] = j } } } }\n"
+SLOW = "array a i64 4 main { parallel 4 { loop k in 0 .. 20000 { a[tid] = a[tid] * 3 + k } } }\n"
+CASES = [
+    ("four lanes, 1,000,000 stores each, SIZE 65536", STORES, 65536, False),
+    ("the same, SIZE 4096", STORES, 4096, False),
+    ("1,000 regions of 64 lanes, ten records each, SIZE 4096", REGIONS, 4096, False),
+    ("four lanes, 40,000 accesses each, appends of 100 us, SIZE 4096", SLOW, 4096, True),
+]
+
+
+def run(program, kernel, folder, size, preload=None):
+    shutil.rmtree(folder, ignore_errors=True)
+    env = dict(os.environ, LD_PRELOAD=preload) if preload else None
+    start = time.monotonic()
+    done = subprocess.run([program, "run", kernel, folder, str(size)], capture_output=True, env=env)
+    seconds = time.monotonic() - start
+    if done.returncode != 0:
+        sys.exit(f"{program} {size}: {done.returncode} {done.stdout[:200]}")
+    return seconds
+
+
+def same(one, other):
+    names = sorted(os.listdir(one))
+    return names == sorted(os.listdir(other)) and not filecmp.cmpfiles(one, other, names, shallow=False)[1]
+
+
+def body(lane_free, depth):
+    """Statements of a lane, which touches its own element alone."""
+    lines = []
+    for _ in range(random.randint(1, 4)):
+        kind = random.randint(0, 5)
+        if kind == 0:
+            lines.append(f"a[{lane_free}] = a[{lane_free}] + {random.randint(1, 9)}")
+        elif kind == 1:
+            lines.append(f"loop v{depth}{len(lines)} in 0 .. {random.randint(1, 60)} {{ a[{lane_free}] = v{depth}{len(lines)} }}")
+        elif kind == 2:
+            lines.append("barrier")
+        elif kind == 3 and depth < 2:
+            span = random.randint(1, 3)
+            lines.append(f"parallel {span} {{ b[{lane_free} * 4 + tid] = {random.randint(1, 99)} }}")
+        else:
+            lines.append(f"loop w{depth}{len(lines)} in 0 .. {random.randint(1, 9)} {{ a[{lane_free}] = w{depth}{len(lines)} * 3 }}")
+    return "\n".join(lines)
+
+
+def kernel_text():
+    span = random.randint(1, 6)
+    regions = []
+    for _ in range(random.randint(1, 3)):
+        regions.append(f"parallel {span} {{\nlet t = tid\n{body('t', 1)}\n}}")
+    return "array a i64 64\narray b i64 256\nmain {\na[0] = 1\n" + "\n".join(regions) + "\n}\n"
+
+
+def measured(args, place):
+    slow = os.path.join(place, "slow.so")
+    here = os.path.dirname(os.path.abspath(__file__))
+    built = shutil.which("gcc") and subprocess.run(["gcc", "-shared", "-fPIC", "-O2", "-o", slow, os.path.join(here, "slow.c"), "-ldl"]).returncode == 0
+    path = os.path.join(place, "k.kernel")
+    folders = [os.path.join(place, "one"), os.path.join(place, "other")]
+    for what, text, size, is_slow in CASES:
+        if is_slow and not built:
+            continue
+        with open(path, "w") as out:
+            out.write(text)
+        best = [None, None]
+        for _ in range(args.runs):
+            for n, program in enumerate((args.sword, args.other)):
+                seconds = run(program, path, folders[n], size, slow if is_slow else None)
+                best[n] = seconds if best[n] is None else min(best[n], seconds)
+        told = "same folder" if same(*folders) else "other folder"
+        print(f"{what}: {best[0]:.3f} s against {best[1]:.3f} s, {best[1] / best[0]:.2f} times as fast, {told}", flush=True)
+
+
+def compared(args, place):
+    path = os.path.join(place, "k.kernel")
+    folders = [os.path.join(place, "one"), os.path.join(place, "other")]
+    for number in range(args.kernels):
+        random.seed(number)
+        with open(path, "w") as out:
+            out.write(kernel_text())
+        size = 24 + random.randint(0, 4072)
+        if number % 3 == 0:
+            size = random.choice([24, 25, 47, 48, 72, 96])
+        for n, program in enumerate((args.sword, args.other)):
+            run(program, path, folders[n], size)
+        if not same(*folders):
+            shutil.copy(path, "differs.kernel")
+            sys.exit(f"kernel {number} with SIZE {size} differs: differs.kernel")
+    print(f"{args.kernels} random kernels: the same folders")
+
+
+def main():
+    args = argparse.ArgumentParser()
+    args.add_argument("sword")
+    args.add_argument("other")
+    args.add_argument("--runs", type=int, default=5)
+    args.add_argument("--kernels", type=int, default=1000)
+    args = args.parse_args()
+    with tempfile.TemporaryDirectory() as place:
+        measured(args, place)
+        compared(args, place)
+
+
+main()
