@@ -5,6 +5,8 @@ use Rattle.std.proofs.lemmas.Bool.{cases_lt}
 use Rattle.std.proofs.lemmas.List.{append-nil, take-append-drop, length_push, take_all, same_lists, nil_from_length}
 use Rattle.std.proofs.lemmas.Option.{same_Some, none-some, slice_get-get_or}
 use Rattle.sw_base.specs.declared.path.Step.{Step}
+use Rattle.sw_base.proofs.Lists.{get_more, get_seam}
+use Rattle.kernel_rules.proofs.LawfulFolder.{traced_at}
 use Rattle.log_format.specs.declared.record.Record.{Record}
 use Rattle.log_format.specs.declared.record.Kind.TheVariants as kind
 use Rattle.log_format.specs.Fitting.{IsWidth}
@@ -29,7 +31,6 @@ use Rattle.certainty_model.specs.Certain.{IsFixed, IsRun, IsCertain, BeginsRun, 
 use Rattle.certainty_model.proofs.Descent.{AreRuns, Same, same_root, two, Parts, known, same_forked}
 use Rattle.certainty_model.proofs.Entries.{Has, InOrder, respected, record_entry, first_in, second_in}
 use Rattle.certainty_model.proofs.LastStores.{IsStore, same_value}
-use Rattle.certainty_model.proofs.Lists.{get_here, get_more}
 use Rattle.certainty_model.proofs.SameReads.{IsOrdered, IsSequence, nothing_parts, no_updates, write_record, write_kept}
 use Rattle.certainty_model.proofs.WholeRuns as whole
 
@@ -109,7 +110,7 @@ module _ (program : Program) (lawful : IsLawful program) (run : Trace) (certain 
     runs : AreRuns program S T (λ path. ListsTask tasks path)
     runs = record {
       fixed = certain.fixed;
-      traced = whole.traced_at program lawful certain.fixed run certain.run.traced;
+      traced = traced_at program run certain.run.traced;
       sized = whole.sized program lawful certain.fixed run certain.run.traced;
       begun = b.begun;
       lists = whole.listed_there tasks;
@@ -202,12 +203,12 @@ module _ (program : Program) (lawful : IsLawful program) (run : Trace) (certain 
           event = mine.last;
           found =
               ap (λ (rs : List Record). slice_get rs (length mine.prefix)) (begun.begins ∙ ap (λ (rs : List Record). rs ++ begun.rest) mine.parts)
-              ∙ get_more (mine.prefix ++ mine.last ∷ []) begun.rest (length mine.prefix) mine.last (get_here mine.prefix mine.last []);
+              ∙ get_more (mine.prefix ++ mine.last ∷ []) begun.rest (length mine.prefix) mine.last (get_seam mine.prefix mine.last []);
           kind_is = mine.ends;
         }
 
         its_end : HasKind S (node path (length yours.prefix)) kind.End
-        its_end = record { event = yours.last; found = ap (λ (rs : List Record). slice_get rs (length yours.prefix)) yours.parts ∙ get_here yours.prefix yours.last []; kind_is = yours.ends }
+        its_end = record { event = yours.last; found = ap (λ (rs : List Record). slice_get rs (length yours.prefix)) yours.parts ∙ get_seam yours.prefix yours.last []; kind_is = yours.ends }
 
         none : begun.rest ≡ []
         none =

@@ -4,6 +4,8 @@ use Rattle.std.specs.Prelude.{slice_get, map, reverse}
 use Rattle.std.proofs.lemmas.List.{append-nil}
 use Rattle.std.proofs.lemmas.Option.{same_Some}
 use Rattle.sw_base.specs.declared.path.Step.{Step}
+use Rattle.sw_base.proofs.Lists.{get_more}
+use Rattle.step_history.proofs.Labelled.{filter_yes, filter_no}
 use Rattle.log_format.specs.declared.record.Record.{Record}
 use Rattle.log_format.specs.declared.record.Kind.TheVariants as kind
 use Rattle.race_model.specs.History.{Entry, entry_of, entries_from, task_entries, release, IsHistory, RespectsOrder, FitsKind, IsLegalAfter}
@@ -11,10 +13,8 @@ use Rattle.race_model.specs.Order.{HappensBefore}
 use Rattle.race_model.specs.Race.{held_after}
 use Rattle.race_model.specs.Trace.{Logs, Node, record_at, path_eq}
 use Rattle.race_model.proofs.TraceLogs.{path_itself}
-use Rattle.history_laws.proofs.Counting.{filter_yes, filter_no}
 use Rattle.history_laws.proofs.LongerLogs.{released_on}
 use Rattle.history_laws.proofs.Members.{of_log}
-use Rattle.certainty_model.proofs.Lists.{get_more}
 
 -- the list has the entry
 abbrev pub Has : Entry → List Entry → Type 0

@@ -3,6 +3,7 @@ use Rattle.std.proofs.Common.{◌≡◌, refl, ap, sym, ◌∙◌, subst, ℕ, �
 use Rattle.std.specs.Prelude.{slice_get}
 use Rattle.std.proofs.lemmas.List.{same_from_push}
 use Rattle.sw_base.specs.declared.path.Step.{Step}
+use Rattle.sw_base.proofs.Lists.{get_seam}
 use Rattle.log_format.specs.declared.record.Record.{Record}
 use Rattle.log_format.specs.declared.record.Kind.TheVariants as kind
 use Rattle.race_model.specs.ForkJoin.{IsTask, WasForked}
@@ -10,16 +11,12 @@ use Rattle.race_model.specs.Listing.{lane_of}
 use Rattle.race_model.specs.Order.{IsLane, IsNext, IsForkEdge, IsJoinEdge, IsBarrierEdge, Edge, HasEdge, HappensBefore}
 use Rattle.race_model.specs.Trace.{Logs, Node, IsThere, HasKind, regions_before, barriers_before, barrier_count}
 use Rattle.race_laws.proofs.Counts.{there, barriers_after, barrier_at, BarrierAt}
-use Rattle.race_laws.proofs.LabelPlace.{is_region, same_node, same_region}
+use Rattle.race_laws.proofs.LabelPlace.{is_region, same_node, same_region, same_index}
 use Rattle.race_laws.proofs.ProgramOrder.{node, happens_before_trans, happens_before_edge}
 use Rattle.kernel_syntax.specs.Program.{Program}
 use Rattle.history_model.specs.Joined.{LastIsEnd}
 use Rattle.execution_model.specs.Execution.{HaveMet, HaveJoined}
-use Rattle.certainty_model.proofs.Lists.{get_here}
 use Rattle.certainty_model.proofs.Descent.{AreRuns, there_before, lane_longer, enter, CalmBefore, calm_earlier, Agreed, agreed, same_kind, other_kind, same_record, same_regions, same_barriers}
-
-same_index : (i j a b : ℕ) → (i < j → a < b) → (j < i → b < a) → a ≡ b → i ≡ j
-same_index i j a b up down e = grind arith
 
 -- a barrier is known by its task and its number
 same_barrier : (logs : Logs) (x y : Node) → HasKind logs x kind.Barrier → HasKind logs y kind.Barrier → x.path ≡ y.path → barriers_before logs x ≡ barriers_before logs y → x ≡ y
@@ -119,7 +116,7 @@ module _ (program : Program) (S T : Logs) (Lists : List Step → Type 0) (runs :
           last = node x.path (length end.prefix)
 
           last_ends : HasKind T (node x.path (length end.prefix)) kind.End
-          last_ends = record { event = end.last; found = ap (λ (rs : List Record). slice_get rs (length end.prefix)) end.parts ∙ get_here end.prefix end.last []; kind_is = end.ends }
+          last_ends = record { event = end.last; found = ap (λ (rs : List Record). slice_get rs (length end.prefix)) end.parts ∙ get_seam end.prefix end.last []; kind_is = end.ends }
 
           edge : HasEdge T (node x.path (length end.prefix)) y
           edge = record {

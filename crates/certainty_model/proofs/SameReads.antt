@@ -1,8 +1,9 @@
 -- Every read of an execution finds what it finds in the run without races.
 use Rattle.std.proofs.Common.{◌≡◌, refl, ap, sym, ◌∙◌, subst, ◌⊎◌, inl, inr, ℕ, List, [], ◌∷◌, ◌++◌, append_assoc, Some}
 use Rattle.std.proofs.lemmas.List.{append-nil}
-use Rattle.std.proofs.lemmas.Option.{same_Some, slice_get_within}
+use Rattle.std.proofs.lemmas.Option.{same_Some}
 use Rattle.sw_base.specs.declared.path.Step.{Step}
+use Rattle.race_model.proofs.TraceLogs.{record_there}
 use Rattle.log_format.specs.declared.record.Record.{Record}
 use Rattle.log_format.specs.declared.record.Kind.{Kind}
 use Rattle.log_format.specs.declared.record.Kind.TheVariants as kind
@@ -22,10 +23,18 @@ read_kept r is e = ap (λ (k : Kind). entry_of k e) is
 pub write_kept : (r : Record) → r.kind ≡ kind.Write → IsKept r
 write_kept r is e = ap (λ (k : Kind). entry_of k e) is
 
+-- no record is an update
+abbrev pub MakesNoUpdate : Logs → Type 0
+MakesNoUpdate logs = (x : Node) (r : Record) → record_at logs x ≡ Some r → r.kind ≡ kind.Update → ⊥
+
+-- a task has one End at most
+abbrev pub EndOnce : Logs → Type 0
+EndOnce logs = (x y : Node) → x.path ≡ y.path → HasKind logs x kind.End → HasKind logs y kind.End → x.index ≡ y.index
+
 -- A run in which each write is ordered with each access of its address, and which makes no update: told of its records.
 pub record IsOrdered (logs : Logs) : Type 0 where
-  pub no_update : (x : Node) (r : Record) → record_at logs x ≡ Some r → r.kind ≡ kind.Update → ⊥
-  pub one_end : (x y : Node) → x.path ≡ y.path → HasKind logs x kind.End → HasKind logs y kind.End → x.index ≡ y.index
+  pub no_update : MakesNoUpdate logs
+  pub one_end : EndOnce logs
   pub ordered : (x y : Node) (r s : Record) → record_at logs x ≡ Some r → record_at logs y ≡ Some s → r.kind ≡ kind.Write → (s.kind ≡ kind.Read) ⊎ (s.kind ≡ kind.Write) → r.addr ≡ s.addr
       → (HappensBefore logs x y → ⊥) → (HappensBefore logs y x → ⊥) → ⊥
 
@@ -38,7 +47,7 @@ pub write_record : (logs : Logs) (history : List Entry) (is : IsHistory logs his
 write_record logs history is e has addr store = entry_record logs history is e has (λ unlock. let no : kind.Write ≡ kind.Unlock = sym store.writes ∙ unlock in cc)
 
 -- no update among a history's entries, where the logs make none
-pub no_updates : (logs : Logs) (history : List Entry) → IsHistory logs history → ((x : Node) (r : Record) → record_at logs x ≡ Some r → r.kind ≡ kind.Update → ⊥) → NoUpdate history
+pub no_updates : (logs : Logs) (history : List Entry) → IsHistory logs history → MakesNoUpdate logs → NoUpdate history
 no_updates logs history is none e has update =
     none e.node e.event (entry_record logs history is e has (λ unlock. let no : kind.Update ≡ kind.Unlock = sym update ∙ unlock in cc)) update
 
@@ -55,12 +64,6 @@ module _ (program : Program) (S T : Logs) (Lists : List Step → Type 0) (runs :
 
   abbrev Is : Node → Type 0
   Is x = Agreed program S T Lists runs x
-
-  back : (x y : Node) → HappensBefore S x y → IsThere T y → Quiet y → HappensBefore T x y
-  back = reach program S T Lists runs met joined free.one_end
-
-  there_of : (logs : Logs) (x : Node) (r : Record) → record_at logs x ≡ Some r → IsThere logs x
-  there_of logs x r found = slice_get_within (logs x.path) x.index r found
 
   -- a read that parts is in the history
   in_history : (q : Node) (d : Differ q) → Has (entry q d.right) other
@@ -80,7 +83,7 @@ module _ (program : Program) (S T : Logs) (Lists : List Step → Type 0) (runs :
     split f has = has_either f before (e ∷ after) (subst (λ (es : List Entry). Has f es) parts has)
 
     here : IsThere T e.node
-    here = there_of T e.node bad.right bad.right_is
+    here = record_there T e.node bad.right bad.right_is
 
     calm : Quiet e.node
     calm q q_before apart d = elim (split (entry q d.right) (in_history q d))
@@ -95,7 +98,7 @@ module _ (program : Program) (S T : Logs) (Lists : List Step → Type 0) (runs :
 
     -- what stands before it is the same in the run
     in_run : (f : Entry) → Has f before → record_at T f.node ≡ Some f.event → record_at S f.node ≡ Some f.event
-    in_run f has found = sym (same_record program S T Lists runs f.node (agreed program S T Lists runs f.node (there_of T f.node f.event found) (earlier_calm f has))) ∙ found
+    in_run f has found = sym (same_record program S T Lists runs f.node (agreed program S T Lists runs f.node (record_there T f.node f.event found) (earlier_calm f has))) ∙ found
 
     read_there : Has (entry e.node bad.left) mine
     read_there = record_entry S mine mine_is.is e.node bad.left bad.left_is (read_kept bad.left bad.left_read)
@@ -128,7 +131,7 @@ module _ (program : Program) (S T : Logs) (Lists : List Step → Type 0) (runs :
             (λ w_first. own_order (entry e.node bad.left) w
             (subst (λ (es : List Entry). InOrder es (entry e.node bad.left) w) (append_assoc own.before (entry e.node bad.left ∷ []) own.after ∙ sym own.parts)
             (order_parts (own.before ++ entry e.node bad.left ∷ []) own.after (entry e.node bad.left) w (has_right (entry e.node bad.left) own.before (entry e.node bad.left ∷ []) (inl refl)) later)) w_first)
-            (λ read_first. in_order w e has (inl refl) (back e.node w.node read_first (there_of T w.node w.event in_log) (λ q q_before apart. earlier_calm w has q q_before)))
+            (λ read_first. in_order w e has (inl refl) (reach program S T Lists runs met joined free.one_end e.node w.node read_first (record_there T w.node w.event in_log) (λ q q_before apart. earlier_calm w has q q_before)))
 
         by : Has w own.before ⊎ Has w (entry e.node bad.left ∷ own.after) → ⊥
         by (inl earlier) = not_there earlier
@@ -152,7 +155,7 @@ module _ (program : Program) (S T : Logs) (Lists : List Step → Type 0) (runs :
         first in_one = by (split u (record_entry T other other_is.is u.node u.event in_log (write_kept u.event store.writes)))
           where
             in_two : HappensBefore T u.node e.node
-            in_two = back u.node e.node in_one here calm
+            in_two = reach program S T Lists runs met joined free.one_end u.node e.node in_one here calm
 
             u_is : Is u.node
             u_is = agreed program S T Lists runs u.node (there_before T u.node e.node in_two here) (calm_earlier program S T Lists runs u.node e.node here in_two apart calm)
@@ -171,7 +174,7 @@ module _ (program : Program) (S T : Logs) (Lists : List Step → Type 0) (runs :
         free.ordered x.node y.node x.event y.event (found x x_is x_has) (found y y_is y_has) x_is.writes (inr y_is.writes) (x_is.address ∙ sym y_is.address)
         (own_order y x (subst (λ (es : List Entry). InOrder es y x) (sym own.parts) (order_more own.before (entry e.node bad.left ∷ own.after) y x two)))
         (λ y_first. respected T other other_is.order x y (subst (λ (es : List Entry). InOrder es x y) (sym parts) (order_more before (e ∷ after) x y one))
-        (back y.node x.node y_first (there_of T x.node x.event (write_record T other other_is.is x (in_other x x_has) bad.left.addr x_is)) (λ q q_before apart. earlier_calm x x_has q q_before)))
+        (reach program S T Lists runs met joined free.one_end y.node x.node y_first (record_there T x.node x.event (write_record T other other_is.is x (in_other x x_has) bad.left.addr x_is)) (λ q q_before apart. earlier_calm x x_has q q_before)))
       where
         x_has : Has x before
         x_has = first_in before x y one

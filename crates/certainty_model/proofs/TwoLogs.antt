@@ -5,6 +5,7 @@ use Rattle.std.proofs.lemmas.List.{take-append-le}
 use Rattle.std.proofs.lemmas.List.Sums.{sum_by-take-le}
 use Rattle.std.specs.Prelude.{cond}
 use Rattle.std.proofs.lemmas.Int.{to_z-of_z}
+use Rattle.sw_base.proofs.Lists.{get_left, get_seam}
 use Rattle.kernel_syntax.specs.Program.{Program}
 use Rattle.kernel_syntax.proofs.Fitting.{fitted_fits}
 use Rattle.log_format.specs.declared.record.Record.{Record}
@@ -17,7 +18,6 @@ use Rattle.kernel_model.specs.Trace.{Start, TaskTrace, Ended, Wanting}
 use Rattle.kernel_model.specs.Folder.{own_trace, IsTraced}
 use Rattle.execution_model.specs.Execution.{BeginsTrace}
 use Rattle.certainty_model.specs.Certain.{IsFixed}
-use Rattle.certainty_model.proofs.Lists.{get_first, get_here}
 use Rattle.certainty_model.proofs.TwoTraces.{Differ, TwoTraces, two_traces}
 
 -- two reads of one address that found different values
@@ -71,8 +71,8 @@ module _ (mine other rest : List Record) (s t : TaskTrace) (sized : AreSized min
         right = access kind.Read e site line (fitted w e.width);
         left_is = left_is;
         right_is =
-            sym (get_first other rest (length two.common) longer) ∙ (ap (λ l. slice_get l (length two.common)) (sym begins ∙ (two.t_records ∙ ap (λ l. two.common ++ l) t_is))
-            ∙ get_here two.common (access kind.Read e site line (fitted w e.width)) t_later);
+            sym (get_left other rest (length two.common) longer) ∙ (ap (λ l. slice_get l (length two.common)) (sym begins ∙ (two.t_records ∙ ap (λ l. two.common ++ l) t_is))
+            ∙ get_seam two.common (access kind.Read e site line (fitted w e.width)) t_later);
         left_read = refl;
         right_read = refl;
         address = refl;
@@ -82,7 +82,7 @@ module _ (mine other rest : List Record) (s t : TaskTrace) (sized : AreSized min
           left_is : slice_get mine (length two.common) ≡ Some (access kind.Read e site line (fitted v e.width))
           left_is =
               ap (λ l. slice_get l (length two.common)) (sym mine_is ∙ (two.s_records ∙ ap (λ l. two.common ++ l) s_is))
-              ∙ get_here two.common (access kind.Read e site line (fitted v e.width)) s_later
+              ∙ get_seam two.common (access kind.Read e site line (fitted v e.width)) s_later
 
   forks_alike : (i k : ℕ) → i ≤ length two.common → i ≤ length other → k < region_count (take i other) → slice_get t.forks k ≡ slice_get s.forks k
   forks_alike i k in_common in_other counted =
@@ -91,7 +91,7 @@ module _ (mine other rest : List Record) (s t : TaskTrace) (sized : AreSized min
       let fewer : region_count (take i other) ≤ region_count two.common = subst (λ l. region_count l ≤ region_count two.common) (sym same) (counted_first two.common i) in
       let forks = two.counts in
       let within : k < length two.forks = omega arith in
-      ap (λ l. slice_get l k) two.t_forks ∙ get_first two.forks two.t_more k within ∙ sym (ap (λ l. slice_get l k) two.s_forks ∙ get_first two.forks two.s_more k within)
+      ap (λ l. slice_get l k) two.t_forks ∙ get_left two.forks two.t_more k within ∙ sym (ap (λ l. slice_get l k) two.s_forks ∙ get_left two.forks two.s_more k within)
 
   -- a trace that is all of the other log doesn't stop
   ending : length other ≤ length two.common → t.records ≡ other → (t.end ≡ Ended) ⊎ (t.end ≡ Wanting)

@@ -1,11 +1,13 @@
 -- What the definition of a whole run of a lawful fixed kernel buys: told of its tasks alone.
-use Rattle.std.proofs.Common.{◌≡◌, refl, ap, sym, ◌∙◌, subst, ◌⊎◌, inl, inr, ℕ, zero, suc, ◌+◌, ◌<◌, ◌≤◌, Bool, true, false, List, [], ◌∷◌, ◌++◌, length, take, Option, Some, None, arith, All, pos, length-append}
+use Rattle.std.proofs.Common.{◌≡◌, refl, ap, sym, ◌∙◌, subst, ◌⊎◌, inl, inr, ℕ, zero, suc, ◌+◌, ◌<◌, ◌≤◌, List, [], ◌∷◌, ◌++◌, length, take, Option, Some, arith, All, pos, length-append}
 use Rattle.std.specs.Prelude.{slice_get, IsSome, option_map, cond}
 use Rattle.std.proofs.lemmas.List.{append-nil}
 use Rattle.std.proofs.lemmas.List.Elements.{All-replicate}
 use Rattle.std.proofs.lemmas.List.Sums.{sum_by-take-le}
-use Rattle.std.proofs.lemmas.Option.{same_Some, none-some, slice_get-map, slice_get_within, get_or_from_slice_get}
+use Rattle.std.proofs.lemmas.Option.{same_Some, slice_get-map, slice_get_within, get_or_from_slice_get}
 use Rattle.sw_base.specs.declared.path.Step.{Step}
+use Rattle.kernel_rules.proofs.LawfulFolder.{traced_at}
+use Rattle.certainty_model.proofs.SameReads.{MakesNoUpdate, EndOnce}
 use Rattle.log_format.specs.declared.format.TheConstants.{FORMAT}
 use Rattle.log_format.specs.declared.record.Record.{Record}
 use Rattle.log_format.specs.declared.record.Kind.{Kind}
@@ -17,18 +19,18 @@ use Rattle.race_model.specs.ForkJoin.{IsTask, IsTreeTrace, ListsTask, WasForked}
 use Rattle.race_model.specs.Listing.{lane_of}
 use Rattle.race_model.specs.Order.{IsLane}
 use Rattle.race_model.specs.Race.{held_after, held_after_kind}
-use Rattle.race_model.specs.Trace.{TaskLog, Trace, Logs, Node, HasKind, record_at, logs_of, path_eq, is_region_kind, is_barrier_kind, region_count, barrier_count}
-use Rattle.race_model.proofs.TraceLogs.{Found, find_task, all_at, path_is, path_itself}
-use Rattle.race_laws.proofs.Counts.{Counted, count_finds}
+use Rattle.race_model.specs.Trace.{TaskLog, Trace, Logs, Node, HasKind, record_at, logs_of, is_region_kind, is_barrier_kind, region_count, barrier_count}
+use Rattle.race_model.proofs.TraceLogs.{find_task, all_at, find_listed}
+use Rattle.race_laws.proofs.Counts.{Counted, count_finds, region_from_true}
 use Rattle.race_laws.proofs.ProgramOrder.{node}
 use Rattle.kernel_syntax.specs.Program.{Program}
 use Rattle.kernel_syntax.specs.Tree.{TeamTree}
 use Rattle.kernel_model.specs.State.{Fork, reads_of, chunks_of}
 use Rattle.kernel_model.specs.Trace.{Start}
-use Rattle.kernel_model.specs.Folder.{own_trace, root_start, lane_start, start_at, start_below, IsTraced, IsTracedTask, IsTracedFolder, paths_of}
+use Rattle.kernel_model.specs.Folder.{own_trace, root_start, lane_start, start_at, IsTraced, IsTracedTask, IsTracedFolder, paths_of}
 use Rattle.kernel_model.specs.Lawful.{IsLawful}
 use Rattle.kernel_model.specs.Parts.{parts_of, bar_count}
-use Rattle.kernel_model.proofs.Starts.{at_append, at_lane, at_root, IsLaneStart, lane_started, descend, starts_lane}
+use Rattle.kernel_model.proofs.Starts.{at_lane, at_root, IsLaneStart, lane_started, descend, starts_lane, start_above}
 use Rattle.kernel_rules.proofs.EndedTraces.{whole_trace}
 use Rattle.kernel_rules.proofs.LawfulLogs.{lawful_log, span_at, spans_count}
 use Rattle.kernel_rules.proofs.LawfulRecords.{IsLawfulTeam, IsLawfulFork, spans_of, spans_forked}
@@ -40,23 +42,6 @@ use Rattle.certainty_model.specs.Certain.{IsFixed}
 use Rattle.certainty_model.proofs.Pairs.{IsQuiet, QuietRecord, FixedFork}
 use Rattle.certainty_model.proofs.TwoLogs.{AreSized}
 use Rattle.certainty_model.proofs.TwoTraces.{EndsQuietly, ends_quietly}
-
--- a task that is listed is found
-pub listed : (tasks : Trace) (path : List Step) → ListsTask tasks path → Found tasks path
-listed [] path (k, within, is) = absurd (omega arith)
-listed (t ∷ tasks) path has = by (path_eq t.path path) refl (listed tasks path)
-  where
-    in_rest : path_eq t.path path ≡ false → ListsTask (t ∷ tasks) path → ListsTask tasks path
-    in_rest other (zero, within, is) =
-        let same : path_eq t.path path ≡ true = subst (λ (p : List Step). path_eq t.path p ≡ true) is (path_itself t.path) in
-        cc
-    in_rest other (suc k, within, is) = (k, omega arith, is)
-
-    by : (b : Bool) → path_eq t.path path ≡ b → (ListsTask tasks path → Found tasks path) → Found (t ∷ tasks) path
-    by true is rest = record { index = 0; task = t; found = refl; path_is = path_is t.path path is; records_are = rw is refl }
-    by false is rest =
-        let f = rest (in_rest is has) in
-        record { index = suc f.index; task = f.task; found = f.found; path_is = f.path_is; records_are = f.records_are ∙ rw is refl }
 
 -- a task with a record is listed
 pub listed_there : (tasks : Trace) (path : List Step) → IsTask (logs_of tasks) path → ListsTask tasks path
@@ -71,10 +56,6 @@ fork_of : (forks : List Fork) (k span : ℕ) → slice_get (spans_forked forks) 
 fork_of [] k span is = cc
 fork_of (f ∷ forks) zero span is = (f, refl, sym (same_Some f.team.span span is))
 fork_of (f ∷ forks) (suc k) span is = fork_of forks k span is
-
-region_from_true : (k : Kind) → is_region_kind k ≡ true → k ≡ kind.Region
-region_from_true kind.Region e = refl
-region_from_true _ e = cc
 
 -- a record of a log that ends quietly is quiet or its last
 last_or : (prefix : List Record) (last r : Record) (i : ℕ) → All QuietRecord prefix → slice_get (prefix ++ last ∷ []) i ≡ Some r → IsQuiet r.kind ⊎ ((i ≡ length prefix) × (last ≡ r))
@@ -108,24 +89,17 @@ module _ (program : Program) (lawful : IsLawful program) (fixed : IsFixed progra
   pub starts_listed : (path : List Step) (start : Start) → start_at program logs path ≡ Some start → ListsTask tasks path
   starts_listed path start starts = folder.all path (subst IsSome (sym starts) refl)
 
-  pub traced_at : (path : List Step) (start : Start) → start_at program logs path ≡ Some start → IsTraced program start (logs path)
-  traced_at path start starts =
-      let f = listed tasks path (starts_listed path start starts) in
-      let it = all_at (IsTracedTask program logs) tasks f.index f.task folder.each f.found in
-      let same : it.start ≡ start = same_Some it.start start (sym it.starts ∙ (ap (λ (p : List Step). start_at program logs p) f.path_is ∙ starts)) in
-      subst (λ (rs : List Record). IsTraced program start rs) f.records_are (subst (λ (s : Start). IsTraced program s f.task.records) same it.traced)
-
   -- and each task that is listed starts
   pub listed_starts : (path : List Step) → ListsTask tasks path → (start : Start) × (start_at program logs path ≡ Some start)
   listed_starts path has =
-      let f = listed tasks path has in
+      let f = find_listed tasks path has in
       let it = all_at (IsTracedTask program logs) tasks f.index f.task folder.each f.found in
       (it.start, sym (ap (λ (p : List Step). start_at program logs p) f.path_is) ∙ it.starts)
 
   pub begun : (path : List Step) → ListsTask tasks path → IsBegun program logs path
   begun path has =
       let s = listed_starts path has in
-      record { start = s.0; starts = s.1; begun = record { rest = []; begins = (traced_at path s.0 s.1).records_are ∙ sym (append-nil (logs path)) } }
+      record { start = s.0; starts = s.1; begun = record { rest = []; begins = (traced_at program tasks folder path s.0 s.1).records_are ∙ sym (append-nil (logs path)) } }
 
   -- ---- what goes over from task to task
 
@@ -169,7 +143,7 @@ module _ (program : Program) (lawful : IsLawful program) (fixed : IsFixed progra
   }
     where
       traced : IsTraced program start (logs path)
-      traced = traced_at path start starts
+      traced = traced_at program tasks folder path start starts
 
       forks : List Fork
       forks = (own_trace program start (logs path)).forks
@@ -193,7 +167,7 @@ module _ (program : Program) (lawful : IsLawful program) (fixed : IsFixed progra
     quiet : EndsQuietly (logs path) (own_trace program start (logs path)).forks
 
   ends_at : (path : List Step) (start : Start) → start_at program logs path ≡ Some start → Ends path
-  ends_at path start starts = record { start = start; starts = starts; quiet = quiet_end path start (good path start starts).stays (traced_at path start starts) }
+  ends_at path start starts = record { start = start; starts = starts; quiet = quiet_end path start (good path start starts).stays (traced_at program tasks folder path start starts) }
 
   ends : (x : Node) (r : Record) → record_at logs x ≡ Some r → Ends x.path
   ends x r found =
@@ -211,7 +185,7 @@ module _ (program : Program) (lawful : IsLawful program) (fixed : IsFixed progra
   none_loud x r found k loud other is = elim (quiet_or_last x r found)
       [ inl quiet ↦ loud (subst IsQuiet is quiet) | inr (index, last) ↦ other (sym is ∙ (ap (λ (q : Record). q.kind) (sym last) ∙ (ends x r found).quiet.ends)) ]
 
-  pub no_update : (x : Node) (r : Record) → record_at logs x ≡ Some r → r.kind ≡ kind.Update → ⊥
+  pub no_update : MakesNoUpdate logs
   no_update x r found = none_loud x r found kind.Update (λ q. q) (λ same. cc)
 
   no_lock : (x : Node) (r : Record) → record_at logs x ≡ Some r → r.kind ≡ kind.Lock → ⊥
@@ -226,14 +200,14 @@ module _ (program : Program) (lawful : IsLawful program) (fixed : IsFixed progra
       elim (quiet_or_last x h.event h.found)
       [ inl quiet ↦ absurd (subst IsQuiet h.kind_is quiet) | inr (index, last) ↦ omega (arith, index, ap length q.parts ∙ length-append q.prefix (q.last ∷ [])) ]
 
-  pub one_end : (x y : Node) → x.path ≡ y.path → HasKind logs x kind.End → HasKind logs y kind.End → x.index ≡ y.index
+  pub one_end : EndOnce logs
   one_end x y same x_is y_is = omega (arith, end_last x x_is, end_last y y_is, ap (λ (p : List Step). length (logs p)) same)
 
   -- an access has bytes
   tabled : (x : Node) (r : Record) → record_at logs x ≡ Some r → IsTabled FORMAT r
   tabled x r found =
       let e = ends x r found in
-      all_at (IsTabled FORMAT) (logs x.path) x.index r (traced_values program lawful.bounded e.start (good x.path e.start e.starts).values (logs x.path) (traced_at x.path e.start e.starts)).tabled found
+      all_at (IsTabled FORMAT) (logs x.path) x.index r (traced_values program lawful.bounded e.start (good x.path e.start e.starts).values (logs x.path) (traced_at program tasks folder x.path e.start e.starts)).tabled found
 
   pub read_width : (x : Node) (r : Record) → record_at logs x ≡ Some r → r.kind ≡ kind.Read → IsWidth r.size
   read_width x r found is = subst (λ (k : Kind). HasSize k r.size) is ((tabled x r found).passes why.Size)
@@ -254,7 +228,7 @@ module _ (program : Program) (lawful : IsLawful program) (fixed : IsFixed progra
   spans_are : (path : List Step) (start : Start) → start_at program logs path ≡ Some start → spans_of (logs path) ≡ spans_forked (own_trace program start (logs path)).forks
   spans_are path start starts =
       let e = ends_last path start starts in
-      (whole_trace program start (logs path) [] ((traced_at path start starts).records_are ∙ sym (append-nil (logs path))) (record { prefix = e.prefix; last = e.last; parts = e.parts; ends = e.ends })).spans
+      (whole_trace program start (logs path) [] ((traced_at program tasks folder path start starts).records_are ∙ sym (append-nil (logs path))) (record { prefix = e.prefix; last = e.last; parts = e.parts; ends = e.ends })).spans
 
   fork_span : (forks : List Fork) (k : ℕ) (f : Fork) → slice_get forks k ≡ Some f → slice_get (spans_forked forks) k ≡ Some f.team.span
   fork_span forks k f found = slice_get-map (λ (g : Fork). g.team.span) forks k ∙ ap (λ (o : Option Fork). option_map (λ (g : Fork). g.team.span) o) found
@@ -287,20 +261,13 @@ module _ (program : Program) (lawful : IsLawful program) (fixed : IsFixed progra
           region : c.item.kind ≡ kind.Region
           region = region_from_true c.item.kind c.counts
 
-  parent : (path : List Step) (step : Step) (next : Start) → start_at program logs (path ++ step ∷ []) ≡ Some next → (start : Start) × (start_at program logs path ≡ Some start)
-  parent path step next starts = by (start_at program logs path) refl
-    where
-      by : (o : Option Start) → start_at program logs path ≡ o → (start : Start) × (start_at program logs path ≡ Some start)
-      by None is = absurd (none-some next (sym (at_append program logs path (step ∷ []) ∙ ap (λ (o : Option Start). start_below program logs path o (step ∷ [])) is) ∙ starts))
-      by (Some start) is = (start, is)
-
   pub tree : IsTreeTrace tasks
   tree = record { root = starts_listed [] (root_start program) (at_root program logs); forked = forked }
     where
       forked : (path : List Step) (step : Step) → ListsTask tasks (path ++ step ∷ []) → WasForked logs path step
       forked path step has =
           let next = listed_starts (path ++ step ∷ []) has in
-          let up = parent path step next.0 next.1 in
+          let up = start_above program logs path step next.0 next.1 in
           fork_region path step up.0 next.0 up.1 (lane_started (slice_get (own_trace program up.0 (logs path)).forks step.region) step next.0 (sym (at_lane program logs path up.0 step up.1) ∙ next.1))
 
   -- ---- lanes
@@ -340,7 +307,7 @@ module _ (program : Program) (lawful : IsLawful program) (fixed : IsFixed progra
   barriers : (fork : Node) (lane span : ℕ) (path : List Step) (l : IsLane logs fork lane span path) → barrier_count (logs path) ≡ bar_count (parts_of (lane_starts fork lane span path l).forked.team.body)
   barriers fork lane span path l =
       let s = lane_starts fork lane span path l in
-      traced_barriers program _ (logs path) (good path _ s.starts).inside.even (traced_at path _ s.starts)
+      traced_barriers program _ (logs path) (good path _ s.starts).inside.even (traced_at program tasks folder path _ s.starts)
 
   pub met : HaveMet logs
   met fork lane other span path beside i l m there = omega (arith, first, mine, yours, ap (λ (f : Fork). bar_count (parts_of f.team.body)) one_fork)

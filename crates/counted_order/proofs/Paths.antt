@@ -5,6 +5,7 @@ use Rattle.std.proofs.lemmas.Option.{slice_get_within}
 use Rattle.std.proofs.Math.Seq.{take-append_seam}
 use Rattle.std.proofs.lemmas.List.{same_from_push, append_cancel_left}
 use Rattle.sw_base.specs.declared.path.Step.{Step}
+use Rattle.sw_base.proofs.Lists.{get_seam}
 use Rattle.log_format.specs.declared.record.Kind.TheVariants.{Region}
 use Rattle.race_model.specs.Trace.{Logs, Node, IsThere, HasKind, regions_before, barriers_before}
 use Rattle.race_model.specs.Order.{IsLane}
@@ -26,10 +27,6 @@ same_front xs ys more other e long =
 
 pub same_head : {X : Type 0} (x y : X) (xs ys : List X) → x ∷ xs ≡ y ∷ ys → x ≡ y
 same_head x y xs ys e = cc
-
-pub get_seam : {X : Type 0} (xs : List X) (x : X) (ys : List X) → slice_get (xs ++ x ∷ ys) (length xs) ≡ Some x
-get_seam [] x ys = refl
-get_seam (z ∷ xs) x ys = get_seam xs x ys
 
 pub length_front : {X : Type 0} (xs : List X) (k : ℕ) (x : X) → slice_get xs k ≡ Some x → length (take k xs) ≡ k
 length_front xs k x found = let within = slice_get_within xs k x found in length-take k xs ∙ (let e : min k (length xs) ≡ k = omega arith in e)

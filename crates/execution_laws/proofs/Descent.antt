@@ -13,7 +13,7 @@ use Rattle.kernel_model.specs.Trace.{Start}
 use Rattle.kernel_model.specs.Folder.{own_trace, lane_start, start_below}
 use Rattle.kernel_model.proofs.Starts.{starts_lane}
 use Rattle.history_model.specs.Work.{Work, RegionWork, work_records, work_regions, lane_works, works_at_step, works_under}
-use Rattle.history_laws.proofs.TaskTree.{AreForked, lane_is}
+use Rattle.history_laws.proofs.TaskTree.{AreForked, forked_works}
 use Rattle.execution_model.specs.Execution.{BeginsTrace, DrewSome}
 use Rattle.execution_model.specs.Runs.{works_log, lane_begin, region_logs, AreReleased, RunsTask, RunsRegions}
 
@@ -81,14 +81,8 @@ module _ (program : Program) where
       from_fork : RegionAt (own_trace program start (works_log works)).forks step.region forked.0.region
       from_fork = task_region start works step.region forked.0.region task forked.0.found
 
-      step_is : record { region = step.region; lane = step.lane; span = forked.0.region.span } ≡ step
-      step_is = λ i. record { region = step.region; lane = step.lane; span = forked.0.span_is i }
-
-      works_are : works_at_step step works ≡ lane_works step.lane forked.0.region.phases
-      works_are = ap (λ (s : Step). works_at_step s works) (sym step_is) ∙ lane_is works forked.0.region step.region step.lane forked.0.found
-
       of_lane : RunsTask program (lane_begin from_fork.fork step.lane) (works_at_step step works)
-      of_lane = subst (λ (ws : List Work). RunsTask program (lane_begin from_fork.fork step.lane) ws) (sym works_are)
+      of_lane = subst (λ (ws : List Work). RunsTask program (lane_begin from_fork.fork step.lane) ws) (sym (forked_works works step forked.0))
           (from_fork.lanes step.lane (let less = forked.0.within in let spans = forked.0.span_is in omega arith))
 
       lane_is_started : lane_start (slice_get (own_trace program start (logs path)).forks step.region) step ≡ Some (lane_begin from_fork.fork step.lane)

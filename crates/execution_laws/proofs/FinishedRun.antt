@@ -5,15 +5,15 @@ use Rattle.std.specs.List.{cons_option}
 use Rattle.std.proofs.lemmas.Option.{same_Some, slice_get-map}
 use Rattle.std.proofs.lemmas.List.Sums.{sum_by-cons}
 use Rattle.sw_base.specs.declared.path.Step.{Step}
+use Rattle.execution_laws.proofs.LoggedTasks.{listed_or}
 use Rattle.log_format.specs.declared.record.Record.{Record}
 use Rattle.log_format.specs.declared.record.Kind.{Kind}
 use Rattle.log_format.specs.declared.record.Kind.TheVariants as kind
 use Rattle.race_model.specs.Listing.{lane_of, IsListing}
 use Rattle.race_model.specs.ForkJoin.{ListsTask}
 use Rattle.race_model.specs.Order.{IsLane}
-use Rattle.race_model.specs.Trace.{TaskLog, Trace, Logs, Node, logs_of, path_eq, is_region_kind, region_count}
+use Rattle.race_model.specs.Trace.{TaskLog, Trace, Logs, Node, logs_of, is_region_kind, region_count}
 use Rattle.race_laws.proofs.ListedOnce.{logs_at}
-use Rattle.race_model.proofs.TraceLogs.{path_is}
 use Rattle.kernel_syntax.specs.Program.{Program}
 use Rattle.kernel_model.specs.State.{Fork}
 use Rattle.kernel_model.specs.Trace.{Start}
@@ -91,15 +91,6 @@ listed_at [] k task found = absurd cc
 listed_at (t ∷ tasks) zero task found = (0, omega arith, ap (λ (x : TaskLog). x.path) (same_Some t task found))
 listed_at (t ∷ tasks) (suc k) task found = let rest = listed_at tasks k task found in (suc rest.0, let within = rest.1 in omega arith, rest.2)
 
-find_log : (tasks : Trace) (path : List Step) → ListsTask tasks path ⊎ (logs_of tasks path ≡ [])
-find_log [] path = inr refl
-find_log (t ∷ tasks) path = by (path_eq t.path path) refl (find_log tasks path)
-  where
-    by : (b : Bool) → path_eq t.path path ≡ b → ListsTask tasks path ⊎ (logs_of tasks path ≡ []) → ListsTask (t ∷ tasks) path ⊎ (cond b t.records (logs_of tasks path) ≡ [])
-    by true same rest = inl (0, omega arith, path_is t.path path same)
-    by false same (inl (k, lt, is)) = inl (suc k, omega arith, is)
-    by false same (inr none) = inr none
-
 module _ (program : Program) (tasks : Trace) (address : ℕ → ℕ) (words : List ℕ) (x : IsExecution program tasks address words) (listing : IsListing (paths_of tasks))
     (ended : LastIsEnd (logs_of tasks [])) where
   abbrev logs : Logs
@@ -125,7 +116,7 @@ module _ (program : Program) (tasks : Trace) (address : ℕ → ℕ) (words : Li
       }
 
   ended_listed : (path : List Step) → LastIsEnd (logs path) → ListsTask tasks path
-  ended_listed path ends = by (find_log tasks path)
+  ended_listed path ends = by (listed_or tasks path)
     where
       by : ListsTask tasks path ⊎ (logs path ≡ []) → ListsTask tasks path
       by (inl listed) = listed

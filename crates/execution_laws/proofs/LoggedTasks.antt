@@ -15,7 +15,7 @@ use Rattle.history_laws.proofs.TaskTree.{AreForked, all_listed, logs_listed, lis
 use Rattle.execution_model.specs.Runs.{put_records, works_log, as_logged, logged_tasks, IsWithin}
 
 -- a path is listed, or it has no records
-listed_or : (trace : Trace) (path : List Step) → ListsTask trace path ⊎ (logs_of trace path ≡ [])
+pub listed_or : (trace : Trace) (path : List Step) → ListsTask trace path ⊎ (logs_of trace path ≡ [])
 listed_or [] path = inr refl
 listed_or (t ∷ trace) path = at (path_eq t.path path) refl (listed_or trace path) where
   at : (b : Bool) → path_eq t.path path ≡ b → ListsTask trace path ⊎ (logs_of trace path ≡ []) → ListsTask (t ∷ trace) path ⊎ (logs_of (t ∷ trace) path ≡ [])

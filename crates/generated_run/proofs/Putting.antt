@@ -1,5 +1,5 @@
 -- Putting the logs of a run one after another.
-use Rattle.std.proofs.Common.{◌≡◌, subst, refl, sym, ap, ◌∙◌, ℕ, zero, suc, ◌-◌, ◌+◌, ◌<◌, List, [], ◌∷◌, ◌++◌, map, Option, Some, None, append_assoc, arith}
+use Rattle.std.proofs.Common.{◌≡◌, subst, refl, sym, ap, ◌∙◌, ℕ, suc, ◌-◌, ◌+◌, ◌<◌, List, [], ◌∷◌, ◌++◌, map, Option, Some, None, append_assoc, arith}
 use Rattle.std.specs.Option.{option_map}
 use Rattle.std.specs.List.{range_with_len}
 use Rattle.std.proofs.lemmas.List.{map-append}
@@ -10,6 +10,7 @@ use Rattle.race_model.specs.Row.{Row}
 use Rattle.race_model.specs.Trace.{TaskLog, Trace}
 use Rattle.sw_base.specs.Environment.{LeavesPrefix}
 use Rattle.sw_base.specs.Names.{index_name}
+use Rattle.sw_base.proofs.Lists.{range_parts}
 use Rattle.log_format.specs.declared.format.TheConstants.{FORMAT}
 use Rattle.race_model.specs.Row.{index_bytes}
 use Rattle.generated_run.specs.Generated.{log_of_lane, logs_of_lanes}
@@ -36,17 +37,6 @@ pub rows_more : (rounds lane : ℕ) (old before now : List Row) → before ≡ o
 rows_more rounds lane old before now so_far pushed =
     pushed ∙ ap (λ (rows : List Row). rows ++ row_of (log_of_lane rounds lane) ∷ []) so_far ∙ append_assoc old (rows_of (logs_of_lanes rounds lane)) (row_of (log_of_lane rounds lane) ∷ [])
     ∙ ap (λ (rows : List Row). old ++ rows) (sym (ap rows_of (lanes_more rounds lane) ∙ map-append row_of (logs_of_lanes rounds lane) (log_of_lane rounds lane ∷ [])))
-
--- a list of numbers in two parts
-range_parts : (a n m : ℕ) → range_with_len a (n + m) ≡ range_with_len a n ++ range_with_len (a + n) m
-range_parts a zero m =
-    let none : ◌≡◌ {A = ℕ} (0 + m) m = omega arith in
-    let here : a ≡ a + 0 = omega arith in
-    ap (range_with_len a) none ∙ ap (λ (k : ℕ). range_with_len k m) here
-range_parts a (suc n) m =
-    let later : a + 1 + n ≡ a + suc n = omega arith in
-    let more : ◌≡◌ {A = ℕ} (suc n + m) (suc (n + m)) = omega arith in
-    ap (range_with_len a) more ∙ ap (λ (ks : List ℕ). a ∷ ks) (range_parts (a + 1) n m ∙ ap (λ (k : ℕ). range_with_len (a + 1) n ++ range_with_len k m) later)
 
 -- those of the lanes after one
 abbrev lanes_after : ℕ → ℕ → Trace

@@ -8,6 +8,7 @@ use Rattle.std.proofs.lemmas.List.Sums.{sum_by-append}
 use Rattle.std.proofs.lemmas.Grind.{flat_map-append}
 use Rattle.std.proofs.lemmas.Option.{same_Some, slice_get_within}
 use Rattle.sw_base.specs.declared.path.Step.{Step}
+use Rattle.sw_base.proofs.Lists.{get_right}
 use Rattle.log_format.specs.declared.record.Record.{Record}
 use Rattle.log_format.specs.declared.record.Kind.{Kind}
 use Rattle.log_format.specs.declared.record.Kind.TheVariants.{Region}
@@ -22,7 +23,7 @@ use Rattle.history_model.proofs.Parts.{count_cons}
 use Rattle.history_laws.proofs.TeamBarriers.{take_past, last_of}
 use Rattle.history_laws.proofs.MetBarriers.{none_before_last, team_passes, works_lane, barriers_both}
 use Rattle.history_laws.proofs.TaskTree.{AreSound, sound_regions, sound_at_step, sound_works_under, no_lane_works, lane_is, other_kind}
-use Rattle.history_laws.proofs.Windows.{get_right, get_either}
+use Rattle.history_laws.proofs.Windows.{get_either}
 
 -- works of joined tasks, each but the last with its barrier
 abbrev AreJoined : List Work → Type 0

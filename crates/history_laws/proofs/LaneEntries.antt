@@ -4,17 +4,13 @@ use Rattle.std.specs.Prelude.{slice_get, if◌then◌else◌, ◌==◌}
 use Rattle.std.specs.List.{flat_map}
 use Rattle.std.proofs.lemmas.List.{append-nil, append_assoc}
 use Rattle.sw_base.specs.declared.path.Step.{Step}
+use Rattle.history_model.proofs.Parts.{then_rest, then_assoc}
 use Rattle.log_format.specs.declared.record.Record.{Record}
 use Rattle.race_model.specs.Listing.{lane_of}
 use Rattle.race_model.specs.History.{Entry, entry_of, entries_from, task_entries}
 use Rattle.history_model.specs.Work.{Work, Rest, Put, Fork, Phases, NoPhase, Phase, TeamWork, NoWork, Beside, RegionWork, work_records, work_regions, work_at, lane_works, works_at_region, works_at_step, works_under, task_logs, then_work}
 use Rattle.history_laws.proofs.LabelledWork.{entry, records_at, regions_at}
-use Rattle.history_laws.proofs.TaskEntries.{entries_append, none_of_both, none_before, none_after, entry_other, entries_in, phases_entries, team_entries, Apart, apart_none, lanes_none, team_none, same_step, longer_path, own_entries, joined, then_rest, then_entries, joined_records, joined_regions}
-
-then_assoc : (a b c : Work) → then_work (then_work a b) c ≡ then_work a (then_work b c)
-then_assoc Rest b c = refl
-then_assoc (Put r more) b c = ap (λ (w : Work). Put r w) (then_assoc more b c)
-then_assoc (Fork line span phases more) b c = ap (λ (w : Work). Fork line span phases w) (then_assoc more b c)
+use Rattle.history_laws.proofs.TaskEntries.{entries_append, none_of_both, none_before, none_after, entry_other, entries_in, phases_entries, team_entries, Apart, apart_none, lanes_none, team_none, same_step, longer_path, own_entries, joined, then_entries, joined_records, joined_regions}
 
 joined_both : (xs ys : List Work) → joined (xs ++ ys) ≡ then_work (joined xs) (joined ys)
 joined_both [] ys = refl

@@ -3,12 +3,12 @@ use Rattle.std.proofs.Common.{◌≡◌, ◌⊎◌, inl, inr, refl, sym, ap, ap�
 use Rattle.std.specs.Prelude.{slice_get, filter, ◌==◌}
 use Rattle.std.proofs.lemmas.Option.{same_Some}
 use Rattle.sw_base.specs.declared.path.Step.{Step}
+use Rattle.sw_base.proofs.Lists.{get_right}
+use Rattle.step_history.proofs.Labelled.{filter_yes, filter_no}
 use Rattle.log_format.specs.declared.record.Record.{Record}
 use Rattle.race_model.specs.History.{Entry, entry_of, entries_from}
 use Rattle.history_laws.proofs.LabelledWork.{Marked, log_entry}
-use Rattle.history_laws.proofs.Counting.{filter_yes, filter_no}
 use Rattle.history_laws.proofs.TaskEntries.{one_or_none, entries_of}
-use Rattle.history_laws.proofs.Windows.{get_right}
 
 pub record Member {X : Type 0} (xs : List X) (x : X) : Type 0 where
   pub place : ℕ

@@ -6,6 +6,7 @@ use Rattle.std.proofs.lemmas.Bool.{cases_lt}
 use Rattle.std.proofs.lemmas.List.Elements.{filter-append}
 use Rattle.std.proofs.lemmas.Option.{same_Some}
 use Rattle.sw_base.specs.declared.path.Step.{Step}
+use Rattle.step_history.proofs.Labelled.{filter_yes, filter_no}
 use Rattle.log_format.specs.declared.record.Record.{Record}
 use Rattle.log_format.specs.declared.record.Kind.{Kind}
 use Rattle.log_format.specs.declared.record.Kind.TheVariants.{Region}
@@ -17,7 +18,7 @@ use Rattle.step_history.proofs.Names.{is_same_name}
 use Rattle.history_model.specs.Work.{logged}
 use Rattle.history_model.specs.Sound.{WordLayout, IsSound}
 use Rattle.step_history.specs.Labels.{labelled_of}
-use Rattle.history_laws.proofs.Counting.{counted, at_count, Stands, stands, filter_yes, filter_no, only_one}
+use Rattle.history_laws.proofs.Counting.{counted, at_count, Stands, stands, only_one}
 use Rattle.history_laws.proofs.LabelledWork.{Marked, log_entry, entry}
 use Rattle.history_laws.proofs.TimedWork.{TimedWork, plain, IsTimed, IsHandOf, Happened}
 use Rattle.history_laws.proofs.TaskEntries.{path_same, entries_of}

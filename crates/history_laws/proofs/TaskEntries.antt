@@ -18,7 +18,7 @@ use Rattle.step_history.specs.declared.item.Deed.TheVariants.{Home}
 use Rattle.step_history.specs.History.{Name}
 use Rattle.history_model.specs.Work.{Work, Rest, Put, Fork, Phases, NoPhase, Phase, TeamWork, NoWork, Beside, RegionWork, work_records, work_regions, then_work}
 use Rattle.history_model.specs.Did.{deeds_of, lane_count_of, phase_splits}
-use Rattle.history_model.proofs.Parts.{then_records}
+use Rattle.history_model.proofs.Parts.{then_records, then_regions}
 use Rattle.history_laws.proofs.LabelledWork.{Marked, marked, entry, records_at, regions_at, splits_marked, put_marked, did_marked, phases_marked, team_marked}
 use Rattle.history_laws.proofs.Times.{OneDeed, deed_or_none}
 
@@ -202,16 +202,6 @@ own_entries path i g (Fork line span phases more) =
 abbrev pub joined : List Work → Work
 joined [] = Rest
 joined (work ∷ works) = then_work work (joined works)
-
-pub then_rest : (work : Work) → then_work work Rest ≡ work
-then_rest Rest = refl
-then_rest (Put r more) = ap (λ (w : Work). Put r w) (then_rest more)
-then_rest (Fork line span phases more) = ap (λ (w : Work). Fork line span phases w) (then_rest more)
-
-pub then_regions : (work other : Work) → work_regions (then_work work other) ≡ work_regions work ++ work_regions other
-then_regions Rest other = refl
-then_regions (Put r more) other = then_regions more other
-then_regions (Fork line span phases more) other = ap (λ (rs : List RegionWork). record { span = span; phases = phases } ∷ rs) (then_regions more other)
 
 pub then_entries : (path : List Step) (i g : ℕ) (work other : Work)
     → entries_in path i g (then_work work other) ≡ entries_in path i g work ++ entries_in path (i + length (work_records work)) (g + length (work_regions work)) other

@@ -58,6 +58,12 @@ lane_is works region g lane found =
     ap (λ (o : Option RegionWork). works_at_region (record { region = g; lane = lane; span = region.span }) o) found
     ∙ ap (λ (b : Bool). if b then lane_works lane region.phases else []) (number_same region.span)
 
+pub step_same : (works : List Work) (step : Step) (forked : IsForkedLane works step) → record { region = step.region; lane = step.lane; span = forked.region.span } ≡ step
+step_same works step forked = λ i. record { region = step.region; lane = step.lane; span = forked.span_is i }
+
+pub forked_works : (works : List Work) (step : Step) (forked : IsForkedLane works step) → works_at_step step works ≡ lane_works step.lane forked.region.phases
+forked_works works step forked = ap (λ (s : Step). works_at_step s works) (sym (step_same works step forked)) ∙ lane_is works forked.region step.region step.lane forked.found
+
 -- what is under a lane is under its task
 lane_under : (bound : ℕ) (path : List Step) (works : List Work) (region : RegionWork) (g lane : ℕ) (task : TaskLog) → slice_get (flat_map work_regions works) g ≡ Some region → lane < region.span
     → IsUnder bound (lane_of path g lane region.span) (lane_works lane region.phases) task → IsUnder (suc bound) path works task
@@ -187,19 +193,13 @@ forked_listed (suc depth) path works [] forked less =
     record { place = 0; found = ap (λ (p : List Step). Some (record { path = p; records = flat_map work_records works })) (sym (append-nil path)) }
 forked_listed (suc depth) path works (step ∷ rest) forked less = at (forked_listed depth (path ++ step ∷ []) (works_at_step step works) rest forked.1 (omega arith))
   where
-    step_is : record { region = step.region; lane = step.lane; span = forked.0.region.span } ≡ step
-    step_is = λ i. record { region = step.region; lane = step.lane; span = forked.0.span_is i }
-
-    same_works : works_at_step step works ≡ lane_works step.lane forked.0.region.phases
-    same_works = ap (λ (s : Step). works_at_step s works) (sym step_is) ∙ lane_is works forked.0.region step.region step.lane forked.0.found
-
     at : Member (tasks_from depth (path ++ step ∷ []) (works_at_step step works)) (under_task (path ++ step ∷ []) (works_at_step step works) rest) → Member (tasks_from (suc depth) path works) (under_task path works (step ∷ rest))
     at m = record { place = suc in_regions.place; found = in_regions.found }
       where
         there : Member (tasks_from depth (lane_of path step.region step.lane forked.0.region.span) (lane_works step.lane forked.0.region.phases)) (under_task path works (step ∷ rest))
         there =
-            subst (λ (ws : List Work). Member (tasks_from depth (lane_of path step.region step.lane forked.0.region.span) ws) (under_task path works (step ∷ rest))) same_works
-            (subst (λ (s : Step). Member (tasks_from depth (path ++ s ∷ []) (works_at_step step works)) (under_task path works (step ∷ rest))) (sym step_is)
+            subst (λ (ws : List Work). Member (tasks_from depth (lane_of path step.region step.lane forked.0.region.span) ws) (under_task path works (step ∷ rest))) (forked_works works step forked.0)
+            (subst (λ (s : Step). Member (tasks_from depth (path ++ s ∷ []) (works_at_step step works)) (under_task path works (step ∷ rest))) (sym (step_same works step forked.0))
             (subst (λ (p : List Step). Member (tasks_from depth (path ++ step ∷ []) (works_at_step step works)) (record { path = p; records = flat_map work_records (works_under (works_at_step step works) rest) }))
             (append_assoc path (step ∷ []) rest) m))
 

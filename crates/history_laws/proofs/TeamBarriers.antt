@@ -5,6 +5,7 @@ use Rattle.std.proofs.lemmas.List.{map-append, take-append-le, take-map}
 use Rattle.std.proofs.lemmas.List.Sums.{sum_by-append}
 use Rattle.std.proofs.lemmas.Option.{same_Some, slice_get_within}
 use Rattle.sw_base.specs.declared.path.Step.{Step}
+use Rattle.sw_base.proofs.Lists.{get_right}
 use Rattle.log_format.specs.declared.record.Record.{Record}
 use Rattle.log_format.specs.declared.record.Kind.{Kind}
 use Rattle.log_format.specs.declared.record.Kind.TheVariants.{Barrier, Region}
@@ -15,7 +16,7 @@ use Rattle.history_model.specs.Did.{lane_count_of}
 use Rattle.history_model.specs.Sound.{WordLayout, IsSound, ArePhasesSound, IsTeamSound, PassesBarrier}
 use Rattle.history_laws.proofs.LabelledWork.{Marked, records_at, regions_at}
 use Rattle.history_laws.proofs.TimedWork.{TimedWork, TimedRest, TimedPut, TimedFork, TimedPhases, TimedNone, TimedPhase, TimedTeam, TimedEmpty, TimedBeside, plain, plain_phases, plain_team, ArePhasesTimed}
-use Rattle.history_laws.proofs.Windows.{get_right, get_either}
+use Rattle.history_laws.proofs.Windows.{get_either}
 use Rattle.history_laws.proofs.Acts.{Act, Plain, Forks, act_record, act_from, act_until, acts_of, acts_at, lane_acts, phase_acts, lane_timed, records_of}
 use Rattle.history_laws.proofs.ActsOrder.{within}
 

@@ -5,6 +5,7 @@ use Rattle.std.proofs.lemmas.Bool.{cases_lt}
 use Rattle.std.proofs.lemmas.List.{append-nil, append_assoc}
 use Rattle.std.proofs.lemmas.Option.{same_Some}
 use Rattle.sw_base.specs.declared.path.Step.{Step}
+use Rattle.sw_base.proofs.Lists.{get_right}
 use Rattle.log_format.specs.declared.record.Record.{Record}
 use Rattle.log_format.specs.declared.record.Kind.{Kind}
 use Rattle.log_format.specs.declared.record.Kind.TheVariants as kind
@@ -23,7 +24,7 @@ use Rattle.history_laws.proofs.Counting.{counted_up, counted_over, counted_most,
 use Rattle.history_laws.proofs.LabelledWork.{Marked, marked, entry, records_at, regions_at, splits_marked, put_marked, did_marked, phases_marked, team_marked}
 use Rattle.history_laws.proofs.WorkNames.{of_append, of_none, homes_marked, splits_own, put_none, put_own, not_below, outside, phases_outside, team_outside, team_own, longer, splits_none, apart_below, both_empty}
 use Rattle.history_laws.proofs.TimedWork.{TimedRest, TimedPut, TimedFork, TimedNone, TimedPhase, TimedEmpty, TimedBeside, IsHandOf, StandsAt, Happened, Timing, PhasesTiming, TeamTiming, ArePhasesTimed}
-use Rattle.history_laws.proofs.Windows.{There, there, get_left, get_right, get_either, SplitsBelow, splits_below-append, splits_below-up, named, done, item_at, ItemAt, at_item, Window, Halves, halves, InWindow, in_window}
+use Rattle.history_laws.proofs.Windows.{There, there, get_left, get_either, SplitsBelow, splits_below-append, splits_below-up, named, done, item_at, ItemAt, at_item, Window, Halves, halves, InWindow, in_window, DidBelow}
 
 -- a record has no deed, and no entry; or it has one of each, and its deed is no split
 pub record OneDeed (word : ℕ → ℕ) (kind : Kind) (r : Record) (e : Entry) : Type 0 where
@@ -255,7 +256,7 @@ module _ (word : ℕ → ℕ) where
     record TeamWindow (name : Name) (k count : ℕ) (items : List Marked) (start end : ℕ) : Type 0 where
       since : SplitsSince name k start
       homes : HomesBy name k count end
-      below : (pre : Name) (j : ℕ) → k ≤ j → j < k + count → labelled_of (pre ++ j ∷ name) history ≡ labelled_of (pre ++ j ∷ name) items
+      below : DidBelow history name k count items
       ordered : start ≤ end
 
     splits_since : (name : Name) (k count : ℕ) (items before after : List Marked) (start end : ℕ) → Window history name k count items before after start end → SplitsSince name k start

@@ -14,8 +14,8 @@ use Rattle.history_model.specs.Work.{Work, task_logs}
 use Rattle.history_model.specs.Did.{did, split_count}
 use Rattle.history_model.specs.Sound.{WordLayout, IsSound, HasAddresses, AreFitted}
 use Rattle.step_history.specs.Labels.{labelled_of, items_of, IsLabelling}
-use Rattle.step_history.proofs.Labelled.{labelling}
-use Rattle.history_laws.proofs.Counting.{counted_all, filter_yes, filter_no}
+use Rattle.step_history.proofs.Labelled.{labelling, filter_yes, filter_no}
+use Rattle.history_laws.proofs.Counting.{counted_all}
 use Rattle.history_laws.proofs.LabelledWork.{Marked, did_marked, marked_items}
 use Rattle.history_laws.proofs.TimedWork.{TimedWork, plain, IsTimed, IsHandOf, Timing}
 use Rattle.history_laws.proofs.Times.{hand_of, own_path, times}

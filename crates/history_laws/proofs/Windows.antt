@@ -5,6 +5,7 @@ use Rattle.std.specs.Option.{option_map}
 use Rattle.std.proofs.lemmas.Bool.{cases_lt}
 use Rattle.std.proofs.lemmas.List.{append-nil, append_assoc, length-append}
 use Rattle.std.proofs.lemmas.Option.{slice_get-map, slice_get_within, same_Some}
+use Rattle.sw_base.proofs.Lists.{get_right}
 use Rattle.step_history.specs.declared.item.Item.{Item}
 use Rattle.step_history.specs.declared.item.Deed.TheVariants.{Split}
 use Rattle.step_history.specs.History.{Name, name_eq, item}
@@ -27,10 +28,6 @@ pub get_left : {X : Type 0} (xs ys : List X) (n : ℕ) (x : X) → n < length xs
 get_left [] ys n x less found = absurd (omega arith)
 get_left (y ∷ xs) ys zero x less found = found
 get_left (y ∷ xs) ys (suc n) x less found = get_left xs ys n x (omega arith) found
-
-pub get_right : {X : Type 0} (xs ys : List X) (n : ℕ) → slice_get (xs ++ ys) (length xs + n) ≡ slice_get ys n
-get_right [] ys n = ap (λ (k : ℕ). slice_get ys k) (let e : 0 + n ≡ n = omega arith in e)
-get_right (y ∷ xs) ys n = ap (λ (k : ℕ). slice_get (y ∷ xs ++ ys) k) (let e : suc (length xs) + n ≡ suc (length xs + n) = omega arith in e) ∙ get_right xs ys n
 
 pub get_either : {X : Type 0} (xs ys : List X) (n : ℕ) (x : X) → slice_get (xs ++ ys) n ≡ Some x → (slice_get xs n ≡ Some x) ⊎ ((m : ℕ) × (n ≡ length xs + m) × (slice_get ys m ≡ Some x))
 get_either [] ys n x found = inr (n, omega arith, found)
@@ -75,11 +72,15 @@ module _ (history : List Marked) where
     by_place None e = let none : Some it ≡ None = sym found ∙ slice_get-map (λ (y : Marked). y.step) history n ∙ ap (λ (p : Option Marked). option_map (λ (y : Marked). y.step) p) e in cc
     by_place (Some x) e = record { x = x; found = e; step_is = same_Some x.step it (sym (item_at n x e) ∙ found) }
 
+  -- the hands below the splits of these numbers of a name did what stands here under their names
+  abbrev pub DidBelow : Name → ℕ → ℕ → List Marked → Type 0
+  DidBelow name k count items = (pre : Name) (j : ℕ) → k ≤ j → j < k + count → labelled_of (pre ++ j ∷ name) history ≡ labelled_of (pre ++ j ∷ name) items
+
   -- from `start` until `end` the hand of this name did these items, after those before; the hands below its splits of the
   -- numbers from k on did what stands here under their names, and none of them was split off before
   pub record Window (name : Name) (k count : ℕ) (items before after : List Marked) (start end : ℕ) : Type 0 where
     pub own : labelled_of name history ≡ before ++ (labelled_of name items ++ after)
-    pub below : (pre : Name) (j : ℕ) → k ≤ j → j < k + count → labelled_of (pre ++ j ∷ name) history ≡ labelled_of (pre ++ j ∷ name) items
+    pub below : DidBelow name k count items
     pub fresh : SplitsBelow name before k
     pub ordered : start ≤ end
     pub began : done name start ≤ length before

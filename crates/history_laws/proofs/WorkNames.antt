@@ -3,6 +3,7 @@ use Rattle.std.proofs.Common.{◌≡◌, ◌⊎◌, refl, sym, ap, ap₂, ◌∙
 use Rattle.std.proofs.lemmas.List.{append_assoc, append_cancel_right, same_from_push, length-append}
 use Rattle.std.proofs.lemmas.List.Elements.{filter-append}
 use Rattle.sw_base.specs.declared.path.Step.{Step}
+use Rattle.step_history.proofs.Labelled.{filter_yes, filter_no}
 use Rattle.log_format.specs.declared.record.Record.{Record}
 use Rattle.race_model.specs.Listing.{lane_of}
 use Rattle.race_model.specs.History.{Entry}
@@ -13,7 +14,6 @@ use Rattle.step_history.proofs.Names.{is_same_name, other_name}
 use Rattle.history_model.specs.Work.{Work, Rest, Put, Fork, Phases, NoPhase, Phase, TeamWork, NoWork, Beside}
 use Rattle.history_model.specs.Did.{deeds_of, lane_count_of, phase_splits, split_count}
 use Rattle.step_history.specs.Labels.{labelled_of}
-use Rattle.history_laws.proofs.Counting.{filter_yes, filter_no}
 use Rattle.history_laws.proofs.LabelledWork.{Marked, marked, entry, records_at, regions_at, splits_marked, put_marked, did_marked, phases_marked, team_marked}
 
 pub of_append : (name : Name) (xs ys : List Marked) → labelled_of name (xs ++ ys) ≡ labelled_of name xs ++ labelled_of name ys

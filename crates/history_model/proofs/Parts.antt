@@ -13,7 +13,7 @@ use Rattle.step_history.specs.declared.item.Item.{Item}
 use Rattle.step_history.specs.declared.item.Deed.{Deed}
 use Rattle.step_history.specs.declared.item.Deed.TheVariants.{Split, Home}
 use Rattle.step_history.specs.History.{Name, item}
-use Rattle.history_model.specs.Work.{Work, Rest, Put, Fork, Phases, NoPhase, Phase, TeamWork, NoWork, Beside, fork_record, logged, work_records, work_at, lane_works, then_work, then_phases, phase_count, end_team, end_phases}
+use Rattle.history_model.specs.Work.{Work, Rest, Put, Fork, Phases, NoPhase, Phase, TeamWork, NoWork, Beside, fork_record, logged, work_records, work_at, lane_works, then_work, then_phases, phase_count, end_team, end_phases, work_regions, RegionWork}
 use Rattle.history_model.specs.Did.{deeds_of, lane_count_of, phase_splits, split_count, splits_of, did, did_phases, did_team, DoesNothing}
 use Rattle.history_model.specs.Sound.{WordLayout, IsSound, ArePhasesSound, IsTeamSound, PassesBarrier, PassAllBarriers, PassesNone, EndWithoutBarrier}
 
@@ -24,6 +24,21 @@ pub then_records : (work other : Work) → work_records (then_work work other) �
 then_records Rest other = refl
 then_records (Put r more) other = ap (λ (rs : List Record). logged r ∷ rs) (then_records more other)
 then_records (Fork line span phases more) other = ap (λ (rs : List Record). fork_record line span ∷ rs) (then_records more other)
+
+pub then_regions : (work other : Work) → work_regions (then_work work other) ≡ work_regions work ++ work_regions other
+then_regions Rest other = refl
+then_regions (Put r more) other = then_regions more other
+then_regions (Fork line span phases more) other = ap (λ (rs : List RegionWork). record { span = span; phases = phases } ∷ rs) (then_regions more other)
+
+pub then_rest : (work : Work) → then_work work Rest ≡ work
+then_rest Rest = refl
+then_rest (Put r more) = ap (λ (w : Work). Put r w) (then_rest more)
+then_rest (Fork line span phases more) = ap (λ (w : Work). Fork line span phases w) (then_rest more)
+
+pub then_assoc : (a b c : Work) → then_work (then_work a b) c ≡ then_work a (then_work b c)
+then_assoc Rest b c = refl
+then_assoc (Put r more) b c = ap (λ (w : Work). Put r w) (then_assoc more b c)
+then_assoc (Fork line span phases more) b c = ap (λ (w : Work). Fork line span phases w) (then_assoc more b c)
 
 pub then_splits : (work other : Work) → split_count (then_work work other) ≡ split_count work + split_count other
 then_splits Rest other = omega arith

@@ -1,9 +1,10 @@
 -- Declarations: what is laid out of arrays that break no rule, and arrays that break none by what is laid out.
-use Rattle.std.proofs.Common.{◌≡◌, refl, inl, inr, ℕ, ◌+◌, ◌*◌, ◌≤◌, true, false, not, ◌||◌, leb, ltb, List, [], ◌∷◌, ◌++◌, length, Option, Some, None, All, ℤ, pos, negsuc, arith, length-append}
+use Rattle.std.proofs.Common.{◌≡◌, refl, inl, inr, ℕ, ◌+◌, ◌*◌, ◌≤◌, false, not, ◌||◌, leb, ltb, List, [], ◌∷◌, ◌++◌, length, Option, Some, None, All, arith, length-append}
 use Rattle.std.specs.Prelude.{is_none, unwrap_or}
 use Rattle.std.proofs.lemmas.Bool.Decides.{nat_tests}
 use Rattle.std.proofs.lemmas.List.Elements.{All-nil, All-cons, All-head, All-tail}
 use Rattle.std.proofs.lemmas.List.Sums.{sum_by-append, sum_by-cons}
+use Rattle.kernel_reader.proofs.Bounded.{between-least}
 use Rattle.kernel_syntax.specs.declared.syntax.Array.{Array}
 use Rattle.log_format.specs.Fitting.{IsWidth}
 use Rattle.kernel_syntax.specs.Layout.{laid, laid_from, aligned, elements}
@@ -56,10 +57,6 @@ laid-widths xs all = laid_from-widths 4096 0 xs all
 
 -- ---- arrays that break no rule have elements
 
-some-between : (most : ℕ) (z : ℤ) → is_between 1 most z ≡ true → 1 ≤ count_literal z
-some-between most (pos n) e = grind (arith, nat_tests)
-some-between most (negsuc n) e = absurd cc
-
 pub declared-filled : (ds : List Declaration) (arrays : List Array) (mutexes : List (List ℕ)) → declarations_faults arrays mutexes ds ≡ [] → All IsFilled (arrays_of ds)
 declared-filled [] arrays mutexes e = All-nil IsFilled
 declared-filled (ArrayOf line name_line name width_line width count_line count ∷ ds) arrays mutexes e =
@@ -70,7 +67,7 @@ declared-filled (ArrayOf line name_line name width_line width count_line count �
     let counted = fault_if-none (not (is_between 1 1048576 count)) count_line why.Count (nil_left (fault_if (not (is_between 1 1048576 count)) count_line why.Count) _ wide) in
     let later = nil_right (fault_if (not (is_between 1 1048576 count)) count_line why.Count) _ wide in
     let small = nil_right (fault_if (ltb 1048576 (elements arrays + count_literal count)) count_line why.Large) _ later in
-    All-cons IsFilled a (arrays_of ds) (some-between 1048576 count (not-false (is_between 1 1048576 count) counted)) (declared-filled ds (arrays ++ a ∷ []) mutexes small)
+    All-cons IsFilled a (arrays_of ds) (between-least 1048576 count (not-false (is_between 1 1048576 count) counted)) (declared-filled ds (arrays ++ a ∷ []) mutexes small)
 declared-filled (MutexOf line name_line name ∷ ds) arrays mutexes e =
     let free = nil_right (fault_if (is_array name arrays || is_among name mutexes) name_line why.Twice) _ e in
     declared-filled ds arrays (mutexes ++ name ∷ []) (nil_right (fault_if (leb 63 (length mutexes)) name_line why.Large) _ free)

@@ -1,6 +1,7 @@
 -- What it says that statements break no rule, rule by rule.
 use Rattle.std.proofs.Common.{◌≡◌, ℕ, ◌+◌, ◌*◌, Bool, true, false, not, leb, ltb, List, [], ◌++◌, Some, None}
 use Rattle.std.specs.Prelude.{is_some}
+use Rattle.kernel_reader.proofs.Bounded.{nil_split}
 use Rattle.kernel_text.specs.declared.fault.KernelWhy.{KernelWhy}
 use Rattle.kernel_text.specs.declared.fault.KernelWhy.TheVariants as why
 use Rattle.kernel_text.specs.Tokens.{Refusal}
@@ -48,10 +49,6 @@ AreKept q (Critical line opened body closed rest) = IsOrdered q 0 × AreKept (in
 AreKept q (CriticalOf line name_line name opened body closed rest) =
     (not (is_among name q.mutexes) ≡ false) × IsOrdered q (mutex_of q name) × AreKept (in_critical q (mutex_of q name)) body × AreKept (past q (slots body)) rest
 
--- faults ahead of others
-both : (xs ys : List Refusal) → xs ++ ys ≡ [] → (xs ≡ []) × (ys ≡ [])
-both xs ys e = (nil_left xs ys e, nil_right xs ys e)
-
 -- a rule ahead of others
 rule : (broken : Bool) (line : ℕ) (w : KernelWhy) (ys : List Refusal) → fault_if broken line w ++ ys ≡ [] → (broken ≡ false) × (ys ≡ [])
 rule broken line w ys e = (fault_if-none broken line w (nil_left (fault_if broken line w) ys e), nil_right (fault_if broken line w) ys e)
@@ -67,30 +64,30 @@ pub are-kept : (q : Place) (s : Stmts) → stmts_faults q s ≡ [] → AreKept q
 are-kept q NoMore lawful = tt
 are-kept q (Let line name_line name sign_line value rest) lawful =
     let free = rule (is_taken q name) name_line why.Twice _ lawful in
-    let known = both (tree_faults q.names false value) _ free.1 in
+    let known = nil_split (tree_faults q.names false value) _ free.1 in
     (free.0, known.0, are-kept (with_local q name true) rest known.1)
 are-kept q (Assign line name sign_line value rest) lawful =
-    let there = both (assigned_faults q line name) _ lawful in
-    let known = both (tree_faults q.names false value) _ there.1 in
+    let there = nil_split (assigned_faults q line name) _ lawful in
+    let known = nil_split (tree_faults q.names false value) _ there.1 in
     (there.0, known.0, are-kept q rest known.1)
 are-kept q (Store line name opened index closed sign_line value rest) lawful =
-    let there = both (array_faults q.names false line name) _ lawful in
-    let indexed = both (tree_faults q.names false index) _ there.1 in
-    let known = both (tree_faults q.names false value) _ indexed.1 in
+    let there = nil_split (array_faults q.names false line name) _ lawful in
+    let indexed = nil_split (tree_faults q.names false index) _ there.1 in
+    let known = nil_split (tree_faults q.names false value) _ indexed.1 in
     (there.0, indexed.0, known.0, are-kept q rest known.1)
 are-kept q (Update line name_line name opened index closed minus sign_line value rest) lawful =
-    let there = both (array_faults q.names false name_line name) _ lawful in
-    let indexed = both (tree_faults q.names false index) _ there.1 in
-    let known = both (tree_faults q.names false value) _ indexed.1 in
+    let there = nil_split (array_faults q.names false name_line name) _ lawful in
+    let indexed = nil_split (tree_faults q.names false index) _ there.1 in
+    let known = nil_split (tree_faults q.names false value) _ indexed.1 in
     (there.0, indexed.0, known.0, are-kept q rest known.1)
 are-kept q (If line test opened if_true closed rest) lawful =
-    let tested = both (tree_faults q.names false test) _ lawful in
-    let parts = both (stmts_faults (in_branch q true) if_true) _ tested.1 in
+    let tested = nil_split (tree_faults q.names false test) _ lawful in
+    let parts = nil_split (stmts_faults (in_branch q true) if_true) _ tested.1 in
     (tested.0, are-kept (in_branch q true) if_true parts.0, are-kept (past q (slots if_true)) rest parts.1)
 are-kept q (IfElse line test opened if_true closed else_line else_opened if_false else_closed rest) lawful =
-    let tested = both (tree_faults q.names false test) _ lawful in
-    let parts = both (stmts_faults (in_branch q true) if_true) _ tested.1 in
-    let later = both (stmts_faults (in_branch (past q (slots if_true)) true) if_false) _ parts.1 in (
+    let tested = nil_split (tree_faults q.names false test) _ lawful in
+    let parts = nil_split (stmts_faults (in_branch q true) if_true) _ tested.1 in
+    let later = nil_split (stmts_faults (in_branch (past q (slots if_true)) true) if_false) _ parts.1 in (
       tested.0,
       are-kept (in_branch q true) if_true parts.0,
       are-kept (in_branch (past q (slots if_true)) true) if_false later.0,
@@ -99,16 +96,16 @@ are-kept q (IfElse line test opened if_true closed else_line else_opened if_fals
 are-kept q (Loop line name_line name in_line from dots to opened body closed rest) lawful =
     let inside = in_branch (with_local q name false) (not (is_fixed from to)) in
     let free = rule (is_taken q name) name_line why.Twice _ lawful in
-    let begun = both (tree_faults q.names false from) _ free.1 in
-    let ended = both (tree_faults q.names false to) _ begun.1 in
-    let parts = both (stmts_faults inside body) _ ended.1 in
+    let begun = nil_split (tree_faults q.names false from) _ free.1 in
+    let ended = nil_split (tree_faults q.names false to) _ begun.1 in
+    let parts = nil_split (stmts_faults inside body) _ ended.1 in
     (free.0, begun.0, ended.0, are-kept inside body parts.0, are-kept (past q (1 + slots body)) rest parts.1)
 are-kept q (Parallel line number_line span opened body closed rest) lawful =
     let apart = rule (is_some q.critical) line why.ParallelHere _ lawful in
     let few = rule (leb 4 q.regions) line why.Deep _ apart.1 in
     let counted = rule (not (is_between 1 64 span)) number_line why.Count _ few.1 in
     let small = rule (ltb 64 (q.spans * count_literal span)) number_line why.Large _ counted.1 in
-    let parts = both (stmts_faults (in_region q (count_literal span)) body) _ small.1 in
+    let parts = nil_split (stmts_faults (in_region q (count_literal span)) body) _ small.1 in
     let light = rule (ltb 65536 (weight body)) closed why.Large _ parts.1 in (
       record { apart = apart.0; few = few.0; small = small.0 },
       are-kept (in_region q (count_literal span)) body parts.0,
@@ -119,10 +116,10 @@ are-kept q (For line name_line name in_line from dots to schedule nowait opened 
     let placed = rule (is_misplaced q) line why.WorkHere _ lawful in
     let even = rule q.uneven line why.NotUniform _ placed.1 in
     let free = rule (is_taken q name) name_line why.Twice _ even.1 in
-    let begun = both (tree_faults q.names true from) _ free.1 in
-    let ended = both (tree_faults q.names true to) _ begun.1 in
-    let scheduled = both (schedule_faults schedule) _ ended.1 in
-    let parts = both (stmts_faults (in_work (with_local q name false)) body) _ scheduled.1 in (
+    let begun = nil_split (tree_faults q.names true from) _ free.1 in
+    let ended = nil_split (tree_faults q.names true to) _ begun.1 in
+    let scheduled = nil_split (schedule_faults schedule) _ ended.1 in
+    let parts = nil_split (stmts_faults (in_work (with_local q name false)) body) _ scheduled.1 in (
       placed.0,
       even.0,
       free.0,
@@ -136,13 +133,13 @@ are-kept q (Barrier line rest) lawful =
     let even = rule q.uneven line why.NotUniform _ placed.1 in
     (placed.0, even.0, are-kept q rest even.1)
 are-kept q (Critical line opened body closed rest) lawful =
-    let nested = both (critical_faults q line 0) _ lawful in
-    let parts = both (stmts_faults (in_critical q 0) body) _ nested.1 in
+    let nested = nil_split (critical_faults q line 0) _ lawful in
+    let parts = nil_split (stmts_faults (in_critical q 0) body) _ nested.1 in
     (ordered q line 0 nested.0, are-kept (in_critical q 0) body parts.0, are-kept (past q (slots body)) rest parts.1)
 are-kept q (CriticalOf line name_line name opened body closed rest) lawful =
     let known = rule (not (is_among name q.mutexes)) line why.Unknown _ lawful in
-    let nested = both (critical_faults q line (mutex_of q name)) _ known.1 in
-    let parts = both (stmts_faults (in_critical q (mutex_of q name)) body) _ nested.1 in (
+    let nested = nil_split (critical_faults q line (mutex_of q name)) _ known.1 in
+    let parts = nil_split (stmts_faults (in_critical q (mutex_of q name)) body) _ nested.1 in (
       known.0,
       ordered q line (mutex_of q name) nested.0,
       are-kept (in_critical q (mutex_of q name)) body parts.0,

@@ -4,6 +4,7 @@ use Rattle.std.specs.Prelude.{◌==◌, ◌&&◌}
 use Rattle.std.proofs.lemmas.List.Elements.{All-nil, All-push}
 use Rattle.std.proofs.lemmas.Option.{same_Some, none-some}
 use Rattle.sw_base.specs.declared.path.Step.{Step}
+use Rattle.kernel_model.proofs.Starts.{nothing_below}
 use Rattle.log_format.specs.declared.record.Record.{Record}
 use Rattle.log_format.specs.declared.record.Kind.TheVariants as kind
 use Rattle.race_model.specs.Trace.{Logs, barrier_count}
@@ -135,10 +136,6 @@ lane-of (Some f) step start is = by_test ((step.span == f.team.span) && nat_lt s
     }
 
 module _ (program : Program) (logs : Logs) where
-  nothing-below : (path : List Step) (o : Option Start) → start_below program logs path o [] ≡ o
-  nothing-below path None = refl
-  nothing-below path (Some start) = refl
-
   abbrev EvenStart : Option Start → Type 0
   EvenStart o = (start : Start) → o ≡ Some start → IsEven start.team.body
 
@@ -176,9 +173,9 @@ module _ (program : Program) (logs : Logs) where
   team-below path (Some start) [] a b one other region first second =
       let forks = (own_trace program start (logs path)).forks in
       let lane : IsLaneOf (slice_get forks a.region) one =
-      lane-of (slice_get forks a.region) a one (sym (nothing-below (path ++ a ∷ []) (lane_start (slice_get forks a.region) a)) ∙ first) in
+      lane-of (slice_get forks a.region) a one (sym (nothing_below program logs (path ++ a ∷ []) (lane_start (slice_get forks a.region) a)) ∙ first) in
       let beside : IsLaneOf (slice_get forks b.region) other =
-      lane-of (slice_get forks b.region) b other (sym (nothing-below (path ++ b ∷ []) (lane_start (slice_get forks b.region) b)) ∙ second) in
+      lane-of (slice_get forks b.region) b other (sym (nothing_below program logs (path ++ b ∷ []) (lane_start (slice_get forks b.region) b)) ∙ second) in
       same-fork (slice_get forks b.region) one other (subst (λ (n : ℕ). IsLaneOf (slice_get forks n) one) region lane) beside
   team-below path (Some start) (step ∷ above) a b one other region first second =
       team-below (path ++ step ∷ []) (lane_start (slice_get (own_trace program start (logs path)).forks step.region) step) above a b one other region first second

@@ -2,18 +2,18 @@
 use Rattle.std.proofs.Common.{◌≡◌, refl, ap, sym, ◌∙◌, ℕ, suc, ◌+◌, Bool, true, false, cond, List, [], ◌∷◌, ◌++◌, ℤ, arith, append_assoc, true≢false}
 use Rattle.std.proofs.lemmas.List.{append-nil, length-append}
 use Rattle.std.proofs.lemmas.List.Sums.{sum_by-append}
-use Rattle.kernel_syntax.specs.Tree.{Term, Code}
+use Rattle.kernel_syntax.specs.Tree.{Term, Code, Done}
 use Rattle.kernel_syntax.specs.Program.{Program}
 use Rattle.log_format.specs.declared.record.Record.{Record}
 use Rattle.log_format.specs.declared.record.Kind.{Kind}
 use Rattle.log_format.specs.declared.record.Kind.TheVariants as kind
 use Rattle.race_model.specs.Trace.{is_region_kind, region_count}
-use Rattle.kernel_model.specs.State.{State, state_of, event}
+use Rattle.kernel_model.specs.State.{State, state_of, event, after}
 use Rattle.kernel_model.specs.Value.{Site, value}
-use Rattle.kernel_model.specs.Trace.{run, task, Start, state_at}
+use Rattle.kernel_model.specs.Trace.{run, task, Start, state_at, branch}
 use Rattle.kernel_model.specs.Growth.{Grows}
 use Rattle.kernel_model.proofs.SingleSteps.{IsMark, KeepsPlainSteps, KeepsUpdates, KeepsBarriers, KeepsEnds, KeepsSteps}
-use Rattle.kernel_model.proofs.Steps.{kept-value, kept-run, kept-task}
+use Rattle.kernel_model.proofs.Steps.{kept-value, kept-run, kept-task, kept-after, kept-branch}
 
 region_count-append : (xs ys : List Record) → region_count (xs ++ ys) ≡ region_count xs + region_count ys
 region_count-append xs ys = sum_by-append (λ (r : Record). cond (is_region_kind r.kind) 1 0) xs ys
@@ -102,6 +102,11 @@ value-grows = kept-value Grows grows-plain
 
 pub run-grows : (at : Site) (code : Code) (s : State) → Grows s (state_of (run at code s))
 run-grows at code s = kept-run Grows grows-steps at code s (λ is. grows-barriers)
+
+-- so does one of two bodies, after which nothing is left
+pub test-grows : (at : Site) (if_true if_false : Code) (v : ℤ) (s : State) → Grows s (state_of (after (branch v (run at if_true) (run at if_false) s) (run at Done)))
+test-grows at if_true if_false v s = kept-after Grows grows-plain s (branch v (run at if_true) (run at if_false) s) (run at Done)
+    (kept-branch Grows grows-plain v (run at if_true) (run at if_false) s (run-grows at if_true s) (run-grows at if_false s)) (run-grows at Done)
 
 pub task-grows : (program : Program) (start : Start) (reads : List ℤ) (chunks : List ℕ) →
     Grows (state_at start reads chunks) (state_of (task program start reads chunks))

@@ -1,5 +1,6 @@
 -- How the parts of a task follow one another.
 use Rattle.std.proofs.Common.{◌≡◌, refl, ap, ◌∙◌, sym, ℕ, zero, suc, ◌+◌, arith, List, [], ◌∷◌, ◌++◌, ℤ, pos, negsuc, ◌+ℤ◌}
+use Rattle.kernel_model.specs.Parts.{Part, run_part, run_parts}
 use Rattle.kernel_syntax.specs.declared.syntax.Stmt.{Stmt}
 use Rattle.kernel_syntax.specs.Program.{stmt_code, stmts_code, code_of}
 use Rattle.kernel_syntax.specs.Tree.{Code, Done, Set, Store, Update, If, Loop, Parallel, For, Barrier, Critical}
@@ -32,6 +33,12 @@ pub after-same : (m : Outcome (Unit {0})) (f g : State → Outcome (Unit {0})) �
 after-same (Gives a t) f g same = same t
 after-same (Stops why line t) f g same = refl
 after-same (Wants t) f g same = refl
+
+-- parts, and then more
+pub run_parts-append : (at : Site) (xs ys : List Part) (s : State) → run_parts at (xs ++ ys) s ≡ after (run_parts at xs s) (run_parts at ys)
+run_parts-append at [] ys s = refl
+run_parts-append at (x ∷ xs) ys s =
+    after-same (run_part at x s) _ _ (run_parts-append at xs ys) ∙ sym (after-after (run_part at x s) (run_parts at xs) (run_parts at ys))
 
 -- no statement follows
 pub after-done : (at : Site) (m : Outcome (Unit {0})) → after m (run at Done) ≡ m

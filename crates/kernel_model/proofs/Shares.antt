@@ -7,6 +7,7 @@ use Rattle.std.proofs.lemmas.Nat.{le-div}
 use Rattle.std.proofs.lemmas.Bool.{cases_lt}
 use Rattle.std.proofs.lemmas.Bool.Decides.{nat_tests}
 use Rattle.std.proofs.lemmas.List.Elements.{filter-append}
+use Rattle.sw_base.proofs.Lists.{range_parts}
 use Rattle.kernel_model.specs.Iterations.{static_iterations, chunk_iterations}
 
 -- an iteration of a chunk that goes to the lane
@@ -16,14 +17,6 @@ is_dealt chunk lane span i = (i / chunk) % span == lane
 -- the lane's iterations from a chunk on
 abbrev pub static_from : ℕ → ℕ → ℕ → ℕ → ℕ → List ℕ
 static_from chunk total lane span q = filter (is_dealt chunk lane span) (range_with_len (q * chunk) (total - q * chunk))
-
--- so many numbers, and then more
-pub range_with_len-add : (a m n : ℕ) → range_with_len a (m + n) ≡ range_with_len a m ++ range_with_len (a + m) n
-range_with_len-add a zero n = ap (range_with_len a) (omega arith) ∙ ap (λ b. range_with_len b n) (omega arith)
-range_with_len-add a (suc m) n =
-    let more : suc m + n ≡ suc (m + n) = omega arith in
-    let place : a + 1 + m ≡ a + suc m = omega arith in
-    ap (range_with_len a) more ∙ ap (λ l. a ∷ l) (range_with_len-add (a + 1) m n ∙ ap (λ b. range_with_len (a + 1) m ++ range_with_len b n) place)
 
 -- a test that is true, or false, of all numbers of a range
 filter-range-true : (p : ℕ → Bool) (n a : ℕ) → ((i : ℕ) → a ≤ i → i < a + n → p i ≡ true) → filter p (range_with_len a n) ≡ range_with_len a n
@@ -77,7 +70,7 @@ module _ (chunk total lane span : ℕ) (some : 0 < chunk) (within : lane < span)
       let m = min chunk (total - q * chunk) in
       let parts : total - q * chunk ≡ m + (total - q * chunk - m) = omega arith in
       ap (λ n. filter (is_dealt chunk lane span) (range_with_len (q * chunk) n)) parts
-      ∙ ap (filter (is_dealt chunk lane span)) (range_with_len-add (q * chunk) m (total - q * chunk - m))
+      ∙ ap (filter (is_dealt chunk lane span)) (range_parts (q * chunk) m (total - q * chunk - m))
       ∙ filter-append (is_dealt chunk lane span) (range_with_len (q * chunk) m) (range_with_len (q * chunk + m) (total - q * chunk - m))
       ∙ ap (λ l. filter (is_dealt chunk lane span) (range_with_len (q * chunk) m) ++ l) (rest-is q)
 

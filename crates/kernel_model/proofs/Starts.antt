@@ -1,10 +1,11 @@
 -- Where tasks start, down a path of their tree.
-use Rattle.std.proofs.Common.{◌≡◌, refl, ap, sym, ◌∙◌, subst, ℕ, ◌<◌, arith, Bool, true, false, cond, nat_lt, List, [], ◌∷◌, ◌++◌, append_assoc, Option, Some, None, slice_get, true≢false}
+use Rattle.std.proofs.Common.{◌≡◌, refl, ap, sym, ◌∙◌, subst, ℕ, ◌<◌, arith, Bool, true, false, cond, nat_lt, List, [], ◌∷◌, ◌++◌, append_assoc, Option, Some, None, slice_get}
 use Rattle.std.specs.Prelude.{◌==◌, ◌&&◌}
 use Rattle.std.proofs.lemmas.Bool.Decides.{nat_tests}
 use Rattle.std.proofs.lemmas.List.{append-nil}
 use Rattle.std.proofs.lemmas.Option.{same_Some, none-some}
 use Rattle.sw_base.specs.declared.path.Step.{Step}
+use Rattle.std.proofs.lemmas.Bool.{and_parts}
 use Rattle.race_model.specs.Trace.{Logs}
 use Rattle.kernel_syntax.specs.Program.{Program}
 use Rattle.kernel_model.specs.State.{Fork}
@@ -21,7 +22,7 @@ module _ (program : Program) (logs : Logs) where
       below_append (path ++ step ∷ []) next xs ys
       ∙ ap (λ (p : List Step). start_below program logs p (start_below program logs (path ++ step ∷ []) next xs) ys) (append_assoc path (step ∷ []) xs)
 
-  nothing_below : (path : List Step) (o : Option Start) → start_below program logs path o [] ≡ o
+  pub nothing_below : (path : List Step) (o : Option Start) → start_below program logs path o [] ≡ o
   nothing_below path None = refl
   nothing_below path (Some start) = refl
 
@@ -41,6 +42,16 @@ module _ (program : Program) (logs : Logs) where
   unfolding start_at
   at_root = refl
 
+-- the task above one that starts does so, too
+pub start_above : (program : Program) (logs : Logs) (above : List Step) (step : Step) (start : Start) → start_at program logs (above ++ step ∷ []) ≡ Some start
+    → (up : Start) × (start_at program logs above ≡ Some up)
+start_above program logs above step start starts = by_start (start_at program logs above) refl
+  where
+    by_start : (o : Option Start) → start_at program logs above ≡ o → (up : Start) × (start_at program logs above ≡ Some up)
+    by_start None is =
+        absurd (none-some start (sym (at_append program logs above (step ∷ []) ∙ ap (λ (o : Option Start). start_below program logs above o (step ∷ [])) is) ∙ starts))
+    by_start (Some up) is = (up, is)
+
 -- what a lane's start tells
 pub record IsLaneStart (o : Option Fork) (step : Step) (start : Start) : Type 0 where
   pub fork : Fork
@@ -49,13 +60,9 @@ pub record IsLaneStart (o : Option Fork) (step : Step) (start : Start) : Type 0 
   pub lane : step.lane < step.span
   pub begins : start ≡ record { team = fork.team; lane = step.lane; slots = fork.slots }
 
-both : (a b : Bool) → (a && b) ≡ true → (a ≡ true) × (b ≡ true)
-both true b is = (refl, is)
-both false b is = absurd (true≢false (sym is))
-
 fits_lane : (a b lane : ℕ) → (a == b) && nat_lt lane a ≡ true → (a ≡ b) × (lane < a)
 fits_lane a b lane is =
-    let parts = both (a == b) (nat_lt lane a) is in
+    let parts = and_parts (a == b) (nat_lt lane a) is in
     let one : (a == b) ≡ true = parts.0 in
     let two : nat_lt lane a ≡ true = parts.1 in
     let same : a ≡ b = grind (arith, nat_tests) in

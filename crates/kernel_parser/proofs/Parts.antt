@@ -1,6 +1,7 @@
 -- How a part of an expression is read: an operand, and then operators with their right operands.
 use Rattle.std.proofs.Common.{◌≡◌, ℕ, ◌-◌, ◌<◌, ◌≤◌, List, [], ◌∷◌, ◌++◌, refl, sym, ap, subst, ◌∙◌, append_assoc, arith}
 use Rattle.std.specs.Prelude.{ℤ}
+use Rattle.kernel_text.proofs.UnfoldingOperators.{same-op}
 use Rattle.kernel_syntax.specs.declared.syntax.Op.{Op}
 use Rattle.kernel_text.specs.declared.token.Word.{Word}
 use Rattle.kernel_text.specs.declared.token.Word.TheVariants as word
@@ -12,7 +13,7 @@ use Rattle.kernel_text.specs.declared.token.Token.{Token}
 use Rattle.kernel_text.specs.Grammar.{Tree, NumberAt, NameAt, TidAt, SpanAt, Element, Group, Minus, Binary, Derives, depth, tree_tokens, rank_of, left_rank, right_rank, sign_of, unary, expr, named, number, reserved, mark}
 use Rattle.kernel_text.proofs.Operators.{ranks}
 use Rattle.kernel_parser.specs.Parsing.{IsPart, Stops, StartsWith}
-use Rattle.kernel_parser.proofs.Signs.{heads-is, begins-with, same-operation, stops-at, stops-operator, stops-below, stops-less, no-bracket-behind}
+use Rattle.kernel_parser.proofs.Signs.{heads-is, begins-with, stops-at, stops-operator, stops-below, stops-less, no-bracket-behind}
 
 pub part-at : (rank levels : ℕ) (ts us : List Token) (t : Tree) (after : List Token) → us ≡ ts → IsPart rank levels ts t after → IsPart rank levels us t after
 part-at rank levels ts us t after e is = rw e is
@@ -218,7 +219,7 @@ pub grows-by : (rank levels : ℕ) (t : Tree) (after : List Token) (u : Tree) (u
 grows-by rank levels t after _ _ o line ts Whole e le stops n n_is = let less = stops-less rank o line ts after stops e in absurd (omega (arith, le, less))
 grows-by rank levels t after _ _ o line ts (More u p line2 right vs us le2 is grows) e le stops n n_is =
     let a = heads-is _ _ _ _ e in
-    let same : p ≡ o = same-operation p o a.1 in
+    let same : p ≡ o = same-op p o a.1 in
     let here : line2 ≡ line = a.0 in
     record {
       right = right;

@@ -1,6 +1,7 @@
 -- The signs of operations, and what stops an expression.
 use Rattle.std.proofs.Common.{◌≡◌, ℕ, ◌<◌, ◌≤◌, Bool, true, false, List, [], ◌∷◌, Some, None, refl, sym, ap, subst, ◌∙◌, arith}
 use Rattle.std.specs.Prelude.{IsTrue, ◌↔◌}
+use Rattle.kernel_text.proofs.UnfoldingOperators.{same-op}
 use Rattle.kernel_syntax.specs.declared.syntax.Op.{Op}
 use Rattle.kernel_syntax.specs.declared.syntax.Op.TheVariants as op
 use Rattle.kernel_text.specs.declared.token.Sign.TheVariants as sign
@@ -33,10 +34,6 @@ minus_is true true line ts us is e = refl
 minus_is false false line ts us is e = refl
 minus_is false true line ts us is e = absurd (not-true (is.1 (begins-with (mark line sign.MinusAssign) ts us e)))
 minus_is true false line ts us is e = let plus : Mark sign.PlusAssign ≡ Mark sign.MinusAssign = subst (λ (vs : List Token). StartsWith (Mark sign.MinusAssign) vs) e (is.0 refl) in absurd cc
-
--- each sign has one operation
-pub same-operation : (o p : Op) → Mark (sign_of o) ≡ Mark (sign_of p) → o ≡ p
-same-operation o p e = let some : Some o ≡ Some p = sym (op_of-sign o) ∙ ap op_of e ∙ op_of-sign p in cc
 
 pub no-operation : (x : Lexeme) → op_of x ≡ None → (o : Op) → x ≡ Mark (sign_of o) → ⊥
 no-operation x none o e = let some : Some o ≡ None = sym (op_of-sign o) ∙ sym (ap op_of e) ∙ none in absurd cc
@@ -75,7 +72,7 @@ stops-at rank (t ∷ ts) ends = (no-bracket t.lexeme ends.1, λ o e. absurd (no-
 -- an operator stops what binds more tightly
 pub stops-operator : (rank : ℕ) (o : Op) (line : ℕ) (ts : List Token) → rank < rank_of o → Stops rank (mark line (sign_of o) ∷ ts)
 unfolding Stops
-stops-operator rank o line ts less = (no-bracket (Mark (sign_of o)) (bracket-free o), λ p e. rw (← same-operation o p e) less)
+stops-operator rank o line ts less = (no-bracket (Mark (sign_of o)) (bracket-free o), λ p e. rw (← same-op o p e) less)
 
 pub stops-below : (p q : ℕ) (ts : List Token) → q ≤ p → Stops p ts → Stops q ts
 unfolding Stops

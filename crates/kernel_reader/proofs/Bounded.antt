@@ -31,7 +31,7 @@ use Rattle.kernel_reader.proofs.Rooms.{kernel-room}
 -- ---- numbers that are counted
 
 -- such a number is at least 1
-between-least : (most : ℕ) (z : ℤ) → is_between 1 most z ≡ true → 1 ≤ count_literal z
+pub between-least : (most : ℕ) (z : ℤ) → is_between 1 most z ≡ true → 1 ≤ count_literal z
 between-least most (pos n) e = grind (arith, nat_tests)
 between-least most (negsuc n) e = absurd cc
 
@@ -106,7 +106,7 @@ mutex-small p name few = small (number_of name p.mutexes) refl
     small (Some n) at = let within = (position-Some (λ x. bytes_eq x name) p.mutexes n [] at).0 in omega arith
 
 -- faults ahead of others
-nil_split : (xs ys : List Refusal) → xs ++ ys ≡ [] → (xs ≡ []) × (ys ≡ [])
+pub nil_split : (xs ys : List Refusal) → xs ++ ys ≡ [] → (xs ≡ []) × (ys ≡ [])
 nil_split xs ys e = (nil_left xs ys e, nil_right xs ys e)
 
 -- statements at one place that break no rule at another

@@ -11,10 +11,6 @@ use Rattle.kernel_reader.specs.declared.fault.ReadKernelFault.{ReadKernelFault}
 use Rattle.kernel_reader.specs.Settled.{IsFirstOf}
 use Rattle.kernel_reader.proofs.Broken.{first-before, first-behind}
 
--- the first of some parts is that of the whole
-pub part-1 : (a z : List Refusal) (f : ReadKernelFault) → IsFirstOf a f → IsFirstOf (a ++ z) f
-part-1 a z f is = first-before a z f is
-
 pub part-2 : (a b z : List Refusal) (f : ReadKernelFault) → IsFirstOf (a ++ b) f → IsFirstOf (a ++ (b ++ z)) f
 part-2 a b z f is = subst (λ (l : List Refusal). IsFirstOf l f) (append_assoc a b z) (first-before (a ++ b) z f is)
 
@@ -43,7 +39,7 @@ RangeFaults p in_bound name_line name from to = declared_faults p name_line name
 
 -- behind the bounds of a loop that break none, in a place that is the inner one
 pub inner-first : (q p : Place) (b : Stmts) (z : List Refusal) (f : ReadKernelFault) → q ≡ p → IsFirstOf (stmts_faults q b) f → IsFirstOf (stmts_faults p b ++ z) f
-inner-first q p b z f at told = part-1 (stmts_faults p b) z f (rw (← at) told)
+inner-first q p b z f at told = first-before (stmts_faults p b) z f (rw (← at) told)
 
 -- ---- loops
 
@@ -64,7 +60,7 @@ pub for-schedule-first : (p : Place) (line : ℕ) (nl : ℕ) (n : List ℕ) (il 
     → IsFirstOf (stmts_faults p (For line nl n il fr dots to s nowait opened b closed rest)) f
 for-schedule-first p line nl n il fr dots to s nowait opened b closed rest f placed fine told =
     skip-2 (fault_if (is_misplaced p) line why.WorkHere) (fault_if p.uneven line why.NotUniform) _ f placed
-    (skip-3 (declared_faults p nl n) (tree_faults p.names true fr) (tree_faults p.names true to) _ f fine (part-1 (schedule_faults s) _ f told))
+    (skip-3 (declared_faults p nl n) (tree_faults p.names true fr) (tree_faults p.names true to) _ f fine (first-before (schedule_faults s) _ f told))
 
 pub for-body-first : (q p : Place) (line : ℕ) (nl : ℕ) (n : List ℕ) (il : ℕ) (fr : Tree) (dots : ℕ) (to : Tree) (s : ScheduleTree) (nowait : Option ℕ) (opened : ℕ) (b : Stmts) (closed : ℕ) (rest : Stmts) (f : ReadKernelFault) → q ≡ in_work (with_local p n false) → SharedFaults p line why.WorkHere ≡ [] → RangeFaults p true nl n fr to ≡ [] → schedule_faults s ≡ []
     → IsFirstOf (stmts_faults q b) f → IsFirstOf (stmts_faults p (For line nl n il fr dots to s nowait opened b closed rest)) f

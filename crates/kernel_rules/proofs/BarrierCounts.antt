@@ -76,7 +76,7 @@ unrolled_meets (suc n) slot v body all =
     (All-append MeetsOnlyAtBars body _ all (unrolled_meets n slot (v +ℤ pos 1) body all))
 
 -- a loop that isn't unrolled holds no work
-idle_loop : (from to : Option ℤ) (work : Bool) → (work ≡ true → is_some from && is_some to ≡ true) → unrolled_bounds from to work ≡ None → work ≡ false
+pub idle_loop : (from to : Option ℤ) (work : Bool) → (work ≡ true → is_some from && is_some to ≡ true) → unrolled_bounds from to work ≡ None → work ≡ false
 idle_loop (Some a) (Some b) true fixed is = cc
 idle_loop (Some a) None true fixed is = sym (fixed refl)
 idle_loop None to true fixed is = sym (fixed refl)

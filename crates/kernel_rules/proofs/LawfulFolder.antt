@@ -1,5 +1,5 @@
 -- The tasks of a whole run of a lawful kernel keep every rule of a folder.
-use Rattle.std.proofs.Common.{◌≡◌, refl, ap, sym, ◌∙◌, subst, ℕ, zero, suc, ◌+◌, ◌<◌, ◌≤◌, arith, false, List, [], ◌∷◌, ◌++◌, length, get_or, Option, Some, None, slice_get, IsSome, All, pos, length-append}
+use Rattle.std.proofs.Common.{◌≡◌, refl, ap, sym, ◌∙◌, subst, ℕ, suc, ◌+◌, ◌<◌, ◌≤◌, arith, false, List, [], ◌∷◌, ◌++◌, length, Option, Some, None, slice_get, IsSome, All, pos, length-append}
 use Rattle.std.specs.Prelude.{map, Contains, option_map}
 use Rattle.std.proofs.lemmas.List.Elements.{All-nil, All-cons, All-push, All-replicate}
 use Rattle.std.proofs.lemmas.Option.{same_Some, none-some, slice_get-map, slice_get_within}
@@ -16,38 +16,22 @@ use Rattle.std.proofs.lemmas.List.Sums.{count_by-le-length}
 use Rattle.race_laws.proofs.FolderRules.{lists_spans}
 use Rattle.race_laws.proofs.Listed.{AreSpans}
 use Rattle.race_laws.proofs.ListedOnce.{logs_at}
-use Rattle.race_model.proofs.TraceLogs.{all_at}
+use Rattle.race_model.proofs.TraceLogs.{all_at, find_listed}
 use Rattle.kernel_syntax.specs.Program.{Program}
 use Rattle.kernel_syntax.specs.Tree.{TeamTree}
 use Rattle.kernel_model.specs.State.{Fork, reads_of, chunks_of}
 use Rattle.kernel_model.specs.Trace.{Start, log_limit}
-use Rattle.kernel_model.specs.Folder.{own_trace, root_start, lane_start, start_at, start_below, IsTraced, IsTracedTask, IsTracedFolder, paths_of}
+use Rattle.kernel_model.specs.Folder.{own_trace, root_start, lane_start, start_at, IsTraced, IsTracedTask, IsTracedFolder, paths_of}
 use Rattle.kernel_model.specs.Lawful.{IsLawful, code_holds_work}
 use Rattle.kernel_model.specs.Parts.{parts_of, bar_count}
 use Rattle.kernel_model.proofs.Growing.{task-grows}
-use Rattle.kernel_model.proofs.Starts.{at_append, at_lane, at_root, lane_started, descend, starts_lane}
+use Rattle.kernel_model.proofs.Starts.{at_lane, at_root, lane_started, descend, starts_lane, start_above}
 use Rattle.kernel_rules.proofs.LawfulValues.{IsValue, IsValueFork, IsValueStart, zero_value, lane_values, traced_values}
 use Rattle.kernel_rules.proofs.LawfulRecords.{IsLawfulTeam, IsLawfulFork, spans_forked}
 use Rattle.kernel_rules.proofs.LawfulLogs.{IsLawfulLog, lawful_log, log_keeps}
 use Rattle.kernel_rules.proofs.SameBarriers.{traced_barriers, idle_barriers}
 
 -- ---- tasks of a trace
-
-pub record FoundTask (tasks : Trace) (path : List Step) : Type 0 where
-  pub index : ℕ
-  pub task : TaskLog
-  pub found : slice_get tasks index ≡ Some task
-  pub path_is : task.path ≡ path
-
-found_at : (tasks : Trace) (path : List Step) (k : ℕ) → k < length (paths_of tasks) → get_or (paths_of tasks) k path ≡ path → FoundTask tasks path
-found_at [] path k lt is = absurd (omega arith)
-found_at (t ∷ tasks) path zero lt is = record { index = 0; task = t; found = refl; path_is = is }
-found_at (t ∷ tasks) path (suc k) lt is =
-    let rest = found_at tasks path k (omega arith) is in
-    record { index = suc rest.index; task = rest.task; found = rest.found; path_is = rest.path_is }
-
-find_task : (tasks : Trace) (path : List Step) → Contains (paths_of tasks) path → FoundTask tasks path
-find_task tasks path (k, lt, is) = found_at tasks path k lt is
 
 -- what holds of each task holds of all, and of their rows
 pub each_task : (P : TaskLog → Type 0) (tasks : Trace) → ((k : ℕ) (task : TaskLog) → slice_get tasks k ≡ Some task → P task) → All P tasks
@@ -58,7 +42,7 @@ each_row : (tasks : Trace) → ((k : ℕ) (task : TaskLog) → slice_get tasks k
 each_row [] all = All-nil IsRow
 each_row (t ∷ tasks) all = All-cons IsRow (row_of t) (rows_of tasks) (all 0 t refl) (each_row tasks (λ k task found. all (suc k) task found))
 
-row_paths : (tasks : Trace) → map (λ (row : Row). row.path) (rows_of tasks) ≡ paths_of tasks
+pub row_paths : (tasks : Trace) → map (λ (row : Row). row.path) (rows_of tasks) ≡ paths_of tasks
 row_paths [] = refl
 row_paths (t ∷ tasks) = ap (λ (ps : List (List Step)). t.path ∷ ps) (row_paths tasks)
 
@@ -83,6 +67,15 @@ fork_limit program start records =
     let room = grows.room_is in
     omega (arith, count_by-le-length (λ (r : Record). is_region_kind r.kind) grows.added)
 
+-- a task that starts is there, with its trace
+pub traced_at : (program : Program) (tasks : Trace) → IsTracedFolder program tasks → (path : List Step) (start : Start) → start_at program (logs_of tasks) path ≡ Some start
+    → IsTraced program start (logs_of tasks path)
+traced_at program tasks folder path start starts =
+    let f = find_listed tasks path (folder.all path (subst IsSome (sym starts) refl)) in
+    let it = all_at (IsTracedTask program (logs_of tasks)) tasks f.index f.task folder.each f.found in
+    let same : it.start ≡ start = same_Some it.start start (sym it.starts ∙ (ap (λ (p : List Step). start_at program (logs_of tasks) p) f.path_is ∙ starts)) in
+    subst (λ (rs : List Record). IsTraced program start rs) f.records_are (subst (λ (s : Start). IsTraced program s f.task.records) same it.traced)
+
 -- ---- a folder of a lawful kernel
 
 module _ (program : Program) (lawful : IsLawful program) (tasks : Trace) (folder : IsTracedFolder program tasks) (listing : IsListing (paths_of tasks)) where
@@ -91,17 +84,6 @@ module _ (program : Program) (lawful : IsLawful program) (tasks : Trace) (folder
 
   abbrev mutexes : ℕ
   mutexes = length program.mutexes
-
-  -- each task that starts is there, with its trace
-  traced_at : (path : List Step) (start : Start) → start_at program logs path ≡ Some start → IsTraced program start (logs path)
-  traced_at path start starts =
-      let there = find_task tasks path (folder.all path (subst IsSome (sym starts) refl)) in
-      let it = all_at (IsTracedTask program logs) tasks there.index there.task folder.each there.found in
-      let same : it.start ≡ start =
-      same_Some it.start start (sym it.starts ∙ ap (λ (p : List Step). start_at program logs p) there.path_is ∙ starts) in
-      let records : there.task.records ≡ logs path =
-      sym (logs_at tasks listing there.index there.task there.found) ∙ ap logs there.path_is in
-      subst (λ (rs : List Record). IsTraced program start rs) records (subst (λ (s : Start). IsTraced program s there.task.records) same it.traced)
 
   -- a task that lies as deep as its path is long
   record IsLawfulAt (path : List Step) (start : Start) : Type 0 where
@@ -152,18 +134,7 @@ module _ (program : Program) (lawful : IsLawful program) (tasks : Trace) (folder
   lawful_at : (path : List Step) (start : Start) → start_at program logs path ≡ Some start → IsLawfulAt path start
   lawful_at path start starts =
       descend program logs IsLawfulAt root_lawful
-      (λ above up step next at begins is. lane_lawful above up step next at (traced_at above up begins) is) path start starts
-
-  -- the task above one that starts, too
-  parent : (above : List Step) (step : Step) (start : Start) → start_at program logs (above ++ step ∷ []) ≡ Some start →
-      (up : Start) × (start_at program logs above ≡ Some up)
-  parent above step start starts = by_start (start_at program logs above) refl
-    where
-      by_start : (o : Option Start) → start_at program logs above ≡ o → (up : Start) × (start_at program logs above ≡ Some up)
-      by_start None is =
-          absurd (none-some start (sym (at_append program logs above (step ∷ [])
-          ∙ ap (λ (o : Option Start). start_below program logs above o (step ∷ [])) is) ∙ starts))
-      by_start (Some up) is = (up, is)
+      (λ above up step next at begins is. lane_lawful above up step next at (traced_at program tasks folder above up begins) is) path start starts
 
   -- ---- one task
 
@@ -183,7 +154,7 @@ module _ (program : Program) (lawful : IsLawful program) (tasks : Trace) (folder
     log : IsLawfulLog mutexes (length task.path + 1) task.records forks
     log =
         subst (λ (rs : List Record). IsLawfulLog mutexes (length task.path + 1) rs forks) own
-        (lawful_log program it.start (logs task.path) mutexes (length task.path) at.inside (traced_at task.path it.start it.starts))
+        (lawful_log program it.start (logs task.path) mutexes (length task.path) at.inside (traced_at program tasks folder task.path it.start it.starts))
 
     abbrev due : ℕ
     due = bar_count (parts_of it.start.team.body)
@@ -205,7 +176,7 @@ module _ (program : Program) (lawful : IsLawful program) (tasks : Trace) (folder
         listed : (region lane span : ℕ) → Contains (paths_of tasks) (lane_of task.path region lane span) → slice_get (spans_forked forks) region ≡ Some span
         listed region lane span there =
             let step : Step = record { region = region; lane = lane; span = span } in
-            let beside = find_task tasks (task.path ++ step ∷ []) there in
+            let beside = find_listed tasks (task.path ++ step ∷ []) there in
             let its = all_at (IsTracedTask program logs) tasks beside.index beside.task folder.each beside.found in
             let starts : start_at program logs (task.path ++ step ∷ []) ≡ Some its.start =
             ap (λ (p : List Step). start_at program logs p) (sym beside.path_is) ∙ its.starts in
@@ -233,7 +204,7 @@ module _ (program : Program) (lawful : IsLawful program) (tasks : Trace) (folder
     knows_team : KnowsTeam tasks task.path (Some due)
     knows_team above step is above_first =
         let starts : start_at program logs (above ++ step ∷ []) ≡ Some it.start = ap (λ (p : List Step). start_at program logs p) (sym is) ∙ it.starts in
-        let up = parent above step it.start starts in
+        let up = start_above program logs above step it.start starts in
         let others = (own_trace program up.0 (logs above)).forks in
         let told = lane_started (slice_get others step.region) step it.start (sym (at_lane program logs above up.0 step up.1) ∙ starts) in
         let first : Step = record { region = step.region; lane = 0; span = step.span } in
@@ -244,7 +215,7 @@ module _ (program : Program) (lawful : IsLawful program) (tasks : Trace) (folder
         ∙ starts_lane told.fork first told.span (omega arith) in
         let zero_start : Start = record { team = told.fork.team; lane = 0; slots = told.fork.slots } in
         let path = lane_of above step.region 0 step.span in
-        let count = traced_barriers program zero_start (logs path) (lawful_at path zero_start begins).inside.even (traced_at path zero_start begins) in
+        let count = traced_barriers program zero_start (logs path) (lawful_at path zero_start begins).inside.even (traced_at program tasks folder path zero_start begins) in
         ap (λ (n : ℕ). Some n) (ap (λ (s : Start). bar_count (parts_of s.team.body)) told.begins ∙ sym count)
 
     task_keeps : TaskKeepsRules FORMAT tasks task

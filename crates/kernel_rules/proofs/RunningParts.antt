@@ -1,5 +1,5 @@
 -- A body's parts, run one after another, do what the body does; and only barriers of the team record a Barrier.
-use Rattle.std.proofs.Common.{◌≡◌, refl, ap, sym, ◌∙◌, ℕ, zero, suc, arith, Bool, true, false, List, [], ◌∷◌, ◌++◌, append_assoc, ℤ, pos, ◌+ℤ◌, Option, Some, None}
+use Rattle.std.proofs.Common.{◌≡◌, refl, ap, sym, ◌∙◌, ℕ, zero, suc, arith, Bool, true, false, [], ◌∷◌, ◌++◌, append_assoc, ℤ, pos, ◌+ℤ◌, Option, Some, None}
 use Rattle.std.specs.Prelude.{◌||◌}
 use Rattle.std.proofs.lemmas.Int.{ints}
 use Rattle.kernel_syntax.specs.declared.syntax.Schedule.{Schedule}
@@ -14,8 +14,8 @@ use Rattle.kernel_model.specs.Value.{Site, value}
 use Rattle.kernel_model.specs.Iterations.{total_of}
 use Rattle.kernel_model.specs.Trace.{turns, shared, run}
 use Rattle.kernel_model.specs.Lawful.{fixed_bound, code_holds_work, unrolled_bounds, bounds_of}
-use Rattle.kernel_model.specs.Parts.{Part, Run, Bar, unrolled, loop_parts, end_parts, parts_of, run_part, run_parts}
-use Rattle.kernel_model.proofs.Joining.{after-after, after-and_then, after-same, and_then-same, run-follows}
+use Rattle.kernel_model.specs.Parts.{Run, Bar, unrolled, loop_parts, end_parts, parts_of, run_parts}
+use Rattle.kernel_model.proofs.Joining.{after-after, after-and_then, after-same, and_then-same, run-follows, run_parts-append}
 
 -- ---- the parts of one list of statements after another
 
@@ -72,11 +72,6 @@ pub code_holds_work-first : (stmt : Stmt) (later : Code) → code_holds_work (st
 code_holds_work-first stmt later = ap code_holds_work (stmt_code-first stmt later) ∙ code_holds_work-follows (stmt_code stmt Done) later
 
 -- ---- running
-
-run_parts-append : (at : Site) (xs ys : List Part) (s : State) → run_parts at (xs ++ ys) s ≡ after (run_parts at xs s) (run_parts at ys)
-run_parts-append at [] ys s = refl
-run_parts-append at (x ∷ xs) ys s =
-    after-same (run_part at x s) _ _ (run_parts-append at xs ys) ∙ sym (after-after (run_part at x s) (run_parts at xs) (run_parts at ys))
 
 -- a bound that the text fixes has its value in every state
 fixed_bound-is : (at : Site) (e : Term) (v : ℤ) (s : State) → fixed_bound e ≡ Some v → value at e s ≡ Gives v s

@@ -84,7 +84,7 @@ all_levels n a b p ch = pending_levels n a ++ (pending_levels n b ++ (tree_level
 abbrev Groups : Chain → Type 0
 Groups ch = (n : ℕ) (c : Bool) (a b : Pending) (p : Tree) → (c ≡ true → a ≡ Free) → IsPending 3 2 a → IsPending 2 1 b → Derives 1 p → FitsChain c ch → Whole n (all_tokens a b p ch) (all_levels n a b p ch)
 
-allowed : (c b : Bool) (A B : Type 0) → b ≡ false → Allows c b A B → A
+pub allowed : (c b : Bool) (A B : Type 0) → b ≡ false → Allows c b A B → A
 allowed c b A B e d = subst (λ (x : Bool). Allows c x A B) e d
 
 then-compare : (o : Op) (line : ℕ) (u : Tree) (rest : Chain) → Groups rest → is_comparison o ≡ true → rank_of o ≤ 3 → 2 ≤ left_rank o → 2 ≤ right_rank o

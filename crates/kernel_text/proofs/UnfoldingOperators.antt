@@ -12,10 +12,10 @@ use Rattle.kernel_text.specs.Grammar.{Tree, NumberAt, NameAt, TidAt, SpanAt, Ele
 use Rattle.kernel_text.specs.Faults.{tree_levels}
 use Rattle.kernel_text.specs.Wanting.{Chain, Last, Then, chain_tokens, chain_levels, Allows, FitsChain, Value, Fill, fill_tokens, fill_levels, Fulfils, EndsAt, AreDelimited, token, LeadsTo, Skips, Refuses}
 use Rattle.kernel_text.proofs.Operators.{op_of-sign}
-use Rattle.kernel_text.proofs.Grouping.{whole_of}
+use Rattle.kernel_text.proofs.Grouping.{whole_of, allowed}
 use Rattle.kernel_text.proofs.Unfolding.{lexeme-of, Leaves, puts-by, leaves-by, takes, weaker, never-on, not-op, skips}
 
-same-op : (o p : Op) → Mark (sign_of o) ≡ Mark (sign_of p) → o ≡ p
+pub same-op : (o p : Op) → Mark (sign_of o) ≡ Mark (sign_of p) → o ≡ p
 same-op o p e = let some : Some o ≡ Some p = sym (op_of-sign o) ∙ ap op_of e ∙ op_of-sign p in cc
 
 -- ---- operators
@@ -54,13 +54,9 @@ plain-allows : (c b : Bool) (A B : Type 0) → b ≡ false → A → Allows c b 
 plain-allows c false A B e a = a
 plain-allows c true A B e a = absurd cc
 
-allows-plain : (c b : Bool) (A B : Type 0) → b ≡ false → Allows c b A B → A
-allows-plain c false A B e a = a
-allows-plain c true A B e a = absurd cc
-
 pub plain-takes : (o : Op) (n : ℕ) (c : Bool) (s : List Want) → is_comparison o ≡ false → AreDelimited (want.Operators n c ∷ s) → LeadsTo (want.Operators n c ∷ s) (Mark (sign_of o)) 0 (want.Operand n ∷ want.Operators n c ∷ s)
 plain-takes o n c s e a =
-    operator-takes o n c c s (λ ch d. plain-allows c (is_comparison o) (FitsChain c ch) (FitsChain false ch) e d) (λ ch d. allows-plain c (is_comparison o) (FitsChain c ch) (FitsChain false ch) e d) a
+    operator-takes o n c c s (λ ch d. plain-allows c (is_comparison o) (FitsChain c ch) (FitsChain false ch) e d) (λ ch d. allowed c (is_comparison o) (FitsChain c ch) (FitsChain false ch) e d) a
 
 pub comparison-takes : (o : Op) (n : ℕ) (c : Bool) (s : List Want) → c ≡ true → is_comparison o ≡ true → AreDelimited (want.Operators n c ∷ s)
     → LeadsTo (want.Operators n c ∷ s) (Mark (sign_of o)) 0 (want.Operand n ∷ want.Operators n false ∷ s)

@@ -15,9 +15,9 @@ use Rattle.race_model.specs.declared.why.IndexWhy.TheVariants.{Old, Header, TooM
 use Rattle.race_model.specs.BadPlace.{BadPlace, no_index, bad_row}
 use Rattle.race_model.specs.Row.{Row, RawRow, StepFits, RowFits, step_spelling, row_spelling, used, unused, no_step, raw_of, index_bytes}
 use Rattle.race_model.specs.Listing.{BeginsListing, IsListing, IsLastLane, IsNextLane, IsFirstLane, IsNextRegion, IsNextPath}
-use Rattle.race_model.specs.IndexFault.{HasRegionSpan, HasLaneInSpan, RowPasses, FailsTest, Fails as HasFault, IsAtRow, IsBadRow, IsBadIndexPlace, AreFirstRows, IsIndex}
+use Rattle.race_model.specs.IndexFault.{HasRegionSpan, HasLaneInSpan, RowPasses, FailsTest, Fails as HasFault, IsBadRow, IsBadIndexPlace, AreFirstRows, IsIndex}
 use Rattle.race_laws.proofs.Listings.{begins_none, begins_at_root, begins_one, begins_less, begins_more, lists_less, lists_more, lists_some}
-use Rattle.race_laws.proofs.IndexPlaces.{used-raws_of, raws_fit}
+use Rattle.race_laws.proofs.IndexPlaces.{used-raws_of, bad_next_row, both_parts}
 use Rattle.log_index.specs.Rows.{AddsRow, OneMore}
 use Rattle.race_model.specs.Row.{row_path}
 use Rattle.log_index.proofs.Ends.{more_parts}
@@ -222,9 +222,7 @@ same_list [] [] = inl refl
 same_list [] (y ∷ ys) = inr (λ same. absurd (omega (arith, ap length same)))
 same_list (x ∷ xs) [] = inr (λ same. absurd (omega (arith, ap length same)))
 same_list (x ∷ xs) (y ∷ ys) =
-    through (λ p. ap (λ (n : ℕ). n ∷ xs) p.0 ∙ ap (λ (zs : List ℕ). y ∷ zs) p.1) both_parts (both (equal x y) (same_list xs ys)) where
-      both_parts : x ∷ xs ≡ y ∷ ys → (x ≡ y) × (xs ≡ ys)
-      both_parts same = (cc, cc)
+    through (λ p. ap (λ (n : ℕ). n ∷ xs) p.0 ∙ ap (λ (zs : List ℕ). y ∷ zs) p.1) both_parts (both (equal x y) (same_list xs ys))
 
 -- the folder has a well-formed index
 pub record HasRows (format : Format) (files : Files) (dir : List ℕ) : Type 0 where
@@ -237,20 +235,7 @@ module _ (format : Format) (files : Files) (dir : List ℕ) (bytes : List ℕ) (
 
   module _ (rows : List Row) (rest : List ℕ) (first : AreFirstRows rows) (parts : bytes ≡ index_header format ++ flat_map row_spelling (map raw_of rows) ++ rest) where
     no_fault : (why : IndexWhy) → HasFault (map raw_of rows) rest why → ⊥
-    no_fault why fault = by_why why fault where
-      at_row : IsAtRow format bytes (length rows + 1) (map raw_of rows) rest
-      at_row = record { number = omega (arith, length-map rows raw_of); fit = raws_fit rows first.each; parts = parts }
-
-      by_why : (w : IndexWhy) → HasFault (map raw_of rows) rest w → ⊥
-      by_why Old fails = fails
-      by_why Header fails = fails
-      by_why TooMany fails = not_bad (length rows + 1) TooMany (record { before = map raw_of rows; rest = rest; at_row = at_row; fails = fails })
-      by_why Cut fails = not_bad (length rows + 1) Cut (record { before = map raw_of rows; rest = rest; at_row = at_row; fails = fails })
-      by_why Depth fails = not_bad (length rows + 1) Depth (record { before = map raw_of rows; rest = rest; at_row = at_row; fails = fails })
-      by_why Span fails = not_bad (length rows + 1) Span (record { before = map raw_of rows; rest = rest; at_row = at_row; fails = fails })
-      by_why Lane fails = not_bad (length rows + 1) Lane (record { before = map raw_of rows; rest = rest; at_row = at_row; fails = fails })
-      by_why Order fails = not_bad (length rows + 1) Order (record { before = map raw_of rows; rest = rest; at_row = at_row; fails = fails })
-      by_why Records fails = not_bad (length rows + 1) Records (record { before = map raw_of rows; rest = rest; at_row = at_row; fails = fails })
+    no_fault why fault = not_bad (length rows + 1) why (bad_next_row format bytes rows rest first parts why fault)
 
     at_end : rest ≡ [] → HasRows format files dir
     at_end ended =

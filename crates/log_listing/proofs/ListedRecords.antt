@@ -5,7 +5,7 @@ use Rattle.log_format.specs.declared.record.Record.{Record}
 use Rattle.log_reader.specs.Reading.{Reading, StandsBefore, GivesNext}
 use Rattle.log_listing.specs.Listing.{numbered}
 use Rattle.log_listing.specs.Printing.{PrintsInPieces, PrintsPrefix}
-use Rattle.log_listing.proofs.PrintedParts.{prints_none, prints_both, prints_then_prefix, prefix_of, prefix_append}
+use Rattle.log_listing.proofs.PrintedParts.{prints_both, prints_then_prefix, prefix_of, prefix_append}
 
 numbered-append : {X : Type 0} (line : ℕ → X → List ℕ) (n : ℕ) (xs ys : List X) → numbered line n (xs ++ ys) ≡ numbered line n xs ++ numbered line (n + length xs) ys
 numbered-append line n [] ys = ap (λ m. numbered line m ys) (let e : n ≡ n + 0 = omega arith in e)
@@ -21,10 +21,6 @@ pub record ListedTo (line : ℕ → Record → List ℕ) (c : Content) (reading 
   pub stands : StandsBefore c reading left
   pub number_is : number ≡ length given + 1
   pub written : PrintsInPieces old waited new waits (numbered line 1 given)
-
-pub ListedTo-start : (line : ℕ → Record → List ℕ) (c : Content) (reading : Reading) (events : List Record) (old : Option (List ℕ)) (waited : List ℕ) → StandsBefore c reading events
-    → ListedTo line c reading events old waited old waited 1
-ListedTo-start line c reading events old waited stands = record { given = []; left = events; parts = refl; stands = stands; number_is = refl; written = prints_none old waited }
 
 module _ (line : ℕ → Record → List ℕ) (c : Content) (reading : Reading) (events : List Record) (old : Option (List ℕ)) (waited : List ℕ) (between : Option (List ℕ)) (waits : List ℕ) (number : ℕ)
     (listed : ListedTo line c reading events old waited between waits number) where

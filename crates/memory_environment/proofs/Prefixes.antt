@@ -1,13 +1,9 @@
 -- What a refused call leaves: a prefix of what it was to write.
 use Rattle.std.proofs.Common.{◌≡◌, Bool, true, false, cond, ℕ, List, [], ◌++◌, take, drop, Option, None, Some, refl, sym, ap, ◌∙◌, append-nil, inl, inr, Result, Ok, Err, OnOk, OnErr}
 use Rattle.std.proofs.lemmas.List.{take-append-drop}
-use Rattle.sw_base.specs.Environment.{Files, GainsPrefix, LeavesPrefix, Sealed, TearsPiece, Text, with_file}
+use Rattle.sw_base.specs.Environment.{Files, LeavesPrefix, Sealed, TearsPiece, Text, with_file}
 use Rattle.memory_environment.specs.InMemory.{TornEnd}
-use Rattle.sw_base.proofs.Gains.{GainsPrefix-same}
-
--- a write that added nothing
-pub gains_prefix_same : (old new : Option (List ℕ)) (piece : List ℕ) → new ≡ old → GainsPrefix old new piece
-gains_prefix_same = GainsPrefix-same
+pub use Rattle.sw_base.proofs.Gains.{GainsPrefix-same as gains_prefix_same}
 
 -- an append that added nothing
 pub tears_piece_same : (old new : Option Text) (piece : List ℕ) → new ≡ old → TearsPiece old new piece

@@ -1,13 +1,17 @@
 -- How many records of a kind stand before a place in a log.
-use Rattle.std.proofs.Common.{◌≡◌, ℕ, zero, suc, ◌+◌, ◌<◌, ◌≤◌, Bool, true, false, cond, List, [], ◌∷◌, take, Some, refl, sym, ap, subst, arith, ◌∙◌}
+use Rattle.std.proofs.Common.{◌≡◌, ℕ, zero, suc, ◌+◌, ◌<◌, ◌≤◌, Bool, true, false, cond, List, [], ◌∷◌, take, Some, refl, sym, ap, subst, arith, ◌∙◌, ◌⊎◌, ◌≢◌, inl, inr}
 use Rattle.std.specs.Prelude.{count_by, slice_get}
 use Rattle.std.proofs.lemmas.List.Sums.{count_by_more_yes, sum_by-take-le, sum_by-cons}
 use Rattle.std.proofs.lemmas.List.{take-take}
 use Rattle.std.proofs.lemmas.Option.{slice_get_within, get_or_from_slice_get}
 use Rattle.log_format.specs.declared.record.Kind.{Kind}
-use Rattle.log_format.specs.declared.record.Kind.TheVariants.{Barrier, Region}
+use Rattle.log_format.specs.declared.record.Kind.TheVariants.{Barrier, Region, Read, Write, Lock, Unlock, End, Chunk, Update}
 use Rattle.sw_base.specs.declared.path.Step.{Step}
 use Rattle.race_model.specs.Trace.{Logs, Node, IsThere, HasKind, regions_before, barriers_before, region_count, barrier_count, is_region_kind, is_barrier_kind}
+
+-- what is below a number is below one that is as large as one that isn't below it
+pub below_later : (n a b c : ℕ) → n < a → (b < a → ⊥) → b ≤ c → n < c
+below_later n a b c less not_less le = grind arith
 
 -- a count goes only up
 pub count_up : {X : Type 0} (p : X → Bool) (xs : List X) (i j : ℕ) → i ≤ j → count_by p (take i xs) ≤ count_by p (take j xs)
@@ -60,9 +64,25 @@ region_is_true k e = rw e refl
 barrier_is_true : (k : Kind) → k ≡ Barrier → is_barrier_kind k ≡ true
 barrier_is_true k e = rw e refl
 
-barrier_from_true : (k : Kind) → is_barrier_kind k ≡ true → k ≡ Barrier
+pub barrier_from_true : (k : Kind) → is_barrier_kind k ≡ true → k ≡ Barrier
 barrier_from_true Barrier e = refl
 barrier_from_true _ e = cc
+
+pub region_from_true : (k : Kind) → is_region_kind k ≡ true → k ≡ Region
+region_from_true Region e = refl
+region_from_true _ e = cc
+
+-- a record of any other kind isn't an End
+pub is_end : (k : Kind) → (k ≡ End) ⊎ (k ≢ End)
+is_end End = inl refl
+is_end Read = inr (λ e. cc)
+is_end Write = inr (λ e. cc)
+is_end Lock = inr (λ e. cc)
+is_end Unlock = inr (λ e. cc)
+is_end Barrier = inr (λ e. cc)
+is_end Region = inr (λ e. cc)
+is_end Chunk = inr (λ e. cc)
+is_end Update = inr (λ e. cc)
 
 pub there : (logs : Logs) (x : Node) (kind : Kind) → HasKind logs x kind → IsThere logs x
 there logs x kind h = slice_get_within (logs x.path) x.index h.event h.found

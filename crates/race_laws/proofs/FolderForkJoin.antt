@@ -1,15 +1,16 @@
 -- A trace that keeps the rules is that of a fork-join run.
-use Rattle.std.proofs.Common.{◌≡◌, ◌≢◌, ◌⊎◌, inl, inr, ℕ, zero, suc, ◌+◌, ◌<◌, ◌≤◌, true, false, cond, List, [], ◌∷◌, ◌++◌, length, take, Option, Some, None, refl, sym, ap, subst, ◌∙◌, arith, get_or}
+use Rattle.std.proofs.Common.{◌≡◌, ◌≢◌, ◌⊎◌, inl, inr, ℕ, zero, suc, ◌+◌, ◌<◌, ◌≤◌, false, cond, List, [], ◌∷◌, ◌++◌, length, take, Option, Some, None, refl, sym, ap, subst, ◌∙◌, arith, get_or}
 use Rattle.std.specs.Prelude.{slice_get, Contains, map, All}
 use Rattle.std.proofs.lemmas.List.{length-take-le, take_at}
 use Rattle.std.proofs.lemmas.List.Sums.{sum_by-take-le, sum_by-append}
 use Rattle.std.proofs.lemmas.List.Elements.{All-from_get_or, All-contains, Contains-push}
 use Rattle.std.proofs.lemmas.Option.{slice_get_within, slice_get-get_or, same_Some, none-some}
 use Rattle.sw_base.specs.declared.path.Step.{Step}
+use Rattle.sw_base.proofs.Lists.{get_seam, get_more}
 use Rattle.log_format.specs.declared.format.Format.{Format}
 use Rattle.log_format.specs.declared.record.Record.{Record}
 use Rattle.log_format.specs.declared.record.Kind.{Kind}
-use Rattle.log_format.specs.declared.record.Kind.TheVariants.{Read, Write, Lock, Unlock, Barrier, Region, Chunk, End, Update}
+use Rattle.log_format.specs.declared.record.Kind.TheVariants.{Region, End}
 use Rattle.race_model.specs.declared.why.RecordWhy.{RecordWhy}
 use Rattle.race_model.specs.declared.why.RecordWhy.TheVariants as log
 use Rattle.race_model.specs.Row.{Row}
@@ -21,33 +22,14 @@ use Rattle.race_model.specs.LogFault.{Breaks, ListsSpans}
 use Rattle.race_model.specs.FirstBad.{row_of, rows_of}
 use Rattle.race_model.specs.KeepsRules.{KnowsTeam, TaskKeepsRules, KeepsRules}
 use Rattle.race_model.specs.ForkJoin.{EndsOnce, IsTask, WasForked, IsForkJoin}
-use Rattle.race_laws.proofs.Counts.{count_finds, Counted}
+use Rattle.race_laws.proofs.Counts.{count_finds, Counted, below_later, is_end, region_from_true, barrier_from_true}
 use Rattle.race_laws.proofs.LabelPlace.{has_last, HasLast}
 use Rattle.race_laws.proofs.Listed.{above_listed, beside_listed, root_listed}
 use Rattle.race_model.proofs.TraceLogs.{all_at, find_task, listed_task, HasRecords}
 use Rattle.race_laws.proofs.FolderRules.{path_listed, region_of}
 
-is_end : (k : Kind) → (k ≡ End) ⊎ (k ≢ End)
-is_end End = inl refl
-is_end Read = inr (λ e. cc)
-is_end Write = inr (λ e. cc)
-is_end Lock = inr (λ e. cc)
-is_end Unlock = inr (λ e. cc)
-is_end Barrier = inr (λ e. cc)
-is_end Region = inr (λ e. cc)
-is_end Chunk = inr (λ e. cc)
-is_end Update = inr (λ e. cc)
-
 end_counts : (k : Kind) → k ≡ End → is_barrier_kind k ≡ false
 end_counts k e = rw e refl
-
-is_region_from : (k : Kind) → is_region_kind k ≡ true → k ≡ Region
-is_region_from Region e = refl
-is_region_from _ e = cc
-
-is_barrier_from : (k : Kind) → is_barrier_kind k ≡ true → k ≡ Barrier
-is_barrier_from Barrier e = refl
-is_barrier_from _ e = cc
 
 same_or_not : (m n : ℕ) → (m ≡ n) ⊎ (m ≢ n)
 same_or_not m n = grind arith
@@ -57,16 +39,6 @@ not_not_same m n h = at (same_or_not m n) where
   at : (m ≡ n) ⊎ (m ≢ n) → m ≡ n
   at (inl e) = e
   at (inr ne) = absurd (h ne)
-
--- the last element of a list
-last_at : {X : Type 0} (prefix : List X) (last : X) → slice_get (prefix ++ last ∷ []) (length prefix) ≡ Some last
-last_at [] last = refl
-last_at (x ∷ prefix) last = last_at prefix last
-
-prefix_at : {X : Type 0} (prefix : List X) (last : X) (k : ℕ) (x : X) → slice_get prefix k ≡ Some x → slice_get (prefix ++ last ∷ []) k ≡ Some x
-prefix_at [] last k x found = cc
-prefix_at (y ∷ prefix) last zero x found = found
-prefix_at (y ∷ prefix) last (suc k) x found = prefix_at prefix last k x found
 
 abbrev NotEnd : Record → Type 0
 NotEnd r = r.kind ≡ End → ⊥
@@ -81,7 +53,7 @@ ends_once records some early missing = at (has_last records)
     build : (prefix : List Record) (last : Record) → records ≡ prefix ++ last ∷ [] → EndsOnce records
     build prefix last parts =
         let long : length records ≡ length prefix + 1 = ap length parts ∙ (let n : length (prefix ++ last ∷ []) ≡ length prefix + 1 = grind (arith, length_more) in n) in
-        let here : slice_get records (length prefix) ≡ Some last = subst (λ (rs : List Record). slice_get rs (length prefix) ≡ Some last) (sym parts) (last_at prefix last) in
+        let here : slice_get records (length prefix) ≡ Some last = subst (λ (rs : List Record). slice_get rs (length prefix) ≡ Some last) (sym parts) (get_seam prefix last []) in
         record {
           prefix = prefix;
           last = last;
@@ -89,7 +61,7 @@ ends_once records some early missing = at (has_last records)
           ends = decide (is_end last.kind) (λ ne. missing (length prefix) last here ne (sym long));
           once = All-from_get_or NotEnd prefix last
               (λ k within e. early k (get_or prefix k last)
-              (subst (λ (rs : List Record). slice_get rs k ≡ Some (get_or prefix k last)) (sym parts) (prefix_at prefix last k (get_or prefix k last) (slice_get-get_or prefix k last within)))
+              (subst (λ (rs : List Record). slice_get rs k ≡ Some (get_or prefix k last)) (sym parts) (get_more prefix (last ∷ []) k (get_or prefix k last) (slice_get-get_or prefix k last within)))
               e (omega arith));
         }
       where
@@ -188,7 +160,7 @@ module _ {format : Format} (trace : Trace) (good : KeepsRules format trace) wher
       record {
         place = length e.prefix;
         last = e.last;
-        found = subst (λ (rs : List Record). slice_get rs (length e.prefix) ≡ Some e.last) (sym e.parts) (last_at e.prefix e.last);
+        found = subst (λ (rs : List Record). slice_get rs (length e.prefix) ≡ Some e.last) (sym e.parts) (get_seam e.prefix e.last []);
         is_last = e.ends;
         parts = e.parts ∙ ap (λ (rs : List Record). rs ++ e.last ∷ []) (sym (take_at e.prefix (e.last ∷ []) (length e.prefix) refl) ∙ ap (λ (rs : List Record). take (length e.prefix) rs) (sym e.parts));
       }
@@ -229,7 +201,7 @@ module _ {format : Format} (trace : Trace) (good : KeepsRules format trace) wher
 
       build : Known trace path (logs_of trace path) → Counted (λ (r : Record). is_region_kind r.kind) (logs_of trace path) step.region → WasForked (logs_of trace) path step
       build k c =
-          let is_region : c.item.kind ≡ Region = is_region_from c.item.kind c.counts in
+          let is_region : c.item.kind ≡ Region = region_from_true c.item.kind c.counts in
           let value : c.item.value ≡ step.span =
           span_listed path k c.index c.item c.found is_region step.span (ap (λ (n : ℕ). slice_get k.spans n) c.before ∙ spans_are k) in
           record {
@@ -252,10 +224,7 @@ module _ {format : Format} (trace : Trace) (good : KeepsRules format trace) wher
           (λ fewer. k.keeps e.place e.last e.found log.RegionRows (inr (e.is_last, fewer))) in
           let up : region_count (take e.place (logs_of trace path)) ≤ region_count (logs_of trace path) =
           sum_by-take-le (λ (r : Record). cond (is_region_kind r.kind) 1 0) (logs_of trace path) e.place in
-          build k (count_finds (λ (r : Record). is_region_kind r.kind) (logs_of trace path) step.region (beyond step.region (length k.spans) _ _ within all up))
-        where
-          beyond : (n a b c : ℕ) → n < a → (b < a → ⊥) → b ≤ c → n < c
-          beyond n a b c h g l = grind arith
+          build k (count_finds (λ (r : Record). is_region_kind r.kind) (logs_of trace path) step.region (below_later step.region (length k.spans) _ _ within all up))
 
   lanes_begun : (fork : Node) (lane span : ℕ) (path : List Step) → IsLane (logs_of trace) fork lane span path → IsTask (logs_of trace) path
   lanes_begun fork lane span path is =
@@ -300,7 +269,7 @@ module _ {format : Format} (trace : Trace) (good : KeepsRules format trace) wher
   none_in_root (suc n) e =
       let c = count_finds (λ (r : Record). is_barrier_kind r.kind) (logs_of trace []) 0 (omega arith) in
       let k = known [] root_begun in
-      absurd (k.keeps c.index c.item c.found log.RootBarrier (is_barrier_from c.item.kind c.counts, refl))
+      absurd (k.keeps c.index c.item c.found log.RootBarrier (barrier_from_true c.item.kind c.counts, refl))
 
   pub fork_join : IsForkJoin (logs_of trace)
   fork_join = record {

@@ -5,19 +5,14 @@ use Rattle.std.proofs.lemmas.Bool.{cases_lt}
 use Rattle.std.proofs.lemmas.List.{take_all}
 use Rattle.std.proofs.Math.Seq.{take-suc}
 use Rattle.std.proofs.lemmas.Option.{slice_get_within, get_or_from_slice_get}
-use Rattle.std.proofs.lemmas.List.Elements.{All-contains, All-filter, All-contains_itself, filter_passes, Contains-push, Contains-push_cases, Contains-append_left}
+use Rattle.std.proofs.lemmas.List.Elements.{Contains-push, Contains-push_cases, Contains-append_left}
+use Rattle.sw_base.proofs.Lists.{contains_filtered}
+use Rattle.race_model.proofs.Held.{held_after-append}
 use Rattle.log_format.specs.declared.record.Record.{Record}
 use Rattle.log_format.specs.declared.record.Kind.{Kind}
 use Rattle.log_format.specs.declared.record.Kind.TheVariants.{Lock, Unlock}
 use Rattle.race_model.specs.Race.{held_after, held_after_kind}
 use Rattle.race_model.specs.Mutexes.{HoldsMutex}
-
--- what a filter keeps
-kept_by : {X : Type 0} (p : X → Bool) (xs : List X) (x : X) → Contains (filter p xs) x → Contains xs x × (p x ≡ true)
-kept_by p xs x kept = (
-  All-contains (Contains xs) (filter p xs) x (All-filter p (Contains xs) xs (All-contains_itself xs)) kept,
-  All-contains (λ y. p y ≡ true) (filter p xs) x (filter_passes p xs) kept,
-)
 
 later : {X : Type 0} (xs : List X) (y x : X) → Contains xs x → Contains (y ∷ xs) x
 later xs y x found = (suc found.0, let within = found.1 in omega arith, found.2)
@@ -32,10 +27,6 @@ keeps p (y ∷ ys) x (suc k, within, is) passes = at (p y) (keeps p ys x (k, ome
     at : (b : Bool) → Contains (filter p ys) x → Contains (cond b (y ∷ filter p ys) (filter p ys)) x
     at true rest = later (filter p ys) y x rest
     at false rest = rest
-
-held_after-append : (held : List ℕ) (xs ys : List Record) → held_after held (xs ++ ys) ≡ held_after (held_after held xs) ys
-held_after-append held [] ys = refl
-held_after-append held (x ∷ xs) ys = held_after-append (held_after_kind x.kind x.addr held) xs ys
 
 -- the mutexes held after one record more
 held_more : (records : List Record) (n : ℕ) (r : Record) → slice_get records n ≡ Some r
@@ -126,7 +117,7 @@ forward records n mutex held r Lock found is before now = elim (Contains-push_ca
   }
 ]
 forward records n mutex held r Unlock found is before now =
-    let parts = kept_by (λ (other : ℕ). not (other == r.addr)) held mutex now in
+    let parts = contains_filtered (λ (other : ℕ). not (other == r.addr)) held mutex now in
     longer records n mutex (before parts.0) (λ s there unlocks same.
     not_same mutex r.addr parts.1 (ap (λ (x : Record). x.addr) (same_record r s (sym found ∙ there)) ∙ same))
 forward records n mutex held r k found is before now = longer records n mutex (before now) (λ s there unlocks same.

@@ -111,8 +111,8 @@ module _ (before : List Row) (row : Row) (x : List ℕ) (is : IsRow row) (begins
   no_fault Order (inr ends) = absurd (omega (arith, ap length ends.0, bytes_there))
   no_fault Records test = test_passed Records test
 
-same_parts : {X : Type 0} {x y : X} {xs ys : List X} → x ∷ xs ≡ y ∷ ys → (x ≡ y) × (xs ≡ ys)
-same_parts same = (cc, cc)
+pub both_parts : {X : Type 0} {x y : X} {xs ys : List X} → x ∷ xs ≡ y ∷ ys → (x ≡ y) × (xs ≡ ys)
+both_parts same = (cc, cc)
 
 -- where rows of the file begin some rows of an index, the next row is one of these
 record IsSplit (rows : List Row) (before : List RawRow) (next : RawRow) : Type 0 where
@@ -126,9 +126,9 @@ record IsSplit (rows : List Row) (before : List RawRow) (next : RawRow) : Type 0
 split : (rows : List Row) (before : List RawRow) (next : RawRow) (more : List RawRow) → map raw_of rows ≡ before ++ next ∷ more → IsSplit rows before next
 split [] [] next more same = absurd (omega (arith, ap length same))
 split [] (raw ∷ before) next more same = absurd (omega (arith, ap length same))
-split (row ∷ rows) [] next more same = record { prefix = []; row = row; back = rows; parts = refl; prefix_is = refl; row_is = sym (same_parts same).0 }
+split (row ∷ rows) [] next more same = record { prefix = []; row = row; back = rows; parts = refl; prefix_is = refl; row_is = sym (both_parts same).0 }
 split (row ∷ rows) (raw ∷ before) next more same =
-    let both : (raw_of row ≡ raw) × (map raw_of rows ≡ before ++ next ∷ more) = same_parts same in
+    let both : (raw_of row ≡ raw) × (map raw_of rows ≡ before ++ next ∷ more) = both_parts same in
     let it : IsSplit rows before next = split rows before next more both.1 in
     record {
       prefix = row ∷ it.prefix;
@@ -228,7 +228,7 @@ module _ (format : Format) (bytes : List ℕ) (rows : List Row) (rest : List ℕ
   next_bad_row Order bad = next_fault Order bad
   next_bad_row Records bad = next_fault Records bad
 
-  bad_next_row : (why : IndexWhy) → Fails (map raw_of rows) rest why → IsBadRow format bytes (length rows + 1) why
+  pub bad_next_row : (why : IndexWhy) → Fails (map raw_of rows) rest why → IsBadRow format bytes (length rows + 1) why
   bad_next_row why fails = by_why why fails where
     at_row : IsAtRow format bytes (length rows + 1) (map raw_of rows) rest
     at_row = record { number = omega (arith, length-map rows raw_of); fit = raws_fit rows good.each; parts = parts }

@@ -14,7 +14,7 @@ use Rattle.log_format.proofs.Headers.{after_index_header}
 use Rattle.race_model.specs.Row.{Row, RawRow, RowFits, row_spelling, used, raw_of, index_bytes}
 use Rattle.race_model.specs.IndexFault.{AreRows, IsIndex}
 use Rattle.race_laws.proofs.RowSpelling.{GoesOn, goes_on, length-row}
-use Rattle.race_laws.proofs.IndexPlaces.{used-raw_of, raws_fit}
+use Rattle.race_laws.proofs.IndexPlaces.{used-raw_of, raws_fit, both_parts}
 
 -- rows stand differently in the file
 raw_of-injective : (row other : Row) → raw_of row ≡ raw_of other → row ≡ other
@@ -23,9 +23,6 @@ raw_of-injective row other same =
     let records : row.records ≡ other.records = ap (λ (raw : RawRow). raw.records) same in
     ap (λ (p : List Step). let it : Row = record { path = p; records = row.records } in it) path
     ∙ ap (λ (n : ℕ). let it : Row = record { path = other.path; records = n } in it) records
-
-both_parts : {X : Type 0} {x y : X} {xs ys : List X} → x ∷ xs ≡ y ∷ ys → (x ≡ y) × (xs ≡ ys)
-both_parts same = (cc, cc)
 
 raws-injective : (rows others : List Row) → map raw_of rows ≡ map raw_of others → rows ≡ others
 raws-injective [] [] same = refl

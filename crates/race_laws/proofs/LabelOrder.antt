@@ -32,15 +32,6 @@ label_not_before_itself _ _ e (IsLabelBefore.prefix y ys) = cc
 label_not_before_itself _ _ e (IsLabelBefore.same x xs ys before) = label_not_before_itself xs ys (let rest : xs ≡ ys = cc in rest) before
 label_not_before_itself _ _ e (IsLabelBefore.differ x y xs ys apart before) = apart (let first : x ≡ y = cc in first)
 
--- the first triples decide, or they are the same and the rest decides
-pub label_before_first : (x y : Triple) (xs ys : List Triple) → (x ≡ y → ⊥) → IsLabelBefore (x ∷ xs) (y ∷ ys) → IsTripleBefore x y
-label_before_first _ _ _ _ apart (IsLabelBefore.same x xs ys before) = absurd (apart refl)
-label_before_first _ _ _ _ apart (IsLabelBefore.differ x y xs ys _ before) = before
-
-pub label_before_rest : (x y : Triple) (xs ys : List Triple) → x ≡ y → IsLabelBefore (x ∷ xs) (y ∷ ys) → IsLabelBefore xs ys
-label_before_rest _ _ _ _ e (IsLabelBefore.same x xs ys before) = before
-label_before_rest _ _ _ _ e (IsLabelBefore.differ x y xs ys apart before) = absurd (apart e)
-
 -- below a common prefix
 pub label_before_below : (prefix xs ys : List Triple) → IsLabelBefore xs ys → IsLabelBefore (prefix ++ xs) (prefix ++ ys)
 label_before_below [] xs ys before = before

@@ -33,7 +33,7 @@ is_region logs fork lane span path h = record { event = h.event; found = h.found
 pub same_node : (x y : Node) → x.path ≡ y.path → x.index ≡ y.index → x ≡ y
 same_node x y p e = λ i. record { path = p i; index = e i }
 
-same_index : (i j a b : ℕ) → (i < j → a < b) → (j < i → b < a) → a ≡ b → i ≡ j
+pub same_index : (i j a b : ℕ) → (i < j → a < b) → (j < i → b < a) → a ≡ b → i ≡ j
 same_index i j a b up down e = grind arith
 
 -- a region is known by its task and its number

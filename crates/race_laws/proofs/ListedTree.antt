@@ -4,6 +4,7 @@ use Rattle.std.specs.Prelude.{slice_get, Contains}
 use Rattle.std.proofs.lemmas.List.Elements.{Contains-append_left, Contains-append_right, Contains-append_cases}
 use Rattle.std.proofs.lemmas.Option.{same_Some}
 use Rattle.sw_base.specs.declared.path.Step.{Step}
+use Rattle.sw_base.proofs.Lists.{contains_later, contains_either}
 use Rattle.race_model.specs.Listing.{Task, Lanes, Ends, Forks, NoLane, Lane, lane_count, lane_of, under, lanes, listing}
 
 -- the lanes that follow, and all lanes of each region
@@ -37,15 +38,8 @@ pub record HasTask (root : Task) (path : List Step) : Type 0 where
   pub task : Task
   pub is_at : IsAt root path task
 
-contains_cases : {X : Type 0} (x : X) (xs : List X) (y : X) → Contains (x ∷ xs) y → (x ≡ y) ⊎ Contains xs y
-contains_cases x xs y (zero, within, is) = inl is
-contains_cases x xs y (suc k, within, is) = inr (k, omega arith, is)
-
 contains_first : {X : Type 0} (x : X) (xs : List X) (y : X) → x ≡ y → Contains (x ∷ xs) y
 contains_first x xs y e = (0, omega arith, e)
-
-contains_later : {X : Type 0} (x : X) (xs : List X) (y : X) → Contains xs y → Contains (x ∷ xs) y
-contains_later x xs y (k, within, is) = (suc k, omega arith, is)
 
 -- what is listed is there
 there_below : (root whole child : Task) (path p : List Step) (step : Step) → IsAt root path whole → IsChild whole 0 step child → path ++ step ∷ [] ≡ p → HasTask root p
@@ -89,7 +83,7 @@ of_two xs ys x Q f g listed = at (Contains-append_cases xs ys x listed) where
   at (inr r) = g r
 
 of_first : {X : Type 0} (x : X) (xs : List X) (y : X) (Q : Type 0) → (x ≡ y → Q) → (Contains xs y → Q) → Contains (x ∷ xs) y → Q
-of_first x xs y Q f g listed = at (contains_cases x xs y listed) where
+of_first x xs y Q f g listed = at (contains_either x xs y listed) where
   at : (x ≡ y) ⊎ Contains xs y → Q
   at (inl e) = f e
   at (inr r) = g r

@@ -82,7 +82,7 @@ lane_parts logs a b f n m s h k (inr less) =
       fewer_regions = lt_of_mul-lt-mul_left s products;
     })
 
-only_root : (logs : Logs) (g : Node) (beside prefix : List Triple) (t u v w : Triple) → IsLabel logs g beside → t ∷ [] ≡ prefix ++ u ∷ [] → beside ++ v ∷ [] ≡ prefix ++ w ∷ [] → ⊥
+pub only_root : (logs : Logs) (g : Node) (beside prefix : List Triple) (t u v w : Triple) → IsLabel logs g beside → t ∷ [] ≡ prefix ++ u ∷ [] → beside ++ v ∷ [] ≡ prefix ++ w ∷ [] → ⊥
 only_root logs g beside prefix t u v w also l_is m_is =
     let last = label_last logs g beside also in
     let empty : beside ≡ [] = (same_from_push beside prefix v w m_is).0 ∙ sym (same_from_push [] prefix t u l_is).0 in

@@ -5,6 +5,7 @@ use Rattle.std.specs.List.Sorted.{IsStrictlySortedBy}
 use Rattle.std.proofs.lemmas.Option.{same_Some, slice_get_within}
 use Rattle.std.proofs.lemmas.List.Elements.{All-cons, All-nil}
 use Rattle.sw_base.specs.declared.path.Step.{Step}
+use Rattle.race_model.proofs.Labels.{label_before_first, label_before_rest}
 use Rattle.log_format.specs.declared.record.Record.{Record}
 use Rattle.log_format.specs.declared.record.Kind.{Kind}
 use Rattle.log_format.specs.declared.record.Kind.TheVariants.{Write, Barrier, Region, End, Read, Lock, Unlock, Update, Chunk}
@@ -21,7 +22,6 @@ use Rattle.race_model.specs.IndexFault.{IsBadRow}
 use Rattle.race_model.specs.Row.{step_spelling, row_spelling, raw_of}
 use Rattle.race_model.specs.Listing.{Ends, Forks, NoLane, Lane, listing}
 use Rattle.race_model.specs.BadPlace.{no_index, bad_row, missing_log, bad_record, too_many_segments, IsEarlier, index_rank, record_rank}
-use Rattle.race_laws.proofs.LabelOrder.{label_before_first, label_before_rest}
 use Rattle.race_laws.proofs.ForkJoinExample.{at_task, made, access, lane_of, lane_log, team, logs, root_forks, is_lane, team_is_fork_join}
 use Rattle.race_laws.proofs.LabelLaw.{concurrent_unordered}
 use Rattle.race_model.specs.declared.why.IndexWhy.TheVariants as index_why

@@ -1,1 +1,3 @@
 pub mod TraceLogs
+pub mod Labels
+pub mod Held

@@ -4,16 +4,12 @@ use Rattle.std.specs.Prelude.{◌==◌, slice_get, Contains, map, All}
 use Rattle.std.proofs.lemmas.Option.{slice_get_within, get_or_from_slice_get, same_Some}
 use Rattle.std.proofs.lemmas.List.Elements.{All-head, All-tail}
 use Rattle.sw_base.specs.declared.path.Step.{Step}
+use Rattle.std.proofs.lemmas.Bool.{and_parts}
 use Rattle.log_format.specs.declared.record.Record.{Record}
 use Rattle.race_model.specs.Row.{Row}
-use Rattle.race_model.specs.Trace.{TaskLog, Trace, logs_of, step_eq, path_eq}
+use Rattle.race_model.specs.Trace.{TaskLog, Trace, logs_of, step_eq, path_eq, Logs, Node, IsThere, record_at}
 use Rattle.race_model.specs.FirstBad.{row_of, rows_of}
-use Rattle.race_model.specs.ForkJoin.{IsTask}
-
-both_true : (a b : Bool) → (a && b) ≡ true → (a ≡ true) × (b ≡ true)
-both_true true true e = (refl, refl)
-both_true true false e = cc
-both_true false b e = cc
+use Rattle.race_model.specs.ForkJoin.{IsTask, ListsTask}
 
 same_number : (m n : ℕ) → (m == n) ≡ true → m ≡ n
 same_number m n e = grind arith
@@ -23,8 +19,8 @@ number_itself n = grind arith
 
 step_is : (a b : Step) → step_eq a b ≡ true → a ≡ b
 step_is a b e =
-    let prefix = both_true ((a.region == b.region) && (a.lane == b.lane)) (a.span == b.span) e in
-    let two = both_true (a.region == b.region) (a.lane == b.lane) prefix.0 in
+    let prefix = and_parts ((a.region == b.region) && (a.lane == b.lane)) (a.span == b.span) e in
+    let two = and_parts (a.region == b.region) (a.lane == b.lane) prefix.0 in
     let region = same_number a.region b.region two.0 in
     let lane = same_number a.lane b.lane two.1 in
     let span = same_number a.span b.span prefix.1 in
@@ -36,7 +32,7 @@ path_is [] [] e = refl
 path_is [] (t ∷ q) e = cc
 path_is (s ∷ p) [] e = cc
 path_is (s ∷ p) (t ∷ q) e =
-    let parts = both_true (step_eq s t) (path_eq p q) e in
+    let parts = and_parts (step_eq s t) (path_eq p q) e in
     ap₂ (λ (x : Step) (xs : List Step). x ∷ xs) (step_is s t parts.0) (path_is p q parts.1)
 
 pub path_itself : (p : List Step) → path_eq p p ≡ true
@@ -46,6 +42,10 @@ path_itself (s ∷ p) = rw (number_itself s.region, number_itself s.lane, number
 -- an element at a place has what all have
 pub all_at : {X : Type 0} (P : X → Type 0) (xs : List X) (i : ℕ) (x : X) → All P xs → slice_get xs i ≡ Some x → P x
 all_at P xs i x all found = subst P (get_or_from_slice_get xs i x x found) (all i x (slice_get_within xs i x found))
+
+-- a record that is found is there
+pub record_there : (logs : Logs) (x : Node) (r : Record) → record_at logs x ≡ Some r → IsThere logs x
+record_there logs x r found = slice_get_within (logs x.path) x.index r found
 
 -- the task whose records are found at a path
 pub record Found (trace : Trace) (path : List Step) : Type 0 where
@@ -75,6 +75,23 @@ find_task (task ∷ tasks) path h = go (path_eq task.path path) refl (find_task 
     go false e rest =
         let same : logs_of tasks path ≡ logs_of (task ∷ tasks) path = rw e refl in
         found_later task tasks path same (rest (subst (λ (records : List Record). 0 < length records) (sym same) h))
+
+-- a task that is listed is found
+pub find_listed : (tasks : Trace) (path : List Step) → ListsTask tasks path → Found tasks path
+find_listed [] path (k, within, is) = absurd (omega arith)
+find_listed (t ∷ tasks) path has = by (path_eq t.path path) refl (find_listed tasks path)
+  where
+    in_rest : path_eq t.path path ≡ false → ListsTask (t ∷ tasks) path → ListsTask tasks path
+    in_rest other (zero, within, is) =
+        let same : path_eq t.path path ≡ true = subst (λ (p : List Step). path_eq t.path p ≡ true) is (path_itself t.path) in
+        cc
+    in_rest other (suc k, within, is) = (k, omega arith, is)
+
+    by : (b : Bool) → path_eq t.path path ≡ b → (ListsTask tasks path → Found tasks path) → Found (t ∷ tasks) path
+    by true is rest = record { index = 0; task = t; found = refl; path_is = path_is t.path path is; records_are = rw is refl }
+    by false is rest =
+        let f = rest (in_rest is has) in
+        record { index = suc f.index; task = f.task; found = f.found; path_is = f.path_is; records_are = f.records_are ∙ rw is refl }
 
 abbrev pub HasRecords : TaskLog → Type 0
 HasRecords task = 1 ≤ length task.records

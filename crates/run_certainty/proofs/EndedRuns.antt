@@ -1,26 +1,19 @@
 -- A run that ended is the certain run, and has its words.
-use Rattle.std.proofs.Common.{◌≡◌, refl, ap, ap₂, sym, ◌∙◌, subst, ℕ, List, [], ◌∷◌, length, map, Some}
+use Rattle.std.proofs.Common.{◌≡◌, sym, ◌∙◌, subst, ℕ, List, [], ◌∷◌}
 use Rattle.sw_base.specs.declared.path.Step.{Step}
-use Rattle.log_format.specs.declared.format.TheConstants.{FORMAT}
-use Rattle.race_model.specs.FirstBad.{rows_of}
+use Rattle.kernel_rules.proofs.LawfulFolder.{row_paths}
 use Rattle.race_model.specs.ForkJoin.{ListsTask}
 use Rattle.race_model.specs.Listing.{IsListing}
-use Rattle.race_model.specs.Row.{Row}
-use Rattle.race_model.specs.Trace.{Trace, logs_of}
+use Rattle.race_model.specs.Trace.{Trace}
 use Rattle.kernel_syntax.specs.Program.{Program}
-use Rattle.kernel_model.specs.Folder.{paths_of, start_at}
 use Rattle.kernel_model.specs.Lawful.{IsLawful}
 use Rattle.region_runner.specs.Answer.{IsRun}
 use Rattle.certainty_model.specs.Certain as certainty
 use Rattle.certainty_model.proofs.CertainRuns.{only_run, end_alike}
 use Rattle.certainty_model.proofs.WholeRuns.{listed_starts, starts_listed}
-use Rattle.lane_runner.specs.World.{element_address}
+use Rattle.execution_model.specs.Elements.{element_address}
 use Rattle.run_certainty.specs.CertainRun.{IsCertainRun}
 use Rattle.run_certainty.proofs.SameListing.{same_listing}
-
-row_paths : (tasks : Trace) → map (λ (row : Row). row.path) (rows_of tasks) ≡ paths_of tasks
-row_paths [] = refl
-row_paths (t ∷ tasks) = ap (λ (ps : List (List Step)). t.path ∷ ps) (row_paths tasks)
 
 module _ (program : Program) (lawful : IsLawful program) (run : Trace) (words : List ℕ) (c : IsCertainRun program run words) (tasks : Trace) (others : List ℕ) (ended : IsRun program tasks others) where
   is_run : certainty.IsRun program tasks

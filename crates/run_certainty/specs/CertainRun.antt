@@ -6,7 +6,7 @@ use Rattle.race_model.specs.Trace.{Trace, logs_of}
 use Rattle.kernel_syntax.specs.Layout.{elements}
 use Rattle.kernel_syntax.specs.Program.{Program}
 use Rattle.kernel_model.specs.Folder.{paths_of}
-use Rattle.lane_runner.specs.World.{element_address}
+use Rattle.execution_model.specs.Elements.{element_address}
 use Rattle.certainty_model.specs.Certain.{IsCertain}
 
 -- a certain run of the kernel, in the order of an index, a legal history of which ends in these words, one for each element

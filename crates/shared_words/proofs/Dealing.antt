@@ -31,7 +31,7 @@ firsts v = one_if v.first
 times-append : (x : ℕ) (xs ys : List ℕ) → times x (xs ++ ys) ≡ times x xs + times x ys
 times-append x xs ys = sum_by-append (λ (y : ℕ). cond (y == x) 1 0) xs ys
 
-numbers-append : (loop : ℕ) (xs ys : List (ℕ × ℕ)) → numbers loop (xs ++ ys) ≡ numbers loop xs ++ numbers loop ys
+pub numbers-append : (loop : ℕ) (xs ys : List (ℕ × ℕ)) → numbers loop (xs ++ ys) ≡ numbers loop xs ++ numbers loop ys
 numbers-append loop [] ys = refl
 numbers-append loop (d ∷ xs) ys = at (d.0 == loop) (numbers-append loop xs ys)
   where

@@ -1,7 +1,8 @@
 -- Precedence of labels, a triple at a time, and the last triple of a label.
-use Rattle.std.proofs.Common.{◌≡◌, ◌≢◌, ◌⊎◌, inl, inr, Bool, true, false, ◌&&◌, nat_eq, ℕ, suc, List, [], ◌∷◌, ◌++◌, All, Some, slice_get, ◌-◌, length, length-append, refl, sym, subst, ap, ◌∙◌, arith}
+use Rattle.std.proofs.Common.{◌≡◌, ◌≢◌, ◌⊎◌, inl, inr, Bool, true, false, ◌&&◌, nat_eq, ℕ, suc, List, [], ◌∷◌, ◌++◌, All, slice_get, ◌-◌, length, length-append, refl, sym, subst, ap, ◌∙◌, arith}
 use lib.Pointwise.{pointwise, pointwise_decides}
 use Rattle.std.proofs.lemmas.Bool.Decides.{eqb_tells}
+use Rattle.race_model.proofs.Labels.{label_before_first, label_before_rest}
 use Rattle.race_model.specs.Label.{Triple, IsTripleBefore, IsLabelBefore}
 use Rattle.span_label.specs.Levels.{HasLane, own_level}
 
@@ -9,27 +10,10 @@ use Rattle.span_label.specs.Levels.{HasLane, own_level}
 pub one_more_same : (x y : Triple) (xs ys : List Triple) → x ≡ y → IsLabelBefore xs ys → IsLabelBefore (x ∷ xs) (y ∷ ys)
 one_more_same x y xs ys same before = subst (λ (z : Triple). IsLabelBefore (x ∷ xs) (z ∷ ys)) same (IsLabelBefore.same x xs ys before)
 
-rest_before_from : (x y : Triple) (xs ys us vs : List Triple) → us ≡ x ∷ xs → vs ≡ y ∷ ys → x ≡ y → IsLabelBefore us vs → IsLabelBefore xs ys
-rest_before_from x y xs ys _ _ p q same (IsLabelBefore.prefix z zs) = absurd (cc)
-rest_before_from x y xs ys _ _ p q same (IsLabelBefore.same z us vs before) =
-    let left : us ≡ xs = cc in
-    let right : vs ≡ ys = cc in
-    subst (λ (zs : List Triple). IsLabelBefore zs ys) left (subst (λ (zs : List Triple). IsLabelBefore us zs) right before)
-rest_before_from x y xs ys _ _ p q same (IsLabelBefore.differ z w us vs apart before) =
-    let equal : z ≡ w = cc in absurd (apart equal)
-
-triple_before_from : (x y : Triple) (xs ys us vs : List Triple) → us ≡ x ∷ xs → vs ≡ y ∷ ys → (x ≡ y → ⊥) → IsLabelBefore us vs → IsTripleBefore x y
-triple_before_from x y xs ys _ _ p q apart (IsLabelBefore.prefix z zs) = absurd (cc)
-triple_before_from x y xs ys _ _ p q apart (IsLabelBefore.same z us vs before) =
-    let equal : x ≡ y = cc in absurd (apart equal)
-triple_before_from x y xs ys _ _ p q apart (IsLabelBefore.differ z w us vs _ before) =
-    let left : z ≡ x = cc in
-    let right : w ≡ y = cc in
-    subst (λ (t : Triple). IsTripleBefore t y) left (subst (λ (t : Triple). IsTripleBefore z t) right before)
-
--- at the first triple that differs the triples decide
-pub triple_before : (x y : Triple) (xs ys : List Triple) → (x ≡ y → ⊥) → IsLabelBefore (x ∷ xs) (y ∷ ys) → IsTripleBefore x y
-triple_before x y xs ys apart before = triple_before_from x y xs ys _ _ refl refl apart before
+-- labels whose first triples are known
+labels_in_parts : (x y : Triple) (xs ys us vs : List Triple) → us ≡ x ∷ xs → vs ≡ y ∷ ys → IsLabelBefore us vs → IsLabelBefore (x ∷ xs) (y ∷ ys)
+labels_in_parts x y xs ys us vs as_is bs_is before =
+    subst (λ (zs : List Triple). IsLabelBefore (x ∷ xs) zs) bs_is (subst (λ (zs : List Triple). IsLabelBefore zs vs) as_is before)
 
 -- triples with the same numbers are one
 equal_triples : (x y : Triple) → x.offset ≡ y.offset → x.span ≡ y.span → x.barrier ≡ y.barrier → x ≡ y
@@ -74,7 +58,7 @@ pub decides_by_rests : (P : Type 0) (x y : Triple) (xs ys us vs : List Triple) �
     → (P → IsLabelBefore xs ys) → (IsLabelBefore xs ys → P) → (P → IsLabelBefore us vs) × (IsLabelBefore us vs → P)
 decides_by_rests P x y xs ys us vs as_is bs_is same from to = (
   λ p. subst (λ (zs : List Triple). IsLabelBefore zs vs) (sym as_is) (subst (λ (zs : List Triple). IsLabelBefore (x ∷ xs) zs) (sym bs_is) (one_more_same x y xs ys same (from p))),
-  λ before. to (rest_before_from x y xs ys us vs as_is bs_is same before),
+  λ before. to (label_before_rest x y xs ys same (labels_in_parts x y xs ys us vs as_is bs_is before)),
 )
 
 -- the first triple that differs decides
@@ -82,7 +66,7 @@ pub decides_by_triples : (P : Type 0) (x y : Triple) (xs ys us vs : List Triple)
     → (P → IsTripleBefore x y) → (IsTripleBefore x y → P) → (P → IsLabelBefore us vs) × (IsLabelBefore us vs → P)
 decides_by_triples P x y xs ys us vs as_is bs_is apart from to = (
   λ p. subst (λ (zs : List Triple). IsLabelBefore zs vs) (sym as_is) (subst (λ (zs : List Triple). IsLabelBefore (x ∷ xs) zs) (sym bs_is) (IsLabelBefore.differ x y xs ys apart (from p))),
-  λ before. to (triple_before_from x y xs ys us vs as_is bs_is apart before),
+  λ before. to (label_before_first x y xs ys apart (labels_in_parts x y xs ys us vs as_is bs_is before)),
 )
 
 -- the empty list is before each other

@@ -68,18 +68,18 @@ out_is_split k p log out = at (was_split p k log) (not (came_home p k log)) out
     at true b is = refl
     at false b is = cc
 
+pub still_out : (split home more : Bool) → (split && not home) ≡ true → ((split || more) && not (home || false)) ≡ true
+still_out true false more is = refl
+still_out true true more is = cc
+still_out false home more is = cc
+
 -- a hand that is out stays out, unless it comes home
 pub out_stays : (name : Name) (log : List Item) (x : Item) → is_out name log ≡ true
     → ((k : ℕ) (p : Name) → name ≡ k ∷ p → (name_eq x.name p && is_home k x.deed) ≡ false) → is_out name (log ++ x ∷ []) ≡ true
 out_stays [] log x out away = refl
 out_stays (k ∷ p) log x out away =
     ap₂ (λ (a b : Bool). a && not b) (was_split_more p k log x) (came_home_more p k log x ∙ ap (λ (b : Bool). came_home p k log || b) (away k p refl))
-    ∙ at (was_split p k log) (came_home p k log) (name_eq x.name p && is_split k x.deed) out
-  where
-    at : (a b c : Bool) → (a && not b) ≡ true → ((a || c) && not (b || false)) ≡ true
-    at true false c is = refl
-    at true true c is = cc
-    at false b c is = cc
+    ∙ still_out (was_split p k log) (came_home p k log) (name_eq x.name p && is_split k x.deed) out
 
 -- the hand is out right after its split
 pub out_at_split : (p : Name) (k : ℕ) (log : List Item) (x : Item) → (name_eq x.name p && is_split k x.deed) ≡ true

@@ -39,10 +39,10 @@ pick {X} test (y ∷ ys) x rest same = by_test (test y) refl (pick test ys x res
         }
 
 -- a test of a name, at one more element
-filter_yes : {X : Type 0} (test : X → Bool) (x : X) (xs : List X) → test x ≡ true → filter test (x ∷ xs) ≡ x ∷ filter test xs
+pub filter_yes : {X : Type 0} (test : X → Bool) (x : X) (xs : List X) → test x ≡ true → filter test (x ∷ xs) ≡ x ∷ filter test xs
 filter_yes test x xs is = rw is refl
 
-filter_no : {X : Type 0} (test : X → Bool) (x : X) (xs : List X) → test x ≡ false → filter test (x ∷ xs) ≡ filter test xs
+pub filter_no : {X : Type 0} (test : X → Bool) (x : X) (xs : List X) → test x ≡ false → filter test (x ∷ xs) ≡ filter test xs
 filter_no test x xs is = rw is refl
 
 nothing_left : {X : Type 0} (items : List (Labelled X)) → ((name : Name) → of name [] ≡ items_of (labelled_of name items)) → items ≡ []

@@ -2,7 +2,7 @@
 use Rattle.std.proofs.Common.{◌≡◌, ◌⊎◌, inl, inr, refl, sym, ap, ◌∙◌, subst, ℕ, zero, suc, ◌<◌, ◌≤◌, Bool, true, false, List, [], ◌∷◌, ◌++◌, length, take, Some, arith}
 use Rattle.std.specs.Prelude.{◌&&◌, ◌||◌, ◌==◌, not, slice_get}
 use Rattle.std.specs.List.{list_any}
-use Rattle.std.proofs.lemmas.Bool.{cases_lt}
+use Rattle.std.proofs.lemmas.Bool.{cases_lt, and_parts}
 use Rattle.std.proofs.lemmas.List.{append-nil, append_assoc}
 use Rattle.std.proofs.lemmas.Option.{same_Some}
 use Rattle.step_history.specs.declared.item.Item.{Item}
@@ -10,11 +10,6 @@ use Rattle.step_history.specs.declared.item.Deed.{Deed}
 use Rattle.step_history.specs.declared.item.Deed.TheVariants.{Read, Write, Lock, Unlock, Split, Home, Update}
 use Rattle.step_history.specs.History.{Name, name_eq, item, is_split, is_home, was_split, came_home, is_out, Fits, LegalAfter, Legal}
 use Rattle.step_history.proofs.Names.{same_name, is_same_name}
-
-and_true : (a b : Bool) → (a && b) ≡ true → (a ≡ true) × (b ≡ true)
-and_true true true e = (refl, refl)
-and_true true false e = cc
-and_true false b e = cc
 
 not_true : (b : Bool) → not b ≡ true → b ≡ false
 not_true true e = cc
@@ -81,7 +76,7 @@ module _ (log : List Item) (t : ℕ) (x : Item) (parent : Name) (k : ℕ) (legal
   is_out_then = ap (λ (n : Name). is_out n (take t log)) (sym named) ∙ (fits_at log t x legal found).out
 
   parts : (was_split parent k (take t log) ≡ true) × (not (came_home parent k (take t log)) ≡ true)
-  parts = and_true (was_split parent k (take t log)) (not (came_home parent k (take t log))) is_out_then
+  parts = and_parts (was_split parent k (take t log)) (not (came_home parent k (take t log))) is_out_then
 
   pub split_before : SplitBefore log t parent k
   split_before = at (any_found (λ (y : Item). name_eq y.name parent && is_split k y.deed) (take t log) parts.0)
@@ -105,7 +100,7 @@ module _ (log : List Item) (t : ℕ) (x : Item) (parent : Name) (k : ℕ) (legal
 
       at : Found (λ (y : Item). name_eq y.name parent && is_split k y.deed) (take t log) → SplitBefore log t parent k
       at f =
-          let tests = and_true (name_eq f.x.name parent) (is_split k f.x.deed) f.passes in
+          let tests = and_parts (name_eq f.x.name parent) (is_split k f.x.deed) f.passes in
           let there = take_found log t f.place f.x f.found in
           by_deed f.place f.x.name f.x.deed there.0 there.1 (same_name f.x.name parent tests.0) tests.1
 

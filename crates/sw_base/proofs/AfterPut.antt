@@ -3,7 +3,7 @@ use Rattle.std.proofs.Common.{◌≡◌, ◌≢◌, ℕ, List, Some, refl, sym, 
 use Rattle.std.proofs.lemmas.Bool.{false_from_ne_true}
 use Rattle.std.proofs.lemmas.Slice.Eq.{bytes_eq-Decides}
 use Rattle.std.specs.Str.{bytes_eq}
-use Rattle.sw_base.specs.Environment.{Content, Files, with_file}
+use Rattle.sw_base.specs.Environment.{Files, with_file}
 
 -- the name holds the bytes
 pub with_file-here : (name bytes : List ℕ) (files : Files) → with_file name bytes files name ≡ Some bytes
@@ -14,8 +14,3 @@ pub with_file-elsewhere : (name bytes : List ℕ) (files : Files) (other : List 
 with_file-elsewhere name bytes files other apart =
     let differs : bytes_eq name other ≡ false = false_from_ne_true (bytes_eq name other) (λ same. apart (sym ((bytes_eq-Decides name other).0 same))) in
     rw differs refl
-
--- after a call that was refused: the logs that were sealed and each other name are as before
-pub record KeepsOthers (name : List ℕ) (old new : Content) : Type 0 where
-  pub sealed : new.sealed ≡ old.sealed
-  pub others : (other : List ℕ) → other ≢ name → new.held other ≡ old.held other

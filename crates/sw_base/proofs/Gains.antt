@@ -1,8 +1,7 @@
 -- What appends add up to, and what is left after one that failed.
-use Rattle.std.proofs.Common.{◌≡◌, refl, ℕ, ◌≤◌, List, [], ◌++◌, Option, Some, None, Result, ap, sym, ◌∙◌, append_assoc, arith}
+use Rattle.std.proofs.Common.{◌≡◌, refl, ℕ, ◌≤◌, List, [], ◌++◌, Option, Some, None, ap, sym, ◌∙◌, append_assoc}
 use Rattle.std.proofs.lemmas.List.{append-nil}
-use Rattle.sw_base.specs.declared.trouble.Trouble.{Trouble}
-use Rattle.sw_base.specs.Environment.{gained, GainsPrefix, HasCause, Rose}
+use Rattle.sw_base.specs.Environment.{gained, GainsPrefix}
 
 pub gained-none : (written : Option (List ℕ)) → gained written [] ≡ written
 gained-none None = refl
@@ -37,7 +36,3 @@ GainsPrefix-after old between new a b first gains = record {
   parts = ap (λ c. a ++ c) gains.parts ∙ sym (append_assoc a gains.prefix gains.rest);
   gains = gains.gains ∙ ap (λ w. gained w gains.prefix) first ∙ gained-gained old a gains.prefix;
 }
-
--- a cause since a later moment is one since an earlier
-pub HasCause-earlier : {T : Type 0} (earlier before now : ℕ) (result : Result T Trouble) → earlier ≤ before → HasCause before now result → HasCause earlier now result
-HasCause-earlier earlier before now result le cause = record { later = omega arith; failed = λ is. let rose : Rose before now = cause.failed is in omega arith }

@@ -1,3 +1,4 @@
+pub mod Lists
 pub mod Gains
 pub mod ReadPrefixes
 pub mod Windows
