@@ -48,6 +48,7 @@ pub fn encode(r: &Record) -> [u8; 24]
     ]
 }
 
+#[inline(always)]
 fn fields(kind: Kind, bytes: &[u8; 24]) -> Record
     requires { slice_index bytes.now 0 ≡ kind_code kind }
     ensures kind { result.kind ≡ kind }
@@ -89,6 +90,7 @@ pub fn decode_old(bytes: &[u8; 24]) -> Result<Record, Why>
 }
 
 /// The record that these bytes spell in this format, or the first test that they fail.
+#[inline(always)]
 pub fn decode_as(format: Format, bytes: &[u8; 24]) -> Result<Record, Why>
     ensures found { IfOk result (λ r. Spells format bytes.now r) }
     ensures only { (r : Record) → Spells format bytes.now r → result ≡ Ok r }

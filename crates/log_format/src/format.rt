@@ -47,6 +47,7 @@ impl Format {
     }
 
     /// The greatest number of a kind.
+    #[inline(always)]
     pub fn last_code(self) -> u8
         ensures { result ≡ last_code self }
     {

@@ -26,6 +26,7 @@ pub fn code_of(kind: Kind) -> u8
 }
 
 /// The format's kind of this number, if it has one.
+#[inline(always)]
 pub fn kind_of(format: Format, code: u8) -> Option<Kind>
     ensures { MatchOption result ((k : Kind) → AllowsKind format k → code ≢ kind_code k) (λ k. AllowsKind format k × (code ≡ kind_code k)) }
 {
@@ -46,12 +47,14 @@ pub fn kind_of(format: Format, code: u8) -> Option<Kind>
     }
 }
 
+#[inline(always)]
 fn is_access_size(size: u8) -> bool
     ensures { IsTrue result ↔ HasSize Kind.Read size }
 {
     size == 1 || size == 2 || size == 4 || size == 8
 }
 
+#[inline(always)]
 fn has_size(kind: Kind, size: u8) -> bool
     ensures { IsTrue result ↔ HasSize kind size }
 {
@@ -62,6 +65,7 @@ fn has_size(kind: Kind, size: u8) -> bool
     }
 }
 
+#[inline(always)]
 fn has_address(r: &Record) -> bool
     requires { HasSize r.now.kind r.now.size }
     ensures { IsTrue result ↔ HasAddress r.now.kind r.now }
@@ -73,6 +77,7 @@ fn has_address(r: &Record) -> bool
     }
 }
 
+#[inline(always)]
 fn has_span(r: &Record) -> bool
     ensures { IsTrue result ↔ SpanIsTabled r.now.kind r.now }
 {
@@ -89,6 +94,7 @@ fn has_span(r: &Record) -> bool
     }
 }
 
+#[inline(always)]
 fn has_nothing_else(r: &Record) -> bool
     ensures { IsTrue result ↔ HasNothingElse r.now.kind r.now }
 {
@@ -102,6 +108,7 @@ fn has_nothing_else(r: &Record) -> bool
 }
 
 /// The first test of the format's table that the record, of one of its kinds, fails, if there is one.
+#[inline(always)]
 pub fn check(format: Format, r: &Record) -> Result<(), Why>
     requires { AllowsKind format r.now.kind }
     ensures passes { OnOk result ((w : Why) → PassesTable format r.now w) }
