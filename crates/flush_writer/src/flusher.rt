@@ -19,7 +19,7 @@ use std::thread::Threads;
 use sw_base::{Log, Trouble};
 
 /// The least block that is handed over. A smaller one is appended sooner than another thread is woken for it.
-const LEAST_BLOCK: usize = 4096;
+const LEAST_BLOCK: usize = 16_384;
 
 /// The stack of a writer, which only appends.
 const STACK: usize = 256 * 1024;

@@ -156,14 +156,14 @@ fn pieces_fill_the_block(rt: HostRuntime) -> Result<(), Fail> {
     let double: &[usize] = &[8, 48, 48, 48, 48, 48];
     let four: &[usize] = &[8, 96, 96, 48];
     let whole: &[usize] = &[8, 240];
-    let many: &[usize] = &[8, 4080, 4080, 1440];
+    let many: &[usize] = &[8, 16_368, 16_368, 3264];
     for (size, records, lengths) in [
         (24, 10, single),
         (25, 10, single),
         (47, 10, single),
         (48, 10, double),
         (100, 10, four),
-        (4096, 400, many),
+        (16_384, 1500, many),
         (4_194_304, 10, whole),
     ] {
         let left = put_through(&rt, alloc, &[], size, records)?;
@@ -181,9 +181,9 @@ fn pieces_fill_the_block(rt: HostRuntime) -> Result<(), Fail> {
 #[test]
 fn a_prefix_stands_after_each_call_that_fails(rt: HostRuntime) -> Result<(), Fail> {
     let alloc = rt.alloc();
-    let all = log_of(alloc, 600)?;
+    let all = log_of(alloc, 2100)?;
     let small: &[usize] = &[8, 48, 48, 48, 48];
-    let large: &[usize] = &[8, 4080, 4080, 4080];
+    let large: &[usize] = &[8, 16_368, 16_368, 16_368];
     // A lane appends small blocks by itself, and large ones are appended by its writer.
     for (size, records, lengths, call, put, pieces, bytes) in [
         (48, 10, small, 1, 0, 0, 4),
@@ -192,11 +192,11 @@ fn a_prefix_stands_after_each_call_that_fails(rt: HostRuntime) -> Result<(), Fai
         (48, 10, small, 4, 8, 3, 128),
         (48, 10, small, 5, 10, 4, 176),
         (48, 10, small, 6, 10, 5, 224),
-        (4096, 600, large, 1, 0, 0, 4),
-        (4096, 600, large, 2, 340, 1, 2048),
-        (4096, 600, large, 3, 510, 2, 6128),
-        (4096, 600, large, 4, 600, 3, 10_208),
-        (4096, 600, large, 5, 600, 4, 13_328),
+        (16_384, 2100, large, 1, 0, 0, 4),
+        (16_384, 2100, large, 2, 1364, 1, 8192),
+        (16_384, 2100, large, 3, 2046, 2, 24_560),
+        (16_384, 2100, large, 4, 2100, 3, 40_928),
+        (16_384, 2100, large, 5, 2100, 4, 49_760),
     ] {
         let left = put_through(&rt, alloc, &[call], size, records)?;
         assert!(rt; left.refused == Some(Trouble::Failed), "call {call}");
@@ -207,7 +207,11 @@ fn a_prefix_stands_after_each_call_that_fails(rt: HostRuntime) -> Result<(), Fai
         assert!(rt; all.starts_with(left.log.bytes()), "call {call}");
     }
     assert!(rt; put_through(&rt, alloc, &[7], 48, 10)?.refused.is_none());
-    assert!(rt; put_through(&rt, alloc, &[6], 4096, 600)?.refused.is_none());
+    assert!(rt;
+        put_through(&rt, alloc, &[6], 16_384, 2100)?
+            .refused
+            .is_none()
+    );
     Ok(())
 }
 
@@ -370,11 +374,11 @@ fn a_record_is_put_while_a_block_is_appended(rt: HostRuntime) -> Result<(), Fail
         may_go: Arc::try_clone(&may_go)?,
         gave_up: Arc::try_clone(&gave_up)?,
     };
-    let Ok(mut buffer) = Buffer::start(&rt, alloc, log, 4096) else {
+    let Ok(mut buffer) = Buffer::start(&rt, alloc, log, 16_384) else {
         return Err(Fail::from("no buffer"));
     };
-    // A block has room for 170 records.
-    for line in 0..171 {
+    // A block has room for 682 records.
+    for line in 0..683 {
         buffer.ready(&rt, alloc)?;
         buffer.put(&barrier(line + 1));
     }

@@ -46,11 +46,11 @@ fn threads(rt: HostRuntime, alloc: Global) -> Result<u32, Trouble> {
 // A kernel that ends, and one of which some lanes stop while the others go on. The lanes fill blocks that are handed to writers.
 const KERNELS: &[(&str, u8)] = &[
     (
-        "array a i64 64 main { parallel 64 { loop k in 0 .. 400 { a[tid] = k } } }",
+        "array a i64 64 main { parallel 64 { loop k in 0 .. 1600 { a[tid] = k } } }",
         DONE,
     ),
     (
-        "array a i64 64 main { parallel 64 { loop k in 0 .. 400 { a[tid / (tid - 5)] = k } barrier } }",
+        "array a i64 64 main { parallel 64 { loop k in 0 .. 1600 { a[tid / (tid - 5)] = k } barrier } }",
         KERNEL_STOPPED,
     ),
 ];
@@ -76,7 +76,7 @@ fn no_thread_of_a_run_is_left(rt: HostRuntime) -> Result<(), Fail> {
     for (kernel, due) in KERNELS {
         let mut folder = MemFolder::new(alloc)?;
         folder.hold("k", kernel.as_bytes())?;
-        let (status, _) = printed(&rt, alloc, &mut folder, &["run", "k", "d", "4096"], &[])?;
+        let (status, _) = printed(&rt, alloc, &mut folder, &["run", "k", "d", "16384"], &[])?;
         assert!(rt; status == *due, "{kernel}");
         assert!(rt; are_left(rt, alloc, before)?, "{kernel}");
     }

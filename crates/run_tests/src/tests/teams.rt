@@ -287,7 +287,7 @@ fn lanes_that_wait_have_their_barrier_last(rt: HostRuntime) -> Result<(), Fail> 
 // Two lanes that fill two blocks of 4,096 bytes, and put more.
 const FILLING: &str = "array a i64 8
 main { parallel 2 {
-loop k in 0 .. 400 { a[tid] = k }
+loop k in 0 .. 1600 { a[tid] = k }
 } }
 ";
 
@@ -342,7 +342,7 @@ fn four_calls_fail<R: Threads + Wait + Sync + Copy + Send + 'static>(
 fn each_call_on_each_log_fails_in_turn(rt: HostRuntime) -> Result<(), Fail> {
     let alloc = rt.alloc();
     // Blocks for four records, which the lane appends, and blocks that its writer appends.
-    for kernel in [(COUNTING, 96), (FILLING, 4096)] {
+    for kernel in [(COUNTING, 96), (FILLING, 16_384)] {
         assert!(rt; four_calls_fail(&rt, alloc, kernel, &Path::root())?);
         for lane in [0, 1] {
             let task = Path::root().child(0, lane, 2);
