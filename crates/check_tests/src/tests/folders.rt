@@ -1,6 +1,6 @@
 //! Folders by hand: what `check` and `show` print of them, and the usage line.
 
-use asking::{
+use call_fixtures::{
     BARRIER, Case, EMPTY, END, ROOT, Rec, SHOW, Step, USAGE_LINE, all_pass, answers, lock, region,
     store, unlock,
 };

@@ -1,6 +1,6 @@
 //! `gen`, and `check` of the folder that it makes.
 
-use asking::{Case, EMPTY, all_pass, answers};
+use call_fixtures::{Case, EMPTY, all_pass, answers};
 use command_answer::RACES;
 use generated_run::generate;
 use memory_environment::MemFolder;

@@ -2,7 +2,7 @@
 ghost use Rattle.std.specs.Prelude.{◌<◌};
 
 use super::workers::each_answers;
-use asking::{Rec, Step, hold_tasks};
+use call_fixtures::{Rec, Step, hold_tasks};
 use command_answer::RACES;
 use explain::{RacePair, confirm, explain};
 use memory_environment::MemFolder;

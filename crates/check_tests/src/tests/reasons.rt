@@ -1,6 +1,8 @@
 //! The text of each reason for which a folder is refused.
 
-use asking::{BARRIER, Case, EMPTY, END, ROOT, Rec, all_pass, answers, lock, region, unlock};
+use call_fixtures::{
+    BARRIER, Case, EMPTY, END, ROOT, Rec, all_pass, answers, lock, region, unlock,
+};
 use command_answer::FOLDER_REFUSED;
 use memory_environment::MemFolder;
 use std::alloc::{AllocError, Global};

@@ -1,6 +1,6 @@
 //! In which order `check` reads and compares.
 
-use asking::{Case, EMPTY, END, asked, folder_of, region, store};
+use call_fixtures::{Case, EMPTY, END, asked, folder_of, region, store};
 use command_answer::{RACES, READ_FAULT};
 use memory_environment::MemOut;
 use std::alloc::Global;

@@ -1,6 +1,6 @@
 //! Refusals of folders that are made or changed byte by byte.
 
-use asking::{BARRIER, Case, EMPTY, END, ROOT, Rec, answers, folder_of, region, store};
+use call_fixtures::{BARRIER, Case, EMPTY, END, ROOT, Rec, answers, folder_of, region, store};
 use command_answer::FOLDER_REFUSED;
 use memory_environment::MemFolder;
 use std::alloc::{AllocError, Global};

@@ -1,6 +1,6 @@
 //! That no thread of a run is left when it has ended.
 
-use asking::printed;
+use call_fixtures::printed;
 use command_answer::{DONE, KERNEL_STOPPED};
 use host_environment::HostFolder;
 use memory_environment::MemFolder;

@@ -1,6 +1,6 @@
 //! Folders of the first format: what `upgrade` prints of them, and what is then in the new folder.
 
-use asking::{BARRIER, Case, EMPTY, END, ROOT, all_pass, folder_of, holds, printed, store};
+use call_fixtures::{BARRIER, Case, EMPTY, END, ROOT, all_pass, folder_of, holds, printed, store};
 use command_answer::{DONE, FOLDER_REFUSED, INDEX_THERE, RACES};
 use host_environment::HostFolder;
 use memory_environment::MemFolder;

@@ -1,6 +1,6 @@
 //! The records behind a pair of lines, and whether two records race.
 
-use asking::{BARRIER, Case, EMPTY, END, ROOT, all_pass, answers, store};
+use call_fixtures::{BARRIER, Case, EMPTY, END, ROOT, all_pass, answers, store};
 use command_answer::{DONE, FOLDER_REFUSED, RACES};
 use memory_environment::MemFolder;
 use std::test::Fail;

@@ -1,7 +1,7 @@
 //! `check` with each number of workers: the same report. Workers run at once, and so do the lanes of a run.
 ghost use Rattle.std.specs.Prelude.{◌<◌, ◌^◌};
 
-use asking::{
+use call_fixtures::{
     BARRIER, Case, EMPTY, END, ROOT, RUN, Rec, Step, answers, asked, folder_of, hold_tasks, region,
     store,
 };

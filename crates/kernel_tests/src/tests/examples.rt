@@ -1,6 +1,6 @@
 //! The kernels of `examples/`, and what the README says that the program prints of them.
 
-use asking::{Case, EMPTY, all_pass};
+use call_fixtures::{Case, EMPTY, all_pass};
 use command_answer::{DIFFERS, DONE, KERNEL_STOPPED, RACES};
 use std::test::Fail;
 

@@ -1,6 +1,6 @@
 //! Each call on the folder, on the output and on a log fails in turn, in each command.
 
-use asking::{
+use call_fixtures::{
     BARRIER, Calls, Case, EMPTY, END, REPLAY, ROOT, Rec, SHOW, Task, each_call_may_fail, region,
     store,
 };

@@ -1,6 +1,6 @@
 //! Kernels of `examples/` in pairs, one that races and its mended twin: what `run`, `check` and `replay` print of each.
 
-use asking::{Whole, all_run};
+use call_fixtures::{Whole, all_run};
 use command_answer::{DONE, RACES};
 use std::test::Fail;
 

@@ -1,6 +1,6 @@
 //! `replay`: folders against their kernels and against others, and why there is no comparison.
 
-use asking::{
+use call_fixtures::{
     Case, EMPTY, END, REPLAY, ROOT, RUN, Rec, USAGE_LINE, all_pass, answers, folder_of, passes,
     region, store,
 };

@@ -1,6 +1,8 @@
 //! Runs of small kernels: what `run` prints and leaves, and how its logs are cut.
 
-use asking::{Case, EMPTY, RUN, SHOW, USAGE_LINE, all_pass, folder_of, holds, passes, printed};
+use call_fixtures::{
+    Case, EMPTY, RUN, SHOW, USAGE_LINE, all_pass, folder_of, holds, passes, printed,
+};
 use command_answer::{
     DONE, INDEX_THERE, KERNEL_REFUSED, KERNEL_STOPPED, RACES, USAGE, WRITE_FAULT,
 };

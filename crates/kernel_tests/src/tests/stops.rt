@@ -1,6 +1,6 @@
 //! Kernels that stop: which stop is told, and what is left of the run.
 
-use asking::{Case, EMPTY, RUN, all_pass, passes_past};
+use call_fixtures::{Case, EMPTY, RUN, all_pass, passes_past};
 use command_answer::{DONE, KERNEL_STOPPED, WRITE_FAULT};
 use std::test::Fail;
 use sw_base::Path;

@@ -1,6 +1,6 @@
 //! Kernels with atomic updates: what `run` prints of them, and `check` and `replay` of what it wrote.
 
-use asking::{Case, EMPTY, REPLAY, RUN, SHOW, all_pass};
+use call_fixtures::{Case, EMPTY, REPLAY, RUN, SHOW, all_pass};
 use command_answer::{DONE, KERNEL_STOPPED, RACES};
 use std::test::Fail;
 

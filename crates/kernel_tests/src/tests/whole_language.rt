@@ -2,7 +2,7 @@
 //! that it wrote.
 
 use super::runs::left_by;
-use asking::{Case, EMPTY, RUN, SHOW, Whole, all_pass, all_run, holds, printed};
+use call_fixtures::{Case, EMPTY, RUN, SHOW, Whole, all_pass, all_run, holds, printed};
 use command_answer::{DIFFERS, DONE, RACES};
 use memory_environment::MemFolder;
 use std::alloc::Global;

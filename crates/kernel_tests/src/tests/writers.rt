@@ -2,7 +2,7 @@
 ghost use Rattle.std.specs.Prelude.{None, string_bytes};
 ghost use Rattle.memory_environment.specs.MemFolder.{read_faults_of, write_faults_of};
 
-use asking::asked;
+use call_fixtures::asked;
 use command_answer::DONE;
 use memory_environment::{MemFolder, MemOut};
 use std::alloc::Global;
