@@ -4,6 +4,7 @@ use Rattle.std.specs.Prelude.{slice_get}
 use Rattle.std.specs.List.{flat_map}
 use Rattle.std.proofs.lemmas.List.{append-nil, append_assoc}
 use Rattle.std.proofs.lemmas.Option.{same_Some}
+use Rattle.sw_base.proofs.Lists.{get_more}
 use Rattle.sw_base.specs.declared.path.Step.{Step}
 use Rattle.log_format.specs.declared.record.Record.{Record}
 use Rattle.race_model.specs.Trace.{Logs}
@@ -43,11 +44,6 @@ module _ (program : Program) where
   region_at (f ∷ forks) (w ∷ works) (suc r) work (RunsRegions.region fork fs w1 ws span lanes drew later) found =
       let rest = region_at forks works r work later found in
       record { fork = rest.fork; found = rest.found; span_is = rest.span_is; lanes = rest.lanes; drew = rest.drew }
-
-  get_more : (forks later : List Fork) (r : ℕ) (fork : Fork) → slice_get forks r ≡ Some fork → slice_get (forks ++ later) r ≡ Some fork
-  get_more [] later r fork found = cc
-  get_more (f ∷ forks) later zero fork found = found
-  get_more (f ∷ forks) later (suc r) fork found = get_more forks later r fork found
 
   -- the region that a task forked, and its fork in the trace
   pub task_region : (start : Start) (works : List Work) (r : ℕ) (work : RegionWork) → RunsTask program start works → slice_get (flat_map work_regions works) r ≡ Some work

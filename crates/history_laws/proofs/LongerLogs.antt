@@ -1,8 +1,9 @@
 -- What happens before a record by logs does so by longer ones.
-use Rattle.std.proofs.Common.{◌≡◌, ◌⊎◌, inl, inr, sym, ap, ◌∙◌, ℕ, zero, suc, ◌≤◌, List, [], ◌∷◌, ◌++◌, length, take, Some, arith, length-append}
+use Rattle.std.proofs.Common.{◌≡◌, ◌⊎◌, inl, inr, sym, ap, ◌∙◌, ℕ, ◌≤◌, List, [], ◌∷◌, ◌++◌, length, take, Some, arith, length-append}
 use Rattle.std.specs.Prelude.{slice_get, map, reverse}
 use Rattle.std.proofs.lemmas.List.{append-nil, take-append-le}
 use Rattle.std.proofs.lemmas.Option.{slice_get_within}
+use Rattle.sw_base.proofs.Lists.{get_more}
 use Rattle.sw_base.specs.declared.path.Step.{Step}
 use Rattle.log_format.specs.declared.record.Record.{Record}
 use Rattle.log_format.specs.declared.record.Kind.{Kind}
@@ -17,11 +18,6 @@ abbrev pub GoesOn : Logs → Logs → Type 0
 GoesOn logs full = (path : List Step) → (rest : List Record) × (full path ≡ logs path ++ rest)
 
 module _ (logs full : Logs) (on : GoesOn logs full) where
-  pub get_more : {X : Type 0} (xs ys : List X) (n : ℕ) (x : X) → slice_get xs n ≡ Some x → slice_get (xs ++ ys) n ≡ Some x
-  get_more [] ys n x found = cc
-  get_more (y ∷ xs) ys zero x found = found
-  get_more (y ∷ xs) ys (suc n) x found = get_more xs ys n x found
-
   pub at_full : (x : Node) (r : Record) → record_at logs x ≡ Some r → record_at full x ≡ Some r
   at_full x r found = ap (λ (rs : List Record). slice_get rs x.index) (on x.path).1 ∙ get_more (logs x.path) (on x.path).0 x.index r found
 
