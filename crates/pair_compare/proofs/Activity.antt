@@ -3,7 +3,7 @@ use Rattle.std.proofs.Common.{◌≡◌, ◌⊎◌, ℕ, ◌<◌, ◌≤◌, Lis
 use Rattle.std.proofs.lemmas.List.Elements.{Contains-append_left, Contains-push, Contains-push_cases}
 use Rattle.sw_base.proofs.Lists.{contains_filtered}
 use Rattle.pair_compare.specs.Conflict.{AddsPairs, IsRunConflict, OneHas}
-use Rattle.pair_compare.specs.Sweeps.{Activates, AreOfKind, IsActive, IsActivePair, IsHullPair, IsReachedPair, AddsHull, DropsBefore, DropsEnded, reaches}
+use Rattle.pair_compare.specs.Sweeps.{AreOfKind, IsActive, IsActivePair, IsHullPair, IsReachedPair, AddsHull, DropsBefore, DropsEnded, reaches}
 use Rattle.pair_compare.specs.declared.active.Active.{Active}
 use Rattle.pair_compare.specs.declared.hull.Hull.{Hull}
 use Rattle.pair_compare.proofs.Adds.{AddsPairs-both, AddsPairs-same}
@@ -29,10 +29,6 @@ drops low every old new is = record {
 } where
   from : (other : Hull) → Contains new other → Contains old other × (reaches low other ≡ true)
   from other h = contains_filtered (reaches low) old other (subst (λ (hs : List Hull). Contains hs other) is h)
-
--- where a few are not asked to go, they stay
-pub drops_none : (low : ℕ) (every : Bool) (hulls : List Hull) → every ≡ false → DropsBefore low every hulls hulls
-drops_none low every hulls few = record { kept = λ other h long. h; only = λ other h. h; ended = λ all. absurd (not_so all few) }
 
 pub settles : (hull : Hull) (old new : Active) (every : Bool) → AreOfKind old → (hull.run.now.atomic ≡ false → every ≡ true)
     → DropsBefore hull.low true old.writes.list.items new.writes.list.items → DropsBefore hull.low every old.updates.list.items new.updates.list.items
@@ -106,15 +102,6 @@ module _ (hull : Hull) (old new : Active) (kinds : AreOfKind old) where
 
   pub adds_a_write : new.writes.list.items ≡ old.writes.list.items ++ hull ∷ [] → new.reads.list.items ≡ old.reads.list.items → new.updates.list.items ≡ old.updates.list.items → AddsHull hull old new
   adds_a_write w r u = adds (gains_none hull _ _ r) (gains_none hull _ _ u) (gains_one hull _ _ w) (inr (inr (pushed hull _ _ w))) (record { reads = reads_same r; updates = updates_same u })
-
--- a hull is put where what ended before it was dropped
-pub activates : (hull : Hull) (old settled new : Active) → DropsEnded hull old settled → AddsHull hull settled new → Activates hull old new
-activates hull old settled new settles puts = record {
-  own = puts.own;
-  kept = λ other h long. puts.kept other (settles.kept other h long);
-  only = λ other h. elim (puts.only other h) [ inl was ↦ inl (settles.only other was) | inr same ↦ inr same ];
-  kinds = puts.kinds;
-}
 
 -- where nothing conflicts, nothing is added
 pub adds_none : (keys : List (ℕ × ℕ)) (hull : Hull) (others : List Hull) → ((other : Hull) → Contains others other → IsRunConflict hull.run.now other.run.now → ⊥) → AddsPairs keys keys (OneHas (IsHullPair hull) others)

@@ -1,5 +1,5 @@
 -- What labels are compared by: level by level, at each whether it is there, and the span, the barrier number, the lane and the offset.
-use Rattle.std.specs.Prelude.{◌≡◌, ℕ, ◌+◌, ◌%◌, ◌≤◌, List, [], ◌∷◌, ◌++◌, length, All, filter, not, nat_le, Option, Some, None, slice_get}
+use Rattle.std.specs.Prelude.{◌≡◌, ℕ, ◌+◌, ◌%◌, ◌≤◌, List, ◌∷◌, ◌++◌, length, All, filter, not, nat_le, Option, Some, None, slice_get}
 use Rattle.std.specs.Borrow.{Bor}
 use Rattle.race_model.specs.Label.{Triple}
 use Rattle.log_segment.specs.declared.segment.Segment.{Segment}

@@ -1,7 +1,7 @@
 -- Stretches of bytes in which the addresses of runs lie, and those that meet.
-use Rattle.std.specs.Prelude.{◌≡◌, ◌⊎◌, ℕ, ◌+◌, ◌-◌, ◌≤◌, List, [], ◌∷◌, Bool, false, true, cond, nat_eq, nat_le, Contains, IsTrue}
+use Rattle.std.specs.Prelude.{◌≡◌, ◌⊎◌, ℕ, ◌+◌, ◌-◌, ◌<◌, ◌≤◌, List, Bool, false, true, nat_le, Contains, IsTrue}
 use Rattle.stride_summary.specs.declared.run.Run.{Run}
-use Rattle.stride_summary.specs.Run.{last_address, last_byte}
+use Rattle.stride_summary.specs.Run.{address_at, last_byte}
 use Rattle.pair_compare.specs.Conflict.{IsLinesOf, IsRunConflict}
 use Rattle.pair_compare.specs.declared.active.Active.{Active}
 use Rattle.pair_compare.specs.declared.hull.Hull.{Hull}
@@ -13,15 +13,20 @@ pub record Reach : Type 0 where
   pub low : ℕ
   pub high : ℕ
 
--- a run of two addresses reaches over each, and any other from its first byte to its last
-abbrev pub stretches_of : Run → List (ℕ × ℕ)
-stretches_of run = cond (nat_eq run.count 2) ((run.base, run.base + (run.size - 1)) ∷ (last_address run, last_byte run) ∷ []) ((run.base, last_byte run) ∷ [])
+-- the first and the last byte at the address of a place of the run
+abbrev pub bytes_at : Run → ℕ → ℕ × ℕ
+bytes_at run place = (address_at run place, address_at run place + (run.size - 1))
+
+-- a stretch of the run: the bytes at one address if it has at most so many, and else from its first byte to its last
+pub data IsStretch (singly : ℕ) (run : Run) (bytes : ℕ × ℕ) : Type 0 where
+  Single : (place : ℕ) → run.count ≤ singly → place < run.count → bytes ≡ bytes_at run place → IsStretch singly run bytes
+  Whole : singly < run.count → bytes ≡ (run.base, last_byte run) → IsStretch singly run bytes
 
 -- a reach of the run, which is of this part
-pub record IsReachOf (part : ℕ) (run : Run) (reach : Reach) : Type 0 where
+pub record IsReachOf (singly part : ℕ) (run : Run) (reach : Reach) : Type 0 where
   pub of_part : reach.part ≡ part
   pub of_run : reach.run ≡ run
-  pub listed : Contains (stretches_of run) (reach.low, reach.high)
+  pub stretch : IsStretch singly run (reach.low, reach.high)
 
 -- the line pair of a conflict of two runs of different parts: the second begins where the first reaches, and not before a byte
 pub record IsMetPair (from : ℕ) (Has : Reach → Type 0) (pair : ℕ × ℕ) : Type 0 where
@@ -79,11 +84,17 @@ pub record AddsHull (hull : Hull) (old new : Active) : Type 0 where
   pub only : (other : Hull) → IsActive new other → IsActive old other ⊎ (hull ≡ other)
   pub kinds : AreOfKind new
 
--- the hull is active now, beside those that don't end before it and perhaps others that were active
-pub record Activates (hull : Hull) (old new : Active) : Type 0 where
-  pub own : IsActive new hull
-  pub kept : (other : Hull) → IsActive old other → hull.low ≤ other.high → IsActive new other
-  pub only : (other : Hull) → IsActive new other → IsActive old other ⊎ (hull ≡ other)
+-- of what was active only what ends before one of the hulls was dropped
+pub record Settles (hulls : List Hull) (old new : Active) : Type 0 where
+  pub kept : (other : Hull) (byte : ℕ) → IsActive old other → byte ≤ other.high → ((hull : Hull) → Contains hulls hull → hull.low ≤ byte) → IsActive new other
+  pub only : (other : Hull) → IsActive new other → IsActive old other
+  pub kinds : AreOfKind new
+
+-- the hulls are active, too
+pub record AddsHulls (hulls : List Hull) (old new : Active) : Type 0 where
+  pub own : (hull : Hull) → Contains hulls hull → IsActive new hull
+  pub kept : (other : Hull) → IsActive old other → IsActive new other
+  pub only : (other : Hull) → IsActive new other → IsActive old other ⊎ Contains hulls other
   pub kinds : AreOfKind new
 
 -- the line pair of the hull and an active one, where the hull doesn't begin before the byte

@@ -1,9 +1,9 @@
 -- The work of comparing groups: runs of some members that meet a range of bytes.
-use Rattle.std.specs.Prelude.{◌≡◌, ℕ, ◌≤◌, ◌-◌, List, [], length, false, Contains, take}
+use Rattle.std.specs.Prelude.{◌≡◌, ℕ, ◌<◌, ◌≤◌, ◌-◌, List, [], length, false, Contains, take}
 use Rattle.std.specs.List.{sum_by}
 use Rattle.stride_summary.specs.declared.run.Run.{Run}
 use Rattle.pair_compare.specs.Conflict.{AddsPairs, OneHas}
-use Rattle.pair_compare.specs.Sweeps.{IsMetPair, IsReachOf, Reach}
+use Rattle.pair_compare.specs.Sweeps.{IsMetPair, IsReachOf, Reach, bytes_at}
 use Rattle.pair_compare.specs.declared.member.Member.{Member}
 use Rattle.pair_compare.specs.declared.task.Task.{Task}
 use Rattle.pair_compare.specs.declared.worker.Worker.{Worker}
@@ -12,24 +12,30 @@ use Rattle.pair_compare.specs.declared.worker.Worker.{Worker}
 abbrev pub IsMetStretch : ℕ → ℕ → ℕ → Run → ℕ × ℕ → Reach → Type 0
 IsMetStretch low high part run bytes reach = (reach ≡ record { part = part; run = run; low = bytes.0; high = bytes.1 }) × (bytes.0 ≤ high) × (low ≤ bytes.1)
 
+-- the reach over one of the run's first so many addresses, if it meets the range
+pub record IsMetSingle (low high part : ℕ) (run : Run) (places : ℕ) (reach : Reach) : Type 0 where
+  pub place : ℕ
+  pub among : place < places
+  pub met : IsMetStretch low high part run (bytes_at run place) reach
+
 -- a reach of the run that meets the range
-abbrev pub IsMetReach : ℕ → ℕ → ℕ → Run → Reach → Type 0
-IsMetReach low high part run reach = IsReachOf part run reach × (reach.low ≤ high) × (low ≤ reach.high)
+abbrev pub IsMetReach : ℕ → ℕ → ℕ → ℕ → Run → Reach → Type 0
+IsMetReach singly low high part run reach = IsReachOf singly part run reach × (reach.low ≤ high) × (low ≤ reach.high)
 
 -- a reach of one of the member's runs that meets the range
-abbrev pub IsMemberReach : ℕ → ℕ → Member → Reach → Type 0
-IsMemberReach low high member reach = OneHas (IsMetReach low high member.part) member.runs.now reach
+abbrev pub IsMemberReach : ℕ → ℕ → ℕ → Member → Reach → Type 0
+IsMemberReach singly low high member reach = OneHas (IsMetReach singly low high member.part) member.runs.now reach
 
 -- what of the member reaches into the range doesn't write
 abbrev pub OnlyReads : ℕ → ℕ → Member → Type 0
-OnlyReads low high member = (reach : Reach) → IsMemberReach low high member reach → reach.run.write ≡ false
+OnlyReads low high member = (singly : ℕ) (reach : Reach) → IsMemberReach singly low high member reach → reach.run.write ≡ false
 
 -- the line pair of a conflict of runs of members of different parts, which reach over a common byte: the later one begins in the range
-abbrev pub IsPairAt : List Member → ℕ → ℕ → ℕ × ℕ → Type 0
-IsPairAt members low high pair = IsMetPair low (OneHas (IsMemberReach low high) members) pair
+abbrev pub IsPairAt : List Member → ℕ → ℕ → ℕ → ℕ × ℕ → Type 0
+IsPairAt members singly low high pair = IsMetPair low (OneHas (IsMemberReach singly low high) members) pair
 
 abbrev pub IsTaskPair : Task → ℕ × ℕ → Type 0
-IsTaskPair task pair = IsPairAt task.members.now task.low task.high pair
+IsTaskPair task pair = IsPairAt task.members.now task.singly task.low task.high pair
 
 -- the line pair of one of the worker's tasks
 abbrev pub IsWorkerPair : Worker → ℕ × ℕ → Type 0

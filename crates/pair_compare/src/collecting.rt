@@ -1,8 +1,8 @@
-ghost use Rattle.std.specs.Prelude.{◌↔◌, ◌≤◌, OnOk};
+ghost use Rattle.std.specs.Prelude.{◌≡◌, ◌↔◌, ◌<◌, ◌≤◌, OnOk};
 ghost use Rattle.std.specs.List.Sorted.{IsNonDecreasingBy};
 ghost use Rattle.pair_compare.specs.Conflict.{AddsPairs, GrowsBy, OneHas};
-ghost use Rattle.pair_compare.specs.Sweeps.{IsHullOf, Reach};
-ghost use Rattle.pair_compare.specs.Work.{IsMemberReach, IsMetReach, IsMetStretch, IsTaskPair};
+ghost use Rattle.pair_compare.specs.Sweeps.{IsHullOf, Reach, bytes_at};
+ghost use Rattle.pair_compare.specs.Work.{IsMemberReach, IsMetReach, IsMetSingle, IsMetStretch, IsTaskPair};
 
 use crate::hull::Hull;
 use crate::member::Member;
@@ -36,25 +36,47 @@ fn add_stretch<'r>(
     Ok(())
 }
 
-// A run of two addresses is taken one by one, since their distance may be great: nothing between them meets it.
+/// The first and the last byte at the address of a place of the run.
+pub fn bytes_at(run: &Run, place: u32) -> (u64, u64)
+    requires { place < run.now.count }
+    ensures value { result ≡ bytes_at run.now place }
+    ensures ordered { result.0 ≤ result.1 }
+{
+    let low = run.base + u64::from(place) * run.stride;
+    (low, low + u64::from(run.size - 1))
+}
+
+// Adds the run one address at a time.
+fn add_singly<'r>(
+    run: &'r Run,
+    part: u64,
+    task: &Task,
+    hulls: &mut Vec<Hull<'r>>,
+) -> Result<(), Memory>
+    ensures { OnOk result (GrowsBy (OneHas IsHullOf hulls.old.items) (OneHas IsHullOf hulls.new.items) (IsMetSingle task.now.low task.now.high part run.now run.now.count)) }
+{
+    for place in 0..run.count {
+        add_stretch(run, part, bytes_at(run, place), task, hulls)?;
+    }
+    Ok(())
+}
+
 fn add_run<'r>(
     run: &'r Run,
     part: u64,
     task: &Task,
     hulls: &mut Vec<Hull<'r>>,
 ) -> Result<(), Memory>
-    ensures { OnOk result (GrowsBy (OneHas IsHullOf hulls.old.items) (OneHas IsHullOf hulls.new.items) (IsMetReach task.now.low task.now.high part run.now)) }
+    ensures { OnOk result (GrowsBy (OneHas IsHullOf hulls.old.items) (OneHas IsHullOf hulls.new.items) (IsMetReach task.now.singly task.now.low task.now.high part run.now)) }
 {
-    if run.count != 2 {
-        return add_stretch(run, part, (run.low(), run.high()), task, hulls);
+    if run.count <= task.singly {
+        return add_singly(run, part, task, hulls);
     }
-    let width = u64::from(run.size - 1);
-    add_stretch(run, part, (run.low(), run.low() + width), task, hulls)?;
-    add_stretch(run, part, (run.high() - width, run.high()), task, hulls)
+    add_stretch(run, part, (run.low(), run.high()), task, hulls)
 }
 
 fn add_member<'s>(member: &Member<'s>, task: &Task, hulls: &mut Vec<Hull<'s>>) -> Result<(), Memory>
-    ensures { OnOk result (GrowsBy (OneHas IsHullOf hulls.old.items) (OneHas IsHullOf hulls.new.items) (IsMemberReach task.now.low task.now.high member.now)) }
+    ensures { OnOk result (GrowsBy (OneHas IsHullOf hulls.old.items) (OneHas IsHullOf hulls.new.items) (IsMemberReach task.now.singly task.now.low task.now.high member.now)) }
 {
     if !member.meets(task.low, task.high) {
         return Ok(());
@@ -67,7 +89,7 @@ fn add_member<'s>(member: &Member<'s>, task: &Task, hulls: &mut Vec<Hull<'s>>) -
 
 // What was in the vector goes.
 fn collect<'s>(task: &Task<'_, 's>, hulls: &mut Vec<Hull<'s>>) -> Result<(), Memory>
-    ensures same { OnOk result ((reach : Reach) → OneHas IsHullOf hulls.new.items reach ↔ OneHas (IsMemberReach task.now.low task.now.high) task.now.members.now reach) }
+    ensures same { OnOk result ((reach : Reach) → OneHas IsHullOf hulls.new.items reach ↔ OneHas (IsMemberReach task.now.singly task.now.low task.now.high) task.now.members.now reach) }
     ensures ascends { OnOk result (IsNonDecreasingBy (λ hull. hull.low) hulls.new.items) }
 {
     hulls.clear();

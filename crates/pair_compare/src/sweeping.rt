@@ -1,7 +1,8 @@
-ghost use Rattle.std.specs.Prelude.{◌≡◌, Contains, false, OnOk};
+ghost use Rattle.std.specs.Prelude.{◌≡◌, ◌<◌, ◌≤◌, ℕ, Contains, false, length, slice_index_or, OnOk};
 ghost use Rattle.std.specs.List.Sorted.{IsNonDecreasingBy};
 ghost use Rattle.pair_compare.specs.Conflict.{AddsPairs, IsRunConflict, OneHas};
-ghost use Rattle.pair_compare.specs.Sweeps.{Activates, AreOfKind, IsActivePair, IsHullOf, IsHullPair, IsMetPair, IsReachedPair};
+ghost use Rattle.pair_compare.specs.Sweeps.{AddsHulls, AreOfKind, DropsEnded, IsActivePair, IsHullOf, IsHullPair, IsMetPair, IsReachedPair, Settles};
+ghost use Rattle.pair_compare.specs.declared.hull.Hull.{Hull};
 
 use crate::active::Active;
 use crate::conflict::add_conflict;
@@ -63,6 +64,7 @@ fn meet_active(
     meet_all(hull, &active.writes.list, pairs)
 }
 
+// Adds the line pairs of the hull and the active ones, of which those that ended before it may go.
 fn step<'r>(
     hull: &Hull<'r>,
     from: u64,
@@ -70,16 +72,57 @@ fn step<'r>(
     pairs: &mut BTreeSet<(u32, u32)>,
 ) -> Result<(), Memory>
     requires { AreOfKind active.old }
-    ensures active { OnOk result (Activates hull.now active.old active.new) }
+    ensures active { OnOk result (DropsEnded hull.now active.old active.new) }
     ensures added { OnOk result (AddsPairs pairs.old.keys pairs.new.keys (IsReachedPair from hull.now active.old)) }
 {
     active.settle(hull);
-    meet_active(hull, from, active, pairs)?;
-    active.put(hull)
+    meet_active(hull, from, active, pairs)
+}
+
+// The same for hulls in order of their first bytes.
+fn meet_block<'r>(
+    block: &[Hull<'r>],
+    from: u64,
+    active: &mut Active<'r>,
+    pairs: &mut BTreeSet<(u32, u32)>,
+) -> Result<(), Memory>
+    requires kinds { AreOfKind active.old }
+    requires rising { IsNonDecreasingBy (λ hull. hull.low) block.now }
+    ensures active { OnOk result (Settles block.now active.old active.new) }
+    ensures added { OnOk result (AddsPairs pairs.old.keys pairs.new.keys (OneHas (λ hull. IsReachedPair from hull active.old) block.now)) }
+{
+    for hull in block {
+        step(hull, from, active, pairs)?;
+    }
+    Ok(())
+}
+
+fn put_all<'r>(block: &[Hull<'r>], active: &mut Active<'r>) -> Result<(), Memory>
+    requires { AreOfKind active.old }
+    ensures { OnOk result (AddsHulls block.now active.old active.new) }
+{
+    for hull in block {
+        active.put(hull)?;
+    }
+    Ok(())
+}
+
+// How many of the first hulls are of one part.
+fn part_count(hulls: &[Hull]) -> usize
+    requires some { 0 < length hulls.now }
+    ensures within { (1 ≤ result) × (result ≤ length hulls.now) }
+    ensures alike { (i : ℕ) (d : Hull) → i < result → (slice_index_or hulls.now i d).part ≡ (slice_index_or hulls.now 0 d).part }
+{
+    let mut count = 1;
+    'alike: while count < hulls.len() && hulls[count].part == hulls[0].part {
+        count += 1;
+    }
+    count
 }
 
 /// Adds the line pairs of the conflicts of runs of different parts whose hulls meet, where the later one doesn't begin before
-/// the byte. The hulls are in order of their first bytes: each is compared with those before it that haven't ended.
+/// the byte. The hulls are in order of their first bytes: each is compared with those before it that haven't ended, but for those
+/// of its own part that stand right before it.
 pub fn sweep(
     alloc: Global,
     hulls: &[Hull],
@@ -90,8 +133,14 @@ pub fn sweep(
     ensures { OnOk result (AddsPairs pairs.old.keys pairs.new.keys (IsMetPair from (OneHas IsHullOf hulls.now))) }
 {
     let mut active = Active::new(alloc);
-    for hull in hulls {
-        step(hull, from, &mut active, pairs)?;
+    let mut start = 0;
+    'parts: while start < hulls.len() {
+        let (_, rest) = hulls.split_at(start);
+        let count = part_count(rest);
+        let (block, _) = rest.split_at(count);
+        meet_block(block, from, &mut active, pairs)?;
+        put_all(block, &mut active)?;
+        start += count;
     }
     Ok(())
 }

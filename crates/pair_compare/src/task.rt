@@ -3,6 +3,7 @@ ghost use Rattle.pair_compare.specs.Conflict.{GrowsBy, OneHas};
 ghost use Rattle.pair_compare.specs.Groups.{IsGroupPair, IsPartedPair, IsRunOf};
 ghost use Rattle.pair_compare.specs.Work.{IsPairAt, OnlyReads, IsTaskPair};
 
+use crate::crowding::singly;
 use crate::group::Group;
 use crate::member::Member;
 use std::alloc::Global;
@@ -23,6 +24,8 @@ pub struct Task<'g, 's> {
     pub members: &'g [Member<'s>],
     pub low: u64,
     pub high: u64,
+    /// Runs of at most so many addresses are taken one address at a time: nothing between these meets them.
+    pub singly: u32,
     /// About how many runs these are.
     pub runs: usize,
 }
@@ -86,11 +89,12 @@ fn cuts_of(alloc: Global, members: &[Member], parts: usize) -> Result<Vec<u64>, 
 // Adds a task of the members at these bytes, of about so many runs, unless nobody writes there.
 fn add_task<'g, 's>(
     members: &'g [Member<'s>],
+    singly: u32,
     bytes: (u64, u64),
     runs: usize,
     tasks: &mut Vec<Task<'g, 's>>,
 ) -> Result<(), Memory>
-    ensures { OnOk result (GrowsBy (OneHas IsTaskPair tasks.old.items) (OneHas IsTaskPair tasks.new.items) (IsPairAt members.now bytes.0 bytes.1)) }
+    ensures { OnOk result (GrowsBy (OneHas IsTaskPair tasks.old.items) (OneHas IsTaskPair tasks.new.items) (IsPairAt members.now singly bytes.0 bytes.1)) }
 {
     let (low, high) = bytes;
     if is_idle(members, low, high) {
@@ -100,6 +104,7 @@ fn add_task<'g, 's>(
         members,
         low,
         high,
+        singly,
         runs,
     })?;
     Ok(())
@@ -108,6 +113,7 @@ fn add_task<'g, 's>(
 // Adds tasks for all bytes, cut behind these ones, of about so many runs each.
 fn cut_at<'g, 's>(
     members: &'g [Member<'s>],
+    singly: u32,
     cuts: &[u64],
     runs: usize,
     tasks: &mut Vec<Task<'g, 's>>,
@@ -117,10 +123,10 @@ fn cut_at<'g, 's>(
     let mut low = 0u64;
     for cut in cuts {
         let high = low.max(*cut);
-        add_task(members, (low, high), runs, tasks)?;
+        add_task(members, singly, (low, high), runs, tasks)?;
         low = high.saturating_add(1);
     }
-    add_task(members, (low, u64::MAX), runs, tasks)
+    add_task(members, singly, (low, u64::MAX), runs, tasks)
 }
 
 // Adds the tasks of a group, of about so many runs at most.
@@ -137,7 +143,8 @@ fn cut_group<'g, 's>(
     let runs = runs_in(members);
     let parts = (runs / most).saturating_add(1).min(PARTS);
     let cuts = cuts_of(alloc, members, parts)?;
-    cut_at(members, cuts.as_slice(), runs / parts, tasks)
+    let singly = singly(alloc, members)?;
+    cut_at(members, singly, cuts.as_slice(), runs / parts, tasks)
 }
 
 fn runs_in_all(groups: &[Group]) -> usize {

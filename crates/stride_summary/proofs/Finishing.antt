@@ -1,5 +1,5 @@
 -- A summary of which some keys have their runs.
-use Rattle.std.proofs.Common.{◌≡◌, ◌↔◌, ℕ, ◌+◌, List, [], ◌∷◌, ◌++◌, length, get_or, Contains, inl, inr, refl, sym, ◌∙◌, ap, subst, arith, length-append, append_assoc, append-nil}
+use Rattle.std.proofs.Common.{◌≡◌, ◌⊎◌, ◌↔◌, ℕ, ◌+◌, List, [], ◌∷◌, ◌++◌, length, get_or, Contains, inl, inr, refl, sym, ◌∙◌, ap, subst, arith, length-append, append_assoc, append-nil}
 use Rattle.std.specs.List.{flat_map}
 use Rattle.std.specs.List.Sorted.{IsStrictlyIncreasing, IsNonDecreasingBy, IsPermutation}
 use Rattle.std.proofs.lemmas.List.{get_or_append_left, get_or-append-add, get_or_push, get_or_default, length_push}
@@ -8,10 +8,13 @@ use Rattle.std.proofs.lemmas.List.Sorted.{Contains-permutation, IsPermutation-sy
 use Rattle.sw_base.proofs.Lists.{contains_later, contains_either}
 use Rattle.stride_summary.specs.declared.key.Key.{Key}
 use Rattle.stride_summary.specs.declared.run.Run.{Run}
+use Rattle.stride_summary.specs.declared.singles.Single.{Single}
 use Rattle.stride_summary.specs.declared.stretch.Stretch.{Stretch}
 use Rattle.stride_summary.specs.Run.{AreApart, HasPair, run_key}
 use Rattle.stride_summary.specs.Spread.{AddsStretch, addresses_of}
+use Rattle.stride_summary.specs.Singles.{AddsSingles, AreOthers, HoldsSingle}
 use Rattle.stride_summary.specs.Stretches.{Holds, KeysDiffer}
+use Rattle.stride_summary.proofs.Alone.{cut_has, cuts_apart, has_cut}
 use Rattle.stride_summary.proofs.Rising.{Contains-address, apart_from_rising, contains_first, has_base, spread_from, spread_has}
 use Rattle.stride_summary.proofs.Apart.{Apart, AreApart-from_each, EachApart, EachApart-append, EachApart-from_rising, EachApart-permutation}
 
@@ -80,18 +83,48 @@ FinishSoFar-step all left less s runs more differ popped so_far adds = record {
         record { run = was.run; listed = Contains-append_left runs adds.cuts.cuts was.run was.listed; keyed = was.keyed; addressed = was.addressed }
   ])
 
--- the runs of all keys, in another order
-pub record IsFinished (all : List Stretch) (runs : List Run) : Type 0 where
-  pub pairs : (key : Key) (address : ℕ) → HasPair runs key address ↔ Holds all key address
+-- the runs of all keys and of the accesses that stand alone, in another order
+pub record IsFinished (all : List Stretch) (singles : List Single) (runs : List Run) : Type 0 where
+  pub pairs : (key : Key) (address : ℕ) → HasPair runs key address ↔ (Holds all key address ⊎ HoldsSingle singles key address)
   pub apart : AreApart runs
 
 moved_pair : (runs sorted : List Run) (k : Key) (a : ℕ) → IsPermutation runs sorted → HasPair runs k a → HasPair sorted k a
 moved_pair runs sorted k a same h = record { run = h.run; listed = Contains-permutation runs sorted h.run same h.listed; keyed = h.keyed; addressed = h.addressed }
 
-pub IsFinished-sorted : (all left : List Stretch) (runs sorted : List Run) → FinishSoFar all left runs → length left ≡ 0 → IsPermutation runs sorted → IsNonDecreasingBy (λ (r : Run). r.base) sorted → IsFinished all sorted
-IsFinished-sorted all [] runs sorted so_far none same rising = record {
-  pairs = λ k a. subst (λ (ss : List Stretch). HasPair sorted k a ↔ Holds ss k a) (sym so_far.split)
-      ((λ h. (so_far.pairs k a).0 (moved_pair sorted runs k a (IsPermutation-sym runs sorted same) h)), (λ h. moved_pair runs sorted k a same ((so_far.pairs k a).1 h)));
-  apart = AreApart-from_each sorted (EachApart-permutation runs sorted same so_far.apart) rising;
-}
-IsFinished-sorted all (s ∷ left) runs sorted so_far none same rising = absurd (omega arith)
+pub IsFinished-sorted : (all left : List Stretch) (singles : List Single) (runs more sorted : List Run) → FinishSoFar all left runs → length left ≡ 0 → AreOthers singles all → AddsSingles singles runs more
+    → IsPermutation more sorted → IsNonDecreasingBy (λ (r : Run). r.base) sorted → IsFinished all singles sorted
+IsFinished-sorted all [] singles runs more sorted so_far none others adds same rising = record {
+  pairs = λ k a. (forth k a, back k a);
+  apart = AreApart-from_each sorted (EachApart-permutation more sorted same each) rising;
+} where
+  cuts : List Run
+  cuts = adds.runs.cuts
+
+  across : (r c : Run) → Contains runs r → Contains cuts c → Apart r c
+  across r c in_runs in_cuts key =
+      let was : Holds so_far.done (run_key r) r.base = (so_far.pairs (run_key r) r.base).0 (record { run = r; listed = in_runs; keyed = refl; addressed = (Contains-address r r.base).0 (has_base r) }) in
+      let own : HoldsSingle singles (run_key c) c.base = cut_has singles runs more adds (run_key c) c.base (record { run = c; listed = in_cuts; keyed = refl; addressed = (Contains-address c c.base).0 (has_base c) }) in
+      absurd (All-contains (λ (s : Stretch). (a : ℕ) → HoldsSingle singles s.key a → ⊥) all was.stretch others (subst (λ (ss : List Stretch). Contains ss was.stretch) (sym so_far.split) was.listed)
+      c.base (subst (λ (k : Key). HoldsSingle singles k c.base) (sym (was.keyed ∙ key)) own))
+
+  each : EachApart more
+  each = subst (λ (rs : List Run). EachApart rs) (sym adds.runs.added) (EachApart-append runs cuts so_far.apart (cuts_apart singles runs more adds) across)
+
+  forth : (k : Key) (a : ℕ) → HasPair sorted k a → Holds all k a ⊎ HoldsSingle singles k a
+  forth k a h =
+      let moved : HasPair more k a = moved_pair sorted more k a (IsPermutation-sym more sorted same) h in
+      elim (Contains-append_cases runs cuts moved.run (subst (λ (rs : List Run). Contains rs moved.run) adds.runs.added moved.listed)) [
+        | inl old ↦ inl (subst (λ (ss : List Stretch). Holds ss k a) (sym so_far.split) ((so_far.pairs k a).0 (record { run = moved.run; listed = old; keyed = moved.keyed; addressed = moved.addressed })))
+        | inr new ↦ inr (cut_has singles runs more adds k a (record { run = moved.run; listed = new; keyed = moved.keyed; addressed = moved.addressed }))
+      ]
+
+  back : (k : Key) (a : ℕ) → Holds all k a ⊎ HoldsSingle singles k a → HasPair sorted k a
+  back k a either = moved_pair more sorted k a same (subst (λ (rs : List Run). HasPair rs k a) (sym adds.runs.added) (elim either [
+    | inl h ↦
+        let pair : HasPair runs k a = (so_far.pairs k a).1 (subst (λ (ss : List Stretch). Holds ss k a) so_far.split h) in
+        record { run = pair.run; listed = Contains-append_left runs cuts pair.run pair.listed; keyed = pair.keyed; addressed = pair.addressed }
+    | inr h ↦
+        let pair = has_cut singles runs more adds k a h in
+        record { run = pair.run; listed = Contains-append_right runs cuts pair.run pair.listed; keyed = pair.keyed; addressed = pair.addressed }
+  ]))
+IsFinished-sorted all (s ∷ left) singles runs more sorted so_far none others adds same rising = absurd (omega arith)

@@ -5,5 +5,6 @@ pub mod Holding
 pub mod Storing
 pub mod Rising
 pub mod Apart
+mod Alone
 pub mod Finishing
 mod Placing

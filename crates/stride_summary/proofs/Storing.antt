@@ -1,5 +1,5 @@
 -- A list of stretches with one of them changed, and with one more.
-use Rattle.std.proofs.Common.{◌≡◌, ◌⊎◌, ◌↔◌, ℕ, ◌+◌, ◌-◌, ◌<◌, ◌≤◌, Bool, true, false, cond, List, [], ◌∷◌, ◌++◌, length, get_or, set, Contains, inl, inr, sym, ◌∙◌, ap, subst, arith, get_or-set_same, get_or-set_other}
+use Rattle.std.proofs.Common.{◌≡◌, ◌⊎◌, ◌↔◌, ℕ, ◌+◌, ◌-◌, ◌/◌, ◌<◌, ◌≤◌, Bool, true, false, cond, List, [], ◌∷◌, ◌++◌, length, get_or, set, Contains, inl, inr, sym, ◌∙◌, ap, subst, arith, get_or-set_same, get_or-set_other}
 use Rattle.std.specs.List.{All, sum_by}
 use Rattle.std.proofs.lemmas.List.Sums.{get_or-le-sum_by, sum_by-append, sum_by-set}
 use Rattle.std.proofs.Math.ListN.{length-set}
@@ -111,7 +111,7 @@ pub needed-pushed : (pushed : Bool) (xs ys : List Stretch) (new : Stretch) → y
 needed-pushed true xs ys new is none = ap (sum_by needed_of) is ∙ sum_by-append needed_of xs (new ∷ []) ∙ omega arith
 needed-pushed false xs ys new is none = ap (sum_by needed_of) is
 
-some_element : {X : Type 0} (xs : List X) → 0 < length xs → X
+pub some_element : {X : Type 0} (xs : List X) → 0 < length xs → X
 some_element [] some = absurd (omega arith)
 some_element (x ∷ xs) some = x
 
@@ -125,6 +125,13 @@ HoldsOneMore-at xs ys zs place key address same at more k a =
 
 pub HoldsSame-twice : (xs ys zs : List Stretch) → HoldsSame xs ys → HoldsSame ys zs → HoldsSame xs zs
 HoldsSame-twice xs ys zs first second k a = ((λ h. (first k a).0 ((second k a).0 h)), (λ h. (second k a).1 ((first k a).1 h)))
+
+-- the sum where one stretch has the same limit
+pub needed-kept : (xs : List Stretch) (i : ℕ) (was now : Stretch) → i < length xs → was ≡ get_or xs i was → now.limit ≡ was.limit → sum_by needed_of xs ≡ sum_by needed_of (set xs i now)
+needed-kept xs i was now within is same =
+    let there : needed_of (get_or xs i was) ≡ needed_of was = ap (λ (s : Stretch). needed_of s) (sym is) in
+    let kept : needed_of now ≡ needed_of was = ap (λ (n : ℕ). (n + 1) / 2) same in
+    omega (arith, sum_by-set needed_of xs i now was within, get_or-le-sum_by needed_of xs i was within, there, kept)
 
 -- the sum where one stretch has another limit
 pub needed-raised : (xs : List Stretch) (i : ℕ) (was now : Stretch) (before after : ℕ) → i < length xs → was ≡ get_or xs i was → before ≡ needed_of was → after ≡ needed_of now →

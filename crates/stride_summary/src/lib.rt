@@ -12,6 +12,7 @@ mod cutting;
 mod key;
 mod places;
 mod run;
+mod singles;
 mod stretch;
 mod summary;
 

@@ -1,5 +1,5 @@
 //! The places of keys, by the numbers that tell the keys apart.
-ghost use Rattle.std.specs.Prelude.{◌≡◌, ◌++◌, ◌∷◌, [], None, IfOk, if◌then◌else◌, is_ok, length};
+ghost use Rattle.std.specs.Prelude.{◌≡◌, ◌++◌, ◌∷◌, [], None, IfOk, if◌then◌else◌, is_ok, length, ◌≤◌, vec_len};
 ghost use Rattle.stride_summary.specs.Places.{TellsPlaces, numbers_of, place_under};
 ghost use Rattle.stride_summary.specs.Run.{access_key};
 
@@ -44,6 +44,7 @@ pub fn add_key(
     requires told { TellsPlaces places.old stretches.old.items }
     requires fresh { place_under places.old numbers ≡ None }
     ensures told { TellsPlaces places.new stretches.new.items }
+    ensures more { vec_len stretches.old ≤ vec_len stretches.new }
     ensures place { IfOk result (λ place. place ≡ length stretches.old.items) }
     ensures items { stretches.new.items ≡ (if is_ok result then stretches.old.items ++ stretch ∷ [] else stretches.old.items) }
 {

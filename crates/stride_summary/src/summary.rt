@@ -1,21 +1,27 @@
-ghost use Rattle.std.specs.Prelude.{◌≡◌, ◌↔◌, ◌⊎◌, ℕ, ◌+◌, ◌/◌, ◌^◌, ◌<◌, ◌≤◌, AllPairs, IsTrue, IfOk, OnOk, OnErr, sum_by, slice_index_or, vec_len, vec_capacity};
+ghost use Rattle.std.specs.Prelude.{◌≡◌, ◌↔◌, ◌⊎◌, ℕ, ◌+◌, ◌/◌, ◌^◌, ◌<◌, ◌≤◌, [], None, AllPairs, Contains, IsTrue, IfOk, OnOk, OnErr, sum_by, slice_index_or, vec_len, vec_capacity};
 ghost use Rattle.std.specs.List.Sorted.{IsNonDecreasingBy};
 ghost use Rattle.stride_summary.specs.declared.stretch.Stretch.{Stretch};
 ghost use Rattle.stride_summary.specs.Run.{AreApart, HasPair, access_key};
-ghost use Rattle.stride_summary.specs.Places.{TellsPlaces};
+ghost use Rattle.stride_summary.specs.Places.{TellsPlaces, numbers_of, place_under};
+ghost use Rattle.stride_summary.specs.Singles.{AreOthers, HoldsSingle, MayStandAlone};
+ghost use Rattle.stride_summary.specs.declared.singles.Single.{Single};
 ghost use Rattle.stride_summary.specs.Stretches.{HasRoom, Holds, HoldsOneMore, HoldsSame, IsPlaceOf, KeysDiffer, MayHave, needed_of};
 
 use crate::access::Access;
 use crate::key::Key;
 use crate::places::{add_key, numbers_of, place_under};
 use crate::run::Run;
+use crate::singles::Singles;
 use crate::stretch::Stretch;
 use std::alloc::Global;
 use std::collections::BTreeMap;
 use sw_base::Memory;
 
-/// The accesses of a barrier interval: the addresses of each key. It grows with the number of different addresses of a key,
-/// and not with the number of accesses.
+/// How many keys have addresses of their own before accesses of further keys under no mutex stand alone.
+const KEYS: usize = 65_536;
+
+/// The accesses of a barrier interval: the addresses of each key, or where there are very many keys the accesses of most one by
+/// one. It grows with the number of different addresses of a key, and not with the number of accesses.
 #[derive(Drop)]
 pub struct Summary {
     stretches: Vec<Stretch>,
@@ -25,7 +31,10 @@ pub struct Summary {
     last: usize,
     /// For each place, that of the key which came after it last time.
     followers: Vec<usize>,
-    /// How many runs there are at most in the end.
+    /// From so many keys on, accesses may stand alone.
+    most: usize,
+    singles: Singles,
+    /// How many runs the keys have at most in the end.
     room: usize,
     /// No run so far, but room for as many.
     runs: Vec<Run>,
@@ -33,7 +42,9 @@ pub struct Summary {
     ghost keys: { KeysDiffer stretches.items },
     ghost told: { TellsPlaces places stretches.items },
     ghost counted: { room ≡ sum_by needed_of stretches.items },
-    ghost enough: { room ≤ vec_capacity runs },
+    ghost enough: { room + singles.limit ≤ vec_capacity runs },
+    ghost others: { AreOthers singles.list.items stretches.items },
+    ghost early: { vec_len stretches < most → singles.list.items ≡ [] },
     ghost none: { vec_len runs ≡ 0 },
 }
 
@@ -54,7 +65,7 @@ fn is_at(stretches: &[Stretch], place: usize, access: &Access) -> bool
 impl Summary {
     ghost use Rattle.std.specs.Prelude.{ℕ};
     ghost use Rattle.stride_summary.specs.declared.key.Key.{Key};
-    ghost use Rattle.stride_summary.specs.Summary.{IsSummed, SumsOneMore, SumsSame};
+    ghost use Rattle.stride_summary.specs.Summary.{IsPlacing, IsSummed, SumsOneMore, SumsSame};
 
     /// Nothing so far.
     pub fn new(alloc: Global) -> Result<Summary, Memory>
@@ -65,6 +76,8 @@ impl Summary {
             places: BTreeMap::new(alloc),
             last: 0,
             followers: Vec::new(alloc),
+            most: KEYS,
+            singles: Singles::new(alloc),
             room: 0,
             runs: Vec::new(alloc),
             alloc,
@@ -76,11 +89,10 @@ impl Summary {
         ensures added { OnOk result (SumsOneMore self.old self.new (access_key access.now) access.now.addr) }
         ensures refused { OnErr result (SumsSame self.old self.new) }
     {
-        let place = self.place_of(access)?;
-        self.follow(place);
-        self.make_room(place)?;
-        self.add_at(place, access.addr);
-        Ok(())
+        match self.place_of(access)? {
+            Some(place) => self.add_to(place, access),
+            None => self.add_single(access),
+        }
     }
 
     /// The runs of the accesses, in order of their first addresses: of each key the addresses, each once, cut where their
@@ -95,6 +107,8 @@ impl Summary {
             places: _,
             last: _,
             followers: _,
+            most: _,
+            singles,
             room: _,
             mut runs,
             alloc: _,
@@ -102,32 +116,111 @@ impl Summary {
         'keys: while let Some(stretch) = stretches.pop() {
             stretch.push_into(&mut runs);
         }
+        singles.push_into(&mut runs);
         runs.sort_unstable_by_key(|run| run.low());
         runs
     }
 
-    // The place of the access's key, which is a new one if need be.
-    fn place_of(&mut self, access: &Access) -> Result<usize, Memory>
-        ensures found { IfOk result (λ place. IsPlaceOf self.new.stretches.items (access_key access.now) place) }
+    // Adds an access of the key at this place.
+    fn add_to(&mut self, place: usize, access: &Access) -> Result<(), Memory>
+        requires { IsPlaceOf self.old.stretches.items (access_key access.now) place }
+        ensures added { OnOk result (HoldsOneMore self.old.stretches.items self.new.stretches.items (access_key access.now) access.now.addr) }
+        ensures refused { OnErr result (HoldsSame self.old.stretches.items self.new.stretches.items) }
+        ensures singles { self.new.singles ≡ self.old.singles }
+    {
+        self.follow(place);
+        self.make_room(place)?;
+        self.add_at(place, access.addr);
+        Ok(())
+    }
+
+    // Adds an access that may stand alone.
+    fn add_single(&mut self, access: &Access) -> Result<(), Memory>
+        requires { MayStandAlone self.old.most self.old.stretches (access_key access.now) }
+        ensures added { OnOk result ((key : Key) (address : ℕ) → HoldsSingle self.new.singles.list.items key address ↔ (HoldsSingle self.old.singles.list.items key address ⊎ ((access_key access.now ≡ key) × (access.now.addr ≡ address)))) }
+        ensures refused { OnErr result ((single : Single) → Contains self.new.singles.list.items single ↔ Contains self.old.singles.list.items single) }
+        ensures stretches { self.new.stretches ≡ self.old.stretches }
+    {
+        self.make_single_room()?;
+        self.singles.put(access);
+        Ok(())
+    }
+
+    // Has room for an access that stands alone.
+    fn make_single_room(&mut self) -> Result<(), Memory>
+        ensures room { OnOk result (vec_len self.new.singles.list < self.new.singles.limit) }
+        ensures same { (single : Single) → Contains self.new.singles.list.items single ↔ Contains self.old.singles.list.items single }
+        ensures stretches { self.new.stretches ≡ self.old.stretches }
+        ensures most { self.new.most ≡ self.old.most }
+    {
+        if self.singles.has_room() {
+            return Ok(());
+        }
+        self.grow_singles()
+    }
+
+    // The same where there is none. It stands apart, since it is rare.
+    #[inline(never)]
+    fn grow_singles(&mut self) -> Result<(), Memory>
+        ensures room { OnOk result (vec_len self.new.singles.list < self.new.singles.limit) }
+        ensures same { (single : Single) → Contains self.new.singles.list.items single ↔ Contains self.old.singles.list.items single }
+        ensures stretches { self.new.stretches ≡ self.old.stretches }
+        ensures most { self.new.most ≡ self.old.most }
+    {
+        self.settle_singles();
+        let limit = self.singles.next_limit();
+        self.runs.reserve(self.room.saturating_add(limit))?;
+        self.singles.grow(limit)
+    }
+
+    fn settle_singles(&mut self)
+        ensures same { (single : Single) → Contains self.new.singles.list.items single ↔ Contains self.old.singles.list.items single }
+        ensures stretches { self.new.stretches ≡ self.old.stretches }
+        ensures most { self.new.most ≡ self.old.most }
+    {
+        self.singles.settle();
+    }
+
+    // The place of the access's key, which is a new one if need be, unless the access may stand alone.
+    fn place_of(&mut self, access: &Access) -> Result<Option<usize>, Memory>
+        ensures found { IfOk result (λ found. IsPlacing self.new (access_key access.now) found) }
         ensures same { HoldsSame self.old.stretches.items self.new.stretches.items }
+        ensures singles { self.new.singles ≡ self.old.singles }
     {
         let guess = self.followers.get(self.last).copied().unwrap_or(0);
         if is_at(&self.stretches, guess, access) {
-            return Ok(guess);
+            return Ok(Some(guess));
         }
         self.look_up(access)
     }
 
     // The same by the map. It stands apart, so that an access whose place was guessed needs no room for what it keeps.
     #[inline(never)]
-    fn look_up(&mut self, access: &Access) -> Result<usize, Memory>
-        ensures found { IfOk result (λ place. IsPlaceOf self.new.stretches.items (access_key access.now) place) }
+    fn look_up(&mut self, access: &Access) -> Result<Option<usize>, Memory>
+        ensures found { IfOk result (λ found. IsPlacing self.new (access_key access.now) found) }
         ensures same { HoldsSame self.old.stretches.items self.new.stretches.items }
+        ensures singles { self.new.singles ≡ self.old.singles }
     {
         let numbers = numbers_of(self.alloc, access)?;
         if let Some(place) = place_under(&self.places, &numbers) {
-            return Ok(place);
+            return Ok(Some(place));
         }
+        if self.stretches.len() >= self.most && access.held.ids().is_empty() {
+            return Ok(None);
+        }
+        let place = self.give_place(access, numbers)?;
+        Ok(Some(place))
+    }
+
+    // Gives a place to the access's key, which has none.
+    fn give_place(&mut self, access: &Access, numbers: Vec<u32>) -> Result<usize, Memory>
+        requires numbers { numbers.items ≡ numbers_of (access_key access.now) }
+        requires fresh { place_under self.old.places numbers ≡ None }
+        requires apart { self.old.most ≤ vec_len self.old.stretches → access.now.held.now ≡ [] → ⊥ }
+        ensures found { IfOk result (λ place. IsPlaceOf self.new.stretches.items (access_key access.now) place) }
+        ensures same { HoldsSame self.old.stretches.items self.new.stretches.items }
+        ensures singles { self.new.singles ≡ self.old.singles }
+    {
         self.followers.push(0)?;
         let stretch = Stretch::new(self.alloc, Key::of(access));
         add_key(&mut self.stretches, &mut self.places, numbers, stretch)
@@ -146,6 +239,7 @@ impl Summary {
     fn make_room(&mut self, place: usize) -> Result<(), Memory>
         requires place { place < vec_len self.old.stretches }
         ensures count { vec_len self.new.stretches ≡ vec_len self.old.stretches }
+        ensures singles { self.new.singles ≡ self.old.singles }
         ensures same { HoldsSame self.old.stretches.items self.new.stretches.items }
         ensures key { (d : Stretch) → (slice_index_or self.new.stretches.items place d).key ≡ (slice_index_or self.old.stretches.items place d).key }
         ensures room { OnOk result ((d : Stretch) → HasRoom (slice_index_or self.new.stretches.items place d)) }
@@ -161,6 +255,7 @@ impl Summary {
     fn widen(&mut self, place: usize) -> Result<(), Memory>
         requires place { place < vec_len self.old.stretches }
         ensures count { vec_len self.new.stretches ≡ vec_len self.old.stretches }
+        ensures singles { self.new.singles ≡ self.old.singles }
         ensures same { HoldsSame self.old.stretches.items self.new.stretches.items }
         ensures key { (d : Stretch) → (slice_index_or self.new.stretches.items place d).key ≡ (slice_index_or self.old.stretches.items place d).key }
         ensures room { OnOk result ((d : Stretch) → HasRoom (slice_index_or self.new.stretches.items place d)) }
@@ -173,6 +268,7 @@ impl Summary {
     fn prepare(&mut self, place: usize) -> Result<usize, Memory>
         requires place { place < vec_len self.old.stretches }
         ensures count { vec_len self.new.stretches ≡ vec_len self.old.stretches }
+        ensures singles { self.new.singles ≡ self.old.singles }
         ensures same { HoldsSame self.old.stretches.items self.new.stretches.items }
         ensures key { (d : Stretch) → (slice_index_or self.new.stretches.items place d).key ≡ (slice_index_or self.old.stretches.items place d).key }
         ensures room { IfOk result (λ limit. (d : Stretch) → MayHave (slice_index_or self.new.stretches.items place d) limit) }
@@ -185,13 +281,14 @@ impl Summary {
         requires place { place < vec_len self.old.stretches }
         requires limit { (d : Stretch) → MayHave (slice_index_or self.old.stretches.items place d) limit }
         ensures count { vec_len self.new.stretches ≡ vec_len self.old.stretches }
+        ensures singles { self.new.singles ≡ self.old.singles }
         ensures same { HoldsSame self.old.stretches.items self.new.stretches.items }
         ensures key { (d : Stretch) → (slice_index_or self.new.stretches.items place d).key ≡ (slice_index_or self.old.stretches.items place d).key }
         ensures room { OnOk result ((d : Stretch) → HasRoom (slice_index_or self.new.stretches.items place d)) }
     {
         let before = half(self.stretches[place].limit);
         let room = self.room - before + half(limit);
-        self.runs.reserve(room)?;
+        self.runs.reserve(room + self.singles.limit)?;
         self.stretches[place].raise(limit);
         self.room = room;
         Ok(())
@@ -201,7 +298,8 @@ impl Summary {
         requires place { place < vec_len self.old.stretches }
         requires room { (d : Stretch) → HasRoom (slice_index_or self.old.stretches.items place d) }
         requires end { (d : Stretch) → address + (slice_index_or self.old.stretches.items place d).key.size ≤ 2 ^ 48 }
-        ensures { (d : Stretch) → HoldsOneMore self.old.stretches.items self.new.stretches.items (slice_index_or self.old.stretches.items place d).key address }
+        ensures added { (d : Stretch) → HoldsOneMore self.old.stretches.items self.new.stretches.items (slice_index_or self.old.stretches.items place d).key address }
+        ensures singles { self.new.singles ≡ self.old.singles }
     {
         self.stretches[place].put(address);
     }

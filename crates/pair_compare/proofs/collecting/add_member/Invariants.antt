@@ -5,4 +5,4 @@ use Rattle.pair_compare.specs.Work.{IsMetReach}
 use Rattle.pair_compare.proofs.collecting.add_member.Given as goal
 
 abbrev pub invariant-loop-run : goal.invariant-loop-run
-invariant-loop-run l = GrowsBy (OneHas IsHullOf l.initial.hulls.items) (OneHas IsHullOf l.hulls.items) (OneHas (IsMetReach l.task.low l.task.high l.member.part) (take l.run-index l.member.runs.now))
+invariant-loop-run l = GrowsBy (OneHas IsHullOf l.initial.hulls.items) (OneHas IsHullOf l.hulls.items) (OneHas (IsMetReach l.task.singly l.task.low l.task.high l.member.part) (take l.run-index l.member.runs.now))

@@ -18,8 +18,8 @@ returns-clause-same c reach =
     let found = c.loop-member.hulls.items in
     let ordered = c.sort_by_key.new.self.items in
     let task = c.args.task.now in
-    let all = all_from_none IsHullOf (OneHas IsHullOf found) (OneHas (IsMemberReach task.low task.high) task.members.now)
-    (subst (λ (ms : List Member). GrowsBy (OneHas IsHullOf []) (OneHas IsHullOf found) (OneHas (IsMemberReach task.low task.high) ms)) (search (rules, take_all)) c.loop-member.invariant) reach in
+    let all = all_from_none IsHullOf (OneHas IsHullOf found) (OneHas (IsMemberReach task.singly task.low task.high) task.members.now)
+    (subst (λ (ms : List Member). GrowsBy (OneHas IsHullOf []) (OneHas IsHullOf found) (OneHas (IsMemberReach task.singly task.low task.high) ms)) (search (rules, take_all)) c.loop-member.invariant) reach in
     let same = c.sort_by_key.ensures.permutation in
     (λ h. all.0 (OneHas-permuted IsHullOf ordered found reach (IsPermutation-sym found ordered same) h), λ h. OneHas-permuted IsHullOf found ordered reach same (all.1 h))
 

@@ -1,8 +1,12 @@
-use Rattle.std.proofs.Common.{take}
-use Rattle.pair_compare.specs.Conflict.{AddsPairs, OneHas}
-use Rattle.pair_compare.specs.Sweeps.{IsHullOf, IsMetPair}
-use Rattle.pair_compare.proofs.Swept.{IsOpen}
+use Rattle.std.proofs.Common.{◌-◌, ◌≤◌, drop, length}
+use Rattle.pair_compare.proofs.Swept.{IsSwept}
 use Rattle.pair_compare.proofs.sweeping.sweep.Given as goal
 
-abbrev pub invariant-loop-hull : goal.invariant-loop-hull
-invariant-loop-hull l = AddsPairs l.initial.pairs.keys l.pairs.keys (IsMetPair l.from (OneHas IsHullOf (take l.hull-index l.hulls))) × IsOpen l.hulls l.hull-index l.active
+abbrev pub invariant-parts : goal.invariant-parts
+invariant-parts l = record {
+  swept : IsSwept l.from l.hulls (drop l.start l.hulls) l.initial.pairs.keys l.pairs.keys l.active;
+  within : l.start ≤ length l.hulls;
+}
+
+abbrev pub decreases-parts : goal.decreases-parts
+decreases-parts l = length l.hulls - l.start

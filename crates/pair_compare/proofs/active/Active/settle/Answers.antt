@@ -1,4 +1,4 @@
-use Rattle.std.proofs.Common.{◌≡◌, not, true, false, ap}
+use Rattle.std.proofs.Common.{not, ap}
 use Rattle.pair_compare.proofs.Activity.{settles}
 use Rattle.pair_compare.proofs.active.Active.settle.Goals as goal
 

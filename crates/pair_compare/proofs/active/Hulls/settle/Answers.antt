@@ -1,7 +1,7 @@
-use Rattle.std.proofs.Common.{◌≡◌, false, filter, rules}
+use Rattle.std.proofs.Common.{◌≡◌, filter, rules}
 use Rattle.std.proofs.lemmas.Fn.{filter_same}
 use Rattle.pair_compare.specs.Sweeps.{reaches}
-use Rattle.pair_compare.proofs.Activity.{drops, drops_none}
+use Rattle.pair_compare.proofs.Activity.{drops}
 use Rattle.pair_compare.proofs.active.Hulls.settle.Goals as goal
 
 pub returns : goal.returns

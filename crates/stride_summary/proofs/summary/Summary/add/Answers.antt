@@ -1,26 +1,47 @@
-use Rattle.std.proofs.Common.{List, sym, ap, subst, ◌∙◌, arith}
+use Rattle.std.proofs.Common.{◌≡◌, ◌⊎◌, ◌↔◌, ◌∙◌, List, Contains, ap, subst, sym}
+use Rattle.std.proofs.lemmas.Result.{on_err_weaker, on_ok_weaker}
+use Rattle.std.specs.Global.{Vec}
+use Rattle.stride_summary.specs.declared.singles.Single.{Single}
+use Rattle.stride_summary.specs.declared.singles.Singles.{Singles}
 use Rattle.stride_summary.specs.declared.stretch.Stretch.{Stretch}
-use Rattle.stride_summary.specs.declared.summary.Summary.{Summary}
 use Rattle.stride_summary.specs.Run.{access_key}
-use Rattle.stride_summary.specs.Stretches.{HoldsSame, IsPlaceOf}
-use Rattle.stride_summary.proofs.Holding.{on_err_from}
-use Rattle.stride_summary.proofs.Storing.{HoldsOneMore-at, HoldsSame-twice}
+use Rattle.stride_summary.specs.Singles.{HoldsSingle}
+use Rattle.stride_summary.specs.Stretches.{HoldsSame}
+use Rattle.stride_summary.proofs.Alone.{sums_alone, sums_keyed, sums_same}
+use Rattle.stride_summary.proofs.Storing.{HoldsSame-twice}
 use Rattle.stride_summary.proofs.summary.Summary.add.Goals as goal
 
-pub returns-in_err-make_room-clause-refused : goal.returns-in_err-make_room-clause-refused
-returns-in_err-make_room-clause-refused c =
-    let followed = ap (λ (s : Summary). s.stretches.items) c.follow.ensures in
-    on_err_from c.from_residual-in_err-make_room.result
-    (HoldsSame-twice c.args.self.now.stretches.items c.follow.new.self.stretches.items c.make_room.new.self.stretches.items
-    (subst (λ (xs : List Stretch). HoldsSame c.args.self.now.stretches.items xs) (sym followed) c.in_ok-place.ensures.same) c.in_err-make_room.ensures.same)
+pub returns-in-Some-clause-added : goal.returns-in-Some-clause-added
+returns-in-Some-clause-added c =
+    let old = c.args.self.now in
+    let mid = c.place_of.new.self in
+    let new = c.add_to.new.self in
+    on_ok_weaker c.add_to.result (λ more k a. sums_keyed old.stretches.items mid.stretches.items new.stretches.items old.singles.list.items new.singles.list.items (access_key c.args.access.now) c.args.access.now.addr
+    c.place_of.ensures.same k a more (ap (λ (s : Singles). s.list.items) (c.add_to.ensures.singles ∙ c.place_of.ensures.singles))) c.add_to.ensures.added
 
-pub returns-clause-added : goal.returns-clause-added
-returns-clause-added c =
-    let key = access_key c.args.access.now in
-    let followed = ap (λ (s : Summary). s.stretches.items) c.follow.ensures in
-    let at : IsPlaceOf c.follow.new.self.stretches.items key c.in_ok-place.place = subst (λ (xs : List Stretch). IsPlaceOf xs key c.in_ok-place.place) (sym followed) c.in_ok-place.ensures.found in
-    HoldsOneMore-at c.args.self.now.stretches.items c.make_room.new.self.stretches.items c.add_at.new.self.stretches.items c.in_ok-place.place key c.args.access.now.addr
-    (HoldsSame-twice c.args.self.now.stretches.items c.follow.new.self.stretches.items c.make_room.new.self.stretches.items
-    (subst (λ (xs : List Stretch). HoldsSame c.args.self.now.stretches.items xs) (sym followed) c.in_ok-place.ensures.same) c.in_ok-make_room.ensures.same)
-    (omega (arith, at.0, c.in_ok-make_room.ensures.count), λ d. c.in_ok-make_room.ensures.key d ∙ at.1 d)
-    c.add_at.ensures
+pub returns-in-Some-clause-refused : goal.returns-in-Some-clause-refused
+returns-in-Some-clause-refused c =
+    let old = c.args.self.now in
+    let mid = c.place_of.new.self in
+    let new = c.add_to.new.self in
+    let same = ap (λ (s : Singles). s.list.items) (c.add_to.ensures.singles ∙ c.place_of.ensures.singles) in
+    on_err_weaker c.add_to.result (λ kept k a. sums_same old.stretches.items new.stretches.items new.stretches.items old.singles.list.items new.singles.list.items (access_key c.args.access.now) c.args.access.now.addr
+    (HoldsSame-twice old.stretches.items mid.stretches.items new.stretches.items c.place_of.ensures.same kept) k a
+    (λ s. subst (λ (ss : List Single). Contains new.singles.list.items s ↔ Contains ss s) same ((λ h. h), (λ h. h)))) c.add_to.ensures.refused
+
+pub returns-in-None-clause-added : goal.returns-in-None-clause-added
+returns-in-None-clause-added c =
+    let old = c.args.self.now in
+    let mid = c.place_of.new.self in
+    let new = c.add_single.new.self in
+    let kept = subst (λ (v : Vec Stretch). HoldsSame old.stretches.items v.items) (sym c.add_single.ensures.stretches) c.place_of.ensures.same in
+    on_ok_weaker c.add_single.result (λ more k a. sums_alone old.stretches.items new.stretches.items new.stretches.items old.singles.list.items new.singles.list.items (access_key c.args.access.now) c.args.access.now.addr
+    kept k a (subst (λ (ss : List Single). HoldsSingle new.singles.list.items k a ↔ (HoldsSingle ss k a ⊎ ((access_key c.args.access.now ≡ k) × (c.args.access.now.addr ≡ a)))) (ap (λ (s : Singles). s.list.items) c.place_of.ensures.singles) (more k a))) c.add_single.ensures.added
+
+pub returns-in-None-clause-refused : goal.returns-in-None-clause-refused
+returns-in-None-clause-refused c =
+    let old = c.args.self.now in
+    let new = c.add_single.new.self in
+    let kept = subst (λ (v : Vec Stretch). HoldsSame old.stretches.items v.items) (sym c.add_single.ensures.stretches) c.place_of.ensures.same in
+    on_err_weaker c.add_single.result (λ same k a. sums_same old.stretches.items new.stretches.items new.stretches.items old.singles.list.items new.singles.list.items (access_key c.args.access.now) c.args.access.now.addr
+    kept k a (λ s. subst (λ (ss : List Single). Contains new.singles.list.items s ↔ Contains ss s) (ap (λ (s : Singles). s.list.items) c.place_of.ensures.singles) (same s))) c.add_single.ensures.refused

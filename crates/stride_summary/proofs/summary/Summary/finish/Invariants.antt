@@ -6,7 +6,7 @@ use Rattle.stride_summary.proofs.summary.Summary.finish.Given as goal
 abbrev pub invariant-keys : goal.invariant-keys
 invariant-keys l = record {
   so_far : FinishSoFar l.fn.self.stretches.items l.stretches.items l.runs.items;
-  room : vec_len l.runs + sum_by needed_of l.stretches.items ≤ vec_capacity l.runs;
+  room : vec_len l.runs + sum_by needed_of l.stretches.items + l.fn.self.singles.limit ≤ vec_capacity l.runs;
 }
 
 abbrev pub decreases-keys : goal.decreases-keys

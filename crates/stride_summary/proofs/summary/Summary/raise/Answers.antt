@@ -2,6 +2,7 @@ use Rattle.std.proofs.Common.{ℕ, ◌+◌, ◌-◌, ◌/◌, ◌<◌, List, len
 use Rattle.std.specs.Global.{Vec}
 use Rattle.std.proofs.lemmas.List.{get_or_default}
 use Rattle.stride_summary.specs.declared.stretch.Stretch.{Stretch}
+use Rattle.stride_summary.proofs.Alone.{others_set}
 use Rattle.stride_summary.proofs.Storing.{HoldsSame-set, needed-raised}
 use Rattle.stride_summary.proofs.summary.Summary.raise.Goals as goal
 
@@ -20,3 +21,6 @@ returns-clause-same c =
     let is : c.raise.new.self.addresses.items ≡ c.index_mut.result.now.addresses.items = ap (λ (v : Vec ℕ). v.items) c.raise.ensures.addresses in
     HoldsSame-set c.args.self.now.stretches.items c.args.place c.index_mut.result.now c.raise.new.self (search rules) c.index_mut.ensures.value c.raise.ensures.key
     (λ a. subst (λ (xs : List ℕ). Contains xs a ↔ Contains c.index_mut.result.now.addresses.items a) (sym is) ((λ h. h), (λ h. h)))
+
+pub invariant_of-self-2-clause-others : goal.invariant_of-self-2-clause-others
+invariant_of-self-2-clause-others c = others_set c.args.self.now.singles.list.items c.args.self.now.stretches.items c.args.place c.index_mut.result.now c.raise.new.self (search rules) c.index_mut.ensures.value c.raise.ensures.key c.args.self.now.others
