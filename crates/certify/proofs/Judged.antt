@@ -13,12 +13,14 @@ use Rattle.race_model.specs.Trace.{TaskLog, Trace, logs_of}
 use Rattle.race_laws.proofs.FolderTrace.{trace_once}
 use Rattle.log_walk.specs.Walk.{IsFirstIn}
 use Rattle.kernel_syntax.specs.Program.{Program}
+use Rattle.execution_model.specs.Elements.{layout_of}
 use Rattle.folder_races.specs.Pairs.{AreFolderPairs}
 use Rattle.serial_team.specs.Members.{WholeLog}
+use Rattle.serial_team.specs.Running.{RanRoot}
 use Rattle.serial_laws.specs.SerialRuns.{spelled}
 use Rattle.serial_laws.proofs.Certainty.{is_certain, is_ended, keeps_rules}
 use Rattle.certify.specs.Holding.{HoldsTasks, KeepRules}
-use Rattle.certify.specs.Verdicts.{HasCertainRun, HasRaces, OpensOneTooMany, RunSpells, RunsTo, records_in}
+use Rattle.certify.specs.Verdicts.{AreCompared, HasCertainRun, HasRaces, OpensOneTooMany, RunSpells, RunsTo, records_in}
 use Rattle.certify.specs.declared.certifying.TheConstants.{MOST_RECORDS}
 
 counts_spelled : (tasks : Trace) → sum_by (λ (log : WholeLog). log.count) (map spelled tasks) ≡ records_in tasks
@@ -36,7 +38,7 @@ module _ (program : Program) (logs : List WholeLog) (words : List ℕ) (r : RunS
   tasks = r.run.tasks
 
   rules : KeepsRules FORMAT tasks
-  rules = keeps_rules program r.layout MOST_RECORDS logs words r.lawful r.run
+  rules = keeps_rules program (layout_of program.arrays) MOST_RECORDS logs words r.lawful r.run
 
   pub keep_rules : KeepRules logs
   keep_rules = record { tasks = tasks; logs_are = r.run.logs_are; rules = rules }
@@ -45,7 +47,12 @@ module _ (program : Program) (logs : List WholeLog) (words : List ℕ) (r : RunS
   count = ap (λ (ls : List WholeLog). sum_by (λ (log : WholeLog). log.count) ls) r.run.logs_are ∙ counts_spelled tasks
 
   runs : RunsTo program tasks words
-  runs = record { fixed = r.fixed; layout = r.layout; run = r.run.run; few = subst (λ (n : ℕ). n ≤ MOST_RECORDS) count r.run.within }
+  runs = record {
+    fixed = r.fixed;
+    run = r.run.run;
+    few = subst (λ (n : ℕ). n ≤ MOST_RECORDS) count r.run.within;
+    ran = λ layout tells. subst (λ (ls : List WholeLog). RanRoot layout program MOST_RECORDS ls words) r.run.logs_are (r.ran layout tells);
+  }
 
   module _ (dir : List ℕ) (told : Option Content) (held : HoldsTasks dir logs told) where
     -- the race pairs that were found are those of its tasks
@@ -54,8 +61,12 @@ module _ (program : Program) (logs : List WholeLog) (words : List ℕ) (r : RunS
         subst (λ (trace : Trace). Lists (IsRacePair (logs_of trace)) pairs)
         (trace_once held.content.held dir found.trace tasks (found.holds held.content held.is) (held.holds tasks r.run.logs_are rules)) found.races
 
+    -- so its tasks are compared
+    are_compared : (pairs : List (ℕ × ℕ)) → AreFolderPairs told dir pairs → AreCompared tasks
+    are_compared pairs found = record { files = held.content.held; dir = dir; holds = held.holds tasks r.run.logs_are rules; well_formed = found.well_formed held.content held.is }
+
     pub has_races : (pairs : List (ℕ × ℕ)) → AreFolderPairs told dir pairs → (length pairs ≡ 0 → ⊥) → HasRaces program pairs
-    has_races pairs found some = record { tasks = tasks; words = words; runs = runs; races = races pairs found; some = λ none. some (ap length none) }
+    has_races pairs found some = record { tasks = tasks; words = words; runs = runs; compared = are_compared pairs found; races = races pairs found; some = λ none. some (ap length none) }
 
     pub has_certain_run : (pairs : List (ℕ × ℕ)) (n m : ℕ) → AreFolderPairs told dir pairs → length pairs ≡ 0 → n ≡ length logs → m ≡ sum_by (λ (log : WholeLog). log.count) logs
         → HasCertainRun program n m words
@@ -63,8 +74,9 @@ module _ (program : Program) (logs : List WholeLog) (words : List ℕ) (r : RunS
     has_certain_run pairs n m found none count_is sum_is = record {
       tasks = tasks;
       runs = runs;
-      certain = is_certain program r.layout tasks words r.fixed r.run.run (λ pair races_so. none_there ((races pairs found).each pair).1 races_so);
-      ends = is_ended program r.layout tasks words r.run.run;
+      compared = are_compared pairs found;
+      certain = is_certain program (layout_of program.arrays) tasks words r.fixed r.run.run (λ pair races_so. none_there ((races pairs found).each pair).1 races_so);
+      ends = is_ended program (layout_of program.arrays) tasks words r.run.run;
       count_is = count_is ∙ (ap length r.run.logs_are ∙ length-map tasks spelled);
       records_are = sum_is ∙ count;
     }

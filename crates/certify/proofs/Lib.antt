@@ -1,4 +1,4 @@
 mod Putting
 mod HeldRuns
-mod Layouts
+pub mod Layouts
 mod Judged

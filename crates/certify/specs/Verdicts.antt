@@ -8,16 +8,18 @@ use Rattle.race_model.specs.FirstBad.{HoldsTrace}
 use Rattle.race_model.specs.History.{HasLegalHistory}
 use Rattle.race_model.specs.Race.{IsRacePair, Lists}
 use Rattle.race_model.specs.Trace.{TaskLog, Trace, logs_of}
+use Rattle.race_model.specs.WellFormed.{IsWellFormed}
 use Rattle.log_walk.specs.Walk.{IsFirstIn}
 use Rattle.kernel_syntax.specs.Program.{Program}
 use Rattle.kernel_model.specs.Lawful.{IsLawful}
 use Rattle.certainty_model.specs.Certain.{IsCertain, IsFixed}
 use Rattle.construct_finder.specs.Constructs.{construct_lines}
-use Rattle.serial_laws.specs.SerialRuns.{IsSerialRun, LogsSerialRun}
+use Rattle.serial_laws.specs.SerialRuns.{IsSerialRun, LogsSerialRun, spelled}
 use Rattle.serial_run.specs.Placing.{ElementLayout, TellsWords}
 use Rattle.serial_team.specs.Members.{WholeLog}
-use Rattle.serial_team.specs.Stopping.{RootStopped}
-use Rattle.history_model.specs.Sound.{WordLayout}
+use Rattle.serial_team.specs.Running.{RanRoot}
+use Rattle.serial_team.specs.Stopping.{RootLong, RootStopped}
+use Rattle.execution_model.specs.Elements.{element_address, layout_of}
 use Rattle.certify.specs.declared.verdict.Verdict.{Verdict}
 use Rattle.certify.specs.declared.verdict.Verdict.TheVariants as verdict
 use Rattle.certify.specs.declared.certifying.TheConstants.{MOST_RECORDS}
@@ -29,9 +31,16 @@ records_in tasks = sum_by (λ (task : TaskLog). length task.records) tasks
 -- The serial run of the kernel, whose order of lanes decides nothing but what they read, has these tasks, and ends with these words.
 pub record RunsTo (program : Program) (tasks : Trace) (words : List ℕ) : Type 0 where
   pub fixed : IsFixed program.main.body
-  pub layout : WordLayout
-  pub run : IsSerialRun program layout tasks words
+  pub run : IsSerialRun program (layout_of program.arrays) tasks words
   pub few : records_in tasks ≤ MOST_RECORDS
+  pub ran : (layout : ElementLayout) → TellsWords program.arrays layout → RanRoot layout program MOST_RECORDS (map spelled tasks) words
+
+-- a folder that holds these tasks is bad at no place, so that their records are compared
+pub record AreCompared (tasks : Trace) : Type 0 where
+  pub files : Files
+  pub dir : List ℕ
+  pub holds : HoldsTrace FORMAT files dir tasks
+  pub well_formed : IsWellFormed FORMAT files dir
 
 -- its folder's first bad place is this record of this task, which opens one barrier interval too many
 pub record OpensOneTooMany (program : Program) (path : List Step) (number : ℕ) : Type 0 where
@@ -48,6 +57,7 @@ pub record HasRaces (program : Program) (pairs : List (ℕ × ℕ)) : Type 0 whe
   pub tasks : Trace
   pub words : List ℕ
   pub runs : RunsTo program tasks words
+  pub compared : AreCompared tasks
   pub races : Lists (IsRacePair (logs_of tasks)) pairs
   pub some : pairs ≢ []
 
@@ -55,14 +65,16 @@ pub record HasRaces (program : Program) (pairs : List (ℕ × ℕ)) : Type 0 whe
 pub record HasCertainRun (program : Program) (count records : ℕ) (words : List ℕ) : Type 0 where
   pub tasks : Trace
   pub runs : RunsTo program tasks words
+  pub compared : AreCompared tasks
   pub certain : IsCertain program tasks
-  pub ends : HasLegalHistory (logs_of tasks) runs.layout.address words
+  pub ends : HasLegalHistory (logs_of tasks) (element_address program.arrays) words
   pub count_is : count ≡ length tasks
   pub records_are : records ≡ records_in tasks
 
 abbrev pub Tells : Program → Verdict → Type 0
 Tells program (verdict.Construct line) = slice_get (construct_lines program.main.body) 0 ≡ Some line
-Tells program (verdict.Long path number) = IsFixed program.main.body
+Tells program (verdict.Long path number) =
+    IsFixed program.main.body × ((layout : ElementLayout) → TellsWords program.arrays layout → RootLong layout program MOST_RECORDS (record { path = path; number = number }))
 Tells program (verdict.Stopped path line why) =
     IsFixed program.main.body × ((layout : ElementLayout) → TellsWords program.arrays layout → RootStopped layout program MOST_RECORDS (record { path = path; line = line; why = why }))
 Tells program (verdict.Segments path number) = OpensOneTooMany program path number
@@ -73,5 +85,5 @@ Tells program (verdict.Certain tasks records words) = HasCertainRun program task
 pub record RunSpells (program : Program) (logs : List WholeLog) (words : List ℕ) : Type 0 where
   pub fixed : IsFixed program.main.body
   pub lawful : IsLawful program
-  pub layout : WordLayout
-  pub run : LogsSerialRun program layout MOST_RECORDS logs words
+  pub run : LogsSerialRun program (layout_of program.arrays) MOST_RECORDS logs words
+  pub ran : (layout : ElementLayout) → TellsWords program.arrays layout → RanRoot layout program MOST_RECORDS logs words

@@ -1,5 +1,5 @@
 //! One serial run, and what it tells.
-ghost use Rattle.std.specs.Prelude.{◌≡◌, ◌≤◌, ◌<◌, codes, map, length, sum_by, IfOk, IfErr};
+ghost use Rattle.std.specs.Prelude.{◌≡◌, ◌≤◌, ◌<◌, ◌↔◌, codes, map, length, sum_by, IfOk, IfErr, IsTrue};
 ghost use Rattle.kernel_syntax.specs.Program.{program_of};
 ghost use Rattle.kernel_model.specs.Lawful.{IsLawful};
 ghost use Rattle.memory_environment.specs.MemFolder.{content_of};
@@ -15,6 +15,7 @@ use kernel_syntax::Kernel;
 use log_walk::WalkFault;
 use serial_team::{SerialRun, Stop, TaskLog, run_serially};
 use std::alloc::Global;
+use std::collections::BTreeSet;
 use std::thread::Threads;
 use sw_base::{Gate, Memory};
 
@@ -36,6 +37,13 @@ fn records_of(logs: &[TaskLog]) -> u64
     logs.iter().map(|log| u64::from(log.records)).sum()
 }
 
+// Whether no lines race.
+fn is_free(pairs: &BTreeSet<(u32, u32)>) -> bool
+    ensures { IsTrue result ↔ (length pairs.now.keys ≡ 0) }
+{
+    pairs.is_empty()
+}
+
 // What the folder of a serial run that ended tells, compared by one worker.
 fn judge<R: Threads + Sync, G: Gate>(
     rt: &R,
@@ -52,7 +60,7 @@ fn judge<R: Threads + Sync, G: Gate>(
     let records = records_of(&logs);
     let mut folder = folder_of(alloc, logs)?;
     match folder_pairs(rt, alloc, &mut folder, gate, DIR, 1) {
-        Ok(pairs) if pairs.is_empty() => Ok(Verdict::Certain {
+        Ok(pairs) if is_free(&pairs) => Ok(Verdict::Certain {
             tasks,
             records,
             words,

@@ -1,11 +1,11 @@
 -- Printing a due text gives the answer.
-use Rattle.std.proofs.Common.{◌≡◌, ℕ, List, Option, inr, sym, subst}
+use Rattle.std.proofs.Common.{◌≡◌, ◌∙◌, ℕ, List, ◌++◌, Option, ap, inr, sym, subst}
 use Rattle.std.specs.Prelude.{Result, Ok, Err, IfOk, OnErr, String, string_bytes}
 use Rattle.std.specs.declared.alloc.Global.{Global}
-use Rattle.sw_base.specs.Environment.{GainsPrefix}
-use Rattle.sw_base.proofs.Gains.{GainsPrefix-same}
+use Rattle.sw_base.specs.Environment.{GainsPrefix, gained}
+use Rattle.sw_base.proofs.Gains.{GainsPrefix-after, GainsPrefix-append, GainsPrefix-same, gained-gained}
 use Rattle.command_answer.specs.declared.status.TheConstants.{NO_MEMORY}
-use Rattle.command_answer.specs.Answer.{Answers, given, failed, Tries, done, broken_off, silent, Prints, whole, part}
+use Rattle.command_answer.specs.Answer.{Answers, given, failed, IsFailure, Tries, done, broken_off, silent, Prints, whole, part}
 
 pub Tries-from_prints : (due : ℕ → List ℕ → Type 0) (status : ℕ) (text : List ℕ) (old new : Option (List ℕ)) (result : ℕ) → due status text → Prints status text old new result
     → Tries due old new result
@@ -32,3 +32,13 @@ Answers-of due once old new result (done text is_due all) = given text is_due al
 Answers-of due once old new result (broken_off failure status text is_due prefix) =
     failed failure (λ other_status other is. subst (λ (t : List ℕ). GainsPrefix old new t) (once status other_status text other is_due is) prefix)
 Answers-of due once old new result (silent failure same) = failed failure (λ other_status other is. GainsPrefix-same old new other same)
+
+-- a text after one that was printed whole
+pub Prints-after : (status : ℕ) (first text : List ℕ) (old between new : Option (List ℕ)) (result : ℕ) → between ≡ gained old first → Prints status text between new result
+    → Prints status (first ++ text) old new result
+Prints-after status first text old between new result is (whole same all) = whole same (all ∙ ap (λ (w : Option (List ℕ)). gained w text) is ∙ gained-gained old first text)
+Prints-after status first text old between new result is (part failure prefix) = part failure (GainsPrefix-after old between new first text is prefix)
+
+-- a first text that wasn't
+pub Prints-broken : (status : ℕ) (first text : List ℕ) (old new : Option (List ℕ)) (result : ℕ) → IsFailure result → GainsPrefix old new first → Prints status (first ++ text) old new result
+Prints-broken status first text old new result failure prefix = part failure (GainsPrefix-append old new first text prefix)

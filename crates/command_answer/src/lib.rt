@@ -10,5 +10,5 @@ mod status;
 pub use printing::{failure, print, print_made};
 pub use status::{
     DIFFERS, DONE, FOLDER_REFUSED, INDEX_THERE, KERNEL_REFUSED, KERNEL_STOPPED, NO_MEMORY, RACES,
-    READ_FAULT, USAGE, WRITE_FAULT,
+    READ_FAULT, UNCERTAIN, USAGE, WRITE_FAULT,
 };

@@ -9,6 +9,9 @@ pub const RACES: u8 = 1;
 /// The logs aren't those of the kernel.
 pub const DIFFERS: u8 = 1;
 
+/// It isn't certain that every run of the kernel is one.
+pub const UNCERTAIN: u8 = 1;
+
 /// The words ask for nothing.
 pub const USAGE: u8 = 2;
 

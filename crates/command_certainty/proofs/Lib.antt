@@ -1,1 +1,2 @@
 pub mod CertainCommand
+pub mod Certified

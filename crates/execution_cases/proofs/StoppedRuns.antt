@@ -18,7 +18,7 @@ use Rattle.lane_runner.specs.Stopping.{ending_for}
 use Rattle.execution_model.specs.Elements.{layout_of, element_address}
 use Rattle.region_runner.specs.Answer.{EndsTask, IsLeast}
 use Rattle.run_command.specs.Run.{AreLeftLogs, AreStopped, IsLeftLog, told_log}
-use Rattle.run_command.specs.RunTexts.{told_stop}
+use Rattle.run_command.specs.Told.{told_stop}
 use Rattle.execution_cases.specs.TwoLanes.{dir, kernel, size}
 
 -- both kernels have this array

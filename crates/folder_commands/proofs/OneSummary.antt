@@ -1,13 +1,12 @@
 -- The folder of a generated run has one run, and its report is one.
 use Rattle.std.proofs.Common.{◌≡◌, sym, ap, subst, ◌∙◌, ℕ, ◌≤◌, List, ◌++◌, Option, Some}
 use Rattle.std.specs.Option.{option_map}
-use Rattle.sw_base.specs.Environment.{Content, GainsPrefix, gained}
-use Rattle.sw_base.proofs.Gains.{GainsPrefix-after, GainsPrefix-append, gained-gained}
+use Rattle.sw_base.specs.Environment.{Content}
 use Rattle.race_model.specs.Race.{IsRacePair, Lists}
 use Rattle.race_model.specs.Trace.{Trace, logs_of}
 use Rattle.race_laws.proofs.FolderTrace.{trace_once}
 use Rattle.race_report.specs.Report.{report_text}
-use Rattle.command_answer.specs.Answer.{IsFailure, Prints, part, whole}
+use Rattle.command_answer.specs.Answer.{Prints}
 use Rattle.race_model.specs.FirstBad.{segments_in}
 use Rattle.generated_run.specs.Generated.{accesses_in, generated}
 use Rattle.log_index.specs.Puts.{with_run}
@@ -33,16 +32,6 @@ run_pairs dir rounds told pairs run found =
 
 pub one_summary : (rounds s r : ℕ) (t u : List ℕ) → GenDue rounds s t → GenDue rounds r u → t ≡ u
 one_summary rounds s r t u a b = a.text_is ∙ ap (summary_text rounds) (one_list (IsRacePair (logs_of (generated rounds))) a.pairs b.pairs a.races b.races) ∙ sym b.text_is
-
--- a text after one that was printed whole
-pub Prints-after : (status : ℕ) (first text : List ℕ) (old between new : Option (List ℕ)) (result : ℕ) → between ≡ gained old first → Prints status text between new result
-    → Prints status (first ++ text) old new result
-Prints-after status first text old between new result is (whole same all) = whole same (all ∙ ap (λ (w : Option (List ℕ)). gained w text) is ∙ gained-gained old first text)
-Prints-after status first text old between new result is (part failure prefix) = part failure (GainsPrefix-after old between new first text is prefix)
-
--- a first text that wasn't
-pub Prints-broken : (status : ℕ) (first text : List ℕ) (old new : Option (List ℕ)) (result : ℕ) → IsFailure result → GainsPrefix old new first → Prints status (first ++ text) old new result
-Prints-broken status first text old new result failure prefix = part failure (GainsPrefix-append old new first text prefix)
 
 -- the numbers are those of the run
 pub Prints-counted : (rounds status accesses segments : ℕ) (pairs : List (ℕ × ℕ)) (old new : Option (List ℕ)) (result : ℕ) → accesses ≡ accesses_in (generated rounds) → segments ≡ segments_in (generated rounds)

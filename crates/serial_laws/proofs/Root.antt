@@ -23,7 +23,7 @@ use Rattle.history_model.specs.Sound.{HasAddresses}
 use Rattle.history_model.specs.Work.{work_records}
 use Rattle.execution_model.specs.Runs.{logged_tasks}
 use Rattle.serial_model.specs.Serial.{FindSo}
-use Rattle.serial_run.specs.Placing.{ElementLayout, TellsWords}
+use Rattle.serial_run.specs.Placing.{OfLog, ElementLayout, TellsWords}
 use Rattle.serial_team.specs.Members.{WholeLog, MemberValue, later, logs_at, BeginsLane}
 use Rattle.serial_team.specs.Running.{RanRoot}
 use Rattle.serial_laws.specs.SerialRuns.{spelled, IsSerialRun, LogsSerialRun}
@@ -94,7 +94,7 @@ module _ (layout : ElementLayout) (program : Program) (lawful : IsLawful program
     few = let alone = lawful.alone in omega arith;
   }
 
-  module _ (left : ℕ) (logs : List WholeLog) (words : List ℕ) (r : RanRoot layout program left logs words) where
+  module _ (by_log : layout.bound ≡ OfLog) (left : ℕ) (logs : List WholeLog) (words : List ℕ) (r : RanRoot layout program left logs words) where
     abbrev first : MemberValue
     first = later r.before (record { words = replicate (elements program.arrays) 0; left = left })
 
@@ -109,9 +109,9 @@ module _ (layout : ElementLayout) (program : Program) (lawful : IsLawful program
       none_below = r.begins.none_below;
     }
 
-    runs : Runs layout program lawful.bounded (root_start program) (r.work ∷ [])
+    runs : Runs layout by_log program lawful.bounded (root_start program) (r.work ∷ [])
     runs =
-        root_runs layout program lawful.bounded (root_start program) first r.work r.after r.runs (ap (λ (s : Site). s.arrays) r.begins.at)
+        root_runs layout by_log program lawful.bounded (root_start program) first r.work r.after r.runs (ap (λ (s : Site). s.arrays) r.begins.at)
         (lane_at_start program program.main (replicate program.slots (pos 0)) 0 first begins) root_values r.ended
 
     shape : IsShaped layout 4 r.after r.work

@@ -21,7 +21,7 @@ use Rattle.history_model.specs.Work.{Work, Rest, Phases, RegionWork, work_record
 use Rattle.execution_model.specs.Runs.{RunsTask, RunsRegions, works_log, lane_begin}
 use Rattle.serial_run.proofs.Coming.{have_their_trace}
 use Rattle.serial_run.specs.Coming.{IsAtStart, Comes}
-use Rattle.serial_run.specs.Placing.{ElementLayout}
+use Rattle.serial_run.specs.Placing.{OfLog, ElementLayout}
 use Rattle.serial_run.specs.Stepping.{Stand, Advances}
 use Rattle.serial_team.proofs.Going.{team_at}
 use Rattle.serial_team.specs.declared.member.Stage.TheVariants as stage
@@ -67,7 +67,7 @@ lane_at_start program team slots n x b = record {
   whole = λ s. b.whole s ∙ ap (λ (at : Site). after (run at team.body s) (put (event kind.End team.end 0 0))) b.at;
 }
 
-module _ (layout : ElementLayout) (program : Program) (bounded : IsBounded program) where
+module _ (layout : ElementLayout) (by_log : layout.bound ≡ OfLog) (program : Program) (bounded : IsBounded program) where
   -- ---- tasks
 
   -- the works are those of a task of the kernel, and no record of theirs is left out of its log
@@ -226,7 +226,7 @@ module _ (layout : ElementLayout) (program : Program) (bounded : IsBounded progr
           runs = λ values. record { run = RunsRegions.no_region; whole = λ depth at g. refl };
           stands = λ first before above come. record {
             at_barrier = λ is. absurd cc;
-            at_end = λ is start begun. let traced = have_their_trace layout program start first x.stand y before above begun come f in (traced.0, traced.1 ∙ sym (append-nil above));
+            at_end = λ is start begun. let traced = have_their_trace layout program start first x.stand y before above by_log begun come f in (traced.0, traced.1 ∙ sym (append-nil above));
           };
           undrawn = subst IsUndrawn (sym f.makes.added_is) (undrawn_both f.makes.plain (mark ∷ []) (plain_undrawn f.makes.plain f.makes.plain_is) ((λ is. cc), tt));
         })

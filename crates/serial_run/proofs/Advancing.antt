@@ -7,7 +7,6 @@ use Rattle.kernel_syntax.specs.Program.{team_of}
 use Rattle.kernel_model.specs.State as model
 use Rattle.kernel_model.specs.State.{State, Fork, Outcome, Gives, after, put, event, reads_of, chunks_of}
 use Rattle.kernel_model.specs.Effect.{Halted, state_with, finished}
-use Rattle.kernel_model.specs.Trace.{log_limit}
 use Rattle.kernel_model.specs.Value.{Site}
 use Rattle.kernel_model.proofs.Effects.{reads_of-append, chunks_of-append}
 use Rattle.kernel_model.proofs.Joining.{after-nothing}
@@ -16,10 +15,10 @@ use Rattle.serial_run.specs.declared.frame.Pause.{Pause}
 use Rattle.serial_run.specs.declared.frame.Pause.TheVariants as pause
 use Rattle.serial_run.specs.declared.halt.Halt.{Halt}
 use Rattle.serial_run.specs.declared.halt.Halt.TheVariants as halt
-use Rattle.serial_run.specs.Going.{ArePlain, Made, Logs, HasRoom}
+use Rattle.serial_run.specs.Going.{room_of, ArePlain, Made, Logs, HasRoom}
 use Rattle.serial_run.specs.Resting.{part_of, rest_of}
 use Rattle.serial_run.specs.Stepping.{Stand, Leads, Stepped, Takes, HaltsSo, Advances, Finishes, Pauses, left_of}
-use Rattle.serial_run.proofs.Following.{gains_then, plain_then}
+use Rattle.serial_run.proofs.Following.{room_gained, runs_out_so, gains_then, plain_then}
 use Rattle.serial_run.proofs.Leading.{Part, leads_none, leads_then, adds_none, adds_then, adds_mark, leads_put}
 use Rattle.serial_run.proofs.Statements.{halts_first, halts_same}
 use Rattle.serial_run.specs.Placing.{ElementLayout}
@@ -43,8 +42,8 @@ module _ (layout : ElementLayout) (old : Stand) (others : List Frame) (f : Frame
     end = x.end;
     makes = x.steps.makes;
     leads = λ records before reads chunks.
-        let st = state_with new.slots (records ++ x.steps.makes.added) (before ++ forks) (log_limit - new.progress.count) reads chunks in
-        left_is (state_with old.slots records before (log_limit - old.progress.count) (reads_of x.steps.makes.added ++ reads) (chunks_of x.steps.makes.added ++ chunks))
+        let st = state_with new.slots (records ++ x.steps.makes.added) (before ++ forks) (room_of layout.bound new.progress) reads chunks in
+        left_is (state_with old.slots records before (room_of layout.bound old.progress) (reads_of x.steps.makes.added ++ reads) (chunks_of x.steps.makes.added ++ chunks))
         ∙ x.steps.leads (rest_of old.at others (end_of old)) records before reads chunks
         ∙ sym (rest_append old.at others x.pushed (end_of old) st)
         ∙ ap (λ (l : List Frame). rest_of old.at l (end_of old) st) (sym x.rest)
@@ -72,9 +71,9 @@ finishes layout old new none at end slots room logs =
       end = end;
       makes = adds_mark layout old.at due old.slots old.progress new.progress room logs tt refl refl refl;
       leads =
-          subst (λ (l : List ℤ). Leads (left_of old) old.slots old.progress.count (λ s. Gives tt s) l new.progress.count (due ∷ []) []) (sym slots)
+          subst (λ (l : List ℤ). Leads (left_of old) old.slots (room_of layout.bound old.progress) (λ s. Gives tt s) l (room_of layout.bound new.progress) (due ∷ []) []) (sym slots)
           (λ records before reads chunks.
-          let st = state_with old.slots records before (log_limit - old.progress.count) (reads_of (due ∷ []) ++ reads) (chunks_of (due ∷ []) ++ chunks) in
+          let st = state_with old.slots records before (room_of layout.bound old.progress) (reads_of (due ∷ []) ++ reads) (chunks_of (due ∷ []) ++ chunks) in
           ap (λ (l : List Frame). rest_of old.at l (end_of old) st) none
           ∙ sym (after-nothing (put due st))
           ∙ leads_put layout old.at due old.slots old.progress new.progress room logs tt refl refl refl (λ s. Gives tt s) records before reads chunks);
@@ -88,7 +87,7 @@ advances_then layout old mid new mark forks one two = record {
   end = two.end ∙ one.end;
   makes = adds_then layout old.progress mid.progress new.progress mark one.makes two.makes;
   leads =
-      leads_then (left_of old) (left_of mid) (left_of new) old.slots mid.slots new.slots old.progress.count mid.progress.count new.progress.count one.makes.added two.makes.added [] forks one.leads two.leads;
+      leads_then (left_of old) (left_of mid) (left_of new) old.slots mid.slots new.slots (room_of layout.bound old.progress) (room_of layout.bound mid.progress) (room_of layout.bound new.progress) one.makes.added two.makes.added [] forks one.leads two.leads;
 }
 
 finishes_then : (layout : ElementLayout) (old mid new : Stand) → Advances layout old mid [] [] → Finishes layout mid new → Finishes layout old new
@@ -106,7 +105,7 @@ finishes_then layout old mid new one two = record {
         gains = both.gains;
       };
   leads =
-      leads_then (left_of old) (left_of mid) (λ s. Gives tt s) old.slots mid.slots new.slots old.progress.count mid.progress.count new.progress.count one.makes.added two.makes.added [] [] one.leads two.leads;
+      leads_then (left_of old) (left_of mid) (λ s. Gives tt s) old.slots mid.slots new.slots (room_of layout.bound old.progress) (room_of layout.bound mid.progress) (room_of layout.bound new.progress) one.makes.added two.makes.added [] [] one.leads two.leads;
 }
 
 module _ (layout : ElementLayout) (old mid new : Stand) (one : Advances layout old mid [] []) (why : model.Stop) (line : ℕ) (m : Made layout (left_of mid) mid.slots new.slots mid.progress new.progress (Halted why line)) where
@@ -119,18 +118,18 @@ module _ (layout : ElementLayout) (old mid new : Stand) (one : Advances layout o
         plain = plain_then xs ys (subst ArePlain (sym (one.makes.added_is ∙ append-nil one.makes.plain)) one.makes.plain_is) m.plain;
         gains = gains_then layout old.progress mid.progress new.progress xs ys one.makes.gains m.gains;
         makes = record {
-          within = omega (arith, length-append xs ys, one.makes.within, m.makes.within, one.makes.gains.count);
+          within = omega (arith, length-append xs ys, one.makes.within, m.makes.within, room_gained layout old.progress mid.progress xs one.makes.gains);
           makes = λ records forks reads chunks.
-              let count = one.makes.gains.count in
-              let left : log_limit - mid.progress.count - length ys ≡ log_limit - old.progress.count - length (xs ++ ys) = omega (arith, length-append xs ys, count) in
-              ap (λ (l : List ℤ). left_of old (state_with old.slots records forks (log_limit - old.progress.count) l (chunks_of (xs ++ ys) ++ chunks)))
+              let left : room_of layout.bound mid.progress - length ys ≡ room_of layout.bound old.progress - length (xs ++ ys) =
+              omega (arith, length-append xs ys, room_gained layout old.progress mid.progress xs one.makes.gains) in
+              ap (λ (l : List ℤ). left_of old (state_with old.slots records forks (room_of layout.bound old.progress) l (chunks_of (xs ++ ys) ++ chunks)))
               (ap (λ (l : List ℤ). l ++ reads) (reads_of-append xs ys) ∙ append_assoc (reads_of xs) (reads_of ys) reads)
-              ∙ ap (λ (l : List ℕ). left_of old (state_with old.slots records forks (log_limit - old.progress.count) (reads_of xs ++ (reads_of ys ++ reads)) l))
+              ∙ ap (λ (l : List ℕ). left_of old (state_with old.slots records forks (room_of layout.bound old.progress) (reads_of xs ++ (reads_of ys ++ reads)) l))
               (ap (λ (l : List ℕ). l ++ chunks) (chunks_of-append xs ys) ∙ append_assoc (chunks_of xs) (chunks_of ys) chunks)
               ∙ one.leads records forks (reads_of ys ++ reads) (chunks_of ys ++ chunks)
               ∙ m.makes.makes (records ++ xs) (forks ++ []) reads chunks
-              ∙ ap (λ (l : List Record). finished (Halted why line) (state_with new.slots l ((forks ++ []) ++ []) (log_limit - mid.progress.count - length ys) reads chunks)) (append_assoc records xs ys)
-              ∙ ap (λ (l : List Fork). finished (Halted why line) (state_with new.slots (records ++ (xs ++ ys)) l (log_limit - mid.progress.count - length ys) reads chunks)) (append-nil (forks ++ []))
+              ∙ ap (λ (l : List Record). finished (Halted why line) (state_with new.slots l ((forks ++ []) ++ []) (room_of layout.bound mid.progress - length ys) reads chunks)) (append_assoc records xs ys)
+              ∙ ap (λ (l : List Fork). finished (Halted why line) (state_with new.slots (records ++ (xs ++ ys)) l (room_of layout.bound mid.progress - length ys) reads chunks)) (append-nil (forks ++ []))
               ∙ ap (λ (n : ℕ). finished (Halted why line) (state_with new.slots (records ++ (xs ++ ys)) (forks ++ []) n reads chunks)) left;
         };
       }
@@ -139,12 +138,12 @@ halts_then : (layout : ElementLayout) (old mid new : Stand) (why : Halt) → Adv
 halts_then layout old mid new (halt.DivZero line) one m = made_then layout old mid new one model.DivZero line m
 halts_then layout old mid new (halt.Index line) one m = made_then layout old mid new one model.Index line m
 halts_then layout old mid new (halt.LogFull line) one m = made_then layout old mid new one model.LogFull line m
-halts_then layout old mid new halt.Long one m = m
+halts_then layout old mid new halt.Long one m = runs_out_so (λ line. made_then layout old mid new one model.LogFull line) m
 halts_then layout old mid new halt.Refused one m = tt
 halts_then layout old mid new halt.Memory one m = tt
 
 pub advances_none : (layout : ElementLayout) (x : Stand) → Advances layout x x [] []
-advances_none layout x = record { at = refl; end = refl; makes = adds_none layout x.progress; leads = leads_none (left_of x) x.slots x.progress.count }
+advances_none layout x = record { at = refl; end = refl; makes = adds_none layout x.progress; leads = leads_none (left_of x) x.slots (room_of layout.bound x.progress) }
 
 pub pauses_then : (layout : ElementLayout) (old mid new : Stand) (r : Result (Option Pause) Halt) → Advances layout old mid [] [] → Pauses layout mid new r → Pauses layout old new r
 pauses_then layout old mid new (Ok None) one x = advances_then layout old mid new [] [] one x

@@ -1,5 +1,5 @@
 -- How a task goes on: parts one after another.
-use Rattle.std.proofs.Common.{◌≡◌, refl, ap, sym, ◌∙◌, subst, ℕ, ◌-◌, List, [], ◌∷◌, ◌++◌, length, ℤ, Result, Ok, Err, arith, append_assoc}
+use Rattle.std.proofs.Common.{◌≡◌, refl, ap, sym, ◌∙◌, subst, ℕ, ◌+◌, ◌-◌, ◌<◌, ◌≤◌, List, [], ◌∷◌, ◌++◌, length, ℤ, Result, Ok, Err, arith, append_assoc}
 use Rattle.std.specs.List.{flat_map}
 use Rattle.std.proofs.lemmas.List.{append-nil, length-append}
 use Rattle.std.proofs.lemmas.Grind.{flat_map-append}
@@ -12,8 +12,8 @@ use Rattle.kernel_model.specs.Effect.{Finish, Returned, Halted, Makes, adds}
 use Rattle.kernel_model.proofs.Effects.{makes-same, makes-halt, makes-then}
 use Rattle.serial_run.specs.declared.halt.Halt.{Halt}
 use Rattle.serial_run.specs.declared.halt.Halt.TheVariants as halt
-use Rattle.serial_run.specs.Going.{Progress, Finds, words_after, ArePlain, Gains, Made, Goes}
-use Rattle.serial_run.specs.Placing.{ElementLayout}
+use Rattle.serial_run.specs.Going.{Progress, room_of, Finds, words_after, ArePlain, Gains, Made, RunsOut, Goes, HasRoom}
+use Rattle.serial_run.specs.Placing.{Bound, OfLog, OfRun, ElementLayout}
 
 pub finds_then : (layout : ElementLayout) (xs ys : List Record) (a b c : List ℕ) → Finds layout xs a b → Finds layout ys b c → Finds layout (xs ++ ys) a c
 finds_then layout [] ys a b c one two = subst (λ (l : List ℕ). Finds layout ys l c) one two
@@ -36,9 +36,38 @@ gains_then layout old mid new xs ys m n = record {
   left = omega (arith, length-append xs ys, m.left, n.left);
 }
 
+-- ---- room
+
+room_after : (bound : Bound) (old new : Progress) (n : ℕ) → new.count ≡ old.count + n → new.left + n ≡ old.left → room_of bound new ≡ room_of bound old - n
+room_after OfLog old new n count left = omega (arith, count)
+room_after OfRun old new n count left = omega (arith, count, left)
+
+-- each record takes one of it
+pub room_gained : (layout : ElementLayout) (old new : Progress) (added : List Record) → Gains layout old new added → room_of layout.bound new ≡ room_of layout.bound old - length added
+room_gained layout old new added g = room_after layout.bound old new (length added) g.count g.left
+
+pub some_room : (bound : Bound) (p : Progress) → HasRoom p → 0 < room_of bound p
+some_room OfLog p has = let h = has.below in omega arith
+some_room OfRun p has = let h = has.below in let some = has.some in omega arith
+
+-- a task whose log is full has none, and one of a run that may make no more
+pub no_room : (bound : Bound) (p : Progress) → log_limit ≤ p.count → room_of bound p ≡ 0
+no_room OfLog p full = omega arith
+no_room OfRun p full = omega arith
+
+pub no_room_left : (bound : Bound) (p : Progress) → bound ≡ OfRun → p.left ≡ 0 → room_of bound p ≡ 0
+no_room_left OfLog p is none = absurd cc
+no_room_left OfRun p is none = omega arith
+
+-- what a task would put is told of another part
+pub runs_out_so : {A B : Type 0} {layout : ElementLayout} {part : State → Outcome A} {other : State → Outcome B} {slots slots' others others' : List ℤ} {old old' new : Progress}
+    → ((line : ℕ) → Made layout part slots slots' old new (Halted model.LogFull line) → Made layout other others others' old' new (Halted model.LogFull line))
+    → RunsOut layout part slots slots' old new → RunsOut layout other others others' old' new
+runs_out_so so r = record { none = r.none; below = r.below; due = λ is. let d = r.due is in (d.0, so d.0 d.1) }
+
 -- a part that does nothing
 pub made_still : {A : Type 0} (layout : ElementLayout) (part : State → Outcome A) (slots : List ℤ) (p : Progress) (finish : Finish A) →
-    Makes part slots (log_limit - p.count) (adds slots []) finish → Made layout part slots slots p p finish
+    Makes part slots (room_of layout.bound p) (adds slots []) finish → Made layout part slots slots p p finish
 made_still layout part slots p finish m = record { added = []; plain = tt; gains = gains_none layout p; makes = m }
 
 -- the same part, told otherwise
@@ -48,7 +77,7 @@ made_same layout part other slots slots' old new finish same m = record {
   added = m.added;
   plain = m.plain;
   gains = m.gains;
-  makes = makes-same part other slots (log_limit - old.count) (adds slots' m.added) finish same m.makes;
+  makes = makes-same part other slots (room_of layout.bound old) (adds slots' m.added) finish same m.makes;
 }
 
 pub goes_same : {A : Type 0} (layout : ElementLayout) (part other : State → Outcome A) (slots slots' : List ℤ) (old new : Progress) (r : Result A Halt) →
@@ -57,7 +86,7 @@ goes_same layout part other slots slots' old new (Ok v) same m = made_same layou
 goes_same layout part other slots slots' old new (Err (halt.DivZero line)) same m = made_same layout part other slots slots' old new (Halted model.DivZero line) same m
 goes_same layout part other slots slots' old new (Err (halt.Index line)) same m = made_same layout part other slots slots' old new (Halted model.Index line) same m
 goes_same layout part other slots slots' old new (Err (halt.LogFull line)) same m = made_same layout part other slots slots' old new (Halted model.LogFull line) same m
-goes_same layout part other slots slots' old new (Err halt.Long) same m = m
+goes_same layout part other slots slots' old new (Err halt.Long) same m = runs_out_so (λ line. made_same layout part other slots slots' old new (Halted model.LogFull line) same) m
 goes_same layout part other slots slots' old new (Err halt.Refused) same m = tt
 goes_same layout part other slots slots' old new (Err halt.Memory) same m = tt
 
@@ -68,14 +97,14 @@ module _ {A B : Type 0} (layout : ElementLayout) (part : State → Outcome A) (n
     added = m.added;
     plain = m.plain;
     gains = m.gains;
-    makes = makes-halt part next slots (log_limit - old.count) (adds slots' m.added) why line m.makes;
+    makes = makes-halt part next slots (room_of layout.bound old) (adds slots' m.added) why line m.makes;
   }
 
   pub goes_stop : (why : Halt) → Goes layout part slots slots' old new (Err why) → Goes layout (λ s. and_then (part s) next) slots slots' old new (Err why)
   goes_stop (halt.DivZero line) m = halts model.DivZero line m
   goes_stop (halt.Index line) m = halts model.Index line m
   goes_stop (halt.LogFull line) m = halts model.LogFull line m
-  goes_stop halt.Long m = m
+  goes_stop halt.Long m = runs_out_so (λ line. halts model.LogFull line) m
   goes_stop halt.Refused m = tt
   goes_stop halt.Memory m = tt
 
@@ -88,9 +117,8 @@ module _ {A B : Type 0} (layout : ElementLayout) (part : State → Outcome A) (n
     plain = plain_then one.added m.added one.plain m.plain;
     gains = gains_then layout old mid new one.added m.added one.gains m.gains;
     makes =
-        let count = one.gains.count in
-        let left : log_limit - mid.count ≡ log_limit - old.count - length one.added = omega arith in
-        makes-then part next slots (log_limit - old.count) (adds mid_slots one.added) a (adds slots' m.added) finish one.makes
+        let left = room_gained layout old mid one.added one.gains in
+        makes-then part next slots (room_of layout.bound old) (adds mid_slots one.added) a (adds slots' m.added) finish one.makes
         (subst (λ (room : ℕ). Makes (next a) mid_slots room (adds slots' m.added) finish) left m.makes);
   }
 
@@ -99,6 +127,6 @@ module _ {A B : Type 0} (layout : ElementLayout) (part : State → Outcome A) (n
   goes_then (Err (halt.DivZero line)) m = then_made (Halted model.DivZero line) m
   goes_then (Err (halt.Index line)) m = then_made (Halted model.Index line) m
   goes_then (Err (halt.LogFull line)) m = then_made (Halted model.LogFull line) m
-  goes_then (Err halt.Long) m = m
+  goes_then (Err halt.Long) m = runs_out_so (λ line. then_made (Halted model.LogFull line)) m
   goes_then (Err halt.Refused) m = tt
   goes_then (Err halt.Memory) m = tt

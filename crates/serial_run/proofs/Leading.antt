@@ -7,54 +7,51 @@ use Rattle.kernel_syntax.specs.Tree.{Done}
 use Rattle.kernel_model.specs.State.{State, Fork, Outcome, and_then, after, put, assign, reads_of, chunks_of, value_read, number_drawn}
 use Rattle.kernel_model.specs.Effect.{Returned, Halted, state_with, adds}
 use Rattle.kernel_model.specs.Effect as effect
-use Rattle.kernel_model.specs.Trace.{log_limit, run}
+use Rattle.kernel_model.specs.Trace.{run}
 use Rattle.kernel_model.specs.Value.{Site}
 use Rattle.kernel_model.proofs.Effects.{reads_of-append, chunks_of-append, makes-put}
 use Rattle.kernel_model.proofs.Equations.{run-Done}
 use Rattle.serial_run.specs.declared.frame.Frame.{Frame}
 use Rattle.serial_run.specs.declared.halt.Halt.{Halt}
 use Rattle.serial_run.specs.declared.halt.Halt.TheVariants as halt
-use Rattle.serial_run.specs.Going.{Progress, FindsValue, words_after, Gains, Made, Goes, Logs, HasRoom}
+use Rattle.serial_run.specs.Going.{Progress, room_of, FindsValue, words_after, Gains, Made, Goes, Logs, HasRoom}
 use Rattle.serial_run.specs.Resting.{rest_of}
 use Rattle.serial_run.specs.Stepping.{Stand, Leads, Adds, Steps, HaltsSo}
-use Rattle.serial_run.proofs.Following.{gains_none, gains_then, plain_then}
+use Rattle.serial_run.proofs.Following.{room_gained, some_room, gains_none, gains_then, plain_then}
 use Rattle.serial_run.proofs.Stepping.{gains_one}
 use Rattle.serial_run.specs.Placing.{ElementLayout}
 
 abbrev pub Part : Type 0
 Part = State → Outcome (Unit {0})
 
-pub leads_none : (part : Part) (slots : List ℤ) (count : ℕ) → Leads part slots count part slots count [] []
-leads_none part slots count = λ records before reads chunks.
-    ap (λ (l : List Record). part (state_with slots l before (log_limit - count) reads chunks)) (sym (append-nil records))
-    ∙ ap (λ (l : List Fork). part (state_with slots (records ++ []) l (log_limit - count) reads chunks)) (sym (append-nil before))
+pub leads_none : (part : Part) (slots : List ℤ) (room : ℕ) → Leads part slots room part slots room [] []
+leads_none part slots room = λ records before reads chunks.
+    ap (λ (l : List Record). part (state_with slots l before room reads chunks)) (sym (append-nil records))
+    ∙ ap (λ (l : List Fork). part (state_with slots (records ++ []) l room reads chunks)) (sym (append-nil before))
 
 pub leads_then : (p q r : Part) (s t u : List ℤ) (a b c : ℕ) (xs ys : List Record) (fs gs : List Fork) → Leads p s a q t b xs fs → Leads q t b r u c ys gs → Leads p s a r u c (xs ++ ys) (fs ++ gs)
 leads_then p q r s t u a b c xs ys fs gs one two = λ records before reads chunks.
-    ap (λ (l : List ℤ). p (state_with s records before (log_limit - a) l (chunks_of (xs ++ ys) ++ chunks)))
+    ap (λ (l : List ℤ). p (state_with s records before a l (chunks_of (xs ++ ys) ++ chunks)))
     (ap (λ (l : List ℤ). l ++ reads) (reads_of-append xs ys) ∙ append_assoc (reads_of xs) (reads_of ys) reads)
-    ∙ ap (λ (l : List ℕ). p (state_with s records before (log_limit - a) (reads_of xs ++ (reads_of ys ++ reads)) l))
+    ∙ ap (λ (l : List ℕ). p (state_with s records before a (reads_of xs ++ (reads_of ys ++ reads)) l))
     (ap (λ (l : List ℕ). l ++ chunks) (chunks_of-append xs ys) ∙ append_assoc (chunks_of xs) (chunks_of ys) chunks)
     ∙ one records before (reads_of ys ++ reads) (chunks_of ys ++ chunks)
     ∙ two (records ++ xs) (before ++ fs) reads chunks
-    ∙ ap (λ (l : List Record). r (state_with u l ((before ++ fs) ++ gs) (log_limit - c) reads chunks)) (append_assoc records xs ys)
-    ∙ ap (λ (l : List Fork). r (state_with u (records ++ (xs ++ ys)) l (log_limit - c) reads chunks)) (append_assoc before fs gs)
+    ∙ ap (λ (l : List Record). r (state_with u l ((before ++ fs) ++ gs) c reads chunks)) (append_assoc records xs ys)
+    ∙ ap (λ (l : List Fork). r (state_with u (records ++ (xs ++ ys)) l c reads chunks)) (append_assoc before fs gs)
 
-module _ (slots slots' : List ℤ) (count count' : ℕ) (added : List Record) (counts : count' ≡ count + length added) where
-  room : log_limit - count - length added ≡ log_limit - count'
-  room = omega arith
-
+module _ (slots slots' : List ℤ) (room room' : ℕ) (added : List Record) (rooms : room' ≡ room - length added) where
   -- a part that was executed, and what follows it
-  pub leads_made : (part then' : Part) → effect.Makes part slots (log_limit - count) (adds slots' added) (Returned tt) → Leads (λ s. after (part s) then') slots count then' slots' count' added []
+  pub leads_made : (part then' : Part) → effect.Makes part slots room (adds slots' added) (Returned tt) → Leads (λ s. after (part s) then') slots room then' slots' room' added []
   leads_made part then' m = λ records before reads chunks.
       ap (λ o. after o then') (m.makes records before reads chunks)
-      ∙ ap (λ (n : ℕ). then' (state_with slots' (records ++ added) (before ++ []) n reads chunks)) room
+      ∙ ap (λ (n : ℕ). then' (state_with slots' (records ++ added) (before ++ []) n reads chunks)) (sym rooms)
 
-  pub leads_value : {A : Type 0} (part : State → Outcome A) (next : A → Part) (then' : Part) (a : A) → effect.Makes part slots (log_limit - count) (adds slots' added) (Returned a)
-      → Leads (λ s. after (and_then (part s) next) then') slots count (λ s. after (next a s) then') slots' count' added []
+  pub leads_value : {A : Type 0} (part : State → Outcome A) (next : A → Part) (then' : Part) (a : A) → effect.Makes part slots room (adds slots' added) (Returned a)
+      → Leads (λ s. after (and_then (part s) next) then') slots room (λ s. after (next a s) then') slots' room' added []
   leads_value part next then' a m = λ records before reads chunks.
       ap (λ o. after (and_then o next) then') (m.makes records before reads chunks)
-      ∙ ap (λ (n : ℕ). after (next a (state_with slots' (records ++ added) (before ++ []) n reads chunks)) then') room
+      ∙ ap (λ (n : ℕ). after (next a (state_with slots' (records ++ added) (before ++ []) n reads chunks)) then') (sym rooms)
 
 -- ---- records
 
@@ -69,7 +66,7 @@ adds_then layout old mid new mark one two = record {
   added_is =
       ap (λ (l : List Record). l ++ two.added) (one.added_is ∙ append-nil one.plain) ∙ ap (λ (l : List Record). one.plain ++ l) two.added_is
       ∙ sym (append_assoc one.plain two.plain mark);
-  within = omega (arith, length-append one.added two.added, one.within, two.within, one.gains.count);
+  within = omega (arith, length-append one.added two.added, one.within, two.within, room_gained layout old mid one.added one.gains);
   gains = gains_then layout old mid new one.added two.added one.gains two.gains;
 }
 
@@ -84,7 +81,7 @@ module _ (layout : ElementLayout) (at : Site) where
   steps_same part other slots slots' old new pushed mark forks same x = record {
     makes = x.makes;
     leads = λ then' records before reads chunks.
-        ap (λ o. after o then') (same (state_with slots records before (log_limit - old.count) (reads_of x.makes.added ++ reads) (chunks_of x.makes.added ++ chunks)))
+        ap (λ o. after o then') (same (state_with slots records before (room_of layout.bound old) (reads_of x.makes.added ++ reads) (chunks_of x.makes.added ++ chunks)))
         ∙ x.leads then' records before reads chunks;
   }
 
@@ -94,14 +91,14 @@ module _ (layout : ElementLayout) (at : Site) where
   steps_push part slots p pushed same = record {
     makes = adds_none layout p;
     leads = λ then' records before reads chunks.
-        same then' (state_with slots records before (log_limit - p.count) reads chunks) ∙ leads_none (rest_of at pushed then') slots p.count records before reads chunks;
+        same then' (state_with slots records before (room_of layout.bound p) reads chunks) ∙ leads_none (rest_of at pushed then') slots (room_of layout.bound p) records before reads chunks;
   }
 
   -- a part that was executed
   pub steps_made : (part : Part) (slots slots' : List ℤ) (old new : Progress) → Made layout part slots slots' old new (Returned tt) → Steps layout at part slots slots' old new [] [] []
   steps_made part slots slots' old new m = record {
     makes = adds_made layout part slots slots' old new tt m;
-    leads = λ then'. leads_made slots slots' old.count new.count m.added m.gains.count part then' m.makes;
+    leads = λ then'. leads_made slots slots' (room_of layout.bound old) (room_of layout.bound new) m.added (room_gained layout old new m.added m.gains) part then' m.makes;
   }
 
   -- a value, and what is done with it
@@ -111,8 +108,8 @@ module _ (layout : ElementLayout) (at : Site) where
   steps_then first next slots mid_slots slots' old mid new pushed mark forks a one two = record {
     makes = adds_then layout old mid new mark (adds_made layout first slots mid_slots old mid a one) two.makes;
     leads = λ then'.
-        leads_then (λ s. after (and_then (first s) next) then') (λ s. after (next a s) then') (rest_of at pushed then') slots mid_slots slots' old.count mid.count new.count one.added two.makes.added [] forks
-        (leads_value slots mid_slots old.count mid.count one.added one.gains.count first next then' a one.makes) (two.leads then');
+        leads_then (λ s. after (and_then (first s) next) then') (λ s. after (next a s) then') (rest_of at pushed then') slots mid_slots slots' (room_of layout.bound old) (room_of layout.bound mid) (room_of layout.bound new) one.added two.makes.added [] forks
+        (leads_value slots mid_slots (room_of layout.bound old) (room_of layout.bound mid) one.added (room_gained layout old mid one.added one.gains) first next then' a one.makes) (two.leads then');
   }
 
   -- a variable is set
@@ -120,8 +117,8 @@ module _ (layout : ElementLayout) (at : Site) where
   steps_assign slot v slots p = record {
     makes = adds_none layout p;
     leads = λ then' records before reads chunks.
-        ap (λ o. after o then') (run-Done at (state_with (slice_set slots slot v) records before (log_limit - p.count) reads chunks))
-        ∙ leads_none then' (slice_set slots slot v) p.count records before reads chunks;
+        ap (λ o. after o then') (run-Done at (state_with (slice_set slots slot v) records before (room_of layout.bound p) reads chunks))
+        ∙ leads_none then' (slice_set slots slot v) (room_of layout.bound p) records before reads chunks;
   }
 
   -- a record that is no access
@@ -130,14 +127,14 @@ module _ (layout : ElementLayout) (at : Site) where
     pub gains : Gains layout old new (due ∷ [])
     gains = gains_one layout due old new new.words finds (logs.words ∙ sym same) logs
 
-    pub some : 0 < log_limit - old.count
-    some = let h = room.below in omega arith
+    pub some : 0 < room_of layout.bound old
+    some = some_room layout.bound old room
 
     abbrev pub adds_mark : Adds layout old new (due ∷ [])
     adds_mark = record { plain = []; plain_is = tt; added = due ∷ []; added_is = refl; within = omega (arith, some); gains = gains }
 
-    pub leads_put : (then' : Part) → Leads (λ s. after (put due s) then') slots old.count then' slots new.count (due ∷ []) []
-    leads_put then' = leads_made slots slots old.count new.count (due ∷ []) gains.count (put due) then' (makes-put due slots (log_limit - old.count) some none none')
+    pub leads_put : (then' : Part) → Leads (λ s. after (put due s) then') slots (room_of layout.bound old) then' slots (room_of layout.bound new) (due ∷ []) []
+    leads_put then' = leads_made slots slots (room_of layout.bound old) (room_of layout.bound new) (due ∷ []) (room_gained layout old new (due ∷ []) gains) (put due) then' (makes-put due slots (room_of layout.bound old) some none none')
 
     pub steps_put : Steps layout at (put due) slots slots old new [] (due ∷ []) []
     steps_put = record { makes = adds_mark; leads = leads_put }

@@ -12,14 +12,14 @@ use Rattle.kernel_model.specs.Drawing.{turn_from}
 use Rattle.kernel_model.specs.Iterations.{total_of, count_of, even_iterations}
 use Rattle.kernel_model.specs.State.{State, and_then, after, assign, put, event}
 use Rattle.kernel_model.specs.Effect.{Returned, state_with}
-use Rattle.kernel_model.specs.Trace.{log_limit, run, turns, each, shared, loop_end}
+use Rattle.kernel_model.specs.Trace.{run, turns, each, shared, loop_end}
 use Rattle.kernel_model.specs.Value.{Site, value}
 use Rattle.kernel_model.proofs.Equations.{run-For}
 use Rattle.kernel_model.proofs.Joining.{after-after, after-same, after-done}
 use Rattle.kernel_model.proofs.Turns.{each-range}
 use Rattle.serial_run.specs.declared.frame.Frame.{Frame}
 use Rattle.serial_run.specs.declared.halt.Halt.{Halt}
-use Rattle.serial_run.specs.Going.{Progress, Made, Goes}
+use Rattle.serial_run.specs.Going.{Progress, room_of, Made, Goes}
 use Rattle.serial_run.specs.Resting.{part_of, rest_of, dealt_from, end_frames}
 use Rattle.serial_run.specs.Stepping.{Steps}
 use Rattle.serial_run.proofs.Following.{goes_same, goes_stop, goes_then}
@@ -72,8 +72,8 @@ module _ (at : Site) (body : Code) (slot : ℕ) where
       (record {
         makes = adds_none layout p;
         leads = λ then' records before reads chunks.
-            let st = state_with slots records before (log_limit - p.count) reads chunks in
-            let st' = state_with (slice_set slots slot next) records before (log_limit - p.count) reads chunks in
+            let st = state_with slots records before (room_of layout.bound p) reads chunks in
+            let st' = state_with (slice_set slots slot next) records before (room_of layout.bound p) reads chunks in
             let m = total_of (next +ℤ pos 1) end in
             let value_is : next +ℤ pos 0 ≡ next = omega (arith, ints) in
             ap (λ (n : ℕ). after (turns n 0 (turn_from at body slot next) st) then') more
@@ -82,7 +82,7 @@ module _ (at : Site) (body : Code) (slot : ℕ) where
             ∙ after-same (run at body st') (λ t. after (turns m 1 (turn_from at body slot next) t) then') (λ t. after (part_of at f t) then')
             (λ t. ap (λ o. after o then') (shift m 1 0 next t ∙ sym (f_is t)))
             ∙ ap (λ o. after o (λ t. after (part_of at f t) then')) (sym (g_is st'))
-            ∙ leads_none (rest_of at (f ∷ g ∷ []) then') (slice_set slots slot next) p.count records before reads chunks;
+            ∙ leads_none (rest_of at (f ∷ g ∷ []) then') (slice_set slots slot next) (room_of layout.bound p) records before reads chunks;
       })
 
 -- ---- a worksharing loop
@@ -168,11 +168,11 @@ module _ (at : Site) (body : Code) (slot : ℕ) (from : ℤ) (chunk total next :
         (record {
           makes = adds_none layout p;
           leads = λ then' records before reads chunks.
-              let st = state_with slots records before (log_limit - p.count) reads chunks in
-              let st' = state_with (slice_set slots slot (from +ℤ pos next)) records before (log_limit - p.count) reads chunks in
+              let st = state_with slots records before (room_of layout.bound p) reads chunks in
+              let st' = state_with (slice_set slots slot (from +ℤ pos next)) records before (room_of layout.bound p) reads chunks in
               ap (λ (l : List ℕ). after (each l (turn_from at body slot from) st) then') (dealt_next less ∙ ap (λ (b : Bool). cond b (next ∷ dealt (next + 1)) (dealt (next + 1))) (not_false own mine))
               ∙ after-after (turn_from at body slot from next st) (each (dealt (next + 1)) (turn_from at body slot from)) then'
               ∙ after-same (run at body st') (λ t. after (each (dealt (next + 1)) (turn_from at body slot from) t) then') (λ t. after (part_of at f t) then') (λ t. ap (λ o. after o then') (sym (f_is t)))
               ∙ ap (λ o. after o (λ t. after (part_of at f t) then')) (sym (g_is st'))
-              ∙ leads_none (rest_of at (f ∷ g ∷ []) then') (slice_set slots slot (from +ℤ pos next)) p.count records before reads chunks;
+              ∙ leads_none (rest_of at (f ∷ g ∷ []) then') (slice_set slots slot (from +ℤ pos next)) (room_of layout.bound p) records before reads chunks;
         })

@@ -1,5 +1,5 @@
 -- Statements, from what their expressions made.
-use Rattle.std.proofs.Common.{◌≡◌, refl, ap, sym, ◌∙◌, subst, arith, append_assoc, ℕ, zero, suc, ◌-◌, List, [], ◌∷◌, ◌++◌, ℤ, pos, negsuc, Option, Some, None, Result, Ok, Err}
+use Rattle.std.proofs.Common.{◌≡◌, refl, ap, sym, ◌∙◌, subst, arith, append_assoc, ℕ, zero, suc, ◌<◌, List, [], ◌∷◌, ◌++◌, ℤ, pos, negsuc, Option, Some, None, Result, Ok, Err}
 use Rattle.std.specs.Prelude.{slice_set}
 use Rattle.std.proofs.lemmas.List.{append-nil}
 use Rattle.log_format.specs.declared.record.Kind.TheVariants as kind
@@ -27,11 +27,11 @@ use Rattle.serial_run.specs.declared.frame.Pause.TheVariants as pause
 use Rattle.serial_run.specs.declared.halt.Halt.{Halt}
 use Rattle.serial_run.specs.declared.halt.Halt.TheVariants as halt
 use Rattle.serial_run.specs.declared.place.Element.{Element}
-use Rattle.serial_run.specs.Going.{Progress, Made, Goes, Logs, HasRoom, Marks}
+use Rattle.serial_run.specs.Going.{Progress, room_of, Made, Goes, Logs, HasRoom, Marks}
 use Rattle.serial_run.specs.Placing.{ElementLayout, meant}
 use Rattle.serial_run.specs.Resting.{part_of}
 use Rattle.serial_run.specs.Stepping.{Stand, Steps, Stepped, Takes, HaltsSo}
-use Rattle.serial_run.proofs.Following.{made_still, made_same, goes_same, goes_stop, goes_then}
+use Rattle.serial_run.proofs.Following.{no_room, no_room_left, runs_out_so, made_still, made_same, goes_same, goes_stop, goes_then}
 use Rattle.serial_run.proofs.Leading.{Part, adds_mark, leads_put, steps_same, steps_push, steps_then, steps_assign}
 
 module _ (layout : ElementLayout) (at : Site) (slots : List ℤ) where
@@ -86,7 +86,7 @@ module _ (layout : ElementLayout) (at : Site) (slots : List ℤ) where
         stores_none is =
             from_value new (Err (halt.Index line))
             (made_still layout (changed kind.Write (element_at at.arrays array i) v line site) slots new (Halted model.Index line)
-            (makes-stays (changed kind.Write (element_at at.arrays array i) v line site) slots (log_limit - new.count) (Halted model.Index line)
+            (makes-stays (changed kind.Write (element_at at.arrays array i) v line site) slots (room_of layout.bound new) (Halted model.Index line)
             (λ s same full. ap (λ o. changed kind.Write o v line site s) is)))
 
         pub stores_some : (found : Element) (last : Progress) (r : Result (Unit {0}) Halt) → element_at at.arrays array i ≡ Some (meant found)
@@ -161,12 +161,21 @@ module _ (layout : ElementLayout) (at : Site) (slots : List ℤ) where
     fork_steps = record {
       makes = adds_mark layout at (event kind.Region team.line 0 team.span) slots old new room logs tt refl refl refl;
       leads = λ then' records before reads chunks.
-          ap (λ o. after o then') (run-Parallel at team.span team.line team.end team.body Done (state_with slots records before (log_limit - old.count) reads chunks))
-          ∙ after-after (put (event kind.Region team.line 0 team.span) (state_with slots records before (log_limit - old.count) reads chunks)) (λ s. run at Done (forked team s)) then'
+          ap (λ o. after o then') (run-Parallel at team.span team.line team.end team.body Done (state_with slots records before (room_of layout.bound old) reads chunks))
+          ∙ after-after (put (event kind.Region team.line 0 team.span) (state_with slots records before (room_of layout.bound old) reads chunks)) (λ s. run at Done (forked team s)) then'
           ∙ leads_put layout at (event kind.Region team.line 0 team.span) slots old new room logs tt refl refl refl (after_fork then') records before reads chunks
-          ∙ ap (λ o. after o then') (run-Done at (state_with slots (records ++ event kind.Region team.line 0 team.span ∷ []) ((before ++ []) ++ record { team = team; slots = slots } ∷ []) (log_limit - new.count) reads chunks))
-          ∙ ap (λ (l : List Fork). then' (state_with slots (records ++ event kind.Region team.line 0 team.span ∷ []) (l ++ record { team = team; slots = slots } ∷ []) (log_limit - new.count) reads chunks)) (append-nil before);
+          ∙ ap (λ o. after o then') (run-Done at (state_with slots (records ++ event kind.Region team.line 0 team.span ∷ []) ((before ++ []) ++ record { team = team; slots = slots } ∷ []) (room_of layout.bound new) reads chunks))
+          ∙ ap (λ (l : List Fork). then' (state_with slots (records ++ event kind.Region team.line 0 team.span ∷ []) (l ++ record { team = team; slots = slots } ∷ []) (room_of layout.bound new) reads chunks)) (append-nil before);
     }
+
+-- a mark for which there is no room
+full_made : (layout : ElementLayout) (due : Record) (part : Part) (old new : Stand) → new.slots ≡ old.slots → ((s : State) (room : s.room ≡ 0) → part s ≡ model.Stops model.LogFull due.line s)
+    → room_of layout.bound old.progress ≡ 0 → new.progress ≡ old.progress → Made layout part old.slots new.slots old.progress new.progress (Halted model.LogFull due.line)
+full_made layout due part old new slots full none same =
+    subst (λ (l : List ℤ). Made layout part old.slots l old.progress new.progress (Halted model.LogFull due.line)) (sym slots)
+    (subst (λ (p : Progress). Made layout part old.slots old.slots old.progress p (Halted model.LogFull due.line)) (sym same)
+    (made_still layout part old.slots old.progress (Halted model.LogFull due.line)
+    (makes-stays part old.slots (room_of layout.bound old.progress) (Halted model.LogFull due.line) (λ s slots_are room. full s (room ∙ none)))))
 
 -- a mark that isn't put
 pub halts_marks : (layout : ElementLayout) (due : Record) (part : Part) (old new : Stand) (why : Halt) → new.slots ≡ old.slots
@@ -175,13 +184,13 @@ pub halts_marks : (layout : ElementLayout) (due : Record) (part : Part) (old new
 halts_marks layout due part old new (halt.DivZero line) slots full m = absurd m
 halts_marks layout due part old new (halt.Index line) slots full m = absurd m
 halts_marks layout due part old new (halt.LogFull line) slots full m =
-    let none : log_limit - old.progress.count ≡ 0 = (let h = m.1 in omega arith) in
     subst (λ (n : ℕ). Made layout part old.slots new.slots old.progress new.progress (Halted model.LogFull n)) (sym m.0)
-    (subst (λ (l : List ℤ). Made layout part old.slots l old.progress new.progress (Halted model.LogFull due.line)) (sym slots)
-    (subst (λ (p : Progress). Made layout part old.slots old.slots old.progress p (Halted model.LogFull due.line)) (sym m.2)
-    (made_still layout part old.slots old.progress (Halted model.LogFull due.line)
-    (makes-stays part old.slots (log_limit - old.progress.count) (Halted model.LogFull due.line) (λ s same room. full s (room ∙ none))))))
-halts_marks layout due part old new halt.Long slots full m = m
+    (full_made layout due part old new slots full (no_room layout.bound old.progress m.1) m.2)
+halts_marks layout due part old new halt.Long slots full m = record {
+  none = ap (λ (p : Progress). p.left) m.2 ∙ m.0;
+  below = subst (λ (p : Progress). p.count < log_limit) (sym m.2) m.1;
+  due = λ is. (due.line, full_made layout due part old new slots full (no_room_left layout.bound old.progress is m.0) m.2);
+}
 halts_marks layout due part old new halt.Refused slots full m = tt
 halts_marks layout due part old new halt.Memory slots full m = tt
 
@@ -196,14 +205,20 @@ module _ (layout : ElementLayout) (at : Site) (part later : Part) where
     added = m.added;
     plain = m.plain;
     gains = m.gains;
-    makes = makes-after_halt part later slots (log_limit - old.count) (adds slots' m.added) why line m.makes;
+    makes = makes-after_halt part later slots (room_of layout.bound old) (adds slots' m.added) why line m.makes;
   }
 
+  so_first : (old old' new : Stand) (why : model.Stop) (line : ℕ) → old'.slots ≡ old.slots → old'.progress ≡ old.progress → Made layout part old'.slots new.slots old'.progress new.progress (Halted why line)
+      → Made layout both old.slots new.slots old.progress new.progress (Halted why line)
+  so_first old old' new why line slots progress m =
+      subst (λ (p : Progress). Made layout both old.slots new.slots p new.progress (Halted why line)) progress
+      (subst (λ (l : List ℤ). Made layout both l new.slots old'.progress new.progress (Halted why line)) slots (after_halts why line old'.slots new.slots old'.progress new.progress m))
+
   pub halts_first : (old old' new : Stand) (why : Halt) → old'.slots ≡ old.slots → old'.progress ≡ old.progress → HaltsSo layout part old' new why → HaltsSo layout both old new why
-  halts_first old old' new (halt.DivZero line) slots progress m = subst (λ (p : Progress). Made layout both old.slots new.slots p new.progress (Halted model.DivZero line)) progress (subst (λ (l : List ℤ). Made layout both l new.slots old'.progress new.progress (Halted model.DivZero line)) slots (after_halts model.DivZero line old'.slots new.slots old'.progress new.progress m))
-  halts_first old old' new (halt.Index line) slots progress m = subst (λ (p : Progress). Made layout both old.slots new.slots p new.progress (Halted model.Index line)) progress (subst (λ (l : List ℤ). Made layout both l new.slots old'.progress new.progress (Halted model.Index line)) slots (after_halts model.Index line old'.slots new.slots old'.progress new.progress m))
-  halts_first old old' new (halt.LogFull line) slots progress m = subst (λ (p : Progress). Made layout both old.slots new.slots p new.progress (Halted model.LogFull line)) progress (subst (λ (l : List ℤ). Made layout both l new.slots old'.progress new.progress (Halted model.LogFull line)) slots (after_halts model.LogFull line old'.slots new.slots old'.progress new.progress m))
-  halts_first old old' new halt.Long slots progress m = m
+  halts_first old old' new (halt.DivZero line) slots progress m = so_first old old' new model.DivZero line slots progress m
+  halts_first old old' new (halt.Index line) slots progress m = so_first old old' new model.Index line slots progress m
+  halts_first old old' new (halt.LogFull line) slots progress m = so_first old old' new model.LogFull line slots progress m
+  halts_first old old' new halt.Long slots progress m = runs_out_so (λ line. so_first old old' new model.LogFull line slots progress) m
   halts_first old old' new halt.Refused slots progress m = tt
   halts_first old old' new halt.Memory slots progress m = tt
 
@@ -220,7 +235,7 @@ module _ (layout : ElementLayout) (at : Site) (part later : Part) where
         steps = record {
           makes = y.steps.makes;
           leads = λ then' records before reads chunks.
-              let st = state_with old.slots records before (log_limit - old.progress.count) (reads_of y.steps.makes.added ++ reads) (chunks_of y.steps.makes.added ++ chunks) in
+              let st = state_with old.slots records before (room_of layout.bound old.progress) (reads_of y.steps.makes.added ++ reads) (chunks_of y.steps.makes.added ++ chunks) in
               after-after (part st) later then'
               ∙ after-same (part st) (λ t. after (later t) then') (λ t. after (part_of old.at f t) then')
               (λ t. ap (λ o. after o then') (sym (is t) ∙ ap (λ (w : Site). part_of w f t) (sym at_is)))
@@ -252,7 +267,7 @@ module _ (layout : ElementLayout) (part other : Part) (same : (s : State) → ot
   halts_same old new (halt.DivZero line) m = made_same layout part other old.slots new.slots old.progress new.progress (Halted model.DivZero line) same m
   halts_same old new (halt.Index line) m = made_same layout part other old.slots new.slots old.progress new.progress (Halted model.Index line) same m
   halts_same old new (halt.LogFull line) m = made_same layout part other old.slots new.slots old.progress new.progress (Halted model.LogFull line) same m
-  halts_same old new halt.Long m = m
+  halts_same old new halt.Long m = runs_out_so (λ line. made_same layout part other old.slots new.slots old.progress new.progress (Halted model.LogFull line) same) m
   halts_same old new halt.Refused m = tt
   halts_same old new halt.Memory m = tt
 

@@ -13,27 +13,30 @@ use Rattle.log_format.specs.Spelling.{spelling}
 use Rattle.kernel_syntax.proofs.Fitting.{fitted-fitted, fitted_fits}
 use Rattle.kernel_model.specs.State as model
 use Rattle.kernel_model.specs.State.{State, Outcome, put, to_bits, from_bits, value_read, number_drawn}
-use Rattle.kernel_model.specs.Trace.{log_limit}
 use Rattle.kernel_model.specs.Value.{access, read}
 use Rattle.kernel_model.specs.Effect.{Returned, Halted, Makes, adds}
 use Rattle.kernel_model.proofs.Effects.{makes-put, makes-read}
 use Rattle.serial_run.specs.declared.halt.Halt.{Halt}
 use Rattle.serial_run.specs.declared.halt.Halt.TheVariants as halt
 use Rattle.serial_run.specs.declared.place.Element.{Element}
-use Rattle.serial_run.specs.Going.{Progress, FindsValue, words_after, Gains, Made, Goes, Logs, HasRoom, MakesRoom, Marks}
+use Rattle.serial_run.specs.Going.{Progress, room_of, FindsValue, words_after, Gains, Made, Goes, Logs, HasRoom, MakesRoom, Marks}
 use Rattle.serial_run.specs.Placing.{ElementLayout, IsInPlace, StandsAt, meant}
-use Rattle.serial_run.proofs.Following.{made_still}
+use Rattle.serial_run.proofs.Following.{some_room, no_room, no_room_left, made_still}
 
 -- no room
 module _ {A : Type 0} (layout : ElementLayout) (part : State → Outcome A) (slots : List ℤ) (p : Progress) (line : ℕ) (full : Makes part slots 0 (adds slots []) (Halted model.LogFull line)) where
+  made_full : room_of layout.bound p ≡ 0 → Made layout part slots slots p p (Halted model.LogFull line)
+  made_full none =
+      made_still layout part slots p (Halted model.LogFull line)
+      (subst (λ (room : ℕ). Makes part slots room (adds slots []) (Halted model.LogFull line)) (sym none) full)
+
   pub goes_full : (why : Halt) → MakesRoom p line (Err why) → Goes layout part slots slots p p (Err why)
   goes_full (halt.DivZero at) m = absurd m
   goes_full (halt.Index at) m = absurd m
   goes_full (halt.LogFull at) m =
       subst (λ (n : ℕ). Made layout part slots slots p p (Halted model.LogFull n)) (sym m.0)
-      (made_still layout part slots p (Halted model.LogFull line)
-      (subst (λ (room : ℕ). Makes part slots room (adds slots []) (Halted model.LogFull line)) (let h = m.1 in let e : 0 ≡ log_limit - p.count = omega arith in e) full))
-  goes_full halt.Long m = m
+      (made_full (no_room layout.bound p m.1))
+  goes_full halt.Long m = record { none = m.0; below = m.1; due = λ is. (line, made_full (no_room_left layout.bound p is m.0)) }
   goes_full halt.Refused m = absurd m
   goes_full halt.Memory m = absurd m
 
@@ -48,8 +51,8 @@ gains_one layout due old new after finds is logs = record {
 }
 
 module _ (layout : ElementLayout) (slots : List ℤ) (old new : Progress) (room : HasRoom old) where
-  some : 0 < log_limit - old.count
-  some = let h = room.below in omega arith
+  some : 0 < room_of layout.bound old
+  some = some_room layout.bound old room
 
   module _ (e : Element) (wide : IsWidth e.width) (stands : StandsAt layout e) (line site : ℕ) where
     in_place : (k : Kind) (v : ℤ) → IsInPlace layout (access k (meant e) site line v)
@@ -70,7 +73,7 @@ module _ (layout : ElementLayout) (slots : List ℤ) (old new : Progress) (room 
       gains =
           gains_one layout (access kind.Read (meant e) site line (fitted (from_bits bits) e.width)) old new new.words
           (in_place kind.Read (fitted (from_bits bits) e.width), fitted_bits e.width bits small wide ∙ ap (λ (b : ℕ). fit b e.width) (is ∙ ap (λ (w : ℕ). slice_index old.words w) (sym stands.word))) logs.words logs;
-      makes = makes-read (meant e) site line slots (log_limit - old.count) (fitted (from_bits bits) e.width) some (fitted-fitted (from_bits bits) e.width wide) (fitted_fits (from_bits bits) e.width wide);
+      makes = makes-read (meant e) site line slots (room_of layout.bound old) (fitted (from_bits bits) e.width) some (fitted-fitted (from_bits bits) e.width wide) (fitted_fits (from_bits bits) e.width wide);
     }
 
     -- the bits of a value that the element can have
@@ -90,7 +93,7 @@ module _ (layout : ElementLayout) (slots : List ℤ) (old new : Progress) (room 
           gains =
               gains_one layout (access kind.Write (meant e) site line v) old new after (in_place kind.Write v, can_have value)
               (is ∙ ap (λ (w : ℕ). slice_set old.words w (to_bits v)) (sym stands.word)) logs;
-          makes = makes-put (access kind.Write (meant e) site line v) slots (log_limit - old.count) some refl refl;
+          makes = makes-put (access kind.Write (meant e) site line v) slots (room_of layout.bound old) some refl refl;
         }
 
 -- a record that is no access
@@ -98,7 +101,7 @@ pub marks_unready : (due : Record) (p : Progress) (why : Halt) → MakesRoom p d
 marks_unready due p (halt.DivZero at) m = absurd m
 marks_unready due p (halt.Index at) m = absurd m
 marks_unready due p (halt.LogFull at) m = (m.0, m.1, refl)
-marks_unready due p halt.Long m = m
+marks_unready due p halt.Long m = (m.0, m.1, refl)
 marks_unready due p halt.Refused m = absurd m
 marks_unready due p halt.Memory m = tt
 

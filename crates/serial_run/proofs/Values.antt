@@ -1,5 +1,5 @@
 -- The value of an expression, from those of its parts.
-use Rattle.std.proofs.Common.{◌≡◌, refl, ap, sym, subst, ℕ, ◌-◌, List, ℤ, Option, Some, None, Result, Ok, Err}
+use Rattle.std.proofs.Common.{◌≡◌, refl, ap, sym, subst, ℕ, List, ℤ, Option, Some, None, Result, Ok, Err}
 use Rattle.std.specs.Prelude.{ok_or}
 use Rattle.kernel_syntax.specs.declared.syntax.Op.{Op}
 use Rattle.kernel_syntax.specs.Arithmetic.{applied, negated}
@@ -7,14 +7,13 @@ use Rattle.kernel_syntax.specs.Tree as tree
 use Rattle.kernel_syntax.specs.Tree.{Term}
 use Rattle.kernel_model.specs.State as model
 use Rattle.kernel_model.specs.State.{State, Outcome, Gives, and_then}
-use Rattle.kernel_model.specs.Trace.{log_limit}
 use Rattle.kernel_model.specs.Value.{Site, Element, element_at, loaded, read, operated, value}
 use Rattle.kernel_model.specs.Effect.{Returned, Halted}
 use Rattle.kernel_model.proofs.Effects.{makes-stays}
 use Rattle.kernel_model.proofs.Equations.{value-Load, value-Neg, value-Binary}
 use Rattle.serial_run.specs.declared.halt.Halt.{Halt}
 use Rattle.serial_run.specs.declared.halt.Halt.TheVariants.{DivZero}
-use Rattle.serial_run.specs.Going.{Progress, Made, Goes}
+use Rattle.serial_run.specs.Going.{Progress, room_of, Made, Goes}
 use Rattle.serial_run.proofs.Following.{made_still, goes_same, goes_stop, goes_then}
 use Rattle.serial_run.specs.Placing.{ElementLayout}
 
@@ -23,7 +22,7 @@ module _ (layout : ElementLayout) (at : Site) (slots : List ℤ) where
   pub loads_none : (found : Option Element) (line site : ℕ) (p : Progress) → found ≡ None → Made layout (loaded found line site) slots slots p p (Halted model.Index line)
   loads_none found line site p is =
       made_still layout (loaded found line site) slots p (Halted model.Index line)
-      (makes-stays (loaded found line site) slots (log_limit - p.count) (Halted model.Index line) (λ s same full. ap (λ o. loaded o line site s) is))
+      (makes-stays (loaded found line site) slots (room_of layout.bound p) (Halted model.Index line) (λ s same full. ap (λ o. loaded o line site s) is))
 
   pub loads_some : (found : Option Element) (e : Element) (line site : ℕ) (old new : Progress) (r : Result ℤ Halt) → found ≡ Some e
       → Goes layout (read e site line) slots slots old new r → Goes layout (loaded found line site) slots slots old new r
@@ -56,7 +55,7 @@ module _ (layout : ElementLayout) (at : Site) (slots : List ℤ) where
         goes_same layout _ (value at (tree.Neg operand)) slots slots old new (Ok (negated v)) (value-Neg at operand)
         (goes_then layout (value at operand) (λ (x : ℤ) (s : State). Gives (negated x) s) slots slots slots old new new v made (Ok (negated v))
         (made_still layout (λ (s : State). Gives (negated v) s) slots new (Returned (negated v))
-        (makes-stays (λ (s : State). Gives (negated v) s) slots (log_limit - new.count) (Returned (negated v)) (λ s same full. refl))))
+        (makes-stays (λ (s : State). Gives (negated v) s) slots (room_of layout.bound new) (Returned (negated v)) (λ s same full. refl))))
 
   module _ (op : Op) (line : ℕ) (left right : Term) (old mid : Progress) where
     abbrev after_left : ℤ → State → Outcome ℤ
@@ -79,9 +78,9 @@ module _ (layout : ElementLayout) (at : Site) (slots : List ℤ) where
 
       operates : (o : Option ℤ) → Goes layout (operated o line) slots slots new new (ok_or o (DivZero line))
       operates None =
-          made_still layout (operated None line) slots new (Halted model.DivZero line) (makes-stays (operated None line) slots (log_limit - new.count) (Halted model.DivZero line) (λ s same full. refl))
+          made_still layout (operated None line) slots new (Halted model.DivZero line) (makes-stays (operated None line) slots (room_of layout.bound new) (Halted model.DivZero line) (λ s same full. refl))
       operates (Some v) =
-          made_still layout (operated (Some v) line) slots new (Returned v) (makes-stays (operated (Some v) line) slots (log_limit - new.count) (Returned v) (λ s same full. refl))
+          made_still layout (operated (Some v) line) slots new (Returned v) (makes-stays (operated (Some v) line) slots (room_of layout.bound new) (Returned v) (λ s same full. refl))
 
       pub binary_goes : (y : ℤ) (r : Result ℤ Halt) → r ≡ ok_or (applied op x y) (DivZero line) → Made layout (value at right) slots slots mid new (Returned y)
           → Goes layout (value at (tree.Binary op line left right)) slots slots old new r

@@ -9,7 +9,7 @@ use Rattle.kernel_model.specs.State.{State, Fork, Stop, after, put, event}
 use Rattle.kernel_model.specs.Trace.{Start, Stopped, run, site_of}
 use Rattle.serial_run.specs.Going.{Progress, Made}
 use Rattle.serial_run.specs.Stepping.{Stand, Advances, Finishes, left_of}
-use Rattle.serial_run.specs.Placing.{ElementLayout}
+use Rattle.serial_run.specs.Placing.{OfLog, ElementLayout}
 
 -- the task has made nothing yet, and all that it executes is left
 pub record IsAtStart (program : Program) (start : Start) (x : Stand) : Type 0 where
@@ -29,13 +29,13 @@ pub data Comes (layout : ElementLayout) (first : Stand) : Stand → List Record 
 -- a task that ended has made its trace, and forked its regions
 abbrev pub HaveTheirTrace : Type 0
 HaveTheirTrace =
-    (layout : ElementLayout) (program : Program) (start : Start) (first x y : Stand) (records : List Record) (forks : List Fork) → IsAtStart program start first → Comes layout first x records forks
+    (layout : ElementLayout) (program : Program) (start : Start) (first x y : Stand) (records : List Record) (forks : List Fork) → layout.bound ≡ OfLog → IsAtStart program start first → Comes layout first x records forks
     → (f : Finishes layout x y) → IsTraced program start (records ++ f.makes.added) × ((own_trace program start (records ++ f.makes.added)).forks ≡ forks)
 
 -- so a task that stopped, whose trace ends in that stop
 abbrev pub StopAsTold : Type 0
 StopAsTold =
     (layout : ElementLayout) (program : Program) (start : Start) (first x : Stand) (records : List Record) (forks : List Fork) (slots : List ℤ) (last : Progress) (why : Stop) (line : ℕ)
-    → IsAtStart program start first → Comes layout first x records forks
+    → layout.bound ≡ OfLog → IsAtStart program start first → Comes layout first x records forks
     → (m : Made layout (left_of x) x.slots slots x.progress last (Halted why line))
     → IsTracedTo program start (records ++ m.added) (Stopped why line) × ((own_trace program start (records ++ m.added)).forks ≡ forks)

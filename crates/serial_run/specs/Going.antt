@@ -1,5 +1,5 @@
 -- How a task goes on over a vector of words: what its records and its locals have to do with the meaning of what it executes.
-use Rattle.std.specs.Prelude.{◌≡◌, ◌⊎◌, ℕ, ◌+◌, ◌-◌, ◌<◌, ◌≤◌, List, [], ◌∷◌, ◌++◌, length, slice_index, slice_set, ℤ, Result, Ok, Err}
+use Rattle.std.specs.Prelude.{◌≡◌, ◌⊎◌, ℕ, ◌+◌, ◌-◌, ◌<◌, ◌≤◌, min, List, [], ◌∷◌, ◌++◌, length, slice_index, slice_set, ℤ, Result, Ok, Err}
 use Rattle.std.specs.List.{flat_map}
 use Rattle.log_format.specs.declared.record.Record.{Record}
 use Rattle.log_format.specs.declared.record.Kind.{Kind}
@@ -14,7 +14,7 @@ use Rattle.serial_run.specs.declared.halt.Halt.{Halt}
 use Rattle.serial_run.specs.declared.halt.Halt.TheVariants as halt
 use Rattle.serial_run.specs.declared.memory.Memory.{Memory}
 use Rattle.serial_run.specs.declared.track.Track.{Track}
-use Rattle.serial_run.specs.Placing.{ElementLayout, IsInPlace}
+use Rattle.serial_run.specs.Placing.{Bound, OfLog, OfRun, ElementLayout, IsInPlace}
 
 -- what changes with each record: the task's log, the words of all elements, and how many records may still be made
 pub record Progress : Type 0 where
@@ -25,6 +25,11 @@ pub record Progress : Type 0 where
 
 abbrev pub progress : Track → Memory → Progress
 progress track memory = record { log = track.log.items; count = track.count; words = memory.words.items; left = memory.left }
+
+-- how many records more the bound lets a task make
+abbrev pub room_of : Bound → Progress → ℕ
+room_of OfLog p = log_limit - p.count
+room_of OfRun p = min (log_limit - p.count) p.left
 
 -- a read has the value of its element in its word, and a write one that its element can have
 abbrev pub FindsValue : ElementLayout → Kind → Record → List ℕ → Type 0
@@ -59,7 +64,13 @@ pub record Made {A : Type 0} (layout : ElementLayout) (part : State → Outcome 
   pub added : List Record
   pub plain : ArePlain added
   pub gains : Gains layout old new added
-  pub makes : Makes part slots (log_limit - old.count) (adds slots' added) finish
+  pub makes : Makes part slots (room_of layout.bound old) (adds slots' added) finish
+
+-- The whole run may make no record more, where the task's log has room for one: bounded so, the part would put a record there.
+pub record RunsOut {A : Type 0} (layout : ElementLayout) (part : State → Outcome A) (slots slots' : List ℤ) (old new : Progress) : Type 0 where
+  pub none : new.left ≡ 0
+  pub below : new.count < log_limit
+  pub due : layout.bound ≡ OfRun → (line : ℕ) × Made layout part slots slots' old new (Halted model.LogFull line)
 
 -- how the execution of a part ends, by what is answered
 abbrev pub Goes : {A : Type 0} → ElementLayout → (State → Outcome A) → List ℤ → List ℤ → Progress → Progress → Result A Halt → Type 0
@@ -67,7 +78,7 @@ Goes layout part slots slots' old new (Ok v) = Made layout part slots slots' old
 Goes layout part slots slots' old new (Err (halt.DivZero line)) = Made layout part slots slots' old new (Halted model.DivZero line)
 Goes layout part slots slots' old new (Err (halt.Index line)) = Made layout part slots slots' old new (Halted model.Index line)
 Goes layout part slots slots' old new (Err (halt.LogFull line)) = Made layout part slots slots' old new (Halted model.LogFull line)
-Goes layout part slots slots' old new (Err halt.Long) = new.left ≡ 0
+Goes layout part slots slots' old new (Err halt.Long) = RunsOut layout part slots slots' old new
 Goes layout part slots slots' old new (Err _) = Unit {0}
 
 -- one record was spelled, and the words are as they were
@@ -86,13 +97,13 @@ pub record HasRoom (p : Progress) : Type 0 where
 abbrev pub MakesRoom : Progress → ℕ → Result (Unit {0}) Halt → Type 0
 MakesRoom p line (Ok _) = HasRoom p
 MakesRoom p line (Err (halt.LogFull at_line)) = (at_line ≡ line) × (log_limit ≤ p.count)
-MakesRoom p line (Err halt.Long) = p.left ≡ 0
+MakesRoom p line (Err halt.Long) = (p.left ≡ 0) × (p.count < log_limit)
 MakesRoom p line (Err _) = ⊥
 
 -- the record was put, or why not
 abbrev pub Marks : Record → Progress → Progress → Result (Unit {0}) Halt → Type 0
 Marks due old new (Ok _) = HasRoom old × Logs due old new
 Marks due old new (Err (halt.LogFull line)) = (line ≡ due.line) × (log_limit ≤ old.count) × (new ≡ old)
-Marks due old new (Err halt.Long) = new.left ≡ 0
+Marks due old new (Err halt.Long) = (old.left ≡ 0) × (old.count < log_limit) × (new ≡ old)
 Marks due old new (Err halt.Memory) = Unit {0}
 Marks due old new (Err _) = ⊥

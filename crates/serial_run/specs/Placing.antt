@@ -18,10 +18,16 @@ pub record IsPlace (at : Site) : Type 0 where
 abbrev pub meant : Element → model.Element
 meant e = record { addr = e.addr; width = e.width }
 
--- where the elements stand, and how many words there are
+-- how many records more a task may make in its meaning: those for which its log has room, or no more of them than the whole run may make
+pub data Bound : Type 0 where
+  OfLog : Bound
+  OfRun : Bound
+
+-- where the elements stand, how many words there are, and what bounds a task in its meaning
 pub record ElementLayout : Type 0 where
   pub words : WordLayout
   pub count : ℕ
+  pub bound : Bound
 
 -- so do those of these arrays: each has a word of its own number, with its address and its bytes
 pub record TellsWords (arrays : List Array) (layout : ElementLayout) : Type 0 where

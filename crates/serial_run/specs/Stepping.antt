@@ -1,12 +1,11 @@
 -- How a task goes on, one frame after another, and where it stands still.
-use Rattle.std.specs.Prelude.{◌≡◌, ℕ, ◌-◌, ◌≤◌, List, [], ◌∷◌, ◌++◌, length, ℤ, Option, Some, None, Result, Ok, Err}
+use Rattle.std.specs.Prelude.{◌≡◌, ℕ, ◌≤◌, List, [], ◌∷◌, ◌++◌, length, ℤ, Option, Some, None, Result, Ok, Err}
 use Rattle.log_format.specs.declared.record.Record.{Record}
 use Rattle.log_format.specs.declared.record.Kind.TheVariants as kind
 use Rattle.kernel_syntax.specs.Program.{team_of}
 use Rattle.kernel_model.specs.State as model
 use Rattle.kernel_model.specs.State.{State, Fork, Outcome, Gives, after, put, event, reads_of, chunks_of}
 use Rattle.kernel_model.specs.Effect.{Halted, state_with}
-use Rattle.kernel_model.specs.Trace.{log_limit}
 use Rattle.kernel_model.specs.Value.{Site}
 use Rattle.serial_run.specs.declared.frame.Frame.{Frame}
 use Rattle.serial_run.specs.declared.frame.Pause.{Pause}
@@ -15,7 +14,7 @@ use Rattle.serial_run.specs.declared.halt.Halt.{Halt}
 use Rattle.serial_run.specs.declared.halt.Halt.TheVariants as halt
 use Rattle.serial_run.specs.declared.lane.Lane.{Lane}
 use Rattle.serial_run.specs.declared.memory.Memory.{Memory}
-use Rattle.serial_run.specs.Going.{Progress, progress, ArePlain, Gains, Made}
+use Rattle.serial_run.specs.Going.{Progress, progress, room_of, ArePlain, Gains, Made, RunsOut}
 use Rattle.serial_run.specs.Resting.{rest_of}
 use Rattle.serial_run.specs.Placing.{ElementLayout}
 
@@ -31,12 +30,12 @@ abbrev pub stand : Lane → Memory → Stand
 stand l memory = record { at = l.place; end = l.end; slots = l.locals.slots.items; rest = l.rest.items; progress = progress l.track memory }
 
 -- The first part comes to the second once it put these records and forked these regions, whatever was put and forked before it and is
--- read and drawn after it, where it reads and draws what its own records tell.
+-- read and drawn after it, where it reads and draws what its own records tell. Here and there it has this much room.
 abbrev pub Leads : (State → Outcome (Unit {0})) → List ℤ → ℕ → (State → Outcome (Unit {0})) → List ℤ → ℕ → List Record → List Fork → Type 0
-Leads part slots count part' slots' count' added forks =
+Leads part slots room part' slots' room' added forks =
     (records : List Record) (before : List Fork) (reads : List ℤ) (chunks : List ℕ) →
-    part (state_with slots records before (log_limit - count) (reads_of added ++ reads) (chunks_of added ++ chunks))
-    ≡ part' (state_with slots' (records ++ added) (before ++ forks) (log_limit - count') reads chunks)
+    part (state_with slots records before room (reads_of added ++ reads) (chunks_of added ++ chunks))
+    ≡ part' (state_with slots' (records ++ added) (before ++ forks) room' reads chunks)
 
 -- The records that were made: accesses, and last this mark, if any.
 pub record Adds (layout : ElementLayout) (old new : Progress) (mark : List Record) : Type 0 where
@@ -44,13 +43,13 @@ pub record Adds (layout : ElementLayout) (old new : Progress) (mark : List Recor
   pub plain_is : ArePlain plain
   pub added : List Record
   pub added_is : added ≡ plain ++ mark
-  pub within : length added ≤ log_limit - old.count
+  pub within : length added ≤ room_of layout.bound old
   pub gains : Gains layout old new added
 
 -- The task executed the part but for the frames pushed.
 pub record Steps (layout : ElementLayout) (at : Site) (part : State → Outcome (Unit {0})) (slots slots' : List ℤ) (old new : Progress) (pushed : List Frame) (mark : List Record) (forks : List Fork) : Type 0 where
   pub makes : Adds layout old new mark
-  pub leads : (then' : State → Outcome (Unit {0})) → Leads (λ s. after (part s) then') slots old.count (rest_of at pushed then') slots' new.count makes.added forks
+  pub leads : (then' : State → Outcome (Unit {0})) → Leads (λ s. after (part s) then') slots (room_of layout.bound old) (rest_of at pushed then') slots' (room_of layout.bound new) makes.added forks
 
 -- so, with these frames on top of what is left
 pub record Stepped (layout : ElementLayout) (part : State → Outcome (Unit {0})) (old new : Stand) (mark : List Record) (forks : List Fork) : Type 0 where
@@ -73,7 +72,7 @@ abbrev pub HaltsSo : ElementLayout → (State → Outcome (Unit {0})) → Stand 
 HaltsSo layout part old new (halt.DivZero line) = Made layout part old.slots new.slots old.progress new.progress (Halted model.DivZero line)
 HaltsSo layout part old new (halt.Index line) = Made layout part old.slots new.slots old.progress new.progress (Halted model.Index line)
 HaltsSo layout part old new (halt.LogFull line) = Made layout part old.slots new.slots old.progress new.progress (Halted model.LogFull line)
-HaltsSo layout part old new halt.Long = new.progress.left ≡ 0
+HaltsSo layout part old new halt.Long = RunsOut layout part old.slots new.slots old.progress new.progress
 HaltsSo layout part old new _ = Unit {0}
 
 -- how a task goes on with a part, by what is answered
@@ -90,14 +89,14 @@ pub record Advances (layout : ElementLayout) (old new : Stand) (mark : List Reco
   pub at : new.at ≡ old.at
   pub end : new.end ≡ old.end
   pub makes : Adds layout old.progress new.progress mark
-  pub leads : Leads (left_of old) old.slots old.progress.count (left_of new) new.slots new.progress.count makes.added forks
+  pub leads : Leads (left_of old) old.slots (room_of layout.bound old.progress) (left_of new) new.slots (room_of layout.bound new.progress) makes.added forks
 
 -- the task ended
 pub record Finishes (layout : ElementLayout) (old new : Stand) : Type 0 where
   pub at : new.at ≡ old.at
   pub end : new.end ≡ old.end
   pub makes : Adds layout old.progress new.progress (event kind.End old.end 0 0 ∷ [])
-  pub leads : Leads (left_of old) old.slots old.progress.count (λ s. Gives tt s) new.slots new.progress.count makes.added []
+  pub leads : Leads (left_of old) old.slots (room_of layout.bound old.progress) (λ s. Gives tt s) new.slots (room_of layout.bound new.progress) makes.added []
 
 -- where a task stands still
 abbrev pub PausesAt : ElementLayout → Stand → Stand → Pause → Type 0

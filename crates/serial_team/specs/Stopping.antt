@@ -1,6 +1,6 @@
 -- A serial run that stops: the lanes that come later in the phase still go on to their barrier, their end or their stop, and the first stop
--- in the order of lanes is told.
-use Rattle.std.specs.Prelude.{◌≡◌, ◌<◌, ◌≤◌, ℕ, List, [], ◌∷◌, All, length, replicate, ℤ, pos, Bool, true, false, Option, Some, None, Result, Ok, Err}
+-- in the order of lanes is told. And one that would make more records than it may, which goes on no further.
+use Rattle.std.specs.Prelude.{◌≡◌, ◌<◌, ◌≤◌, ◌+◌, ℕ, List, [], ◌∷◌, All, length, replicate, ℤ, pos, Bool, true, false, Option, Some, None, Result, Ok, Err}
 use Rattle.sw_base.specs.declared.path.Step.{Step}
 use Rattle.log_format.specs.declared.record.Kind.TheVariants as kind
 use Rattle.kernel_syntax.specs.declared.syntax.Array.{Array}
@@ -10,11 +10,12 @@ use Rattle.kernel_syntax.specs.Tree.{TeamTree}
 use Rattle.kernel_model.specs.Effect.{Halted}
 use Rattle.kernel_model.specs.State as model
 use Rattle.kernel_model.specs.State.{event}
+use Rattle.kernel_model.specs.Trace.{log_limit}
 use Rattle.history_model.specs.Work.{Work, Rest, Fork, Phases, NoPhase, Phase}
 use Rattle.serial_run.specs.declared.halt.Halt.{Halt}
 use Rattle.serial_run.specs.declared.halt.Halt.TheVariants as halt
 use Rattle.serial_run.specs.Going.{Progress, Made}
-use Rattle.serial_run.specs.Placing.{ElementLayout}
+use Rattle.serial_run.specs.Placing.{OfRun, ElementLayout}
 use Rattle.serial_run.specs.Stepping.{Stand, Advances, left_of}
 use Rattle.serial_team.specs.declared.member.Stage.{Stage}
 use Rattle.serial_team.specs.declared.member.Stage.TheVariants as stage
@@ -30,6 +31,11 @@ pub record StopAt : Type 0 where
   pub path : List Step
   pub line : ℕ
   pub why : StopWhy
+
+-- the task at this path would put its record of this number, from 1
+pub record LongAt : Type 0 where
+  pub path : List Step
+  pub number : ℕ
 
 -- why, of a stop in the meaning of kernels
 abbrev pub why_of : model.Stop → StopWhy
@@ -77,6 +83,40 @@ mutual
         → TeamRuns layout at number xs p works ys q → All (λ (y : MemberValue). y.stage ≡ stage.Waits) ys → PhasesStop layout at number ys q phases r first
         → PhasesStop layout at number xs p (Phase (beside works) phases) r first
 
+-- so that a task puts no more records than the whole run may still make
+abbrev pub bounded : ElementLayout → ElementLayout
+bounded layout = record layout { bound = OfRun }
+
+mutual
+  -- The run may make no record more, and the task at this path would put one, whose log has room for it; or a lane of a region that it forked would.
+  pub data LaneLong (layout : ElementLayout) : List Step → MemberValue → LongAt → Type 0 where
+    at_record : (path : List Step) (x : MemberValue) (slots : List ℤ) (last : Progress) (line : ℕ)
+        → Made (bounded layout) (left_of x.stand) x.stand.slots slots x.stand.progress last (Halted model.LogFull line) → last.left ≡ 0 → last.count < log_limit
+        → LaneLong layout path x (record { path = path; number = last.count + 1 })
+    in_lanes : (path : List Step) (x : MemberValue) (y : Stand) (team : TeamTree) (xs : List MemberValue) (long : LongAt)
+        → Advances layout x.stand y (event kind.Region team.line 0 team.span ∷ []) (record { team = team; slots = y.slots } ∷ [])
+        → length path < 4 → BeginTeam y.at.arrays team y.slots xs → PhasesLong layout path x.forked xs (pool_at y) long → LaneLong layout path x long
+    past_lanes : (path : List Step) (x : MemberValue) (y : Stand) (team : TeamTree) (xs ys : List MemberValue) (p : Pool) (phases : Phases) (long : LongAt)
+        → Advances layout x.stand y (event kind.Region team.line 0 team.span ∷ []) (record { team = team; slots = y.slots } ∷ [])
+        → length path < 4 → BeginTeam y.at.arrays team y.slots xs → PhasesRun layout path x.forked xs (pool_at y) phases ys p
+        → length (past_region path x y ys p).below ≤ most_below → LaneLong layout path (past_region path x y ys p) long → LaneLong layout path x long
+
+  -- a lane of the region of this number would, after the lanes before it ran or stopped
+  pub data TeamLong (layout : ElementLayout) : List Step → ℕ → List MemberValue → Pool → LongAt → Type 0 where
+    in_lane : (at : List Step) (number : ℕ) (x : MemberValue) (xs : List MemberValue) (p : Pool) (long : LongAt)
+        → LaneLong layout (path_in at number x) (later x p) long → TeamLong layout at number (x ∷ xs) p long
+    past_run : (at : List Step) (number : ℕ) (x y : MemberValue) (xs : List MemberValue) (p : Pool) (work : Work) (long : LongAt)
+        → LaneRuns layout (path_in at number x) (later x p) work y → TeamLong layout at number xs (pool_at y.stand) long → TeamLong layout at number (x ∷ xs) p long
+    past_stop : (at : List Step) (number : ℕ) (x : MemberValue) (xs : List MemberValue) (p q : Pool) (work : Work) (stopped : StopAt) (long : LongAt)
+        → LaneStops layout (path_in at number x) (later x p) work q stopped → TeamLong layout at number xs q long → TeamLong layout at number (x ∷ xs) p long
+
+  -- so in the last of these phases, and all waited at a barrier after each phase before it
+  pub data PhasesLong (layout : ElementLayout) : List Step → ℕ → List MemberValue → Pool → LongAt → Type 0 where
+    in_phase : (at : List Step) (number : ℕ) (xs : List MemberValue) (p : Pool) (long : LongAt) → TeamLong layout at number xs p long → PhasesLong layout at number xs p long
+    past_phase : (at : List Step) (number : ℕ) (xs ys : List MemberValue) (p q : Pool) (works : List Work) (long : LongAt)
+        → TeamRuns layout at number xs p works ys q → All (λ (y : MemberValue). y.stage ≡ stage.Waits) ys → PhasesLong layout at number ys q long
+        → PhasesLong layout at number xs p long
+
 -- ---- by what is answered
 
 -- some work of it stopped so
@@ -92,21 +132,24 @@ pub record PhasesStopped (layout : ElementLayout) (at : List Step) (number : ℕ
   pub phases : Phases
   pub stops : PhasesStop layout at number xs p phases q first
 
--- what holds of a stop of a task; nothing is said of any other answer
-abbrev pub IfStopped : (StopAt → Type 0) → Stop → Type 0
-IfStopped P (stop.Stopped path line w) = P (record { path = path; line = line; why = w })
-IfStopped P _ = Unit {0}
+-- what holds of a stop of a task, and of one record too many; nothing is said of want of memory
+abbrev pub IfStopped : (StopAt → Type 0) → (LongAt → Type 0) → Stop → Type 0
+IfStopped P Q (stop.Stopped path line w) = P (record { path = path; line = line; why = w })
+IfStopped P Q (stop.Long path number) = Q (record { path = path; number = number })
+IfStopped P Q stop.Memory = Unit {0}
 
 abbrev pub is_stopped : Stop → Bool
 is_stopped (stop.Stopped path line w) = true
 is_stopped _ = false
 
--- what a task's own halt is told as
-abbrev pub TellsHalt : List Step → Halt → Stop → Type 0
-TellsHalt path (halt.DivZero line) e = e ≡ stop.Stopped path line why.DivZero
-TellsHalt path (halt.Index line) e = e ≡ stop.Stopped path line why.Index
-TellsHalt path (halt.LogFull line) e = e ≡ stop.Stopped path line why.LogFull
-TellsHalt path _ e = is_stopped e ≡ false
+-- what a task's own halt is told as, whose log has so many records
+abbrev pub TellsHalt : List Step → ℕ → Halt → Stop → Type 0
+TellsHalt path count (halt.DivZero line) e = e ≡ stop.Stopped path line why.DivZero
+TellsHalt path count (halt.Index line) e = e ≡ stop.Stopped path line why.Index
+TellsHalt path count (halt.LogFull line) e = e ≡ stop.Stopped path line why.LogFull
+TellsHalt path count halt.Long e = count < log_limit → e ≡ stop.Long path (count + 1)
+TellsHalt path count halt.Refused e = e ≡ stop.Memory
+TellsHalt path count halt.Memory e = e ≡ stop.Memory
 
 -- the region of a task stopped, from these locals
 pub record RegionStopped (layout : ElementLayout) (arrays : List Array) (team : TeamTree) (slots : List ℤ) (at : List Step) (number : ℕ) (p q : Pool) (first : StopAt) : Type 0 where
@@ -120,6 +163,18 @@ StopsBelow layout path team x p first =
     (w : Stand) → Advances layout w x.stand (event kind.Region team.line 0 team.span ∷ []) (record { team = team; slots = x.stand.slots } ∷ [])
     → LaneStopped layout path (record x { stand = w }) p first
 
+-- so one of whose region a lane would put a record too many
+abbrev pub LongBelow : ElementLayout → List Step → TeamTree → MemberValue → LongAt → Type 0
+LongBelow layout path team x long =
+    (w : Stand) → Advances layout w x.stand (event kind.Region team.line 0 team.span ∷ []) (record { team = team; slots = x.stand.slots } ∷ [])
+    → LaneLong layout path (record x { stand = w }) long
+
+-- the region of a task comes to one record too many, from these locals
+pub record RegionLong (layout : ElementLayout) (arrays : List Array) (team : TeamTree) (slots : List ℤ) (at : List Step) (number : ℕ) (p : Pool) (long : LongAt) : Type 0 where
+  pub before : List MemberValue
+  pub begin : BeginTeam arrays team slots before
+  pub runs_out : PhasesLong layout at number before p long
+
 -- The root of a kernel stopped, or a task below it, over words that were 0, with room for so many records in all.
 pub record RootStopped (layout : ElementLayout) (program : Program) (left : ℕ) (first : StopAt) : Type 0 where
   pub before : MemberValue
@@ -127,9 +182,16 @@ pub record RootStopped (layout : ElementLayout) (program : Program) (left : ℕ)
   pub after : Pool
   pub stopped : LaneStopped layout [] (later before (record { words = replicate (elements program.arrays) 0; left = left })) after first
 
--- a task that goes on from there stops as it does from the first on
+-- The root of a kernel, or a task below it, would put one record more than so many, over words that were 0.
+pub record RootLong (layout : ElementLayout) (program : Program) (left : ℕ) (long : LongAt) : Type 0 where
+  pub before : MemberValue
+  pub begins : BeginsLane program.arrays program.main (replicate program.slots (pos 0)) 0 before
+  pub runs_out : LaneLong layout [] (later before (record { words = replicate (elements program.arrays) 0; left = left })) long
+
+-- a task that goes on from there stops as it does from the first on, or comes to one record too many
 pub record StopsFrom (layout : ElementLayout) (path : List Step) (x y : MemberValue) : Type 0 where
   pub stops : (p : Pool) (first : StopAt) → LaneStopped layout path y p first → LaneStopped layout path x p first
+  pub runs_out : (long : LongAt) → LaneLong layout path y long → LaneLong layout path x long
 
 -- by where it stands still, if it does
 abbrev pub StopsPast : ElementLayout → List Step → MemberValue → MemberValue → Option Stage → Type 0

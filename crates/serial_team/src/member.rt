@@ -1,5 +1,5 @@
 //! A lane of a team, between two phases.
-ghost use Rattle.std.specs.Prelude.{◌≡◌, ◌<◌, ◌≤◌, ◌++◌, ◌↔◌, ℕ, [], map, length, All, IfErr, IfOk, OnOk, IsTrue, false, slice_get, Some};
+ghost use Rattle.std.specs.Prelude.{◌≡◌, ◌<◌, ◌≤◌, ◌++◌, ◌↔◌, ℕ, [], map, length, All, IfErr, IfOk, OnOk, IsTrue, slice_get, Some};
 ghost use Rattle.std.specs.List.{flat_map};
 ghost use Rattle.sw_base.specs.declared.path.Step.{Step};
 ghost use Rattle.kernel_syntax.specs.Layout.{ArePlaced, elements};
@@ -8,7 +8,8 @@ ghost use Rattle.serial_run.specs.Placing.{ElementLayout, TellsWords};
 ghost use Rattle.serial_run.specs.Stepping.{PausesAt, stand};
 ghost use Rattle.serial_team.specs.declared.member.TaskLog.{TaskLog};
 ghost use Rattle.serial_team.specs.Members.{BeginTeam, BeginsLane, all_idle, idle_member, logs_at, logs_of_member, path_in, pool, seen, whole_log};
-ghost use Rattle.serial_team.specs.Stopping.{IfStopped, LaneStopped, is_stopped};
+ghost use Rattle.serial_team.specs.Stopping.{IfStopped, LaneLong, LaneStopped};
+ghost use Rattle.serial_team.specs.declared.stop.Stop.TheVariants as stop;
 
 use crate::stop::Stop;
 use kernel_syntax::{Array, Team};
@@ -55,7 +56,7 @@ impl<'k> Member<'k> {
         requires placed { ArePlaced arrays.now (elements arrays.now) }
         requires within { lane < team.now.span }
         ensures begins { IfOk result (λ m. BeginsLane arrays.now (team_of team.now) locals.now.slots.items lane (idle_member m)) }
-        ensures other { IfErr result (λ e. is_stopped e ≡ false) }
+        ensures memory { IfErr result (λ e. e ≡ stop.Memory) }
     {
         let place = Place::new(arrays, lane, team.span);
         let locals = Locals {
@@ -86,7 +87,7 @@ impl<'k> Member<'k> {
     pub(crate) fn resume(&mut self, path: &Path, memory: &mut Memory) -> Result<Pause<'k>, Stop>
         ensures pauses { (layout : ElementLayout) → TellsWords self.old.lane.place.arrays layout → IfOk result (λ to. PausesAt layout (stand self.old.lane memory.old) (stand self.new.lane memory.new) to) }
         ensures stops { (layout : ElementLayout) → TellsWords self.old.lane.place.arrays layout
-            → IfErr result (λ e. IfStopped (LaneStopped layout path.now (seen memory.old self.old) (pool memory.new)) e) }
+            → IfErr result (λ e. IfStopped (LaneStopped layout path.now (seen memory.old self.old) (pool memory.new)) (LaneLong layout path.now (seen memory.old self.old)) e) }
         ensures others { self.new ≡ record self.old { lane = self.new.lane } }
     {
         match self.lane.resume(memory) {
@@ -98,7 +99,7 @@ impl<'k> Member<'k> {
     // Hands on the log of the task, whose path is this, and those of the tasks below it.
     pub(crate) fn hand_on(self, path: Path, done: &mut Vec<TaskLog>) -> Result<(), Stop>
         ensures logs { OnOk result (map whole_log done.new.items ≡ map whole_log done.old.items ++ logs_at path (idle_member self.entry)) }
-        ensures other { IfErr result (λ e. is_stopped e ≡ false) }
+        ensures memory { IfErr result (λ e. e ≡ stop.Memory) }
     {
         let Member { lane, below, .. } = self;
         let track = lane.track;
@@ -121,7 +122,7 @@ pub(crate) fn begin_team<'k>(
 ) -> Result<Vec<Member<'k>>, Stop>
     requires placed { ArePlaced arrays.now (elements arrays.now) }
     ensures begins { IfOk result (λ members. BeginTeam arrays.now (team_of team.now) locals.now.slots.items (all_idle members.items)) }
-    ensures other { IfErr result (λ e. is_stopped e ≡ false) }
+    ensures memory { IfErr result (λ e. e ≡ stop.Memory) }
 {
     if team.span == 0 {
         return Err(Stop::Memory);
@@ -142,7 +143,7 @@ pub(crate) fn hand_on_all(
 ) -> Result<(), Stop>
     requires { length at.now < 4 }
     ensures logs { OnOk result (map whole_log done.new.items ≡ map whole_log done.old.items ++ flat_map (logs_of_member at.now number) (all_idle members.entry.items)) }
-    ensures other { IfErr result (λ e. is_stopped e ≡ false) }
+    ensures memory { IfErr result (λ e. e ≡ stop.Memory) }
 {
     for member in members {
         let path = member.path(at, number);

@@ -6,7 +6,7 @@ ghost use Rattle.kernel_syntax.specs.Program.{team_of};
 ghost use Rattle.serial_run.specs.Placing.{ElementLayout, TellsWords};
 ghost use Rattle.serial_team.specs.Members.{all_idle, pool, seen, whole_log};
 ghost use Rattle.serial_team.specs.Running.{Goes, HaveArrays, RanBelow, RanPhase, RanPhases, RanRegion, RanTo};
-ghost use Rattle.serial_team.specs.Stopping.{StopsPast, IfStopped, LaneStopped, PhasesStopped, RegionStopped, StopsBelow, TeamWent, told_first};
+ghost use Rattle.serial_team.specs.Stopping.{StopsPast, IfStopped, LaneLong, LaneStopped, LongBelow, PhasesLong, PhasesStopped, RegionLong, RegionStopped, StopsBelow, TeamLong, TeamWent, told_first};
 
 use crate::member::{Member, Stage, TaskLog, all_at, begin_team, hand_on_all};
 use crate::stop::{Stop, StopWhy};
@@ -33,7 +33,7 @@ fn fork<'k>(
     requires deep { length path.now + depth ≤ 4 }
     ensures ran { (layout : ElementLayout) → TellsWords arrays.now layout → IfOk result (λ _. RanBelow layout path.now (team_of team.now) arrays.now (seen memory.old member.old) (seen memory.new member.new)) }
     ensures stops { (layout : ElementLayout) → TellsWords arrays.now layout → member.old.lane.place.arrays ≡ arrays.now
-        → IfErr result (λ e. IfStopped (StopsBelow layout path.now (team_of team.now) (seen memory.old member.old) (pool memory.new)) e) }
+        → IfErr result (λ e. IfStopped (StopsBelow layout path.now (team_of team.now) (seen memory.old member.old) (pool memory.new)) (LongBelow layout path.now (team_of team.now) (seen memory.old member.old)) e) }
 {
     let number = member.forked;
     let Some(next) = number.checked_add(1) else {
@@ -81,7 +81,7 @@ fn advance<'k>(
     ensures onward { (layout : ElementLayout) → TellsWords arrays.now layout → member.old.lane.place.arrays ≡ arrays.now
         → IfOk result (λ to. StopsPast layout path.now (seen memory.old member.old) (seen memory.new member.new) to) }
     ensures stops { (layout : ElementLayout) → TellsWords arrays.now layout → member.old.lane.place.arrays ≡ arrays.now
-        → IfErr result (λ e. IfStopped (LaneStopped layout path.now (seen memory.old member.old) (pool memory.new)) e) }
+        → IfErr result (λ e. IfStopped (LaneStopped layout path.now (seen memory.old member.old) (pool memory.new)) (LaneLong layout path.now (seen memory.old member.old)) e) }
 {
     match member.resume(path, memory)? {
         Pause::Barrier => Ok(Some(Stage::Waits)),
@@ -108,7 +108,7 @@ pub(crate) fn go<'k>(
     ensures ran { (layout : ElementLayout) → TellsWords arrays.now layout → member.old.lane.place.arrays ≡ arrays.now
         → IfOk result (λ _. RanTo layout path.now (seen memory.old member.old) (seen memory.new member.new)) }
     ensures stops { (layout : ElementLayout) → TellsWords arrays.now layout → member.old.lane.place.arrays ≡ arrays.now
-        → IfErr result (λ e. IfStopped (LaneStopped layout path.now (seen memory.old member.old) (pool memory.new)) e) }
+        → IfErr result (λ e. IfStopped (LaneStopped layout path.now (seen memory.old member.old) (pool memory.new)) (LaneLong layout path.now (seen memory.old member.old)) e) }
 {
     'steps: for _ in 0..u64::MAX {
         if let Some(stage) = advance(alloc, depth, arrays, path, member, memory)? {
@@ -145,7 +145,7 @@ fn run_phase<'k>(
     ensures ran { (layout : ElementLayout) → TellsWords arrays.now layout → HaveArrays arrays.now (all_idle members.old)
         → IfOk result (λ _. RanPhase layout at.now number (all_idle members.old) (pool memory.old) (all_idle members.new) (pool memory.new)) }
     ensures stops { (layout : ElementLayout) → TellsWords arrays.now layout → HaveArrays arrays.now (all_idle members.old)
-        → IfErr result (λ e. IfStopped (λ first. TeamWent layout at.now number (all_idle members.old) (pool memory.old) (pool memory.new) (Some first)) e) }
+        → IfErr result (λ e. IfStopped (λ first. TeamWent layout at.now number (all_idle members.old) (pool memory.old) (pool memory.new) (Some first)) (TeamLong layout at.now number (all_idle members.old) (pool memory.old)) e) }
 {
     let mut first = Ok(());
     for member in members.iter_mut() {
@@ -176,7 +176,7 @@ fn run_phases<'k>(
     ensures ran { (layout : ElementLayout) → TellsWords arrays.now layout → HaveArrays arrays.now (all_idle members.old)
         → IfOk result (λ _. RanPhases layout at.now number (all_idle members.old) (pool memory.old) (all_idle members.new) (pool memory.new)) }
     ensures stops { (layout : ElementLayout) → TellsWords arrays.now layout → HaveArrays arrays.now (all_idle members.old)
-        → IfErr result (λ e. IfStopped (PhasesStopped layout at.now number (all_idle members.old) (pool memory.old) (pool memory.new)) e) }
+        → IfErr result (λ e. IfStopped (PhasesStopped layout at.now number (all_idle members.old) (pool memory.old) (pool memory.new)) (PhasesLong layout at.now number (all_idle members.old) (pool memory.old)) e) }
 {
     'phases: for _ in 0..u64::MAX {
         run_phase(alloc, depth, arrays, at, number, members, memory)?;
@@ -209,7 +209,7 @@ fn region<'k>(
         → IfOk result (λ _. RanRegion layout arrays.now (team_of team.now) locals.now.slots.items at.now number (pool memory.old) (pool memory.new)
         (map whole_log done.old.items) (map whole_log done.new.items)) }
     ensures stops { (layout : ElementLayout) → TellsWords arrays.now layout
-        → IfErr result (λ e. IfStopped (RegionStopped layout arrays.now (team_of team.now) locals.now.slots.items at.now number (pool memory.old) (pool memory.new)) e) }
+        → IfErr result (λ e. IfStopped (RegionStopped layout arrays.now (team_of team.now) locals.now.slots.items at.now number (pool memory.old) (pool memory.new)) (RegionLong layout arrays.now (team_of team.now) locals.now.slots.items at.now number (pool memory.old)) e) }
 {
     let mut members = begin_team(alloc, arrays, team, locals)?;
     run_phases(alloc, depth, arrays, at, number, &mut members, memory)?;

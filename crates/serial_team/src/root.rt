@@ -6,7 +6,7 @@ ghost use Rattle.kernel_syntax.specs.Program.{program_of};
 ghost use Rattle.serial_run.specs.Placing.{ElementLayout, TellsWords};
 ghost use Rattle.serial_team.specs.Members.{whole_log};
 ghost use Rattle.serial_team.specs.Running.{RanRoot};
-ghost use Rattle.serial_team.specs.Stopping.{IfStopped, RootStopped};
+ghost use Rattle.serial_team.specs.Stopping.{IfStopped, RootLong, RootStopped};
 
 use crate::member::{Member, Stage, TaskLog, is_at};
 use crate::region::go;
@@ -56,7 +56,7 @@ pub fn run_serially(alloc: Global, kernel: &Kernel, left: u32) -> Result<SerialR
     requires alone { (program_of kernel.now).main.span ≡ 1 }
     ensures ran { (layout : ElementLayout) → TellsWords kernel.now.arrays layout
         → IfOk result (λ r. RanRoot layout (program_of kernel.now) left (map whole_log r.logs.items) r.words.items) }
-    ensures stopped { (layout : ElementLayout) → TellsWords kernel.now.arrays layout → IfErr result (λ e. IfStopped (RootStopped layout (program_of kernel.now) left) e) }
+    ensures stopped { (layout : ElementLayout) → TellsWords kernel.now.arrays layout → IfErr result (λ e. IfStopped (RootStopped layout (program_of kernel.now) left) (RootLong layout (program_of kernel.now) left) e) }
 {
     let arrays = kernel.arrays.as_slice();
     let locals = locals(alloc, kernel.slots)?;

@@ -35,7 +35,7 @@ pub enum Stop {
 impl Stop {
     /// Why the run doesn't go on where this task, which has put so many records, stands still.
     pub fn of(halt: Halt, path: &Path, count: u32) -> Stop
-        ensures tells { TellsHalt path.now halt result }
+        ensures tells { TellsHalt path.now count halt result }
     {
         let path = path.copy();
         match halt {

@@ -1,7 +1,7 @@
 //! The kernels of `examples/`, and what the README says that the program prints of them.
 
 use call_fixtures::{Case, EMPTY, all_pass};
-use command_answer::{DIFFERS, DONE, KERNEL_STOPPED, RACES};
+use command_answer::{DIFFERS, DONE, KERNEL_STOPPED, RACES, UNCERTAIN};
 use std::test::Fail;
 
 const COUNT: &str =
@@ -79,6 +79,21 @@ const EXAMPLES: Case<'static> = Case {
             "stopped t-0.1.swl line 6: Index\n",
         ),
         (&["show", "logs"], DONE, FIRST_LINES),
+        (
+            &["certify", "shift.kernel"],
+            UNCERTAIN,
+            "race 6 6\nraces 1\nuncertain: races\n",
+        ),
+        (
+            &["certify", "count.kernel"],
+            DONE,
+            "certain\ntasks 3\nrecords 22\nsum a 8\n",
+        ),
+        (
+            &["certify", "beyond.kernel"],
+            UNCERTAIN,
+            "uncertain: stopped t-0.1.swl line 6: Index\n",
+        ),
     ],
     left: &[("stopped/index.swi", None)],
     ..EMPTY

@@ -1,7 +1,7 @@
 //! Kernels of `examples/` in pairs, one that races and its mended twin: what `run`, `check` and `replay` print of each.
 
-use call_fixtures::{Whole, all_run};
-use command_answer::{DONE, RACES};
+use call_fixtures::{Verdict, Whole, all_judged, all_run};
+use command_answer::{DONE, RACES, UNCERTAIN};
 use std::test::Fail;
 
 const HEAT: &str =
@@ -329,6 +329,68 @@ const RACING: &[Whole<'static>] = &[
     (GATHER_RACE, "...", RACES, "race 6 8\nraces 1\n"),
     (HISTOGRAM_RACE, "...", RACES, "race 8 8\nraces 1\n"),
 ];
+
+// What `certify` prints of them.
+const VERDICTS: &[Verdict<'static>] = &[
+    (
+        HEAT,
+        DONE,
+        "certain\ntasks 5\nrecords 1147\nsum u 1592\nsum v 592\n",
+    ),
+    (
+        HEAT_RACE,
+        UNCERTAIN,
+        "race 7 7\nraces 1\nuncertain: races\n",
+    ),
+    (SUM, UNCERTAIN, "uncertain: construct line 11\n"),
+    (SUM_RACE, UNCERTAIN, "race 8 8\nraces 1\nuncertain: races\n"),
+    (
+        WAVEFRONT,
+        DONE,
+        "certain\ntasks 5\nrecords 193\nsum g 1144\n",
+    ),
+    (
+        WAVEFRONT_RACE,
+        UNCERTAIN,
+        "race 8 8\nraces 1\nuncertain: races\n",
+    ),
+    (
+        PREFIX_SUM,
+        DONE,
+        "certain\ntasks 5\nrecords 155\nsum a 120\nsum b 120\n",
+    ),
+    (
+        PREFIX_SUM_RACE,
+        UNCERTAIN,
+        "race 9 9\nraces 1\nuncertain: races\n",
+    ),
+    (NESTED, DONE, "certain\ntasks 5\nrecords 12\nsum a 3\n"),
+    (
+        NESTED_RACE,
+        UNCERTAIN,
+        "race 7 11\nraces 1\nuncertain: races\n",
+    ),
+    (GATHER, UNCERTAIN, "uncertain: construct line 6\n"),
+    (GATHER_RACE, UNCERTAIN, "uncertain: construct line 6\n"),
+    (HISTOGRAM, UNCERTAIN, "uncertain: construct line 9\n"),
+    (
+        HISTOGRAM_RACE,
+        UNCERTAIN,
+        "race 8 8\nraces 1\nuncertain: races\n",
+    ),
+    (HISTOGRAM_ATOMIC, UNCERTAIN, "uncertain: construct line 8\n"),
+    (COUNTER_ATOMIC, UNCERTAIN, "uncertain: construct line 5\n"),
+    (
+        SHIFT_MENDED,
+        DONE,
+        "certain\ntasks 3\nrecords 22\nsum a 0\nsum b 0\n",
+    ),
+];
+
+#[test]
+fn each_has_its_verdict(rt: HostRuntime) -> Result<(), Fail> {
+    all_judged(&rt, rt.alloc(), VERDICTS)
+}
 
 #[test]
 fn mended_kernels_have_no_race(rt: HostRuntime) -> Result<(), Fail> {

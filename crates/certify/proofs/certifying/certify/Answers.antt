@@ -16,9 +16,12 @@ judge-requires-after_bounds g c κs within =
     record {
       fixed = c.first_construct.ensures.fixed c.in_default.is;
       lawful = c.requires;
-      layout = layout.words;
-      run = logs_run layout program c.requires tells MOST_RECORDS _ _ (c.in-Ok.ensures.ran layout tells);
+      run = logs_run layout program c.requires tells refl MOST_RECORDS _ _ (c.in-Ok.ensures.ran layout tells);
+      ran = c.in-Ok.ensures.ran;
     }
+
+pub returns-in-Err-Long : goal.returns-in-Err-Long
+returns-in-Err-Long g c = record { tells = (c.first_construct.ensures.fixed c.in_default.is, λ layout tells. rw c.in-Err-Long.field-0-is (rw c.in-Err-Long.field-0-is at c.in-Err-Long.ensures.stopped layout tells)) }
 
 pub returns-in-Err-Stopped : goal.returns-in-Err-Stopped
 returns-in-Err-Stopped g c = record { tells = (c.first_construct.ensures.fixed c.in_default.is, λ layout tells. rw c.in-Err-Stopped.field-0-is (rw c.in-Err-Stopped.field-0-is at c.in-Err-Stopped.ensures.stopped layout tells)) }

@@ -10,13 +10,13 @@ folder_of-requires g c = keep_rules (program_of c.args.kernel.now) (map whole_lo
 
 pub returns-in-Ok : goal.returns-in-Ok
 returns-in-Ok g c =
-    has_certain_run (program_of c.args.kernel.now) (map whole_log c.args.run.logs.items) c.args.run.words.items c.requires (codes "c") _ c.in_ok-folder.ensures c.in-Ok.pairs.keys _ _ c.in-Ok.ensures.pairs (c.is_empty.ensures.0 c.if-is_empty.true)
+    has_certain_run (program_of c.args.kernel.now) (map whole_log c.args.run.logs.items) c.args.run.words.items c.requires (codes "c") _ c.in_ok-folder.ensures c.in-Ok.pairs.keys _ _ c.in-Ok.ensures.pairs (c.is_free.ensures.0 c.if-is_free.true)
     (c.count_of-tasks.ensures ∙ (ap length c.deref.ensures.value ∙ sym (length-map c.args.run.logs.items whole_log))) (c.records_of-records.ensures ∙ search rules)
 
 pub returns-in-Ok-2 : goal.returns-in-Ok-2
 returns-in-Ok-2 g c =
     has_races (program_of c.args.kernel.now) (map whole_log c.args.run.logs.items) c.args.run.words.items c.requires (codes "c") _ c.in_ok-folder.ensures c.in-Ok.pairs.keys c.in-Ok.ensures.pairs
-    (λ zero. let yes = c.is_empty.ensures.1 zero in let no = c.if-is_empty.false in cc)
+    (λ zero. let yes = c.is_free.ensures.1 zero in let no = c.if-is_free.false in cc)
 
 pub returns-in-Err-TooManySegments : goal.returns-in-Err-TooManySegments
 returns-in-Err-TooManySegments g c =

@@ -1,4 +1,5 @@
-use Rattle.folder_commands.proofs.OneSummary.{Prints-after, Prints-broken, Prints-counted}
+use Rattle.command_answer.proofs.Answering.{Prints-after, Prints-broken}
+use Rattle.folder_commands.proofs.OneSummary.{Prints-counted}
 use Rattle.folder_commands.proofs.generating.print_summary.Goals as goal
 
 pub returns-in-Ok-clause-prints : goal.returns-in-Ok-clause-prints

@@ -1,4 +1,4 @@
-use Rattle.std.proofs.Common.{◌≡◌, ◌<◌, ◌+◌, ◌∙◌, List, ap, sym, subst, refl, arith, length, get_or, Option, Result, map, take, drop}
+use Rattle.std.proofs.Common.{◌≡◌, ◌<◌, ◌+◌, ◌∙◌, ℕ, List, ap, sym, subst, refl, arith, length, get_or, Option, Some, Result, map, take, drop}
 use Rattle.std.specs.Prelude.{IfOk, IsErr, slice_set}
 use Rattle.std.proofs.lemmas.List.{drop_all, drop_more, length-map, length-set, get_or-set_other}
 use Rattle.std.proofs.lemmas.Result.{err_from_is_err_and}
@@ -15,9 +15,9 @@ use Rattle.serial_team.specs.declared.member.Stage.{Stage}
 use Rattle.serial_team.specs.declared.member.Stage.TheVariants as stage
 use Rattle.serial_team.specs.declared.stop.Stop.{Stop}
 use Rattle.serial_team.specs.declared.stop.StopWhy.TheVariants as why
-use Rattle.serial_team.specs.Stopping.{StopsPast, IfStopped, LaneStopped, PhasesStopped, RegionStopped, StopsBelow}
-use Rattle.serial_team.proofs.Stopped.{TeamFromSo, phases_stop_here, phases_stop_more, so_ends, so_runs, so_stops, stop_so, told_is_err, stops_in_region, stops_more, stops_past_region, stops_too_many}
-use Rattle.serial_team.specs.Members.{BeginTeam, whole_log, MemberValue, all_idle, idle_member, later, path_in, pool, seen}
+use Rattle.serial_team.specs.Stopping.{StopsPast, IfStopped, LaneLong, LaneStopped, LongBelow, PhasesLong, PhasesStopped, RegionLong, RegionStopped, StopsBelow, TeamWent}
+use Rattle.serial_team.proofs.Stopped.{TeamFromSo, TeamLongFrom, TeamCame, came_runs, came_stops, long_here, long_in_region, phases_stop_here, phases_stop_more, so_ends, stop_so, told_is_err, stops_in_region, stops_more, stops_past_region, stops_too_many}
+use Rattle.serial_team.specs.Members.{BeginTeam, Pool, whole_log, MemberValue, all_idle, idle_member, later, path_in, pool, seen}
 use Rattle.serial_team.specs.Running.{Goes, RanBelow, RanPhase, RanTo}
 use Rattle.serial_team.proofs.Going.{arrays_at, goes_more, goes_past_region, if_err, if_then, ran_to_barrier, ran_to_end, value_of}
 use Rattle.serial_team.proofs.Phases.{PhaseFrom, phase_ends, phase_more, phases_last, phases_more}
@@ -97,6 +97,14 @@ go-steps-preserved t c = record {
       (subst (λ (o : Option Stage). StopsPast layout c.args.path.now mid new o) c.in_default.is (c.in_ok-stage.ensures.onward layout tells (ap (λ (w : Site). w.arrays) before.at ∙ own)));
 }
 
+-- a lane that stopped is the one that stood there when the phase began
+stopped_here : (layout : ElementLayout) (at : List Step) (number : ℕ) (q after : Pool) (e : Stop) (path : List Step) (m old : Member) → m ≡ old → path ≡ path_in at number (idle_member old)
+    → IfStopped (LaneStopped layout path (later (idle_member m) q) after) (LaneLong layout path (later (idle_member m) q)) e
+    → IfStopped (LaneStopped layout (path_in at number (idle_member old)) (later (idle_member old) q) after) (LaneLong layout (path_in at number (idle_member old)) (later (idle_member old) q)) e
+stopped_here layout at number q after e path m old here path_is s =
+    subst (λ (x : Member). IfStopped (LaneStopped layout (path_in at number (idle_member old)) (later (idle_member x) q) after) (LaneLong layout (path_in at number (idle_member old)) (later (idle_member x) q)) e) here
+    (subst (λ (l : List Step). IfStopped (LaneStopped layout l (later (idle_member m) q) after) (LaneLong layout l (later (idle_member m) q)) e) path_is s)
+
 pub run_phase-loop-member-preserved : goal.run_phase-loop-member-preserved
 run_phase-loop-member-preserved t c =
     let inv = c.loop-member.invariant in
@@ -126,27 +134,26 @@ run_phase-loop-member-preserved t c =
                 (if_then c.loop-member.first So Next (λ so. phase_more layout c.args.at.now c.args.number old now (pool c.args.memory.now) (pool c.loop-member.memory) n item after within inv.long so y ran_here refl)
                 (inv.ran layout tells have))
           ];
-      went = λ layout tells have.
+      came = λ layout tells have.
           let x = idle_member (get_or old n item) in
           let left = all_idle (drop (n + 1) old) in
           let p = pool c.args.memory.now in
           let q = pool c.loop-member.memory in
           let own : (get_or now n item).lane.place.arrays ≡ c.args.arrays.now = ap (λ (m : Member). m.lane.place.arrays) here ∙ arrays_at c.args.arrays.now old n item within have in
           let path : c.path-path.result ≡ path_in c.args.at.now c.args.number x = c.path-path.ensures ∙ ap (λ (m : Member). path_in c.args.at.now c.args.number (idle_member m)) here in
-          let so = subst (λ (us : List MemberValue). TeamFromSo layout c.args.at.now c.args.number (all_idle old) us p q c.loop-member.first) (ap all_idle (drop_more old n item within)) (inv.went layout tells have) in
+          let so = subst (λ (us : List MemberValue). TeamCame layout c.args.at.now c.args.number (all_idle old) us p q c.loop-member.first) (ap all_idle (drop_more old n item within)) (inv.came layout tells have) in
           elim c.match-go.branch [
             | run_phase-in-Err+else-not-is_of_task w ↦
                 let e = w.in-Err.stop in
                 let now_at = pool c.go.new.memory in
-                subst (λ (r : Result (Unit {0}) Stop). TeamFromSo layout c.args.at.now c.args.number (all_idle old) left p now_at r) (sym (w.first-is ∙ w.first_stop-first.ensures))
-                (so_stops layout c.args.at.now c.args.number (all_idle old) left x p q c.loop-member.first now_at e so
-                (subst (λ (m : Member). IfStopped (LaneStopped layout (path_in c.args.at.now c.args.number x) (later (idle_member m) q) now_at) e) here
-                (subst (λ (l : List Step). IfStopped (LaneStopped layout l (seen c.loop-member.memory (get_or now n item)) now_at) e) path (w.in-Err.ensures.stops layout tells own)))
+                subst (λ (r : Result (Unit {0}) Stop). TeamCame layout c.args.at.now c.args.number (all_idle old) left p now_at r) (sym (w.first-is ∙ w.first_stop-first.ensures))
+                (came_stops layout c.args.at.now c.args.number (all_idle old) left x p q c.loop-member.first now_at e so
+                (stopped_here layout c.args.at.now c.args.number q now_at e c.path-path.result (get_or now n item) (get_or old n item) here path (w.in-Err.ensures.stops layout tells own))
                 (sym w.is_of_task.ensures ∙ w.if-not-is_of_task.false))
             | run_phase-in_default w ↦
                 let ran : RanTo layout c.path-path.result (seen c.loop-member.memory (get_or now n item)) y = w.in_default.ensures.ran layout tells own in
-                subst (λ (r : Result (Unit {0}) Stop). TeamFromSo layout c.args.at.now c.args.number (all_idle old) left p (pool c.go.new.memory) r) (sym w.first-is)
-                (so_runs layout c.args.at.now c.args.number (all_idle old) left x p q c.loop-member.first y so
+                subst (λ (r : Result (Unit {0}) Stop). TeamCame layout c.args.at.now c.args.number (all_idle old) left p (pool c.go.new.memory) r) (sym w.first-is)
+                (came_runs layout c.args.at.now c.args.number (all_idle old) left x p q c.loop-member.first y so
                 (subst (λ (m : Member). RanTo layout (path_in c.args.at.now c.args.number x) (later (idle_member m) q) y) here
                 (subst (λ (l : List Step). RanTo layout l (seen c.loop-member.memory (get_or now n item)) y) path ran)))
           ];
@@ -167,7 +174,7 @@ run_phase-returns t c =
       stops = λ layout tells have.
           so_ends layout c.args.at.now c.args.number (all_idle old) (pool c.args.memory.now) (pool c.loop-member.memory) c.loop-member.first
           (subst (λ (us : List MemberValue). TeamFromSo layout c.args.at.now c.args.number (all_idle old) us (pool c.args.memory.now) (pool c.loop-member.memory) c.loop-member.first)
-          (ap all_idle (drop_all n old (omega (arith, c.loop-member-test.false, inv.long)))) (inv.went layout tells have));
+          (ap all_idle (drop_all n old (omega (arith, c.loop-member-test.false, inv.long)))) (inv.came layout tells have).goes);
     }
 
 pub run_phases-returns-then-all_at : goal.run_phases-returns-then-all_at
@@ -213,8 +220,9 @@ advance-returns-in_err-fork-in-Fork-clause-stops t c =
     λ layout tells own.
     let at = subst (λ (q : Pause). PausesAt layout x.stand s q) c.in-Fork.is (c.in_ok-resume.ensures.pauses layout (subst (λ (l : List Array). TellsWords l layout) (sym own) tells)) in
     rw (p.1, p.2)
-    (stop_so (StopsBelow layout c.args.path.now team there now) (LaneStopped layout c.args.path.now x now) c.in_err-fork-in-Fork.field-0.0
+    (stop_so (StopsBelow layout c.args.path.now team there now) (LaneStopped layout c.args.path.now x now) (LongBelow layout c.args.path.now team there) (LaneLong layout c.args.path.now x) c.in_err-fork-in-Fork.field-0.0
     (λ first f. subst (λ (v : MemberValue). LaneStopped layout c.args.path.now v now first) same (f x.stand at))
+    (λ long f. subst (λ (v : MemberValue). LaneLong layout c.args.path.now v long) same (f x.stand at))
     (c.in_err-fork-in-Fork.ensures.stops layout tells (ap (λ (w : Site). w.arrays) at.at ∙ own)))
 
 pub fork-returns-in_err-region-clause-stops : goal.fork-returns-in_err-region-clause-stops
@@ -225,8 +233,10 @@ fork-returns-in_err-region-clause-stops t c =
     let now = pool c.region.new.memory in
     λ layout tells own.
     rw (p.1, p.2)
-    (stop_so (RegionStopped layout c.args.arrays.now team x.stand.slots c.args.path.now x.forked (pool c.args.memory.now) now) (StopsBelow layout c.args.path.now team x now) c.in_err-region.field-0.0
+    (stop_so (RegionStopped layout c.args.arrays.now team x.stand.slots c.args.path.now x.forked (pool c.args.memory.now) now) (StopsBelow layout c.args.path.now team x now)
+    (RegionLong layout c.args.arrays.now team x.stand.slots c.args.path.now x.forked (pool c.args.memory.now)) (LongBelow layout c.args.path.now team x) c.in_err-region.field-0.0
     (stops_in_region layout c.args.path.now x team c.args.arrays.now own (let deep = c.requires.deep in let some = c.if-depth-eq0.false in omega arith) now)
+    (long_in_region layout c.args.path.now x team c.args.arrays.now own (let deep = c.requires.deep in let some = c.if-depth-eq0.false in omega arith) now)
     (c.in_err-region.ensures.stops layout tells))
 
 pub fork-returns-then-len-gt-MOST_BELOW-clause-stops : goal.fork-returns-then-len-gt-MOST_BELOW-clause-stops
@@ -249,7 +259,8 @@ go-returns-in_err-stage-clause-stops t c =
     λ layout tells own.
     let before = c.steps.invariant.goes layout tells own in
     rw (p.1, p.2)
-    (stop_so (LaneStopped layout c.args.path.now mid now) (LaneStopped layout c.args.path.now x now) c.in_err-stage.field-0.0 ((c.steps.invariant.stops layout tells own).stops now)
+    (stop_so (LaneStopped layout c.args.path.now mid now) (LaneStopped layout c.args.path.now x now) (LaneLong layout c.args.path.now mid) (LaneLong layout c.args.path.now x) c.in_err-stage.field-0.0
+    ((c.steps.invariant.stops layout tells own).stops now) (c.steps.invariant.stops layout tells own).runs_out
     (c.in_err-stage.ensures.stops layout tells (ap (λ (w : Site). w.arrays) before.at ∙ own)))
 
 pub region-returns-in_err-run_phases-clause-stops : goal.region-returns-in_err-run_phases-clause-stops
@@ -262,8 +273,9 @@ region-returns-in_err-run_phases-clause-stops t c =
     let now = pool c.run_phases.new.memory in
     λ layout tells.
     rw (p.1, p.2)
-    (stop_so (PhasesStopped layout c.args.at.now c.args.number xs old now) (RegionStopped layout c.args.arrays.now team c.args.locals.now.slots.items c.args.at.now c.args.number old now) c.in_err-run_phases.field-0.0
-    (λ first s. record { before = xs; begin = begin; stopped = s })
+    (stop_so (PhasesStopped layout c.args.at.now c.args.number xs old now) (RegionStopped layout c.args.arrays.now team c.args.locals.now.slots.items c.args.at.now c.args.number old now)
+    (PhasesLong layout c.args.at.now c.args.number xs old) (RegionLong layout c.args.arrays.now team c.args.locals.now.slots.items c.args.at.now c.args.number old) c.in_err-run_phases.field-0.0
+    (λ first s. record { before = xs; begin = begin; stopped = s }) (λ long l. record { before = xs; begin = begin; runs_out = l })
     (c.in_err-run_phases.ensures.stops layout tells (λ k d less. ap (λ (w : Site). w.arrays) (begin.each k d (omega (arith, less, begin.count))).at)))
 
 pub run_phases-returns-in_err-run_phase-clause-stops : goal.run_phases-returns-in_err-run_phase-clause-stops
@@ -274,3 +286,24 @@ run_phases-returns-in_err-run_phase-clause-stops t c =
     rw (p.1, p.2)
     (phases_stop_here layout c.args.at.now c.args.number (all_idle c.args.members.now) (all_idle c.phases.members) (pool c.args.memory.now) (pool c.phases.memory) (pool c.run_phase.new.memory) c.in_err-run_phase.field-0.0
     (c.phases.invariant.stops layout tells have) (c.in_err-run_phase.ensures.stops layout tells from.have))
+
+pub run_phase-returns-then-not-is_of_task-clause-stops : goal.run_phase-returns-then-not-is_of_task-clause-stops
+run_phase-returns-then-not-is_of_task-clause-stops t c = λ layout tells have.
+    let inv = c.loop-member.invariant in
+    let old = c.args.members.now in
+    let now = c.loop-member.members in
+    let n = c.loop-member.member-index in
+    let item = c.member-item.result in
+    let within : n < length old = omega (arith, c.loop-member-test.true, inv.long) in
+    let here : get_or now n item ≡ get_or old n item = inv.rest n item (omega arith) in
+    let x = idle_member (get_or old n item) in
+    let p = pool c.args.memory.now in
+    let q = pool c.loop-member.memory in
+    let e = c.in-Err.stop in
+    let now_at = pool c.go.new.memory in
+    let own : (get_or now n item).lane.place.arrays ≡ c.args.arrays.now = ap (λ (m : Member). m.lane.place.arrays) here ∙ arrays_at c.args.arrays.now old n item within have in
+    let path : c.path-path.result ≡ path_in c.args.at.now c.args.number x = c.path-path.ensures ∙ ap (λ (m : Member). path_in c.args.at.now c.args.number (idle_member m)) here in
+    let from = subst (λ (us : List MemberValue). TeamLongFrom layout c.args.at.now c.args.number (all_idle old) us p q) (ap all_idle (drop_more old n item within)) (inv.came layout tells have).runs_out in
+    long_here layout c.args.at.now c.args.number (all_idle old) (all_idle (drop (n + 1) old)) x p q now_at e (λ first. TeamWent layout c.args.at.now c.args.number (all_idle old) p now_at (Some first)) from
+    (stopped_here layout c.args.at.now c.args.number q now_at e c.path-path.result (get_or now n item) (get_or old n item) here path (c.in-Err.ensures.stops layout tells own))
+    (sym c.is_of_task.ensures ∙ c.if-not-is_of_task.true)

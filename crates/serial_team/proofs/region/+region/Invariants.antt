@@ -5,7 +5,7 @@ use Rattle.serial_team.specs.Members.{all_idle, pool, seen}
 use Rattle.serial_team.specs.Running.{GoesFrom, HaveArrays}
 use Rattle.serial_team.proofs.Phases.{PhaseFrom, PhasesFrom}
 use Rattle.serial_team.specs.Stopping.{StopsFrom}
-use Rattle.serial_team.proofs.Stopped.{TeamFromSo, PhasesStopFrom}
+use Rattle.serial_team.proofs.Stopped.{TeamCame, PhasesStopFrom}
 use Rattle.serial_team.proofs.region.+region.Given as goal
 
 abbrev pub decreases-fork : goal.decreases-fork
@@ -38,8 +38,8 @@ invariant-run_phase-loop-member l = record {
   rest : (k : ℕ) (d : _) → l.member-index ≤ k → slice_index_or l.members k d ≡ slice_index_or l.fn.members k d;
   ran : (layout : ElementLayout) → TellsWords l.fn.arrays layout → HaveArrays l.fn.arrays (all_idle l.fn.members)
       → IfOk l.first (λ _. PhaseFrom layout l.fn.at l.fn.number (all_idle l.fn.members) (all_idle (drop l.member-index l.fn.members)) (pool l.fn.memory) (all_idle (take l.member-index l.members)) (pool l.memory));
-  went : (layout : ElementLayout) → TellsWords l.fn.arrays layout → HaveArrays l.fn.arrays (all_idle l.fn.members)
-      → TeamFromSo layout l.fn.at l.fn.number (all_idle l.fn.members) (all_idle (drop l.member-index l.fn.members)) (pool l.fn.memory) (pool l.memory) l.first;
+  came : (layout : ElementLayout) → TellsWords l.fn.arrays layout → HaveArrays l.fn.arrays (all_idle l.fn.members)
+      → TeamCame layout l.fn.at l.fn.number (all_idle l.fn.members) (all_idle (drop l.member-index l.fn.members)) (pool l.fn.memory) (pool l.memory) l.first;
 }
 
 abbrev pub invariant-run_phases-phases : goal.invariant-run_phases-phases

@@ -11,7 +11,7 @@ use Rattle.serial_run.specs.Placing.{TellsWords}
 use Rattle.serial_team.specs.declared.member.TaskLog.{TaskLog}
 use Rattle.serial_team.specs.Members.{BeginsLane, Pool, idle_member, later, logs_at, pool, seen, whole_log}
 use Rattle.serial_team.specs.Running.{LaneRuns}
-use Rattle.serial_team.specs.Stopping.{LaneStopped, RootStopped}
+use Rattle.serial_team.specs.Stopping.{LaneLong, LaneStopped, RootLong, RootStopped}
 use Rattle.serial_team.proofs.Stopped.{stop_so}
 use Rattle.serial_team.proofs.root.run_serially.Goals as goal
 
@@ -65,7 +65,8 @@ returns-in_err-go-clause-stopped c =
     } in
     λ layout tells.
     rw (e.1, e.2)
-    (stop_so (LaneStopped layout c.root.result (later before (pool c.in_ok-memory.memory)) now) (RootStopped layout program c.args.left) c.in_err-go.field-0.0
+    (stop_so (LaneStopped layout c.root.result (later before (pool c.in_ok-memory.memory)) now) (RootStopped layout program c.args.left)
+    (LaneLong layout c.root.result (later before (pool c.in_ok-memory.memory))) (RootLong layout program c.args.left) c.in_err-go.field-0.0
     (λ first stopped. record {
       before = before;
       begins =
@@ -75,5 +76,14 @@ returns-in_err-go-clause-stopped c =
       stopped =
           subst (λ (p : Pool). LaneStopped layout [] (later before p) now first) start
           (subst (λ (path : List Step). LaneStopped layout path (later before (pool c.in_ok-memory.memory)) now first) c.root.ensures stopped);
+    })
+    (λ long l. record {
+      before = before;
+      begins =
+          subst (λ (slots : List ℤ). BeginsLane program.arrays program.main slots 0 before) c.in_ok-locals.ensures
+          (subst (λ (l : List Array). BeginsLane l program.main c.in_ok-locals.locals.slots.items 0 before) c.as_slice-arrays.ensures begun);
+      runs_out =
+          subst (λ (p : Pool). LaneLong layout [] (later before p) long) start
+          (subst (λ (path : List Step). LaneLong layout path (later before (pool c.in_ok-memory.memory)) long) c.root.ensures l);
     })
     (c.in_err-go.ensures.stops layout (subst (λ (l : List Array). TellsWords l layout) (sym c.as_slice-arrays.ensures) tells) (ap (λ (w : Site). w.arrays) begun.at)))

@@ -1,5 +1,5 @@
 -- Each kind of expression, from what its parts made.
-use Rattle.std.proofs.Common.{◌≡◌, ◌-◌, ℕ, ℤ, ap, sym, subst, ◌∙◌, Err, pos, w64, to_z, of_z, FitsSigned, rules}
+use Rattle.std.proofs.Common.{◌≡◌, ℕ, ℤ, ap, sym, subst, ◌∙◌, Err, pos, w64, to_z, of_z, FitsSigned, rules}
 use Rattle.std.specs.Prelude.{slice_index_or, ok_or}
 use Rattle.std.proofs.lemmas.Result.{err_from_is_err_and}
 use Rattle.std.proofs.lemmas.Int.{to_z-of_z}
@@ -8,11 +8,10 @@ use Rattle.kernel_syntax.specs.Program.{term_of}
 use Rattle.kernel_syntax.specs.Arithmetic.{negated, applied}
 use Rattle.kernel_syntax.specs.Tree as tree
 use Rattle.kernel_model.specs.Value.{element_at, loaded, value}
-use Rattle.kernel_model.specs.Trace.{log_limit}
 use Rattle.kernel_model.specs.Effect.{Returned}
 use Rattle.kernel_model.proofs.Effects.{makes-Number, makes-Slot, makes-Tid, makes-Span}
 use Rattle.serial_run.specs.declared.halt.Halt.TheVariants.{DivZero}
-use Rattle.serial_run.specs.Going.{Goes, Made, progress}
+use Rattle.serial_run.specs.Going.{Goes, Made, progress, room_of}
 use Rattle.serial_run.proofs.Following.{made_still}
 use Rattle.serial_run.proofs.Values.{load_stops, load_goes, neg_stops, neg_goes, left_stops, right_stops, binary_goes}
 use Rattle.serial_run.proofs.track.Track.+value.Goals as goal
@@ -66,7 +65,7 @@ returns-in-Number t c =
     λ layout tells.
     subst (λ (v : ℤ). Made layout (value at (term_of c.args.expr.now)) slots slots old old (Returned v)) (sym (to_z-of_z w64 c.in-Number.number fits))
     (subst (λ (e : Expr). Made layout (value at (term_of e)) slots slots old old (Returned c.in-Number.number)) (sym c.in-Number.is)
-    (made_still layout (value at (tree.Number c.in-Number.number)) slots old (Returned c.in-Number.number) (makes-Number at slots (log_limit - old.count) c.in-Number.number)))
+    (made_still layout (value at (tree.Number c.in-Number.number)) slots old (Returned c.in-Number.number) (makes-Number at slots (room_of layout.bound old) c.in-Number.number)))
 
 pub returns-in-Slot : goal.returns-in-Slot
 returns-in-Slot t c =
@@ -75,7 +74,7 @@ returns-in-Slot t c =
     λ layout tells.
     subst (λ (v : ℤ). Made layout (value at (term_of c.args.expr.now)) slots slots old old (Returned v)) (sym (to_z-of_z w64 c.get.result fits ∙ c.get.ensures))
     (subst (λ (e : Expr). Made layout (value at (term_of e)) slots slots old old (Returned (slice_index_or slots c.in-Slot.slot (pos 0)))) (sym c.in-Slot.is)
-    (made_still layout (value at (tree.Slot c.in-Slot.slot)) slots old (Returned (slice_index_or slots c.in-Slot.slot (pos 0))) (makes-Slot at slots (log_limit - old.count) c.in-Slot.slot)))
+    (made_still layout (value at (tree.Slot c.in-Slot.slot)) slots old (Returned (slice_index_or slots c.in-Slot.slot (pos 0))) (makes-Slot at slots (room_of layout.bound old) c.in-Slot.slot)))
 
 pub returns-in-Tid : goal.returns-in-Tid
 returns-in-Tid t c =
@@ -84,7 +83,7 @@ returns-in-Tid t c =
     λ layout tells.
     subst (λ (v : ℤ). Made layout (value at (term_of c.args.expr.now)) slots slots old old (Returned v)) (sym (to_z-of_z w64 c.from.result fits ∙ c.from.ensures ∙ ap (λ (n : ℕ). pos n) c.lane.ensures))
     (subst (λ (e : Expr). Made layout (value at (term_of e)) slots slots old old (Returned (pos at.lane))) (sym c.in-Tid.is)
-    (made_still layout (value at tree.Tid) slots old (Returned (pos at.lane)) (makes-Tid at slots (log_limit - old.count))))
+    (made_still layout (value at tree.Tid) slots old (Returned (pos at.lane)) (makes-Tid at slots (room_of layout.bound old))))
 
 pub returns-in-Span : goal.returns-in-Span
 returns-in-Span t c =
@@ -93,7 +92,7 @@ returns-in-Span t c =
     λ layout tells.
     subst (λ (v : ℤ). Made layout (value at (term_of c.args.expr.now)) slots slots old old (Returned v)) (sym (to_z-of_z w64 c.from-in-Span.result fits ∙ c.from-in-Span.ensures ∙ ap (λ (n : ℕ). pos n) c.span.ensures.span))
     (subst (λ (e : Expr). Made layout (value at (term_of e)) slots slots old old (Returned (pos at.span))) (sym c.in-Span.is)
-    (made_still layout (value at tree.Span) slots old (Returned (pos at.span)) (makes-Span at slots (log_limit - old.count))))
+    (made_still layout (value at tree.Span) slots old (Returned (pos at.span)) (makes-Span at slots (room_of layout.bound old))))
 
 pub returns-in_ok-at-in-Load : goal.returns-in_ok-at-in-Load
 returns-in_ok-at-in-Load t c =

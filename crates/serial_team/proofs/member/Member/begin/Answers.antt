@@ -17,5 +17,5 @@ returns-in-Ok c = record {
     unforked = refl;
     none_below = ap (λ (l : List TaskLog). map whole_log l) c.new.ensures.items;
   };
-  other = tt;
+  memory = tt;
 }

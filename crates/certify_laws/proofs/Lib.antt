@@ -1,0 +1,3 @@
+mod TooMany
+mod OneAnswer
+mod OneVerdict

@@ -1,0 +1,165 @@
+-- A kernel has one verdict.
+use Rattle.std.proofs.Common.{◌≡◌, ℕ, List, [], ◌∷◌, map, length, Some, refl, sym, ap, subst, ◌∙◌, arith}
+use Rattle.std.specs.Prelude.{Contains, slice_get}
+use Rattle.std.proofs.lemmas.List.Elements.{All-head, All-tail}
+use Rattle.std.proofs.lemmas.Option.{same_Some}
+use Rattle.sw_base.specs.declared.path.Step.{Step}
+use Rattle.sw_base.specs.Environment.{Files}
+use Rattle.log_format.specs.declared.format.TheConstants.{FORMAT}
+use Rattle.log_format.specs.Format.{log_header}
+use Rattle.log_format.proofs.Logs.{log_bytes-injective}
+use Rattle.race_model.specs.BadPlace.{too_many_segments}
+use Rattle.race_model.specs.FirstBad.{HoldsLogs, HoldsTrace}
+use Rattle.race_model.specs.LogFault.{IsWholeLog}
+use Rattle.race_model.specs.Race.{IsRacePair, Lists}
+use Rattle.race_model.specs.Trace.{TaskLog, Trace, logs_of}
+use Rattle.kernel_syntax.specs.Program.{Program}
+use Rattle.kernel_model.specs.Lawful.{IsLawful}
+use Rattle.certainty_model.specs.Certain.{IsFixed}
+use Rattle.construct_finder.proofs.Fixed.{have_none}
+use Rattle.construct_finder.specs.Constructs.{construct_lines}
+use Rattle.folder_commands.proofs.OneAnswer.{one_list}
+use Rattle.serial_team.specs.Members.{WholeLog}
+use Rattle.serial_team.specs.Stopping.{LongAt, StopAt}
+use Rattle.serial_laws.specs.SerialRuns.{spelled}
+use Rattle.serial_run.specs.Placing.{ElementLayout, TellsWords}
+use Rattle.serial_team.specs.declared.stop.StopWhy.{StopWhy}
+use Rattle.serial_unique.proofs.Root.{one_long, one_run, one_stop, run_or_long, run_or_stop, stop_or_long}
+use Rattle.certify.proofs.Layouts.{element_layout, tells_words}
+use Rattle.certify.specs.declared.certifying.TheConstants.{MOST_RECORDS}
+use Rattle.certify.specs.declared.verdict.Verdict.{Verdict}
+use Rattle.certify.specs.declared.verdict.Verdict.TheVariants as verdict
+use Rattle.certify.specs.Verdicts.{AreCompared, HasCertainRun, HasRaces, OpensOneTooMany, RunsTo, Tells, records_in}
+use Rattle.certify_laws.specs.Same.{SayTheSame}
+use Rattle.certify_laws.proofs.TooMany.{bad_there, same_first}
+
+abbrev IsWhole : Files → List ℕ → TaskLog → Type 0
+IsWhole files dir task = IsWholeLog FORMAT files dir task.path task.records
+
+-- logs that are the same are of the same tasks, whatever folders hold them
+module _ (files folder : Files) (dir at : List ℕ) where
+  task_once : (t u : TaskLog) → spelled u ≡ spelled t → IsWhole files dir t → IsWhole folder at u → u ≡ t
+  task_once t u same here there =
+      let path = ap (λ (log : WholeLog). log.path) same in
+      let records = log_bytes-injective (log_header FORMAT) u.records t.records there.tabled here.tabled (ap (λ (log : WholeLog). log.bytes) same) in
+      λ i. record { path = path i; records = records i }
+
+  tasks_once : (ts us : Trace) → map spelled us ≡ map spelled ts → HoldsLogs FORMAT files dir ts → HoldsLogs FORMAT folder at us → us ≡ ts
+  tasks_once [] [] same here there = refl
+  tasks_once [] (u ∷ us) same here there = cc
+  tasks_once (t ∷ ts) [] same here there = cc
+  tasks_once (t ∷ ts) (u ∷ us) same here there =
+      let first : spelled u ≡ spelled t = cc in
+      let others : map spelled us ≡ map spelled ts = cc in
+      let head = task_once t u first (All-head (IsWhole files dir) t ts here) (All-head (IsWhole folder at) u us there) in
+      let tail = tasks_once ts us others (All-tail (IsWhole files dir) t ts here) (All-tail (IsWhole folder at) u us there) in
+      λ i. head i ∷ tail i
+
+-- a fixed kernel has no construct
+no_construct : (program : Program) (line : ℕ) → slice_get (construct_lines program.main.body) 0 ≡ Some line → IsFixed program.main.body → ⊥
+no_construct program line found fixed = let none : construct_lines program.main.body ≡ [] = have_none program.main.body fixed in absurd (let e : slice_get [] 0 ≡ Some line = ap (λ (ls : List ℕ). slice_get ls 0) (sym none) ∙ found in cc)
+
+module _ (program : Program) (lawful : IsLawful program) where
+  abbrev layout : ElementLayout
+  layout = element_layout program
+
+  tells : TellsWords program.arrays layout
+  tells = tells_words program lawful.bounded
+
+  -- ---- one run
+
+  runs_once : (ts us : Trace) (words final : List ℕ) → RunsTo program ts words → RunsTo program us final → (map spelled us ≡ map spelled ts) × (final ≡ words)
+  runs_once ts us words final a b = one_run layout refl program MOST_RECORDS a.fixed (map spelled ts) words (a.ran layout tells) (map spelled us) final (b.ran layout tells)
+
+  module _ (ts us : Trace) (words final : List ℕ) (a : RunsTo program ts words) (b : RunsTo program us final) (files folder : Files) (dir at : List ℕ)
+      (here : HoldsTrace FORMAT files dir ts) (there : HoldsTrace FORMAT folder at us) where
+    same_run : us ≡ ts
+    same_run = tasks_once files folder dir at ts us (runs_once ts us words final a b).0 here.logs there.logs
+
+    held_too : HoldsTrace FORMAT folder at ts
+    held_too = subst (λ (trace : Trace). HoldsTrace FORMAT folder at trace) same_run there
+
+  segments_once : (path other : List Step) (n m : ℕ) → OpensOneTooMany program path n → OpensOneTooMany program other m → (other ≡ path) × (m ≡ n)
+  segments_once path other n m a b =
+      same_first FORMAT a.tasks a.files b.files a.dir b.dir a.holds (held_too a.tasks b.tasks a.words b.words a.runs b.runs a.files b.files a.dir b.dir a.holds b.holds) path other n m a.first b.first
+
+  segments_or_compared : (path : List Step) (n : ℕ) (tasks : Trace) (words : List ℕ) → OpensOneTooMany program path n → RunsTo program tasks words → AreCompared tasks → ⊥
+  segments_or_compared path n tasks words a runs c =
+      c.well_formed (too_many_segments a.first.row n) (bad_there FORMAT a.tasks a.files c.files a.dir c.dir a.holds (held_too a.tasks tasks a.words words a.runs runs a.files c.files a.dir c.dir a.holds c.holds) a.first.row n a.first.first.bad)
+
+  races_once : (pairs others : List (ℕ × ℕ)) → HasRaces program pairs → HasRaces program others → others ≡ pairs
+  races_once pairs others a b =
+      let same = same_run a.tasks b.tasks a.words b.words a.runs b.runs a.compared.files b.compared.files a.compared.dir b.compared.dir a.compared.holds b.compared.holds in
+      one_list (IsRacePair (logs_of a.tasks)) others pairs (subst (λ (trace : Trace). Lists (IsRacePair (logs_of trace)) others) same b.races) a.races
+
+  races_or_certain : (pairs : List (ℕ × ℕ)) (n m : ℕ) (words : List ℕ) → HasRaces program pairs → HasCertainRun program n m words → ⊥
+  races_or_certain pairs n m words a b =
+      let same = same_run a.tasks b.tasks a.words words a.runs b.runs a.compared.files b.compared.files a.compared.dir b.compared.dir a.compared.holds b.compared.holds in
+      a.some (none pairs (λ pair is. b.certain.no_race pair (subst (λ (trace : Trace). IsRacePair (logs_of trace) pair) (sym same) ((a.races.each pair).0 is))))
+    where
+      none : (pairs : List (ℕ × ℕ)) → ((pair : ℕ × ℕ) → Contains pairs pair → ⊥) → pairs ≡ []
+      none [] apart = refl
+      none (p ∷ pairs) apart = absurd (apart p (0, omega arith, refl))
+
+  certain_once : (n m k l : ℕ) (words final : List ℕ) → HasCertainRun program n m words → HasCertainRun program k l final → (k ≡ n) × (l ≡ m) × (final ≡ words)
+  certain_once n m k l words final a b =
+      let same = same_run a.tasks b.tasks words final a.runs b.runs a.compared.files b.compared.files a.compared.dir b.compared.dir a.compared.holds b.compared.holds in (
+        b.count_is ∙ (ap (λ (trace : Trace). length trace) same ∙ sym a.count_is),
+        b.records_are ∙ (ap (λ (trace : Trace). records_in trace) same ∙ sym a.records_are),
+        (runs_once a.tasks b.tasks words final a.runs b.runs).1,
+      )
+
+  -- ---- one kind
+
+  long_or_ran : (path : List Step) (n : ℕ) (tasks : Trace) (words : List ℕ) → Tells program (verdict.Long path n) → RunsTo program tasks words → ⊥
+  long_or_ran path n tasks words l runs = run_or_long layout refl program MOST_RECORDS runs.fixed (map spelled tasks) words (runs.ran layout tells) (record { path = path; number = n }) (l.1 layout tells)
+
+  stop_or_ran : (path : List Step) (line : ℕ) (why : StopWhy) (tasks : Trace) (words : List ℕ) → Tells program (verdict.Stopped path line why) → RunsTo program tasks words → ⊥
+  stop_or_ran path line why tasks words l runs =
+      run_or_stop layout refl program MOST_RECORDS runs.fixed (map spelled tasks) words (runs.ran layout tells) (record { path = path; line = line; why = why }) (l.1 layout tells)
+
+  long_or_stop : (path other : List Step) (n line : ℕ) (why : StopWhy) → Tells program (verdict.Long path n) → Tells program (verdict.Stopped other line why) → ⊥
+  long_or_stop path other n line why l s =
+      stop_or_long layout refl program MOST_RECORDS l.0 (record { path = other; line = line; why = why }) (record { path = path; number = n }) (s.1 layout tells) (l.1 layout tells)
+
+  pub one_verdict : (v w : Verdict) → Tells program v → Tells program w → SayTheSame v w
+  one_verdict (verdict.Construct line) (verdict.Construct other) a b = same_Some other line (sym b ∙ a)
+  one_verdict (verdict.Construct line) (verdict.Long path n) a b = absurd (no_construct program line a b.0)
+  one_verdict (verdict.Construct line) (verdict.Stopped path k why) a b = absurd (no_construct program line a b.0)
+  one_verdict (verdict.Construct line) (verdict.Segments path n) a b = absurd (no_construct program line a b.runs.fixed)
+  one_verdict (verdict.Construct line) (verdict.Racy pairs) a b = absurd (no_construct program line a b.runs.fixed)
+  one_verdict (verdict.Construct line) (verdict.Certain n m words) a b = absurd (no_construct program line a b.runs.fixed)
+  one_verdict (verdict.Long path n) (verdict.Construct line) a b = absurd (no_construct program line b a.0)
+  one_verdict (verdict.Long path n) (verdict.Long other m) a b =
+      let same = one_long layout refl program MOST_RECORDS a.0 (record { path = path; number = n }) (record { path = other; number = m }) (a.1 layout tells) (b.1 layout tells) in
+      (ap (λ (l : LongAt). l.path) same, ap (λ (l : LongAt). l.number) same)
+  one_verdict (verdict.Long path n) (verdict.Stopped other k why) a b = absurd (long_or_stop path other n k why a b)
+  one_verdict (verdict.Long path n) (verdict.Segments other m) a b = absurd (long_or_ran path n b.tasks b.words a b.runs)
+  one_verdict (verdict.Long path n) (verdict.Racy pairs) a b = absurd (long_or_ran path n b.tasks b.words a b.runs)
+  one_verdict (verdict.Long path n) (verdict.Certain k m words) a b = absurd (long_or_ran path n b.tasks words.items a b.runs)
+  one_verdict (verdict.Stopped path line why) (verdict.Construct k) a b = absurd (no_construct program k b a.0)
+  one_verdict (verdict.Stopped path line why) (verdict.Long other n) a b = absurd (long_or_stop other path n line why b a)
+  one_verdict (verdict.Stopped path line why) (verdict.Stopped other k also) a b =
+      let same = one_stop layout refl program MOST_RECORDS a.0 (record { path = path; line = line; why = why }) (record { path = other; line = k; why = also }) (a.1 layout tells) (b.1 layout tells) in
+      (ap (λ (s : StopAt). s.path) same, ap (λ (s : StopAt). s.line) same, ap (λ (s : StopAt). s.why) same)
+  one_verdict (verdict.Stopped path line why) (verdict.Segments other m) a b = absurd (stop_or_ran path line why b.tasks b.words a b.runs)
+  one_verdict (verdict.Stopped path line why) (verdict.Racy pairs) a b = absurd (stop_or_ran path line why b.tasks b.words a b.runs)
+  one_verdict (verdict.Stopped path line why) (verdict.Certain k m words) a b = absurd (stop_or_ran path line why b.tasks words.items a b.runs)
+  one_verdict (verdict.Segments path n) (verdict.Construct line) a b = absurd (no_construct program line b a.runs.fixed)
+  one_verdict (verdict.Segments path n) (verdict.Long other m) a b = absurd (long_or_ran other m a.tasks a.words b a.runs)
+  one_verdict (verdict.Segments path n) (verdict.Stopped other line why) a b = absurd (stop_or_ran other line why a.tasks a.words b a.runs)
+  one_verdict (verdict.Segments path n) (verdict.Segments other m) a b = segments_once path other n m a b
+  one_verdict (verdict.Segments path n) (verdict.Racy pairs) a b = absurd (segments_or_compared path n b.tasks b.words a b.runs b.compared)
+  one_verdict (verdict.Segments path n) (verdict.Certain k m words) a b = absurd (segments_or_compared path n b.tasks words.items a b.runs b.compared)
+  one_verdict (verdict.Racy pairs) (verdict.Construct line) a b = absurd (no_construct program line b a.runs.fixed)
+  one_verdict (verdict.Racy pairs) (verdict.Long other m) a b = absurd (long_or_ran other m a.tasks a.words b a.runs)
+  one_verdict (verdict.Racy pairs) (verdict.Stopped other line why) a b = absurd (stop_or_ran other line why a.tasks a.words b a.runs)
+  one_verdict (verdict.Racy pairs) (verdict.Segments other m) a b = absurd (segments_or_compared other m a.tasks a.words b a.runs a.compared)
+  one_verdict (verdict.Racy pairs) (verdict.Racy others) a b = races_once pairs.keys others.keys a b
+  one_verdict (verdict.Racy pairs) (verdict.Certain k m words) a b = absurd (races_or_certain pairs.keys k m words.items a b)
+  one_verdict (verdict.Certain k m words) (verdict.Construct line) a b = absurd (no_construct program line b a.runs.fixed)
+  one_verdict (verdict.Certain k m words) (verdict.Long other n) a b = absurd (long_or_ran other n a.tasks words.items b a.runs)
+  one_verdict (verdict.Certain k m words) (verdict.Stopped other line why) a b = absurd (stop_or_ran other line why a.tasks words.items b a.runs)
+  one_verdict (verdict.Certain k m words) (verdict.Segments other n) a b = absurd (segments_or_compared other n a.tasks words.items b a.runs a.compared)
+  one_verdict (verdict.Certain k m words) (verdict.Racy pairs) a b = absurd (races_or_certain pairs.keys k m words.items b a)
+  one_verdict (verdict.Certain k m words) (verdict.Certain i j final) a b = certain_once k m i j words.items final.items a b

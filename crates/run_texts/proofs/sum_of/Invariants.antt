@@ -1,0 +1,10 @@
+use Rattle.std.proofs.Common.{◌≡◌, ◌*◌, ◌^◌, drop, pos, neg_ℤ, ◌+ℤ◌, ◌≤ℤ◌}
+use Rattle.run_texts.specs.Texts.{sum_of}
+use Rattle.run_texts.proofs.sum_of.Given as goal
+
+abbrev pub invariant-loop-value : goal.invariant-loop-value
+invariant-loop-value l = record {
+  summed : l.sum +ℤ sum_of (drop l.value-index l.values) ≡ sum_of l.values;
+  low : neg_ℤ (pos (l.value-index * 2 ^ 63)) ≤ℤ l.sum;
+  high : l.sum ≤ℤ pos (l.value-index * 2 ^ 63);
+}

@@ -1,0 +1,7 @@
+mod Doing
+mod GoAlike
+mod Growing
+mod Moving
+mod Once
+mod Rooms
+pub mod Root

@@ -1,0 +1,12 @@
+//! The law of serial runs that a kernel has one: a serial run of a fixed kernel ends with one set of logs and words, or at one stop, or at one
+//! record too many.
+//!
+//! Two traces of a fixed task go alike until they read different values of one element (`GoAlike`), and one that may make fewer records goes
+//! like one that may make more, until it may make none (`Rooms`). A task of a serial run reads what its words hold, so from the same words it
+//! goes on to the same record at which it stands still, or to the same stop; and then so do the lanes of a phase, the phases of a region,
+//! and the root.
+#![tactic(auto)]
+
+mod laws;
+
+pub use laws::a_kernel_has_one_serial_run;
