@@ -1,6 +1,6 @@
 //! Tables of cases: a folder, what is asked over it, and what is left.
 
-use crate::commands::{REPLAY, RUN, printed};
+use crate::commands::{CERTIFY, REPLAY, RUN, printed};
 use crate::folders::{Task, hold_old_tasks, hold_tasks};
 use crate::witnesses::are_witnessed;
 use command_answer::{DONE, RACES};
@@ -84,15 +84,27 @@ fn other_answer<R: Threads + Wait + Sync + Copy + Send + 'static>(
     Ok(Some(format!(in alloc; "status {answered}: {text}")?))
 }
 
+// The words, with `live` in place of `run`, where the threads of teams are to stay.
+fn worded<'a>(alloc: Global, given: &[&'a str], stays: bool) -> Result<Vec<&'a str>, Memory> {
+    let mut words = Vec::new(alloc);
+    for word in given {
+        let is_run = stays && words.is_empty() && *word == "run";
+        words.push(if is_run { "live" } else { *word })?;
+    }
+    Ok(words)
+}
+
 // The first answer that isn't what is due, by the number of its question from 0.
 fn first_other_answer<R: Threads + Wait + Sync + Copy + Send + 'static>(
     rt: &R,
     alloc: Global,
     folder: &mut MemFolder,
     case: &Case<'_>,
+    stays: bool,
 ) -> Result<Option<String>, Memory> {
     for (number, (given, status, text)) in case.asked.iter().enumerate() {
-        if let Some(other) = other_answer(rt, alloc, folder, case.failing, given, *status, text)? {
+        let words = worded(alloc, given, stays)?;
+        if let Some(other) = other_answer(rt, alloc, folder, case.failing, &words, *status, text)? {
             return Ok(Some(format!(in alloc; "question {number}: {other}")?));
         }
     }
@@ -130,8 +142,9 @@ fn difference<R: Threads + Wait + Sync + Copy + Send + 'static>(
     alloc: Global,
     folder: &mut MemFolder,
     case: &Case<'_>,
+    stays: bool,
 ) -> Result<Option<String>, Memory> {
-    if let Some(other) = first_other_answer(rt, alloc, folder, case)? {
+    if let Some(other) = first_other_answer(rt, alloc, folder, case, stays)? {
         return Ok(Some(other));
     }
     if let Some(name) = other_file(folder, case.left) {
@@ -162,9 +175,10 @@ fn other_case<R: Threads + Wait + Sync + Copy + Send + 'static>(
     rt: &R,
     alloc: Global,
     case: &Case<'_>,
+    stays: bool,
 ) -> Result<Option<String>, Memory> {
     let mut folder = folder_of(alloc, case)?;
-    let other = difference(rt, alloc, &mut folder, case)?;
+    let other = difference(rt, alloc, &mut folder, case, stays)?;
     if other.is_some() || !case.failing.is_empty() {
         return Ok(other);
     }
@@ -174,15 +188,27 @@ fn other_case<R: Threads + Wait + Sync + Copy + Send + 'static>(
     Ok(Some(String::from_str(alloc, "the records behind a report")?))
 }
 
-// The first case, by its number from 0, and what comes out otherwise of it.
+// Whether the case asks for a run.
+fn asks_run(case: &Case<'_>) -> bool {
+    case.asked
+        .iter()
+        .any(|(given, _, _)| given.first() == Some(&"run"))
+}
+
+// The first case, by its number from 0, and what comes out otherwise of it, by `run` or by `live`.
 fn first_difference<R: Threads + Wait + Sync + Copy + Send + 'static>(
     rt: &R,
     alloc: Global,
     cases: &[Case<'_>],
 ) -> Result<Option<String>, Memory> {
     for (number, case) in cases.iter().enumerate() {
-        if let Some(other) = other_case(rt, alloc, case)? {
+        if let Some(other) = other_case(rt, alloc, case, false)? {
             return Ok(Some(format!(in alloc; "case {number}: {other}")?));
+        }
+        if asks_run(case)
+            && let Some(other) = other_case(rt, alloc, case, true)?
+        {
+            return Ok(Some(format!(in alloc; "case {number} by live: {other}")?));
         }
     }
     Ok(None)
@@ -212,10 +238,11 @@ pub fn passes<R: Threads + Wait + Sync + Copy + Send + 'static>(
     folder: &mut MemFolder,
     case: &Case<'_>,
 ) -> Result<(), Fail> {
-    no_difference(difference(rt, alloc, folder, case))
+    no_difference(difference(rt, alloc, folder, case, false))
 }
 
-/// Fails with the first case, each in a folder of its own, and what comes out otherwise of it.
+/// Fails with the first case, each in a folder of its own, and what comes out otherwise of it. One that asks for a run is asked by `run`
+/// and then by `live`.
 pub fn all_pass<R: Threads + Wait + Sync + Copy + Send + 'static>(
     rt: &R,
     alloc: Global,
@@ -258,11 +285,13 @@ fn other_run<R: Threads + Wait + Sync + Copy + Send + 'static>(
     alloc: Global,
     workers: &str,
     whole: &Whole<'_>,
+    stays: bool,
 ) -> Result<Option<String>, Memory> {
     let (kernel, text, status, races) = whole;
     let mut folder = MemFolder::new(alloc)?;
     folder.hold("k", kernel.as_bytes())?;
-    let ran = other_answer(rt, alloc, &mut folder, &[], RUN, DONE, text)?;
+    let words = worded(alloc, RUN, stays)?;
+    let ran = other_answer(rt, alloc, &mut folder, &[], &words, DONE, text)?;
     if ran.is_some() {
         return Ok(ran);
     }
@@ -285,14 +314,17 @@ fn first_other_run<R: Threads + Wait + Sync + Copy + Send + 'static>(
     kernels: &[Whole<'_>],
 ) -> Result<Option<String>, Memory> {
     for (number, whole) in kernels.iter().enumerate() {
-        if let Some(other) = other_run(rt, alloc, workers, whole)? {
+        if let Some(other) = other_run(rt, alloc, workers, whole, false)? {
             return Ok(Some(format!(in alloc; "kernel {number}: {other}")?));
+        }
+        if let Some(other) = other_run(rt, alloc, workers, whole, true)? {
+            return Ok(Some(format!(in alloc; "kernel {number} by live: {other}")?));
         }
     }
     Ok(None)
 }
 
-/// Fails with the first kernel that doesn't run to its end and print its text, or whose folder so many workers don't check so or
+/// Fails with the first kernel that by `run` or by `live` doesn't run to its end and print its text, or whose folder so many workers don't check so or
 /// isn't a run of it.
 pub fn all_run<R: Threads + Wait + Sync + Copy + Send + 'static>(
     rt: &R,
@@ -301,4 +333,32 @@ pub fn all_run<R: Threads + Wait + Sync + Copy + Send + 'static>(
     kernels: &[Whole<'_>],
 ) -> Result<(), Fail> {
     no_difference(first_other_run(rt, alloc, workers, kernels))
+}
+
+/// A kernel, and the status and the text of its verdict.
+pub type Verdict<'a> = (&'a str, u8, &'a str);
+
+// The first kernel, by its number from 0, and what `certify` prints otherwise of it.
+fn first_other_verdict<R: Threads + Wait + Sync + Copy + Send + 'static>(
+    rt: &R,
+    alloc: Global,
+    verdicts: &[Verdict<'_>],
+) -> Result<Option<String>, Memory> {
+    for (number, (kernel, status, text)) in verdicts.iter().enumerate() {
+        let mut folder = MemFolder::new(alloc)?;
+        folder.hold("k", kernel.as_bytes())?;
+        if let Some(other) = other_answer(rt, alloc, &mut folder, &[], CERTIFY, *status, text)? {
+            return Ok(Some(format!(in alloc; "kernel {number}: {other}")?));
+        }
+    }
+    Ok(None)
+}
+
+/// Fails with the first kernel that has another verdict.
+pub fn all_judged<R: Threads + Wait + Sync + Copy + Send + 'static>(
+    rt: &R,
+    alloc: Global,
+    verdicts: &[Verdict<'_>],
+) -> Result<(), Fail> {
+    no_difference(first_other_verdict(rt, alloc, verdicts))
 }

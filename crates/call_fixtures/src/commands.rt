@@ -17,9 +17,12 @@ pub const REPLAY: &[&str] = &["replay", "k", "d"];
 /// What prints the folder's records.
 pub const SHOW: &[&str] = &["show", "d"];
 
+/// What tells whether all runs of a kernel are one.
+pub const CERTIFY: &[&str] = &["certify", "k"];
+
 /// What other words are answered with.
 pub const USAGE_LINE: &str =
-    "usage: sword check DIR W | run KERNEL DIR SIZE | replay KERNEL DIR | show DIR | gen N W | upgrade DIR NEW | explain DIR L M | confirm DIR A I B J\n";
+    "usage: sword check DIR W | run KERNEL DIR SIZE | replay KERNEL DIR | show DIR | gen N W | upgrade DIR NEW | explain DIR L M | confirm DIR A I B J | certify KERNEL | live KERNEL DIR SIZE\n";
 
 fn arguments(alloc: Global, given: &[&str]) -> Result<Vec<String>, AllocError> {
     let mut all = Vec::new(alloc);

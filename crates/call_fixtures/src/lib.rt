@@ -13,9 +13,9 @@ mod folders;
 mod witnesses;
 
 pub use cases::{
-    Case, EMPTY, Question, Whole, all_pass, all_run, answers, folder_of, holds, no_difference,
-    passes, passes_past,
+    Case, EMPTY, Question, Verdict, Whole, all_judged, all_pass, all_run, answers, folder_of,
+    holds, no_difference, passes, passes_past,
 };
-pub use commands::{REPLAY, RUN, SHOW, USAGE_LINE, asked, printed};
+pub use commands::{CERTIFY, REPLAY, RUN, SHOW, USAGE_LINE, asked, printed};
 pub use faults::{Calls, each_call_may_fail};
 pub use folders::{BARRIER, END, ROOT, Rec, Step, Task, hold_old_tasks, hold_tasks};

@@ -10,7 +10,7 @@ use std::sync::atomic::{AtomicU64, Ordering};
 use std::test::Fail;
 use std::thread::{Builder, Threads};
 use sw_base::Gate;
-use team_live::{LiveGate, with_staying};
+use team_live::{LiveGate, in_phases, with_staying};
 
 /// How often the thread of each lane started, and how often each lane entered a phase.
 #[derive(Drop)]
@@ -99,19 +99,21 @@ fn builder(refused: u64, lane: usize) -> Builder {
 }
 
 // A team, in each phase of which each lane gets the phase's digit, and the hand 1 before it and 2 after it.
-fn team<R: Threads + Wait + Copy + Send + 'static>(
+fn team<R: Threads + Wait + Copy + Send + Sync + 'static>(
     rt: &R,
     alloc: Global,
     gate: &Counts,
     case: &Case,
-) -> Result<Option<(u64, Vec<u64>, bool)>, AllocError> {
+    stays: bool,
+) -> Result<(u64, Vec<u64>, bool), AllocError> {
     let mut lanes = Vec::new(alloc);
     lanes.resize(case.lanes.clamp(1, 64), 0u64)?;
     let stop = case.stop;
     let refused = case.refused;
-    Ok(with_staying::<Brand, R, u64, u64, _, _, _, _, _>(
+    Ok(in_phases::<Brand, R, u64, u64, _, _, _, _, _>(
         rt,
         alloc,
+        stays,
         case.phases,
         0,
         lanes,
@@ -126,25 +128,24 @@ fn team<R: Threads + Wait + Copy + Send + 'static>(
             *hand = with_digit(*hand, 2);
             *hand != stop
         },
-    )
-    .ok())
+    ))
 }
 
-// Whether the team of this case does what is to come of it.
-fn holds<R: Threads + Wait + Copy + Send + 'static>(
+// Whether the team of this case does what is to come of it, with threads that stay, or without one that tells of its start.
+fn holds<R: Threads + Wait + Copy + Send + Sync + 'static>(
     rt: &R,
     alloc: Global,
     case: &Case,
+    stays: bool,
 ) -> Result<bool, AllocError> {
     let gate = Counts::new(alloc, case.lanes)?;
-    let Some((hand, lanes, whole)) = team(rt, alloc, &gate, case)? else {
-        return Err(AllocError);
-    };
+    let (hand, lanes, whole) = team(rt, alloc, &gate, case, stays)?;
     let each = lanes.iter().all(|lane| *lane == case.lane);
+    let threads = if stays { case.threads } else { 0 };
     Ok(
         each && lanes.len() == case.lanes
             && (whole, hand) == (case.whole, case.hand)
-            && gate.are(case.threads, case.done),
+            && gate.are(threads, case.done),
     )
 }
 
@@ -236,7 +237,9 @@ const CASES: [Case; 12] = [
 #[test]
 fn lanes_do_their_phases_in_order_on_threads_that_start_once(rt: HostRuntime) -> Result<(), Fail> {
     for (row, case) in CASES.iter().enumerate() {
-        assert!(rt; holds(&rt, rt.alloc(), case)?, "row {row}");
+        for stays in [false, true] {
+            assert!(rt; holds(&rt, rt.alloc(), case, stays)?, "row {row}, {stays}");
+        }
     }
     Ok(())
 }

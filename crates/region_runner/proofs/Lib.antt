@@ -28,6 +28,8 @@ pub mod TeamSteps
 pub mod LastPhase
 pub mod PhaseHands
 pub mod TeamLoop
+pub mod Plans
+pub mod Meetings
 pub mod RanRegions
 pub mod NotedStops
 pub mod OpenedLogs

@@ -1,9 +1,9 @@
 -- A team in the loop over its phases.
-use Rattle.std.proofs.Common.{◌≡◌, inl, inr, refl, ap, sym, ◌∙◌, subst, ℕ, suc, ◌+◌, ◌<◌, ◌≤◌, List, [], ◌∷◌, ◌++◌, length, map, take, drop, Option, Some, None, slice_index_or, arith}
+use Rattle.std.proofs.Common.{◌≡◌, inl, inr, refl, ap, sym, ◌∙◌, subst, ℕ, ◌+◌, ◌<◌, ◌≤◌, List, [], ◌∷◌, ◌++◌, length, map, take, drop, Option, Some, None, slice_index_or, arith}
 use Rattle.std.specs.Prelude.{All, Bool, true, false, nat_lt}
 use Rattle.std.proofs.lemmas.Bool.{ltb-true, ltb-false}
-use Rattle.std.proofs.lemmas.List.{append-nil, get_or_append_left, get_or_default, length-append, take-append-drop}
-use Rattle.std.proofs.Math.Seq.{get_or-append_seam, take-suc}
+use Rattle.std.proofs.lemmas.List.{append-nil, get_or_default, length-append, take-append-drop}
+use Rattle.std.proofs.Math.Seq.{get_or-append_seam}
 use Rattle.std.proofs.lemmas.List.Elements.{All-nil, All-cons, All-head, All-tail}
 use Rattle.sw_base.specs.declared.path.Step.{Step}
 use Rattle.kernel_model.specs.declared.phase.Item.{Item}
@@ -14,7 +14,6 @@ use Rattle.history_model.proofs.Parts.{count_cons}
 use Rattle.shared_words.specs.declared.view.View.{View}
 use Rattle.shared_words.specs.Handles.{HandValue}
 use Rattle.history_model.specs.Work.{Phases, NoPhase}
-use Rattle.history_model.specs.Sound.{PassAllBarriers}
 use Rattle.lane_runner.specs.Going.{site}
 use Rattle.lane_runner.proofs.Bodies.{log_still}
 use Rattle.lane_runner.proofs.Phases.{no_bars}
@@ -24,19 +23,12 @@ use Rattle.region_runner.specs.Crew.{CrewValue, world_of}
 use Rattle.region_runner.specs.Ground.{GroundValue, IsOurLane}
 use Rattle.lane_runner.specs.Lane.{LaneValue, answer_of, progress}
 use Rattle.region_runner.specs.Ran.{TaskGoes, task_part}
-use Rattle.region_runner.specs.Stands.{AllGo, HasLastBar, IsFresh, LaneStands, MayGoOn, TeamRan, TeamStands}
+use Rattle.region_runner.specs.Stands.{AllGo, HasLastBar, HasPassed, IsFresh, LaneStands, MayGoOn, TeamRan, TeamStands}
 use Rattle.lane_runner.specs.declared.stop.Halt.{Halt}
 use Rattle.region_runner.proofs.RegionLanes.{parts_both}
 use Rattle.region_runner.proofs.Standing.{drawn_after, drawn_both, ran_none}
 use Rattle.region_runner.proofs.TeamPhases.{none_did}
 use Rattle.region_runner.proofs.TeamSteps.{TeamSteps}
-
--- the team stands after these phases, and all its lanes go on
-pub record HasPassed (crew : CrewValue) (items : List (List Item)) (old new : HandValue View) (before after : List LaneValue) : Type 0 where
-  pub phases : Phases
-  pub stands : TeamStands crew items None phases old new before after
-  pub goes : AllGo after
-  pub pass : PassAllBarriers phases
 
 -- a lane before its first phase
 pub stands_first : (crew : CrewValue) (lane : ℕ) (m : LaneValue) → IsFresh crew m → LaneStands crew m [] None NoPhase lane m
@@ -171,38 +163,9 @@ all_more lanes n m inside is so_far goes k d less = by (nat_lt k n) refl where
       let same : k ≡ n = let past = ltb-false k n below in omega (arith, past, less) in
       ap (λ (j : ℕ). (slice_index_or lanes j d).stopped) same ∙ ap (λ (x : LaneValue). x.stopped) (get_or_default lanes n d m inside) ∙ ap (λ (x : LaneValue). x.stopped) (sym is) ∙ goes
 
--- ---- the phases before the last, one by one
+-- ---- the last phase
 
 module _ (phases earlier : List (List Item)) (last : List Item) (parts : phases ≡ earlier ++ last ∷ []) where
-  module _ (n : ℕ) (x : List Item) (inside : n < length earlier) (is : x ≡ slice_index_or earlier n x) where
-    within : n < length phases
-    within = let count = ap (λ (ps : List (List Item)). length ps) parts ∙ length-append earlier (last ∷ []) in omega (arith, inside, count)
-
-    pub phase_has : (P : List Item → Type 0) → All P phases → P x
-    phase_has P all = subst P (ap (λ (ps : List (List Item)). slice_index_or ps n x) parts ∙ get_or_append_left earlier (last ∷ []) x n inside ∙ sym is) (all n x within)
-
-    pub take_next : take (n + 1) earlier ≡ take n earlier ++ x ∷ []
-    take_next = ap (λ (k : ℕ). take k earlier) (let e : n + 1 ≡ suc n = omega arith in e) ∙ take-suc earlier n x inside ∙ ap (λ (y : List Item). take n earlier ++ y ∷ []) (sym is)
-
-    pub phase_ends : AreDivided phases → bar_count (map part_of x) ≡ 1
-    phase_ends divided =
-        let same = (snoc_same earlier divided.earlier last divided.last (sym parts ∙ divided.parts)).0 in
-        one_bar x
-        (subst EndsInBar (ap (λ (ps : List (List Item)). slice_index_or ps n x) (sym same) ∙ sym is)
-        (divided.each n x (subst (λ (ps : List (List Item)). n < length ps) same inside)))
-
-  few_earlier : (loops : ℕ) → drawn_count (parts_in phases) ≤ loops → drawn_count (parts_in earlier) ≤ loops
-  few_earlier loops few =
-      let whole = ap (λ (ps : List (List Item)). drawn_count (parts_in ps)) parts ∙ drawn_after earlier last in
-      omega (arith, whole, few)
-
-  pub few_next : (n : ℕ) (x : List Item) (loops : ℕ) → n < length earlier → x ≡ slice_index_or earlier n x → drawn_count (parts_in phases) ≤ loops → drawn_count (parts_in (take n earlier ++ x ∷ [])) ≤ loops
-  few_next n x loops inside is few =
-      subst (λ (ps : List (List Item)). drawn_count (parts_in ps) ≤ loops) (take_next n x inside is) (few_first earlier (n + 1) loops (few_earlier loops few))
-
-  pub few_last : (loops : ℕ) → drawn_count (parts_in phases) ≤ loops → drawn_count (parts_in (earlier ++ last ∷ [])) ≤ loops
-  few_last loops few = subst (λ (ps : List (List Item)). drawn_count (parts_in ps) ≤ loops) parts few
-
   pub last_has : (P : List Item → Type 0) → All P phases → P last
   last_has P all =
       subst P (ap (λ (ps : List (List Item)). slice_index_or ps (length earlier) last) parts ∙ get_or-append_seam earlier last [] last)

@@ -14,3 +14,5 @@ pub mod Begins
 pub mod Opening
 pub mod Root
 pub mod LastPhase
+pub mod Meeting
+pub mod Plan

@@ -8,6 +8,7 @@ use Rattle.log_format.specs.declared.record.Record.{Record}
 use Rattle.race_model.specs.Trace.{barrier_count}
 use Rattle.history_model.specs.Work.{Phases, lane_works, work_records}
 use Rattle.history_model.specs.Joined.{LastIsEnd, PhasesEnd}
+use Rattle.history_model.specs.Sound.{PassAllBarriers}
 use Rattle.kernel_model.specs.declared.phase.Item.{Item}
 use Rattle.kernel_model.specs.Parts.{bar_count, drawn_count}
 use Rattle.kernel_model.specs.Phases.{part_of, parts_in}
@@ -80,6 +81,13 @@ pub record TeamStands (crew : CrewValue) (done : List (List Item)) (end : Option
 -- all lanes go on
 abbrev pub AllGo : List LaneValue → Type 0
 AllGo lanes = (k : ℕ) (d : LaneValue) → k < length lanes → (slice_index_or lanes k d).stopped ≡ None
+
+-- the team stands after these phases, and all its lanes go on
+pub record HasPassed (crew : CrewValue) (items : List (List Item)) (old new : HandValue View) (before after : List LaneValue) : Type 0 where
+  pub phases : Phases
+  pub stands : TeamStands crew items None phases old new before after
+  pub goes : AllGo after
+  pub pass : PassAllBarriers phases
 
 -- The lane has executed no phase yet: it has drawn from no counter, forked no region, and put no record.
 pub record IsFresh (crew : CrewValue) (m : LaneValue) : Type 0 where

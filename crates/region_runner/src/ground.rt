@@ -7,18 +7,20 @@ use crate::crew::Crew;
 use kernel_syntax::Array;
 use shared_words::{Chunks, Words};
 use std::marker::Model;
-use sw_base::Gate;
+use team_live::LiveGate;
 
-// The kernel's arrays, the shared words, the gate that lanes enter, and the size of a buffer.
+// The kernel's arrays, the shared words, the gate that lanes enter, the size of a buffer, and whether a team's threads stay from its first
+// phase to its last.
 #[derive(Drop)]
-pub(crate) struct Ground<'a, G: Gate> {
+pub(crate) struct Ground<'a, G: LiveGate> {
     arrays: &'a [Array],
     words: &'a Words,
     gate: &'a G,
     size: usize,
+    stays: bool,
 }
 
-impl<'a, G: Gate> Model for Ground<'a, G> {
+impl<'a, G: LiveGate> Model for Ground<'a, G> {
     ghost use Rattle.region_runner.specs.Ground.{GroundValue, IsGround};
 
     ghost Value = { GroundValue };
@@ -28,12 +30,13 @@ impl<'a, G: Gate> Model for Ground<'a, G> {
     ghost invariant = { λ g. IsGround (record { arrays = g.arrays.now; words = g.words.now; size = g.size }) };
 }
 
-impl<'a, G: Gate> Ground<'a, G> {
+impl<'a, G: LiveGate> Ground<'a, G> {
     pub(crate) fn new(
         arrays: &'a [Array],
         words: &'a Words,
         gate: &'a G,
         size: usize,
+        stays: bool,
     ) -> Ground<'a, G>
         requires { IsGround (record { arrays = arrays.now; words = words.now; size = size }) }
         ensures { result ≡ record { arrays = arrays.now; words = words.now; size = size } }
@@ -43,6 +46,7 @@ impl<'a, G: Gate> Ground<'a, G> {
             words,
             gate,
             size,
+            stays,
         }
     }
 
@@ -66,6 +70,16 @@ impl<'a, G: Gate> Ground<'a, G> {
         ensures bounds { IsBufferSize result }
     {
         self.size
+    }
+
+    // Whether a team's threads stay.
+    pub(crate) fn stays(&self) -> bool {
+        self.stays
+    }
+
+    // The thread of a lane starts, and stays.
+    pub(crate) fn started(&self, lane: usize) {
+        self.gate.started(lane);
     }
 
     // A lane enters its phase.

@@ -20,7 +20,8 @@ use shared_words::{ChunkHand, Chunks, Hand};
 use std::alloc::Global;
 use std::sync::Wait;
 use std::thread::Threads;
-use sw_base::{ClosedLog, Gate, Log, Path, Trouble};
+use sw_base::{ClosedLog, Log, Path, Trouble};
+use team_live::LiveGate;
 
 // The lanes of a team, which begin; or what they gave, where the log of one refused; or nothing, where no memory was found for them.
 #[derive(Drop)]
@@ -85,7 +86,7 @@ pub(crate) fn open_lane<R: Threads, L: Log>(
 }
 
 // Opens the logs of all lanes of the region of this number.
-fn open_all<R: Threads, L: Log, G: Gate>(
+fn open_all<R: Threads, L: Log, G: LiveGate>(
     rt: &R,
     alloc: Global,
     ground: &Ground<'_, G>,
@@ -168,7 +169,7 @@ fn closed_of<R: Wait, L: Log>(
 }
 
 // Opens the logs of all lanes of the region of this number; where one refuses, closes the others.
-pub(crate) fn open<R: Threads + Wait, L: Log, G: Gate>(
+pub(crate) fn open<R: Threads + Wait, L: Log, G: LiveGate>(
     rt: &R,
     alloc: Global,
     ground: &Ground<'_, G>,

@@ -1,5 +1,5 @@
 //! A region: its lanes on threads of their own, phase by phase.
-ghost use Rattle.std.specs.Prelude.{◌≡◌, ◌+◌, ◌*◌, ◌-◌, ◌<◌, ◌≤◌, ℕ, [], true, false, length, All, Some, slice_index_or};
+ghost use Rattle.std.specs.Prelude.{◌≡◌, ◌+◌, ◌-◌, ◌<◌, ◌≤◌, ℕ, [], length, All, Some, slice_index_or};
 ghost use contract.BorrowLft.{◌⊑◌};
 ghost use Rattle.std.specs.Thread.{IsSend, IsSync};
 ghost use Rattle.std.specs.Vec.{vec_capacity, vec_len};
@@ -16,15 +16,19 @@ ghost use Rattle.kernel_model.specs.Parts.{drawn_count};
 ghost use Rattle.kernel_model.specs.Phases.{AreDivided, parts_in};
 ghost use Rattle.shared_words.specs.Handles.{Belongs};
 ghost use Rattle.lane_runner.specs.Lane.{CanGoOn};
+ghost use Rattle.region_runner.specs.Hands.{IsLaneHand};
 ghost use Rattle.region_runner.specs.LastPhase.{IsLast, WentOn};
-ghost use Rattle.region_runner.specs.Stands.{AllGo, IsFresh, MayGoOn, RanPhase, TeamClosed, TeamRan};
+ghost use Rattle.region_runner.specs.Meeting.{MeetsSo, PartsHands};
+ghost use Rattle.region_runner.specs.Plan.{CanBegin, Did, IsPlan, MayDo, plan_of, team_of_plan};
+ghost use Rattle.region_runner.specs.Stands.{IsFresh, TeamClosed, TeamRan};
 
 use crate::closing::{Closed, close_all};
 use crate::crew::Crew;
 use crate::ending::put_end;
 use crate::gathering::gather;
+use crate::going::go_through;
 use crate::ground::Ground;
-use crate::handing::{join_hands, split_hands};
+use crate::handing::{meet_lanes, part_lanes};
 use crate::loops::drawn_in;
 use crate::opening::{Opened, open};
 use kernel_model::Phase;
@@ -33,15 +37,16 @@ use lane_runner::{Lane, Locals, Stop};
 use shared_words::{Chunks, Hand};
 use std::alloc::Global;
 use std::marker::Send;
+use std::mem;
 use std::sync::Wait;
-use std::thread;
 use std::thread::Threads;
-use sw_base::{ClosedLog, Gate, Log, Path, Trouble};
+use sw_base::{ClosedLog, Log, Path, Trouble};
+use team_live::LiveGate;
 use team_phases::phases;
 
 // A task executes a phase, and puts its End, where a line is given for it; the regions that it forks are run in turn.
 #[cycle(region)]
-pub(crate) fn run_task<R: Threads + Wait + Sync + Copy + Send + 'static, L: Log, G: Gate>(
+pub(crate) fn run_task<R: Threads + Wait + Sync + Copy + Send + 'static, L: Log, G: LiveGate>(
     rt: &R,
     alloc: Global,
     depth: u32,
@@ -104,101 +109,46 @@ pub(crate) fn run_task<R: Threads + Wait + Sync + Copy + Send + 'static, L: Log,
     put_end(rt, alloc, end, lane);
 }
 
-// The lanes of a team execute a phase, each on a thread of its own.
+// A lane of a team does its part of the phase of this number.
 #[cycle(region)]
-fn run_lanes<R: Threads + Wait + Sync + Copy + Send + 'static, L: Log, G: Gate>(
+fn run_part<R: Threads + Wait + Sync + Copy + Send + 'static, L: Log, G: LiveGate>(
     rt: &R,
     alloc: Global,
     depth: u32,
     ground: &Ground<'_, G>,
     crew: &Crew<'_>,
-    phase: &Phase<'_>,
-    end: Option<u32>,
-    lanes: &mut [Lane<L>],
+    phases: &[Phase<'_>],
+    end: u32,
+    number: usize,
+    index: usize,
+    lane: &mut Lane<L>,
 )
-    requires crew { crew.now ≡ crew_of ground.now crew.now.chunks crew.now.span }
-    requires number { crew.now.chunks.loops < 4294967296 }
-    requires span { crew.now.span ≤ 64 }
-    requires phase { IsOurPhase ground.now (4 - depth) phase.now }
-    requires last { (line : ℕ) → end ≡ Some line → IsLast phase.now line }
-    requires count { length lanes.old ≡ crew.now.span }
-    requires some { 1 ≤ crew.now.span }
-    requires can { (i : ℕ) (d : _) → i < length lanes.old → CanGoOn (world_of crew.now i) phase.now (slice_index_or lanes.old i d) }
-    requires own { (i : ℕ) (d : _) → i < length lanes.old → IsOurLane ground.now depth (slice_index_or lanes.old i d) }
-    ensures count { length lanes.new ≡ length lanes.old }
-    ensures went { (i : ℕ) (d : _) → i < length lanes.old → WentOn (world_of crew.now i) phase.now end (slice_index_or lanes.old i d) (slice_index_or lanes.new i d) }
+    requires plan { IsPlan (plan_of ground.now depth crew.now phases.now end) }
+    requires may { MayDo (plan_of ground.now depth crew.now phases.now end) number index lane.old }
+    ensures did { Did (plan_of ground.now depth crew.now phases.now end) number index lane.old lane.new }
 {
-    let count = lanes.len();
-    thread::for_each_mut(
+    ground.enter(index);
+    let line = if number + 1 == phases.len() {
+        Some(end)
+    } else {
+        None
+    };
+    run_task(
         rt,
-        lanes,
-        count,
-        &|index: usize, lane: &mut Lane<L>|
-            requires sync { IsSync R.row × IsSend R.row × IsSend L.row }
-            requires lives { ([] ⊑ R.row.lives) × ([] ⊑ L.row.lives) }
-            requires crew { crew.now ≡ crew_of ground.now crew.now.chunks crew.now.span }
-            requires number { crew.now.chunks.loops < 4294967296 }
-            requires span { crew.now.span ≤ 64 }
-            requires phase { IsOurPhase ground.now (4 - depth) phase.now }
-            requires last { (line : ℕ) → end ≡ Some line → IsLast phase.now line }
-            requires index { index < crew.now.span }
-            requires can { CanGoOn (world_of crew.now index) phase.now lane.old }
-            requires own { IsOurLane ground.now depth lane.old }
-            ensures went { WentOn (world_of crew.entry.now index) phase.entry.now end lane.old lane.new }
-        {
-            ground.enter(index);
-            run_task(rt, alloc, depth, ground, crew, phase, end, index, lane);
-        },
+        alloc,
+        depth,
+        ground,
+        crew,
+        &phases[number],
+        line,
+        index,
+        lane,
     );
-}
-
-// The lanes of a team execute a phase, each with a hand that is split off for it and joined after it.
-#[cycle(region)]
-fn run_phase<R: Threads + Wait + Sync + Copy + Send + 'static, L: Log, G: Gate>(
-    rt: &R,
-    alloc: Global,
-    depth: u32,
-    ground: &Ground<'_, G>,
-    crew: &Crew<'_>,
-    phase: &Phase<'_>,
-    end: Option<u32>,
-    hand: &mut Hand,
-    lanes: &mut [Lane<L>],
-)
-    requires crew { crew.now ≡ crew_of ground.now crew.now.chunks crew.now.span }
-    requires number { crew.now.chunks.loops < 4294967296 }
-    requires span { crew.now.span ≤ 64 }
-    requires phase { IsOurPhase ground.now (4 - depth) phase.now }
-    requires last { (line : ℕ) → end ≡ Some line → IsLast phase.now line }
-    requires count { length lanes.old ≡ crew.now.span }
-    requires some { 1 ≤ crew.now.span }
-    requires belongs { Belongs hand.old ground.now.words.table }
-    requires can { (i : ℕ) (d : _) → i < length lanes.old → MayGoOn crew.now phase.now (slice_index_or lanes.old i d) }
-    requires own { (i : ℕ) (d : _) → i < length lanes.old → IsOurLane ground.now depth (slice_index_or lanes.old i d) }
-    ensures ran { RanPhase crew.now phase.now end hand.old hand.new lanes.old lanes.new }
-{
-    let words = ground.words();
-    split_hands(words, hand, lanes, crew.span());
-    run_lanes(rt, alloc, depth, ground, crew, phase, end, lanes);
-    join_hands(words, hand, lanes);
-}
-
-// Whether each lane goes on.
-fn all_go<L: Log>(lanes: &[Lane<L>]) -> bool
-    ensures all { result ≡ true → AllGo lanes.now }
-    ensures some { result ≡ false → AllGo lanes.now → ⊥ }
-{
-    for lane in lanes {
-        if !lane.goes() {
-            return false;
-        }
-    }
-    true
 }
 
 // The lanes of a team execute its phases, until a lane doesn't go on. After the last phase each that does puts its End.
 #[cycle(region)]
-fn run_phases<R: Threads + Wait + Sync + Copy + Send + 'static, L: Log, G: Gate>(
+fn run_phases<R: Threads + Wait + Sync + Copy + Send + 'static, L: Log, G: LiveGate>(
     rt: &R,
     alloc: Global,
     depth: u32,
@@ -207,38 +157,59 @@ fn run_phases<R: Threads + Wait + Sync + Copy + Send + 'static, L: Log, G: Gate>
     phases: &[Phase<'_>],
     end: u32,
     hand: &mut Hand,
-    lanes: &mut [Lane<L>],
-)
-    requires crew { crew.now ≡ crew_of ground.now crew.now.chunks crew.now.span }
-    requires number { crew.now.chunks.loops < 4294967296 }
-    requires span { crew.now.span ≤ 64 }
-    requires lawful { All (IsOurPhase ground.now (4 - depth)) phases.now }
-    requires divided { AreDivided phases.now }
-    requires counters { drawn_count (parts_in phases.now) ≤ crew.now.chunks.loops }
-    requires end { 1 ≤ end }
-    requires count { length lanes.old ≡ crew.now.span }
-    requires some { 1 ≤ crew.now.span }
-    requires belongs { Belongs hand.old ground.now.words.table }
-    requires none_out { hand.old.view.out ≡ [] }
-    requires fresh { (i : ℕ) (d : _) → i < length lanes.old → IsFresh crew.now (slice_index_or lanes.old i d) }
-    requires own { (i : ℕ) (d : _) → i < length lanes.old → IsOurLane ground.now depth (slice_index_or lanes.old i d) }
-    ensures ran { TeamRan crew.now phases.now end hand.old hand.new lanes.old lanes.new }
+    lanes: Vec<Lane<L>>,
+) -> Vec<Lane<L>>
+    requires shared { IsSync R.row }
+    requires sent { IsSend R.row }
+    requires lanes_sent { IsSend L.row }
+    requires gate_shared { IsSync G.row }
+    requires lives { ([] ⊑ R.row.lives) × ([] ⊑ L.row.lives) }
+    requires begin { CanBegin (team_of_plan (plan_of ground.now depth crew.now phases.now end) hand.old lanes.items) }
+    ensures ran { TeamRan crew.now phases.now end hand.old hand.new lanes.items result.items }
 {
-    let Some((last, earlier)) = phases.split_last() else {
-        unreachable!()
-    };
-    for phase in earlier {
-        run_phase(rt, alloc, depth, ground, crew, phase, None, hand, lanes);
-        if !all_go(lanes) {
-            return;
-        }
-    }
-    run_phase(rt, alloc, depth, ground, crew, last, Some(end), hand, lanes);
+    let own = mem::replace(hand, Hand::blank());
+    let (home, after) = go_through(
+        rt,
+        alloc,
+        depth,
+        ground,
+        crew,
+        phases,
+        end,
+        own,
+        lanes,
+        &|number: usize, index: usize, lane: &mut Lane<L>|
+            requires sync { IsSync R.row × IsSend R.row × IsSend L.row }
+            requires lives { ([] ⊑ R.row.lives) × ([] ⊑ L.row.lives) }
+            requires plan { IsPlan (plan_of ground.now depth crew.now phases.now end) }
+            requires may { MayDo (plan_of ground.now depth crew.now phases.now end) number index lane.old }
+            ensures did { Did (plan_of ground.entry.now depth crew.entry.now phases.entry.now end) number index lane.old lane.new }
+        {
+            run_part(
+                rt, alloc, depth, ground, crew, phases, end, number, index, lane,
+            )
+        },
+        &|lane: usize| { ground.started(lane) },
+        &|hand: &mut Hand, lanes: &mut Vec<Lane<L>>|
+            requires lives { [] ⊑ L.row.lives }
+            requires belongs { Belongs hand.old ground.now.words.table }
+            requires count { length lanes.old.items ≡ crew.now.span }
+            ensures parts { PartsHands crew.entry.now.span hand.old hand.new lanes.old.items lanes.new.items }
+        { part_lanes(ground.words(), hand, lanes, crew.span()) },
+        &|hand: &mut Hand, lanes: &mut Vec<Lane<L>>| -> bool
+            requires lives { [] ⊑ L.row.lives }
+            requires belongs { Belongs hand.old ground.now.words.table }
+            requires home { (k : ℕ) (d : _) → k < length lanes.old.items → IsLaneHand ground.now.words.table hand.old.view.name (slice_index_or lanes.old.items k d).hand }
+            ensures meets { MeetsSo result hand.old hand.new lanes.old.items lanes.new.items }
+        { meet_lanes(ground.words(), hand, lanes) },
+    );
+    *hand = home;
+    after
 }
 
 // The lanes of a team execute its phases, and their logs are closed.
 #[cycle(region)]
-fn run_team<R: Threads + Wait + Sync + Copy + Send + 'static, L: Log, G: Gate>(
+fn run_team<R: Threads + Wait + Sync + Copy + Send + 'static, L: Log, G: LiveGate>(
     rt: &R,
     alloc: Global,
     depth: u32,
@@ -268,11 +239,8 @@ fn run_team<R: Threads + Wait + Sync + Copy + Send + 'static, L: Log, G: Gate>(
     requires room { crew.now.span ≤ vec_capacity room }
     ensures closed { TeamClosed crew.now phases.now end hand.old hand.new lanes.items result.items }
 {
-    let mut lanes = lanes;
-    run_phases(
-        rt, alloc, depth, ground, crew, phases, end, hand, &mut lanes,
-    );
-    close_all(rt, alloc, lanes, room)
+    let after = run_phases(rt, alloc, depth, ground, crew, phases, end, hand, lanes);
+    close_all(rt, alloc, after, room)
 }
 
 // What a region answers for which no memory was found: the first of its lanes is named.
@@ -285,7 +253,7 @@ fn no_memory(path: &Path, number: u32, span: u16) -> (Path, Stop)
 
 // Runs the region of this number of the task at this path, from these locals.
 #[cycle(region)]
-pub(crate) fn region<R: Threads + Wait + Sync + Copy + Send + 'static, L: Log, G: Gate>(
+pub(crate) fn region<R: Threads + Wait + Sync + Copy + Send + 'static, L: Log, G: LiveGate>(
     rt: &R,
     alloc: Global,
     depth: u32,

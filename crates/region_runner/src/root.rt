@@ -27,7 +27,8 @@ use std::marker::Send;
 use std::mem;
 use std::sync::Wait;
 use std::thread::Threads;
-use sw_base::{ClosedLog, Gate, Log, Path, Trouble};
+use sw_base::{ClosedLog, Log, Path, Trouble};
+use team_live::LiveGate;
 use team_phases::phases;
 
 // All locals 0.
@@ -40,7 +41,7 @@ fn locals(alloc: Global, slots: u32) -> Result<Locals, AllocError>
 }
 
 // The root executes its only phase and puts its End, and its log is closed.
-fn execute<R: Threads + Wait + Sync + Copy + Send + 'static, L: Log, G: Gate>(
+fn execute<R: Threads + Wait + Sync + Copy + Send + 'static, L: Log, G: LiveGate>(
     rt: &R,
     alloc: Global,
     ground: &Ground<'_, G>,
@@ -68,7 +69,7 @@ fn execute<R: Threads + Wait + Sync + Copy + Send + 'static, L: Log, G: Gate>(
 }
 
 // Runs the root of a kernel with this log. None where no memory was found for its phase, its counters or its locals.
-pub(crate) fn run_root<R: Threads + Wait + Sync + Copy + Send + 'static, L: Log, G: Gate>(
+pub(crate) fn run_root<R: Threads + Wait + Sync + Copy + Send + 'static, L: Log, G: LiveGate>(
     rt: &R,
     alloc: Global,
     ground: &Ground<'_, G>,

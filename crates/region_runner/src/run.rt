@@ -21,6 +21,7 @@ use std::marker::Send;
 use std::sync::Wait;
 use std::thread::Threads;
 use sw_base::{ClosedLog, Gate, Log, Path, Trouble};
+use team_live::{LiveGate, WithoutStart};
 
 /// A run that ended: the logs of the tasks, in the order of their paths, and the last value of each element.
 #[derive(Drop)]
@@ -57,6 +58,53 @@ fn values(arrays: &[Array], words: Vec<u64>) -> Vec<u64>
     values
 }
 
+// Runs a kernel, with teams whose threads stay, or don't.
+fn run_so<R: Threads + Wait + Sync + Copy + Send + 'static, L: Log, G: LiveGate>(
+    rt: &R,
+    alloc: Global,
+    kernel: &Kernel,
+    root: L,
+    size: usize,
+    gate: &G,
+    stays: bool,
+) -> Result<Finished<L>, Stopped<L>>
+    requires lawful { IsLawful (program_of kernel.now) }
+    requires root { L.path root ≡ [] }
+    requires empty { WhereTold (L.text root) (λ t. t ≡ empty_text) }
+    requires no_faults { L.faults root ≡ 0 }
+    requires size { IsBufferSize size }
+    ensures finished { IfOk result (λ f. HasRun (program_of kernel.now) (L.dir root) size (L.text root) (map (handed_log L.dir L.path L.text) f.logs.items) f.words.items) }
+    ensures no_fault { IfOk result (λ f. AreFaultless L.faults f.logs.items) }
+    ensures stopped { IfErr result (λ s. HasStoppedRun (program_of kernel.now) (L.dir root) size (L.text root)
+        (entries_of (record { dir = L.dir; path = L.path; text = L.text; faults = L.faults }) s.logs.items) s.path s.why s.words.items) }
+{
+    let arrays = kernel.arrays.as_slice();
+    let locks = kernel.mutexes.as_slice().len() + 1;
+    let Ok((words, mut hand)) = Words::new(alloc, element_count(arrays), locks) else {
+        return Err(Stopped {
+            path: Path::root(),
+            why: Stop::Trouble(Trouble::Memory),
+            logs: Vec::new(alloc),
+            words: Vec::new(alloc),
+        });
+    };
+    let (logs, answer) = {
+        let ground = Ground::new(arrays, &words, gate, size, stays);
+        let closed = run_root(rt, alloc, &ground, kernel, &mut hand, root);
+        settle(alloc, closed)
+    };
+    let words = values(arrays, words.close(hand).words);
+    match answer {
+        Ok(()) => Ok(Finished { logs, words }),
+        Err((path, why)) => Err(Stopped {
+            path,
+            why,
+            logs,
+            words,
+        }),
+    }
+}
+
 /// Runs a kernel: its root, and the lanes of each region on threads of their own, phase by phase.
 ///
 /// The buffer of each log has `size` bytes, from 24 to 4,194,304. The gate sees each lane of a region start each of its phases.
@@ -83,29 +131,37 @@ pub fn run_kernel<R: Threads + Wait + Sync + Copy + Send + 'static, L: Log, G: G
     ensures stopped { IfErr result (λ s. HasStoppedRun (program_of kernel.now) (L.dir root) size (L.text root)
         (entries_of (record { dir = L.dir; path = L.path; text = L.text; faults = L.faults }) s.logs.items) s.path s.why s.words.items) }
 {
-    let arrays = kernel.arrays.as_slice();
-    let locks = kernel.mutexes.as_slice().len() + 1;
-    let Ok((words, mut hand)) = Words::new(alloc, element_count(arrays), locks) else {
-        return Err(Stopped {
-            path: Path::root(),
-            why: Stop::Trouble(Trouble::Memory),
-            logs: Vec::new(alloc),
-            words: Vec::new(alloc),
-        });
-    };
-    let (logs, answer) = {
-        let ground = Ground::new(arrays, &words, gate, size);
-        let closed = run_root(rt, alloc, &ground, kernel, &mut hand, root);
-        settle(alloc, closed)
-    };
-    let words = values(arrays, words.close(hand).words);
-    match answer {
-        Ok(()) => Ok(Finished { logs, words }),
-        Err((path, why)) => Err(Stopped {
-            path,
-            why,
-            logs,
-            words,
-        }),
-    }
+    run_so(
+        rt,
+        alloc,
+        kernel,
+        root,
+        size,
+        &WithoutStart::new(gate),
+        false,
+    )
+}
+
+/// Runs a kernel, as `run_kernel` does, but the threads of a region start once and stay through its phases.
+///
+/// The gate sees the thread of each lane but the first start, too, once a region.
+pub fn run_live<R: Threads + Wait + Sync + Copy + Send + 'static, L: Log, G: LiveGate>(
+    rt: &R,
+    alloc: Global,
+    kernel: &Kernel,
+    root: L,
+    size: usize,
+    gate: &G,
+) -> Result<Finished<L>, Stopped<L>>
+    requires lawful { IsLawful (program_of kernel.now) }
+    requires root { L.path root ≡ [] }
+    requires empty { WhereTold (L.text root) (λ t. t ≡ empty_text) }
+    requires no_faults { L.faults root ≡ 0 }
+    requires size { IsBufferSize size }
+    ensures finished { IfOk result (λ f. HasRun (program_of kernel.now) (L.dir root) size (L.text root) (map (handed_log L.dir L.path L.text) f.logs.items) f.words.items) }
+    ensures no_fault { IfOk result (λ f. AreFaultless L.faults f.logs.items) }
+    ensures stopped { IfErr result (λ s. HasStoppedRun (program_of kernel.now) (L.dir root) size (L.text root)
+        (entries_of (record { dir = L.dir; path = L.path; text = L.text; faults = L.faults }) s.logs.items) s.path s.why s.words.items) }
+{
+    run_so(rt, alloc, kernel, root, size, gate, true)
 }

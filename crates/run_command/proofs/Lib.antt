@@ -6,4 +6,3 @@ pub mod RunFolder
 pub mod RunEnds
 pub mod Leaving
 pub mod Statuses
-pub mod RunExamples

@@ -34,7 +34,7 @@ use Rattle.run_command.specs.declared.outcome.Outcome.TheVariants as came
 use Rattle.run_command.specs.Outcomes.{unkernelled, unwritten}
 use Rattle.run_command.specs.Run.{AreLeftLogs, AreRunLogs, AreStopped, CameOut, CanRun, EndedRun, EndsSo, IsCrowded, IsLeftLog, IsTornLog, LeavesPart, StoppedRun, told_log}
 use Rattle.run_command.specs.Run as left
-use Rattle.run_command.specs.RunTexts.{told_stop}
+use Rattle.run_command.specs.Told.{told_stop}
 use Rattle.run_command.specs.Seals.{AllTell, RaiseFaults, SealsAll, StoresAll, StoresPrefix, StoresPart, all_logged, prefix, part, row_of_entry, rows_of_logs, with_index}
 use Rattle.run_command.proofs.IndexKept.{IsOfFolder, prefix_keeps_index}
 use Rattle.run_command.proofs.RunFolder.{left_by, run_well_formed}

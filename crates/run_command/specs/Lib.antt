@@ -1,4 +1,4 @@
 pub mod Outcomes
 pub mod Run
-pub mod RunTexts
 pub mod Seals
+pub mod Told

@@ -28,7 +28,7 @@ use Rattle.region_runner.specs.Answer.{IsRun, StopsIn, whole_log}
 use Rattle.run_command.specs.declared.outcome.Outcome.{Outcome}
 use Rattle.run_command.specs.declared.outcome.Outcome.TheVariants as outcome
 use Rattle.run_command.specs.Outcomes.{IsDue}
-use Rattle.run_command.specs.RunTexts.{told_stop}
+use Rattle.run_command.specs.Told.{told_stop}
 
 -- the named file holds a kernel, and the folder has an index
 pub record HasIndex (files : Files) (kernel dir : List ℕ) : Type 0 where

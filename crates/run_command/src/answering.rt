@@ -7,11 +7,11 @@ ghost use Rattle.run_command.specs.Outcomes.{IsDue};
 ghost use Rattle.run_command.specs.declared.outcome.Outcome.TheVariants as came;
 
 use crate::outcome::Outcome;
-use crate::run_texts::{ran, stopped};
 use command_answer::{
     DONE, INDEX_THERE, KERNEL_STOPPED, NO_MEMORY, READ_FAULT, WRITE_FAULT, print, print_made,
 };
 use kernel_file::{KernelRefusal, refuse_kernel};
+use run_texts::{ran, stopped};
 use std::alloc::Global;
 use sw_base::Out;
 

@@ -10,7 +10,6 @@ mod answering;
 mod beginning;
 mod laws;
 mod outcome;
-mod run_texts;
 mod running;
 mod sealing;
 

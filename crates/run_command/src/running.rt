@@ -1,6 +1,6 @@
 //! `run`: a kernel is run, and its logs and their index are written.
-ghost use Rattle.std.specs.Prelude.{◌≡◌, ◌⊎◌, ◌≤◌, ℕ, List, Some, map, is_some, string_bytes, IfOk, Ok, Err, MatchResult};
-ghost use Rattle.sw_base.specs.Environment.{Rose, Text, WhereTold, next_count};
+ghost use Rattle.std.specs.Prelude.{◌≡◌, ◌⊎◌, ◌≤◌, ℕ, List, [], Some, map, is_some, string_bytes, IfOk, IfErr, Ok, Err, MatchResult};
+ghost use Rattle.sw_base.specs.Environment.{Rose, Text, WhereTold, empty_text, next_count};
 ghost use Rattle.sw_base.specs.declared.trouble.Trouble.TheVariants as trouble;
 ghost use Rattle.race_model.specs.IndexFault.{AreRows};
 ghost use Rattle.command_answer.specs.declared.status.TheConstants.{DONE};
@@ -11,7 +11,7 @@ ghost use Rattle.lane_runner.specs.declared.stop.Stop.TheVariants as stop;
 ghost use Rattle.region_runner.specs.Answer.{AreFaultless, HasRun, HasStoppedRun, IsBufferSize};
 ghost use Rattle.run_command.specs.Outcomes.{due_status, unwritten};
 ghost use Rattle.run_command.specs.Run.{CameOut, CanRun, EndsSo};
-ghost use Rattle.run_command.specs.RunTexts.{told_stop};
+ghost use Rattle.run_command.specs.Told.{told_stop};
 ghost use Rattle.run_command.specs.Seals.{RaiseFaults, all_logged, row_of_entry};
 ghost use Rattle.run_command.specs.declared.outcome.Outcome.TheVariants as outcome;
 
@@ -20,12 +20,13 @@ use crate::outcome::Outcome;
 use crate::sealing::{discard_all, records_in, seal_all, store};
 use kernel_syntax::Kernel;
 use lane_runner::Stop;
-use region_runner::{Finished, Stopped, run_kernel};
+use region_runner::{Finished, Stopped, run_kernel, run_live};
 use std::alloc::Global;
 use std::marker::Send;
 use std::sync::Wait;
 use std::thread::Threads;
-use sw_base::{Folder, Gate, Trouble};
+use sw_base::{Folder, Gate, Log, Trouble};
+use team_live::WithoutStart;
 
 /// What comes out where a call that writes failed.
 fn unwritten(trouble: Trouble) -> Outcome
@@ -113,6 +114,32 @@ fn stop<F: Folder>(alloc: Global, stopped: Stopped<F::Log>, folder: &mut F) -> O
     }
 }
 
+/// Runs a kernel, with teams whose threads stay, or don't.
+fn run_in_teams<R: Threads + Wait + Sync + Copy + Send + 'static, L: Log, G: Gate>(
+    rt: &R,
+    alloc: Global,
+    kernel: &Kernel,
+    root: L,
+    size: usize,
+    gate: &G,
+    stays: bool,
+) -> Result<Finished<L>, Stopped<L>>
+    requires lawful { IsLawful (program_of kernel.now) }
+    requires root { L.path root ≡ [] }
+    requires empty { WhereTold (L.text root) (λ t. t ≡ empty_text) }
+    requires no_faults { L.faults root ≡ 0 }
+    requires size { IsBufferSize size }
+    ensures finished { IfOk result (λ f. HasRun (program_of kernel.now) (L.dir root) size (L.text root) (all_logged L.dir L.path L.text f.logs.items) f.words.items) }
+    ensures no_fault { IfOk result (λ f. AreFaultless L.faults f.logs.items) }
+    ensures stopped { IfErr result (λ s. HasStoppedRun (program_of kernel.now) (L.dir root) size (L.text root)
+        (entries_of (record { dir = L.dir; path = L.path; text = L.text; faults = L.faults }) s.logs.items) s.path s.why s.words.items) }
+{
+    if stays {
+        return run_live(rt, alloc, kernel, root, size, &WithoutStart::new(gate));
+    }
+    run_kernel(rt, alloc, kernel, root, size, gate)
+}
+
 /// Runs a kernel in a folder that has no index.
 fn execute<R: Threads + Wait + Sync + Copy + Send + 'static, F: Folder, G: Gate>(
     rt: &R,
@@ -122,6 +149,7 @@ fn execute<R: Threads + Wait + Sync + Copy + Send + 'static, F: Folder, G: Gate>
     size: usize,
     folder: &mut F,
     gate: &G,
+    stays: bool,
 ) -> Outcome
     requires lawful { IsLawful (program_of kernel) }
     requires size { IsBufferSize size }
@@ -137,14 +165,14 @@ fn execute<R: Threads + Wait + Sync + Copy + Send + 'static, F: Folder, G: Gate>
         Ok(root) => root,
         Err(trouble) => return unwritten(trouble),
     };
-    match run_kernel(rt, alloc, &kernel, root, size, gate) {
+    match run_in_teams(rt, alloc, &kernel, root, size, gate, stays) {
         Ok(finished) => finish(alloc, kernel, dir, finished, folder),
         Err(stopped) => stop(alloc, stopped, folder),
     }
 }
 
 /// Runs the kernel that the file `kernel` holds, with buffers of `size` bytes, and writes its logs and their index into the
-/// folder `dir`.
+/// folder `dir`. The threads of a team stay from its first phase to its last, or are started in each phase.
 pub fn run<R: Threads + Wait + Sync + Copy + Send + 'static, F: Folder, G: Gate>(
     rt: &R,
     alloc: Global,
@@ -153,6 +181,7 @@ pub fn run<R: Threads + Wait + Sync + Copy + Send + 'static, F: Folder, G: Gate>
     size: usize,
     folder: &mut F,
     gate: &G,
+    stays: bool,
 ) -> Outcome
     requires { IsBufferSize size }
     ensures came { WhereTold (F.state folder.old).content (λ c. WhereTold (F.state folder.new).content (λ d.
@@ -169,7 +198,7 @@ pub fn run<R: Threads + Wait + Sync + Copy + Send + 'static, F: Folder, G: Gate>
     ensures asks_once { ((F.state folder.new).roots ≡ (F.state folder.old).roots) ⊎ ((F.state folder.new).roots ≡ next_count (F.state folder.old).roots) }
 {
     match begin(alloc, folder, kernel, dir) {
-        Ok(kernel) => execute(rt, alloc, kernel, dir, size, folder, gate),
+        Ok(kernel) => execute(rt, alloc, kernel, dir, size, folder, gate, stays),
         Err(outcome) => outcome,
     }
 }

@@ -49,6 +49,13 @@ module _ {H M : Type 0} where
     pub ends : (number : ℕ) (goes : Bool) (hand after : MutBor H) (before : List M) (lanes lanes' : MutBor (Vec M)) → number < phases → length before ≡ span → parted number hand.now before → EachDid did number before lanes.now.items
         → gives hand lanes goes after lanes' → After stands stopped number after.now lanes'.now.items goes
 
+  -- all lanes did their parts of the phase of this number, for which they were parted so
+  pub record AreHome (parted : ℕ → H → List M → Type 0) (did : ℕ → ℕ → M → M → Type 0) (span number : ℕ) (hand : H) (lanes : List M) : Type 0 where
+    pub before : List M
+    pub count : length before ≡ span
+    pub were : parted number hand before
+    pub each : EachDid did number before lanes
+
   -- the team stopped in one of its phases
   pub record HasStopped (stopped : ℕ → H → List M → Type 0) (phases : ℕ) (hand : H) (lanes : List M) : Type 0 where
     pub number : ℕ

@@ -6,6 +6,7 @@ ghost use Rattle.team_live.specs.Turns.{AreClosed, AreIdle, AreSame};
 
 use crate::key::{LaneKey, TeamKey};
 use crate::parcel::LaneParcel;
+use crate::phase::{begin_phase, end_phase};
 use hand_over::{Desk, Parcels};
 use std::marker::Send;
 use std::sync::Wait;
@@ -82,9 +83,9 @@ fn run_phase<
     ensures count { length lanes.new.items ≡ span }
     ensures ran { After K.stands K.stopped number hand.new lanes.new.items result }
 {
-    part(hand, lanes);
+    begin_phase::<K, H, M, B>(span, phases, number, hand, lanes, part);
     run_lanes(rt, parcels, desk, threads, number, lanes, task);
-    meet(hand, lanes)
+    end_phase::<K, H, M, A>(span, phases, number, hand, lanes, meet)
 }
 
 // The team does all its phases, or stops after one. Whether it did all.

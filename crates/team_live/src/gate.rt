@@ -6,3 +6,26 @@ pub trait LiveGate: Gate {
     /// The thread of this lane starts. It does so once, before the lane's first phase.
     fn started(&self, lane: usize);
 }
+
+/// A gate that isn't told when a thread starts.
+#[derive(Drop)]
+pub struct WithoutStart<'a, G: Gate> {
+    gate: &'a G,
+}
+
+impl<'a, G: Gate> WithoutStart<'a, G> {
+    /// This gate.
+    pub fn new(gate: &'a G) -> WithoutStart<'a, G> {
+        WithoutStart { gate }
+    }
+}
+
+impl<'a, G: Gate> Gate for WithoutStart<'a, G> {
+    fn enter(&self, number: usize) {
+        self.gate.enter(number);
+    }
+}
+
+impl<'a, G: Gate> LiveGate for WithoutStart<'a, G> {
+    fn started(&self, _lane: usize) {}
+}

@@ -12,13 +12,17 @@
 //! That the threads stay is no clause's fact, and tests show it.
 #![tactic(auto)]
 
+mod calling;
 mod first;
 mod gate;
 mod key;
 mod parcel;
+mod phase;
+mod phases;
 mod serving;
 mod staying;
 
-pub use gate::LiveGate;
+pub use gate::{LiveGate, WithoutStart};
 pub use key::{LaneKey, TeamKey};
+pub use phases::in_phases;
 pub use staying::with_staying;

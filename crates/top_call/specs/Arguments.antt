@@ -1,5 +1,5 @@
 -- The arguments of a command line, what they ask for, and what is answered where they ask for nothing.
-use Rattle.std.specs.Prelude.{◌≡◌, ◌⊎◌, ℕ, ◌≤◌, List, [], ◌∷◌, length, map, String, string_bytes, codes, decimal}
+use Rattle.std.specs.Prelude.{◌≡◌, ◌⊎◌, ℕ, ◌≤◌, Bool, true, false, List, [], ◌∷◌, length, map, String, string_bytes, codes, decimal}
 use Rattle.std.specs.declared.alloc.Global.{Global}
 use Rattle.sw_base.specs.Environment.{Files}
 use Rattle.command_answer.specs.declared.status.TheConstants.{USAGE}
@@ -18,6 +18,7 @@ pub data Request : Type 0 where
   upgrade : (dir new : List ℕ) → Request
   explain : (dir : List ℕ) → (low high : ℕ) → Request
   confirm : (dir : List ℕ) → (first_row first second_row second : ℕ) → Request
+  certify : (kernel : List ℕ) → Request
 
 -- a word that names a folder or a file has 1 to 1,024 bytes
 pub record IsName (word : List ℕ) : Type 0 where
@@ -36,9 +37,15 @@ pub record SaysCheck (arguments : List (List ℕ)) (dir : List ℕ) (workers : �
   pub dir_is : IsName dir
   pub workers_are : IsNumber number 1 64 workers
 
+-- a run is asked for by one of two names: with teams whose threads stay, or without
+abbrev pub run_name : Bool → List ℕ
+run_name true = codes "live"
+run_name false = codes "run"
+
 pub record SaysRun (arguments : List (List ℕ)) (kernel dir : List ℕ) (size : ℕ) : Type 0 where
   pub number : List ℕ
-  pub are : arguments ≡ codes "run" ∷ kernel ∷ dir ∷ number ∷ []
+  pub stays : Bool
+  pub are : arguments ≡ run_name stays ∷ kernel ∷ dir ∷ number ∷ []
   pub kernel_is : IsName kernel
   pub dir_is : IsName dir
   pub size_is : IsNumber number 24 4194304 size
@@ -103,6 +110,10 @@ pub record SaysConfirm (arguments : List (List ℕ)) (dir : List ℕ) (first_row
   pub other_row_is : IsNumber other_row 1 65536 second_row
   pub other_number_is : IsNumber other_number 1 4194304 second
 
+pub record SaysCertify (arguments : List (List ℕ)) (kernel : List ℕ) : Type 0 where
+  pub are : arguments ≡ codes "certify" ∷ kernel ∷ []
+  pub kernel_is : IsName kernel
+
 -- the arguments ask to bring a folder over
 pub record AsksUpgrade (arguments : List (List ℕ)) : Type 0 where
   pub dir : List ℕ
@@ -135,6 +146,7 @@ Says arguments (gen rounds workers) = SaysGen arguments rounds workers
 Says arguments (upgrade dir new) = SaysUpgrade arguments dir new
 Says arguments (explain dir low high) = SaysExplain arguments dir low high
 Says arguments (confirm dir first_row first second_row second) = SaysConfirm arguments dir first_row first second_row second
+Says arguments (certify kernel) = SaysCertify arguments kernel
 
 -- the request reads a folder, or a kernel's file
 abbrev pub IsToRead : Request → Type 0
@@ -156,7 +168,7 @@ abbrev pub texts : List (String Global) → List (List ℕ)
 texts arguments = map string_bytes arguments
 
 abbrev pub usage_text : List ℕ
-usage_text = codes "usage: sword check DIR W | run KERNEL DIR SIZE | replay KERNEL DIR | show DIR | gen N W | upgrade DIR NEW | explain DIR L M | confirm DIR A I B J\n"
+usage_text = codes "usage: sword check DIR W | run KERNEL DIR SIZE | replay KERNEL DIR | show DIR | gen N W | upgrade DIR NEW | explain DIR L M | confirm DIR A I B J | certify KERNEL | live KERNEL DIR SIZE\n"
 
 -- the one answer to arguments that ask for nothing
 abbrev pub UsageDue : ℕ → List ℕ → Type 0

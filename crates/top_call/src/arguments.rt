@@ -20,11 +20,12 @@ pub enum Command<'a> {
         dir: &'a str,
         workers: u64,
     },
-    /// Run a kernel, with buffers of so many bytes.
+    /// Run a kernel, with buffers of so many bytes, and with teams whose threads stay, or don't.
     Run {
         kernel: &'a str,
         dir: &'a str,
         size: u64,
+        stays: bool,
     },
     /// Compare a folder's logs with a kernel.
     Replay {
@@ -57,6 +58,10 @@ pub enum Command<'a> {
         one: RecordName,
         other: RecordName,
     },
+    /// Tell whether every run of a kernel must write the same logs.
+    Certify {
+        kernel: &'a str,
+    },
 }
 
 /// What the arguments ask for. `None` where they ask for nothing.
@@ -80,7 +85,7 @@ pub fn read_arguments<'a>(
                 third.as_str(),
             )
         }
-        [name, dir] if name.as_str() == "show" => Ok(show_arguments(dir.as_str())),
+        [name, first] => Ok(one_argument(name.as_str(), first.as_str())),
         [name, first, second, third, fourth, fifth] => five_arguments(
             alloc,
             name.as_str(),
@@ -104,6 +109,16 @@ fn show_arguments<'a>(dir: &'a str) -> Option<Command<'a>>
     Some(Command::Show { dir })
 }
 
+fn certify_arguments<'a>(kernel: &'a str) -> Option<Command<'a>>
+    ensures said { IfSome result (λ c. Says (codes "certify" ∷ kernel.now ∷ []) (request_of c)) }
+    ensures usage { IfNone result (IsUsage (codes "certify" ∷ kernel.now ∷ [])) }
+{
+    if !is_name(kernel) {
+        return None;
+    }
+    Some(Command::Certify { kernel })
+}
+
 fn check_arguments<'a>(
     alloc: Global,
     dir: &'a str,
@@ -119,6 +134,17 @@ fn check_arguments<'a>(
     Ok(workers.map(|workers| Command::Check { dir, workers }))
 }
 
+/// The size of the buffers of a run of this kernel into this folder.
+fn run_size(alloc: Global, kernel: &str, dir: &str, size: &str) -> Result<Option<u64>, AllocError>
+    ensures said { IfOk result (λ found. IfSome found (λ n. IsName kernel.now × IsName dir.now × IsNumber size.now 24 4194304 n)) }
+    ensures usage { IfOk result (λ found. IfNone found ((n : ℕ) → IsName kernel.now → IsName dir.now → IsNumber size.now 24 4194304 n → ⊥)) }
+{
+    if !is_name(kernel) || !is_name(dir) {
+        return Ok(None);
+    }
+    number(alloc, size, 24, 4_194_304)
+}
+
 fn run_arguments<'a>(
     alloc: Global,
     kernel: &'a str,
@@ -128,11 +154,44 @@ fn run_arguments<'a>(
     ensures said { IfOk result (λ asked. IfSome asked (λ c. Says (codes "run" ∷ kernel.now ∷ dir.now ∷ size.now ∷ []) (request_of c))) }
     ensures usage { IfOk result (λ asked. IfNone asked (IsUsage (codes "run" ∷ kernel.now ∷ dir.now ∷ size.now ∷ []))) }
 {
-    if !is_name(kernel) || !is_name(dir) {
-        return Ok(None);
+    let size = run_size(alloc, kernel, dir, size)?;
+    Ok(size.map(|size| Command::Run {
+        kernel,
+        dir,
+        size,
+        stays: false,
+    }))
+}
+
+fn live_arguments<'a>(
+    alloc: Global,
+    kernel: &'a str,
+    dir: &'a str,
+    size: &str,
+) -> Result<Option<Command<'a>>, AllocError>
+    ensures said { IfOk result (λ asked. IfSome asked (λ c. Says (codes "live" ∷ kernel.now ∷ dir.now ∷ size.now ∷ []) (request_of c))) }
+    ensures usage { IfOk result (λ asked. IfNone asked (IsUsage (codes "live" ∷ kernel.now ∷ dir.now ∷ size.now ∷ []))) }
+{
+    let size = run_size(alloc, kernel, dir, size)?;
+    Ok(size.map(|size| Command::Run {
+        kernel,
+        dir,
+        size,
+        stays: true,
+    }))
+}
+
+fn one_argument<'a>(name: &str, first: &'a str) -> Option<Command<'a>>
+    ensures said { IfSome result (λ c. Says (name.now ∷ first.now ∷ []) (request_of c)) }
+    ensures usage { IfNone result (IsUsage (name.now ∷ first.now ∷ [])) }
+{
+    if name == "show" {
+        return show_arguments(first);
     }
-    let size = number(alloc, size, 24, 4_194_304)?;
-    Ok(size.map(|size| Command::Run { kernel, dir, size }))
+    if name == "certify" {
+        return certify_arguments(first);
+    }
+    None
 }
 
 fn two_arguments<'a>(
@@ -171,6 +230,9 @@ fn three_arguments<'a>(
 {
     if name == "run" {
         return run_arguments(alloc, first, second, third);
+    }
+    if name == "live" {
+        return live_arguments(alloc, first, second, third);
     }
     if name == "explain" {
         return explain_arguments(alloc, first, second, third);

@@ -1,4 +1,4 @@
-//! `run`: what comes out of a run is printed.
+//! `run` and `live`: what comes out of a run is printed.
 ghost use Rattle.std.specs.Prelude.{◌≡◌, ◌⊎◌, is_some};
 ghost use Rattle.sw_base.specs.Environment.{Rose, WhereTold, next_count};
 ghost use Rattle.kernel_syntax.specs.Program.{Program};
@@ -15,6 +15,7 @@ use std::thread::Threads;
 use sw_base::{Folder, Gate, Out};
 
 /// Runs the kernel that the file `kernel` holds, with buffers of `size` bytes, into the folder `dir`, and prints what came out.
+/// The threads of a team stay from its first phase to its last, or are started in each phase.
 pub fn run_file<R: Threads + Wait + Sync + Copy + Send + 'static, F: Folder, O: Out, G: Gate>(
     rt: &R,
     alloc: Global,
@@ -24,6 +25,7 @@ pub fn run_file<R: Threads + Wait + Sync + Copy + Send + 'static, F: Folder, O: 
     folder: &mut F,
     out: &mut O,
     gate: &G,
+    stays: bool,
 ) -> u8
     requires { IsBufferSize size }
     ensures answers { WhereTold (F.state folder.old).content (λ c. WhereTold (F.state folder.new).content (λ d.
@@ -42,6 +44,6 @@ pub fn run_file<R: Threads + Wait + Sync + Copy + Send + 'static, F: Folder, O: 
     ensures tells { is_some (F.state folder.new).content ≡ is_some (F.state folder.old).content }
     ensures no_usage { result ≡ USAGE → ⊥ }
 {
-    let outcome = run(rt, alloc, kernel, dir, size, folder, gate);
+    let outcome = run(rt, alloc, kernel, dir, size, folder, gate, stays);
     print_outcome(alloc, out, &outcome)
 }

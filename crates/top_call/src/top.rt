@@ -2,6 +2,7 @@
 ghost use Rattle.std.specs.Prelude.{◌≡◌, ◌⊎◌, ℕ, List, is_some};
 ghost use Rattle.sw_base.specs.Environment.{Rose, WhereTold, next_count};
 ghost use Rattle.command_answer.specs.Answer.{Answers, IsFailure, Tries};
+ghost use Rattle.certify_command.specs.Certify.{CertifyDue};
 ghost use Rattle.folder_commands.specs.Check.{FolderDue, HasReport};
 ghost use Rattle.folder_commands.specs.Confirm.{HasConfirmation};
 ghost use Rattle.folder_commands.specs.Explain.{HasExplanation};
@@ -11,11 +12,12 @@ ghost use Rattle.folder_commands.specs.Replay.{ReplayDue};
 ghost use Rattle.folder_commands.specs.Show.{ShowsRecords};
 ghost use Rattle.folder_commands.specs.Upgrade.{IsUpgraded, UpgradeDue};
 ghost use Rattle.log_upgrade.specs.Upgrade.{LeavesUpgrade};
-ghost use Rattle.top_call.specs.Arguments.{AsksToRead, AsksToWrite, AsksUpgrade, BeginsToWrite, IsUsage, SaysCheck, SaysConfirm, SaysExplain, SaysGen, SaysReplay, SaysRun, SaysShow, SaysUpgrade, UsageDue, texts};
+ghost use Rattle.top_call.specs.Arguments.{AsksToRead, AsksToWrite, AsksUpgrade, BeginsToWrite, IsUsage, SaysCertify, SaysCheck, SaysConfirm, SaysExplain, SaysGen, SaysReplay, SaysRun, SaysShow, SaysUpgrade, UsageDue, texts};
 ghost use Rattle.command_answer.specs.declared.status.TheConstants.{DONE, USAGE, READ_FAULT, WRITE_FAULT};
 
 use crate::arguments::{Command, read_arguments};
 use crate::running::run_file;
+use certify_command::certify_file;
 use command_answer::{NO_MEMORY, USAGE, print};
 use folder_commands::{
     check, check_generated, confirm_records, explain_lines, replay_file, show, upgrade_folder,
@@ -31,12 +33,12 @@ use sw_base::{Folder, Gate, Out};
 pub const STACK: usize = 1 << 28;
 
 const USAGE_LINE: &[u8] =
-    b"usage: sword check DIR W | run KERNEL DIR SIZE | replay KERNEL DIR | show DIR | gen N W | upgrade DIR NEW | explain DIR L M | confirm DIR A I B J\n";
+    b"usage: sword check DIR W | run KERNEL DIR SIZE | replay KERNEL DIR | show DIR | gen N W | upgrade DIR NEW | explain DIR L M | confirm DIR A I B J | certify KERNEL | live KERNEL DIR SIZE\n";
 
 /// Does what the arguments after the program's name ask for, and answers the status that the program ends with.
 ///
-/// The gate sees each lane of a region start each of its phases, and each worker of a check or of `gen` start. Lanes and workers are
-/// threads of the runtime.
+/// The gate sees each lane of a region start each of its phases, and each worker of a check, of `gen` or of `certify` start. Lanes and
+/// workers are threads of the runtime.
 pub fn sword<R: Threads + Wait + Sync + Copy + Send + 'static, F: Folder, O: Out, G: Gate>(
     rt: &R,
     alloc: Global,
@@ -68,7 +70,7 @@ pub fn sword<R: Threads + Wait + Sync + Copy + Send + 'static, F: Folder, O: Out
     // `gen` answers how many accesses and barrier intervals the run of so many rounds has, and the line pairs of its races.
     ensures gen_ { (rounds workers : ℕ) → SaysGen (texts arguments.now) rounds workers → Answers (GenDue rounds) (O.written out.old) (O.written out.new) result }
 
-    // `run` answers that there is no kernel; that the folder has an index; where the kernel stopped, with the logs of one execution of it;
+    // `run` and `live` answer that there is no kernel; that the folder has an index; where the kernel stopped, with the logs of one execution of it;
     // or the counts of a run and the sums in which a legal history of it ends. Its logs and index are then there: those of the kernel's
     // tasks, each with its whole trace under what it read, cut into pieces that fill the buffer.
     ensures run { (kernel dir : List ℕ) (size : ℕ) → SaysRun (texts arguments.now) kernel dir size → WhereTold (F.state folder.old).content (λ c.
@@ -96,6 +98,11 @@ pub fn sword<R: Threads + Wait + Sync + Copy + Send + 'static, F: Folder, O: Out
     ensures confirm { (dir : List ℕ) (first_row first second_row second : ℕ) → SaysConfirm (texts arguments.now) dir first_row first second_row second → WhereTold (F.state folder.old).content (λ c.
         Tries (FolderDue (HasConfirmation first_row first second_row second) c.held dir) (O.written out.old) (O.written out.new) result) }
 
+    // `certify` answers that there is no kernel, or a verdict on the kernel whose cause is there: that each of its runs that ends has the logs of its
+    // serial run, of which it prints the text of `run`; or the first reason for which that isn't certain.
+    ensures certify { (kernel : List ℕ) → SaysCertify (texts arguments.now) kernel → WhereTold (F.state folder.old).content (λ c.
+        Tries (CertifyDue c.held kernel) (O.written out.old) (O.written out.new) result) }
+
     // A fault has its cause, and only a run or an upgrade that can begin writes anything. With status 0 no call failed that writes: none was
     // made again. After a read that failed only an upgrade has written.
     ensures run_reads { (AsksUpgrade (texts arguments.now) → ⊥) → result ≡ READ_FAULT → F.state folder.new ≡ F.state folder.old }
@@ -118,9 +125,26 @@ pub fn sword<R: Threads + Wait + Sync + Copy + Send + 'static, F: Folder, O: Out
         Ok(Some(Command::Check { dir, workers })) => {
             check(rt, alloc, folder, out, gate, dir, workers as usize)
         }
-        Ok(Some(Command::Run { kernel, dir, size })) => {
-            run_file(rt, alloc, kernel, dir, size as usize, folder, out, gate)
-        }
+        Ok(
+            Some(
+                Command::Run {
+                    kernel,
+                    dir,
+                    size,
+                    stays,
+                },
+            ),
+        ) => run_file(
+            rt,
+            alloc,
+            kernel,
+            dir,
+            size as usize,
+            folder,
+            out,
+            gate,
+            stays,
+        ),
         Ok(Some(Command::Replay { kernel, dir })) => replay_file(alloc, folder, out, kernel, dir),
         Ok(Some(Command::Show { dir })) => show(alloc, folder, out, dir),
         Ok(Some(Command::Gen { rounds, workers })) => {
@@ -140,6 +164,7 @@ pub fn sword<R: Threads + Wait + Sync + Copy + Send + 'static, F: Folder, O: Out
             other.row as u32,
             other.number as u32,
         ),
+        Ok(Some(Command::Certify { kernel })) => certify_file(rt, alloc, folder, out, gate, kernel),
         Err(_) => NO_MEMORY,
     }
 }

@@ -43,16 +43,19 @@ fn threads(rt: HostRuntime, alloc: Global) -> Result<u32, Trouble> {
     Err(Trouble::Failed)
 }
 
-// A kernel that ends, and one of which some lanes stop while the others go on. The lanes fill blocks that are handed to writers.
-const KERNELS: &[(&str, u8)] = &[
-    (
-        "array a i64 64 main { parallel 64 { loop k in 0 .. 1600 { a[tid] = k } } }",
-        DONE,
-    ),
-    (
-        "array a i64 64 main { parallel 64 { loop k in 0 .. 1600 { a[tid / (tid - 5)] = k } barrier } }",
-        KERNEL_STOPPED,
-    ),
+// A kernel that ends. Its lanes fill blocks that are handed to writers.
+const FILLING: &str = "array a i64 64 main { parallel 64 { loop k in 0 .. 1600 { a[tid] = k } } }";
+
+// One of which some lanes stop while the others go on.
+const DIVIDING: &str =
+    "array a i64 64 main { parallel 64 { loop k in 0 .. 1600 { a[tid / (tid - 5)] = k } barrier } }";
+
+// By which command it runs, and how.
+const RUNS: &[(&str, &str, u8)] = &[
+    ("run", FILLING, DONE),
+    ("run", DIVIDING, KERNEL_STOPPED),
+    ("live", FILLING, DONE),
+    ("live", DIVIDING, KERNEL_STOPPED),
 ];
 
 /// How often is looked whether the threads have ended.
@@ -73,12 +76,12 @@ fn are_left(rt: HostRuntime, alloc: Global, most: u32) -> Result<bool, Trouble> 
 fn no_thread_of_a_run_is_left(rt: HostRuntime) -> Result<(), Fail> {
     let alloc = rt.alloc();
     let before = threads(rt, alloc)?;
-    for (kernel, due) in KERNELS {
+    for (name, kernel, due) in RUNS {
         let mut folder = MemFolder::new(alloc)?;
         folder.hold("k", kernel.as_bytes())?;
-        let (status, _) = printed(&rt, alloc, &mut folder, &["run", "k", "d", "16384"], &[])?;
-        assert!(rt; status == *due, "{kernel}");
-        assert!(rt; are_left(rt, alloc, before)?, "{kernel}");
+        let (status, _) = printed(&rt, alloc, &mut folder, &[*name, "k", "d", "16384"], &[])?;
+        assert!(rt; status == *due, "{name} {kernel}");
+        assert!(rt; are_left(rt, alloc, before)?, "{name} {kernel}");
     }
     Ok(())
 }

@@ -11,18 +11,21 @@ use std::test::Fail;
 use std::thread;
 use std::thread::Threads;
 use sw_base::{Gate, Path};
+use team_live::WithoutStart;
 
 // Whether the lanes of a team of this size meet, and each does its work.
 fn meet<R: Abort + Threads + Wait + Sync + Copy + Send + 'static>(
     rt: &R,
     alloc: Global,
     lanes: usize,
+    stays: bool,
 ) -> Result<bool, Fail> {
     let text = format!(in alloc;
         "array a i64 {lanes} main {{ parallel {lanes} {{ a[tid] = 1 }} }}"
     )?;
     let gate = MeetingGate::new(lanes);
-    let run = run_with(rt, alloc, &text, 4096, &gate, (&Path::root(), &[]))?;
+    let told = WithoutStart::new(&gate);
+    let run = run_with(rt, alloc, &text, 4096, &told, (&Path::root(), &[]), stays)?;
     let end = run.ok().ok_or("stopped")?;
     let words = end.words.as_slice();
     Ok(gate.have_met() && words.len() == lanes && words.iter().all(|word| *word == 1))
@@ -31,7 +34,9 @@ fn meet<R: Abort + Threads + Wait + Sync + Copy + Send + 'static>(
 #[test]
 fn all_lanes_run_at_once(rt: HostRuntime) -> Result<(), Fail> {
     for lanes in [2, 4, 64] {
-        assert!(rt; meet(&rt, rt.alloc(), lanes)?);
+        for stays in [false, true] {
+            assert!(rt; meet(&rt, rt.alloc(), lanes, stays)?, "{lanes}, {stays}");
+        }
     }
     Ok(())
 }
@@ -74,15 +79,27 @@ for i in 0 .. 4096 dynamic nowait { a[i] = tid }
 loop k in 0 .. tid { parallel 3 { } }
 } }";
 
-#[test]
-fn a_lane_does_nothing_before_the_gate(rt: HostRuntime) -> Result<(), Fail> {
+// Whether lane 1 draws all chunks while lane 0 is held, and forks its lanes meanwhile.
+fn is_held<R: Threads + Wait + Sync + Copy + Send + 'static>(
+    rt: &R,
+    alloc: Global,
+    stays: bool,
+) -> Result<bool, Fail> {
     let gate = HoldingGate {
         has_come: AtomicBool::new(false),
         is_late: AtomicBool::new(false),
     };
-    let run = run_with(&rt, rt.alloc(), DRAWING, 4096, &gate, (&Path::root(), &[]))?;
+    let told = WithoutStart::new(&gate);
+    let run = run_with(rt, alloc, DRAWING, 4096, &told, (&Path::root(), &[]), stays)?;
     let end = run.ok().ok_or("stopped")?;
-    assert!(rt; end.words.as_slice().iter().all(|word| *word == 1));
-    assert!(rt; !gate.is_late.load(Ordering::SeqCst));
+    let all_drawn = end.words.as_slice().iter().all(|word| *word == 1);
+    Ok(all_drawn && !gate.is_late.load(Ordering::SeqCst))
+}
+
+#[test]
+fn a_lane_does_nothing_before_the_gate(rt: HostRuntime) -> Result<(), Fail> {
+    for stays in [false, true] {
+        assert!(rt; is_held(&rt, rt.alloc(), stays)?, "{stays}");
+    }
     Ok(())
 }

@@ -27,7 +27,7 @@ fn is_answered<R: Threads + Wait + Sync + Copy + Send + 'static>(
     text: &str,
 ) -> Result<bool, Memory> {
     let mut out = MemOut::new(alloc)?;
-    let outcome = run(rt, alloc, "k", "d", 48, folder, &NoGate);
+    let outcome = run(rt, alloc, "k", "d", 48, folder, &NoGate, false);
     let answered = print_outcome(alloc, &mut out, &outcome);
     Ok(answered == status && out.written() == text.as_bytes())
 }

@@ -291,11 +291,12 @@ fn ends_so<R: Threads + Wait + Sync + Copy + Send + 'static>(
     alloc: Global,
     size: usize,
     due: &Ending<'_>,
+    stays: bool,
 ) -> Result<bool, Fail>
     requires { IsBufferSize size }
 {
     let (kernel, words, logs) = due;
-    let end = finished(rt, alloc, kernel, size)?;
+    let end = finished(rt, alloc, kernel, size, stays)?;
     let has_words = end.words.as_slice() == *words;
     Ok(are_listed(alloc, end.logs, logs)? && has_words)
 }
@@ -304,11 +305,13 @@ fn ends_so<R: Threads + Wait + Sync + Copy + Send + 'static>(
 fn each_log_has_the_records_of_its_task(rt: HostRuntime) -> Result<(), Fail> {
     for due in ENDS {
         for size in [24, 60, 4096] {
-            assert!(rt;
-                ends_so(&rt, rt.alloc(), size, due)?,
-                "in {size}: {}",
-                due.0
-            );
+            for stays in [false, true] {
+                assert!(rt;
+                    ends_so(&rt, rt.alloc(), size, due, stays)?,
+                    "in {size}, {stays}: {}",
+                    due.0
+                );
+            }
         }
     }
     Ok(())

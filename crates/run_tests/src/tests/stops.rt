@@ -11,6 +11,7 @@ use std::sync::Wait;
 use std::test::Fail;
 use std::thread::Threads;
 use sw_base::{ClosedLog, NoGate, Path};
+use team_live::WithoutStart;
 
 // Lane 1 divides by 0, lane 2 leaves the array, and lanes 0 and 3 wait for them. No lane stores in the second phase.
 const TWO_STOP: &str = "array a i64 4
@@ -98,11 +99,12 @@ fn stops_so<R: Threads + Wait + Sync + Copy + Send + 'static>(
     alloc: Global,
     size: usize,
     due: &Stopping<'_>,
+    stays: bool,
 ) -> Result<bool, Fail>
     requires { IsBufferSize size }
 {
     let (kernel, name, why, words, logs) = due;
-    let stop = stopped(rt, alloc, kernel, size, (&Path::root(), &[]))?;
+    let stop = stopped(rt, alloc, kernel, size, (&Path::root(), &[]), stays)?;
     let is_told = is_stopped_so(alloc, &stop, name, *why, words)?;
     Ok(are_listed(alloc, stop.logs, logs)? && is_told)
 }
@@ -113,11 +115,13 @@ fn the_least_stop_of_a_phase_is_told_and_no_later_phase_is_run(
 ) -> Result<(), Fail> {
     for due in STOPS {
         for size in [24, 4096] {
-            assert!(rt;
-                stops_so(&rt, rt.alloc(), size, due)?,
-                "in {size}: {}",
-                due.1
-            );
+            for stays in [false, true] {
+                assert!(rt;
+                    stops_so(&rt, rt.alloc(), size, due, stays)?,
+                    "in {size}, {stays}: {}",
+                    due.1
+                );
+            }
         }
     }
     Ok(())
@@ -146,8 +150,9 @@ fn call_fails<R: Threads + Wait + Sync + Copy + Send + 'static>(
     task: &Path,
     call: u64,
     whole: &[ClosedLog<MemLog>],
+    stays: bool,
 ) -> Result<bool, Fail> {
-    let stop = stopped(rt, alloc, FORKING, 24, (task, &[call]))?;
+    let stop = stopped(rt, alloc, FORKING, 24, (task, &[call]), stays)?;
     Ok(has_failed(&stop, task) && begin(&stop.logs, whole))
 }
 
@@ -158,16 +163,18 @@ fn each_call_fails<R: Threads + Wait + Sync + Copy + Send + 'static>(
     task: &Path,
     calls: u64,
     whole: &[ClosedLog<MemLog>],
+    stays: bool,
 ) -> Result<bool, Fail>
     requires { calls < 100 }
 {
     for call in 1..=calls {
-        if !call_fails(rt, alloc, task, call, whole)? {
+        if !call_fails(rt, alloc, task, call, whole, stays)? {
             return Ok(false);
         }
     }
     let past = calls + 1;
-    Ok(run_with(rt, alloc, FORKING, 24, &NoGate, (task, &[past]))?.is_ok())
+    let gate = WithoutStart::new(&NoGate);
+    Ok(run_with(rt, alloc, FORKING, 24, &gate, (task, &[past]), stays)?.is_ok())
 }
 
 // Each call on each log of nested regions fails in turn.
@@ -175,11 +182,12 @@ fn all_calls_fail<R: Threads + Wait + Sync + Copy + Send + 'static>(
     rt: &R,
     alloc: Global,
     whole: &[ClosedLog<MemLog>],
+    stays: bool,
 ) -> Result<bool, Fail> {
     // On a task's log: its header, each record, and the logs of the lanes that it forks.
     let all_calls = [5, 6, 3, 3, 6, 3, 3];
     for (log, calls) in whole.iter().zip(&all_calls) {
-        if !each_call_fails(rt, alloc, &log.path, *calls, whole)? {
+        if !each_call_fails(rt, alloc, &log.path, *calls, whole, stays)? {
             return Ok(false);
         }
     }
@@ -188,7 +196,9 @@ fn all_calls_fail<R: Threads + Wait + Sync + Copy + Send + 'static>(
 
 #[test]
 fn each_call_on_each_log_of_nested_regions_fails_in_turn(rt: HostRuntime) -> Result<(), Fail> {
-    let whole = finished(&rt, rt.alloc(), FORKING, 24)?;
-    assert!(rt; all_calls_fail(&rt, rt.alloc(), &whole.logs)?);
+    for stays in [false, true] {
+        let whole = finished(&rt, rt.alloc(), FORKING, 24, stays)?;
+        assert!(rt; all_calls_fail(&rt, rt.alloc(), &whole.logs, stays)?);
+    }
     Ok(())
 }

@@ -10,32 +10,34 @@ use lane_runner::Stop;
 use log_index::Row;
 use log_listing::list;
 use memory_environment::{MemFolder, MemLog, MemOut};
-use region_runner::{Finished, Stopped, run_kernel};
+use region_runner::{Finished, Stopped, run_kernel, run_live};
 use std::alloc::Global;
 use std::marker::Send;
 use std::sync::Wait;
 use std::test::Fail;
 use std::thread::Threads;
-use sw_base::{ClosedLog, Folder, Gate, Memory, NoGate, Path, Trouble};
+use sw_base::{ClosedLog, Folder, Memory, NoGate, Path, Trouble};
+use team_live::{LiveGate, WithoutStart};
 
 /// What the run of a kernel answers.
 pub(crate) type Ran = Result<Finished<MemLog>, Stopped<MemLog>>;
 
-// The kernel of a text.
-fn kernel_of(alloc: Global, text: &str) -> Result<Kernel, Fail>
+/// The kernel of a text.
+pub(crate) fn kernel_of(alloc: Global, text: &str) -> Result<Kernel, Fail>
     ensures { IfOk result (λ k. IsLawful (program_of k)) }
 {
     Ok(read_kernel(alloc, text.as_bytes())?)
 }
 
-/// Runs the kernel of a text, with this gate, where these calls on the log of this task are to fail.
-pub(crate) fn run_with<R: Threads + Wait + Sync + Copy + Send + 'static, G: Gate>(
+/// Runs the kernel of a text, with this gate, where these calls on the log of this task are to fail. The threads of a team stay, or don't.
+pub(crate) fn run_with<R: Threads + Wait + Sync + Copy + Send + 'static, G: LiveGate>(
     rt: &R,
     alloc: Global,
     text: &str,
     size: usize,
     gate: &G,
     failing: (&Path, &[u64]),
+    stays: bool,
 ) -> Result<Ran, Fail>
     requires { IsBufferSize size }
 {
@@ -44,7 +46,11 @@ pub(crate) fn run_with<R: Threads + Wait + Sync + Copy + Send + 'static, G: Gate
     folder.fail_log(path, calls)?;
     let root = folder.root(alloc, "d")?;
     let kernel = kernel_of(alloc, text)?;
-    Ok(run_kernel(rt, alloc, &kernel, root, size, gate))
+    Ok(if stays {
+        run_live(rt, alloc, &kernel, root, size, gate)
+    } else {
+        run_kernel(rt, alloc, &kernel, root, size, gate)
+    })
 }
 
 /// The end of a run of the kernel.
@@ -53,10 +59,12 @@ pub(crate) fn finished<R: Threads + Wait + Sync + Copy + Send + 'static>(
     alloc: Global,
     text: &str,
     size: usize,
+    stays: bool,
 ) -> Result<Finished<MemLog>, Fail>
     requires { IsBufferSize size }
 {
-    let ran = run_with(rt, alloc, text, size, &NoGate, (&Path::root(), &[]))?;
+    let gate = WithoutStart::new(&NoGate);
+    let ran = run_with(rt, alloc, text, size, &gate, (&Path::root(), &[]), stays)?;
     Ok(ran.ok().ok_or("stopped")?)
 }
 
@@ -67,10 +75,12 @@ pub(crate) fn stopped<R: Threads + Wait + Sync + Copy + Send + 'static>(
     text: &str,
     size: usize,
     failing: (&Path, &[u64]),
+    stays: bool,
 ) -> Result<Stopped<MemLog>, Fail>
     requires { IsBufferSize size }
 {
-    let ran = run_with(rt, alloc, text, size, &NoGate, failing)?;
+    let gate = WithoutStart::new(&NoGate);
+    let ran = run_with(rt, alloc, text, size, &gate, failing, stays)?;
     Ok(ran.err().ok_or("ended")?)
 }
 

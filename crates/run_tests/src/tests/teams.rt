@@ -12,6 +12,7 @@ use std::sync::atomic::{AtomicU64, Ordering};
 use std::test::Fail;
 use std::thread::Threads;
 use sw_base::{ClosedLog, Gate, Memory, NoGate, Path, Trouble};
+use team_live::WithoutStart;
 
 // Each of two lanes adds 1 to every other element.
 const COUNTING: &str = "array a i64 8
@@ -137,10 +138,11 @@ fn is_cut_so<R: Threads + Wait + Sync + Copy + Send + 'static>(
     size: usize,
     lengths: &[usize],
     whole: &[ClosedLog<MemLog>],
+    stays: bool,
 ) -> Result<bool, Fail>
     requires { IsBufferSize size }
 {
-    let cut = finished(rt, alloc, COUNTING, size)?;
+    let cut = finished(rt, alloc, COUNTING, size, stays)?;
     Ok(
         cut.words.as_slice() == [1; 8].as_slice()
             && has_pieces(cut.logs.get(1), lengths)
@@ -151,14 +153,16 @@ fn is_cut_so<R: Threads + Wait + Sync + Copy + Send + 'static>(
 #[test]
 fn pieces_fill_the_buffer_and_the_bytes_stay_the_same(rt: HostRuntime) -> Result<(), Fail> {
     let alloc = rt.alloc();
-    let whole = finished(&rt, alloc, COUNTING, 4_194_304)?;
+    let whole = finished(&rt, alloc, COUNTING, 4_194_304, false)?;
     assert!(rt; are_sized(alloc, &whole.logs, COUNTED)?);
     for (size, lengths) in PIECES {
         assert!(rt; *size >= 24 && *size <= 4_194_304);
-        assert!(rt;
-            is_cut_so(&rt, alloc, *size, lengths, &whole.logs)?,
-            "at {size}"
-        );
+        for stays in [false, true] {
+            assert!(rt;
+                is_cut_so(&rt, alloc, *size, lengths, &whole.logs, stays)?,
+                "at {size}, {stays}"
+            );
+        }
     }
     Ok(())
 }
@@ -185,7 +189,7 @@ fn begins_with_first_records(log: Option<&ClosedLog<MemLog>>) -> bool {
 
 #[test]
 fn the_first_records_of_a_lane_are_spelled_in_its_log(rt: HostRuntime) -> Result<(), Fail> {
-    let logs = finished(&rt, rt.alloc(), COUNTING, 4096)?.logs;
+    let logs = finished(&rt, rt.alloc(), COUNTING, 4096, false)?.logs;
     assert!(rt; begins_with_first_records(logs.get(1)));
     Ok(())
 }
@@ -250,9 +254,10 @@ fn stops_so<R: Threads + Wait + Sync + Copy + Send + 'static>(
     rt: &R,
     alloc: Global,
     due: &Stopping<'_>,
+    stays: bool,
 ) -> Result<bool, Fail> {
     let (text, name, why, words, logs) = due;
-    let stop = stopped(rt, alloc, text, 4096, (&Path::root(), &[]))?;
+    let stop = stopped(rt, alloc, text, 4096, (&Path::root(), &[]), stays)?;
     let is_told = is_stopped_so(alloc, &stop, name, *why, words)?;
     Ok(are_sized(alloc, &stop.logs, logs)? && is_told)
 }
@@ -260,7 +265,13 @@ fn stops_so<R: Threads + Wait + Sync + Copy + Send + 'static>(
 #[test]
 fn the_least_lane_that_stopped_is_answered(rt: HostRuntime) -> Result<(), Fail> {
     for due in STOPS {
-        assert!(rt; stops_so(&rt, rt.alloc(), due)?, "{}", due.1);
+        for stays in [false, true] {
+            assert!(rt;
+                stops_so(&rt, rt.alloc(), due, stays)?,
+                "{stays}: {}",
+                due.1
+            );
+        }
     }
     Ok(())
 }
@@ -279,7 +290,14 @@ fn ends_with_barrier(log: Option<&ClosedLog<MemLog>>) -> bool {
 
 #[test]
 fn lanes_that_wait_have_their_barrier_last(rt: HostRuntime) -> Result<(), Fail> {
-    let stop = stopped(&rt, rt.alloc(), MIDDLE_LEAVING, 4096, (&Path::root(), &[]))?;
+    let stop = stopped(
+        &rt,
+        rt.alloc(),
+        MIDDLE_LEAVING,
+        4096,
+        (&Path::root(), &[]),
+        false,
+    )?;
     assert!(rt; ends_with_barrier(stop.logs.get(3)));
     Ok(())
 }
@@ -298,11 +316,12 @@ fn call_fails<R: Threads + Wait + Sync + Copy + Send + 'static>(
     kernel: (&str, usize),
     task: &Path,
     call: u64,
+    stays: bool,
 ) -> Result<bool, Fail>
     requires { IsBufferSize kernel.1 }
 {
     let (text, size) = kernel;
-    let stop = stopped(rt, alloc, text, size, (task, &[call]))?;
+    let stop = stopped(rt, alloc, text, size, (task, &[call]), stays)?;
     Ok(has_failed(&stop, task) && stop.words.len() == 8 && !stop.logs.is_empty())
 }
 
@@ -313,11 +332,13 @@ fn ends<R: Threads + Wait + Sync + Copy + Send + 'static>(
     kernel: (&str, usize),
     task: &Path,
     call: u64,
+    stays: bool,
 ) -> Result<bool, Fail>
     requires { IsBufferSize kernel.1 }
 {
     let (text, size) = kernel;
-    Ok(run_with(rt, alloc, text, size, &NoGate, (task, &[call]))?.is_ok())
+    let gate = WithoutStart::new(&NoGate);
+    Ok(run_with(rt, alloc, text, size, &gate, (task, &[call]), stays)?.is_ok())
 }
 
 // Whether four calls on the log of this task fail in turn, and the next one is no more. On the root's log: its header, two lanes, and its
@@ -327,31 +348,37 @@ fn four_calls_fail<R: Threads + Wait + Sync + Copy + Send + 'static>(
     alloc: Global,
     kernel: (&str, usize),
     task: &Path,
+    stays: bool,
 ) -> Result<bool, Fail>
     requires { IsBufferSize kernel.1 }
 {
     for call in 1..=4 {
-        if !call_fails(rt, alloc, kernel, task, call)? {
+        if !call_fails(rt, alloc, kernel, task, call, stays)? {
             return Ok(false);
         }
     }
-    ends(rt, alloc, kernel, task, 5)
+    ends(rt, alloc, kernel, task, 5, stays)
 }
 
 #[test]
 fn each_call_on_each_log_fails_in_turn(rt: HostRuntime) -> Result<(), Fail> {
     let alloc = rt.alloc();
     // Blocks for four records, which the lane appends, and blocks that its writer appends.
-    for kernel in [(COUNTING, 96), (FILLING, 16_384)] {
-        assert!(rt; four_calls_fail(&rt, alloc, kernel, &Path::root())?);
+    for (text, size, stays) in [
+        (COUNTING, 96, false),
+        (COUNTING, 96, true),
+        (FILLING, 16_384, false),
+        (FILLING, 16_384, true),
+    ] {
+        assert!(rt; four_calls_fail(&rt, alloc, (text, size), &Path::root(), stays)?);
         for lane in [0, 1] {
             let task = Path::root().child(0, lane, 2);
-            assert!(rt; four_calls_fail(&rt, alloc, kernel, &task)?);
+            assert!(rt; four_calls_fail(&rt, alloc, (text, size), &task, stays)?);
         }
     }
     // With a block for one record the root's log takes five calls.
-    assert!(rt; !ends(&rt, alloc, (COUNTING, 24), &Path::root(), 5)?);
-    assert!(rt; ends(&rt, alloc, (COUNTING, 24), &Path::root(), 6)?);
+    assert!(rt; !ends(&rt, alloc, (COUNTING, 24), &Path::root(), 5, false)?);
+    assert!(rt; ends(&rt, alloc, (COUNTING, 24), &Path::root(), 6, false)?);
     Ok(())
 }
 
@@ -363,7 +390,7 @@ fn lane_1_leaves<R: Threads + Wait + Sync + Copy + Send + 'static>(
     task: &Path,
     call: u64,
 ) -> Result<bool, Fail> {
-    let stop = stopped(rt, alloc, text, 4096, (task, &[call]))?;
+    let stop = stopped(rt, alloc, text, 4096, (task, &[call]), false)?;
     Ok(stop.path == Path::root().child(0, 1, 2) && stop.why == LEFT && stop.logs.len() == 3)
 }
 
@@ -383,7 +410,7 @@ fn a_stop_or_failure_of_the_least_lane_is_answered(rt: HostRuntime) -> Result<()
 #[test]
 fn of_two_lanes_that_stop_the_first_is_answered(rt: HostRuntime) -> Result<(), Fail> {
     let first = Path::root().child(0, 0, 2);
-    let stop = stopped(&rt, rt.alloc(), LEAVING, 24, (&first, &[2]))?;
+    let stop = stopped(&rt, rt.alloc(), LEAVING, 24, (&first, &[2]), false)?;
     assert!(rt; has_failed(&stop, &first));
     Ok(())
 }
@@ -401,7 +428,7 @@ fn are_few_stores(words: &[u64]) -> bool {
 fn a_failed_log_lacks_few_of_the_stores(rt: HostRuntime) -> Result<(), Fail> {
     // A buffer for ten records: the second one fails after 20 stores at least, and nobody stores once 30 records aren't there.
     let text = "array a i64 1000 main { loop i in 0 .. 1000 { a[i] = 1 } }";
-    let stop = stopped(&rt, rt.alloc(), text, 240, (&Path::root(), &[3]))?;
+    let stop = stopped(&rt, rt.alloc(), text, 240, (&Path::root(), &[3]), false)?;
     assert!(rt; stop.why == Stop::Trouble(Trouble::Failed));
     assert!(rt; are_few_stores(&stop.words));
     Ok(())
@@ -427,12 +454,14 @@ fn starts<R: Threads + Wait + Sync + Copy + Send + 'static>(
     alloc: Global,
     text: &str,
     phases: u64,
+    stays: bool,
 ) -> Result<bool, Fail> {
     let gate = CountingGate {
         lanes: [AtomicU64::new(0), AtomicU64::new(0)],
         others: AtomicU64::new(0),
     };
-    let _ = run_with(rt, alloc, text, 4096, &gate, (&Path::root(), &[]))?;
+    let told = WithoutStart::new(&gate);
+    let _ = run_with(rt, alloc, text, 4096, &told, (&Path::root(), &[]), stays)?;
     let first = gate.lanes[0].load(Ordering::SeqCst);
     let second = gate.lanes[1].load(Ordering::SeqCst);
     Ok(first == phases && second == phases && gate.others.load(Ordering::SeqCst) == 0)
@@ -448,7 +477,12 @@ fn the_gate_sees_each_lane_start_each_phase(rt: HostRuntime) -> Result<(), Fail>
         (LEAVING_UNBARRED, 1),
     ];
     for (text, phases) in table {
-        assert!(rt; starts(&rt, rt.alloc(), text, phases)?, "{text}");
+        for stays in [false, true] {
+            assert!(rt;
+                starts(&rt, rt.alloc(), text, phases, stays)?,
+                "{stays}: {text}"
+            );
+        }
     }
     Ok(())
 }

@@ -1,32 +1,28 @@
-use Rattle.std.proofs.Common.{rules, ◌≡◌, ◌∙◌, ap, subst, sym, arith, ℕ, ◌+◌, ◌-◌, ◌<◌, List, length, map, slice_index_or, refl, ◌≤◌, [], ◌∷◌, ◌++◌, append_assoc, take, take_all, None, Some, Err, Ok, false}
+use Rattle.std.proofs.Common.{rules, ◌≡◌, ◌∙◌, ap, subst, sym, arith, ℕ, ◌+◌, ◌-◌, ◌<◌, List, length, map, slice_index_or, refl, [], None, Some, Err, false}
 use Rattle.sw_base.specs.declared.path.Step.{Step}
 use Rattle.kernel_syntax.specs.Tree.{TeamTree}
-use Rattle.shared_words.specs.Handles.{WordsValue, Belongs, HandValue, with_view}
+use Rattle.shared_words.specs.Handles.{WordsValue, Belongs, HandValue}
 use Rattle.lane_runner.specs.Children.{AreNewLogs, LogView}
 use Rattle.lane_runner.specs.Handed.{entries_of, place_of}
 use Rattle.lane_runner.specs.Forking.{IsReady, RanRegion}
-use Rattle.region_runner.specs.LastPhase.{IsLast, WentOn}
+use Rattle.region_runner.specs.LastPhase.{IsLast}
 use Rattle.region_runner.specs.Crew.{CrewValue, world_of}
 use Rattle.region_runner.specs.Lawful.{IsTeam, IsLawfulPhase}
 use Rattle.region_runner.proofs.Forks.{phase_forks}
-use Rattle.std.specs.Prelude.{slice_index_or, List, drop, Vec}
-use Rattle.lane_runner.specs.Lane.{CanGoOn, Executed, LaneValue, hand_view}
+use Rattle.std.specs.Prelude.{slice_index_or, List, Vec}
+use Rattle.lane_runner.specs.Lane.{Executed, LaneValue}
 use Rattle.lane_runner.specs.World.{WorldValue}
-use Rattle.region_runner.specs.Hands.{IsLaneHand, joined_with, parted_for}
-use Rattle.region_runner.specs.Ground.{IsOurLane, IsOurPhase}
+use Rattle.region_runner.specs.Plan.{items_at, plan_of, team_of_plan}
+use Rattle.region_runner.proofs.Plans.{last_in, stands_first}
+use Rattle.region_runner.proofs.Meetings.{begun, ran_bare, team_begins, team_ends}
 use Rattle.shared_words.specs.declared.view.View.{View}
-use Rattle.region_runner.proofs.PhaseHands.{can_go_on, comes_home, parted_name}
-use Rattle.std.proofs.lemmas.List.{take-append-drop}
+use Rattle.std.proofs.lemmas.List.{get_or_default}
 use Rattle.std.proofs.lemmas.Option.{same_Some}
 use Rattle.kernel_model.specs.declared.phase.Item.{Item}
-use Rattle.kernel_model.specs.Parts.{drawn_count, run_parts}
+use Rattle.kernel_model.specs.Parts.{run_parts}
 use Rattle.kernel_model.specs.Phases.{parts_in}
-use Rattle.region_runner.specs.Stands.{AllGo, IsFresh, TeamClosed, TeamRan}
-use Rattle.region_runner.proofs.TeamLoop.{HasPassed, few_last, few_next, last_ends, last_has, may_next, own_next, passed_none, phase_ends, phase_has, runs_all, stops_early, take_next}
-use Rattle.region_runner.proofs.TeamSteps.{TeamSteps, team_steps}
-use Rattle.std.proofs.Math.Seq.{take-append_seam}
+use Rattle.region_runner.specs.Stands.{TeamClosed}
 use Rattle.std.specs.Global.{Global}
-use Rattle.std.specs.Vec.{vec_capacity}
 use Rattle.race_model.specs.Listing.{lane_of}
 use Rattle.shared_words.specs.declared.share.Share.{Share}
 use Rattle.kernel_syntax.specs.Program.{team_of}
@@ -36,15 +32,17 @@ use Rattle.kernel_model.specs.Value.{Site}
 use Rattle.kernel_rules.proofs.SameChunks.{same_chunks}
 use Rattle.lane_runner.specs.declared.stop.Stop.{Stop}
 use Rattle.region_runner.specs.Gathering.{ClosedValue, Gathered}
-use Rattle.region_runner.specs.Opening.{AreLanes, AreTorn, ClosesAs, lent_hand}
+use Rattle.region_runner.specs.Opening.{AreLanes, AreTorn, lent_hand}
 use Rattle.region_runner.proofs.LawfulPhases.{phases_lawful}
 use Rattle.lane_runner.proofs.NoRegion.{no_memory_for}
 use Rattle.region_runner.proofs.NoRegion.{torn_region}
 use Rattle.region_runner.proofs.OpenedTeam.{lane_fresh, lane_ours}
 use Rattle.region_runner.proofs.ReturnedHands.{head_of, team_returned, torn_returned}
 use Rattle.region_runner.proofs.TeamRegion.{closed_region}
-use Rattle.region_runner.proofs.region.+region.Goals.{region-in-Team, region-in-Torn}
-use denote.Param.Send.{IsSync, sendable}
+use Rattle.region_runner.proofs.region.+region.Goals.{region-in-Team, region-in-Torn, run_part-else-number-phases, run_part-then-number-phases}
+use mir.Syntax.{of_param}
+use denote.Exit.{unseen}
+use denote.Param.Send.{IsSync, Quiet-if, sendable}
 use Rattle.std.proofs.Crossing as heap
 use Rattle.region_runner.proofs.crew.Crew.TheSendSync as crew_row
 use Rattle.region_runner.proofs.ground.Ground.TheSendSync as ground_row
@@ -135,48 +133,65 @@ run_task-returns g n c = record {
       (subst (λ (w : WorldValue). Executed w c.args.phase.now c.args.lane.now c.run_phase.new.self) c.world-world.ensures c.run_phase.ensures.executed);
 }
 
-pub run_lanes-for_each_mut-requires-clause-accepts : goal.run_lanes-for_each_mut-requires-clause-accepts
-run_lanes-for_each_mut-requires-clause-accepts g n c κs within = λ i p less is. (
-  (let d = c.decreases in omega (arith, d)),
-  (
-    λ a m. m,
+pub run_part-run_task-requires-clause-last : goal.run_part-run_task-requires-clause-last
+run_part-run_task-requires-clause-last g n c κs within = λ line is.
+    let plan = plan_of c.args.ground.now c.args.depth c.args.crew.now c.args.phases.now c.args.end in
+    let same : items_at plan c.args.number ≡ c.index-phases-number.result =
+    get_or_default c.args.phases.now c.args.number [] c.index-phases-number.result c.requires.may.within ∙ sym c.index-phases-number.is in
+    elim c.if-number-phases.branch [
+      | run_part-then-number-phases w ↦
+          subst (λ (l : ℕ). IsLast c.index-phases-number.result l) (same_Some c.args.end line (sym w.line-is ∙ is))
+          (subst (λ (items : List Item). IsLast items c.args.end) same (last_in plan c.requires.plan c.args.number c.requires.may.within (omega (arith, w.if-number-phases.true))))
+      | run_part-else-number-phases w ↦ absurd (no_end (sym w.line-is ∙ is))
+    ]
+  where
+    no_end : {l : ℕ} → None ≡ Some l → ⊥
+    no_end e = cc
+
+pub run_phases-go_through-home-requires-sync-T : goal.run_phases-go_through-home-requires-sync-T
+run_phases-go_through-home-requires-sync-T g n c κs within =
+    let sync : IsSync g.row.R = record { shared = c.requires.shared.shared } in
+    let gate : IsSync g.row.G = record { shared = c.requires.gate_shared.shared } in
+    search (sendable, heap.crosses, ground_row.the_sync, crew_row.the_sync, phase_sync) depth 40
+
+pub run_phases-go_through-home-requires-clause-started : goal.run_phases-go_through-home-requires-clause-started
+run_phases-go_through-home-requires-clause-started g n c κs within = record { at = λ lane. record { shared = c.requires.gate_shared.shared } }
+
+pub run_phases-go_through-home-requires-clause-tasks : goal.run_phases-go_through-home-requires-clause-tasks
+run_phases-go_through-home-requires-clause-tasks g n c κs within = record {
+  accepted = λ number index lane may. (
+    (let d = c.decreases in omega (arith, d)),
     (
       λ a m. m,
       (
         λ a m. m,
         (
-          (search rules),
+          λ a m. m,
           (
-            (search rules),
+            c.requires.lives.1,
             (
-              (search rules),
+              c.requires.lives.1,
               (
-                (search rules),
+                c.requires.lives.0,
                 (
-                  ((search rules), (search rules), (search rules)),
+                  c.requires.lives.1,
                   (
-                    ((search rules), (search rules)),
                     (
-                      c.requires.crew,
+                      record { shared = c.requires.shared.shared },
+                      record { owned = c.requires.sent.owned; leaving = c.requires.sent.leaving },
+                      record { owned = c.requires.lanes_sent.owned; leaving = c.requires.lanes_sent.leaving },
+                    ),
+                    (
+                      (c.requires.lives.0, c.requires.lives.1),
                       (
-                        c.requires.number,
+                        c.requires.begin.plan,
                         (
-                          c.requires.span,
+                          may,
                           (
-                            c.requires.phase,
-                            (
-                              c.requires.last,
-                              (
-                                let count = c.requires.count in omega (arith, less, count),
-                                (
-                                  subst (λ (m : LaneValue). CanGoOn (world_of c.args.crew.now i) c.args.phase.now m) (sym is) (c.requires.can i p.now less),
-                                  (
-                                    subst (λ (m : LaneValue). IsOurLane c.args.ground.now c.args.depth m) (sym is) (c.requires.own i p.now less),
-                                    ((search rules), (search rules), (search rules), (search rules)),
-                                  ),
-                                ),
-                              ),
-                            ),
+                            record { owned = c.requires.sent.owned; leaving = c.requires.sent.leaving },
+                            record { owned = c.requires.lanes_sent.owned; leaving = c.requires.lanes_sent.leaving },
+                            record { shared = c.requires.shared.shared },
+                            record { shared = c.requires.gate_shared.shared },
                           ),
                         ),
                       ),
@@ -189,202 +204,72 @@ run_lanes-for_each_mut-requires-clause-accepts g n c κs within = λ i p less is
         ),
       ),
     ),
-  ),
-)
-
-pub run_lanes-returns-clause-went : goal.run_lanes-returns-clause-went
-run_lanes-returns-clause-went g n c = λ i d less.
-    let e = (c.for_each_mut.ensures i d less).1 in
-    subst (λ (m : LaneValue). WentOn (world_of c.args.crew.now i) c.args.phase.now c.args.end m (slice_index_or c.for_each_mut.new.s i d)) e.argument_is
-    (subst (λ (m : LaneValue). WentOn (world_of c.args.crew.now i) c.args.phase.now c.args.end e.argument.now m) e.left e.call)
-
-pub run_phase-run_lanes-requires-clause-can : goal.run_phase-run_lanes-requires-clause-can
-run_phase-run_lanes-requires-clause-can g n c κs within = λ i d less.
-    let inside : i < length c.args.lanes.now = let n = c.split_hands.ensures.count in let s = c.span.ensures in let m = c.requires.count in omega (arith, less, n, s, m) in
-    let below : i < c.span.result = let s = c.span.ensures in let m = c.requires.count in omega (arith, inside, s, m) in
-    subst (λ (m : LaneValue). CanGoOn (world_of c.args.crew.now i) c.args.phase.now m) (sym (c.split_hands.ensures.given i d below))
-    (can_go_on c.args.crew.now c.args.phase.now i c.args.hand.now (slice_index_or c.args.lanes.now i d) (subst (λ (v : CrewValue). Belongs c.args.hand.now v.words.table) (sym c.requires.crew) c.requires.belongs)
-    (c.requires.own i d inside).path_is (c.requires.can i d inside))
-
-pub run_phase-run_lanes-requires-clause-own : goal.run_phase-run_lanes-requires-clause-own
-run_phase-run_lanes-requires-clause-own g n c κs within = λ i d less.
-    let inside : i < length c.args.lanes.now = let n = c.split_hands.ensures.count in let s = c.span.ensures in let m = c.requires.count in omega (arith, less, n, s, m) in
-    let below : i < c.span.result = let s = c.span.ensures in let m = c.requires.count in omega (arith, inside, s, m) in
-    subst (λ (m : LaneValue). IsOurLane c.args.ground.now c.args.depth m) (sym (c.split_hands.ensures.given i d below))
-    (record { path_is = (c.requires.own i d inside).path_is; deep = (c.requires.own i d inside).deep; size_is = (c.requires.own i d inside).size_is })
-
-pub run_phase-join_hands-requires-clause-home : goal.run_phase-join_hands-requires-clause-home
-run_phase-join_hands-requires-clause-home g n c κs within = λ i d less.
-    let under : i < length c.split_hands.new.lanes = let n = c.run_lanes.ensures.count in omega (arith, less, n) in
-    let below : i < c.span.result = let n = c.split_hands.ensures.count in omega (arith, under, n) in
-    subst (λ (words : WordsValue). IsLaneHand words.table c.split_hands.new.hand.view.name (slice_index_or c.run_lanes.new.lanes i d).hand) (ap (λ (v : CrewValue). v.words) c.requires.crew ∙ sym c.words-words.ensures)
-    (comes_home c.args.crew.now c.args.phase.now c.args.end i c.args.hand.now (slice_index_or c.args.lanes.now i d) (slice_index_or c.run_lanes.new.lanes i d)
-    (subst (λ (m : LaneValue). WentOn (world_of c.args.crew.now i) c.args.phase.now c.args.end m (slice_index_or c.run_lanes.new.lanes i d)) (c.split_hands.ensures.given i d below) (c.run_lanes.ensures.went i d under))
-    c.split_hands.new.hand.view.name (ap (λ (h : HandValue View). h.view.name) c.split_hands.ensures.hand ∙ parted_name 0 c.span.result c.span.result c.args.hand.now.view))
-
-pub run_phase-returns : goal.run_phase-returns
-run_phase-returns g n c = record {
-  ran = record {
-    mid = c.run_lanes.new.lanes;
-    mid_count = c.run_lanes.ensures.count ∙ c.split_hands.ensures.count ∙ c.span.ensures ∙ sym c.requires.count;
-    went = λ k d less.
-        let below : k < c.span.result = let s = c.span.ensures in let m = c.requires.count in omega (arith, less, s, m) in
-        let under : k < length c.split_hands.new.lanes = let n = c.split_hands.ensures.count in omega (arith, below, n) in
-        subst (λ (m : LaneValue). WentOn (world_of c.args.crew.now k) c.args.phase.now c.args.end m (slice_index_or c.run_lanes.new.lanes k d)) (c.split_hands.ensures.given k d below) (c.run_lanes.ensures.went k d under);
-    rests = c.split_hands.ensures.rests (let s = c.span.ensures in let m = c.requires.some in omega (arith, s, m));
-    hand =
-        c.join_hands.ensures.hand
-        ∙ ap (λ (h : HandValue View). with_view h (joined_with (map hand_view c.run_lanes.new.lanes) h.view)) c.split_hands.ensures.hand
-        ∙ ap (λ (n : ℕ). with_view c.args.hand.now (joined_with (map hand_view c.run_lanes.new.lanes) (parted_for 0 n n c.args.hand.now.view))) c.span.ensures;
-    count = c.join_hands.ensures.count ∙ c.run_lanes.ensures.count ∙ c.split_hands.ensures.count ∙ c.span.ensures ∙ sym c.requires.count;
-    same = λ k d less.
-        c.join_hands.ensures.same k d
-        (let s = c.span.ensures in let m = c.requires.count in let n = c.split_hands.ensures.count in let r = c.run_lanes.ensures.count in omega (arith, less, s, m, n, r));
-  };
+  );
+  done = λ number index lane after may gave. gave;
 }
 
-pub run_phases-loop-phase-init : goal.run_phases-loop-phase-init
-run_phases-loop-phase-init g n c = record { passed = passed_none c.args.crew.now c.args.hand.now c.args.lanes.now c.requires.belongs.there c.requires.count c.requires.fresh }
+pub run_phases-go_through-home-requires-clause-begins : goal.run_phases-go_through-home-requires-clause-begins
+run_phases-go_through-home-requires-clause-begins g n c κs within =
+    team_begins (team_of_plan (plan_of c.args.ground.now c.args.depth c.args.crew.now c.args.phases.now c.args.end) c.replace-own.result (map (λ (m : LaneValue). m) c.args.lanes.items))
+    (begun (plan_of c.args.ground.now c.args.depth c.args.crew.now c.args.phases.now c.args.end) c.args.hand.now c.replace-own.result c.args.lanes.items c.replace-own.ensures.value c.requires.begin) (length c.args.lanes.items) c.requires.begin.count
+    (
+    λ hand lanes belongs count. (
+      c.requires.lives.1,
+      (c.requires.lives.1, (belongs, (count, (record { owned = c.requires.lanes_sent.owned; leaving = λ k. Quiet-if (k (of_param 0)) unseen unseen (λ x w. tt) (λ x w. tt) }, record { shared = c.requires.gate_shared.shared })))),
+    )) (λ hand after lanes lanes' gave. gave)
 
-pub run_phases-run_phase-requires-clause-phase : goal.run_phases-run_phase-requires-clause-phase
-run_phases-run_phase-requires-clause-phase g n c κs within =
-    phase_has c.args.phases.now c.in-Some.earlier.now c.in-Some.last.now c.in-Some.ensures.cases.0 c.loop-phase.phase-index c.phase-item.result c.loop-phase-test.true c.phase-item.is
-    (IsOurPhase c.args.ground.now (4 - c.args.depth)) c.requires.lawful
+pub run_phases-go_through-home-requires-clause-ends : goal.run_phases-go_through-home-requires-clause-ends
+run_phases-go_through-home-requires-clause-ends g n c κs within =
+    team_ends (team_of_plan (plan_of c.args.ground.now c.args.depth c.args.crew.now c.args.phases.now c.args.end) c.replace-own.result (map (λ (m : LaneValue). m) c.args.lanes.items))
+    (begun (plan_of c.args.ground.now c.args.depth c.args.crew.now c.args.phases.now c.args.end) c.args.hand.now c.replace-own.result c.args.lanes.items c.replace-own.ensures.value c.requires.begin) (length c.args.lanes.items) c.requires.begin.count
+    (
+    λ hand lanes belongs home. (
+      c.requires.lives.1,
+      (c.requires.lives.1, (belongs, (home, (record { owned = c.requires.lanes_sent.owned; leaving = λ k. Quiet-if (k (of_param 0)) unseen unseen (λ x w. tt) (λ x w. tt) }, record { shared = c.requires.gate_shared.shared })))),
+    )) (λ hand after lanes lanes' goes gave. gave)
 
-pub run_phases-run_phase-requires-clause-can : goal.run_phases-run_phase-requires-clause-can
-run_phases-run_phase-requires-clause-can g n c κs within = λ i d less.
-    let p = c.loop-phase.invariant.passed in
-    let below : i < c.args.crew.now.span = let n = p.stands.count in omega (arith, less, n) in
-    may_next c.args.crew.now (slice_index_or c.args.lanes.now i d) (slice_index_or c.loop-phase.lanes i d) (take c.loop-phase.phase-index c.in-Some.earlier.now) p.phases i c.phase-item.result (p.stands.lanes i d below) (p.goes i d less)
-    (c.requires.fresh i d (let n = c.requires.count in omega (arith, below, n))).no_loop
-    (few_next c.args.phases.now c.in-Some.earlier.now c.in-Some.last.now c.in-Some.ensures.cases.0 c.loop-phase.phase-index c.phase-item.result c.args.crew.now.chunks.loops c.loop-phase-test.true c.phase-item.is c.requires.counters)
-
-pub run_phases-run_phase-requires-clause-own : goal.run_phases-run_phase-requires-clause-own
-run_phases-run_phase-requires-clause-own g n c κs within = λ i d less.
-    let p = c.loop-phase.invariant.passed in
-    let below : i < c.args.crew.now.span = let n = p.stands.count in omega (arith, less, n) in
-    own_next c.args.ground.now c.args.depth c.args.crew.now (slice_index_or c.args.lanes.now i d) (slice_index_or c.loop-phase.lanes i d) (take c.loop-phase.phase-index c.in-Some.earlier.now) None p.phases i (p.stands.lanes i d below)
-    (c.requires.own i d (let n = c.requires.count in omega (arith, below, n)))
-
-pub run_phases-returns-then-not-all_go : goal.run_phases-returns-then-not-all_go
-run_phases-returns-then-not-all_go g n c =
-    let p = c.loop-phase.invariant.passed in
-    let steps : TeamSteps c.args.crew.now c.phase-item.result None c.args.hand.now c.run_phase.new.hand c.args.lanes.now c.run_phase.new.lanes (take c.loop-phase.phase-index c.in-Some.earlier.now) =
-    team_steps c.args.crew.now c.phase-item.result None c.args.hand.now c.loop-phase.hand c.run_phase.new.hand c.args.lanes.now c.loop-phase.lanes c.run_phase.new.lanes (take c.loop-phase.phase-index c.in-Some.earlier.now) p.phases
-    c.requires.some c.requires.count p.stands p.goes c.run_phase.ensures.ran (λ line is. absurd (no_end is)) c.requires.none_out p.pass in
-    record {
-      ran =
-          stops_early c.args.crew.now c.args.phases.now (take c.loop-phase.phase-index c.in-Some.earlier.now ++ c.phase-item.result ∷ []) (drop (c.loop-phase.phase-index + 1) c.in-Some.earlier.now ++ c.in-Some.last.now ∷ []) c.args.end c.args.hand.now
-          c.run_phase.new.hand c.args.lanes.now c.run_phase.new.lanes steps.phases
-          (c.in-Some.ensures.cases.0
-          ∙ ap (λ (ps : List (List Item)). ps ++ c.in-Some.last.now ∷ []) (sym (take-append-drop (c.loop-phase.phase-index + 1) c.in-Some.earlier.now))
-          ∙ append_assoc (take (c.loop-phase.phase-index + 1) c.in-Some.earlier.now) (drop (c.loop-phase.phase-index + 1) c.in-Some.earlier.now) (c.in-Some.last.now ∷ [])
-          ∙ ap (λ (ps : List (List Item)). ps ++ (drop (c.loop-phase.phase-index + 1) c.in-Some.earlier.now ++ c.in-Some.last.now ∷ []))
-          (take_next c.args.phases.now c.in-Some.earlier.now c.in-Some.last.now c.in-Some.ensures.cases.0 c.loop-phase.phase-index c.phase-item.result c.loop-phase-test.true c.phase-item.is))
-          steps.stands (c.all_go.ensures.some c.if-not-all_go.true)
-          (record {
-            earlier = take c.loop-phase.phase-index c.in-Some.earlier.now;
-            last = c.phase-item.result;
-            parts = refl;
-            bar = phase_ends c.args.phases.now c.in-Some.earlier.now c.in-Some.last.now c.in-Some.ensures.cases.0 c.loop-phase.phase-index c.phase-item.result c.loop-phase-test.true c.phase-item.is c.requires.divided;
-          });
-    }
-  where
-    no_end : {line : ℕ} → None ≡ Some line → ⊥
-    no_end e = cc
-
-pub run_phases-loop-phase-preserved : goal.run_phases-loop-phase-preserved
-run_phases-loop-phase-preserved g n c =
-    let p = c.loop-phase.invariant.passed in
-    let steps : TeamSteps c.args.crew.now c.phase-item.result None c.args.hand.now c.run_phase.new.hand c.args.lanes.now c.run_phase.new.lanes (take c.loop-phase.phase-index c.in-Some.earlier.now) =
-    team_steps c.args.crew.now c.phase-item.result None c.args.hand.now c.loop-phase.hand c.run_phase.new.hand c.args.lanes.now c.loop-phase.lanes c.run_phase.new.lanes (take c.loop-phase.phase-index c.in-Some.earlier.now) p.phases
-    c.requires.some c.requires.count p.stands p.goes c.run_phase.ensures.ran (λ line is. absurd (no_end is)) c.requires.none_out p.pass in
-    let goes : AllGo c.run_phase.new.lanes = c.all_go.ensures.all c.if-not-all_go.false in
-    record {
-      passed =
-          subst (λ (ps : List (List Item)). HasPassed c.args.crew.now ps c.args.hand.now c.run_phase.new.hand c.args.lanes.now c.run_phase.new.lanes)
-          (sym (take_next c.args.phases.now c.in-Some.earlier.now c.in-Some.last.now c.in-Some.ensures.cases.0 c.loop-phase.phase-index c.phase-item.result c.loop-phase-test.true c.phase-item.is))
-          (record {
-            phases = steps.phases;
-            stands = steps.stands;
-            goes = goes;
-            pass = steps.passes goes
-                (phase_ends c.args.phases.now c.in-Some.earlier.now c.in-Some.last.now c.in-Some.ensures.cases.0 c.loop-phase.phase-index c.phase-item.result c.loop-phase-test.true c.phase-item.is c.requires.divided);
-          });
-    }
-  where
-    no_end : {line : ℕ} → None ≡ Some line → ⊥
-    no_end e = cc
-
-pub run_phases-run_phase-requires-2-clause-phase : goal.run_phases-run_phase-requires-2-clause-phase
-run_phases-run_phase-requires-2-clause-phase g n c κs within =
-    last_has c.args.phases.now c.in-Some.earlier.now c.in-Some.last.now c.in-Some.ensures.cases.0 (IsOurPhase c.args.ground.now (4 - c.args.depth)) c.requires.lawful
-
-pub run_phases-run_phase-requires-2-clause-last : goal.run_phases-run_phase-requires-2-clause-last
-run_phases-run_phase-requires-2-clause-last g n c κs within = λ line is.
-    subst (λ (l : ℕ). IsLast c.in-Some.last.now l) (same_Some c.args.end line is) (last_ends c.args.phases.now c.in-Some.earlier.now c.in-Some.last.now c.in-Some.ensures.cases.0 c.requires.divided c.args.end c.requires.end)
-
-pub run_phases-run_phase-requires-2-clause-can : goal.run_phases-run_phase-requires-2-clause-can
-run_phases-run_phase-requires-2-clause-can g n c κs within = λ i d less.
-    let p = c.loop-phase.invariant.passed in
-    let below : i < c.args.crew.now.span = let n = p.stands.count in omega (arith, less, n) in
-    let past : length c.in-Some.earlier.now ≤ c.loop-phase.phase-index = let n = c.loop-phase-test.false in omega (arith, n) in
-    may_next c.args.crew.now (slice_index_or c.args.lanes.now i d) (slice_index_or c.loop-phase.lanes i d) (take c.loop-phase.phase-index c.in-Some.earlier.now) p.phases i c.in-Some.last.now (p.stands.lanes i d below) (p.goes i d less)
-    (c.requires.fresh i d (let n = c.requires.count in omega (arith, below, n))).no_loop
-    (subst (λ (ps : List (List Item)). drawn_count (parts_in (ps ++ c.in-Some.last.now ∷ [])) ≤ c.args.crew.now.chunks.loops) (sym (take_all c.loop-phase.phase-index c.in-Some.earlier.now past))
-    (few_last c.args.phases.now c.in-Some.earlier.now c.in-Some.last.now c.in-Some.ensures.cases.0 c.args.crew.now.chunks.loops c.requires.counters))
-
-pub run_phases-run_phase-requires-2-clause-own : goal.run_phases-run_phase-requires-2-clause-own
-run_phases-run_phase-requires-2-clause-own g n c κs within = λ i d less.
-    let p = c.loop-phase.invariant.passed in
-    let below : i < c.args.crew.now.span = let n = p.stands.count in omega (arith, less, n) in
-    own_next c.args.ground.now c.args.depth c.args.crew.now (slice_index_or c.args.lanes.now i d) (slice_index_or c.loop-phase.lanes i d) (take c.loop-phase.phase-index c.in-Some.earlier.now) None p.phases i (p.stands.lanes i d below)
-    (c.requires.own i d (let n = c.requires.count in omega (arith, below, n)))
+pub run_phases-go_through-home-requires-clause-stands : goal.run_phases-go_through-home-requires-clause-stands
+run_phases-go_through-home-requires-clause-stands g n c κs within =
+    stands_first (team_of_plan (plan_of c.args.ground.now c.args.depth c.args.crew.now c.args.phases.now c.args.end) c.replace-own.result (map (λ (m : LaneValue). m) c.args.lanes.items))
+    (begun (plan_of c.args.ground.now c.args.depth c.args.crew.now c.args.phases.now c.args.end) c.args.hand.now c.replace-own.result c.args.lanes.items c.replace-own.ensures.value c.requires.begin)
 
 pub run_phases-returns : goal.run_phases-returns
-run_phases-returns g n c =
-    let past : length c.in-Some.earlier.now ≤ c.loop-phase.phase-index = let n = c.loop-phase-test.false in omega (arith, n) in
-    let p : HasPassed c.args.crew.now c.in-Some.earlier.now c.args.hand.now c.loop-phase.hand c.args.lanes.now c.loop-phase.lanes =
-    subst (λ (ps : List (List Item)). HasPassed c.args.crew.now ps c.args.hand.now c.loop-phase.hand c.args.lanes.now c.loop-phase.lanes) (take_all c.loop-phase.phase-index c.in-Some.earlier.now past) c.loop-phase.invariant.passed in
-    record {
-      ran =
-          runs_all c.args.crew.now c.in-Some.earlier.now c.in-Some.last.now c.args.phases.now c.args.end c.args.hand.now c.run_phase-2.new.hand c.args.lanes.now c.run_phase-2.new.lanes c.in-Some.ensures.cases.0
-          (team_steps c.args.crew.now c.in-Some.last.now (Some c.args.end) c.args.hand.now c.loop-phase.hand c.run_phase-2.new.hand c.args.lanes.now c.loop-phase.lanes c.run_phase-2.new.lanes c.in-Some.earlier.now p.phases
-          c.requires.some c.requires.count p.stands p.goes c.run_phase-2.ensures.ran
-          (λ line is. subst (λ (l : ℕ). IsLast c.in-Some.last.now l) (same_Some c.args.end line is) (last_ends c.args.phases.now c.in-Some.earlier.now c.in-Some.last.now c.in-Some.ensures.cases.0 c.requires.divided c.args.end c.requires.end))
-          c.requires.none_out p.pass);
-    }
+run_phases-returns g n c = record {
+  ran =
+      ran_bare c.args.crew.now c.args.phases.now c.args.end c.args.hand.now c.replace-own.result c.go_through-home.result.0 c.args.lanes.items c.go_through-home.result.1.items c.replace-own.ensures.value c.go_through-home.ensures.ran;
+}
 
-pub run_team-run_phases-requires-clause-fresh : goal.run_team-run_phases-requires-clause-fresh
-run_team-run_phases-requires-clause-fresh g n c κs within = λ i d less.
-    subst (λ (ms : List LaneValue). IsFresh c.args.crew.now (slice_index_or ms i d)) (sym c.deref_mut.ensures.value) (c.requires.fresh i d (subst (λ (ms : List LaneValue). i < length ms) c.deref_mut.ensures.value less))
-
-pub run_team-run_phases-requires-clause-own : goal.run_team-run_phases-requires-clause-own
-run_team-run_phases-requires-clause-own g n c κs within = λ i d less.
-    subst (λ (ms : List LaneValue). IsOurLane c.args.ground.now c.args.depth (slice_index_or ms i d)) (sym c.deref_mut.ensures.value) (c.requires.own i d (subst (λ (ms : List LaneValue). i < length ms) c.deref_mut.ensures.value less))
+pub run_team-run_phases-after-requires-clause-begin : goal.run_team-run_phases-after-requires-clause-begin
+run_team-run_phases-after-requires-clause-begin g n c κs within = record {
+  plan = record {
+    crew_is = c.requires.crew;
+    number = c.requires.number;
+    some = c.requires.some;
+    span = c.requires.span;
+    lawful = c.requires.lawful;
+    divided = c.requires.divided;
+    counters = c.requires.counters;
+    end = c.requires.end;
+  };
+  count = c.requires.count;
+  belongs = c.requires.belongs;
+  none_out = c.requires.none_out;
+  fresh = c.requires.fresh;
+  own = c.requires.own;
+}
 
 pub run_team-close_all-requires-clause-room : goal.run_team-close_all-requires-clause-room
-run_team-close_all-requires-clause-room g n c κs within =
-    let ran = c.run_phases.ensures.ran in
-    let count : length c.run_phases.new.lanes ≡ c.args.lanes.len = let m = ran.stands.count in let s = c.requires.count in omega (arith, m, s) in
-    let whole : take c.args.lanes.len (c.run_phases.new.lanes ++ drop (length c.run_phases.new.lanes) c.args.lanes.items) ≡ c.run_phases.new.lanes =
-    ap (λ (n : ℕ). take n (c.run_phases.new.lanes ++ drop (length c.run_phases.new.lanes) c.args.lanes.items)) (sym count) ∙ take-append_seam c.run_phases.new.lanes (drop (length c.run_phases.new.lanes) c.args.lanes.items) in
-    subst (λ (ms : List LaneValue). length ms ≤ vec_capacity c.args.room) (sym whole) (let m = ran.stands.count in let r = c.requires.room in let s = c.requires.count in omega (arith, m, r, s))
+run_team-close_all-requires-clause-room g n c κs within = let m = c.run_phases-after.ensures.ran.stands.count in let r = c.requires.room in omega (arith, m, r)
 
 pub run_team-returns : goal.run_team-returns
 run_team-returns g n c =
-    let ran = c.run_phases.ensures.ran in
-    let count : length c.run_phases.new.lanes ≡ c.args.lanes.len = let m = ran.stands.count in let s = c.requires.count in omega (arith, m, s) in
-    let whole : take c.args.lanes.len (c.run_phases.new.lanes ++ drop (length c.run_phases.new.lanes) c.args.lanes.items) ≡ c.run_phases.new.lanes =
-    ap (λ (n : ℕ). take n (c.run_phases.new.lanes ++ drop (length c.run_phases.new.lanes) c.args.lanes.items)) (sym count) ∙ take-append_seam c.run_phases.new.lanes (drop (length c.run_phases.new.lanes) c.args.lanes.items) in
+    let ran = c.run_phases-after.ensures.ran in
     record {
       closed = record {
-        after = c.run_phases.new.lanes;
-        ran = subst (λ (ms : List LaneValue). TeamRan c.args.crew.now c.args.phases.now c.args.end c.args.hand.now c.run_phases.new.hand ms c.run_phases.new.lanes) c.deref_mut.ensures.value ran;
-        count = c.close_all.ensures.count ∙ ap (λ (ms : List LaneValue). length ms) whole ∙ ran.stands.count;
-        closes = λ k d e less.
-            subst (λ (ms : List LaneValue). k < length ms → ClosesAs (Ok (slice_index_or ms k d)) (slice_index_or c.close_all.result.items k e)) whole (λ inside. c.close_all.ensures.each k d e inside)
-            (let m = ran.stands.count in omega (arith, m, less));
+        after = c.run_phases-after.result.items;
+        ran = ran;
+        count = c.close_all.ensures.count ∙ ran.stands.count;
+        closes = λ k d e less. c.close_all.ensures.each k d e (let m = ran.stands.count in omega (arith, m, less));
       };
     }
 
@@ -530,12 +415,3 @@ region-returns g n c = record {
             (subst (λ (n : ℕ). Gathered n (λ k. slice_index_or c.match-open.lanes.items k e) before after c.gather.result) torn.count (c.gather.ensures.gathered e)))
       ];
 }
-
-pub run_lanes-for_each_mut-run_task-requires-static-L : goal.run_lanes-for_each_mut-run_task-requires-static-L
-run_lanes-for_each_mut-run_task-requires-static-L g t c κs within = c.requires.lives.1
-
-pub run_lanes-for_each_mut-requires-sync-F : goal.run_lanes-for_each_mut-requires-sync-F
-run_lanes-for_each_mut-requires-sync-F g n c κs within =
-    let sync : IsSync g.row.R = search rules in
-    let gate : IsSync g.row.G = search rules in
-    search (sendable, heap.crosses, ground_row.the_sync, crew_row.the_sync, phase_sync) depth 40

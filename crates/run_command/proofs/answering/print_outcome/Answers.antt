@@ -2,7 +2,7 @@ use Rattle.std.proofs.Common.{◌≡◌, refl, sym, ap, Some}
 use Rattle.command_answer.proofs.Answering.{Tries-from_made, Tries-from_prints, Tries-weaker}
 use Rattle.run_command.specs.declared.outcome.Outcome.TheVariants.{IndexThere, NoKernel, Ran, Refused, Stopped}
 use Rattle.run_command.specs.Outcomes.{IsDue}
-use Rattle.run_command.specs.RunTexts.{run_text, stop_line}
+use Rattle.run_texts.specs.Texts.{run_text, stop_line}
 use Rattle.run_command.proofs.answering.print_outcome.Goals as goal
 
 pub returns-in-NoKernel-clause-prints : goal.returns-in-NoKernel-clause-prints

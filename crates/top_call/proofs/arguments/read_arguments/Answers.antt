@@ -1,20 +1,22 @@
-use Rattle.std.proofs.Common.{rules, arith, ◌≡◌, string_bytes, codes}
+use Rattle.std.proofs.Common.{arith}
 use Rattle.top_call.proofs.ArgumentLists.{texts-four, texts-six, texts-three, texts-two}
 use Rattle.top_call.proofs.arguments.read_arguments.Goals as goal
 
 pub returns-in-len3-clause-said : goal.returns-in-len3-clause-said
-returns-in-len3-clause-said c = let three = texts-three c.args.arguments.now _ _ _ (omega arith) (omega arith) c.name-item-then-arguments-lt4.is c.first-item.is c.second-item.is in
+returns-in-len3-clause-said c = let three = texts-three c.args.arguments.now _ _ _ (omega arith) (omega arith) c.name-item-then-arguments-lt4.is c.first-item-then-arguments-lt4.is c.second-item.is in
     rw (three, ← c.as_str-in-len3.ensures.value, ← c.as_str-in-len3-2.ensures.value, ← c.as_str-in-len3-3.ensures.value) c.two_arguments.ensures.said
 
 pub returns-in-len3-clause-usage : goal.returns-in-len3-clause-usage
-returns-in-len3-clause-usage c = let three = texts-three c.args.arguments.now _ _ _ (omega arith) (omega arith) c.name-item-then-arguments-lt4.is c.first-item.is c.second-item.is in
+returns-in-len3-clause-usage c = let three = texts-three c.args.arguments.now _ _ _ (omega arith) (omega arith) c.name-item-then-arguments-lt4.is c.first-item-then-arguments-lt4.is c.second-item.is in
     rw (three, ← c.as_str-in-len3.ensures.value, ← c.as_str-in-len3-2.ensures.value, ← c.as_str-in-len3-3.ensures.value) c.two_arguments.ensures.usage
 
 pub returns-in-len2-clause-said : goal.returns-in-len2-clause-said
-returns-in-len2-clause-said c = let two = texts-two c.args.arguments.now _ _ (omega arith) (omega arith) c.name-item.is c.dir-item.is in
-    let name : string_bytes c.name-item.result ≡ codes "show" = search rules in
-    let dir : string_bytes c.dir-item.result ≡ c.as_str-in-len2.result.now = search rules in
-    rw (two, name, dir) c.show_arguments.ensures.said
+returns-in-len2-clause-said c = let two = texts-two c.args.arguments.now _ _ (omega arith) (omega arith) c.name-item.is c.first-item.is in
+    rw (two, ← c.as_str.ensures.value, ← c.as_str-in-len2.ensures.value) c.one_argument.ensures.said
+
+pub returns-in-len2-clause-usage : goal.returns-in-len2-clause-usage
+returns-in-len2-clause-usage c = let two = texts-two c.args.arguments.now _ _ (omega arith) (omega arith) c.name-item.is c.first-item.is in
+    rw (two, ← c.as_str.ensures.value, ← c.as_str-in-len2.ensures.value) c.one_argument.ensures.usage
 
 pub returns-in-len4-clause-said : goal.returns-in-len4-clause-said
 returns-in-len4-clause-said c = let four = texts-four c.args.arguments.now _ _ _ _ (omega arith) (omega arith) c.name-item-then-arguments-lt5.is c.first-item-then-arguments-lt5.is c.second-item-then-arguments-lt5.is c.third-item.is in

@@ -2,13 +2,14 @@ use Rattle.std.proofs.Common.{refl, ap, inl, inr, subst, List, ℕ}
 use Rattle.sw_base.specs.Environment.{Rose}
 use Rattle.command_answer.specs.Answer.{Answers, Tries, silent}
 use Rattle.command_answer.proofs.Answering.{Answers-of, Tries-from_prints}
+use Rattle.certify_command.specs.Certify.{CertifyDue}
 use Rattle.folder_commands.specs.Check.{FolderDue, HasReport}
 use Rattle.folder_commands.specs.Confirm.{HasConfirmation}
 use Rattle.folder_commands.specs.Explain.{HasExplanation}
 use Rattle.run_command.specs.Run.{LeavesPart, RunDue}
 use Rattle.folder_commands.specs.Show.{ShowsRecords}
-use Rattle.top_call.specs.Arguments.{UsageDue, check, confirm, explain, gen, replay, run, show, texts, upgrade}
-use Rattle.top_call.proofs.ArgumentLists.{same_check, same_confirm, same_explain, same_gen, same_replay, same_run, same_show, same_upgrade, usage_once}
+use Rattle.top_call.specs.Arguments.{UsageDue, certify, check, confirm, explain, gen, replay, run, show, texts, upgrade}
+use Rattle.top_call.proofs.ArgumentLists.{same_certify, same_check, same_confirm, same_explain, same_gen, same_replay, same_run, same_show, same_upgrade, usage_once}
 use Rattle.folder_commands.specs.Gen.{GenDue}
 use Rattle.folder_commands.specs.Replay.{ReplayDue}
 use Rattle.folder_commands.specs.Upgrade.{IsUpgraded, UpgradeDue}
@@ -198,3 +199,20 @@ returns-in-Ok-Some-Explain-clause-only_reads g c = λ _.
 
 pub returns-in-Ok-Some-Explain-clause-asks_once : goal.returns-in-Ok-Some-Explain-clause-asks_once
 returns-in-Ok-Some-Explain-clause-asks_once g c = inl (ap (λ s. s.roots) c.explain_lines.ensures.same)
+
+pub returns-in-Ok-None-clause-certify : goal.returns-in-Ok-None-clause-certify
+returns-in-Ok-None-clause-certify g c = λ kernel says. let usage = rw c.in-Ok-None.field-0-is at c.in-Ok-None.ensures.usage in absurd (usage (certify kernel) says)
+
+pub returns-in-Ok-Some-Certify-clause-certify : goal.returns-in-Ok-Some-Certify-clause-certify
+returns-in-Ok-Some-Certify-clause-certify g c = λ kernel says content told.
+    let said = rw (c.in-Ok-Some-Certify.field-0-is, c.in-Ok-Some-Certify.field-0-0-is) at c.in-Ok-Some-Certify.ensures.said in
+    subst (λ (k : List ℕ). Tries (CertifyDue content.held k) (g.O.Out.written c.args.out.now) (g.O.Out.written c.certify_file.new.out) c.certify_file.result)
+    (same_certify _ _ kernel said says) (c.certify_file.ensures.answers content told)
+
+pub returns-in-Ok-Some-Certify-clause-only_reads : goal.returns-in-Ok-Some-Certify-clause-only_reads
+returns-in-Ok-Some-Certify-clause-only_reads g c = λ _.
+    let said = rw (c.in-Ok-Some-Certify.field-0-is, c.in-Ok-Some-Certify.field-0-0-is) at c.in-Ok-Some-Certify.ensures.said in
+    record { request = certify _; says = said; reads = tt }
+
+pub returns-in-Ok-Some-Certify-clause-asks_once : goal.returns-in-Ok-Some-Certify-clause-asks_once
+returns-in-Ok-Some-Certify-clause-asks_once g c = inl (ap (λ s. s.roots) c.certify_file.ensures.same)

@@ -17,7 +17,7 @@ use Rattle.sw_base.specs.declared.trouble.Trouble.TheVariants as trouble
 use Rattle.region_runner.specs.Answer.{HasStoppedRun}
 use Rattle.region_runner.specs.Ground.{GroundValue, IsGround}
 use Rattle.region_runner.proofs.WholeRun.{has_no_fault, has_run, has_stopped, stopped_at_once}
-use Rattle.region_runner.proofs.run.run_kernel.Goals as goal
+use Rattle.region_runner.proofs.run.run_so.Goals as goal
 
 pub returns-in_default-clause-stopped : goal.returns-in_default-clause-stopped
 returns-in_default-clause-stopped g c =

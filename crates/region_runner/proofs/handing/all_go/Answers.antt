@@ -1,6 +1,6 @@
 use Rattle.std.proofs.Common.{arith}
 use Rattle.region_runner.proofs.TeamLoop.{all_more}
-use Rattle.region_runner.proofs.region.all_go.Goals as goal
+use Rattle.region_runner.proofs.handing.all_go.Goals as goal
 
 pub loop-lane-preserved : goal.loop-lane-preserved
 loop-lane-preserved g c = record {

@@ -1,0 +1,9 @@
+use Rattle.std.proofs.Common.{map}
+use Rattle.region_runner.specs.Plan.{plan_of, team_of_plan}
+use Rattle.region_runner.proofs.Meetings.{ran_so}
+use Rattle.region_runner.proofs.going.go_through.Goals as goal
+
+pub returns-clause-ran : goal.returns-clause-ran
+returns-clause-ran g c =
+    ran_so g.M.Viewed.seen (team_of_plan (plan_of c.args.ground.now c.args.depth c.args.crew.now c.args.phases.now c.args.end) c.args.hand (map g.M.Viewed.seen c.args.lanes.items)) c.told-home.result.0 c.told-home.result.1.items c.told-home.result.2
+    c.told-home.ensures.ran

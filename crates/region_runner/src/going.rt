@@ -1,0 +1,176 @@
+//! A team goes through its phases. How its lanes stand is told by what is seen of them.
+ghost use Rattle.std.specs.Prelude.{◌≡◌, ◌≤◌, map, length};
+ghost use Rattle.team_live.specs.Phases.{Begins, Ends, Ran, RunsTasks};
+ghost use Rattle.region_runner.specs.Plan.{Did, IsParted, MayDo, StandsAt, StopsAt, of_lane, of_lanes, of_step, plan_of, team_of_plan};
+ghost use Rattle.region_runner.specs.Stands.{TeamRan};
+
+use crate::crew::Crew;
+use crate::ground::Ground;
+use kernel_model::Phase;
+use lane_runner::Lane;
+use shared_words::Hand;
+use std::alloc::Global;
+use std::marker::{Brand, PhantomData, Send, Sync};
+use std::sync::Wait;
+use std::thread::{Builder, Threads};
+use sw_base::Log;
+use team_live::{LaneKey, LiveGate, TeamKey, in_phases};
+
+/// What is seen of a lane.
+pub trait Viewed {
+    ghost use Rattle.lane_runner.specs.Lane.{LaneValue};
+
+    ghost seen: { Self → LaneValue };
+}
+
+impl<L: Log> Viewed for Lane<L> {
+    ghost seen = { λ lane. lane };
+}
+
+/// How a team does its phases. A call at `Brand` picks it.
+pub trait TeamFacts {
+    ghost use Rattle.std.specs.Prelude.{ℕ, List};
+    ghost use Rattle.shared_words.specs.declared.view.View.{View};
+    ghost use Rattle.shared_words.specs.Handles.{HandValue};
+    ghost use Rattle.lane_runner.specs.Lane.{LaneValue};
+
+    ghost may: { ℕ → ℕ → LaneValue → Type 0 };
+
+    ghost did: { ℕ → ℕ → LaneValue → LaneValue → Type 0 };
+
+    ghost stands: { ℕ → HandValue View → List LaneValue → Type 0 };
+
+    ghost parted: { ℕ → HandValue View → List LaneValue → Type 0 };
+
+    ghost stopped: { ℕ → HandValue View → List LaneValue → Type 0 };
+}
+
+impl TeamFacts for Brand {
+    ghost may = { λ _ _ _. Unit {0} };
+
+    ghost did = { λ _ _ _ _. Unit {0} };
+
+    ghost stands = { λ _ _ _. Unit {0} };
+
+    ghost parted = { λ _ _ _. Unit {0} };
+
+    ghost stopped = { λ _ _ _. Unit {0} };
+}
+
+/// A team with these facts, told of its lanes.
+pub struct RegionKey<J> {
+    of: PhantomData<J>,
+}
+
+impl<M: Viewed, J: TeamFacts> LaneKey<M> for RegionKey<J> {
+    ghost use Rattle.region_runner.specs.Plan.{of_lane, of_step};
+
+    ghost may = { of_lane M.seen J.may };
+
+    ghost did = { of_step M.seen J.did };
+}
+
+impl<M: Viewed, J: TeamFacts> TeamKey<Hand, M> for RegionKey<J> {
+    ghost use Rattle.region_runner.specs.Plan.{of_lanes};
+
+    ghost stands = { of_lanes M.seen J.stands };
+
+    ghost parted = { of_lanes M.seen J.parted };
+
+    ghost stopped = { of_lanes M.seen J.stopped };
+}
+
+// A team with these facts goes through its phases. They are picked by what the team is about.
+fn told<
+    J: TeamFacts + Send + Sync + 'static,
+    R: Threads + Wait + Sync + Copy + Send + 'static,
+    M: Viewed + Drop + Send + 'static,
+    G: LiveGate,
+    T: Fn(usize, usize, &mut M) + Sync,
+    S: Fn(usize) + Sync,
+    B: Fn(&mut Hand, &mut Vec<M>),
+    A: Fn(&mut Hand, &mut Vec<M>) -> bool,
+>(
+    rt: &R,
+    alloc: Global,
+    depth: u32,
+    ground: &Ground<'_, G>,
+    crew: &Crew<'_>,
+    phases: &[Phase<'_>],
+    end: u32,
+    hand: Hand,
+    lanes: Vec<M>,
+    task: &T,
+    started: &S,
+    part: &B,
+    meet: &A,
+) -> (Hand, Vec<M>, bool)
+    requires span { (1 ≤ length lanes.items) × (length lanes.items ≤ 64) }
+    requires started { S.IsAlwaysCallable started.now }
+    requires tasks { RunsTasks (T.pre task.now) (T.post task.now) (of_lane M.seen J.may) (of_step M.seen J.did) }
+    requires begins { Begins (B.pre part.now) (B.post part.now) (length lanes.items) (length phases.now) (of_lanes M.seen J.stands) (of_lanes M.seen J.parted) (of_lane M.seen J.may) }
+    requires ends { Ends (A.pre meet.now) (A.post meet.now) (length lanes.items) (length phases.now) (of_lanes M.seen J.stands) (of_lanes M.seen J.parted) (of_lanes M.seen J.stopped) (of_step M.seen J.did) }
+    requires stands { of_lanes M.seen J.stands 0 hand lanes.items }
+    ensures count { length result.1.items ≡ length lanes.items }
+    ensures ran { Ran (of_lanes M.seen J.stands) (of_lanes M.seen J.stopped) (length phases.now) result.0 result.1.items result.2 }
+{
+    in_phases::<RegionKey<J>, R, Hand, M, T, S, _, B, A>(
+        rt,
+        alloc,
+        ground.stays(),
+        phases.len(),
+        hand,
+        lanes,
+        task,
+        started,
+        &|_lane: usize| Builder::new(),
+        part,
+        meet,
+    )
+}
+
+/// A team goes through its phases, with threads that stay, where the run has it so. Gives the hand, and the lanes in their order.
+pub(crate) fn go_through<
+    R: Threads + Wait + Sync + Copy + Send + 'static,
+    M: Viewed + Drop + Send + 'static,
+    G: LiveGate,
+    T: Fn(usize, usize, &mut M) + Sync,
+    S: Fn(usize) + Sync,
+    B: Fn(&mut Hand, &mut Vec<M>),
+    A: Fn(&mut Hand, &mut Vec<M>) -> bool,
+>(
+    rt: &R,
+    alloc: Global,
+    depth: u32,
+    ground: &Ground<'_, G>,
+    crew: &Crew<'_>,
+    phases: &[Phase<'_>],
+    end: u32,
+    hand: Hand,
+    lanes: Vec<M>,
+    task: &T,
+    started: &S,
+    part: &B,
+    meet: &A,
+) -> (Hand, Vec<M>)
+    requires span { (1 ≤ length lanes.items) × (length lanes.items ≤ 64) }
+    requires started { S.IsAlwaysCallable started.now }
+    requires tasks { RunsTasks (T.pre task.now) (T.post task.now) (of_lane M.seen (MayDo (plan_of ground.now depth crew.now phases.now end))) (of_step M.seen (Did (plan_of ground.now depth crew.now phases.now end))) }
+    requires begins { Begins (B.pre part.now) (B.post part.now) (length lanes.items) (length phases.now)
+        (of_lanes M.seen (StandsAt (team_of_plan (plan_of ground.now depth crew.now phases.now end) hand (map M.seen lanes.items))))
+        (of_lanes M.seen (IsParted (team_of_plan (plan_of ground.now depth crew.now phases.now end) hand (map M.seen lanes.items))))
+        (of_lane M.seen (MayDo (plan_of ground.now depth crew.now phases.now end))) }
+    requires ends { Ends (A.pre meet.now) (A.post meet.now) (length lanes.items) (length phases.now)
+        (of_lanes M.seen (StandsAt (team_of_plan (plan_of ground.now depth crew.now phases.now end) hand (map M.seen lanes.items))))
+        (of_lanes M.seen (IsParted (team_of_plan (plan_of ground.now depth crew.now phases.now end) hand (map M.seen lanes.items))))
+        (of_lanes M.seen (StopsAt (team_of_plan (plan_of ground.now depth crew.now phases.now end) hand (map M.seen lanes.items))))
+        (of_step M.seen (Did (plan_of ground.now depth crew.now phases.now end))) }
+    requires stands { StandsAt (team_of_plan (plan_of ground.now depth crew.now phases.now end) hand (map M.seen lanes.items)) 0 hand (map M.seen lanes.items) }
+    ensures count { length result.1.items ≡ length lanes.items }
+    ensures ran { TeamRan crew.now phases.now end hand result.0 (map M.seen lanes.items) (map M.seen result.1.items) }
+{
+    let (home, after, _) = told::<Brand, R, M, G, T, S, B, A>(
+        rt, alloc, depth, ground, crew, phases, end, hand, lanes, task, started, part, meet,
+    );
+    (home, after)
+}

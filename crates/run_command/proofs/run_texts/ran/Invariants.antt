@@ -1,7 +1,0 @@
-use Rattle.std.proofs.Common.{◌≡◌, ◌++◌, take, string_bytes}
-use Rattle.std.specs.List.{flat_map}
-use Rattle.run_command.specs.RunTexts.{count_lines, sum_line}
-use Rattle.run_command.proofs.run_texts.ran.Given as goal
-
-abbrev pub invariant-loop-array : goal.invariant-loop-array
-invariant-loop-array l = string_bytes l.text ≡ count_lines l.tasks l.records ++ flat_map (sum_line l.words) (take l.array-index l.arrays)
