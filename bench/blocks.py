@@ -1,7 +1,9 @@
 #!/usr/bin/env python3
 """Compares `run` of two programs side by side: how long each takes, and that both leave the same folder.
 
-usage: blocks.py SWORD OTHER [--runs N] [--kernels N]
+usage: blocks.py SWORD [OTHER] [--runs N] [--kernels N]
+
+Without OTHER it is SWORD itself, whose writers can't be started: it preloads `bench/alone.c`, and so wants gcc, as the last case does.
 
 Each turn runs both, and each time is the least of N (5). The last case preloads `bench/slow.c`, where gcc is there and the programs are
 linked dynamically: each append takes 100 microseconds longer. Then so many random kernels (1000) that neither race nor draw are run by
@@ -23,15 +25,24 @@ REGIONS = "array a i64 64 main { loop k in 0 .. 1000 { parallel 64 { loop j in 0
 SLOW = "array a i64 4 main { parallel 4 { loop k in 0 .. 100000 { a[tid] = a[tid] * 3 + k } } }\n"
 CASES = [
     ("four lanes, 1,000,000 stores each, SIZE 65536", STORES, 65536, False),
+    ("the same, SIZE 16384", STORES, 16384, False),
     ("the same, SIZE 4096", STORES, 4096, False),
     ("1,000 regions of 64 lanes, ten records each, SIZE 4096", REGIONS, 4096, False),
     ("four lanes, 200,000 accesses each, appends of 100 us, SIZE 32768", SLOW, 32768, True),
 ]
 
 
-def run(program, kernel, folder, size, preload=None):
+def library(place, name):
+    """The library of a source beside this script, or None without gcc."""
+    path = os.path.join(place, f"{name}.so")
+    source = os.path.join(os.path.dirname(os.path.abspath(__file__)), f"{name}.c")
+    built = shutil.which("gcc") and subprocess.run(["gcc", "-shared", "-fPIC", "-O2", "-o", path, source, "-ldl"]).returncode == 0
+    return path if built else None
+
+
+def run(program, kernel, folder, size, preload=()):
     shutil.rmtree(folder, ignore_errors=True)
-    env = dict(os.environ, LD_PRELOAD=preload) if preload else None
+    env = dict(os.environ, LD_PRELOAD=":".join(preload)) if preload else None
     start = time.monotonic()
     done = subprocess.run([program, "run", kernel, folder, str(size)], capture_output=True, env=env)
     seconds = time.monotonic() - start
@@ -72,27 +83,25 @@ def kernel_text():
     return "array a i64 64\narray b i64 256\nmain {\na[0] = 1\n" + "\n".join(regions) + "\n}\n"
 
 
-def measured(args, place):
-    slow = os.path.join(place, "slow.so")
-    here = os.path.dirname(os.path.abspath(__file__))
-    built = shutil.which("gcc") and subprocess.run(["gcc", "-shared", "-fPIC", "-O2", "-o", slow, os.path.join(here, "slow.c"), "-ldl"]).returncode == 0
+def measured(args, programs, place):
+    slow = library(place, "slow")
     path = os.path.join(place, "k.kernel")
     folders = [os.path.join(place, "one"), os.path.join(place, "other")]
     for what, text, size, is_slow in CASES:
-        if is_slow and not built:
+        if is_slow and not slow:
             continue
         with open(path, "w") as out:
             out.write(text)
         best = [None, None]
         for _ in range(args.runs):
-            for n, program in enumerate((args.sword, args.other)):
-                seconds = run(program, path, folders[n], size, slow if is_slow else None)
+            for n, (program, preload) in enumerate(programs):
+                seconds = run(program, path, folders[n], size, preload + ([slow] if is_slow else []))
                 best[n] = seconds if best[n] is None else min(best[n], seconds)
         told = "same folder" if same(*folders) else "other folder"
         print(f"{what}: {best[0]:.3f} s against {best[1]:.3f} s, {best[1] / best[0]:.2f} times as fast, {told}", flush=True)
 
 
-def compared(args, place):
+def compared(args, programs, place):
     path = os.path.join(place, "k.kernel")
     folders = [os.path.join(place, "one"), os.path.join(place, "other")]
     for number in range(args.kernels):
@@ -102,8 +111,8 @@ def compared(args, place):
         size = 24 + random.randint(0, 4072)
         if number % 3 == 0:
             size = random.choice([24, 25, 47, 48, 72, 96])
-        for n, program in enumerate((args.sword, args.other)):
-            run(program, path, folders[n], size)
+        for n, (program, preload) in enumerate(programs):
+            run(program, path, folders[n], size, preload)
         if not same(*folders):
             shutil.copy(path, "differs.kernel")
             sys.exit(f"kernel {number} with SIZE {size} differs: differs.kernel")
@@ -113,13 +122,15 @@ def compared(args, place):
 def main():
     args = argparse.ArgumentParser()
     args.add_argument("sword")
-    args.add_argument("other")
+    args.add_argument("other", nargs="?")
     args.add_argument("--runs", type=int, default=5)
     args.add_argument("--kernels", type=int, default=1000)
     args = args.parse_args()
     with tempfile.TemporaryDirectory() as place:
-        measured(args, place)
-        compared(args, place)
+        alone = [] if args.other else [library(place, "alone") or sys.exit("no gcc")]
+        programs = [(args.sword, []), (args.other or args.sword, alone)]
+        measured(args, programs, place)
+        compared(args, programs, place)
 
 
 main()
