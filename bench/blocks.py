@@ -21,14 +21,14 @@ import time
 
 STORES = "array a i64 1000000 main { parallel 4 { for i in 0 .. 4000000 { a[i / 4] = i } } }\n"
 REGIONS = "array a i64 64 main { loop k in 0 .. 1000 { parallel 64 { loop j in 0 .. 9 { a[tid] = j } } } }\n"
-# A lane takes about as long to fill a block of 32,768 bytes as such an append takes.
-SLOW = "array a i64 4 main { parallel 4 { loop k in 0 .. 100000 { a[tid] = a[tid] * 3 + k } } }\n"
+# A lane takes about as long to fill a block of 16,384 bytes as such an append takes.
+SLOW = "array a i64 4 main { parallel 4 { loop k in 0 .. 400000 { a[tid] = a[tid] * 3 + k } } }\n"
 CASES = [
     ("four lanes, 1,000,000 stores each, SIZE 65536", STORES, 65536, False),
     ("the same, SIZE 16384", STORES, 16384, False),
     ("the same, SIZE 4096", STORES, 4096, False),
     ("1,000 regions of 64 lanes, ten records each, SIZE 4096", REGIONS, 4096, False),
-    ("four lanes, 200,000 accesses each, appends of 100 us, SIZE 32768", SLOW, 32768, True),
+    ("four lanes, 800,000 accesses each, appends of 100 us, SIZE 16384", SLOW, 16384, True),
 ]
 
 

@@ -17,3 +17,9 @@ ssize_t write(int file, const void *bytes, size_t count)
     }
     return next(file, bytes, count);
 }
+
+// The name by which the program calls it.
+ssize_t __write(int file, const void *bytes, size_t count)
+{
+    return write(file, bytes, count);
+}
