@@ -5,9 +5,9 @@ usage: blocks.py SWORD [OTHER] [--runs N] [--kernels N]
 
 Without OTHER it is SWORD itself, whose writers can't be started: it preloads `bench/alone.c`, and so wants gcc, as the last case does.
 
-Each turn runs both, and each time is the least of N (5). The last case preloads `bench/slow.c`, where gcc is there and the programs are
+Each turn runs both, and each time is the least of N (5). The last cases preload `bench/slow.c`, where gcc is there and the programs are
 linked dynamically: each append takes 100 microseconds longer. Then so many random kernels (1000) that neither race nor draw are run by
-both, with sizes of 24 to 4,096 bytes, and their folders are compared byte for byte.
+both, with sizes of 24 to 4,096 bytes, and every tenth with loops that are long enough for blocks with a writer; their folders are compared byte for byte.
 """
 import argparse
 import filecmp
@@ -21,14 +21,17 @@ import time
 
 STORES = "array a i64 1000000 main { parallel 4 { for i in 0 .. 4000000 { a[i / 4] = i } } }\n"
 REGIONS = "array a i64 64 main { loop k in 0 .. 1000 { parallel 64 { loop j in 0 .. 9 { a[tid] = j } } } }\n"
-# A lane takes about as long to fill a block of 16,384 bytes as such an append takes.
-SLOW = "array a i64 4 main { parallel 4 { loop k in 0 .. 400000 { a[tid] = a[tid] * 3 + k } } }\n"
+# A lane alone takes about as long to fill a block of 32,768 bytes as such an append takes.
+SLOW = "array a i64 4 main {{ parallel {} {{ loop k in 0 .. 400000 {{ a[tid] = a[tid] * 3 + k }} }} }}\n"
 CASES = [
     ("four lanes, 1,000,000 stores each, SIZE 65536", STORES, 65536, False),
     ("the same, SIZE 16384", STORES, 16384, False),
     ("the same, SIZE 4096", STORES, 4096, False),
     ("1,000 regions of 64 lanes, ten records each, SIZE 4096", REGIONS, 4096, False),
-    ("four lanes, 800,000 accesses each, appends of 100 us, SIZE 16384", SLOW, 16384, True),
+] + [
+    (f"lanes: {lanes}, 800,000 accesses each, appends of 100 us, SIZE {size}", SLOW.format(lanes), size, True)
+    for lanes in (1, 2, 4)
+    for size in (16384, 32768, 65536)
 ]
 
 
@@ -56,15 +59,15 @@ def same(one, other):
     return names == sorted(os.listdir(other)) and not filecmp.cmpfiles(one, other, names, shallow=False)[1]
 
 
-def body(lane_free, depth):
-    """Statements of a lane, which touches its own element alone."""
+def body(lane_free, depth, times):
+    """Statements of a lane, which touches its own element alone. Loops in a lane of the root's run `times` as often."""
     lines = []
     for _ in range(random.randint(1, 4)):
         kind = random.randint(0, 5)
         if kind == 0:
             lines.append(f"a[{lane_free}] = a[{lane_free}] + {random.randint(1, 9)}")
         elif kind == 1:
-            lines.append(f"loop v{depth}{len(lines)} in 0 .. {random.randint(1, 60)} {{ a[{lane_free}] = v{depth}{len(lines)} }}")
+            lines.append(f"loop v{depth}{len(lines)} in 0 .. {random.randint(1, 60) * times} {{ a[{lane_free}] = v{depth}{len(lines)} }}")
         elif kind == 2:
             lines.append("barrier")
         elif kind == 3 and depth < 2:
@@ -75,11 +78,11 @@ def body(lane_free, depth):
     return "\n".join(lines)
 
 
-def kernel_text():
+def kernel_text(times):
     span = random.randint(1, 6)
     regions = []
     for _ in range(random.randint(1, 3)):
-        regions.append(f"parallel {span} {{\nlet t = tid\n{body('t', 1)}\n}}")
+        regions.append(f"parallel {span} {{\nlet t = tid\n{body('t', 1, times)}\n}}")
     return "array a i64 64\narray b i64 256\nmain {\na[0] = 1\n" + "\n".join(regions) + "\n}\n"
 
 
@@ -107,9 +110,11 @@ def compared(args, programs, place):
     for number in range(args.kernels):
         random.seed(number)
         with open(path, "w") as out:
-            out.write(kernel_text())
+            out.write(kernel_text(100 if number % 10 == 1 else 1))
         size = 24 + random.randint(0, 4072)
-        if number % 3 == 0:
+        if number % 10 == 1:
+            size = random.choice([16384, 16407, 20000, 65536])
+        elif number % 3 == 0:
             size = random.choice([24, 25, 47, 48, 72, 96])
         for n, (program, preload) in enumerate(programs):
             run(program, path, folders[n], size, preload)
