@@ -1,7 +1,11 @@
-ghost use Rattle.std.specs.Prelude.{◌≡◌, ◌↔◌, ◌≤◌, ◌==◌, [], ◌∷◌, ◌++◌, length, filter, not, nat_eq, Contains, IsTrue, IsOk, OnOk, OnErr};
+ghost use Rattle.std.specs.Prelude.{◌≡◌, ◌↔◌, ◌≤◌, ◌==◌, [], ◌∷◌, ◌++◌, length, filter, not, nat_eq, Some, refl, Contains, IsTrue, IsOk, OnOk, OnErr};
+ghost use Rattle.std.specs.Cmp.{partial_equiv_from_equiv};
+ghost use Rattle.std.specs.Cmp.Lexicographic.{pointwise, slice_cmp, nat_list_eq_equiv, nat_list_cmp_total, texts_ties, texts_po};
 ghost use Rattle.std.specs.List.{IsDistinct};
+ghost use Rattle.std.specs.Ordering.{nat_cmp};
 ghost use Rattle.mutex_set.specs.Held.{IsInnermost, AreDisjoint};
 
+use std::cmp::Ordering;
 use std::marker::Model;
 
 /// How many mutexes a task holds at most.
@@ -114,5 +118,44 @@ impl Held {
             }
         }
         true
+    }
+}
+
+impl PartialEq for Held {
+    ghost eq = { pointwise nat_eq };
+
+    ghost laws = { partial_equiv_from_equiv nat_list_eq_equiv };
+
+    fn eq(&self, other: &Held) -> bool {
+        self.ids() == other.ids()
+    }
+}
+
+impl Eq for Held {
+    ghost laws = { nat_list_eq_equiv };
+}
+
+impl PartialOrd for Held {
+    ghost partial_cmp = { λ x y. Some (slice_cmp nat_cmp x y) };
+
+    ghost laws = { texts_po };
+
+    fn partial_cmp(&self, other: &Held) -> Option<Ordering> {
+        Some(self.cmp(other))
+    }
+}
+
+// The outermost mutex decides first.
+impl Ord for Held {
+    ghost cmp = { slice_cmp nat_cmp };
+
+    ghost total = { nat_list_cmp_total };
+
+    ghost matches_partial_cmp = { λ x y. refl };
+
+    ghost matches_eq = { texts_ties };
+
+    fn cmp(&self, other: &Held) -> Ordering {
+        self.ids().cmp(other.ids())
     }
 }

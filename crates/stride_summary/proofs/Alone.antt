@@ -1,19 +1,16 @@
--- Accesses that stand alone: none has the key of a stretch, and each gets a run.
-use Rattle.std.proofs.Common.{◌≡◌, ◌⊎◌, ◌↔◌, ℕ, zero, suc, ◌+◌, ◌-◌, ◌<◌, ◌≤◌, Bool, true, false, cond, List, [], ◌∷◌, ◌++◌, length, get_or, set, Contains, inl, inr, refl, sym, ◌∙◌, ap, subst, arith, get_or-set_same, get_or-set_other, append_assoc, append-nil}
+-- Accesses that stand alone: none has the key of a stretch.
+use Rattle.std.proofs.Common.{◌≡◌, ◌⊎◌, ◌↔◌, ℕ, ◌<◌, ◌≤◌, Bool, true, false, cond, List, [], ◌∷◌, ◌++◌, length, get_or, set, Contains, inl, inr, refl, sym, ◌∙◌, ap, subst, arith, get_or-set_same, get_or-set_other}
 use Rattle.std.specs.Prelude.{All}
 use Rattle.std.proofs.Math.ListN.{length-set}
 use Rattle.std.proofs.lemmas.Bool.{cases_eq, cases_lt}
-use Rattle.std.proofs.lemmas.List.{get_or_append_left, get_or_at, get_or_default, length_push}
-use Rattle.std.proofs.lemmas.List.Elements.{Contains-append_left, Contains-get_or, Contains-push, Contains-push_cases}
+use Rattle.std.proofs.lemmas.List.{get_or_append_left, get_or_at, length_push}
+use Rattle.std.proofs.lemmas.List.Elements.{Contains-append_left, Contains-push, Contains-push_cases}
 use Rattle.stride_summary.specs.declared.key.Key.{Key}
-use Rattle.stride_summary.specs.declared.run.Run.{Run}
-use Rattle.stride_summary.specs.declared.singles.Single.{Single}
+use Rattle.stride_summary.specs.declared.single.Single.{Single}
 use Rattle.stride_summary.specs.declared.stretch.Stretch.{Stretch}
-use Rattle.stride_summary.specs.Run.{HasPair, address_at, last_address}
-use Rattle.stride_summary.specs.Singles.{AddsSingles, AreOthers, HaveRuns, HoldsSingle, IsRunOfSingle, single_key}
+use Rattle.stride_summary.specs.Accesses.{single_key}
+use Rattle.stride_summary.specs.Singles.{AreOthers, HoldsSingle}
 use Rattle.stride_summary.specs.Stretches.{Holds, HoldsOneMore, HoldsSame}
-use Rattle.stride_summary.proofs.Apart.{EachApart}
-use Rattle.stride_summary.proofs.Storing.{some_element}
 
 pub holds_within : (xs ys : List Single) (k : Key) (a : ℕ) → ((s : Single) → Contains xs s → Contains ys s) → HoldsSingle xs k a → HoldsSingle ys k a
 holds_within xs ys k a within h = record { single = h.single; listed = within h.single h.listed; keyed = h.keyed; addressed = h.addressed }
@@ -68,86 +65,6 @@ others_put old new xs key address fresh more others j d there a h = elim ((more 
   | inl was ↦ others j d there a was
   | inr same ↦ fresh j d there (sym same.0)
 ]
-
-same_single : (x y : Single) → single_key x ≡ single_key y → x.addr ≡ y.addr → x ≡ y
-same_single x y k a = λ i. record { line = (k i).line; site = (k i).site; size = (k i).size; write = (k i).write; atomic = (k i).atomic; addr = a i }
-
--- of a run of one access the only address is its first
-only_address : (run : Run) (place : ℕ) → run.count ≡ 1 → place < run.count → address_at run place ≡ run.base
-only_address run zero one within = omega arith
-only_address run (suc place) one within = absurd (omega arith)
-
-module _ (singles : List Single) (runs more : List Run) (adds : AddsSingles singles runs more) where
-  abbrev cuts : List Run
-  cuts = adds.runs.cuts
-
-  pub cut_has : (k : Key) (a : ℕ) → HasPair cuts k a → HoldsSingle singles k a
-  cut_has k a h =
-      let d : Single = get_or adds.settled h.listed.0 (some_single (omega (arith, h.listed.1, adds.runs.long))) in
-      let within : h.listed.0 < length adds.settled = omega (arith, h.listed.1, adds.runs.long) in
-      let own : IsRunOfSingle (get_or adds.settled h.listed.0 d) h.run = subst (λ (r : Run). IsRunOfSingle (get_or adds.settled h.listed.0 d) r) h.listed.2 (adds.runs.each h.listed.0 d h.run within) in
-      record {
-        single = get_or adds.settled h.listed.0 d;
-        listed = (adds.same (get_or adds.settled h.listed.0 d)).0 (Contains-get_or adds.settled h.listed.0 d within);
-        keyed = sym own.keyed ∙ h.keyed;
-        addressed = sym own.based ∙ sym (only_address h.run h.addressed.place own.alone h.addressed.in_run) ∙ sym h.addressed.is;
-      }
-    where
-      some_single : 0 < length adds.settled → Single
-      some_single some = some_element adds.settled some
-
-  pub has_cut : (k : Key) (a : ℕ) → HoldsSingle singles k a → HasPair cuts k a
-  has_cut k a h =
-      let listed = (adds.same h.single).1 h.listed in
-      let within : listed.0 < length cuts = omega (arith, listed.1, adds.runs.long) in
-      let e : Run = some_element cuts (omega (arith, within)) in
-      let own : IsRunOfSingle h.single (get_or cuts listed.0 e) = subst (λ (s : Single). IsRunOfSingle s (get_or cuts listed.0 e)) listed.2 (adds.runs.each listed.0 h.single e listed.1) in
-      record {
-        run = get_or cuts listed.0 e;
-        listed = Contains-get_or cuts listed.0 e within;
-        keyed = own.keyed ∙ h.keyed;
-        addressed = record { place = 0; in_run = omega (arith, own.alone); is = sym h.addressed ∙ sym own.based ∙ sym (only_address (get_or cuts listed.0 e) 0 own.alone (omega (arith, own.alone))) };
-      }
-
-  pub cuts_apart : EachApart cuts
-  cuts_apart i j d differ in_i in_j same =
-      let s : Single = some_element adds.settled (omega (arith, in_i, adds.runs.long)) in
-      let one = adds.runs.each i s d (omega (arith, in_i, adds.runs.long)) in
-      let other = adds.runs.each j s d (omega (arith, in_j, adds.runs.long)) in
-      let first : last_address (get_or cuts i d) ≡ (get_or cuts i d).base = only_address (get_or cuts i d) ((get_or cuts i d).count - 1) one.alone (omega (arith, one.alone)) in
-      let last : last_address (get_or cuts j d) ≡ (get_or cuts j d).base = only_address (get_or cuts j d) ((get_or cuts j d).count - 1) other.alone (omega (arith, other.alone)) in
-      let key : single_key (get_or adds.settled i s) ≡ single_key (get_or adds.settled j s) = sym one.keyed ∙ same ∙ other.keyed in
-      elim (cases_eq (get_or cuts i d).base (get_or cuts j d).base) [
-        | inl equal ↦
-            let again : get_or adds.settled i s ≡ get_or adds.settled j s = same_single (get_or adds.settled i s) (get_or adds.settled j s) key (sym one.based ∙ equal ∙ other.based) in
-            absurd (elim (cases_lt i j) [
-              | inl less ↦ adds.distinct i j s less (omega (arith, in_j, adds.runs.long)) again
-              | inr not ↦ adds.distinct j i s (omega (arith, differ)) (omega (arith, in_i, adds.runs.long)) (sym again)
-            ])
-        | inr other_base ↦ elim (cases_lt (get_or cuts i d).base (get_or cuts j d).base) [
-          | inl less ↦ inl (omega (arith, first, less))
-          | inr not ↦ inr (omega (arith, last, not, other_base))
-        ]
-      ]
-
--- no access has a run so far
-pub have_none : (singles : List Single) (runs : List Run) → HaveRuns singles 0 runs runs
-have_none singles runs = record { cuts = []; added = sym (append-nil runs); long = refl; each = λ i d e within. absurd (omega arith) }
-
--- one more has one
-pub have_more : (singles : List Single) (count : ℕ) (old mid new : List Run) (one : Single) (run : Run) → HaveRuns singles count old mid → count < length singles → one ≡ get_or singles count one → IsRunOfSingle one run → new ≡ mid ++ run ∷ [] → HaveRuns singles (count + 1) old new
-have_more singles count old mid new one run h less at own is = record {
-  cuts = h.cuts ++ run ∷ [];
-  added = is ∙ ap (λ (rs : List Run). rs ++ run ∷ []) h.added ∙ append_assoc old h.cuts (run ∷ []);
-  long = length_push h.cuts run ∙ ap (λ n. n + 1) h.long;
-  each = λ i d e within. elim (cases_lt i count) [
-    | inl before ↦ subst (λ (r : Run). IsRunOfSingle (get_or singles i d) r) (sym (get_or_append_left h.cuts (run ∷ []) e i (omega (arith, h.long, before)))) (h.each i d e before)
-    | inr not ↦
-        let last : count ≡ i = omega arith in
-        let here : one ≡ get_or singles i d = at ∙ get_or_default singles count one d less ∙ ap (λ (n : ℕ). get_or singles n d) last in
-        subst (λ (r : Run). IsRunOfSingle (get_or singles i d) r) (sym (get_or_at h.cuts run [] e i (h.long ∙ last))) (subst (λ (s : Single). IsRunOfSingle s run) here own)
-  ];
-}
 
 -- what holds no access is empty
 pub none_left : (old new : List Single) → ((s : Single) → Contains new s → Contains old s) → old ≡ [] → new ≡ []

@@ -20,10 +20,10 @@ EachApart runs = (i j : ℕ) (d : Run) → (i ≡ j → ⊥) → i < length runs
 turned : (one other : Run) → Apart one other → Apart other one
 turned one other apart same = elim (apart (sym same)) [ inl before ↦ inr before | inr after ↦ inl after ]
 
-pub EachApart-from_rising : (runs : List Run) → ((i j : ℕ) (d : Run) → i < j → j < length runs → last_address (get_or runs i d) < (get_or runs j d).base) → EachApart runs
-EachApart-from_rising runs rising i j d differ in_i in_j same = elim (cases_lt i j) [
-  | inl less ↦ inl (rising i j d less in_j)
-  | inr not ↦ inr (rising j i d (omega arith) in_i)
+pub EachApart-from_AreApart : (runs : List Run) → AreApart runs → EachApart runs
+EachApart-from_AreApart runs apart i j d differ in_i in_j same = elim (cases_lt i j) [
+  | inl less ↦ inl (apart i j d less in_j same)
+  | inr not ↦ inr (apart j i d (omega arith) in_i (sym same))
 ]
 
 -- where it stands in two lists joined

@@ -8,15 +8,14 @@ use Rattle.std.proofs.lemmas.List.Sorted.{Contains-permutation, IsPermutation-sy
 use Rattle.sw_base.proofs.Lists.{contains_later, contains_either}
 use Rattle.stride_summary.specs.declared.key.Key.{Key}
 use Rattle.stride_summary.specs.declared.run.Run.{Run}
-use Rattle.stride_summary.specs.declared.singles.Single.{Single}
+use Rattle.stride_summary.specs.declared.single.Single.{Single}
 use Rattle.stride_summary.specs.declared.stretch.Stretch.{Stretch}
 use Rattle.stride_summary.specs.Run.{AreApart, HasPair, run_key}
 use Rattle.stride_summary.specs.Spread.{AddsStretch, addresses_of}
 use Rattle.stride_summary.specs.Singles.{AddsSingles, AreOthers, HoldsSingle}
 use Rattle.stride_summary.specs.Stretches.{Holds, KeysDiffer}
-use Rattle.stride_summary.proofs.Alone.{cut_has, cuts_apart, has_cut}
 use Rattle.stride_summary.proofs.Rising.{Contains-address, apart_from_rising, contains_first, has_base, spread_from, spread_has}
-use Rattle.stride_summary.proofs.Apart.{Apart, AreApart-from_each, EachApart, EachApart-append, EachApart-from_rising, EachApart-permutation}
+use Rattle.stride_summary.proofs.Apart.{Apart, AreApart-from_each, EachApart, EachApart-append, EachApart-from_AreApart, EachApart-permutation}
 
 -- the keys that are left have no run, and those that are done have all
 pub record FinishSoFar (all left : List Stretch) (runs : List Run) : Type 0 where
@@ -48,7 +47,7 @@ FinishSoFar-step all left less s runs more differ popped so_far adds = record {
   done = s ∷ so_far.done;
   split = so_far.split ∙ ap (λ ss. ss ++ so_far.done) popped ∙ append_assoc less (s ∷ []) so_far.done;
   pairs = λ k a. (forth k a, back k a);
-  apart = subst (λ (rs : List Run). EachApart rs) (sym adds.cuts.added) (EachApart-append runs adds.cuts.cuts so_far.apart (EachApart-from_rising adds.cuts.cuts (apart_from_rising adds.cuts.cuts rising)) across);
+  apart = subst (λ (rs : List Run). EachApart rs) (sym adds.cuts.added) (EachApart-append runs adds.cuts.cuts so_far.apart (EachApart-from_AreApart adds.cuts.cuts (λ i j d less within key. apart_from_rising adds.cuts.cuts rising i j d less within)) across);
 } where
   rising : IsStrictlyIncreasing (flat_map addresses_of adds.cuts.cuts)
   rising = subst (λ (ns : List ℕ). IsStrictlyIncreasing ns) (sym adds.cuts.cut.spread) adds.rising
@@ -98,33 +97,33 @@ IsFinished-sorted all [] singles runs more sorted so_far none others adds same r
   apart = AreApart-from_each sorted (EachApart-permutation more sorted same each) rising;
 } where
   cuts : List Run
-  cuts = adds.runs.cuts
+  cuts = adds.cuts
 
   across : (r c : Run) → Contains runs r → Contains cuts c → Apart r c
   across r c in_runs in_cuts key =
       let was : Holds so_far.done (run_key r) r.base = (so_far.pairs (run_key r) r.base).0 (record { run = r; listed = in_runs; keyed = refl; addressed = (Contains-address r r.base).0 (has_base r) }) in
-      let own : HoldsSingle singles (run_key c) c.base = cut_has singles runs more adds (run_key c) c.base (record { run = c; listed = in_cuts; keyed = refl; addressed = (Contains-address c c.base).0 (has_base c) }) in
+      let own : HoldsSingle singles (run_key c) c.base = (adds.pairs (run_key c) c.base).0 (record { run = c; listed = in_cuts; keyed = refl; addressed = (Contains-address c c.base).0 (has_base c) }) in
       absurd (All-contains (λ (s : Stretch). (a : ℕ) → HoldsSingle singles s.key a → ⊥) all was.stretch others (subst (λ (ss : List Stretch). Contains ss was.stretch) (sym so_far.split) was.listed)
       c.base (subst (λ (k : Key). HoldsSingle singles k c.base) (sym (was.keyed ∙ key)) own))
 
   each : EachApart more
-  each = subst (λ (rs : List Run). EachApart rs) (sym adds.runs.added) (EachApart-append runs cuts so_far.apart (cuts_apart singles runs more adds) across)
+  each = subst (λ (rs : List Run). EachApart rs) (sym adds.added) (EachApart-append runs cuts so_far.apart (EachApart-from_AreApart cuts adds.apart) across)
 
   forth : (k : Key) (a : ℕ) → HasPair sorted k a → Holds all k a ⊎ HoldsSingle singles k a
   forth k a h =
       let moved : HasPair more k a = moved_pair sorted more k a (IsPermutation-sym more sorted same) h in
-      elim (Contains-append_cases runs cuts moved.run (subst (λ (rs : List Run). Contains rs moved.run) adds.runs.added moved.listed)) [
+      elim (Contains-append_cases runs cuts moved.run (subst (λ (rs : List Run). Contains rs moved.run) adds.added moved.listed)) [
         | inl old ↦ inl (subst (λ (ss : List Stretch). Holds ss k a) (sym so_far.split) ((so_far.pairs k a).0 (record { run = moved.run; listed = old; keyed = moved.keyed; addressed = moved.addressed })))
-        | inr new ↦ inr (cut_has singles runs more adds k a (record { run = moved.run; listed = new; keyed = moved.keyed; addressed = moved.addressed }))
+        | inr new ↦ inr ((adds.pairs k a).0 (record { run = moved.run; listed = new; keyed = moved.keyed; addressed = moved.addressed }))
       ]
 
   back : (k : Key) (a : ℕ) → Holds all k a ⊎ HoldsSingle singles k a → HasPair sorted k a
-  back k a either = moved_pair more sorted k a same (subst (λ (rs : List Run). HasPair rs k a) (sym adds.runs.added) (elim either [
+  back k a either = moved_pair more sorted k a same (subst (λ (rs : List Run). HasPair rs k a) (sym adds.added) (elim either [
     | inl h ↦
         let pair : HasPair runs k a = (so_far.pairs k a).1 (subst (λ (ss : List Stretch). Holds ss k a) so_far.split h) in
         record { run = pair.run; listed = Contains-append_left runs cuts pair.run pair.listed; keyed = pair.keyed; addressed = pair.addressed }
     | inr h ↦
-        let pair = has_cut singles runs more adds k a h in
+        let pair = (adds.pairs k a).1 h in
         record { run = pair.run; listed = Contains-append_right runs cuts pair.run pair.listed; keyed = pair.keyed; addressed = pair.addressed }
   ]))
 IsFinished-sorted all (s ∷ left) singles runs more sorted so_far none others adds same rising = absurd (omega arith)

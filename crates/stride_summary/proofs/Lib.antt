@@ -5,6 +5,8 @@ pub mod Holding
 pub mod Storing
 pub mod Rising
 pub mod Apart
+mod Ordered
 mod Alone
+mod Joined
 pub mod Finishing
 mod Placing

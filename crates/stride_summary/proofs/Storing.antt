@@ -3,9 +3,10 @@ use Rattle.std.proofs.Common.{◌≡◌, ◌⊎◌, ◌↔◌, ℕ, ◌+◌, ◌
 use Rattle.std.specs.List.{All, sum_by}
 use Rattle.std.proofs.lemmas.List.Sums.{get_or-le-sum_by, sum_by-append, sum_by-set}
 use Rattle.std.proofs.Math.ListN.{length-set}
-use Rattle.std.proofs.lemmas.Bool.{cases_eq, cases_lt}
-use Rattle.std.proofs.lemmas.List.{get_or_append_left, get_or_at, get_or_default, length_push}
+use Rattle.std.proofs.lemmas.Bool.{cases_eq}
+use Rattle.std.proofs.lemmas.List.{get_or_default}
 use Rattle.std.proofs.lemmas.List.Elements.{Contains-append_left, Contains-push_cases}
+use Rattle.std.proofs.lemmas.List.Quantifiers.{all_pairs_push}
 use Rattle.stride_summary.specs.declared.key.Key.{Key}
 use Rattle.stride_summary.specs.declared.stretch.Stretch.{Stretch}
 use Rattle.stride_summary.specs.Stretches.{Holds, HoldsOneMore, HoldsSame, IsPlaceOf, KeysDiffer, needed_of}
@@ -90,17 +91,8 @@ pub HoldsSame-pushed : (pushed : Bool) (xs ys : List Stretch) (new : Stretch) �
 HoldsSame-pushed true xs ys new is none = subst (λ (ss : List Stretch). HoldsSame xs ss) (sym is) (HoldsSame-push xs new none)
 HoldsSame-pushed false xs ys new is none = subst (λ (ss : List Stretch). HoldsSame xs ss) (sym is) (λ k a. ((λ h. h), (λ h. h)))
 
-pub KeysDiffer-push : (xs : List Stretch) (new : Stretch) → KeysDiffer xs → All (λ (s : Stretch). s.key ≡ new.key → ⊥) xs → KeysDiffer (xs ++ new ∷ [])
-KeysDiffer-push xs new differ fresh i j d less within = elim (cases_lt j (length xs)) [
-  | inl old ↦ λ same. differ i j d less old (sym (ap (λ (s : Stretch). s.key) (get_or_append_left xs (new ∷ []) d i (omega arith))) ∙ same ∙ ap (λ (s : Stretch). s.key) (get_or_append_left xs (new ∷ []) d j old))
-  | inr not ↦ λ same. fresh i d (last_one not) (sym (ap (λ (s : Stretch). s.key) (get_or_append_left xs (new ∷ []) d i (last_one not))) ∙ same ∙ ap (λ (s : Stretch). s.key) (get_or_at xs new [] d j (is_last not)))
-]
-  where
-    is_last : length xs ≤ j → length xs ≡ j
-    is_last not = omega (arith, length_push xs new)
-
-    last_one : length xs ≤ j → i < length xs
-    last_one not = omega (arith, length_push xs new)
+KeysDiffer-push : (xs : List Stretch) (new : Stretch) → KeysDiffer xs → All (λ (s : Stretch). s.key ≡ new.key → ⊥) xs → KeysDiffer (xs ++ new ∷ [])
+KeysDiffer-push xs new differ fresh = all_pairs_push (λ (one other : Stretch). one.key ≡ other.key → ⊥) xs new differ fresh
 
 -- after a push that may have failed
 pub KeysDiffer-pushed : (pushed : Bool) (xs ys : List Stretch) (new : Stretch) → ys ≡ cond pushed (xs ++ new ∷ []) xs → KeysDiffer xs → All (λ (s : Stretch). s.key ≡ new.key → ⊥) xs → KeysDiffer ys

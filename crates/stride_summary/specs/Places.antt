@@ -1,23 +1,21 @@
--- The numbers that tell keys apart, and a map from them to the places of the keys.
-use Rattle.std.specs.Prelude.{◌≡◌, ℕ, ◌<◌, Bool, cond, List, ◌∷◌, length, get_or, All, Option, None, Some}
+-- A map from keys to their places.
+use Rattle.std.specs.Prelude.{◌≡◌, ℕ, List, All, Option, None, Some}
 use Rattle.std.specs.BTreeMap.{BTreeMap, get}
-use Rattle.std.specs.Cmp.Lexicographic.{slice_cmp}
-use Rattle.std.specs.Global.{Vec}
-use Rattle.std.specs.Ordering.{nat_cmp}
+use Rattle.std.specs.declared.cmp.Ordering.{Ordering}
+use Rattle.stride_summary.specs.contracts.key.KeyOrd.TheImpl as key_order
 use Rattle.stride_summary.specs.declared.key.Key.{Key}
 use Rattle.stride_summary.specs.declared.stretch.Stretch.{Stretch}
+use Rattle.stride_summary.specs.Stretches.{IsPlaceOf}
 
-abbrev pub number_of : Bool → ℕ
-number_of b = cond b 1 0
+-- how two keys are ordered
+abbrev pub key_cmp : Key → Key → Ordering
+key_cmp = (key_order.ghosts).cmp
 
-abbrev pub numbers_of : Key → List ℕ
-numbers_of key = key.line ∷ key.site ∷ key.size ∷ number_of key.write ∷ number_of key.atomic ∷ key.held
+-- the place that the map has for the key
+abbrev pub place_under : BTreeMap Key ℕ → Key → Option ℕ
+place_under places key = get key_cmp places key
 
--- the place under these numbers
-abbrev pub place_under : BTreeMap (Vec ℕ) ℕ → Vec ℕ → Option ℕ
-place_under places numbers = get (λ x y. slice_cmp nat_cmp x.items y.items) places numbers
-
--- the map has the place of each key under its numbers, and no other
-abbrev pub TellsPlaces : BTreeMap (Vec ℕ) ℕ → List Stretch → Type 0
-TellsPlaces places stretches = (numbers : Vec ℕ) → (place_under places numbers ≡ None → All (λ stretch. numbers_of stretch.key ≡ numbers.items → ⊥) stretches)
-    × ((place : ℕ) → place_under places numbers ≡ Some place → (place < length stretches) × ((d : Stretch) → numbers_of (get_or stretches place d).key ≡ numbers.items))
+-- the map has the place of each key, and no other
+abbrev pub TellsPlaces : BTreeMap Key ℕ → List Stretch → Type 0
+TellsPlaces places stretches = (key : Key) → (place_under places key ≡ None → All (λ stretch. stretch.key ≡ key → ⊥) stretches)
+    × ((place : ℕ) → place_under places key ≡ Some place → IsPlaceOf stretches key place)

@@ -1,14 +1,12 @@
--- Accesses under no mutex one by one, and their runs.
-use Rattle.std.specs.Prelude.{◌≡◌, ◌↔◌, ℕ, ◌<◌, ◌≤◌, List, [], ◌++◌, All, AllPairs, Contains, length, get_or, vec_len}
+-- Accesses under no mutex, beside stretches, and their runs.
+use Rattle.std.specs.Prelude.{◌≡◌, ◌↔◌, ℕ, ◌≤◌, List, [], ◌++◌, All, Contains, vec_len}
 use Rattle.std.specs.Global.{Vec}
 use Rattle.stride_summary.specs.declared.key.Key.{Key}
 use Rattle.stride_summary.specs.declared.run.Run.{Run}
-use Rattle.stride_summary.specs.declared.singles.Single.{Single}
+use Rattle.stride_summary.specs.declared.single.Single.{Single}
 use Rattle.stride_summary.specs.declared.stretch.Stretch.{Stretch}
-use Rattle.stride_summary.specs.Run.{run_key}
-
-abbrev pub single_key : Single → Key
-single_key single = record { write = single.write; atomic = single.atomic; size = single.size; site = single.site; line = single.line; held = [] }
+use Rattle.stride_summary.specs.Accesses.{single_key}
+use Rattle.stride_summary.specs.Run.{AreApart, HasPair}
 
 -- one of the accesses has the key and the address
 pub record HoldsSingle (singles : List Single) (key : Key) (address : ℕ) : Type 0 where
@@ -27,22 +25,9 @@ pub record MayStandAlone (most : ℕ) (stretches : Vec Stretch) (key : Key) : Ty
   pub fresh : All (λ stretch. stretch.key ≡ key → ⊥) stretches.items
   pub free : key.held ≡ []
 
--- the run has just this access
-pub record IsRunOfSingle (single : Single) (run : Run) : Type 0 where
-  pub keyed : run_key run ≡ single_key single
-  pub based : run.base ≡ single.addr
-  pub alone : run.count ≡ 1
-
--- the first so many accesses have runs of their own
-pub record HaveRuns (singles : List Single) (count : ℕ) (old new : List Run) : Type 0 where
+-- the new runs are the old ones and those of the accesses, which are apart
+pub record AddsSingles (singles : List Single) (old new : List Run) : Type 0 where
   pub cuts : List Run
   pub added : new ≡ old ++ cuts
-  pub long : length cuts ≡ count
-  pub each : (i : ℕ) (d : Single) (e : Run) → i < count → IsRunOfSingle (get_or singles i d) (get_or cuts i e)
-
--- each access has one of the new runs, which are the old ones and those of the accesses
-pub record AddsSingles (singles : List Single) (old new : List Run) : Type 0 where
-  pub settled : List Single
-  pub distinct : AllPairs (λ one other. one ≡ other → ⊥) settled
-  pub same : (single : Single) → Contains settled single ↔ Contains singles single
-  pub runs : HaveRuns settled (length settled) old new
+  pub pairs : (key : Key) (address : ℕ) → HasPair cuts key address ↔ HoldsSingle singles key address
+  pub apart : AreApart cuts

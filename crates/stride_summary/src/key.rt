@@ -4,14 +4,14 @@ ghost use Rattle.stride_summary.specs.Run.{access_key};
 use crate::access::Access;
 use mutex_set::Held;
 
-/// What tells an access apart but its address.
-#[derive(Drop)]
+/// What tells an access apart but its address. In their order the line decides first, since keys mostly differ there.
+#[derive(PartialEq, Eq, PartialOrd, Ord, Drop)]
 pub struct Key {
+    pub line: u32,
+    pub site: u16,
+    pub size: u8,
     pub write: bool,
     pub atomic: bool,
-    pub size: u8,
-    pub site: u16,
-    pub line: u32,
     pub held: Held,
 }
 
@@ -21,11 +21,11 @@ impl Key {
         ensures { result ≡ access_key access.now }
     {
         Key {
+            line: access.line,
+            site: access.site,
+            size: access.size,
             write: access.write,
             atomic: access.atomic,
-            size: access.size,
-            site: access.site,
-            line: access.line,
             held: access.held.copy(),
         }
     }
@@ -34,11 +34,11 @@ impl Key {
     pub fn is_of(&self, access: &Access) -> bool
         ensures { IsTrue result ↔ (self.now ≡ access_key access.now) }
     {
-        self.write == access.write
-            && self.atomic == access.atomic
-            && self.size == access.size
+        self.line == access.line
             && self.site == access.site
-            && self.line == access.line
-            && self.held.ids() == access.held.ids()
+            && self.size == access.size
+            && self.write == access.write
+            && self.atomic == access.atomic
+            && self.held == *access.held
     }
 }

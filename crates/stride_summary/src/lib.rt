@@ -9,9 +9,11 @@
 
 mod access;
 mod cutting;
+mod joining;
 mod key;
 mod places;
 mod run;
+mod single;
 mod singles;
 mod stretch;
 mod summary;

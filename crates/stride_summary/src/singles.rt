@@ -1,29 +1,19 @@
-ghost use Rattle.std.specs.Prelude.{[], ◌≡◌, ◌↔◌, ◌⊎◌, ℕ, ◌+◌, ◌^◌, ◌<◌, ◌≤◌, All, AllPairs, Contains, IsTrue, OnOk, vec_len, vec_capacity};
+ghost use Rattle.std.specs.Prelude.{[], ◌≡◌, ◌↔◌, ◌⊎◌, ℕ, ◌+◌, ◌<◌, ◌≤◌, Contains, IsTrue, OnOk, vec_len, vec_capacity};
 ghost use Rattle.stride_summary.specs.Run.{access_key};
 ghost use Rattle.stride_summary.specs.declared.key.Key.{Key};
-ghost use Rattle.stride_summary.specs.declared.singles.Single.{Single};
-ghost use Rattle.stride_summary.specs.Singles.{AddsSingles, HoldsSingle, IsRunOfSingle};
-ghost use Rattle.stride_summary.specs.Fitting.{AreSized, Fits, sized_prop};
+ghost use Rattle.stride_summary.specs.declared.single.Single.{Single};
+ghost use Rattle.stride_summary.specs.Accesses.{AreSized, Ascend, EndByTheLast, sized_prop};
+ghost use Rattle.stride_summary.specs.Singles.{AddsSingles, HoldsSingle};
 
 use crate::access::Access;
+use crate::joining::push_joined;
 use crate::run::Run;
-use mutex_set::Held;
+use crate::single::Single;
 use std::alloc::Global;
 use sw_base::Memory;
 
 /// How many accesses there may be at least when they are put in order for the first time.
 const FIRST: usize = 64;
-
-/// An access under no mutex.
-#[derive(Clone, Copy, PartialEq, Eq, PartialOrd, Ord)]
-pub struct Single {
-    pub line: u32,
-    pub site: u16,
-    pub size: u8,
-    pub write: bool,
-    pub atomic: bool,
-    pub addr: u64,
-}
 
 /// Accesses under no mutex, of any keys, some of them more than once.
 #[derive(Drop)]
@@ -32,27 +22,9 @@ pub struct Singles {
     /// How many there may be before there has to be more room.
     pub limit: usize,
     ghost sized: { AreSized list.items } by { sized_prop list.items },
-    ghost bounded: { All (λ single. single.addr + single.size ≤ 2 ^ 48) list.items },
+    ghost ends: { EndByTheLast list.items },
     ghost within: { vec_len list ≤ limit },
     ghost room: { limit ≤ vec_capacity list },
-}
-
-// The run of one access.
-fn run_of(single: &Single) -> Run
-    requires { Fits single.now }
-    ensures { IsRunOfSingle single.now result }
-{
-    Run {
-        base: single.addr,
-        stride: 0,
-        count: 1,
-        size: single.size,
-        write: single.write,
-        atomic: single.atomic,
-        line: single.line,
-        site: single.site,
-        held: Held::none(),
-    }
 }
 
 impl Singles {
@@ -77,7 +49,7 @@ impl Singles {
     /// Puts the accesses in order, each once.
     #[inline(never)]
     pub fn settle(&mut self)
-        ensures distinct { AllPairs (λ one other. one ≡ other → ⊥) self.new.list.items }
+        ensures ascending { Ascend self.new.list.items }
         ensures same { (single : Single) → Contains self.new.list.items single ↔ Contains self.old.list.items single }
         ensures fewer { vec_len self.new.list ≤ vec_len self.old.list }
         ensures limit { self.new.limit ≡ self.old.limit }
@@ -123,14 +95,12 @@ impl Singles {
         });
     }
 
-    /// Adds a run for each access.
+    /// Adds the runs of the accesses.
     pub fn push_into(mut self, runs: &mut Vec<Run>)
         requires { vec_len runs.old + vec_len self.list ≤ vec_capacity runs.old }
         ensures { AddsSingles self.list.items runs.old.items runs.new.items }
     {
         self.settle();
-        for single in &self.list {
-            runs.push_reserved(run_of(single));
-        }
+        push_joined(&self.list, runs);
     }
 }

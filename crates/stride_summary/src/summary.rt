@@ -2,14 +2,14 @@ ghost use Rattle.std.specs.Prelude.{◌≡◌, ◌↔◌, ◌⊎◌, ℕ, ◌+�
 ghost use Rattle.std.specs.List.Sorted.{IsNonDecreasingBy};
 ghost use Rattle.stride_summary.specs.declared.stretch.Stretch.{Stretch};
 ghost use Rattle.stride_summary.specs.Run.{AreApart, HasPair, access_key};
-ghost use Rattle.stride_summary.specs.Places.{TellsPlaces, numbers_of, place_under};
+ghost use Rattle.stride_summary.specs.Places.{TellsPlaces, place_under};
 ghost use Rattle.stride_summary.specs.Singles.{AreOthers, HoldsSingle, MayStandAlone};
-ghost use Rattle.stride_summary.specs.declared.singles.Single.{Single};
+ghost use Rattle.stride_summary.specs.declared.single.Single.{Single};
 ghost use Rattle.stride_summary.specs.Stretches.{HasRoom, Holds, HoldsOneMore, HoldsSame, IsPlaceOf, KeysDiffer, MayHave, needed_of};
 
 use crate::access::Access;
 use crate::key::Key;
-use crate::places::{add_key, numbers_of, place_under};
+use crate::places::{add_key, place_under};
 use crate::run::Run;
 use crate::singles::Singles;
 use crate::stretch::Stretch;
@@ -18,15 +18,15 @@ use std::collections::BTreeMap;
 use sw_base::Memory;
 
 /// How many keys have addresses of their own before accesses of further keys under no mutex stand alone.
-const KEYS: usize = 65_536;
+const KEYS: usize = 4_096;
 
 /// The accesses of a barrier interval: the addresses of each key, or where there are very many keys the accesses of most one by
 /// one. It grows with the number of different addresses of a key, and not with the number of accesses.
 #[derive(Drop)]
 pub struct Summary {
     stretches: Vec<Stretch>,
-    /// The place of each key, by its numbers.
-    places: BTreeMap<Vec<u32>, usize>,
+    /// The place of each key.
+    places: BTreeMap<Key, usize>,
     /// The place of the key of the last access.
     last: usize,
     /// For each place, that of the key which came after it last time.
@@ -201,21 +201,21 @@ impl Summary {
         ensures same { HoldsSame self.old.stretches.items self.new.stretches.items }
         ensures singles { self.new.singles ≡ self.old.singles }
     {
-        let numbers = numbers_of(self.alloc, access)?;
-        if let Some(place) = place_under(&self.places, &numbers) {
+        let key = Key::of(access);
+        if let Some(place) = place_under(&self.places, &key) {
             return Ok(Some(place));
         }
         if self.stretches.len() >= self.most && access.held.ids().is_empty() {
             return Ok(None);
         }
-        let place = self.give_place(access, numbers)?;
+        let place = self.give_place(access, key)?;
         Ok(Some(place))
     }
 
     // Gives a place to the access's key, which has none.
-    fn give_place(&mut self, access: &Access, numbers: Vec<u32>) -> Result<usize, Memory>
-        requires numbers { numbers.items ≡ numbers_of (access_key access.now) }
-        requires fresh { place_under self.old.places numbers ≡ None }
+    fn give_place(&mut self, access: &Access, key: Key) -> Result<usize, Memory>
+        requires key { key ≡ access_key access.now }
+        requires fresh { place_under self.old.places key ≡ None }
         requires apart { self.old.most ≤ vec_len self.old.stretches → access.now.held.now ≡ [] → ⊥ }
         ensures found { IfOk result (λ place. IsPlaceOf self.new.stretches.items (access_key access.now) place) }
         ensures same { HoldsSame self.old.stretches.items self.new.stretches.items }
@@ -223,7 +223,7 @@ impl Summary {
     {
         self.followers.push(0)?;
         let stretch = Stretch::new(self.alloc, Key::of(access));
-        add_key(&mut self.stretches, &mut self.places, numbers, stretch)
+        add_key(&mut self.stretches, &mut self.places, key, stretch)
     }
 
     fn follow(&mut self, place: usize)
@@ -247,24 +247,13 @@ impl Summary {
         if self.stretches[place].has_room() {
             return Ok(());
         }
-        self.widen(place)
-    }
-
-    // The same where it has none. It stands apart, since it is rare.
-    #[inline(never)]
-    fn widen(&mut self, place: usize) -> Result<(), Memory>
-        requires place { place < vec_len self.old.stretches }
-        ensures count { vec_len self.new.stretches ≡ vec_len self.old.stretches }
-        ensures singles { self.new.singles ≡ self.old.singles }
-        ensures same { HoldsSame self.old.stretches.items self.new.stretches.items }
-        ensures key { (d : Stretch) → (slice_index_or self.new.stretches.items place d).key ≡ (slice_index_or self.old.stretches.items place d).key }
-        ensures room { OnOk result ((d : Stretch) → HasRoom (slice_index_or self.new.stretches.items place d)) }
-    {
         let limit = self.prepare(place)?;
         self.raise(place, limit)
     }
 
-    // Prepares the stretch at this place for more addresses, and gives the limit that it may have.
+    // Prepares the stretch at this place for more addresses, and gives the limit that it may have. It stands apart, since it is
+    // rare, like what follows.
+    #[inline(never)]
     fn prepare(&mut self, place: usize) -> Result<usize, Memory>
         requires place { place < vec_len self.old.stretches }
         ensures count { vec_len self.new.stretches ≡ vec_len self.old.stretches }
@@ -277,6 +266,7 @@ impl Summary {
     }
 
     // Gives the stretch at this place the limit, and makes room for the runs.
+    #[inline(never)]
     fn raise(&mut self, place: usize, limit: usize) -> Result<(), Memory>
         requires place { place < vec_len self.old.stretches }
         requires limit { (d : Stretch) → MayHave (slice_index_or self.old.stretches.items place d) limit }

@@ -185,21 +185,24 @@ fn keys_that_take_turns_in_any_order_have_runs_of_their_own(rt: HostRuntime) -> 
     Ok(())
 }
 
-// Three keys in turn, each with 100 addresses.
-fn writes_in_turn(alloc: Global) -> Result<Vec<(u32, u64)>, AllocError> {
+// So many writes of so many keys in turn.
+fn writes_in_turn(alloc: Global, keys: u32, all: u32) -> Result<Vec<(u32, u64)>, AllocError> {
     let mut writes = Vec::new(alloc);
-    for number in 0..300u32 {
-        writes.push((number % 3, 4096 + u64::from(number / 3) * 16))?;
+    for number in 0..all {
+        let round = number / keys.max(1);
+        writes.push((number % keys.max(1), 4096 + u64::from(round) * 16))?;
     }
     Ok(writes)
 }
 
 #[test]
-fn keys_that_take_turns_have_runs_of_their_own(rt: HostRuntime) -> Result<(), Fail> {
+fn keys_that_take_turns_have_strided_runs_of_their_own(rt: HostRuntime) -> Result<(), Fail> {
     let alloc = rt.alloc();
-    let writes = writes_in_turn(alloc)?;
-    let found = sorted_shapes_of(alloc, &writes)?;
-    assert!(rt; have_keys(&found, 3, (4096, 16, 100)));
+    for (keys, all, each) in [(3, 300, 100), (5_000, 15_000, 3)] {
+        let writes = writes_in_turn(alloc, keys, all)?;
+        let found = sorted_shapes_of(alloc, &writes)?;
+        assert!(rt; have_keys(&found, keys, (4096, 16, each)), "{keys} keys");
+    }
     Ok(())
 }
 

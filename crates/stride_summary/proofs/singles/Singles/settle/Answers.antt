@@ -1,36 +1,26 @@
-use Rattle.std.proofs.Common.{◌≡◌, List, true, Contains, sym, subst, arith}
+use Rattle.std.proofs.Common.{◌≡◌, ◌<◌, List, true, Contains, sym, ap, subst, arith}
 use Rattle.std.proofs.lemmas.Bool.Decides.{nat_tests}
-use Rattle.std.proofs.lemmas.Cmp.{tied_itself}
 use Rattle.std.proofs.lemmas.List.Filters.{dedup_is}
 use Rattle.std.proofs.lemmas.List.Kept.{Contains-dedup, Contains-from_dedup, IsStrictlySortedBy-dedup}
 use Rattle.std.proofs.lemmas.List.Sorted.{Contains-permutation, IsPermutation-sym}
 use Rattle.std.proofs.lemmas.Map.Keys.{Less-from_sorted}
-use Rattle.std.specs.Cmp.{IsTotalOrder}
-use Rattle.std.specs.Prelude.{AllPairs}
-use Rattle.std.specs.declared.cmp.Ordering.{Ordering}
-use Rattle.std.specs.declared.cmp.Ordering.TheVariants.{Equal, Less}
-use Rattle.stride_summary.specs.contracts.singles.SingleEq.TheImpl.Laws.{laws-law}
-use Rattle.stride_summary.specs.contracts.singles.SingleOrd.TheImpl.Laws.{matches_eq-law, total-law}
-use Rattle.stride_summary.specs.contracts.singles.SinglePartialEq.TheImpl.{eq-value}
-use Rattle.stride_summary.specs.declared.singles.Single.{Single}
+use Rattle.stride_summary.specs.contracts.single.SingleEq.TheImpl.Laws.{laws-law}
+use Rattle.stride_summary.specs.contracts.single.SingleOrd.TheImpl.Laws.{matches_eq-law, total-law}
+use Rattle.stride_summary.specs.contracts.single.SinglePartialEq.TheImpl.{eq-value}
+use Rattle.stride_summary.specs.declared.single.Single.{Single}
+use Rattle.stride_summary.specs.Accesses.{Ascend}
+use Rattle.stride_summary.proofs.Ordered.{above}
 use Rattle.stride_summary.proofs.singles.Singles.settle.Goals as goal
 
 -- accesses that `==` takes for equal are the same
 exact : (x y : Single) → eq-value.it x y ≡ true → x ≡ y
 exact x y e = grind (arith, nat_tests)
 
-not_below : {R : Single → Single → Ordering} (o : IsTotalOrder R) (x y : Single) → R x y ≡ Less → x ≡ y → ⊥
-not_below {R} o x y below same =
-    let tied : R x x ≡ Equal = tied_itself o x in
-    let less : R x x ≡ Less = subst (λ (z : Single). R x z ≡ Less) (sym same) below in
-    cc
-
-pub returns-clause-distinct : goal.returns-clause-distinct
-returns-clause-distinct c =
+pub returns-clause-ascending : goal.returns-clause-ascending
+returns-clause-ascending c =
     let is = dedup_is _ c.sort_unstable.new.self.items c.dedup.new.self.items c.dedup.ensures.filtered in
     let rising = IsStrictlySortedBy-dedup total-law matches_eq-law c.sort_unstable.new.self.items c.sort_unstable.ensures.sorted in
-    subst (λ (xs : List Single). AllPairs (λ one other. one ≡ other → ⊥) xs) (sym is)
-    (λ i j d less within same. not_below total-law _ _ (Less-from_sorted _ _ i j d rising less within) same)
+    subst (λ (xs : List Single). Ascend xs) (sym is) (λ i j d less within. above _ _ (Less-from_sorted _ _ i j d rising less within))
 
 pub returns-clause-same : goal.returns-clause-same
 returns-clause-same c s =

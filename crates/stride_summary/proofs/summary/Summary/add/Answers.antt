@@ -1,7 +1,7 @@
 use Rattle.std.proofs.Common.{◌≡◌, ◌⊎◌, ◌↔◌, ◌∙◌, List, Contains, ap, subst, sym}
 use Rattle.std.proofs.lemmas.Result.{on_err_weaker, on_ok_weaker}
 use Rattle.std.specs.Global.{Vec}
-use Rattle.stride_summary.specs.declared.singles.Single.{Single}
+use Rattle.stride_summary.specs.declared.single.Single.{Single}
 use Rattle.stride_summary.specs.declared.singles.Singles.{Singles}
 use Rattle.stride_summary.specs.declared.stretch.Stretch.{Stretch}
 use Rattle.stride_summary.specs.Run.{access_key}

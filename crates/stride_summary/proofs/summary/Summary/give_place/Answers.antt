@@ -1,18 +1,17 @@
-use Rattle.std.proofs.Common.{sym, ap, subst, ◌∙◌, is_ok, vec_len, arith}
+use Rattle.std.proofs.Common.{◌≡◌, sym, subst, ◌∙◌, is_ok, vec_len, arith}
+use Rattle.std.specs.Prelude.{All}
 use Rattle.stride_summary.specs.declared.key.Key.{Key}
-use Rattle.stride_summary.specs.Places.{numbers_of}
+use Rattle.stride_summary.specs.declared.stretch.Stretch.{Stretch}
 use Rattle.stride_summary.specs.Run.{access_key}
 use Rattle.stride_summary.specs.Singles.{HoldsSingle}
 use Rattle.stride_summary.proofs.Alone.{not_single, others_pushed}
-use Rattle.stride_summary.proofs.Placing.{told_none}
 use Rattle.stride_summary.proofs.Storing.{HoldsSame-pushed, KeysDiffer-pushed, needed-pushed}
 use Rattle.stride_summary.proofs.summary.Summary.give_place.Goals as goal
 
 pub invariant_of-self-2-clause-keys : goal.invariant_of-self-2-clause-keys
 invariant_of-self-2-clause-keys c =
     KeysDiffer-pushed (is_ok c.add_key.result) c.args.self.now.stretches.items c.add_key.new.stretches.items c.new-stretch.result c.add_key.ensures.items c.args.self.now.keys
-    (told_none c.args.self.now.places c.args.self.now.stretches.items c.args.self.now.told c.args.numbers c.new-stretch.result.key
-    (c.requires.numbers ∙ ap (λ (k : Key). numbers_of k) (sym (c.new-stretch.ensures.key ∙ c.of.ensures))) c.requires.fresh)
+    (subst (λ (k : Key). All (λ (s : Stretch). s.key ≡ k → ⊥) c.args.self.now.stretches.items) (c.requires.key ∙ sym (c.new-stretch.ensures.key ∙ c.of.ensures)) ((c.args.self.now.told c.args.key).0 c.requires.fresh))
 
 pub invariant_of-self-2-clause-counted : goal.invariant_of-self-2-clause-counted
 invariant_of-self-2-clause-counted c =

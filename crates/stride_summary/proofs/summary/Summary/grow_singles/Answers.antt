@@ -1,5 +1,5 @@
 use Rattle.std.proofs.Common.{◌↔◌, List, Contains, subst, sym, ◌∙◌}
-use Rattle.stride_summary.specs.declared.singles.Single.{Single}
+use Rattle.stride_summary.specs.declared.single.Single.{Single}
 use Rattle.stride_summary.specs.Singles.{AreOthers}
 use Rattle.stride_summary.proofs.summary.Summary.grow_singles.Goals as goal
 
