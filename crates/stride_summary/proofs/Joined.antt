@@ -9,7 +9,7 @@ use Rattle.stride_summary.specs.declared.key.Key.{Key}
 use Rattle.stride_summary.specs.declared.run.Run.{Run}
 use Rattle.stride_summary.specs.declared.single.Single.{Single}
 use Rattle.stride_summary.specs.Accesses.{AreSized, Ascend, BeginsWith, EndByTheLast, IsBehind, single_key}
-use Rattle.stride_summary.specs.Run.{AreApart, HasPair, HasRunAddress, address_at, last_address, run_key}
+use Rattle.stride_summary.specs.Run.{HasPair, HasRunAddress, address_at, last_address, run_key}
 use Rattle.stride_summary.specs.Singles.{AddsSingles, HoldsSingle}
 use Rattle.stride_summary.proofs.Alone.{holds_within}
 use Rattle.stride_summary.proofs.Sized.{has_bytes}
