@@ -8,7 +8,7 @@ use Rattle.log_format.specs.Table.{IsAccessSize}
 use Rattle.stride_summary.specs.declared.key.Key.{Key}
 use Rattle.stride_summary.specs.declared.run.Run.{Run}
 use Rattle.stride_summary.specs.declared.single.Single.{Single}
-use Rattle.stride_summary.specs.Accesses.{AreSized, Ascend, BeginsWith, EndByTheLast, IsBehind, single_key}
+use Rattle.stride_summary.specs.Accesses.{AreSized, Ascend, BeginsWith, EndByTheLast, LiesBehind, single_key}
 use Rattle.stride_summary.specs.Run.{HasPair, HasRunAddress, address_at, last_address, run_key}
 use Rattle.stride_summary.specs.Singles.{AddsSingles, HoldsSingle}
 use Rattle.stride_summary.proofs.Alone.{holds_within}
@@ -20,22 +20,22 @@ abbrev pub blank : Single
 blank = record { line = 0; site = 0; size = 0; write = false; atomic = false; addr = 0 }
 
 -- two accesses that were read at their places
-pub behind_at : (singles : List Single) (i j distance : ℕ) → i < length singles → j < length singles → IsBehind (get_or singles i blank) (get_or singles j blank) distance → (d : Single) → IsBehind (get_or singles i d) (get_or singles j d) distance
+pub behind_at : (singles : List Single) (i j distance : ℕ) → i < length singles → j < length singles → LiesBehind (get_or singles i blank) (get_or singles j blank) distance → (d : Single) → LiesBehind (get_or singles i d) (get_or singles j d) distance
 behind_at singles i j distance in_i in_j behind d =
-    subst (λ (s : Single). IsBehind s (get_or singles j d) distance) (get_or_default singles i blank d in_i)
-    (subst (λ (s : Single). IsBehind (get_or singles i blank) s distance) (get_or_default singles j blank d in_j) behind)
+    subst (λ (s : Single). LiesBehind s (get_or singles j d) distance) (get_or_default singles i blank d in_i)
+    (subst (λ (s : Single). LiesBehind (get_or singles i blank) s distance) (get_or_default singles j blank d in_j) behind)
 
 -- the first so many lie at equal distances
 abbrev pub AreEven : List Single → ℕ → ℕ → Type 0
-AreEven singles distance count = (place : ℕ) (d : Single) → place + 1 < count → IsBehind (get_or singles place d) (get_or singles (place + 1) d) distance
+AreEven singles distance count = (place : ℕ) (d : Single) → place + 1 < count → LiesBehind (get_or singles place d) (get_or singles (place + 1) d) distance
 
-pub even_more : (singles : List Single) (distance count : ℕ) → AreEven singles distance count → 1 ≤ count → ((d : Single) → IsBehind (get_or singles (count - 1) d) (get_or singles count d) distance) → AreEven singles distance (count + 1)
+pub even_more : (singles : List Single) (distance count : ℕ) → AreEven singles distance count → 1 ≤ count → ((d : Single) → LiesBehind (get_or singles (count - 1) d) (get_or singles count d) distance) → AreEven singles distance (count + 1)
 even_more singles distance count even some next place d below = elim (cases_lt (place + 1) count) [
   | inl before ↦ even place d before
   | inr not ↦
       let here : count ≡ place + 1 = omega arith in
       let last : count - 1 ≡ place = omega arith in
-      subst (λ (n : ℕ). IsBehind (get_or singles n d) (get_or singles (place + 1) d) distance) last (subst (λ (n : ℕ). IsBehind (get_or singles (count - 1) d) (get_or singles n d) distance) here (next d))
+      subst (λ (n : ℕ). LiesBehind (get_or singles n d) (get_or singles (place + 1) d) distance) last (subst (λ (n : ℕ). LiesBehind (get_or singles (count - 1) d) (get_or singles n d) distance) here (next d))
 ]
 
 -- the run of the first accesses
@@ -47,7 +47,7 @@ module _ (singles : List Single) (distance count : ℕ) (even : AreEven singles 
   even_at zero below = (refl, omega arith)
   even_at (suc place) below =
       let before = even_at place (omega arith) in
-      let next : IsBehind (get_or singles place blank) (get_or singles (suc place) blank) distance = subst (λ (n : ℕ). IsBehind (get_or singles place blank) (get_or singles n blank) distance) (add-one place) (even place blank (omega arith)) in
+      let next : LiesBehind (get_or singles place blank) (get_or singles (suc place) blank) distance = subst (λ (n : ℕ). LiesBehind (get_or singles place blank) (get_or singles n blank) distance) (add-one place) (even place blank (omega arith)) in
       (before.0 ∙ next.0, omega (arith, before.1, next.1))
 
   pub run_begins : (run : Run) → single_key first ≡ run_key run → run.base ≡ first.addr → run.count ≡ count → (run.count ≡ 1) ⊎ (run.stride ≡ distance) → BeginsWith singles run

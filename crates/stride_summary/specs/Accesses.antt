@@ -27,8 +27,8 @@ abbrev pub Ascend : List Single → Type 0
 Ascend singles = AllPairs (λ one other. single_key one ≡ single_key other → one.addr < other.addr) singles
 
 -- the other access has the same key and lies so far behind this one
-abbrev pub IsBehind : Single → Single → ℕ → Type 0
-IsBehind one other distance = (single_key one ≡ single_key other) × (other.addr ≡ one.addr + distance)
+abbrev pub LiesBehind : Single → Single → ℕ → Type 0
+LiesBehind one other distance = (single_key one ≡ single_key other) × (other.addr ≡ one.addr + distance)
 
 -- the run has just the first accesses
 pub record BeginsWith (singles : List Single) (run : Run) : Type 0 where

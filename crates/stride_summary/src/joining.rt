@@ -1,6 +1,6 @@
 ghost use Rattle.std.specs.Prelude.{◌≡◌, ℕ, ◌+◌, ◌-◌, ◌^◌, ◌<◌, ◌≤◌, length, slice_index_or, vec_len, vec_capacity};
 ghost use Rattle.stride_summary.specs.declared.single.Single.{Single};
-ghost use Rattle.stride_summary.specs.Accesses.{AreSized, Ascend, BeginsWith, EndByTheLast, IsBehind};
+ghost use Rattle.stride_summary.specs.Accesses.{AreSized, Ascend, BeginsWith, EndByTheLast, LiesBehind};
 ghost use Rattle.stride_summary.specs.Singles.{AddsSingles};
 
 use crate::run::Run;
@@ -52,7 +52,7 @@ fn even_count(singles: &[Single], distance: u64) -> usize
     requires some { 0 < length singles.now }
     ensures within { (1 ≤ result) × (result ≤ length singles.now) × (result < 2 ^ 32) }
     ensures apart { 2 ≤ result → 0 < distance }
-    ensures even { (place : ℕ) (d : Single) → place + 1 < result → IsBehind (slice_index_or singles.now place d) (slice_index_or singles.now (place + 1) d) distance }
+    ensures even { (place : ℕ) (d : Single) → place + 1 < result → LiesBehind (slice_index_or singles.now place d) (slice_index_or singles.now (place + 1) d) distance }
 {
     let mut count = 1;
     'even: while count < u32::MAX as usize
@@ -68,7 +68,7 @@ fn even_count(singles: &[Single], distance: u64) -> usize
 fn distance_at(singles: &[Single], place: usize) -> u64
     requires later { 1 ≤ place }
     ensures within { 0 < result → place < length singles.now }
-    ensures behind { 0 < result → (d : Single) → IsBehind (slice_index_or singles.now (place - 1) d) (slice_index_or singles.now place d) result }
+    ensures behind { 0 < result → (d : Single) → LiesBehind (slice_index_or singles.now (place - 1) d) (slice_index_or singles.now place d) result }
 {
     if place >= singles.len() {
         return 0;

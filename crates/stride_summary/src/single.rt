@@ -1,5 +1,5 @@
 ghost use Rattle.std.specs.Prelude.{◌≡◌, ◌<◌, IsTrue};
-ghost use Rattle.stride_summary.specs.Accesses.{IsBehind, single_key};
+ghost use Rattle.stride_summary.specs.Accesses.{LiesBehind, single_key};
 
 /// An access under no mutex. In order, those of one key stand together, by their addresses.
 #[derive(Clone, Copy, PartialEq, Eq, PartialOrd, Ord)]
@@ -15,7 +15,7 @@ pub struct Single {
 impl Single {
     /// How far the later access lies behind it, or 0 if it has another key or doesn't lie behind it.
     pub fn distance(&self, later: &Single) -> u64
-        ensures { 0 < result → IsBehind self.now later.now result }
+        ensures { 0 < result → LiesBehind self.now later.now result }
     {
         if !self.has_key_of(later) {
             return 0;
