@@ -1,12 +1,11 @@
 -- What the definition of a whole run of a lawful fixed kernel buys: told of its tasks alone.
-use Rattle.std.proofs.Common.{◌≡◌, refl, ap, sym, ◌∙◌, subst, ◌⊎◌, inl, inr, ℕ, zero, suc, ◌+◌, ◌<◌, ◌≤◌, List, [], ◌∷◌, ◌++◌, length, take, Option, Some, arith, All, pos, length-append}
+use Rattle.std.proofs.Common.{◌≡◌, refl, ap, sym, ◌∙◌, subst, ◌⊎◌, inl, inr, ℕ, zero, suc, ◌+◌, ◌<◌, ◌≤◌, List, [], ◌∷◌, ◌++◌, length, take, Option, Some, arith, All, length-append}
 use Rattle.std.specs.Prelude.{slice_get, IsSome, option_map, cond}
 use Rattle.std.proofs.lemmas.List.{append-nil}
-use Rattle.std.proofs.lemmas.List.Elements.{All-replicate}
 use Rattle.std.proofs.lemmas.List.Sums.{sum_by-take-le}
 use Rattle.std.proofs.lemmas.Option.{same_Some, slice_get-map, slice_get_within, get_or_from_slice_get}
 use Rattle.sw_base.specs.declared.path.Step.{Step}
-use Rattle.kernel_rules.proofs.LawfulFolder.{traced_at}
+use Rattle.kernel_rules.proofs.LawfulFolder.{root_team, root_values, traced_at}
 use Rattle.certainty_model.proofs.SameReads.{MakesNoUpdate, EndOnce}
 use Rattle.log_format.specs.declared.format.TheConstants.{FORMAT}
 use Rattle.log_format.specs.declared.record.Record.{Record}
@@ -34,7 +33,7 @@ use Rattle.kernel_model.proofs.Starts.{at_lane, at_root, IsLaneStart, lane_start
 use Rattle.kernel_rules.proofs.EndedTraces.{whole_trace}
 use Rattle.kernel_rules.proofs.LawfulLogs.{lawful_log, span_at, spans_count}
 use Rattle.kernel_rules.proofs.LawfulRecords.{IsLawfulTeam, IsLawfulFork, spans_of, spans_forked}
-use Rattle.kernel_rules.proofs.LawfulValues.{IsValue, IsValueFork, IsValueStart, zero_value, lane_values, traced_values}
+use Rattle.kernel_rules.proofs.LawfulValues.{IsValueFork, IsValueStart, lane_values, traced_values}
 use Rattle.kernel_rules.proofs.SameBarriers.{traced_barriers}
 use Rattle.history_model.specs.Joined.{LastIsEnd}
 use Rattle.execution_model.specs.Execution.{IsBegun, HaveMet, HaveJoined}
@@ -110,15 +109,8 @@ module _ (program : Program) (lawful : IsLawful program) (fixed : IsFixed progra
 
   good_root : IsGood [] (root_start program)
   good_root = record {
-    inside = record { lanes = 1; few = omega arith; shallow = omega arith; even = lawful.even; nested = lawful.nested; bounded = lawful.bounded.body };
-    values = record {
-      slots = All-replicate IsValue program.slots (pos 0) zero_value;
-      numbers = lawful.numbers;
-      bounded = lawful.bounded.body;
-      ends = lawful.bounded.end_line;
-      within = let alone = lawful.alone in omega arith;
-      few = let alone = lawful.alone in omega arith;
-    };
+    inside = root_team program lawful;
+    values = root_values program lawful;
     stays = fixed;
   }
 

@@ -78,6 +78,20 @@ traced_at program tasks folder path start starts =
 
 -- ---- a folder of a lawful kernel
 
+-- the root is a lawful team of one lane, whose locals are values
+pub root_team : (program : Program) → IsLawful program → IsLawfulTeam (length program.mutexes) 0 program.main
+root_team program lawful = record { lanes = 1; few = omega arith; shallow = omega arith; even = lawful.even; nested = lawful.nested; bounded = lawful.bounded.body }
+
+pub root_values : (program : Program) → IsLawful program → IsValueStart (root_start program)
+root_values program lawful = record {
+  slots = All-replicate IsValue program.slots (pos 0) zero_value;
+  numbers = lawful.numbers;
+  bounded = lawful.bounded.body;
+  ends = lawful.bounded.end_line;
+  within = let alone = lawful.alone in omega arith;
+  few = let alone = lawful.alone in omega arith;
+}
+
 module _ (program : Program) (lawful : IsLawful program) (tasks : Trace) (folder : IsTracedFolder program tasks) (listing : IsListing (paths_of tasks)) where
   abbrev logs : Logs
   logs = logs_of tasks
@@ -93,15 +107,8 @@ module _ (program : Program) (lawful : IsLawful program) (tasks : Trace) (folder
 
   root_lawful : IsLawfulAt [] (root_start program)
   root_lawful = record {
-    inside = record { lanes = 1; few = omega arith; shallow = omega arith; even = lawful.even; nested = lawful.nested; bounded = lawful.bounded.body };
-    begins = record {
-      slots = All-replicate IsValue program.slots (pos 0) zero_value;
-      numbers = lawful.numbers;
-      bounded = lawful.bounded.body;
-      ends = lawful.bounded.end_line;
-      within = let alone = lawful.alone in omega arith;
-      few = let alone = lawful.alone in omega arith;
-    };
+    inside = root_team program lawful;
+    begins = root_values program lawful;
     steps = All-nil IsStep;
   }
 

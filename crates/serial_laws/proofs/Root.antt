@@ -3,7 +3,6 @@ use Rattle.std.proofs.Common.{◌≡◌, refl, ap, sym, ◌∙◌, subst, ◌⊎
 use Rattle.std.specs.Prelude.{replicate, slice_get, slice_index, sum_by}
 use Rattle.std.proofs.lemmas.Bool.{cases_lt}
 use Rattle.std.proofs.lemmas.List.{append-nil, get_or-replicate, length-map, length-replicate}
-use Rattle.std.proofs.lemmas.List.Elements.{All-replicate}
 use Rattle.std.proofs.lemmas.List.Sums.{sum_by-cons}
 use Rattle.log_format.specs.Fitting.{IsWidth, CanHave}
 use Rattle.log_format.proofs.FittedBits.{fit_zero}
@@ -16,7 +15,7 @@ use Rattle.kernel_syntax.specs.Program.{Program}
 use Rattle.kernel_model.specs.Folder.{root_start}
 use Rattle.kernel_model.specs.Lawful.{IsLawful}
 use Rattle.kernel_model.specs.Value.{Site}
-use Rattle.kernel_rules.proofs.LawfulValues.{IsValue, IsValueStart, zero_value}
+use Rattle.kernel_rules.proofs.LawfulFolder.{root_values}
 use Rattle.history_model.specs.Did.{did}
 use Rattle.history_model.specs.Joined.{LastIsEnd}
 use Rattle.history_model.specs.Sound.{HasAddresses}
@@ -84,16 +83,6 @@ module _ (layout : ElementLayout) (program : Program) (lawful : IsLawful program
       zeros : (w : ℕ) → w < layout.count → slice_index (replicate (elements program.arrays) 0) w ≡ 0
       zeros w less = get_or-replicate (elements program.arrays) w 0 0 (omega (arith, less, tells.count))
 
-  root_values : IsValueStart (root_start program)
-  root_values = record {
-    slots = All-replicate IsValue program.slots (pos 0) zero_value;
-    numbers = lawful.numbers;
-    bounded = lawful.bounded.body;
-    ends = lawful.bounded.end_line;
-    within = let alone = lawful.alone in omega arith;
-    few = let alone = lawful.alone in omega arith;
-  }
-
   module _ (by_log : layout.bound ≡ OfLog) (left : ℕ) (logs : List WholeLog) (words : List ℕ) (r : RanRoot layout program left logs words) where
     abbrev first : MemberValue
     first = later r.before (record { words = replicate (elements program.arrays) 0; left = left })
@@ -112,7 +101,7 @@ module _ (layout : ElementLayout) (program : Program) (lawful : IsLawful program
     runs : Runs layout by_log program lawful.bounded (root_start program) (r.work ∷ [])
     runs =
         root_runs layout by_log program lawful.bounded (root_start program) first r.work r.after r.runs (ap (λ (s : Site). s.arrays) r.begins.at)
-        (lane_at_start program program.main (replicate program.slots (pos 0)) 0 first begins) root_values r.ended
+        (lane_at_start program program.main (replicate program.slots (pos 0)) 0 first begins) (root_values program lawful) r.ended
 
     shape : IsShaped layout 4 r.after r.work
     shape = lane_shaped layout 4 [] first r.work r.after r.runs (omega arith)
