@@ -157,22 +157,7 @@ const PARTED: &[Case<'static>] = &[
         asked: &[(&["check", "d", "1"], DONE, NO_RACE)],
         ..EMPTY
     },
-    // Lane 0 reads in its second loop what lane 1 writes in the first, after a barrier, and then after none.
-    Case {
-        tasks: &[
-            (&[], ROOT),
-            (
-                &[(0, 0, 2)],
-                &[store!(4, 4120), BARRIER, (1, 8, 5, 4128, 0), BARRIER, END],
-            ),
-            (
-                &[(0, 1, 2)],
-                &[store!(4, 4128), BARRIER, (1, 8, 5, 4152, 0), BARRIER, END],
-            ),
-        ],
-        asked: &[(&["check", "d", "1"], DONE, NO_RACE)],
-        ..EMPTY
-    },
+    // Lane 0 reads in its second loop what lane 1 writes in the first, with no barrier between them.
     Case {
         tasks: &[
             (&[], ROOT),

@@ -94,7 +94,7 @@ const WITNESSES: &[Case<'static>] = &[
         ],
         ..EMPTY
     },
-    // A barrier stands between the store and the read.
+    // Lane 0 reads in its second loop what lane 1 writes in the first, after a barrier.
     Case {
         tasks: &[
             (&[], ROOT),
@@ -108,6 +108,7 @@ const WITNESSES: &[Case<'static>] = &[
             ),
         ],
         asked: &[
+            (&["check", "d", "1"], DONE, "races 0\n"),
             (&["explain", "d", "4", "5"], DONE, "no race 4 5\n"),
             (&["confirm", "d", "2", "3", "3", "1"], DONE, "no race\n"),
         ],
