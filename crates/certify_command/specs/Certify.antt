@@ -18,7 +18,7 @@ verdict_status (verdict.Certain tasks records words) = DONE
 verdict_status _ = UNCERTAIN
 
 -- the status and the text of a verdict on a kernel of these arrays
-pub record IsDue (arrays : List Array) (verdict : Verdict) (status : ℕ) (text : List ℕ) : Type 0 where
+pub record IsVerdictText (arrays : List Array) (verdict : Verdict) (status : ℕ) (text : List ℕ) : Type 0 where
   pub status_is : status ≡ verdict_status verdict
   pub text_is : text ≡ verdict_text arrays verdict
 
@@ -26,7 +26,7 @@ pub record IsDue (arrays : List Array) (verdict : Verdict) (status : ℕ) (text 
 pub record HasVerdict (program : Program) (status : ℕ) (text : List ℕ) : Type 0 where
   pub verdict : Verdict
   pub tells : Tells program verdict
-  pub due : IsDue program.arrays verdict status text
+  pub due : IsVerdictText program.arrays verdict status text
 
 -- there is no file, or its text is refused at a line; or there is a verdict on its kernel
 pub data CertifyDue (files : Files) (kernel : List ℕ) (status : ℕ) (text : List ℕ) : Type 0 where

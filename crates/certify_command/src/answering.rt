@@ -3,7 +3,7 @@ ghost use Rattle.std.specs.Prelude.{◌≡◌};
 ghost use Rattle.sw_base.specs.Environment.{Rose};
 ghost use Rattle.command_answer.specs.Answer.{Prints, Tries};
 ghost use Rattle.command_answer.specs.declared.status.TheConstants.{READ_FAULT, UNCERTAIN, USAGE, WRITE_FAULT};
-ghost use Rattle.certify_command.specs.Certify.{IsDue};
+ghost use Rattle.certify_command.specs.Certify.{IsVerdictText};
 ghost use Rattle.certify_command.specs.Texts.{races_text};
 
 use crate::texts;
@@ -32,7 +32,7 @@ fn print_races<O: Out>(alloc: Global, out: &mut O, pairs: &BTreeSet<(u32, u32)>)
 
 /// Prints a verdict on a kernel of these arrays, and answers its status.
 pub fn print_verdict<O: Out>(alloc: Global, out: &mut O, arrays: &[Array], verdict: &Verdict) -> u8
-    ensures prints { Tries (IsDue arrays.now verdict.now) (O.written out.old) (O.written out.new) result }
+    ensures prints { Tries (IsVerdictText arrays.now verdict.now) (O.written out.old) (O.written out.new) result }
     ensures write_fault { result ≡ WRITE_FAULT → Rose (O.faults out.old) (O.faults out.new) }
     ensures no_read { result ≡ READ_FAULT → ⊥ }
     ensures no_usage { result ≡ USAGE → ⊥ }

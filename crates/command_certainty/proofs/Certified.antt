@@ -12,7 +12,7 @@ use Rattle.serial_laws.proofs.Certainty.{is_listed}
 use Rattle.certify.specs.Verdicts.{HasCertainRun, Tells}
 use Rattle.certify.specs.declared.verdict.Verdict.{Verdict}
 use Rattle.certify.specs.declared.verdict.Verdict.TheVariants as verdict
-use Rattle.certify_command.specs.Certify.{CertifyDue, IsDue, no_kernel, refused_kernel, certified}
+use Rattle.certify_command.specs.Certify.{CertifyDue, IsVerdictText, no_kernel, refused_kernel, certified}
 use Rattle.command_certainty.specs.Leaving.{RunsAsCertified}
 use Rattle.command_certainty.proofs.CertainCommand.{leaves_certain_run}
 
@@ -36,7 +36,7 @@ module _ (rose : Type 0) (kernel dir : List ℕ) (size : ℕ) (old new : Content
             ∙ ap (λ (t : List ℕ). codes "certain\n" ++ t) (sym left.tells);
       }
 
-  by_verdict : (program : Program) (v : Verdict) → HoldsKernel old.held kernel program → Tells program v → IsDue program.arrays v told answer → RunsAsCertified kernel dir size old new answer text
+  by_verdict : (program : Program) (v : Verdict) → HoldsKernel old.held kernel program → Tells program v → IsVerdictText program.arrays v told answer → RunsAsCertified kernel dir size old new answer text
   by_verdict program (verdict.Certain tasks records words) holds tells is = of_certain program tasks records words.items holds tells is.text_is
   by_verdict program (verdict.Construct line) holds tells is = let status_is = sym is.status_is ∙ done in absurd cc
   by_verdict program (verdict.Long path number) holds tells is = let status_is = sym is.status_is ∙ done in absurd cc

@@ -2,7 +2,7 @@
 use Rattle.std.proofs.Common.{◌≡◌, ◌⊎◌, inl, inr, ℕ, ◌+◌, ◌-◌, ◌<◌, ◌≤◌, List, [], ◌∷◌, ◌++◌, length, length-append, Option, Some, None, refl, sym, subst, arith}
 use Rattle.interval_tree.specs.Visits.{Takes}
 use Rattle.interval_tree.proofs.Taking.{Takes-append}
-use Rattle.segment_groups.specs.Level.{IsLeast}
+use Rattle.segment_groups.specs.Level.{IsLeastNumber}
 use Rattle.segment_groups.specs.Partners.{AreAll}
 use Rattle.segment_groups.proofs.Lists.{AreAll-append, AreAll-none, AreAll-one, AreAll-same, three}
 
@@ -23,7 +23,7 @@ pub record HasPassed {S : Type 0} (took : S → ℕ → S → Type 0) (P : ℕ �
   pub takes : Takes took before found now
   pub steps : new ≡ old + length found
 
-pub passed_none : {S : Type 0} (took : S → ℕ → S → Type 0) (P : ℕ → Type 0) (cursor : Option ℕ) (before : S) (old : ℕ) → IsLeast P cursor → HasPassed took P cursor before before old old
+pub passed_none : {S : Type 0} (took : S → ℕ → S → Type 0) (P : ℕ → Type 0) (cursor : Option ℕ) (before : S) (old : ℕ) → IsLeastNumber P cursor → HasPassed took P cursor before before old old
 passed_none took P None before old first = record { next = tt; found = []; all = AreAll-none P first; takes = refl; steps = omega arith }
 passed_none took P (Some least) before old first = record {
   next = first.0;
@@ -38,7 +38,7 @@ pub record Follow (P After : ℕ → Type 0) (last : ℕ) : Type 0 where
   pub to : (n : ℕ) → After n → P n × (last < n)
   pub from : (n : ℕ) → P n → last < n → After n
 
-all_passed : (P After : ℕ → Type 0) (last : ℕ) (next : Option ℕ) (found : List ℕ) → Follow P After last → IsLeast After next → P last → AreAll (λ n. P n × (n < last)) found
+all_passed : (P After : ℕ → Type 0) (last : ℕ) (next : Option ℕ) (found : List ℕ) → Follow P After last → IsLeastNumber After next → P last → AreAll (λ n. P n × (n < last)) found
     → AreAll (IsPassed P next) (found ++ last ∷ [])
 all_passed P After last next found follow first here all =
     AreAll-same (λ n. (P n × (n < last)) ⊎ (last ≡ n)) (IsPassed P next) (found ++ last ∷ []) (to next first) (from next first)
@@ -48,11 +48,11 @@ all_passed P After last next found follow first here all =
     is_one n (inl both) = (both.0, let less = both.1 in omega arith)
     is_one n (inr same) = (subst P same here, omega arith)
 
-    to : (next : Option ℕ) → IsLeast After next → (n : ℕ) → (P n × (n < last)) ⊎ (last ≡ n) → IsPassed P next n
+    to : (next : Option ℕ) → IsLeastNumber After next → (n : ℕ) → (P n × (n < last)) ⊎ (last ≡ n) → IsPassed P next n
     to None first n h = (is_one n h).0
     to (Some least) first n h = let one = is_one n h in let low = one.1 in let up = (follow.to least first.0).1 in (one.0, omega arith)
 
-    from : (next : Option ℕ) → IsLeast After next → (n : ℕ) → IsPassed P next n → (P n × (n < last)) ⊎ (last ≡ n)
+    from : (next : Option ℕ) → IsLeastNumber After next → (n : ℕ) → IsPassed P next n → (P n × (n < last)) ⊎ (last ≡ n)
     from None first n p = elim (three n last) [
       | inl less ↦ inl (p, less)
       | inr other ↦ elim other [ inl same ↦ inr (sym same) | inr greater ↦ absurd (first n (follow.from n p greater)) ]
@@ -62,11 +62,11 @@ all_passed P After last next found follow first here all =
       | inr other ↦ elim other [ inl same ↦ inr (sym same) | inr greater ↦ absurd (let up = first.1 n (follow.from n p.0 greater) in let less = p.1 in omega arith) ]
     ]
 
-next_one : (P After : ℕ → Type 0) (last : ℕ) (next : Option ℕ) → Follow P After last → IsLeast After next → IsNext P next
+next_one : (P After : ℕ → Type 0) (last : ℕ) (next : Option ℕ) → Follow P After last → IsLeastNumber After next → IsNext P next
 next_one P After last None follow first = tt
 next_one P After last (Some least) follow first = (follow.to least first.0).0
 
-pub passed_more : {S : Type 0} (took : S → ℕ → S → Type 0) (P After : ℕ → Type 0) (last : ℕ) (next : Option ℕ) (before now after : S) (old new : ℕ) → Follow P After last → IsLeast After next
+pub passed_more : {S : Type 0} (took : S → ℕ → S → Type 0) (P After : ℕ → Type 0) (last : ℕ) (next : Option ℕ) (before now after : S) (old new : ℕ) → Follow P After last → IsLeastNumber After next
     → took now last after → HasPassed took P (Some last) before now old new → HasPassed took P next before after old (new + 1)
 passed_more took P After last next before now after old new follow first took_it so_far =
     let long : length (so_far.found ++ last ∷ []) ≡ length so_far.found + 1 = length-append so_far.found (last ∷ []) in

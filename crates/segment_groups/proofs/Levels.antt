@@ -1,7 +1,7 @@
 -- Going along a chain of a level.
 use Rattle.std.proofs.Common.{◌≡◌, ℕ, ◌+◌, ◌-◌, ◌<◌, length, Option, Some, None, get_or, sym, subst, ◌∙◌, arith}
 use Rattle.segment_groups.specs.Group.{ShareGroup}
-use Rattle.segment_groups.specs.Level.{IsLeast, IsInLaterLane, IsLevel, IsMember, Labels}
+use Rattle.segment_groups.specs.Level.{IsLeastNumber, IsInLaterLane, IsLevel, IsMember, Labels}
 use Rattle.segment_groups.specs.Partners.{HandsOver, RefusesAt}
 use Rattle.segment_groups.specs.declared.level.Level.{Level}
 use Rattle.segment_groups.proofs.Chains.{Follow, HasPassed, IsNext, positions_left}
@@ -10,11 +10,11 @@ pub same_group : (depth : ℕ) (labels : Labels) (at one other : ℕ) → IsMemb
 same_group depth labels at one other mine yours = record { mine = mine.group.yours; yours = yours.group.yours; same = sym mine.group.same ∙ yours.group.same }
 
 module _ (depth : ℕ) (labels : Labels) (level : Level) (is : IsLevel depth labels level) where
-  pub later_first : (at : ℕ) (found : Option ℕ) → at < length level.next.items → found ≡ get_or level.later.items at found → IsLeast (IsInLaterLane depth labels at) found
-  later_first at found within read = subst (λ (o : Option ℕ). IsLeast (IsInLaterLane depth labels at) o) (sym read) (is.chains.later at found (omega arith) within)
+  pub later_first : (at : ℕ) (found : Option ℕ) → at < length level.next.items → found ≡ get_or level.later.items at found → IsLeastNumber (IsInLaterLane depth labels at) found
+  later_first at found within read = subst (λ (o : Option ℕ). IsLeastNumber (IsInLaterLane depth labels at) o) (sym read) (is.chains.later at found (omega arith) within)
 
-  pub next_first : (at : ℕ) (found : Option ℕ) → at < length level.next.items → found ≡ get_or level.next.items at found → IsLeast (IsMember depth labels at) found
-  next_first at found within read = subst (λ (o : Option ℕ). IsLeast (IsMember depth labels at) o) (sym read) (is.chains.next at found (omega arith) within)
+  pub next_first : (at : ℕ) (found : Option ℕ) → at < length level.next.items → found ≡ get_or level.next.items at found → IsLeastNumber (IsMember depth labels at) found
+  next_first at found within read = subst (λ (o : Option ℕ). IsLeastNumber (IsMember depth labels at) o) (sym read) (is.chains.next at found (omega arith) within)
 
   in_range : (at n : ℕ) → IsMember depth labels at n → n < length level.next.items
   in_range at n member = is.within n (let deep = member.group.yours in omega arith)
@@ -34,11 +34,11 @@ module _ (depth : ℕ) (labels : Labels) (level : Level) (is : IsLevel depth lab
   pub next_within : (at position : ℕ) (cursor : Option ℕ) → cursor ≡ Some position → IsNext (IsInLaterLane depth labels at) cursor → position < length level.next.items
   next_within at position cursor here next = in_range at position (subst (IsNext (IsInLaterLane depth labels at)) here next).member
 
-  pub left_falls : (position : ℕ) (cursor next : Option ℕ) → cursor ≡ Some position → position < length level.next.items → IsLeast (IsMember depth labels position) next
+  pub left_falls : (position : ℕ) (cursor next : Option ℕ) → cursor ≡ Some position → position < length level.next.items → IsLeastNumber (IsMember depth labels position) next
       → positions_left (length level.next.items) next < positions_left (length level.next.items) cursor
   left_falls position cursor next here within first = subst (λ (o : Option ℕ). positions_left (length level.next.items) next < positions_left (length level.next.items) o) (sym here) (falls next first)
     where
-      falls : (next : Option ℕ) → IsLeast (IsMember depth labels position) next → positions_left (length level.next.items) next < length level.next.items - position
+      falls : (next : Option ℕ) → IsLeastNumber (IsMember depth labels position) next → positions_left (length level.next.items) next < length level.next.items - position
       falls None none = omega arith
       falls (Some n) first = let up = first.0.later in let range = in_range position n first.0 in omega arith
 

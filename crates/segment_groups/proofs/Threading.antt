@@ -12,7 +12,7 @@ use Rattle.std.proofs.lemmas.Option.{slice_get_read}
 use Rattle.race_model.specs.Label.{Triple}
 use Rattle.log_segment.specs.declared.segment.Segment.{Segment}
 use Rattle.segment_groups.specs.Group.{group_key, label_at, label_of}
-use Rattle.segment_groups.specs.Level.{AreHeads, HasKey, IsLeast, IsMember, Labels}
+use Rattle.segment_groups.specs.Level.{AreHeads, HasKey, IsLeastNumber, IsMember, Labels}
 
 pub label_read : (segments : List Segment) (at : ℕ) (segment : Segment) → at < length segments → segment ≡ get_or segments at segment → label_at segments at ≡ segment.label
 label_read segments at segment within read = ap label_of (slice_get_read segments (length segments) at segment refl within read)
@@ -21,7 +21,7 @@ pub label_deep : (segments : List Segment) (at depth : ℕ) (segment : Segment) 
     → depth < length triples → depth < length (label_at segments at)
 label_deep segments at depth segment triples within read same deep = subst (λ (l : List Triple). depth < length l) (same ∙ sym (ap (λ (s : Segment). s.label) read) ∙ sym (label_read segments at segment within read)) deep
 
-first_same : (P Q : ℕ → Type 0) (found : Option ℕ) → ((n : ℕ) → P n → Q n) → ((n : ℕ) → Q n → P n) → IsLeast P found → IsLeast Q found
+first_same : (P Q : ℕ → Type 0) (found : Option ℕ) → ((n : ℕ) → P n → Q n) → ((n : ℕ) → Q n → P n) → IsLeastNumber P found → IsLeastNumber Q found
 first_same P Q None to from none = λ n q. none n (from n q)
 first_same P Q (Some least) to from first = (to least first.0, λ n q. first.1 n (from n q))
 
@@ -29,7 +29,7 @@ same_or_later : (m n : ℕ) → m ≤ n → (m ≡ n) ⊎ (m + 1 ≤ n)
 same_or_later m n le = grind arith
 
 -- the position isn't the first of the key's group
-not_here : (depth : ℕ) (labels : Labels) (at : ℕ) (key : List ℕ) (found : Option ℕ) → (HasKey depth labels key at → ⊥) → IsLeast (λ n. (at + 1 ≤ n) × HasKey depth labels key n) found → IsLeast (λ n. (at ≤ n) × HasKey depth labels key n) found
+not_here : (depth : ℕ) (labels : Labels) (at : ℕ) (key : List ℕ) (found : Option ℕ) → (HasKey depth labels key at → ⊥) → IsLeastNumber (λ n. (at + 1 ≤ n) × HasKey depth labels key n) found → IsLeastNumber (λ n. (at ≤ n) × HasKey depth labels key n) found
 not_here depth labels at key found other = first_same (λ n. (at + 1 ≤ n) × HasKey depth labels key n) (λ n. (at ≤ n) × HasKey depth labels key n) found
     (λ n h. ((let low = h.0 in omega arith), h.1))
     (λ n h. elim (same_or_later at n h.0) [
@@ -38,7 +38,7 @@ not_here depth labels at key found other = first_same (λ n. (at + 1 ≤ n) × H
     ])
 
 pub member_first : (depth : ℕ) (labels : Labels) (at : ℕ) (key : List ℕ) (found : Option ℕ) → depth < length (labels at) → key ≡ group_key depth (labels at)
-    → IsLeast (λ n. (at + 1 ≤ n) × HasKey depth labels key n) found → IsLeast (IsMember depth labels at) found
+    → IsLeastNumber (λ n. (at + 1 ≤ n) × HasKey depth labels key n) found → IsLeastNumber (IsMember depth labels at) found
 member_first depth labels at key found deep is = first_same (λ n. (at + 1 ≤ n) × HasKey depth labels key n) (IsMember depth labels at) found
     (λ n h. record { later = (let low = h.0 in omega arith); group = record { mine = deep; yours = h.1.deep; same = sym is ∙ sym h.1.keyed } })
     (λ n member. ((let less = member.later in omega arith), record { deep = member.group.yours; keyed = sym member.group.same ∙ sym is }))
@@ -51,9 +51,9 @@ equal_is Greater e = cc
 pub heads_put : (depth : ℕ) (labels : Labels) (at : ℕ) (old new : BTreeMap (Vec ℕ) ℕ) (key : Vec ℕ) → depth < length (labels at) → key.items ≡ group_key depth (labels at)
     → ((q : Vec ℕ) → get (λ x y. slice_cmp nat_cmp x.items y.items) new q ≡ cond (is_eq (slice_cmp nat_cmp key.items q.items)) (Some at) (get (λ x y. slice_cmp nat_cmp x.items y.items) old q))
     → AreHeads depth labels (at + 1) old → AreHeads depth labels at new
-heads_put depth labels at old new key deep is updated are q = subst (λ (o : Option ℕ). IsLeast (λ n. (at ≤ n) × HasKey depth labels q.items n) o) (sym (updated q)) (go (is_eq (slice_cmp nat_cmp key.items q.items)) refl)
+heads_put depth labels at old new key deep is updated are q = subst (λ (o : Option ℕ). IsLeastNumber (λ n. (at ≤ n) × HasKey depth labels q.items n) o) (sym (updated q)) (go (is_eq (slice_cmp nat_cmp key.items q.items)) refl)
   where
-    go : (b : Bool) → is_eq (slice_cmp nat_cmp key.items q.items) ≡ b → IsLeast (λ n. (at ≤ n) × HasKey depth labels q.items n) (cond b (Some at) (get (λ x y. slice_cmp nat_cmp x.items y.items) old q))
+    go : (b : Bool) → is_eq (slice_cmp nat_cmp key.items q.items) ≡ b → IsLeastNumber (λ n. (at ≤ n) × HasKey depth labels q.items n) (cond b (Some at) (get (λ x y. slice_cmp nat_cmp x.items y.items) old q))
     go true e =
         let same : key.items ≡ q.items = exact_bytes key.items q.items (equal_is (slice_cmp nat_cmp key.items q.items) e) in
         ((omega arith, record { deep = deep; keyed = sym is ∙ same }), λ n h. h.0)

@@ -29,9 +29,9 @@ pub record HasKey (depth : ℕ) (labels : Labels) (key : List ℕ) (position : �
   pub keyed : group_key depth (labels position) ≡ key
 
 -- the least number with the property, or none where there is none
-abbrev pub IsLeast : (ℕ → Type 0) → Option ℕ → Type 0
-IsLeast P None = (n : ℕ) → P n → ⊥
-IsLeast P (Some least) = P least × ((n : ℕ) → P n → least ≤ n)
+abbrev pub IsLeastNumber : (ℕ → Type 0) → Option ℕ → Type 0
+IsLeastNumber P None = (n : ℕ) → P n → ⊥
+IsLeastNumber P (Some least) = P least × ((n : ℕ) → P n → least ≤ n)
 
 -- in a group the lanes ascend with the positions
 abbrev pub LanesAscend : ℕ → Labels → Type 0
@@ -41,12 +41,12 @@ LanesAscend depth labels = (i j : ℕ) → IsMember depth labels i j → lane_at
 pub record IsThreaded (depth : ℕ) (labels : Labels) (from count : ℕ) (nexts laters : List (Option ℕ)) : Type 0 where
   pub next_count : length nexts ≡ count
   pub later_count : length laters ≡ count
-  pub next : (at : ℕ) (d : Option ℕ) → from ≤ at → at < count → IsLeast (IsMember depth labels at) (slice_index_or nexts at d)
-  pub later : (at : ℕ) (d : Option ℕ) → from ≤ at → at < count → IsLeast (IsInLaterLane depth labels at) (slice_index_or laters at d)
+  pub next : (at : ℕ) (d : Option ℕ) → from ≤ at → at < count → IsLeastNumber (IsMember depth labels at) (slice_index_or nexts at d)
+  pub later : (at : ℕ) (d : Option ℕ) → from ≤ at → at < count → IsLeastNumber (IsInLaterLane depth labels at) (slice_index_or laters at d)
 
 -- the first of each group from this position on
 abbrev pub AreHeads : ℕ → Labels → ℕ → BTreeMap (Vec ℕ) ℕ → Type 0
-AreHeads depth labels from heads = (key : Vec ℕ) → IsLeast (λ n. (from ≤ n) × HasKey depth labels key.items n) (get (λ x y. slice_cmp nat_cmp x.items y.items) heads key)
+AreHeads depth labels from heads = (key : Vec ℕ) → IsLeastNumber (λ n. (from ≤ n) × HasKey depth labels key.items n) (get (λ x y. slice_cmp nat_cmp x.items y.items) heads key)
 
 -- a label stands at these positions alone
 abbrev pub HasLabelsBelow : ℕ → Labels → Type 0

@@ -1,6 +1,6 @@
 ghost use Rattle.std.specs.Prelude.{◌≡◌, ◌+◌, ◌<◌, ◌≤◌, ℕ, List, Option, length, OnOk, OnErr, IfOk};
 ghost use Rattle.segment_groups.specs.Group.{label_at};
-ghost use Rattle.segment_groups.specs.Level.{AreHeads, IsLeast, IsInLaterLane, IsLevel, IsMember, IsThreaded, Labels, LanesAscend};
+ghost use Rattle.segment_groups.specs.Level.{AreHeads, IsLeastNumber, IsInLaterLane, IsLevel, IsMember, IsThreaded, Labels, LanesAscend};
 ghost use Rattle.segment_groups.specs.Partners.{HandsOver, RefusesAt};
 
 use crate::key::{key_at, lane_of};
@@ -31,7 +31,7 @@ fn add_head(
 ) -> Result<Option<usize>, Memory>
     requires within { at < length segments.now }
     requires heads { AreHeads depth (label_at segments.now) (at + 1) heads.old }
-    ensures next { IfOk result (IsLeast (IsMember depth (label_at segments.now) at)) }
+    ensures next { IfOk result (IsLeastNumber (IsMember depth (label_at segments.now) at)) }
     ensures heads { OnOk result (AreHeads depth (label_at segments.now) at heads.new) }
 {
     let label = &segments[at].label;
@@ -64,8 +64,8 @@ impl Level {
         requires within { at < length segments.now }
         requires lanes { LanesAscend depth (label_at segments.now) }
         requires chains { IsThreaded depth (label_at segments.now) (at + 1) (length segments.now) self.now.next.items self.now.later.items }
-        requires next { IsLeast (IsMember depth (label_at segments.now) at) next }
-        ensures { IsLeast (IsInLaterLane depth (label_at segments.now) at) result }
+        requires next { IsLeastNumber (IsMember depth (label_at segments.now) at) next }
+        ensures { IsLeastNumber (IsInLaterLane depth (label_at segments.now) at) result }
     {
         let next = next?;
         let lane = lane_of(&segments[at].label, depth);
