@@ -1,8 +1,12 @@
 //! What lanes on threads that stay pass.
+use std::thread::Builder;
 use sw_base::Gate;
 
-/// A gate that each lane's thread tells of its start, too.
+/// A gate that says how the threads of lanes start that stay, and is told when one does.
 pub trait LiveGate: Gate {
+    /// How the thread of this lane is started.
+    fn thread(&self, lane: usize) -> Builder;
+
     /// The thread of this lane starts. It does so once, before the lane's first phase.
     fn started(&self, lane: usize);
 }
@@ -27,5 +31,9 @@ impl<'a, G: Gate> Gate for WithoutStart<'a, G> {
 }
 
 impl<'a, G: Gate> LiveGate for WithoutStart<'a, G> {
+    fn thread(&self, _lane: usize) -> Builder {
+        Builder::new()
+    }
+
     fn started(&self, _lane: usize) {}
 }
