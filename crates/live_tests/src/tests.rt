@@ -63,10 +63,6 @@ impl Gate for Counts {
 }
 
 impl LiveGate for Counts {
-    fn thread(&self, _lane: usize) -> Builder {
-        builder(0, 0)
-    }
-
     fn started(&self, lane: usize) {
         tick(self.started.as_slice(), lane);
     }

@@ -58,14 +58,21 @@ pub(crate) fn call_phases<
     T: Fn(usize, usize, &mut M) + Sync,
     B: Fn(&mut H, &mut Vec<M>),
     A: Fn(&mut H, &mut Vec<M>) -> bool,
->(rt: &R, phases: usize, hand: H, lanes: Vec<M>, task: &T, part: &B, meet: &A) -> (H, Vec<M>, bool)
+>(
+    rt: &R,
+    phases: usize,
+    mut hand: H,
+    mut lanes: Vec<M>,
+    task: &T,
+    part: &B,
+    meet: &A,
+) -> (H, Vec<M>, bool)
     requires some { 1 ≤ length lanes.items }
     requires does { DoesPhases (T.pre task.now) (T.post task.now) (B.pre part.now) (B.post part.now) (A.pre meet.now) (A.post meet.now) (length lanes.items) phases K.stands K.parted K.stopped K.may K.did }
     requires stands { K.stands 0 hand lanes.items }
     ensures count { length result.1.items ≡ length lanes.items }
     ensures ran { Ran K.stands K.stopped phases result.0 result.1.items result.2 }
 {
-    let (mut hand, mut lanes) = (hand, lanes);
     let span = lanes.len();
     for number in 0..phases {
         begin_phase::<K, H, M, B>(span, phases, number, &mut hand, &mut lanes, part);

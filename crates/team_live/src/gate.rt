@@ -5,9 +5,11 @@ use sw_base::Gate;
 /// A gate that says how the threads of lanes start that stay, and is told when one does.
 pub trait LiveGate: Gate {
     /// How the thread of this lane is started.
-    fn thread(&self, lane: usize) -> Builder;
+    fn thread(&self, _lane: usize) -> Builder {
+        Builder::new()
+    }
 
-    /// The thread of this lane starts. It does so once, before the lane's first phase.
+    /// The thread of this lane starts. It does so once in a team of several phases, before the first of them, and not in a team of one.
     fn started(&self, lane: usize);
 }
 
@@ -31,9 +33,5 @@ impl<'a, G: Gate> Gate for WithoutStart<'a, G> {
 }
 
 impl<'a, G: Gate> LiveGate for WithoutStart<'a, G> {
-    fn thread(&self, _lane: usize) -> Builder {
-        Builder::new()
-    }
-
     fn started(&self, _lane: usize) {}
 }
