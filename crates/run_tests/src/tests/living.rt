@@ -197,11 +197,7 @@ const RACING_TASKS: [&str; 5] = [
 ];
 
 // Whether these are the names of the logs' tasks, in order.
-fn are_named(
-    alloc: Global,
-    logs: &[ClosedLog<MemLog>],
-    names: &[&str],
-) -> Result<bool, Memory> {
+fn are_named(alloc: Global, logs: &[ClosedLog<MemLog>], names: &[&str]) -> Result<bool, Memory> {
     for (log, name) in logs.iter().zip(names) {
         if log.path.bare_name(alloc)?.as_str() != *name {
             return Ok(false);
@@ -250,7 +246,8 @@ fn runs_so<R: Threads + Wait + Sync + Copy + Send + 'static>(
     let gate = Counts::new(refused);
     let run = run_with(rt, alloc, FORKING, 96, &gate, (&Path::root(), &[]), true)?;
     let end = run.ok().ok_or("stopped")?;
-    let is_same = end.words.as_slice() == due.words.as_slice() && have_same_bytes(&end.logs, &due.logs);
+    let is_same = end.words.as_slice() == due.words.as_slice()
+        && have_same_bytes(&end.logs, &due.logs);
     Ok(is_same && are(&gate.started, started))
 }
 
@@ -258,7 +255,10 @@ fn runs_so<R: Threads + Wait + Sync + Copy + Send + 'static>(
 fn a_run_is_the_same_where_threads_cant_be_started(rt: HostRuntime) -> Result<(), Fail> {
     let due = finished(&rt, rt.alloc(), FORKING, 96, false)?;
     for (refused, started) in REFUSED {
-        assert!(rt; runs_so(&rt, rt.alloc(), &due, refused, &started)?, "{refused}");
+        assert!(rt;
+            runs_so(&rt, rt.alloc(), &due, refused, &started)?,
+            "{refused}"
+        );
     }
     Ok(())
 }

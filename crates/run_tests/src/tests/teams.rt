@@ -2,7 +2,9 @@
 //! the gate sees.
 ghost use Rattle.region_runner.specs.Answer.{IsBufferSize};
 
-use crate::tests::support::{finished, has_failed, have_same_bytes, is_stopped_so, run_with, stopped};
+use crate::tests::support::{
+    finished, has_failed, have_same_bytes, is_stopped_so, run_with, stopped,
+};
 use lane_runner::Stop;
 use memory_environment::MemLog;
 use std::alloc::Global;

@@ -206,21 +206,21 @@ run_phases-go_through-home-requires-clause-does g n c κs within = record {
     done = λ number index lane after may gave. gave;
   };
   begins =
-        team_begins (team_of_plan (plan_of c.args.ground.now c.args.depth c.args.crew.now c.args.phases.now c.args.end) c.replace-own.result (map (λ (m : LaneValue). m) c.args.lanes.items))
-        (begun (plan_of c.args.ground.now c.args.depth c.args.crew.now c.args.phases.now c.args.end) c.args.hand.now c.replace-own.result c.args.lanes.items c.replace-own.ensures.value c.requires.begin) (length c.args.lanes.items) c.requires.begin.count
-        (
-        λ hand lanes belongs count. (
-          c.requires.lives.1,
-          (c.requires.lives.1, (belongs, (count, (record { owned = c.requires.lanes_sent.owned; leaving = λ k. Quiet-if (k (of_param 0)) unseen unseen (λ x w. tt) (λ x w. tt) }, record { shared = c.requires.gate_shared.shared })))),
-        )) (λ hand after lanes lanes' gave. gave);
+      team_begins (team_of_plan (plan_of c.args.ground.now c.args.depth c.args.crew.now c.args.phases.now c.args.end) c.replace-own.result (map (λ (m : LaneValue). m) c.args.lanes.items))
+      (begun (plan_of c.args.ground.now c.args.depth c.args.crew.now c.args.phases.now c.args.end) c.args.hand.now c.replace-own.result c.args.lanes.items c.replace-own.ensures.value c.requires.begin) (length c.args.lanes.items) c.requires.begin.count
+      (
+      λ hand lanes belongs count. (
+        c.requires.lives.1,
+        (c.requires.lives.1, (belongs, (count, (record { owned = c.requires.lanes_sent.owned; leaving = λ k. Quiet-if (k (of_param 0)) unseen unseen (λ x w. tt) (λ x w. tt) }, record { shared = c.requires.gate_shared.shared })))),
+      )) (λ hand after lanes lanes' gave. gave);
   ends =
-        team_ends (team_of_plan (plan_of c.args.ground.now c.args.depth c.args.crew.now c.args.phases.now c.args.end) c.replace-own.result (map (λ (m : LaneValue). m) c.args.lanes.items))
-        (begun (plan_of c.args.ground.now c.args.depth c.args.crew.now c.args.phases.now c.args.end) c.args.hand.now c.replace-own.result c.args.lanes.items c.replace-own.ensures.value c.requires.begin) (length c.args.lanes.items) c.requires.begin.count
-        (
-        λ hand lanes belongs home. (
-          c.requires.lives.1,
-          (c.requires.lives.1, (belongs, (home, (record { owned = c.requires.lanes_sent.owned; leaving = λ k. Quiet-if (k (of_param 0)) unseen unseen (λ x w. tt) (λ x w. tt) }, record { shared = c.requires.gate_shared.shared })))),
-        )) (λ hand after lanes lanes' goes gave. gave);
+      team_ends (team_of_plan (plan_of c.args.ground.now c.args.depth c.args.crew.now c.args.phases.now c.args.end) c.replace-own.result (map (λ (m : LaneValue). m) c.args.lanes.items))
+      (begun (plan_of c.args.ground.now c.args.depth c.args.crew.now c.args.phases.now c.args.end) c.args.hand.now c.replace-own.result c.args.lanes.items c.replace-own.ensures.value c.requires.begin) (length c.args.lanes.items) c.requires.begin.count
+      (
+      λ hand lanes belongs home. (
+        c.requires.lives.1,
+        (c.requires.lives.1, (belongs, (home, (record { owned = c.requires.lanes_sent.owned; leaving = λ k. Quiet-if (k (of_param 0)) unseen unseen (λ x w. tt) (λ x w. tt) }, record { shared = c.requires.gate_shared.shared })))),
+      )) (λ hand after lanes lanes' goes gave. gave);
 }
 
 pub run_phases-go_through-home-requires-clause-stands : goal.run_phases-go_through-home-requires-clause-stands
