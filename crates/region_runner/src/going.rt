@@ -112,7 +112,7 @@ fn told<
         (of_lanes M.seen J.stands) (of_lanes M.seen J.parted) (of_lanes M.seen J.stopped) (of_lane M.seen J.may) (of_step M.seen J.did) }
     requires stands { of_lanes M.seen J.stands 0 hand lanes.items }
     ensures count { length result.1.items ≡ length lanes.items }
-    ensures ran { Ran (of_lanes M.seen J.stands) (of_lanes M.seen J.stopped) (length plan.3.now) result.0 result.1.items result.2 }
+    ensures ran { Ran (of_lanes M.seen J.stands) (of_lanes M.seen J.stopped) (length plan.entry.3.now) result.0 result.1.items result.2 }
 {
     in_phases::<RegionKey<J>, R, Hand, M, T, S, Z, B, A>(
         rt,
