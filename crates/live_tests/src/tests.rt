@@ -162,16 +162,33 @@ const FOUR: Case = Case {
     done: 3,
 };
 
-const CASES: [Case; 12] = [
+const CASES: [Case; 14] = [
     FOUR,
-    // No phase, one lane, and as many lanes as there may be.
+    // No phase, one and two: where nothing stays, no thread tells of its start.
     Case {
         phases: 0,
         hand: 0,
         lane: 0,
+        threads: 0,
         done: 0,
         ..FOUR
     },
+    Case {
+        phases: 1,
+        hand: 12,
+        lane: 1,
+        threads: 0,
+        done: 1,
+        ..FOUR
+    },
+    Case {
+        phases: 2,
+        hand: 1212,
+        lane: 12,
+        done: 2,
+        ..FOUR
+    },
+    // One lane, two, and as many as there may be.
     Case {
         lanes: 1,
         threads: 0,

@@ -1,7 +1,7 @@
 -- Lanes that are gathered one after another.
-use Rattle.std.proofs.Common.{◌≡◌, refl, ap, sym, ◌∙◌, subst, ℕ, zero, suc, ◌+◌, ◌<◌, ◌≤◌, Bool, true, false, cond, ◌==◌, List, ◌++◌, append_assoc, arith}
+use Rattle.std.proofs.Common.{◌≡◌, refl, ap, sym, ◌∙◌, subst, ℕ, zero, suc, ◌+◌, ◌<◌, ◌≤◌, Bool, true, false, cond, ◌==◌, List, [], ◌∷◌, ◌++◌, length, slice_index_or, append_assoc, arith}
 use Rattle.std.proofs.lemmas.Bool.Decides.{nat_tests}
-use Rattle.std.proofs.lemmas.List.{append-nil}
+use Rattle.std.proofs.lemmas.List.{append-nil, get_or_default, length_push}
 use Rattle.lane_runner.specs.Handed.{Entry}
 use Rattle.region_runner.specs.Team.{handed_by}
 use Rattle.region_runner.specs.declared.gathering.Verdict.{Verdict}
@@ -69,3 +69,19 @@ module _ (n : ℕ) (lanes : ℕ → ClosedValue) (before mid after : List Entry)
   -- the next one, which doesn't
   pub gathered_after : urgency_of w ≤ urgency_of v → HasGathered (n + 1) lanes before after v
   gathered_after most = record { kept = found; grows = more; answered = goes_after n lanes found v w earlier own most }
+
+-- the next lane of a list was taken in
+module _ (lanes yielded : List ClosedValue) (lane d : ClosedValue) (before mid after : List Entry) (v w : Verdict) (at : length yielded < length lanes) (is : lane ≡ slice_index_or lanes (length yielded) lane)
+    (g : HasGathered (length yielded) (λ k. slice_index_or lanes k d) before mid v) (t : TookIn lane mid after w) where
+  took : TookIn (slice_index_or lanes (length yielded) d) mid after w
+  took = subst (λ (m : ClosedValue). TookIn m mid after w) (is ∙ get_or_default lanes (length yielded) lane d at) t
+
+  pub next_first : urgency_of v < urgency_of w → HasGathered (length (yielded ++ lane ∷ [])) (λ k. slice_index_or lanes k d) before after w
+  next_first less =
+      subst (λ (n : ℕ). HasGathered n (λ k. slice_index_or lanes k d) before after w) (sym (length_push yielded lane))
+      (gathered_first (length yielded) (λ k. slice_index_or lanes k d) before mid after v w g took less)
+
+  pub next_after : urgency_of w ≤ urgency_of v → HasGathered (length (yielded ++ lane ∷ [])) (λ k. slice_index_or lanes k d) before after v
+  next_after most =
+      subst (λ (n : ℕ). HasGathered n (λ k. slice_index_or lanes k d) before after v) (sym (length_push yielded lane))
+      (gathered_after (length yielded) (λ k. slice_index_or lanes k d) before mid after v w g took most)

@@ -246,11 +246,11 @@ module _ (program : Program) (lawful : IsLawful program) (dir : List ℕ) (size 
         let whole = whole_folder program tasks (element_address program.arrays) words executed (are_listed 4 work nests) root_ended in
         record { traced = whole; rules = folder_keeps program lawful tasks whole (are_listed 4 work nests) few_tasks; execution = executed; all = all }
 
-    pub has_run : {T : Type 0} (seen : LogView T) (items : List (ClosedLog T)) → logs ≡ entries_of seen items → HasRun program dir size root (map (handed_log seen.dir seen.path seen.text) items) words
-    has_run seen items same = record { tasks = tasks; run = is_run; logs_are = all_whole seen dir size root tasks items logs same ended_entries; few = few_tasks }
-
-    pub has_no_fault : {T : Type 0} (seen : LogView T) (items : List (ClosedLog T)) → logs ≡ entries_of seen items → AreFaultless seen.faults items
-    has_no_fault seen items same = all_faultless seen dir size root tasks items logs same ended_entries
+    pub has_finished : {T : Type 0} (seen : LogView T) (items : List (ClosedLog T)) → logs ≡ entries_of seen items → HasRun program dir size root (map (handed_log seen.dir seen.path seen.text) items) words × AreFaultless seen.faults items
+    has_finished seen items same = (
+      record { tasks = tasks; run = is_run; logs_are = all_whole seen dir size root tasks items logs same ended_entries; few = few_tasks },
+      all_faultless seen dir size root tasks items logs same ended_entries,
+    )
 
 -- ---- no memory was found for the words
 

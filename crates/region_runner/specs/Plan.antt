@@ -1,5 +1,8 @@
 -- What a team is to do, and how it stands before and after each of its phases.
-use Rattle.std.specs.Prelude.{◌≡◌, ℕ, ◌+◌, ◌-◌, ◌<◌, ◌≤◌, ◌==◌, List, [], length, map, take, slice_index_or, if◌then◌else◌, All, Option, Some, None}
+use Rattle.std.specs.Prelude.{◌≡◌, ℕ, ◌+◌, ◌-◌, ◌<◌, ◌≤◌, ◌==◌, Bool, List, [], length, map, take, slice_index_or, if◌then◌else◌, All, Option, Some, None}
+use denote.Ref.{MutBor}
+use Rattle.std.specs.Global.{Vec}
+use Rattle.team_live.specs.Phases.{DoesPhases}
 use Rattle.kernel_model.specs.declared.phase.Item.{Item}
 use Rattle.kernel_model.specs.Parts.{drawn_count}
 use Rattle.kernel_model.specs.Phases.{AreDivided, parts_in}
@@ -97,3 +100,9 @@ module _ {M : Type 0} (seen : M → LaneValue) where
 
   abbrev pub of_lanes : (ℕ → HandValue View → List LaneValue → Type 0) → ℕ → HandValue View → List M → Type 0
   of_lanes stands number hand lanes = stands number hand (map seen lanes)
+
+  -- The closures of a team of this many lanes keep what its plan says of each phase, as it is seen of the lanes.
+  abbrev pub DoesPlan : (ℕ → ℕ → MutBor M → Type 0) → (ℕ → ℕ → MutBor M → Unit {0} → MutBor M → Type 0) → (MutBor (HandValue View) → MutBor (Vec M) → Type 0) → (MutBor (HandValue View) → MutBor (Vec M) → Unit {0} → MutBor (HandValue View) → MutBor (Vec M) → Type 0)
+      → (MutBor (HandValue View) → MutBor (Vec M) → Type 0) → (MutBor (HandValue View) → MutBor (Vec M) → Bool → MutBor (HandValue View) → MutBor (Vec M) → Type 0) → ℕ → TeamValue → Type 0
+  DoesPlan task_accepts task_gives part_accepts part_gives meet_accepts meet_gives span t =
+      DoesPhases task_accepts task_gives part_accepts part_gives meet_accepts meet_gives span (length t.plan.phases) (of_lanes (StandsAt t)) (of_lanes (IsParted t)) (of_lanes (StopsAt t)) (of_lane (MayDo t.plan)) (of_step (Did t.plan))

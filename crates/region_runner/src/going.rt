@@ -1,7 +1,8 @@
 //! A team goes through its phases. How its lanes stand is told by what is seen of them.
 ghost use Rattle.std.specs.Prelude.{◌≡◌, ◌≤◌, map, length};
-ghost use Rattle.team_live.specs.Phases.{Begins, Ends, Ran, RunsTasks};
-ghost use Rattle.region_runner.specs.Plan.{Did, IsParted, MayDo, StandsAt, StopsAt, of_lane, of_lanes, of_step, plan_of, team_of_plan};
+ghost use Rattle.std.specs.Thread.{IsSync};
+ghost use Rattle.team_live.specs.Phases.{DoesPhases, Ran};
+ghost use Rattle.region_runner.specs.Plan.{DoesPlan, StandsAt, of_lane, of_lanes, of_step, plan_of, team_of_plan};
 ghost use Rattle.region_runner.specs.Stands.{TeamRan};
 
 use crate::crew::Crew;
@@ -80,7 +81,8 @@ impl<M: Viewed, J: TeamFacts> TeamKey<Hand, M> for RegionKey<J> {
     ghost stopped = { of_lanes M.seen J.stopped };
 }
 
-// A team with these facts goes through its phases. They are picked by what the team is about.
+// A team with these facts goes through its phases. They are picked by its plan: what all regions have in common, how deep its lanes can
+// fork, its crew, its phases, and the line of its end.
 fn told<
     J: TeamFacts + Send + Sync + 'static,
     R: Threads + Wait + Sync + Copy + Send + 'static,
@@ -88,42 +90,40 @@ fn told<
     G: LiveGate,
     T: Fn(usize, usize, &mut M) + Sync,
     S: Fn(usize) + Sync,
+    Z: Fn(usize) -> Builder,
     B: Fn(&mut Hand, &mut Vec<M>),
     A: Fn(&mut Hand, &mut Vec<M>) -> bool,
 >(
     rt: &R,
     alloc: Global,
-    depth: u32,
-    ground: &Ground<'_, G>,
-    crew: &Crew<'_>,
-    phases: &[Phase<'_>],
-    end: u32,
+    plan: (&Ground<'_, G>, u32, &Crew<'_>, &[Phase<'_>], u32),
     hand: Hand,
     lanes: Vec<M>,
     task: &T,
     started: &S,
+    builder: &Z,
     part: &B,
     meet: &A,
 ) -> (Hand, Vec<M>, bool)
     requires span { (1 ≤ length lanes.items) × (length lanes.items ≤ 64) }
     requires started { S.IsAlwaysCallable started.now }
-    requires tasks { RunsTasks (T.pre task.now) (T.post task.now) (of_lane M.seen J.may) (of_step M.seen J.did) }
-    requires begins { Begins (B.pre part.now) (B.post part.now) (length lanes.items) (length phases.now) (of_lanes M.seen J.stands) (of_lanes M.seen J.parted) (of_lane M.seen J.may) }
-    requires ends { Ends (A.pre meet.now) (A.post meet.now) (length lanes.items) (length phases.now) (of_lanes M.seen J.stands) (of_lanes M.seen J.parted) (of_lanes M.seen J.stopped) (of_step M.seen J.did) }
+    requires builder { Z.IsAlwaysCallable builder.now }
+    requires does { DoesPhases (T.pre task.now) (T.post task.now) (B.pre part.now) (B.post part.now) (A.pre meet.now) (A.post meet.now) (length lanes.items) (length plan.3.now)
+        (of_lanes M.seen J.stands) (of_lanes M.seen J.parted) (of_lanes M.seen J.stopped) (of_lane M.seen J.may) (of_step M.seen J.did) }
     requires stands { of_lanes M.seen J.stands 0 hand lanes.items }
     ensures count { length result.1.items ≡ length lanes.items }
-    ensures ran { Ran (of_lanes M.seen J.stands) (of_lanes M.seen J.stopped) (length phases.now) result.0 result.1.items result.2 }
+    ensures ran { Ran (of_lanes M.seen J.stands) (of_lanes M.seen J.stopped) (length plan.entry.3.now) result.0 result.1.items result.2 }
 {
-    in_phases::<RegionKey<J>, R, Hand, M, T, S, _, B, A>(
+    in_phases::<RegionKey<J>, R, Hand, M, T, S, Z, B, A>(
         rt,
         alloc,
-        ground.stays(),
-        phases.len(),
+        plan.0.stays(),
+        plan.3.len(),
         hand,
         lanes,
         task,
         started,
-        &|_lane: usize| Builder::new(),
+        builder,
         part,
         meet,
     )
@@ -135,7 +135,6 @@ pub(crate) fn go_through<
     M: Viewed + Drop + Send + 'static,
     G: LiveGate,
     T: Fn(usize, usize, &mut M) + Sync,
-    S: Fn(usize) + Sync,
     B: Fn(&mut Hand, &mut Vec<M>),
     A: Fn(&mut Hand, &mut Vec<M>) -> bool,
 >(
@@ -149,28 +148,28 @@ pub(crate) fn go_through<
     hand: Hand,
     lanes: Vec<M>,
     task: &T,
-    started: &S,
     part: &B,
     meet: &A,
 ) -> (Hand, Vec<M>)
+    requires gate_shared { IsSync G.row }
     requires span { (1 ≤ length lanes.items) × (length lanes.items ≤ 64) }
-    requires started { S.IsAlwaysCallable started.now }
-    requires tasks { RunsTasks (T.pre task.now) (T.post task.now) (of_lane M.seen (MayDo (plan_of ground.now depth crew.now phases.now end))) (of_step M.seen (Did (plan_of ground.now depth crew.now phases.now end))) }
-    requires begins { Begins (B.pre part.now) (B.post part.now) (length lanes.items) (length phases.now)
-        (of_lanes M.seen (StandsAt (team_of_plan (plan_of ground.now depth crew.now phases.now end) hand (map M.seen lanes.items))))
-        (of_lanes M.seen (IsParted (team_of_plan (plan_of ground.now depth crew.now phases.now end) hand (map M.seen lanes.items))))
-        (of_lane M.seen (MayDo (plan_of ground.now depth crew.now phases.now end))) }
-    requires ends { Ends (A.pre meet.now) (A.post meet.now) (length lanes.items) (length phases.now)
-        (of_lanes M.seen (StandsAt (team_of_plan (plan_of ground.now depth crew.now phases.now end) hand (map M.seen lanes.items))))
-        (of_lanes M.seen (IsParted (team_of_plan (plan_of ground.now depth crew.now phases.now end) hand (map M.seen lanes.items))))
-        (of_lanes M.seen (StopsAt (team_of_plan (plan_of ground.now depth crew.now phases.now end) hand (map M.seen lanes.items))))
-        (of_step M.seen (Did (plan_of ground.now depth crew.now phases.now end))) }
+    requires does { DoesPlan M.seen (T.pre task.now) (T.post task.now) (B.pre part.now) (B.post part.now) (A.pre meet.now) (A.post meet.now) (length lanes.items)
+        (team_of_plan (plan_of ground.now depth crew.now phases.now end) hand (map M.seen lanes.items)) }
     requires stands { StandsAt (team_of_plan (plan_of ground.now depth crew.now phases.now end) hand (map M.seen lanes.items)) 0 hand (map M.seen lanes.items) }
     ensures count { length result.1.items ≡ length lanes.items }
     ensures ran { TeamRan crew.now phases.now end hand result.0 (map M.seen lanes.items) (map M.seen result.1.items) }
 {
-    let (home, after, _) = told::<Brand, R, M, G, T, S, B, A>(
-        rt, alloc, depth, ground, crew, phases, end, hand, lanes, task, started, part, meet,
+    let (home, after, _) = told::<Brand, R, M, G, T, _, _, B, A>(
+        rt,
+        alloc,
+        (ground, depth, crew, phases, end),
+        hand,
+        lanes,
+        task,
+        &|lane: usize| ground.started(lane),
+        &|lane: usize| ground.thread(lane),
+        part,
+        meet,
     );
     (home, after)
 }

@@ -7,6 +7,7 @@ use crate::crew::Crew;
 use kernel_syntax::Array;
 use shared_words::{Chunks, Words};
 use std::marker::Model;
+use std::thread::Builder;
 use team_live::LiveGate;
 
 // The kernel's arrays, the shared words, the gate that lanes enter, the size of a buffer, and whether a team's threads stay from its first
@@ -75,6 +76,11 @@ impl<'a, G: LiveGate> Ground<'a, G> {
     // Whether a team's threads stay.
     pub(crate) fn stays(&self) -> bool {
         self.stays
+    }
+
+    // How the thread of a lane is started that stays.
+    pub(crate) fn thread(&self, lane: usize) -> Builder {
+        self.gate.thread(lane)
     }
 
     // The thread of a lane starts, and stays.

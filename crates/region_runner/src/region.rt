@@ -189,7 +189,6 @@ fn run_phases<R: Threads + Wait + Sync + Copy + Send + 'static, L: Log, G: LiveG
                 rt, alloc, depth, ground, crew, phases, end, number, index, lane,
             )
         },
-        &|lane: usize| { ground.started(lane) },
         &|hand: &mut Hand, lanes: &mut Vec<Lane<L>>|
             requires lives { [] ⊑ L.row.lives }
             requires belongs { Belongs hand.old ground.now.words.table }

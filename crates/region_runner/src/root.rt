@@ -1,13 +1,13 @@
 //! The root: the task that executes `main`. It is no lane of a region.
-ghost use Rattle.std.specs.Prelude.{◌≡◌, ◌+◌, ℕ, [], map, length, is_some, pos, replicate, IfOk};
+ghost use Rattle.std.specs.Prelude.{◌≡◌, ◌+◌, ℕ, map, length, is_some, pos, replicate, IfOk};
 ghost use Rattle.std.specs.Thread.{IsSend, IsSync};
-ghost use Rattle.sw_base.specs.Environment.{WhereTold, empty_text};
 ghost use Rattle.kernel_syntax.specs.Program.{program_of};
 ghost use Rattle.kernel_model.specs.Lawful.{IsLawful};
 ghost use Rattle.kernel_model.specs.Parts.{drawn_count};
 ghost use Rattle.kernel_model.specs.Phases.{part_of};
 ghost use Rattle.lane_runner.specs.Forking.{IsReady};
 ghost use Rattle.lane_runner.specs.Handed.{entries_of};
+ghost use Rattle.region_runner.specs.Answer.{IsRootLog};
 ghost use Rattle.region_runner.specs.Ground.{IsOurLane, IsOurPhase, crew_of};
 ghost use Rattle.region_runner.specs.LastPhase.{IsLast};
 ghost use Rattle.region_runner.specs.Root.{IsSettled, RanRoot, RootClosed};
@@ -81,9 +81,7 @@ pub(crate) fn run_root<R: Threads + Wait + Sync + Copy + Send + 'static, L: Log,
     requires arrays { ground.now.arrays ≡ kernel.now.arrays }
     requires locks { ground.now.words.locks ≡ length kernel.now.mutexes + 1 }
     requires ready { IsReady hand.old ground.now.words }
-    requires root { L.path log ≡ [] }
-    requires empty { WhereTold (L.text log) (λ t. t ≡ empty_text) }
-    requires no_faults { L.faults log ≡ 0 }
+    requires root { IsRootLog (record { dir = L.dir; path = L.path; text = L.text; faults = L.faults }) log }
     ensures ran { RanRoot (program_of kernel.now) (record { dir = L.dir log; size = ground.now.size; tells = is_some (L.text log) }) hand.old hand.new result }
 {
     let (Ok(phases), Ok((chunks, draws)), Ok(locals)) = (

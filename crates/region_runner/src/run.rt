@@ -1,15 +1,12 @@
 //! A whole run.
-ghost use Rattle.std.specs.Prelude.{◌≡◌, ℕ, [], map, IfOk, IfErr};
-ghost use Rattle.sw_base.specs.Environment.{WhereTold, empty_text};
-ghost use Rattle.sw_base.specs.HandedLog.{handed_log};
+ghost use Rattle.std.specs.Prelude.{◌≡◌, ℕ};
 ghost use Rattle.kernel_syntax.specs.Layout.{IsWithinLimits, elements};
 ghost use Rattle.kernel_syntax.specs.Program.{program_of};
 ghost use Rattle.kernel_model.specs.Lawful.{IsLawful};
 ghost use Rattle.log_format.specs.Fitting.{IsWidth};
 ghost use Rattle.history_model.specs.Sound.{AreFitted};
-ghost use Rattle.lane_runner.specs.Handed.{entries_of};
 ghost use Rattle.execution_model.specs.Elements.{element_width, layout_of};
-ghost use Rattle.region_runner.specs.Answer.{AreFaultless, HasRun, HasStoppedRun, IsBufferSize};
+ghost use Rattle.region_runner.specs.Answer.{AnswersRun, IsBufferSize, IsRootLog};
 
 use crate::ground::Ground;
 use crate::root::{run_root, settle};
@@ -58,8 +55,12 @@ fn values(arrays: &[Array], words: Vec<u64>) -> Vec<u64>
     values
 }
 
-// Runs a kernel, with teams whose threads stay, or don't.
-fn run_so<R: Threads + Wait + Sync + Copy + Send + 'static, L: Log, G: LiveGate>(
+/// Runs a kernel: its root, and the lanes of each region on threads of their own, phase by phase. The threads of a region stay through its
+/// phases, where it has several, or start in each.
+///
+/// The buffer of each log has `size` bytes, from 24 to 4,194,304. The gate sees each lane of a region start each of its phases, and where
+/// threads stay also the start of each thread, once a region: one for each lane but the first.
+pub fn run_in_teams<R: Threads + Wait + Sync + Copy + Send + 'static, L: Log, G: LiveGate>(
     rt: &R,
     alloc: Global,
     kernel: &Kernel,
@@ -69,14 +70,9 @@ fn run_so<R: Threads + Wait + Sync + Copy + Send + 'static, L: Log, G: LiveGate>
     stays: bool,
 ) -> Result<Finished<L>, Stopped<L>>
     requires lawful { IsLawful (program_of kernel.now) }
-    requires root { L.path root ≡ [] }
-    requires empty { WhereTold (L.text root) (λ t. t ≡ empty_text) }
-    requires no_faults { L.faults root ≡ 0 }
+    requires root { IsRootLog (record { dir = L.dir; path = L.path; text = L.text; faults = L.faults }) root }
     requires size { IsBufferSize size }
-    ensures finished { IfOk result (λ f. HasRun (program_of kernel.now) (L.dir root) size (L.text root) (map (handed_log L.dir L.path L.text) f.logs.items) f.words.items) }
-    ensures no_fault { IfOk result (λ f. AreFaultless L.faults f.logs.items) }
-    ensures stopped { IfErr result (λ s. HasStoppedRun (program_of kernel.now) (L.dir root) size (L.text root)
-        (entries_of (record { dir = L.dir; path = L.path; text = L.text; faults = L.faults }) s.logs.items) s.path s.why s.words.items) }
+    ensures answers { AnswersRun (record { dir = L.dir; path = L.path; text = L.text; faults = L.faults }) (program_of kernel.now) root size result }
 {
     let arrays = kernel.arrays.as_slice();
     let locks = kernel.mutexes.as_slice().len() + 1;
@@ -105,9 +101,7 @@ fn run_so<R: Threads + Wait + Sync + Copy + Send + 'static, L: Log, G: LiveGate>
     }
 }
 
-/// Runs a kernel: its root, and the lanes of each region on threads of their own, phase by phase.
-///
-/// The buffer of each log has `size` bytes, from 24 to 4,194,304. The gate sees each lane of a region start each of its phases.
+/// Runs a kernel, with threads that start in each phase of a region.
 pub fn run_kernel<R: Threads + Wait + Sync + Copy + Send + 'static, L: Log, G: Gate>(
     rt: &R,
     alloc: Global,
@@ -117,34 +111,15 @@ pub fn run_kernel<R: Threads + Wait + Sync + Copy + Send + 'static, L: Log, G: G
     gate: &G,
 ) -> Result<Finished<L>, Stopped<L>>
     requires lawful { IsLawful (program_of kernel.now) }
-    requires root { L.path root ≡ [] }
-    requires empty { WhereTold (L.text root) (λ t. t ≡ empty_text) }
-    requires no_faults { L.faults root ≡ 0 }
+    requires root { IsRootLog (record { dir = L.dir; path = L.path; text = L.text; faults = L.faults }) root }
     requires size { IsBufferSize size }
-
-    // A run that ended: the logs are those of the kernel's tasks, each with its whole trace under what it read, cut into pieces that fill
-    // the buffer, and all that they did has one legal history, which ends in the words. No call on a log failed.
-    ensures finished { IfOk result (λ f. HasRun (program_of kernel.now) (L.dir root) size (L.text root) (map (handed_log L.dir L.path L.text) f.logs.items) f.words.items) }
-    ensures no_fault { IfOk result (λ f. AreFaultless L.faults f.logs.items) }
-
-    // A run that stopped: the logs are those of the beginning of such a run, and tell why it stopped.
-    ensures stopped { IfErr result (λ s. HasStoppedRun (program_of kernel.now) (L.dir root) size (L.text root)
-        (entries_of (record { dir = L.dir; path = L.path; text = L.text; faults = L.faults }) s.logs.items) s.path s.why s.words.items) }
+    ensures answers { AnswersRun (record { dir = L.dir; path = L.path; text = L.text; faults = L.faults }) (program_of kernel.now) root size result }
 {
-    run_so(
-        rt,
-        alloc,
-        kernel,
-        root,
-        size,
-        &WithoutStart::new(gate),
-        false,
-    )
+    let gate = WithoutStart::new(gate);
+    run_in_teams(rt, alloc, kernel, root, size, &gate, false)
 }
 
-/// Runs a kernel, as `run_kernel` does, but the threads of a region start once and stay through its phases.
-///
-/// The gate sees the thread of each lane but the first start, too, once a region.
+/// Runs a kernel, with threads that start once in a region of several phases, and stay through them.
 pub fn run_live<R: Threads + Wait + Sync + Copy + Send + 'static, L: Log, G: LiveGate>(
     rt: &R,
     alloc: Global,
@@ -154,14 +129,9 @@ pub fn run_live<R: Threads + Wait + Sync + Copy + Send + 'static, L: Log, G: Liv
     gate: &G,
 ) -> Result<Finished<L>, Stopped<L>>
     requires lawful { IsLawful (program_of kernel.now) }
-    requires root { L.path root ≡ [] }
-    requires empty { WhereTold (L.text root) (λ t. t ≡ empty_text) }
-    requires no_faults { L.faults root ≡ 0 }
+    requires root { IsRootLog (record { dir = L.dir; path = L.path; text = L.text; faults = L.faults }) root }
     requires size { IsBufferSize size }
-    ensures finished { IfOk result (λ f. HasRun (program_of kernel.now) (L.dir root) size (L.text root) (map (handed_log L.dir L.path L.text) f.logs.items) f.words.items) }
-    ensures no_fault { IfOk result (λ f. AreFaultless L.faults f.logs.items) }
-    ensures stopped { IfErr result (λ s. HasStoppedRun (program_of kernel.now) (L.dir root) size (L.text root)
-        (entries_of (record { dir = L.dir; path = L.path; text = L.text; faults = L.faults }) s.logs.items) s.path s.why s.words.items) }
+    ensures answers { AnswersRun (record { dir = L.dir; path = L.path; text = L.text; faults = L.faults }) (program_of kernel.now) root size result }
 {
-    run_so(rt, alloc, kernel, root, size, gate, true)
+    run_in_teams(rt, alloc, kernel, root, size, gate, true)
 }

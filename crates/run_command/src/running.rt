@@ -1,6 +1,6 @@
 //! `run`: a kernel is run, and its logs and their index are written.
-ghost use Rattle.std.specs.Prelude.{◌≡◌, ◌⊎◌, ◌≤◌, ℕ, List, [], Some, map, is_some, string_bytes, IfOk, IfErr, Ok, Err, MatchResult};
-ghost use Rattle.sw_base.specs.Environment.{Rose, Text, WhereTold, empty_text, next_count};
+ghost use Rattle.std.specs.Prelude.{◌≡◌, ◌⊎◌, ◌≤◌, ℕ, List, Some, map, is_some, string_bytes, Ok, Err, MatchResult};
+ghost use Rattle.sw_base.specs.Environment.{Rose, Text, WhereTold, next_count};
 ghost use Rattle.sw_base.specs.declared.trouble.Trouble.TheVariants as trouble;
 ghost use Rattle.race_model.specs.IndexFault.{AreRows};
 ghost use Rattle.command_answer.specs.declared.status.TheConstants.{DONE};
@@ -20,12 +20,12 @@ use crate::outcome::Outcome;
 use crate::sealing::{discard_all, records_in, seal_all, store};
 use kernel_syntax::Kernel;
 use lane_runner::Stop;
-use region_runner::{Finished, Stopped, run_kernel, run_live};
+use region_runner::{Finished, Stopped, run_in_teams};
 use std::alloc::Global;
 use std::marker::Send;
 use std::sync::Wait;
 use std::thread::Threads;
-use sw_base::{Folder, Gate, Log, Trouble};
+use sw_base::{Folder, Gate, Trouble};
 use team_live::WithoutStart;
 
 /// What comes out where a call that writes failed.
@@ -114,32 +114,6 @@ fn stop<F: Folder>(alloc: Global, stopped: Stopped<F::Log>, folder: &mut F) -> O
     }
 }
 
-/// Runs a kernel, with teams whose threads stay, or don't.
-fn run_in_teams<R: Threads + Wait + Sync + Copy + Send + 'static, L: Log, G: Gate>(
-    rt: &R,
-    alloc: Global,
-    kernel: &Kernel,
-    root: L,
-    size: usize,
-    gate: &G,
-    stays: bool,
-) -> Result<Finished<L>, Stopped<L>>
-    requires lawful { IsLawful (program_of kernel.now) }
-    requires root { L.path root ≡ [] }
-    requires empty { WhereTold (L.text root) (λ t. t ≡ empty_text) }
-    requires no_faults { L.faults root ≡ 0 }
-    requires size { IsBufferSize size }
-    ensures finished { IfOk result (λ f. HasRun (program_of kernel.now) (L.dir root) size (L.text root) (all_logged L.dir L.path L.text f.logs.items) f.words.items) }
-    ensures no_fault { IfOk result (λ f. AreFaultless L.faults f.logs.items) }
-    ensures stopped { IfErr result (λ s. HasStoppedRun (program_of kernel.now) (L.dir root) size (L.text root)
-        (entries_of (record { dir = L.dir; path = L.path; text = L.text; faults = L.faults }) s.logs.items) s.path s.why s.words.items) }
-{
-    if stays {
-        return run_live(rt, alloc, kernel, root, size, &WithoutStart::new(gate));
-    }
-    run_kernel(rt, alloc, kernel, root, size, gate)
-}
-
 /// Runs a kernel in a folder that has no index.
 fn execute<R: Threads + Wait + Sync + Copy + Send + 'static, F: Folder, G: Gate>(
     rt: &R,
@@ -165,7 +139,8 @@ fn execute<R: Threads + Wait + Sync + Copy + Send + 'static, F: Folder, G: Gate>
         Ok(root) => root,
         Err(trouble) => return unwritten(trouble),
     };
-    match run_in_teams(rt, alloc, &kernel, root, size, gate, stays) {
+    let gate = WithoutStart::new(gate);
+    match run_in_teams(rt, alloc, &kernel, root, size, &gate, stays) {
         Ok(finished) => finish(alloc, kernel, dir, finished, folder),
         Err(stopped) => stop(alloc, stopped, folder),
     }

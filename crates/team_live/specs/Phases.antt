@@ -49,6 +49,14 @@ module _ {H M : Type 0} where
     pub ends : (number : ℕ) (goes : Bool) (hand after : MutBor H) (before : List M) (lanes lanes' : MutBor (Vec M)) → number < phases → length before ≡ span → parted number hand.now before → EachDid did number before lanes.now.items
         → gives hand lanes goes after lanes' → After stands stopped number after.now lanes'.now.items goes
 
+  -- What the closures of a team of this many lanes keep in each of its phases: the lanes are parted, do their parts, and are joined.
+  pub record DoesPhases (task_accepts : ℕ → ℕ → MutBor M → Type 0) (task_gives : ℕ → ℕ → MutBor M → Unit {0} → MutBor M → Type 0) (part_accepts : MutBor H → MutBor (Vec M) → Type 0)
+      (part_gives : MutBor H → MutBor (Vec M) → Unit {0} → MutBor H → MutBor (Vec M) → Type 0) (meet_accepts : MutBor H → MutBor (Vec M) → Type 0) (meet_gives : MutBor H → MutBor (Vec M) → Bool → MutBor H → MutBor (Vec M) → Type 0)
+      (span phases : ℕ) (stands parted stopped : ℕ → H → List M → Type 0) (may : ℕ → ℕ → M → Type 0) (did : ℕ → ℕ → M → M → Type 0) : Type 0 where
+    pub tasks : RunsTasks task_accepts task_gives may did
+    pub begins : Begins part_accepts part_gives span phases stands parted may
+    pub ends : Ends meet_accepts meet_gives span phases stands parted stopped did
+
   -- all lanes did their parts of the phase of this number, for which they were parted so
   pub record AreHome (parted : ℕ → H → List M → Type 0) (did : ℕ → ℕ → M → M → Type 0) (span number : ℕ) (hand : H) (lanes : List M) : Type 0 where
     pub before : List M

@@ -1,6 +1,6 @@
 //! A team whose threads don't stay: its lanes do each phase in a parallel call of its own.
 ghost use Rattle.std.specs.Prelude.{◌≡◌, ◌≤◌, length};
-ghost use Rattle.team_live.specs.Phases.{Begins, EachDid, EachMay, Ends, Ran, RunsTasks};
+ghost use Rattle.team_live.specs.Phases.{DoesPhases, EachDid, EachMay, Ran, RunsTasks};
 
 use crate::key::{LaneKey, TeamKey};
 use crate::phase::{begin_phase, end_phase};
@@ -49,7 +49,7 @@ fn call_lanes<
     );
 }
 
-/// The team does all its phases, or stops after one. Whether it did all.
+/// The team does all its phases, or stops after one. Gives the hand, the lanes in their order, and whether it did all.
 pub(crate) fn call_phases<
     K: LaneKey<M> + TeamKey<H, M> + Send + Sync,
     R: Threads + Sync,
@@ -58,22 +58,28 @@ pub(crate) fn call_phases<
     T: Fn(usize, usize, &mut M) + Sync,
     B: Fn(&mut H, &mut Vec<M>),
     A: Fn(&mut H, &mut Vec<M>) -> bool,
->(rt: &R, phases: usize, hand: &mut H, lanes: &mut Vec<M>, task: &T, part: &B, meet: &A) -> bool
-    requires some { 1 ≤ length lanes.old.items }
-    requires tasks { RunsTasks (T.pre task.now) (T.post task.now) K.may K.did }
-    requires begins { Begins (B.pre part.now) (B.post part.now) (length lanes.old.items) phases K.stands K.parted K.may }
-    requires ends { Ends (A.pre meet.now) (A.post meet.now) (length lanes.old.items) phases K.stands K.parted K.stopped K.did }
-    requires stands { K.stands 0 hand.old lanes.old.items }
-    ensures count { length lanes.new.items ≡ length lanes.old.items }
-    ensures ran { Ran K.stands K.stopped phases hand.new lanes.new.items result }
+>(
+    rt: &R,
+    phases: usize,
+    mut hand: H,
+    mut lanes: Vec<M>,
+    task: &T,
+    part: &B,
+    meet: &A,
+) -> (H, Vec<M>, bool)
+    requires some { 1 ≤ length lanes.items }
+    requires does { DoesPhases (T.pre task.now) (T.post task.now) (B.pre part.now) (B.post part.now) (A.pre meet.now) (A.post meet.now) (length lanes.items) phases K.stands K.parted K.stopped K.may K.did }
+    requires stands { K.stands 0 hand lanes.items }
+    ensures count { length result.1.items ≡ length lanes.items }
+    ensures ran { Ran K.stands K.stopped phases result.0 result.1.items result.2 }
 {
     let span = lanes.len();
     for number in 0..phases {
-        begin_phase::<K, H, M, B>(span, phases, number, hand, lanes, part);
-        call_lanes::<K, R, M, T>(rt, number, lanes, task);
-        if !end_phase::<K, H, M, A>(span, phases, number, hand, lanes, meet) {
-            return false;
+        begin_phase::<K, H, M, B>(span, phases, number, &mut hand, &mut lanes, part);
+        call_lanes::<K, R, M, T>(rt, number, &mut lanes, task);
+        if !end_phase::<K, H, M, A>(span, phases, number, &mut hand, &mut lanes, meet) {
+            return (hand, lanes, false);
         }
     }
-    true
+    (hand, lanes, true)
 }

@@ -1,9 +1,15 @@
 //! What lanes on threads that stay pass.
+use std::thread::Builder;
 use sw_base::Gate;
 
-/// A gate that each lane's thread tells of its start, too.
+/// A gate that says how the threads of lanes start that stay, and is told when one does.
 pub trait LiveGate: Gate {
-    /// The thread of this lane starts. It does so once, before the lane's first phase.
+    /// How the thread of this lane is started.
+    fn thread(&self, _lane: usize) -> Builder {
+        Builder::new()
+    }
+
+    /// The thread of this lane starts. It does so once in a team of several phases, before the first of them, and not in a team of one.
     fn started(&self, lane: usize);
 }
 

@@ -9,6 +9,8 @@
 //! lane whose thread can't be started. No lane's next phase begins before all lanes are home: `meet` sees them all, in their order, as does
 //! `part` before the phase. Where no memory is found to hand lanes over, nothing was done, and all is given back.
 //!
+//! `in_phases` is the same call for threads that stay and for a parallel call in each phase, and takes the second for a team of one phase.
+//!
 //! That the threads stay is no clause's fact, and tests show it.
 #![tactic(auto)]
 

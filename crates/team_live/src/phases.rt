@@ -1,6 +1,6 @@
 //! A team from its first phase to its last, whether its threads stay or not.
 ghost use Rattle.std.specs.Prelude.{◌≡◌, ◌≤◌, length};
-ghost use Rattle.team_live.specs.Phases.{Begins, Ends, Ran, RunsTasks};
+ghost use Rattle.team_live.specs.Phases.{DoesPhases, Ran};
 
 use crate::calling::call_phases;
 use crate::key::{LaneKey, TeamKey};
@@ -10,33 +10,9 @@ use std::marker::{Send, Sync};
 use std::sync::Wait;
 use std::thread::{Builder, Threads};
 
-// The team does its phases in parallel calls.
-fn in_calls<
-    K: LaneKey<M> + TeamKey<H, M> + Send + Sync,
-    R: Threads + Sync,
-    H,
-    M: Send,
-    T: Fn(usize, usize, &mut M) + Sync,
-    B: Fn(&mut H, &mut Vec<M>),
-    A: Fn(&mut H, &mut Vec<M>) -> bool,
->(rt: &R, phases: usize, hand: H, lanes: Vec<M>, task: &T, part: &B, meet: &A) -> (H, Vec<M>, bool)
-    requires some { 1 ≤ length lanes.items }
-    requires tasks { RunsTasks (T.pre task.now) (T.post task.now) K.may K.did }
-    requires begins { Begins (B.pre part.now) (B.post part.now) (length lanes.items) phases K.stands K.parted K.may }
-    requires ends { Ends (A.pre meet.now) (A.post meet.now) (length lanes.items) phases K.stands K.parted K.stopped K.did }
-    requires stands { K.stands 0 hand lanes.items }
-    ensures count { length result.1.items ≡ length lanes.items }
-    ensures ran { Ran K.stands K.stopped phases result.0 result.1.items result.2 }
-{
-    let (mut hand, mut lanes) = (hand, lanes);
-    let whole = call_phases::<K, R, H, M, T, B, A>(
-        rt, phases, &mut hand, &mut lanes, task, part, meet,
-    );
-    (hand, lanes, whole)
-}
-
 /// A team does its phases as `with_staying` says, where its threads are to stay and memory is found for it; else each phase is a parallel
-/// call of its own, and no lane is told as started. Gives the hand, the lanes in their order, and whether the team did all phases.
+/// call of its own, and no lane is told as started. So it is with a team of one phase, too, where nothing stays. Gives the hand, the lanes
+/// in their order, and whether the team did all phases.
 pub fn in_phases<
     K: LaneKey<M> + TeamKey<H, M> + Send + Sync + 'static,
     R: Threads + Wait + Copy + Send + Sync + 'static,
@@ -63,22 +39,20 @@ pub fn in_phases<
     requires span { (1 ≤ length lanes.items) × (length lanes.items ≤ 64) }
     requires started { S.IsAlwaysCallable started.now }
     requires builder { Z.IsAlwaysCallable builder.now }
-    requires tasks { RunsTasks (T.pre task.now) (T.post task.now) K.may K.did }
-    requires begins { Begins (B.pre part.now) (B.post part.now) (length lanes.items) phases K.stands K.parted K.may }
-    requires ends { Ends (A.pre meet.now) (A.post meet.now) (length lanes.items) phases K.stands K.parted K.stopped K.did }
+    requires does { DoesPhases (T.pre task.now) (T.post task.now) (B.pre part.now) (B.post part.now) (A.pre meet.now) (A.post meet.now) (length lanes.items) phases K.stands K.parted K.stopped K.may K.did }
     requires stands { K.stands 0 hand lanes.items }
     ensures count { length result.1.items ≡ length lanes.items }
     ensures ran { Ran K.stands K.stopped phases result.0 result.1.items result.2 }
 {
-    if !stays {
-        return in_calls::<K, R, H, M, T, B, A>(rt, phases, hand, lanes, task, part, meet);
+    if !stays || phases < 2 {
+        return call_phases::<K, R, H, M, T, B, A>(rt, phases, hand, lanes, task, part, meet);
     }
     match with_staying::<K, R, H, M, T, S, Z, B, A>(
         rt, alloc, phases, hand, lanes, task, started, builder, part, meet,
     ) {
         Ok(ran) => ran,
         Err((hand, lanes)) => {
-            in_calls::<K, R, H, M, T, B, A>(rt, phases, hand, lanes, task, part, meet)
+            call_phases::<K, R, H, M, T, B, A>(rt, phases, hand, lanes, task, part, meet)
         }
     }
 }

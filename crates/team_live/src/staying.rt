@@ -2,8 +2,8 @@
 ghost use Rattle.std.specs.Prelude.{◌≡◌, ◌<◌, ◌≤◌, [], All, None, length, vec_len, IfOk, IfErr};
 ghost use contract.BorrowLft.{◌⊑◌};
 ghost use Rattle.std.specs.Thread.{IsSend, IsSync};
-ghost use Rattle.team_live.specs.Phases.{Begins, Ends, Ran, RunsTasks};
-ghost use Rattle.team_live.specs.Turns.{AreIdle};
+ghost use Rattle.team_live.specs.Phases.{DoesPhases, Ran, RunsTasks};
+ghost use Rattle.team_live.specs.Turns.{IsIdleDesk};
 
 use crate::first::stay;
 use crate::key::{LaneKey, TeamKey};
@@ -42,14 +42,11 @@ fn in_a_scope<
     part: &B,
     meet: &A,
 ) -> (H, Vec<M>, bool)
-    requires table { desk.table ≡ parcels.now }
-    requires idle { AreIdle (length lanes.items) desk.turns }
+    requires desk { IsIdleDesk parcels.now (length lanes.items) desk }
     requires places { All (λ place. (place.table ≡ parcels.now) × (place.took ≡ None)) places.items }
     requires started { S.IsAlwaysCallable started.now }
     requires builder { Z.IsAlwaysCallable builder.now }
-    requires tasks { RunsTasks (T.pre task.now) (T.post task.now) K.may K.did }
-    requires begins { Begins (B.pre part.now) (B.post part.now) (length lanes.items) phases K.stands K.parted K.may }
-    requires ends { Ends (A.pre meet.now) (A.post meet.now) (length lanes.items) phases K.stands K.parted K.stopped K.did }
+    requires does { DoesPhases (T.pre task.now) (T.post task.now) (B.pre part.now) (B.post part.now) (A.pre meet.now) (A.post meet.now) (length lanes.items) phases K.stands K.parted K.stopped K.may K.did }
     requires stands { K.stands 0 hand lanes.items }
     ensures count { length result.1.items ≡ length lanes.items }
     ensures ran { Ran K.stands K.stopped phases result.0 result.1.items result.2 }
@@ -60,14 +57,11 @@ fn in_a_scope<
         |scope| -> (H, Vec<M>, bool)
             requires sent { IsSend K.row × IsSend M.row × IsSend R.row × IsSync T.row × IsSync S.row }
             requires lives { ([] ⊑ K.row.lives) × ([] ⊑ M.row.lives) }
-            requires table { desk.table ≡ parcels.now }
-            requires idle { AreIdle (length lanes.items) desk.turns }
+            requires desk { IsIdleDesk parcels.now (length lanes.items) desk }
             requires places { All (λ place. (place.table ≡ parcels.now) × (place.took ≡ None)) places.items }
             requires started { S.IsAlwaysCallable started.now }
             requires builder { Z.IsAlwaysCallable builder.now }
-            requires tasks { RunsTasks (T.pre task.now) (T.post task.now) K.may K.did }
-            requires begins { Begins (B.pre part.now) (B.post part.now) (length lanes.items) phases K.stands K.parted K.may }
-            requires ends { Ends (A.pre meet.now) (A.post meet.now) (length lanes.items) phases K.stands K.parted K.stopped K.did }
+            requires does { DoesPhases (T.pre task.now) (T.post task.now) (B.pre part.now) (B.post part.now) (A.pre meet.now) (A.post meet.now) (length lanes.items) phases K.stands K.parted K.stopped K.may K.did }
             requires stands { K.stands 0 hand lanes.items }
             ensures count { length result.1.items ≡ length lanes.items }
             ensures ran { Ran K.stands K.stopped phases result.0 result.1.items result.2 }
@@ -130,9 +124,7 @@ pub fn with_staying<
     requires span { (1 ≤ length lanes.items) × (length lanes.items ≤ 64) }
     requires started { S.IsAlwaysCallable started.now }
     requires builder { Z.IsAlwaysCallable builder.now }
-    requires tasks { RunsTasks (T.pre task.now) (T.post task.now) K.may K.did }
-    requires begins { Begins (B.pre part.now) (B.post part.now) (length lanes.items) phases K.stands K.parted K.may }
-    requires ends { Ends (A.pre meet.now) (A.post meet.now) (length lanes.items) phases K.stands K.parted K.stopped K.did }
+    requires does { DoesPhases (T.pre task.now) (T.post task.now) (B.pre part.now) (B.post part.now) (A.pre meet.now) (A.post meet.now) (length lanes.items) phases K.stands K.parted K.stopped K.may K.did }
     requires stands { K.stands 0 hand lanes.items }
     ensures count { IfOk result (λ r. length r.1.items ≡ length lanes.items) }
     ensures ran { IfOk result (λ r. Ran K.stands K.stopped phases r.0 r.1.items r.2) }

@@ -2,8 +2,7 @@
 use Rattle.std.proofs.Common.{◌≡◌, ℕ, ◌≤◌, ◌<◌, ◌^◌, List, [], ◌∷◌, length, String, string_bytes, get_or, sym, subst, ◌∙◌, arith}
 use Rattle.std.specs.declared.alloc.Global.{Global}
 use Rattle.std.proofs.lemmas.Fmt.{decimal_injective}
-use Rattle.std.specs.Prelude.{Bool, true, false, codes}
-use Rattle.top_call.specs.Arguments.{certify, check, confirm, explain, gen, replay, run, show, upgrade, run_name, texts, IsNumber, IsUsage, SaysCertify, SaysCheck, SaysConfirm, SaysExplain, SaysGen, SaysReplay, SaysRun, SaysShow, SaysUpgrade, UsageDue}
+use Rattle.top_call.specs.Arguments.{check, explain, replay, run, show, texts, IsNumber, SaysCertify, SaysCheck, SaysConfirm, SaysExplain, SaysGen, SaysReplay, SaysRun, SaysShow, SaysUpgrade, UsageDue}
 
 pub texts-three : (arguments : List (String Global)) (a b c : String Global) → 3 ≤ length arguments → length arguments < 4 → a ≡ get_or arguments 0 a → b ≡ get_or arguments 1 b → c ≡ get_or arguments 2 c
     → texts arguments ≡ string_bytes a ∷ string_bytes b ∷ string_bytes c ∷ []
@@ -136,21 +135,6 @@ same_confirm P arguments dir other_dir a i b j other_a other_i other_b other_j s
     (subst (λ (n : ℕ). P dir a n other_b other_j) same_i
     (subst (λ (n : ℕ). P dir a i n other_j) same_b
     (subst (λ (n : ℕ). P dir a i b n) same_j holds))))
-
--- three words after a name that is none of these ask for nothing
-pub three_usage : (name a b c : List ℕ) → (name ≡ codes "run" → ⊥) → (name ≡ codes "live" → ⊥) → (name ≡ codes "explain" → ⊥) → IsUsage (name ∷ a ∷ b ∷ c ∷ [])
-three_usage name a b c no_run no_live no_explain (check dir workers) says = let e = says.are in cc
-three_usage name a b c no_run no_live no_explain (run kernel dir size) says = by says.stays says.are where
-  by : (stays : Bool) → name ∷ a ∷ b ∷ c ∷ [] ≡ run_name stays ∷ kernel ∷ dir ∷ says.number ∷ [] → ⊥
-  by true e = let same : name ≡ codes "live" = cc e in no_live same
-  by false e = let same : name ≡ codes "run" = cc e in no_run same
-three_usage name a b c no_run no_live no_explain (replay kernel dir) says = let e = says.are in cc
-three_usage name a b c no_run no_live no_explain (show dir) says = let e = says.are in cc
-three_usage name a b c no_run no_live no_explain (gen rounds workers) says = let e = says.are in cc
-three_usage name a b c no_run no_live no_explain (upgrade dir new) says = let e = says.are in cc
-three_usage name a b c no_run no_live no_explain (explain dir low high) says = let e = says.are in let same : name ≡ codes "explain" = cc e in no_explain same
-three_usage name a b c no_run no_live no_explain (confirm dir first_row first second_row second) says = let e = says.are in cc
-three_usage name a b c no_run no_live no_explain (certify kernel) says = let e = says.are in cc
 
 -- they have one answer, where they ask for nothing
 pub usage_once : (s r : ℕ) (t u : List ℕ) → UsageDue s t → UsageDue r u → t ≡ u

@@ -43,8 +43,9 @@ fn threads(rt: HostRuntime, alloc: Global) -> Result<u32, Trouble> {
     Err(Trouble::Failed)
 }
 
-// A kernel that ends. Its lanes fill blocks that are handed to writers.
-const FILLING: &str = "array a i64 64 main { parallel 64 { loop k in 0 .. 1600 { a[tid] = k } } }";
+// A kernel that ends. Its lanes fill blocks that are handed to writers, and go through two phases.
+const FILLING: &str =
+    "array a i64 64 main { parallel 64 { loop k in 0 .. 1600 { a[tid] = k } barrier } }";
 
 // One of which some lanes stop while the others go on.
 const DIVIDING: &str =

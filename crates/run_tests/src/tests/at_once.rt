@@ -6,12 +6,28 @@ use std::alloc::Global;
 use std::marker::Send;
 use std::process::Abort;
 use std::sync::Wait;
-use std::sync::atomic::{AtomicBool, Ordering};
+use std::sync::atomic::{AtomicBool, AtomicU64, Ordering};
 use std::test::Fail;
 use std::thread;
 use std::thread::Threads;
 use sw_base::{Gate, Path};
 use team_live::WithoutStart;
+
+/// A meeting of so many lanes in the first of their phases.
+#[derive(Drop)]
+struct FirstMeeting {
+    gate: MeetingGate,
+    lanes: u64,
+    entered: AtomicU64,
+}
+
+impl Gate for FirstMeeting {
+    fn enter(&self, number: usize) {
+        if self.entered.fetch_add(1, Ordering::SeqCst) < self.lanes {
+            self.gate.enter(number);
+        }
+    }
+}
 
 // Whether the lanes of a team of this size meet, and each does its work.
 fn meet<R: Abort + Threads + Wait + Sync + Copy + Send + 'static>(
@@ -21,14 +37,18 @@ fn meet<R: Abort + Threads + Wait + Sync + Copy + Send + 'static>(
     stays: bool,
 ) -> Result<bool, Fail> {
     let text = format!(in alloc;
-        "array a i64 {lanes} main {{ parallel {lanes} {{ a[tid] = 1 }} }}"
+        "array a i64 {lanes} main {{ parallel {lanes} {{ a[tid] = 1 barrier }} }}"
     )?;
-    let gate = MeetingGate::new(lanes);
+    let gate = FirstMeeting {
+        gate: MeetingGate::new(lanes),
+        lanes: lanes as u64,
+        entered: AtomicU64::new(0),
+    };
     let told = WithoutStart::new(&gate);
     let run = run_with(rt, alloc, &text, 4096, &told, (&Path::root(), &[]), stays)?;
     let end = run.ok().ok_or("stopped")?;
     let words = end.words.as_slice();
-    Ok(gate.have_met() && words.len() == lanes && words.iter().all(|word| *word == 1))
+    Ok(gate.gate.have_met() && words.len() == lanes && words.iter().all(|word| *word == 1))
 }
 
 #[test]
@@ -77,6 +97,7 @@ impl Gate for HoldingGate {
 const DRAWING: &str = "array a i64 4096 main { parallel 2 {
 for i in 0 .. 4096 dynamic nowait { a[i] = tid }
 loop k in 0 .. tid { parallel 3 { } }
+barrier
 } }";
 
 // Whether lane 1 draws all chunks while lane 0 is held, and forks its lanes meanwhile.

@@ -263,6 +263,43 @@ log t-0.1.swl records 11
 11 end line 9
 ";
 
+// A region of two phases in the first of two phases.
+const FORKED: &str = "array a i64 4
+main { parallel 2 {
+if tid == 0 { parallel 2 {
+a[tid] = 1
+barrier
+a[3 - tid] = a[1 - tid] } }
+barrier
+if tid == 1 { a[1] = 2 }
+} }
+";
+
+const FORKED_LOGS: &str = "log t.swl records 2
+1 region 2 line 2
+2 end line 9
+log t-0.0.swl records 3
+1 region 2 line 3
+2 barrier line 7
+3 end line 9
+log t-0.0-0.0.swl records 5
+1 write 8 site 0 line 4 addr 4096 value 1
+2 barrier line 5
+3 read 8 site 2 line 6 addr 4104 value 1
+4 write 8 site 1 line 6 addr 4120 value 1
+5 end line 6
+log t-0.0-0.1.swl records 5
+1 write 8 site 0 line 4 addr 4104 value 1
+2 barrier line 5
+3 read 8 site 2 line 6 addr 4096 value 1
+4 write 8 site 1 line 6 addr 4112 value 1
+5 end line 6
+log t-0.1.swl records 3
+1 barrier line 7
+2 write 8 site 3 line 8 addr 4104 value 2
+3 end line 9
+";
+
 // The value of an element that is stored as a number of 64 bits.
 const MINUS_2: u64 = u64::MAX - 1;
 
@@ -283,6 +320,7 @@ const ENDS: &[Ending<'static>] = &[
     (DRAWN, &[1, 2, 2], DRAWN_LOGS),
     (LOCKED, &[1, 2], LOCKED_LOGS),
     (TURNED, &[2, 2, 1, 1, 2, 2], TURNED_LOGS),
+    (FORKED, &[1, 2, 1, 1], FORKED_LOGS),
 ];
 
 // Whether the kernel ends with these words and logs.

@@ -123,6 +123,15 @@ pub(crate) fn are_listed(
     are_printed(alloc, &mut folder, &rows, text)
 }
 
+/// Whether these logs have the same bytes, one by one.
+pub(crate) fn have_same_bytes(one: &[ClosedLog<MemLog>], other: &[ClosedLog<MemLog>]) -> bool {
+    one.len() == other.len()
+        && one
+            .iter()
+            .zip(other)
+            .all(|(one, other)| one.log.bytes() == other.log.bytes())
+}
+
 /// Whether a run stopped in the task of this name, for this reason, with these words.
 pub(crate) fn is_stopped_so(
     alloc: Global,

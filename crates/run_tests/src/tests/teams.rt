@@ -2,7 +2,9 @@
 //! the gate sees.
 ghost use Rattle.region_runner.specs.Answer.{IsBufferSize};
 
-use crate::tests::support::{finished, has_failed, is_stopped_so, run_with, stopped};
+use crate::tests::support::{
+    finished, has_failed, have_same_bytes, is_stopped_so, run_with, stopped,
+};
 use lane_runner::Stop;
 use memory_environment::MemLog;
 use std::alloc::Global;
@@ -98,14 +100,6 @@ fn are_sized(
         }
     }
     Ok(logs.len() == expected.len())
-}
-
-fn have_same_bytes(one: &[ClosedLog<MemLog>], other: &[ClosedLog<MemLog>]) -> bool {
-    one.len() == other.len()
-        && one
-            .iter()
-            .zip(other)
-            .all(|(one, other)| one.log.bytes() == other.log.bytes())
 }
 
 fn has_pieces(log: Option<&ClosedLog<MemLog>>, lengths: &[usize]) -> bool {

@@ -1,13 +1,13 @@
 use Rattle.std.proofs.Common.{rules, refl, ap, sym, ◌∙◌, subst, ℕ, length, map, slice_index_or, List, arith}
-use Rattle.std.proofs.lemmas.List.{map-id, get_or_default, length_push}
+use Rattle.std.proofs.lemmas.List.{map-id}
 use Rattle.std.proofs.lemmas.Iterator.Adapters.{YieldsList-from_vec}
 use Rattle.std.proofs.lemmas.Iterator.Consumers.{YieldsList-turn, YieldsList-end}
 use Rattle.shared_words.specs.declared.share.Share.{Share}
 use Rattle.lane_runner.specs.Handed.{entries_of}
 use Rattle.shared_words.specs.Handles.{Belongs, HandValue, with_view}
 use Rattle.region_runner.specs.Drawing.{regained_all}
-use Rattle.region_runner.specs.Gathering.{ClosedValue, Gathered, TookIn, answer_for, draws_view}
-use Rattle.region_runner.proofs.GatheredLanes.{HasGathered, none_gathered, all_gathered, gathered_first, gathered_after}
+use Rattle.region_runner.specs.Gathering.{ClosedValue, Gathered, answer_for, draws_view}
+use Rattle.region_runner.proofs.GatheredLanes.{none_gathered, all_gathered, next_first, next_after}
 use Rattle.region_runner.proofs.JoinedDraws.{regained_first, regained_more, regained_none}
 use Rattle.region_runner.proofs.gathering.gather.Goals as goal
 
@@ -39,30 +39,24 @@ take_in-verdict-requires-clause-split g c κs within =
 pub loop-lane-preserved-then-urgency : goal.loop-lane-preserved-then-urgency
 loop-lane-preserved-then-urgency g c =
     let entries = entries_of (record { dir = g.L.Log.dir; path = g.L.Log.path; text = g.L.Log.text; faults = g.L.Log.faults }) in
-    let yielded = c.loop-lane.yielded in
-    let turn = YieldsList-turn (YieldsList-from_vec {s = c.into_iter-lane-iterator.result} c.args.lanes.items (search rules) (search rules)) yielded c.loop-lane.lane-iterator c.loop-lane.yielded_by c.next.result c.next.new.self c.in-Some.lane c.in-Some.is c.next.ensures.steps in
+    let turn = YieldsList-turn (YieldsList-from_vec {s = c.into_iter-lane-iterator.result} c.args.lanes.items (search rules) (search rules)) c.loop-lane.yielded c.loop-lane.lane-iterator c.loop-lane.yielded_by c.next.result c.next.new.self c.in-Some.lane c.in-Some.is c.next.ensures.steps in
     record {
       gathered = λ d.
-          let took = subst (λ (m : ClosedValue). TookIn m (entries c.loop-lane.done.items) (entries c.take_in-verdict.new.done.items) c.take_in-verdict.result) (turn.1 ∙ get_or_default c.args.lanes.items (length yielded) c.in-Some.lane d turn.0) c.take_in-verdict.ensures.taken in
-          subst (λ (n : ℕ). HasGathered n (λ k. slice_index_or c.args.lanes.items k d) (entries c.args.done.now.items) (entries c.take_in-verdict.new.done.items) c.take_in-verdict.result) (sym (length_push yielded c.in-Some.lane))
-          (gathered_first (length yielded) (λ k. slice_index_or c.args.lanes.items k d) (entries c.args.done.now.items) (entries c.loop-lane.done.items) (entries c.take_in-verdict.new.done.items) c.loop-lane.worst c.take_in-verdict.result (c.loop-lane.invariant.gathered d) took
-          (let v = c.urgency.ensures in let w = c.urgency-in-loop-lane.ensures in let test = c.if-urgency.true in omega arith));
-      share = regained_more yielded c.in-Some.lane c.args.share.now c.loop-lane.share c.take_in-verdict.new.share c.loop-lane.invariant.share c.take_in-verdict.ensures.share;
+          next_first c.args.lanes.items c.loop-lane.yielded c.in-Some.lane d (entries c.args.done.now.items) (entries c.loop-lane.done.items) (entries c.take_in-verdict.new.done.items) c.loop-lane.worst c.take_in-verdict.result turn.0 turn.1
+          (c.loop-lane.invariant.gathered d) c.take_in-verdict.ensures.taken (let v = c.urgency.ensures in let w = c.urgency-in-loop-lane.ensures in let test = c.if-urgency.true in omega arith);
+      share = regained_more c.loop-lane.yielded c.in-Some.lane c.args.share.now c.loop-lane.share c.take_in-verdict.new.share c.loop-lane.invariant.share c.take_in-verdict.ensures.share;
       all = λ some alone. c.take_in-verdict.ensures.all alone;
     }
 
 pub loop-lane-preserved : goal.loop-lane-preserved
 loop-lane-preserved g c =
     let entries = entries_of (record { dir = g.L.Log.dir; path = g.L.Log.path; text = g.L.Log.text; faults = g.L.Log.faults }) in
-    let yielded = c.loop-lane.yielded in
-    let turn = YieldsList-turn (YieldsList-from_vec {s = c.into_iter-lane-iterator.result} c.args.lanes.items (search rules) (search rules)) yielded c.loop-lane.lane-iterator c.loop-lane.yielded_by c.next.result c.next.new.self c.in-Some.lane c.in-Some.is c.next.ensures.steps in
+    let turn = YieldsList-turn (YieldsList-from_vec {s = c.into_iter-lane-iterator.result} c.args.lanes.items (search rules) (search rules)) c.loop-lane.yielded c.loop-lane.lane-iterator c.loop-lane.yielded_by c.next.result c.next.new.self c.in-Some.lane c.in-Some.is c.next.ensures.steps in
     record {
       gathered = λ d.
-          let took = subst (λ (m : ClosedValue). TookIn m (entries c.loop-lane.done.items) (entries c.take_in-verdict.new.done.items) c.take_in-verdict.result) (turn.1 ∙ get_or_default c.args.lanes.items (length yielded) c.in-Some.lane d turn.0) c.take_in-verdict.ensures.taken in
-          subst (λ (n : ℕ). HasGathered n (λ k. slice_index_or c.args.lanes.items k d) (entries c.args.done.now.items) (entries c.take_in-verdict.new.done.items) c.loop-lane.worst) (sym (length_push yielded c.in-Some.lane))
-          (gathered_after (length yielded) (λ k. slice_index_or c.args.lanes.items k d) (entries c.args.done.now.items) (entries c.loop-lane.done.items) (entries c.take_in-verdict.new.done.items) c.loop-lane.worst c.take_in-verdict.result (c.loop-lane.invariant.gathered d) took
-          (let v = c.urgency.ensures in let w = c.urgency-in-loop-lane.ensures in let test = c.if-urgency.false in omega arith));
-      share = regained_more yielded c.in-Some.lane c.args.share.now c.loop-lane.share c.take_in-verdict.new.share c.loop-lane.invariant.share c.take_in-verdict.ensures.share;
+          next_after c.args.lanes.items c.loop-lane.yielded c.in-Some.lane d (entries c.args.done.now.items) (entries c.loop-lane.done.items) (entries c.take_in-verdict.new.done.items) c.loop-lane.worst c.take_in-verdict.result turn.0 turn.1
+          (c.loop-lane.invariant.gathered d) c.take_in-verdict.ensures.taken (let v = c.urgency.ensures in let w = c.urgency-in-loop-lane.ensures in let test = c.if-urgency.false in omega arith);
+      share = regained_more c.loop-lane.yielded c.in-Some.lane c.args.share.now c.loop-lane.share c.take_in-verdict.new.share c.loop-lane.invariant.share c.take_in-verdict.ensures.share;
       all = λ some alone. c.take_in-verdict.ensures.all alone;
     }
 

@@ -7,3 +7,9 @@ pub returns-clause-ran : goal.returns-clause-ran
 returns-clause-ran g c =
     ran_so g.M.Viewed.seen (team_of_plan (plan_of c.args.ground.now c.args.depth c.args.crew.now c.args.phases.now c.args.end) c.args.hand (map g.M.Viewed.seen c.args.lanes.items)) c.told-home.result.0 c.told-home.result.1.items c.told-home.result.2
     c.told-home.ensures.ran
+
+pub told-home-requires-clause-started : goal.told-home-requires-clause-started
+told-home-requires-clause-started g c κs within = record { at = λ lane. record { shared = c.requires.gate_shared.shared } }
+
+pub told-home-requires-clause-builder : goal.told-home-requires-clause-builder
+told-home-requires-clause-builder g c κs within = record { at = λ lane. record { shared = c.requires.gate_shared.shared } }

@@ -154,44 +154,43 @@ run_phases-go_through-home-requires-sync-T g n c κs within =
     let gate : IsSync g.row.G = record { shared = c.requires.gate_shared.shared } in
     search (sendable, heap.crosses, ground_row.the_sync, crew_row.the_sync, phase_sync) depth 40
 
-pub run_phases-go_through-home-requires-clause-started : goal.run_phases-go_through-home-requires-clause-started
-run_phases-go_through-home-requires-clause-started g n c κs within = record { at = λ lane. record { shared = c.requires.gate_shared.shared } }
-
-pub run_phases-go_through-home-requires-clause-tasks : goal.run_phases-go_through-home-requires-clause-tasks
-run_phases-go_through-home-requires-clause-tasks g n c κs within = record {
-  accepted = λ number index lane may. (
-    (let d = c.decreases in omega (arith, d)),
-    (
-      λ a m. m,
+pub run_phases-go_through-home-requires-clause-does : goal.run_phases-go_through-home-requires-clause-does
+run_phases-go_through-home-requires-clause-does g n c κs within = record {
+  tasks = record {
+    accepted = λ number index lane may. (
+      (let d = c.decreases in omega (arith, d)),
       (
         λ a m. m,
         (
           λ a m. m,
           (
-            c.requires.lives.1,
+            λ a m. m,
             (
               c.requires.lives.1,
               (
-                c.requires.lives.0,
+                c.requires.lives.1,
                 (
-                  c.requires.lives.1,
+                  c.requires.lives.0,
                   (
+                    c.requires.lives.1,
                     (
-                      record { shared = c.requires.shared.shared },
-                      record { owned = c.requires.sent.owned; leaving = c.requires.sent.leaving },
-                      record { owned = c.requires.lanes_sent.owned; leaving = c.requires.lanes_sent.leaving },
-                    ),
-                    (
-                      (c.requires.lives.0, c.requires.lives.1),
                       (
-                        c.requires.begin.plan,
+                        record { shared = c.requires.shared.shared },
+                        record { owned = c.requires.sent.owned; leaving = c.requires.sent.leaving },
+                        record { owned = c.requires.lanes_sent.owned; leaving = c.requires.lanes_sent.leaving },
+                      ),
+                      (
+                        (c.requires.lives.0, c.requires.lives.1),
                         (
-                          may,
+                          c.requires.begin.plan,
                           (
-                            record { owned = c.requires.sent.owned; leaving = c.requires.sent.leaving },
-                            record { owned = c.requires.lanes_sent.owned; leaving = c.requires.lanes_sent.leaving },
-                            record { shared = c.requires.shared.shared },
-                            record { shared = c.requires.gate_shared.shared },
+                            may,
+                            (
+                              record { owned = c.requires.sent.owned; leaving = c.requires.sent.leaving },
+                              record { owned = c.requires.lanes_sent.owned; leaving = c.requires.lanes_sent.leaving },
+                              record { shared = c.requires.shared.shared },
+                              record { shared = c.requires.gate_shared.shared },
+                            ),
                           ),
                         ),
                       ),
@@ -203,30 +202,26 @@ run_phases-go_through-home-requires-clause-tasks g n c κs within = record {
           ),
         ),
       ),
-    ),
-  );
-  done = λ number index lane after may gave. gave;
+    );
+    done = λ number index lane after may gave. gave;
+  };
+  begins =
+      team_begins (team_of_plan (plan_of c.args.ground.now c.args.depth c.args.crew.now c.args.phases.now c.args.end) c.replace-own.result (map (λ (m : LaneValue). m) c.args.lanes.items))
+      (begun (plan_of c.args.ground.now c.args.depth c.args.crew.now c.args.phases.now c.args.end) c.args.hand.now c.replace-own.result c.args.lanes.items c.replace-own.ensures.value c.requires.begin) (length c.args.lanes.items) c.requires.begin.count
+      (
+      λ hand lanes belongs count. (
+        c.requires.lives.1,
+        (c.requires.lives.1, (belongs, (count, (record { owned = c.requires.lanes_sent.owned; leaving = λ k. Quiet-if (k (of_param 0)) unseen unseen (λ x w. tt) (λ x w. tt) }, record { shared = c.requires.gate_shared.shared })))),
+      )) (λ hand after lanes lanes' gave. gave);
+  ends =
+      team_ends (team_of_plan (plan_of c.args.ground.now c.args.depth c.args.crew.now c.args.phases.now c.args.end) c.replace-own.result (map (λ (m : LaneValue). m) c.args.lanes.items))
+      (begun (plan_of c.args.ground.now c.args.depth c.args.crew.now c.args.phases.now c.args.end) c.args.hand.now c.replace-own.result c.args.lanes.items c.replace-own.ensures.value c.requires.begin) (length c.args.lanes.items) c.requires.begin.count
+      (
+      λ hand lanes belongs home. (
+        c.requires.lives.1,
+        (c.requires.lives.1, (belongs, (home, (record { owned = c.requires.lanes_sent.owned; leaving = λ k. Quiet-if (k (of_param 0)) unseen unseen (λ x w. tt) (λ x w. tt) }, record { shared = c.requires.gate_shared.shared })))),
+      )) (λ hand after lanes lanes' goes gave. gave);
 }
-
-pub run_phases-go_through-home-requires-clause-begins : goal.run_phases-go_through-home-requires-clause-begins
-run_phases-go_through-home-requires-clause-begins g n c κs within =
-    team_begins (team_of_plan (plan_of c.args.ground.now c.args.depth c.args.crew.now c.args.phases.now c.args.end) c.replace-own.result (map (λ (m : LaneValue). m) c.args.lanes.items))
-    (begun (plan_of c.args.ground.now c.args.depth c.args.crew.now c.args.phases.now c.args.end) c.args.hand.now c.replace-own.result c.args.lanes.items c.replace-own.ensures.value c.requires.begin) (length c.args.lanes.items) c.requires.begin.count
-    (
-    λ hand lanes belongs count. (
-      c.requires.lives.1,
-      (c.requires.lives.1, (belongs, (count, (record { owned = c.requires.lanes_sent.owned; leaving = λ k. Quiet-if (k (of_param 0)) unseen unseen (λ x w. tt) (λ x w. tt) }, record { shared = c.requires.gate_shared.shared })))),
-    )) (λ hand after lanes lanes' gave. gave)
-
-pub run_phases-go_through-home-requires-clause-ends : goal.run_phases-go_through-home-requires-clause-ends
-run_phases-go_through-home-requires-clause-ends g n c κs within =
-    team_ends (team_of_plan (plan_of c.args.ground.now c.args.depth c.args.crew.now c.args.phases.now c.args.end) c.replace-own.result (map (λ (m : LaneValue). m) c.args.lanes.items))
-    (begun (plan_of c.args.ground.now c.args.depth c.args.crew.now c.args.phases.now c.args.end) c.args.hand.now c.replace-own.result c.args.lanes.items c.replace-own.ensures.value c.requires.begin) (length c.args.lanes.items) c.requires.begin.count
-    (
-    λ hand lanes belongs home. (
-      c.requires.lives.1,
-      (c.requires.lives.1, (belongs, (home, (record { owned = c.requires.lanes_sent.owned; leaving = λ k. Quiet-if (k (of_param 0)) unseen unseen (λ x w. tt) (λ x w. tt) }, record { shared = c.requires.gate_shared.shared })))),
-    )) (λ hand after lanes lanes' goes gave. gave)
 
 pub run_phases-go_through-home-requires-clause-stands : goal.run_phases-go_through-home-requires-clause-stands
 run_phases-go_through-home-requires-clause-stands g n c κs within =

@@ -8,7 +8,7 @@ pub collect-back-requires-clause-out : goal.collect-back-requires-clause-out
 collect-back-requires-clause-out g t c κs within =
     let at : c.len-index.result < length c.args.lanes.now.items = search rules in (
       c.new-parcel.result,
-      still_out c.args.desk.now.turns c.send.new.desk.turns c.run_lanes.new.desk.turns c.len-index.result c.new-parcel.result (ap (λ d. d.turns) c.send.ensures) (c.requires.idle c.len-index.result at) c.run_lanes.ensures.home,
+      still_out c.args.desk.now.turns c.send.new.desk.turns c.run_lanes.new.desk.turns c.len-index.result c.new-parcel.result (ap (λ d. d.turns) c.send.ensures) (c.requires.desk.idle c.len-index.result at) c.run_lanes.ensures.desk.home,
     )
 
 pub returns-then-index-threads-clause-did : goal.returns-then-index-threads-clause-did
@@ -16,7 +16,7 @@ returns-then-index-threads-clause-did g t c =
     let at : c.len-index.result < length c.args.lanes.now.items = search rules in
     let index : c.len-index.result ≡ length c.pop.new.self.items = search rules in
     let parts : c.args.lanes.now.items ≡ c.pop.new.self.items ++ c.in-Some.lane ∷ [] = search rules in
-    let out = still_out c.args.desk.now.turns c.send.new.desk.turns c.run_lanes.new.desk.turns c.len-index.result c.new-parcel.result (ap (λ d. d.turns) c.send.ensures) (c.requires.idle c.len-index.result at) c.run_lanes.ensures.home in
+    let out = still_out c.args.desk.now.turns c.send.new.desk.turns c.run_lanes.new.desk.turns c.len-index.result c.new-parcel.result (ap (λ d. d.turns) c.send.ensures) (c.requires.desk.idle c.len-index.result at) c.run_lanes.ensures.desk.home in
     let own = back_did g.K.LaneKey.did c.args.number c.len-index.result _ _ _ _ c.in-Some.lane _ _ c.into_lane.result c.new-parcel.ensures.number c.new-parcel.ensures.index c.new-parcel.ensures.lane
     (c.collect-back.ensures.follows c.new-parcel.result out) c.into_lane.ensures in
     subst (λ xs. EachDid g.K.LaneKey.did c.args.number c.args.lanes.now.items xs) (sym c.push_reserved.ensures.items)
