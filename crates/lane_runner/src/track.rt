@@ -17,10 +17,11 @@ ghost use Rattle.lane_runner.specs.Forking.{RunsTeam};
 ghost use Rattle.lane_runner.specs.Handed.{entries_of};
 ghost use Rattle.shared_words.specs.Views.{did, locked, unlocked, rest};
 ghost use Rattle.log_format.specs.Fitting.{fitted};
-ghost use Rattle.lane_runner.specs.Placing.{StandsIn, change_deed, meant};
+ghost use Rattle.lane_runner.specs.Placing.{StandsIn, change_deed};
+ghost use Rattle.task_place.specs.Placing.{meant};
 
 use crate::children::children;
-use crate::element::Element;
+use task_place::Element;
 use crate::locals::Locals;
 use crate::stop::{Halt, Stop, TASK_LIMIT};
 use crate::world::World;

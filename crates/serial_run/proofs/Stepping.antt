@@ -12,15 +12,16 @@ use Rattle.log_format.proofs.FittedBits.{fitted_bits}
 use Rattle.log_format.specs.Spelling.{spelling}
 use Rattle.kernel_syntax.proofs.Fitting.{fitted-fitted, fitted_fits}
 use Rattle.kernel_model.specs.State as model
-use Rattle.kernel_model.specs.State.{State, Outcome, put, to_bits, from_bits, value_read, number_drawn}
+use Rattle.kernel_model.specs.State.{State, Outcome, put, to_bits, from_bits}
 use Rattle.kernel_model.specs.Value.{access, read}
 use Rattle.kernel_model.specs.Effect.{Returned, Halted, Makes, adds}
 use Rattle.kernel_model.proofs.Effects.{makes-put, makes-read}
 use Rattle.serial_run.specs.declared.halt.Halt.{Halt}
 use Rattle.serial_run.specs.declared.halt.Halt.TheVariants as halt
-use Rattle.serial_run.specs.declared.place.Element.{Element}
+use Rattle.task_place.specs.declared.place.Element.{Element}
 use Rattle.serial_run.specs.Going.{Progress, room_of, FindsValue, words_after, Gains, Made, Goes, Logs, HasRoom, MakesRoom, Marks}
-use Rattle.serial_run.specs.Placing.{ElementLayout, IsInPlace, StandsAt, meant}
+use Rattle.serial_run.specs.Placing.{ElementLayout, IsInPlace, StandsAt}
+use Rattle.task_place.specs.Placing.{meant}
 use Rattle.serial_run.proofs.Following.{some_room, no_room, no_room_left, made_still}
 
 -- no room
