@@ -15,7 +15,7 @@ use Rattle.kernel_model.proofs.Equations.{run-Done}
 use Rattle.serial_run.specs.declared.frame.Frame.{Frame}
 use Rattle.serial_run.specs.declared.halt.Halt.{Halt}
 use Rattle.serial_run.specs.declared.halt.Halt.TheVariants as halt
-use Rattle.serial_run.specs.Going.{Progress, room_of, FindsValue, words_after, Gains, Made, Goes, Logs, HasRoom}
+use Rattle.serial_run.specs.Going.{Progress, room_of, FindsValue, words_after, Gains, Made, Goes, Logs, MayMake}
 use Rattle.serial_run.specs.Resting.{rest_of}
 use Rattle.serial_run.specs.Stepping.{Stand, Leads, Adds, Steps, Stepped, HaltsSo}
 use Rattle.serial_run.proofs.Following.{room_gained, some_room, gains_none, gains_then, plain_then}
@@ -143,7 +143,7 @@ module _ (layout : ElementLayout) (at : Site) where
   }
 
   -- a record that is no access
-  module _ (due : Record) (slots : List ℤ) (old new : Progress) (room : HasRoom old) (logs : Logs due old new) (finds : FindsValue layout due.kind due old.words) (same : words_after layout due.kind due old.words ≡ old.words)
+  module _ (due : Record) (slots : List ℤ) (old new : Progress) (room : MayMake old) (logs : Logs due old new) (finds : FindsValue layout due.kind due old.words) (same : words_after layout due.kind due old.words ≡ old.words)
       (none : value_read due.kind due.value ≡ None) (none' : number_drawn due.kind due.addr ≡ None) where
     pub gains : Gains layout old new (due ∷ [])
     gains = gains_one layout due old new new.words finds (logs.words ∙ sym same) logs

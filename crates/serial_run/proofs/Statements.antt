@@ -27,7 +27,7 @@ use Rattle.serial_run.specs.declared.frame.Pause.TheVariants as pause
 use Rattle.serial_run.specs.declared.halt.Halt.{Halt}
 use Rattle.serial_run.specs.declared.halt.Halt.TheVariants as halt
 use Rattle.task_place.specs.declared.place.Element.{Element}
-use Rattle.serial_run.specs.Going.{Progress, room_of, Made, Goes, Logs, HasRoom, Marks}
+use Rattle.serial_run.specs.Going.{Progress, room_of, Made, Goes, Logs, MayMake, Marks}
 use Rattle.serial_run.specs.Placing.{ElementLayout}
 use Rattle.task_place.specs.Placing.{meant}
 use Rattle.serial_run.specs.Resting.{part_of}
@@ -151,7 +151,7 @@ module _ (layout : ElementLayout) (at : Site) (slots : List ℤ) where
           (λ then' s. ap (λ o. after o then') (after-done at (turns (total_of a b) 0 (turn_from at body slot a) s) ∙ sym (frame_is s))))))
 
   -- ---- a region
-  module _ (team : TeamTree) (old new : Progress) (room : HasRoom old) (logs : Logs (event kind.Region team.line 0 team.span) old new) where
+  module _ (team : TeamTree) (old new : Progress) (room : MayMake old) (logs : Logs (event kind.Region team.line 0 team.span) old new) where
     abbrev fork_part : Part
     fork_part = run at (tree.Parallel team.span team.line team.end team.body Done)
 
