@@ -1,5 +1,6 @@
-use Rattle.std.proofs.Common.{◌≡◌, subst, Option, Some, None}
+use Rattle.std.proofs.Common.{◌≡◌, subst, ℤ, Option, Some, None, w64, to_z, of_z}
 use Rattle.std.specs.Prelude.{IfSome, MatchOption}
+use Rattle.std.proofs.lemmas.Int.{to_z-of_z}
 use Rattle.kernel_model.specs.Value.{Element as Meant, element_at}
 use Rattle.task_place.specs.declared.place.Element.{Element}
 use Rattle.task_place.specs.Placing.{IsElement, meant}
@@ -9,12 +10,12 @@ use Rattle.lane_runner.proofs.Elements.{stands_in}
 use Rattle.lane_runner.proofs.world.World.element.Goals as goal
 
 module _ (w : WorldValue) (found : Option Meant) where
-  told : (result : Option Element) → MatchOption result (found ≡ None) (IsElement w.arrays w.words.elements found) → MatchOption result (found ≡ None) (λ e. found ≡ Some (meant e))
-  told None is = is
-  told (Some e) element = element.is
+  is_it : (result : Option Element) → MatchOption result (found ≡ None) (IsElement w.arrays w.words.elements found) → MatchOption result (found ≡ None) (λ e. found ≡ Some (meant e))
+  is_it None none = none
+  is_it (Some e) element = element.is
 
   stands : (result : Option Element) → IsWorld w → MatchOption result (found ≡ None) (IsElement w.arrays w.words.elements found) → IfSome result (StandsIn w)
-  stands None world is = tt
+  stands None world none = tt
   stands (Some e) world element = stands_in w world element
 
 pub element_in-requires : goal.element_in-requires
@@ -22,10 +23,12 @@ element_in-requires c = record { words = c.self.inside.words.now.elements; place
 
 pub returns-clause-is : goal.returns-clause-is
 returns-clause-is c =
-    subst (λ (w : WorldValue). MatchOption c.element_in.result (element_at w.arrays c.args.array c.args.index ≡ None) (λ e. element_at w.arrays c.args.array c.args.index ≡ Some (meant e))) c.self.view_is
-    (told _ (element_at c.self.inside.arrays.now c.args.array c.args.index) c.element_in.result (c.element_in.ensures c.self.inside.words.now.elements c.self.invariant.placed))
+    let Is : WorldValue → ℤ → Type 0 = λ w z. MatchOption c.element_in.result (element_at w.arrays c.args.array z ≡ None) (λ e. element_at w.arrays c.args.array z ≡ Some (meant e)) in
+    subst (λ (z : ℤ). Is c.args.self.now z) (to_z-of_z w64 c.args.index c.ranges.index)
+    (subst (λ (w : WorldValue). Is w (to_z w64 (of_z w64 c.args.index))) c.self.view_is
+    (is_it _ (element_at c.self.inside.arrays.now c.args.array (to_z w64 (of_z w64 c.args.index))) c.element_in.result (c.element_in.ensures c.self.inside.words.now.elements c.self.invariant.placed)))
 
 pub returns-clause-stands : goal.returns-clause-stands
 returns-clause-stands c =
     subst (λ (w : WorldValue). IfSome c.element_in.result (StandsIn w)) c.self.view_is
-    (stands _ (element_at c.self.inside.arrays.now c.args.array c.args.index) c.element_in.result c.self.invariant (c.element_in.ensures c.self.inside.words.now.elements c.self.invariant.placed))
+    (stands _ (element_at c.self.inside.arrays.now c.args.array (to_z w64 (of_z w64 c.args.index))) c.element_in.result c.self.invariant (c.element_in.ensures c.self.inside.words.now.elements c.self.invariant.placed))
