@@ -1,5 +1,6 @@
 use Rattle.std.proofs.Common.{◌+◌, [], sym, ◌∙◌, subst, ◌++◌, ◌∷◌}
 use Rattle.log_format.specs.declared.record.Record.{Record}
+use Rattle.kernel_model.specs.State.{event}
 use Rattle.event_buffer.specs.Logged.{HoldsRecords}
 use Rattle.lane_runner.specs.Going.{Progress, HasRoomFor}
 use Rattle.lane_runner.proofs.Putting.{took}
