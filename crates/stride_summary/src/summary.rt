@@ -17,8 +17,8 @@ use std::alloc::Global;
 use std::collections::BTreeMap;
 use sw_base::Memory;
 
-/// How many keys have addresses of their own before accesses of further keys under no mutex stand alone.
-const KEYS: usize = 4_096;
+/// How many keys have addresses of their own before accesses of further keys under no mutex stand alone. The longest kernels have fewer.
+const KEYS: usize = 16_384;
 
 /// The accesses of a barrier interval: the addresses of each key, or where there are very many keys the accesses of most one by
 /// one. It grows with the number of different addresses of a key, and not with the number of accesses.

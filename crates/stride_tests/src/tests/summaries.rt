@@ -198,7 +198,7 @@ fn writes_in_turn(alloc: Global, keys: u32, all: u32) -> Result<Vec<(u32, u64)>,
 #[test]
 fn keys_that_take_turns_have_strided_runs_of_their_own(rt: HostRuntime) -> Result<(), Fail> {
     let alloc = rt.alloc();
-    for (keys, all, each) in [(3, 300, 100), (5_000, 15_000, 3)] {
+    for (keys, all, each) in [(3, 300, 100), (17_000, 51_000, 3)] {
         let writes = writes_in_turn(alloc, keys, all)?;
         let found = sorted_shapes_of(alloc, &writes)?;
         assert!(rt; have_keys(&found, keys, (4096, 16, each)), "{keys} keys");
