@@ -17,7 +17,7 @@ use std::alloc::Global;
 use std::collections::BTreeMap;
 use sw_base::Memory;
 
-/// How many keys have addresses of their own before accesses of further keys under no mutex stand alone. The longest kernels have fewer.
+/// How many keys have addresses of their own before accesses of further keys under no mutex stand alone. Kernels hardly have as many.
 const KEYS: usize = 16_384;
 
 /// The accesses of a barrier interval: the addresses of each key, or where there are very many keys the accesses of most one by
