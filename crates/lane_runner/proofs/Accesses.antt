@@ -23,10 +23,11 @@ use Rattle.log_format.specs.Fitting.{IsWidth, fitted, CanHave}
 use Rattle.log_format.proofs.FittedBits.{fitted_bits}
 use Rattle.kernel_syntax.proofs.Fitting.{fitted-fitted, fitted_fits}
 use Rattle.history_model.specs.Sound.{IsOfElement}
-use Rattle.lane_runner.specs.declared.element.Element.{Element}
+use Rattle.task_place.specs.declared.place.Element.{Element}
 use Rattle.execution_model.specs.Elements.{element_word, element_address, element_width, layout_of}
 use Rattle.lane_runner.specs.World.{WorldValue}
-use Rattle.lane_runner.specs.Placing.{StandsIn, change_deed, meant}
+use Rattle.lane_runner.specs.Placing.{StandsIn, change_deed}
+use Rattle.task_place.specs.Placing.{meant}
 use Rattle.lane_runner.specs.Going.{Progress, GainsRecords, Made, HasRoomFor}
 use Rattle.lane_runner.proofs.Stepping.{made_one}
 

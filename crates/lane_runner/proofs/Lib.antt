@@ -20,6 +20,7 @@ pub mod Noting
 pub mod OwnWords
 pub mod Parting
 pub mod Phases
+pub mod Putting
 pub mod Regions
 pub mod Releasing
 pub mod Running

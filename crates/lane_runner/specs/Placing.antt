@@ -1,12 +1,11 @@
 -- Where an element stands.
-use Rattle.std.specs.Prelude.{◌≡◌, ◌<◌, ℕ, Option, Some}
+use Rattle.std.specs.Prelude.{◌≡◌, ◌<◌, ℕ}
 use Rattle.log_format.specs.Fitting.{IsWidth}
-use Rattle.kernel_model.specs.Value as model
 use Rattle.kernel_model.specs.declared.change.Change.{Change}
 use Rattle.kernel_model.specs.declared.change.Change.TheVariants.{Store, Update}
 use Rattle.step_history.specs.declared.item.Deed.{Deed}
 use Rattle.step_history.specs.declared.item.Deed.TheVariants as deed
-use Rattle.lane_runner.specs.declared.element.Element.{Element}
+use Rattle.task_place.specs.declared.place.Element.{Element}
 use Rattle.execution_model.specs.Elements.{element_word, element_address, element_width}
 use Rattle.lane_runner.specs.World.{WorldValue}
 
@@ -18,16 +17,7 @@ pub record StandsIn (w : WorldValue) (e : Element) : Type 0 where
   pub address : element_address w.arrays e.word ≡ e.addr
   pub bytes : element_width w.arrays e.word ≡ e.width
 
--- the element as the meaning of kernels has it
-abbrev pub meant : Element → model.Element
-meant e = record { addr = e.addr; width = e.width }
-
 -- the step of a change of a word
 abbrev pub change_deed : Change → ℕ → ℕ → Deed
 change_deed Store word bits = deed.Write word bits
 change_deed (Update minus) word bits = deed.Update word bits
-
--- this element was found
-pub record IsElement (found : Option model.Element) (w : WorldValue) (e : Element) : Type 0 where
-  pub is : found ≡ Some (meant e)
-  pub stands : StandsIn w e

@@ -23,7 +23,6 @@ mod assign;
 mod body;
 mod children;
 mod dynamic;
-mod element;
 mod fitting;
 mod frame;
 mod lane;
@@ -37,7 +36,6 @@ mod track;
 mod value;
 mod world;
 
-pub use element::Element;
 pub use fitting::fit_words;
 pub use frame::Frame;
 pub use lane::Lane;
@@ -47,5 +45,6 @@ pub use laws::{
 };
 pub use locals::Locals;
 pub use stop::{Halt, Stop, TASK_LIMIT};
+pub use task_place::Element;
 pub use track::Track;
 pub use world::World;

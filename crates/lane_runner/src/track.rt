@@ -17,10 +17,10 @@ ghost use Rattle.lane_runner.specs.Forking.{RunsTeam};
 ghost use Rattle.lane_runner.specs.Handed.{entries_of};
 ghost use Rattle.shared_words.specs.Views.{did, locked, unlocked, rest};
 ghost use Rattle.log_format.specs.Fitting.{fitted};
-ghost use Rattle.lane_runner.specs.Placing.{StandsIn, change_deed, meant};
+ghost use Rattle.lane_runner.specs.Placing.{StandsIn, change_deed};
+ghost use Rattle.task_place.specs.Placing.{meant};
 
 use crate::children::children;
-use crate::element::Element;
 use crate::locals::Locals;
 use crate::stop::{Halt, Stop, TASK_LIMIT};
 use crate::world::World;
@@ -35,6 +35,7 @@ use std::mem;
 use std::sync::Wait;
 use std::thread::Threads;
 use sw_base::{ClosedLog, Log, Path};
+use task_place::Element;
 
 /// A lane's hand on the shared words, the buffer before its log, its hand on the counters of its team's loops, and the logs that the
 /// regions of its task handed on.

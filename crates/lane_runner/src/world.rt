@@ -1,15 +1,14 @@
 //! Where a lane runs.
-ghost use Rattle.std.specs.Prelude.{◌≡◌, ◌+◌, ◌*◌, ◌<◌, MatchOption, None, Some, slice_get};
+ghost use Rattle.std.specs.Prelude.{◌≡◌, ◌<◌, IfSome, MatchOption, None, Some};
 ghost use Rattle.kernel_model.specs.Value.{element_at};
-ghost use Rattle.log_format.specs.Fitting.{IsWidth};
-ghost use Rattle.kernel_syntax.specs.Layout.{IsPlaced};
-ghost use Rattle.lane_runner.specs.Placing.{IsElement};
+ghost use Rattle.lane_runner.specs.Placing.{StandsIn};
 ghost use Rattle.lane_runner.specs.World.{IsWorld};
+ghost use Rattle.task_place.specs.Placing.{meant};
 
-use crate::element::Element;
 use kernel_syntax::Array;
 use shared_words::{Chunks, Words};
 use std::marker::Model;
+use task_place::{Element, element_in};
 
 /// Where a lane runs: the kernel's arrays, the shared words and the team's counters, and the lane's place in its team. Each element of an array is a word
 /// of its own.
@@ -30,23 +29,6 @@ impl<'a> Model for World<'a> {
     ghost view = { λ w. record { arrays = w.arrays.now; words = w.words.now; chunks = w.chunks.now; lane = w.lane; span = w.span } };
 
     ghost invariant = { λ w. IsWorld (record { arrays = w.arrays.now; words = w.words.now; chunks = w.chunks.now; lane = w.lane; span = w.span }) };
-}
-
-// An element of an array, by its number.
-fn element_of(place: &Array, index: u64) -> Element
-    requires within { index < place.now.count }
-    requires fits { place.now.first + place.now.count < 2147483648 }
-    requires ends { place.now.base + place.now.count * place.now.width < 1152921504606846976 }
-    requires width { IsWidth place.now.width }
-    ensures word { result.word ≡ place.now.first + index }
-    ensures addr { result.addr ≡ place.now.base + index * place.now.width }
-    ensures width { result.width ≡ place.now.width }
-{
-    Element {
-        word: place.first as usize + index as usize,
-        addr: place.base + index * u64::from(place.width),
-        width: place.width,
-    }
 }
 
 impl<'a> World<'a> {
@@ -100,16 +82,9 @@ impl<'a> World<'a> {
 
     /// The element of an array at an index. None outside the array.
     pub fn element(&self, array: u32, index: i64) -> Option<Element>
-        ensures { MatchOption result (element_at self.now.arrays array index ≡ None) (IsElement (element_at self.now.arrays array index) self.now) }
+        ensures is { MatchOption result (element_at self.now.arrays array index ≡ None) (λ e. element_at self.now.arrays array index ≡ Some (meant e)) }
+        ensures stands { IfSome result (StandsIn self.now) }
     {
-        let place = self.arrays.get(array as usize)?;
-        if index < 0 {
-            return None;
-        }
-        let number = index.unsigned_abs();
-        if u64::from(place.count) <= number {
-            return None;
-        }
-        Some(element_of(place, number))
+        element_in(self.arrays, array, index)
     }
 }

@@ -5,7 +5,7 @@ use Rattle.kernel_syntax.proofs.Fitting.{fitted-fitted}
 use Rattle.kernel_model.specs.Changing.{kind_of}
 use Rattle.kernel_model.specs.State.{put}
 use Rattle.kernel_model.specs.Value.{element_at, access}
-use Rattle.lane_runner.specs.Placing.{meant}
+use Rattle.task_place.specs.Placing.{meant}
 use Rattle.lane_runner.specs.Going.{Goes}
 use Rattle.lane_runner.proofs.Running.{changes_none, changes_some}
 use Rattle.lane_runner.proofs.assign.put_value.Goals as goal
@@ -13,7 +13,7 @@ use Rattle.lane_runner.proofs.assign.put_value.Goals as goal
 pub returns-in_default-clause-goes : goal.returns-in_default-clause-goes
 returns-in_default-clause-goes g c = λ slots.
     changes_none c.args.world.now (kind_of c.args.change) (element_at c.args.world.now.arrays c.args.array c.args.index) c.args.amount c.args.line c.args.place slots c.args.track.now c.requires.can
-    (ap (λ (z : ℤ). element_at c.args.world.now.arrays c.args.array z) (sym (to_z-of_z w64 c.args.index c.ranges.index)) ∙ c.in_default.ensures)
+    (ap (λ (z : ℤ). element_at c.args.world.now.arrays c.args.array z) (sym (to_z-of_z w64 c.args.index c.ranges.index)) ∙ c.in_default.ensures.is)
 
 pub returns-clause-goes : goal.returns-clause-goes
 returns-clause-goes g c =

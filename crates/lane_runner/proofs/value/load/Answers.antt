@@ -1,14 +1,14 @@
 use Rattle.std.proofs.Common.{ap, sym, ◌∙◌, ℤ, w64}
 use Rattle.std.proofs.lemmas.Int.{to_z-of_z}
 use Rattle.kernel_model.specs.Value.{element_at}
-use Rattle.lane_runner.specs.Placing.{meant}
+use Rattle.task_place.specs.Placing.{meant}
 use Rattle.lane_runner.proofs.Values.{loads_none, loads_some}
 use Rattle.lane_runner.proofs.value.load.Goals as goal
 
 pub returns-in_default-clause-goes : goal.returns-in_default-clause-goes
 returns-in_default-clause-goes g c = λ slots.
     loads_none c.args.world.now (element_at c.args.world.now.arrays c.args.array c.args.index) c.args.line c.args.place slots c.args.track.now c.requires.can
-    (ap (λ (z : ℤ). element_at c.args.world.now.arrays c.args.array z) (sym (to_z-of_z w64 c.args.index c.ranges.index)) ∙ c.in_default.ensures)
+    (ap (λ (z : ℤ). element_at c.args.world.now.arrays c.args.array z) (sym (to_z-of_z w64 c.args.index c.ranges.index)) ∙ c.in_default.ensures.is)
 
 pub returns-clause-goes : goal.returns-clause-goes
 returns-clause-goes g c = λ slots.

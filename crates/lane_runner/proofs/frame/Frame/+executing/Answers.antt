@@ -1,5 +1,5 @@
 -- Statements, by what their parts do.
-use Rattle.std.proofs.Common.{◌≡◌, refl, ap, sym, ◌∙◌, subst, ℕ, ◌+◌, ◌<◌, List, ℤ, pos, ◌+ℤ◌, length, take, drop, get_or, Result, Ok, Err, w64, to_z, of_z, FitsSigned, rules, arith}
+use Rattle.std.proofs.Common.{◌≡◌, refl, ap, sym, ◌∙◌, subst, ℕ, ◌+◌, ◌<◌, List, ℤ, pos, ◌+ℤ◌, length, take, drop, get_or, Result, Ok, Err, w64, to_z, of_z, rules, arith}
 use Rattle.std.specs.Prelude.{slice_set}
 use Rattle.std.proofs.lemmas.Result.{err_from_is_err_and}
 use Rattle.std.proofs.lemmas.Option.{slice_get_read}
@@ -173,9 +173,7 @@ pub repeat-returns-in_err-statements-clause-goes : goal.repeat-returns-in_err-st
 repeat-returns-in_err-statements-clause-goes g t c =
     let p = err_from_is_err_and c.from_residual.result c.from_residual.ensures.1 in
     let from_is = to_z-of_z w64 c.args.from c.ranges.from in
-    let fits : FitsSigned w64 c.number_at.result = search rules in
-    let number_is : to_z w64 (of_z w64 c.number_at.result) ≡ c.args.from +ℤ pos (c.args.first + c.loop-i.i) =
-    to_z-of_z w64 c.number_at.result fits ∙ c.number_at.ensures ∙ ap (λ (z : ℤ). z +ℤ pos (c.args.first + c.loop-i.i)) from_is in
+    let number_is = to_z-of_z w64 c.number_at.result (search rules) ∙ c.number_at.ensures ∙ ap (λ (z : ℤ). z +ℤ pos (c.args.first + c.loop-i.i)) from_is in
     let before = subst (λ (z : ℤ). Made c.args.world.now (turns c.loop-i.i c.args.first (turn_from (site c.args.world.now) (code_of c.args.body.now.stmts.items) c.args.slot z)) c.args.self.now.locals.slots.items c.loop-i.self.locals.slots.items c.args.self.now.track c.loop-i.self.track (Returned tt)) from_is c.loop-i.invariant.made in
     let less : c.loop-i.i < c.args.count = omega arith in
     rw (p.1, p.2)
@@ -186,9 +184,7 @@ repeat-returns-in_err-statements-clause-goes g t c =
 pub repeat-loop-i-preserved : goal.repeat-loop-i-preserved
 repeat-loop-i-preserved g t c =
     let from_is = to_z-of_z w64 c.args.from c.ranges.from in
-    let fits : FitsSigned w64 c.number_at.result = search rules in
-    let number_is : to_z w64 (of_z w64 c.number_at.result) ≡ c.args.from +ℤ pos (c.args.first + c.loop-i.i) =
-    to_z-of_z w64 c.number_at.result fits ∙ c.number_at.ensures ∙ ap (λ (z : ℤ). z +ℤ pos (c.args.first + c.loop-i.i)) from_is in
+    let number_is = to_z-of_z w64 c.number_at.result (search rules) ∙ c.number_at.ensures ∙ ap (λ (z : ℤ). z +ℤ pos (c.args.first + c.loop-i.i)) from_is in
     let before = subst (λ (z : ℤ). Made c.args.world.now (turns c.loop-i.i c.args.first (turn_from (site c.args.world.now) (code_of c.args.body.now.stmts.items) c.args.slot z)) c.args.self.now.locals.slots.items c.loop-i.self.locals.slots.items c.args.self.now.track c.loop-i.self.track (Returned tt)) from_is c.loop-i.invariant.made in
     record {
       made =

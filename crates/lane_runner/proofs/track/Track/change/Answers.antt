@@ -10,7 +10,7 @@ use Rattle.kernel_model.specs.Value as model
 use Rattle.kernel_model.specs.Changing.{kind_of}
 use Rattle.kernel_model.proofs.Changing.{put_grows}
 use Rattle.kernel_model.proofs.Effects.{makes-put_full}
-use Rattle.lane_runner.specs.Placing.{meant}
+use Rattle.task_place.specs.Placing.{meant}
 use Rattle.lane_runner.specs.Going.{Progress, HasRoomFor}
 use Rattle.lane_runner.proofs.Stepping.{goes_unready}
 use Rattle.lane_runner.proofs.Accesses.{change_made}

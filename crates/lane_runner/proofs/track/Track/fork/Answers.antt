@@ -7,8 +7,9 @@ use Rattle.event_buffer.specs.Buffered.{Buffered, MayPut, IsStill}
 use Rattle.event_buffer.specs.Logged.{HoldsRecords}
 use Rattle.lane_runner.specs.Going.{Progress, HasRoomFor, Waits}
 use Rattle.lane_runner.proofs.Handing.{same_place}
+use Rattle.lane_runner.proofs.Putting.{took}
 use Rattle.lane_runner.proofs.Working.{hand_still}
-use Rattle.lane_runner.specs.Handed.{entries_of, place_of}
+use Rattle.lane_runner.specs.Handed.{entries_of}
 use Rattle.lane_runner.proofs.track.Track.fork.Goals as goal
 
 module _ (old mid : Progress) (new : Buffered) (room : HasRoomFor old mid) (still : IsStill mid.buffer new) where
@@ -48,17 +49,7 @@ pub returns-clause-takes : goal.returns-clause-takes
 returns-clause-takes g c =
     let room = subst (λ (p : Progress). HasRoomFor c.args.self.now p) (sym c.self.view_is) c.in_ok-ready.ensures.room in
     let waits = still_waits c.args.self.now (record { hand = c.self.inside.hand; buffer = c.self.inside.buffer; tally = record { draws = c.self.inside.draws; next_loop = c.self.inside.next_loop; forked = c.self.inside.forked }; done = entries_of (record { dir = g.L.Log.dir; path = g.L.Log.path; text = g.L.Log.text; faults = g.L.Log.faults }) c.self.inside.done.items }) c.children.new.buffer room c.children.ensures.still c.children.ensures.records in
-    record {
-      hand = room.waits.hand ∙ hand_still c.args.self.now.hand c.requires.there;
-      log = record {
-        records = λ header records holds.
-            subst (λ (r : Record). HoldsRecords header c.put.new.self (records ++ r ∷ [])) (c.event-event.ensures ∙ ap (λ (n : ℕ). event kind.Region c.args.line 0 n) c.from.ensures) (c.put.ensures.records header records (waits.records header records holds));
-        count = ap (λ (b : Buffered). b.count) c.put.ensures.put ∙ ap (λ (n : ℕ). n + 1) waits.count;
-        path = ap (λ (b : Buffered). b.path) c.put.ensures.put ∙ waits.path;
-        place = ap place_of c.put.ensures.put ∙ waits.place;
-      };
-      below = subst (λ (n : ℕ). n < log_limit) room.waits.count room.may_put.below;
-      tally = room.waits.tally;
-      done = room.waits.done;
-      unrefused = ap (λ (b : Buffered). b.refused) c.put.ensures.put ∙ c.in-Ok.ensures.unrefused;
-    }
+    took (event kind.Region c.args.line 0 c.args.span) c.args.self.now.hand.view c.args.self.now _ waits (subst (λ (n : ℕ). n < log_limit) (sym c.children.ensures.still.count) room.may_put.below) c.in-Ok.ensures.unrefused
+    (room.waits.hand ∙ hand_still c.args.self.now.hand c.requires.there)
+    c.put.ensures.put
+    (λ header records holds. subst (λ (r : Record). HoldsRecords header c.put.new.self (records ++ r ∷ [])) (c.event-event.ensures ∙ ap (λ (n : ℕ). event kind.Region c.args.line 0 n) c.from.ensures) (c.put.ensures.records header records holds))

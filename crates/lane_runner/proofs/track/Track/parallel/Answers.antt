@@ -1,4 +1,4 @@
-use Rattle.std.proofs.Common.{◌≡◌, refl, ap, sym, ◌∙◌, subst, ℕ, ◌+◌, ◌<◌, ◌≤◌, [], length, rules}
+use Rattle.std.proofs.Common.{◌≡◌, refl, ap, sym, ◌∙◌, subst, ℕ, ◌+◌, ◌<◌, ◌≤◌, List, [], length, ℤ, rules}
 use Rattle.std.proofs.lemmas.List.{length-map}
 use Rattle.std.proofs.lemmas.Result.{err_from_is_err_and}
 use Rattle.log_format.specs.declared.record.Kind.TheVariants as kind
@@ -11,15 +11,15 @@ use Rattle.kernel_model.proofs.Growing.{run-grows}
 use Rattle.kernel_model.proofs.RunEffects.{makes-Parallel_full}
 use Rattle.shared_words.specs.declared.view.View.{View}
 use Rattle.shared_words.specs.Handles.{HandValue}
-use Rattle.lane_runner.specs.Children.{AreNewLogs}
+use Rattle.lane_runner.specs.Children.{AreNewLogs, LogView}
 use Rattle.lane_runner.specs.Drawing.{Tally}
-use Rattle.lane_runner.specs.Forking.{RanRegion, IsReady}
+use Rattle.lane_runner.specs.Forking.{Answer, RanRegion, IsReady}
 use Rattle.lane_runner.specs.Going.{Progress, Takes, site}
 use Rattle.lane_runner.specs.World.{WorldValue}
 use Rattle.lane_runner.specs.Going.{CanGo}
 use Rattle.lane_runner.proofs.Stepping.{goes_unready}
 use Rattle.lane_runner.proofs.Regions.{region_made, region_began, region_crowded}
-use Rattle.lane_runner.specs.Handed.{entry_of, entries_of, task_limit}
+use Rattle.lane_runner.specs.Handed.{Entry, entry_of, entries_of, task_limit}
 use Rattle.lane_runner.proofs.track.Track.parallel.Goals as goal
 
 -- the hand after the record of the fork
@@ -31,6 +31,16 @@ ready_after w team old a can free taken = record {
   };
   none_out = ap (λ (h : HandValue View). h.view.out) taken.hand ∙ can.home;
 }
+
+-- what the region did, by the number that the task had before its record
+ran_so : {T : Type 0} (w : WorldValue) (team : TeamTree) (slots : List ℤ) (seen : LogView T) (old mid : Progress) (after : HandValue View) (done : List Entry) (logs : List T) (r : Answer) → CanGo w old → old.hand.view.held ≡ []
+    → Takes (event kind.Region team.line 0 team.span) old.hand.view old mid → AreNewLogs seen old.buffer old.tally.forked team.span logs
+    → (IsReady mid.hand w.words → AreNewLogs seen old.buffer mid.tally.forked team.span logs → RanRegion w team slots old.buffer mid.tally.forked mid.hand after mid.done done r)
+    → RanRegion w team slots old.buffer old.tally.forked mid.hand after mid.done done r
+ran_so w team slots seen old mid after done logs r can free taken new ran =
+    let number = ap (λ (t : Tally). t.forked) taken.tally in
+    subst (λ (n : ℕ). RanRegion w team slots old.buffer n mid.hand after mid.done done r) number
+    (ran (ready_after w team old mid can free taken) (subst (λ (n : ℕ). AreNewLogs seen old.buffer n team.span logs) (sym number) new))
 
 pub region-requires : goal.region-requires
 region-requires g c =
@@ -57,11 +67,9 @@ returns-in-Err-clause-goes g c =
     let mid : Progress = record { hand = c.self.inside.hand; buffer = c.self.inside.buffer; tally = record { draws = c.self.inside.draws; next_loop = c.self.inside.next_loop; forked = c.self.inside.forked }; done = entries_of (record { dir = g.L.Log.dir; path = g.L.Log.path; text = g.L.Log.text; faults = g.L.Log.faults }) c.self.inside.done.items } in
     let new : Progress = record { hand = c.region.new.arg2; buffer = c.self.inside.buffer; tally = record { draws = c.self.inside.draws; next_loop = c.self.inside.next_loop; forked = c.self.inside.forked + 1 }; done = entries_of (record { dir = g.L.Log.dir; path = g.L.Log.path; text = g.L.Log.text; faults = g.L.Log.faults }) c.region.new.arg7.items } in
     let taken = subst (λ (p : Progress). Takes (event kind.Region team.line 0 team.span) c.args.self.now.hand.view c.args.self.now p) (sym c.self.view_is) c.in_ok-logs.ensures.takes in
-    let ready = ready_after c.args.world.now team c.args.self.now mid c.requires.can c.requires.free taken in
-    let number : c.args.self.now.tally.forked ≡ c.self.inside.forked = sym (ap (λ (t : Tally). t.forked) taken.tally) in
-    let logs = subst (λ (n : ℕ). AreNewLogs (record { dir = g.L.Log.dir; path = g.L.Log.path; text = g.L.Log.text; faults = g.L.Log.faults }) c.args.self.now.buffer n team.span c.in_ok-logs.logs.items) number c.in_ok-logs.ensures.logs in
-    let ran : RanRegion c.args.world.now team c.args.locals.now.slots.items c.args.self.now.buffer c.args.self.now.tally.forked mid.hand new.hand mid.done new.done c.region.result =
-    subst (λ (n : ℕ). RanRegion c.args.world.now team c.args.locals.now.slots.items c.args.self.now.buffer n mid.hand new.hand mid.done new.done c.region.result) (sym number) (c.requires.runs.ran _ _ _ c.self.inside.forked _ _ _ _ _ refl ready logs c.region.ensures) in
+    let ran =
+    ran_so c.args.world.now team c.args.locals.now.slots.items (record { dir = g.L.Log.dir; path = g.L.Log.path; text = g.L.Log.text; faults = g.L.Log.faults }) c.args.self.now mid new.hand new.done c.in_ok-logs.logs.items c.region.result c.requires.can c.requires.free taken c.in_ok-logs.ensures.logs
+    (λ ready logs. c.requires.runs.ran _ _ _ c.self.inside.forked _ _ _ _ _ refl ready logs c.region.ensures) in
     region_began c.args.world.now (site c.args.world.now) team c.requires.line c.args.locals.now.slots.items c.args.self.now mid new c.region.result taken ran c.requires.free refl refl c.in-Err.path c.in-Err.stop c.in-Err.is
 
 pub returns-then-len-gt-TASK_LIMIT-clause-goes : goal.returns-then-len-gt-TASK_LIMIT-clause-goes
@@ -70,15 +78,11 @@ returns-then-len-gt-TASK_LIMIT-clause-goes g c =
     let mid : Progress = record { hand = c.self.inside.hand; buffer = c.self.inside.buffer; tally = record { draws = c.self.inside.draws; next_loop = c.self.inside.next_loop; forked = c.self.inside.forked }; done = entries_of (record { dir = g.L.Log.dir; path = g.L.Log.path; text = g.L.Log.text; faults = g.L.Log.faults }) c.self.inside.done.items } in
     let new : Progress = record { hand = c.region.new.arg2; buffer = c.self.inside.buffer; tally = record { draws = c.self.inside.draws; next_loop = c.self.inside.next_loop; forked = c.self.inside.forked + 1 }; done = entries_of (record { dir = g.L.Log.dir; path = g.L.Log.path; text = g.L.Log.text; faults = g.L.Log.faults }) c.region.new.arg7.items } in
     let taken = subst (λ (p : Progress). Takes (event kind.Region team.line 0 team.span) c.args.self.now.hand.view c.args.self.now p) (sym c.self.view_is) c.in_ok-logs.ensures.takes in
-    let ready = ready_after c.args.world.now team c.args.self.now mid c.requires.can c.requires.free taken in
-    let number : c.args.self.now.tally.forked ≡ c.self.inside.forked = sym (ap (λ (t : Tally). t.forked) taken.tally) in
-    let logs = subst (λ (n : ℕ). AreNewLogs (record { dir = g.L.Log.dir; path = g.L.Log.path; text = g.L.Log.text; faults = g.L.Log.faults }) c.args.self.now.buffer n team.span c.in_ok-logs.logs.items) number c.in_ok-logs.ensures.logs in
-    let ran : RanRegion c.args.world.now team c.args.locals.now.slots.items c.args.self.now.buffer c.args.self.now.tally.forked mid.hand new.hand mid.done new.done c.region.result =
-    subst (λ (n : ℕ). RanRegion c.args.world.now team c.args.locals.now.slots.items c.args.self.now.buffer n mid.hand new.hand mid.done new.done c.region.result) (sym number) (c.requires.runs.ran _ _ _ c.self.inside.forked _ _ _ _ _ refl ready logs c.region.ensures) in
-    let entries = c.region.new.arg7.items in
-    let same = length-map entries (entry_of (record { dir = g.L.Log.dir; path = g.L.Log.path; text = g.L.Log.text; faults = g.L.Log.faults })) in
-    let many : task_limit < length entries = search rules in
-    region_crowded c.args.world.now (site c.args.world.now) team c.requires.line c.args.locals.now.slots.items c.args.self.now mid new c.region.result taken ran c.requires.free refl refl _ c.in_default.is (subst (λ (n : ℕ). task_limit < n) (sym same) many)
+    let ran =
+    ran_so c.args.world.now team c.args.locals.now.slots.items (record { dir = g.L.Log.dir; path = g.L.Log.path; text = g.L.Log.text; faults = g.L.Log.faults }) c.args.self.now mid new.hand new.done c.in_ok-logs.logs.items c.region.result c.requires.can c.requires.free taken c.in_ok-logs.ensures.logs
+    (λ ready logs. c.requires.runs.ran _ _ _ c.self.inside.forked _ _ _ _ _ refl ready logs c.region.ensures) in
+    let many : task_limit < length c.region.new.arg7.items = search rules in
+    region_crowded c.args.world.now (site c.args.world.now) team c.requires.line c.args.locals.now.slots.items c.args.self.now mid new c.region.result taken ran c.requires.free refl refl _ c.in_default.is (subst (λ (n : ℕ). task_limit < n) (sym (length-map c.region.new.arg7.items (entry_of (record { dir = g.L.Log.dir; path = g.L.Log.path; text = g.L.Log.text; faults = g.L.Log.faults })))) many)
 
 pub returns-clause-goes : goal.returns-clause-goes
 returns-clause-goes g c =
@@ -86,12 +90,8 @@ returns-clause-goes g c =
     let mid : Progress = record { hand = c.self.inside.hand; buffer = c.self.inside.buffer; tally = record { draws = c.self.inside.draws; next_loop = c.self.inside.next_loop; forked = c.self.inside.forked }; done = entries_of (record { dir = g.L.Log.dir; path = g.L.Log.path; text = g.L.Log.text; faults = g.L.Log.faults }) c.self.inside.done.items } in
     let new : Progress = record { hand = c.region.new.arg2; buffer = c.self.inside.buffer; tally = record { draws = c.self.inside.draws; next_loop = c.self.inside.next_loop; forked = c.self.inside.forked + 1 }; done = entries_of (record { dir = g.L.Log.dir; path = g.L.Log.path; text = g.L.Log.text; faults = g.L.Log.faults }) c.region.new.arg7.items } in
     let taken = subst (λ (p : Progress). Takes (event kind.Region team.line 0 team.span) c.args.self.now.hand.view c.args.self.now p) (sym c.self.view_is) c.in_ok-logs.ensures.takes in
-    let ready = ready_after c.args.world.now team c.args.self.now mid c.requires.can c.requires.free taken in
-    let number : c.args.self.now.tally.forked ≡ c.self.inside.forked = sym (ap (λ (t : Tally). t.forked) taken.tally) in
-    let logs = subst (λ (n : ℕ). AreNewLogs (record { dir = g.L.Log.dir; path = g.L.Log.path; text = g.L.Log.text; faults = g.L.Log.faults }) c.args.self.now.buffer n team.span c.in_ok-logs.logs.items) number c.in_ok-logs.ensures.logs in
-    let ran : RanRegion c.args.world.now team c.args.locals.now.slots.items c.args.self.now.buffer c.args.self.now.tally.forked mid.hand new.hand mid.done new.done c.region.result =
-    subst (λ (n : ℕ). RanRegion c.args.world.now team c.args.locals.now.slots.items c.args.self.now.buffer n mid.hand new.hand mid.done new.done c.region.result) (sym number) (c.requires.runs.ran _ _ _ c.self.inside.forked _ _ _ _ _ refl ready logs c.region.ensures) in
-    let entries = c.region.new.arg7.items in
-    let same = length-map entries (entry_of (record { dir = g.L.Log.dir; path = g.L.Log.path; text = g.L.Log.text; faults = g.L.Log.faults })) in
-    let few : length entries ≤ task_limit = search rules in
-    region_made c.args.world.now (site c.args.world.now) team c.requires.line c.args.locals.now.slots.items c.args.self.now mid new c.region.result taken ran c.requires.free refl refl _ c.in_default.is (subst (λ (n : ℕ). n ≤ task_limit) (sym same) few)
+    let ran =
+    ran_so c.args.world.now team c.args.locals.now.slots.items (record { dir = g.L.Log.dir; path = g.L.Log.path; text = g.L.Log.text; faults = g.L.Log.faults }) c.args.self.now mid new.hand new.done c.in_ok-logs.logs.items c.region.result c.requires.can c.requires.free taken c.in_ok-logs.ensures.logs
+    (λ ready logs. c.requires.runs.ran _ _ _ c.self.inside.forked _ _ _ _ _ refl ready logs c.region.ensures) in
+    let few : length c.region.new.arg7.items ≤ task_limit = search rules in
+    region_made c.args.world.now (site c.args.world.now) team c.requires.line c.args.locals.now.slots.items c.args.self.now mid new c.region.result taken ran c.requires.free refl refl _ c.in_default.is (subst (λ (n : ℕ). n ≤ task_limit) (sym (length-map c.region.new.arg7.items (entry_of (record { dir = g.L.Log.dir; path = g.L.Log.path; text = g.L.Log.text; faults = g.L.Log.faults })))) few)

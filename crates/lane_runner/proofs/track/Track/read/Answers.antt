@@ -10,7 +10,7 @@ use Rattle.kernel_model.specs.State.{to_bits}
 use Rattle.kernel_model.specs.Value.{read}
 use Rattle.kernel_model.specs.Effect.{Returned}
 use Rattle.kernel_model.proofs.Effects.{makes-read_full}
-use Rattle.lane_runner.specs.Placing.{meant}
+use Rattle.task_place.specs.Placing.{meant}
 use Rattle.lane_runner.specs.Going.{Progress, Made, HasRoomFor}
 use Rattle.lane_runner.proofs.Stepping.{goes_unready}
 use Rattle.lane_runner.proofs.Accesses.{read_grows, read_event, read_made}

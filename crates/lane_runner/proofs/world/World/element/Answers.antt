@@ -1,38 +1,34 @@
-use Rattle.std.proofs.Common.{ap, sym, ◌∙◌, subst, ℤ, pos, arith, w64}
-use Rattle.std.specs.Int.RustNames.{unsigned_abs, int_lt}
+use Rattle.std.proofs.Common.{◌≡◌, subst, ℕ, ℤ, List, Option, Some, None, w64, to_z, of_z}
+use Rattle.std.specs.Prelude.{IfSome, MatchOption}
 use Rattle.std.proofs.lemmas.Int.{to_z-of_z}
-use Rattle.kernel_model.specs.Value.{element_at}
-use Rattle.lane_runner.specs.World.{WorldValue}
-use Rattle.lane_runner.specs.Placing.{IsElement}
-use Rattle.kernel_model.proofs.Elements.{array_found, above_is}
-use Rattle.lane_runner.proofs.Elements.{element_stands}
+use Rattle.kernel_syntax.specs.declared.syntax.Array.{Array}
+use Rattle.kernel_model.specs.Value.{Element as Meant, element_at}
+use Rattle.task_place.specs.declared.place.Element.{Element}
+use Rattle.task_place.specs.Placing.{IsElement, meant}
+use Rattle.lane_runner.specs.World.{WorldValue, IsWorld}
+use Rattle.lane_runner.specs.Placing.{StandsIn}
+use Rattle.lane_runner.proofs.Elements.{stands_in}
 use Rattle.lane_runner.proofs.world.World.element.Goals as goal
 
-pub element_of-requires-clause-fits : goal.element_of-requires-clause-fits
-element_of-requires-clause-fits c =
-    let h = c.in_ok-place.ensures.lookup in
-    let placed = c.self.invariant.placed.each c.args.array c.in_ok-place.place.now (array_found _ _ _ h.3.0 h.1) in
-    let few = c.self.invariant.placed.few in
-    omega (arith, placed.inside, few)
+is_it : (arrays : List Array) (words : ℕ) (found : Option Meant) (result : Option Element) → MatchOption result (found ≡ None) (IsElement arrays words found) → MatchOption result (found ≡ None) (λ e. found ≡ Some (meant e))
+is_it arrays words found None none = none
+is_it arrays words found (Some e) element = element.is
 
-pub element_of-requires-clause-ends : goal.element_of-requires-clause-ends
-element_of-requires-clause-ends c =
-    let h = c.in_ok-place.ensures.lookup in
-    let placed = c.self.invariant.placed.each c.args.array c.in_ok-place.place.now (array_found _ _ _ h.3.0 h.1) in
-    omega (arith, placed.ends)
+stands : (w : WorldValue) (found : Option Meant) (result : Option Element) → IsWorld w → MatchOption result (found ≡ None) (IsElement w.arrays w.words.elements found) → IfSome result (StandsIn w)
+stands w found None world none = tt
+stands w found (Some e) world element = stands_in w world element
 
-pub element_of-requires-clause-width : goal.element_of-requires-clause-width
-element_of-requires-clause-width c =
-    let h = c.in_ok-place.ensures.lookup in
-    let placed = c.self.invariant.placed.each c.args.array c.in_ok-place.place.now (array_found _ _ _ h.3.0 h.1) in placed.width
+pub element_in-requires : goal.element_in-requires
+element_in-requires c = record { words = c.self.inside.words.now.elements; placed = c.self.invariant.placed }
 
-pub returns : goal.returns
-returns c =
-    let h = c.in_ok-place.ensures.lookup in
-    let here = array_found c.self.inside.arrays.now c.args.array c.in_ok-place.place.now h.3.0 h.1 in
-    let is = ap unsigned_abs (to_z-of_z w64 c.args.index c.ranges.index) in
-    subst (λ (w : WorldValue). IsElement (element_at w.arrays c.args.array c.args.index) w c.element_of.result) c.self.view_is
-    (element_stands (record { arrays = c.self.inside.arrays.now; words = c.self.inside.words.now; chunks = c.self.inside.chunks.now; lane = c.self.inside.lane; span = c.self.inside.span }) c.element_of.result c.args.array c.in_ok-place.place.now c.args.index c.unsigned_abs-number.result
-    c.self.invariant here
-    (above_is c.args.index (pos 0) (sym (ap (λ (z : ℤ). int_lt z (pos 0)) (to_z-of_z w64 c.args.index c.ranges.index)) ∙ c.if-index-lt0.false))
-    (omega arith) (c.unsigned_abs-number.ensures.value ∙ is) c.element_of.ensures.word c.element_of.ensures.addr c.element_of.ensures.width)
+pub returns-clause-is : goal.returns-clause-is
+returns-clause-is c =
+    let Is : WorldValue → ℤ → Type 0 = λ w z. MatchOption c.element_in.result (element_at w.arrays c.args.array z ≡ None) (λ e. element_at w.arrays c.args.array z ≡ Some (meant e)) in
+    subst (λ (z : ℤ). Is c.args.self.now z) (to_z-of_z w64 c.args.index c.ranges.index)
+    (subst (λ (w : WorldValue). Is w (to_z w64 (of_z w64 c.args.index))) c.self.view_is
+    (is_it c.self.inside.arrays.now c.self.inside.words.now.elements (element_at c.self.inside.arrays.now c.args.array (to_z w64 (of_z w64 c.args.index))) c.element_in.result (c.element_in.ensures c.self.inside.words.now.elements c.self.invariant.placed)))
+
+pub returns-clause-stands : goal.returns-clause-stands
+returns-clause-stands c =
+    subst (λ (w : WorldValue). IfSome c.element_in.result (StandsIn w)) c.self.view_is
+    (stands _ (element_at c.self.inside.arrays.now c.args.array (to_z w64 (of_z w64 c.args.index))) c.element_in.result c.self.invariant (c.element_in.ensures c.self.inside.words.now.elements c.self.invariant.placed))
